@@ -1,1 +1,6 @@
 pub mod Numbers
+pub mod State
+pub mod Meaning
+pub mod Run
+pub mod Weights
+pub mod Least

@@ -4,4 +4,7 @@
 //! operators, the tree, and the runs of a program with relaxed statements.
 #![tactic(auto)]
 
+pub mod ids;
 pub mod numbers;
+pub mod relax;
+pub mod tree;

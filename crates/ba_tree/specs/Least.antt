@@ -1,0 +1,91 @@
+-- Sets of statements: which of them could repair a run, and which of those weigh least.
+
+use Rattle.std.specs.Prelude.{◌≡◌, ℕ, ◌-◌, ◌<◌, ◌≤◌, ◌↔◌, Bool, true, Option, None, Some, List, [], ◌∷◌, map, Contains, slice_get, sum_by, IsSome, unwrap_or, ◌⊎◌}
+use Rattle.ba_tree.specs.Run.{run_of, is_done}
+use Rattle.ba_tree.specs.declared.ids.StmtId.{StmtId}
+use Rattle.ba_tree.specs.declared.relax.Allowed.TheVariants.{Statements}
+use Rattle.ba_tree.specs.declared.relax.Bounds.{Bounds}
+use Rattle.ba_tree.specs.declared.relax.Choice.{Choice}
+use Rattle.ba_tree.specs.declared.relax.Input.{Input}
+use Rattle.ba_tree.specs.declared.tree.Program.{Program}
+use Rattle.ba_tree.specs.declared.tree.StmtInfo.{StmtInfo}
+use Rattle.ba_tree.specs.declared.tree.StmtKind.{StmtKind}
+use Rattle.ba_tree.specs.declared.tree.StmtKind.TheVariants.{Assignment, Assert}
+
+-- SETS of statements are ascending lists of their numbers
+
+abbrev pub entry_of : Option (Option ℕ) → Option ℕ
+entry_of None = None
+entry_of (Some entry) = entry
+
+-- Entry n - 1 of a list of weights belongs to statement n. The relaxable statements are those that have a weight.
+abbrev pub WeightList : Type 0
+WeightList = List (Option ℕ)
+
+abbrev pub weight_at : WeightList → ℕ → Option ℕ
+weight_at weights n = entry_of (slice_get weights (n - 1))
+
+-- the weights that hold where none are given: 1 for each statement but the asserts
+abbrev pub unit_weight : StmtKind → Option ℕ
+unit_weight Assignment = Some 1
+unit_weight Assert = None
+
+abbrev pub unit_weights : Program → WeightList
+unit_weights p = map (λ (info : StmtInfo). unit_weight info.kind) p.statements
+
+-- relaxable statements in ascending order, all above low
+abbrev pub IsSetAbove : WeightList → ℕ → List ℕ → Type 0
+IsSetAbove weights low [] = Unit {0}
+IsSetAbove weights low (n ∷ ns) = (low < n) × IsSome (weight_at weights n) × IsSetAbove weights n ns
+
+abbrev pub IsSet : WeightList → List ℕ → Type 0
+IsSet weights = IsSetAbove weights 0
+
+-- the weight of a set: the sum of its members' weights
+abbrev pub weight_of : WeightList → List ℕ → ℕ
+weight_of weights = sum_by (λ n. unwrap_or (weight_at weights n) 0)
+
+-- the order of two sets is the lexicographic one of their ascending lists
+abbrev pub IsBefore : List ℕ → List ℕ → Type 0
+IsBefore [] [] = ⊥
+IsBefore [] (y ∷ ys) = Unit {0}
+IsBefore (x ∷ xs) [] = ⊥
+IsBefore (x ∷ xs) (y ∷ ys) = (x < y) ⊎ ((x ≡ y) × IsBefore xs ys)
+
+abbrev pub IsBeforeAll : List ℕ → List (List ℕ) → Type 0
+IsBeforeAll set [] = Unit {0}
+IsBeforeAll set (other ∷ others) = IsBefore set other × IsBeforeAll set others
+
+-- the sets of a list stand in their order, and so each once
+abbrev pub AreInOrder : List (List ℕ) → Type 0
+AreInOrder [] = Unit {0}
+AreInOrder (set ∷ sets) = IsBeforeAll set sets × AreInOrder sets
+
+-- FEASIBLE and LEAST sets, for a judge of which choices make a good run where a set is relaxed
+
+abbrev pub Judge : Type 0
+Judge = List ℕ → List Choice → Bool
+
+-- some choices make a good run
+pub record IsFeasible (good : Judge) (set : List ℕ) : Type 0 where
+  pub choices : List Choice
+  pub is_good : good set choices ≡ true
+
+-- relaxable statements that could repair the run, and that no feasible set undercuts in weight
+pub record IsLeastSet (weights : WeightList) (good : Judge) (set : List ℕ) : Type 0 where
+  pub is_set : IsSet weights set
+  pub feasible : IsFeasible good set
+  pub least : (other : List ℕ) → IsSet weights other → IsFeasible good other → weight_of weights set ≤ weight_of weights other
+
+-- the list of all least sets, each once and in order
+pub record AreLeast (weights : WeightList) (good : Judge) (sets : List (List ℕ)) : Type 0 where
+  pub in_order : AreInOrder sets
+  pub exactly : (set : List ℕ) → Contains sets set ↔ IsLeastSet weights good set
+
+-- THE JUDGE of a program on an input: a run is good where its outcome is Done
+
+abbrev pub stmt_of : ℕ → StmtId
+stmt_of n = record { 0 = n }
+
+abbrev pub judge_of : Program → Input → Bounds → Judge
+judge_of p input b set choices = is_done (run_of p input b (Statements (map stmt_of set)) choices)

@@ -1,0 +1,123 @@
+//! What a run is given beside its program: input, bounds, what may be relaxed, and how it was.
+
+ghost use Rattle.std.specs.Prelude.{◌≡◌, ◌++◌, ◌∷◌, [], IsTrue, OnOk, OnErr};
+ghost use Rattle.std.specs.List.{list_all};
+ghost use Rattle.ba_tree.specs.Weights.{is_weight};
+
+use crate::ids::{CallId, StmtId};
+use ba_items::Items;
+use smallvec::SmallVec;
+use std::alloc::{AllocError, Global};
+use std::marker::Model;
+
+/// The values of a choice. Most choices have one or two, which need no memory of their own.
+#[derive(Drop)]
+pub struct Values {
+    items: SmallVec<i64, 2>,
+}
+
+impl Model for Values {
+    ghost use Rattle.std.specs.Prelude.{List, ℤ};
+
+    ghost Value = { List ℤ };
+
+    ghost view = { λ values. values.items.items };
+}
+
+impl Values {
+    /// No value. It takes no memory.
+    pub fn new(alloc: Global) -> Values
+        ensures { result ≡ [] }
+    {
+        Values {
+            items: SmallVec::new(alloc),
+        }
+    }
+
+    /// Adds a value at the end.
+    ///
+    /// The one error is want of memory, which leaves the values as they were.
+    pub fn push(&mut self, value: i64) -> Result<(), AllocError>
+        ensures ok { OnOk result (self.new ≡ self.old ++ value ∷ []) }
+        ensures err { OnErr result (self.new ≡ self.old) }
+    {
+        self.items.push(value)?;
+        Ok(())
+    }
+
+    /// The values in their order.
+    pub fn as_slice(&self) -> &[i64]
+        ensures { result.now ≡ self.now }
+    {
+        self.items.as_slice()
+    }
+}
+
+/// How an execution of a relaxed statement goes.
+#[derive(Drop)]
+pub enum Choice {
+    /// As written.
+    Keep,
+    /// None of its expressions is evaluated, and it takes these values in their place.
+    Take(Values),
+}
+
+/// One list of values for each parameter of `main`: of one value for a variable, of the array's length for an
+/// array.
+#[derive(Drop)]
+pub struct Input {
+    pub values: Items<Items<i64>>,
+}
+
+/// How far a run may go: `turns`, from 1 to 64, bounds the turns of each entry of a loop, and `frames`, from 1
+/// to 32, the functions that are active at a time, `main` among them.
+#[derive(Clone, Copy, Debug, PartialEq, Eq)]
+pub struct Bounds {
+    pub turns: u32,
+    pub frames: u32,
+}
+
+/// A step on the way from `main` to an execution of a statement: an active call, or the present turn of a loop,
+/// counted from 1, where the statement is the loop's condition.
+#[derive(Clone, Copy, Debug, PartialEq, Eq)]
+pub enum Step {
+    Call(CallId),
+    Turn(StmtId, u32),
+}
+
+/// A statement with the active calls and loop turns around one execution of it, outermost first.
+#[derive(Drop)]
+pub struct Place {
+    pub path: Items<Step>,
+    pub stmt: StmtId,
+}
+
+/// What a run may relax: every execution of some statements, or single executions.
+#[derive(Drop)]
+pub enum Allowed {
+    Statements(Items<StmtId>),
+    Places(Items<Place>),
+}
+
+/// How a run ends. `AssertFails`, `Trap` and `Beyond` have the innermost statement that was being executed.
+#[derive(Clone, Copy, Debug, PartialEq, Eq)]
+pub enum Outcome {
+    /// The run was good.
+    Done,
+    /// An assertion's value was 0.
+    AssertFails(StmtId),
+    /// A divisor was zero, or an index was outside its array.
+    Trap(StmtId),
+    /// A loop would have had one more turn, or a call one more frame, than the bounds allow.
+    Beyond(StmtId),
+    /// A choice was missing, did not fit, or was left over.
+    WrongChoices,
+}
+
+/// What may be relaxed at what price: entry n - 1 belongs to the statement of number n, and is None where that
+/// is not relaxable, else its weight, from 1 to 1,000.
+#[derive(Drop)]
+pub struct Weights {
+    pub of: Items<Option<u32>>,
+    pub ghost in_range: { IsTrue (list_all is_weight of) },
+}
