@@ -1,12 +1,12 @@
 -- Sets of statements: which of them could repair a run, and which of those weigh least.
 
-use Rattle.std.specs.Prelude.{◌≡◌, ℕ, ◌-◌, ◌<◌, ◌≤◌, ◌↔◌, Bool, true, Option, None, Some, List, [], ◌∷◌, map, Contains, slice_get, sum_by, IsSome, unwrap_or, ◌⊎◌}
+use Rattle.std.specs.Prelude.{◌≡◌, ℕ, ◌-◌, ◌<◌, ◌≤◌, ◌↔◌, Bool, true, Option, None, Some, List, [], ◌∷◌, map, Contains, slice_get, sum_by, IsSome, unwrap_or, ◌⊎◌, cond, ◌==◌}
 use Rattle.ba_tree.specs.Run.{run_of, is_done}
 use Rattle.ba_tree.specs.declared.ids.StmtId.{StmtId}
-use Rattle.ba_tree.specs.declared.relax.Allowed.TheVariants.{Statements}
-use Rattle.ba_tree.specs.declared.relax.Bounds.{Bounds}
-use Rattle.ba_tree.specs.declared.relax.Choice.{Choice}
-use Rattle.ba_tree.specs.declared.relax.Input.{Input}
+use Rattle.ba_tree.specs.declared.run.Allowed.TheVariants.{Statements}
+use Rattle.ba_tree.specs.declared.run.Bounds.{Bounds}
+use Rattle.ba_tree.specs.declared.run.Choice.{Choice}
+use Rattle.ba_tree.specs.declared.run.Input.{Input}
 use Rattle.ba_tree.specs.declared.tree.Program.{Program}
 use Rattle.ba_tree.specs.declared.tree.StmtInfo.{StmtInfo}
 use Rattle.ba_tree.specs.declared.tree.StmtKind.{StmtKind}
@@ -23,7 +23,7 @@ abbrev pub WeightList : Type 0
 WeightList = List (Option ℕ)
 
 abbrev pub weight_at : WeightList → ℕ → Option ℕ
-weight_at weights n = entry_of (slice_get weights (n - 1))
+weight_at weights n = cond (n == 0) None (entry_of (slice_get weights (n - 1)))
 
 -- the weights that hold where none are given: 1 for each statement but the asserts
 abbrev pub unit_weight : StmtKind → Option ℕ
@@ -34,12 +34,12 @@ abbrev pub unit_weights : Program → WeightList
 unit_weights p = map (λ (info : StmtInfo). unit_weight info.kind) p.statements
 
 -- relaxable statements in ascending order, all above low
-abbrev pub IsSetAbove : WeightList → ℕ → List ℕ → Type 0
-IsSetAbove weights low [] = Unit {0}
-IsSetAbove weights low (n ∷ ns) = (low < n) × IsSome (weight_at weights n) × IsSetAbove weights n ns
+abbrev pub AreRelaxableAbove : WeightList → ℕ → List ℕ → Type 0
+AreRelaxableAbove weights low [] = Unit {0}
+AreRelaxableAbove weights low (n ∷ ns) = (low < n) × IsSome (weight_at weights n) × AreRelaxableAbove weights n ns
 
-abbrev pub IsSet : WeightList → List ℕ → Type 0
-IsSet weights = IsSetAbove weights 0
+abbrev pub IsRelaxableSet : WeightList → List ℕ → Type 0
+IsRelaxableSet weights = AreRelaxableAbove weights 0
 
 -- the weight of a set: the sum of its members' weights
 abbrev pub weight_of : WeightList → List ℕ → ℕ
@@ -73,9 +73,9 @@ pub record IsFeasible (good : Judge) (set : List ℕ) : Type 0 where
 
 -- relaxable statements that could repair the run, and that no feasible set undercuts in weight
 pub record IsLeastSet (weights : WeightList) (good : Judge) (set : List ℕ) : Type 0 where
-  pub is_set : IsSet weights set
+  pub is_set : IsRelaxableSet weights set
   pub feasible : IsFeasible good set
-  pub least : (other : List ℕ) → IsSet weights other → IsFeasible good other → weight_of weights set ≤ weight_of weights other
+  pub least : (other : List ℕ) → IsRelaxableSet weights other → IsFeasible good other → weight_of weights set ≤ weight_of weights other
 
 -- the list of all least sets, each once and in order
 pub record AreLeast (weights : WeightList) (good : Judge) (sets : List (List ℕ)) : Type 0 where

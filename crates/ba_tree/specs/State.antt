@@ -2,10 +2,11 @@
 
 use Rattle.std.specs.Prelude.{ℤ, pos, List, [], ◌∷◌, slice_index_or, slice_set, Result, Ok, Err}
 use Rattle.ba_tree.specs.declared.ids.VarId.{VarId}
-use Rattle.ba_tree.specs.declared.relax.Choice.{Choice}
-use Rattle.ba_tree.specs.declared.relax.Outcome.{Outcome}
+use Rattle.ba_tree.specs.declared.run.Choice.{Choice}
+use Rattle.ba_tree.specs.declared.run.Outcome.{Outcome}
 
--- how a run stands: the value of each variable, by its number, and the choices not used yet
+-- How a run stands: the value of each global and of each variable of the innermost frame, by its number, and the
+-- choices that are not used yet.
 pub record State : Type 0 where
   pub values : List ℤ
   pub choices : List Choice
@@ -17,20 +18,19 @@ value_at s v = slice_index_or s.values v.0 (pos 0)
 abbrev pub with_value : State → VarId → ℤ → State
 with_value s v z = record s { values = slice_set s.values v.0 z }
 
--- What a part of a program does: from a state it ends with a value and a state, or it ends the whole run,
--- with the run's outcome.
-abbrev pub Ended : Type 0 → Type 0
-Ended A = Result (A × State) Outcome
+-- What a part of a program does to a state: it ends with a value, or it ends the whole run with its outcome.
+abbrev pub Ending : Type 0 → Type 0
+Ending A = Result A Outcome × State
 
 abbrev pub Act : Type 0 → Type 0
-Act A = State → Ended A
+Act A = State → Ending A
 
--- one part, and then another that is given its value; the first end that is no value is the end of both
-abbrev pub then_do : {A B : Type 0} → Ended A → (A → Act B) → Ended B
-then_do (Ok r) next = next r.0 r.1
-then_do (Err outcome) next = Err outcome
+-- one part, and then what its value leads to; the first end that is no value is the end of both
+abbrev pub then_do : {A B : Type 0} → Ending A → (A → Act B) → Ending B
+then_do (Ok a, s) rest = rest a s
+then_do (Err outcome, s) rest = (Err outcome, s)
 
--- how a statement ends that does not end the run
+-- how a statement ends where it does not end the run
 pub data Flow : Type 0 where
   next : Flow
   break : Flow
@@ -39,11 +39,11 @@ pub data Flow : Type 0 where
 
 -- parts in a row: what comes after a break, a continue or a return is left out
 abbrev pub after_part : Act Flow → Flow → Act Flow
-after_part rest next s = rest s
-after_part rest break s = Ok (break, s)
-after_part rest continue s = Ok (continue, s)
-after_part rest (return z) s = Ok (return z, s)
+after_part parts next s = parts s
+after_part parts break s = (Ok break, s)
+after_part parts continue s = (Ok continue, s)
+after_part parts (return z) s = (Ok (return z), s)
 
 abbrev pub in_order : List (Act Flow) → Act Flow
-in_order [] s = Ok (next, s)
+in_order [] s = (Ok next, s)
 in_order (part ∷ parts) s = then_do (part s) (after_part (in_order parts))

@@ -5,6 +5,7 @@
 #![tactic(auto)]
 
 pub mod ids;
+pub mod laws;
 pub mod numbers;
-pub mod relax;
+pub mod run;
 pub mod tree;

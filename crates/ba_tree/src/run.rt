@@ -77,8 +77,8 @@ pub struct Bounds {
     pub frames: u32,
 }
 
-/// A step on the way from `main` to an execution of a statement: an active call, or the present turn of a loop,
-/// counted from 1, where the statement is the loop's condition.
+/// A step on the way from `main` to an execution of a statement: `Call(call)` is an active call, and
+/// `Turn(condition, n)` is turn n, counted from 1, of the loop that has this condition.
 #[derive(Clone, Copy, Debug, PartialEq, Eq)]
 pub enum Step {
     Call(CallId),

@@ -1,0 +1,10 @@
+//! Laws of the definitions. Each is a function whose clause is the law, and which does nothing.
+
+ghost use Rattle.std.specs.Prelude.{◌≡◌, ℕ, List};
+ghost use Rattle.ba_tree.specs.Least.{AreLeast, Judge, WeightList};
+
+/// The list of the least sets is one: no other list holds the same sets, each once and in their order.
+pub fn least_list_is_unique()
+    ensures { (weights : WeightList) (good : Judge) (sets others : List (List ℕ)) →
+        AreLeast weights good sets → AreLeast weights good others → sets ≡ others }
+{}
