@@ -121,8 +121,10 @@ pub record Succeeds (set : List ℕ) (items : List Item) (terms : List Term) : T
 succeeds-Declare : (set : List ℕ) (v : VarId) (items : List Item) (terms : List Term)
     → Succeeds set items (with_term terms v (Known (pos 0))) → Succeeds set (Declare v ∷ items) terms
 succeeds-Declare set v items terms h = record {
-  unknowns = h.unknowns; in_range = h.in_range; choices = h.choices;
-  good = ap (is_good set items) (set_under h.unknowns terms h.choices v (Known (pos 0))) ∙ h.good
+  unknowns = h.unknowns;
+  in_range = h.in_range;
+  choices = h.choices;
+  good = ap (is_good set items) (set_under h.unknowns terms h.choices v (Known (pos 0))) ∙ h.good;
 }
 
 -- an assignment that is relaxed (b is true) or not
@@ -138,14 +140,18 @@ succeeds-by set true n v e items terms h =
     let z : ℤ = h.unknowns n.0 in
     let s : State = state_under h.unknowns terms h.choices in
     record {
-      unknowns = h.unknowns; in_range = h.in_range; choices = Take (z ∷ []) ∷ h.choices;
+      unknowns = h.unknowns;
+      in_range = h.in_range;
+      choices = Take (z ∷ []) ∷ h.choices;
       good = ap (λ b. is_good_after set items (take_value v (cond b (Some z) None) s)) (h.in_range n.0)
-        ∙ ap (is_good set items) (set_under h.unknowns terms h.choices v (Unknown n)) ∙ h.good
+          ∙ ap (is_good set items) (set_under h.unknowns terms h.choices v (Unknown n)) ∙ h.good;
     }
 succeeds-by set false n v e items terms h = record {
-  unknowns = h.unknowns; in_range = h.in_range; choices = h.choices;
+  unknowns = h.unknowns;
+  in_range = h.in_range;
+  choices = h.choices;
   good = ap (λ z. is_good set items (with_value (state_under h.unknowns terms h.choices) v z)) (operand_under h.unknowns terms h.choices e)
-    ∙ ap (is_good set items) (set_under h.unknowns terms h.choices v (term_of terms e)) ∙ h.good
+      ∙ ap (is_good set items) (set_under h.unknowns terms h.choices v (term_of terms e)) ∙ h.good;
 }
 
 succeeds-Assign : (set : List ℕ) (n : StmtId) (v : VarId) (e : Operand) (items : List Item) (terms : List Term)
@@ -170,19 +176,23 @@ succeeds-Assert set n v z items terms (Known x) is_t in_z go h =
     let r : Succeeds set items terms = go terms two.1 in
     let s : State = state_under r.unknowns terms r.choices in
     record {
-      unknowns = r.unknowns; in_range = r.in_range; choices = r.choices;
+      unknowns = r.unknowns;
+      in_range = r.in_range;
+      choices = r.choices;
       good = ap (λ y. is_good_after set items (assert_act n y z s)) (value_at_under r.unknowns terms r.choices v ∙ ap (value_under r.unknowns) is_t)
-        ∙ ap (λ b. is_good_after set items (cond b (Ok next, s) (Err (AssertFails n), s))) two.0 ∙ r.good
+          ∙ ap (λ b. is_good_after set items (cond b (Ok next, s) (Err (AssertFails n), s))) two.0 ∙ r.good;
     }
 succeeds-Assert set n v z items terms (Unknown k) is_t in_z go h =
     let r : Succeeds set items (map (settled k z) terms) = go (map (settled k z) terms) h in
     let u : ℕ → ℤ = with_unknown r.unknowns k.0 z in
     let s : State = state_under u terms r.choices in
     record {
-      unknowns = u; in_range = with_unknown_in_range r.unknowns k.0 z r.in_range in_z; choices = r.choices;
+      unknowns = u;
+      in_range = with_unknown_in_range r.unknowns k.0 z r.in_range in_z;
+      choices = r.choices;
       good = ap (λ y. is_good_after set items (assert_act n y z s)) (value_at_under u terms r.choices v ∙ ap (value_under u) is_t ∙ with_unknown_itself r.unknowns k.0 z)
-        ∙ ap (λ b. is_good_after set items (cond b (Ok next, s) (Err (AssertFails n), s))) ((Decides-int_eq z z).1 refl)
-        ∙ ap (λ zs. is_good set items (record { values = zs; choices = r.choices })) (settle_under r.unknowns k z terms) ∙ r.good
+          ∙ ap (λ b. is_good_after set items (cond b (Ok next, s) (Err (AssertFails n), s))) ((Decides-int_eq z z).1 refl)
+          ∙ ap (λ zs. is_good set items (record { values = zs; choices = r.choices })) (settle_under r.unknowns k z terms) ∙ r.good;
     }
 
 of_T : (b : Bool) → T b → b ≡ true
@@ -265,8 +275,8 @@ completes-taken : (set : List ℕ) (n : StmtId) (v : VarId) (items : List Item) 
     → can_hold set items (with_term terms v (Unknown n)) ≡ true
 completes-taken set n v items u choices terms z old go h =
     go (with_unknown u n.0 z) choices (with_term terms v (Unknown n))
-        (old_set (n.0 + 1) terms v.0 (Unknown n) (all_later n.0 terms old) (omega arith))
-        (ap (is_good set items) (sym (take_under u terms choices v n z old)) ∙ h)
+    (old_set (n.0 + 1) terms v.0 (Unknown n) (all_later n.0 terms old) (omega arith))
+    (ap (is_good set items) (sym (take_under u terms choices v n z old)) ∙ h)
 
 -- what a choice makes of an assignment
 completes-values : (set : List ℕ) (n : StmtId) (v : VarId) (items : List Item) (u : ℕ → ℤ) (choices : List Choice) (terms : List Term) (o : Option ℤ)
@@ -285,8 +295,8 @@ completes-by set true n v e items u (Take zs ∷ choices) terms old go h =
     completes-values set n v items u choices terms (one_value_of I32 zs) old go h
 completes-by set false n v e items u choices terms old go h =
     go u choices (with_term terms v (term_of terms e))
-        (old_set (n.0 + 1) terms v.0 (term_of terms e) (all_later n.0 terms old) (later n.0 (term_of terms e) (old_operand n.0 terms e old)))
-        (ap (is_good set items) (sym (ap (λ z. with_value (state_under u terms choices) v z) (operand_under u terms choices e) ∙ set_under u terms choices v (term_of terms e))) ∙ h)
+    (old_set (n.0 + 1) terms v.0 (term_of terms e) (all_later n.0 terms old) (later n.0 (term_of terms e) (old_operand n.0 terms e old)))
+    (ap (is_good set items) (sym (ap (λ z. with_value (state_under u terms choices) v z) (operand_under u terms choices e) ∙ set_under u terms choices v (term_of terms e))) ∙ h)
 
 -- a test that was passed
 passes : (set : List ℕ) (items : List Item) (n : StmtId) (s : State) (b : Bool)
@@ -308,7 +318,7 @@ completes-Assert set n v z items u choices terms (Unknown k) is_t old go h =
     let two : (int_eq (value_at s v) z ≡ true) × (is_good set items s ≡ true) = passes set items n s (int_eq (value_at s v) z) h in
     let is_k : u k.0 ≡ z = sym (value_at_under u terms choices v ∙ ap (value_under u) is_t) ∙ (Decides-int_eq (value_at s v) z).0 two.0 in
     go u choices (map (settled k z) terms) (old_settled (n.0 + 1) k z terms (all_later n.0 terms old))
-        (ap (λ zs. is_good set items (record { values = zs; choices = choices })) (sym (same_under u k z terms is_k)) ∙ two.1)
+    (ap (λ zs. is_good set items (record { values = zs; choices = choices })) (sym (same_under u k z terms is_k)) ∙ two.1)
 
 at_number : (m n : ℕ) (terms : List Term) → m ≡ n → AreOld n terms → AreOld m terms
 at_number m n terms e old = subst (λ k. AreOld k terms) (sym e) old
@@ -320,7 +330,7 @@ pub completes : (set : List ℕ) (items : List Item) (n : ℕ) → AreNumbered n
 completes set [] n a u choices terms old h = refl
 completes set (Declare v ∷ items) n a u choices terms old h =
     completes set items n a u choices (with_term terms v (Known (pos 0))) (old_set n terms v.0 (Known (pos 0)) old tt)
-        (ap (is_good set items) (sym (set_under u terms choices v (Known (pos 0)))) ∙ h)
+    (ap (is_good set items) (sym (set_under u terms choices v (Known (pos 0)))) ∙ h)
 completes set (Assign m v e ∷ items) n a u choices terms old h =
     completes-by set (is_relaxed set m) m v e items u choices terms (at_number m.0 n terms a.0 old) (rest_at set m.0 n items a.0 (completes set items (n + 1) a.1)) h
 completes set (Assert m v z ∷ items) n a u choices terms old h =

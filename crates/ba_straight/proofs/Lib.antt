@@ -1,3 +1,4 @@
 pub mod Mapping
 pub mod Feasible
 pub mod Runs
+pub mod Found

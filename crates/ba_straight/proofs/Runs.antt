@@ -123,7 +123,6 @@ rest_is x y xs ys h = cc
 
 -- what a statement does is what its item does
 module _ (p : Program) (b : Bounds) (set : List ℕ) (n : ℕ) (all_int : p.variables ≡ replicate n int_variable) where
-
   abbrev setting : Setting
   setting = setting_of p b (Statements (map stmt_of set))
 
@@ -133,7 +132,7 @@ module _ (p : Program) (b : Bounds) (set : List ℕ) (n : ℕ) (all_int : p.vari
   exec_assigned m v e (Some o) item s is h =
       ap (λ c. relaxed c (λ s. then_do (eval setting [] m e s) (set_to v)) (λ zs s. take_value v (one_value_of (type_of p v) zs) s) s) (is_listed set m)
       ∙ ap (λ (keep : Act Flow). relaxed (is_relaxed set m) keep (λ zs s. take_value v (one_value_of (type_of p v) zs) s) s)
-          (same_function _ _ (λ s. ap (λ (x : Ending ℤ). then_do x (set_to v)) (eval_operand_at setting [] m e s (out-Expr e) o refl is)))
+      (same_function _ _ (λ s. ap (λ (x : Ending ℤ). then_do x (set_to v)) (eval_operand_at setting [] m e s (out-Expr e) o refl is)))
       ∙ ap (λ t. relaxed (is_relaxed set m) (λ s. set_to v (operand_in s o) s) (λ zs s. take_value v (one_value_of t zs) s) s) (type_is_int p v n all_int)
       ∙ ap (λ item. act_of set item s) (is_some (Assign m v o) item h)
 
@@ -183,7 +182,6 @@ abbrev pub terms_of : Straight → Input → List Term
 terms_of s input = start_terms s.params (length s.params + length s.locals) input.values
 
 module _ (s : Straight) (p : Program) (tree : IsTree s p) (input : Input) (b : Bounds) (set : List ℕ) (u : ℕ → ℤ) (choices : List Choice) where
-
   abbrev variables : ℕ
   variables = length s.params + length s.locals
 
@@ -208,7 +206,7 @@ module _ (s : Straight) (p : Program) (tree : IsTree s p) (input : Input) (b : B
   unfolding run_of
   run_is = ap (λ inits. end_with inits (main_of p)) tree.inits ∙ ap (end_with []) main_is
       ∙ ap (λ fs. is_done (outcome_of (in_order fs (with_input p tree.main.params input.values (start_of p choices)))))
-          (exec_body p b set variables tree.variables tree.main.body s.items tree.is_main.body)
+      (exec_body p b set variables tree.variables tree.main.body s.items tree.is_main.body)
       ∙ ap (λ (vs : List VarId). is_good set s.items (with_input p vs input.values (start_of p choices))) tree.is_main.params
       ∙ ap (λ st. is_good set s.items (with_input p s.params input.values st)) start_is
       ∙ ap (is_good set s.items) (terms_under p u choices s.params input.values (replicate variables (Known (pos 0))))
@@ -216,11 +214,12 @@ module _ (s : Straight) (p : Program) (tree : IsTree s p) (input : Input) (b : B
 -- All asserts can hold where a set is relaxed exactly where the set is feasible.
 pub can_hold-feasible : (s : Straight) (p : Program) (input : Input) (b : Bounds) (set : List ℕ) → IsTree s p → AreNumbered 1 s.items
     → (can_hold set s.items (terms_of s input) ≡ true) ↔ IsFeasible (judge_of p input b) set
-can_hold-feasible s p input b set tree numbered =
-    ((λ h.
-        let r : Succeeds set s.items (terms_of s input) = succeeds set s.items 1 (terms_of s input) numbered h in
-        record { choices = r.choices; is_good = run_is s p tree input b set r.unknowns r.choices ∙ r.good }),
-    (λ f.
-        completes set s.items 1 numbered (λ _. pos 0) f.choices (terms_of s input)
-            (old_start 1 s.params input.values _ (old_zeros 1 (length s.params + length s.locals)))
-            (sym (run_is s p tree input b set (λ _. pos 0) f.choices) ∙ f.is_good)))
+can_hold-feasible s p input b set tree numbered = (
+  (λ h.
+      let r : Succeeds set s.items (terms_of s input) = succeeds set s.items 1 (terms_of s input) numbered h in
+      record { choices = r.choices; is_good = run_is s p tree input b set r.unknowns r.choices ∙ r.good }),
+  (λ f.
+      completes set s.items 1 numbered (λ _. pos 0) f.choices (terms_of s input)
+      (old_start 1 s.params input.values _ (old_zeros 1 (length s.params + length s.locals)))
+      (sym (run_is s p tree input b set (λ _. pos 0) f.choices) ∙ f.is_good)),
+)

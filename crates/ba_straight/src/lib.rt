@@ -5,4 +5,5 @@
 #![tactic(auto)]
 
 pub mod items;
+pub mod sets;
 pub mod terms;

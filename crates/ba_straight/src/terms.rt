@@ -23,7 +23,7 @@ fn term_at(terms: &[Term], var: VarId) -> Term
     terms.get(var.0 as usize).copied().unwrap_or(Term::Known(0))
 }
 
-fn set_term(terms: &mut [Term], var: VarId, term: Term)
+pub fn set_term(terms: &mut [Term], var: VarId, term: Term)
     ensures { terms.new ≡ with_term terms.old var term }
 {
     let place = var.0 as usize;
