@@ -1,9 +1,10 @@
 -- What is found, part after part.
-use Rattle.std.proofs.Common.{◌≡◌, ℕ, ◌-◌, ◌+◌, ◌<◌, ◌≤◌, nat_lt, Bool, true, false, cond, Option, Some, List, [], ◌∷◌, ◌++◌, map, sym, ◌∙◌, ap, refl, Result, Ok, Err, OnOk, append_assoc, filter, arith}
+use Rattle.std.proofs.Common.{◌≡◌, ℕ, ◌-◌, ◌+◌, ◌<◌, ◌≤◌, nat_lt, ◌==◌, Bool, true, false, cond, Option, Some, List, [], ◌∷◌, ◌++◌, map, sym, ◌∙◌, ap, refl, Result, Ok, Err, OnOk, append_assoc, filter, arith}
 use Rattle.std.proofs.lemmas.List.{map-append}
 use Rattle.std.proofs.lemmas.List.Elements.{filter-append}
+use Rattle.std.proofs.lemmas.Bool.Decides.{Decides-eqb}
 use Rattle.std.proofs.lemmas.Grind.{common_steps}
-use Rattle.ba_straight.specs.Sets.{sets_of_weight, sets_with}
+use Rattle.ba_straight.specs.Sets.{sets_of_weight, sets_with, feasible_sets, NoneBelow}
 
 -- what is found among sets that each stand behind what was chosen
 abbrev pub found_among : (List ℕ → Bool) → List ℕ → List (List ℕ) → List (List ℕ)
@@ -35,3 +36,21 @@ with_number good chosen pushed n own weight others old new fits is_pushed h =
     h ∙ ap (λ c. old ++ found_among good c (sets_of_weight (n + 1) others (weight - own))) is_pushed
     ∙ ap (λ xs. old ++ filter good xs) (map-chosen chosen n (sets_of_weight (n + 1) others (weight - own)))
     ∙ ap (λ b. old ++ found_among good chosen (cond b [] (map (λ set. n ∷ set) (sets_of_weight (n + 1) others (weight - own))))) (sym no)
+
+map-nothing : (sets : List (List ℕ)) → map (λ set. [] ++ set) sets ≡ sets
+map-nothing [] = refl
+map-nothing (s ∷ ss) = ap (λ xs. s ∷ xs) (map-nothing ss)
+
+pub from_nothing : (good : List ℕ → Bool) (chosen : List ℕ) (old new : List (List ℕ)) (weights : List (Option ℕ)) (weight : ℕ) → chosen ≡ [] → old ≡ []
+    → new ≡ old ++ found_among good chosen (sets_of_weight 1 weights weight) → new ≡ feasible_sets good weights weight
+from_nothing good chosen old new weights weight no_chosen no_old h =
+    h ∙ ap (λ xs. xs ++ found_among good chosen (sets_of_weight 1 weights weight)) no_old
+    ∙ ap (λ c. found_among good c (sets_of_weight 1 weights weight)) no_chosen
+    ∙ ap (filter good) (map-nothing (sets_of_weight 1 weights weight))
+
+pub none_more : (good : List ℕ → Bool) (weights : List (Option ℕ)) (weight : ℕ) → NoneBelow good weights weight → feasible_sets good weights weight ≡ [] → NoneBelow good weights (weight + 1)
+none_more good weights weight below here w less = elim (w == weight) as (λ b. ((b ≡ true → w ≡ weight) × (w ≡ weight → b ≡ true)) → feasible_sets good weights w ≡ [])
+    [ true ↦ (λ same. ap (feasible_sets good weights) (same.0 refl) ∙ here)
+    | false ↦ (λ same. below w (lower w weight less (λ e. let f : false ≡ true = same.1 e in cc))) ] (Decides-eqb w weight) where
+  lower : (w weight : ℕ) → w < weight + 1 → (w ≡ weight → ⊥) → w < weight
+  lower w weight less other = omega arith

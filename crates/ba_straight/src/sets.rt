@@ -5,7 +5,7 @@ ghost use Rattle.ba_tree.specs.declared.run.Bounds.{Bounds};
 ghost use Rattle.ba_tree.specs.declared.tree.Program.{Program};
 ghost use Rattle.ba_tree.specs.Least.{AreLeast, judge_of};
 ghost use Rattle.ba_straight.specs.Items.{AreNumbered, IsTree};
-ghost use Rattle.ba_straight.specs.Sets.{sets_of_weight, sets_with};
+ghost use Rattle.ba_straight.specs.Sets.{AreFirst, feasible_sets, sets_of_weight, sets_with, total};
 ghost use Rattle.ba_straight.specs.Terms.{can_hold, start_terms, terms_with};
 
 use crate::items::{Item, Straight};
@@ -44,6 +44,7 @@ fn give_input(params: &[VarId], given: &[Items<i64>], terms: &mut [Term])
 }
 
 /// What sets are tried on: the items, and the values of the variables at the start.
+#[derive(Clone, Copy)]
 struct Trial<'a> {
     items: &'a [Item],
     terms: &'a [Term],
@@ -148,4 +149,77 @@ fn add_sets_with(
     )?;
     chosen.pop();
     Ok(())
+}
+
+/// The feasible sets of this weight, in order.
+fn sets_at(
+    alloc: Global,
+    trial: &Trial,
+    entries: &[Option<u32>],
+    weight: u64,
+) -> Result<Vec<Items<u32>>, AllocError>
+    requires { length entries.now + 1 < 2 ^ 32 }
+    ensures { IfOk result (λ found. found.items
+        ≡ feasible_sets (λ set. can_hold set trial.now.items.now trial.now.terms.now) entries.now weight) }
+{
+    let mut chosen = Vec::new(alloc);
+    let mut found = Vec::new(alloc);
+    add_sets(alloc, trial, 1, entries, weight, &mut chosen, &mut found)?;
+    Ok(found)
+}
+
+/// The weight of all relaxable statements together.
+fn total_weight(entries: &[Option<u32>]) -> u64
+    requires { length entries.now + 1 < 2 ^ 32 }
+    ensures sum { result ≡ total entries.now }
+    ensures small { result + 1 < 2 ^ 64 }
+{
+    let mut sum = 0;
+    for entry in entries {
+        sum += u64::from(entry.unwrap_or(0));
+    }
+    sum
+}
+
+/// The feasible sets of the least weight that has one, in order; none where no set is feasible.
+fn first_sets(
+    alloc: Global,
+    trial: &Trial,
+    entries: &[Option<u32>],
+) -> Result<Vec<Items<u32>>, AllocError>
+    requires { length entries.now + 1 < 2 ^ 32 }
+    ensures { IfOk result (λ found. AreFirst (λ set. can_hold set trial.now.items.now trial.now.terms.now) entries.now found.items) }
+{
+    for weight in 0..total_weight(entries) + 1 {
+        let found = sets_at(alloc, trial, entries, weight)?;
+        if !found.is_empty() {
+            return Ok(found);
+        }
+    }
+    Ok(Vec::new(alloc))
+}
+
+/// The least sets of a straight-line program on an input: all sets of relaxable statements that could repair the
+/// run and that no such set undercuts in weight, each once, in the order of their ascending lists of numbers.
+/// There is none exactly where no set of relaxable statements could repair the run.
+///
+/// The one error is want of memory.
+pub fn least_sets(
+    alloc: Global,
+    straight: &Straight,
+    input: &Input,
+    weights: &Weights,
+) -> Result<Vec<Items<u32>>, AllocError>
+    requires numbered { AreNumbered 1 straight.now.items }
+    requires variables { length straight.now.params + length straight.now.locals < 2 ^ 32 }
+    requires weighed { length weights.now.of + 1 < 2 ^ 32 }
+    ensures { IfOk result (λ sets. (p : Program) (b : Bounds) → IsTree straight.now p → AreLeast weights.now.of (judge_of p input.now b) sets.items) }
+{
+    let variables = straight.params.len() + straight.locals.len();
+    let terms = start_terms(alloc, straight.params.as_slice(), variables, input)?;
+    let trial = Trial {
+        items: straight.items.as_slice(),
+        terms: terms.as_slice(),
+    };
+    first_sets(alloc, &trial, weights.of.as_slice())
 }
