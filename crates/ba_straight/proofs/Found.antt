@@ -49,8 +49,9 @@ from_nothing good chosen old new weights weight no_chosen no_old h =
     ∙ ap (filter good) (map-nothing (sets_of_weight 1 weights weight))
 
 pub none_more : (good : List ℕ → Bool) (weights : List (Option ℕ)) (weight : ℕ) → NoneBelow good weights weight → feasible_sets good weights weight ≡ [] → NoneBelow good weights (weight + 1)
-none_more good weights weight below here w less = elim (w == weight) as (λ b. ((b ≡ true → w ≡ weight) × (w ≡ weight → b ≡ true)) → feasible_sets good weights w ≡ [])
-    [ true ↦ (λ same. ap (feasible_sets good weights) (same.0 refl) ∙ here)
-    | false ↦ (λ same. below w (lower w weight less (λ e. let f : false ≡ true = same.1 e in cc))) ] (Decides-eqb w weight) where
+none_more good weights weight below here w less = elim (w == weight) as (λ b. ((b ≡ true → w ≡ weight) × (w ≡ weight → b ≡ true)) → feasible_sets good weights w ≡ []) [
+  | true ↦ (λ same. ap (feasible_sets good weights) (same.0 refl) ∙ here)
+  | false ↦ (λ same. below w (lower w weight less (λ e. let f : false ≡ true = same.1 e in cc)))
+] (Decides-eqb w weight) where
   lower : (w weight : ℕ) → w < weight + 1 → (w ≡ weight → ⊥) → w < weight
   lower w weight less other = omega arith

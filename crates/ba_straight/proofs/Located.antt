@@ -24,6 +24,6 @@ pub located : (s : Straight) (input : Input) (weights : List (Option ℕ)) (item
     → (p : Program) (b : Bounds) → IsTree s p → AreLeast weights (judge_of p input b) sets
 located s input weights items terms sets is_items is_terms numbered ok first p b tree =
     are_least weights (λ set. can_hold set items terms) (judge_of p input b) sets ok (λ set.
-        let same : can_hold set items terms ≡ can_hold set s.items (terms_of s input) = ap (λ is. can_hold set is terms) is_items ∙ ap (can_hold set s.items) is_terms in
-        let means : (can_hold set s.items (terms_of s input) ≡ true) ↔ IsFeasible (judge_of p input b) set = can_hold-feasible s p input b set tree numbered in
-        ((λ h. means.0 (sym same ∙ h)), (λ f. same ∙ means.1 f))) first
+    let same : can_hold set items terms ≡ can_hold set s.items (terms_of s input) = ap (λ is. can_hold set is terms) is_items ∙ ap (can_hold set s.items) is_terms in
+    let means : (can_hold set s.items (terms_of s input) ≡ true) ↔ IsFeasible (judge_of p input b) set = can_hold-feasible s p input b set tree numbered in
+    ((λ h. means.0 (sym same ∙ h)), (λ f. same ∙ means.1 f))) first

@@ -1,3 +1,4 @@
 pub mod Items
 pub mod Terms
 pub mod Sets
+pub mod Text

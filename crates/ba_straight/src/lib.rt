@@ -5,5 +5,6 @@
 #![tactic(auto)]
 
 pub mod items;
+pub mod pieces;
 pub mod sets;
 pub mod terms;
