@@ -2,3 +2,4 @@ pub mod Items
 pub mod Terms
 pub mod Sets
 pub mod Text
+pub mod Spelling
