@@ -4,8 +4,10 @@
 //! changes as far as the world tells it, and when a call may fail.
 #![tactic(auto)]
 
+mod memory;
 mod read;
 mod world;
 
+pub use memory::MemoryWorld;
 pub use read::{ReadFileError, read_whole};
 pub use world::{World, WorldError};

@@ -3,6 +3,7 @@
 ghost use Rattle.std.specs.Prelude.{◌≡◌, ◌≢◌, ◌⊎◌, ℕ, ◌<◌, ◌≤◌, Bool, true, false, List, [], length, Option, option_map, IsTrue, IsSome, IfSome, IfOk, OnOk, OnErr};
 ghost use Rattle.ba_world.specs.World.{raised, Rose, Gives, Appends, AppendsPrefix, StaysBut, StaysButWritten};
 
+use std::alloc::AllocError;
 use thiserror::Error;
 
 /// Why a call of a [`World`] was refused.
@@ -14,6 +15,17 @@ pub enum WorldError {
     /// There was no memory.
     #[error("out of memory")]
     Memory,
+}
+
+impl From<AllocError> for WorldError {
+    ghost use Rattle.std.specs.Prelude.{◌≡◌};
+    ghost use Rattle.ba_world.specs.declared.world.WorldError.TheVariants.{Memory};
+
+    ghost from_gives = { λ _ error. error ≡ Memory };
+
+    fn from(_error: AllocError) -> WorldError {
+        WorldError::Memory
+    }
 }
 
 /// Files that are read and written one piece at a time, and an output that is printed to.
