@@ -1,3 +1,4 @@
-pub mod World
+pub mod Host
 pub mod Memory
 pub mod Read
+pub mod World

@@ -6,7 +6,7 @@ ghost use Rattle.std.specs.List.{list_any};
 ghost use Rattle.ba_world.specs.World.{raised};
 ghost use Rattle.ba_world.specs.Memory.{File, held_file, new_memory, file_of, name_at, left_of, held_in, kept_in, with_file, added_to, NamesDiffer, called, after_open, after_next, after_begin, after_add, after_print};
 
-use crate::world::{World, WorldError};
+use crate::world::{World, WorldError, raise};
 use std::alloc::{AllocError, Global};
 use std::marker::Model;
 
@@ -112,13 +112,6 @@ fn count_call(calls: &mut u64, fails: &[u64]) -> bool
     let fails_now = fails.contains(calls);
     raise(calls, 1);
     fails_now
-}
-
-/// Raises a count, which stands still at its type's end.
-fn raise(count: &mut u64, by: usize)
-    ensures { count.new ≡ raised count.old by }
-{
-    *count = count.saturating_add(by as u64);
 }
 
 /// The file that is being read, by its place in the list, and how many of its bytes were given.

@@ -158,3 +158,11 @@ pub trait World {
         ensures read_faults_stay { read_faults self.new ≡ read_faults self.old }
         ensures given_stays { given self.new ≡ given self.old };
 }
+
+/// Raises a count, which stands still at its type's end.
+pub(crate) fn raise(count: &mut u64, by: usize)
+    ensures raised { count.new ≡ raised count.old by }
+    ensures no_fall { count.old ≤ count.new }
+{
+    *count = count.saturating_add(by as u64);
+}
