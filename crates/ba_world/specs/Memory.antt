@@ -81,17 +81,17 @@ half_of bytes = take (length bytes / 2) bytes
 
 -- the next call is one that fails
 abbrev pub fails_next : Memory → Bool
-fails_next m = list_any (λ number. number == m.calls) m.fails
+fails_next world = list_any (λ number. number == world.calls) world.fails
 
 -- after one more call, and after one that failed
 abbrev pub called : Memory → Memory
-called m = record m { calls = raised m.calls 1 }
+called world = record world { calls = raised world.calls 1 }
 
 abbrev pub read_failed : Memory → Memory
-read_failed m = record (called m) { read_faults = raised m.read_faults 1 }
+read_failed world = record (called world) { read_faults = raised world.read_faults 1 }
 
 abbrev pub write_failed : Memory → Memory
-write_failed m = record (called m) { write_faults = raised m.write_faults 1 }
+write_failed world = record (called world) { write_faults = raised world.write_faults 1 }
 
 -- a file that wasn't begun
 abbrev pub held_file : List ℕ → List ℕ → File
@@ -118,16 +118,16 @@ After = Result (Unit {0}) WorldError × Memory
 
 -- `open_file`, where this file has the name
 abbrev pub after_search : List ℕ → Memory → Option File → After
-after_search name m None = (Err Failed, record (called m) { reading = None })
-after_search name m (Some file) = (Ok tt, record (called m) { reading = Some (record { name = name; offset = 0 }) })
+after_search name world None = (Err Failed, record (called world) { reading = None })
+after_search name world (Some file) = (Ok tt, record (called world) { reading = Some (record { name = name; offset = 0 }) })
 
 abbrev pub after_open : List ℕ → Memory → After
-after_open name m =
-    cond (fails_next m) (Err Failed, record (read_failed m) { reading = None }) (after_search name m (file_of m.files name))
+after_open name world =
+    cond (fails_next world) (Err Failed, record (read_failed world) { reading = None }) (after_search name world (file_of world.files name))
 
 -- the piece that `next_piece` gives to a buffer of this size
 abbrev pub piece_of : ℕ → Memory → List ℕ
-piece_of size m = take (min m.piece size) (option_map_or (left_of m.files) m.reading [])
+piece_of size world = take (min world.piece size) (option_map_or (left_of world.files) world.reading [])
 
 -- the opened file after so many more bytes were given
 abbrev pub moved_on : ℕ → Opened → Opened
@@ -135,27 +135,27 @@ moved_on count opened = record opened { offset = opened.offset + count }
 
 -- `next_piece`: the answer, the buffer and the world
 abbrev pub after_piece : List ℕ → Memory → List ℕ → Result ℕ WorldError × List ℕ × Memory
-after_piece into m piece = (
+after_piece into world piece = (
   Ok (length piece),
   piece ++ drop (length piece) into,
-  record (called m) {
-    reading = option_map (moved_on (length piece)) m.reading;
-    given = raised m.given (length piece);
+  record (called world) {
+    reading = option_map (moved_on (length piece)) world.reading;
+    given = raised world.given (length piece);
   },
 )
 
 abbrev pub after_next : List ℕ → Memory → Result ℕ WorldError × List ℕ × Memory
-after_next into m =
-    cond (fails_next m) (Err Failed, into, read_failed m) (after_piece into m (piece_of (length into) m))
+after_next into world =
+    cond (fails_next world) (Err Failed, into, read_failed world) (after_piece into world (piece_of (length into) world))
 
 -- `begin_file`
 abbrev pub after_begin : List ℕ → Memory → After
-after_begin name m =
-    cond (fails_next m) (Err Failed, record (write_failed m) { writing = None }) (
+after_begin name world =
+    cond (fails_next world) (Err Failed, record (write_failed world) { writing = None }) (
       Ok tt,
-      record (called m) {
+      record (called world) {
         writing = Some name;
-        files = with_file (record { name = name; bytes = []; begun = true }) m.files;
+        files = with_file (record { name = name; bytes = []; begun = true }) world.files;
       },
     )
 
@@ -166,18 +166,18 @@ added_to (Some name) bytes files =
     option_map_or (λ file. with_file (record file { bytes = file.bytes ++ bytes }) files) (file_of files name) files
 
 abbrev pub with_added : List ℕ → Memory → Memory
-with_added bytes m = record m { files = added_to m.writing bytes m.files }
+with_added bytes world = record world { files = added_to world.writing bytes world.files }
 
 -- `add`
 abbrev pub after_add : List ℕ → Memory → After
-after_add bytes m =
-    cond (fails_next m) (Err Failed, with_added (half_of bytes) (write_failed m)) (Ok tt, with_added bytes (called m))
+after_add bytes world =
+    cond (fails_next world) (Err Failed, with_added (half_of bytes) (write_failed world)) (Ok tt, with_added bytes (called world))
 
 -- the bytes printed
 abbrev pub with_printed : List ℕ → Memory → Memory
-with_printed bytes m = record m { printed = m.printed ++ bytes }
+with_printed bytes world = record world { printed = world.printed ++ bytes }
 
 -- `print`
 abbrev pub after_print : List ℕ → Memory → After
-after_print bytes m =
-    cond (fails_next m) (Err Failed, with_printed (half_of bytes) (write_failed m)) (Ok tt, with_printed bytes (called m))
+after_print bytes world =
+    cond (fails_next world) (Err Failed, with_printed (half_of bytes) (write_failed world)) (Ok tt, with_printed bytes (called world))

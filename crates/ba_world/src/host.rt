@@ -1,6 +1,7 @@
 //! The world over real files and standard output.
 
 ghost use Rattle.std.specs.Prelude.{◌≡◌, ◌≤◌, None, IfOk, OnOk, IfErr, OnErr};
+ghost use Rattle.std.specs.Io.KnownBytes.{Appends};
 ghost use Rattle.ba_world.specs.Host.{new_host};
 ghost use Rattle.ba_world.specs.World.{raised};
 
@@ -131,7 +132,9 @@ fn counted<T>(outcome: io::Result<T>, faults: &mut u64) -> Result<T, WorldError>
 }
 
 /// Writes all of the bytes, or fails.
-fn write_whole<W: Write>(writer: &mut W, bytes: &[u8]) -> io::Result<()> {
+fn write_whole<W: Write>(writer: &mut W, bytes: &[u8]) -> io::Result<()>
+    ensures { OnOk result (Appends (W.contents writer.old) (W.contents writer.new) bytes.now) }
+{
     let mut rest = bytes;
     while !rest.is_empty() {
         let count = writer.write(rest)?;

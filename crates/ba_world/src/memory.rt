@@ -24,7 +24,11 @@ impl Model for MemoryFile {
 
     ghost Value = { File };
 
-    ghost view = { λ file. record { name = string_bytes file.name; bytes = file.bytes.items; begun = file.begun } };
+    ghost view = { λ file. record {
+      name = string_bytes file.name;
+      bytes = file.bytes.items;
+      begun = file.begun;
+    } };
 }
 
 impl MemoryFile {
@@ -93,6 +97,44 @@ fn place_of(files: &[MemoryFile], name: &str) -> Option<usize>
     None
 }
 
+/// Makes an empty file of this name, in place of one that is there, and gives its place.
+fn begin(files: &mut Vec<MemoryFile>, name: &str) -> Result<usize, AllocError>
+    requires { NamesDiffer files.old.items }
+    ensures made { OnOk result (files.new.items
+        ≡ with_file (record { name = name.now; bytes = []; begun = true }) files.old.items) }
+    ensures place { IfOk result (λ place.
+        (place < length files.new.items) × (name_at files.new.items place ≡ name.now)) }
+    ensures err { OnErr result (files.new.items ≡ files.old.items) }
+    ensures differ { NamesDiffer files.new.items }
+    ensures grows { length files.old.items ≤ length files.new.items }
+    ensures names_stay { (place : ℕ) → place < length files.old.items
+        → name_at files.new.items place ≡ name_at files.old.items place }
+{
+    if let Some(place) = place_of(files.as_slice(), name) {
+        files[place].clear();
+        return Ok(place);
+    }
+    let alloc = *files.allocator();
+    let file = MemoryFile::new(String::from_str(alloc, name)?, Vec::new(alloc), true);
+    files.push(file)?;
+    Ok(files.len() - 1)
+}
+
+/// Appends the bytes to the file at this place.
+fn append_to(files: &mut Vec<MemoryFile>, place: usize, bytes: &[u8]) -> Result<(), AllocError>
+    requires differ { NamesDiffer files.old.items }
+    requires within { place < length files.old.items }
+    ensures ok { OnOk result (files.new.items
+        ≡ added_to (Some (name_at files.old.items place)) bytes.now files.old.items) }
+    ensures err { OnErr result (files.new.items ≡ files.old.items) }
+    ensures names_stay { (other : ℕ) → name_at files.new.items other ≡ name_at files.old.items other }
+    ensures differ { NamesDiffer files.new.items }
+    ensures len { length files.new.items ≡ length files.old.items }
+{
+    files[place].append(bytes)?;
+    Ok(())
+}
+
 /// Copies as much of the front of `from` as there is and fits, and at most `most` bytes.
 fn copy_front(from: &[u8], into: &mut [u8], most: usize) -> usize
     ensures count { result ≡ length (take (min most (length into.old)) from.now) }
@@ -121,7 +163,10 @@ struct Reading {
     offset: usize,
 }
 
-/// A world in memory that fails where it is told to. It tells everything.
+/// A world in memory that fails where it is told to, for tests. It tells everything.
+///
+/// A file that is begun is held from then on as it is kept. What is kept is told of the files that were
+/// begun. The file being read goes on at its place in it, also where it is begun or added to meanwhile.
 #[derive(Debug, Drop)]
 pub struct MemoryWorld {
     files: Vec<MemoryFile>,
@@ -320,40 +365,4 @@ impl World for MemoryWorld {
         self.printed.extend_from_slice(bytes)?;
         Ok(())
     }
-}
-
-/// Makes an empty file of this name, in place of one that is there, and gives its place.
-fn begin(files: &mut Vec<MemoryFile>, name: &str) -> Result<usize, AllocError>
-    requires { NamesDiffer files.old.items }
-    ensures made { OnOk result (files.new.items
-        ≡ with_file (record { name = name.now; bytes = []; begun = true }) files.old.items) }
-    ensures place { IfOk result (λ place. (place < length files.new.items) × (name_at files.new.items place ≡ name.now)) }
-    ensures err { OnErr result (files.new.items ≡ files.old.items) }
-    ensures differ { NamesDiffer files.new.items }
-    ensures grows { length files.old.items ≤ length files.new.items }
-    ensures names_stay { (place : ℕ) → place < length files.old.items → name_at files.new.items place ≡ name_at files.old.items place }
-{
-    if let Some(place) = place_of(files.as_slice(), name) {
-        files[place].clear();
-        return Ok(place);
-    }
-    let alloc = *files.allocator();
-    let file = MemoryFile::new(String::from_str(alloc, name)?, Vec::new(alloc), true);
-    files.push(file)?;
-    Ok(files.len() - 1)
-}
-
-/// Appends the bytes to the file at this place.
-fn append_to(files: &mut Vec<MemoryFile>, place: usize, bytes: &[u8]) -> Result<(), AllocError>
-    requires differ { NamesDiffer files.old.items }
-    requires within { place < length files.old.items }
-    ensures ok { OnOk result (files.new.items
-        ≡ added_to (Some (name_at files.old.items place)) bytes.now files.old.items) }
-    ensures err { OnErr result (files.new.items ≡ files.old.items) }
-    ensures names_stay { (other : ℕ) → name_at files.new.items other ≡ name_at files.old.items other }
-    ensures differ { NamesDiffer files.new.items }
-    ensures len { length files.new.items ≡ length files.old.items }
-{
-    files[place].append(bytes)?;
-    Ok(())
 }
