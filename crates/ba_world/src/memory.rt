@@ -1,6 +1,6 @@
 //! A world in memory, for tests.
 
-ghost use Rattle.std.specs.Prelude.{◌≡◌, ◌≢◌, ◌==◌, ℕ, ◌+◌, ◌^◌, ◌<◌, ◌≤◌, min, true, Some, [], ◌++◌, length, take, drop, map, slice_index_or, AllPairs, option_copied, IfOk, OnOk, OnErr, MatchOption, IsSome, IfSome, is_some, option_map};
+ghost use Rattle.std.specs.Prelude.{◌≡◌, ◌≢◌, ◌==◌, ℕ, ◌+◌, ◌^◌, ◌<◌, ◌≤◌, min, true, Some, [], ◌++◌, length, take, drop, map, slice_index_or, AllPairs, option_copied, IfOk, OnOk, OnErr, MatchOption, IsSome, is_some, option_map};
 ghost use Rattle.std.specs.String.{string_bytes};
 ghost use Rattle.std.specs.List.{list_any};
 ghost use Rattle.ba_world.specs.World.{raised};

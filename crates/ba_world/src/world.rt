@@ -1,6 +1,6 @@
 //! What the program meets of the outside.
 
-ghost use Rattle.std.specs.Prelude.{◌≡◌, ◌≢◌, ◌⊎◌, ℕ, ◌<◌, ◌≤◌, Bool, true, false, List, [], length, Option, option_map, IsTrue, IsSome, IfSome, IfOk, OnOk, OnErr};
+ghost use Rattle.std.specs.Prelude.{◌≡◌, ◌≢◌, ◌⊎◌, ℕ, ◌<◌, ◌≤◌, Bool, true, false, List, [], length, Option, option_map, IsSome, IfSome, IfOk, OnOk, OnErr};
 ghost use Rattle.ba_world.specs.World.{raised, Rose, Gives, Appends, AppendsPrefix, StaysBut, StaysButWritten};
 
 use std::alloc::AllocError;
