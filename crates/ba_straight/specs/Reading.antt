@@ -17,6 +17,7 @@ use Rattle.ba_straight.specs.declared.pieces.Mark.TheVariants as mark
 use Rattle.ba_straight.specs.declared.pieces.Token.{Token}
 use Rattle.ba_straight.specs.declared.pieces.Token.TheVariants as token
 use Rattle.ba_straight.specs.declared.pieces.Piece.{Piece}
+use Rattle.ba_straight.specs.declared.reader.Body.{Body}
 use Rattle.ba_straight.specs.Spelling.{place_of, most}
 
 -- WHAT STANDS AT THE FRONT
@@ -130,3 +131,101 @@ item_by names number None None pieces = assigned_at names number pieces
 
 unfoldable pub item_at : List (List ℕ) → ℕ → List Piece → Option (Item × List Piece)
 item_at names number pieces = item_by names number (after_mark mark.Int pieces) (after_mark mark.Assert pieces) pieces
+
+-- THE PARAMETERS, with their names and what follows them
+
+-- `int name`, for a name that is new
+unfoldable pub param_at : List (List ℕ) → List Piece → Option (List ℕ × List Piece)
+param_at names pieces = do
+  rest ← after_mark mark.Int pieces
+  name ← first_by name_in rest
+  cond (is_some (variable_named names name.0)) None (Some name)
+
+-- a comma leads to one more, and anything else ends the list
+abbrev pub params_by : (List Piece → Option (List (List ℕ) × List Piece)) → List (List ℕ) → Option (List Piece) → List Piece → Option (List (List ℕ) × List Piece)
+params_by more names (Some rest) pieces = more rest
+params_by more names None pieces = Some (names, pieces)
+
+-- one parameter and at most n - 1 more
+unfoldable pub params_from : ℕ → List (List ℕ) → List Piece → Option (List (List ℕ) × List Piece)
+params_from zero names pieces = None
+params_from (suc n) names pieces =
+    param_at names pieces >>= (λ r. params_by (params_from n (names ++ r.0 ∷ [])) (names ++ r.0 ∷ []) (after_mark mark.Comma r.1) r.1)
+
+abbrev pub params_or_void : Option (List Piece) → List Piece → Option (List (List ℕ) × List Piece)
+params_or_void (Some rest) pieces = Some ([], rest)
+params_or_void None pieces = params_from most [] pieces
+
+abbrev pub params_at : List Piece → Option (List (List ℕ) × List Piece)
+params_at pieces = params_or_void (after_mark mark.Void pieces) pieces
+
+-- `int main (`
+unfoldable pub opened_at : List Piece → Option (List Piece)
+opened_at pieces = do
+  rest ← after_mark mark.Int pieces
+  name ← first_by name_in rest
+  inside ← after_mark mark.Open name.1
+  cond (bytes_eq name.0 (codes "main")) (Some inside) None
+
+-- `) {`
+unfoldable pub closed_at : List Piece → Option (List Piece)
+closed_at pieces = do
+  rest ← after_mark mark.Close pieces
+  after_mark mark.Begin rest
+
+-- THE BODY
+
+abbrev pub name_or_nothing : Option (List ℕ) → List ℕ
+name_or_nothing None = []
+name_or_nothing (Some name) = name
+
+-- the name in a declaration
+abbrev pub declared_name : List Piece → List ℕ
+declared_name [] = []
+declared_name (p ∷ []) = []
+declared_name (p ∷ q ∷ ps) = name_or_nothing (name_in q.token)
+
+-- what was read, with one more item, which these pieces begin with
+abbrev pub added : Body → Item → List Piece → Body
+added body (Declare var) pieces =
+    record body { names = body.names ++ declared_name pieces ∷ []; locals = body.locals ++ var ∷ []; items = body.items ++ Declare var ∷ [] }
+added body (Assign stmt var value) pieces =
+    record body { items = body.items ++ Assign stmt var value ∷ []; statements = body.statements ++ record { at = place_of pieces; kind = kind.Assignment } ∷ [] }
+added body (Assert stmt var value) pieces =
+    record body { items = body.items ++ Assert stmt var value ∷ []; statements = body.statements ++ record { at = place_of pieces; kind = kind.Assert } ∷ [] }
+
+-- `}` ends the body, and the text with it
+abbrev pub body_by : (Body → List Piece → Option Body) → Body → Option (List Piece) → Option (Item × List Piece) → List Piece → Option Body
+body_by more body (Some []) item pieces = Some body
+body_by more body (Some (p ∷ ps)) item pieces = None
+body_by more body None None pieces = None
+body_by more body None (Some r) pieces = more (added body r.0 pieces) r.1
+
+-- the end, or an item and at most n - 2 more and the end
+unfoldable pub body_from : ℕ → Body → List Piece → Option Body
+body_from zero body pieces = None
+body_from (suc n) body pieces = body_by (body_from n) body (after_mark mark.End pieces) (item_at body.names (length body.statements + 1) pieces) pieces
+
+-- THE WHOLE
+
+abbrev pub counted : ℕ → ℕ → List VarId
+counted from zero = []
+counted from (suc n) = record { 0 = from } ∷ counted (from + 1) n
+
+abbrev pub body_of : List (List ℕ) → Body
+body_of names = record { names = names; locals = []; items = []; statements = [] }
+
+-- as many declarations and statements as there may be
+abbrev pub is_small : Body → Bool
+is_small body = nat_le (length body.locals) most && nat_le (length body.statements) most
+
+abbrev pub straight_of : ℕ → Body → Straight
+straight_of params body = record { params = counted 0 params; locals = body.locals; items = body.items; statements = body.statements }
+
+unfoldable pub straight_at : List Piece → Option Straight
+straight_at pieces = do
+  inside ← opened_at pieces
+  params ← params_at inside
+  start ← closed_at params.1
+  body ← body_from 25 (body_of params.0) start
+  cond (is_small body) (Some (straight_of (length params.0) body)) None
