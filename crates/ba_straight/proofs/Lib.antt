@@ -3,6 +3,7 @@ pub mod Feasible
 pub mod Runs
 pub mod Cutting
 pub mod ReadSteps
+pub mod Fronts
 pub mod Found
 pub mod LeastSets
 pub mod Located
