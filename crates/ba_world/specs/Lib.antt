@@ -1,0 +1,4 @@
+pub mod Host
+pub mod Memory
+pub mod Read
+pub mod World
