@@ -92,7 +92,7 @@ pub record Reads {A : Type 0} (test : Token → Option A) (ps : List Piece) (x :
   pub front : Front ps token rest
   pub gives : test token ≡ Some x
 
-mapped_some : {A B : Type 0} (f : A → B) (o : Option A) (y : B) → option_map f o ≡ Some y → (x : A) × (o ≡ Some x) × (f x ≡ y)
+pub mapped_some : {A B : Type 0} (f : A → B) (o : Option A) (y : B) → option_map f o ≡ Some y → (x : A) × (o ≡ Some x) × (f x ≡ y)
 mapped_some f None y h = cc
 mapped_some f (Some x) y h = (x, refl, cc)
 

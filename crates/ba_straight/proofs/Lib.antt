@@ -4,6 +4,7 @@ pub mod Runs
 pub mod Cutting
 pub mod ReadSteps
 pub mod Fronts
+pub mod ItemLaws
 pub mod Found
 pub mod LeastSets
 pub mod Located
