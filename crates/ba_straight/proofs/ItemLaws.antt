@@ -292,3 +292,138 @@ asserted_sound names number ps r0 item rest f h ints =
       numbered = λ items n. (refl, ints_at ps r3 r4 4 value.token z ints at4 value.front value.gives, n);
       distinct = λ d. d
     })
+
+-- SOUND: an item that was read is written so
+
+item_case : (names : List (List ℕ)) (number : ℕ) (ps : List Piece) (item : Item) (rest : List Piece) (first second : Option (List Piece)) → AreInts ps
+    → after_mark mark.Int ps ≡ first → after_mark mark.Assert ps ≡ second → item_by names number first second ps ≡ Some (item, rest) → IsItem names number ps item rest
+item_case names number ps item rest (Some inner) second ints is_first is_second h = declared_sound names number ps inner item rest (mark_front mark.Int ps inner is_first) h
+item_case names number ps item rest None (Some inner) ints is_first is_second h = asserted_sound names number ps inner item rest (mark_front mark.Assert ps inner is_second) h ints
+item_case names number ps item rest None None ints is_first is_second h = assigned_sound names number ps item rest h
+
+pub item_sound : (names : List (List ℕ)) (number : ℕ) (ps : List Piece) (item : Item) (rest : List Piece) → AreInts ps → item_at names number ps ≡ Some (item, rest) → IsItem names number ps item rest
+unfolding item_at
+item_sound names number ps item rest ints h = item_case names number ps item rest (after_mark mark.Int ps) (after_mark mark.Assert ps) ints refl refl h
+
+-- COMPLETE: an item that is written so is read
+
+pub record IsRead (names final : List (List ℕ)) (number : ℕ) (ps : List Piece) (item : Item) (ts : List Token) : Type 0 where
+  pub rest : List Piece
+  pub read : item_at names number ps ≡ Some (item, rest)
+  pub others : tokens_of rest ≡ ts
+  pub rest_is : rest ≡ drop (item_size item) ps
+  pub goes_on : Continues (names_after names item ps) final
+
+stands_right : (ns ms : List (List ℕ)) (m : List ℕ) → Stands (ns ++ m ∷ ms) m
+stands_right [] ms m = inl refl
+stands_right (n ∷ ns) ms m = inr (stands_right ns ms m)
+
+fresh_name : (names ms : List (List ℕ)) (m : List ℕ) → AreDistinct (names ++ m ∷ ms) → Stands names m → ⊥
+fresh_name [] ms m distinct s = s
+fresh_name (n ∷ ns) ms m distinct (inl e) = distinct.0 (subst (Stands (ns ++ m ∷ ms)) e (stands_right ns ms m))
+fresh_name (n ∷ ns) ms m distinct (inr s) = fresh_name ns ms m distinct.1 s
+
+declared_with : (names final : List (List ℕ)) (number : ℕ) (ps : List Piece) (v : VarId) (ts : List Token) (m : List ℕ) (ms : List (List ℕ)) → final ≡ names ++ m ∷ ms → AreDistinct final
+    → v.0 ≡ length names → tokens_of ps ≡ token.Mark mark.Int ∷ name_of final v ∷ token.Mark mark.Semicolon ∷ ts → IsRead names final number ps (Declare v) ts
+unfolding item_at declared_at
+declared_with names final number ps v ts m ms is distinct is_v h =
+    let s1 : Splits ps (token.Mark mark.Int) (name_of final v ∷ token.Mark mark.Semicolon ∷ ts) = tokens_front ps _ _ h in
+    let s2 : Splits s1.rest (name_of final v) (token.Mark mark.Semicolon ∷ ts) = tokens_front s1.rest _ _ s1.others in
+    let s3 : Splits s2.rest (token.Mark mark.Semicolon) ts = tokens_front s2.rest _ _ s2.others in
+    let name : List ℕ = get_or final v.0 [] in
+    let is_m : name ≡ m = ap (λ i. get_or final i []) is_v ∙ ap (λ ns. get_or ns (length names) []) is ∙ get_or-append_seam names m ms [] in
+    let fresh : is_some (variable_named names name) ≡ false = new_is 0 names name (λ s. fresh_name names ms m (subst AreDistinct is distinct) (subst (Stands names) is_m s)) in
+    let last : List ℕ → List Piece → Option (Item × List Piece) = λ name rest. cond (is_some (variable_named names name)) None (Some (Declare (record { 0 = length names }), rest)) in
+    let here : declared_name ps ≡ m = declared_name_is ps s1.rest s2.rest (token.Mark mark.Int) name s1.front s2.front ∙ is_m in
+    record {
+      rest = s3.rest;
+      read = ap (λ o. item_by names number o (after_mark mark.Assert ps) ps) (front_mark mark.Int ps s1.rest s1.front)
+        ∙ bound (first_by name_in s1.rest) (name, s2.rest) (λ r. after_mark mark.Semicolon r.1 >>= last r.0) (front_by name_in s1.rest s2.rest (name_of final v) name s2.front refl)
+        ∙ bound (after_mark mark.Semicolon s2.rest) s3.rest (last name) (front_mark mark.Semicolon s2.rest s3.rest s3.front)
+        ∙ ap (λ b. cond b None (Some (Declare (record { 0 = length names }), s3.rest))) fresh
+        ∙ ap (λ n. Some (Declare (record { 0 = n }), s3.rest)) (sym is_v);
+      others = s3.others;
+      rest_is = drop_three ps s1.rest s2.rest s3.rest (front_drop ps s1.rest _ s1.front) (front_drop s1.rest s2.rest _ s2.front) (front_drop s2.rest s3.rest _ s3.front);
+      goes_on = record { more = ms; is = is ∙ sym (append_assoc names (m ∷ []) ms) ∙ ap (λ n. (names ++ n ∷ []) ++ ms) (sym here) }
+    }
+
+declared_complete : (names final : List (List ℕ)) (number : ℕ) (ps : List Piece) (v : VarId) (ts : List Token) (more : List (List ℕ)) → final ≡ names ++ more → AreDistinct final → length names < length final
+    → v.0 ≡ length names → tokens_of ps ≡ token.Mark mark.Int ∷ name_of final v ∷ token.Mark mark.Semicolon ∷ ts → IsRead names final number ps (Declare v) ts
+declared_complete names final number ps v ts [] is distinct longer is_v h = let same : length final ≡ length names = ap length (is ∙ append-nil names) in absurd (omega arith)
+declared_complete names final number ps v ts (m ∷ ms) is distinct longer is_v h = declared_with names final number ps v ts m ms is distinct is_v h
+
+assigned_complete : (names final : List (List ℕ)) (number : ℕ) (ps : List Piece) (n : StmtId) (v : VarId) (e : Operand) (ts : List Token) → Continues names final → AreDistinct final
+    → n.0 ≡ number → v.0 < length names → IsKnown (length names) e
+    → tokens_of ps ≡ name_of final v ∷ token.Mark mark.Assign ∷ operand_token final e ∷ token.Mark mark.Semicolon ∷ ts → IsRead names final number ps (Assign n v e) ts
+unfolding item_at assigned_at
+assigned_complete names final number ps n v e ts c distinct is_n below known h =
+    let s1 : Splits ps (name_of final v) (token.Mark mark.Assign ∷ operand_token final e ∷ token.Mark mark.Semicolon ∷ ts) = tokens_front ps _ _ h in
+    let s2 : Splits s1.rest (token.Mark mark.Assign) (operand_token final e ∷ token.Mark mark.Semicolon ∷ ts) = tokens_front s1.rest _ _ s1.others in
+    let s3 : Splits s2.rest (operand_token final e) (token.Mark mark.Semicolon ∷ ts) = tokens_front s2.rest _ _ s2.others in
+    let s4 : Splits s3.rest (token.Mark mark.Semicolon) ts = tokens_front s3.rest _ _ s3.others in
+    let f4 : VarId → Operand → List Piece → Option (Item × List Piece) = λ v e r. Some (Assign (record { 0 = number }) v e, r) in
+    let f3 : VarId → Operand × List Piece → Option (Item × List Piece) = λ v read. after_mark mark.Semicolon read.1 >>= f4 v read.0 in
+    let f2 : VarId → List Piece → Option (Item × List Piece) = λ v value. first_by (operand_in names) value >>= f3 v in
+    let f1 : VarId × List Piece → Option (Item × List Piece) = λ var. after_mark mark.Assign var.1 >>= f2 var.0 in
+    record {
+      rest = s4.rest;
+      read = ap (λ o. item_by names number o (after_mark mark.Assert ps) ps) (front_other mark.Int ps s1.rest (name_of final v) s1.front (λ x. cc))
+        ∙ ap (λ o. item_by names number None o ps) (front_other mark.Assert ps s1.rest (name_of final v) s1.front (λ x. cc))
+        ∙ bound (first_by (variable_in names) ps) (v, s1.rest) f1 (front_by (variable_in names) ps s1.rest (name_of final v) v s1.front (token_variable names final v c distinct below))
+        ∙ bound (after_mark mark.Assign s1.rest) s2.rest (f2 v) (front_mark mark.Assign s1.rest s2.rest s2.front)
+        ∙ bound (first_by (operand_in names) s2.rest) (e, s3.rest) (f3 v) (front_by (operand_in names) s2.rest s3.rest (operand_token final e) e s3.front (operand_read names final e c distinct known))
+        ∙ bound (after_mark mark.Semicolon s3.rest) s4.rest (f4 v e) (front_mark mark.Semicolon s3.rest s4.rest s4.front)
+        ∙ ap (λ k. Some (Assign (record { 0 = k }) v e, s4.rest)) (sym is_n);
+      others = s4.others;
+      rest_is = one_more 3 ps s3.rest s4.rest (one_more 2 ps s2.rest s3.rest (one_more 1 ps s1.rest s2.rest (front_drop ps s1.rest _ s1.front) (front_drop s1.rest s2.rest _ s2.front)) (front_drop s2.rest s3.rest _ s3.front)) (front_drop s3.rest s4.rest _ s4.front);
+      goes_on = c
+    }
+
+asserted_complete : (names final : List (List ℕ)) (number : ℕ) (ps : List Piece) (n : StmtId) (v : VarId) (z : ℤ) (ts : List Token) → Continues names final → AreDistinct final
+    → n.0 ≡ number → v.0 < length names → IsWritable z
+    → tokens_of ps ≡ token.Mark mark.Assert ∷ token.Mark mark.Open ∷ name_of final v ∷ token.Mark mark.Equal ∷ numeral_of z ∷ token.Mark mark.Close ∷ token.Mark mark.Semicolon ∷ ts
+    → IsRead names final number ps (Assert n v z) ts
+unfolding item_at asserted_at
+asserted_complete names final number ps n v z ts c distinct is_n below writable h =
+    let s0 : Splits ps (token.Mark mark.Assert) (token.Mark mark.Open ∷ name_of final v ∷ token.Mark mark.Equal ∷ numeral_of z ∷ token.Mark mark.Close ∷ token.Mark mark.Semicolon ∷ ts) = tokens_front ps _ _ h in
+    let s1 : Splits s0.rest (token.Mark mark.Open) (name_of final v ∷ token.Mark mark.Equal ∷ numeral_of z ∷ token.Mark mark.Close ∷ token.Mark mark.Semicolon ∷ ts) = tokens_front s0.rest _ _ s0.others in
+    let s2 : Splits s1.rest (name_of final v) (token.Mark mark.Equal ∷ numeral_of z ∷ token.Mark mark.Close ∷ token.Mark mark.Semicolon ∷ ts) = tokens_front s1.rest _ _ s1.others in
+    let s3 : Splits s2.rest (token.Mark mark.Equal) (numeral_of z ∷ token.Mark mark.Close ∷ token.Mark mark.Semicolon ∷ ts) = tokens_front s2.rest _ _ s2.others in
+    let s4 : Splits s3.rest (numeral_of z) (token.Mark mark.Close ∷ token.Mark mark.Semicolon ∷ ts) = tokens_front s3.rest _ _ s3.others in
+    let s5 : Splits s4.rest (token.Mark mark.Close) (token.Mark mark.Semicolon ∷ ts) = tokens_front s4.rest _ _ s4.others in
+    let s6 : Splits s5.rest (token.Mark mark.Semicolon) ts = tokens_front s5.rest _ _ s5.others in
+    let f6 : VarId → ℤ → List Piece → Option (Item × List Piece) = λ v z r. Some (Assert (record { 0 = number }) v z, r) in
+    let f5 : VarId → ℤ → List Piece → Option (Item × List Piece) = λ v z closed. after_mark mark.Semicolon closed >>= f6 v z in
+    let f4 : VarId → ℤ × List Piece → Option (Item × List Piece) = λ v value. after_mark mark.Close value.1 >>= f5 v value.0 in
+    let f3 : VarId → List Piece → Option (Item × List Piece) = λ v right. first_by number_in right >>= f4 v in
+    let f2 : VarId × List Piece → Option (Item × List Piece) = λ var. after_mark mark.Equal var.1 >>= f3 var.0 in
+    let f1 : List Piece → Option (Item × List Piece) = λ inside. first_by (variable_in names) inside >>= f2 in
+    record {
+      rest = s6.rest;
+      read = ap (λ o. item_by names number o (after_mark mark.Assert ps) ps) (front_other mark.Int ps s0.rest (token.Mark mark.Assert) s0.front (λ x. cc))
+        ∙ ap (λ o. item_by names number None o ps) (front_mark mark.Assert ps s0.rest s0.front)
+        ∙ bound (after_mark mark.Open s0.rest) s1.rest f1 (front_mark mark.Open s0.rest s1.rest s1.front)
+        ∙ bound (first_by (variable_in names) s1.rest) (v, s2.rest) f2 (front_by (variable_in names) s1.rest s2.rest (name_of final v) v s2.front (token_variable names final v c distinct below))
+        ∙ bound (after_mark mark.Equal s2.rest) s3.rest (f3 v) (front_mark mark.Equal s2.rest s3.rest s3.front)
+        ∙ bound (first_by number_in s3.rest) (z, s4.rest) (f4 v) (front_by number_in s3.rest s4.rest (numeral_of z) z s4.front (token_number z writable))
+        ∙ bound (after_mark mark.Close s4.rest) s5.rest (f5 v z) (front_mark mark.Close s4.rest s5.rest s5.front)
+        ∙ bound (after_mark mark.Semicolon s5.rest) s6.rest (f6 v z) (front_mark mark.Semicolon s5.rest s6.rest s6.front)
+        ∙ ap (λ k. Some (Assert (record { 0 = k }) v z, s6.rest)) (sym is_n);
+      others = s6.others;
+      rest_is = one_more 6 ps s5.rest s6.rest (one_more 5 ps s4.rest s5.rest (one_more 4 ps s3.rest s4.rest
+          (one_more 3 ps s2.rest s3.rest (one_more 2 ps s1.rest s2.rest (one_more 1 ps s0.rest s1.rest (front_drop ps s0.rest _ s0.front) (front_drop s0.rest s1.rest _ s1.front)) (front_drop s1.rest s2.rest _ s2.front)) (front_drop s2.rest s3.rest _ s3.front))
+          (front_drop s3.rest s4.rest _ s4.front)) (front_drop s4.rest s5.rest _ s5.front)) (front_drop s5.rest s6.rest _ s6.front);
+      goes_on = c
+    }
+
+-- whether one more name is to come where an item declares one
+abbrev pub HasRoom : List (List ℕ) → List (List ℕ) → Item → Type 0
+HasRoom names final (Declare v) = length names < length final
+HasRoom names final (Assign n v e) = Unit {0}
+HasRoom names final (Assert n v z) = Unit {0}
+
+pub item_complete : (names final : List (List ℕ)) (number : ℕ) (ps : List Piece) (item : Item) (items : List Item) (ts : List Token) → Continues names final → AreDistinct final → HasRoom names final item
+    → AreDeclared (length names) (item ∷ items) → AreNumbered number (item ∷ items) → tokens_of ps ≡ item_tokens final item ++ ts → IsRead names final number ps item ts
+item_complete names final number ps (Declare v) items ts c distinct room d n h = declared_complete names final number ps v ts c.more c.is distinct room d.0 h
+item_complete names final number ps (Assign m v e) items ts c distinct room d n h = assigned_complete names final number ps m v e ts c distinct n.0 d.0 d.1 h
+item_complete names final number ps (Assert m v z) items ts c distinct room d n h = asserted_complete names final number ps m v z ts c distinct n.0 d.0 d.1 h

@@ -5,6 +5,7 @@ pub mod Cutting
 pub mod ReadSteps
 pub mod Fronts
 pub mod ItemLaws
+pub mod BodyLaws
 pub mod Found
 pub mod LeastSets
 pub mod Located

@@ -12,21 +12,21 @@ use Rattle.ba_straight.specs.declared.pieces.Mark.TheVariants as mark
 use Rattle.ba_straight.specs.declared.pieces.Piece.{Piece}
 use Rattle.ba_straight.specs.declared.reader.Body.{Body}
 
-params_from-suc : (n : ℕ) (names : List (List ℕ)) (pieces : List Piece) → params_from (suc n) names pieces
+pub params_from-suc : (n : ℕ) (names : List (List ℕ)) (pieces : List Piece) → params_from (suc n) names pieces
     ≡ param_at names pieces >>= (λ r. params_by (params_from n (names ++ r.0 ∷ [])) (names ++ r.0 ∷ []) (after_mark mark.Comma r.1) r.1)
 unfolding params_from
 params_from-suc n names pieces = refl
 
-params_from-zero : (names : List (List ℕ)) (pieces : List Piece) → params_from 0 names pieces ≡ None
+pub params_from-zero : (names : List (List ℕ)) (pieces : List Piece) → params_from 0 names pieces ≡ None
 unfolding params_from
 params_from-zero names pieces = refl
 
-body_from-suc : (n : ℕ) (body : Body) (pieces : List Piece) → body_from (suc n) body pieces
+pub body_from-suc : (n : ℕ) (body : Body) (pieces : List Piece) → body_from (suc n) body pieces
     ≡ body_by (body_from n) body (after_mark mark.End pieces) (item_at body.names (length body.statements + 1) pieces) pieces
 unfolding body_from
 body_from-suc n body pieces = refl
 
-body_from-zero : (body : Body) (pieces : List Piece) → body_from 0 body pieces ≡ None
+pub body_from-zero : (body : Body) (pieces : List Piece) → body_from 0 body pieces ≡ None
 unfolding body_from
 body_from-zero body pieces = refl
 
