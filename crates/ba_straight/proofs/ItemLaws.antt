@@ -102,7 +102,7 @@ number_after n (Declare var) = n
 number_after n (Assign stmt var value) = n + 1
 number_after n (Assert stmt var value) = n + 1
 
-some_is : {A : Type 0} (x y : A) → Some x ≡ Some y → x ≡ y
+pub some_is : {A : Type 0} (x y : A) → Some x ≡ Some y → x ≡ y
 some_is x y h = cc
 
 -- what is known of an item that was read
@@ -113,17 +113,17 @@ pub record IsItem (names : List (List ℕ)) (number : ℕ) (ps : List Piece) (it
   pub numbered : (items : List Item) → AreNumbered (number_after number item) items → AreNumbered number (item ∷ items)
   pub distinct : AreDistinct names → AreDistinct (names_after names item ps)
 
-name_is : (t : Token) (name : List ℕ) → name_in t ≡ Some name → t ≡ token.Name name
+pub name_is : (t : Token) (name : List ℕ) → name_in t ≡ Some name → t ≡ token.Name name
 name_is (token.Mark m) name h = cc
 name_is (token.Name n) name h = cc
 name_is (token.Number n) name h = cc
 name_is token.Other name h = cc
 
-chosen_none : {A : Type 0} (b : Bool) (x y : A) → cond b None (Some x) ≡ Some y → (b ≡ false) × (x ≡ y)
+pub chosen_none : {A : Type 0} (b : Bool) (x y : A) → cond b None (Some x) ≡ Some y → (b ≡ false) × (x ≡ y)
 chosen_none true x y h = cc
 chosen_none false x y h = (refl, cc)
 
-distinct_push : (names : List (List ℕ)) (name : List ℕ) → AreDistinct names → (Stands names name → ⊥) → AreDistinct (names ++ name ∷ [])
+pub distinct_push : (names : List (List ℕ)) (name : List ℕ) → AreDistinct names → (Stands names name → ⊥) → AreDistinct (names ++ name ∷ [])
 distinct_push [] name distinct fresh = ((λ s. s), tt)
 distinct_push (n ∷ ns) name distinct fresh = ((λ s. apart ns n name distinct.0 (λ e. fresh (inl (sym e))) s), distinct_push ns name distinct.1 (λ s. fresh (inr s))) where
   apart : (ns : List (List ℕ)) (n name : List ℕ) → (Stands ns n → ⊥) → (n ≡ name → ⊥) → Stands (ns ++ name ∷ []) n → ⊥
@@ -318,7 +318,7 @@ stands_right : (ns ms : List (List ℕ)) (m : List ℕ) → Stands (ns ++ m ∷ 
 stands_right [] ms m = inl refl
 stands_right (n ∷ ns) ms m = inr (stands_right ns ms m)
 
-fresh_name : (names ms : List (List ℕ)) (m : List ℕ) → AreDistinct (names ++ m ∷ ms) → Stands names m → ⊥
+pub fresh_name : (names ms : List (List ℕ)) (m : List ℕ) → AreDistinct (names ++ m ∷ ms) → Stands names m → ⊥
 fresh_name [] ms m distinct s = s
 fresh_name (n ∷ ns) ms m distinct (inl e) = distinct.0 (subst (Stands (ns ++ m ∷ ms)) e (stands_right ns ms m))
 fresh_name (n ∷ ns) ms m distinct (inr s) = fresh_name ns ms m distinct.1 s

@@ -6,6 +6,7 @@ pub mod ReadSteps
 pub mod Fronts
 pub mod ItemLaws
 pub mod BodyLaws
+pub mod ParamLaws
 pub mod Found
 pub mod LeastSets
 pub mod Located
