@@ -7,6 +7,7 @@ pub mod Fronts
 pub mod ItemLaws
 pub mod BodyLaws
 pub mod ParamLaws
+pub mod TextLaws
 pub mod Found
 pub mod LeastSets
 pub mod Located

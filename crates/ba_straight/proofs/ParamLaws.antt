@@ -49,9 +49,10 @@ param_sound names ps r h =
 
 -- PARAMETERS, sound
 
-pub record AreParams (names : List (List ℕ)) (ps : List Piece) (out : List (List ℕ)) (rest : List Piece) : Type 0 where
+pub record AreParams (n : ℕ) (names : List (List ℕ)) (ps : List Piece) (out : List (List ℕ)) (rest : List Piece) : Type 0 where
   pub count : ℕ
   pub named : length out ≡ length names + suc count
+  pub few : suc count ≤ n
   pub goes_on : Continues names out
   pub distinct : AreDistinct names → AreDistinct out
   pub tokens : (final : List (List ℕ)) → Continues out final
@@ -66,12 +67,13 @@ longer : (names : List (List ℕ)) (name : List ℕ) → length (names ++ name �
 longer names name = length-append names (name ∷ [])
 
 params_case : (n : ℕ) (names : List (List ℕ)) (ps : List Piece) (r : List ℕ × List Piece) (out : List (List ℕ) × List Piece) (comma : Option (List Piece)) → IsParam names ps r.0 r.1
-    → ((ms : List (List ℕ)) (qs : List Piece) → params_from n ms qs ≡ Some out → AreParams ms qs out.0 out.1)
-    → after_mark mark.Comma r.1 ≡ comma → params_by (params_from n (names ++ r.0 ∷ [])) (names ++ r.0 ∷ []) comma r.1 ≡ Some out → AreParams names ps out.0 out.1
+    → ((ms : List (List ℕ)) (qs : List Piece) → params_from n ms qs ≡ Some out → AreParams n ms qs out.0 out.1)
+    → after_mark mark.Comma r.1 ≡ comma → params_by (params_from n (names ++ r.0 ∷ [])) (names ++ r.0 ∷ []) comma r.1 ≡ Some out → AreParams (suc n) names ps out.0 out.1
 params_case n names ps r out None p go is_comma h =
     let is : (names ++ r.0 ∷ [], r.1) ≡ out = some_is (names ++ r.0 ∷ [], r.1) out h in
-    subst (λ (o : List (List ℕ) × List Piece). AreParams names ps o.0 o.1) is (record {
+    subst (λ (o : List (List ℕ) × List Piece). AreParams (suc n) names ps o.0 o.1) is (record {
       count = 0;
+      few = omega arith;
       named = longer names r.0;
       goes_on = record { more = r.0 ∷ []; is = refl };
       distinct = λ d. distinct_push names r.0 d p.fresh;
@@ -80,10 +82,11 @@ params_case n names ps r out None p go is_comma h =
     })
 params_case n names ps r out (Some next) p go is_comma h =
     let more : List (List ℕ) = names ++ r.0 ∷ [] in
-    let a : AreParams more next out.0 out.1 = go more next h in
+    let a : AreParams n more next out.0 out.1 = go more next h in
     let comma : Front r.1 (token.Mark mark.Comma) next = mark_front mark.Comma r.1 next is_comma in
     record {
       count = suc a.count;
+      few = let le : suc a.count ≤ n = a.few in omega arith;
       named = let l : length more ≡ length names + 1 = longer names r.0 in a.named ∙ omega arith;
       goes_on = record { more = r.0 ∷ a.goes_on.more; is = a.goes_on.is ∙ append_assoc names (r.0 ∷ []) a.goes_on.more };
       distinct = λ d. a.distinct (distinct_push names r.0 d p.fresh);
@@ -96,7 +99,7 @@ params_case n names ps r out (Some next) p go is_comma h =
       after = after_after ps r.1 out.1 p.after (after_after r.1 next out.1 (front_after r.1 next _ comma) a.after)
     }
 
-pub params_sound : (n : ℕ) (names : List (List ℕ)) (ps : List Piece) (out : List (List ℕ) × List Piece) → params_from n names ps ≡ Some out → AreParams names ps out.0 out.1
+pub params_sound : (n : ℕ) (names : List (List ℕ)) (ps : List Piece) (out : List (List ℕ) × List Piece) → params_from n names ps ≡ Some out → AreParams n names ps out.0 out.1
 params_sound zero names ps out h = let none : None ≡ Some out = sym (params_from-zero names ps) ∙ h in cc
 params_sound (suc n) names ps out h =
     let f : List ℕ × List Piece → Option (List (List ℕ) × List Piece) = λ r. params_by (params_from n (names ++ r.0 ∷ [])) (names ++ r.0 ∷ []) (after_mark mark.Comma r.1) r.1 in

@@ -115,20 +115,24 @@ statements_in pieces (Assert stmt var value ∷ items) = record { at = place_of 
 abbrev pub most : ℕ
 most = 12
 
--- A TEXT of a straight-line program
-pub record IsText (text : List ℕ) (s : Straight) : Type 0 where
+-- These pieces are those of a straight-line program.
+pub record IsWritten (pieces : List Piece) (s : Straight) : Type 0 where
   pub names : List (List ℕ)
-  pub tokens : map (λ (p : Piece). p.token) (pieces_of text) ≡ head_tokens names s.params ++ body_tokens names s.items
+  pub tokens : map (λ (p : Piece). p.token) pieces ≡ head_tokens names s.params ++ body_tokens names s.items
   pub distinct : AreDistinct names
   pub named : length names ≡ length s.params + length s.locals
   pub params : AreCounted 0 s.params
   pub declared : AreDeclared (length s.params) s.items
   pub locals : s.locals ≡ declared_in s.items
   pub numbered : AreNumbered 1 s.items
-  pub statements : s.statements ≡ statements_in (drop (length (head_tokens names s.params)) (pieces_of text)) s.items
+  pub statements : s.statements ≡ statements_in (drop (length (head_tokens names s.params)) pieces) s.items
   pub few_params : length s.params ≤ most
   pub few_locals : length s.locals ≤ most
   pub few_statements : length s.statements ≤ most
+
+-- A text of a straight-line program: its pieces are those of one.
+abbrev pub IsText : List ℕ → Straight → Type 0
+IsText text s = IsWritten (pieces_of text) s
 
 -- A text SPELLS a program where it is that of a straight-line program whose tree this is.
 pub record Spells (text : List ℕ) (p : Program) : Type 0 where
