@@ -38,18 +38,20 @@ cut_piece place rest piece others b bs size pieces pushed token is_rest no_line 
     let the_piece : ℕ → List ℕ → Piece = λ n text. record { token = token_of (take n text); at = place } in
     let is_first : record { token = token; at = place } ≡ the_piece size rest = ap (λ t. record { token = t; at = place }) (is_token ∙ ap token_of is_piece) in
     let rest_same : pieces_from place.line (place.column + 1) (size - 1) bs ≡ tail =
-        skip place.line (place.column + 1) (size - 1) bs
-        ∙ ap (λ k. pieces_from place.line k 0 (drop (size - 1) bs)) (omega arith)
-        ∙ ap (λ text. pieces_from place.line (place.column + size) 0 text) (drop_inside size b bs positive ∙ ap (drop size) (sym is_rest) ∙ sym is_others) in
+    skip place.line (place.column + 1) (size - 1) bs
+    ∙ ap (λ k. pieces_from place.line k 0 (drop (size - 1) bs)) (omega arith)
+    ∙ ap (λ text. pieces_from place.line (place.column + size) 0 text) (drop_inside size b bs positive ∙ ap (drop size) (sym is_rest) ∙ sym is_others) in
     let whole : pieces_from place.line place.column 0 rest ≡ the_piece size rest ∷ tail =
-        ap (pieces_from place.line place.column 0) is_rest ∙ at_piece place.line place.column b bs no_line no_blank
-        ∙ ap (λ n. the_piece n (b ∷ bs) ∷ pieces_from place.line (place.column + 1) (n - 1) bs) (sym (is_size ∙ ap size_of is_rest))
-        ∙ ap (λ text. the_piece size text ∷ pieces_from place.line (place.column + 1) (size - 1) bs) (sym is_rest)
-        ∙ ap (λ ps. the_piece size rest ∷ ps) rest_same in
+    ap (pieces_from place.line place.column 0) is_rest ∙ at_piece place.line place.column b bs no_line no_blank
+    ∙ ap (λ n. the_piece n (b ∷ bs) ∷ pieces_from place.line (place.column + 1) (n - 1) bs) (sym (is_size ∙ ap size_of is_rest))
+    ∙ ap (λ text. the_piece size text ∷ pieces_from place.line (place.column + 1) (size - 1) bs) (sym is_rest)
+    ∙ ap (λ ps. the_piece size rest ∷ ps) rest_same in
     record {
       same = ap (λ ps. ps ++ tail) is_pushed ∙ append_assoc pieces (record { token = token; at = place } ∷ []) tail
-        ∙ ap (λ p. pieces ++ p ∷ tail) is_first ∙ ap (λ ps. pieces ++ ps) (sym whole);
-      shorter = omega arith; short = omega arith; begun = omega arith
+          ∙ ap (λ p. pieces ++ p ∷ tail) is_first ∙ ap (λ ps. pieces ++ ps) (sym whole);
+      shorter = omega arith;
+      short = omega arith;
+      begun = omega arith;
     }
 
 pub differs : (a b : ℕ) → (a ≡ b → ⊥) → (a == b) ≡ false

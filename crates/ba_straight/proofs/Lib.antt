@@ -2,6 +2,12 @@ pub mod Mapping
 pub mod Feasible
 pub mod Runs
 pub mod Cutting
+pub mod ReadSteps
+pub mod Fronts
+pub mod ItemLaws
+pub mod BodyLaws
+pub mod ParamLaws
+pub mod TextLaws
 pub mod Found
 pub mod LeastSets
 pub mod Located

@@ -3,3 +3,4 @@ pub mod Terms
 pub mod Sets
 pub mod Text
 pub mod Spelling
+pub mod Reading

@@ -24,9 +24,14 @@ use Rattle.ba_straight.specs.Text.{pieces_of}
 abbrev pub name_of : List (List ℕ) → VarId → Token
 name_of names v = Name (slice_index_or names v.0 [])
 
+-- only a number that is not negative can be written
 abbrev pub numeral_of : ℤ → Token
 numeral_of (pos n) = Number n
 numeral_of (negsuc n) = Other
+
+abbrev pub IsWritable : ℤ → Type 0
+IsWritable (pos n) = Unit {0}
+IsWritable (negsuc n) = ⊥
 
 abbrev pub operand_token : List (List ℕ) → Operand → Token
 operand_token names (operand.Number z) = numeral_of z
@@ -74,16 +79,17 @@ abbrev pub AreCounted : ℕ → List VarId → Type 0
 AreCounted n [] = Unit {0}
 AreCounted n (v ∷ vs) = (v.0 ≡ n) × AreCounted (n + 1) vs
 
+-- a number that can be written, or one of n variables
 abbrev pub IsKnown : ℕ → Operand → Type 0
-IsKnown n (operand.Number z) = Unit {0}
+IsKnown n (operand.Number z) = IsWritable z
 IsKnown n (operand.Variable v) = v.0 < n
 
--- where n variables are declared before, each item declares the next one or uses declared ones
+-- where n variables are declared before, each item declares the next one or uses declared ones and numbers that can be written
 abbrev pub AreDeclared : ℕ → List Item → Type 0
 AreDeclared n [] = Unit {0}
 AreDeclared n (Declare var ∷ items) = (var.0 ≡ n) × AreDeclared (n + 1) items
 AreDeclared n (Assign stmt var value ∷ items) = (var.0 < n) × IsKnown n value × AreDeclared n items
-AreDeclared n (Assert stmt var value ∷ items) = (var.0 < n) × AreDeclared n items
+AreDeclared n (Assert stmt var value ∷ items) = (var.0 < n) × IsWritable value × AreDeclared n items
 
 -- the variables that items declare
 abbrev pub declared_in : List Item → List VarId
@@ -109,20 +115,24 @@ statements_in pieces (Assert stmt var value ∷ items) = record { at = place_of 
 abbrev pub most : ℕ
 most = 12
 
--- A TEXT of a straight-line program
-pub record IsText (text : List ℕ) (s : Straight) : Type 0 where
+-- These pieces are those of a straight-line program.
+pub record IsWritten (pieces : List Piece) (s : Straight) : Type 0 where
   pub names : List (List ℕ)
-  pub tokens : map (λ (p : Piece). p.token) (pieces_of text) ≡ head_tokens names s.params ++ body_tokens names s.items
+  pub tokens : map (λ (p : Piece). p.token) pieces ≡ head_tokens names s.params ++ body_tokens names s.items
   pub distinct : AreDistinct names
   pub named : length names ≡ length s.params + length s.locals
   pub params : AreCounted 0 s.params
   pub declared : AreDeclared (length s.params) s.items
   pub locals : s.locals ≡ declared_in s.items
   pub numbered : AreNumbered 1 s.items
-  pub statements : s.statements ≡ statements_in (drop (length (head_tokens names s.params)) (pieces_of text)) s.items
+  pub statements : s.statements ≡ statements_in (drop (length (head_tokens names s.params)) pieces) s.items
   pub few_params : length s.params ≤ most
   pub few_locals : length s.locals ≤ most
   pub few_statements : length s.statements ≤ most
+
+-- A text of a straight-line program: its pieces are those of one.
+abbrev pub IsText : List ℕ → Straight → Type 0
+IsText text s = IsWritten (pieces_of text) s
 
 -- A text SPELLS a program where it is that of a straight-line program whose tree this is.
 pub record Spells (text : List ℕ) (p : Program) : Type 0 where

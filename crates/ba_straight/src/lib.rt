@@ -6,5 +6,6 @@
 
 pub mod items;
 pub mod pieces;
+pub mod reader;
 pub mod sets;
 pub mod terms;

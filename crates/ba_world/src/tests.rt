@@ -95,11 +95,12 @@ fn takes_half_of_the_bytes_before_a_failure(rt: HostRuntime) -> Result<(), Fail>
 #[derive(Drop)]
 struct Endless {
     is_open: bool,
+    is_begun: bool,
     given: u64,
 }
 
 impl World for Endless {
-    ghost use Rattle.std.specs.Prelude.{None, false};
+    ghost use Rattle.std.specs.Prelude.{None};
 
     ghost held = { λ _ _. None };
 
@@ -113,7 +114,7 @@ impl World for Endless {
 
     ghost is_reading = { λ world. world.is_open };
 
-    ghost is_writing = { λ _. false };
+    ghost is_writing = { λ world. world.is_begun };
 
     ghost read_faults = { λ _. 0 };
 
@@ -133,11 +134,12 @@ impl World for Endless {
     }
 
     fn begin_file(&mut self, _name: &str) -> Result<(), WorldError> {
-        Err(WorldError::Memory)
+        self.is_begun = true;
+        Ok(())
     }
 
     fn add(&mut self, _bytes: &[u8]) -> Result<(), WorldError> {
-        unreachable!()
+        Ok(())
     }
 
     fn print(&mut self, _bytes: &[u8]) -> Result<(), WorldError> {
@@ -149,6 +151,7 @@ impl World for Endless {
 fn stops_where_a_file_never_ends(rt: HostRuntime) {
     let mut world = Endless {
         is_open: false,
+        is_begun: false,
         given: 0,
     };
     let outcome = read_whole(rt.alloc(), &mut world, "program", LIMIT);
