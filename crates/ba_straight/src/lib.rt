@@ -6,6 +6,7 @@
 
 pub mod items;
 pub mod pieces;
+pub mod program;
 pub mod reader;
 pub mod sets;
 pub mod terms;
