@@ -21,7 +21,10 @@ use Rattle.ba_straight.proofs.ReadSteps.{body_from-suc, body_from-zero}
 -- a body with these items more
 abbrev pub with_items : Body → List (List ℕ) → List Item → List Piece → Body
 with_items body names items ps = record {
-  names = names; locals = body.locals ++ declared_in items; items = body.items ++ items; statements = body.statements ++ statements_in ps items
+  names = names;
+  locals = body.locals ++ declared_in items;
+  items = body.items ++ items;
+  statements = body.statements ++ statements_in ps items;
 }
 
 -- what one item adds is what the items add together
@@ -77,9 +80,14 @@ nothing_more body ps = ap (λ l. record { names = body.names; locals = l; items 
 -- the end of a body
 body_end : (body : Body) (ps : List Piece) (out : Body) → after_mark mark.End ps ≡ Some [] → body ≡ out → IsBody body ps out
 body_end body ps out is_end same = subst (IsBody body ps) same (record {
-  items = []; is = sym (nothing_more body ps); goes_on = record { more = []; is = sym (append-nil body.names) };
+  items = [];
+  is = sym (nothing_more body ps);
+  goes_on = record { more = []; is = sym (append-nil body.names) };
   tokens = front_tokens ps [] (token.Mark mark.End) (mark_front mark.End ps [] is_end);
-  declared = tt; numbered = tt; distinct = λ d. d; named = omega arith
+  declared = tt;
+  numbered = tt;
+  distinct = λ d. d;
+  named = omega arith;
 })
 
 named_more : (body : Body) (item : Item) (items : List Item) (ps : List Piece) (k : ℕ) → k ≡ length (added body item ps).names + length (declared_in items) → k ≡ length body.names + length (declared_in (item ∷ items))
@@ -105,7 +113,7 @@ body_more body ps rest item out i b =
       declared = i.declared b.items (subst (λ ns. AreDeclared (length ns) b.items) names_same b.declared);
       numbered = i.numbered b.items (subst (λ k. AreNumbered k b.items) (added_number body item ps) b.numbered);
       distinct = λ d. b.distinct (subst AreDistinct (sym names_same) (i.distinct d));
-      named = named_more body item b.items ps (length out.names) b.named
+      named = named_more body item b.items ps (length out.names) b.named;
     }
 
 body_case : (more : Body → List Piece → Option Body) (body : Body) (ps : List Piece) (out : Body) (end : Option (List Piece)) (read : Option (Item × List Piece)) → AreInts ps
@@ -122,7 +130,7 @@ pub body_sound : (n : ℕ) (body : Body) (ps : List Piece) (out : Body) → AreI
 body_sound zero body ps out ints h = let none : None ≡ Some out = sym (body_from-zero body ps) ∙ h in cc
 body_sound (suc n) body ps out ints h =
     body_case (body_from n) body ps out (after_mark mark.End ps) (item_at body.names (length body.statements + 1) ps) ints
-        (λ b qs i g. body_sound n b qs out i g) refl refl (sym (body_from-suc n body ps) ∙ h)
+    (λ b qs i g. body_sound n b qs out i g) refl refl (sym (body_from-suc n body ps) ∙ h)
 
 -- COMPLETE
 
@@ -173,12 +181,12 @@ body_complete [] (suc n) body final ps few c distinct d num named h =
     ∙ ap (λ b. Some b) (sym (nothing_more body ps)) ∙ ap (λ ns. Some (with_items body ns [] ps)) (sym same)
 body_complete (item ∷ items) (suc n) body final ps few c distinct d num named h =
     let r : IsRead body.names final (length body.statements + 1) ps item (body_tokens final items) =
-        item_complete body.names final (length body.statements + 1) ps item items (body_tokens final items) c distinct (room_for body final item items named) d num h in
+    item_complete body.names final (length body.statements + 1) ps item items (body_tokens final items) c distinct (room_for body final item items named) d num h in
     let next : Body = added body item ps in
     body_from-suc n body ps
     ∙ ap (λ o. body_by (body_from n) body o (item_at body.names (length body.statements + 1) ps) ps) (no_end final item ps (body_tokens final items) h)
     ∙ ap (λ o. body_by (body_from n) body None o ps) r.read
     ∙ body_complete items n next final r.rest (omega arith) (subst (λ ns. Continues ns final) (sym (added_names body item ps)) r.goes_on) distinct
-        (declared_rest body item items ps d) (subst (λ k. AreNumbered k items) (sym (added_number body item ps)) (numbered_rest (length body.statements + 1) item items num))
-        (named_rest body item items ps (length final) named) r.others
+    (declared_rest body item items ps d) (subst (λ k. AreNumbered k items) (sym (added_number body item ps)) (numbered_rest (length body.statements + 1) item items num))
+    (named_rest body item items ps (length final) named) r.others
     ∙ ap (λ b. Some b) (added_first body final item items ps r.rest r.rest_is)

@@ -146,9 +146,9 @@ finds n (known ∷ names) (suc i) distinct h =
     let name : List ℕ = get_or names i [] in
     let other : bytes_eq known name ≡ false = not_equal (bytes_eq known name) (λ e. distinct.0 (subst (Stands names) (sym ((bytes_eq-Decides known name).0 e)) (stands_at names i (omega arith)))) in
     ap (λ b. cond b (Some (record { 0 = n })) (named_from (n + 1) names name)) other ∙ finds (n + 1) names i distinct.1 (omega arith) ∙ ap (λ k. Some (record { 0 = k })) (omega arith) where
-  not_equal : (b : Bool) → (b ≡ true → ⊥) → b ≡ false
-  not_equal true h = absurd (h refl)
-  not_equal false h = refl
+      not_equal : (b : Bool) → (b ≡ true → ⊥) → b ≡ false
+      not_equal true h = absurd (h refl)
+      not_equal false h = refl
 
 -- a name that is not found does not stand there, and the other way round
 found_if_stands : (n : ℕ) (names : List (List ℕ)) (name : List ℕ) → Stands names name → is_some (named_from n names name) ≡ true

@@ -151,29 +151,29 @@ unfolding declared_at
 declared_sound names number ps inner item rest f h =
     let last : List ℕ → List Piece → Option (Item × List Piece) = λ name rest. cond (is_some (variable_named names name)) None (Some (Declare (record { 0 = length names }), rest)) in
     let b : (name : List ℕ × List Piece) × (first_by name_in inner ≡ Some name) × ((after_mark mark.Semicolon name.1 >>= last name.0) ≡ Some (item, rest)) =
-        bound_some (first_by name_in inner) (λ name. after_mark mark.Semicolon name.1 >>= last name.0) (item, rest) h in
+    bound_some (first_by name_in inner) (λ name. after_mark mark.Semicolon name.1 >>= last name.0) (item, rest) h in
     let name : List ℕ = b.0.0 in
     let after : List Piece = b.0.1 in
     let m : (r : List Piece) × (after_mark mark.Semicolon after ≡ Some r) × (last name r ≡ Some (item, rest)) = bound_some (after_mark mark.Semicolon after) (last name) (item, rest) b.2 in
     let ends : (is_some (variable_named names name) ≡ false) × ((Declare (record { 0 = length names }), m.0) ≡ (item, rest)) =
-        chosen_none (is_some (variable_named names name)) (Declare (record { 0 = length names }), m.0) (item, rest) m.2 in
+    chosen_none (is_some (variable_named names name)) (Declare (record { 0 = length names }), m.0) (item, rest) m.2 in
     let read : Reads name_in inner name after = by_front name_in inner b.0 b.1 in
     let named : Front inner (token.Name name) after = subst (λ t. Front inner t after) (name_is read.token name read.gives) read.front in
     let closed : Front after (token.Mark mark.Semicolon) m.0 = mark_front mark.Semicolon after m.0 m.1 in
     let is_name : declared_name ps ≡ name = declared_name_is ps inner after (token.Mark mark.Int) name f named in
     subst (λ r. IsItem names number ps r.0 r.1) ends.1 (record {
       tokens = λ final c.
-        front_tokens ps inner (token.Mark mark.Int) f
-        ∙ ap (λ ts. token.Mark mark.Int ∷ ts) (front_tokens inner after (token.Name name) named)
-        ∙ ap (λ n. token.Mark mark.Int ∷ token.Name n ∷ tokens_of after) (sym (declared_here names final ps c ∙ is_name))
-        ∙ ap (λ ts. token.Mark mark.Int ∷ name_of final (record { 0 = length names }) ∷ ts) (front_tokens after m.0 (token.Mark mark.Semicolon) closed);
+          front_tokens ps inner (token.Mark mark.Int) f
+          ∙ ap (λ ts. token.Mark mark.Int ∷ ts) (front_tokens inner after (token.Name name) named)
+          ∙ ap (λ n. token.Mark mark.Int ∷ token.Name n ∷ tokens_of after) (sym (declared_here names final ps c ∙ is_name))
+          ∙ ap (λ ts. token.Mark mark.Int ∷ name_of final (record { 0 = length names }) ∷ ts) (front_tokens after m.0 (token.Mark mark.Semicolon) closed);
       rest_is = drop_three ps inner after m.0 (front_drop ps inner _ f) (front_drop inner after _ named) (front_drop after m.0 _ closed);
       declared = λ items d. (refl, subst (λ n. AreDeclared n items) (length-append names (declared_name ps ∷ [])) d);
       numbered = λ items n. n;
-      distinct = λ d. distinct_push names (declared_name ps) d (λ s. is_new names name ends.0 (subst (Stands names) is_name s))
+      distinct = λ d. distinct_push names (declared_name ps) d (λ s. is_new names name ends.0 (subst (Stands names) is_name s));
     }) where
-  declared_here : (names final : List (List ℕ)) (ps : List Piece) → Continues (names ++ declared_name ps ∷ []) final → get_or final (length names) [] ≡ declared_name ps
-  declared_here names final ps c = ap (λ ns. get_or ns (length names) []) (c.is ∙ append_assoc names (declared_name ps ∷ []) c.more) ∙ get_or-append_seam names (declared_name ps) c.more []
+      declared_here : (names final : List (List ℕ)) (ps : List Piece) → Continues (names ++ declared_name ps ∷ []) final → get_or final (length names) [] ≡ declared_name ps
+      declared_here names final ps c = ap (λ ns. get_or ns (length names) []) (c.is ∙ append_assoc names (declared_name ps ∷ []) c.more) ∙ get_or-append_seam names (declared_name ps) c.more []
 
 -- one piece more was read
 one_more : (k : ℕ) (ps a rest : List Piece) → a ≡ drop k ps → rest ≡ drop 1 a → rest ≡ drop (k + 1) ps
@@ -236,15 +236,15 @@ assigned_sound names number ps item rest h =
     let self : Continues names names = record { more = []; is = sym (append-nil names) } in
     subst (λ r. IsItem names number ps r.0 r.1) is (record {
       tokens = λ final c.
-        front_tokens ps r1 var.token var.front
-        ∙ ap (λ t. t ∷ tokens_of r1) (variable_token names final var.token v c var.gives).0
-        ∙ ap (λ ts. name_of final v ∷ ts) (front_tokens r1 r2 _ equals ∙ ap (λ ts. token.Mark mark.Assign ∷ ts) (front_tokens r2 r3 value.token value.front
+          front_tokens ps r1 var.token var.front
+          ∙ ap (λ t. t ∷ tokens_of r1) (variable_token names final var.token v c var.gives).0
+          ∙ ap (λ ts. name_of final v ∷ ts) (front_tokens r1 r2 _ equals ∙ ap (λ ts. token.Mark mark.Assign ∷ ts) (front_tokens r2 r3 value.token value.front
           ∙ ap (λ t. t ∷ tokens_of r3) (operand_is names final value.token e c value.gives).0
           ∙ ap (λ ts. operand_token final e ∷ ts) (front_tokens r3 r4 _ closed)));
       rest_is = one_more 3 ps r3 r4 (one_more 2 ps r2 r3 (one_more 1 ps r1 r2 (front_drop ps r1 _ var.front) (front_drop r1 r2 _ equals)) (front_drop r2 r3 _ value.front)) (front_drop r3 r4 _ closed);
       declared = λ items d. ((variable_token names names var.token v self var.gives).1, (operand_is names names value.token e self value.gives).1, d);
       numbered = λ items n. (refl, n);
-      distinct = λ d. d
+      distinct = λ d. d;
     })
 
 asserted_sound : (names : List (List ℕ)) (number : ℕ) (ps r0 : List Piece) (item : Item) (rest : List Piece) → Front ps (token.Mark mark.Assert) r0
@@ -282,15 +282,15 @@ asserted_sound names number ps r0 item rest f h ints =
     let at4 : r3 ≡ drop 4 ps = one_more 3 ps r2 r3 (one_more 2 ps r1 r2 (one_more 1 ps r0 r1 (front_drop ps r0 _ f) (front_drop r0 r1 _ opened)) (front_drop r1 r2 _ var.front)) (front_drop r2 r3 _ equals) in
     subst (λ r. IsItem names number ps r.0 r.1) is (record {
       tokens = λ final c.
-        front_tokens ps r0 _ f ∙ ap (λ ts. token.Mark mark.Assert ∷ ts) (front_tokens r0 r1 _ opened ∙ ap (λ ts. token.Mark mark.Open ∷ ts) (front_tokens r1 r2 var.token var.front
-        ∙ ap (λ t. t ∷ tokens_of r2) (variable_token names final var.token v c var.gives).0
-        ∙ ap (λ ts. name_of final v ∷ ts) (front_tokens r2 r3 _ equals ∙ ap (λ ts. token.Mark mark.Equal ∷ ts) (front_tokens r3 r4 value.token value.front
+          front_tokens ps r0 _ f ∙ ap (λ ts. token.Mark mark.Assert ∷ ts) (front_tokens r0 r1 _ opened ∙ ap (λ ts. token.Mark mark.Open ∷ ts) (front_tokens r1 r2 var.token var.front
+          ∙ ap (λ t. t ∷ tokens_of r2) (variable_token names final var.token v c var.gives).0
+          ∙ ap (λ ts. name_of final v ∷ ts) (front_tokens r2 r3 _ equals ∙ ap (λ ts. token.Mark mark.Equal ∷ ts) (front_tokens r3 r4 value.token value.front
           ∙ ap (λ t. t ∷ tokens_of r4) (number_token value.token z value.gives).0
           ∙ ap (λ ts. numeral_of z ∷ ts) (front_tokens r4 r5 _ closed ∙ ap (λ ts. token.Mark mark.Close ∷ ts) (front_tokens r5 r6 _ ended))))));
       rest_is = one_more 6 ps r5 r6 (one_more 5 ps r4 r5 (one_more 4 ps r3 r4 at4 (front_drop r3 r4 _ value.front)) (front_drop r4 r5 _ closed)) (front_drop r5 r6 _ ended);
       declared = λ items d. ((variable_token names names var.token v self var.gives).1, (number_token value.token z value.gives).1, d);
       numbered = λ items n. (refl, ints_at ps r3 r4 4 value.token z ints at4 value.front value.gives, n);
-      distinct = λ d. d
+      distinct = λ d. d;
     })
 
 -- SOUND: an item that was read is written so
@@ -338,13 +338,13 @@ declared_with names final number ps v ts m ms is distinct is_v h =
     record {
       rest = s3.rest;
       read = ap (λ o. item_by names number o (after_mark mark.Assert ps) ps) (front_mark mark.Int ps s1.rest s1.front)
-        ∙ bound (first_by name_in s1.rest) (name, s2.rest) (λ r. after_mark mark.Semicolon r.1 >>= last r.0) (front_by name_in s1.rest s2.rest (name_of final v) name s2.front refl)
-        ∙ bound (after_mark mark.Semicolon s2.rest) s3.rest (last name) (front_mark mark.Semicolon s2.rest s3.rest s3.front)
-        ∙ ap (λ b. cond b None (Some (Declare (record { 0 = length names }), s3.rest))) fresh
-        ∙ ap (λ n. Some (Declare (record { 0 = n }), s3.rest)) (sym is_v);
+          ∙ bound (first_by name_in s1.rest) (name, s2.rest) (λ r. after_mark mark.Semicolon r.1 >>= last r.0) (front_by name_in s1.rest s2.rest (name_of final v) name s2.front refl)
+          ∙ bound (after_mark mark.Semicolon s2.rest) s3.rest (last name) (front_mark mark.Semicolon s2.rest s3.rest s3.front)
+          ∙ ap (λ b. cond b None (Some (Declare (record { 0 = length names }), s3.rest))) fresh
+          ∙ ap (λ n. Some (Declare (record { 0 = n }), s3.rest)) (sym is_v);
       others = s3.others;
       rest_is = drop_three ps s1.rest s2.rest s3.rest (front_drop ps s1.rest _ s1.front) (front_drop s1.rest s2.rest _ s2.front) (front_drop s2.rest s3.rest _ s3.front);
-      goes_on = record { more = ms; is = is ∙ sym (append_assoc names (m ∷ []) ms) ∙ ap (λ n. (names ++ n ∷ []) ++ ms) (sym here) }
+      goes_on = record { more = ms; is = is ∙ sym (append_assoc names (m ∷ []) ms) ∙ ap (λ n. (names ++ n ∷ []) ++ ms) (sym here) };
     }
 
 declared_complete : (names final : List (List ℕ)) (number : ℕ) (ps : List Piece) (v : VarId) (ts : List Token) (more : List (List ℕ)) → final ≡ names ++ more → AreDistinct final → length names < length final
@@ -368,15 +368,15 @@ assigned_complete names final number ps n v e ts c distinct is_n below known h =
     record {
       rest = s4.rest;
       read = ap (λ o. item_by names number o (after_mark mark.Assert ps) ps) (front_other mark.Int ps s1.rest (name_of final v) s1.front (λ x. cc))
-        ∙ ap (λ o. item_by names number None o ps) (front_other mark.Assert ps s1.rest (name_of final v) s1.front (λ x. cc))
-        ∙ bound (first_by (variable_in names) ps) (v, s1.rest) f1 (front_by (variable_in names) ps s1.rest (name_of final v) v s1.front (token_variable names final v c distinct below))
-        ∙ bound (after_mark mark.Assign s1.rest) s2.rest (f2 v) (front_mark mark.Assign s1.rest s2.rest s2.front)
-        ∙ bound (first_by (operand_in names) s2.rest) (e, s3.rest) (f3 v) (front_by (operand_in names) s2.rest s3.rest (operand_token final e) e s3.front (operand_read names final e c distinct known))
-        ∙ bound (after_mark mark.Semicolon s3.rest) s4.rest (f4 v e) (front_mark mark.Semicolon s3.rest s4.rest s4.front)
-        ∙ ap (λ k. Some (Assign (record { 0 = k }) v e, s4.rest)) (sym is_n);
+          ∙ ap (λ o. item_by names number None o ps) (front_other mark.Assert ps s1.rest (name_of final v) s1.front (λ x. cc))
+          ∙ bound (first_by (variable_in names) ps) (v, s1.rest) f1 (front_by (variable_in names) ps s1.rest (name_of final v) v s1.front (token_variable names final v c distinct below))
+          ∙ bound (after_mark mark.Assign s1.rest) s2.rest (f2 v) (front_mark mark.Assign s1.rest s2.rest s2.front)
+          ∙ bound (first_by (operand_in names) s2.rest) (e, s3.rest) (f3 v) (front_by (operand_in names) s2.rest s3.rest (operand_token final e) e s3.front (operand_read names final e c distinct known))
+          ∙ bound (after_mark mark.Semicolon s3.rest) s4.rest (f4 v e) (front_mark mark.Semicolon s3.rest s4.rest s4.front)
+          ∙ ap (λ k. Some (Assign (record { 0 = k }) v e, s4.rest)) (sym is_n);
       others = s4.others;
       rest_is = one_more 3 ps s3.rest s4.rest (one_more 2 ps s2.rest s3.rest (one_more 1 ps s1.rest s2.rest (front_drop ps s1.rest _ s1.front) (front_drop s1.rest s2.rest _ s2.front)) (front_drop s2.rest s3.rest _ s3.front)) (front_drop s3.rest s4.rest _ s4.front);
-      goes_on = c
+      goes_on = c;
     }
 
 asserted_complete : (names final : List (List ℕ)) (number : ℕ) (ps : List Piece) (n : StmtId) (v : VarId) (z : ℤ) (ts : List Token) → Continues names final → AreDistinct final
@@ -401,19 +401,19 @@ asserted_complete names final number ps n v z ts c distinct is_n below writable 
     record {
       rest = s6.rest;
       read = ap (λ o. item_by names number o (after_mark mark.Assert ps) ps) (front_other mark.Int ps s0.rest (token.Mark mark.Assert) s0.front (λ x. cc))
-        ∙ ap (λ o. item_by names number None o ps) (front_mark mark.Assert ps s0.rest s0.front)
-        ∙ bound (after_mark mark.Open s0.rest) s1.rest f1 (front_mark mark.Open s0.rest s1.rest s1.front)
-        ∙ bound (first_by (variable_in names) s1.rest) (v, s2.rest) f2 (front_by (variable_in names) s1.rest s2.rest (name_of final v) v s2.front (token_variable names final v c distinct below))
-        ∙ bound (after_mark mark.Equal s2.rest) s3.rest (f3 v) (front_mark mark.Equal s2.rest s3.rest s3.front)
-        ∙ bound (first_by number_in s3.rest) (z, s4.rest) (f4 v) (front_by number_in s3.rest s4.rest (numeral_of z) z s4.front (token_number z writable))
-        ∙ bound (after_mark mark.Close s4.rest) s5.rest (f5 v z) (front_mark mark.Close s4.rest s5.rest s5.front)
-        ∙ bound (after_mark mark.Semicolon s5.rest) s6.rest (f6 v z) (front_mark mark.Semicolon s5.rest s6.rest s6.front)
-        ∙ ap (λ k. Some (Assert (record { 0 = k }) v z, s6.rest)) (sym is_n);
+          ∙ ap (λ o. item_by names number None o ps) (front_mark mark.Assert ps s0.rest s0.front)
+          ∙ bound (after_mark mark.Open s0.rest) s1.rest f1 (front_mark mark.Open s0.rest s1.rest s1.front)
+          ∙ bound (first_by (variable_in names) s1.rest) (v, s2.rest) f2 (front_by (variable_in names) s1.rest s2.rest (name_of final v) v s2.front (token_variable names final v c distinct below))
+          ∙ bound (after_mark mark.Equal s2.rest) s3.rest (f3 v) (front_mark mark.Equal s2.rest s3.rest s3.front)
+          ∙ bound (first_by number_in s3.rest) (z, s4.rest) (f4 v) (front_by number_in s3.rest s4.rest (numeral_of z) z s4.front (token_number z writable))
+          ∙ bound (after_mark mark.Close s4.rest) s5.rest (f5 v z) (front_mark mark.Close s4.rest s5.rest s5.front)
+          ∙ bound (after_mark mark.Semicolon s5.rest) s6.rest (f6 v z) (front_mark mark.Semicolon s5.rest s6.rest s6.front)
+          ∙ ap (λ k. Some (Assert (record { 0 = k }) v z, s6.rest)) (sym is_n);
       others = s6.others;
       rest_is = one_more 6 ps s5.rest s6.rest (one_more 5 ps s4.rest s5.rest (one_more 4 ps s3.rest s4.rest
           (one_more 3 ps s2.rest s3.rest (one_more 2 ps s1.rest s2.rest (one_more 1 ps s0.rest s1.rest (front_drop ps s0.rest _ s0.front) (front_drop s0.rest s1.rest _ s1.front)) (front_drop s1.rest s2.rest _ s2.front)) (front_drop s2.rest s3.rest _ s3.front))
           (front_drop s3.rest s4.rest _ s4.front)) (front_drop s4.rest s5.rest _ s5.front)) (front_drop s5.rest s6.rest _ s6.front);
-      goes_on = c
+      goes_on = c;
     }
 
 -- whether one more name is to come where an item declares one

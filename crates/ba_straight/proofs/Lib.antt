@@ -8,6 +8,7 @@ pub mod ItemLaws
 pub mod BodyLaws
 pub mod ParamLaws
 pub mod TextLaws
+pub mod InputLaws
 pub mod Found
 pub mod LeastSets
 pub mod Located

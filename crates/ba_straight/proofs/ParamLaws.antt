@@ -44,7 +44,7 @@ param_sound names ps r h =
     subst (λ (r : List ℕ × List Piece). IsParam names ps r.0 r.1) ends.1 (record {
       tokens = front_tokens ps b1.0 _ int ∙ ap (λ ts. token.Mark mark.Int ∷ ts) (front_tokens b1.0 b2.0.1 _ named);
       fresh = is_new names b2.0.0 ends.0;
-      after = after_after ps b1.0 b2.0.1 (front_after ps b1.0 _ int) (front_after b1.0 b2.0.1 _ named)
+      after = after_after ps b1.0 b2.0.1 (front_after ps b1.0 _ int) (front_after b1.0 b2.0.1 _ named);
     })
 
 -- PARAMETERS, sound
@@ -78,7 +78,7 @@ params_case n names ps r out None p go is_comma h =
       goes_on = record { more = r.0 ∷ []; is = refl };
       distinct = λ d. distinct_push names r.0 d p.fresh;
       tokens = λ final c. p.tokens ∙ ap (λ name. token.Mark mark.Int ∷ token.Name name ∷ tokens_of r.1) (sym (param_name names final r.0 c));
-      after = p.after
+      after = p.after;
     })
 params_case n names ps r out (Some next) p go is_comma h =
     let more : List (List ℕ) = names ++ r.0 ∷ [] in
@@ -91,12 +91,12 @@ params_case n names ps r out (Some next) p go is_comma h =
       goes_on = record { more = r.0 ∷ a.goes_on.more; is = a.goes_on.is ∙ append_assoc names (r.0 ∷ []) a.goes_on.more };
       distinct = λ d. a.distinct (distinct_push names r.0 d p.fresh);
       tokens = λ final c.
-        let here : Continues more final = record { more = a.goes_on.more ++ c.more; is = c.is ∙ ap (λ o. o ++ c.more) a.goes_on.is ∙ append_assoc more a.goes_on.more c.more } in
-        p.tokens ∙ ap (λ name. token.Mark mark.Int ∷ token.Name name ∷ tokens_of r.1) (sym (param_name names final r.0 here))
-        ∙ ap (λ ts. token.Mark mark.Int ∷ name_of final (record { 0 = length names }) ∷ ts)
-            (front_tokens r.1 next _ comma ∙ ap (λ ts. token.Mark mark.Comma ∷ ts) (a.tokens final c
-            ∙ ap (λ k. token.Mark mark.Int ∷ name_of final (record { 0 = k }) ∷ (more_param_tokens final (counted (k + 1) a.count) ++ tokens_of out.1)) (longer names r.0)));
-      after = after_after ps r.1 out.1 p.after (after_after r.1 next out.1 (front_after r.1 next _ comma) a.after)
+          let here : Continues more final = record { more = a.goes_on.more ++ c.more; is = c.is ∙ ap (λ o. o ++ c.more) a.goes_on.is ∙ append_assoc more a.goes_on.more c.more } in
+          p.tokens ∙ ap (λ name. token.Mark mark.Int ∷ token.Name name ∷ tokens_of r.1) (sym (param_name names final r.0 here))
+          ∙ ap (λ ts. token.Mark mark.Int ∷ name_of final (record { 0 = length names }) ∷ ts)
+          (front_tokens r.1 next _ comma ∙ ap (λ ts. token.Mark mark.Comma ∷ ts) (a.tokens final c
+          ∙ ap (λ k. token.Mark mark.Int ∷ name_of final (record { 0 = k }) ∷ (more_param_tokens final (counted (k + 1) a.count) ++ tokens_of out.1)) (longer names r.0)));
+      after = after_after ps r.1 out.1 p.after (after_after r.1 next out.1 (front_after r.1 next _ comma) a.after);
     }
 
 pub params_sound : (n : ℕ) (names : List (List ℕ)) (ps : List Piece) (out : List (List ℕ) × List Piece) → params_from n names ps ≡ Some out → AreParams n names ps out.0 out.1
@@ -137,13 +137,14 @@ param_with names final ps ts len m ms is distinct is_len h =
     let fresh : is_some (variable_named names m) ≡ false = new_is 0 names m (fresh_name names ms m (subst AreDistinct is distinct)) in
     let last : List ℕ × List Piece → Option (List ℕ × List Piece) = λ name. cond (is_some (variable_named names name.0)) None (Some name) in
     record {
-      name = m; rest = s2.rest;
+      name = m;
+      rest = s2.rest;
       read = bound (after_mark mark.Int ps) s1.rest (λ x. first_by name_in x >>= last) (front_mark mark.Int ps s1.rest s1.front)
-        ∙ bound (first_by name_in s1.rest) (m, s2.rest) last (front_by name_in s1.rest s2.rest (token.Name m) m named refl)
-        ∙ ap (λ b. cond b None (Some (m, s2.rest))) fresh;
+          ∙ bound (first_by name_in s1.rest) (m, s2.rest) last (front_by name_in s1.rest s2.rest (token.Name m) m named refl)
+          ∙ ap (λ b. cond b None (Some (m, s2.rest))) fresh;
       others = s2.others;
       goes_on = record { more = ms; is = is ∙ sym (append_assoc names (m ∷ []) ms) };
-      after = after_after ps s1.rest s2.rest (front_after ps s1.rest _ s1.front) (front_after s1.rest s2.rest _ s2.front)
+      after = after_after ps s1.rest s2.rest (front_after ps s1.rest _ s1.front) (front_after s1.rest s2.rest _ s2.front);
     }
 
 param_complete : (names final : List (List ℕ)) (ps : List Piece) (ts : List Token) (len : ℕ) (more : List (List ℕ)) → final ≡ names ++ more → length names < length final → AreDistinct final → len ≡ length names
@@ -160,10 +161,14 @@ params_complete zero (suc n) names final ps ts len few c room distinct is_len h 
     let s : Splits p.rest (token.Mark mark.Close) ts = tokens_front p.rest _ _ p.others in
     let f : List ℕ × List Piece → Option (List (List ℕ) × List Piece) = λ r. params_by (params_from n (names ++ r.0 ∷ [])) (names ++ r.0 ∷ []) (after_mark mark.Comma r.1) r.1 in
     record {
-      out = names ++ p.name ∷ []; rest = p.rest;
+      out = names ++ p.name ∷ [];
+      rest = p.rest;
       read = params_from-suc n names ps ∙ bound (param_at names ps) (p.name, p.rest) f p.read
-        ∙ ap (λ o. params_by (params_from n (names ++ p.name ∷ [])) (names ++ p.name ∷ []) o p.rest) (front_other mark.Comma p.rest s.rest (token.Mark mark.Close) s.front (λ x. cc));
-      others = p.others; goes_on = p.goes_on; named = longer names p.name; after = p.after
+          ∙ ap (λ o. params_by (params_from n (names ++ p.name ∷ [])) (names ++ p.name ∷ []) o p.rest) (front_other mark.Comma p.rest s.rest (token.Mark mark.Close) s.front (λ x. cc));
+      others = p.others;
+      goes_on = p.goes_on;
+      named = longer names p.name;
+      after = p.after;
     }
 params_complete (suc count) (suc n) names final ps ts len few c room distinct is_len h =
     let tail : List Token = token.Mark mark.Int ∷ name_of final (record { 0 = len + 1 }) ∷ (more_param_tokens final (counted ((len + 1) + 1) count) ++ token.Mark mark.Close ∷ ts) in
@@ -174,10 +179,12 @@ params_complete (suc count) (suc n) names final ps ts len few c room distinct is
     let r : AreRead n more final s.rest (token.Mark mark.Close ∷ ts) count = params_complete count n more final s.rest ts (len + 1) (omega arith) p.goes_on (omega arith) distinct (omega arith) s.others in
     let f : List ℕ × List Piece → Option (List (List ℕ) × List Piece) = λ r. params_by (params_from n (names ++ r.0 ∷ [])) (names ++ r.0 ∷ []) (after_mark mark.Comma r.1) r.1 in
     record {
-      out = r.out; rest = r.rest;
+      out = r.out;
+      rest = r.rest;
       read = params_from-suc n names ps ∙ bound (param_at names ps) (p.name, p.rest) f p.read
-        ∙ ap (λ o. params_by (params_from n more) more o p.rest) (front_mark mark.Comma p.rest s.rest s.front) ∙ r.read;
-      others = r.others; goes_on = r.goes_on;
+          ∙ ap (λ o. params_by (params_from n more) more o p.rest) (front_mark mark.Comma p.rest s.rest s.front) ∙ r.read;
+      others = r.others;
+      goes_on = r.goes_on;
       named = let k : length r.out ≡ length more + suc count = r.named in omega arith;
-      after = after_after ps p.rest r.rest p.after (after_after p.rest s.rest r.rest (front_after p.rest s.rest _ s.front) r.after)
+      after = after_after ps p.rest r.rest p.after (after_after p.rest s.rest r.rest (front_after p.rest s.rest _ s.front) r.after);
     }

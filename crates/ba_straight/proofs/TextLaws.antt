@@ -1,5 +1,5 @@
 -- A straight-line program is read exactly as it is written.
-use Rattle.std.proofs.Common.{◌≡◌, ℕ, zero, suc, ◌+◌, ◌-◌, ◌<◌, ◌≤◌, nat_le, Bool, true, false, cond, ◌&&◌, Option, None, Some, List, [], ◌∷◌, ◌++◌, length, take, drop, map, codes, bytes_eq, sym, ◌∙◌, ap, subst, refl, append_assoc, arith}
+use Rattle.std.proofs.Common.{◌≡◌, ℕ, zero, suc, ◌+◌, ◌-◌, ◌<◌, ◌≤◌, nat_le, nat_eq, ◌==◌, not, ◌||◌, MatchOption, Bool, true, false, cond, ◌&&◌, Option, None, Some, List, [], ◌∷◌, ◌++◌, length, take, drop, map, codes, bytes_eq, sym, ◌∙◌, ap, subst, refl, append_assoc, arith}
 use Rattle.std.proofs.lemmas.List.{length-append, length-map, append-nil}
 use Rattle.std.proofs.lemmas.Grind.{common_steps}
 use Rattle.std.proofs.lemmas.Slice.Eq.{bytes_eq-Decides}
@@ -9,6 +9,9 @@ use Rattle.ba_tree.specs.declared.tree.StmtInfo.{StmtInfo}
 use Rattle.ba_straight.specs.declared.items.Item.{Item}
 use Rattle.ba_straight.specs.declared.items.Item.TheVariants.{Declare, Assign, Assert}
 use Rattle.ba_straight.specs.declared.items.Straight.{Straight}
+use Rattle.std.specs.List.{list_all, starts_with}
+use Rattle.ba_straight.specs.Text.{is_letter, is_digit, is_blank, is_reserved, is_number, digits_value, keyword_of, sign_of, marked, word_token, number_token, sign_token, token_of, size_of, pieces_from, pieces_of}
+use Rattle.ba_straight.specs.declared.pieces.Mark.{Mark}
 use Rattle.ba_straight.specs.declared.pieces.Mark.TheVariants as mark
 use Rattle.ba_straight.specs.declared.pieces.Token.{Token}
 use Rattle.ba_straight.specs.declared.pieces.Token.TheVariants as token
@@ -16,9 +19,9 @@ use Rattle.ba_straight.specs.declared.pieces.Piece.{Piece}
 use Rattle.ba_straight.specs.declared.reader.Body.{Body}
 use Rattle.ba_straight.specs.Items.{AreNumbered}
 use Rattle.ba_straight.specs.Reading.{after_mark, first_by, name_in, opened_at, params_or_void, params_at, params_from, closed_at, body_from, body_of, counted, is_small, straight_of, straight_at, ◌>>=◌}
-use Rattle.ba_straight.specs.Spelling.{name_of, param_tokens, more_param_tokens, head_tokens, body_tokens, AreDistinct, AreCounted, AreDeclared, declared_in, statements_in, most, IsWritten}
+use Rattle.ba_straight.specs.Spelling.{name_of, param_tokens, more_param_tokens, head_tokens, body_tokens, AreDistinct, AreCounted, AreDeclared, declared_in, statements_in, most, IsWritten, IsText}
 use Rattle.ba_straight.proofs.Fronts.{tokens_of, Front, front_tokens, Splits, tokens_front, mark_front, front_mark, front_other, Reads, by_front, front_by, bound_some, bound}
-use Rattle.ba_straight.proofs.ItemLaws.{Continues, name_is, chosen_none, some_is, AreInts, ints_drop}
+use Rattle.ba_straight.proofs.ItemLaws.{Continues, name_is, chosen_none, some_is, IsInt, AreInts}
 use Rattle.ba_straight.proofs.BodyLaws.{IsBody, with_items, body_sound, body_complete}
 use Rattle.ba_straight.proofs.ParamLaws.{IsAfter, front_after, after_after, AreParams, params_sound, AreRead, params_complete}
 
@@ -77,7 +80,7 @@ opened_sound ps inside h =
     let opened : Front b2.0.1 (token.Mark mark.Open) b3.0 = mark_front mark.Open b2.0.1 b3.0 b3.1 in
     subst (IsOpened ps) ends.1 (record {
       tokens = front_tokens ps b1.0 _ int ∙ ap (λ ts. token.Mark mark.Int ∷ ts) (front_tokens b1.0 b2.0.1 _ named ∙ ap (λ ts. token.Name (codes "main") ∷ ts) (front_tokens b2.0.1 b3.0 _ opened));
-      after = after_after ps b1.0 b3.0 (front_after ps b1.0 _ int) (after_after b1.0 b2.0.1 b3.0 (front_after b1.0 b2.0.1 _ named) (front_after b2.0.1 b3.0 _ opened))
+      after = after_after ps b1.0 b3.0 (front_after ps b1.0 _ int) (after_after b1.0 b2.0.1 b3.0 (front_after b1.0 b2.0.1 _ named) (front_after b2.0.1 b3.0 _ opened));
     })
 
 opened_complete : (ps inside r1 r2 : List Piece) → Front ps (token.Mark mark.Int) r1 → Front r1 (token.Name (codes "main")) r2 → Front r2 (token.Mark mark.Open) inside → opened_at ps ≡ Some inside
@@ -101,7 +104,7 @@ closed_sound ps start h =
     let begin : Front b.0 (token.Mark mark.Begin) start = mark_front mark.Begin b.0 start b.2 in
     record {
       tokens = front_tokens ps b.0 _ close ∙ ap (λ ts. token.Mark mark.Close ∷ ts) (front_tokens b.0 start _ begin);
-      after = after_after ps b.0 start (front_after ps b.0 _ close) (front_after b.0 start _ begin)
+      after = after_after ps b.0 start (front_after ps b.0 _ close) (front_after b.0 start _ begin);
     }
 
 closed_complete : (ps r start : List Piece) → Front ps (token.Mark mark.Close) r → Front r (token.Mark mark.Begin) start → closed_at ps ≡ Some start
@@ -121,7 +124,10 @@ params_at_case ps out (Some rest) is_void h =
     let void : Front ps (token.Mark mark.Void) rest = mark_front mark.Void ps rest is_void in
     let nothing : List (List ℕ) = [] in
     subst (λ (o : List (List ℕ) × List Piece). AreHeadParams ps o.0 o.1) (some_is (nothing, rest) out h) (record {
-      tokens = λ final c. front_tokens ps rest _ void; distinct = tt; few = omega arith; after = front_after ps rest _ void
+      tokens = λ final c. front_tokens ps rest _ void;
+      distinct = tt;
+      few = omega arith;
+      after = front_after ps rest _ void;
     })
 params_at_case ps out None is_void h =
     let a : AreParams 12 [] ps out.0 out.1 = params_sound 12 [] ps out h in
@@ -130,7 +136,7 @@ params_at_case ps out None is_void h =
       tokens = λ final c. a.tokens final c ∙ ap (λ n. param_tokens final (counted 0 n) ++ tokens_of out.1) (sym named);
       distinct = a.distinct tt;
       few = let le : suc a.count ≤ 12 = a.few in omega arith;
-      after = a.after
+      after = a.after;
     }
 
 params_at_sound : (ps : List Piece) (out : List (List ℕ) × List Piece) → params_at ps ≡ Some out → AreHeadParams ps out.0 out.1
@@ -143,6 +149,7 @@ small_is body h = let two : (nat_le (length body.locals) 12 ≡ true) × (nat_le
   both : (a b : Bool) → (a && b) ≡ true → (a ≡ true) × (b ≡ true)
   both true b h = (refl, h)
   both false b h = cc
+
   at_most : (n : ℕ) → nat_le n 12 ≡ true → n ≤ 12
   at_most n h = grind (arith, common_steps)
 
@@ -155,9 +162,9 @@ written ps inside closing start names body o p c b few_locals few_statements =
     let out : Body = with_items (body_of names) body.names b.items start in
     let head : List Token = head_tokens body.names (counted 0 (length names)) in
     let upto : tokens_of ps ≡ head ++ tokens_of start =
-        o.tokens ∙ ap (λ ts. token.Mark mark.Int ∷ token.Name (codes "main") ∷ token.Mark mark.Open ∷ ts) (p.tokens body.names b.goes_on
-          ∙ ap (λ ts. param_tokens body.names (counted 0 (length names)) ++ ts) c.tokens
-          ∙ sym (append_assoc (param_tokens body.names (counted 0 (length names))) (token.Mark mark.Close ∷ token.Mark mark.Begin ∷ []) (tokens_of start))) in
+    o.tokens ∙ ap (λ ts. token.Mark mark.Int ∷ token.Name (codes "main") ∷ token.Mark mark.Open ∷ ts) (p.tokens body.names b.goes_on
+    ∙ ap (λ ts. param_tokens body.names (counted 0 (length names)) ++ ts) c.tokens
+    ∙ sym (append_assoc (param_tokens body.names (counted 0 (length names))) (token.Mark mark.Close ∷ token.Mark mark.Begin ∷ []) (tokens_of start))) in
     let start_is : start ≡ drop (length head) ps = behind ps start head (after_after ps inside start o.after (after_after inside closing start p.after c.after)) upto in
     let many : length (counted 0 (length names)) ≡ length names = counted-length 0 (length names) in
     subst (λ (bd : Body). IsWritten ps (straight_of (length names) bd)) (sym b.is) (record {
@@ -172,7 +179,7 @@ written ps inside closing start names body o p c b few_locals few_statements =
       statements = ap (λ qs. statements_in qs b.items) start_is;
       few_params = subst (λ n. n ≤ 12) (sym many) p.few;
       few_locals = subst (λ (bd : Body). length bd.locals ≤ 12) b.is few_locals;
-      few_statements = subst (λ (bd : Body). length bd.statements ≤ 12) b.is few_statements
+      few_statements = subst (λ (bd : Body). length bd.statements ≤ 12) b.is few_statements;
     })
 
 pub text_sound : (ps : List Piece) (s : Straight) → AreInts ps → straight_at ps ≡ Some s → IsWritten ps s
@@ -214,9 +221,13 @@ params_at_complete : (ps : List Piece) (final : List (List ℕ)) (ts : List Toke
 params_at_complete ps final ts [] is few room distinct h =
     let s : Splits ps (token.Mark mark.Void) (token.Mark mark.Close ∷ ts) = tokens_front ps _ _ h in
     record {
-      names = []; rest = s.rest;
+      names = [];
+      rest = s.rest;
       read = ap (λ o. params_or_void o ps) (front_mark mark.Void ps s.rest s.front);
-      others = s.others; goes_on = record { more = final; is = refl }; named = refl; after = front_after ps s.rest _ s.front
+      others = s.others;
+      goes_on = record { more = final; is = refl };
+      named = refl;
+      after = front_after ps s.rest _ s.front;
     }
 params_at_complete ps final ts (v ∷ vs) is few room distinct h =
     let count : ℕ = length vs in
@@ -224,9 +235,13 @@ params_at_complete ps final ts (v ∷ vs) is few room distinct h =
     let s : Splits ps (token.Mark mark.Int) (name_of final (record { 0 = 0 }) ∷ (more_param_tokens final (counted 1 count) ++ token.Mark mark.Close ∷ ts)) = tokens_front ps _ _ written in
     let r : AreRead 12 [] final ps (token.Mark mark.Close ∷ ts) count = params_complete count 12 [] final ps ts 0 (omega arith) (record { more = final; is = refl }) (omega arith) distinct refl written in
     record {
-      names = r.out; rest = r.rest;
+      names = r.out;
+      rest = r.rest;
       read = ap (λ o. params_or_void o ps) (front_other mark.Void ps s.rest _ s.front (λ x. cc)) ∙ r.read;
-      others = r.others; goes_on = r.goes_on; named = r.named ∙ omega arith; after = r.after
+      others = r.others;
+      goes_on = r.goes_on;
+      named = r.named ∙ omega arith;
+      after = r.after;
     }
 
 items_are : (ps : List Piece) (items : List Item) → length items ≡ length (declared_in items) + length (statements_in ps items)
@@ -251,8 +266,8 @@ text_complete ps s w =
     let close : List Token = token.Mark mark.Begin ∷ body_tokens final s.items in
     let head : List Token = head_tokens final s.params in
     let written : tokens_of ps ≡ token.Mark mark.Int ∷ token.Name (codes "main") ∷ token.Mark mark.Open ∷ (param_tokens final s.params ++ token.Mark mark.Close ∷ close) =
-        w.tokens ∙ ap (λ ts. token.Mark mark.Int ∷ token.Name (codes "main") ∷ token.Mark mark.Open ∷ ts)
-            (append_assoc (param_tokens final s.params) (token.Mark mark.Close ∷ token.Mark mark.Begin ∷ []) (body_tokens final s.items)) in
+    w.tokens ∙ ap (λ ts. token.Mark mark.Int ∷ token.Name (codes "main") ∷ token.Mark mark.Open ∷ ts)
+    (append_assoc (param_tokens final s.params) (token.Mark mark.Close ∷ token.Mark mark.Begin ∷ []) (body_tokens final s.items)) in
     let s1 : Splits ps (token.Mark mark.Int) (token.Name (codes "main") ∷ token.Mark mark.Open ∷ (param_tokens final s.params ++ token.Mark mark.Close ∷ close)) = tokens_front ps _ _ written in
     let s2 : Splits s1.rest (token.Name (codes "main")) (token.Mark mark.Open ∷ (param_tokens final s.params ++ token.Mark mark.Close ∷ close)) = tokens_front s1.rest _ _ s1.others in
     let s3 : Splits s2.rest (token.Mark mark.Open) (param_tokens final s.params ++ token.Mark mark.Close ∷ close) = tokens_front s2.rest _ _ s2.others in
@@ -261,8 +276,8 @@ text_complete ps s w =
     let s5 : Splits s4.rest (token.Mark mark.Begin) (body_tokens final s.items) = tokens_front s4.rest _ _ s4.others in
     let start : List Piece = s5.rest in
     let after : IsAfter ps start = after_after ps s3.rest start
-        (after_after ps s1.rest s3.rest (front_after ps s1.rest _ s1.front) (after_after s1.rest s2.rest s3.rest (front_after s1.rest s2.rest _ s2.front) (front_after s2.rest s3.rest _ s3.front)))
-        (after_after s3.rest r.rest start r.after (after_after r.rest s4.rest start (front_after r.rest s4.rest _ s4.front) (front_after s4.rest start _ s5.front))) in
+    (after_after ps s1.rest s3.rest (front_after ps s1.rest _ s1.front) (after_after s1.rest s2.rest s3.rest (front_after s1.rest s2.rest _ s2.front) (front_after s2.rest s3.rest _ s3.front)))
+    (after_after s3.rest r.rest start r.after (after_after r.rest s4.rest start (front_after r.rest s4.rest _ s4.front) (front_after s4.rest start _ s5.front))) in
     let start_is : start ≡ drop (length head) ps = behind ps start head after (w.tokens ∙ ap (λ ts. head ++ ts) (sym s5.others)) in
     let locals_are : declared_in s.items ≡ s.locals = sym w.locals in
     let statements_are : statements_in start s.items ≡ s.statements = ap (λ qs. statements_in qs s.items) start_is ∙ sym w.statements in
@@ -272,7 +287,7 @@ text_complete ps s w =
     let body : Body = with_items (body_of r.names) final s.items start in
     let named : length final ≡ length r.names + length (declared_in s.items) = w.named ∙ ap (λ n. n + length s.locals) (sym r.named) ∙ ap (λ (ls : List VarId). length r.names + length ls) w.locals in
     let read_body : body_from 25 (body_of r.names) start ≡ Some body = body_complete s.items 25 (body_of r.names) final start few_items r.goes_on w.distinct
-        (subst (λ n. AreDeclared n s.items) (sym r.named) w.declared) w.numbered named s5.others in
+    (subst (λ n. AreDeclared n s.items) (sym r.named) w.declared) w.numbered named s5.others in
     let f4 : List (List ℕ) → Body → Option Straight = λ names body. cond (is_small body) (Some (straight_of (length names) body)) None in
     let f3 : List (List ℕ) → List Piece → Option Straight = λ names start. body_from 25 (body_of names) start >>= f4 names in
     let f2 : List (List ℕ) × List Piece → Option Straight = λ params. closed_at params.1 >>= f3 params.0 in
@@ -283,8 +298,55 @@ text_complete ps s w =
     ∙ bound (body_from 25 (body_of r.names) start) body (f4 r.names) read_body
     ∙ ap (λ b. cond b (Some (straight_of (length r.names) body)) None) (is_small_if body few_locals few_statements)
     ∙ ap (λ x. Some x) (straight_is s (counted 0 (length r.names)) (declared_in s.items) (statements_in start s.items)
-        (ap (counted 0) r.named ∙ sym params_are) locals_are statements_are)
+    (ap (counted 0) r.named ∙ sym params_are) locals_are statements_are)
 
 -- a program is written one way alone
 pub written-unique : (ps : List Piece) (s t : Straight) → IsWritten ps s → IsWritten ps t → s ≡ t
 written-unique ps s t w v = some_is s t (sym (text_complete ps s w) ∙ text_complete ps t v)
+
+-- THE NUMBERS of a text are those of int
+
+int_marked : (o : Option Mark) (t : Token) → IsInt t → IsInt (marked o t)
+int_marked None t h = h
+int_marked (Some m) t h = tt
+
+int_word : (word : List ℕ) → IsInt (word_token word)
+int_word word = int_marked (keyword_of word) _ (elim (is_reserved word) as (λ b. IsInt (cond b token.Other (token.Name word))) [ true ↦ tt | false ↦ tt ])
+
+small_number : (a b : Bool) (n : ℕ) → ((a && b) && nat_le n 2147483647) ≡ true → n ≤ 2147483647
+small_number true true n h = grind (arith, common_steps)
+small_number true false n h = cc
+small_number false b n h = cc
+
+int_number : (piece : List ℕ) (b : Bool) → (b ≡ true → digits_value piece ≤ 2147483647) → IsInt (cond b (token.Number (digits_value piece)) token.Other)
+int_number piece true h = h refl
+int_number piece false h = tt
+
+int_token : (piece : List ℕ) → IsInt (token_of piece)
+int_token [] = tt
+int_token (b ∷ bs) = elim (is_letter b) as (λ l. IsInt (cond l (word_token (b ∷ bs)) (cond (is_digit b) (number_token (b ∷ bs)) (sign_token (b ∷ bs))))) [
+  | true ↦ int_word (b ∷ bs)
+  | false ↦ elim (is_digit b) as (λ d. IsInt (cond d (number_token (b ∷ bs)) (sign_token (b ∷ bs)))) [
+    | true ↦ int_number (b ∷ bs) (is_number (b ∷ bs)) (small_number (list_all is_digit (b ∷ bs)) (bytes_eq (b ∷ bs) (48 ∷ []) || not (starts_with nat_eq (b ∷ bs) (48 ∷ []))) (digits_value (b ∷ bs)))
+    | false ↦ int_marked (sign_of (b ∷ bs)) token.Other tt
+  ]
+]
+
+ints_from : (line column inside : ℕ) (text : List ℕ) → AreInts (pieces_from line column inside text)
+ints_from line column inside [] = tt
+ints_from line column zero (b ∷ bs) = elim (b == 10) as (λ t. AreInts (cond t (pieces_from (line + 1) 1 0 bs) (cond (is_blank b) (pieces_from line (column + 1) 0 bs)
+    (record { token = token_of (take (size_of (b ∷ bs)) (b ∷ bs)); at = record { line = line; column = column } } ∷ pieces_from line (column + 1) (size_of (b ∷ bs) - 1) bs)))) [
+      | true ↦ ints_from (line + 1) 1 0 bs
+      | false ↦ elim (is_blank b) as (λ t. AreInts (cond t (pieces_from line (column + 1) 0 bs)
+          (record { token = token_of (take (size_of (b ∷ bs)) (b ∷ bs)); at = record { line = line; column = column } } ∷ pieces_from line (column + 1) (size_of (b ∷ bs) - 1) bs))) [
+            | true ↦ ints_from line (column + 1) 0 bs
+            | false ↦ (int_token (take (size_of (b ∷ bs)) (b ∷ bs)), ints_from line (column + 1) (size_of (b ∷ bs) - 1) bs)
+          ]
+    ]
+ints_from line column (suc inside) (b ∷ bs) = ints_from line (column + 1) inside bs
+
+-- what reading gives for a text
+pub read_is : (text : List ℕ) (pieces : List Piece) (o : Option Straight) → pieces ≡ pieces_of text → o ≡ straight_at pieces
+    → MatchOption o ((s : Straight) → IsText text s → ⊥) (IsText text)
+read_is text pieces None is_pieces h = λ s w. let none : None ≡ Some s = h ∙ ap straight_at is_pieces ∙ text_complete (pieces_of text) s w in cc
+read_is text pieces (Some s) is_pieces h = text_sound (pieces_of text) s (ints_from 1 1 0 text) (sym (h ∙ ap straight_at is_pieces))

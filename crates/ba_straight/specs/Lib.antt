@@ -4,3 +4,4 @@ pub mod Sets
 pub mod Text
 pub mod Spelling
 pub mod Reading
+pub mod Input

@@ -4,8 +4,10 @@
 //! asserts of a variable against a number. Its least sets are found by trying sets of statements by weight.
 #![tactic(auto)]
 
+pub mod input;
 pub mod items;
 pub mod pieces;
+pub mod program;
 pub mod reader;
 pub mod sets;
 pub mod terms;
