@@ -1,8 +1,11 @@
 //! The whole numbers of C: types, operators and their values.
 
-ghost use Rattle.std.specs.Prelude.{◌≡◌, ◌+◌, ◌*◌, ◌^◌, ◌<◌, ◌≤◌, ◌↔◌, pos, neg_ℤ, ◌-ℤ◌, ◌≤ℤ◌, ◌<ℤ◌, IsTrue, IsNone, IfSome, unsigned_abs};
+ghost use Rattle.std.specs.Prelude.{◌≡◌, ℕ, ◌+◌, ◌*◌, ◌^◌, ◌<◌, ◌≤◌, ◌↔◌, ◌⊎◌, ℤ, pos, neg_ℤ, ◌-ℤ◌, ◌≤ℤ◌, ◌<ℤ◌, IsTrue, IsNone, IfSome, unsigned_abs};
 ghost use Rattle.std.specs.Int.{int_rem_euclid};
-ghost use Rattle.ba_tree.specs.Numbers.{IsIn, centred, converted, plain_value, value_of, value_of_one, divides, count_of, low_word};
+ghost use Rattle.ba_tree.specs.declared.numbers.CType.{CType};
+ghost use Rattle.ba_tree.specs.declared.numbers.BinOp.{BinOp};
+ghost use Rattle.ba_tree.specs.declared.numbers.UnOp.{UnOp};
+ghost use Rattle.ba_tree.specs.Numbers.{IsIn, IsCongruent, width_of, centred, converted, plain_value, value_of, value_of_one, divides, compares, count_of, low_word};
 
 /// A type of whole numbers: signed (`I`) or unsigned (`U`), with its width in bits.
 ///
@@ -85,6 +88,26 @@ pub fn apply_one(op: UnOp, t: CType, a: i64) -> i64
         UnOp::IsZero => i64::from(a == 0),
     }
 }
+
+/// Law: the conversion of a number is the one number of the type's range that is congruent to it modulo 2
+/// to the type's width. So a number of the range is its own conversion.
+pub fn conversion_law()
+    ensures in_range { (t : CType) (number : ℤ) → IsIn t (converted t number) }
+    ensures congruent { (t : CType) (number : ℤ) → IsCongruent (2 ^ width_of t) (converted t number) number }
+    ensures own { (t : CType) (number : ℤ) → IsIn t number → converted t number ≡ number }
+    ensures only { (t : CType) (other number : ℤ) → IsIn t other → IsCongruent (2 ^ width_of t) other number → other ≡ converted t number }
+{}
+
+/// Law: the value of an operator is in the range of the type that it works in. A comparison and the test
+/// for zero have the value 0 or 1.
+pub fn value_law()
+    ensures in_range { (op : BinOp) (t : CType) (a b : ℤ) → IfSome (value_of op t a b) (IsIn t) }
+    ensures in_range_one { (op : UnOp) (t : CType) (a : ℤ) → IsIn t (value_of_one op t a) }
+    ensures compared { (op : BinOp) (t : CType) (a b : ℤ) → IsTrue (compares op) →
+        (value_of op t a b ≡ Some (pos 0)) ⊎ (value_of op t a b ≡ Some (pos 1)) }
+    ensures tested { (t : CType) (a : ℤ) →
+        (value_of_one UnOp.IsZero t a ≡ pos 0) ⊎ (value_of_one UnOp.IsZero t a ≡ pos 1) }
+{}
 
 /// The number of the type's range that is congruent to a wider number.
 #[tactic(auto, unfolding(crate::specs::Numbers::converted))]
@@ -187,3 +210,6 @@ fn shift_factor(count: i64) -> i64
 {
     1 << (low_word(count) % 32)
 }
+
+#[cfg(test)]
+mod tests;
