@@ -1,11 +1,11 @@
 -- Sums of words.
 
-use Rattle.std.proofs.Common.{◌≡◌, ℕ, ◌+◌, ◌-◌, ◌*◌, ◌%◌, ◌^◌, ◌<◌, ◌≤◌, Bool, true, false, ◌&&◌, ◌||◌, List, length, map, set, replicate, zero, suc, Some, refl, sym, ap, subst, ◌∙◌, arith}
+use Rattle.std.proofs.Common.{◌≡◌, ℕ, ◌+◌, ◌-◌, ◌*◌, ◌%◌, ◌^◌, ◌<◌, Bool, true, false, ◌&&◌, ◌||◌, List, length, set, replicate, zero, suc, Some, refl, sym, ap, ◌∙◌, arith}
 use Rattle.std.proofs.lemmas.List.{length-set}
 use Rattle.ba_nodes.specs.declared.Bit.{Bit}
 use Rattle.ba_nodes.specs.declared.Node.{Node}
 use Rattle.ba_nodes.specs.Gates.{bool_xor, truth, IsBitOf, Extends, HasValue}
-use Rattle.ba_words.specs.Words.{digit, spelled, number_of, low_number, bit_at, AreBitsOf, HasNumber, AddUp, IsValueOf, IsValueOfOne}
+use Rattle.ba_words.specs.Words.{digit, number_of, low_number, bit_at, AreBitsOf, HasNumber, AddUp, IsValueOf, IsValueOfOne}
 use Rattle.ba_tree.specs.declared.numbers.BinOp.TheVariants.{Add, Sub}
 use Rattle.ba_tree.specs.declared.numbers.UnOp.TheVariants.{Neg}
 use Rattle.ba_words.proofs.Values.{read, add_value, sub_value, neg_value}
@@ -24,22 +24,22 @@ highest_sum initial nodes new a b carry sums carried highest a_long b_long a_bit
   long = length-set sums 31 highest ∙ before.long;
   are_bits = are_bits-set new sums 31 highest (are_bits-extends nodes new sums second before.are_bits) is_sum.is_bit;
   holds = λ free.
-    let long : length (set sums 31 highest) ≡ 32 = length-set sums 31 highest ∙ before.long in
-    let number : number_of free new (set sums 31 highest) ≡ low_number free nodes sums 31 + 2 ^ 31 * digit (truth free new highest) =
-        sym (low_number-all free new (set sums 31 highest) 32 (omega (arith, long)))
-        ∙ low_number-set_more free new sums 31 highest (omega (arith, before.long))
-        ∙ ap (λ n. n + 2 ^ 31 * digit (truth free new highest)) (low_number-extends free nodes new sums 31 second before.are_bits) in
-    let carry_out = (truth free nodes (bit_at a 31) && truth free nodes (bit_at b 31)) || (bool_xor (truth free nodes (bit_at a 31)) (truth free nodes (bit_at b 31)) && truth free nodes carried) in
-    let here : digit (truth free new highest) + 2 * digit carry_out ≡ digit (truth free nodes (bit_at a 31)) + digit (truth free nodes (bit_at b 31)) + digit (truth free nodes carried) =
-        ap (λ t. digit t + 2 * digit carry_out) (is_sum.holds free) ∙ full_sum (truth free nodes (bit_at a 31)) (truth free nodes (bit_at b 31)) (truth free nodes carried) in
-    let a_now : number_of free initial a ≡ low_number free initial a 31 + 2 ^ 31 * digit (truth free nodes (bit_at a 31)) =
-        sym (low_number-all free initial a 32 (omega (arith, a_long))) ∙ argument-more free initial nodes a 31 (omega (arith, a_long)) a_bits first in
-    let b_now : number_of free initial b ≡ low_number free initial b 31 + 2 ^ 31 * digit (truth free nodes (bit_at b 31)) =
-        sym (low_number-all free initial b 32 (omega (arith, b_long))) ∙ argument-more free initial nodes b 31 (omega (arith, b_long)) b_bits first in
-    let total = add_step (2 ^ 31) (2 ^ 32) (low_number free nodes sums 31) (digit (truth free new highest)) (digit (truth free nodes carried)) (digit carry_out) (low_number free initial a 31) (low_number free initial b 31) (digit (truth free nodes (bit_at a 31))) (digit (truth free nodes (bit_at b 31))) (digit (truth free initial carry)) refl (before.holds free) here in
-    wrapped (number_of free initial a + number_of free initial b + digit (truth free initial carry)) (number_of free new (set sums 31 highest)) (digit carry_out)
+      let long : length (set sums 31 highest) ≡ 32 = length-set sums 31 highest ∙ before.long in
+      let number : number_of free new (set sums 31 highest) ≡ low_number free nodes sums 31 + 2 ^ 31 * digit (truth free new highest) =
+      sym (low_number-all free new (set sums 31 highest) 32 (omega (arith, long)))
+      ∙ low_number-set_more free new sums 31 highest (omega (arith, before.long))
+      ∙ ap (λ n. n + 2 ^ 31 * digit (truth free new highest)) (low_number-extends free nodes new sums 31 second before.are_bits) in
+      let carry_out = (truth free nodes (bit_at a 31) && truth free nodes (bit_at b 31)) || (bool_xor (truth free nodes (bit_at a 31)) (truth free nodes (bit_at b 31)) && truth free nodes carried) in
+      let here : digit (truth free new highest) + 2 * digit carry_out ≡ digit (truth free nodes (bit_at a 31)) + digit (truth free nodes (bit_at b 31)) + digit (truth free nodes carried) =
+      ap (λ t. digit t + 2 * digit carry_out) (is_sum.holds free) ∙ full_sum (truth free nodes (bit_at a 31)) (truth free nodes (bit_at b 31)) (truth free nodes carried) in
+      let a_now : number_of free initial a ≡ low_number free initial a 31 + 2 ^ 31 * digit (truth free nodes (bit_at a 31)) =
+      sym (low_number-all free initial a 32 (omega (arith, a_long))) ∙ argument-more free initial nodes a 31 (omega (arith, a_long)) a_bits first in
+      let b_now : number_of free initial b ≡ low_number free initial b 31 + 2 ^ 31 * digit (truth free nodes (bit_at b 31)) =
+      sym (low_number-all free initial b 32 (omega (arith, b_long))) ∙ argument-more free initial nodes b 31 (omega (arith, b_long)) b_bits first in
+      let total = add_step (2 ^ 31) (2 ^ 32) (low_number free nodes sums 31) (digit (truth free new highest)) (digit (truth free nodes carried)) (digit carry_out) (low_number free initial a 31) (low_number free initial b 31) (digit (truth free nodes (bit_at a 31))) (digit (truth free nodes (bit_at b 31))) (digit (truth free initial carry)) refl (before.holds free) here in
+      wrapped (number_of free initial a + number_of free initial b + digit (truth free initial carry)) (number_of free new (set sums 31 highest)) (digit carry_out)
       ((λ j. number j + 2 ^ 32 * digit carry_out) ∙ total ∙ sym (λ j. a_now j + b_now j + digit (truth free initial carry)))
-      (number_small free new (set sums 31 highest) long)
+      (number_small free new (set sums 31 highest) long);
 }
 
 -- a word of one bit, over and over

@@ -1,14 +1,14 @@
 -- The steps of circuits that go over the places of words from the lowest.
 
-use Rattle.std.proofs.Common.{◌≡◌, ℕ, zero, suc, ◌+◌, ◌-◌, ◌*◌, ◌/◌, ◌%◌, ◌^◌, ◌<◌, ◌≤◌, Bool, true, false, not, ◌&&◌, ◌||◌, List, [], ◌∷◌, length, map, set, take, bit_and, bit_or, bit_xor, refl, sym, ap, subst, ◌∙◌, arith, nat_lt, ◌==◌, if◌then◌else◌}
+use Rattle.std.proofs.Common.{◌≡◌, ℕ, ◌+◌, ◌*◌, ◌^◌, ◌<◌, ◌≤◌, Bool, true, false, not, ◌&&◌, ◌||◌, List, length, map, set, take, bit_and, bit_or, bit_xor, refl, sym, ap, subst, ◌∙◌, arith, nat_lt, ◌==◌, if◌then◌else◌}
 use Rattle.std.proofs.lemmas.List.{length-set, length-map, length-take-le}
 use Rattle.std.proofs.lemmas.Nat.{and_block, or_block, xor_block}
 use Rattle.std.proofs.lemmas.Bool.Decides.{nat_tests}
 use Rattle.ba_nodes.specs.declared.Bit.{Bit}
 use Rattle.ba_nodes.specs.declared.Node.{Node}
-use Rattle.ba_nodes.specs.Gates.{bool_xor, truth, IsBitOf, Extends, HasValue}
-use Rattle.ba_words.specs.Words.{digit, spelled, number_of, low_number, bit_at, AreBitsOf, HasNumber}
-use Rattle.ba_words.proofs.Digits.{spelled_below, digit-and, digit-or, digit-xor, digit_below}
+use Rattle.ba_nodes.specs.Gates.{bool_xor, truth, Extends, HasValue}
+use Rattle.ba_words.specs.Words.{digit, number_of, low_number, bit_at, AreBitsOf, HasNumber}
+use Rattle.ba_words.proofs.Digits.{spelled_below, digit-and, digit-or, digit-xor}
 use Rattle.ba_words.proofs.Places.{are_bits-extends, are_bits-set, low_number-extends, low_number-more, low_number-set_more, low_number-all}
 
 -- the low places of a word of these nodes have this number under each assignment
@@ -20,7 +20,7 @@ pub record LowIs (nodes : List Node) (word : List Bit) (places : ℕ) (number : 
 pub low_number_below : (free : ℕ → Bool) (nodes : List Node) (word : List Bit) (places : ℕ) → places ≤ length word → low_number free nodes word places < 2 ^ places
 low_number_below free nodes word places within =
     let size : length (take places (map (truth free nodes) word)) ≡ places =
-        length-take-le places (map (truth free nodes) word) (omega (arith, length-map word (truth free nodes))) in
+    length-take-le places (map (truth free nodes) word) (omega (arith, length-map word (truth free nodes))) in
     subst (λ n. low_number free nodes word places < 2 ^ n) size (spelled_below (take places (map (truth free nodes) word)))
 
 pub HasValue-same : (nodes : List Node) (bit : Bit) (value other : (ℕ → Bool) → Bool) → HasValue nodes bit value → ((free : ℕ → Bool) → value free ≡ other free) → HasValue nodes bit other
@@ -34,11 +34,11 @@ LowIs-more nodes new word i bit number next value small extends before has steps
   long = length-set word i bit ∙ before.long;
   are_bits = are_bits-set new word i bit (are_bits-extends nodes new word extends before.are_bits) has.is_bit;
   holds = λ free.
-    let within : i < length word = omega (arith, before.long) in
-    low_number-set_more free new word i bit within
-    ∙ (λ j. low_number-extends free nodes new word i extends before.are_bits j + 2 ^ i * digit (has.holds free j))
-    ∙ ap (λ n. n + 2 ^ i * digit (value free)) (before.holds free)
-    ∙ steps free
+      let within : i < length word = omega (arith, before.long) in
+      low_number-set_more free new word i bit within
+      ∙ (λ j. low_number-extends free nodes new word i extends before.are_bits j + 2 ^ i * digit (has.holds free j))
+      ∙ ap (λ n. n + 2 ^ i * digit (value free)) (before.holds free)
+      ∙ steps free;
 }
 
 -- all places are written
@@ -46,7 +46,7 @@ pub LowIs-all : (nodes : List Node) (word : List Bit) (places : ℕ) (number oth
 LowIs-all nodes word places number other all is same = record {
   long = is.long;
   are_bits = is.are_bits;
-  holds = λ free. sym (low_number-all free nodes word places (omega (arith, is.long))) ∙ is.holds free ∙ same free
+  holds = λ free. sym (low_number-all free nodes word places (omega (arith, is.long))) ∙ is.holds free ∙ same free;
 }
 
 -- a place of an argument, read after nodes were added
@@ -66,12 +66,12 @@ module _ (f : (ℕ → Bool) → Bool → Bool → Bool) (F : (ℕ → Bool) →
       → LowIs new (set word i bit) (i + 1) (λ free. F free (low_number free initial a (i + 1)) (low_number free initial b (i + 1)))
   pairs-more initial nodes new a b word i bit small a_long b_long a_bits b_bits first second before has =
       LowIs-more nodes new word i bit _ _ (λ free. f free (truth free nodes (bit_at a i)) (truth free nodes (bit_at b i))) small second before has
-        (λ free.
-          let in_a : i < length a = omega (arith, a_long) in
-          let in_b : i < length b = omega (arith, b_long) in
-          step free i (low_number free initial a i) (low_number free initial b i) (truth free nodes (bit_at a i)) (truth free nodes (bit_at b i))
-            (low_number_below free initial a i (omega (arith, a_long))) (low_number_below free initial b i (omega (arith, b_long)))
-          ∙ sym (λ j. F free (argument-more free initial nodes a i in_a a_bits first j) (argument-more free initial nodes b i in_b b_bits first j)))
+      (λ free.
+      let in_a : i < length a = omega (arith, a_long) in
+      let in_b : i < length b = omega (arith, b_long) in
+      step free i (low_number free initial a i) (low_number free initial b i) (truth free nodes (bit_at a i)) (truth free nodes (bit_at b i))
+      (low_number_below free initial a i (omega (arith, a_long))) (low_number_below free initial b i (omega (arith, b_long)))
+      ∙ sym (λ j. F free (argument-more free initial nodes a i in_a a_bits first j) (argument-more free initial nodes b i in_b b_bits first j)))
 
   pub pairs-all : (initial nodes : List Node) (a b word : List Bit) (i : ℕ)
       → 32 ≤ i → length a ≡ 32 → length b ≡ 32
@@ -79,7 +79,7 @@ module _ (f : (ℕ → Bool) → Bool → Bool → Bool) (F : (ℕ → Bool) →
       → HasNumber nodes word (λ free. F free (number_of free initial a) (number_of free initial b))
   pairs-all initial nodes a b word i all a_long b_long is =
       LowIs-all nodes word i _ (λ free. F free (number_of free initial a) (number_of free initial b)) all is
-        (λ free. λ j. F free (low_number-all free initial a i (omega (arith, a_long)) j) (low_number-all free initial b i (omega (arith, b_long)) j))
+      (λ free. λ j. F free (low_number-all free initial a i (omega (arith, a_long)) j) (low_number-all free initial b i (omega (arith, b_long)) j))
 
 pub number_small : (free : ℕ → Bool) (nodes : List Node) (word : List Bit) → length word ≡ 32 → number_of free nodes word < 2 ^ 32
 number_small free nodes word long =
@@ -143,13 +143,13 @@ module _ (f : Bool → Bool → Bool → Bool) (F : ℕ → ℕ → Bool)
       → HasValue new next (λ free. F (low_number free initial a (i + 1)) (low_number free initial b (i + 1)))
   compared-more initial nodes new a b i now next small a_long b_long a_bits b_bits first before has =
       HasValue-same new next _ _ has
-        (λ free.
-          let in_a : i < length a = omega (arith, a_long) in
-          let in_b : i < length b = omega (arith, b_long) in
-          ap (λ t. f t (truth free nodes (bit_at a i)) (truth free nodes (bit_at b i))) (before.holds free)
-          ∙ step i (low_number free initial a i) (low_number free initial b i) (truth free nodes (bit_at a i)) (truth free nodes (bit_at b i))
-              (low_number_below free initial a i (omega (arith, a_long))) (low_number_below free initial b i (omega (arith, b_long)))
-          ∙ sym (λ j. F (argument-more free initial nodes a i in_a a_bits first j) (argument-more free initial nodes b i in_b b_bits first j)))
+      (λ free.
+      let in_a : i < length a = omega (arith, a_long) in
+      let in_b : i < length b = omega (arith, b_long) in
+      ap (λ t. f t (truth free nodes (bit_at a i)) (truth free nodes (bit_at b i))) (before.holds free)
+      ∙ step i (low_number free initial a i) (low_number free initial b i) (truth free nodes (bit_at a i)) (truth free nodes (bit_at b i))
+      (low_number_below free initial a i (omega (arith, a_long))) (low_number_below free initial b i (omega (arith, b_long)))
+      ∙ sym (λ j. F (argument-more free initial nodes a i in_a a_bits first j) (argument-more free initial nodes b i in_b b_bits first j)))
 
   -- the first place alone
   pub compared-first : (initial new : List Node) (a b : List Bit) (next : Bit)
@@ -158,11 +158,11 @@ module _ (f : Bool → Bool → Bool → Bool) (F : ℕ → ℕ → Bool)
       → HasValue new next (λ free. F (low_number free initial a 1) (low_number free initial b 1))
   compared-first initial new a b next a_long b_long a_bits b_bits has =
       HasValue-same new next _ _ has
-        (λ free.
-          let in_a : 0 < length a = omega (arith, a_long) in
-          let in_b : 0 < length b = omega (arith, b_long) in
-          step 0 0 0 (truth free initial (bit_at a 0)) (truth free initial (bit_at b 0)) (omega arith) (omega arith)
-          ∙ sym (λ j. F (low_number-more free initial a 0 in_a j) (low_number-more free initial b 0 in_b j)))
+      (λ free.
+      let in_a : 0 < length a = omega (arith, a_long) in
+      let in_b : 0 < length b = omega (arith, b_long) in
+      step 0 0 0 (truth free initial (bit_at a 0)) (truth free initial (bit_at b 0)) (omega arith) (omega arith)
+      ∙ sym (λ j. F (low_number-more free initial a 0 in_a j) (low_number-more free initial b 0 in_b j)))
 
   pub compared-all : (initial nodes : List Node) (a b : List Bit) (i : ℕ) (now : Bit)
       → 32 ≤ i → length a ≡ 32 → length b ≡ 32
@@ -170,7 +170,7 @@ module _ (f : Bool → Bool → Bool → Bool) (F : ℕ → ℕ → Bool)
       → HasValue nodes now (λ free. F (number_of free initial a) (number_of free initial b))
   compared-all initial nodes a b i now all a_long b_long has =
       HasValue-same nodes now _ _ has
-        (λ free. λ j. F (low_number-all free initial a i (omega (arith, a_long)) j) (low_number-all free initial b i (omega (arith, b_long)) j))
+      (λ free. λ j. F (low_number-all free initial a i (omega (arith, a_long)) j) (low_number-all free initial b i (omega (arith, b_long)) j))
 
 -- the number of a word by its highest place
 pub number-highest : (free : ℕ → Bool) (nodes : List Node) (word : List Bit) → length word ≡ 32 → number_of free nodes word ≡ low_number free nodes word 31 + 2 ^ 31 * digit (truth free nodes (bit_at word 31))

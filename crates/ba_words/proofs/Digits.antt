@@ -1,8 +1,8 @@
 -- Numbers spelled by binary digits.
 
-use Rattle.std.proofs.Common.{◌≡◌, ℕ, zero, suc, ◌+◌, ◌-◌, ◌*◌, ◌/◌, ◌%◌, ◌^◌, ◌<◌, ◌≤◌, Bool, true, false, not, ◌&&◌, ◌||◌, List, [], ◌∷◌, ◌++◌, length, map, get_or, take, drop, replicate, bit_and, bit_or, bit_xor, refl, sym, ap, subst, ◌∙◌, arith, nat_lt, ◌==◌, if◌then◌else◌, add-one}
-use Rattle.std.proofs.Math.Nat.{pow-suc, mul_comm, mul_assoc}
-use Rattle.std.proofs.lemmas.Nat.{pow_pos, and_block, or_block, xor_block}
+use Rattle.std.proofs.Common.{◌≡◌, ℕ, zero, suc, ◌+◌, ◌*◌, ◌^◌, ◌<◌, ◌≤◌, Bool, true, false, not, ◌&&◌, ◌||◌, List, [], ◌∷◌, ◌++◌, length, map, get_or, take, replicate, bit_and, bit_or, bit_xor, refl, sym, ap, ◌∙◌, arith}
+use Rattle.std.proofs.Math.Nat.{pow-suc}
+use Rattle.std.proofs.lemmas.Nat.{and_block, or_block, xor_block}
 use Rattle.std.proofs.lemmas.List.{take_more, length-take-le}
 use Rattle.ba_nodes.specs.Gates.{bool_xor}
 use Rattle.ba_words.specs.Words.{digit, spelled}

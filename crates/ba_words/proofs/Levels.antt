@@ -1,11 +1,11 @@
 -- Shifts by the bits of a count, one after another.
 
-use Rattle.std.proofs.Common.{◌≡◌, ℕ, ◌+◌, ◌-◌, ◌*◌, ◌/◌, ◌%◌, ◌^◌, ◌<◌, ◌≤◌, Bool, true, false, List, length, map, drop, refl, sym, ap, subst, ◌∙◌, arith, if◌then◌else◌}
+use Rattle.std.proofs.Common.{◌≡◌, ℕ, ◌+◌, ◌-◌, ◌*◌, ◌/◌, ◌%◌, ◌^◌, ◌<◌, ◌≤◌, Bool, true, false, List, length, map, drop, sym, ap, subst, ◌∙◌, arith, if◌then◌else◌}
 use Rattle.std.proofs.lemmas.Nat.{pow-add, pow_pos, mul-mod_first, shr-shr, one_shl}
 use Rattle.std.proofs.Math.Nat.{mul_assoc, add-mul-div_right, pow-le-pow_right}
 use Rattle.ba_nodes.specs.declared.Bit.{Bit}
 use Rattle.ba_nodes.specs.declared.Node.{Node}
-use Rattle.ba_nodes.specs.Gates.{truth, IsBitOf, Extends, HasValue}
+use Rattle.ba_nodes.specs.Gates.{truth, Extends}
 use Rattle.ba_words.specs.Words.{digit, spelled, number_of, low_number, bit_at, AreBitsOf, HasNumber, shifted_down}
 use Rattle.ba_words.proofs.Circuits.{argument-more, low_number_below}
 use Rattle.ba_words.proofs.Shapes.{number-split}
@@ -47,9 +47,9 @@ up_more initial nodes new a count word moved next level small long bits first be
   long = has.long;
   are_bits = has.are_bits;
   holds = λ free.
-    has.holds free
-    ∙ up_level (truth free nodes (bit_at count level)) (number_of free initial a) (low_number free initial count level) (2 ^ level) (number_of free nodes word) (number_of free nodes moved) (before.holds free) (moves free)
-    ∙ sym (ap (λ e. (number_of free initial a * 2 ^ e) % 2 ^ 32) (argument-more free initial nodes count level (omega (arith, long)) bits first))
+      has.holds free
+      ∙ up_level (truth free nodes (bit_at count level)) (number_of free initial a) (low_number free initial count level) (2 ^ level) (number_of free nodes word) (number_of free nodes moved) (before.holds free) (moves free)
+      ∙ sym (ap (λ e. (number_of free initial a * 2 ^ e) % 2 ^ 32) (argument-more free initial nodes count level (omega (arith, long)) bits first));
 }
 
 down_false : (n c : ℕ) → shifted_down n false c ≡ n / 2 ^ c
@@ -75,9 +75,9 @@ down_twice true n c p few =
     let f_below : 2 ^ (32 - p) ≤ 2 ^ 32 = power_up (32 - p) 32 (omega arith) in
     let ones = ones_moved (2 ^ p) (2 ^ (32 - c)) (2 ^ (32 - p)) (2 ^ (32 - (c + p))) (2 ^ 32) g_below e_is whole_is in
     let moved : (n / 2 ^ c + (2 ^ 32 - 2 ^ (32 - c))) / 2 ^ p ≡ n / 2 ^ (c + p) + (2 ^ (32 - p) - 2 ^ (32 - (c + p))) =
-        ap (λ x. (n / 2 ^ c + x) / 2 ^ p) ones
-        ∙ add-mul-div_right (n / 2 ^ c) (2 ^ (32 - p) - 2 ^ (32 - (c + p))) {z = 2 ^ p} (pow_pos p)
-        ∙ ap (λ x. x + (2 ^ (32 - p) - 2 ^ (32 - (c + p)))) (shr-shr n c p) in
+    ap (λ x. (n / 2 ^ c + x) / 2 ^ p) ones
+    ∙ add-mul-div_right (n / 2 ^ c) (2 ^ (32 - p) - 2 ^ (32 - (c + p))) {z = 2 ^ p} (pow_pos p)
+    ∙ ap (λ x. x + (2 ^ (32 - p) - 2 ^ (32 - (c + p)))) (shr-shr n c p) in
     let plain : n / 2 ^ c + digit true * (2 ^ 32 - 2 ^ (32 - c)) ≡ n / 2 ^ c + (2 ^ 32 - 2 ^ (32 - c)) = omega arith in
     ap (λ x. x / 2 ^ p + digit true * (2 ^ 32 - 2 ^ (32 - p))) plain
     ∙ ap (λ x. x + digit true * (2 ^ 32 - 2 ^ (32 - p))) moved
@@ -100,11 +100,11 @@ down_more initial nodes new a count word moved next sign level small long bits f
   long = has.long;
   are_bits = has.are_bits;
   holds = λ free.
-    let below : low_number free initial count level < 2 ^ level = low_number_below free initial count level (omega (arith, long)) in
-    let most : 2 ^ level ≤ 2 ^ 4 = power_up level 4 (omega arith) in
-    has.holds free
-    ∙ down_level (truth free nodes (bit_at count level)) (sign free) (number_of free initial a) (low_number free initial count level) (2 ^ level) (number_of free nodes word) (number_of free nodes moved) (omega arith) (before.holds free) (moves free)
-    ∙ sym (ap (shifted_down (number_of free initial a) (sign free)) (argument-more free initial nodes count level (omega (arith, long)) bits first))
+      let below : low_number free initial count level < 2 ^ level = low_number_below free initial count level (omega (arith, long)) in
+      let most : 2 ^ level ≤ 2 ^ 4 = power_up level 4 (omega arith) in
+      has.holds free
+      ∙ down_level (truth free nodes (bit_at count level)) (sign free) (number_of free initial a) (low_number free initial count level) (2 ^ level) (number_of free nodes word) (number_of free nodes moved) (omega arith) (before.holds free) (moves free)
+      ∙ sym (ap (shifted_down (number_of free initial a) (sign free)) (argument-more free initial nodes count level (omega (arith, long)) bits first));
 }
 
 -- the distance of a level, as a shift of 1 gives it

@@ -1,6 +1,6 @@
 -- Words converted to the types of C.
 
-use Rattle.std.proofs.Common.{◌≡◌, ℕ, ◌+◌, ◌-◌, ◌*◌, ◌%◌, ◌^◌, ◌<◌, ◌≤◌, Bool, true, false, nat_lt, List, length, map, drop, refl, sym, ap, subst, ◌∙◌, arith, if◌then◌else◌, ℤ, pos, negsuc, neg_ℤ, ◌+ℤ◌, ◌-ℤ◌, ◌*ℤ◌, ◌≤ℤ◌, ◌<ℤ◌, unsigned_abs}
+use Rattle.std.proofs.Common.{◌≡◌, ℕ, ◌+◌, ◌-◌, ◌*◌, ◌%◌, ◌^◌, ◌<◌, ◌≤◌, Bool, true, false, nat_lt, List, length, map, drop, refl, sym, ap, ◌∙◌, arith, if◌then◌else◌, ℤ, pos, negsuc, neg_ℤ, ◌+ℤ◌, ◌-ℤ◌, ◌*ℤ◌}
 use Rattle.std.specs.Int.{int_rem_euclid}
 use Rattle.std.proofs.lemmas.Int.{ints}
 use Rattle.std.proofs.lemmas.Bool.Decides.{nat_tests}
@@ -64,13 +64,13 @@ pub extended_number : (free : ℕ → Bool) (nodes : List Node) (wide word : Lis
     → number_of free nodes wide + digit v * 2 ^ n ≡ low_number free nodes word n + digit v * 2 ^ 32
 extended_number free nodes wide word n fill v few long word_long is places =
     let below : (place : ℕ) → place < n → truth free nodes (bit_at wide place) ≡ truth free nodes (bit_at word place) =
-        λ place within.
-          let tests : nat_lt place n ≡ true = grind (arith, nat_tests) in
-          ap (truth free nodes) (places place (omega arith) ∙ ap (λ t. if t then bit_at word place else fill) tests) in
+    λ place within.
+    let tests : nat_lt place n ≡ true = grind (arith, nat_tests) in
+    ap (truth free nodes) (places place (omega arith) ∙ ap (λ t. if t then bit_at word place else fill) tests) in
     let above : (place : ℕ) → n ≤ place → place < 32 → truth free nodes (bit_at wide place) ≡ v =
-        λ place from within.
-          let tests : nat_lt place n ≡ false = grind (arith, nat_tests) in
-          ap (truth free nodes) (places place within ∙ ap (λ t. if t then bit_at word place else fill) tests) ∙ is in
+    λ place from within.
+    let tests : nat_lt place n ≡ false = grind (arith, nat_tests) in
+    ap (truth free nodes) (places place within ∙ ap (λ t. if t then bit_at word place else fill) tests) ∙ is in
     filled-number free nodes wide n v long few above
     ∙ ap (λ x. x + digit v * 2 ^ 32) (low_number-same free nodes nodes wide word n (omega (arith, long)) (omega (arith, word_long)) below)
 
@@ -81,9 +81,9 @@ signed_8 free nodes wide word long word_long places =
     let v = truth free nodes (bit_at word 7) in
     let low : low_number free nodes word 8 ≡ low_number free nodes word 7 + 2 ^ 7 * digit v = low_number-more free nodes word 7 (omega (arith, word_long)) in
     narrow_I8 (number_of free nodes wide) (number_of free nodes word) (low_number free nodes word 7) (spelled (drop 8 (map (truth free nodes) word))) v
-      (low_number_below free nodes word 7 (omega (arith, word_long)))
-      (number-split free nodes word 8 (omega (arith, word_long)) ∙ ap (λ n. n + 2 ^ 8 * spelled (drop 8 (map (truth free nodes) word))) low)
-      (extended_number free nodes wide word 8 (bit_at word 7) v (omega arith) long word_long refl places ∙ ap (λ n. n + digit v * 2 ^ 32) low)
+    (low_number_below free nodes word 7 (omega (arith, word_long)))
+    (number-split free nodes word 8 (omega (arith, word_long)) ∙ ap (λ n. n + 2 ^ 8 * spelled (drop 8 (map (truth free nodes) word))) low)
+    (extended_number free nodes wide word 8 (bit_at word 7) v (omega arith) long word_long refl places ∙ ap (λ n. n + digit v * 2 ^ 32) low)
 
 pub signed_16 : (free : ℕ → Bool) (nodes : List Node) (wide word : List Bit) → length wide ≡ 32 → length word ≡ 32
     → ((place : ℕ) → place < 32 → bit_at wide place ≡ (if nat_lt place 16 then bit_at word place else bit_at word 15))
@@ -92,9 +92,9 @@ signed_16 free nodes wide word long word_long places =
     let v = truth free nodes (bit_at word 15) in
     let low : low_number free nodes word 16 ≡ low_number free nodes word 15 + 2 ^ 15 * digit v = low_number-more free nodes word 15 (omega (arith, word_long)) in
     narrow_I16 (number_of free nodes wide) (number_of free nodes word) (low_number free nodes word 15) (spelled (drop 16 (map (truth free nodes) word))) v
-      (low_number_below free nodes word 15 (omega (arith, word_long)))
-      (number-split free nodes word 16 (omega (arith, word_long)) ∙ ap (λ n. n + 2 ^ 16 * spelled (drop 16 (map (truth free nodes) word))) low)
-      (extended_number free nodes wide word 16 (bit_at word 15) v (omega arith) long word_long refl places ∙ ap (λ n. n + digit v * 2 ^ 32) low)
+    (low_number_below free nodes word 15 (omega (arith, word_long)))
+    (number-split free nodes word 16 (omega (arith, word_long)) ∙ ap (λ n. n + 2 ^ 16 * spelled (drop 16 (map (truth free nodes) word))) low)
+    (extended_number free nodes wide word 16 (bit_at word 15) v (omega arith) long word_long refl places ∙ ap (λ n. n + digit v * 2 ^ 32) low)
 
 unfilled : (r l p : ℕ) → r + 0 * p ≡ l + 0 * 2 ^ 32 → r ≡ l
 unfilled r l p e = omega arith
@@ -104,16 +104,16 @@ pub unsigned_8 : (free : ℕ → Bool) (nodes : List Node) (wide word : List Bit
     → number_of free nodes wide ≡ low_word (converted U8 (pos (number_of free nodes word)))
 unsigned_8 free nodes wide word fill none long word_long places =
     narrow_U8 (number_of free nodes wide) (number_of free nodes word) (low_number free nodes word 8) (spelled (drop 8 (map (truth free nodes) word)))
-      (low_number_below free nodes word 8 (omega (arith, word_long))) (number-split free nodes word 8 (omega (arith, word_long)))
-      (unfilled (number_of free nodes wide) (low_number free nodes word 8) (2 ^ 8) (extended_number free nodes wide word 8 fill false (omega arith) long word_long none places))
+    (low_number_below free nodes word 8 (omega (arith, word_long))) (number-split free nodes word 8 (omega (arith, word_long)))
+    (unfilled (number_of free nodes wide) (low_number free nodes word 8) (2 ^ 8) (extended_number free nodes wide word 8 fill false (omega arith) long word_long none places))
 
 pub unsigned_16 : (free : ℕ → Bool) (nodes : List Node) (wide word : List Bit) (fill : Bit) → truth free nodes fill ≡ false → length wide ≡ 32 → length word ≡ 32
     → ((place : ℕ) → place < 32 → bit_at wide place ≡ (if nat_lt place 16 then bit_at word place else fill))
     → number_of free nodes wide ≡ low_word (converted U16 (pos (number_of free nodes word)))
 unsigned_16 free nodes wide word fill none long word_long places =
     narrow_U16 (number_of free nodes wide) (number_of free nodes word) (low_number free nodes word 16) (spelled (drop 16 (map (truth free nodes) word)))
-      (low_number_below free nodes word 16 (omega (arith, word_long))) (number-split free nodes word 16 (omega (arith, word_long)))
-      (unfilled (number_of free nodes wide) (low_number free nodes word 16) (2 ^ 16) (extended_number free nodes wide word 16 fill false (omega arith) long word_long none places))
+    (low_number_below free nodes word 16 (omega (arith, word_long))) (number-split free nodes word 16 (omega (arith, word_long)))
+    (unfilled (number_of free nodes wide) (low_number free nodes word 16) (2 ^ 16) (extended_number free nodes wide word 16 fill false (omega arith) long word_long none places))
 
 -- ---- the value of a converted word
 
@@ -151,7 +151,7 @@ low_word-converted target z =
     let near = rem_congruent 0x100000000 z (omega arith) in
     read-same target z (pos (low_word z)) record {
       turns = neg_ℤ near.turns;
-      apart = turned_back (pos (low_word z)) z near.turns (low_word-rem z ∙ near.apart)
+      apart = turned_back (pos (low_word z)) z near.turns (low_word-rem z ∙ near.apart);
     }
 
 pub converted_value : (t : CType) (source target : Bool) (m r : ℕ) → r ≡ low_word (converted t (pos m)) → converted (word_type target) (converted t (read source m)) ≡ read target r

@@ -1,12 +1,12 @@
 -- Words of bits: their places, and what they spell as nodes are added.
 
-use Rattle.std.proofs.Common.{◌≡◌, ℕ, zero, suc, ◌+◌, ◌-◌, ◌*◌, ◌/◌, ◌%◌, ◌^◌, ◌<◌, ◌≤◌, Bool, true, false, not, ◌&&◌, ◌||◌, List, [], ◌∷◌, ◌++◌, length, map, get_or, set, take, drop, replicate, ◌⊎◌, inl, inr, refl, sym, ap, subst, ◌∙◌, arith, add-one, nat_lt, ◌==◌, if◌then◌else◌}
+use Rattle.std.proofs.Common.{◌≡◌, ℕ, ◌+◌, ◌*◌, ◌^◌, ◌<◌, ◌≤◌, Bool, true, false, ◌&&◌, ◌||◌, List, length, map, set, take, inl, inr, refl, sym, ap, subst, ◌∙◌, arith, add-one}
 use Rattle.std.proofs.lemmas.List.{get_or-map, get_or-set_same, get_or-set_other, take-set, take-map, take_all, set_past, same_lists, length-set, length-map}
 use Rattle.std.proofs.lemmas.Bool.{cases_eq, cases_lt}
 use Rattle.ba_nodes.specs.declared.Bit.{Bit}
 use Rattle.ba_nodes.specs.declared.Node.{Node}
-use Rattle.ba_nodes.specs.Gates.{bool_xor, constant_bit, truth, IsBitOf, gates_in, Extends, HasValue}
-use Rattle.ba_words.specs.Words.{digit, spelled, number_of, low_number, bit_at, AreBitsOf, HasNumber, AddUp}
+use Rattle.ba_nodes.specs.Gates.{bool_xor, constant_bit, truth, IsBitOf, Extends, HasValue}
+use Rattle.ba_words.specs.Words.{digit, spelled, number_of, low_number, bit_at, AreBitsOf, AddUp}
 use Rattle.ba_words.proofs.Digits.{spelled-take_more, twice}
 
 pub are_bits-extends : (old new : List Node) (word : List Bit) → Extends old new → AreBitsOf old word → AreBitsOf new word
@@ -15,22 +15,22 @@ are_bits-extends old new word extends bits place = omega (arith, bits place, ext
 pub are_bits-set : (nodes : List Node) (word : List Bit) (i : ℕ) (bit : Bit) → AreBitsOf nodes word → IsBitOf nodes bit → AreBitsOf nodes (set word i bit)
 are_bits-set nodes word i bit bits named place =
     elim (cases_eq place i) [
-      inl here ↦ elim (cases_lt i (length word)) [
-        inl within ↦ subst (λ k. IsBitOf nodes (bit_at (set word i bit) k)) (sym here) (subst (IsBitOf nodes) (sym (get_or-set_same word i bit (constant_bit false) within)) named)
-      | inr past ↦ subst (λ xs. IsBitOf nodes (bit_at xs place)) (sym (set_past word i bit past)) (bits place)
+      | inl here ↦ elim (cases_lt i (length word)) [
+        | inl within ↦ subst (λ k. IsBitOf nodes (bit_at (set word i bit) k)) (sym here) (subst (IsBitOf nodes) (sym (get_or-set_same word i bit (constant_bit false) within)) named)
+        | inr past ↦ subst (λ xs. IsBitOf nodes (bit_at xs place)) (sym (set_past word i bit past)) (bits place)
       ]
-    | inr apart ↦ subst (IsBitOf nodes) (sym (get_or-set_other word i place bit (constant_bit false) apart)) (bits place)
+      | inr apart ↦ subst (IsBitOf nodes) (sym (get_or-set_other word i place bit (constant_bit false) apart)) (bits place)
     ]
 
 -- the truth values of a word stay as nodes are added
 pub truths-extends : (free : ℕ → Bool) (old new : List Node) (word : List Bit) → Extends old new → AreBitsOf old word → map (truth free new) word ≡ map (truth free old) word
 truths-extends free old new word extends bits =
     same_lists (map (truth free new) word) (map (truth free old) word) (length-map word (truth free new) ∙ sym (length-map word (truth free old)))
-      (λ k d within.
-        let inside : k < length word = omega (arith, length-map word (truth free new)) in
-        get_or-map (truth free new) word k (constant_bit false) d inside
-        ∙ extends.keeps free (bit_at word k) (bits k)
-        ∙ sym (get_or-map (truth free old) word k (constant_bit false) d inside))
+    (λ k d within.
+    let inside : k < length word = omega (arith, length-map word (truth free new)) in
+    get_or-map (truth free new) word k (constant_bit false) d inside
+    ∙ extends.keeps free (bit_at word k) (bits k)
+    ∙ sym (get_or-map (truth free old) word k (constant_bit false) d inside))
 
 pub number_of-extends : (free : ℕ → Bool) (old new : List Node) (word : List Bit) → Extends old new → AreBitsOf old word → number_of free new word ≡ number_of free old word
 number_of-extends free old new word extends bits = ap spelled (truths-extends free old new word extends bits)
@@ -93,16 +93,16 @@ AddUp-more initial nodes new a b carry sums carried i sum next small in_a in_b a
   are_bits = are_bits-set new sums i sum (are_bits-extends nodes new sums second before.are_bits) is_sum.is_bit;
   is_bit = is_next.is_bit;
   holds = λ free.
-    let in_sums : i < length sums = omega (arith, before.long) in
-    let sums_now : low_number free new (set sums i sum) (i + 1) ≡ low_number free nodes sums i + 2 ^ i * digit (truth free new sum) =
-        low_number-set_more free new sums i sum in_sums ∙ ap (λ n. n + 2 ^ i * digit (truth free new sum)) (low_number-extends free nodes new sums i second before.are_bits) in
-    let a_now : low_number free initial a (i + 1) ≡ low_number free initial a i + 2 ^ i * digit (truth free nodes (bit_at a i)) =
-        low_number-more free initial a i in_a ∙ ap (λ t. low_number free initial a i + 2 ^ i * digit t) (sym (first.keeps free (bit_at a i) (a_bits i))) in
-    let b_now : low_number free initial b (i + 1) ≡ low_number free initial b i + 2 ^ i * digit (truth free nodes (bit_at b i)) =
-        low_number-more free initial b i in_b ∙ ap (λ t. low_number free initial b i + 2 ^ i * digit t) (sym (first.keeps free (bit_at b i) (b_bits i))) in
-    let here : digit (truth free new sum) + 2 * digit (truth free new next) ≡ digit (truth free nodes (bit_at a i)) + digit (truth free nodes (bit_at b i)) + digit (truth free nodes carried) =
-        (λ j. digit (is_sum.holds free j) + 2 * digit (is_next.holds free j)) ∙ full_sum (truth free nodes (bit_at a i)) (truth free nodes (bit_at b i)) (truth free nodes carried) in
-    (λ j. sums_now j + 2 ^ (i + 1) * digit (truth free new next))
-    ∙ add_step (2 ^ i) (2 ^ (i + 1)) (low_number free nodes sums i) (digit (truth free new sum)) (digit (truth free nodes carried)) (digit (truth free new next)) (low_number free initial a i) (low_number free initial b i) (digit (truth free nodes (bit_at a i))) (digit (truth free nodes (bit_at b i))) (digit (truth free initial carry)) (power_more i) (before.holds free) here
-    ∙ sym (λ j. a_now j + b_now j + digit (truth free initial carry))
+      let in_sums : i < length sums = omega (arith, before.long) in
+      let sums_now : low_number free new (set sums i sum) (i + 1) ≡ low_number free nodes sums i + 2 ^ i * digit (truth free new sum) =
+      low_number-set_more free new sums i sum in_sums ∙ ap (λ n. n + 2 ^ i * digit (truth free new sum)) (low_number-extends free nodes new sums i second before.are_bits) in
+      let a_now : low_number free initial a (i + 1) ≡ low_number free initial a i + 2 ^ i * digit (truth free nodes (bit_at a i)) =
+      low_number-more free initial a i in_a ∙ ap (λ t. low_number free initial a i + 2 ^ i * digit t) (sym (first.keeps free (bit_at a i) (a_bits i))) in
+      let b_now : low_number free initial b (i + 1) ≡ low_number free initial b i + 2 ^ i * digit (truth free nodes (bit_at b i)) =
+      low_number-more free initial b i in_b ∙ ap (λ t. low_number free initial b i + 2 ^ i * digit t) (sym (first.keeps free (bit_at b i) (b_bits i))) in
+      let here : digit (truth free new sum) + 2 * digit (truth free new next) ≡ digit (truth free nodes (bit_at a i)) + digit (truth free nodes (bit_at b i)) + digit (truth free nodes carried) =
+      (λ j. digit (is_sum.holds free j) + 2 * digit (is_next.holds free j)) ∙ full_sum (truth free nodes (bit_at a i)) (truth free nodes (bit_at b i)) (truth free nodes carried) in
+      (λ j. sums_now j + 2 ^ (i + 1) * digit (truth free new next))
+      ∙ add_step (2 ^ i) (2 ^ (i + 1)) (low_number free nodes sums i) (digit (truth free new sum)) (digit (truth free nodes carried)) (digit (truth free new next)) (low_number free initial a i) (low_number free initial b i) (digit (truth free nodes (bit_at a i))) (digit (truth free nodes (bit_at b i))) (digit (truth free initial carry)) (power_more i) (before.holds free) here
+      ∙ sym (λ j. a_now j + b_now j + digit (truth free initial carry));
 }

@@ -1,15 +1,15 @@
 -- What words spell whose bits are those of other words, moved, turned or filled up.
 
-use Rattle.std.proofs.Common.{◌≡◌, ℕ, zero, suc, ◌+◌, ◌-◌, ◌*◌, ◌/◌, ◌%◌, ◌^◌, ◌<◌, ◌≤◌, Bool, true, false, not, nat_lt, List, length, map, take, drop, refl, sym, ap, subst, ◌∙◌, arith, add-one, if◌then◌else◌}
+use Rattle.std.proofs.Common.{◌≡◌, ℕ, zero, suc, ◌+◌, ◌-◌, ◌*◌, ◌/◌, ◌%◌, ◌^◌, ◌<◌, ◌≤◌, Bool, true, false, not, nat_lt, List, length, map, take, drop, refl, sym, ap, ◌∙◌, arith, add-one, if◌then◌else◌}
 use Rattle.std.proofs.lemmas.List.{take-append-drop, length-map, length-take-le}
-use Rattle.std.proofs.lemmas.Nat.{pow-add, pow_pos, div-mul-add}
-use Rattle.std.proofs.Math.Nat.{mul_comm, mul_assoc, pow-le-pow_right}
+use Rattle.std.proofs.lemmas.Nat.{pow-add, div-mul-add}
+use Rattle.std.proofs.Math.Nat.{pow-le-pow_right}
 use Rattle.std.proofs.lemmas.Bool.Decides.{nat_tests}
 use Rattle.ba_nodes.specs.declared.Bit.{Bit}
 use Rattle.ba_nodes.specs.declared.Node.{Node}
-use Rattle.ba_nodes.specs.Gates.{truth, opposite, constant_bit, IsBitOf, Extends, HasValue}
+use Rattle.ba_nodes.specs.Gates.{truth, opposite, constant_bit}
 use Rattle.ba_nodes.proofs.Truths.{truth-opposite, truth-constant}
-use Rattle.ba_words.specs.Words.{digit, spelled, number_of, low_number, bit_at, AreBitsOf, HasNumber}
+use Rattle.ba_words.specs.Words.{digit, spelled, number_of, low_number, bit_at}
 use Rattle.ba_words.proofs.Digits.{spelled-append, twice}
 use Rattle.ba_words.proofs.Places.{low_number-more, low_number-all}
 use Rattle.ba_words.proofs.Carries.{wrapped}
@@ -48,9 +48,9 @@ complement-low free nodes word a long a_long places zero within = refl
 complement-low free nodes word a long a_long places (suc i) within =
     (λ j. low_number-suc free nodes word i (omega (arith, long)) j + low_number-suc free nodes a i (omega (arith, a_long)) j + 1)
     ∙ ap (λ t. low_number free nodes word i + 2 ^ i * digit t + (low_number free nodes a i + 2 ^ i * digit (truth free nodes (bit_at a i))) + 1)
-        (ap (truth free nodes) (places i (omega arith)) ∙ truth-opposite free nodes (bit_at a i))
+    (ap (truth free nodes) (places i (omega arith)) ∙ truth-opposite free nodes (bit_at a i))
     ∙ complement_step (2 ^ i) (low_number free nodes word i) (low_number free nodes a i) (bit_at a i) (truth free nodes (bit_at a i))
-        (complement-low free nodes word a long a_long places i (omega arith))
+    (complement-low free nodes word a long a_long places i (omega arith))
     ∙ sym (twice i)
 
 pub complement-number : (free : ℕ → Bool) (nodes : List Node) (word a : List Bit) → length word ≡ 32 → length a ≡ 32
@@ -118,28 +118,28 @@ pub moved_up-number : (free : ℕ → Bool) (nodes : List Node) (moved word : Li
     → number_of free nodes moved ≡ (number_of free nodes word * 2 ^ by) % 2 ^ 32
 moved_up-number free nodes moved word by few long word_long places =
     let below : (place : ℕ) → 0 ≤ place → place < by → truth free nodes (bit_at moved place) ≡ false =
-        λ place low within.
-          let tests : nat_lt place by ≡ true = grind (arith, nat_tests) in
-          ap (truth free nodes) (places place (omega arith) ∙ ap (λ t. if t then constant_bit false else bit_at word (place - by)) tests) ∙ truth-constant free nodes false in
+    λ place low within.
+    let tests : nat_lt place by ≡ true = grind (arith, nat_tests) in
+    ap (truth free nodes) (places place (omega arith) ∙ ap (λ t. if t then constant_bit false else bit_at word (place - by)) tests) ∙ truth-constant free nodes false in
     let above : (place : ℕ) → by ≤ place → place < 32 → truth free nodes (bit_at moved place) ≡ truth free nodes (bit_at word (place - by)) =
-        λ place from within.
-          let tests : nat_lt place by ≡ false = grind (arith, nat_tests) in
-          ap (truth free nodes) (places place within ∙ ap (λ t. if t then constant_bit false else bit_at word (place - by)) tests) in
+    λ place from within.
+    let tests : nat_lt place by ≡ false = grind (arith, nat_tests) in
+    ap (truth free nodes) (places place within ∙ ap (λ t. if t then constant_bit false else bit_at word (place - by)) tests) in
     let none : low_number free nodes moved by ≡ 0 =
-        let filled : low_number free nodes moved (0 + by) + digit false * 2 ^ 0 ≡ low_number free nodes moved 0 + digit false * 2 ^ (0 + by) =
-            filled-low free nodes moved 0 by false (omega (arith, long)) below by (omega arith) in
-        let start : 0 + by ≡ by = omega arith in
-        ap (low_number free nodes moved) (sym start) ∙ omega arith in
+    let filled : low_number free nodes moved (0 + by) + digit false * 2 ^ 0 ≡ low_number free nodes moved 0 + digit false * 2 ^ (0 + by) =
+    filled-low free nodes moved 0 by false (omega (arith, long)) below by (omega arith) in
+    let start : 0 + by ≡ by = omega arith in
+    ap (low_number free nodes moved) (sym start) ∙ omega arith in
     let whole : by + (32 - by) ≡ 32 = omega arith in
     let value : number_of free nodes moved ≡ 2 ^ by * low_number free nodes word (32 - by) =
-        sym (low_number-all free nodes moved 32 (omega (arith, long))) ∙ ap (low_number free nodes moved) (sym whole)
-        ∙ moved_up-low free nodes moved word by long word_long none above (32 - by) (omega arith) in
+    sym (low_number-all free nodes moved 32 (omega (arith, long))) ∙ ap (low_number free nodes moved) (sym whole)
+    ∙ moved_up-low free nodes moved word by long word_long none above (32 - by) (omega arith) in
     let total : number_of free nodes word * 2 ^ by ≡ 2 ^ by * low_number free nodes word (32 - by) + 2 ^ 32 * spelled (drop (32 - by) (map (truth free nodes) word)) =
-        ap (λ n. n * 2 ^ by) (number-split free nodes word (32 - by) (omega (arith, word_long)))
-        ∙ up_total (2 ^ by) (2 ^ (32 - by)) (low_number free nodes word (32 - by)) (spelled (drop (32 - by) (map (truth free nodes) word))) (powers by few) in
+    ap (λ n. n * 2 ^ by) (number-split free nodes word (32 - by) (omega (arith, word_long)))
+    ∙ up_total (2 ^ by) (2 ^ (32 - by)) (low_number free nodes word (32 - by)) (spelled (drop (32 - by) (map (truth free nodes) word))) (powers by few) in
     wrapped (number_of free nodes word * 2 ^ by) (number_of free nodes moved) (spelled (drop (32 - by) (map (truth free nodes) word)))
-      (ap (λ n. n + 2 ^ 32 * spelled (drop (32 - by) (map (truth free nodes) word))) value ∙ sym total)
-      (number_small free nodes moved long)
+    (ap (λ n. n + 2 ^ 32 * spelled (drop (32 - by) (map (truth free nodes) word))) value ∙ sym total)
+    (number_small free nodes moved long)
   where
     up_total : (p q l h : ℕ) → q * p ≡ 0x100000000 → (l + q * h) * p ≡ p * l + 0x100000000 * h
     up_total p q l h e = spread_total p q l h ∙ ap (λ m. p * l + m * h) e
@@ -176,28 +176,30 @@ pub moved_down-number : (free : ℕ → Bool) (nodes : List Node) (moved word : 
     → number_of free nodes moved ≡ number_of free nodes word / 2 ^ by + digit v * (2 ^ 32 - 2 ^ (32 - by))
 moved_down-number free nodes moved word by v few long word_long fill is places =
     let below : (place : ℕ) → place + by < 32 → truth free nodes (bit_at moved place) ≡ truth free nodes (bit_at word (place + by)) =
-        λ place within.
-          let tests : nat_lt place (32 - by) ≡ true = grind (arith, nat_tests) in
-          ap (truth free nodes) (places place (omega arith) ∙ ap (λ t. if t then bit_at word (place + by) else fill) tests) in
+    λ place within.
+    let tests : nat_lt place (32 - by) ≡ true = grind (arith, nat_tests) in
+    ap (truth free nodes) (places place (omega arith) ∙ ap (λ t. if t then bit_at word (place + by) else fill) tests) in
     let above : (place : ℕ) → 32 - by ≤ place → place < 32 → truth free nodes (bit_at moved place) ≡ v =
-        λ place from within.
-          let tests : nat_lt place (32 - by) ≡ false = grind (arith, nat_tests) in
-          ap (truth free nodes) (places place within ∙ ap (λ t. if t then bit_at word (place + by) else fill) tests) ∙ is in
+    λ place from within.
+    let tests : nat_lt place (32 - by) ≡ false = grind (arith, nat_tests) in
+    ap (truth free nodes) (places place within ∙ ap (λ t. if t then bit_at word (place + by) else fill) tests) ∙ is in
     let whole : by + (32 - by) ≡ 32 = omega arith in
     let split : number_of free nodes word ≡ low_number free nodes word by + 2 ^ by * low_number free nodes moved (32 - by) =
-        sym (low_number-all free nodes word 32 (omega (arith, word_long))) ∙ ap (low_number free nodes word) (sym whole)
-        ∙ moved_down-low free nodes moved word by long word_long below (32 - by) (omega arith) in
+    sym (low_number-all free nodes word 32 (omega (arith, word_long))) ∙ ap (low_number free nodes word) (sym whole)
+    ∙ moved_down-low free nodes moved word by long word_long below (32 - by) (omega arith) in
     let quotient : number_of free nodes word / 2 ^ by ≡ low_number free nodes moved (32 - by) =
-        ap (λ n. n / 2 ^ by) (split ∙ turned (low_number free nodes word by) (2 ^ by) (low_number free nodes moved (32 - by)))
-        ∙ div-mul-add (low_number free nodes moved (32 - by)) (2 ^ by) (low_number free nodes word by) (low_number_below free nodes word by (omega (arith, word_long))) in
+    ap (λ n. n / 2 ^ by) (split ∙ turned (low_number free nodes word by) (2 ^ by) (low_number free nodes moved (32 - by)))
+    ∙ div-mul-add (low_number free nodes moved (32 - by)) (2 ^ by) (low_number free nodes word by) (low_number_below free nodes word by (omega (arith, word_long))) in
     let filled = filled-number free nodes moved (32 - by) v long (omega arith) above in
     let most : 2 ^ (32 - by) ≤ 2 ^ 32 = power_most (32 - by) (omega arith) in
     ends v (number_of free nodes moved) (2 ^ (32 - by)) (low_number free nodes moved (32 - by)) (number_of free nodes word / 2 ^ by) filled most quotient
   where
     turned : (l p w : ℕ) → l + p * w ≡ w * p + l
     turned l p w = grind arith
+
     ends : (v : Bool) (n p l q : ℕ) → n + digit v * p ≡ l + digit v * 2 ^ 32 → p ≤ 2 ^ 32 → q ≡ l → n ≡ q + digit v * (2 ^ 32 - p)
     ends true n p l q filled most same = omega arith
     ends false n p l q filled most same = omega arith
+
     power_most : (n : ℕ) → n ≤ 32 → 2 ^ n ≤ 2 ^ 32
     power_most n few = pow-le-pow_right {n = 2} (omega arith) few

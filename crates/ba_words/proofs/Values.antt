@@ -1,20 +1,17 @@
 -- The operators of C at the numbers that words stand for.
 
-use Rattle.std.proofs.Common.{◌≡◌, ℕ, zero, suc, ◌+◌, ◌-◌, ◌*◌, ◌/◌, ◌%◌, ◌^◌, ◌<◌, ◌≤◌, Bool, true, false, not, ◌&&◌, ◌||◌, bit_and, bit_or, bit_xor, ◌⊎◌, inl, inr, Option, Some, None, refl, sym, ap, subst, ◌∙◌, arith, nat_lt, ◌==◌, if◌then◌else◌, ℤ, pos, negsuc, neg_ℤ, ◌+ℤ◌, ◌-ℤ◌, ◌*ℤ◌, ◌≤ℤ◌, ◌<ℤ◌, unsigned_abs, int_lt}
-use Rattle.std.specs.Int.{int_rem_euclid, int_div_euclid}
+use Rattle.std.proofs.Common.{◌≡◌, ℕ, suc, ◌+◌, ◌-◌, ◌*◌, ◌/◌, ◌%◌, ◌^◌, ◌<◌, ◌≤◌, Bool, true, false, not, ◌&&◌, ◌||◌, bit_and, bit_or, bit_xor, inl, inr, Some, refl, sym, ap, subst, ◌∙◌, arith, nat_lt, ◌==◌, ℤ, pos, negsuc, neg_ℤ, ◌+ℤ◌, ◌-ℤ◌, ◌*ℤ◌, unsigned_abs, int_lt}
+use Rattle.std.specs.Int.{int_div_euclid}
 use Rattle.std.specs.Ordering.{int_eq}
 use Rattle.std.proofs.lemmas.Int.{ints}
 use Rattle.std.proofs.lemmas.Bool.{cases_lt, eqb-true}
 use Rattle.std.proofs.lemmas.Nat.{div-add-mod', mod_below, div-mul-add, div_below, pow-add, pow_pos, mul-le}
 use Rattle.std.proofs.Math.Nat.{add-mul, mul_comm}
 use Rattle.std.proofs.lemmas.Bool.Decides.{nat_tests, Decides-int_eq}
-use Rattle.ba_tree.specs.declared.numbers.CType.{CType}
-use Rattle.ba_tree.specs.declared.numbers.CType.TheVariants.{I8, U8, I16, U16, I32, U32}
-use Rattle.ba_tree.specs.declared.numbers.BinOp.{BinOp}
+use Rattle.ba_tree.specs.declared.numbers.CType.TheVariants.{I32, U32}
 use Rattle.ba_tree.specs.declared.numbers.BinOp.TheVariants.{Add, Sub, Shl, Shr, Lt, Eq, And, Xor, Or}
-use Rattle.ba_tree.specs.declared.numbers.UnOp.{UnOp}
 use Rattle.ba_tree.specs.declared.numbers.UnOp.TheVariants.{Neg, Flip, IsZero}
-use Rattle.ba_tree.specs.Numbers.{IsIn, IsCongruent, converted, width_of, low_word, count_of, value_of, value_of_one, truth as number_of_truth}
+use Rattle.ba_tree.specs.Numbers.{IsIn, IsCongruent, converted, low_word, count_of, value_of, value_of_one, truth as number_of_truth}
 use Rattle.ba_tree.proofs.Conversions.{converted_in_range, converted_congruent, converted_only, rem_only, truth_converted}
 use Rattle.ba_words.specs.Words.{word_type, digit, shifted_down}
 
@@ -69,7 +66,7 @@ add_value signed m n =
     let first = read_congruent signed m in
     let second = read_congruent signed n in
     ap Some (read-same signed (read signed m +ℤ read signed n) (pos ((m + n) % 2 ^ 32))
-      record { turns = first.turns +ℤ second.turns +ℤ pos ((m + n) / 0x100000000); apart = add_apart (read signed m) (read signed n) first.turns second.turns m n first.apart second.apart })
+    record { turns = first.turns +ℤ second.turns +ℤ pos ((m + n) / 0x100000000); apart = add_apart (read signed m) (read signed n) first.turns second.turns m n first.apart second.apart })
 
 sub_apart : (x y k j : ℤ) (m n : ℕ) → n < 0x100000000 → x ≡ pos m +ℤ k *ℤ pos 0x100000000 → y ≡ pos n +ℤ j *ℤ pos 0x100000000 → x -ℤ y ≡ pos ((m + (0x100000000 - n)) % 0x100000000) +ℤ (k -ℤ j +ℤ pos ((m + (0x100000000 - n)) / 0x100000000) -ℤ pos 1) *ℤ pos 0x100000000
 sub_apart x y k j m n small e f = omega (arith, ints)
@@ -80,7 +77,7 @@ sub_value signed m n small =
     let first = read_congruent signed m in
     let second = read_congruent signed n in
     ap Some (read-same signed (read signed m -ℤ read signed n) (pos ((m + (2 ^ 32 - n)) % 2 ^ 32))
-      record { turns = first.turns -ℤ second.turns +ℤ pos ((m + (0x100000000 - n)) / 0x100000000) -ℤ pos 1; apart = sub_apart (read signed m) (read signed n) first.turns second.turns m n small first.apart second.apart })
+    record { turns = first.turns -ℤ second.turns +ℤ pos ((m + (0x100000000 - n)) / 0x100000000) -ℤ pos 1; apart = sub_apart (read signed m) (read signed n) first.turns second.turns m n small first.apart second.apart })
 
 neg_apart : (y j : ℤ) (n : ℕ) → n < 0x100000000 → y ≡ pos n +ℤ j *ℤ pos 0x100000000 → neg_ℤ y ≡ pos ((0x100000000 - n) % 0x100000000) +ℤ (neg_ℤ j +ℤ pos ((0x100000000 - n) / 0x100000000) -ℤ pos 1) *ℤ pos 0x100000000
 neg_apart y j n small f = omega (arith, ints)
@@ -90,7 +87,7 @@ unfolding value_of_one
 neg_value signed n small =
     let second = read_congruent signed n in
     read-same signed (neg_ℤ (read signed n)) (pos ((2 ^ 32 - n) % 2 ^ 32))
-      record { turns = neg_ℤ second.turns +ℤ pos ((0x100000000 - n) / 0x100000000) -ℤ pos 1; apart = neg_apart (read signed n) second.turns n small second.apart }
+    record { turns = neg_ℤ second.turns +ℤ pos ((0x100000000 - n) / 0x100000000) -ℤ pos 1; apart = neg_apart (read signed n) second.turns n small second.apart }
 
 flip_apart : (y j : ℤ) (n r : ℕ) → r + n + 1 ≡ 0x100000000 → y ≡ pos n +ℤ j *ℤ pos 0x100000000 → neg_ℤ y -ℤ pos 1 ≡ pos r +ℤ (neg_ℤ j -ℤ pos 1) *ℤ pos 0x100000000
 flip_apart y j n r whole f = omega (arith, ints)
@@ -100,7 +97,7 @@ unfolding value_of_one
 flip_value signed n r whole =
     let second = read_congruent signed n in
     read-same signed (neg_ℤ (read signed n) -ℤ pos 1) (pos r)
-      record { turns = neg_ℤ second.turns -ℤ pos 1; apart = flip_apart (read signed n) second.turns n r whole second.apart }
+    record { turns = neg_ℤ second.turns -ℤ pos 1; apart = flip_apart (read signed n) second.turns n r whole second.apart }
 
 -- ---- operators on each place alone
 
@@ -182,17 +179,17 @@ spread a b c p e = sym (add-mul a b p) ∙ ap (λ x. x * p) e
 shl_congruent : (signed : Bool) (m p : ℕ) → m < 2 ^ 32 → IsCongruent 0x100000000 (read signed m *ℤ pos p) (pos ((m * p) % 0x100000000))
 shl_congruent false m p small = record {
   turns = pos ((m * p) / 0x100000000);
-  apart = ap (λ x. x *ℤ pos p) (read_unsigned m small) ∙ omega (arith, ints)
+  apart = ap (λ x. x *ℤ pos p) (read_unsigned m small) ∙ omega (arith, ints);
 }
 shl_congruent true m p small = elim (cases_lt m 0x80000000) [
-    inl below ↦ record { turns = pos ((m * p) / 0x100000000); apart = ap (λ x. x *ℤ pos p) (read_low m below) ∙ omega (arith, ints) }
+  | inl below ↦ record { turns = pos ((m * p) / 0x100000000); apart = ap (λ x. x *ℤ pos p) (read_low m below) ∙ omega (arith, ints) }
   | inr above ↦ record {
-      turns = pos ((m * p) / 0x100000000) -ℤ pos p;
-      apart =
+    turns = pos ((m * p) / 0x100000000) -ℤ pos p;
+    apart =
         let split : suc (0xffffffff - m) * p + m * p ≡ 0x100000000 * p = spread (suc (0xffffffff - m)) m 0x100000000 p (omega arith) in
-        ap (λ x. x *ℤ pos p) (read_high m above small) ∙ omega (arith, ints)
-    }
-  ]
+        ap (λ x. x *ℤ pos p) (read_high m above small) ∙ omega (arith, ints);
+  }
+]
 
 pub shl_value : (signed counted : Bool) (m n : ℕ) → m < 2 ^ 32 → n < 2 ^ 32 → value_of Shl (word_type signed) (read signed m) (read counted n) ≡ Some (read signed ((m * 2 ^ (n % 32)) % 2 ^ 32))
 unfolding value_of
@@ -217,7 +214,7 @@ complement-div p q m positive whole small =
     let next : (m / p + 1) * p ≡ m / p * p + p = spread_one (m / p) p in
     let split : (q - 1 - m / p) * p + (p - 1 - m % p) ≡ 0xffffffff - m = omega arith in
     let quotient : (0xffffffff - m) / p ≡ q - 1 - m / p =
-        ap (λ x. x / p) (sym split) ∙ div-mul-add (q - 1 - m / p) p (p - 1 - m % p) (omega arith) in
+    ap (λ x. x / p) (sym split) ∙ div-mul-add (q - 1 - m / p) p (p - 1 - m % p) (omega arith) in
     omega arith
   where
     spread_one : (k p : ℕ) → (k + 1) * p ≡ k * p + p
@@ -234,7 +231,7 @@ unfolding value_of
 shr_set counted m n above m_small n_small =
     let few : n % 32 < 32 = mod_below n 32 (omega arith) in
     let quotient : (0xffffffff - m) / 2 ^ (n % 32) + m / 2 ^ (n % 32) + 1 ≡ 2 ^ (32 - n % 32) =
-        complement-div (2 ^ (n % 32)) (2 ^ (32 - n % 32)) m (pow_pos (n % 32)) (powers (n % 32) (omega arith)) m_small in
+    complement-div (2 ^ (n % 32)) (2 ^ (32 - n % 32)) m (pow_pos (n % 32)) (powers (n % 32) (omega arith)) m_small in
     let most : 2 ^ (32 - n % 32) ≤ 0x100000000 = subst (λ x. 2 ^ (32 - n % 32) ≤ x) (powers (n % 32) (omega arith)) (le-mul_of_pos_right' (2 ^ (32 - n % 32)) (2 ^ (n % 32)) (pow_pos (n % 32))) in
     ap (λ c. Some (converted I32 (int_div_euclid (read true m) (pos (2 ^ c))))) (count-read counted n n_small)
     ∙ ap (λ z. Some (converted I32 (int_div_euclid z (pos (2 ^ (n % 32)))))) (read_high m above m_small)
@@ -242,7 +239,6 @@ shr_set counted m n above m_small n_small =
   where
     le-mul_of_pos_right' : (a b : ℕ) → 0 < b → a ≤ a * b
     le-mul_of_pos_right' a b positive = omega (arith, mul-le a 1 a b (omega arith) positive)
-
 
 plain_down : (m c : ℕ) → m / 2 ^ c ≡ shifted_down m false c
 plain_down m c = omega arith

@@ -1,11 +1,11 @@
 -- Words of bits as numbers, and as numbers of C.
 
-use Rattle.std.specs.Prelude.{◌≡◌, ℕ, ◌+◌, ◌-◌, ◌*◌, ◌/◌, ◌^◌, ◌<◌, ◌≤◌, Bool, true, false, not, List, [], ◌∷◌, length, map, take, Option, Some, slice_index_or, if◌then◌else◌, ℤ, pos}
+use Rattle.std.specs.Prelude.{◌≡◌, ℕ, ◌+◌, ◌-◌, ◌*◌, ◌/◌, ◌^◌, Bool, true, false, not, List, [], ◌∷◌, length, map, take, Some, slice_index_or, ℤ, pos}
 use Rattle.ba_nodes.specs.declared.Bit.{Bit}
 use Rattle.ba_nodes.specs.declared.Node.{Node}
-use Rattle.ba_nodes.specs.Gates.{bool_xor, truth, constant_bit, IsBitOf}
+use Rattle.ba_nodes.specs.Gates.{truth, constant_bit, IsBitOf}
 use Rattle.ba_tree.specs.declared.numbers.CType.{CType}
-use Rattle.ba_tree.specs.declared.numbers.CType.TheVariants.{I8, U8, I16, U16, I32, U32}
+use Rattle.ba_tree.specs.declared.numbers.CType.TheVariants.{I32, U32}
 use Rattle.ba_tree.specs.declared.numbers.BinOp.{BinOp}
 use Rattle.ba_tree.specs.declared.numbers.UnOp.{UnOp}
 use Rattle.ba_tree.specs.declared.numbers.UnOp.TheVariants.{IsZero}

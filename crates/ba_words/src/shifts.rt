@@ -57,7 +57,11 @@ fn sign_of(a: &Word, signed: bool) -> Bit
     ensures bit { result ≡ (if signed then bit_at a.now 31 else constant_bit false) }
     ensures value { (nodes : List Node) (free : ℕ → Bool) → truth free nodes result ≡ (signed && truth free nodes (bit_at a.now 31)) }
 {
-    if signed { a[31] } else { Nodes::constant(false) }
+    if signed {
+        a[31]
+    } else {
+        Nodes::constant(false)
+    }
 }
 
 /// The bits `by` places higher, and false below them.
@@ -68,7 +72,11 @@ fn moved_up(word: &Word, by: usize) -> Word
 {
     let mut moved = *word;
     for i in 0..32 {
-        moved[i] = if i < by { Nodes::constant(false) } else { word[i - by] };
+        moved[i] = if i < by {
+            Nodes::constant(false)
+        } else {
+            word[i - by]
+        };
     }
     moved
 }

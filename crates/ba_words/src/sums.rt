@@ -54,16 +54,19 @@ pub fn neg(nodes: &mut Nodes, a: &Word) -> Result<Word, AllocError>
 }
 
 /// The sum of two words and a carry, and the carry out of the highest place, by at most 288 gates.
-pub fn add_with_carry(nodes: &mut Nodes, a: &Word, b: &Word, carry: Bit) -> Result<(Word, Bit), AllocError>
+pub fn add_with_carry(
+    nodes: &mut Nodes,
+    a: &Word,
+    b: &Word,
+    carry: Bit,
+) -> Result<(Word, Bit), AllocError>
     requires first { AreBitsOf nodes.old a.now }
     requires second { AreBitsOf nodes.old b.now }
     requires third { IsBitOf nodes.old carry }
     ensures bits { IfOk result (λ r. (length r.0 ≡ 32) × AreBitsOf nodes.new r.0 × IsBitOf nodes.new r.1) }
-    ensures sum {
-        IfOk result (λ r. (free : ℕ → Bool) →
-            number_of free nodes.new r.0 + 2 ^ 32 * digit (truth free nodes.new r.1)
-            ≡ number_of free nodes.old a.now + number_of free nodes.old b.now + digit (truth free nodes.old carry))
-    }
+    ensures sum { IfOk result (λ r. (free : ℕ → Bool) →
+        number_of free nodes.new r.0 + 2 ^ 32 * digit (truth free nodes.new r.1)
+        ≡ number_of free nodes.old a.now + number_of free nodes.old b.now + digit (truth free nodes.old carry)) }
     ensures extends { Extends nodes.old nodes.new }
     ensures count { gates_in nodes.new ≤ gates_in nodes.old + 288 }
 {

@@ -1,6 +1,5 @@
-use Rattle.std.proofs.Common.{◌≡◌, ℕ, ◌<◌, ◌≤◌, arith}
-use Rattle.ba_nodes.specs.Gates.{opposite}
-use Rattle.ba_words.specs.Words.{bit_at, number_of}
+use Rattle.std.proofs.Common.{arith}
+use Rattle.ba_words.specs.Words.{number_of}
 use Rattle.ba_words.proofs.Shapes.{complement-number}
 use Rattle.ba_words.proofs.Values.{flip_value}
 use Rattle.ba_words.proofs.bitwise.flip.Goals as goal
@@ -12,4 +11,4 @@ returns-clause-number c nodes free =
 pub returns-clause-value : goal.returns-clause-value
 returns-clause-value c nodes signed free =
     flip_value signed (number_of free nodes c.args.a.now) (number_of free nodes c.loop-i.word)
-      (complement-number free nodes c.loop-i.word c.args.a.now c.loop-i.invariant.long c.told-a (λ place within. c.loop-i.invariant.places place (omega arith)))
+    (complement-number free nodes c.loop-i.word c.args.a.now c.loop-i.invariant.long c.told-a (λ place within. c.loop-i.invariant.places place (omega arith)))

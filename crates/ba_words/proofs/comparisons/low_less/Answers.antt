@@ -1,9 +1,6 @@
-use Rattle.std.proofs.Common.{◌≡◌, ℕ, ◌<◌, ◌≤◌, ◌==◌, ◌&&◌, ◌||◌, not, true, nat_lt, length, refl, sym, ap, ◌∙◌, arith}
-use Rattle.ba_nodes.specs.Gates.{bool_xor, truth}
+use Rattle.std.proofs.Common.{◌&&◌, ◌||◌, not, nat_lt, arith}
 use Rattle.ba_nodes.proofs.Truths.{Extends-through, Extends_refl}
-use Rattle.ba_words.specs.Words.{bit_at, number_of, low_number}
-use Rattle.ba_words.proofs.Circuits.{compared-more, compared-first, compared-all, less_step, HasValue-same, number_small}
-use Rattle.ba_words.proofs.Values.{read, equal_value, test_value}
+use Rattle.ba_words.proofs.Circuits.{compared-more, less_step}
 use Rattle.ba_words.proofs.comparisons.low_less.Goals as goal
 
 pub loop-i-preserved : goal.loop-i-preserved
@@ -11,12 +8,12 @@ loop-i-preserved c = record {
   extends = Extends-through c.args.nodes.now c.loop-i.nodes c.borrow.new.nodes c.loop-i.invariant.extends c.borrow.ensures.extends;
   value = compared-more (λ t x y. (not x && y) || (not (x && not y) && t)) (λ m n. nat_lt m n) less_step c.args.nodes.now c.loop-i.nodes c.borrow.new.nodes c.args.a.now c.args.b.now c.loop-i.i c.loop-i.below c.in_ok-below.below
       (omega arith) c.told-a c.told-b c.requires.first c.requires.second c.loop-i.invariant.extends c.loop-i.invariant.value c.in_ok-below.ensures.value;
-  count = omega arith
+  count = omega arith;
 }
 
 pub loop-i-init : goal.loop-i-init
 loop-i-init c = record {
   extends = Extends_refl c.args.nodes.now;
   value = c.constant-below.ensures.value c.args.nodes.now;
-  count = omega arith
+  count = omega arith;
 }

@@ -1,4 +1,4 @@
-use Rattle.std.proofs.Common.{◌≡◌, ℕ, Bool, ◌&&◌, sym, ap, ◌∙◌}
+use Rattle.std.proofs.Common.{◌&&◌, sym, ap, ◌∙◌}
 use Rattle.ba_nodes.specs.Gates.{truth}
 use Rattle.ba_words.specs.Words.{bit_at}
 use Rattle.ba_words.proofs.shifts.sign_of.Goals as goal

@@ -1,7 +1,5 @@
-use Rattle.std.proofs.Common.{◌≡◌, ℕ, ◌<◌, length, arith}
-use Rattle.ba_nodes.specs.Gates.{Extends}
+use Rattle.std.proofs.Common.{◌<◌, length, arith}
 use Rattle.ba_nodes.proofs.Truths.{Extends-through}
-use Rattle.ba_words.specs.Words.{AddUp}
 use Rattle.ba_words.proofs.Places.{AddUp-more}
 use Rattle.ba_words.proofs.sums.low_sums.Goals as goal
 
@@ -13,6 +11,6 @@ loop-i-preserved c =
     record {
       extends = Extends-through c.args.nodes.now c.loop-i.nodes c.full_adder.new.nodes c.loop-i.invariant.extends c.full_adder.ensures.extends;
       sums = AddUp-more c.args.nodes.now c.loop-i.nodes c.full_adder.new.nodes c.args.a.now c.args.b.now c.args.carry c.loop-i.sums c.loop-i.carried c.loop-i.i c.in_ok-sum.sum c.in_ok-sum.next
-        small in_a in_b c.requires.first c.requires.second c.loop-i.invariant.extends c.full_adder.ensures.extends c.loop-i.invariant.sums c.in_ok-sum.ensures.sum c.in_ok-sum.ensures.carry;
-      count = omega arith
+          small in_a in_b c.requires.first c.requires.second c.loop-i.invariant.extends c.full_adder.ensures.extends c.loop-i.invariant.sums c.in_ok-sum.ensures.sum c.in_ok-sum.ensures.carry;
+      count = omega arith;
     }

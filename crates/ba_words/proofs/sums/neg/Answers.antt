@@ -8,6 +8,6 @@ sum-requires-clause-first c = are_bits-replicate c.args.nodes.now 32 c.constant-
 pub returns-clause-value : goal.returns-clause-value
 returns-clause-value c =
     on_ok c.sum.result _ _
-      (λ word has. negated c.args.nodes.now c.sum.new.nodes c.args.a.now c.args.a.now word c.constant.result c.flip-complement.result c.constant-zero.result c.told-a
-        (c.flip-complement.ensures.number c.args.nodes.now) (c.constant-zero.ensures.value c.args.nodes.now) (c.constant.ensures.value c.args.nodes.now) has)
-      c.sum.ensures.number
+    (λ word has. negated c.args.nodes.now c.sum.new.nodes c.args.a.now c.args.a.now word c.constant.result c.flip-complement.result c.constant-zero.result c.told-a
+    (c.flip-complement.ensures.number c.args.nodes.now) (c.constant-zero.ensures.value c.args.nodes.now) (c.constant.ensures.value c.args.nodes.now) has)
+    c.sum.ensures.number
