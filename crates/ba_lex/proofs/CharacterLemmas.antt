@@ -1,5 +1,5 @@
 -- The value of a byte as a signed char.
-use Rattle.std.proofs.Common.{◌≡◌, ℕ, ◌+◌, ◌-◌, ◌*◌, ◌%◌, ◌<◌, ◌≤◌, pos, neg_ℤ, ◌-ℤ◌, ◌+ℤ◌, arith, ap, ◌∙◌, refl}
+use Rattle.std.proofs.Common.{◌≡◌, ℕ, ◌+◌, ◌-◌, ◌%◌, ◌<◌, ◌≤◌, pos, ◌-ℤ◌, arith, ap, ◌∙◌}
 use Rattle.std.proofs.lemmas.Int.{ints}
 use Rattle.ba_tree.specs.Numbers.{converted}
 use Rattle.ba_tree.specs.declared.numbers.CType.TheVariants.{I8}

@@ -7,7 +7,6 @@ use Rattle.ba_lex.specs.Constants.{number_kind, character_kind}
 use Rattle.ba_lex.specs.Pieces.{first_piece}
 use Rattle.ba_lex.specs.Lines.{tokens_of}
 use Rattle.ba_lex.specs.declared.error.LexError.TheVariants as error
-use Rattle.ba_lex.specs.declared.token.Keyword.TheVariants as keyword
 use Rattle.ba_lex.specs.declared.token.Punct.TheVariants as punct
 use Rattle.ba_lex.specs.declared.token.Token.{Token}
 use Rattle.ba_lex.specs.declared.token.TokenKind.{TokenKind}

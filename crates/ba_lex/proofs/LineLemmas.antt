@@ -1,5 +1,5 @@
 -- One turn of the loops over lines, and the answer that a fault leaves.
-use Rattle.std.proofs.Common.{◌≡◌, ℕ, zero, suc, ◌+◌, ◌-◌, ◌<◌, ◌≤◌, Bool, true, false, cond, List, [], ◌∷◌, ◌++◌, map, length, Option, None, Some, Result, Ok, Err, refl, sym, ap, ◌∙◌, arith, append_assoc, append-nil, ◌⊎◌, inl, inr, take, drop, get_or}
+use Rattle.std.proofs.Common.{◌≡◌, ℕ, zero, suc, ◌+◌, ◌-◌, ◌<◌, ◌≤◌, Bool, true, false, cond, List, [], ◌∷◌, ◌++◌, length, Option, None, Some, Result, Ok, Err, refl, sym, ap, ◌∙◌, arith, append_assoc, append-nil, ◌⊎◌, inl, inr, take, drop, get_or}
 use Rattle.std.specs.List.{list_any}
 use Rattle.std.specs.Result.{IfErr}
 use Rattle.std.proofs.lemmas.Bool.{or_parts}
@@ -8,7 +8,7 @@ use Rattle.std.specs.Prelude.{slice_get}
 use Rattle.std.proofs.lemmas.Option.{slice_get_past}
 use Rattle.ba_tree.specs.declared.ids.At.{At}
 use Rattle.ba_lex.specs.Storage.{reading_so_far}
-use Rattle.ba_lex.specs.Lines.{Table, Reading, only_tokens, only_fault, nothing, sequence, sequence_after, reading_of, line_reading, tokens_at, replacement, tokens_with_macros, reading_with_macros, answer, or_fault, or_too_many, Fails, max_tokens, begins_directive, is_hash, is_line_end, with_first, with_table, directive, reading, lines_of, Gives}
+use Rattle.ba_lex.specs.Lines.{Table, Reading, only_tokens, nothing, sequence, sequence_after, reading_of, line_reading, tokens_at, replacement, tokens_with_macros, reading_with_macros, answer, or_fault, or_too_many, Fails, max_tokens, begins_directive, is_hash, is_line_end, with_first, with_table, directive, reading, lines_of, Gives}
 use Rattle.ba_lex.specs.declared.error.LexError.{LexError}
 use Rattle.ba_lex.specs.declared.error.LexError.TheVariants as error
 use Rattle.ba_lex.specs.declared.piece.Form.{Form}

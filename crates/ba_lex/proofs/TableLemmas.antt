@@ -1,5 +1,5 @@
 -- The table of macros against the map and the set that hold it.
-use Rattle.std.proofs.Common.{◌≡◌, ℕ, Bool, true, false, cond, ◌||◌, List, [], ◌∷◌, ◌++◌, map, Option, None, Some, refl, sym, ap, ◌∙◌, if◌then◌else◌}
+use Rattle.std.proofs.Common.{◌≡◌, ℕ, Bool, true, false, cond, ◌||◌, List, [], ◌∷◌, ◌++◌, Some, refl, ap, ◌∙◌, if◌then◌else◌}
 use Rattle.std.proofs.Math.Bool.{or-false}
 use Rattle.std.proofs.lemmas.List.{map-append}
 use Rattle.std.proofs.lemmas.List.Folds.{list_any-append}
@@ -8,7 +8,7 @@ use Rattle.std.specs.List.{list_any}
 use Rattle.std.specs.Map.{lookup}
 use Rattle.std.specs.Str.{bytes_eq}
 use Rattle.indexmap.specs.IndexSet.{insert_key}
-use Rattle.ba_lex.specs.Lines.{Table, is_in_body, body_of}
+use Rattle.ba_lex.specs.Lines.{Table, is_in_body}
 use Rattle.ba_lex.specs.Storage.{Key, table_of, is_among, is_mentioned}
 use Rattle.ba_lex.specs.declared.token.TokenKind.{TokenKind}
 

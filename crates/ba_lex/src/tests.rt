@@ -69,7 +69,7 @@ fn answer_text(alloc: Global, answer: &Result<Vec<Token>, LexError>) -> Result<S
     }
 }
 
-const ROWS: [(&str, &str); 174] = [
+const WORKED: [(&str, &str); 8] = [
     ("a+++b", "a@1:1 Increment@1:2 Plus@1:4 b@1:5"),
     ("#define A B\n#define B 1", "MacroOrder 2:9"),
     ("4294967296", "BadToken 1:1"),
@@ -81,6 +81,9 @@ const ROWS: [(&str, &str); 174] = [
     ),
     ("", ""),
     ("\n\n", ""),
+];
+
+const WORDS: [(&str, &str); 2] = [
     (
         "char\nshort\nint\nlong\nsigned\nunsigned\nvoid\nconst\nstatic\nif\nelse\nwhile\ndo\nfor\nbreak\ncontinue\nreturn\nassert\nprintf",
         "Char@1:1 Short@2:1 Int@3:1 Long@4:1 Signed@5:1 Unsigned@6:1 Void@7:1 Const@8:1 Static@9:1 If@10:1 Else@11:1 While@12:1 Do@13:1 For@14:1 Break@15:1 Continue@16:1 Return@17:1 Assert@18:1 Printf@19:1",
@@ -89,6 +92,9 @@ const ROWS: [(&str, &str); 174] = [
         "Char chars _char char1 If",
         "Char@1:1 chars@1:6 _char@1:12 char1@1:18 If@1:24",
     ),
+];
+
+const REFUSED: [(&str, &str); 16] = [
     ("x auto; y", "NotInProfile 1:3"),
     ("x case; y", "NotInProfile 1:3"),
     ("x default; y", "NotInProfile 1:3"),
@@ -105,6 +111,9 @@ const ROWS: [(&str, &str); 174] = [
     ("x union; y", "NotInProfile 1:3"),
     ("x volatile; y", "NotInProfile 1:3"),
     ("autos Auto _float", "autos@1:1 Auto@1:7 _float@1:12"),
+];
+
+const PUNCTUATORS: [(&str, &str); 8] = [
     (
         "{ } ( ) [ ] ; , ? : ~ ! + - * / % & | ^ = < > .",
         "OpenBrace@1:1 CloseBrace@1:3 OpenParenthesis@1:5 CloseParenthesis@1:7 OpenBracket@1:9 CloseBracket@1:11 Semicolon@1:13 Comma@1:15 Question@1:17 Colon@1:19 Tilde@1:21 Exclamation@1:23 Plus@1:25 Minus@1:27 Star@1:29 Slash@1:31 Percent@1:33 Ampersand@1:35 Bar@1:37 Caret@1:39 Assign@1:41 Less@1:43 Greater@1:45 Dot@1:47",
@@ -128,6 +137,9 @@ const ROWS: [(&str, &str); 174] = [
     ("a---b", "a@1:1 Decrement@1:2 Minus@1:4 b@1:5"),
     ("..", "Dot@1:1 Dot@1:2"),
     ("===", "Equal@1:1 Assign@1:3"),
+];
+
+const BLANKS: [(&str, &str); 11] = [
     ("a\x0b\x0c\r\t b", "a@1:1 b@1:7"),
     ("a\n  b\n\n c", "a@1:1 b@2:3 c@4:2"),
     ("x /* y\nz */ w", "x@1:1 w@2:6"),
@@ -139,6 +151,9 @@ const ROWS: [(&str, &str); 174] = [
     ("/*/", "BadToken 1:1"),
     ("x /* y\n *", "BadToken 1:3"),
     ("a*/b", "a@1:1 Star@1:2 Slash@1:3 b@1:4"),
+];
+
+const BYTES: [(&str, &str); 7] = [
     ("a @", "BadByte 1:3"),
     ("a\n$", "BadByte 2:1"),
     ("a\\\nb", "BadByte 1:2"),
@@ -146,6 +161,9 @@ const ROWS: [(&str, &str); 174] = [
     ("`", "BadByte 1:1"),
     ("a \x00", "BadByte 1:3"),
     ("\x7f", "BadByte 1:1"),
+];
+
+const NUMBERS: [(&str, &str); 25] = [
     (
         "0 7 42 017 0x1F 0XaB",
         "0i@1:1 7i@1:3 42i@1:5 15i@1:8 31i@1:12 171i@1:17",
@@ -186,6 +204,9 @@ const ROWS: [(&str, &str); 174] = [
     (".5", "Dot@1:1 5i@1:2"),
     ("1.", "BadToken 1:1"),
     ("-1", "Minus@1:1 1i@1:2"),
+];
+
+const CHARACTERS: [(&str, &str); 24] = [
     ("'a' ' ' '~' '\"'", "97i@1:1 32i@1:5 126i@1:9 34i@1:13"),
     (
         "'\\n' '\\t' '\\r' '\\a' '\\b' '\\f' '\\v'",
@@ -222,6 +243,9 @@ const ROWS: [(&str, &str); 174] = [
     ("x '\\c'", "BadToken 1:3"),
     ("x '\\xg'", "BadToken 1:3"),
     ("x '\\'", "BadToken 1:3"),
+];
+
+const STRINGS: [(&str, &str); 7] = [
     (
         "\"\" \"a\" \"a\\\"b\" \"\\\\\"",
         "\"\"@1:1 \"\"@1:4 \"\"@1:8 \"\"@1:15",
@@ -232,6 +256,9 @@ const ROWS: [(&str, &str); 174] = [
     ("x \"a", "BadToken 1:3"),
     ("x \"a\\\"", "BadToken 1:3"),
     ("x \"a\\\n\"", "BadToken 1:3"),
+];
+
+const DIRECTIVES_FORMS: [(&str, &str); 37] = [
     ("#", ""),
     ("  # // nothing\n#/* */", ""),
     ("x # y", "BadToken 1:3"),
@@ -278,6 +305,9 @@ const ROWS: [(&str, &str); 174] = [
     ("#define A(x) 'y", "BadToken 1:14"),
     ("#define", "BadDirective 1:1"),
     ("#define if 1", "BadDirective 1:1"),
+];
+
+const MACROS: [(&str, &str); 29] = [
     ("#define printf", "BadDirective 1:1"),
     ("#define 1 2", "BadDirective 1:1"),
     ("#define \"a\"", "BadDirective 1:1"),
@@ -360,14 +390,86 @@ fn repeated(
     Ok(text)
 }
 
-#[test]
-fn gives_the_tokens_or_the_first_error(rt: HostRuntime) -> Result<(), Fail> {
-    for (text, want) in ROWS.iter().chain(PROGRAMS.iter()) {
+/// Compares the answer to each text with the one that is wanted.
+fn compare(rt: &impl Abort, alloc: Global, rows: &[(&str, &str)]) -> Result<(), AllocError> {
+    for (text, want) in rows {
         assert!(rt; text.len() <= MAX_TEXT);
-        let answer = tokens(rt.alloc(), text.as_bytes());
-        let found = answer_text(rt.alloc(), &answer)?;
+        let answer = tokens(alloc, text.as_bytes());
+        let found = answer_text(alloc, &answer)?;
         assert_eq!(rt; found.as_str(), *want, "at {text:?}");
     }
+    Ok(())
+}
+
+#[test]
+fn gives_worked_texts(rt: HostRuntime) -> Result<(), Fail> {
+    compare(&rt, rt.alloc(), WORKED.as_slice())?;
+    Ok(())
+}
+
+#[test]
+fn tells_words_apart(rt: HostRuntime) -> Result<(), Fail> {
+    compare(&rt, rt.alloc(), WORDS.as_slice())?;
+    Ok(())
+}
+
+#[test]
+fn refuses_words(rt: HostRuntime) -> Result<(), Fail> {
+    compare(&rt, rt.alloc(), REFUSED.as_slice())?;
+    Ok(())
+}
+
+#[test]
+fn takes_the_longest_punctuator(rt: HostRuntime) -> Result<(), Fail> {
+    compare(&rt, rt.alloc(), PUNCTUATORS.as_slice())?;
+    Ok(())
+}
+
+#[test]
+fn counts_lines_and_columns(rt: HostRuntime) -> Result<(), Fail> {
+    compare(&rt, rt.alloc(), BLANKS.as_slice())?;
+    Ok(())
+}
+
+#[test]
+fn refuses_bytes(rt: HostRuntime) -> Result<(), Fail> {
+    compare(&rt, rt.alloc(), BYTES.as_slice())?;
+    Ok(())
+}
+
+#[test]
+fn reads_numbers(rt: HostRuntime) -> Result<(), Fail> {
+    compare(&rt, rt.alloc(), NUMBERS.as_slice())?;
+    Ok(())
+}
+
+#[test]
+fn reads_characters(rt: HostRuntime) -> Result<(), Fail> {
+    compare(&rt, rt.alloc(), CHARACTERS.as_slice())?;
+    Ok(())
+}
+
+#[test]
+fn reads_strings(rt: HostRuntime) -> Result<(), Fail> {
+    compare(&rt, rt.alloc(), STRINGS.as_slice())?;
+    Ok(())
+}
+
+#[test]
+fn obeys_directives(rt: HostRuntime) -> Result<(), Fail> {
+    compare(&rt, rt.alloc(), DIRECTIVES_FORMS.as_slice())?;
+    Ok(())
+}
+
+#[test]
+fn defines_macros(rt: HostRuntime) -> Result<(), Fail> {
+    compare(&rt, rt.alloc(), MACROS.as_slice())?;
+    Ok(())
+}
+
+#[test]
+fn reads_programs(rt: HostRuntime) -> Result<(), Fail> {
+    compare(&rt, rt.alloc(), PROGRAMS.as_slice())?;
     Ok(())
 }
 

@@ -1,4 +1,4 @@
-use Rattle.std.proofs.Common.{◌<◌, ◌≤◌, arith, rules, sym, ◌∙◌}
+use Rattle.std.proofs.Common.{◌<◌, arith, rules}
 use Rattle.std.proofs.lemmas.Int.{ints, to_z-of_z}
 use Rattle.ba_lex.proofs.CharacterLemmas.{converted-small, converted-large}
 use Rattle.ba_lex.proofs.constants.signed_char.Goals as goal

@@ -1,8 +1,8 @@
-use Rattle.std.proofs.Common.{◌≡◌, ◌+◌, ◌<◌, ◌∷◌, List, length, drop, Err, arith, sym, ap, ◌∙◌}
+use Rattle.std.proofs.Common.{◌≡◌, ◌+◌, ◌∷◌, List, length, drop, Err, arith, sym, ap, ◌∙◌}
 use Rattle.std.proofs.lemmas.List.{at_drop_more}
 use Rattle.std.proofs.lemmas.Result.{err_from_is_err_and}
 use Rattle.ba_lex.specs.Storage.{reading_so_far}
-use Rattle.ba_lex.specs.Lines.{answer, replacement, max_tokens, Fails}
+use Rattle.ba_lex.specs.Lines.{answer, Fails}
 use Rattle.ba_lex.specs.declared.piece.Piece.{Piece}
 use Rattle.ba_lex.specs.declared.piece.Form.{Form}
 use Rattle.ba_lex.proofs.LineLemmas.{fails_from, fails_or_memory, reading_so_far-fault, reading_so_far-many}

@@ -1,9 +1,8 @@
-use Rattle.std.proofs.Common.{◌≡◌, ◌+◌, ◌∷◌, false, take, arith, rules, sym, ap, ◌∙◌}
+use Rattle.std.proofs.Common.{◌≡◌, ◌∷◌, false, take, arith, sym, ap, ◌∙◌}
 use Rattle.std.specs.Prelude.{◌==◌}
-use Rattle.std.specs.List.{prefix_len}
 use Rattle.std.proofs.lemmas.Bool.Decides.{nat_tests}
-use Rattle.std.proofs.lemmas.Result.{IfOk-equal, IfOk-weaker}
-use Rattle.ba_lex.specs.Pieces.{is_word_byte, is_number_byte, word_at, number_at, piece_at}
+use Rattle.std.proofs.lemmas.Result.{IfOk-weaker}
+use Rattle.ba_lex.specs.Pieces.{word_at, number_at}
 use Rattle.ba_lex.proofs.CutLemmas.{front_taken, piece_at-letter, piece_at-digit}
 use Rattle.ba_lex.proofs.piece.piece_at.Goals as goal
 

@@ -1,6 +1,6 @@
-use Rattle.std.proofs.Common.{◌≡◌, ◌+◌, ◌<◌, ◌≤◌, ◌++◌, [], length, arith, rules, sym, ap, ◌∙◌, append-nil}
+use Rattle.std.proofs.Common.{◌≡◌, ◌<◌, ◌++◌, length, arith, sym, ap, ◌∙◌, append-nil}
 use Rattle.std.proofs.lemmas.Bool.Decides.{nat_tests}
-use Rattle.ba_lex.specs.Pieces.{cut, pieces_of}
+use Rattle.ba_lex.specs.Pieces.{cut}
 use Rattle.ba_lex.proofs.CutLemmas.{turned_on, stopped, empty_from_length}
 use Rattle.ba_lex.proofs.piece.pieces.Goals as goal
 use Rattle.ba_lex.proofs.piece.pieces.Goals.{else-loop-rest-test, then-loop-rest-test+in_ok-form+in_ok-push_piece+then-not-branch}
