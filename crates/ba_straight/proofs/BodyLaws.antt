@@ -1,7 +1,6 @@
 -- Bodies are read exactly as they are written.
-use Rattle.std.proofs.Common.{◌≡◌, ℕ, zero, suc, ◌+◌, ◌-◌, ◌<◌, ◌≤◌, Bool, true, false, cond, Option, None, Some, List, [], ◌∷◌, ◌++◌, length, get_or, drop, map, sym, ◌∙◌, ap, subst, refl, append_assoc, arith, ◌⊎◌, inl, inr}
-use Rattle.std.proofs.lemmas.List.{length-append, append-nil, drop-drop}
-use Rattle.ba_tree.specs.declared.ids.VarId.{VarId}
+use Rattle.std.proofs.Common.{◌≡◌, ℕ, zero, suc, ◌+◌, ◌<◌, Option, None, Some, List, [], ◌∷◌, ◌++◌, length, drop, sym, ◌∙◌, ap, subst, refl, append_assoc, arith}
+use Rattle.std.proofs.lemmas.List.{length-append, append-nil}
 use Rattle.ba_tree.specs.declared.tree.StmtInfo.{StmtInfo}
 use Rattle.ba_tree.specs.declared.tree.StmtKind.TheVariants as kind
 use Rattle.ba_straight.specs.declared.items.Item.{Item}
@@ -14,7 +13,7 @@ use Rattle.ba_straight.specs.declared.reader.Body.{Body}
 use Rattle.ba_straight.specs.Items.{AreNumbered}
 use Rattle.ba_straight.specs.Reading.{after_mark, declared_name, item_at, added, body_by, body_from}
 use Rattle.ba_straight.specs.Spelling.{item_tokens, body_tokens, AreDistinct, AreDeclared, declared_in, statements_in, place_of}
-use Rattle.ba_straight.proofs.Fronts.{tokens_of, Front, front_tokens, Splits, tokens_front, mark_front, front_mark, front_other}
+use Rattle.ba_straight.proofs.Fronts.{tokens_of, front_tokens, Splits, tokens_front, mark_front, front_mark, front_other}
 use Rattle.ba_straight.proofs.ItemLaws.{Continues, IsItem, IsRead, item_sound, item_complete, item_size, names_after, number_after, AreInts, ints_drop, HasRoom}
 use Rattle.ba_straight.proofs.ReadSteps.{body_from-suc, body_from-zero}
 

@@ -299,7 +299,7 @@ completes-by set false n v e items u choices terms old go h =
     (ap (is_good set items) (sym (ap (λ z. with_value (state_under u terms choices) v z) (operand_under u terms choices e) ∙ set_under u terms choices v (term_of terms e))) ∙ h)
 
 -- a test that was passed
-passes : (set : List ℕ) (items : List Item) (n : StmtId) (s : State) (b : Bool)
+pub passes : (set : List ℕ) (items : List Item) (n : StmtId) (s : State) (b : Bool)
     → is_good_after set items (cond b (Ok next, s) (Err (AssertFails n), s)) ≡ true → (b ≡ true) × (is_good set items s ≡ true)
 passes set items n s true h = (refl, h)
 passes set items n s false h = absurd (bad_end s.choices n h)

@@ -1,5 +1,5 @@
 -- Items are read exactly as they are written.
-use Rattle.std.proofs.Common.{◌≡◌, ℕ, zero, suc, ◌+◌, ◌-◌, ◌<◌, ◌≤◌, Bool, true, false, cond, Option, None, Some, is_some, option_map, List, [], ◌∷◌, ◌++◌, length, get_or, drop, map, sym, ◌∙◌, ap, subst, refl, append_assoc, arith, ◌⊎◌, inl, inr, ℤ, pos, negsuc}
+use Rattle.std.proofs.Common.{◌≡◌, ℕ, zero, suc, ◌+◌, ◌<◌, ◌≤◌, Bool, true, false, cond, Option, None, Some, is_some, option_map, List, [], ◌∷◌, ◌++◌, length, get_or, drop, sym, ◌∙◌, ap, subst, refl, append_assoc, arith, inl, inr, ℤ, pos, negsuc}
 use Rattle.std.proofs.lemmas.List.{length-append, append-nil, drop-drop, get_or_append_left}
 use Rattle.std.proofs.Math.Seq.{get_or-append_seam}
 use Rattle.std.proofs.lemmas.Int.{ints}
@@ -16,9 +16,9 @@ use Rattle.ba_straight.specs.declared.pieces.Token.{Token}
 use Rattle.ba_straight.specs.declared.pieces.Token.TheVariants as token
 use Rattle.ba_straight.specs.declared.pieces.Piece.{Piece}
 use Rattle.ba_straight.specs.Items.{AreNumbered}
-use Rattle.ba_straight.specs.Reading.{after_mark, first_by, named_from, variable_named, variable_in, operand_in, number_in, name_in, declared_at, assigned_at, asserted_at, item_by, item_at, declared_name, name_or_nothing, ◌>>=◌}
+use Rattle.ba_straight.specs.Reading.{after_mark, first_by, variable_named, variable_in, operand_in, number_in, name_in, declared_at, assigned_at, asserted_at, item_by, item_at, declared_name, name_or_nothing, ◌>>=◌}
 use Rattle.ba_straight.specs.Spelling.{name_of, numeral_of, IsWritable, operand_token, item_tokens, Stands, AreDistinct, IsKnown, AreDeclared}
-use Rattle.ba_straight.proofs.Fronts.{tokens_of, Front, front_tokens, front_drop, Splits, tokens_front, mark_front, front_mark, front_other, Reads, by_front, front_by, bound_some, bound, mapped_some, IsNamed, is_named, finds, is_new, new_is, stands_at}
+use Rattle.ba_straight.proofs.Fronts.{tokens_of, Front, front_tokens, front_drop, Splits, tokens_front, mark_front, front_mark, front_other, Reads, by_front, front_by, bound_some, bound, mapped_some, IsNamed, is_named, finds, is_new, new_is}
 
 -- the names so far are the first of all names
 pub record Continues (names final : List (List ℕ)) : Type 0 where

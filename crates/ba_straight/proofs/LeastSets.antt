@@ -1,12 +1,12 @@
 -- The sets of a weight, and why the first weight with a feasible set gives the least sets.
-use Rattle.std.proofs.Common.{◌≡◌, ℕ, zero, suc, ◌+◌, ◌-◌, ◌<◌, ◌≤◌, ◌==◌, nat_lt, nat_le, Bool, true, false, cond, ◌&&◌, Option, None, Some, IsSome, List, [], ◌∷◌, ◌++◌, length, map, sym, ◌∙◌, ap, subst, refl, append_assoc, filter, sum_by, arith, ◌⊎◌, inl, inr, ◌↔◌, IsTrue, Contains, slice_get, unwrap_or}
+use Rattle.std.proofs.Common.{◌≡◌, ℕ, zero, suc, ◌+◌, ◌-◌, ◌<◌, ◌≤◌, ◌==◌, nat_lt, nat_le, Bool, true, false, cond, ◌&&◌, Option, None, Some, IsSome, List, [], ◌∷◌, ◌++◌, length, map, sym, ◌∙◌, ap, subst, refl, append_assoc, filter, arith, ◌⊎◌, inl, inr, ◌↔◌, slice_get, unwrap_or}
 use Rattle.std.specs.List.{list_all}
 use Rattle.std.proofs.lemmas.Grind.{common_steps}
 use Rattle.std.proofs.lemmas.List.Sums.{sum_by-cons}
 use Rattle.std.proofs.lemmas.List.{length-append, append-nil}
 use Rattle.std.proofs.lemmas.Bool.Decides.{Decides-eqb}
 use Rattle.ba_tree.specs.Weights.{is_weight}
-use Rattle.ba_tree.specs.Least.{entry_of, weight_at, AreRelaxableAbove, IsRelaxableSet, weight_of, IsBefore, IsBeforeAll, AreInOrder, IsFeasible, IsLeastSet, AreLeast, Judge}
+use Rattle.ba_tree.specs.Least.{entry_of, weight_at, AreRelaxableAbove, IsRelaxableSet, weight_of, IsBefore, IsBeforeAll, AreInOrder, IsFeasible, AreLeast, Judge}
 use Rattle.ba_tree.proofs.Members.{Has, contains_has, has_contains}
 use Rattle.ba_straight.specs.Sets.{sets_of_weight, sets_with, feasible_sets, NoneBelow, total, AreFirst}
 

@@ -9,6 +9,7 @@ pub mod BodyLaws
 pub mod ParamLaws
 pub mod TextLaws
 pub mod InputLaws
+pub mod Plain
 pub mod Found
 pub mod LeastSets
 pub mod Located

@@ -1,5 +1,5 @@
 -- The sets that are found are the least sets of the program's tree.
-use Rattle.std.proofs.Common.{◌≡◌, ℕ, ◌+◌, Bool, true, Option, List, length, sym, ◌∙◌, ap, subst, Result, Ok, Err, IfOk, IsTrue, ◌↔◌}
+use Rattle.std.proofs.Common.{◌≡◌, ℕ, true, Option, List, sym, ◌∙◌, ap, Result, Ok, Err, IfOk, ◌↔◌}
 use Rattle.std.specs.List.{list_all}
 use Rattle.ba_tree.specs.Weights.{is_weight}
 use Rattle.ba_tree.specs.Least.{AreLeast, judge_of, IsFeasible}

@@ -1,8 +1,7 @@
 -- Parameters are read exactly as they are written.
-use Rattle.std.proofs.Common.{◌≡◌, ℕ, zero, suc, ◌+◌, ◌-◌, ◌<◌, ◌≤◌, Bool, true, false, cond, Option, None, Some, is_some, List, [], ◌∷◌, ◌++◌, length, get_or, drop, map, sym, ◌∙◌, ap, subst, refl, append_assoc, arith, ◌⊎◌, inl, inr}
+use Rattle.std.proofs.Common.{◌≡◌, ℕ, zero, suc, ◌+◌, ◌<◌, ◌≤◌, false, cond, Option, None, Some, is_some, List, [], ◌∷◌, ◌++◌, length, get_or, sym, ◌∙◌, ap, subst, refl, append_assoc, arith}
 use Rattle.std.proofs.lemmas.List.{length-append, append-nil}
 use Rattle.std.proofs.Math.Seq.{get_or-append_seam}
-use Rattle.ba_tree.specs.declared.ids.VarId.{VarId}
 use Rattle.ba_straight.specs.declared.pieces.Mark.TheVariants as mark
 use Rattle.ba_straight.specs.declared.pieces.Token.{Token}
 use Rattle.ba_straight.specs.declared.pieces.Token.TheVariants as token

@@ -1,18 +1,16 @@
 -- The runs of a straight-line program's tree are those of its items.
-use Rattle.std.proofs.Common.{◌≡◌, ℕ, ◌+◌, ◌<◌, zero, suc, ℤ, pos, Bool, true, false, cond, ◌==◌, ◌||◌, Option, None, Some, List, [], ◌∷◌, length, get_or, set, replicate, slice_get, map, sym, ◌∙◌, ap, refl, subst, Result, Ok, Err, ◌↔◌}
+use Rattle.std.proofs.Common.{◌≡◌, ℕ, ◌+◌, zero, suc, ℤ, pos, Bool, true, false, cond, ◌==◌, ◌||◌, Option, None, Some, List, [], ◌∷◌, length, get_or, set, replicate, slice_get, map, sym, ◌∙◌, ap, refl, Ok, Err, ◌↔◌}
 use Rattle.std.specs.List.{list_any}
 use Rattle.std.specs.Ordering.{int_eq}
 use Rattle.ba_tree.specs.Numbers.{value_of, converted, truth}
-use Rattle.ba_tree.specs.State.{State, Act, Ending, Flow, next, then_do, value_at, with_value, in_order, after_part}
-use Rattle.ba_tree.specs.Meaning.{Setting, exec, eval, or_trap, relaxed, take_value, one_value_of, set_to, assert_that, type_of, admits}
-use Rattle.ba_tree.specs.Run.{outcome_of, is_done, run_of, setting_of, end_of, with_input, start_of, main_of, params_in, body_in}
+use Rattle.ba_tree.specs.State.{State, Act, Ending, Flow, next, then_do, value_at, in_order, after_part}
+use Rattle.ba_tree.specs.Meaning.{Setting, exec, eval, or_trap, relaxed, take_value, one_value_of, set_to, assert_that, type_of}
+use Rattle.ba_tree.specs.Run.{outcome_of, is_done, run_of, setting_of, with_input, start_of, main_of, params_in, body_in}
 use Rattle.ba_tree.specs.Least.{stmt_of, judge_of, IsFeasible}
 use Rattle.ba_tree.proofs.Equations.{eval-Const, eval-Var, eval-Binary}
 use Rattle.ba_tree.specs.declared.ids.StmtId.{StmtId}
 use Rattle.ba_tree.specs.declared.ids.VarId.{VarId}
-use Rattle.ba_tree.specs.declared.numbers.BinOp.{BinOp}
 use Rattle.ba_tree.specs.declared.numbers.BinOp.TheVariants.{Eq}
-use Rattle.ba_tree.specs.declared.numbers.CType.{CType}
 use Rattle.ba_tree.specs.declared.numbers.CType.TheVariants.{I32}
 use Rattle.ba_tree.specs.declared.run.Allowed.TheVariants.{Statements}
 use Rattle.ba_tree.specs.declared.run.Bounds.{Bounds}
@@ -30,7 +28,7 @@ use Rattle.std.proofs.lemmas.List.{length-replicate}
 use Rattle.ba_tree.specs.declared.tree.Variable as declared
 use Rattle.ba_tree.specs.declared.tree.Stmt.{Stmt}
 use Rattle.ba_tree.specs.declared.tree.Stmt.TheVariants as stmt
-use Rattle.ba_straight.specs.Items.{number_at, variable_at, operand_at, operand_of, comparison_at, comparison_of, pair_of, assigned, compared, item_of, IsTree, IsMain, AreNumbered, int_variable}
+use Rattle.ba_straight.specs.Items.{number_at, variable_at, operand_at, operand_of, comparison_at, comparison_of, pair_of, assigned, compared, item_of, IsTree, AreNumbered, int_variable}
 use Rattle.ba_straight.specs.Terms.{can_hold, is_relaxed, terms_with, start_terms, with_term}
 use Rattle.ba_straight.specs.declared.items.Operand.{Operand}
 use Rattle.ba_straight.specs.declared.items.Operand.TheVariants.{Number, Variable}
@@ -38,8 +36,8 @@ use Rattle.ba_straight.specs.declared.items.Item.{Item}
 use Rattle.ba_straight.specs.declared.items.Item.TheVariants.{Declare, Assign, Assert}
 use Rattle.ba_straight.specs.declared.items.Straight.{Straight}
 use Rattle.ba_straight.specs.declared.terms.Term.{Term}
-use Rattle.ba_straight.specs.declared.terms.Term.TheVariants.{Known, Unknown}
-use Rattle.ba_straight.proofs.Feasible.{act_of, assign_act, assert_act, operand_in, is_good, state_under, value_under, AreOld, old_set, set_under, Succeeds, succeeds, completes}
+use Rattle.ba_straight.specs.declared.terms.Term.TheVariants.{Known}
+use Rattle.ba_straight.proofs.Feasible.{act_of, assert_act, operand_in, is_good, state_under, value_under, AreOld, old_set, set_under, Succeeds, succeeds, completes}
 
 -- functions that give the same are the same
 same_function : {A B : Type 0} (f g : A → B) → ((x : A) → f x ≡ g x) → f ≡ g
@@ -168,11 +166,11 @@ zeros_under : (u : ℕ → ℤ) (n : ℕ) → replicate n (pos 0) ≡ map (value
 zeros_under u zero = refl
 zeros_under u (suc n) = ap (λ zs. pos 0 ∷ zs) (zeros_under u n)
 
-old_zeros : (low n : ℕ) → AreOld low (replicate n (Known (pos 0)))
+pub old_zeros : (low n : ℕ) → AreOld low (replicate n (Known (pos 0)))
 old_zeros low zero = tt
 old_zeros low (suc n) = (tt, old_zeros low n)
 
-old_start : (low : ℕ) (vs : List VarId) (given : List (List ℤ)) (terms : List Term) → AreOld low terms → AreOld low (terms_with vs given terms)
+pub old_start : (low : ℕ) (vs : List VarId) (given : List (List ℤ)) (terms : List Term) → AreOld low terms → AreOld low (terms_with vs given terms)
 old_start low [] given terms h = h
 old_start low (v ∷ vs) [] terms h = h
 old_start low (v ∷ vs) (zs ∷ given) terms h = old_start low vs given (with_term terms v (Known (get_or zs 0 (pos 0)))) (old_set low terms v.0 (Known (get_or zs 0 (pos 0))) h tt)
@@ -202,7 +200,7 @@ module _ (s : Straight) (p : Program) (tree : IsTree s p) (input : Input) (b : B
   main_is = ap (λ (fs : List Function). slice_get fs p.main.0) tree.functions ∙ ap (λ (m : FnId). slice_get (tree.main ∷ []) m.0) tree.main_is_first
 
   -- the outcome is that of the items
-  run_is : is_done (run_of p input b (Statements (map stmt_of set)) choices) ≡ is_good set s.items (state_under u (terms_of s input) choices)
+  pub run_is : is_done (run_of p input b (Statements (map stmt_of set)) choices) ≡ is_good set s.items (state_under u (terms_of s input) choices)
   unfolding run_of
   run_is = ap (λ inits. end_with inits (main_of p)) tree.inits ∙ ap (end_with []) main_is
       ∙ ap (λ fs. is_done (outcome_of (in_order fs (with_input p tree.main.params input.values (start_of p choices)))))

@@ -1,6 +1,6 @@
 -- A straight-line program is read exactly as it is written.
-use Rattle.std.proofs.Common.{◌≡◌, ℕ, zero, suc, ◌+◌, ◌-◌, ◌<◌, ◌≤◌, nat_le, nat_eq, ◌==◌, not, ◌||◌, MatchOption, Bool, true, false, cond, ◌&&◌, Option, None, Some, List, [], ◌∷◌, ◌++◌, length, take, drop, map, codes, bytes_eq, sym, ◌∙◌, ap, subst, refl, append_assoc, arith}
-use Rattle.std.proofs.lemmas.List.{length-append, length-map, append-nil}
+use Rattle.std.proofs.Common.{◌≡◌, ℕ, zero, suc, ◌+◌, ◌-◌, ◌<◌, ◌≤◌, nat_le, nat_eq, ◌==◌, not, ◌||◌, MatchOption, Bool, true, false, cond, ◌&&◌, Option, None, Some, List, [], ◌∷◌, ◌++◌, length, take, drop, codes, bytes_eq, sym, ◌∙◌, ap, subst, refl, append_assoc, arith}
+use Rattle.std.proofs.lemmas.List.{length-append, length-map}
 use Rattle.std.proofs.lemmas.Grind.{common_steps}
 use Rattle.std.proofs.lemmas.Slice.Eq.{bytes_eq-Decides}
 use Rattle.std.proofs.Math.Seq.{drop-append_seam}
@@ -17,11 +17,10 @@ use Rattle.ba_straight.specs.declared.pieces.Token.{Token}
 use Rattle.ba_straight.specs.declared.pieces.Token.TheVariants as token
 use Rattle.ba_straight.specs.declared.pieces.Piece.{Piece}
 use Rattle.ba_straight.specs.declared.reader.Body.{Body}
-use Rattle.ba_straight.specs.Items.{AreNumbered}
-use Rattle.ba_straight.specs.Reading.{after_mark, first_by, name_in, opened_at, params_or_void, params_at, params_from, closed_at, body_from, body_of, counted, is_small, straight_of, straight_at, ◌>>=◌}
+use Rattle.ba_straight.specs.Reading.{after_mark, first_by, name_in, opened_at, params_or_void, params_at, closed_at, body_from, body_of, counted, is_small, straight_of, straight_at, ◌>>=◌}
 use Rattle.ba_straight.specs.Spelling.{name_of, param_tokens, more_param_tokens, head_tokens, body_tokens, AreDistinct, AreCounted, AreDeclared, declared_in, statements_in, most, IsWritten, IsText}
 use Rattle.ba_straight.proofs.Fronts.{tokens_of, Front, front_tokens, Splits, tokens_front, mark_front, front_mark, front_other, Reads, by_front, front_by, bound_some, bound}
-use Rattle.ba_straight.proofs.ItemLaws.{Continues, name_is, chosen_none, some_is, IsInt, AreInts}
+use Rattle.ba_straight.proofs.ItemLaws.{Continues, name_is, some_is, IsInt, AreInts}
 use Rattle.ba_straight.proofs.BodyLaws.{IsBody, with_items, body_sound, body_complete}
 use Rattle.ba_straight.proofs.ParamLaws.{IsAfter, front_after, after_after, AreParams, params_sound, AreRead, params_complete}
 

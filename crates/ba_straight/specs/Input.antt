@@ -1,6 +1,6 @@
 -- The text of an input: numbers between blanks, one for each parameter.
 
-use Rattle.std.specs.Prelude.{◌≡◌, ℕ, zero, suc, ◌-◌, ◌==◌, ℤ, pos, neg_ℤ, Bool, true, false, cond, not, ◌&&◌, Option, None, Some, List, [], ◌∷◌, ◌++◌, length, take, take_while}
+use Rattle.std.specs.Prelude.{◌≡◌, ℕ, zero, suc, ◌-◌, ◌==◌, ℤ, pos, neg_ℤ, cond, not, Option, None, Some, List, [], ◌∷◌, ◌++◌, length, take, take_while}
 use Rattle.std.specs.List.{list_all}
 use Rattle.ba_tree.specs.Numbers.{is_in}
 use Rattle.ba_tree.specs.declared.numbers.CType.TheVariants.{I32}

@@ -1,11 +1,10 @@
 -- How a straight-line program is written.
 
-use Rattle.std.specs.Prelude.{◌≡◌, ◌⊎◌, ℕ, ◌+◌, ◌<◌, ◌≤◌, ℤ, pos, negsuc, List, [], ◌∷◌, ◌++◌, map, length, drop, flat_map, slice_index_or, codes}
+use Rattle.std.specs.Prelude.{◌≡◌, ◌⊎◌, ℕ, ◌+◌, ◌<◌, ◌≤◌, ℤ, pos, negsuc, List, [], ◌∷◌, ◌++◌, map, length, drop, slice_index_or, codes}
 use Rattle.ba_tree.specs.declared.ids.At.{At}
 use Rattle.ba_tree.specs.declared.ids.VarId.{VarId}
 use Rattle.ba_tree.specs.declared.tree.Program.{Program}
 use Rattle.ba_tree.specs.declared.tree.StmtInfo.{StmtInfo}
-use Rattle.ba_tree.specs.declared.tree.StmtKind.{StmtKind}
 use Rattle.ba_tree.specs.declared.tree.StmtKind.TheVariants as kind
 use Rattle.ba_straight.specs.declared.items.Operand.{Operand}
 use Rattle.ba_straight.specs.declared.items.Operand.TheVariants as operand

@@ -1,6 +1,6 @@
 -- The text of a straight-line program, cut into blanks and pieces, each piece the longest that begins at its place.
 
-use Rattle.std.specs.Prelude.{◌≡◌, ℕ, zero, suc, ◌+◌, ◌-◌, ◌*◌, ◌<◌, ◌≤◌, nat_le, ◌==◌, Bool, true, false, cond, not, Option, None, Some, ◌&&◌, ◌||◌, List, [], ◌∷◌, ◌++◌, length, take, codes, fold, take_while, bytes_eq}
+use Rattle.std.specs.Prelude.{◌≡◌, ℕ, zero, suc, ◌+◌, ◌-◌, ◌*◌, ◌<◌, ◌≤◌, nat_le, ◌==◌, Bool, cond, not, Option, None, Some, ◌&&◌, ◌||◌, List, [], ◌∷◌, ◌++◌, length, take, codes, fold, take_while, bytes_eq}
 use Rattle.std.specs.List.{list_all, list_any, starts_with}
 use Rattle.std.specs.Prelude.{nat_eq}
 use Rattle.ba_tree.specs.declared.ids.At.{At}

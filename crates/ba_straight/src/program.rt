@@ -1,13 +1,16 @@
 //! The typed tree of a straight-line program.
 
 ghost use Rattle.std.specs.Prelude.{◌≡◌, ◌+◌, ◌<◌, ◌^◌, Some, length, map, replicate, IfOk};
+ghost use Rattle.ba_tree.specs.Least.{unit_weight, unit_weights};
+ghost use Rattle.ba_tree.specs.declared.tree.Program.{Program};
 ghost use Rattle.ba_straight.specs.Items.{IsTree, int_variable, item_of, operand_of};
 
 use crate::items::{Item, Operand, Straight};
 use ba_items::Items;
 use ba_tree::ids::FnId;
 use ba_tree::numbers::{BinOp, CType};
-use ba_tree::tree::{Expr, Function, Program, Shape, Stmt, Variable};
+use ba_tree::run::Weights;
+use ba_tree::tree::{Expr, Function, Program, Shape, Stmt, StmtKind, Variable};
 use std::alloc::{AllocError, Global};
 
 fn operand_of(operand: Operand) -> Expr
@@ -96,4 +99,27 @@ pub fn program_of(alloc: Global, straight: &Straight) -> Result<Program, AllocEr
         main: FnId(0),
         statements: Items::from_slice(alloc, straight.statements.as_slice())?,
     })
+}
+
+fn unit_weight(kind: StmtKind) -> Option<u32>
+    ensures { result ≡ unit_weight kind }
+{
+    match kind {
+        StmtKind::Assignment => Some(1),
+        StmtKind::Assert => None,
+    }
+}
+
+/// The weights that hold where none are given: 1 for each statement but the asserts, which are not relaxable.
+///
+/// The one error is want of memory.
+pub fn unit_weights(alloc: Global, straight: &Straight) -> Result<Weights, AllocError>
+    ensures weights { IfOk result (λ weights. (p : Program) → IsTree straight.now p → weights.of ≡ unit_weights p) }
+    ensures each { IfOk result (λ weights. length weights.of ≡ length straight.now.statements) }
+{
+    let mut of = Items::new(alloc);
+    for info in straight.statements.as_slice() {
+        of.push(unit_weight(info.kind))?;
+    }
+    Ok(Weights { of })
 }

@@ -4,6 +4,8 @@ ghost use Rattle.std.specs.Prelude.{◌≡◌, ◌+◌, ◌<◌, ◌^◌, ◌++�
 ghost use Rattle.ba_tree.specs.declared.run.Bounds.{Bounds};
 ghost use Rattle.ba_tree.specs.declared.tree.Program.{Program};
 ghost use Rattle.ba_tree.specs.Least.{AreLeast, judge_of};
+ghost use Rattle.ba_tree.specs.Run.{is_done, run_of};
+ghost use Rattle.ba_tree.specs.declared.run.Allowed.TheVariants.{Statements};
 ghost use Rattle.ba_straight.specs.Items.{AreNumbered, IsTree};
 ghost use Rattle.ba_straight.specs.Sets.{AreFirst, feasible_sets, sets_of_weight, sets_with, total};
 ghost use Rattle.ba_straight.specs.Terms.{can_hold, start_terms, terms_with};
@@ -222,4 +224,17 @@ pub fn least_sets(
         terms: terms.as_slice(),
     };
     first_sets(alloc, &trial, weights.of.as_slice())
+}
+
+/// Whether the plain run of a straight-line program on an input is good.
+///
+/// The one error is want of memory.
+pub fn is_good(alloc: Global, straight: &Straight, input: &Input) -> Result<bool, AllocError>
+    requires numbered { AreNumbered 1 straight.now.items }
+    requires variables { length straight.now.params + length straight.now.locals < 2 ^ 32 }
+    ensures { IfOk result (λ good. (p : Program) (b : Bounds) → IsTree straight.now p → good ≡ is_done (run_of p input.now b (Statements []) [])) }
+{
+    let variables = straight.params.len() + straight.locals.len();
+    let mut terms = start_terms(alloc, straight.params.as_slice(), variables, input)?;
+    Ok(can_hold(&[], straight.items.as_slice(), terms.as_mut_slice()))
 }

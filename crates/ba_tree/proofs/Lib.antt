@@ -1,3 +1,4 @@
 pub mod Members
 pub mod Sets
 pub mod Equations
+pub mod Conversions

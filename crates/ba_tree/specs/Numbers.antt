@@ -2,7 +2,7 @@
 -- division towards zero. The value of an operator is plain arithmetic on whole numbers, and then the
 -- number of the type's range that is congruent to it modulo 2 to the type's width.
 
-use Rattle.std.specs.Prelude.{ℕ, ◌*◌, ◌^◌, ◌%◌, ℤ, pos, neg_ℤ, ◌+ℤ◌, ◌-ℤ◌, ◌*ℤ◌, ◌≤ℤ◌, Bool, not, cond, ◌&&◌, Option, None, Some, bit_and, bit_or, bit_xor, int_div, int_rem, int_lt, int_le, unsigned_abs}
+use Rattle.std.specs.Prelude.{◌≡◌, ℕ, ◌*◌, ◌^◌, ◌%◌, ℤ, pos, neg_ℤ, ◌+ℤ◌, ◌-ℤ◌, ◌*ℤ◌, ◌≤ℤ◌, Bool, true, false, not, cond, ◌&&◌, Option, None, Some, bit_and, bit_or, bit_xor, int_div, int_rem, int_lt, int_le, unsigned_abs}
 use Rattle.std.specs.Int.{int_rem_euclid, int_div_euclid}
 use Rattle.std.specs.Ordering.{int_eq}
 use Rattle.ba_tree.specs.declared.numbers.CType.{CType}
@@ -37,6 +37,20 @@ pub record IsIn (t : CType) (z : ℤ) : Type 0 where
 -- the same as a test
 abbrev pub is_in : CType → ℤ → Bool
 is_in t z = int_le (least_of t) z && int_le z (greatest_of t)
+
+-- the width of a type in bits
+abbrev pub width_of : CType → ℕ
+width_of I8 = 8
+width_of U8 = 8
+width_of I16 = 16
+width_of U16 = 16
+width_of I32 = 32
+width_of U32 = 32
+
+-- the numbers differ by a multiple of m
+pub record IsCongruent (m : ℕ) (y z : ℤ) : Type 0 where
+  pub turns : ℤ
+  pub apart : y ≡ z +ℤ turns *ℤ pos m
 
 -- the number from -half to half - 1 that is congruent to z modulo 2 * half
 abbrev pub centred : ℕ → ℤ → ℤ
@@ -81,6 +95,22 @@ plain_value Ne a b = Some (truth (not (int_eq a b)))
 plain_value And a b = Some (pos (bit_and (low_word a) (low_word b)))
 plain_value Xor a b = Some (pos (bit_xor (low_word a) (low_word b)))
 plain_value Or a b = Some (pos (bit_or (low_word a) (low_word b)))
+
+-- the operators that have no value at a zero divisor
+abbrev pub divides : BinOp → Bool
+divides Div = true
+divides Rem = true
+divides _ = false
+
+-- the comparisons
+abbrev pub compares : BinOp → Bool
+compares Lt = true
+compares Le = true
+compares Gt = true
+compares Ge = true
+compares Eq = true
+compares Ne = true
+compares _ = false
 
 abbrev pub converted_value : CType → Option ℤ → Option ℤ
 converted_value t None = None

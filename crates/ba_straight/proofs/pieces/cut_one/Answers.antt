@@ -1,4 +1,4 @@
-use Rattle.std.proofs.Common.{◌≡◌, ◌==◌, false, ◌∙◌, sym}
+use Rattle.std.proofs.Common.{◌≡◌, false, ◌∙◌, sym}
 use Rattle.ba_straight.specs.Text.{is_blank}
 use Rattle.ba_straight.proofs.Cutting.{cut_piece, differs}
 use Rattle.ba_straight.proofs.pieces.cut_one.Goals as goal

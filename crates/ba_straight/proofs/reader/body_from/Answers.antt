@@ -1,4 +1,4 @@
-use Rattle.std.proofs.Common.{◌≡◌, ◌+◌, ◌≤◌, ◌==◌, true, false, ◌∙◌, Some, List, ℕ, ap, sym, subst, length, arith}
+use Rattle.std.proofs.Common.{◌≡◌, ◌+◌, ◌≤◌, ◌==◌, true, false, ◌∙◌, ap, sym, subst, length, arith}
 use Rattle.ba_straight.specs.declared.reader.Body.{Body}
 use Rattle.ba_straight.proofs.ReadSteps.{body_step, body_stuck, body_done, body_goes_on, body_over, added_names, added_statements, nothing, not_nothing}
 use Rattle.ba_straight.proofs.reader.body_from.Goals as goal

@@ -1,4 +1,4 @@
-use Rattle.std.proofs.Common.{◌≡◌, ℕ, ◌+◌, ◌-◌, ◌≤◌, List, [], length}
+use Rattle.std.proofs.Common.{◌≡◌, ℕ, ◌+◌, ◌-◌, ◌≤◌, List, length}
 use Rattle.ba_straight.specs.Reading.{body_from, body_of}
 use Rattle.ba_straight.specs.declared.pieces.Piece.{Piece}
 use Rattle.ba_straight.specs.declared.reader.Body.{Body}

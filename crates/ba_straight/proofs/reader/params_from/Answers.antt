@@ -1,4 +1,4 @@
-use Rattle.std.proofs.Common.{◌≡◌, ◌+◌, ◌∙◌, Some, None, List, ℕ, ◌∷◌, ◌++◌, [], ap, sym, length, arith}
+use Rattle.std.proofs.Common.{◌≡◌, ◌∙◌, Some, None, ◌∷◌, ◌++◌, [], ap, sym, length, arith}
 use Rattle.std.proofs.lemmas.List.{length-append}
 use Rattle.ba_straight.specs.Reading.{param_at}
 use Rattle.ba_straight.proofs.ReadSteps.{params_step, params_end, params_stuck, params_over}

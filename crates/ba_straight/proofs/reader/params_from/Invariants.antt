@@ -1,4 +1,4 @@
-use Rattle.std.proofs.Common.{◌≡◌, ℕ, ◌+◌, ◌-◌, List, [], length}
+use Rattle.std.proofs.Common.{◌≡◌, ℕ, ◌-◌, List, [], length}
 use Rattle.ba_straight.specs.Reading.{params_from}
 use Rattle.ba_straight.specs.declared.pieces.Piece.{Piece}
 use Rattle.ba_straight.proofs.reader.params_from.Given as goal

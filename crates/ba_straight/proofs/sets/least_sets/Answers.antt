@@ -1,6 +1,6 @@
-use Rattle.std.proofs.Common.{◌≡◌, ◌+◌, ◌∙◌, ap, subst, length, replicate, pos, List, ℕ, Option}
+use Rattle.std.proofs.Common.{◌≡◌, ◌+◌, ◌∙◌, ap, subst, length}
 use Rattle.ba_straight.specs.Sets.{AreFirst}
-use Rattle.ba_straight.specs.Terms.{can_hold, start_terms, terms_with}
+use Rattle.ba_straight.specs.Terms.{can_hold, start_terms}
 use Rattle.ba_straight.proofs.Located.{located, if_ok}
 use Rattle.ba_straight.proofs.sets.least_sets.Goals as goal
 

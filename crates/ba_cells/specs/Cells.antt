@@ -1,0 +1,34 @@
+-- Cells of words, read and written at an index that is a word itself.
+
+use Rattle.std.specs.Prelude.{◌≡◌, ℕ, ◌+◌, ◌<◌, ◌==◌, Bool, ◌&&◌, List, [], ◌++◌, length, slice_index_or, if◌then◌else◌}
+use Rattle.ba_nodes.specs.declared.Bit.{Bit}
+use Rattle.ba_nodes.specs.declared.Node.{Node}
+use Rattle.ba_nodes.specs.Gates.{truth}
+use Rattle.ba_words.specs.Words.{number_of, low_number, AreBitsOf}
+
+-- the cell at a place
+abbrev pub cell_at : List (List Bit) → ℕ → List Bit
+cell_at cells place = slice_index_or cells place []
+
+-- the cells are words of these nodes
+abbrev pub AreCellsOf : List Node → List (List Bit) → Type 0
+AreCellsOf nodes cells = (place : ℕ) → AreBitsOf nodes (cell_at cells place)
+
+-- the word has the number of the cell at the index, wherever that is in range
+abbrev pub IsCellAt : (index : (ℕ → Bool) → ℕ) → List Node → List (List Bit) → List Node → List Bit → Type 0
+IsCellAt index old cells new word =
+    (free : ℕ → Bool) → index free < length cells → number_of free new word ≡ number_of free old (cell_at cells (index free))
+
+-- the cells are the old ones, but that the one at the index is the value where the condition holds
+abbrev pub AreWritten : (holds : (ℕ → Bool) → Bool) (index : (ℕ → Bool) → ℕ) → List Node → List (List Bit) → List Bit → List Node → List (List Bit) → Type 0
+AreWritten holds index old cells value new written =
+    (free : ℕ → Bool) (place : ℕ) → place < length cells →
+        number_of free new (cell_at written place) ≡ (if holds free && (index free == place) then number_of free old value else number_of free old (cell_at cells place))
+
+-- such cells were added behind others
+pub record Adds (holds : (ℕ → Bool) → Bool) (index : (ℕ → Bool) → ℕ) (old : List Node) (cells : List (List Bit)) (value : List Bit) (new : List Node) (before after : List (List Bit)) : Type 0 where
+  pub added : List (List Bit)
+  pub grown : after ≡ before ++ added
+  pub long : length added ≡ length cells
+  pub are_cells : AreCellsOf new added
+  pub written : AreWritten holds index old cells value new added

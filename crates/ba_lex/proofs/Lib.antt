@@ -1,0 +1,7 @@
+mod Examples
+mod CharacterLemmas
+mod CutLemmas
+mod DigitLemmas
+mod KindLemmas
+mod LineLemmas
+mod TableLemmas

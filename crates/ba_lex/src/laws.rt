@@ -1,0 +1,27 @@
+//! Laws of the definitions, each the clause of a function that does nothing.
+
+ghost use Rattle.std.specs.Prelude.{◌≡◌, ℕ, List, Err, take, drop};
+ghost use Rattle.std.specs.Bool.{Decides};
+ghost use Rattle.ba_tree.specs.declared.ids.At.{At};
+ghost use Rattle.ba_lex.specs.Lines.{Reading, answer, same_kind, sequence};
+ghost use Rattle.ba_lex.specs.Pieces.{cut, position_after};
+ghost use Rattle.ba_lex.specs.declared.error.LexError.{LexError};
+ghost use Rattle.ba_lex.specs.declared.token.TokenKind.{TokenKind};
+
+/// The test of two kinds of tokens decides whether they are the same: names by their bytes, constants by type
+/// and value, keywords and punctuators each by itself, and all strings alike.
+pub fn kinds_are_compared_whole()
+    ensures { (a b : TokenKind) → Decides (same_kind a b) (a ≡ b) }
+{}
+
+/// The bytes of a piece that has begun are passed over: the cut goes on behind them, at the position after them.
+pub fn pieces_stand_side_by_side()
+    ensures { (bytes : List ℕ) (at : At) (left : ℕ) →
+        cut at left bytes ≡ cut (position_after at (take left bytes)) 0 (drop left bytes) }
+{}
+
+/// The first error stands, whatever follows it.
+pub fn first_error_stands()
+    ensures { (first next : Reading) (e : LexError) →
+        answer first ≡ Err e → answer (sequence first next) ≡ Err e }
+{}

@@ -1,0 +1,130 @@
+//! The macros of a text (C90 6.8.3).
+
+ghost use Rattle.std.specs.Prelude.{◌≡◌, ℕ, List, None, [], ◌∷◌, ◌++◌, ◌||◌, length, IfOk, OnOk};
+ghost use Rattle.std.specs.Option.{option_copied};
+ghost use Rattle.ba_lex.specs.Lines.{body_of, replacement, is_in_body};
+ghost use Rattle.ba_lex.specs.Storage.{is_among, is_mentioned};
+ghost use Rattle.std.specs.Str.{bytes_eq};
+
+use crate::token::TokenKind;
+use ba_items::Items;
+use indexmap::{IndexMap, IndexSet};
+use std::alloc::{AllocError, Global};
+use std::marker::Model;
+
+/// The macros defined so far, in their order: each name with its body. Contracts see the list of these pairs.
+#[derive(Drop)]
+pub struct Macros {
+    bodies: IndexMap<Vec<u8>, Items<TokenKind>>,
+    /// The names that stand in bodies.
+    mentioned: IndexSet<Vec<u8>>,
+}
+
+impl Model for Macros {
+    ghost use Rattle.std.specs.Prelude.{List, ℕ};
+    ghost use Rattle.ba_lex.specs.declared.token.TokenKind.{TokenKind};
+
+    ghost Value = { List (List ℕ × List TokenKind) };
+
+    ghost use Rattle.ba_lex.specs.Storage.{table_of, AreMentioned};
+
+    ghost view = { λ macros. table_of macros.bodies.entries };
+
+    ghost invariant = { λ macros. AreMentioned macros.mentioned.keys (table_of macros.bodies.entries) };
+}
+
+impl Macros {
+    /// The table without macros.
+    pub fn new(alloc: Global) -> Macros
+        ensures { result ≡ [] }
+    {
+        Macros {
+            bodies: IndexMap::new(alloc),
+            mentioned: IndexSet::new(alloc),
+        }
+    }
+
+    /// How many macros there are.
+    pub fn len(&self) -> usize
+        ensures { result ≡ length self.now }
+    {
+        self.bodies.len()
+    }
+
+    /// The body of the macro of this name, if there is one.
+    pub fn body(&self, name: &[u8]) -> Option<&Items<TokenKind>>
+        ensures { option_copied result ≡ body_of self.now name.now }
+    {
+        self.bodies.get(name)
+    }
+
+    /// Whether the name stands in the body of a macro.
+    pub fn is_mentioned(&self, name: &[u8]) -> bool
+        ensures { result ≡ is_mentioned name.now self.now }
+    {
+        self.mentioned.contains(name)
+    }
+
+    /// The table with one more macro.
+    ///
+    /// The one error is want of memory.
+    pub fn with(
+        self,
+        alloc: Global,
+        name: &[u8],
+        body: Items<TokenKind>,
+    ) -> Result<Macros, AllocError>
+        requires { body_of self name.now ≡ None }
+        ensures { IfOk result (λ table. table ≡ self ++ (name.now, body) ∷ []) }
+    {
+        let Macros {
+            mut bodies,
+            mut mentioned,
+        } = self;
+        mention_all(alloc, &mut mentioned, body.as_slice())?;
+        bodies.insert(Vec::from_slice(alloc, name)?, body)?;
+        Ok(Macros { bodies, mentioned })
+    }
+}
+
+/// What stands for a token of this kind.
+pub fn replacement<'a>(macros: &'a Macros, kind: &'a TokenKind) -> &'a [TokenKind]
+    ensures { result.now ≡ replacement macros.now kind.now }
+{
+    let body = match kind {
+        TokenKind::Name(name) => macros.body(name.as_bytes()),
+        _ => None,
+    };
+    match body {
+        Some(body) => body.as_slice(),
+        None => std::slice::from_ref(kind),
+    }
+}
+
+/// Adds a name to the set.
+fn mention(alloc: Global, mentioned: &mut IndexSet<Vec<u8>>, name: &[u8]) -> Result<(), AllocError>
+    ensures { OnOk result ((other : List ℕ) →
+        is_among other mentioned.new.keys ≡ (is_among other mentioned.old.keys || bytes_eq other name.now)) }
+{
+    if !mentioned.contains(name) {
+        mentioned.insert(Vec::from_slice(alloc, name)?)?;
+    }
+    Ok(())
+}
+
+/// Adds the names that stand in a body to the set.
+fn mention_all(
+    alloc: Global,
+    mentioned: &mut IndexSet<Vec<u8>>,
+    body: &[TokenKind],
+) -> Result<(), AllocError>
+    ensures { OnOk result ((name : List ℕ) →
+        is_among name mentioned.new.keys ≡ (is_among name mentioned.old.keys || is_in_body name body.now)) }
+{
+    for kind in body {
+        if let TokenKind::Name(name) = kind {
+            mention(alloc, mentioned, name.as_bytes())?;
+        }
+    }
+    Ok(())
+}

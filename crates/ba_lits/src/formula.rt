@@ -1,0 +1,116 @@
+//! Formulas in conjunctive normal form.
+
+ghost use Rattle.std.specs.Prelude.{◌≡◌, ◌+◌, ◌-◌, ◌<◌, ◌≤◌, [], ◌∷◌, ◌++◌, length, slice_index_or, OnOk, OnErr, IfOk};
+ghost use Rattle.ba_lits.specs.Literals.{IsClause};
+
+use crate::literal::Lit;
+use ba_items::Items;
+use std::alloc::{AllocError, Global};
+use std::marker::Model;
+
+/// A formula in conjunctive normal form: how many variables there are, and a list of clauses over them,
+/// counted from 1.
+#[derive(Drop)]
+pub struct Formula {
+    alloc: Global,
+    variables: u64,
+    clauses: Items<Items<Lit>>,
+}
+
+impl Model for Formula {
+    ghost use Rattle.std.specs.Prelude.{◌^◌, ◌<◌};
+    ghost use Rattle.ba_lits.specs.Formulas.{Cnf};
+
+    ghost Value = { Cnf };
+
+    ghost view = { λ formula. record { variables = formula.variables; clauses = formula.clauses } };
+
+    ghost invariant = { λ formula. formula.variables < 2 ^ 62 };
+}
+
+impl Formula {
+    /// The formula without variables and clauses. It takes no memory.
+    pub fn new(alloc: Global) -> Formula
+        ensures { result ≡ record { variables = 0; clauses = [] } }
+    {
+        Formula {
+            alloc,
+            variables: 0,
+            clauses: Items::new(alloc),
+        }
+    }
+
+    /// Adds a variable and gives it.
+    ///
+    /// The one error is want of room: there are fewer than 2^62 variables. It leaves the formula as it was.
+    pub fn fresh(&mut self) -> Result<u64, AllocError>
+        ensures ok { IfOk result (λ variable. (variable ≡ self.old.variables + 1) × (self.new ≡ record self.old { variables = variable })) }
+        ensures err { OnErr result (self.new ≡ self.old) }
+    {
+        if self.variables + 1 == 1 << 62 {
+            return Err(AllocError);
+        }
+        self.variables += 1;
+        Ok(self.variables)
+    }
+
+    /// Adds a clause at the end.
+    ///
+    /// The one error is want of memory, which leaves the formula as it was.
+    pub fn push(&mut self, clause: &[Lit]) -> Result<(), AllocError>
+        requires { IsClause self.old.variables clause.now }
+        ensures ok { OnOk result (self.new ≡ record self.old { clauses = self.old.clauses ++ clause.now ∷ [] }) }
+        ensures err { OnErr result (self.new ≡ self.old) }
+    {
+        self.clauses.push(Items::from_slice(self.alloc, clause)?)
+    }
+
+    /// How many variables there are.
+    pub fn variables(&self) -> u64
+        ensures { result ≡ self.now.variables }
+    {
+        self.variables
+    }
+
+    /// How many clauses there are.
+    pub fn len(&self) -> u64
+        ensures { result ≡ length self.now.clauses }
+    {
+        self.clauses.len() as u64
+    }
+
+    /// The literals of the clause of a number.
+    pub fn clause(&self, number: u64) -> &[Lit]
+        requires counted { 1 ≤ number }
+        requires within { number ≤ length self.now.clauses }
+        ensures { result.now ≡ slice_index_or self.now.clauses (number - 1) [] }
+    {
+        self.clauses.as_slice()[number as usize - 1].as_slice()
+    }
+}
+
+#[cfg(test)]
+mod tests {
+    use super::*;
+    use std::test::Fail;
+
+    #[test]
+    fn reads_what_was_pushed(rt: HostRuntime) -> Result<(), Fail> {
+        let mut formula = Formula::new(rt.alloc());
+        let a = formula.fresh()?;
+        let b = formula.fresh()?;
+        assert_eq!(rt; a, 1);
+        assert_eq!(rt; b, 2);
+        let one = Lit::positive(1);
+        let two = Lit::positive(2).negated();
+        formula.push([one, two].as_slice())?;
+        formula.push([one.negated()].as_slice())?;
+        assert_eq!(rt; formula.len(), 2);
+        assert_eq!(rt; formula.variables(), 2);
+        assert_eq!(rt; formula.clause(1), [one, two].as_slice());
+        assert_eq!(rt; formula.clause(2)[0].is_negated(), true);
+        assert_eq!(rt; formula.clause(1)[1].variable(), 2);
+        assert_eq!(rt; two.index(), 5);
+        Ok(())
+    }
+}

@@ -1,0 +1,78 @@
+//! Literals.
+
+ghost use Rattle.std.specs.Prelude.{◌≡◌, ◌+◌, ◌^◌, ◌<◌, ◌≤◌, false};
+ghost use Rattle.ba_lits.specs.Literals.{negate, index_of};
+
+use std::marker::Model;
+
+/// A variable or its negation. Variables are counted from 1 and end below 2^62.
+#[derive(Clone, Copy, PartialEq, Eq, Debug)]
+pub struct Lit {
+    /// Twice the variable, and 1 more where it is negated.
+    code: u64,
+}
+
+impl Model for Lit {
+    ghost use Rattle.std.specs.Prelude.{◌^◌, ◌<◌, ◌≤◌};
+    ghost use Rattle.ba_lits.specs.Literals.{Literal, literal_at, index_of};
+    ghost use Rattle.ba_lits.specs.Literals.{index_of-literal_at};
+    ghost use Rattle.std.proofs.Common.{ap};
+
+    ghost Value = { Literal };
+
+    ghost view = { λ lit. literal_at lit.code };
+
+    ghost invariant = { λ lit. (2 ≤ lit.code) × (lit.code < 2 ^ 63) };
+
+    ghost inverse = { λ lit. record { code = index_of lit } };
+
+    ghost inverse_ok = { λ lit h. ap (λ code. record { code = code }) (index_of-literal_at lit.code) };
+}
+
+impl Lit {
+    /// The literal that is true where the variable is true.
+    pub fn positive(variable: u64) -> Lit
+        requires counted { 1 ≤ variable }
+        requires below { variable < 2 ^ 62 }
+        ensures { result ≡ record { variable = variable; negated = false } }
+    {
+        Lit { code: 2 * variable }
+    }
+
+    /// The literal of the same variable with the other sign.
+    pub fn negated(self) -> Lit
+        ensures { result ≡ negate self }
+    {
+        let code = if self.is_negated() {
+            self.code - 1
+        } else {
+            self.code + 1
+        };
+        Lit { code }
+    }
+
+    /// The variable, at least 1 and below 2^62.
+    pub fn variable(self) -> u64
+        ensures variable { result ≡ self.variable }
+        ensures counted { 1 ≤ result }
+        ensures below { result < 2 ^ 62 }
+    {
+        self.code / 2
+    }
+
+    /// Whether the literal is the negation of its variable.
+    pub fn is_negated(self) -> bool
+        ensures { result ≡ self.negated }
+    {
+        self.code % 2 == 1
+    }
+
+    /// The literal's place in a vector with two entries a variable: twice the variable, and 1 more where
+    /// it is negated.
+    pub fn index(self) -> usize
+        ensures index { result ≡ index_of self }
+        ensures below { result < 2 ^ 63 }
+    {
+        self.code as usize
+    }
+}

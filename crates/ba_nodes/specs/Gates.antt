@@ -1,0 +1,98 @@
+-- And-gates over free bits, and what they mean: under each assignment of the free bits every node and
+-- every bit has a truth value. An assignment gives a free bit its value by the number of its node.
+
+use Rattle.std.specs.Prelude.{◌≡◌, ℕ, ◌+◌, ◌<◌, ◌≤◌, ◌==◌, Bool, true, false, not, ◌&&◌, List, [], ◌∷◌, ◌++◌, length, fold, Option, Some, None, slice_get, slice_index_or, count_by, if◌then◌else◌, ◌⊎◌}
+use Rattle.ba_nodes.specs.declared.Bit.{Bit}
+use Rattle.ba_nodes.specs.declared.Node.{Node}
+use Rattle.ba_nodes.specs.declared.Node.TheVariants.{Free, And}
+
+-- one of the two, and not both
+abbrev pub bool_xor : Bool → Bool → Bool
+bool_xor true b = not b
+bool_xor false b = b
+
+-- the bit that always has this value
+abbrev pub constant_bit : Bool → Bit
+constant_bit value = record { index = 0; negated = value }
+
+-- the bit of the node of this number
+abbrev pub node_bit : ℕ → Bit
+node_bit number = record { index = number + 1; negated = false }
+
+-- the other value of a bit
+abbrev pub opposite : Bit → Bit
+opposite bit = record { index = bit.index; negated = not bit.negated }
+
+-- the value of a bit, by the values of the constant and of the nodes in their order
+abbrev pub value_in : List Bool → Bit → Bool
+value_in values bit = bool_xor bit.negated (slice_index_or values bit.index false)
+
+abbrev pub node_value : (ℕ → Bool) → List Bool → Node → Bool
+node_value free values (Free number) = free number
+node_value free values (And a b) = value_in values a && value_in values b
+
+-- the value of the constant, false, and then those of the nodes
+unfoldable pub values_of : (ℕ → Bool) → List Node → List Bool
+values_of free nodes = fold (λ values node. values ++ node_value free values node ∷ []) (false ∷ []) nodes
+
+-- the truth value of a bit under an assignment of the free bits
+unfoldable pub truth : (ℕ → Bool) → List Node → Bit → Bool
+truth free nodes bit = value_in (values_of free nodes) bit
+
+-- the truth value of a node by those of the bits that it names
+abbrev pub node_truth : (ℕ → Bool) → List Node → Node → Bool
+node_truth free nodes (Free number) = free number
+node_truth free nodes (And a b) = truth free nodes a && truth free nodes b
+
+-- the bit names the constant or one of the nodes
+abbrev pub IsBitOf : List Node → Bit → Type 0
+IsBitOf nodes bit = bit.index ≤ length nodes
+
+abbrev pub is_gate : Node → Bool
+is_gate (Free number) = false
+is_gate (And a b) = true
+
+-- how many of the nodes are gates
+abbrev pub gates_in : List Node → ℕ
+gates_in nodes = count_by is_gate nodes
+
+-- a node may have this number: a free bit names itself, a gate names two earlier nodes in their order
+abbrev pub MayStandAt : ℕ → Node → Type 0
+MayStandAt number (Free own) = own ≡ number
+MayStandAt number (And a b) = (0 < a.index) × (a.index < b.index) × (b.index ≤ number)
+
+-- each node stands behind the nodes that it names, and no two nodes are the same
+pub record AreOrdered (nodes : List Node) : Type 0 where
+  pub ordered : (number : ℕ) (node : Node) → slice_get nodes number ≡ Some node → MayStandAt number node
+  pub distinct : (number other : ℕ) (node : Node) → slice_get nodes number ≡ Some node → slice_get nodes other ≡ Some node → number ≡ other
+
+-- the node of this number is the gate of these two bits, in either order
+abbrev pub IsGateOf : List Node → ℕ → Bit → Bit → Type 0
+IsGateOf nodes number a b = (slice_get nodes number ≡ Some (And a b)) ⊎ (slice_get nodes number ≡ Some (And b a))
+
+-- the bit that an `and` gives where a constant, or equal or opposite bits, leave no need of a gate
+abbrev pub folded : Bit → Bit → Option Bit
+folded a b =
+    if a.index == 0 then Some (if a.negated then b else a)
+    else if b.index == 0 then Some (if b.negated then a else b)
+    else if a.index == b.index then Some (if bool_xor a.negated b.negated then constant_bit false else a)
+    else None
+
+-- new nodes were added behind the old ones, and every old bit has its value
+pub record Extends (old new : List Node) : Type 0 where
+  pub grows : length old ≤ length new
+  pub stays : (number : ℕ) → number < length old → slice_get new number ≡ slice_get old number
+  pub keeps : (free : ℕ → Bool) (bit : Bit) → IsBitOf old bit → truth free new bit ≡ truth free old bit
+
+-- a bit of these nodes has this value under each assignment
+pub record HasValue (nodes : List Node) (bit : Bit) (value : (ℕ → Bool) → Bool) : Type 0 where
+  pub is_bit : IsBitOf nodes bit
+  pub holds : (free : ℕ → Bool) → truth free nodes bit ≡ value free
+
+-- no node of the list is this one
+abbrev pub IsAbsent : List Node → Node → Type 0
+IsAbsent nodes node = (number : ℕ) → slice_get nodes number ≡ Some node → ⊥
+
+-- the node was among them, or it was not and stands behind them
+abbrev pub Puts : List Node → Node → List Node → Type 0
+Puts old node new = (new ≡ old) ⊎ ((new ≡ old ++ node ∷ []) × IsAbsent old node)

@@ -1,0 +1,17 @@
+pub mod Walks
+pub mod Relinks
+pub mod Swaps
+pub mod Steps
+pub mod Additions
+pub mod Keeps
+pub mod ListSteps
+pub mod Values
+pub mod Levels
+pub mod TrailSteps
+pub mod Backtracks
+pub mod Facts
+pub mod Visits
+pub mod ShortClauses
+pub mod Complete
+pub mod Sounds
+pub mod NewClauses

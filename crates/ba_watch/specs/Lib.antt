@@ -1,0 +1,4 @@
+pub mod Chains
+pub mod Threads
+pub mod Trails
+pub mod Propagation

@@ -1,0 +1,16 @@
+//! Unit propagation with two watched literals.
+//!
+//! Each clause of two or more literals watches two of them. When a watched literal becomes false, only the
+//! clauses in its list are looked at (M. Moskewicz, C. Madigan, Y. Zhao, L. Zhang, S. Malik, Chaff: Engineering
+//! an Efficient SAT Solver; N. Een, N. Sorensson, An Extensible SAT-solver). The lists are threaded through the
+//! arena, so propagation takes no memory.
+#![tactic(auto)]
+
+mod choice;
+mod lists;
+mod sweep;
+mod trail;
+mod units;
+mod watch;
+
+pub use watch::Watch;

@@ -1,0 +1,219 @@
+//! The trail: the assigned literals in their order, with their levels and reasons.
+
+ghost use Rattle.std.specs.Prelude.{◌≡◌, ◌≢◌, ℕ, ◌+◌, ◌-◌, ◌<◌, ◌≤◌, ◌^◌, ◌∷◌, ◌++◌, [], None, Some, Option, OnOk, OnErr, List, length, take, get_or, max, is_some, if◌then◌else◌};
+ghost use Rattle.ba_lits.specs.Literals.{lit_at};
+ghost use Rattle.ba_watch.specs.Trails.{value_of, place_if, decided, level_of, reason_of, kept, IsTrail, Begins};
+
+use ba_arena::ClauseRef;
+use ba_lits::Lit;
+use std::alloc::{AllocError, Global};
+use std::marker::Model;
+
+/// The trail, and the value of each variable.
+#[derive(Drop)]
+pub struct Trail {
+    variables: u64,
+    lits: Vec<Lit>,
+    reasons: Vec<Option<ClauseRef>>,
+    levels: Vec<usize>,
+    assigned: usize,
+    level: usize,
+    values: Vec<Option<bool>>,
+    places: Vec<usize>,
+}
+
+impl Model for Trail {
+    ghost use Rattle.std.specs.Prelude.{take, ◌<◌, ◌^◌};
+    ghost use Rattle.ba_watch.specs.Trails.{Assignments, Holds};
+
+    ghost Value = { Assignments };
+
+    ghost view = { λ t. record { variables = t.variables; lits = take t.assigned t.lits.items; reasons = take t.assigned t.reasons.items } };
+
+    ghost invariant = { λ t. (t.variables < 2 ^ 62) × Holds t.variables t.lits.items t.reasons.items t.levels.items t.assigned t.level t.values.items t.places.items };
+}
+
+impl Trail {
+    /// The empty trail over no variables. It takes no memory.
+    pub fn new(alloc: Global) -> Trail
+        ensures { result ≡ record { variables = 0; lits = []; reasons = [] } }
+    {
+        Trail {
+            variables: 0,
+            lits: Vec::new(alloc),
+            reasons: Vec::new(alloc),
+            levels: Vec::new(alloc),
+            assigned: 0,
+            level: 0,
+            values: Vec::new(alloc),
+            places: Vec::new(alloc),
+        }
+    }
+
+    /// How many variables there are.
+    pub fn variables(&self) -> u64
+        ensures variables { result ≡ self.now.variables }
+        ensures below { result < 2 ^ 62 }
+    {
+        self.variables
+    }
+
+    /// How many literals are assigned.
+    pub fn len(&self) -> usize
+        ensures len { result ≡ length self.now.lits }
+        ensures trail { IsTrail self.now.variables self.now.lits self.now.reasons }
+    {
+        self.assigned
+    }
+
+    /// The assigned literals in their order.
+    pub fn lits(&self) -> &[Lit]
+        ensures { result.now ≡ self.now.lits }
+    {
+        &self.lits[..self.assigned]
+    }
+
+    /// The literal at a place.
+    pub fn lit(&self, place: usize) -> Lit
+        requires { place < length self.now.lits }
+        ensures { result ≡ lit_at self.now.lits place }
+    {
+        self.lits[place]
+    }
+
+    /// The present level.
+    pub fn level(&self) -> usize
+        ensures level { result ≡ decided self.now.reasons }
+        ensures lengths { length self.now.reasons ≡ length self.now.lits }
+    {
+        self.level
+    }
+
+    /// The value of a literal.
+    pub fn value(&self, lit: Lit) -> Option<bool>
+        requires { lit.variable ≤ self.now.variables }
+        ensures { result ≡ value_of self.now.lits lit }
+    {
+        match self.values[lit.variable() as usize - 1] {
+            None => None,
+            Some(value) => Some(value != lit.is_negated()),
+        }
+    }
+
+    /// The place on the trail of a variable that has a value.
+    pub fn place(&self, variable: u64) -> Option<usize>
+        requires counted { 1 ≤ variable }
+        requires within { variable ≤ self.now.variables }
+        ensures { result ≡ place_if self.now.lits variable }
+    {
+        let index = variable as usize - 1;
+        if self.values[index].is_some() {
+            Some(self.places[index])
+        } else {
+            None
+        }
+    }
+
+    /// The level at which a variable got its value.
+    pub fn level_of(&self, variable: u64) -> Option<usize>
+        requires counted { 1 ≤ variable }
+        requires within { variable ≤ self.now.variables }
+        ensures { result ≡ level_of self.now.lits self.now.reasons variable }
+    {
+        match self.place(variable) {
+            None => None,
+            Some(place) => Some(self.levels[place]),
+        }
+    }
+
+    /// The clause because of which a variable got its value.
+    pub fn reason(&self, variable: u64) -> Option<ClauseRef>
+        requires counted { 1 ≤ variable }
+        requires within { variable ≤ self.now.variables }
+        ensures { result ≡ reason_of self.now.lits self.now.reasons variable }
+    {
+        match self.place(variable) {
+            None => None,
+            Some(place) => self.reasons[place],
+        }
+    }
+
+    /// Makes a literal true. Without a reason it begins a level.
+    pub fn push(&mut self, lit: Lit, reason: Option<ClauseRef>)
+        requires within { lit.variable ≤ self.old.variables }
+        requires free { value_of self.old.lits lit ≡ None }
+        ensures pushed { self.new ≡ record self.old { lits = self.old.lits ++ lit ∷ []; reasons = self.old.reasons ++ reason ∷ [] } }
+        ensures trail { IsTrail self.new.variables self.new.lits self.new.reasons }
+        ensures lengths { length self.old.reasons ≡ length self.old.lits }
+    {
+        let index = lit.variable() as usize - 1;
+        let level = self.level + decisions(&reason);
+        self.level = level;
+        self.levels[self.assigned] = level;
+        self.lits[self.assigned] = lit;
+        self.reasons[self.assigned] = reason;
+        self.values[index] = Some(!lit.is_negated());
+        self.places[index] = self.assigned;
+        self.assigned += 1;
+    }
+
+    /// Takes the last literal off the trail.
+    fn pop(&mut self)
+        requires { 0 < length self.old.lits }
+        ensures { self.new ≡ record self.old { lits = take (length self.old.lits - 1) self.old.lits; reasons = take (length self.old.lits - 1) self.old.reasons } }
+    {
+        let place = self.assigned - 1;
+        let index = self.lits[place].variable() as usize - 1;
+        self.level -= decisions(&self.reasons[place]);
+        self.values[index] = None;
+        self.assigned = place;
+    }
+
+    /// Takes the literals of the levels above one off the trail.
+    pub fn back_to(&mut self, level: usize)
+        ensures { self.new ≡ record self.old { lits = take (kept level self.old.reasons) self.old.lits; reasons = take (kept level self.old.reasons) self.old.reasons } }
+    {
+        while self.level() > level {
+            self.pop();
+        }
+    }
+
+    /// Makes room for the assignment of variables up to a number.
+    pub fn grow(&mut self, variables: u64) -> Result<(), AllocError>
+        ensures ok { OnOk result (self.new ≡ record self.old { variables = max self.old.variables variables }) }
+        ensures err { OnErr result (self.new ≡ self.old) }
+    {
+        if variables <= self.variables {
+            return Ok(());
+        }
+        if variables >= 1 << 62 {
+            return Err(AllocError);
+        }
+        let count = variables as usize;
+        fill_up(&mut self.lits, count, Lit::positive(1))?;
+        fill_up(&mut self.reasons, count, None)?;
+        fill_up(&mut self.levels, count, 0)?;
+        fill_up(&mut self.places, count, 0)?;
+        self.values.resize(count, None)?;
+        self.variables = variables;
+        Ok(())
+    }
+}
+
+/// How many decisions a reason is: one, where there is none.
+fn decisions(reason: &Option<ClauseRef>) -> usize
+    ensures { result ≡ (if is_some reason.now then 0 else 1) }
+{
+    if reason.is_some() { 0 } else { 1 }
+}
+
+/// Makes a vector at least so long.
+fn fill_up<T: Copy>(items: &mut Vec<T>, count: usize, filler: T) -> Result<(), AllocError>
+    ensures front { Begins items.old.items items.new.items }
+    ensures room { OnOk result (count ≤ length items.new.items) }
+{
+    if items.len() < count {
+        items.resize(count, filler)?;
+    }
+    Ok(())
+}

@@ -1,0 +1,10 @@
+pub mod Digits
+pub mod Places
+pub mod Circuits
+pub mod Values
+pub mod Carries
+pub mod Order
+pub mod Shapes
+pub mod Levels
+pub mod Outcomes
+pub mod Narrow

@@ -1,0 +1,16 @@
+use Rattle.std.proofs.Common.{◌<◌, length, arith}
+use Rattle.ba_nodes.proofs.Truths.{Extends-through}
+use Rattle.ba_words.proofs.Places.{AddUp-more}
+use Rattle.ba_words.proofs.sums.low_sums.Goals as goal
+
+pub loop-i-preserved : goal.loop-i-preserved
+loop-i-preserved c =
+    let small : c.loop-i.i < 32 = omega arith in
+    let in_a : c.loop-i.i < length c.args.a.now = omega arith in
+    let in_b : c.loop-i.i < length c.args.b.now = omega arith in
+    record {
+      extends = Extends-through c.args.nodes.now c.loop-i.nodes c.full_adder.new.nodes c.loop-i.invariant.extends c.full_adder.ensures.extends;
+      sums = AddUp-more c.args.nodes.now c.loop-i.nodes c.full_adder.new.nodes c.args.a.now c.args.b.now c.args.carry c.loop-i.sums c.loop-i.carried c.loop-i.i c.in_ok-sum.sum c.in_ok-sum.next
+          small in_a in_b c.requires.first c.requires.second c.loop-i.invariant.extends c.full_adder.ensures.extends c.loop-i.invariant.sums c.in_ok-sum.ensures.sum c.in_ok-sum.ensures.carry;
+      count = omega arith;
+    }

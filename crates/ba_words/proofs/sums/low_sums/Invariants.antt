@@ -1,0 +1,11 @@
+use Rattle.std.proofs.Common.{◌+◌, ◌*◌, ◌≤◌}
+use Rattle.ba_nodes.specs.Gates.{gates_in, Extends}
+use Rattle.ba_words.specs.Words.{AddUp}
+use Rattle.ba_words.proofs.sums.low_sums.Given as goal
+
+abbrev pub invariant-loop-i : goal.invariant-loop-i
+invariant-loop-i l = record {
+  extends : Extends l.initial.nodes l.nodes;
+  sums : AddUp l.initial.nodes l.a l.b l.initial.carried l.nodes l.sums l.carried l.i;
+  count : gates_in l.nodes ≤ gates_in l.initial.nodes + 9 * l.i;
+}

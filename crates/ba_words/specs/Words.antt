@@ -1,0 +1,89 @@
+-- Words of bits as numbers, and as numbers of C.
+
+use Rattle.std.specs.Prelude.{◌≡◌, ℕ, ◌+◌, ◌-◌, ◌*◌, ◌/◌, ◌^◌, Bool, true, false, not, List, [], ◌∷◌, length, map, take, Some, slice_index_or, ℤ, pos}
+use Rattle.ba_nodes.specs.declared.Bit.{Bit}
+use Rattle.ba_nodes.specs.declared.Node.{Node}
+use Rattle.ba_nodes.specs.Gates.{truth, constant_bit, IsBitOf}
+use Rattle.ba_tree.specs.declared.numbers.CType.{CType}
+use Rattle.ba_tree.specs.declared.numbers.CType.TheVariants.{I32, U32}
+use Rattle.ba_tree.specs.declared.numbers.BinOp.{BinOp}
+use Rattle.ba_tree.specs.declared.numbers.UnOp.{UnOp}
+use Rattle.ba_tree.specs.declared.numbers.UnOp.TheVariants.{IsZero}
+use Rattle.ba_tree.specs.Numbers.{converted, value_of, value_of_one, truth as number_of_truth}
+
+-- 1 for true, 0 for false
+abbrev pub digit : Bool → ℕ
+digit true = 1
+digit false = 0
+
+-- the number that binary digits spell, the lowest digit first
+abbrev pub spelled : List Bool → ℕ
+spelled [] = 0
+spelled (bit ∷ bits) = digit bit + 2 * spelled bits
+
+-- the number of a word under an assignment of the free bits
+abbrev pub number_of : (ℕ → Bool) → List Node → List Bit → ℕ
+number_of free nodes word = spelled (map (truth free nodes) word)
+
+-- the bit at a place, and false behind the last
+abbrev pub bit_at : List Bit → ℕ → Bit
+bit_at word place = slice_index_or word place (constant_bit false)
+
+-- each bit of the word is a bit of these nodes
+abbrev pub AreBitsOf : List Node → List Bit → Type 0
+AreBitsOf nodes word = (place : ℕ) → IsBitOf nodes (bit_at word place)
+
+-- a word of these nodes has this number under each assignment
+pub record HasNumber (nodes : List Node) (word : List Bit) (number : (ℕ → Bool) → ℕ) : Type 0 where
+  pub long : length word ≡ 32
+  pub are_bits : AreBitsOf nodes word
+  pub holds : (free : ℕ → Bool) → number_of free nodes word ≡ number free
+
+-- the type of 32 bits in which a word is read
+abbrev pub word_type : Bool → CType
+word_type true = I32
+word_type false = U32
+
+-- the number of C that a word stands for, read as signed or as unsigned
+abbrev pub word_value : Bool → (ℕ → Bool) → List Node → List Bit → ℤ
+word_value signed free nodes word = converted (word_type signed) (pos (number_of free nodes word))
+
+-- the word is the value of the operator at two words, read as signed or as unsigned
+abbrev pub IsValueOf : BinOp → Bool → List Node → List Bit → List Bit → List Node → List Bit → Type 0
+IsValueOf op signed old a b new word =
+    (free : ℕ → Bool) → value_of op (word_type signed) (word_value signed free old a) (word_value signed free old b) ≡ Some (word_value signed free new word)
+
+-- the same for a shift, whose count may be read otherwise than the word
+abbrev pub IsShift : BinOp → Bool → Bool → List Node → List Bit → List Bit → List Node → List Bit → Type 0
+IsShift op signed counted old a count new word =
+    (free : ℕ → Bool) → value_of op (word_type signed) (word_value signed free old a) (word_value counted free old count) ≡ Some (word_value signed free new word)
+
+-- a number of 32 places moved down, with copies of the sign above it
+abbrev pub shifted_down : ℕ → Bool → ℕ → ℕ
+shifted_down n sign places = n / 2 ^ places + digit sign * (2 ^ 32 - 2 ^ (32 - places))
+
+-- the bit is the value of the comparison of two words, read as signed or as unsigned
+abbrev pub IsComparison : BinOp → Bool → List Node → List Bit → List Bit → List Node → Bit → Type 0
+IsComparison op signed old a b new bit =
+    (free : ℕ → Bool) → value_of op (word_type signed) (word_value signed free old a) (word_value signed free old b) ≡ Some (number_of_truth (truth free new bit))
+
+-- the word is the value of the operator at a word, read as signed or as unsigned
+abbrev pub IsValueOfOne : UnOp → Bool → List Node → List Bit → List Node → List Bit → Type 0
+IsValueOfOne op signed old a new word =
+    (free : ℕ → Bool) → value_of_one op (word_type signed) (word_value signed free old a) ≡ word_value signed free new word
+
+-- the number of the low places of a word
+abbrev pub low_number : (ℕ → Bool) → List Node → List Bit → ℕ → ℕ
+low_number free nodes word places = spelled (take places (map (truth free nodes) word))
+
+-- the low places of sums, and a carry behind them, add up to those of a and b and a carry
+pub record AddUp (old : List Node) (a b : List Bit) (carry : Bit) (new : List Node) (sums : List Bit) (carried : Bit) (places : ℕ) : Type 0 where
+  pub long : length sums ≡ 32
+  pub are_bits : AreBitsOf new sums
+  pub is_bit : IsBitOf new carried
+  pub holds : (free : ℕ → Bool) → low_number free new sums places + 2 ^ places * digit (truth free new carried) ≡ low_number free old a places + low_number free old b places + digit (truth free old carry)
+
+-- the bit tells whether the word is not zero, read as signed or as unsigned
+abbrev pub IsTest : Bool → List Node → List Bit → List Node → Bit → Type 0
+IsTest signed old a new bit =
+    (free : ℕ → Bool) → value_of_one IsZero (word_type signed) (word_value signed free old a) ≡ number_of_truth (not (truth free new bit))
