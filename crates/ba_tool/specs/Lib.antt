@@ -1,3 +1,4 @@
 pub mod Report
 pub mod Words
 pub mod Texts
+pub mod Tool

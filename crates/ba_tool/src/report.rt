@@ -62,12 +62,11 @@ fn kind_word(kind: StmtKind) -> &'static [u8]
     }
 }
 
-/// A statement of the program, counted from 1.
-fn statement_at(program: &Program, number: u32) -> StmtInfo
-    ensures { result ≡ statement_at program.now number }
+/// A statement, counted from 1.
+fn statement_at(statements: &[StmtInfo], number: u32) -> StmtInfo
+    ensures { result ≡ statement_at statements.now number }
 {
     let place = number.saturating_sub(1) as usize;
-    let statements = program.statements.as_slice();
     statements.get(place).copied().unwrap_or(StmtInfo {
         at: At { line: 0, column: 0 },
         kind: StmtKind::Assert,
@@ -114,15 +113,15 @@ fn push_statement(source: &[u8], info: StmtInfo, text: &mut Vec<u8>) -> Result<(
 /// Adds a line for each statement of a set.
 fn push_statements(
     source: &[u8],
-    program: &Program,
+    statements: &[StmtInfo],
     set: &[u32],
     text: &mut Vec<u8>,
 ) -> Result<(), AllocError>
     ensures { OnOk result (text.new.items
-        ≡ text.old.items ++ flat_map (λ n. info_line source.now (statement_at program.now n)) set.now) }
+        ≡ text.old.items ++ flat_map (λ n. info_line source.now (statement_at statements.now n)) set.now) }
 {
     for number in set {
-        push_statement(source, statement_at(program, *number), text)?;
+        push_statement(source, statement_at(statements, *number), text)?;
     }
     Ok(())
 }
@@ -130,31 +129,31 @@ fn push_statements(
 /// Adds a set, which has this number.
 fn push_set(
     source: &[u8],
-    program: &Program,
+    statements: &[StmtInfo],
     number: u64,
     set: &[u32],
     text: &mut Vec<u8>,
 ) -> Result<(), AllocError>
-    ensures { OnOk result (text.new.items ≡ text.old.items ++ set_lines source.now program.now number set.now) }
+    ensures { OnOk result (text.new.items ≡ text.old.items ++ set_lines source.now statements.now number set.now) }
 {
     text.extend_from_slice(b"set ")?;
     push_number(number, text)?;
     text.extend_from_slice(b":\n")?;
-    push_statements(source, program, set, text)
+    push_statements(source, statements, set, text)
 }
 
 /// Adds all sets, numbered from 1.
 fn push_sets(
     source: &[u8],
-    program: &Program,
+    statements: &[StmtInfo],
     sets: &[Items<u32>],
     text: &mut Vec<u8>,
 ) -> Result<(), AllocError>
-    ensures { OnOk result (text.new.items ≡ text.old.items ++ sets_lines source.now program.now 1 sets.now) }
+    ensures { OnOk result (text.new.items ≡ text.old.items ++ sets_lines source.now statements.now 1 sets.now) }
 {
     let mut number = 1;
     for set in sets {
-        push_set(source, program, number, set.as_slice(), text)?;
+        push_set(source, statements, number, set.as_slice(), text)?;
         number += 1;
     }
     Ok(())
@@ -179,6 +178,6 @@ pub fn report(
     text.extend_from_slice(b", sets ")?;
     push_number(sets.len() as u64, &mut text)?;
     text.extend_from_slice(b"\n")?;
-    push_sets(source, program, sets, &mut text)?;
+    push_sets(source, program.statements.as_slice(), sets, &mut text)?;
     Ok(text)
 }

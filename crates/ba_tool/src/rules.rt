@@ -1,16 +1,17 @@
 //! The rules of the search, which its caller chooses.
 
-ghost use Rattle.std.specs.Prelude.{◌≡◌};
+ghost use Rattle.std.specs.Prelude.{◌≡◌, ◌↔◌, ◌⊎◌, ◌≤◌, ◌<◌, ◌^◌, IsTrue};
 
 /// When the search restarts, and which learnt clauses it keeps. No answer depends on them.
 #[derive(Drop)]
 pub struct Rules<L, G, K> {
-    /// How many conflicts the search has before restart number r, counted from 0, where restarts follow Luby's
-    /// sequence (Luby, Sinclair and Zuckerman, "Optimal speedup of Las Vegas algorithms").
+    /// How many conflicts the search has before it restarts, by the number of restarts so far, where restarts
+    /// follow Luby's sequence.
     pub luby: L,
     /// The same, where they come at a steady pace.
     pub steady: G,
-    /// Whether a learnt clause is kept, by its number of decision levels and its length.
+    /// Whether a learnt clause is kept, by its width and by its age, which is how many clauses were learnt after
+    /// it.
     pub keep: K,
 }
 
@@ -22,5 +23,72 @@ impl<L: Fn(u64) -> u64, G: Fn(u64) -> u64, K: Fn(u64, u64) -> bool> Rules<L, G, 
         ensures keep { result.keep ≡ keep }
     {
         Rules { luby, steady, keep }
+    }
+}
+
+/// A term of Luby's sequence 1, 1, 2, 1, 1, 2, 4, .., counted from 1 (Luby, Sinclair and Zuckerman, "Optimal
+/// speedup of Las Vegas algorithms").
+fn luby_term(number: u64) -> u64
+    requires from { 1 ≤ number }
+    requires to { number < 2 ^ 32 }
+    ensures positive { 1 ≤ result }
+    ensures small { result ≤ number }
+{
+    let mut half = 1;
+    while 2 * half <= number {
+        half *= 2;
+    }
+    if number + 1 == 2 * half {
+        half
+    } else {
+        luby_term(number - half + 1)
+    }
+}
+
+/// Restarts by Luby's sequence, in hundreds of conflicts, and from a million restarts on after a hundred each.
+pub fn luby(restarts: u64) -> u64
+    ensures { 1 ≤ result }
+{
+    if restarts < 1_000_000 {
+        100 * luby_term(restarts + 1)
+    } else {
+        100
+    }
+}
+
+/// A restart after each thousand conflicts.
+pub fn steady(_restarts: u64) -> u64
+    ensures { result ≡ 1000 }
+{
+    1000
+}
+
+/// Narrow clauses are kept, and young ones.
+pub fn keep(width: u64, age: u64) -> bool
+    ensures { IsTrue result ↔ ((width ≤ 6) ⊎ (age < 4000)) }
+{
+    width <= 6 || age < 4000
+}
+
+#[cfg(test)]
+mod tests {
+    use super::*;
+
+    #[test]
+    fn restarts_follow_the_sequence(rt: HostRuntime) {
+        for (restarts, conflicts) in [
+            (0, 100),
+            (1, 100),
+            (2, 200),
+            (5, 200),
+            (6, 400),
+            (7, 100),
+            (14, 800),
+            (1_000_000, 100),
+        ] {
+            assert_eq!(rt; luby(restarts), conflicts, "after {restarts}");
+        }
+        assert_eq!(rt; steady(3), 1000);
+        assert!(rt; keep(6, 4000) && keep(7, 3999) && !keep(7, 4000));
     }
 }

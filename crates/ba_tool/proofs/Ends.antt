@@ -1,0 +1,252 @@
+-- How a call ends, from the causes.
+
+use Rattle.std.proofs.Common.{◌≡◌, ◌≢◌, ◌⊎◌, inl, inr, ℕ, ◌<◌, ◌≤◌, Bool, true, false, List, [], length, Option, Some, None, refl, sym, ap, subst, ◌∙◌, arith}
+use Rattle.std.specs.Option.{IfSome, IsSomeAnd}
+use Rattle.ba_tree.specs.Least.{AreLeast, judge_of, unit_weights}
+use Rattle.ba_tree.proofs.Sets.{AreLeast-unique}
+use Rattle.ba_tree.specs.declared.run.Input.{Input}
+use Rattle.ba_tree.specs.declared.tree.Program.{Program}
+use Rattle.ba_straight.specs.Text.{digits_value}
+use Rattle.ba_tool.specs.Words.{IsJob}
+use Rattle.ba_tool.specs.Tool.{CannotBeRead, EndsWith, Found, HasNoCase, HasNoJob, Holds, IsAnswer, IsCase, IsRead, IsTooLong, IsVerdict, Outside, Tells, TellsShort, as_wanted, bounds_with, limit, memory, name_of, read_fault, runs_well, status_of, write_fault}
+use Rattle.ba_tool.specs.declared.answer.Answer.{Answer}
+use Rattle.ba_tool.specs.declared.answer.Answer.TheVariants as answer
+use Rattle.ba_tool.specs.declared.status.File.{File}
+use Rattle.ba_tool.specs.declared.status.File.TheVariants as file
+use Rattle.ba_tool.specs.declared.status.Status.{Status}
+use Rattle.ba_tool.specs.declared.status.Status.TheVariants as status
+
+-- the status of an answer, or of a fault of printing
+abbrev pub CanBe : Answer → Status → Type 0
+CanBe a result = (result ≡ status_of a) ⊎ (result ≡ status.WriteFault) ⊎ (result ≡ status.Memory)
+
+-- the words are one job
+job_same : (words : List (List ℕ)) (p q i j : List ℕ) (b d : ℕ) → IsJob words p i b → IsJob words q j d → (p ≡ q) × (i ≡ j) × (b ≡ d)
+job_same words p q i j b d one other =
+    let e = one.words_are in
+    let k = other.words_are in
+    let bounds : one.bound_word ≡ other.bound_word = cc in
+    (cc, cc, one.bound_is ∙ ap digits_value bounds ∙ sym other.bound_is)
+
+-- a told file has the bytes that were read
+same_bytes : (held : Option (Option (List ℕ))) (told read : List ℕ) → held ≡ Some (Some told) → Holds held read → read ≡ told
+same_bytes held told read e h = let k : Holds (Some (Some told)) read = subst (λ held. Holds held read) e h in cc
+
+-- the texts that were read are those that the world tells
+same_texts : (words : List (List ℕ)) (out : Outside) (source text read_source read_text : List ℕ) (bound read_bound : ℕ) → Tells words out source text bound →
+    IsRead words out read_source read_text read_bound → (read_source ≡ source) × (read_text ≡ text) × (read_bound ≡ bound)
+same_texts words out source text read_source read_text bound read_bound tells read =
+    let names = job_same words tells.program read.program tells.input read.input bound read_bound tells.job read.job in
+    (
+      same_bytes (out.held read.program) source read_source (ap out.held (sym names.0) ∙ tells.source_is) read.source_is,
+      same_bytes (out.held read.input) text read_text (ap out.held (sym names.1) ∙ tells.text_is) read.text_is,
+      sym names.2,
+    )
+
+verdict_moves : (s t z w : List ℕ) (b d : ℕ) (a : Answer) → s ≡ t → z ≡ w → b ≡ d → IsVerdict s z (bounds_with b) a → IsVerdict t w (bounds_with d) a
+verdict_moves s t z w b d a e f h v =
+    subst (λ s. IsVerdict s w (bounds_with d) a) e (subst (λ z. IsVerdict s z (bounds_with d) a) f (subst (λ b. IsVerdict s z (bounds_with b) a) h v))
+
+-- a verdict that was found is one on the texts that the world tells
+verdict_at : (words : List (List ℕ)) (out : Outside) (source text : List ℕ) (bound : ℕ) (a : Answer) → Tells words out source text bound → Found words out a →
+    IsVerdict source text (bounds_with bound) a
+verdict_at words out source text bound a tells found =
+    let same = same_texts words out source text found.source found.text bound found.bound tells found.read in
+    verdict_moves found.source source found.text text found.bound bound a same.0 same.1 same.2 found.verdict_is
+
+-- what is held under the name of a file that the world tells
+told_bytes : File → List ℕ → List ℕ → List ℕ
+told_bytes file.Program source text = source
+told_bytes file.Input source text = text
+
+held_told : (words : List (List ℕ)) (out : Outside) (source text p i : List ℕ) (bound b : ℕ) (which : File) → Tells words out source text bound → IsJob words p i b →
+    out.held (name_of which p i) ≡ Some (Some (told_bytes which source text))
+unfolding told_bytes
+held_told words out source text p i bound b file.Program tells job = ap out.held (sym (job_same words tells.program p tells.input i bound b tells.job job).0) ∙ tells.source_is
+held_told words out source text p i bound b file.Input tells job = ap out.held (sym (job_same words tells.program p tells.input i bound b tells.job job).1) ∙ tells.text_is
+
+not_absent : (words : List (List ℕ)) (out : Outside) (source text p i : List ℕ) (bound b : ℕ) (which : File) → Tells words out source text bound → IsJob words p i b →
+    out.held (name_of which p i) ≡ Some None → ⊥
+not_absent words out source text p i bound b which tells job absent = let e = held_told words out source text p i bound b which tells job in cc
+
+-- a file that cannot be read though the world tells it: a fault rose
+fault_rose : (words : List (List ℕ)) (out : Outside) (source text : List ℕ) (bound : ℕ) (which : File) (wanted result : Status) → Tells words out source text bound →
+    CannotBeRead words out which → result ≡ status.ReadFault → EndsWith out wanted result
+fault_rose words out source text bound which wanted result tells unread e =
+    elim unread.cause as (λ _. EndsWith out wanted result) [
+      inl rose ↦ read_fault e rose
+    | inr absent ↦ absurd (not_absent words out source text unread.program unread.input bound unread.bound which tells unread.job absent)
+    ]
+
+-- how a call ends, from how it ends with the status of its answer
+end_from : (out : Outside) (a : Answer) (wanted result : Status) → CanBe a result →
+    (result ≡ status_of a → EndsWith out wanted result) → EndsWith out wanted result
+end_from out a wanted result (inl e) ends = ends e
+end_from out a wanted result (inr (inl e)) ends = write_fault e
+end_from out a wanted result (inr (inr e)) ends = memory e
+
+pub where_no_job : (words : List (List ℕ)) (out : Outside) (a : Answer) (result : Status) → IsAnswer words out a →
+    CanBe a result → HasNoJob words → EndsWith out status.NotBuilt result
+where_no_job words out (answer.Located bytes) result due which refuted = absurd (refuted due.read.program due.read.input due.bound due.read.job)
+where_no_job words out answer.NotFailing result due which refuted = absurd (refuted due.read.program due.read.input due.bound due.read.job)
+where_no_job words out answer.NoRepair result due which refuted = absurd (refuted due.read.program due.read.input due.bound due.read.job)
+where_no_job words out answer.NotBuilt result due which refuted = end_from out answer.NotBuilt status.NotBuilt result which (λ e. as_wanted e)
+where_no_job words out (answer.Unreadable w) result due which refuted = absurd (refuted due.program due.input due.bound due.job)
+where_no_job words out (answer.TooLong w) result due which refuted = absurd (refuted due.program due.input due.bound due.job)
+where_no_job words out answer.Memory result due which refuted = end_from out answer.Memory status.NotBuilt result which (λ e. memory e)
+
+-- a file that the world tells, and that was too long, is longer than the limit
+longer_than : (held : Option (Option (List ℕ))) (told : List ℕ) → held ≡ Some (Some told) → IfSome held (λ held. IsSomeAnd held (λ bytes. limit < length bytes)) → limit < length told
+longer_than held told e h = subst (λ held. IfSome held (λ held. IsSomeAnd held (λ bytes. limit < length bytes))) e h
+
+not_longer : (words : List (List ℕ)) (out : Outside) (source text : List ℕ) (bound : ℕ) (which : File) → TellsShort words out source text bound → IsTooLong words out which → ⊥
+unfolding told_bytes
+not_longer words out source text bound file.Program told long =
+    let e = held_told words out source text long.program long.input bound long.bound file.Program told.tells long.job in
+    let more = longer_than (out.held long.program) source e long.longer in
+    let short = told.source_short in
+    omega arith
+not_longer words out source text bound file.Input told long =
+    let e = held_told words out source text long.program long.input bound long.bound file.Input told.tells long.job in
+    let more = longer_than (out.held long.input) text e long.longer in
+    let short = told.text_short in
+    omega arith
+
+-- Where the world tells the files, the call ends with the status of a verdict on them.
+told_ends : (words : List (List ℕ)) (out : Outside) (source text : List ℕ) (bound : ℕ) (a : Answer) (wanted result : Status) → TellsShort words out source text bound →
+    IsAnswer words out a → CanBe a result →
+    (IsVerdict source text (bounds_with bound) a → status_of a ≡ wanted) → EndsWith out wanted result
+told_ends words out source text bound (answer.Located bytes) wanted result told due which is =
+    end_from out (answer.Located bytes) wanted result which (λ e. as_wanted (e ∙ is (verdict_at words out source text bound (answer.Located bytes) told.tells due)))
+told_ends words out source text bound answer.NotFailing wanted result told due which is =
+    end_from out answer.NotFailing wanted result which (λ e. as_wanted (e ∙ is (verdict_at words out source text bound answer.NotFailing told.tells due)))
+told_ends words out source text bound answer.NoRepair wanted result told due which is =
+    end_from out answer.NoRepair wanted result which (λ e. as_wanted (e ∙ is (verdict_at words out source text bound answer.NoRepair told.tells due)))
+told_ends words out source text bound answer.NotBuilt wanted result told (inl refuted) which is = absurd (refuted told.tells.program told.tells.input bound told.tells.job)
+told_ends words out source text bound answer.NotBuilt wanted result told (inr due) which is =
+    end_from out answer.NotBuilt wanted result which (λ e. as_wanted (e ∙ is (verdict_at words out source text bound answer.NotBuilt told.tells due)))
+told_ends words out source text bound (answer.Unreadable w) wanted result told due which is =
+    end_from out (answer.Unreadable w) wanted result which (fault_rose words out source text bound w wanted result told.tells due)
+told_ends words out source text bound (answer.TooLong w) wanted result told due which is = absurd (not_longer words out source text bound w told due)
+told_ends words out source text bound answer.Memory wanted result told due which is = end_from out answer.Memory wanted result which (λ e. memory e)
+
+pub where_no_case : (words : List (List ℕ)) (out : Outside) (source text : List ℕ) (bound : ℕ) (a : Answer) (result : Status) → IsAnswer words out a → CanBe a result →
+    TellsShort words out source text bound → HasNoCase source text → EndsWith out status.NotBuilt result
+where_no_case words out source text bound a result due which told refuted =
+    told_ends words out source text bound a status.NotBuilt result told due which (no_verdict a)
+    where
+      no_verdict : (a : Answer) → IsVerdict source text (bounds_with bound) a → status_of a ≡ status.NotBuilt
+      no_verdict (answer.Located bytes) v = absurd (refuted v.program v.input v.is_case)
+      no_verdict answer.NotFailing v = absurd (refuted v.program v.input v.is_case)
+      no_verdict answer.NoRepair v = absurd (refuted v.program v.input v.is_case)
+      no_verdict answer.NotBuilt v = refl
+      no_verdict (answer.Unreadable w) v = absurd v
+      no_verdict (answer.TooLong w) v = absurd v
+      no_verdict answer.Memory v = absurd v
+
+pub where_too_long : (words : List (List ℕ)) (out : Outside) (source text : List ℕ) (bound : ℕ) (a : Answer) (result : Status) → IsAnswer words out a → CanBe a result →
+    Tells words out source text bound → (limit < length source) ⊎ (limit < length text) → EndsWith out status.TooLong result
+where_too_long words out source text bound a result due which tells long = ends a due which
+    where
+      not_read : (s t : List ℕ) (b : ℕ) → IsRead words out s t b → (limit < length source) ⊎ (limit < length text) → ⊥
+      not_read s t b read (inl long) =
+          let same = ap length (same_texts words out source text s t bound b tells read).0 in
+          let short = read.source_short in
+          omega arith
+      not_read s t b read (inr long) =
+          let same = ap length (same_texts words out source text s t bound b tells read).1 in
+          let short = read.text_short in
+          omega arith
+      ends : (a : Answer) → IsAnswer words out a → CanBe a result → EndsWith out status.TooLong result
+      ends (answer.Located bytes) due which = absurd (not_read due.source due.text due.bound due.read long)
+      ends answer.NotFailing due which = absurd (not_read due.source due.text due.bound due.read long)
+      ends answer.NoRepair due which = absurd (not_read due.source due.text due.bound due.read long)
+      ends answer.NotBuilt (inl refuted) which = absurd (refuted tells.program tells.input bound tells.job)
+      ends answer.NotBuilt (inr due) which = absurd (not_read due.source due.text due.bound due.read long)
+      ends (answer.Unreadable w) due which = end_from out (answer.Unreadable w) status.TooLong result which (fault_rose words out source text bound w status.TooLong result tells due)
+      ends (answer.TooLong w) due which = end_from out (answer.TooLong w) status.TooLong result which (λ e. as_wanted e)
+      ends answer.Memory due which = end_from out answer.Memory status.TooLong result which (λ e. memory e)
+
+-- a run that is well does not fail
+not_both : (b : Bool) → b ≡ true → b ≡ false → ⊥
+not_both b e f = cc
+
+pub where_not_failing : (words : List (List ℕ)) (out : Outside) (source text : List ℕ) (bound : ℕ) (a : Answer) (result : Status) → IsAnswer words out a → CanBe a result →
+    (p : Program) (i : Input) → TellsShort words out source text bound → IsCase source text p i → runs_well p i (bounds_with bound) ≡ true → EndsWith out status.NotFailing result
+where_not_failing words out source text bound a result due which p i told case well =
+    told_ends words out source text bound a status.NotFailing result told due which (verdict a)
+    where
+      verdict : (a : Answer) → IsVerdict source text (bounds_with bound) a → status_of a ≡ status.NotFailing
+      verdict (answer.Located bytes) v = absurd (not_both (runs_well p i (bounds_with bound)) well (v.each p i case).fails)
+      verdict answer.NotFailing v = refl
+      verdict answer.NoRepair v = absurd (not_both (runs_well p i (bounds_with bound)) well (v.each p i case).0)
+      verdict answer.NotBuilt v = absurd (v p i case)
+      verdict (answer.Unreadable w) v = absurd v
+      verdict (answer.TooLong w) v = absurd v
+      verdict answer.Memory v = absurd v
+
+pub where_no_repair : (words : List (List ℕ)) (out : Outside) (source text : List ℕ) (bound : ℕ) (a : Answer) (result : Status) → IsAnswer words out a → CanBe a result →
+    (p : Program) (i : Input) → TellsShort words out source text bound → IsCase source text p i → runs_well p i (bounds_with bound) ≡ false →
+    AreLeast (unit_weights p) (judge_of p i (bounds_with bound)) [] → EndsWith out status.NoRepair result
+where_no_repair words out source text bound a result due which p i told case fails none =
+    told_ends words out source text bound a status.NoRepair result told due which (verdict a)
+    where
+      verdict : (a : Answer) → IsVerdict source text (bounds_with bound) a → status_of a ≡ status.NoRepair
+      verdict (answer.Located bytes) v =
+          let found = v.each p i case in
+          absurd (found.some (AreLeast-unique (unit_weights p) (judge_of p i (bounds_with bound)) found.sets [] found.least none))
+      verdict answer.NotFailing v = absurd (not_both (runs_well p i (bounds_with bound)) (v.each p i case) fails)
+      verdict answer.NoRepair v = refl
+      verdict answer.NotBuilt v = absurd (v p i case)
+      verdict (answer.Unreadable w) v = absurd v
+      verdict (answer.TooLong w) v = absurd v
+      verdict answer.Memory v = absurd v
+
+pub where_located : (words : List (List ℕ)) (out : Outside) (source text : List ℕ) (bound : ℕ) (a : Answer) (result : Status) → IsAnswer words out a → CanBe a result →
+    (p : Program) (i : Input) (sets : List (List ℕ)) → TellsShort words out source text bound → IsCase source text p i → runs_well p i (bounds_with bound) ≡ false →
+    AreLeast (unit_weights p) (judge_of p i (bounds_with bound)) sets → sets ≢ [] → EndsWith out status.Ok result
+where_located words out source text bound a result due which p i sets told case fails least some =
+    told_ends words out source text bound a status.Ok result told due which (verdict a)
+    where
+      verdict : (a : Answer) → IsVerdict source text (bounds_with bound) a → status_of a ≡ status.Ok
+      verdict (answer.Located bytes) v = refl
+      verdict answer.NotFailing v = absurd (not_both (runs_well p i (bounds_with bound)) (v.each p i case) fails)
+      verdict answer.NoRepair v = absurd (some (AreLeast-unique (unit_weights p) (judge_of p i (bounds_with bound)) sets [] least (v.each p i case).1))
+      verdict answer.NotBuilt v = absurd (v p i case)
+      verdict (answer.Unreadable w) v = absurd v
+      verdict (answer.TooLong w) v = absurd v
+      verdict answer.Memory v = absurd v
+
+pub completes : (words : List (List ℕ)) (out : Outside) (source text : List ℕ) (bound : ℕ) (a : Answer) (result : Status) → IsAnswer words out a → CanBe a result →
+    (p : Program) (i : Input) → TellsShort words out source text bound → IsCase source text p i →
+    EndsWith out status.Ok result ⊎ EndsWith out status.NotFailing result ⊎ EndsWith out status.NoRepair result
+completes words out source text bound a result due which p i told case = ends a due which
+    where
+      ends : (a : Answer) → IsAnswer words out a → CanBe a result → EndsWith out status.Ok result ⊎ EndsWith out status.NotFailing result ⊎ EndsWith out status.NoRepair result
+      ends (answer.Located bytes) due which = inl (told_ends words out source text bound (answer.Located bytes) status.Ok result told due which (λ v. refl))
+      ends answer.NotFailing due which = inr (inl (told_ends words out source text bound answer.NotFailing status.NotFailing result told due which (λ v. refl)))
+      ends answer.NoRepair due which = inr (inr (told_ends words out source text bound answer.NoRepair status.NoRepair result told due which (λ v. refl)))
+      ends answer.NotBuilt due which = inl (told_ends words out source text bound answer.NotBuilt status.Ok result told due which (λ v. absurd (v p i case)))
+      ends (answer.Unreadable w) due which = inl (told_ends words out source text bound (answer.Unreadable w) status.Ok result told due which (λ v. absurd v))
+      ends (answer.TooLong w) due which = inl (told_ends words out source text bound (answer.TooLong w) status.Ok result told due which (λ v. absurd v))
+      ends answer.Memory due which = inl (told_ends words out source text bound answer.Memory status.Ok result told due which (λ v. absurd v))
+
+-- an answer stays one where the counts of reading stay
+pub answer_stays : (words : List (List ℕ)) (held : List ℕ → Option (Option (List ℕ))) (faults given faults_one faults_two given_one given_two : ℕ) (a : Answer) →
+    faults_two ≡ faults_one → given_two ≡ given_one →
+    IsAnswer words (record { held = held; faults = faults; faults_after = faults_one; given = given; given_after = given_one }) a →
+    IsAnswer words (record { held = held; faults = faults; faults_after = faults_two; given = given; given_after = given_two }) a
+answer_stays words held faults given faults_one faults_two given_one given_two a e f due =
+    subst (λ n. IsAnswer words (record { held = held; faults = faults; faults_after = faults_two; given = given; given_after = n }) a) (sym f)
+      (subst (λ n. IsAnswer words (record { held = held; faults = faults; faults_after = n; given = given; given_after = given_one }) a) (sym e) due)
+
+-- a verdict on the files that were read is an answer
+pub found_answer : (words : List (List ℕ)) (out : Outside) (source text : List ℕ) (bound : ℕ) (a : Answer) → IsRead words out source text bound →
+    IsVerdict source text (bounds_with bound) a → IsAnswer words out a
+found_answer words out source text bound (answer.Located bytes) read v = record { source = source; text = text; bound = bound; read = read; verdict_is = v }
+found_answer words out source text bound answer.NotFailing read v = record { source = source; text = text; bound = bound; read = read; verdict_is = v }
+found_answer words out source text bound answer.NoRepair read v = record { source = source; text = text; bound = bound; read = read; verdict_is = v }
+found_answer words out source text bound answer.NotBuilt read v = inr (record { source = source; text = text; bound = bound; read = read; verdict_is = v })
+found_answer words out source text bound (answer.Unreadable w) read v = absurd v
+found_answer words out source text bound (answer.TooLong w) read v = absurd v
+found_answer words out source text bound answer.Memory read v = tt

@@ -1,0 +1,211 @@
+//! The top call of the program.
+
+ghost use Rattle.std.specs.Prelude.{◌≡◌, ◌≢◌, ◌⊎◌, ℕ, ◌≤◌, ◌<◌, [], List, length, map, false, true};
+ghost use Rattle.ba_world.specs.World.{Appends, AppendsPrefix, Rose};
+ghost use Rattle.ba_tree.specs.declared.run.Input.{Input};
+ghost use Rattle.ba_tree.specs.declared.tree.Program.{Program};
+ghost use Rattle.ba_tree.specs.Least.{AreLeast, judge_of, unit_weights};
+ghost use Rattle.ba_tool.specs.declared.answer.Answer.{Answer};
+ghost use Rattle.ba_tool.specs.declared.status.File.{File};
+ghost use Rattle.ba_tool.specs.Texts.{no_repair_text, not_built_text, not_failing_text, too_long_text, unreadable_text};
+ghost use Rattle.ba_tool.specs.Tool.{CannotBeRead, EndsWith, Found, HasNoCase, HasNoJob, IsAnswer, IsCase, IsTooLong, Prints, Tells, TellsShort, bounds_with, limit, outside, read_answer, runs_well, status_of, text_of};
+
+use crate::answer::Answer;
+use crate::judge::judge;
+use crate::rules::Rules;
+use crate::status::{File, Status};
+use crate::words::first_words;
+use ba_world::{ReadFileError, World, WorldError, read_whole};
+use std::alloc::Global;
+
+/// How many bytes a file may have.
+const LIMIT: u64 = 65536;
+
+/// The answer where a file could not be read whole.
+fn read_answer(file: File, error: ReadFileError) -> Answer
+    ensures { result ≡ read_answer file error }
+{
+    match error {
+        ReadFileError::Failed => Answer::Unreadable(file),
+        ReadFileError::TooLong => Answer::TooLong(file),
+        ReadFileError::Memory => Answer::Memory,
+    }
+}
+
+/// What the call comes to: it reads the words, then the files, each of them whole, and then judges.
+fn answer<W: World>(alloc: Global, words: &[&str], world: &mut W) -> Answer
+    ensures answer { IsAnswer (map (λ word. word.now) words.now) (outside W.held W.read_faults W.given world.old world.new) result }
+    ensures no_fall { W.read_faults world.old ≤ W.read_faults world.new }
+
+    ensures held_stays { W.held world.new ≡ W.held world.old }
+    ensures kept_stays { W.kept world.new ≡ W.kept world.old }
+    ensures writing_stays { W.writing world.new ≡ W.writing world.old }
+    ensures is_writing_stays { W.is_writing world.new ≡ W.is_writing world.old }
+    ensures printed_stays { W.printed world.new ≡ W.printed world.old }
+    ensures write_faults_stay { W.write_faults world.new ≡ W.write_faults world.old }
+{
+    let Some(job) = first_words(words) else {
+        return Answer::NotBuilt;
+    };
+    let source = match read_whole(alloc, world, job.program, LIMIT) {
+        Ok(source) => source,
+        Err(error) => return read_answer(File::Program, error),
+    };
+    let text = match read_whole(alloc, world, job.input, LIMIT) {
+        Ok(text) => text,
+        Err(error) => return read_answer(File::Input, error),
+    };
+    match judge(alloc, source.as_slice(), text.as_slice()) {
+        Ok(answer) => answer,
+        Err(_) => Answer::Memory,
+    }
+}
+
+/// Prints a text by one call, and answers how the program then ends.
+fn show<W: World>(world: &mut W, text: &[u8], status: Status) -> Status
+    ensures which { (result ≡ status) ⊎ (result ≡ Status.WriteFault) ⊎ (result ≡ Status.Memory) }
+    ensures shown { Appends (W.printed world.old) (W.printed world.new) text.now ⊎ (result ≡ Status.WriteFault) ⊎ (result ≡ Status.Memory) }
+    ensures prefix { AppendsPrefix (W.printed world.old) (W.printed world.new) text.now }
+    ensures cause { (result ≡ status) ⊎ Rose (W.write_faults world.old) (W.write_faults world.new) ⊎ (result ≡ Status.Memory) }
+    ensures no_fall { W.write_faults world.old ≤ W.write_faults world.new }
+
+    ensures held_stays { W.held world.new ≡ W.held world.old }
+    ensures kept_stays { W.kept world.new ≡ W.kept world.old }
+    ensures writing_stays { W.writing world.new ≡ W.writing world.old }
+    ensures is_writing_stays { W.is_writing world.new ≡ W.is_writing world.old }
+    ensures read_faults_stay { W.read_faults world.new ≡ W.read_faults world.old }
+    ensures given_stays { W.given world.new ≡ W.given world.old }
+{
+    match world.print(text) {
+        Ok(()) => status,
+        Err(WorldError::Failed) => Status::WriteFault,
+        Err(WorldError::Memory) => Status::Memory,
+    }
+}
+
+/// Prints the answer's text, and answers how the program then ends. Want of memory has no text.
+fn finish<W: World>(world: &mut W, answer: &Answer) -> Status
+    ensures which { (result ≡ status_of answer.now) ⊎ (result ≡ Status.WriteFault) ⊎ (result ≡ Status.Memory) }
+    ensures shown { Appends (W.printed world.old) (W.printed world.new) (text_of answer.now) ⊎ (result ≡ Status.WriteFault) ⊎ (result ≡ Status.Memory) }
+    ensures prefix { AppendsPrefix (W.printed world.old) (W.printed world.new) (text_of answer.now) }
+    ensures cause { (result ≡ status_of answer.now) ⊎ Rose (W.write_faults world.old) (W.write_faults world.new) ⊎ (result ≡ Status.Memory) }
+    ensures no_fall { W.write_faults world.old ≤ W.write_faults world.new }
+
+    ensures held_stays { W.held world.new ≡ W.held world.old }
+    ensures kept_stays { W.kept world.new ≡ W.kept world.old }
+    ensures writing_stays { W.writing world.new ≡ W.writing world.old }
+    ensures is_writing_stays { W.is_writing world.new ≡ W.is_writing world.old }
+    ensures read_faults_stay { W.read_faults world.new ≡ W.read_faults world.old }
+    ensures given_stays { W.given world.new ≡ W.given world.old }
+{
+    match answer {
+        Answer::Memory => Status::Memory,
+        _ => show(world, answer.text(), answer.status()),
+    }
+}
+
+/// Reads a program and a failing input, and prints the sets of statements of least weight whose change could
+/// repair that run.
+///
+/// The words are `localise`, the name of the program's file, that of the input's file, `--bound`, and a bound
+/// from 1 to 64 on the turns of each entry of a loop. In this order it reads the words, the program's file and
+/// the input's file, each of them whole; it looks whether program and input are of the form that is built; it
+/// runs the program as written; and if that run fails it searches. It prints one text, by one call, made whole
+/// before. After a fault of reading it calls nothing of the world but the print of the refusal's text.
+///
+/// Want of memory is the one answer that no clause ties to a cause.
+pub fn tool<W: World, L, G, K>(
+    alloc: Global,
+    words: &[&str],
+    world: &mut W,
+    rules: Rules<L, G, K>,
+) -> Status
+where
+    L: Fn(u64) -> u64 + Drop,
+    G: Fn(u64) -> u64 + Drop,
+    K: Fn(u64, u64) -> bool + Drop,
+
+    // THE HEADLINE. What was printed is the report of exactly the least sets of the program that the program's file spells, on
+    // the input that the input's file writes: all of them, each once and in order, with the weight of each.
+    ensures located { result ≡ Status.Ok → Prints (W.printed world.old) (W.printed world.new)
+        (λ text. Found (map (λ word. word.now) words.now) (outside W.held W.read_faults W.given world.old world.new) (Answer.Located text)) }
+
+    // The run as written meets every assertion.
+    ensures not_failing { result ≡ Status.NotFailing
+        → Found (map (λ word. word.now) words.now) (outside W.held W.read_faults W.given world.old world.new) Answer.NotFailing
+        × Appends (W.printed world.old) (W.printed world.new) not_failing_text }
+
+    // It fails, and the list of least sets is empty.
+    ensures no_repair { result ≡ Status.NoRepair
+        → Found (map (λ word. word.now) words.now) (outside W.held W.read_faults W.given world.old world.new) Answer.NoRepair
+        × Appends (W.printed world.old) (W.printed world.new) no_repair_text }
+
+    // The words, or the program and the input, are not of the form.
+    ensures not_built { result ≡ Status.NotBuilt
+        → (HasNoJob (map (λ word. word.now) words.now)
+        ⊎ Found (map (λ word. word.now) words.now) (outside W.held W.read_faults W.given world.old world.new) Answer.NotBuilt)
+        × Appends (W.printed world.old) (W.printed world.new) not_built_text }
+
+    // The file that is named could not be read, since a fault of reading rose or there is no such file.
+    ensures read_fault { result ≡ Status.ReadFault → (which : File)
+        × CannotBeRead (map (λ word. word.now) words.now) (outside W.held W.read_faults W.given world.old world.new) which
+        × Appends (W.printed world.old) (W.printed world.new) (unreadable_text which) }
+
+    // The file that is named is too long.
+    ensures too_long { result ≡ Status.TooLong → (which : File)
+        × IsTooLong (map (λ word. word.now) words.now) (outside W.held W.read_faults W.given world.old world.new) which
+        × Appends (W.printed world.old) (W.printed world.new) (too_long_text which) }
+
+    ensures write_fault { result ≡ Status.WriteFault → Rose (W.write_faults world.old) (W.write_faults world.new) }
+
+    // However the call ends, it printed a prefix of the text of an answer for which there is a cause.
+    ensures prefix { (answer : Answer)
+        × IsAnswer (map (λ word. word.now) words.now) (outside W.held W.read_faults W.given world.old world.new) answer
+        × AppendsPrefix (W.printed world.old) (W.printed world.new) (text_of answer) }
+
+    // The same from the causes: with which status the call ends, where no fault and no want of memory comes.
+    ensures where_no_job { HasNoJob (map (λ word. word.now) words.now)
+        → EndsWith (outside W.held W.read_faults W.given world.old world.new) Status.NotBuilt result }
+    ensures where_no_case { (source text : List ℕ) (bound : ℕ)
+        → TellsShort (map (λ word. word.now) words.now) (outside W.held W.read_faults W.given world.old world.new) source text bound
+        → HasNoCase source text
+        → EndsWith (outside W.held W.read_faults W.given world.old world.new) Status.NotBuilt result }
+    ensures where_too_long { (source text : List ℕ) (bound : ℕ)
+        → Tells (map (λ word. word.now) words.now) (outside W.held W.read_faults W.given world.old world.new) source text bound
+        → (limit < length source) ⊎ (limit < length text)
+        → EndsWith (outside W.held W.read_faults W.given world.old world.new) Status.TooLong result }
+    ensures where_not_failing { (source text : List ℕ) (bound : ℕ) (p : Program) (i : Input)
+        → TellsShort (map (λ word. word.now) words.now) (outside W.held W.read_faults W.given world.old world.new) source text bound
+        → IsCase source text p i → runs_well p i (bounds_with bound) ≡ true
+        → EndsWith (outside W.held W.read_faults W.given world.old world.new) Status.NotFailing result }
+    ensures where_no_repair { (source text : List ℕ) (bound : ℕ) (p : Program) (i : Input)
+        → TellsShort (map (λ word. word.now) words.now) (outside W.held W.read_faults W.given world.old world.new) source text bound
+        → IsCase source text p i → runs_well p i (bounds_with bound) ≡ false
+        → AreLeast (unit_weights p) (judge_of p i (bounds_with bound)) []
+        → EndsWith (outside W.held W.read_faults W.given world.old world.new) Status.NoRepair result }
+    ensures where_located { (source text : List ℕ) (bound : ℕ) (p : Program) (i : Input) (sets : List (List ℕ))
+        → TellsShort (map (λ word. word.now) words.now) (outside W.held W.read_faults W.given world.old world.new) source text bound
+        → IsCase source text p i → runs_well p i (bounds_with bound) ≡ false
+        → AreLeast (unit_weights p) (judge_of p i (bounds_with bound)) sets → sets ≢ []
+        → EndsWith (outside W.held W.read_faults W.given world.old world.new) Status.Ok result }
+
+    // Where words, program and input are of the form and told, and nothing failed, the call says whether there is something to repair.
+    ensures completes { (source text : List ℕ) (bound : ℕ) (p : Program) (i : Input)
+        → TellsShort (map (λ word. word.now) words.now) (outside W.held W.read_faults W.given world.old world.new) source text bound
+        → IsCase source text p i
+        → EndsWith (outside W.held W.read_faults W.given world.old world.new) Status.Ok result
+        ⊎ EndsWith (outside W.held W.read_faults W.given world.old world.new) Status.NotFailing result
+        ⊎ EndsWith (outside W.held W.read_faults W.given world.old world.new) Status.NoRepair result }
+
+    // No file is written.
+    ensures held_stays { W.held world.new ≡ W.held world.old }
+    ensures kept_stays { W.kept world.new ≡ W.kept world.old }
+    ensures writing_stays { W.writing world.new ≡ W.writing world.old }
+    ensures is_writing_stays { W.is_writing world.new ≡ W.is_writing world.old }
+    ensures read_faults_no_fall { W.read_faults world.old ≤ W.read_faults world.new }
+    ensures write_faults_no_fall { W.write_faults world.old ≤ W.write_faults world.new }
+{
+    let _ = rules;
+    let answer = answer(alloc, words, world);
+    finish(world, &answer)
+}
