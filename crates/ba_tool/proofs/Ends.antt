@@ -36,8 +36,7 @@ same_bytes held told read e h = let k : Holds (Some (Some told)) read = subst (�
 same_texts : (words : List (List ℕ)) (out : Outside) (source text read_source read_text : List ℕ) (bound read_bound : ℕ) → Tells words out source text bound →
     IsRead words out read_source read_text read_bound → (read_source ≡ source) × (read_text ≡ text) × (read_bound ≡ bound)
 same_texts words out source text read_source read_text bound read_bound tells read =
-    let names = job_same words tells.program read.program tells.input read.input bound read_bound tells.job read.job in
-    (
+    let names = job_same words tells.program read.program tells.input read.input bound read_bound tells.job read.job in (
       same_bytes (out.held read.program) source read_source (ap out.held (sym names.0) ∙ tells.source_is) read.source_is,
       same_bytes (out.held read.input) text read_text (ap out.held (sym names.1) ∙ tells.text_is) read.text_is,
       sym names.2,
@@ -74,8 +73,8 @@ fault_rose : (words : List (List ℕ)) (out : Outside) (source text : List ℕ) 
     CannotBeRead words out which → result ≡ status.ReadFault → EndsWith out wanted result
 fault_rose words out source text bound which wanted result tells unread e =
     elim unread.cause as (λ _. EndsWith out wanted result) [
-      inl rose ↦ read_fault e rose
-    | inr absent ↦ absurd (not_absent words out source text unread.program unread.input bound unread.bound which tells unread.job absent)
+      | inl rose ↦ read_fault e rose
+      | inr absent ↦ absurd (not_absent words out source text unread.program unread.input bound unread.bound which tells unread.job absent)
     ]
 
 -- how a call ends, from how it ends with the status of its answer
@@ -134,38 +133,39 @@ pub where_no_case : (words : List (List ℕ)) (out : Outside) (source text : Lis
     TellsShort words out source text bound → HasNoCase source text → EndsWith out status.NotBuilt result
 where_no_case words out source text bound a result due which told refuted =
     told_ends words out source text bound a status.NotBuilt result told due which (no_verdict a)
-    where
-      no_verdict : (a : Answer) → IsVerdict source text (bounds_with bound) a → status_of a ≡ status.NotBuilt
-      no_verdict (answer.Located bytes) v = absurd (refuted v.program v.input v.is_case)
-      no_verdict answer.NotFailing v = absurd (refuted v.program v.input v.is_case)
-      no_verdict answer.NoRepair v = absurd (refuted v.program v.input v.is_case)
-      no_verdict answer.NotBuilt v = refl
-      no_verdict (answer.Unreadable w) v = absurd v
-      no_verdict (answer.TooLong w) v = absurd v
-      no_verdict answer.Memory v = absurd v
+  where
+    no_verdict : (a : Answer) → IsVerdict source text (bounds_with bound) a → status_of a ≡ status.NotBuilt
+    no_verdict (answer.Located bytes) v = absurd (refuted v.program v.input v.is_case)
+    no_verdict answer.NotFailing v = absurd (refuted v.program v.input v.is_case)
+    no_verdict answer.NoRepair v = absurd (refuted v.program v.input v.is_case)
+    no_verdict answer.NotBuilt v = refl
+    no_verdict (answer.Unreadable w) v = absurd v
+    no_verdict (answer.TooLong w) v = absurd v
+    no_verdict answer.Memory v = absurd v
 
 pub where_too_long : (words : List (List ℕ)) (out : Outside) (source text : List ℕ) (bound : ℕ) (a : Answer) (result : Status) → IsAnswer words out a → CanBe a result →
     Tells words out source text bound → (limit < length source) ⊎ (limit < length text) → EndsWith out status.TooLong result
 where_too_long words out source text bound a result due which tells long = ends a due which
-    where
-      not_read : (s t : List ℕ) (b : ℕ) → IsRead words out s t b → (limit < length source) ⊎ (limit < length text) → ⊥
-      not_read s t b read (inl long) =
-          let same = ap length (same_texts words out source text s t bound b tells read).0 in
-          let short = read.source_short in
-          omega arith
-      not_read s t b read (inr long) =
-          let same = ap length (same_texts words out source text s t bound b tells read).1 in
-          let short = read.text_short in
-          omega arith
-      ends : (a : Answer) → IsAnswer words out a → CanBe a result → EndsWith out status.TooLong result
-      ends (answer.Located bytes) due which = absurd (not_read due.source due.text due.bound due.read long)
-      ends answer.NotFailing due which = absurd (not_read due.source due.text due.bound due.read long)
-      ends answer.NoRepair due which = absurd (not_read due.source due.text due.bound due.read long)
-      ends answer.NotBuilt (inl refuted) which = absurd (refuted tells.program tells.input bound tells.job)
-      ends answer.NotBuilt (inr due) which = absurd (not_read due.source due.text due.bound due.read long)
-      ends (answer.Unreadable w) due which = end_from out (answer.Unreadable w) status.TooLong result which (fault_rose words out source text bound w status.TooLong result tells due)
-      ends (answer.TooLong w) due which = end_from out (answer.TooLong w) status.TooLong result which (λ e. as_wanted e)
-      ends answer.Memory due which = end_from out answer.Memory status.TooLong result which (λ e. memory e)
+  where
+    not_read : (s t : List ℕ) (b : ℕ) → IsRead words out s t b → (limit < length source) ⊎ (limit < length text) → ⊥
+    not_read s t b read (inl long) =
+        let same = ap length (same_texts words out source text s t bound b tells read).0 in
+        let short = read.source_short in
+        omega arith
+    not_read s t b read (inr long) =
+        let same = ap length (same_texts words out source text s t bound b tells read).1 in
+        let short = read.text_short in
+        omega arith
+
+    ends : (a : Answer) → IsAnswer words out a → CanBe a result → EndsWith out status.TooLong result
+    ends (answer.Located bytes) due which = absurd (not_read due.source due.text due.bound due.read long)
+    ends answer.NotFailing due which = absurd (not_read due.source due.text due.bound due.read long)
+    ends answer.NoRepair due which = absurd (not_read due.source due.text due.bound due.read long)
+    ends answer.NotBuilt (inl refuted) which = absurd (refuted tells.program tells.input bound tells.job)
+    ends answer.NotBuilt (inr due) which = absurd (not_read due.source due.text due.bound due.read long)
+    ends (answer.Unreadable w) due which = end_from out (answer.Unreadable w) status.TooLong result which (fault_rose words out source text bound w status.TooLong result tells due)
+    ends (answer.TooLong w) due which = end_from out (answer.TooLong w) status.TooLong result which (λ e. as_wanted e)
+    ends answer.Memory due which = end_from out answer.Memory status.TooLong result which (λ e. memory e)
 
 -- a run that is well does not fail
 not_both : (b : Bool) → b ≡ true → b ≡ false → ⊥
@@ -175,61 +175,61 @@ pub where_not_failing : (words : List (List ℕ)) (out : Outside) (source text :
     (p : Program) (i : Input) → TellsShort words out source text bound → IsCase source text p i → runs_well p i (bounds_with bound) ≡ true → EndsWith out status.NotFailing result
 where_not_failing words out source text bound a result due which p i told case well =
     told_ends words out source text bound a status.NotFailing result told due which (verdict a)
-    where
-      verdict : (a : Answer) → IsVerdict source text (bounds_with bound) a → status_of a ≡ status.NotFailing
-      verdict (answer.Located bytes) v = absurd (not_both (runs_well p i (bounds_with bound)) well (v.each p i case).fails)
-      verdict answer.NotFailing v = refl
-      verdict answer.NoRepair v = absurd (not_both (runs_well p i (bounds_with bound)) well (v.each p i case).0)
-      verdict answer.NotBuilt v = absurd (v p i case)
-      verdict (answer.Unreadable w) v = absurd v
-      verdict (answer.TooLong w) v = absurd v
-      verdict answer.Memory v = absurd v
+  where
+    verdict : (a : Answer) → IsVerdict source text (bounds_with bound) a → status_of a ≡ status.NotFailing
+    verdict (answer.Located bytes) v = absurd (not_both (runs_well p i (bounds_with bound)) well (v.each p i case).fails)
+    verdict answer.NotFailing v = refl
+    verdict answer.NoRepair v = absurd (not_both (runs_well p i (bounds_with bound)) well (v.each p i case).0)
+    verdict answer.NotBuilt v = absurd (v p i case)
+    verdict (answer.Unreadable w) v = absurd v
+    verdict (answer.TooLong w) v = absurd v
+    verdict answer.Memory v = absurd v
 
 pub where_no_repair : (words : List (List ℕ)) (out : Outside) (source text : List ℕ) (bound : ℕ) (a : Answer) (result : Status) → IsAnswer words out a → CanBe a result →
     (p : Program) (i : Input) → TellsShort words out source text bound → IsCase source text p i → runs_well p i (bounds_with bound) ≡ false →
     AreLeast (unit_weights p) (judge_of p i (bounds_with bound)) [] → EndsWith out status.NoRepair result
 where_no_repair words out source text bound a result due which p i told case fails none =
     told_ends words out source text bound a status.NoRepair result told due which (verdict a)
-    where
-      verdict : (a : Answer) → IsVerdict source text (bounds_with bound) a → status_of a ≡ status.NoRepair
-      verdict (answer.Located bytes) v =
-          let found = v.each p i case in
-          absurd (found.some (AreLeast-unique (unit_weights p) (judge_of p i (bounds_with bound)) found.sets [] found.least none))
-      verdict answer.NotFailing v = absurd (not_both (runs_well p i (bounds_with bound)) (v.each p i case) fails)
-      verdict answer.NoRepair v = refl
-      verdict answer.NotBuilt v = absurd (v p i case)
-      verdict (answer.Unreadable w) v = absurd v
-      verdict (answer.TooLong w) v = absurd v
-      verdict answer.Memory v = absurd v
+  where
+    verdict : (a : Answer) → IsVerdict source text (bounds_with bound) a → status_of a ≡ status.NoRepair
+    verdict (answer.Located bytes) v =
+        let found = v.each p i case in
+        absurd (found.some (AreLeast-unique (unit_weights p) (judge_of p i (bounds_with bound)) found.sets [] found.least none))
+    verdict answer.NotFailing v = absurd (not_both (runs_well p i (bounds_with bound)) (v.each p i case) fails)
+    verdict answer.NoRepair v = refl
+    verdict answer.NotBuilt v = absurd (v p i case)
+    verdict (answer.Unreadable w) v = absurd v
+    verdict (answer.TooLong w) v = absurd v
+    verdict answer.Memory v = absurd v
 
 pub where_located : (words : List (List ℕ)) (out : Outside) (source text : List ℕ) (bound : ℕ) (a : Answer) (result : Status) → IsAnswer words out a → CanBe a result →
     (p : Program) (i : Input) (sets : List (List ℕ)) → TellsShort words out source text bound → IsCase source text p i → runs_well p i (bounds_with bound) ≡ false →
     AreLeast (unit_weights p) (judge_of p i (bounds_with bound)) sets → sets ≢ [] → EndsWith out status.Ok result
 where_located words out source text bound a result due which p i sets told case fails least some =
     told_ends words out source text bound a status.Ok result told due which (verdict a)
-    where
-      verdict : (a : Answer) → IsVerdict source text (bounds_with bound) a → status_of a ≡ status.Ok
-      verdict (answer.Located bytes) v = refl
-      verdict answer.NotFailing v = absurd (not_both (runs_well p i (bounds_with bound)) (v.each p i case) fails)
-      verdict answer.NoRepair v = absurd (some (AreLeast-unique (unit_weights p) (judge_of p i (bounds_with bound)) sets [] least (v.each p i case).1))
-      verdict answer.NotBuilt v = absurd (v p i case)
-      verdict (answer.Unreadable w) v = absurd v
-      verdict (answer.TooLong w) v = absurd v
-      verdict answer.Memory v = absurd v
+  where
+    verdict : (a : Answer) → IsVerdict source text (bounds_with bound) a → status_of a ≡ status.Ok
+    verdict (answer.Located bytes) v = refl
+    verdict answer.NotFailing v = absurd (not_both (runs_well p i (bounds_with bound)) (v.each p i case) fails)
+    verdict answer.NoRepair v = absurd (some (AreLeast-unique (unit_weights p) (judge_of p i (bounds_with bound)) sets [] least (v.each p i case).1))
+    verdict answer.NotBuilt v = absurd (v p i case)
+    verdict (answer.Unreadable w) v = absurd v
+    verdict (answer.TooLong w) v = absurd v
+    verdict answer.Memory v = absurd v
 
 pub completes : (words : List (List ℕ)) (out : Outside) (source text : List ℕ) (bound : ℕ) (a : Answer) (result : Status) → IsAnswer words out a → CanBe a result →
     (p : Program) (i : Input) → TellsShort words out source text bound → IsCase source text p i →
     EndsWith out status.Ok result ⊎ EndsWith out status.NotFailing result ⊎ EndsWith out status.NoRepair result
 completes words out source text bound a result due which p i told case = ends a due which
-    where
-      ends : (a : Answer) → IsAnswer words out a → CanBe a result → EndsWith out status.Ok result ⊎ EndsWith out status.NotFailing result ⊎ EndsWith out status.NoRepair result
-      ends (answer.Located bytes) due which = inl (told_ends words out source text bound (answer.Located bytes) status.Ok result told due which (λ v. refl))
-      ends answer.NotFailing due which = inr (inl (told_ends words out source text bound answer.NotFailing status.NotFailing result told due which (λ v. refl)))
-      ends answer.NoRepair due which = inr (inr (told_ends words out source text bound answer.NoRepair status.NoRepair result told due which (λ v. refl)))
-      ends answer.NotBuilt due which = inl (told_ends words out source text bound answer.NotBuilt status.Ok result told due which (λ v. absurd (v p i case)))
-      ends (answer.Unreadable w) due which = inl (told_ends words out source text bound (answer.Unreadable w) status.Ok result told due which (λ v. absurd v))
-      ends (answer.TooLong w) due which = inl (told_ends words out source text bound (answer.TooLong w) status.Ok result told due which (λ v. absurd v))
-      ends answer.Memory due which = inl (told_ends words out source text bound answer.Memory status.Ok result told due which (λ v. absurd v))
+  where
+    ends : (a : Answer) → IsAnswer words out a → CanBe a result → EndsWith out status.Ok result ⊎ EndsWith out status.NotFailing result ⊎ EndsWith out status.NoRepair result
+    ends (answer.Located bytes) due which = inl (told_ends words out source text bound (answer.Located bytes) status.Ok result told due which (λ v. refl))
+    ends answer.NotFailing due which = inr (inl (told_ends words out source text bound answer.NotFailing status.NotFailing result told due which (λ v. refl)))
+    ends answer.NoRepair due which = inr (inr (told_ends words out source text bound answer.NoRepair status.NoRepair result told due which (λ v. refl)))
+    ends answer.NotBuilt due which = inl (told_ends words out source text bound answer.NotBuilt status.Ok result told due which (λ v. absurd (v p i case)))
+    ends (answer.Unreadable w) due which = inl (told_ends words out source text bound (answer.Unreadable w) status.Ok result told due which (λ v. absurd v))
+    ends (answer.TooLong w) due which = inl (told_ends words out source text bound (answer.TooLong w) status.Ok result told due which (λ v. absurd v))
+    ends answer.Memory due which = inl (told_ends words out source text bound answer.Memory status.Ok result told due which (λ v. absurd v))
 
 -- an answer stays one where the counts of reading stay
 pub answer_stays : (words : List (List ℕ)) (held : List ℕ → Option (Option (List ℕ))) (faults given faults_one faults_two given_one given_two : ℕ) (a : Answer) →
@@ -238,7 +238,7 @@ pub answer_stays : (words : List (List ℕ)) (held : List ℕ → Option (Option
     IsAnswer words (record { held = held; faults = faults; faults_after = faults_two; given = given; given_after = given_two }) a
 answer_stays words held faults given faults_one faults_two given_one given_two a e f due =
     subst (λ n. IsAnswer words (record { held = held; faults = faults; faults_after = faults_two; given = given; given_after = n }) a) (sym f)
-      (subst (λ n. IsAnswer words (record { held = held; faults = faults; faults_after = n; given = given; given_after = given_one }) a) (sym e) due)
+    (subst (λ n. IsAnswer words (record { held = held; faults = faults; faults_after = n; given = given; given_after = given_one }) a) (sym e) due)
 
 -- a verdict on the files that were read is an answer
 pub found_answer : (words : List (List ℕ)) (out : Outside) (source text : List ℕ) (bound : ℕ) (a : Answer) → IsRead words out source text bound →

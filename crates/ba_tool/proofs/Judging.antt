@@ -48,7 +48,7 @@ in_each source text s program input is_text is_input tree P holds = record {
     written = subst (λ n. IsInputText text n input) (sym (ap length (params_of s program tree))) is_input;
   };
   each = λ p i case.
-    subst (P p) (one_input text (length s.params) input i is_input (written_in source text s is_text p i case))
+      subst (P p) (one_input text (length s.params) input i is_input (written_in source text s is_text p i case))
       (holds p (tree_in source text s is_text p i case));
 }
 

@@ -14,5 +14,5 @@ returns c =
     ap (λ line. line.now) c.unwrap_or.ensures
     ∙ unwrap_or-map (λ line. line.now) c.nth.result _
     ∙ ap (λ found. unwrap_or found []) (nth_from_yields_List _ _ _ c.nth.ensures.ran
-      (YieldsList-from_slice_split _ (λ b. b == 10) c.args.source.now c.split.ensures.rest c.split.ensures.done c.split.ensures.closure (λ x b q k. search (rules, tests))))
+    (YieldsList-from_slice_split _ (λ b. b == 10) c.args.source.now c.split.ensures.rest c.split.ensures.done c.split.ensures.closure (λ x b q k. search (rules, tests))))
     ∙ ap (λ place. unwrap_or (slice_get (slice_split (λ b. b == 10) c.args.source.now) place) []) c.saturating_sub-place.ensures
