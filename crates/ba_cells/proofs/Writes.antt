@@ -1,15 +1,15 @@
 -- Cells that are written over a tree of conditions.
 
-use Rattle.std.proofs.Common.{◌≡◌, ℕ, zero, suc, ◌+◌, ◌-◌, ◌*◌, ◌%◌, ◌^◌, ◌<◌, ◌≤◌, ◌==◌, nat_lt, Bool, true, false, not, ◌&&◌, ◌||◌, List, [], ◌∷◌, ◌++◌, length, map, get_or, take, drop, ◌⊎◌, inl, inr, refl, sym, ap, subst, ◌∙◌, arith, if◌then◌else◌, length-drop, length-take, length-append, append_assoc}
-use Rattle.std.proofs.lemmas.List.{get_or-take, get_or-drop, get_or_past, take_rest, get_or_append_left, get_or-append-add}
+use Rattle.std.proofs.Common.{◌≡◌, ℕ, zero, suc, ◌+◌, ◌-◌, ◌*◌, ◌^◌, ◌<◌, ◌≤◌, ◌==◌, nat_lt, Bool, true, false, not, ◌&&◌, ◌||◌, List, [], ◌++◌, length, map, take, drop, inl, inr, refl, sym, ap, subst, ◌∙◌, arith, if◌then◌else◌, length-drop, length-take, length-append, append_assoc}
+use Rattle.std.proofs.lemmas.List.{get_or-take, get_or-drop, take_rest, get_or_append_left, get_or-append-add}
 use Rattle.std.proofs.lemmas.Bool.{cases_lt}
 use Rattle.std.proofs.lemmas.Nat.{pow_pos}
 use Rattle.std.proofs.lemmas.Bool.Decides.{nat_tests}
 use Rattle.ba_nodes.specs.declared.Bit.{Bit}
 use Rattle.ba_nodes.specs.declared.Node.{Node}
-use Rattle.ba_nodes.specs.Gates.{truth, IsBitOf, Extends, HasValue}
-use Rattle.ba_words.specs.Words.{digit, spelled, number_of, low_number, bit_at, AreBitsOf, HasNumber}
-use Rattle.ba_words.proofs.Places.{are_bits-extends, number_of-extends, low_number-extends, low_number-more}
+use Rattle.ba_nodes.specs.Gates.{truth, Extends, HasValue}
+use Rattle.ba_words.specs.Words.{digit, spelled, number_of, low_number, bit_at, AreBitsOf}
+use Rattle.ba_words.proofs.Places.{number_of-extends, low_number-extends}
 use Rattle.ba_words.proofs.Circuits.{low_number_below}
 use Rattle.ba_words.proofs.Shapes.{number-split}
 use Rattle.ba_cells.specs.Cells.{cell_at, AreCellsOf, AreWritten, Adds}
@@ -62,22 +62,22 @@ module _ (h t : (ℕ → Bool) → Bool) (i : (ℕ → Bool) → ℕ) (p : ℕ) 
       → AreWritten h (λ free. i free + p * digit (t free)) old cells value new (low ++ high)
   both_writes low high more size index_below low_writes high_writes free place within =
       elim (cases_lt place p) [
-        inl below ↦
-          let inside : place < length (take p cells) = omega (arith, length-take p cells) in
-          ap (number_of free new) (get_or_append_left low high [] place (omega arith))
-          ∙ low_writes free place inside
-          ∙ ap (λ cell. if (h free && not (t free)) && (i free == place) then number_of free old value else number_of free old cell) (get_or-take p cells place [] below)
-          ∙ low_choice (h free) (t free) (i free) p place (number_of free old value) (number_of free old (cell_at cells place)) below
-      | inr above ↦
-          let split : p + (place - p) ≡ place = omega arith in
-          let start : length low + (place - p) ≡ place = omega arith in
-          let inside : place - p < length (drop p cells) = omega (arith, length-drop p cells) in
-          ap (λ k. number_of free new (cell_at (low ++ high) k)) (sym start)
-          ∙ ap (number_of free new) (get_or-append-add low high (place - p) [])
-          ∙ high_writes free (place - p) inside
-          ∙ ap (λ cell. if (h free && t free) && (i free == place - p) then number_of free old value else number_of free old cell) (get_or-drop p cells (place - p) [])
-          ∙ high_choice (h free) (t free) (i free) p (place - p) (number_of free old value) (number_of free old (cell_at cells (p + (place - p)))) (index_below free)
-          ∙ (λ j. if h free && (i free + p * digit (t free) == split j) then number_of free old value else number_of free old (cell_at cells (split j)))
+        | inl below ↦
+            let inside : place < length (take p cells) = omega (arith, length-take p cells) in
+            ap (number_of free new) (get_or_append_left low high [] place (omega arith))
+            ∙ low_writes free place inside
+            ∙ ap (λ cell. if (h free && not (t free)) && (i free == place) then number_of free old value else number_of free old cell) (get_or-take p cells place [] below)
+            ∙ low_choice (h free) (t free) (i free) p place (number_of free old value) (number_of free old (cell_at cells place)) below
+        | inr above ↦
+            let split : p + (place - p) ≡ place = omega arith in
+            let start : length low + (place - p) ≡ place = omega arith in
+            let inside : place - p < length (drop p cells) = omega (arith, length-drop p cells) in
+            ap (λ k. number_of free new (cell_at (low ++ high) k)) (sym start)
+            ∙ ap (number_of free new) (get_or-append-add low high (place - p) [])
+            ∙ high_writes free (place - p) inside
+            ∙ ap (λ cell. if (h free && t free) && (i free == place - p) then number_of free old value else number_of free old cell) (get_or-drop p cells (place - p) [])
+            ∙ high_choice (h free) (t free) (i free) p (place - p) (number_of free old value) (number_of free old (cell_at cells (p + (place - p)))) (index_below free)
+            ∙ (λ j. if h free && (i free + p * digit (t free) == split j) then number_of free old value else number_of free old (cell_at cells (split j)))
       ]
 
 -- the index by its highest bit
@@ -102,10 +102,10 @@ adds_lower old middle new cells before after index value bits b hit low long is 
   long = adds.long;
   are_cells = adds.are_cells;
   written =
-    reindexed (λ free. truth free old hit) old new cells adds.added value index bits b long is small
+      reindexed (λ free. truth free old hit) old new cells adds.added value index bits b long is small
       (lower_writes (λ free. truth free old hit) (λ free. truth free old (bit_at index b)) (λ free. low_number free old index b) (2 ^ b) old new cells value adds.added few
-        (rebased (λ free. truth free middle low) (λ free. truth free old hit && not (truth free old (bit_at index b))) (λ free. low_number free middle index b) (λ free. low_number free old index b)
-          old middle new cells value adds.added first are value_bits low_is.holds (λ free. low_number-extends free old middle index b first index_bits) adds.written))
+      (rebased (λ free. truth free middle low) (λ free. truth free old hit && not (truth free old (bit_at index b))) (λ free. low_number free middle index b) (λ free. low_number free old index b)
+      old middle new cells value adds.added first are value_bits low_is.holds (λ free. low_number-extends free old middle index b first index_bits) adds.written));
 }
 
 pub adds_both : (old start middle new : List Node) (cells before between after : List (List Bit)) (index value : List Bit) (bits b half : ℕ) (hit low high : Bit)
@@ -121,32 +121,32 @@ adds_both old start middle new cells before between after index value bits b hal
     let second_long : length second.added ≡ length cells - half = second.long ∙ ap length rest ∙ length-drop half cells in
     let first_long : length first.added ≡ half = omega (arith, first.long, length-take half cells) in
     let low_now : AreWritten (λ free. truth free old hit && not (truth free old (bit_at index b))) (λ free. low_number free old index b) old (take half cells) value new first.added =
-        carried (λ free. truth free old hit && not (truth free old (bit_at index b))) (λ free. low_number free old index b) old middle new (take half cells) value first.added to_new first.are_cells
-          (rebased (λ free. truth free start low) (λ free. truth free old hit && not (truth free old (bit_at index b))) (λ free. low_number free start index b) (λ free. low_number free old index b)
-            old start middle (take half cells) value first.added to_start front_are value_bits low_is (λ free. low_number-extends free old start index b to_start index_bits) first.written) in
+    carried (λ free. truth free old hit && not (truth free old (bit_at index b))) (λ free. low_number free old index b) old middle new (take half cells) value first.added to_new first.are_cells
+    (rebased (λ free. truth free start low) (λ free. truth free old hit && not (truth free old (bit_at index b))) (λ free. low_number free start index b) (λ free. low_number free old index b)
+    old start middle (take half cells) value first.added to_start front_are value_bits low_is (λ free. low_number-extends free old start index b to_start index_bits) first.written) in
     let high_now : AreWritten (λ free. truth free old hit && truth free old (bit_at index b)) (λ free. low_number free old index b) old (drop half cells) value new second.added =
-        rebased (λ free. truth free middle high) (λ free. truth free old hit && truth free old (bit_at index b)) (λ free. low_number free middle index b) (λ free. low_number free old index b)
-          old middle new (drop half cells) value second.added old_middle back_are value_bits high_is (λ free. low_number-extends free old middle index b old_middle index_bits)
-          (subst (λ xs. AreWritten (λ free. truth free middle high) (λ free. low_number free middle index b) middle xs value new second.added) rest second.written) in
+    rebased (λ free. truth free middle high) (λ free. truth free old hit && truth free old (bit_at index b)) (λ free. low_number free middle index b) (λ free. low_number free old index b)
+    old middle new (drop half cells) value second.added old_middle back_are value_bits high_is (λ free. low_number-extends free old middle index b old_middle index_bits)
+    (subst (λ xs. AreWritten (λ free. truth free middle high) (λ free. low_number free middle index b) middle xs value new second.added) rest second.written) in
     record {
       added = first.added ++ second.added;
       grown = second.grown ∙ ap (λ xs. xs ++ second.added) first.grown ∙ append_assoc before first.added second.added;
       long = length-append first.added second.added ∙ omega arith;
       are_cells = cells-append new first.added second.added (cells-extends middle new first.added to_new first.are_cells) second.are_cells;
       written =
-        reindexed (λ free. truth free old hit) old new cells (first.added ++ second.added) value index bits b long is small
+          reindexed (λ free. truth free old hit) old new cells (first.added ++ second.added) value index bits b long is small
           (subst (λ p. AreWritten (λ free. truth free old hit) (λ free. low_number free old index b + p * digit (truth free old (bit_at index b))) old cells value new (first.added ++ second.added)) half_is
-            (both_writes (λ free. truth free old hit) (λ free. truth free old (bit_at index b)) (λ free. low_number free old index b) half old new cells value first.added second.added more first_long
-              (λ free. subst (λ p. low_number free old index b < p) (sym half_is) (low_number_below free old index b (omega (arith, long)))) low_now high_now))
+          (both_writes (λ free. truth free old hit) (λ free. truth free old (bit_at index b)) (λ free. low_number free old index b) half old new cells value first.added second.added more first_long
+          (λ free. subst (λ p. low_number free old index b < p) (sym half_is) (low_number_below free old index b (omega (arith, long)))) low_now high_now));
     }
   where
     cells-append : (nodes : List Node) (xs ys : List (List Bit)) → AreCellsOf nodes xs → AreCellsOf nodes ys → AreCellsOf nodes (xs ++ ys)
     cells-append nodes xs ys first second place =
         elim (cases_lt place (length xs)) [
-          inl below ↦ subst (AreBitsOf nodes) (sym (get_or_append_left xs ys [] place below)) (first place)
-        | inr above ↦
-            let split : length xs + (place - length xs) ≡ place = omega arith in
-            subst (λ k. AreBitsOf nodes (cell_at (xs ++ ys) k)) split (subst (AreBitsOf nodes) (sym (get_or-append-add xs ys (place - length xs) [])) (second (place - length xs)))
+          | inl below ↦ subst (AreBitsOf nodes) (sym (get_or_append_left xs ys [] place below)) (first place)
+          | inr above ↦
+              let split : length xs + (place - length xs) ≡ place = omega arith in
+              subst (λ k. AreBitsOf nodes (cell_at (xs ++ ys) k)) split (subst (AreBitsOf nodes) (sym (get_or-append-add xs ys (place - length xs) [])) (second (place - length xs)))
         ]
 
 -- ---- bits beyond those that tell the cells apart
@@ -179,7 +179,7 @@ both_counts old first second third new bits b half cells is some more one two lo
     let size : half + (cells - half) ≡ cells = omega arith in
     let cost : 96 + bits ≡ 96 + b + 1 = omega arith in
     let whole : (96 + bits) * cells ≡ (96 + b) * half + (96 + b) * (cells - half) + (half + (cells - half)) =
-        (λ i. cost i * sym size i) ∙ spread (96 + b) half (cells - half) in
+    (λ i. cost i * sym size i) ∙ spread (96 + b) half (cells - half) in
     omega arith
 
 pub never_below : (n : ℕ) → nat_lt n n ≡ false
@@ -205,6 +205,6 @@ pub whole_write : (old start new : List Node) (cells written : List (List Bit)) 
     → AreWritten (λ free. truth free old when) (λ free. number_of free old index) old cells value new written
 whole_write old start new cells written index value when hit long few are index_bits value_bits first hit_is writes free place within =
     rebased (λ free. truth free start hit) (λ free. truth free old when && not (nat_lt (low_number free old index 8) (number_of free old index))) (λ free. low_number free start index 8) (λ free. low_number free old index 8)
-      old start new cells value written first are value_bits hit_is (λ free. low_number-extends free old start index 8 first index_bits) writes free place within
+    old start new cells value written first are value_bits hit_is (λ free. low_number-extends free old start index 8 first index_bits) writes free place within
     ∙ whole_choice (truth free old when) (number_of free old index) (low_number free old index 8) (spelled (drop 8 (map (truth free old) index))) place (number_of free old value) (number_of free old (cell_at cells place))
-        (number-split free old index 8 (omega (arith, long))) (low_number_below free old index 8 (omega (arith, long))) (omega arith)
+    (number-split free old index 8 (omega (arith, long))) (low_number_below free old index 8 (omega (arith, long))) (omega arith)

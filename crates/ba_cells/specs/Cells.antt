@@ -1,10 +1,9 @@
 -- Cells of words, read and written at an index that is a word itself.
 
-use Rattle.std.specs.Prelude.{◌≡◌, ℕ, ◌+◌, ◌<◌, ◌==◌, Bool, ◌&&◌, List, [], ◌++◌, length, slice_index_or, if◌then◌else◌}
+use Rattle.std.specs.Prelude.{◌≡◌, ℕ, ◌<◌, ◌==◌, Bool, ◌&&◌, List, [], ◌++◌, length, slice_index_or, if◌then◌else◌}
 use Rattle.ba_nodes.specs.declared.Bit.{Bit}
 use Rattle.ba_nodes.specs.declared.Node.{Node}
-use Rattle.ba_nodes.specs.Gates.{truth}
-use Rattle.ba_words.specs.Words.{number_of, low_number, AreBitsOf}
+use Rattle.ba_words.specs.Words.{number_of, AreBitsOf}
 
 -- the cell at a place
 abbrev pub cell_at : List (List Bit) → ℕ → List Bit
@@ -23,7 +22,7 @@ IsCellAt index old cells new word =
 abbrev pub AreWritten : (holds : (ℕ → Bool) → Bool) (index : (ℕ → Bool) → ℕ) → List Node → List (List Bit) → List Bit → List Node → List (List Bit) → Type 0
 AreWritten holds index old cells value new written =
     (free : ℕ → Bool) (place : ℕ) → place < length cells →
-        number_of free new (cell_at written place) ≡ (if holds free && (index free == place) then number_of free old value else number_of free old (cell_at cells place))
+    number_of free new (cell_at written place) ≡ (if holds free && (index free == place) then number_of free old value else number_of free old (cell_at cells place))
 
 -- such cells were added behind others
 pub record Adds (holds : (ℕ → Bool) → Bool) (index : (ℕ → Bool) → ℕ) (old : List Node) (cells : List (List Bit)) (value : List Bit) (new : List Node) (before after : List (List Bit)) : Type 0 where

@@ -50,10 +50,8 @@ pub fn write_cell(
     requires value { AreBitsOf nodes.old value.now }
     requires when { IsBitOf nodes.old when }
     ensures cells { IfOk result (λ written. (length written.items ≡ length cells.now) × AreCellsOf nodes.new written.items) }
-    ensures value {
-        IfOk result (λ written.
-            AreWritten (λ free. truth free nodes.old when) (λ free. number_of free nodes.old index.now) nodes.old cells.now value.now nodes.new written.items)
-    }
+    ensures value { IfOk result (λ written.
+        AreWritten (λ free. truth free nodes.old when) (λ free. number_of free nodes.old index.now) nodes.old cells.now value.now nodes.new written.items) }
     ensures extends { Extends nodes.old nodes.new }
     ensures count { gates_in nodes.new ≤ gates_in nodes.old + 104 * length cells.now + 224 }
 {
@@ -96,9 +94,7 @@ fn scatter(
     requires index { AreBitsOf nodes.old index.now }
     requires value { AreBitsOf nodes.old value.now }
     requires hit { IsBitOf nodes.old hit }
-    ensures written {
-        OnOk result (Adds (λ free. truth free nodes.old hit) (λ free. low_number free nodes.old index.now bits) nodes.old cells.now value.now nodes.new written.old.items written.new.items)
-    }
+    ensures written { OnOk result (Adds (λ free. truth free nodes.old hit) (λ free. low_number free nodes.old index.now bits) nodes.old cells.now value.now nodes.new written.old.items written.new.items) }
     ensures extends { Extends nodes.old nodes.new }
     ensures count { gates_in nodes.new ≤ gates_in nodes.old + (96 + bits) * length cells.now }
 {
@@ -119,12 +115,7 @@ fn scatter(
 }
 
 /// The cell at the number that the low bits of the index spell.
-fn choose(
-    nodes: &mut Nodes,
-    cells: &[Word],
-    index: &Word,
-    bits: usize,
-) -> Result<Word, AllocError>
+fn choose(nodes: &mut Nodes, cells: &[Word], index: &Word, bits: usize) -> Result<Word, AllocError>
     requires some { 0 < length cells.now }
     requires few { length cells.now ≤ 2 ^ bits }
     requires small { bits ≤ 8 }
@@ -154,3 +145,6 @@ fn power_of_two(exponent: usize) -> usize
 {
     1 << exponent
 }
+
+#[cfg(test)]
+mod tests;

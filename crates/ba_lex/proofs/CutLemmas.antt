@@ -84,3 +84,14 @@ module _ (whole old new : List Piece) (bs : List ℕ) (at : At) (form : Form) (n
 pub empty_from_length : (bs : List ℕ) → length bs ≡ 0 → bs ≡ []
 empty_from_length [] none = refl
 empty_from_length (b ∷ bs) none = absurd (omega arith)
+
+-- the byte after those that pass does not pass
+stops_at : (p : ℕ → Bool) (b : ℕ) (bs : List ℕ) (t : Bool) → p b ≡ t → p (get_or bs (prefix_len p bs) 0) ≡ false → p (get_or (b ∷ bs) (cond t (1 + prefix_len p bs) 0) 0) ≡ false
+stops_at p b bs true passes rest =
+    let on : 1 + prefix_len p bs ≡ suc (prefix_len p bs) = omega arith in
+    ap (λ k. p (get_or (b ∷ bs) k 0)) on ∙ rest
+stops_at p b bs false passes rest = passes
+
+pub prefix_stops : (p : ℕ → Bool) (bs : List ℕ) → p 0 ≡ false → p (get_or bs (prefix_len p bs) 0) ≡ false
+prefix_stops p [] none = none
+prefix_stops p (b ∷ bs) none = stops_at p b bs (p b) refl (prefix_stops p bs none)

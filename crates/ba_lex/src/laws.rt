@@ -1,10 +1,11 @@
 //! Laws of the definitions, each the clause of a function that does nothing.
 
-ghost use Rattle.std.specs.Prelude.{◌≡◌, ℕ, List, Err, take, drop};
+ghost use Rattle.std.specs.Prelude.{◌≡◌, ℕ, List, Err, false, slice_index, take, drop};
 ghost use Rattle.std.specs.Bool.{Decides};
+ghost use Rattle.std.specs.List.{prefix_len};
 ghost use Rattle.ba_tree.specs.declared.ids.At.{At};
 ghost use Rattle.ba_lex.specs.Lines.{Reading, answer, same_kind, sequence};
-ghost use Rattle.ba_lex.specs.Pieces.{cut, position_after};
+ghost use Rattle.ba_lex.specs.Pieces.{cut, is_number_byte, is_word_byte, position_after};
 ghost use Rattle.ba_lex.specs.declared.error.LexError.{LexError};
 ghost use Rattle.ba_lex.specs.declared.token.TokenKind.{TokenKind};
 
@@ -18,6 +19,12 @@ pub fn kinds_are_compared_whole()
 pub fn pieces_stand_side_by_side()
     ensures { (bytes : List ℕ) (at : At) (left : ℕ) →
         cut at left bytes ≡ cut (position_after at (take left bytes)) 0 (drop left bytes) }
+{}
+
+/// A word and a number are as long as they can be: the byte after one, where there is one, could not go on.
+pub fn words_and_numbers_are_longest()
+    ensures word { (bytes : List ℕ) → is_word_byte (slice_index bytes (prefix_len is_word_byte bytes)) ≡ false }
+    ensures number { (bytes : List ℕ) → is_number_byte (slice_index bytes (prefix_len is_number_byte bytes)) ≡ false }
 {}
 
 /// The first error stands, whatever follows it.

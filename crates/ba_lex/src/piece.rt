@@ -12,7 +12,7 @@ use crate::token::{Punct, Text, TokenKind};
 use ba_tree::ids::At;
 use std::alloc::{AllocError, Global};
 
-/// What a piece of a text is. A comment is a blank.
+/// What a piece of a text is; the definition of a text's tokens speaks of these forms too. A comment is a blank.
 #[derive(Debug, Drop)]
 pub enum Form {
     Blank,

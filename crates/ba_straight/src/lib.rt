@@ -11,3 +11,5 @@ pub mod program;
 pub mod reader;
 pub mod sets;
 pub mod terms;
+#[cfg(test)]
+mod tests;

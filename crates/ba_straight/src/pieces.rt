@@ -44,7 +44,7 @@ pub struct Piece {
     pub at: At,
 }
 
-pub fn is_blank(byte: u8) -> bool
+pub(crate) fn is_blank(byte: u8) -> bool
     ensures { result ≡ is_blank byte }
 {
     matches!(byte, 9..=13 | b' ')
@@ -146,7 +146,7 @@ fn size_of(text: &[u8]) -> usize
 }
 
 /// The number that decimal digits write, or the greatest that there is where that is past it.
-pub fn digits_value(digits: &[u8]) -> u64
+pub(crate) fn digits_value(digits: &[u8]) -> u64
     requires { IsTrue (list_all is_digit digits.now) }
     ensures { result ≡ min (digits_value digits.now) (2 ^ 64 - 1) }
 {
@@ -159,7 +159,7 @@ pub fn digits_value(digits: &[u8]) -> u64
     value
 }
 
-pub fn are_digits(piece: &[u8]) -> bool
+pub(crate) fn are_digits(piece: &[u8]) -> bool
     ensures { result ≡ list_all is_digit piece.now }
 {
     piece.iter().all(|byte| is_digit(*byte))

@@ -23,7 +23,7 @@ fn term_at(terms: &[Term], var: VarId) -> Term
     terms.get(var.0 as usize).copied().unwrap_or(Term::Known(0))
 }
 
-pub fn set_term(terms: &mut [Term], var: VarId, term: Term)
+pub(crate) fn set_term(terms: &mut [Term], var: VarId, term: Term)
     ensures { terms.new ≡ with_term terms.old var term }
 {
     let place = var.0 as usize;
@@ -104,7 +104,7 @@ fn run_item(set: &[u32], terms: &mut [Term], item: Item) -> bool
 }
 
 /// Whether all asserts can hold where the assignments of the set are relaxed.
-pub fn can_hold(set: &[u32], items: &[Item], terms: &mut [Term]) -> bool
+pub(crate) fn can_hold(set: &[u32], items: &[Item], terms: &mut [Term]) -> bool
     ensures { result ≡ can_hold set.now items.now terms.old }
 {
     for item in items {
