@@ -133,12 +133,18 @@ abbrev pub name_of : File → List ℕ → List ℕ → List ℕ
 name_of file.Program program input = program
 name_of file.Input program input = input
 
+-- what was read whole before a file that the words name was opened: before the input, the program
+abbrev pub WasReadBefore : File → Option (Option (List ℕ)) → Type 0
+WasReadBefore file.Program program = Unit {0}
+WasReadBefore file.Input program = (source : List ℕ) × Holds program source × (length source ≤ limit)
+
 -- a file that the words name cannot be read: a fault rose, or the world told that it is absent
 pub record CannotBeRead (words : List (List ℕ)) (out : Outside) (which : File) : Type 0 where
   pub program : List ℕ
   pub input : List ℕ
   pub bound : ℕ
   pub job : IsJob words program input bound
+  pub before : WasReadBefore which (out.held program)
   pub cause : Rose out.faults out.faults_after ⊎ (out.held (name_of which program input) ≡ Some None)
 
 -- a file that the words name is too long: more bytes than the limit were given
@@ -147,6 +153,7 @@ pub record IsTooLong (words : List (List ℕ)) (out : Outside) (which : File) : 
   pub input : List ℕ
   pub bound : ℕ
   pub job : IsJob words program input bound
+  pub before : WasReadBefore which (out.held program)
   pub longer : IfSome (out.held (name_of which program input)) (λ held. IsSomeAnd held (λ bytes. limit < length bytes))
   pub given : Rose (out.given + limit) out.given_after
 
