@@ -172,3 +172,6 @@ is_false-all value (x ∷ xs) all = step (value x) (is_false value xs) (all 0 (o
   where
     step : (v : Option Bool) (b : Bool) → v ≡ Some false → b ≡ true → (falsified v && b) ≡ true
     step v b e f = ap (λ (w : Option Bool). falsified w && b) e ∙ f
+
+pub has_literal-index : (l : Literal) (xs : List Literal) (k : ℕ) → k < length xs → index_of (lit_at xs k) ≡ index_of l → has_literal l xs ≡ true
+has_literal-index l xs k within e = subst (λ (x : Literal). has_literal x xs ≡ true) (same_from_index (lit_at xs k) l e) (has_literal-at xs k within)

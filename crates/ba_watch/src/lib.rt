@@ -14,3 +14,6 @@ mod units;
 mod watch;
 
 pub use watch::Watch;
+
+#[cfg(test)]
+mod tests;
