@@ -5,7 +5,7 @@ ghost use Rattle.std.specs.Prelude.{◌<◌};
 use crate::rules::{Rules, keep, luby, steady};
 use crate::status::Status;
 use crate::tool::tool;
-use ba_world::MemoryWorld;
+use ba_world::{MemoryWorld, World, WorldError};
 use std::alloc::{AllocError, Global};
 use std::test::Fail;
 
@@ -230,6 +230,83 @@ fn names_the_file_that_is_absent_or_too_long(rt: HostRuntime) -> Result<(), Fail
         assert_eq!(rt; world.printed(), printed.as_bytes());
     }
     Ok(())
+}
+
+/// A world whose files never end.
+#[derive(Drop)]
+struct Endless {
+    is_open: bool,
+    is_begun: bool,
+    given: u64,
+    /// Whether what was printed last is the refusal of the program as too long.
+    refused_the_program: bool,
+}
+
+impl World for Endless {
+    ghost use Rattle.std.specs.Prelude.{None};
+
+    ghost held = { λ _ _. None };
+
+    ghost left = { λ _. None };
+
+    ghost kept = { λ _ _. None };
+
+    ghost writing = { λ _. None };
+
+    ghost printed = { λ _. None };
+
+    ghost is_reading = { λ world. world.is_open };
+
+    ghost is_writing = { λ world. world.is_begun };
+
+    ghost read_faults = { λ _. 0 };
+
+    ghost write_faults = { λ _. 0 };
+
+    ghost given = { λ world. world.given };
+
+    fn open_file(&mut self, _name: &str) -> Result<(), WorldError> {
+        self.is_open = true;
+        Ok(())
+    }
+
+    fn next_piece(&mut self, into: &mut [u8]) -> Result<usize, WorldError> {
+        into[0] = b' ';
+        self.given = self.given.saturating_add(1);
+        Ok(1)
+    }
+
+    fn begin_file(&mut self, _name: &str) -> Result<(), WorldError> {
+        self.is_begun = true;
+        Ok(())
+    }
+
+    fn add(&mut self, _bytes: &[u8]) -> Result<(), WorldError> {
+        Ok(())
+    }
+
+    fn print(&mut self, bytes: &[u8]) -> Result<(), WorldError> {
+        self.refused_the_program = bytes
+            == b"refused: program is longer than 65536 bytes\n".as_slice();
+        Ok(())
+    }
+}
+
+#[test]
+fn refuses_a_program_that_never_ends(rt: HostRuntime) {
+    let mut world = Endless {
+        is_open: false,
+        is_begun: false,
+        given: 0,
+        refused_the_program: false,
+    };
+    let words = ["localise", "p.c", "in.txt", "--bound", "1"];
+    let rules = Rules::new(luby, steady, keep);
+    assert_eq!(rt;
+        tool(rt.alloc(), &words, &mut world, rules),
+        Status::TooLong
+    );
+    assert!(rt; world.refused_the_program);
 }
 
 #[test]
