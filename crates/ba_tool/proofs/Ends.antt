@@ -1,6 +1,6 @@
 -- How a call ends, from the causes.
 
-use Rattle.std.proofs.Common.{◌≡◌, ◌≢◌, ◌⊎◌, inl, inr, ℕ, ◌<◌, ◌≤◌, Bool, true, false, List, [], length, Option, Some, None, refl, sym, ap, subst, ◌∙◌, arith}
+use Rattle.std.proofs.Common.{◌≡◌, ◌≢◌, ◌⊎◌, inl, inr, ℕ, ◌<◌, Bool, true, false, List, [], length, Option, Some, None, refl, sym, ap, subst, ◌∙◌, arith}
 use Rattle.std.specs.Option.{IfSome, IsSomeAnd}
 use Rattle.ba_tree.specs.Least.{AreLeast, judge_of, unit_weights}
 use Rattle.ba_tree.proofs.Sets.{AreLeast-unique}

@@ -1,13 +1,13 @@
 -- What is proved of the program and the input that were read holds in each case.
 
-use Rattle.std.proofs.Common.{◌≡◌, ◌≢◌, ℕ, ◌+◌, ◌-◌, ◌==◌, ◌<◌, ◌≤◌, ◌^◌, Bool, true, false, cond, Option, None, List, [], ◌∷◌, length, get_or, Contains, Some, IsSome, zero, suc, refl, sym, ap, subst, ◌∙◌, arith, le_antisymm, lit<}
+use Rattle.std.proofs.Common.{◌≡◌, ℕ, ◌+◌, ◌-◌, ◌==◌, ◌<◌, ◌≤◌, Bool, true, false, cond, Option, None, List, [], ◌∷◌, length, Contains, Some, IsSome, zero, suc, refl, sym, ap, subst, ◌∙◌, arith}
 use Rattle.std.specs.List.{slice_get}
 use Rattle.ba_tree.specs.declared.run.Bounds.{Bounds}
 use Rattle.ba_tree.specs.declared.run.Input.{Input}
 use Rattle.ba_tree.specs.declared.tree.Program.{Program}
 use Rattle.ba_tree.specs.declared.tree.Function.{Function}
 use Rattle.ba_tree.specs.Run.{main_of, params_in}
-use Rattle.ba_tree.specs.Least.{AreLeast, IsLeastSet, judge_of, unit_weights, weight_of, WeightList, Judge, AreRelaxableAbove, entry_of, weight_at}
+use Rattle.ba_tree.specs.Least.{AreLeast, judge_of, unit_weights, weight_of, WeightList, Judge, AreRelaxableAbove, entry_of, weight_at}
 use Rattle.ba_straight.specs.Items.{IsTree}
 use Rattle.ba_straight.specs.Spelling.{IsText}
 use Rattle.ba_straight.specs.declared.items.Straight.{Straight}

@@ -1,7 +1,7 @@
 -- What a call of the program answers, and what it prints.
 
-use Rattle.std.specs.Prelude.{◌≡◌, ◌≢◌, ◌⊎◌, ℕ, ◌+◌, ◌<◌, ◌≤◌, Bool, true, false, List, [], length, take, Contains, Option, None, Some, IfSome, IsSomeAnd}
-use Rattle.ba_world.specs.World.{Rose, Appends, AppendsPrefix, raised}
+use Rattle.std.specs.Prelude.{◌≡◌, ◌≢◌, ◌⊎◌, ℕ, ◌+◌, ◌<◌, ◌≤◌, Bool, true, false, List, [], length, Contains, Option, None, Some, IfSome, IsSomeAnd}
+use Rattle.ba_world.specs.World.{Rose, Appends, raised}
 use Rattle.ba_world.specs.declared.read.ReadFileError.{ReadFileError}
 use Rattle.ba_world.specs.declared.read.ReadFileError.TheVariants as read
 use Rattle.ba_tree.specs.Least.{AreLeast, judge_of, unit_weights, weight_of}

@@ -1,4 +1,4 @@
-use Rattle.std.proofs.Common.{◌≡◌, ◌==◌, ℕ, Option, None, Some, option_map, unwrap_or, slice_get, refl, ap, sym, ◌∙◌, [], rules}
+use Rattle.std.proofs.Common.{◌≡◌, ◌==◌, Option, None, Some, option_map, unwrap_or, slice_get, refl, ap, ◌∙◌, [], rules}
 use Rattle.std.specs.List.{slice_split}
 use borrow.Author.Tests.{tests}
 use Rattle.std.proofs.lemmas.Iterator.Consumers.{nth_from_yields_List}

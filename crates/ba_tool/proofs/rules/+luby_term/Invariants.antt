@@ -1,4 +1,4 @@
-use Rattle.std.proofs.Common.{ℕ, ◌≤◌, ◌-◌}
+use Rattle.std.proofs.Common.{◌≤◌, ◌-◌}
 use Rattle.ba_tool.proofs.rules.+luby_term.Given as goal
 
 abbrev pub decreases-luby_term : goal.decreases-luby_term

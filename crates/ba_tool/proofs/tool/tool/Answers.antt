@@ -1,4 +1,3 @@
-use Rattle.std.proofs.Common.{map}
 use Rattle.ba_tool.proofs.Ends as ends
 use Rattle.ba_tool.proofs.tool.tool.Goals as goal
 

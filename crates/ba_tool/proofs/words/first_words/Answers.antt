@@ -1,4 +1,4 @@
-use Rattle.std.proofs.Common.{◌≡◌, ℕ, ◌≤◌, ◌<◌, Bool, true, false, IsTrue, if◌then◌else◌, None, Some, List, [], ◌∷◌, length, map, codes, get_or, refl, ap, ◌∙◌, arith, rules}
+use Rattle.std.proofs.Common.{◌≡◌, ℕ, ◌≤◌, Bool, true, false, IsTrue, if◌then◌else◌, None, Some, List, [], ◌∷◌, length, map, codes, get_or, refl, ◌∙◌, arith, rules}
 use denote.Ref.{Bor}
 use Rattle.ba_tool.specs.Words.{IsJob}
 use Rattle.ba_tool.proofs.words.first_words.Goals as goal
