@@ -88,8 +88,8 @@ sign_of sign =
     (cond (bytes_eq sign (codes "==")) (Some mark.Equal) None)))))))
 
 abbrev pub marked : Option Mark → Token → Token
-marked None other = other
-marked (Some m) other = token.Mark m
+marked None unmarked = unmarked
+marked (Some m) unmarked = token.Mark m
 
 abbrev pub word_token : List ℕ → Token
 word_token word = marked (keyword_of word) (cond (is_reserved word) token.Other (token.Name word))
