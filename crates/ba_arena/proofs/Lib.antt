@@ -1,1 +1,4 @@
-pub mod Changes
+pub mod Reading
+pub mod Writing
+pub mod Swapping
+pub mod Appending

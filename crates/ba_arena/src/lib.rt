@@ -1,17 +1,30 @@
 //! The arena of clauses.
 //!
-//! Every clause has two links, from which lists of clauses are threaded through the arena without taking
-//! memory: link 0 belongs to the literal at place 0, link 1 to that at place 1 (M. Moskewicz, C. Madigan,
-//! Y. Zhao, L. Zhang, S. Malik, Chaff: Engineering an Efficient SAT Solver, on watched literals).
+//! One vector of words holds every clause: how many literals it has, its number, two links, and its literals by
+//! their indices. A link is 0 for none, and otherwise 1 more than the place of a clause.
+//!
+//! The links thread lists of clauses through the arena without taking memory: link 0 belongs to the literal at
+//! place 0, link 1 to that at place 1 (M. Moskewicz, C. Madigan, Y. Zhao, L. Zhang, S. Malik, Chaff: Engineering an
+//! Efficient SAT Solver, on watched literals; N. Een, N. Sorensson, An Extensible SAT-solver, on clauses in one
+//! region of memory).
 #![tactic(auto)]
 
-ghost use Rattle.std.specs.Prelude.{◌≡◌, ◌<◌, ◌≤◌, [], None, length, IfOk, OnErr};
+ghost use Rattle.std.specs.Prelude.{◌≡◌, ◌+◌, ◌^◌, ◌<◌, ◌≤◌, [], ◌++◌, None, length, take, IfOk, OnOk, OnErr};
 ghost use Rattle.ba_lits.specs.Literals.{lit_at};
 ghost use Rattle.ba_arena.specs.Clauses.{IsLive, lits_at, number_at, link_at, changed, swapped, linked, Adds};
+ghost use Rattle.ba_arena.specs.Words.{words_of, word_of_link, link_of_word, AreIndexed};
 
 use ba_lits::Lit;
 use std::alloc::{AllocError, Global};
 use std::marker::Model;
+
+/// How many words of a clause stand before its literals.
+const HEADER: usize = 4;
+
+/// The place of a clause's number among its words, and of its first link.
+const NUMBER: usize = 1;
+
+const LINKS: usize = 2;
 
 /// A reference to a clause of an arena. It names the clause as long as the clause is live.
 #[derive(Clone, Copy, PartialEq, Eq, Debug)]
@@ -29,57 +42,48 @@ impl Model for ClauseRef {
     ghost inverse = { λ index. record { index = index } };
 }
 
-/// A clause with its number and the links of its first two literals.
-#[derive(Drop)]
-struct Entry {
-    lits: Vec<Lit>,
-    number: u64,
-    first: Option<ClauseRef>,
-    second: Option<ClauseRef>,
-}
-
-impl Model for Entry {
-    ghost use Rattle.ba_arena.specs.Clauses.{Stored};
-
-    ghost Value = { Stored };
-
-    ghost view = { λ e. record { lits = e.lits.items; number = e.number; first = e.first; second = e.second } };
-}
-
-impl Entry {
-    fn set_link(&mut self, which: usize, next: Option<ClauseRef>)
-        ensures { linked which next (Some self.old) ≡ Some self.new }
+impl ClauseRef {
+    /// The word for a link.
+    fn to_word(link: Option<ClauseRef>) -> u64
+        ensures word { result ≡ word_of_link link }
+        ensures fits { result ≤ 2 ^ 32 }
     {
-        if which == 0 {
-            self.first = next;
-        } else {
-            self.second = next;
+        match link {
+            None => 0,
+            Some(clause) => clause.index as u64 + 1,
         }
     }
 
-    fn swap(&mut self, a: usize, b: usize)
-        requires a_within { a < length self.old.lits }
-        requires b_within { b < length self.old.lits }
-        ensures { swapped a b (Some self.old) ≡ Some self.new }
+    /// The link that a word stands for.
+    fn from_word(word: u64) -> Option<ClauseRef>
+        requires { word ≤ 2 ^ 32 }
+        ensures { result ≡ link_of_word word }
     {
-        self.lits.swap(a, b);
+        if word == 0 {
+            None
+        } else {
+            Some(ClauseRef {
+                index: (word - 1) as u32,
+            })
+        }
     }
 }
 
 /// Clauses by their references.
 #[derive(Drop)]
 pub struct Arena {
-    alloc: Global,
-    entries: Vec<Entry>,
+    words: Vec<u64>,
 }
 
 impl Model for Arena {
-    ghost use Rattle.std.specs.Prelude.{map, Some};
     ghost use Rattle.ba_arena.specs.Clauses.{Clauses};
+    ghost use Rattle.ba_arena.specs.Words.{clauses_of, AreWords};
 
     ghost Value = { Clauses };
 
-    ghost view = { λ arena. map (λ entry. Some entry) arena.entries.items };
+    ghost view = { λ arena. clauses_of 0 arena.words.items };
+
+    ghost invariant = { λ arena. AreWords arena.words.items };
 }
 
 impl Arena {
@@ -88,31 +92,27 @@ impl Arena {
         ensures { result ≡ [] }
     {
         Arena {
-            alloc,
-            entries: Vec::new(alloc),
+            words: Vec::new(alloc),
         }
     }
 
     /// Adds a clause without links and gives its reference.
     ///
-    /// The one error is want of memory or of room, which is for 2^32 - 1 clauses. It leaves the arena as it was.
+    /// The one error is want of memory or of room, which is for 2^32 - 1 words. It leaves the arena as it was.
     pub fn add(&mut self, lits: &[Lit], number: u64) -> Result<ClauseRef, AllocError>
         ensures ok { IfOk result (λ clause. Adds self.old self.new clause (record { lits = lits.now; number = number; first = None; second = None })) }
         ensures err { OnErr result (self.new ≡ self.old) }
     {
-        let index = self.entries.len();
-        if index >= u32::MAX as usize {
+        let place = self.words.len();
+        if place + HEADER + lits.len() > u32::MAX as usize {
             return Err(AllocError);
         }
-        let lits = Vec::from_slice(self.alloc, lits)?;
-        self.entries.push(Entry {
-            lits,
-            number,
-            first: None,
-            second: None,
-        })?;
+        if let Err(error) = append(&mut self.words, lits, number) {
+            self.words.truncate(place);
+            return Err(error);
+        }
         Ok(ClauseRef {
-            index: index as u32,
+            index: place as u32,
         })
     }
 
@@ -121,8 +121,7 @@ impl Arena {
         requires { place < length (lits_at self.now clause) }
         ensures { result ≡ lit_at (lits_at self.now clause) place }
     {
-        let entry = &self.entries[clause.index as usize];
-        entry.lits[place]
+        Lit::from_index(self.words[clause.index as usize + HEADER + place] as usize)
     }
 
     /// How many literals a clause has.
@@ -130,8 +129,7 @@ impl Arena {
         requires { IsLive self.now clause }
         ensures { result ≡ length (lits_at self.now clause) }
     {
-        let entry = &self.entries[clause.index as usize];
-        entry.lits.len()
+        self.words[clause.index as usize] as usize
     }
 
     /// The number that a clause was given.
@@ -139,8 +137,7 @@ impl Arena {
         requires { IsLive self.now clause }
         ensures { result ≡ number_at self.now clause }
     {
-        let entry = &self.entries[clause.index as usize];
-        entry.number
+        self.words[clause.index as usize + NUMBER]
     }
 
     /// The link of a clause's first literal (0) or second literal (1): None exactly where none is set.
@@ -149,12 +146,7 @@ impl Arena {
         requires which { which ≤ 1 }
         ensures { result ≡ link_at self.now clause which }
     {
-        let entry = &self.entries[clause.index as usize];
-        if which == 0 {
-            entry.first
-        } else {
-            entry.second
-        }
+        ClauseRef::from_word(self.words[clause.index as usize + LINKS + which])
     }
 
     /// Sets the link of a clause's first literal (0) or second literal (1).
@@ -163,8 +155,7 @@ impl Arena {
         requires which { which ≤ 1 }
         ensures { self.new ≡ changed (linked which next) self.old clause }
     {
-        let entry = &mut self.entries[clause.index as usize];
-        entry.set_link(which, next);
+        self.words[clause.index as usize + LINKS + which] = ClauseRef::to_word(next);
     }
 
     /// Exchanges two literals of a clause. The links stay at their places.
@@ -173,9 +164,22 @@ impl Arena {
         requires b_within { b < length (lits_at self.old clause) }
         ensures { self.new ≡ changed (swapped a b) self.old clause }
     {
-        let entry = &mut self.entries[clause.index as usize];
-        entry.swap(a, b);
+        let first = clause.index as usize + HEADER;
+        self.words.swap(first + a, first + b);
     }
+}
+
+/// Appends the words of a clause.
+fn append(words: &mut Vec<u64>, lits: &[Lit], number: u64) -> Result<(), AllocError>
+    ensures begins { take (length words.old.items) words.new.items ≡ words.old.items }
+    ensures ok { OnOk result (words.new.items ≡ words.old.items ++ words_of lits.now number) }
+    ensures indexed { OnOk result (AreIndexed lits.now) }
+{
+    words.extend_from_slice([lits.len() as u64, number, 0, 0].as_slice())?;
+    for lit in lits {
+        words.push(lit.index() as u64)?;
+    }
+    Ok(())
 }
 
 #[cfg(test)]

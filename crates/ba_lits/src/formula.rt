@@ -111,6 +111,7 @@ mod tests {
         assert_eq!(rt; formula.clause(2)[0].is_negated(), true);
         assert_eq!(rt; formula.clause(1)[1].variable(), 2);
         assert_eq!(rt; two.index(), 5);
+        assert_eq!(rt; Lit::from_index(5), two);
         Ok(())
     }
 }

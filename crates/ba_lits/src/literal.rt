@@ -1,7 +1,7 @@
 //! Literals.
 
 ghost use Rattle.std.specs.Prelude.{◌≡◌, ◌+◌, ◌^◌, ◌<◌, ◌≤◌, false};
-ghost use Rattle.ba_lits.specs.Literals.{negate, index_of};
+ghost use Rattle.ba_lits.specs.Literals.{negate, index_of, literal_at};
 
 use std::marker::Model;
 
@@ -39,6 +39,15 @@ impl Lit {
         Lit { code: 2 * variable }
     }
 
+    /// The literal of an index: the inverse of [`index`](Lit::index).
+    pub fn from_index(index: usize) -> Lit
+        requires counted { 2 ≤ index }
+        requires below { index < 2 ^ 63 }
+        ensures { result ≡ literal_at index }
+    {
+        Lit { code: index as u64 }
+    }
+
     /// The literal of the same variable with the other sign.
     pub fn negated(self) -> Lit
         ensures { result ≡ negate self }
@@ -71,6 +80,7 @@ impl Lit {
     /// it is negated.
     pub fn index(self) -> usize
         ensures index { result ≡ index_of self }
+        ensures counted { 2 ≤ result }
         ensures below { result < 2 ^ 63 }
     {
         self.code as usize
