@@ -5,8 +5,7 @@
 //!
 //! The links thread lists of clauses through the arena without taking memory: link 0 belongs to the literal at
 //! place 0, link 1 to that at place 1 (M. Moskewicz, C. Madigan, Y. Zhao, L. Zhang, S. Malik, Chaff: Engineering an
-//! Efficient SAT Solver, on watched literals; N. Een, N. Sorensson, An Extensible SAT-solver, on clauses in one
-//! region of memory).
+//! Efficient SAT Solver, on watched literals).
 #![tactic(auto)]
 
 ghost use Rattle.std.specs.Prelude.{◌≡◌, ◌+◌, ◌^◌, ◌<◌, ◌≤◌, [], ◌++◌, None, length, take, IfOk, OnOk, OnErr};
@@ -18,15 +17,17 @@ use ba_lits::Lit;
 use std::alloc::{AllocError, Global};
 use std::marker::Model;
 
-/// How many words of a clause stand before its literals.
-const HEADER: usize = 4;
-
-/// The place of a clause's number among its words, and of its first link.
+/// The place of a clause's number among its words.
 const NUMBER: usize = 1;
 
+/// The place of a clause's first link among its words; the second follows it.
 const LINKS: usize = 2;
 
-/// A reference to a clause of an arena. It names the clause as long as the clause is live.
+/// The place of a clause's first literal among its words.
+const LITS: usize = 4;
+
+/// A reference to a clause of an arena: the place of its first word. It names the clause as long as the clause is
+/// live.
 #[derive(Clone, Copy, PartialEq, Eq, Debug)]
 pub struct ClauseRef {
     index: u32,
@@ -104,7 +105,7 @@ impl Arena {
         ensures err { OnErr result (self.new ≡ self.old) }
     {
         let place = self.words.len();
-        if place + HEADER + lits.len() > u32::MAX as usize {
+        if place + LITS + lits.len() > u32::MAX as usize {
             return Err(AllocError);
         }
         if let Err(error) = append(&mut self.words, lits, number) {
@@ -121,7 +122,7 @@ impl Arena {
         requires { place < length (lits_at self.now clause) }
         ensures { result ≡ lit_at (lits_at self.now clause) place }
     {
-        Lit::from_index(self.words[clause.index as usize + HEADER + place] as usize)
+        Lit::from_index(self.words[clause.index as usize + LITS + place] as usize)
     }
 
     /// How many literals a clause has.
@@ -164,7 +165,7 @@ impl Arena {
         requires b_within { b < length (lits_at self.old clause) }
         ensures { self.new ≡ changed (swapped a b) self.old clause }
     {
-        let first = clause.index as usize + HEADER;
+        let first = clause.index as usize + LITS;
         self.words.swap(first + a, first + b);
     }
 }
