@@ -9,21 +9,30 @@ use Rattle.ba_arena.proofs.Reading.{length-clauses, left_le}
 use Rattle.ba_arena.proofs.Writing.{cons_both}
 
 -- a clause that has all its words
-stored-append : (count : ℕ) (ws us : List ℕ) → 3 + count ≤ length ws → stored_in count (ws ++ us) ≡ stored_in count ws
+stored-append : (count : ℕ) (ws us : List ℕ) → 3 + count ≤ length ws
+    → stored_in count (ws ++ us) ≡ stored_in count ws
 stored-append count [] us long = absurd (omega (arith, long))
 stored-append count (n ∷ []) us long = absurd (omega (arith, long))
 stored-append count (n ∷ a ∷ []) us long = absurd (omega (arith, long))
 stored-append count (n ∷ a ∷ b ∷ codes) us long =
-    let of_codes : List ℕ → Stored = λ cs. record { lits = map literal_at cs; number = n; first = link_of_word a; second = link_of_word b } in
+    let of_codes : List ℕ → Stored =
+    λ cs. record {
+      lits = map literal_at cs;
+      number = n;
+      first = link_of_word a;
+      second = link_of_word b;
+    } in
     ap of_codes (take-append-le count codes us (omega (arith, long)))
 
-clauses-append : (left : ℕ) (ws us : List ℕ) → lacking left ws ≡ 0 → clauses_of left (ws ++ us) ≡ clauses_of left ws ++ clauses_of 0 us
+clauses-append : (left : ℕ) (ws us : List ℕ) → lacking left ws ≡ 0
+    → clauses_of left (ws ++ us) ≡ clauses_of left ws ++ clauses_of 0 us
 clauses-append left [] us whole = rw whole refl
 clauses-append zero (w ∷ ws) us whole =
     let long = left_le (suc (suc (suc w))) ws whole in
     let same : stored_in w (ws ++ us) ≡ stored_in w ws = stored-append w ws us (omega (arith, long)) in
     cons_both _ _ _ _ (ap (λ (s : Stored). Some s) same) (clauses-append (suc (suc (suc w))) ws us whole)
-clauses-append (suc left) (w ∷ ws) us whole = ap (λ (cs : Clauses). None ∷ cs) (clauses-append left ws us whole)
+clauses-append (suc left) (w ∷ ws) us whole =
+    ap (λ (cs : Clauses). None ∷ cs) (clauses-append left ws us whole)
 
 lacking-append : (left : ℕ) (ws us : List ℕ) → lacking left ws ≡ 0 → lacking left (ws ++ us) ≡ lacking 0 us
 lacking-append left [] us whole = rw whole refl
@@ -46,7 +55,8 @@ literal-index l = at l.variable l.negated
     even : (n : ℕ) → (2 * n + 0) % 2 ≡ 0
     even n = omega arith
 
-    at : (n : ℕ) (b : Bool) → literal_at (index_of (record { variable = n; negated = b })) ≡ record { variable = n; negated = b }
+    at : (n : ℕ) (b : Bool)
+        → literal_at (index_of (record { variable = n; negated = b })) ≡ record { variable = n; negated = b }
     at n true = rw (half n, odd n) refl
     at n false = rw (half_even n, even n) refl
 
@@ -54,7 +64,8 @@ lits-back : (lits : List Literal) → map literal_at (take (length lits) (map in
 lits-back [] = refl
 lits-back (l ∷ ls) = cons_both _ _ _ _ (literal-index l) (lits-back ls)
 
-none_inside : (lits : List Literal) (k : ℕ) → clause_at (clauses_of (length lits) (map index_of lits)) k ≡ None
+none_inside : (lits : List Literal) (k : ℕ)
+    → clause_at (clauses_of (length lits) (map index_of lits)) k ≡ None
 none_inside [] k = refl
 none_inside (l ∷ ls) zero = refl
 none_inside (l ∷ ls) (suc k) = none_inside ls k
@@ -66,10 +77,12 @@ all_there (l ∷ ls) = all_there ls
 abbrev fresh : List Literal → ℕ → Stored
 fresh lits number = record { lits = lits; number = number; first = None; second = None }
 
-first_is : (lits : List Literal) (number : ℕ) → clause_at (clauses_of 0 (words_of lits number)) 0 ≡ Some (fresh lits number)
+first_is : (lits : List Literal) (number : ℕ)
+    → clause_at (clauses_of 0 (words_of lits number)) 0 ≡ Some (fresh lits number)
 first_is lits number = ap (λ (ls : List Literal). Some (fresh ls number)) (lits-back lits)
 
-none_after : (lits : List Literal) (number k : ℕ) → clause_at (clauses_of 0 (words_of lits number)) (suc k) ≡ None
+none_after : (lits : List Literal) (number k : ℕ)
+    → clause_at (clauses_of 0 (words_of lits number)) (suc k) ≡ None
 none_after lits number zero = refl
 none_after lits number (suc zero) = refl
 none_after lits number (suc (suc zero)) = refl
@@ -80,43 +93,58 @@ there_after : (cs ds : Clauses) → clause_at (cs ++ ds) (length cs) ≡ clause_
 there_after [] ds = refl
 there_after (c ∷ cs) ds = there_after cs ds
 
-others_stay : (cs ds : Clauses) → ((k : ℕ) → clause_at ds (suc k) ≡ None) → (k : ℕ) → k ≢ length cs → clause_at (cs ++ ds) k ≡ clause_at cs k
+others_stay : (cs ds : Clauses) → ((k : ℕ) → clause_at ds (suc k) ≡ None) → (k : ℕ) → k ≢ length cs
+    → clause_at (cs ++ ds) k ≡ clause_at cs k
 others_stay [] ds none zero ne = absurd (ne refl)
 others_stay [] ds none (suc k) ne = none k
 others_stay (c ∷ cs) ds none zero ne = refl
 others_stay (c ∷ cs) ds none (suc k) ne = others_stay cs ds none k (λ e. ne (ap suc e))
 
-fit-append : (cs ds : Clauses) → ((k : ℕ) (s : Stored) → clause_at cs k ≡ Some s → Fits s) → ((k : ℕ) (s : Stored) → clause_at ds k ≡ Some s → Fits s) → (k : ℕ) (s : Stored) → clause_at (cs ++ ds) k ≡ Some s → Fits s
+fit-append : (cs ds : Clauses) → ((k : ℕ) (s : Stored) → clause_at cs k ≡ Some s → Fits s)
+    → ((k : ℕ) (s : Stored) → clause_at ds k ≡ Some s → Fits s) → (k : ℕ) (s : Stored)
+    → clause_at (cs ++ ds) k ≡ Some s → Fits s
 fit-append [] ds all more k s e = more k s e
 fit-append (c ∷ cs) ds all more zero s e = all zero s e
 fit-append (c ∷ cs) ds all more (suc k) s e = fit-append cs ds (λ k s e. all (suc k) s e) more k s e
 
-fresh_fits : (lits : List Literal) (number : ℕ) → AreIndexed lits → (k : ℕ) (s : Stored) → clause_at (clauses_of 0 (words_of lits number)) k ≡ Some s → Fits s
+fresh_fits : (lits : List Literal) (number : ℕ) → AreIndexed lits → (k : ℕ) (s : Stored)
+    → clause_at (clauses_of 0 (words_of lits number)) k ≡ Some s → Fits s
 fresh_fits lits number indexed zero s e =
     let is : Some (fresh lits number) ≡ Some s = sym (first_is lits number) ∙ e in
-    let fits : Fits (fresh lits number) = record { lits = indexed; first = λ next e. absurd (cc e); second = λ next e. absurd (cc e) } in
+    let fits : Fits (fresh lits number) =
+    record { lits = indexed; first = λ next e. absurd (cc e); second = λ next e. absurd (cc e) } in
     subst Fits (cc is) fits
 fresh_fits lits number indexed (suc k) s e =
     let is : None ≡ Some s = sym (none_after lits number k) ∙ e in
     absurd (cc is)
 
-pub adds : (ws us : List ℕ) (lits : List Literal) (number clause : ℕ) → AreWords ws → us ≡ ws ++ words_of lits number → clause ≡ length ws → Adds (clauses_of 0 ws) (clauses_of 0 us) clause (fresh lits number)
+pub adds : (ws us : List ℕ) (lits : List Literal) (number clause : ℕ) → AreWords ws
+    → us ≡ ws ++ words_of lits number → clause ≡ length ws
+    → Adds (clauses_of 0 ws) (clauses_of 0 us) clause (fresh lits number)
 adds ws us lits number clause words us_is clause_is =
     let cs = clauses_of 0 ws in
     let ds = clauses_of 0 (words_of lits number) in
-    let is : clauses_of 0 us ≡ cs ++ ds = ap (λ (vs : List ℕ). clauses_of 0 vs) us_is ∙ clauses-append 0 ws (words_of lits number) words.whole in
+    let is : clauses_of 0 us ≡ cs ++ ds =
+    ap (λ (vs : List ℕ). clauses_of 0 vs) us_is ∙ clauses-append 0 ws (words_of lits number) words.whole in
     let len = length-clauses 0 ws in
     record {
       at_end = clause_is ∙ sym len;
-      longer = omega (arith, ap (λ (c : Clauses). length c) is, length-append cs ds, length-clauses 0 (words_of lits number));
+      longer =
+          let long = ap (λ (c : Clauses). length c) is in
+          omega (arith, long, length-append cs ds, length-clauses 0 (words_of lits number));
       there = rw (is, clause_is, ← len) (there_after cs ds ∙ first_is lits number);
-      others = λ k ne. ap (λ (c : Clauses). clause_at c k) is ∙ others_stay cs ds (none_after lits number) k (λ e. ne (e ∙ (len ∙ sym clause_is)));
+      others = λ k ne. ap (λ (c : Clauses). clause_at c k) is
+          ∙ others_stay cs ds (none_after lits number) k (λ e. ne (e ∙ (len ∙ sym clause_is)));
     }
 
-pub add-words : (ws us : List ℕ) (lits : List Literal) (number : ℕ) → AreWords ws → us ≡ ws ++ words_of lits number → AreIndexed lits → AreWords us
+pub add-words : (ws us : List ℕ) (lits : List Literal) (number : ℕ) → AreWords ws
+    → us ≡ ws ++ words_of lits number → AreIndexed lits → AreWords us
 add-words ws us lits number words us_is indexed =
-    let is : clauses_of 0 us ≡ clauses_of 0 ws ++ clauses_of 0 (words_of lits number) = ap (λ (vs : List ℕ). clauses_of 0 vs) us_is ∙ clauses-append 0 ws (words_of lits number) words.whole in
+    let is : clauses_of 0 us ≡ clauses_of 0 ws ++ clauses_of 0 (words_of lits number) =
+    ap (λ (vs : List ℕ). clauses_of 0 vs) us_is ∙ clauses-append 0 ws (words_of lits number) words.whole in
     record {
-      whole = ap (λ (vs : List ℕ). lacking 0 vs) us_is ∙ (lacking-append 0 ws (words_of lits number) words.whole ∙ all_there lits);
-      fit = λ k s e. fit-append (clauses_of 0 ws) (clauses_of 0 (words_of lits number)) words.fit (fresh_fits lits number indexed) k s (ap (λ (c : Clauses). clause_at c k) (sym is) ∙ e);
+      whole = ap (λ (vs : List ℕ). lacking 0 vs) us_is
+          ∙ (lacking-append 0 ws (words_of lits number) words.whole ∙ all_there lits);
+      fit = λ k s e. fit-append (clauses_of 0 ws) (clauses_of 0 (words_of lits number)) words.fit
+          (fresh_fits lits number indexed) k s (ap (λ (c : Clauses). clause_at c k) (sym is) ∙ e);
     }

@@ -15,7 +15,8 @@ length-clauses zero (w ∷ ws) = ap suc (length-clauses (suc (suc (suc w))) ws)
 length-clauses (suc left) (w ∷ ws) = ap suc (length-clauses left ws)
 
 -- what begins at a place
-pub begins : (left : ℕ) (ws : List ℕ) (i : ℕ) → IsSome (clause_at (clauses_of left ws) i) → clause_at (clauses_of left ws) i ≡ Some (stored_in (get_or ws i 0) (drop (suc i) ws))
+pub begins : (left : ℕ) (ws : List ℕ) (i : ℕ) → IsSome (clause_at (clauses_of left ws) i)
+    → clause_at (clauses_of left ws) i ≡ Some (stored_in (get_or ws i 0) (drop (suc i) ws))
 begins left [] i live = absurd (cc live)
 begins zero (w ∷ ws) zero live = refl
 begins zero (w ∷ ws) (suc i) live = begins (suc (suc (suc w))) ws i live
@@ -35,7 +36,8 @@ left_le left [] whole = omega (arith, whole)
 left_le zero (w ∷ ws) whole = omega arith
 left_le (suc left) (w ∷ ws) whole = omega (arith, left_le left ws whole)
 
-pub room : (left : ℕ) (ws : List ℕ) (i : ℕ) → IsSome (clause_at (clauses_of left ws) i) → lacking left ws ≡ 0 → i + 4 + get_or ws i 0 ≤ length ws
+pub room : (left : ℕ) (ws : List ℕ) (i : ℕ) → IsSome (clause_at (clauses_of left ws) i) → lacking left ws ≡ 0
+    → i + 4 + get_or ws i 0 ≤ length ws
 room left [] i live whole = absurd (cc live)
 room zero (w ∷ ws) zero live whole = omega (arith, left_le (suc (suc (suc w))) ws whole)
 room zero (w ∷ ws) (suc i) live whole = omega (arith, room (suc (suc (suc w))) ws i live whole)
@@ -61,7 +63,8 @@ live_from_lits (Some s) k h = refl
 word : (ws : List ℕ) (i j n : ℕ) → n ≡ i + 1 + j → get_or (drop (suc i) ws) j 0 ≡ get_or ws n 0
 word ws i j n e = get_or-drop (suc i) ws j 0 ∙ ap (λ m. get_or ws m 0) (omega (arith, e))
 
-pub len_read : (ws : List ℕ) (i x : ℕ) → IsHere ws i → x ≡ get_or ws i x → x ≡ length (lits_at (clauses_of 0 ws) i)
+pub len_read : (ws : List ℕ) (i x : ℕ) → IsHere ws i → x ≡ get_or ws i x
+    → x ≡ length (lits_at (clauses_of 0 ws) i)
 len_read ws i x h read =
     let x_is : x ≡ get_or ws i 0 = read ∙ get_or_default_zero ws i x (omega (arith, h.room)) in
     let codes = take (get_or ws i 0) (drop 3 (drop (suc i) ws)) in
@@ -72,7 +75,8 @@ len_read ws i x h read =
     omega (arith, a, b, d, h.room) in
     x_is ∙ (sym count ∙ (sym (length-map codes literal_at) ∙ sym (ap (λ o. length (lits_of o)) h.is)))
 
-pub number_read : (ws : List ℕ) (i x : ℕ) → IsHere ws i → x ≡ get_or ws (i + 1) x → x ≡ number_at (clauses_of 0 ws) i
+pub number_read : (ws : List ℕ) (i x : ℕ) → IsHere ws i → x ≡ get_or ws (i + 1) x
+    → x ≡ number_at (clauses_of 0 ws) i
 number_read ws i x h read =
     let x_is : x ≡ get_or ws (i + 1) 0 = read ∙ get_or_default_zero ws (i + 1) x (omega (arith, h.room)) in
     x_is ∙ (sym (word ws i 0 (i + 1) (omega arith)) ∙ sym (ap number_of h.is))
@@ -82,59 +86,79 @@ word_le : (w : ℕ) → ((next : ℕ) → link_of_word w ≡ Some next → next 
 word_le zero fits = omega arith
 word_le (suc w) fits = omega (arith, fits (suc w - 1) (grind (arith, nat_tests)))
 
-pub link_word : (ws : List ℕ) (i which x : ℕ) → IsHere ws i → which ≤ 1 → x ≡ get_or ws (i + 2 + which) x → x ≡ get_or (drop (suc i) ws) (suc which) 0
+pub link_word : (ws : List ℕ) (i which x : ℕ) → IsHere ws i → which ≤ 1 → x ≡ get_or ws (i + 2 + which) x
+    → x ≡ get_or (drop (suc i) ws) (suc which) 0
 link_word ws i which x h le read =
-    let x_is : x ≡ get_or ws (i + 2 + which) 0 = read ∙ get_or_default_zero ws (i + 2 + which) x (omega (arith, h.room, le)) in
+    let x_is : x ≡ get_or ws (i + 2 + which) 0 =
+    read ∙ get_or_default_zero ws (i + 2 + which) x (omega (arith, h.room, le)) in
     x_is ∙ sym (word ws i (suc which) (i + 2 + which) (omega arith))
 
-pub link_fits : (ws : List ℕ) (i which x : ℕ) → IsHere ws i → which ≤ 1 → x ≡ get_or ws (i + 2 + which) x → x ≤ 2 ^ 32
+pub link_fits : (ws : List ℕ) (i which x : ℕ) → IsHere ws i → which ≤ 1 → x ≡ get_or ws (i + 2 + which) x
+    → x ≤ 2 ^ 32
 link_fits ws i zero x h le read = rw (link_word ws i zero x h le read) (word_le _ h.fits.first)
 link_fits ws i (suc zero) x h le read = rw (link_word ws i (suc zero) x h le read) (word_le _ h.fits.second)
 link_fits ws i (suc (suc which)) x h le read = absurd (omega (arith, le))
 
-pub link_read : (ws : List ℕ) (i which x : ℕ) → IsHere ws i → which ≤ 1 → x ≡ get_or ws (i + 2 + which) x → link_of_word x ≡ link_at (clauses_of 0 ws) i which
-link_read ws i zero x h le read = ap link_of_word (link_word ws i zero x h le read) ∙ sym (ap (link_of 0) h.is)
-link_read ws i (suc zero) x h le read = ap link_of_word (link_word ws i (suc zero) x h le read) ∙ sym (ap (link_of 1) h.is)
+pub link_read : (ws : List ℕ) (i which x : ℕ) → IsHere ws i → which ≤ 1 → x ≡ get_or ws (i + 2 + which) x
+    → link_of_word x ≡ link_at (clauses_of 0 ws) i which
+link_read ws i zero x h le read =
+    ap link_of_word (link_word ws i zero x h le read) ∙ sym (ap (link_of 0) h.is)
+link_read ws i (suc zero) x h le read =
+    ap link_of_word (link_word ws i (suc zero) x h le read) ∙ sym (ap (link_of 1) h.is)
 link_read ws i (suc (suc which)) x h le read = absurd (omega (arith, le))
 
 -- a literal stands within its clause, and so within the words
-pub lit_within : (ws : List ℕ) (i k : ℕ) → IsHere ws i → k < length (lits_at (clauses_of 0 ws) i) → k < get_or ws i 0
+pub lit_within : (ws : List ℕ) (i k : ℕ) → IsHere ws i → k < length (lits_at (clauses_of 0 ws) i)
+    → k < get_or ws i 0
 lit_within ws i k h k_in =
     let codes = take (get_or ws i 0) (drop 3 (drop (suc i) ws)) in
-    let count : length (lits_at (clauses_of 0 ws) i) ≡ length codes = ap (λ o. length (lits_of o)) h.is ∙ length-map codes literal_at in
+    let count : length (lits_at (clauses_of 0 ws) i) ≡ length codes =
+    ap (λ o. length (lits_of o)) h.is ∙ length-map codes literal_at in
     omega (arith, count, k_in, length-take (get_or ws i 0) (drop 3 (drop (suc i) ws)))
 
-pub lit_read : (ws : List ℕ) (i k x : ℕ) → IsHere ws i → k < length (lits_at (clauses_of 0 ws) i) → x ≡ get_or ws (i + 4 + k) x → literal_at x ≡ lit_at (lits_at (clauses_of 0 ws) i) k
+pub lit_read : (ws : List ℕ) (i k x : ℕ) → IsHere ws i → k < length (lits_at (clauses_of 0 ws) i)
+    → x ≡ get_or ws (i + 4 + k) x → literal_at x ≡ lit_at (lits_at (clauses_of 0 ws) i) k
 lit_read ws i k x h k_in read =
     let rest = drop (suc i) ws in
     let codes = take (get_or ws i 0) (drop 3 rest) in
     let below : k < get_or ws i 0 = lit_within ws i k h k_in in
-    let x_is : x ≡ get_or ws (i + 4 + k) 0 = read ∙ get_or_default_zero ws (i + 4 + k) x (omega (arith, h.room, below)) in
+    let x_is : x ≡ get_or ws (i + 4 + k) 0 =
+    read ∙ get_or_default_zero ws (i + 4 + k) x (omega (arith, h.room, below)) in
     let there : get_or codes k 0 ≡ get_or ws (i + 4 + k) 0 =
-    get_or-take (get_or ws i 0) (drop 3 rest) k 0 below ∙ (get_or-drop 3 rest k 0 ∙ word ws i (3 + k) (i + 4 + k) (omega arith)) in
-    let count : length (lits_at (clauses_of 0 ws) i) ≡ length codes = ap (λ o. length (lits_of o)) h.is ∙ length-map codes literal_at in
-    ap literal_at (x_is ∙ sym there) ∙ (sym (get_or-map literal_at codes k 0 no_literal (omega (arith, count, k_in))) ∙ sym (ap (λ o. lit_at (lits_of o) k) h.is))
+    get_or-take (get_or ws i 0) (drop 3 rest) k 0 below
+    ∙ (get_or-drop 3 rest k 0 ∙ word ws i (3 + k) (i + 4 + k) (omega arith)) in
+    let count : length (lits_at (clauses_of 0 ws) i) ≡ length codes =
+    ap (λ o. length (lits_of o)) h.is ∙ length-map codes literal_at in
+    ap literal_at (x_is ∙ sym there)
+    ∙ (sym (get_or-map literal_at codes k 0 no_literal (omega (arith, count, k_in)))
+    ∙ sym (ap (λ o. lit_at (lits_of o) k) h.is))
 
 -- the word is the index of the literal
-index_is : (ws : List ℕ) (i k x : ℕ) → IsHere ws i → k < length (lits_at (clauses_of 0 ws) i) → x ≡ get_or ws (i + 4 + k) x → x ≡ index_of (lit_at (stored_in (get_or ws i 0) (drop (suc i) ws)).lits k)
+index_is : (ws : List ℕ) (i k x : ℕ) → IsHere ws i → k < length (lits_at (clauses_of 0 ws) i)
+    → x ≡ get_or ws (i + 4 + k) x → x ≡ index_of (lit_at (stored_in (get_or ws i 0) (drop (suc i) ws)).lits k)
 index_is ws i k x h k_in read =
-    sym (index_of-literal_at x) ∙ ap index_of (lit_read ws i k x h k_in read ∙ ap (λ o. lit_at (lits_of o) k) h.is)
+    sym (index_of-literal_at x)
+    ∙ ap index_of (lit_read ws i k x h k_in read ∙ ap (λ o. lit_at (lits_of o) k) h.is)
 
 -- and so in the range of indices
-pub lit_counted : (ws : List ℕ) (i k x : ℕ) → IsHere ws i → k < length (lits_at (clauses_of 0 ws) i) → x ≡ get_or ws (i + 4 + k) x → 2 ≤ x
+pub lit_counted : (ws : List ℕ) (i k x : ℕ) → IsHere ws i → k < length (lits_at (clauses_of 0 ws) i)
+    → x ≡ get_or ws (i + 4 + k) x → 2 ≤ x
 lit_counted ws i k x h k_in read =
     let is = index_is ws i k x h k_in read in
     omega (arith, is, (h.fits.lits k (subst (λ o. k < length (lits_of o)) h.is k_in)).0)
 
-pub lit_below : (ws : List ℕ) (i k x : ℕ) → IsHere ws i → k < length (lits_at (clauses_of 0 ws) i) → x ≡ get_or ws (i + 4 + k) x → x < 2 ^ 63
+pub lit_below : (ws : List ℕ) (i k x : ℕ) → IsHere ws i → k < length (lits_at (clauses_of 0 ws) i)
+    → x ≡ get_or ws (i + 4 + k) x → x < 2 ^ 63
 lit_below ws i k x h k_in read =
     let is = index_is ws i k x h k_in read in
     omega (arith, is, (h.fits.lits k (subst (λ o. k < length (lits_of o)) h.is k_in)).1)
 
-pub here_with_lit : (ws : List ℕ) (i k : ℕ) → AreWords ws → k < length (lits_at (clauses_of 0 ws) i) → IsHere ws i
+pub here_with_lit : (ws : List ℕ) (i k : ℕ) → AreWords ws → k < length (lits_at (clauses_of 0 ws) i)
+    → IsHere ws i
 here_with_lit ws i k words k_in = here ws i words (live_from_lits (clause_at (clauses_of 0 ws) i) k k_in)
 
-pub lit_room : (ws : List ℕ) (i k : ℕ) → AreWords ws → k < length (lits_at (clauses_of 0 ws) i) → i + 4 + k < length ws
+pub lit_room : (ws : List ℕ) (i k : ℕ) → AreWords ws → k < length (lits_at (clauses_of 0 ws) i)
+    → i + 4 + k < length ws
 lit_room ws i k words k_in =
     let h = here_with_lit ws i k words k_in in
     omega (arith, h.room, lit_within ws i k h k_in)

@@ -13,7 +13,8 @@ unmoved : (left : ℕ) (ws : List ℕ) (j v : ℕ) → j < left → clauses_of l
 unmoved left [] j v h = refl
 unmoved zero (w ∷ ws) j v h = absurd (omega (arith, h))
 unmoved (suc left) (w ∷ ws) zero v h = refl
-unmoved (suc left) (w ∷ ws) (suc j) v h = ap (λ (cs : Clauses). None ∷ cs) (unmoved left ws j v (omega (arith, h)))
+unmoved (suc left) (w ∷ ws) (suc j) v h =
+    ap (λ (cs : Clauses). None ∷ cs) (unmoved left ws j v (omega (arith, h)))
 
 lacking-unmoved : (left : ℕ) (ws : List ℕ) (j v : ℕ) → j < left → lacking left (set ws j v) ≡ lacking left ws
 lacking-unmoved left [] j v h = refl
@@ -22,7 +23,8 @@ lacking-unmoved (suc left) (w ∷ ws) zero v h = refl
 lacking-unmoved (suc left) (w ∷ ws) (suc j) v h = lacking-unmoved left ws j v (omega (arith, h))
 
 -- a word past a clause
-stored-past : (count q v : ℕ) (ws : List ℕ) → 3 + count ≤ q → stored_in count (set ws q v) ≡ stored_in count ws
+stored-past : (count q v : ℕ) (ws : List ℕ) → 3 + count ≤ q
+    → stored_in count (set ws q v) ≡ stored_in count ws
 stored-past count zero v ws h = absurd (omega (arith, h))
 stored-past count (suc zero) v ws h = absurd (omega (arith, h))
 stored-past count (suc (suc zero)) v ws h = absurd (omega (arith, h))
@@ -30,40 +32,59 @@ stored-past count (suc (suc (suc p))) v [] h = refl
 stored-past count (suc (suc (suc p))) v (n ∷ []) h = refl
 stored-past count (suc (suc (suc p))) v (n ∷ a ∷ []) h = refl
 stored-past count (suc (suc (suc p))) v (n ∷ a ∷ b ∷ codes) h =
-    let of_codes : List ℕ → Stored = λ cs. record { lits = map literal_at cs; number = n; first = link_of_word a; second = link_of_word b } in
+    let of_codes : List ℕ → Stored =
+    λ cs. record {
+      lits = map literal_at cs;
+      number = n;
+      first = link_of_word a;
+      second = link_of_word b;
+    } in
     ap of_codes (take-set-le count codes p v (omega (arith, h)))
 
 pub cons_both : {X : Type 0} (x y : X) (xs ys : List X) → x ≡ y → xs ≡ ys → x ∷ xs ≡ y ∷ ys
 cons_both x y xs ys e f = rw (e, f) refl
 
 -- what a word within a clause changes
-pub writes : (left : ℕ) (ws : List ℕ) (i j q v : ℕ) → q ≡ suc (i + j) → IsSome (clause_at (clauses_of left ws) i) → j < 3 + get_or ws i 0 → clauses_of left (set ws q v) ≡ set (clauses_of left ws) i (Some (stored_in (get_or ws i 0) (set (drop (suc i) ws) j v)))
+pub writes : (left : ℕ) (ws : List ℕ) (i j q v : ℕ) → q ≡ suc (i + j)
+    → IsSome (clause_at (clauses_of left ws) i) → j < 3 + get_or ws i 0
+    → clauses_of left (set ws q v) ≡ set (clauses_of left ws) i
+    (Some (stored_in (get_or ws i 0) (set (drop (suc i) ws) j v)))
 writes left [] i j q v e live h = absurd (cc live)
 writes zero (w ∷ ws) zero j zero v e live h = absurd (omega (arith, e))
 writes zero (w ∷ ws) zero j (suc q) v e live h =
     let q_is : q ≡ j = omega (arith, e) in
-    rw q_is (ap (λ (cs : Clauses). Some (stored_in w (set ws j v)) ∷ cs) (unmoved (suc (suc (suc w))) ws j v (omega (arith, h))))
+    rw q_is (ap (λ (cs : Clauses). Some (stored_in w (set ws j v)) ∷ cs)
+    (unmoved (suc (suc (suc w))) ws j v (omega (arith, h))))
 writes zero (w ∷ ws) (suc i) j zero v e live h = absurd (omega (arith, e))
 writes zero (w ∷ ws) (suc i) j (suc q) v e live h =
     let after = after_left (suc (suc (suc w))) ws i live in
     let same : stored_in w (set ws q v) ≡ stored_in w ws = stored-past w q v ws (omega (arith, after, e)) in
-    cons_both _ _ _ _ (ap (λ (s : Stored). Some s) same) (writes (suc (suc (suc w))) ws i j q v (omega (arith, e)) live h)
+    cons_both _ _ _ _ (ap (λ (s : Stored). Some s) same)
+    (writes (suc (suc (suc w))) ws i j q v (omega (arith, e)) live h)
 writes (suc left) (w ∷ ws) zero j q v e live h = absurd (cc live)
 writes (suc left) (w ∷ ws) (suc i) j zero v e live h = absurd (omega (arith, e))
-writes (suc left) (w ∷ ws) (suc i) j (suc q) v e live h = ap (λ (cs : Clauses). None ∷ cs) (writes left ws i j q v (omega (arith, e)) live h)
+writes (suc left) (w ∷ ws) (suc i) j (suc q) v e live h =
+    ap (λ (cs : Clauses). None ∷ cs) (writes left ws i j q v (omega (arith, e)) live h)
 
-lacking-writes : (left : ℕ) (ws : List ℕ) (i j q v : ℕ) → q ≡ suc (i + j) → IsSome (clause_at (clauses_of left ws) i) → j < 3 + get_or ws i 0 → lacking left (set ws q v) ≡ lacking left ws
+lacking-writes : (left : ℕ) (ws : List ℕ) (i j q v : ℕ) → q ≡ suc (i + j)
+    → IsSome (clause_at (clauses_of left ws) i) → j < 3 + get_or ws i 0
+    → lacking left (set ws q v) ≡ lacking left ws
 lacking-writes left [] i j q v e live h = absurd (cc live)
 lacking-writes zero (w ∷ ws) zero j zero v e live h = absurd (omega (arith, e))
-lacking-writes zero (w ∷ ws) zero j (suc q) v e live h = lacking-unmoved (suc (suc (suc w))) ws q v (omega (arith, h, e))
+lacking-writes zero (w ∷ ws) zero j (suc q) v e live h =
+    lacking-unmoved (suc (suc (suc w))) ws q v (omega (arith, h, e))
 lacking-writes zero (w ∷ ws) (suc i) j zero v e live h = absurd (omega (arith, e))
-lacking-writes zero (w ∷ ws) (suc i) j (suc q) v e live h = lacking-writes (suc (suc (suc w))) ws i j q v (omega (arith, e)) live h
+lacking-writes zero (w ∷ ws) (suc i) j (suc q) v e live h =
+    lacking-writes (suc (suc (suc w))) ws i j q v (omega (arith, e)) live h
 lacking-writes (suc left) (w ∷ ws) zero j q v e live h = absurd (cc live)
 lacking-writes (suc left) (w ∷ ws) (suc i) j zero v e live h = absurd (omega (arith, e))
-lacking-writes (suc left) (w ∷ ws) (suc i) j (suc q) v e live h = lacking-writes left ws i j q v (omega (arith, e)) live h
+lacking-writes (suc left) (w ∷ ws) (suc i) j (suc q) v e live h =
+    lacking-writes left ws i j q v (omega (arith, e)) live h
 
 -- where one clause is changed into one that fits, all fit
-fit-set : (cs : Clauses) (i : ℕ) (s : Stored) → Fits s → ((k : ℕ) (t : Stored) → clause_at cs k ≡ Some t → Fits t) → (k : ℕ) (t : Stored) → clause_at (set cs i (Some s)) k ≡ Some t → Fits t
+fit-set : (cs : Clauses) (i : ℕ) (s : Stored) → Fits s
+    → ((k : ℕ) (t : Stored) → clause_at cs k ≡ Some t → Fits t) → (k : ℕ) (t : Stored)
+    → clause_at (set cs i (Some s)) k ≡ Some t → Fits t
 fit-set [] i s fits all k t e = all k t e
 fit-set (c ∷ cs) zero s fits all zero t e = subst Fits (cc e) fits
 fit-set (c ∷ cs) zero s fits all (suc k) t e = all (suc k) t e
@@ -74,10 +95,13 @@ fit-set (c ∷ cs) (suc i) s fits all (suc k) t e = fit-set cs i s fits (λ k t 
 pub rest_long : (ws : List ℕ) (i : ℕ) → IsHere ws i → 3 + get_or ws i 0 ≤ length (drop (suc i) ws)
 rest_long ws i h = omega (arith, h.room, length-drop (suc i) ws)
 
-pub words-written : (ws : List ℕ) (i j q v : ℕ) → AreWords ws → IsHere ws i → q ≡ suc (i + j) → j < 3 + get_or ws i 0 → Fits (stored_in (get_or ws i 0) (set (drop (suc i) ws) j v)) → AreWords (set ws q v)
+pub words-written : (ws : List ℕ) (i j q v : ℕ) → AreWords ws → IsHere ws i → q ≡ suc (i + j)
+    → j < 3 + get_or ws i 0 → Fits (stored_in (get_or ws i 0) (set (drop (suc i) ws) j v))
+    → AreWords (set ws q v)
 words-written ws i j q v words h e within fits = record {
   whole = lacking-writes 0 ws i j q v e (ap is_some h.is) within ∙ words.whole;
-  fit = λ k t at. fit-set (clauses_of 0 ws) i _ fits words.fit k t (ap (λ (cs : Clauses). clause_at cs k) (sym (writes 0 ws i j q v e (ap is_some h.is) within)) ∙ at);
+  fit = λ k t at. fit-set (clauses_of 0 ws) i _ fits words.fit k t
+      (ap (λ (cs : Clauses). clause_at cs k) (sym (writes 0 ws i j q v e (ap is_some h.is) within)) ∙ at);
 }
 
 -- a link
@@ -91,7 +115,9 @@ word_fits (suc v) le next e =
     some : (v : ℕ) → link_of_word (suc v) ≡ Some (suc v - 1)
     some v = grind (arith, nat_tests)
 
-linked-word : (count which v : ℕ) (rest : List ℕ) (next : Option ℕ) → which ≤ 1 → 3 + count ≤ length rest → link_of_word v ≡ next → Some (stored_in count (set rest (suc which) v)) ≡ linked which next (Some (stored_in count rest))
+linked-word : (count which v : ℕ) (rest : List ℕ) (next : Option ℕ) → which ≤ 1 → 3 + count ≤ length rest
+    → link_of_word v ≡ next
+    → Some (stored_in count (set rest (suc which) v)) ≡ linked which next (Some (stored_in count rest))
 linked-word count zero v [] next le long e = absurd (omega (arith, long))
 linked-word count zero v (n ∷ []) next le long e = absurd (omega (arith, long))
 linked-word count zero v (n ∷ a ∷ []) next le long e = absurd (omega (arith, long))
@@ -102,25 +128,34 @@ linked-word count (suc zero) v (n ∷ a ∷ []) next le long e = absurd (omega (
 linked-word count (suc zero) v (n ∷ a ∷ b ∷ codes) next le long e = rw e refl
 linked-word count (suc (suc which)) v rest next le long e = absurd (omega (arith, le))
 
-linked-fits : (count which v : ℕ) (rest : List ℕ) → which ≤ 1 → 3 + count ≤ length rest → v ≤ 2 ^ 32 → Fits (stored_in count rest) → Fits (stored_in count (set rest (suc which) v))
+linked-fits : (count which v : ℕ) (rest : List ℕ) → which ≤ 1 → 3 + count ≤ length rest → v ≤ 2 ^ 32
+    → Fits (stored_in count rest) → Fits (stored_in count (set rest (suc which) v))
 linked-fits count zero v [] le long small fits = absurd (omega (arith, long))
 linked-fits count zero v (n ∷ []) le long small fits = absurd (omega (arith, long))
 linked-fits count zero v (n ∷ a ∷ []) le long small fits = absurd (omega (arith, long))
-linked-fits count zero v (n ∷ a ∷ b ∷ codes) le long small fits = record { lits = fits.lits; first = word_fits v small; second = fits.second }
+linked-fits count zero v (n ∷ a ∷ b ∷ codes) le long small fits =
+    record { lits = fits.lits; first = word_fits v small; second = fits.second }
 linked-fits count (suc zero) v [] le long small fits = absurd (omega (arith, long))
 linked-fits count (suc zero) v (n ∷ []) le long small fits = absurd (omega (arith, long))
 linked-fits count (suc zero) v (n ∷ a ∷ []) le long small fits = absurd (omega (arith, long))
-linked-fits count (suc zero) v (n ∷ a ∷ b ∷ codes) le long small fits = record { lits = fits.lits; first = fits.first; second = word_fits v small }
+linked-fits count (suc zero) v (n ∷ a ∷ b ∷ codes) le long small fits =
+    record { lits = fits.lits; first = fits.first; second = word_fits v small }
 linked-fits count (suc (suc which)) v rest le long small fits = absurd (omega (arith, le))
 
-pub set_link-is : (ws : List ℕ) (i which v : ℕ) (next : Option ℕ) → IsHere ws i → which ≤ 1 → link_of_word v ≡ next → clauses_of 0 (set ws (i + 2 + which) v) ≡ changed (linked which next) (clauses_of 0 ws) i
+pub set_link-is : (ws : List ℕ) (i which v : ℕ) (next : Option ℕ) → IsHere ws i → which ≤ 1
+    → link_of_word v ≡ next
+    → clauses_of 0 (set ws (i + 2 + which) v) ≡ changed (linked which next) (clauses_of 0 ws) i
 set_link-is ws i which v next h le e =
     writes 0 ws i (suc which) (i + 2 + which) v (omega arith) (ap is_some h.is) (omega (arith, le))
-    ∙ ap (λ (o : Option Stored). set (clauses_of 0 ws) i o) (linked-word _ which v (drop (suc i) ws) next le (rest_long ws i h) e ∙ sym (ap (linked which next) h.is))
+    ∙ ap (λ (o : Option Stored). set (clauses_of 0 ws) i o)
+    (linked-word _ which v (drop (suc i) ws) next le (rest_long ws i h) e
+    ∙ sym (ap (linked which next) h.is))
 
-pub set_link-words : (ws : List ℕ) (i which v : ℕ) → AreWords ws → IsHere ws i → which ≤ 1 → v ≤ 2 ^ 32 → AreWords (set ws (i + 2 + which) v)
+pub set_link-words : (ws : List ℕ) (i which v : ℕ) → AreWords ws → IsHere ws i → which ≤ 1 → v ≤ 2 ^ 32
+    → AreWords (set ws (i + 2 + which) v)
 set_link-words ws i which v words h le small =
-    words-written ws i (suc which) (i + 2 + which) v words h (omega arith) (omega (arith, le)) (linked-fits _ which v (drop (suc i) ws) le (rest_long ws i h) small h.fits)
+    words-written ws i (suc which) (i + 2 + which) v words h (omega arith) (omega (arith, le))
+    (linked-fits _ which v (drop (suc i) ws) le (rest_long ws i h) small h.fits)
 
 pub link-word : (v : ℕ) (next : Option ℕ) → v ≡ word_of_link next → link_of_word v ≡ next
 link-word v None e = rw e refl

@@ -13,8 +13,8 @@ abbrev pub word_of_link : Option ℕ → ℕ
 word_of_link None = 0
 word_of_link (Some clause) = clause + 1
 
--- the words of a clause without links: the count of its literals, its number, its links, and its literals by their
--- indices
+-- the words of a clause without links: the count of its literals, its number, its links, and its literals by
+-- their indices
 abbrev pub words_of : List Literal → ℕ → List ℕ
 words_of lits number = length lits ∷ number ∷ 0 ∷ 0 ∷ map index_of lits
 
@@ -41,7 +41,8 @@ lacking (suc left) (word ∷ rest) = lacking left rest
 
 -- the indices of the literals are in the range of indices
 abbrev pub AreIndexed : List Literal → Type 0
-AreIndexed lits = (k : ℕ) → k < length lits → (2 ≤ index_of (lit_at lits k)) × (index_of (lit_at lits k) < 2 ^ 63)
+AreIndexed lits =
+    (k : ℕ) → k < length lits → (2 ≤ index_of (lit_at lits k)) × (index_of (lit_at lits k) < 2 ^ 63)
 
 -- a clause whose literals and links are in the ranges of their types
 pub record Fits (s : Stored) : Type 0 where

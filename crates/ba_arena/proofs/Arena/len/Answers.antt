@@ -4,10 +4,12 @@ use Rattle.ba_arena.proofs.Arena.len.Goals as goal
 
 pub index-requires : goal.index-requires
 index-requires c =
-    let h = here c.self.inside.words.items c.clause.inside.index c.self.invariant (rw (c.self.view_is, c.clause.view_is) c.requires) in
+    let h = here c.self.inside.words.items c.clause.inside.index c.self.invariant
+    (rw (c.self.view_is, c.clause.view_is) c.requires) in
     omega (arith, c.self.inside.words.ok.0, h.room)
 
 pub returns : goal.returns
 returns c =
-    let h = here c.self.inside.words.items c.clause.inside.index c.self.invariant (rw (c.self.view_is, c.clause.view_is) c.requires) in
+    let h = here c.self.inside.words.items c.clause.inside.index c.self.invariant
+    (rw (c.self.view_is, c.clause.view_is) c.requires) in
     rw (← c.self.view_is, ← c.clause.view_is) (len_read _ _ _ h c.index.ensures)

@@ -4,15 +4,19 @@ use Rattle.ba_arena.proofs.Arena.link.Goals as goal
 
 pub index-requires : goal.index-requires
 index-requires c =
-    let h = here c.self.inside.words.items c.clause.inside.index c.self.invariant (rw (c.self.view_is, c.clause.view_is) c.requires.live) in
+    let h = here c.self.inside.words.items c.clause.inside.index c.self.invariant
+    (rw (c.self.view_is, c.clause.view_is) c.requires.live) in
     omega (arith, c.self.inside.words.ok.0, h.room, c.requires.which)
 
 pub from_word-requires : goal.from_word-requires
 from_word-requires c =
-    let h = here c.self.inside.words.items c.clause.inside.index c.self.invariant (rw (c.self.view_is, c.clause.view_is) c.requires.live) in
+    let h = here c.self.inside.words.items c.clause.inside.index c.self.invariant
+    (rw (c.self.view_is, c.clause.view_is) c.requires.live) in
     link_fits _ _ c.args.which _ h c.requires.which c.index.ensures
 
 pub returns : goal.returns
 returns c =
-    let h = here c.self.inside.words.items c.clause.inside.index c.self.invariant (rw (c.self.view_is, c.clause.view_is) c.requires.live) in
-    rw (← c.self.view_is, ← c.clause.view_is) (c.from_word.ensures ∙ link_read _ _ c.args.which _ h c.requires.which c.index.ensures)
+    let h = here c.self.inside.words.items c.clause.inside.index c.self.invariant
+    (rw (c.self.view_is, c.clause.view_is) c.requires.live) in
+    rw (← c.self.view_is, ← c.clause.view_is)
+    (c.from_word.ensures ∙ link_read _ _ c.args.which _ h c.requires.which c.index.ensures)
