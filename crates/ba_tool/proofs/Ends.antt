@@ -1,14 +1,18 @@
 -- How a call ends, from the causes.
 
-use Rattle.std.proofs.Common.{◌≡◌, ◌≢◌, ◌⊎◌, inl, inr, ℕ, ◌<◌, Bool, true, false, List, [], length, Option, Some, None, refl, sym, ap, subst, ◌∙◌, arith}
+use Rattle.std.proofs.Common.{◌≡◌, ◌≢◌, ◌⊎◌, inl, inr, ℕ, ◌+◌, ◌<◌, ◌≤◌, Bool, true, false, List, [], length, Option, Some, None, refl, sym, ap, subst, ◌∙◌, arith}
 use Rattle.std.specs.Option.{IfSome, IsSomeAnd}
+use Rattle.ba_world.specs.Read.{Stop, Stopped}
+use Rattle.ba_world.specs.World.{Rose, raised}
+use Rattle.ba_world.specs.declared.read.ReadFileError.{ReadFileError}
+use Rattle.ba_world.specs.declared.read.ReadFileError.TheVariants as read
 use Rattle.ba_tree.specs.Least.{AreLeast, judge_of, unit_weights}
 use Rattle.ba_tree.proofs.Sets.{AreLeast-unique}
 use Rattle.ba_tree.specs.declared.run.Input.{Input}
 use Rattle.ba_tree.specs.declared.tree.Program.{Program}
 use Rattle.ba_straight.specs.Text.{digits_value}
 use Rattle.ba_tool.specs.Words.{IsJob}
-use Rattle.ba_tool.specs.Tool.{CannotBeRead, EndsWith, Found, HasNoCase, HasNoJob, Holds, IsAnswer, IsCase, IsRead, IsTooLong, IsVerdict, Outside, Tells, TellsShort, as_wanted, bounds_with, limit, memory, name_of, read_fault, runs_well, status_of, write_fault}
+use Rattle.ba_tool.specs.Tool.{CannotBeRead, EndsWith, Found, HasNoCase, HasNoJob, Holds, IsAnswer, IsCase, IsRead, IsTooLong, IsVerdict, Outside, Tells, TellsShort, as_wanted, bounds_with, limit, memory, name_of, read_answer, read_fault, runs_well, status_of, stop_of, write_fault}
 use Rattle.ba_tool.specs.declared.answer.Answer.{Answer}
 use Rattle.ba_tool.specs.declared.answer.Answer.TheVariants as answer
 use Rattle.ba_tool.specs.declared.status.File.{File}
@@ -72,10 +76,14 @@ not_absent words out source text p i bound b which tells job absent = let e = he
 fault_rose : (words : List (List ℕ)) (out : Outside) (source text : List ℕ) (bound : ℕ) (which : File) (wanted result : Status) → Tells words out source text bound →
     CannotBeRead words out which → result ≡ status.ReadFault → EndsWith out wanted result
 fault_rose words out source text bound which wanted result tells unread e =
-    elim unread.cause as (λ _. EndsWith out wanted result) [
-      | inl rose ↦ read_fault e rose
-      | inr absent ↦ absurd (not_absent words out source text unread.program unread.input bound unread.bound which tells unread.job absent)
+    elim unread.stopped as (λ _. EndsWith out wanted result) [
+      | inl opening ↦ from_cause opening.cause
+      | inr reading ↦ read_fault e reading.cause
     ]
+  where
+    from_cause : Rose out.faults out.faults_after ⊎ (out.held (name_of which unread.program unread.input) ≡ Some None) → EndsWith out wanted result
+    from_cause (inl rose) = read_fault e rose
+    from_cause (inr absent) = absurd (not_absent words out source text unread.program unread.input bound unread.bound which tells unread.job absent)
 
 -- how a call ends, from how it ends with the status of its answer
 end_from : (out : Outside) (a : Answer) (wanted result : Status) → CanBe a result →
@@ -231,14 +239,17 @@ completes words out source text bound a result due which p i told case = ends a 
     ends (answer.TooLong w) due which = inl (told_ends words out source text bound (answer.TooLong w) status.Ok result told due which (λ v. absurd v))
     ends answer.Memory due which = inl (told_ends words out source text bound answer.Memory status.Ok result told due which (λ v. absurd v))
 
--- an answer stays one where the counts of reading stay
-pub answer_stays : (words : List (List ℕ)) (held : List ℕ → Option (Option (List ℕ))) (faults given faults_one faults_two given_one given_two : ℕ) (a : Answer) →
-    faults_two ≡ faults_one → given_two ≡ given_one →
-    IsAnswer words (record { held = held; faults = faults; faults_after = faults_one; given = given; given_after = given_one }) a →
-    IsAnswer words (record { held = held; faults = faults; faults_after = faults_two; given = given; given_after = given_two }) a
-answer_stays words held faults given faults_one faults_two given_one given_two a e f due =
-    subst (λ n. IsAnswer words (record { held = held; faults = faults; faults_after = faults_two; given = given; given_after = n }) a) (sym f)
-    (subst (λ n. IsAnswer words (record { held = held; faults = faults; faults_after = n; given = given; given_after = given_one }) a) (sym e) due)
+-- an answer stays one where what the world tells of reading stays
+pub answer_stays : (words : List (List ℕ)) (held : List ℕ → Option (Option (List ℕ))) (faults given : ℕ) (left_one left_two : Option (List ℕ)) (reading_one reading_two : Bool)
+    (faults_one faults_two given_one given_two : ℕ) (a : Answer) →
+    left_two ≡ left_one → reading_two ≡ reading_one → faults_two ≡ faults_one → given_two ≡ given_one →
+    IsAnswer words (record { held = held; left_after = left_one; reading_after = reading_one; faults = faults; faults_after = faults_one; given = given; given_after = given_one }) a →
+    IsAnswer words (record { held = held; left_after = left_two; reading_after = reading_two; faults = faults; faults_after = faults_two; given = given; given_after = given_two }) a
+answer_stays words held faults given left_one left_two reading_one reading_two faults_one faults_two given_one given_two a l r e f due =
+    subst (λ x. IsAnswer words (record { held = held; left_after = x; reading_after = reading_two; faults = faults; faults_after = faults_two; given = given; given_after = given_two }) a) (sym l)
+    (subst (λ x. IsAnswer words (record { held = held; left_after = left_one; reading_after = x; faults = faults; faults_after = faults_two; given = given; given_after = given_two }) a) (sym r)
+    (subst (λ n. IsAnswer words (record { held = held; left_after = left_one; reading_after = reading_one; faults = faults; faults_after = faults_two; given = given; given_after = n }) a) (sym f)
+    (subst (λ n. IsAnswer words (record { held = held; left_after = left_one; reading_after = reading_one; faults = faults; faults_after = n; given = given; given_after = given_one }) a) (sym e) due)))
 
 -- a verdict on the files that were read is an answer
 pub found_answer : (words : List (List ℕ)) (out : Outside) (source text : List ℕ) (bound : ℕ) (a : Answer) → IsRead words out source text bound →
@@ -250,3 +261,84 @@ found_answer words out source text bound answer.NotBuilt read v = inr (record { 
 found_answer words out source text bound (answer.Unreadable w) read v = absurd v
 found_answer words out source text bound (answer.TooLong w) read v = absurd v
 found_answer words out source text bound answer.Memory read v = tt
+
+-- THE ANSWER where a file could not be read whole
+
+abbrev pub IsLong : Option (Option (List ℕ)) → Type 0
+IsLong held = IfSome held (λ held. IsSomeAnd held (λ bytes. limit < length bytes))
+
+pub no_program : (words : List (List ℕ)) (out : Outside) (program input : List ℕ) (bound : ℕ) (error : ReadFileError) → IsJob words program input bound →
+    (error ≡ read.Failed → Stopped (stop_of out program out.given)) →
+    (error ≡ read.TooLong → IsLong (out.held program)) →
+    (error ≡ read.TooLong → Rose (out.given + limit) out.given_after) →
+    IsAnswer words out (read_answer file.Program error)
+no_program words out program input bound read.Failed job stopped longer given = record {
+  program = program;
+  input = input;
+  bound = bound;
+  given_before = out.given;
+  job = job;
+  before = refl;
+  stopped = stopped refl;
+}
+no_program words out program input bound read.TooLong job stopped longer given = record {
+  program = program;
+  input = input;
+  bound = bound;
+  given_before = out.given;
+  job = job;
+  before = refl;
+  longer = longer refl;
+  given = given refl;
+}
+no_program words out program input bound read.Memory job stopped longer given = tt
+
+-- a fault rose since an earlier count
+rose_since : (earlier old new : ℕ) → earlier ≤ old → Rose old new → Rose earlier new
+rose_since earlier old new le (inl rose) = inl (omega arith)
+rose_since earlier old new le (inr top) = inr top
+
+stopped_since : (stop : Stop) (earlier : ℕ) → earlier ≤ stop.faults → Stopped stop → Stopped (record stop { faults = earlier })
+stopped_since stop earlier le (inl opening) = inl (record { cause = cause opening.cause; closed = opening.closed; none_given = opening.none_given })
+  where
+    cause : Rose stop.faults stop.faults_after ⊎ (stop.held ≡ Some None) → Rose earlier stop.faults_after ⊎ (stop.held ≡ Some None)
+    cause (inl rose) = inl (rose_since earlier stop.faults stop.faults_after le rose)
+    cause (inr absent) = inr absent
+stopped_since stop earlier le (inr reading) = inr (record {
+  bytes = reading.bytes;
+  cause = rose_since earlier stop.faults stop.faults_after le reading.cause;
+  opened = reading.opened;
+  parts = reading.parts;
+  counted = reading.counted;
+})
+
+-- the input is read after the program, when this is told of it and these are the counts
+pub no_input : (words : List (List ℕ)) (out : Outside) (program input source : List ℕ) (bound : ℕ) (error : ReadFileError)
+    (held : Option (Option (List ℕ))) (faults given : ℕ) → IsJob words program input bound →
+    Holds (out.held program) source → length source ≤ limit → given ≡ raised out.given (length source) →
+    held ≡ out.held input → out.faults ≤ faults →
+    (error ≡ read.Failed → Stopped (record (stop_of out input given) { held = held; faults = faults })) →
+    (error ≡ read.TooLong → IsLong held) →
+    (error ≡ read.TooLong → Rose (given + limit) out.given_after) →
+    IsAnswer words out (read_answer file.Input error)
+no_input words out program input source bound read.Failed held faults given job holds short counted same grew stopped longer more = record {
+  program = program;
+  input = input;
+  bound = bound;
+  given_before = given;
+  job = job;
+  before = (source, holds, short, counted);
+  stopped = subst (λ h. Stopped (record (stop_of out input given) { held = h })) same
+      (stopped_since (record (stop_of out input given) { held = held; faults = faults }) out.faults grew (stopped refl));
+}
+no_input words out program input source bound read.TooLong held faults given job holds short counted same grew stopped longer more = record {
+  program = program;
+  input = input;
+  bound = bound;
+  given_before = given;
+  job = job;
+  before = (source, holds, short, counted);
+  longer = subst IsLong same (longer refl);
+  given = more refl;
+}
+no_input words out program input source bound read.Memory held faults given job holds short counted same grew stopped longer more = tt

@@ -1,6 +1,7 @@
 -- What a call of the program answers, and what it prints.
 
 use Rattle.std.specs.Prelude.{◌≡◌, ◌≢◌, ◌⊎◌, ℕ, ◌+◌, ◌<◌, ◌≤◌, Bool, true, false, List, [], length, Contains, Option, None, Some, IfSome, IsSomeAnd}
+use Rattle.ba_world.specs.Read.{Stop, Stopped}
 use Rattle.ba_world.specs.World.{Rose, Appends, raised}
 use Rattle.ba_world.specs.declared.read.ReadFileError.{ReadFileError}
 use Rattle.ba_world.specs.declared.read.ReadFileError.TheVariants as read
@@ -79,19 +80,23 @@ IsVerdict source text b (answer.Unreadable file) = ⊥
 IsVerdict source text b (answer.TooLong file) = ⊥
 IsVerdict source text b answer.Memory = ⊥
 
--- THE OUTSIDE: what the world tells of its files, and its counts of read faults and of bytes given, at the start of a call and at
--- its end
+-- THE OUTSIDE: what the world tells of its files at the start of a call, of the file that is being read at its end, and its counts
+-- of read faults and of bytes given at both
 
 pub record Outside : Type 0 where
   pub held : List ℕ → Option (Option (List ℕ))
+  pub left_after : Option (List ℕ)
+  pub reading_after : Bool
   pub faults : ℕ
   pub faults_after : ℕ
   pub given : ℕ
   pub given_after : ℕ
 
-abbrev pub outside : {S : Type 0} → (S → List ℕ → Option (Option (List ℕ))) → (S → ℕ) → (S → ℕ) → S → S → Outside
-outside held faults given old new = record {
+abbrev pub outside : {S : Type 0} → (S → List ℕ → Option (Option (List ℕ))) → (S → Option (List ℕ)) → (S → Bool) → (S → ℕ) → (S → ℕ) → S → S → Outside
+outside held left is_reading faults given old new = record {
   held = held old;
+  left_after = left new;
+  reading_after = is_reading new;
   faults = faults old;
   faults_after = faults new;
   given = given old;
@@ -133,29 +138,45 @@ abbrev pub name_of : File → List ℕ → List ℕ → List ℕ
 name_of file.Program program input = program
 name_of file.Input program input = input
 
--- what was read whole before a file that the words name was opened: before the input, the program
-abbrev pub WasReadBefore : File → Option (Option (List ℕ)) → Type 0
-WasReadBefore file.Program program = Unit {0}
-WasReadBefore file.Input program = (source : List ℕ) × Holds program source × (length source ≤ limit)
+-- What was read whole before a file that the words name was opened, and the count of bytes given when it was: before the program
+-- nothing, before the input the program.
+abbrev pub WasReadBefore : File → Option (Option (List ℕ)) → ℕ → ℕ → Type 0
+WasReadBefore file.Program program given given_before = given_before ≡ given
+WasReadBefore file.Input program given given_before =
+    (source : List ℕ) × Holds program source × (length source ≤ limit) × (given_before ≡ raised given (length source))
 
--- a file that the words name cannot be read: a fault rose, or the world told that it is absent
+-- the read of the file of this name, which was opened when this many bytes had been given, as the call shows it at its end
+abbrev pub stop_of : Outside → List ℕ → ℕ → Stop
+stop_of out name given_before = record {
+  held = out.held name;
+  is_reading = out.reading_after;
+  left = out.left_after;
+  faults = out.faults;
+  faults_after = out.faults_after;
+  given = given_before;
+  given_after = out.given_after;
+}
+
+-- a file that the words name cannot be read: its read stopped, in opening it or in reading it
 pub record CannotBeRead (words : List (List ℕ)) (out : Outside) (which : File) : Type 0 where
   pub program : List ℕ
   pub input : List ℕ
   pub bound : ℕ
+  pub given_before : ℕ
   pub job : IsJob words program input bound
-  pub before : WasReadBefore which (out.held program)
-  pub cause : Rose out.faults out.faults_after ⊎ (out.held (name_of which program input) ≡ Some None)
+  pub before : WasReadBefore which (out.held program) out.given given_before
+  pub stopped : Stopped (stop_of out (name_of which program input) given_before)
 
--- a file that the words name is too long: more bytes than the limit were given
+-- a file that the words name is too long: more bytes than the limit were given of it
 pub record IsTooLong (words : List (List ℕ)) (out : Outside) (which : File) : Type 0 where
   pub program : List ℕ
   pub input : List ℕ
   pub bound : ℕ
+  pub given_before : ℕ
   pub job : IsJob words program input bound
-  pub before : WasReadBefore which (out.held program)
+  pub before : WasReadBefore which (out.held program) out.given given_before
   pub longer : IfSome (out.held (name_of which program input)) (λ held. IsSomeAnd held (λ bytes. limit < length bytes))
-  pub given : Rose (out.given + limit) out.given_after
+  pub given : Rose (given_before + limit) out.given_after
 
 -- ANSWERS
 

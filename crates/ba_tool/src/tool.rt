@@ -34,7 +34,7 @@ fn read_answer(file: File, error: ReadFileError) -> Answer
 
 /// What the call comes to: it reads the words, then the files, each of them whole, and then judges.
 fn answer<W: World>(alloc: Global, words: &[&str], world: &mut W) -> Answer
-    ensures answer { IsAnswer (map (λ word. word.now) words.now) (outside W.held W.read_faults W.given world.old world.new) result }
+    ensures answer { IsAnswer (map (λ word. word.now) words.now) (outside W.held W.left W.is_reading W.read_faults W.given world.old world.new) result }
     ensures no_fall { W.read_faults world.old ≤ W.read_faults world.new }
 
     ensures held_stays { W.held world.new ≡ W.held world.old }
@@ -73,6 +73,8 @@ fn show<W: World>(world: &mut W, text: &[u8], status: Status) -> Status
     ensures kept_stays { W.kept world.new ≡ W.kept world.old }
     ensures writing_stays { W.writing world.new ≡ W.writing world.old }
     ensures is_writing_stays { W.is_writing world.new ≡ W.is_writing world.old }
+    ensures left_stays { W.left world.new ≡ W.left world.old }
+    ensures is_reading_stays { W.is_reading world.new ≡ W.is_reading world.old }
     ensures read_faults_stay { W.read_faults world.new ≡ W.read_faults world.old }
     ensures given_stays { W.given world.new ≡ W.given world.old }
 {
@@ -95,6 +97,8 @@ fn finish<W: World>(world: &mut W, answer: &Answer) -> Status
     ensures kept_stays { W.kept world.new ≡ W.kept world.old }
     ensures writing_stays { W.writing world.new ≡ W.writing world.old }
     ensures is_writing_stays { W.is_writing world.new ≡ W.is_writing world.old }
+    ensures left_stays { W.left world.new ≡ W.left world.old }
+    ensures is_reading_stays { W.is_reading world.new ≡ W.is_reading world.old }
     ensures read_faults_stay { W.read_faults world.new ≡ W.read_faults world.old }
     ensures given_stays { W.given world.new ≡ W.given world.old }
 {
@@ -128,74 +132,75 @@ where
     // THE HEADLINE. What was printed is the report of exactly the least sets of the program that the program's file spells, on
     // the input that the input's file writes: all of them, each once and in order, with the weight of each.
     ensures located { result ≡ Status.Ok → Prints (W.printed world.old) (W.printed world.new)
-        (λ text. Found (map (λ word. word.now) words.now) (outside W.held W.read_faults W.given world.old world.new) (Answer.Located text)) }
+        (λ text. Found (map (λ word. word.now) words.now) (outside W.held W.left W.is_reading W.read_faults W.given world.old world.new) (Answer.Located text)) }
 
     // The run as written meets every assertion.
     ensures not_failing { result ≡ Status.NotFailing
-        → Found (map (λ word. word.now) words.now) (outside W.held W.read_faults W.given world.old world.new) Answer.NotFailing
+        → Found (map (λ word. word.now) words.now) (outside W.held W.left W.is_reading W.read_faults W.given world.old world.new) Answer.NotFailing
         × Appends (W.printed world.old) (W.printed world.new) not_failing_text }
 
     // It fails, and the list of least sets is empty.
     ensures no_repair { result ≡ Status.NoRepair
-        → Found (map (λ word. word.now) words.now) (outside W.held W.read_faults W.given world.old world.new) Answer.NoRepair
+        → Found (map (λ word. word.now) words.now) (outside W.held W.left W.is_reading W.read_faults W.given world.old world.new) Answer.NoRepair
         × Appends (W.printed world.old) (W.printed world.new) no_repair_text }
 
     // The words, or the program and the input, are not of the form.
     ensures not_built { result ≡ Status.NotBuilt
         → (HasNoJob (map (λ word. word.now) words.now)
-        ⊎ Found (map (λ word. word.now) words.now) (outside W.held W.read_faults W.given world.old world.new) Answer.NotBuilt)
+        ⊎ Found (map (λ word. word.now) words.now) (outside W.held W.left W.is_reading W.read_faults W.given world.old world.new) Answer.NotBuilt)
         × Appends (W.printed world.old) (W.printed world.new) not_built_text }
 
-    // The file that is named could not be read, since a fault of reading rose or there is no such file.
+    // The file that is named could not be opened, or not be read to its end, since a fault of reading rose or there is no such
+    // file: what was read before, what is left and the count of bytes given are those of a call that stopped at this file.
     ensures read_fault { result ≡ Status.ReadFault → (which : File)
-        × CannotBeRead (map (λ word. word.now) words.now) (outside W.held W.read_faults W.given world.old world.new) which
+        × CannotBeRead (map (λ word. word.now) words.now) (outside W.held W.left W.is_reading W.read_faults W.given world.old world.new) which
         × Appends (W.printed world.old) (W.printed world.new) (unreadable_text which) }
 
     // The file that is named is too long.
     ensures too_long { result ≡ Status.TooLong → (which : File)
-        × IsTooLong (map (λ word. word.now) words.now) (outside W.held W.read_faults W.given world.old world.new) which
+        × IsTooLong (map (λ word. word.now) words.now) (outside W.held W.left W.is_reading W.read_faults W.given world.old world.new) which
         × Appends (W.printed world.old) (W.printed world.new) (too_long_text which) }
 
     ensures write_fault { result ≡ Status.WriteFault → Rose (W.write_faults world.old) (W.write_faults world.new) }
 
     // However the call ends, it printed a prefix of the text of an answer for which there is a cause.
     ensures prefix { (answer : Answer)
-        × IsAnswer (map (λ word. word.now) words.now) (outside W.held W.read_faults W.given world.old world.new) answer
+        × IsAnswer (map (λ word. word.now) words.now) (outside W.held W.left W.is_reading W.read_faults W.given world.old world.new) answer
         × AppendsPrefix (W.printed world.old) (W.printed world.new) (text_of answer) }
 
     // The same from the causes: with which status the call ends, where no fault and no want of memory comes.
     ensures where_no_job { HasNoJob (map (λ word. word.now) words.now)
-        → EndsWith (outside W.held W.read_faults W.given world.old world.new) Status.NotBuilt result }
+        → EndsWith (outside W.held W.left W.is_reading W.read_faults W.given world.old world.new) Status.NotBuilt result }
     ensures where_no_case { (source text : List ℕ) (bound : ℕ)
-        → TellsShort (map (λ word. word.now) words.now) (outside W.held W.read_faults W.given world.old world.new) source text bound
+        → TellsShort (map (λ word. word.now) words.now) (outside W.held W.left W.is_reading W.read_faults W.given world.old world.new) source text bound
         → HasNoCase source text
-        → EndsWith (outside W.held W.read_faults W.given world.old world.new) Status.NotBuilt result }
+        → EndsWith (outside W.held W.left W.is_reading W.read_faults W.given world.old world.new) Status.NotBuilt result }
     ensures where_too_long { (source text : List ℕ) (bound : ℕ)
-        → Tells (map (λ word. word.now) words.now) (outside W.held W.read_faults W.given world.old world.new) source text bound
+        → Tells (map (λ word. word.now) words.now) (outside W.held W.left W.is_reading W.read_faults W.given world.old world.new) source text bound
         → (limit < length source) ⊎ (limit < length text)
-        → EndsWith (outside W.held W.read_faults W.given world.old world.new) Status.TooLong result }
+        → EndsWith (outside W.held W.left W.is_reading W.read_faults W.given world.old world.new) Status.TooLong result }
     ensures where_not_failing { (source text : List ℕ) (bound : ℕ) (p : Program) (i : Input)
-        → TellsShort (map (λ word. word.now) words.now) (outside W.held W.read_faults W.given world.old world.new) source text bound
+        → TellsShort (map (λ word. word.now) words.now) (outside W.held W.left W.is_reading W.read_faults W.given world.old world.new) source text bound
         → IsCase source text p i → runs_well p i (bounds_with bound) ≡ true
-        → EndsWith (outside W.held W.read_faults W.given world.old world.new) Status.NotFailing result }
+        → EndsWith (outside W.held W.left W.is_reading W.read_faults W.given world.old world.new) Status.NotFailing result }
     ensures where_no_repair { (source text : List ℕ) (bound : ℕ) (p : Program) (i : Input)
-        → TellsShort (map (λ word. word.now) words.now) (outside W.held W.read_faults W.given world.old world.new) source text bound
+        → TellsShort (map (λ word. word.now) words.now) (outside W.held W.left W.is_reading W.read_faults W.given world.old world.new) source text bound
         → IsCase source text p i → runs_well p i (bounds_with bound) ≡ false
         → AreLeast (unit_weights p) (judge_of p i (bounds_with bound)) []
-        → EndsWith (outside W.held W.read_faults W.given world.old world.new) Status.NoRepair result }
+        → EndsWith (outside W.held W.left W.is_reading W.read_faults W.given world.old world.new) Status.NoRepair result }
     ensures where_located { (source text : List ℕ) (bound : ℕ) (p : Program) (i : Input) (sets : List (List ℕ))
-        → TellsShort (map (λ word. word.now) words.now) (outside W.held W.read_faults W.given world.old world.new) source text bound
+        → TellsShort (map (λ word. word.now) words.now) (outside W.held W.left W.is_reading W.read_faults W.given world.old world.new) source text bound
         → IsCase source text p i → runs_well p i (bounds_with bound) ≡ false
         → AreLeast (unit_weights p) (judge_of p i (bounds_with bound)) sets → sets ≢ []
-        → EndsWith (outside W.held W.read_faults W.given world.old world.new) Status.Ok result }
+        → EndsWith (outside W.held W.left W.is_reading W.read_faults W.given world.old world.new) Status.Ok result }
 
     // Where words, program and input are of the form and told, and nothing failed, the call says whether there is something to repair.
     ensures completes { (source text : List ℕ) (bound : ℕ) (p : Program) (i : Input)
-        → TellsShort (map (λ word. word.now) words.now) (outside W.held W.read_faults W.given world.old world.new) source text bound
+        → TellsShort (map (λ word. word.now) words.now) (outside W.held W.left W.is_reading W.read_faults W.given world.old world.new) source text bound
         → IsCase source text p i
-        → EndsWith (outside W.held W.read_faults W.given world.old world.new) Status.Ok result
-        ⊎ EndsWith (outside W.held W.read_faults W.given world.old world.new) Status.NotFailing result
-        ⊎ EndsWith (outside W.held W.read_faults W.given world.old world.new) Status.NoRepair result }
+        → EndsWith (outside W.held W.left W.is_reading W.read_faults W.given world.old world.new) Status.Ok result
+        ⊎ EndsWith (outside W.held W.left W.is_reading W.read_faults W.given world.old world.new) Status.NotFailing result
+        ⊎ EndsWith (outside W.held W.left W.is_reading W.read_faults W.given world.old world.new) Status.NoRepair result }
 
     // No file is written.
     ensures held_stays { W.held world.new ≡ W.held world.old }

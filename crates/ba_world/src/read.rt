@@ -1,6 +1,7 @@
 //! Files read whole.
 
 ghost use Rattle.std.specs.Prelude.{◌≡◌, ◌⊎◌, ◌+◌, ◌<◌, ◌≤◌, length, IfSome, IsSomeAnd, IfOk};
+ghost use Rattle.ba_world.specs.Read.{Stopped};
 ghost use Rattle.ba_world.specs.World.{raised, Rose};
 
 use crate::world::{World, WorldError};
@@ -67,6 +68,17 @@ pub fn read_whole<W: World>(
     ensures cause { result ≡ Err ReadFileError.Failed
         → Rose (W.read_faults world.old) (W.read_faults world.new)
         ⊎ (W.held world.old name.now ≡ Some None) }
+
+    // After a failure the world shows whether it was in opening the file or in reading it.
+    ensures stopped { result ≡ Err ReadFileError.Failed → Stopped (record {
+      held = W.held world.old name.now;
+      is_reading = W.is_reading world.new;
+      left = W.left world.new;
+      faults = W.read_faults world.old;
+      faults_after = W.read_faults world.new;
+      given = W.given world.old;
+      given_after = W.given world.new;
+    }) }
     ensures too_long { result ≡ Err ReadFileError.TooLong → Rose (W.given world.old + limit) (W.given world.new) }
     ensures longer { result ≡ Err ReadFileError.TooLong
         → IfSome (W.held world.old name.now)

@@ -1,8 +1,20 @@
-use Rattle.std.proofs.Common.{length, ap, subst, ◌∙◌}
+use Rattle.std.proofs.Common.{ℕ, List, Option, length, Err, ap, subst, sym, ◌∙◌}
 use Rattle.ba_world.specs.World.{raised}
 use Rattle.ba_tool.specs.Tool.{Holds, bounds_with}
-use Rattle.ba_tool.proofs.Ends.{found_answer}
+use Rattle.ba_tool.proofs.Ends.{found_answer, no_input, no_program}
 use Rattle.ba_tool.proofs.tool.answer.Goals as goal
+
+pub returns-in-Err-clause-answer : goal.returns-in-Err-clause-answer
+returns-in-Err-clause-answer g c = rw c.read_answer.ensures
+    (no_program _ _ c.in-Some.job.program.now c.in-Some.job.input.now c.in-Some.job.bound c.in-Err.error c.in-Some.ensures
+    (λ e. c.in-Err.ensures.stopped (ap Err e)) (λ e. c.in-Err.ensures.longer (ap Err e)) (λ e. c.in-Err.ensures.too_long (ap Err e)))
+
+pub returns-in-Err-read_whole-clause-answer : goal.returns-in-Err-read_whole-clause-answer
+returns-in-Err-read_whole-clause-answer g c = rw c.read_answer-in-Err-read_whole.ensures
+    (no_input _ _ c.in-Some.job.program.now c.in-Some.job.input.now c.in-Ok.source.items c.in-Some.job.bound c.in-Err-read_whole.error _ _ _ c.in-Some.ensures
+    c.in-Ok.ensures.whole c.in-Ok.ensures.within c.in-Ok.ensures.counted
+    (ap (λ (held : List ℕ → Option (Option (List ℕ))). held c.in-Some.job.input.now) c.in-Ok.ensures.held_stays) c.in-Ok.ensures.no_fall
+    (λ e. c.in-Err-read_whole.ensures.stopped (ap Err e)) (λ e. c.in-Err-read_whole.ensures.longer (ap Err e)) (λ e. c.in-Err-read_whole.ensures.too_long (ap Err e)))
 
 pub returns-in-Ok-judge-clause-answer : goal.returns-in-Ok-judge-clause-answer
 returns-in-Ok-judge-clause-answer g c =
