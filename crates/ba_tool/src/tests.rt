@@ -37,116 +37,377 @@ fn localise(alloc: Global, world: &mut MemoryWorld) -> Status {
     tool(alloc, &words, world, Rules::new(luby, steady, keep))
 }
 
-const ONE_ASSIGNMENT: &str = "int main(int a) {\n    int x;\n    x = a;\n    assert(x == 2);\n}\n";
+const ONE_ASSIGNMENT: &str = "int main(int a) {
+    int x;
+    x = a;
+    assert(x == 2);
+}
+";
 
-const ONE_REPORT: &str = "located: weight 1, sets 1\nset 1:\n  3:5 assignment | x = a;\n";
+const ONE_REPORT: &str = "located: weight 1, sets 1
+set 1:
+  3:5 assignment | x = a;
+";
+
+const NOT_BUILT: &str = "refused: not built\n";
+
+const NO_REPAIR: &str = "no repair\n";
+
+const ONE_ASSERT: &str = "int main(int a) { assert(a == 2); }";
+
+const TWO_IN_A_ROW: &str = "int main(int a) {
+    int x;
+    int y;
+    x = a;
+    y = x;
+    assert(y == 2);
+}
+";
+
+const TWO_IN_A_ROW_REPORT: &str = "located: weight 1, sets 2
+set 1:
+  4:5 assignment | x = a;
+set 2:
+  5:5 assignment | y = x;
+";
+
+const TWO_IN_A_ROW_CHECKED: &str = "int main(int a) {
+    int x;
+    int y;
+    x = a;
+    y = x;
+    assert(y == 2);
+    assert(x == 1);
+}
+";
+
+const TWO_IN_A_ROW_CHECKED_REPORT: &str = "located: weight 1, sets 1
+set 1:
+  5:5 assignment | y = x;
+";
+
+const TWO_SIDE_BY_SIDE: &str = "int main(void) {
+    int x;
+    int y;
+    x = 1;
+    y = 1;
+    assert(x == 2);
+    assert(y == 2);
+}
+";
+
+const TWO_SIDE_BY_SIDE_REPORT: &str = "located: weight 2, sets 1
+set 1:
+  4:5 assignment | x = 1;
+  5:5 assignment | y = 1;
+";
+
+const BLANKS: &str = "int main(int a) {\r\n\t a = 1 ; assert(a == 2); \t\r\n}\r\n";
+
+const BLANKS_REPORT: &str = "located: weight 1, sets 1
+set 1:
+  2:3 assignment | a = 1 ; assert(a == 2);
+";
+
+const LARGEST: &str =
+    "int main(int p1, int p2, int p3, int p4, int p5, int p6, int p7, int p8, int p9, int p10,
+    int p11, int p12) {
+    int a; int b; int c; int d; int e; int f; int g; int h; int i; int j; int k; int l;
+    a = p1;
+    b = a;
+    c = b;
+    d = c;
+    e = d;
+    f = e;
+    g = f;
+    h = g;
+    i = h;
+    j = i;
+    k = j;
+    assert(k == 1);
+}
+";
+
+const LARGEST_REPORT: &str = "located: weight 1, sets 11
+set 1:
+  4:5 assignment | a = p1;
+set 2:
+  5:5 assignment | b = a;
+set 3:
+  6:5 assignment | c = b;
+set 4:
+  7:5 assignment | d = c;
+set 5:
+  8:5 assignment | e = d;
+set 6:
+  9:5 assignment | f = e;
+set 7:
+  10:5 assignment | g = f;
+set 8:
+  11:5 assignment | h = g;
+set 9:
+  12:5 assignment | i = h;
+set 10:
+  13:5 assignment | j = i;
+set 11:
+  14:5 assignment | k = j;
+";
+
+const TWO_OF_ELEVEN: &str = "int main(int a) {
+    int x;
+    int y;
+    x = a;
+    y = x;
+    x = 4;
+    y = x;
+    x = y;
+    a = x;
+    y = 9;
+    x = 8;
+    a = y;
+    y = a;
+    x = 6;
+    assert(a == 2);
+}
+";
+
+const TWO_OF_ELEVEN_REPORT: &str = "located: weight 1, sets 2
+set 1:
+  10:5 assignment | y = 9;
+set 2:
+  12:5 assignment | a = y;
+";
+
+const PAIR_OF_TEN: &str = "int main(void) {
+    int x;
+    int y;
+    x = 3;
+    y = x;
+    x = y;
+    y = 4;
+    x = y;
+    y = 5;
+    x = 6;
+    x = 1;
+    y = x;
+    y = 1;
+    assert(x == 2);
+    assert(y == 3);
+}
+";
+
+const PAIR_OF_TEN_REPORT: &str = "located: weight 2, sets 1
+set 1:
+  11:5 assignment | x = 1;
+  13:5 assignment | y = 1;
+";
+
+const TWELVE_ASSERTS: &str = "int main(int a) {
+    assert(a == 0); assert(a == 0); assert(a == 0); assert(a == 0); assert(a == 0); assert(a == 0);
+    assert(a == 0); assert(a == 0); assert(a == 0); assert(a == 0); assert(a == 0); assert(a == 0);
+}
+";
+
+const THIRTEEN_ASSERTS: &str = "int main(int a) {
+    assert(a == 0); assert(a == 0); assert(a == 0); assert(a == 0); assert(a == 0); assert(a == 0);
+    assert(a == 0); assert(a == 0); assert(a == 0); assert(a == 0); assert(a == 0); assert(a == 0);
+    assert(a == 0);
+}
+";
+
+const THIRTEEN_PARAMETERS: &str = "int main(int p1, int p2, int p3, int p4, int p5, int p6, int p7,
+    int p8, int p9, int p10, int p11, int p12, int p13) {
+}
+";
+
+const THIRTEEN_DECLARATIONS: &str = "int main(void) {
+    int a; int b; int c; int d; int e; int f; int g; int h; int i; int j; int k; int l; int m;
+}
+";
+
+/// A program and an input, how the call ends on them, and what it prints.
+struct Row {
+    program: &'static str,
+    input: &'static str,
+    status: Status,
+    printed: &'static str,
+}
+
+const ROWS: [Row; 18] = [
+    Row {
+        program: ONE_ASSIGNMENT,
+        input: "1",
+        status: Status::Ok,
+        printed: ONE_REPORT,
+    },
+    Row {
+        program: ONE_ASSIGNMENT,
+        input: "2",
+        status: Status::NotFailing,
+        printed: "not failing\n",
+    },
+    Row {
+        program: ONE_ASSIGNMENT,
+        input: "x",
+        status: Status::NotBuilt,
+        printed: NOT_BUILT,
+    },
+    Row {
+        program: ONE_ASSERT,
+        input: "1",
+        status: Status::NoRepair,
+        printed: NO_REPAIR,
+    },
+    Row {
+        program: "int main(void) { return 0; }",
+        input: "",
+        status: Status::NotBuilt,
+        printed: NOT_BUILT,
+    },
+    Row {
+        program: "",
+        input: "",
+        status: Status::NotBuilt,
+        printed: NOT_BUILT,
+    },
+    // Two statements on the way to one assertion: each of them alone could repair it.
+    Row {
+        program: TWO_IN_A_ROW,
+        input: "1",
+        status: Status::Ok,
+        printed: TWO_IN_A_ROW_REPORT,
+    },
+    // An assertion in between rules out the first.
+    Row {
+        program: TWO_IN_A_ROW_CHECKED,
+        input: "1",
+        status: Status::Ok,
+        printed: TWO_IN_A_ROW_CHECKED_REPORT,
+    },
+    // Two assertions on two variables, both assigned wrongly.
+    Row {
+        program: TWO_SIDE_BY_SIDE,
+        input: "",
+        status: Status::Ok,
+        printed: TWO_SIDE_BY_SIDE_REPORT,
+    },
+    // The text of a line stands without the blanks around it, a carriage return among them.
+    Row {
+        program: BLANKS,
+        input: "1",
+        status: Status::Ok,
+        printed: BLANKS_REPORT,
+    },
+    // Twelve parameters, twelve declarations and twelve statements: each assignment of the chain could repair it.
+    Row {
+        program: LARGEST,
+        input: "0 0 0 0 0 0 0 0 0 0 0 0",
+        status: Status::Ok,
+        printed: LARGEST_REPORT,
+    },
+    // Of the eleven assignments two could, each alone.
+    Row {
+        program: TWO_OF_ELEVEN,
+        input: "1",
+        status: Status::Ok,
+        printed: TWO_OF_ELEVEN_REPORT,
+    },
+    // Of the ten assignments only the last ones of the two variables could, both together.
+    Row {
+        program: PAIR_OF_TEN,
+        input: "",
+        status: Status::Ok,
+        printed: PAIR_OF_TEN_REPORT,
+    },
+    // Twelve statements are of the form, and one more of each is not.
+    Row {
+        program: TWELVE_ASSERTS,
+        input: "1",
+        status: Status::NoRepair,
+        printed: NO_REPAIR,
+    },
+    Row {
+        program: THIRTEEN_ASSERTS,
+        input: "1",
+        status: Status::NotBuilt,
+        printed: NOT_BUILT,
+    },
+    Row {
+        program: THIRTEEN_PARAMETERS,
+        input: "0 0 0 0 0 0 0 0 0 0 0 0 0",
+        status: Status::NotBuilt,
+        printed: NOT_BUILT,
+    },
+    Row {
+        program: THIRTEEN_DECLARATIONS,
+        input: "",
+        status: Status::NotBuilt,
+        printed: NOT_BUILT,
+    },
+    // A number of the input has to be one of int.
+    Row {
+        program: ONE_ASSERT,
+        input: "2147483648",
+        status: Status::NotBuilt,
+        printed: NOT_BUILT,
+    },
+];
 
 #[test]
 fn answers_straight_line_programs(rt: HostRuntime) -> Result<(), Fail> {
-    for (program, input, status, printed) in [
-        (ONE_ASSIGNMENT, "1", Status::Ok, ONE_REPORT),
-        (ONE_ASSIGNMENT, "2", Status::NotFailing, "not failing\n"),
-        (
-            ONE_ASSIGNMENT,
-            "x",
-            Status::NotBuilt,
-            "refused: not built\n",
-        ),
-        (
-            "int main(int a) { assert(a == 2); }",
-            "1",
-            Status::NoRepair,
-            "no repair\n",
-        ),
-        (
-            "int main(void) { return 0; }",
-            "",
-            Status::NotBuilt,
-            "refused: not built\n",
-        ),
-        ("", "", Status::NotBuilt, "refused: not built\n"),
-        // Two statements on the way to one assertion: each of them alone could repair it.
-        (
-            "int main(int a) {\n    int x;\n    int y;\n    x = a;\n    y = x;\n    assert(y == 2);\n}\n",
-            "1",
-            Status::Ok,
-            "located: weight 1, sets 2\nset 1:\n  4:5 assignment | x = a;\nset 2:\n  5:5 assignment | y = x;\n",
-        ),
-        // An assertion in between rules out the first.
-        (
-            "int main(int a) {\n    int x;\n    int y;\n    x = a;\n    y = x;\n    assert(y == 2);\n    assert(x == 1);\n}\n",
-            "1",
-            Status::Ok,
-            "located: weight 1, sets 1\nset 1:\n  5:5 assignment | y = x;\n",
-        ),
-        // Two assertions on two variables, both assigned wrongly.
-        (
-            "int main(void) {\n    int x;\n    int y;\n    x = 1;\n    y = 1;\n    assert(x == 2);\n    assert(y == 2);\n}\n",
-            "",
-            Status::Ok,
-            "located: weight 2, sets 1\nset 1:\n  4:5 assignment | x = 1;\n  5:5 assignment | y = 1;\n",
-        ),
-        // The text of a line stands without the blanks around it, a carriage return among them.
-        (
-            "int main(int a) {\r\n\t a = 1 ; assert(a == 2); \t\r\n}\r\n",
-            "1",
-            Status::Ok,
-            "located: weight 1, sets 1\nset 1:\n  2:3 assignment | a = 1 ; assert(a == 2);\n",
-        ),
-        // Twelve parameters, twelve declarations and twelve statements: each assignment of the chain alone could repair it.
-        (
-            "int main(int p1, int p2, int p3, int p4, int p5, int p6, int p7, int p8, int p9, int p10, int p11, int p12) {\n    int a;\n    int b;\n    int c;\n    int d;\n    int e;\n    int f;\n    int g;\n    int h;\n    int i;\n    int j;\n    int k;\n    int l;\n    a = p1;\n    b = a;\n    c = b;\n    d = c;\n    e = d;\n    f = e;\n    g = f;\n    h = g;\n    i = h;\n    j = i;\n    k = j;\n    assert(k == 1);\n}\n",
-            "0 0 0 0 0 0 0 0 0 0 0 0",
-            Status::Ok,
-            "located: weight 1, sets 11\nset 1:\n  14:5 assignment | a = p1;\nset 2:\n  15:5 assignment | b = a;\nset 3:\n  16:5 assignment | c = b;\nset 4:\n  17:5 assignment | d = c;\nset 5:\n  18:5 assignment | e = d;\nset 6:\n  19:5 assignment | f = e;\nset 7:\n  20:5 assignment | g = f;\nset 8:\n  21:5 assignment | h = g;\nset 9:\n  22:5 assignment | i = h;\nset 10:\n  23:5 assignment | j = i;\nset 11:\n  24:5 assignment | k = j;\n",
-        ),
-        // Of the ten assignments only the last ones of the two variables could, both together.
-        (
-            "int main(void) {\n    int x;\n    int y;\n    x = 3;\n    y = x;\n    x = y;\n    y = 4;\n    x = y;\n    y = 5;\n    x = 6;\n    x = 1;\n    y = x;\n    y = 1;\n    assert(x == 2);\n    assert(y == 3);\n}\n",
-            "",
-            Status::Ok,
-            "located: weight 2, sets 1\nset 1:\n  11:5 assignment | x = 1;\n  13:5 assignment | y = 1;\n",
-        ),
-        // Twelve statements are of the form, and one more of each is not.
-        (
-            "int main(int a) { assert(a == 0); assert(a == 0); assert(a == 0); assert(a == 0); assert(a == 0); assert(a == 0); assert(a == 0); assert(a == 0); assert(a == 0); assert(a == 0); assert(a == 0); assert(a == 0); }",
-            "1",
-            Status::NoRepair,
-            "no repair\n",
-        ),
-        (
-            "int main(int a) { assert(a == 0); assert(a == 0); assert(a == 0); assert(a == 0); assert(a == 0); assert(a == 0); assert(a == 0); assert(a == 0); assert(a == 0); assert(a == 0); assert(a == 0); assert(a == 0); assert(a == 0); }",
-            "1",
-            Status::NotBuilt,
-            "refused: not built\n",
-        ),
-        (
-            "int main(int p1, int p2, int p3, int p4, int p5, int p6, int p7, int p8, int p9, int p10, int p11, int p12, int p13) { }",
-            "0 0 0 0 0 0 0 0 0 0 0 0 0",
-            Status::NotBuilt,
-            "refused: not built\n",
-        ),
-        (
-            "int main(void) { int a; int b; int c; int d; int e; int f; int g; int h; int i; int j; int k; int l; int m; }",
-            "",
-            Status::NotBuilt,
-            "refused: not built\n",
-        ),
-        // A number of the input has to be one of int.
-        (
-            "int main(int a) { assert(a == 2); }",
-            "2147483648",
-            Status::NotBuilt,
-            "refused: not built\n",
-        ),
-    ] {
-        let mut world = world_of(rt.alloc(), program, input, &[], 4096)?;
+    for row in &ROWS {
+        let mut world = world_of(rt.alloc(), row.program, row.input, &[], 4096)?;
         let ended = localise(rt.alloc(), &mut world);
-        assert_eq!(rt; ended, status, "of {program:?} on {input:?}");
+        assert_eq!(rt;
+            ended,
+            row.status,
+            "of {:?} on {:?}",
+            row.program, row.input
+        );
         assert_eq!(rt;
             world.printed(),
-            printed.as_bytes(),
-            "of {program:?} on {input:?}"
+            row.printed.as_bytes(),
+            "of {:?}",
+            row.program
+        );
+    }
+    Ok(())
+}
+
+/// How the call ends, and what it prints, where these calls of the world fail.
+fn end_where(alloc: Global, fails: &[u64]) -> Result<(Status, Vec<u8>), AllocError> {
+    let mut world = world_of(alloc, ONE_ASSIGNMENT, "1", fails, 4096)?;
+    let ended = localise(alloc, &mut world);
+    Ok((ended, Vec::from_slice(alloc, world.printed())?))
+}
+
+#[test]
+fn calls_nothing_but_print_after_a_fault(rt: HostRuntime) -> Result<(), Fail> {
+    // The call after the one that fails may print a refusal. One more call would fail too.
+    for call in 0..7 {
+        let (status, printed) = end_where(rt.alloc(), &[call])?;
+        let (again, printed_again) = end_where(
+            rt.alloc(),
+            &[
+                call,
+                call + 2,
+                call + 3,
+                call + 4,
+                call + 5,
+                call + 6,
+                call + 7,
+                call + 8,
+                call + 9,
+                call + 10,
+                call + 11,
+                call + 12,
+            ],
+        )?;
+        assert_eq!(rt; again, status, "after call {call}");
+        assert_eq!(rt;
+            printed_again.as_slice(),
+            printed.as_slice(),
+            "after call {call}"
         );
     }
     Ok(())
