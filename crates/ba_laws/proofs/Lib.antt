@@ -1,1 +1,3 @@
 pub mod Wider
+mod Operands
+mod SlowRuns

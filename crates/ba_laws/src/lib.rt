@@ -1,5 +1,6 @@
-//! Laws of the definitions of runs and of sets of statements, which no code rests on and which tell a reader that
-//! the definitions mean what they should. Each is a function whose clause is the law, and which does nothing.
+//! What tells a reader that the definitions of runs and of sets of statements mean what they should, and what no
+//! code rests on: laws, each a function whose clause is the law and which does nothing, and a plain, slow program
+//! that computes a run as the definition says, for examples.
 #![tactic(auto)]
 
 ghost use Rattle.std.specs.Prelude.{ℕ, List, Contains};
@@ -8,6 +9,10 @@ ghost use Rattle.ba_tree.specs.declared.run.Bounds.{Bounds};
 ghost use Rattle.ba_tree.specs.declared.run.Input.{Input};
 ghost use Rattle.ba_tree.specs.declared.tree.Program.{Program};
 
+pub mod slow;
+#[cfg(test)]
+mod tests;
+
 /// Statements that could repair a run still could with more statements beside them: where a statement is listed and
 /// needs no change, it may run as written.
 pub fn more_statements_stay_feasible()
@@ -15,6 +20,3 @@ pub fn more_statements_stay_feasible()
         → ((n : ℕ) → Contains set n → Contains other n)
         → IsFeasible (judge_of p i b) set → IsFeasible (judge_of p i b) other }
 {}
-
-#[cfg(test)]
-mod tests;
