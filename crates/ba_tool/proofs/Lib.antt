@@ -1,3 +1,4 @@
 pub mod Unique
 pub mod Judging
 pub mod Ends
+mod Powers

@@ -2,3 +2,4 @@ pub mod Report
 pub mod Words
 pub mod Texts
 pub mod Tool
+pub mod Luby

@@ -1,6 +1,7 @@
 //! The rules of the search, which its caller chooses.
 
-ghost use Rattle.std.specs.Prelude.{◌≡◌, ◌↔◌, ◌⊎◌, ◌≤◌, ◌<◌, ◌^◌, IsTrue};
+ghost use Rattle.std.specs.Prelude.{◌≡◌, ◌↔◌, ◌⊎◌, ℕ, ◌+◌, ◌*◌, ◌≤◌, ◌<◌, ◌^◌, IsTrue};
+ghost use Rattle.ba_tool.specs.Luby.{IsLubyTerm};
 
 /// When the search restarts, and which learnt clauses it keeps. No answer depends on them.
 #[derive(Drop)]
@@ -31,6 +32,7 @@ impl<L: Fn(u64) -> u64, G: Fn(u64) -> u64, K: Fn(u64, u64) -> bool> Rules<L, G, 
 fn luby_term(number: u64) -> u64
     requires from { 1 ≤ number }
     requires to { number < 2 ^ 32 }
+    ensures term { IsLubyTerm number result }
     ensures positive { 1 ≤ result }
     ensures small { result ≤ number }
 {
@@ -47,7 +49,9 @@ fn luby_term(number: u64) -> u64
 
 /// Restarts by Luby's sequence, in hundreds of conflicts, and from a million restarts on after a hundred each.
 pub fn luby(restarts: u64) -> u64
-    ensures { 1 ≤ result }
+    ensures early { restarts < 1000000 → (term : ℕ) × IsLubyTerm (restarts + 1) term × (result ≡ 100 * term) }
+    ensures late { 1000000 ≤ restarts → result ≡ 100 }
+    ensures positive { 1 ≤ result }
 {
     if restarts < 1_000_000 {
         100 * luby_term(restarts + 1)

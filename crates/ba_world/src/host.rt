@@ -1,8 +1,8 @@
 //! The world over real files and standard output.
 
-ghost use Rattle.std.specs.Prelude.{◌≡◌, ◌≤◌, None, IfOk, OnOk, IfErr, OnErr};
+ghost use Rattle.std.specs.Prelude.{◌≡◌, ◌<◌, ◌≤◌, None, take, length, is_some, IsSome, IfOk, OnOk, IfErr, OnErr};
 ghost use Rattle.std.specs.Io.KnownBytes.{Appends};
-ghost use Rattle.ba_world.specs.Host.{new_host};
+ghost use Rattle.ba_world.specs.Host.{Adds, Takes, new_host};
 ghost use Rattle.ba_world.specs.World.{raised};
 
 use crate::world::{World, WorldError, raise};
@@ -11,13 +11,15 @@ use std::marker::Model;
 use std::rt::Files;
 use std::{fs, io};
 
-/// The world over the files and the standard output of a runtime, as `main` is given one.
+/// The world over the files of a runtime and a standard output, as `main` is given them.
 ///
-/// It tells no content: what a real file holds or an output takes is outside of any contract. A file is
-/// closed where another takes its place or the world is dropped.
+/// It tells no content: what a real file holds or an output takes is outside of any contract. Where the bytes
+/// of a file or of the output are known, the clauses of its own calls say how each of them changes these. A file
+/// is closed where another takes its place or the world is dropped.
 #[derive(Drop)]
-pub struct HostWorld<R: Files + Print + Drop> {
+pub struct HostWorld<R: Files + Drop, O: Write + Drop> {
     runtime: R,
+    output: O,
     reading: Option<R::File>,
     writing: Option<R::File>,
     read_faults: u64,
@@ -25,28 +27,30 @@ pub struct HostWorld<R: Files + Print + Drop> {
     given: u64,
 }
 
-impl<R: Files + Print + Drop> Model for HostWorld<R> {
-    ghost use Rattle.std.specs.Prelude.{is_some};
+impl<R: Files + Drop, O: Write + Drop> Model for HostWorld<R, O> {
+    ghost use Rattle.std.specs.Prelude.{option_map};
     ghost use Rattle.ba_world.specs.Host.{Host};
 
     ghost Value = { Host };
 
     ghost view = { λ world. record {
-      is_reading = is_some world.reading;
-      is_writing = is_some world.writing;
+      reading = option_map R.File.remaining world.reading;
+      writing = option_map R.File.contents world.writing;
+      output = O.contents world.output;
       read_faults = world.read_faults;
       write_faults = world.write_faults;
       given = world.given;
     } };
 }
 
-impl<R: Files + Print + Drop> HostWorld<R> {
-    /// The world of this runtime. No file is being read or written, and there were no faults.
-    pub fn new(runtime: R) -> HostWorld<R>
-        ensures { result ≡ new_host }
+impl<R: Files + Drop, O: Write + Drop> HostWorld<R, O> {
+    /// The world of this runtime, which prints to this output. No file is being read or written, and there were no faults.
+    pub fn new(runtime: R, output: O) -> HostWorld<R, O>
+        ensures { result ≡ new_host (O.contents output) }
     {
         HostWorld {
             runtime,
+            output,
             reading: None,
             writing: None,
             read_faults: 0,
@@ -57,7 +61,7 @@ impl<R: Files + Print + Drop> HostWorld<R> {
 }
 
 /// Each error of the system is a fault, and is answered [`WorldError::Failed`].
-impl<R: Files + Print + Drop> World for HostWorld<R> {
+impl<R: Files + Drop, O: Write + Drop> World for HostWorld<R, O> {
     ghost held = { λ _ _. None };
 
     ghost left = { λ _. None };
@@ -68,9 +72,9 @@ impl<R: Files + Print + Drop> World for HostWorld<R> {
 
     ghost printed = { λ _. None };
 
-    ghost is_reading = { λ world. world.is_reading };
+    ghost is_reading = { λ world. is_some world.reading };
 
-    ghost is_writing = { λ world. world.is_writing };
+    ghost is_writing = { λ world. is_some world.writing };
 
     ghost read_faults = { λ world. world.read_faults };
 
@@ -85,7 +89,18 @@ impl<R: Files + Print + Drop> World for HostWorld<R> {
         Ok(())
     }
 
-    fn next_piece(&mut self, into: &mut [u8]) -> Result<usize, WorldError> {
+    fn next_piece(&mut self, into: &mut [u8]) -> Result<usize, WorldError>
+        requires room { 0 < length into.old }
+        requires reading { IsSome self.old.reading }
+        ensures within { IfOk result (λ count. count ≤ length into.new) }
+        ensures taken { IfOk result (λ count. Takes self.old.reading self.new.reading (take count into.new)) }
+        ensures ok { IfOk result (λ count. self.new
+            ≡ record self.old { reading = self.new.reading; given = raised self.old.given count }) }
+        ensures failed { OnErr result (self.new
+            ≡ record self.old { reading = self.new.reading; read_faults = raised self.old.read_faults 1 }) }
+        ensures still { IsSome self.new.reading }
+        ensures no_fall { self.old.read_faults ≤ self.new.read_faults }
+    {
         let Some(file) = &mut self.reading else {
             unreachable!()
         };
@@ -101,16 +116,29 @@ impl<R: Files + Print + Drop> World for HostWorld<R> {
         Ok(())
     }
 
-    fn add(&mut self, bytes: &[u8]) -> Result<(), WorldError> {
+    fn add(&mut self, bytes: &[u8]) -> Result<(), WorldError>
+        requires { IsSome self.old.writing }
+        ensures added { OnOk result (Adds self.old.writing self.new.writing bytes.now) }
+        ensures ok { OnOk result (self.new ≡ record self.old { writing = self.new.writing }) }
+        ensures failed { OnErr result (self.new
+            ≡ record self.old { writing = self.new.writing; write_faults = raised self.old.write_faults 1 }) }
+        ensures still { IsSome self.new.writing }
+        ensures no_fall { self.old.write_faults ≤ self.new.write_faults }
+    {
         let Some(file) = &mut self.writing else {
             unreachable!()
         };
         counted(write_whole(file, bytes), &mut self.write_faults)
     }
 
-    fn print(&mut self, bytes: &[u8]) -> Result<(), WorldError> {
-        let mut output = io::writer(&self.runtime);
-        counted(write_whole(&mut output, bytes), &mut self.write_faults)
+    fn print(&mut self, bytes: &[u8]) -> Result<(), WorldError>
+        ensures added { OnOk result (Appends self.old.output self.new.output bytes.now) }
+        ensures ok { OnOk result (self.new ≡ record self.old { output = self.new.output }) }
+        ensures failed { OnErr result (self.new
+            ≡ record self.old { output = self.new.output; write_faults = raised self.old.write_faults 1 }) }
+        ensures no_fall { self.old.write_faults ≤ self.new.write_faults }
+    {
+        counted(write_whole(&mut self.output, bytes), &mut self.write_faults)
     }
 }
 

@@ -4,6 +4,7 @@ ghost use Rattle.std.specs.Prelude.{◌<◌};
 
 use crate::{HostWorld, MemoryWorld, ReadFileError, World, WorldError, read_whole};
 use std::alloc::{AllocError, Global};
+use std::io;
 use std::test::Fail;
 
 const LIMIT: u64 = 65_536;
@@ -162,20 +163,19 @@ fn stops_where_a_file_never_ends(rt: HostRuntime) {
 #[test]
 fn reads_what_it_wrote_to_a_real_file(rt: HostRuntime) -> Result<(), Fail> {
     let alloc = rt.alloc();
-    let mut world = HostWorld::new(rt);
+    let mut world = HostWorld::new(&rt, io::writer(&rt));
     world.begin_file("written")?;
     world.add(b"int main(void) ")?;
     world.add(b"{ return 0; }\n")?;
     let bytes = read_whole(alloc, &mut world, "written", 29)?;
     world.print(bytes.as_slice())?;
-    if bytes.as_slice() != b"int main(void) { return 0; }\n".as_slice() {
-        return Err(Fail::from("other bytes"));
-    }
-    if read_whole(alloc, &mut world, "written", 28).err() != Some(ReadFileError::TooLong) {
-        return Err(Fail::from("not too long"));
-    }
-    if read_whole(alloc, &mut world, "missing", 28).err() != Some(ReadFileError::Failed) {
-        return Err(Fail::from("not missing"));
-    }
+    assert_eq!(rt;
+        bytes.as_slice(),
+        b"int main(void) { return 0; }\n".as_slice()
+    );
+    let too_long = read_whole(alloc, &mut world, "written", 28);
+    assert_eq!(rt; too_long.err(), Some(ReadFileError::TooLong));
+    let missing = read_whole(alloc, &mut world, "missing", 28);
+    assert_eq!(rt; missing.err(), Some(ReadFileError::Failed));
     Ok(())
 }
