@@ -1,0 +1,18 @@
+//! Laws of the grammar. Each is a function whose clause is the law, and which does nothing.
+
+ghost use Rattle.std.specs.Prelude.{◌≡◌, List};
+ghost use Rattle.ba_lex.specs.declared.token.Token.{Token};
+ghost use Rattle.ba_parse.specs.Marks.{Mark};
+ghost use Rattle.ba_parse.specs.Files.{IsFile, Verdict, Says, Said};
+
+/// No list of tokens is that of two files.
+pub fn one_tree()
+    ensures { (tokens : List Token) (tree other : List Mark) → IsFile tokens tree → IsFile tokens other → tree ≡ other }
+{}
+
+/// Of each list of tokens the grammar says one thing: it is a file's, with its tree; or it has its one syntax
+/// error; or it has its one token that is too deep.
+pub fn one_verdict()
+    ensures some { (tokens : List Token) → Said tokens }
+    ensures one { (tokens : List Token) (verdict other : Verdict) → Says tokens verdict → Says tokens other → verdict ≡ other }
+{}
