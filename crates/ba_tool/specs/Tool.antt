@@ -1,6 +1,6 @@
 -- What a call of the program answers, and what it prints.
 
-use Rattle.std.specs.Prelude.{◌≡◌, ◌≢◌, ◌⊎◌, ℕ, ◌+◌, ◌<◌, ◌≤◌, Bool, true, false, List, [], length, Contains, Option, None, Some, IfSome, IsSomeAnd}
+use Rattle.std.specs.Prelude.{◌≡◌, ◌≢◌, ◌⊎◌, ℕ, ◌+◌, ◌<◌, ◌≤◌, Bool, true, false, List, [], length, Contains, Option, Some, IfSome, IsSomeAnd}
 use Rattle.ba_world.specs.Read.{Stop, Stopped}
 use Rattle.ba_world.specs.World.{Rose, Appends, raised}
 use Rattle.ba_world.specs.declared.read.ReadFileError.{ReadFileError}

@@ -1,6 +1,6 @@
 -- A world over real files and standard output, which tells no content.
 
-use Rattle.std.specs.Prelude.{◌≡◌, ℕ, Bool, List, Option, None, Some}
+use Rattle.std.specs.Prelude.{ℕ, List, Option, None, Some}
 use Rattle.std.specs.Io.KnownBytes.{Appends, Consumes}
 
 -- What is known of the bytes that an open file holds or has left.

@@ -98,6 +98,7 @@ impl<R: Files + Drop, O: Write + Drop> World for HostWorld<R, O> {
             ≡ record self.old { reading = self.new.reading; given = raised self.old.given count }) }
         ensures failed { OnErr result (self.new
             ≡ record self.old { reading = self.new.reading; read_faults = raised self.old.read_faults 1 }) }
+        ensures fault { IfErr result (λ error. error ≡ WorldError.Failed) }
         ensures still { IsSome self.new.reading }
         ensures no_fall { self.old.read_faults ≤ self.new.read_faults }
     {
@@ -122,6 +123,7 @@ impl<R: Files + Drop, O: Write + Drop> World for HostWorld<R, O> {
         ensures ok { OnOk result (self.new ≡ record self.old { writing = self.new.writing }) }
         ensures failed { OnErr result (self.new
             ≡ record self.old { writing = self.new.writing; write_faults = raised self.old.write_faults 1 }) }
+        ensures fault { IfErr result (λ error. error ≡ WorldError.Failed) }
         ensures still { IsSome self.new.writing }
         ensures no_fall { self.old.write_faults ≤ self.new.write_faults }
     {
@@ -136,6 +138,7 @@ impl<R: Files + Drop, O: Write + Drop> World for HostWorld<R, O> {
         ensures ok { OnOk result (self.new ≡ record self.old { output = self.new.output }) }
         ensures failed { OnErr result (self.new
             ≡ record self.old { output = self.new.output; write_faults = raised self.old.write_faults 1 }) }
+        ensures fault { IfErr result (λ error. error ≡ WorldError.Failed) }
         ensures no_fall { self.old.write_faults ≤ self.new.write_faults }
     {
         counted(write_whole(&mut self.output, bytes), &mut self.write_faults)

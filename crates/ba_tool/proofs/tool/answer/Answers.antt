@@ -1,4 +1,4 @@
-use Rattle.std.proofs.Common.{ℕ, List, Option, length, Err, ap, subst, sym, ◌∙◌}
+use Rattle.std.proofs.Common.{ℕ, List, Option, length, Err, ap, subst, ◌∙◌}
 use Rattle.ba_world.specs.World.{raised}
 use Rattle.ba_tool.specs.Tool.{Holds, bounds_with}
 use Rattle.ba_tool.proofs.Ends.{found_answer, no_input, no_program}
