@@ -1,3 +1,4 @@
 pub mod Literals
 pub mod Satisfaction
 pub mod Formulas
+pub mod Hints

@@ -1,0 +1,5 @@
+pub mod MarkLaws
+pub mod CutLaws
+pub mod ReplayLaws
+pub mod SplitLaws
+pub mod ListedLaws

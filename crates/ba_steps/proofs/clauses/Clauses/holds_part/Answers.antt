@@ -1,0 +1,17 @@
+use Rattle.std.proofs.Common.{refl}
+use Rattle.ba_steps.proofs.ListedLaws.{AreListed-length, first_found, rest_found}
+use Rattle.ba_steps.proofs.clauses.Clauses.holds_part.Goals as goal
+
+pub lists_part-requires : goal.lists_part-requires
+lists_part-requires c = AreListed-length c.self.inside.index c.self.inside.store c.self.invariant
+
+pub lists_any-requires : goal.lists_any-requires
+lists_any-requires c = AreListed-length c.self.inside.index c.self.inside.store c.self.invariant
+
+pub returns-then-lists_part : goal.returns-then-lists_part
+returns-then-lists_part c =
+    first_found c.self.inside.index c.self.inside.store c.args.self.now c.args.lits.now c.args.set.now c.lists_part.result c.self.invariant c.self.view_is c.requires c.lists_part.ensures c.if-lists_part.true
+
+pub returns-else-lists_part : goal.returns-else-lists_part
+returns-else-lists_part c =
+    rest_found c.self.inside.index c.self.inside.store c.args.self.now c.args.lits.now c.args.set.now c.lists_part.result c.lists_any.result c.self.invariant c.self.view_is c.requires c.lists_part.ensures c.if-lists_part.false c.lists_any.ensures

@@ -1,0 +1,9 @@
+pub mod Marks
+pub mod Steps
+pub mod Splits
+pub mod States
+pub mod Cuts
+pub mod Parts
+pub mod Listed
+pub mod Judging
+pub mod Looks

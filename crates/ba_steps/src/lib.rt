@@ -1,0 +1,22 @@
+//! Derivations, judged step by step and without search.
+//!
+//! A derivation starts from a formula in conjunctive normal form with weighted soft literals. Each step adds a
+//! clause that follows by unit propagation along a list of clause numbers, or ends the derivation. A core, a clause
+//! of negated soft literals, raises the lower bound of the cost and is split so that costs stay exact (A. Morgado,
+//! C. Dodaro, J. Marques-Silva, Core-Guided MaxSAT with Soft Cardinality Constraints). The [`Checker`] answers for
+//! each step whether it is allowed, and the first error where it isn't.
+#![tactic(auto)]
+
+mod checker;
+mod clauses;
+mod index;
+mod judge;
+mod literal_set;
+mod replay;
+mod split;
+mod step;
+mod store;
+
+pub use checker::Checker;
+pub use judge::RunJudge;
+pub use step::{CertStep, StepError};

@@ -1,0 +1,93 @@
+//! The steps of a derivation, and why a step isn't allowed.
+
+use ba_items::Items;
+use ba_lits::Lit;
+use std::alloc::{AllocError, AllocFailed};
+use thiserror::Error;
+
+/// A step of a derivation. The literals of a step have strictly ascending variables and are at least one; numbers of
+/// clauses are at least 1; all numbers are below 2^62.
+#[derive(Drop)]
+pub enum CertStep {
+    /// The clause follows by the hints, numbers of live clauses, and is live from now on.
+    Learn { lits: Items<Lit>, hints: Items<u64> },
+    /// The clause follows by the hints and negates soft literals alone. It is live from now on and split.
+    Core { lits: Items<Lit>, hints: Items<u64> },
+    /// The empty clause follows by the hints, so the formula has no model. It ends the derivation.
+    EndNoRepair { hints: Items<u64> },
+    /// The stated number of conflicts is spent. It ends the derivation.
+    EndSpent,
+}
+
+/// Why a step isn't allowed, with the number that each error has in messages. Where several hold of one step, the
+/// first in the order of the tests is answered.
+#[derive(Clone, Copy, Debug, PartialEq, Eq, Error)]
+pub enum StepError {
+    /// 1: a hint is the number of no live clause.
+    #[error("1: a hint names no clause")]
+    HintMissing,
+    /// 2: the clause of a hint is neither unit nor, at the last place, false.
+    #[error("2: a hint's clause is neither unit nor, as the last, false")]
+    HintNotUnit,
+    /// 3: the hints end without a false clause.
+    #[error("3: the hints end without a false clause")]
+    NotClosed,
+    /// 4: a literal isn't the negation of a soft literal.
+    #[error("4: a literal isn't the negation of a soft literal")]
+    NotSofts,
+    /// 5: a number isn't that of a learnt clause of more than two literals.
+    #[error("5: a clause can't be deleted")]
+    DeadClause,
+    /// 6: the run isn't good for these groups.
+    #[error("6: the run isn't good")]
+    RunNotGood,
+    /// 7: the set was blocked before.
+    #[error("7: the set was blocked before")]
+    SetTwice,
+    /// 8: the weight of the set isn't the bound.
+    #[error("8: the weight of the set isn't the bound")]
+    WrongWeight,
+    /// 9: the derivation has ended.
+    #[error("9: the derivation has ended")]
+    AfterEnd,
+    /// 10: a live clause has all its literals in the new one.
+    #[error("10: the clause holds a live clause")]
+    NotNew,
+    /// 11: too few clauses were learnt since the last deletion.
+    #[error("11: too soon after the last deletion")]
+    TooSoon,
+    /// 12: a set is blocked, so no core may come.
+    #[error("12: a core after a blocked set")]
+    CoreAfterSet,
+    /// 13: the number of conflicts or of sets isn't one at which the step may come.
+    #[error("13: wrong number of conflicts or sets")]
+    WrongCount,
+    /// 14: a variable or group doesn't exist.
+    #[error("14: a variable or group doesn't exist")]
+    BadVariable,
+    /// There was no memory.
+    #[error("out of memory")]
+    Memory,
+}
+
+impl From<AllocError> for StepError {
+    ghost use Rattle.std.specs.Prelude.{◌≡◌};
+    ghost use Rattle.ba_steps.specs.declared.step.StepError.TheVariants.{Memory};
+
+    ghost from_gives = { λ _ error. error ≡ Memory };
+
+    fn from(_error: AllocError) -> StepError {
+        StepError::Memory
+    }
+}
+
+impl<T: Drop> From<AllocFailed<T>> for StepError {
+    ghost use Rattle.std.specs.Prelude.{◌≡◌};
+    ghost use Rattle.ba_steps.specs.declared.step.StepError.TheVariants.{Memory};
+
+    ghost from_gives = { λ _ error. error ≡ Memory };
+
+    fn from(_error: AllocFailed<T>) -> StepError {
+        StepError::Memory
+    }
+}
