@@ -65,6 +65,21 @@ impl Formula {
         self.clauses.push(Items::from_slice(self.alloc, clause)?)
     }
 
+    /// The same formula once more. The one error is want of memory.
+    pub fn copy(&self, alloc: Global) -> Result<Formula, AllocError>
+        ensures { IfOk result (λ copy. copy ≡ self.now) }
+    {
+        let mut clauses = Items::new(alloc);
+        for clause in self.clauses.as_slice() {
+            clauses.push(Items::from_slice(alloc, clause.as_slice())?)?;
+        }
+        Ok(Formula {
+            alloc,
+            variables: self.variables,
+            clauses,
+        })
+    }
+
     /// How many variables there are.
     pub fn variables(&self) -> u64
         ensures { result ≡ self.now.variables }
@@ -112,6 +127,10 @@ mod tests {
         assert_eq!(rt; formula.clause(1)[1].variable(), 2);
         assert_eq!(rt; two.index(), 5);
         assert_eq!(rt; Lit::from_index(5), two);
+        let copy = formula.copy(rt.alloc())?;
+        assert_eq!(rt; copy.variables(), 2);
+        assert_eq!(rt; copy.len(), 2);
+        assert_eq!(rt; copy.clause(1), [one, two].as_slice());
         Ok(())
     }
 }

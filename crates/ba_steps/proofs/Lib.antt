@@ -3,3 +3,4 @@ pub mod CutLaws
 pub mod ReplayLaws
 pub mod SplitLaws
 pub mod ListedLaws
+pub mod SinkLaws

@@ -7,3 +7,6 @@ pub mod Parts
 pub mod Listed
 pub mod Judging
 pub mod Looks
+pub mod Sinks
+pub mod Lists
+pub mod Puts

@@ -7,16 +7,20 @@
 //! each step whether it is allowed, and the first error where it isn't.
 #![tactic(auto)]
 
+mod checked;
 mod checker;
 mod clauses;
 mod index;
 mod judge;
 mod literal_set;
 mod replay;
+mod sink;
 mod split;
 mod step;
 mod store;
 
+pub use checked::Checked;
 pub use checker::Checker;
 pub use judge::RunJudge;
+pub use sink::{Basis, Both, ListSink, NoSink, SinkError, StepSink};
 pub use step::{CertStep, StepError};

@@ -1,8 +1,10 @@
 //! The steps of a derivation, and why a step isn't allowed.
 
+ghost use Rattle.std.specs.Prelude.{◌≡◌, IfOk};
+
 use ba_items::Items;
 use ba_lits::Lit;
-use std::alloc::{AllocError, AllocFailed};
+use std::alloc::{AllocError, AllocFailed, Global};
 use thiserror::Error;
 
 /// A step of a derivation. The literals of a step have strictly ascending variables and are at least one; numbers of
@@ -17,6 +19,28 @@ pub enum CertStep {
     EndNoRepair { hints: Items<u64> },
     /// The stated number of conflicts is spent. It ends the derivation.
     EndSpent,
+}
+
+impl CertStep {
+    /// The same step once more. The one error is want of memory.
+    pub fn copy(&self, alloc: Global) -> Result<CertStep, AllocError>
+        ensures { IfOk result (λ copy. copy ≡ self.now) }
+    {
+        match self {
+            CertStep::Learn { lits, hints } => Ok(CertStep::Learn {
+                lits: Items::from_slice(alloc, lits.as_slice())?,
+                hints: Items::from_slice(alloc, hints.as_slice())?,
+            }),
+            CertStep::Core { lits, hints } => Ok(CertStep::Core {
+                lits: Items::from_slice(alloc, lits.as_slice())?,
+                hints: Items::from_slice(alloc, hints.as_slice())?,
+            }),
+            CertStep::EndNoRepair { hints } => Ok(CertStep::EndNoRepair {
+                hints: Items::from_slice(alloc, hints.as_slice())?,
+            }),
+            CertStep::EndSpent => Ok(CertStep::EndSpent),
+        }
+    }
 }
 
 /// Why a step isn't allowed, with the number that each error has in messages. Where several hold of one step, the
