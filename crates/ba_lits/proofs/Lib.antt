@@ -1,1 +1,2 @@
 pub mod Satisfied
+pub mod HintLaws

@@ -4,3 +4,6 @@ pub mod ReplayLaws
 pub mod SplitLaws
 pub mod ListedLaws
 pub mod SinkLaws
+pub mod SplitMeaning
+pub mod LoweredLaws
+pub mod FactLaws

@@ -10,3 +10,4 @@ pub mod Looks
 pub mod Sinks
 pub mod Lists
 pub mod Puts
+pub mod Facts

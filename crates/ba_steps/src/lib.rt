@@ -12,6 +12,7 @@ mod checker;
 mod clauses;
 mod index;
 mod judge;
+pub mod laws;
 mod literal_set;
 mod replay;
 mod sink;

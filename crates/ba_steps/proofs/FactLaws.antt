@@ -1,0 +1,532 @@
+-- The facts hold of every state that allowed steps lead to.
+
+use Rattle.std.proofs.Common.{◌≡◌, ◌≢◌, ℕ, suc, zero, ◌+◌, ◌*◌, ◌-◌, ◌^◌, ◌<◌, ◌≤◌, Bool, true, false, not, ◌&&◌, ◌||◌, cond, ltb, eqb, min, unwrap_or, Option, None, Some, option_map, List, [], ◌∷◌, ◌++◌, map, length, get_or, drop, All, refl, sym, ap, ◌∙◌, arith, subst, inl, inr, ⊎_elim, ◌⊎◌}
+use Rattle.std.proofs.Math.Nat.{mul-add}
+use Rattle.std.proofs.lemmas.Bool.{cases_lt}
+use Rattle.std.proofs.lemmas.Bool.Decides.{nat_tests}
+use Rattle.std.proofs.lemmas.List.{map-append, append_assoc, append-nil}
+use Rattle.std.proofs.lemmas.List.Elements.{All-nil, All-cons, All-append, All-weaker, All-head, All-tail}
+use Rattle.std.specs.List.{list_any, slice_get}
+use Rattle.ba_lits.specs.Literals.{Literal, negate, no_literal, IsClause, lit_at, index_of}
+use Rattle.ba_lits.specs.Satisfaction.{Assignment, lit_true, any_true, all_true, Soft, cost, Agree}
+use Rattle.ba_lits.specs.Formulas.{Cnf}
+use Rattle.ba_lits.specs.Hints.{Replay, Refutes, StaysOpen, NamesNone, NamesIdle, replay, has_literal}
+use Rattle.ba_lits.proofs.Satisfied.{ClauseBelow, ClausesBelow, SoftsBelow, any_true-agree, all_true-agree, cost-agree, all_true-append, cost-append, ClauseBelow-more, ClausesBelow-more, SoftsBelow-more, ClausesBelow-append, SoftsBelow-append}
+use Rattle.ba_lits.proofs.HintLaws.{FollowsByHints-holds, same_literal}
+use Rattle.ba_steps.specs.Splits.{positive, negative, in_order, or_gate, and_gate, some_of, or_clauses, and_clauses, split_clauses, fresh_count, split_softs, late_softs, is_soft, lesser, lightest, lowered}
+use Rattle.ba_steps.specs.States.{Kept, kept, State, kept_at, clause_at, present, first_state}
+use Rattle.ba_steps.specs.Steps.{IsFormed, AreFormedLits}
+use Rattle.ba_steps.specs.Judging.{Judge, error_if, lacks_variable, is_spent, lacks_soft, hint_error, error_of_replay, error_of, after, after_learn, after_core, after_all, next_if, learn_error, core_error}
+use Rattle.ba_steps.specs.Facts.{live, Differs, AreDifferent, AreAmong, IsStart, step_splits, splits_of, IsLive, Holds}
+use Rattle.ba_steps.specs.declared.store.Origin.{Origin}
+use Rattle.ba_steps.specs.declared.store.Origin.TheVariants as origins
+use Rattle.ba_steps.specs.declared.step.CertStep.{CertStep}
+use Rattle.ba_steps.specs.declared.step.CertStep.TheVariants.{Learn, Core, EndNoRepair, EndSpent}
+use Rattle.ba_steps.specs.declared.step.StepError.{StepError}
+use Rattle.ba_steps.specs.declared.step.StepError.TheVariants.{AfterEnd, NotNew, NotSofts, CoreAfterSet, WrongCount, BadVariable, Memory}
+use Rattle.ba_steps.specs.Parts.{holds_clause}
+use Rattle.ba_steps.proofs.SplitMeaning.{OrsHave, AndsHave, split_holds, split_has, extended, extended-old, extended-ors, extended-ands, OrsHave-each, AndsHave-each, ors_alone, ands_alone, count_true, pairs, one_if, count_pairs, late_cost, and_parts, and_both}
+use Rattle.ba_steps.proofs.LoweredLaws.{negate_twice, IsClause-rest, lowered_cost, hits, hits_count, AreAtLeast, lightest_at_least}
+
+-- everything that the induction needs: the facts, and that all variables are below the next fresh one
+pub record KeepsFacts (formula : Cnf) (softs : List Soft) (splits : List (List Literal)) (s : State) : Type 0 where
+  pub facts : Holds formula softs splits s
+  pub wide : formula.variables ≤ s.variables
+  pub splits_below : ClausesBelow (s.variables + 1) splits
+  pub live_below : ClausesBelow (s.variables + 1) (live s.clauses)
+
+-- an allowed test is false, and the rest is allowed
+no_error : (test : Bool) (e : StepError) (rest : Option StepError) → error_if test e rest ≡ None → (test ≡ false) × (rest ≡ None)
+no_error true e rest none = absurd (cc)
+no_error false e rest none = (refl, none)
+
+-- the clause of a number holds where all do
+holds_at : (v : Assignment) (clauses : List Kept) (k : ℕ) (c : List Literal) → all_true v (live clauses) ≡ true → option_map (λ (x : Kept). x.lits) (slice_get clauses k) ≡ Some c → any_true v c ≡ true
+holds_at v [] k c holds is = absurd (cc)
+holds_at v (x ∷ xs) zero c holds is =
+    let e : x.lits ≡ c = cc in
+    ap (any_true v) (sym e) ∙ (and_parts (any_true v x.lits) (all_true v (live xs)) holds).0
+holds_at v (x ∷ xs) (suc k) c holds is = holds_at v xs k c ((and_parts (any_true v x.lits) (all_true v (live xs)) holds).1) is
+
+holds_number : (v : Assignment) (clauses : List Kept) (number : ℕ) (c : List Literal) → all_true v (live clauses) ≡ true → clause_at clauses number ≡ Some c → any_true v c ≡ true
+holds_number v clauses zero c holds is = absurd (cc)
+holds_number v clauses (suc k) c holds is = holds_at v clauses k c holds is
+
+-- a clause without an error in its hints holds where the live ones do
+pub follows_true : (s : State) (v : Assignment) (lits : List Literal) (hints : List ℕ) → hint_error s lits hints ≡ None → all_true v (live s.clauses) ≡ true → any_true v lits ≡ true
+follows_true s v lits hints none holds =
+    FollowsByHints-holds (clause_at s.clauses) v (λ n c is. holds_number v s.clauses n c holds is) lits hints (refutes (replay (clause_at s.clauses) lits hints) none)
+  where
+    refutes : (r : Replay) → error_of_replay r ≡ None → r ≡ Refutes
+    refutes Refutes e = refl
+    refutes StaysOpen e = absurd (cc)
+    refutes NamesNone e = absurd (cc)
+    refutes NamesIdle e = absurd (cc)
+
+-- variables that exist are below the next
+exist_below : (s : State) (lits : List Literal) → lacks_variable s lits ≡ false → ClauseBelow (s.variables + 1) lits
+exist_below s [] known = tt
+exist_below s (l ∷ ls) known =
+    let parts = or_none (ltb s.variables l.variable) (lacks_variable s ls) known in
+    (below s.variables l.variable parts.0, exist_below s ls parts.1)
+  where
+    or_none : (a b : Bool) → (a || b) ≡ false → (a ≡ false) × (b ≡ false)
+    or_none true b e = absurd (cc)
+    or_none false b e = (refl, e)
+
+    below : (n x : ℕ) → ltb n x ≡ false → x < n + 1
+    below n x e = grind (arith, nat_tests)
+
+-- a clause stays live where others are added
+slice_get-more : (xs ys : List Kept) (k : ℕ) (c : List Literal) → option_map (λ (x : Kept). x.lits) (slice_get xs k) ≡ Some c → option_map (λ (x : Kept). x.lits) (slice_get (xs ++ ys) k) ≡ Some c
+slice_get-more [] ys k c is = absurd (cc)
+slice_get-more (x ∷ xs) ys zero c is = is
+slice_get-more (x ∷ xs) ys (suc k) c is = slice_get-more xs ys k c is
+
+clause_at-more : (xs ys : List Kept) (number : ℕ) (c : List Literal) → clause_at xs number ≡ Some c → clause_at (xs ++ ys) number ≡ Some c
+clause_at-more xs ys zero c is = is
+clause_at-more xs ys (suc k) c is = slice_get-more xs ys k c is
+
+splits_live-more : (xs ys : List Kept) (splits : List (List Literal)) → All (IsLive xs) splits → All (IsLive (xs ++ ys)) splits
+splits_live-more xs ys splits h = All-weaker (IsLive xs) (IsLive (xs ++ ys)) (λ c (number, is). (number, clause_at-more xs ys number c is)) splits h
+
+-- added clauses are live
+slice_get-seam : (front : List Kept) (x : Kept) (ys : List Kept) → slice_get (front ++ x ∷ ys) (length front) ≡ Some x
+slice_get-seam [] x ys = refl
+slice_get-seam (f ∷ front) x ys = slice_get-seam front x ys
+
+added_live : (front : List Kept) (origin : Origin) (cs : List (List Literal)) → All (IsLive (front ++ map (kept origin) cs)) cs
+added_live front origin [] = All-nil (IsLive (front ++ []))
+added_live front origin (c ∷ cs) =
+    All-cons (IsLive (front ++ map (kept origin) (c ∷ cs))) c cs
+    (suc (length front), ap (option_map (λ (x : Kept). x.lits)) (slice_get-seam front (kept origin c) (map (kept origin) cs)))
+    (let P : List Kept → Type 0 = λ all. All (IsLive all) cs in subst P (append_assoc front (kept origin c ∷ []) (map (kept origin) cs)) (added_live (front ++ kept origin c ∷ []) origin cs))
+
+-- the literals of added clauses
+live-append : (xs ys : List Kept) → live (xs ++ ys) ≡ live xs ++ live ys
+live-append xs ys = map-append (λ (k : Kept). k.lits) xs ys
+
+live-kept : (origin : Origin) (cs : List (List Literal)) → live (map (kept origin) cs) ≡ cs
+live-kept origin [] = refl
+live-kept origin (c ∷ cs) = ap (λ ds. c ∷ ds) (live-kept origin cs)
+
+all_true-push : (v : Assignment) (cs : List (List Literal)) (c : List Literal) → all_true v cs ≡ true → any_true v c ≡ true → all_true v (cs ++ c ∷ []) ≡ true
+all_true-push v cs c all one = all_true-append v cs (c ∷ []) ∙ and_both (all_true v cs) (any_true v c && true) all (and_both (any_true v c) true one refl)
+
+-- A LEARN STEP keeps the facts
+pub learn_keeps : (formula : Cnf) (softs : List Soft) (splits : List (List Literal)) (s : State) (lits : List Literal) (hints : List ℕ) →
+    KeepsFacts formula softs splits s → lacks_variable s lits ≡ false → hint_error s lits hints ≡ None → KeepsFacts formula softs splits (after_learn s lits)
+learn_keeps formula softs splits s lits hints h exists follows = record {
+  facts = record {
+    extends = λ v good. let (z, same, split, lives, costs) = h.facts.extends v good in
+        (z, same, split, ap (all_true z) lives_is ∙ all_true-push z (live s.clauses) lits lives (follows_true s z lits hints follows lives), costs);
+    alone = h.facts.alone;
+    differ = h.facts.differ;
+    among = h.facts.among;
+    weighty = h.facts.weighty;
+    given_live = λ place lt. clause_at-more s.clauses (kept origins.Learnt lits ∷ []) (place + 1) (get_or formula.clauses place []) (h.facts.given_live place lt);
+    splits_live = splits_live-more s.clauses (kept origins.Learnt lits ∷ []) splits h.facts.splits_live;
+  };
+  wide = h.wide;
+  splits_below = h.splits_below;
+  live_below = let P : List (List Literal) → Type 0 = λ cs. ClausesBelow (s.variables + 1) cs in
+      subst P (sym lives_is) (ClausesBelow-append (s.variables + 1) (live s.clauses) (lits ∷ []) h.live_below (exist_below s lits exists, tt));
+}
+  where
+    lives_is : live (s.clauses ++ kept origins.Learnt lits ∷ []) ≡ live s.clauses ++ lits ∷ []
+    lives_is = live-append s.clauses (kept origins.Learnt lits ∷ [])
+
+-- AN END keeps them
+pub end_keeps : (formula : Cnf) (softs : List Soft) (splits : List (List Literal)) (s : State) → KeepsFacts formula softs splits s → KeepsFacts formula softs splits (record s { ended = true })
+end_keeps formula softs splits s h = record {
+  facts = record {
+    extends = h.facts.extends;
+    alone = h.facts.alone;
+    differ = h.facts.differ;
+    among = h.facts.among;
+    weighty = h.facts.weighty;
+    given_live = h.facts.given_live;
+    splits_live = h.facts.splits_live;
+  };
+  wide = h.wide;
+  splits_below = h.splits_below;
+  live_below = h.live_below;
+}
+
+-- the clauses of a split have variables below the next fresh one
+in_order-below : (n : ℕ) (a b : Literal) → a.variable < n → b.variable < n → ClauseBelow n (in_order a b)
+in_order-below n a b p q = cases (ltb a.variable b.variable)
+  where
+    cases : (t : Bool) → ClauseBelow n (cond t (a ∷ b ∷ []) (b ∷ a ∷ []))
+    cases true = (p, (q, tt))
+    cases false = (q, (p, tt))
+
+some_of-below : (n d : ℕ) (b : Literal) (rest : List Literal) → ClauseBelow n (b ∷ rest) → (0 < length rest → d < n) → (some_of d (b ∷ rest)).variable < n
+some_of-below n d b [] below fresh = below.0
+some_of-below n d b (c ∷ rest) below fresh = fresh (omega arith)
+
+or_clauses-below : (n d : ℕ) (lits : List Literal) → ClauseBelow n lits → d + (length lits - 1) ≤ n → ClausesBelow n (or_clauses d lits)
+or_clauses-below n d [] below le = tt
+or_clauses-below n d (b ∷ []) below le = tt
+or_clauses-below n d (b ∷ c ∷ rest) below le =
+    let later : (some_of (d + 1) (c ∷ rest)).variable < n = some_of-below n (d + 1) c rest below.1 (λ some. omega arith) in
+    let fresh : d < n = omega arith in
+    ClausesBelow-append n (or_gate d b (some_of (d + 1) (c ∷ rest))) (or_clauses (d + 1) (c ∷ rest)) (
+      (below.0, in_order-below n (negative d) (some_of (d + 1) (c ∷ rest)) fresh later),
+      ((below.0, (fresh, tt)), (in_order-below n (positive d) (negate (some_of (d + 1) (c ∷ rest))) fresh later, tt)),
+    )
+    (or_clauses-below n (d + 1) (c ∷ rest) below.1 (omega arith))
+
+and_clauses-below : (n d e : ℕ) (lits : List Literal) → ClauseBelow n lits → d ≤ e → e + (length lits - 1) ≤ n → ClausesBelow n (and_clauses d e lits)
+and_clauses-below n d e [] below le more = tt
+and_clauses-below n d e (b ∷ []) below le more = tt
+and_clauses-below n d e (b ∷ c ∷ rest) below le more =
+    let later : (some_of d (c ∷ rest)).variable < n = some_of-below n d c rest below.1 (λ some. omega arith) in
+    let fresh : e < n = omega arith in
+    ClausesBelow-append n (and_gate e b (some_of d (c ∷ rest))) (and_clauses (d + 1) (e + 1) (c ∷ rest))
+    ((below.0, (fresh, tt)), ((later, (fresh, tt)), ((below.0, (later, (fresh, tt))), tt)))
+    (and_clauses-below n (d + 1) (e + 1) (c ∷ rest) below.1 (omega arith) (omega arith))
+
+split_clauses-below : (n m : ℕ) (b : Literal) (rest : List Literal) → ClauseBelow n (b ∷ rest) → n + fresh_count (length (b ∷ rest)) ≤ m → ClausesBelow m (split_clauses n (b ∷ rest))
+split_clauses-below n m b rest below le =
+    let wide = ClauseBelow-more n m (b ∷ rest) (omega arith) below in
+    ClausesBelow-append m (or_clauses n rest) (and_clauses n (n + (length rest - 1)) (b ∷ rest))
+    (or_clauses-below m n rest wide.1 (omega arith))
+    (and_clauses-below m n (n + (length rest - 1)) (b ∷ rest) wide (omega arith) (omega arith))
+
+-- lowered soft literals are some of the soft literals
+lowered-below : (n w : ℕ) (core : List Literal) (softs : List Soft) → SoftsBelow n softs → SoftsBelow n (lowered core w softs)
+lowered-below n w core [] below = tt
+lowered-below n w core (s ∷ ss) below = cases (has_literal (negate s.0) core) (ltb w s.1) (lowered-below n w core ss below.1)
+  where
+    cases : (m h : Bool) → SoftsBelow n (lowered core w ss) → SoftsBelow n (cond m (cond h ((s.0, s.1 - w) ∷ lowered core w ss) (lowered core w ss)) (s ∷ lowered core w ss))
+    cases true true rest = (below.0, rest)
+    cases true false rest = rest
+    cases false h rest = (below.0, rest)
+
+lowered-differs : (x w : ℕ) (core : List Literal) (softs : List Soft) → Differs x softs → Differs x (lowered core w softs)
+lowered-differs x w core [] h = tt
+lowered-differs x w core (s ∷ ss) h = cases (has_literal (negate s.0) core) (ltb w s.1) (lowered-differs x w core ss h.1)
+  where
+    cases : (m t : Bool) → Differs x (lowered core w ss) → Differs x (cond m (cond t ((s.0, s.1 - w) ∷ lowered core w ss) (lowered core w ss)) (s ∷ lowered core w ss))
+    cases true true rest = (h.0, rest)
+    cases true false rest = rest
+    cases false t rest = (h.0, rest)
+
+lowered-different : (w : ℕ) (core : List Literal) (softs : List Soft) → AreDifferent softs → AreDifferent (lowered core w softs)
+lowered-different w core [] h = tt
+lowered-different w core (s ∷ ss) h = cases (has_literal (negate s.0) core) (ltb w s.1) (lowered-differs s.0.variable w core ss h.0) (lowered-different w core ss h.1)
+  where
+    cases : (m t : Bool) → Differs s.0.variable (lowered core w ss) → AreDifferent (lowered core w ss) → AreDifferent (cond m (cond t ((s.0, s.1 - w) ∷ lowered core w ss) (lowered core w ss)) (s ∷ lowered core w ss))
+    cases true true first rest = (first, rest)
+    cases true false first rest = rest
+    cases false t first rest = (first, rest)
+
+lowered-all : (P : Soft → Type 0) (w : ℕ) (core : List Literal) (softs : List Soft) → ((s : Soft) → P s → w < s.1 → P (s.0, s.1 - w)) → All P softs → All P (lowered core w softs)
+lowered-all P w core [] less all = All-nil P
+lowered-all P w core (s ∷ ss) less all = cases (has_literal (negate s.0) core) (ltb w s.1) refl (lowered-all P w core ss less (All-tail P s ss all))
+  where
+    heavier : (a b : ℕ) → ltb a b ≡ true → a < b
+    heavier a b e = grind (arith, nat_tests)
+
+    cases : (m t : Bool) → ltb w s.1 ≡ t → All P (lowered core w ss) → All P (cond m (cond t ((s.0, s.1 - w) ∷ lowered core w ss) (lowered core w ss)) (s ∷ lowered core w ss))
+    cases true true e rest = All-cons P (s.0, s.1 - w) (lowered core w ss) (less s (All-head P s ss all) (heavier w s.1 e)) rest
+    cases true false e rest = rest
+    cases false t e rest = All-cons P s (lowered core w ss) (All-head P s ss all) rest
+
+-- the late soft literals are of fresh variables
+late-from : (x w e : ℕ) (lits : List Literal) → x < e → Differs x (late_softs w e lits)
+late-from x w e [] lt = tt
+late-from x w e (b ∷ []) lt = tt
+late-from x w e (b ∷ c ∷ rest) lt = (λ same. absurd (omega arith), late-from x w (e + 1) (c ∷ rest) (omega arith))
+
+late-different : (w e : ℕ) (lits : List Literal) → AreDifferent (late_softs w e lits)
+late-different w e [] = tt
+late-different w e (b ∷ []) = tt
+late-different w e (b ∷ c ∷ rest) = (late-from e w (e + 1) (c ∷ rest) (omega arith), late-different w (e + 1) (c ∷ rest))
+
+late-all : (P : Soft → Type 0) (w e : ℕ) (lits : List Literal) → ((x : ℕ) → e ≤ x → x < e + (length lits - 1) → P (negative x, w)) → All P (late_softs w e lits)
+late-all P w e [] each = All-nil P
+late-all P w e (b ∷ []) each = All-nil P
+late-all P w e (b ∷ c ∷ rest) each =
+    All-cons P (negative e, w) (late_softs w (e + 1) (c ∷ rest)) (each e (omega arith) (omega arith)) (late-all P w (e + 1) (c ∷ rest) (λ x ge lt. each x (omega arith) (omega arith)))
+
+Differs-append : (x : ℕ) (xs ys : List Soft) → Differs x xs → Differs x ys → Differs x (xs ++ ys)
+Differs-append x [] ys first second = second
+Differs-append x (s ∷ ss) ys first second = (first.0, Differs-append x ss ys first.1 second)
+
+apart : (n w e : ℕ) (xs : List Soft) (lits : List Literal) → n ≤ e → SoftsBelow n xs → AreDifferent xs → AreDifferent (xs ++ late_softs w e lits)
+apart n w e [] lits le below differ = late-different w e lits
+apart n w e (s ∷ ss) lits le below differ =
+    (Differs-append s.0.variable ss (late_softs w e lits) differ.0 (late-from s.0.variable w e lits (omega (arith, below.0, le))), apart n w e ss lits le below.1 differ.1)
+
+among-below : (variables : ℕ) (softs : List Soft) → AreAmong variables softs → SoftsBelow (variables + 1) softs
+among-below variables [] all = tt
+among-below variables (s ∷ ss) all =
+    let P : Soft → Type 0 = λ soft. (1 ≤ soft.0.variable) × (soft.0.variable ≤ variables) in
+    let first = All-head P s ss all in
+    (omega (arith, first.1), among-below variables ss (All-tail P s ss all))
+
+-- the least weight of a core is at least 1
+light_step : (core : List Literal) (s : Soft) (ss : List Soft) (m : Bool) → has_literal (negate s.0) core ≡ m → lightest core (s ∷ ss) ≡ cond m (Some (lesser s.1 (lightest core ss))) (lightest core ss)
+light_step core s ss m is = ap (λ t. cond t (Some (lesser s.1 (lightest core ss))) (lightest core ss)) is
+
+some_value : (x y : ℕ) → ◌≡◌ {A = Option ℕ} (Some x) (Some y) → x ≡ y
+some_value x y e = cc
+
+lightest_some : (core : List Literal) (softs : List Soft) (w : ℕ) → All (λ (soft : Soft). 1 ≤ soft.1) softs → lightest core softs ≡ Some w → 1 ≤ w
+lightest_some core [] w weighty is = absurd (cc)
+lightest_some core (s ∷ ss) w weighty is =
+    cases (has_literal (negate s.0) core) refl (lightest core ss) refl (λ u e. lightest_some core ss u (All-tail (λ (soft : Soft). 1 ≤ soft.1) s ss weighty) e)
+  where
+    first : 1 ≤ s.1
+    first = All-head (λ (soft : Soft). 1 ≤ soft.1) s ss weighty
+
+    cases : (m : Bool) → has_literal (negate s.0) core ≡ m → (o : Option ℕ) → lightest core ss ≡ o → ((u : ℕ) → lightest core ss ≡ Some u → 1 ≤ u) → 1 ≤ w
+    cases true m None o next =
+        let e = some_value s.1 w (sym (light_step core s ss true m ∙ ap (λ l. Some (lesser s.1 l)) o) ∙ is) in omega (arith, e, first)
+    cases true m (Some u) o next =
+        let e = some_value (min s.1 u) w (sym (light_step core s ss true m ∙ ap (λ l. Some (lesser s.1 l)) o) ∙ is) in
+        let more = next u o in
+        omega (arith, e, first, more)
+    cases false m o e next = next w (sym (light_step core s ss false m) ∙ is)
+
+lightest_there : (core : List Literal) (softs : List Soft) (b : Literal) → has_literal b core ≡ true → is_soft softs (negate b) ≡ true → lightest core softs ≡ None → ⊥
+lightest_there core [] b known is none = cc
+lightest_there core (s ∷ ss) b known is none = cases (has_literal (negate s.0) core) refl (λ later e. lightest_there core ss b known later e)
+  where
+    or_cases : (x y : Bool) → (x || y) ≡ true → (x ≡ true) ⊎ (y ≡ true)
+    or_cases true y e = inl refl
+    or_cases false y e = inr e
+
+    cases : (m : Bool) → has_literal (negate s.0) core ≡ m → (is_soft ss (negate b) ≡ true → lightest core ss ≡ None → ⊥) → ⊥
+    cases true m next = let e = sym (light_step core s ss true m) ∙ none in cc
+    cases false m next =
+        ⊎_elim
+        (λ here.
+        let same = same_literal s.0 (negate b) here in
+        let back : has_literal (negate s.0) core ≡ true = ap (λ l. has_literal (negate l) core) same ∙ (ap (λ l. has_literal l core) (negate_twice b) ∙ known) in
+        (cc))
+        (λ later. next later (sym (light_step core s ss false m) ∙ none))
+        (or_cases (eqb (index_of s.0) (index_of (negate b))) (is_soft ss (negate b)) is)
+
+lightest_weighty : (core : List Literal) (softs : List Soft) (b : Literal) → All (λ (soft : Soft). 1 ≤ soft.1) softs → has_literal b core ≡ true → is_soft softs (negate b) ≡ true → 1 ≤ unwrap_or (lightest core softs) 0
+lightest_weighty core softs b weighty known is = cases (lightest core softs) refl
+  where
+    cases : (o : Option ℕ) → lightest core softs ≡ o → 1 ≤ unwrap_or o 0
+    cases None e = absurd (lightest_there core softs b known is e)
+    cases (Some w) e = lightest_some core softs w weighty e
+
+-- the extension of an assignment to the fresh variables of a core has their meaning
+extension_means : (n : ℕ) (z : Assignment) (b : Literal) (rest : List Literal) → OrsHave z (extended z n (n + (length rest - 1)) rest (b ∷ rest)) n rest × AndsHave z (extended z n (n + (length rest - 1)) rest (b ∷ rest)) (n + (length rest - 1)) (b ∷ rest)
+extension_means n z b rest =
+    let e = n + (length rest - 1) in (
+      OrsHave-each z (extended z n e rest (b ∷ rest)) n rest (λ j lt. extended-ors z n e rest (b ∷ rest) j (omega arith)),
+      AndsHave-each z (extended z n e rest (b ∷ rest)) e (b ∷ rest) (λ j lt. extended-ands z n e rest (b ∷ rest) j (omega arith)),
+    )
+
+-- what the soft literals cost before and after the split
+split_cost : (n : ℕ) (z y : Assignment) (b : Literal) (rest : List Literal) (softs : List Soft) (bound w : ℕ) →
+    Agree n z y → SoftsBelow n softs → IsClause (2 ^ 62 - 1) (b ∷ rest) → lacks_soft softs (b ∷ rest) ≡ false → AreDifferent softs → w ≡ unwrap_or (lightest (b ∷ rest) softs) 0 →
+    any_true z (b ∷ rest) ≡ true → AndsHave z y (n + (length rest - 1)) (b ∷ rest) →
+    bound + cost z softs ≡ bound + w + cost y (lowered (b ∷ rest) w softs ++ split_softs w n (b ∷ rest))
+split_cost n z y b rest softs bound w same below clause known differ w_is some ands =
+    let least : AreAtLeast w (b ∷ rest) softs = let P : ℕ → Type 0 = λ x. AreAtLeast x (b ∷ rest) softs in subst P (sym w_is) (lightest_at_least (b ∷ rest) softs) in
+    let before = lowered_cost z w (b ∷ rest) softs least in
+    let counted = hits_count (2 ^ 62 - 1) z (b ∷ rest) softs clause known differ in
+    let paired = count_pairs z b rest ∙ ap (λ t. one_if t + pairs z (b ∷ rest)) some in
+    let kept_cost = cost-agree n z y (lowered (b ∷ rest) w softs) same (lowered-below n w (b ∷ rest) softs below) in
+    let start : n + (length (b ∷ rest) - 2) ≡ n + (length rest - 1) = omega arith in
+    let late = ap (λ e. cost y (late_softs w e (b ∷ rest))) start ∙ late_cost z y w (n + (length rest - 1)) (b ∷ rest) ands in
+    let joined = cost-append y (lowered (b ∷ rest) w softs) (split_softs w n (b ∷ rest)) in
+    let product = mul-add w 1 (pairs z (b ∷ rest)) in
+    let times : w * hits z (b ∷ rest) softs ≡ w * (1 + pairs z (b ∷ rest)) = ap (λ k. w * k) (counted ∙ paired) in
+    omega (arith, before, times, product, kept_cost, late, joined)
+
+-- the split determines the fresh variables
+split_alone : (n m : ℕ) (y z : Assignment) (b : Literal) (rest : List Literal) → Agree n y z → ClauseBelow n (b ∷ rest) → all_true y (split_clauses n (b ∷ rest)) ≡ true → all_true z (split_clauses n (b ∷ rest)) ≡ true → m ≡ n + fresh_count (length (b ∷ rest)) → Agree m y z
+split_alone n m y z b rest same below first second m_is u lt =
+    let own = split_has n y y b rest (λ x _. refl) below first in
+    let other = split_has n z z b rest (λ x _. refl) below second in
+    ⊎_elim
+    (λ old. same u old)
+    (λ fresh. ⊎_elim
+    (λ before. ors_alone n y z n rest same below.1 own.0 other.0 u fresh before)
+    (λ after_. ands_alone n y z (n + (length rest - 1)) (b ∷ rest) same below own.1 other.1 u after_ (omega arith))
+    (cases_lt u (n + (length rest - 1))))
+    (cases_lt u n)
+
+-- A CORE STEP keeps the facts
+pub core_keeps : (formula : Cnf) (softs : List Soft) (splits : List (List Literal)) (s : State) (b : Literal) (rest : List Literal) (hints : List ℕ) →
+    KeepsFacts formula softs splits s → IsClause (2 ^ 62 - 1) (b ∷ rest) → lacks_variable s (b ∷ rest) ≡ false → lacks_soft s.softs (b ∷ rest) ≡ false → hint_error s (b ∷ rest) hints ≡ None →
+    KeepsFacts formula softs (splits ++ split_clauses (s.variables + 1) (b ∷ rest)) (after_core s (b ∷ rest))
+core_keeps formula softs splits s b rest hints h clause exists known follows = record {
+  facts = record {
+    extends = λ v good. let (z, same, split, lives, costs) = h.facts.extends v good in extends v z same split lives costs;
+    alone = λ y z same first second.
+        let own = and_parts (all_true y splits) (all_true y (split_clauses (s.variables + 1) (b ∷ rest))) (sym (all_true-append y splits (split_clauses (s.variables + 1) (b ∷ rest))) ∙ first) in
+        let other = and_parts (all_true z splits) (all_true z (split_clauses (s.variables + 1) (b ∷ rest))) (sym (all_true-append z splits (split_clauses (s.variables + 1) (b ∷ rest))) ∙ second) in
+        split_alone (s.variables + 1) (s.variables + fresh_count (length (b ∷ rest)) + 1) y z b rest (h.facts.alone y z same own.0 other.0) below own.1 other.1 (omega arith);
+    differ = apart (s.variables + 1) (unwrap_or (lightest (b ∷ rest) s.softs) 0) ((s.variables + 1) + (length (b ∷ rest) - 2)) (lowered (b ∷ rest) (unwrap_or (lightest (b ∷ rest) s.softs) 0) s.softs) (b ∷ rest) (omega arith) (lowered-below (s.variables + 1) (unwrap_or (lightest (b ∷ rest) s.softs) 0) (b ∷ rest) s.softs softs_below) (lowered-different (unwrap_or (lightest (b ∷ rest) s.softs) 0) (b ∷ rest) s.softs h.facts.differ);
+    among = All-append (λ (soft : Soft). (1 ≤ soft.0.variable) × (soft.0.variable ≤ s.variables + fresh_count (length (b ∷ rest)))) (lowered (b ∷ rest) (unwrap_or (lightest (b ∷ rest) s.softs) 0) s.softs) (split_softs (unwrap_or (lightest (b ∷ rest) s.softs) 0) (s.variables + 1) (b ∷ rest))
+        (lowered-all (λ (soft : Soft). (1 ≤ soft.0.variable) × (soft.0.variable ≤ s.variables + fresh_count (length (b ∷ rest)))) (unwrap_or (lightest (b ∷ rest) s.softs) 0) (b ∷ rest) s.softs (λ soft p lt. p)
+        (All-weaker (λ (soft : Soft). (1 ≤ soft.0.variable) × (soft.0.variable ≤ s.variables)) (λ (soft : Soft). (1 ≤ soft.0.variable) × (soft.0.variable ≤ s.variables + fresh_count (length (b ∷ rest)))) (λ soft p. (p.0, omega (arith, p.1))) s.softs h.facts.among))
+        (late-all (λ (soft : Soft). (1 ≤ soft.0.variable) × (soft.0.variable ≤ s.variables + fresh_count (length (b ∷ rest)))) (unwrap_or (lightest (b ∷ rest) s.softs) 0) ((s.variables + 1) + (length (b ∷ rest) - 2)) (b ∷ rest) (λ x ge lt. (omega arith, omega arith)));
+    weighty = All-append (λ (soft : Soft). 1 ≤ soft.1) (lowered (b ∷ rest) (unwrap_or (lightest (b ∷ rest) s.softs) 0) s.softs) (split_softs (unwrap_or (lightest (b ∷ rest) s.softs) 0) (s.variables + 1) (b ∷ rest))
+        (lowered-all (λ (soft : Soft). 1 ≤ soft.1) (unwrap_or (lightest (b ∷ rest) s.softs) 0) (b ∷ rest) s.softs (λ soft p lt. omega (arith, lt)) h.facts.weighty)
+        (late-all (λ (soft : Soft). 1 ≤ soft.1) (unwrap_or (lightest (b ∷ rest) s.softs) 0) ((s.variables + 1) + (length (b ∷ rest) - 2)) (b ∷ rest) (λ x ge lt. light));
+    given_live = λ place lt. clause_at-more s.clauses (kept origins.Core (b ∷ rest) ∷ map (kept origins.Split) (split_clauses (s.variables + 1) (b ∷ rest))) (place + 1) (get_or formula.clauses place []) (h.facts.given_live place lt);
+    splits_live = All-append (IsLive (s.clauses ++ (kept origins.Core (b ∷ rest) ∷ map (kept origins.Split) (split_clauses (s.variables + 1) (b ∷ rest))))) splits (split_clauses (s.variables + 1) (b ∷ rest)) (splits_live-more s.clauses (kept origins.Core (b ∷ rest) ∷ map (kept origins.Split) (split_clauses (s.variables + 1) (b ∷ rest))) splits h.facts.splits_live) new_live;
+  };
+  wide = omega (arith, h.wide);
+  splits_below = ClausesBelow-append (s.variables + fresh_count (length (b ∷ rest)) + 1) splits (split_clauses (s.variables + 1) (b ∷ rest)) (ClausesBelow-more (s.variables + 1) (s.variables + fresh_count (length (b ∷ rest)) + 1) splits (omega arith) h.splits_below) new_below;
+  live_below = let P : List (List Literal) → Type 0 = λ cs. ClausesBelow (s.variables + fresh_count (length (b ∷ rest)) + 1) cs in
+      subst P (sym lives_is) (ClausesBelow-append (s.variables + fresh_count (length (b ∷ rest)) + 1) (live s.clauses) ((b ∷ rest) ∷ (split_clauses (s.variables + 1) (b ∷ rest))) (ClausesBelow-more (s.variables + 1) (s.variables + fresh_count (length (b ∷ rest)) + 1) (live s.clauses) (omega arith) h.live_below) (ClauseBelow-more (s.variables + 1) (s.variables + fresh_count (length (b ∷ rest)) + 1) (b ∷ rest) (omega arith) below, new_below));
+}
+  where
+    below : ClauseBelow (s.variables + 1) (b ∷ rest)
+    below = exist_below s (b ∷ rest) exists
+
+    softs_below : SoftsBelow (s.variables + 1) s.softs
+    softs_below = among-below s.variables s.softs h.facts.among
+
+    new_below : ClausesBelow (s.variables + fresh_count (length (b ∷ rest)) + 1) (split_clauses (s.variables + 1) (b ∷ rest))
+    new_below = split_clauses-below (s.variables + 1) (s.variables + fresh_count (length (b ∷ rest)) + 1) b rest below (omega arith)
+
+    lives_is : live (s.clauses ++ (kept origins.Core (b ∷ rest) ∷ map (kept origins.Split) (split_clauses (s.variables + 1) (b ∷ rest)))) ≡ live s.clauses ++ (b ∷ rest) ∷ (split_clauses (s.variables + 1) (b ∷ rest))
+    lives_is = live-append s.clauses (kept origins.Core (b ∷ rest) ∷ map (kept origins.Split) (split_clauses (s.variables + 1) (b ∷ rest))) ∙ ap (λ cs. live s.clauses ++ (b ∷ rest) ∷ cs) (live-kept origins.Split (split_clauses (s.variables + 1) (b ∷ rest)))
+
+    new_live : All (IsLive (s.clauses ++ (kept origins.Core (b ∷ rest) ∷ map (kept origins.Split) (split_clauses (s.variables + 1) (b ∷ rest))))) (split_clauses (s.variables + 1) (b ∷ rest))
+    new_live = let P : List Kept → Type 0 = λ cs. All (IsLive cs) (split_clauses (s.variables + 1) (b ∷ rest)) in
+        subst P (append_assoc s.clauses (kept origins.Core (b ∷ rest) ∷ []) (map (kept origins.Split) (split_clauses (s.variables + 1) (b ∷ rest)))) (added_live (s.clauses ++ kept origins.Core (b ∷ rest) ∷ []) origins.Split (split_clauses (s.variables + 1) (b ∷ rest)))
+
+    light : 1 ≤ (unwrap_or (lightest (b ∷ rest) s.softs) 0)
+    light = lightest_weighty (b ∷ rest) s.softs b h.facts.weighty (first_there b rest) (soft_there (is_soft s.softs (negate b)) (lacks_soft s.softs rest) known)
+      where
+        first_there : (b : Literal) (rest : List Literal) → has_literal b (b ∷ rest) ≡ true
+        first_there b rest = grind (arith, nat_tests)
+
+        soft_there : (x y : Bool) → (not x || y) ≡ false → x ≡ true
+        soft_there true y e = refl
+        soft_there false y e = absurd (cc)
+
+    extends : (v z : Assignment) → Agree (formula.variables + 1) v z → all_true z splits ≡ true → all_true z (live s.clauses) ≡ true → cost v (present softs) ≡ s.bound + cost z s.softs →
+        (y : Assignment) × Agree (formula.variables + 1) v y × (all_true y (splits ++ (split_clauses (s.variables + 1) (b ∷ rest))) ≡ true) × (all_true y (live (s.clauses ++ (kept origins.Core (b ∷ rest) ∷ map (kept origins.Split) (split_clauses (s.variables + 1) (b ∷ rest))))) ≡ true) × (cost v (present softs) ≡ s.bound + (unwrap_or (lightest (b ∷ rest) s.softs) 0) + cost y (lowered (b ∷ rest) (unwrap_or (lightest (b ∷ rest) s.softs) 0) s.softs ++ split_softs (unwrap_or (lightest (b ∷ rest) s.softs) 0) (s.variables + 1) (b ∷ rest)))
+    extends v z same split lives costs =
+        let e = (s.variables + 1) + (length rest - 1) in
+        let y : Assignment = extended z (s.variables + 1) e rest (b ∷ rest) in
+        let agree : Agree (s.variables + 1) z y = extended-old z (s.variables + 1) e rest (b ∷ rest) in
+        let means = extension_means (s.variables + 1) z b rest in
+        let news : all_true y (split_clauses (s.variables + 1) (b ∷ rest)) ≡ true = split_holds (s.variables + 1) z y b rest agree below means.0 means.1 in
+        let true_ : any_true z (b ∷ rest) ≡ true = follows_true s z (b ∷ rest) hints follows lives in
+        let core_true : any_true y (b ∷ rest) ≡ true = sym (any_true-agree (s.variables + 1) z y (b ∷ rest) agree below) ∙ true_ in (
+          y,
+          λ u lt. same u lt ∙ agree u (omega (arith, h.wide, lt)),
+          all_true-append y splits (split_clauses (s.variables + 1) (b ∷ rest)) ∙ and_both (all_true y splits) (all_true y (split_clauses (s.variables + 1) (b ∷ rest))) (sym (all_true-agree (s.variables + 1) z y splits agree h.splits_below) ∙ split) news,
+          ap (all_true y) lives_is ∙ (all_true-append y (live s.clauses) ((b ∷ rest) ∷ (split_clauses (s.variables + 1) (b ∷ rest))) ∙ and_both (all_true y (live s.clauses)) (any_true y (b ∷ rest) && all_true y (split_clauses (s.variables + 1) (b ∷ rest))) (sym (all_true-agree (s.variables + 1) z y (live s.clauses) agree h.live_below) ∙ lives) (and_both (any_true y (b ∷ rest)) (all_true y (split_clauses (s.variables + 1) (b ∷ rest))) core_true news)),
+          costs ∙ split_cost (s.variables + 1) z y b rest s.softs s.bound (unwrap_or (lightest (b ∷ rest) s.softs) 0) agree softs_below clause known h.facts.differ refl true_ means.1,
+        )
+
+-- AN ALLOWED STEP keeps the facts
+no_more : (formula : Cnf) (softs : List Soft) (splits : List (List Literal)) (s : State) → KeepsFacts formula softs splits s → KeepsFacts formula softs (splits ++ []) s
+no_more formula softs splits s h = let P : List (List Literal) → Type 0 = λ cs. KeepsFacts formula softs cs s in subst P (sym (append-nil splits)) h
+
+core_step : (formula : Cnf) (softs : List Soft) (splits : List (List Literal)) (s : State) (lits : List Literal) (hints : List ℕ) →
+    KeepsFacts formula softs splits s → AreFormedLits lits → lacks_variable s lits ≡ false → lacks_soft s.softs lits ≡ false → hint_error s lits hints ≡ None →
+    KeepsFacts formula softs (splits ++ split_clauses (s.variables + 1) lits) (after_core s lits)
+core_step formula softs splits s [] hints h formed exists known follows = absurd (omega (arith, formed.1))
+core_step formula softs splits s (b ∷ rest) hints h formed exists known follows = core_keeps formula softs splits s b rest hints h formed.0 exists known follows
+
+step_keeps : (good : Judge) (formula : Cnf) (softs : List Soft) (splits : List (List Literal)) (s : State) (step : CertStep) →
+    KeepsFacts formula softs splits s → IsFormed step → error_of good s step ≡ None → KeepsFacts formula softs (splits ++ step_splits s step) (after s step)
+step_keeps good formula softs splits s (Learn lits hints) h formed none =
+    let awake = no_error s.refused Memory (error_if s.ended AfterEnd (learn_error s lits hints)) none in
+    let going = no_error s.ended AfterEnd (learn_error s lits hints) awake.1 in
+    let exists = no_error (lacks_variable s lits) BadVariable (error_if (is_spent s) WrongCount (error_if (holds_clause s.clauses lits) NotNew (hint_error s lits hints))) going.1 in
+    let left = no_error (is_spent s) WrongCount (error_if (holds_clause s.clauses lits) NotNew (hint_error s lits hints)) exists.1 in
+    let new = no_error (holds_clause s.clauses lits) NotNew (hint_error s lits hints) left.1 in
+    no_more formula softs splits (after_learn s lits) (learn_keeps formula softs splits s lits hints h exists.0 new.1)
+step_keeps good formula softs splits s (Core lits hints) h formed none =
+    let awake = no_error s.refused Memory (error_if s.ended AfterEnd (core_error s lits hints)) none in
+    let going = no_error s.ended AfterEnd (core_error s lits hints) awake.1 in
+    let exists = no_error (lacks_variable s lits) BadVariable (error_if (is_spent s) WrongCount (error_if (ltb 0 (length s.sets)) CoreAfterSet (error_if (lacks_soft s.softs lits) NotSofts (hint_error s lits hints)))) going.1 in
+    let left = no_error (is_spent s) WrongCount (error_if (ltb 0 (length s.sets)) CoreAfterSet (error_if (lacks_soft s.softs lits) NotSofts (hint_error s lits hints))) exists.1 in
+    let early = no_error (ltb 0 (length s.sets)) CoreAfterSet (error_if (lacks_soft s.softs lits) NotSofts (hint_error s lits hints)) left.1 in
+    let known = no_error (lacks_soft s.softs lits) NotSofts (hint_error s lits hints) early.1 in
+    core_step formula softs splits s lits hints h formed.0 exists.0 known.0 known.1
+step_keeps good formula softs splits s (EndNoRepair hints) h formed none = no_more formula softs splits (record s { ended = true }) (end_keeps formula softs splits s h)
+step_keeps good formula softs splits s EndSpent h formed none = no_more formula softs splits (record s { ended = true }) (end_keeps formula softs splits s h)
+
+-- so do any allowed steps
+allowed : (o : Option StepError) (next : Option State) (t : State) → next_if o next ≡ Some t → (o ≡ None) × (next ≡ Some t)
+allowed None next t is = (refl, is)
+allowed (Some e) next t is = absurd (cc)
+
+steps_keep : (good : Judge) (formula : Cnf) (softs : List Soft) (splits : List (List Literal)) (s : State) (steps : List CertStep) (t : State) →
+    KeepsFacts formula softs splits s → All IsFormed steps → after_all good s steps ≡ Some t → KeepsFacts formula softs (splits ++ splits_of s steps) t
+steps_keep good formula softs splits s [] t h formed is =
+    let e : s ≡ t = cc in
+    let P : State → Type 0 = λ u. KeepsFacts formula softs (splits ++ []) u in
+    subst P e (no_more formula softs splits s h)
+steps_keep good formula softs splits s (step ∷ steps) t h formed is =
+    let next = allowed (error_of good s step) (after_all good (after s step) steps) t is in
+    let P : List (List Literal) → Type 0 = λ cs. KeepsFacts formula softs cs t in
+    subst P (append_assoc splits (step_splits s step) (splits_of (after s step) steps))
+    (steps_keep good formula softs (splits ++ step_splits s step) (after s step) steps t
+    (step_keeps good formula softs splits s step h (All-head IsFormed step steps formed) next.0) (All-tail IsFormed step steps formed) next.1)
+
+-- THE FIRST STATE has them
+clause_below : (n : ℕ) (c : List Literal) → IsClause n c → ClauseBelow (n + 1) c
+clause_below n [] clause = tt
+clause_below n (l ∷ ls) clause = (let le = clause.within 0 (omega arith) in omega (arith, le), clause_below n ls (IsClause-rest n l ls clause))
+
+clauses_below : (n : ℕ) (cs : List (List Literal)) → All (IsClause n) cs → ClausesBelow (n + 1) cs
+clauses_below n [] all = tt
+clauses_below n (c ∷ cs) all = (clause_below n c (All-head (IsClause n) c cs all), clauses_below n cs (All-tail (IsClause n) c cs all))
+
+pub present_weighty : (softs : List Soft) → All (λ (soft : Soft). 1 ≤ soft.1) (present softs)
+present_weighty [] = All-nil (λ (soft : Soft). 1 ≤ soft.1)
+present_weighty (s ∷ ss) = cases (ltb 0 s.1) refl (present_weighty ss)
+  where
+    heavy : (x : ℕ) → ltb 0 x ≡ true → 1 ≤ x
+    heavy x e = grind (arith, nat_tests)
+
+    cases : (t : Bool) → ltb 0 s.1 ≡ t → All (λ (soft : Soft). 1 ≤ soft.1) (present ss) → All (λ (soft : Soft). 1 ≤ soft.1) (cond t (s ∷ present ss) (present ss))
+    cases true e rest = All-cons (λ (soft : Soft). 1 ≤ soft.1) s (present ss) (heavy s.1 e) rest
+    cases false e rest = rest
+
+given_at : (cs : List (List Literal)) (place : ℕ) → place < length cs → clause_at (map (kept origins.Given) cs) (place + 1) ≡ Some (get_or cs place [])
+given_at [] place lt = absurd (omega arith)
+given_at (c ∷ cs) zero lt = refl
+given_at (c ∷ cs) (suc place) lt =
+    let e : suc place + 1 ≡ suc (place + 1) = omega arith in
+    let f : suc place ≡ place + 1 = omega arith in
+    rw e (rw (← f) (step cs place (given_at cs place (omega arith))))
+  where
+    step : (cs : List (List Literal)) (place : ℕ) → clause_at (map (kept origins.Given) cs) (place + 1) ≡ Some (get_or cs place []) → option_map (λ (x : Kept). x.lits) (slice_get (map (kept origins.Given) cs) place) ≡ Some (get_or cs place [])
+    step cs place h = let f : place + 1 ≡ suc place = omega arith in let P : ℕ → Type 0 = λ k. clause_at (map (kept origins.Given) cs) k ≡ Some (get_or cs place []) in subst P f h
+
+first_keeps : (formula : Cnf) (softs : List Soft) (conflicts sets : ℕ) → IsStart formula softs → KeepsFacts formula softs [] (first_state formula softs conflicts sets)
+first_keeps formula softs conflicts sets start = record {
+  facts = record {
+    extends = λ v good. (v, λ u lt. refl, refl, ap (all_true v) (live-kept origins.Given formula.clauses) ∙ good, from_zero (cost v (present softs)));
+    alone = λ y z same first second. same;
+    differ = start.softs_differ;
+    among = start.softs_among;
+    weighty = present_weighty softs;
+    given_live = λ place lt. given_at formula.clauses place lt;
+    splits_live = All-nil (IsLive (map (kept origins.Given) formula.clauses));
+  };
+  wide = omega arith;
+  splits_below = tt;
+  live_below = let P : List (List Literal) → Type 0 = λ cs. ClausesBelow (formula.variables + 1) cs in subst P (sym (live-kept origins.Given formula.clauses)) (clauses_below formula.variables formula.clauses start.clauses);
+}
+  where
+    from_zero : (k : ℕ) → k ≡ 0 + k
+    from_zero k = omega arith
+
+-- the law
+pub facts_hold : (good : Judge) (formula : Cnf) (softs : List Soft) (conflicts sets : ℕ) → IsStart formula softs → (steps : List CertStep) → All IsFormed steps → (s : State) →
+    after_all good (first_state formula softs conflicts sets) steps ≡ Some s → Holds formula softs (splits_of (first_state formula softs conflicts sets) steps) s
+facts_hold good formula softs conflicts sets start steps formed s is =
+    (steps_keep good formula softs [] (first_state formula softs conflicts sets) steps s (first_keeps formula softs conflicts sets start) formed is).facts

@@ -1,0 +1,66 @@
+-- What holds of every state that allowed steps lead to.
+
+use Rattle.std.specs.Prelude.{◌≡◌, ◌≢◌, ℕ, ◌+◌, ◌<◌, ◌≤◌, Bool, true, Option, Some, List, [], ◌∷◌, ◌++◌, map, length, get_or, All}
+use Rattle.ba_lits.specs.Literals.{Literal, IsClause}
+use Rattle.ba_lits.specs.Satisfaction.{Assignment, all_true, Soft, cost, Agree}
+use Rattle.ba_lits.specs.Formulas.{Cnf}
+use Rattle.ba_steps.specs.Splits.{split_clauses}
+use Rattle.ba_steps.specs.States.{Kept, State, clause_at, present}
+use Rattle.ba_steps.specs.Judging.{after}
+use Rattle.ba_steps.specs.declared.step.CertStep.{CertStep}
+use Rattle.ba_steps.specs.declared.step.CertStep.TheVariants.{Learn, Core, EndNoRepair, EndSpent}
+
+-- the literals of the clauses
+abbrev pub live : List Kept → List (List Literal)
+live clauses = map (λ (k : Kept). k.lits) clauses
+
+-- no soft literal of the list has this variable
+abbrev pub Differs : ℕ → List Soft → Type 0
+Differs x [] = Unit {0}
+Differs x (s ∷ ss) = (s.0.variable ≢ x) × Differs x ss
+
+-- the soft literals are of different variables
+abbrev pub AreDifferent : List Soft → Type 0
+AreDifferent [] = Unit {0}
+AreDifferent (s ∷ ss) = Differs s.0.variable ss × AreDifferent ss
+
+-- the soft literals are of variables up to a number
+abbrev pub AreAmong : ℕ → List Soft → Type 0
+AreAmong variables softs = All (λ (s : Soft). (1 ≤ s.0.variable) × (s.0.variable ≤ variables)) softs
+
+-- what a derivation starts from: clauses and soft literals over the variables of the formula
+pub record IsStart (formula : Cnf) (softs : List Soft) : Type 0 where
+  pub clauses : All (IsClause formula.variables) formula.clauses
+  pub softs_among : AreAmong formula.variables (present softs)
+  pub softs_differ : AreDifferent (present softs)
+
+-- the clauses that a step adds to say what its fresh variables mean
+abbrev pub step_splits : State → CertStep → List (List Literal)
+step_splits s (Learn lits hints) = []
+step_splits s (Core lits hints) = split_clauses (s.variables + 1) lits
+step_splits s (EndNoRepair hints) = []
+step_splits s EndSpent = []
+
+-- those of all steps
+abbrev pub splits_of : State → List CertStep → List (List Literal)
+splits_of s [] = []
+splits_of s (step ∷ steps) = step_splits s step ++ splits_of (after s step) steps
+
+-- the clause is live
+abbrev pub IsLive : List Kept → List Literal → Type 0
+IsLive clauses c = (number : ℕ) × (clause_at clauses number ≡ Some c)
+
+-- The facts, where `Agree (n + 1)` says that two assignments give the variables up to n the same values:
+-- (1) each assignment that satisfies the formula has exactly one extension to the fresh variables that satisfies the
+-- clauses of all splits, and it satisfies every live clause; (2) its cost is the bound plus the weights of the present
+-- soft literals that are false under the extension; (3) the present soft literals are of different variables that
+-- exist, with weights of at least 1, and all clauses of the formula and of the splits are live
+pub record Holds (formula : Cnf) (softs : List Soft) (splits : List (List Literal)) (s : State) : Type 0 where
+  pub extends : (v : Assignment) → all_true v formula.clauses ≡ true →
+      (z : Assignment) × Agree (formula.variables + 1) v z × (all_true z splits ≡ true) × (all_true z (live s.clauses) ≡ true) × (cost v (present softs) ≡ s.bound + cost z s.softs)
+  pub alone : (y z : Assignment) → Agree (formula.variables + 1) y z → all_true y splits ≡ true → all_true z splits ≡ true → Agree (s.variables + 1) y z
+  pub differ : AreDifferent s.softs
+  pub among : AreAmong s.variables s.softs
+  pub weighty : All (λ (soft : Soft). 1 ≤ soft.1) s.softs
+  pub given_live : (place : ℕ) → place < length formula.clauses → clause_at s.clauses (place + 1) ≡ Some (get_or formula.clauses place [])
+  pub splits_live : All (IsLive s.clauses) splits
