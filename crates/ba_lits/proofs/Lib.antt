@@ -1,2 +1,3 @@
 pub mod Satisfied
 pub mod HintLaws
+pub mod ClauseLaws

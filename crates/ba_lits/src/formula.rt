@@ -1,6 +1,6 @@
 //! Formulas in conjunctive normal form.
 
-ghost use Rattle.std.specs.Prelude.{◌≡◌, ◌+◌, ◌-◌, ◌<◌, ◌≤◌, [], ◌∷◌, ◌++◌, length, slice_index_or, OnOk, OnErr, IfOk};
+ghost use Rattle.std.specs.Prelude.{◌≡◌, ◌+◌, ◌-◌, ◌^◌, ◌<◌, ◌≤◌, [], ◌∷◌, ◌++◌, length, slice_index_or, OnOk, OnErr, IfOk, All};
 ghost use Rattle.ba_lits.specs.Literals.{IsClause};
 
 use crate::literal::Lit;
@@ -18,14 +18,15 @@ pub struct Formula {
 }
 
 impl Model for Formula {
-    ghost use Rattle.std.specs.Prelude.{◌^◌, ◌<◌};
+    ghost use Rattle.std.specs.Prelude.{◌^◌, ◌<◌, All};
+    ghost use Rattle.ba_lits.specs.Literals.{IsClause};
     ghost use Rattle.ba_lits.specs.Formulas.{Cnf};
 
     ghost Value = { Cnf };
 
     ghost view = { λ formula. record { variables = formula.variables; clauses = formula.clauses } };
 
-    ghost invariant = { λ formula. formula.variables < 2 ^ 62 };
+    ghost invariant = { λ formula. (formula.variables < 2 ^ 62) × All (IsClause formula.variables) formula.clauses };
 }
 
 impl Formula {
@@ -80,9 +81,11 @@ impl Formula {
         })
     }
 
-    /// How many variables there are.
+    /// How many variables there are, fewer than 2^62. All clauses are over them.
     pub fn variables(&self) -> u64
-        ensures { result ≡ self.now.variables }
+        ensures variables { result ≡ self.now.variables }
+        ensures below { result < 2 ^ 62 }
+        ensures clauses { All (IsClause self.now.variables) self.now.clauses }
     {
         self.variables
     }
@@ -98,7 +101,8 @@ impl Formula {
     pub fn clause(&self, number: u64) -> &[Lit]
         requires counted { 1 ≤ number }
         requires within { number ≤ length self.now.clauses }
-        ensures { result.now ≡ slice_index_or self.now.clauses (number - 1) [] }
+        ensures clause { result.now ≡ slice_index_or self.now.clauses (number - 1) [] }
+        ensures formed { IsClause self.now.variables result.now }
     {
         self.clauses.as_slice()[number as usize - 1].as_slice()
     }

@@ -195,7 +195,7 @@ split_clauses-below n m b rest below le =
     (and_clauses-below m n (n + (length rest - 1)) (b ∷ rest) wide (omega arith) (omega arith))
 
 -- lowered soft literals are some of the soft literals
-lowered-below : (n w : ℕ) (core : List Literal) (softs : List Soft) → SoftsBelow n softs → SoftsBelow n (lowered core w softs)
+pub lowered-below : (n w : ℕ) (core : List Literal) (softs : List Soft) → SoftsBelow n softs → SoftsBelow n (lowered core w softs)
 lowered-below n w core [] below = tt
 lowered-below n w core (s ∷ ss) below = cases (has_literal (negate s.0) core) (ltb w s.1) (lowered-below n w core ss below.1)
   where
@@ -213,7 +213,7 @@ lowered-differs x w core (s ∷ ss) h = cases (has_literal (negate s.0) core) (l
     cases true false rest = rest
     cases false t rest = (h.0, rest)
 
-lowered-different : (w : ℕ) (core : List Literal) (softs : List Soft) → AreDifferent softs → AreDifferent (lowered core w softs)
+pub lowered-different : (w : ℕ) (core : List Literal) (softs : List Soft) → AreDifferent softs → AreDifferent (lowered core w softs)
 lowered-different w core [] h = tt
 lowered-different w core (s ∷ ss) h = cases (has_literal (negate s.0) core) (ltb w s.1) (lowered-differs s.0.variable w core ss h.0) (lowered-different w core ss h.1)
   where
@@ -222,7 +222,7 @@ lowered-different w core (s ∷ ss) h = cases (has_literal (negate s.0) core) (l
     cases true false first rest = rest
     cases false t first rest = (first, rest)
 
-lowered-all : (P : Soft → Type 0) (w : ℕ) (core : List Literal) (softs : List Soft) → ((s : Soft) → P s → w < s.1 → P (s.0, s.1 - w)) → All P softs → All P (lowered core w softs)
+pub lowered-all : (P : Soft → Type 0) (w : ℕ) (core : List Literal) (softs : List Soft) → ((s : Soft) → P s → w < s.1 → P (s.0, s.1 - w)) → All P softs → All P (lowered core w softs)
 lowered-all P w core [] less all = All-nil P
 lowered-all P w core (s ∷ ss) less all = cases (has_literal (negate s.0) core) (ltb w s.1) refl (lowered-all P w core ss less (All-tail P s ss all))
   where
@@ -245,7 +245,7 @@ late-different w e [] = tt
 late-different w e (b ∷ []) = tt
 late-different w e (b ∷ c ∷ rest) = (late-from e w (e + 1) (c ∷ rest) (omega arith), late-different w (e + 1) (c ∷ rest))
 
-late-all : (P : Soft → Type 0) (w e : ℕ) (lits : List Literal) → ((x : ℕ) → e ≤ x → x < e + (length lits - 1) → P (negative x, w)) → All P (late_softs w e lits)
+pub late-all : (P : Soft → Type 0) (w e : ℕ) (lits : List Literal) → ((x : ℕ) → e ≤ x → x < e + (length lits - 1) → P (negative x, w)) → All P (late_softs w e lits)
 late-all P w e [] each = All-nil P
 late-all P w e (b ∷ []) each = All-nil P
 late-all P w e (b ∷ c ∷ rest) each =
@@ -255,12 +255,12 @@ Differs-append : (x : ℕ) (xs ys : List Soft) → Differs x xs → Differs x ys
 Differs-append x [] ys first second = second
 Differs-append x (s ∷ ss) ys first second = (first.0, Differs-append x ss ys first.1 second)
 
-apart : (n w e : ℕ) (xs : List Soft) (lits : List Literal) → n ≤ e → SoftsBelow n xs → AreDifferent xs → AreDifferent (xs ++ late_softs w e lits)
+pub apart : (n w e : ℕ) (xs : List Soft) (lits : List Literal) → n ≤ e → SoftsBelow n xs → AreDifferent xs → AreDifferent (xs ++ late_softs w e lits)
 apart n w e [] lits le below differ = late-different w e lits
 apart n w e (s ∷ ss) lits le below differ =
     (Differs-append s.0.variable ss (late_softs w e lits) differ.0 (late-from s.0.variable w e lits (omega (arith, below.0, le))), apart n w e ss lits le below.1 differ.1)
 
-among-below : (variables : ℕ) (softs : List Soft) → AreAmong variables softs → SoftsBelow (variables + 1) softs
+pub among-below : (variables : ℕ) (softs : List Soft) → AreAmong variables softs → SoftsBelow (variables + 1) softs
 among-below variables [] all = tt
 among-below variables (s ∷ ss) all =
     let P : Soft → Type 0 = λ soft. (1 ≤ soft.0.variable) × (soft.0.variable ≤ variables) in
@@ -310,7 +310,7 @@ lightest_there core (s ∷ ss) b known is none = cases (has_literal (negate s.0)
         (λ later. next later (sym (light_step core s ss false m) ∙ none))
         (or_cases (eqb (index_of s.0) (index_of (negate b))) (is_soft ss (negate b)) is)
 
-lightest_weighty : (core : List Literal) (softs : List Soft) (b : Literal) → All (λ (soft : Soft). 1 ≤ soft.1) softs → has_literal b core ≡ true → is_soft softs (negate b) ≡ true → 1 ≤ unwrap_or (lightest core softs) 0
+pub lightest_weighty : (core : List Literal) (softs : List Soft) (b : Literal) → All (λ (soft : Soft). 1 ≤ soft.1) softs → has_literal b core ≡ true → is_soft softs (negate b) ≡ true → 1 ≤ unwrap_or (lightest core softs) 0
 lightest_weighty core softs b weighty known is = cases (lightest core softs) refl
   where
     cases : (o : Option ℕ) → lightest core softs ≡ o → 1 ≤ unwrap_or o 0

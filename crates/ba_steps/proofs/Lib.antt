@@ -7,3 +7,5 @@ pub mod SinkLaws
 pub mod SplitMeaning
 pub mod LoweredLaws
 pub mod FactLaws
+pub mod FormedLaws
+pub mod StateLaws

@@ -1,6 +1,6 @@
 -- What holds of every state that allowed steps lead to.
 
-use Rattle.std.specs.Prelude.{◌≡◌, ◌≢◌, ℕ, ◌+◌, ◌<◌, ◌≤◌, Bool, true, Option, Some, List, [], ◌∷◌, ◌++◌, map, length, get_or, All}
+use Rattle.std.specs.Prelude.{◌≡◌, ◌≢◌, ℕ, ◌+◌, ◌^◌, ◌<◌, ◌≤◌, Bool, true, false, Option, Some, List, [], ◌∷◌, ◌++◌, map, length, get_or, All}
 use Rattle.ba_lits.specs.Literals.{Literal, IsClause}
 use Rattle.ba_lits.specs.Satisfaction.{Assignment, all_true, Soft, cost, Agree}
 use Rattle.ba_lits.specs.Formulas.{Cnf}
@@ -27,6 +27,22 @@ AreDifferent (s ∷ ss) = Differs s.0.variable ss × AreDifferent ss
 -- the soft literals are of variables up to a number
 abbrev pub AreAmong : ℕ → List Soft → Type 0
 AreAmong variables softs = All (λ (s : Soft). (1 ≤ s.0.variable) × (s.0.variable ≤ variables)) softs
+
+-- positive literals of different variables up to a number; entries of weight 0 stand for none
+pub record AreSelectors (variables : ℕ) (softs : List Soft) : Type 0 where
+  pub positive : All (λ (s : Soft). s.0.negated ≡ false) (present softs)
+  pub among : AreAmong variables (present softs)
+  pub differ : AreDifferent (present softs)
+
+-- what holds of every state of a checker; where memory refuses, nothing is said of its clauses
+pub record IsState (variables : ℕ) (clauses : List Kept) (softs : List Soft) (conflicts budget learnt : ℕ) (refused : Bool) : Type 0 where
+  pub few : variables < 2 ^ 62
+  pub formed : refused ≡ false → All (λ (k : Kept). IsClause variables k.lits) clauses
+  pub among : AreAmong variables softs
+  pub differ : AreDifferent softs
+  pub weighty : All (λ (s : Soft). 1 ≤ s.1) softs
+  pub within : conflicts ≤ budget
+  pub learnt_within : learnt ≤ conflicts
 
 -- what a derivation starts from: clauses and soft literals over the variables of the formula
 pub record IsStart (formula : Cnf) (softs : List Soft) : Type 0 where

@@ -21,7 +21,8 @@ pub record State : Type 0 where
   pub variables : ℕ
   -- the clauses in the order of their numbers, which begin at 1
   pub clauses : List Kept
-  -- the present soft literals with their weights
+  -- the soft literals as they were given, by written number, and the present ones with their weights
+  pub groups : List Soft
   pub softs : List Soft
   -- the lower bound of every cost that the cores have shown
   pub bound : ℕ
@@ -79,6 +80,7 @@ abbrev pub first_state : Cnf → List Soft → ℕ → ℕ → State
 first_state formula softs conflicts sets = record {
   variables = formula.variables;
   clauses = map (kept Given) formula.clauses;
+  groups = softs;
   softs = present softs;
   bound = 0;
   sets = [];

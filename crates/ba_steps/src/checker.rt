@@ -1,14 +1,15 @@
 //! The checker of derivations.
 
-ghost use Rattle.std.specs.Prelude.{◌≡◌, ◌+◌, ◌<◌, ◌++◌, ◌==◌, ◌^◌, [], ◌∷◌, map, not, true, ltb, IfOk, OnOk, length, option_copied};
+ghost use Rattle.std.specs.Prelude.{◌≡◌, ◌+◌, ◌<◌, ◌++◌, ◌==◌, ◌^◌, [], ◌∷◌, map, not, true, ltb, ◌≤◌, false, All, IfSome, IfOk, OnOk, length, option_copied};
 ghost use Rattle.std.specs.List.{list_any};
-ghost use Rattle.ba_lits.specs.Literals.{Literal, negate};
+ghost use Rattle.ba_lits.specs.Literals.{Literal, negate, IsClause};
 ghost use Rattle.ba_lits.specs.Hints.{has_literal};
 ghost use Rattle.ba_lits.specs.Satisfaction.{Soft};
 ghost use Rattle.ba_steps.specs.Splits.{is_soft};
-ghost use Rattle.ba_steps.specs.States.{State, first_state, present, clause_at, is_learnt_at, kept};
+ghost use Rattle.ba_steps.specs.States.{first_state, present, clause_at, is_learnt_at, kept};
+ghost use Rattle.ba_steps.specs.Facts.{AreSelectors, AreAmong, AreDifferent, IsState};
 ghost use Rattle.ba_steps.specs.Steps.{IsFormed, AreFormedLits};
-ghost use Rattle.ba_steps.specs.Judging.{Answers, Finds, Does, is_memory, lacks_soft, learn_error, core_error, no_repair_error, spent_error, after_learn, after_core};
+ghost use Rattle.ba_steps.specs.Judging.{Answers, Finds, Does, is_memory, lacks_variable, lacks_soft, error_before_end, after, learn_error, core_error, no_repair_error, spent_error, after_learn, after_core};
 ghost use Rattle.ba_steps.specs.declared.store.Origin.TheVariants as origins;
 
 use crate::clauses::Clauses;
@@ -29,6 +30,7 @@ pub struct Checker {
     alloc: Global,
     variables: u64,
     clauses: Clauses,
+    groups: Vec<(Lit, u32)>,
     softs: Vec<(Lit, u32)>,
     bound: u64,
     sets: Vec<Items<u32>>,
@@ -42,14 +44,15 @@ pub struct Checker {
 }
 
 impl Model for Checker {
-    ghost use Rattle.std.specs.Prelude.{◌<◌, ◌≤◌, ◌^◌};
     ghost use Rattle.ba_steps.specs.States.{State};
+    ghost use Rattle.ba_steps.specs.Facts.{IsState};
 
     ghost Value = { State };
 
     ghost view = { λ c. record {
       variables = c.variables;
       clauses = c.clauses;
+      groups = c.groups.items;
       softs = c.softs.items;
       bound = c.bound;
       sets = c.sets.items;
@@ -61,7 +64,7 @@ impl Model for Checker {
       refused = c.refused;
     } };
 
-    ghost invariant = { λ c. (c.variables < 2 ^ 62) × (c.learnt ≤ c.conflicts) × (c.conflicts ≤ c.budget) };
+    ghost invariant = { λ c. IsState c.variables c.clauses c.softs.items c.conflicts c.budget c.learnt c.refused };
 }
 
 impl Checker {
@@ -76,18 +79,17 @@ impl Checker {
         conflicts: u64,
         sets: u32,
     ) -> Result<Checker, AllocError>
+        requires selectors { AreSelectors formula.now.variables softs.now }
         ensures { IfOk result (λ checker. checker ≡ first_state formula.now softs.now conflicts sets) }
     {
         let variables = formula.variables();
-        if variables >= 1 << 62 {
-            return Err(AllocError);
-        }
         let mut falses = LiteralSet::new(alloc);
         falses.grow(2 * variables as usize + 2)?;
         Ok(Checker {
             alloc,
             variables,
             clauses: given_clauses(alloc, formula, variables)?,
+            groups: Vec::from_slice(alloc, softs)?,
             softs: present_softs(alloc, softs)?,
             bound: 0,
             sets: Vec::new(alloc),
@@ -109,26 +111,23 @@ impl Checker {
         requires formed { IsFormed step.now }
         ensures exactly { Answers (J.accepts judge.now) self.old step.now self.new result }
     {
-        let _ = judge;
         if self.refused {
             return Err(StepError::Memory);
         }
         if self.ended {
             return Err(StepError::AfterEnd);
         }
-        let result = match step {
-            CertStep::Learn { lits, hints } => self.learn(lits.as_slice(), hints.as_slice()),
-            CertStep::Core { lits, hints } => self.core(lits.as_slice(), hints.as_slice()),
-            CertStep::EndNoRepair { hints } => self.end_no_repair(hints.as_slice()),
-            CertStep::EndSpent => self.end_spent(),
-        };
+        let result = self.attempt(step, judge);
         self.refused = is_memory(&result);
         result
     }
 
-    /// The present soft literals with their weights, all at least 1.
+    /// The present soft literals, of different variables, with their weights, all at least 1.
     pub fn softs(&self) -> &[(Lit, u32)]
-        ensures { result.now ≡ self.now.softs }
+        ensures softs { result.now ≡ self.now.softs }
+        ensures among { AreAmong self.now.variables result.now }
+        ensures differ { AreDifferent result.now }
+        ensures weighty { All (λ (s : Soft). 1 ≤ s.1) result.now }
     {
         self.softs.as_slice()
     }
@@ -142,14 +141,16 @@ impl Checker {
 
     /// How many Learn and Core steps were allowed so far.
     pub fn conflicts(&self) -> u64
-        ensures { result ≡ self.now.conflicts }
+        ensures conflicts { result ≡ self.now.conflicts }
+        ensures within { result ≤ self.now.budget }
     {
         self.conflicts
     }
 
     /// How many variables there are, those that cores brought among them.
     pub fn variables(&self) -> u64
-        ensures { result ≡ self.now.variables }
+        ensures variables { result ≡ self.now.variables }
+        ensures below { result < 2 ^ 62 }
     {
         self.variables
     }
@@ -177,14 +178,16 @@ impl Checker {
 
     /// How many Learn steps were allowed since the last deletion or the start.
     pub fn learnt(&self) -> u64
-        ensures { result ≡ self.now.learnt }
+        ensures learnt { result ≡ self.now.learnt }
+        ensures within { result ≤ self.now.conflicts }
     {
         self.learnt
     }
 
     /// The live clause of a number; None exactly where there is none.
     pub fn clause(&self, number: u64) -> Option<&[Lit]>
-        ensures { option_copied result ≡ clause_at self.now.clauses number }
+        ensures clause { option_copied result ≡ clause_at self.now.clauses number }
+        ensures formed { self.now.refused ≡ false → IfSome result (λ lits. IsClause self.now.variables lits.now) }
     {
         self.clauses.clause(number)
     }
@@ -196,8 +199,31 @@ impl Checker {
         self.clauses.is_learnt(number)
     }
 
+    /// What holds of every checker. It does nothing.
+    pub fn keeps_facts(&self)
+        ensures { IsState self.now.variables self.now.clauses self.now.softs self.now.conflicts self.now.budget self.now.learnt self.now.refused }
+    {
+        let _ = &self.ended;
+    }
+
+    /// Takes a step before the end.
+    fn attempt<J: RunJudge>(&mut self, step: &CertStep, judge: &J) -> Result<(), StepError>
+        requires formed { IsFormed step.now }
+        requires awake { self.old.refused ≡ false }
+        ensures { Does self.old self.new (error_before_end (J.accepts judge.now) self.old step.now) (after self.old step.now) result }
+    {
+        let _ = judge;
+        match step {
+            CertStep::Learn { lits, hints } => self.learn(lits.as_slice(), hints.as_slice()),
+            CertStep::Core { lits, hints } => self.core(lits.as_slice(), hints.as_slice()),
+            CertStep::EndNoRepair { hints } => self.end_no_repair(hints.as_slice()),
+            CertStep::EndSpent => self.end_spent(),
+        }
+    }
+
     /// Takes a Learn step.
     fn learn(&mut self, lits: &[Lit], hints: &[u64]) -> Result<(), StepError>
+        requires { AreFormedLits lits.now }
         ensures { Does self.old self.new (learn_error self.old lits.now hints.now) (after_learn self.old lits.now) result }
     {
         self.learn_error(lits, hints)?;
@@ -211,6 +237,7 @@ impl Checker {
     fn learn_error(&mut self, lits: &[Lit], hints: &[u64]) -> Result<(), StepError>
         ensures stays { self.new ≡ self.old }
         ensures left { OnOk result (self.new.conflicts < self.new.budget) }
+        ensures exists { OnOk result (lacks_variable self.old lits.now ≡ false) }
         ensures finds { Finds result (learn_error self.old lits.now hints.now) }
     {
         if lacks_variable(self.variables, lits) {
@@ -228,7 +255,8 @@ impl Checker {
 
     /// Takes a Core step.
     fn core(&mut self, lits: &[Lit], hints: &[u64]) -> Result<(), StepError>
-        requires { AreFormedLits lits.now }
+        requires formed { AreFormedLits lits.now }
+        requires awake { self.old.refused ≡ false }
         ensures { Does self.old self.new (core_error self.old lits.now hints.now) (after_core self.old lits.now) result }
     {
         self.core_error(lits, hints)?;
@@ -240,6 +268,8 @@ impl Checker {
     fn core_error(&mut self, lits: &[Lit], hints: &[u64]) -> Result<(), StepError>
         ensures stays { self.new ≡ self.old }
         ensures left { OnOk result (self.new.conflicts < self.new.budget) }
+        ensures exists { OnOk result (lacks_variable self.old lits.now ≡ false) }
+        ensures known { OnOk result (lacks_soft self.old.softs lits.now ≡ false) }
         ensures finds { Finds result (core_error self.old lits.now hints.now) }
     {
         if lacks_variable(self.variables, lits) {
@@ -262,8 +292,12 @@ impl Checker {
     fn split(&mut self, lits: &[Lit]) -> Result<(), AllocError>
         requires formed { AreFormedLits lits.now }
         requires left { self.old.conflicts < self.old.budget }
+        requires exists { lacks_variable self.old lits.now ≡ false }
+        requires known { lacks_soft self.old.softs lits.now ≡ false }
+        requires awake { self.old.refused ≡ false }
         ensures { OnOk result (self.new ≡ after_core self.old lits.now) }
     {
+        self.refused = true;
         let count = lits.len() as u64;
         let room = (1 << 62) - 1 - self.variables;
         if count > room / 4 {
@@ -284,6 +318,7 @@ impl Checker {
         self.bound = bound;
         self.variables = variables;
         self.conflicts += 1;
+        self.refused = false;
         Ok(())
     }
 

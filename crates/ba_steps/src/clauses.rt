@@ -1,6 +1,6 @@
 //! The clauses of a derivation by number.
 
-ghost use Rattle.std.specs.Prelude.{◌≡◌, ℕ, Bool, ◌<◌, ◌++◌, ◌∷◌, [], true, OnOk, length, option_copied};
+ghost use Rattle.std.specs.Prelude.{◌≡◌, ℕ, Bool, ◌<◌, ◌++◌, ◌∷◌, [], true, OnOk, OnErr, length, option_copied};
 ghost use Rattle.ba_steps.specs.States.{kept, clause_at, is_learnt_at};
 ghost use Rattle.ba_steps.specs.Parts.{holds_clause, is_part};
 ghost use Rattle.ba_steps.specs.Listed.{is_key, any_listed, under_any};
@@ -59,7 +59,8 @@ impl Clauses {
 
     /// Adds a clause, whose number is one more than the last.
     pub fn add(&mut self, lits: &[Lit], origin: Origin) -> Result<(), AllocError>
-        ensures { OnOk result (self.new ≡ self.old ++ kept origin lits.now ∷ []) }
+        ensures ok { OnOk result (self.new ≡ self.old ++ kept origin lits.now ∷ []) }
+        ensures err { OnErr result (self.new ≡ self.old) }
     {
         self.index.push(rarest(&self.index, lits))?;
         if self.store.add(lits, origin).is_err() {
