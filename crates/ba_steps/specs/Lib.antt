@@ -11,3 +11,4 @@ pub mod Sinks
 pub mod Lists
 pub mod Puts
 pub mod Facts
+pub mod Numbers

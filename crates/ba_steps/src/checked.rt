@@ -1,10 +1,10 @@
 //! A checker whose allowed steps go to a sink.
 
-ghost use Rattle.std.specs.Prelude.{◌≡◌, ◌≤◌, ◌⊎◌, None, Some, OnOk, OnErr, IfErr};
+ghost use Rattle.std.specs.Prelude.{◌≡◌, ◌≤◌, ◌⊎◌, true, false, None, Some, OnOk, OnErr, IfErr};
 ghost use Rattle.ba_steps.specs.Steps.{IsFormed};
 ghost use Rattle.ba_steps.specs.Judging.{error_of, after};
 ghost use Rattle.ba_steps.specs.Sinks.{with_step, MayAddStep, Rose};
-ghost use Rattle.ba_steps.specs.Puts.{refusal_of};
+ghost use Rattle.ba_steps.specs.Puts.{refusal_of, IsTakenOrAsleep};
 ghost use Rattle.ba_steps.specs.declared.sink.SinkError.{SinkError};
 
 use crate::checker::Checker;
@@ -64,14 +64,18 @@ impl<S: StepSink, J: RunJudge> Checked<S, J> {
     /// Puts a step that is allowed through the checker, and hands it to the sink.
     ///
     /// `Failed` comes only where the sink's faults rose in this call, or answered an earlier one; the checker has then
-    /// taken the step, and some of the sink's logs may hold it. After a refusal nothing changes any more, and the
-    /// answer stays the same.
+    /// taken the step, and some of the sink's logs may hold it. After want of memory the checker has taken the step or
+    /// answers `Memory` from then on. After a refusal nothing changes any more, and the answer stays the same.
     pub fn put(&mut self, step: &CertStep) -> Result<(), SinkError>
         requires formed { IsFormed step.now }
-        requires allowed { self.old.refusal ≡ None → error_of (J.accepts self.old.judge) self.old.checker step.now ≡ None }
+        requires allowed { self.old.refusal ≡ None → self.old.checker.refused ≡ false
+            → error_of (J.accepts self.old.judge) self.old.checker step.now ≡ None }
         ensures judge_stays { self.new.judge ≡ self.old.judge }
         ensures fresh { OnOk result (self.old.refusal ≡ None) }
         ensures taken { OnOk result (self.new.checker ≡ after self.old.checker step.now) }
+        ensures awake { OnOk result (self.new.checker.refused ≡ false) }
+        ensures taken_too { self.old.refusal ≡ None → result ≡ Err SinkError.Failed → self.new.checker ≡ after self.old.checker step.now }
+        ensures taken_or_asleep { self.old.refusal ≡ None → OnErr result (IsTakenOrAsleep self.old.checker step.now self.new.checker) }
         ensures told { OnOk result (S.logs self.new.sink ≡ with_step step.now (S.logs self.old.sink)) }
         ensures still_fresh { OnOk result (self.new.refusal ≡ None) }
         ensures refused { OnErr result (MayAddStep step.now (S.logs self.old.sink) (S.logs self.new.sink)) }
@@ -94,10 +98,13 @@ impl<S: StepSink, J: RunJudge> Checked<S, J> {
     /// Puts a step through the checker and hands it to the sink.
     fn hand_on(&mut self, step: &CertStep) -> Result<(), SinkError>
         requires formed { IsFormed step.now }
-        requires allowed { error_of (J.accepts self.old.judge) self.old.checker step.now ≡ None }
+        requires allowed { self.old.checker.refused ≡ false → error_of (J.accepts self.old.judge) self.old.checker step.now ≡ None }
         ensures judge_stays { self.new.judge ≡ self.old.judge }
         ensures refusal_stays { self.new.refusal ≡ self.old.refusal }
         ensures taken { OnOk result (self.new.checker ≡ after self.old.checker step.now) }
+        ensures awake { OnOk result (self.new.checker.refused ≡ false) }
+        ensures taken_too { result ≡ Err SinkError.Failed → self.new.checker ≡ after self.old.checker step.now }
+        ensures taken_or_asleep { OnErr result (IsTakenOrAsleep self.old.checker step.now self.new.checker) }
         ensures told { OnOk result (S.logs self.new.sink ≡ with_step step.now (S.logs self.old.sink)) }
         ensures refused { OnErr result (MayAddStep step.now (S.logs self.old.sink) (S.logs self.new.sink)) }
         ensures over_stays { S.over self.new.sink ≡ S.over self.old.sink }
@@ -105,11 +112,22 @@ impl<S: StepSink, J: RunJudge> Checked<S, J> {
         ensures no_fall { S.faults self.old.sink ≤ S.faults self.new.sink }
         ensures same_references { S.references self.new.sink ≡ S.references self.old.sink }
     {
-        if self.checker.step(step, &self.judge).is_err() {
+        if !advance(&mut self.checker, step, &self.judge) {
             return Err(SinkError::Memory);
         }
         self.sink.take(step)
     }
+}
+
+/// Puts a step that is allowed through the checker. False where there was no memory.
+fn advance<J: RunJudge>(checker: &mut Checker, step: &CertStep, judge: &J) -> bool
+    requires formed { IsFormed step.now }
+    requires allowed { checker.old.refused ≡ false → error_of (J.accepts judge.now) checker.old step.now ≡ None }
+    ensures taken { result ≡ true → checker.new ≡ after checker.old step.now }
+    ensures awake { result ≡ true → checker.new.refused ≡ false }
+    ensures asleep { result ≡ false → checker.new.refused ≡ true }
+{
+    checker.step(step, judge).is_ok()
 }
 
 /// The refusal that an answer is.

@@ -205,7 +205,17 @@ impl<'a, A: StepSink, D: StepSink> StepSink for Both<'a, A, D> {
 
     ghost references = { λ s. s.second.ghost_name ∷ (A.references s.first ++ D.references s.second.now) };
 
-    fn begin(&mut self, formula: &Formula, softs: &[(Lit, u32)]) -> Result<(), SinkError> {
+    fn begin(&mut self, formula: &Formula, softs: &[(Lit, u32)]) -> Result<(), SinkError>
+        ensures first { OnOk result (A.over self.new.first ≡ with_told (basis formula.now softs.now) (A.over self.old.first)) }
+        ensures second { OnOk result (D.over self.new.second.now ≡ with_told (basis formula.now softs.now) (D.over self.old.second.now)) }
+        ensures refused { OnErr result (MayAdd (basis formula.now softs.now) (D.over self.old.second.now) (D.over self.new.second.now)) }
+        ensures logs_stay { A.logs self.new.first ++ D.logs self.new.second.now ≡ A.logs self.old.first ++ D.logs self.old.second.now }
+        ensures cause { result ≡ Err SinkError.Failed
+            → Rose (A.faults self.old.first + D.faults self.old.second.now) (A.faults self.new.first + D.faults self.new.second.now) }
+        ensures no_fall { A.faults self.old.first + D.faults self.old.second.now ≤ A.faults self.new.first + D.faults self.new.second.now }
+        ensures same_references { self.new.second.ghost_name ∷ (A.references self.new.first ++ D.references self.new.second.now)
+            ≡ self.old.second.ghost_name ∷ (A.references self.old.first ++ D.references self.old.second.now) }
+    {
         self.first.begin(formula, softs)?;
         self.second.begin(formula, softs)
     }

@@ -1,6 +1,7 @@
 //! The steps of a derivation, and why a step isn't allowed.
 
 ghost use Rattle.std.specs.Prelude.{◌≡◌, IfOk};
+ghost use Rattle.ba_steps.specs.Numbers.{number_of};
 
 use ba_items::Items;
 use ba_lits::Lit;
@@ -92,6 +93,31 @@ pub enum StepError {
     /// There was no memory.
     #[error("out of memory")]
     Memory,
+}
+
+impl StepError {
+    /// The number of the error, from 1 to 14. Want of memory has none.
+    pub fn number(self) -> Option<u8>
+        ensures { result ≡ number_of self }
+    {
+        match self {
+            StepError::HintMissing => Some(1),
+            StepError::HintNotUnit => Some(2),
+            StepError::NotClosed => Some(3),
+            StepError::NotSofts => Some(4),
+            StepError::DeadClause => Some(5),
+            StepError::RunNotGood => Some(6),
+            StepError::SetTwice => Some(7),
+            StepError::WrongWeight => Some(8),
+            StepError::AfterEnd => Some(9),
+            StepError::NotNew => Some(10),
+            StepError::TooSoon => Some(11),
+            StepError::CoreAfterSet => Some(12),
+            StepError::WrongCount => Some(13),
+            StepError::BadVariable => Some(14),
+            StepError::Memory => None,
+        }
+    }
 }
 
 impl From<AllocError> for StepError {
