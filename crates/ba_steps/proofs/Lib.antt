@@ -9,3 +9,4 @@ pub mod LoweredLaws
 pub mod FactLaws
 pub mod FormedLaws
 pub mod StateLaws
+pub mod TestLaws

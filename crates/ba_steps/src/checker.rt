@@ -9,7 +9,7 @@ ghost use Rattle.ba_steps.specs.Splits.{is_soft};
 ghost use Rattle.ba_steps.specs.States.{first_state, present, clause_at, is_learnt_at, kept};
 ghost use Rattle.ba_steps.specs.Facts.{AreSelectors, AreAmong, AreDifferent, IsState};
 ghost use Rattle.ba_steps.specs.Steps.{IsFormed, AreFormedLits};
-ghost use Rattle.ba_steps.specs.Judging.{Answers, Finds, Does, is_memory, lacks_variable, lacks_soft, error_before_end, after, learn_error, core_error, no_repair_error, spent_error, after_learn, after_core};
+ghost use Rattle.ba_steps.specs.Judging.{Answers, Finds, Does, is_memory, is_spent, lacks_variable, lacks_soft, error_before_end, after, learn_error, core_error, no_repair_error, spent_error, after_learn, after_core};
 ghost use Rattle.ba_steps.specs.declared.store.Origin.TheVariants as origins;
 
 use crate::clauses::Clauses;
@@ -206,6 +206,13 @@ impl Checker {
         let _ = &self.ended;
     }
 
+    /// Whether the conflicts are spent.
+    fn is_spent(&self) -> bool
+        ensures { result ≡ is_spent self.now }
+    {
+        self.conflicts == self.budget
+    }
+
     /// Takes a step before the end.
     fn attempt<J: RunJudge>(&mut self, step: &CertStep, judge: &J) -> Result<(), StepError>
         requires formed { IsFormed step.now }
@@ -243,7 +250,7 @@ impl Checker {
         if lacks_variable(self.variables, lits) {
             return Err(StepError::BadVariable);
         }
-        if self.conflicts == self.budget {
+        if self.is_spent() {
             return Err(StepError::WrongCount);
         }
         refill(&mut self.falses, lits)?;
@@ -275,7 +282,7 @@ impl Checker {
         if lacks_variable(self.variables, lits) {
             return Err(StepError::BadVariable);
         }
-        if self.conflicts == self.budget {
+        if self.is_spent() {
             return Err(StepError::WrongCount);
         }
         if !self.sets.is_empty() {
@@ -329,7 +336,7 @@ impl Checker {
         if !self.sets.is_empty() {
             return Err(StepError::WrongCount);
         }
-        if self.conflicts == self.budget {
+        if self.is_spent() {
             return Err(StepError::WrongCount);
         }
         self.falses.clear();
@@ -342,7 +349,7 @@ impl Checker {
     fn end_spent(&mut self) -> Result<(), StepError>
         ensures { Does self.old self.new (spent_error self.old) (record self.old { ended = true }) result }
     {
-        if self.conflicts != self.budget {
+        if !self.is_spent() {
             return Err(StepError::WrongCount);
         }
         self.ended = true;

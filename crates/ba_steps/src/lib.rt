@@ -19,6 +19,8 @@ mod sink;
 mod split;
 mod step;
 mod store;
+#[cfg(test)]
+mod tests;
 
 pub use checked::Checked;
 pub use checker::Checker;
