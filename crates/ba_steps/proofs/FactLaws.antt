@@ -1,20 +1,20 @@
 -- The facts hold of every state that allowed steps lead to.
 
-use Rattle.std.proofs.Common.{◌≡◌, ◌≢◌, ℕ, suc, zero, ◌+◌, ◌*◌, ◌-◌, ◌^◌, ◌<◌, ◌≤◌, Bool, true, false, not, ◌&&◌, ◌||◌, cond, ltb, eqb, min, unwrap_or, Option, None, Some, option_map, List, [], ◌∷◌, ◌++◌, map, length, get_or, drop, All, refl, sym, ap, ◌∙◌, arith, subst, inl, inr, ⊎_elim, ◌⊎◌}
+use Rattle.std.proofs.Common.{◌≡◌, ℕ, suc, zero, ◌+◌, ◌*◌, ◌-◌, ◌^◌, ◌<◌, ◌≤◌, Bool, true, false, not, ◌&&◌, ◌||◌, cond, ltb, eqb, min, unwrap_or, Option, None, Some, option_map, List, [], ◌∷◌, ◌++◌, map, length, get_or, All, refl, sym, ap, ◌∙◌, arith, subst, inl, inr, ⊎_elim, ◌⊎◌}
 use Rattle.std.proofs.Math.Nat.{mul-add}
 use Rattle.std.proofs.lemmas.Bool.{cases_lt}
 use Rattle.std.proofs.lemmas.Bool.Decides.{nat_tests}
 use Rattle.std.proofs.lemmas.List.{map-append, append_assoc, append-nil}
 use Rattle.std.proofs.lemmas.List.Elements.{All-nil, All-cons, All-append, All-weaker, All-head, All-tail}
-use Rattle.std.specs.List.{list_any, slice_get}
-use Rattle.ba_lits.specs.Literals.{Literal, negate, no_literal, IsClause, lit_at, index_of}
-use Rattle.ba_lits.specs.Satisfaction.{Assignment, lit_true, any_true, all_true, Soft, cost, Agree}
+use Rattle.std.specs.List.{slice_get}
+use Rattle.ba_lits.specs.Literals.{Literal, negate, IsClause, index_of}
+use Rattle.ba_lits.specs.Satisfaction.{Assignment, any_true, all_true, Soft, cost, Agree}
 use Rattle.ba_lits.specs.Formulas.{Cnf}
 use Rattle.ba_lits.specs.Hints.{Replay, Refutes, StaysOpen, NamesNone, NamesIdle, replay, has_literal}
-use Rattle.ba_lits.proofs.Satisfied.{ClauseBelow, ClausesBelow, SoftsBelow, any_true-agree, all_true-agree, cost-agree, all_true-append, cost-append, ClauseBelow-more, ClausesBelow-more, SoftsBelow-more, ClausesBelow-append, SoftsBelow-append}
+use Rattle.ba_lits.proofs.Satisfied.{ClauseBelow, ClausesBelow, SoftsBelow, any_true-agree, all_true-agree, cost-agree, all_true-append, cost-append, ClauseBelow-more, ClausesBelow-more, ClausesBelow-append}
 use Rattle.ba_lits.proofs.HintLaws.{FollowsByHints-holds, same_literal}
 use Rattle.ba_steps.specs.Splits.{positive, negative, in_order, or_gate, and_gate, some_of, or_clauses, and_clauses, split_clauses, fresh_count, split_softs, late_softs, is_soft, lesser, lightest, lowered}
-use Rattle.ba_steps.specs.States.{Kept, kept, State, kept_at, clause_at, present, first_state}
+use Rattle.ba_steps.specs.States.{Kept, kept, State, clause_at, present, first_state}
 use Rattle.ba_steps.specs.Steps.{IsFormed, AreFormedLits}
 use Rattle.ba_steps.specs.Judging.{Judge, error_if, lacks_variable, is_spent, lacks_soft, hint_error, error_of_replay, error_of, after, after_learn, after_core, after_all, next_if, learn_error, core_error}
 use Rattle.ba_steps.specs.Facts.{live, Differs, AreDifferent, AreAmong, IsStart, step_splits, splits_of, IsLive, Holds}
@@ -25,7 +25,7 @@ use Rattle.ba_steps.specs.declared.step.CertStep.TheVariants.{Learn, Core, EndNo
 use Rattle.ba_steps.specs.declared.step.StepError.{StepError}
 use Rattle.ba_steps.specs.declared.step.StepError.TheVariants.{AfterEnd, NotNew, NotSofts, CoreAfterSet, WrongCount, BadVariable, Memory}
 use Rattle.ba_steps.specs.Parts.{holds_clause}
-use Rattle.ba_steps.proofs.SplitMeaning.{OrsHave, AndsHave, split_holds, split_has, extended, extended-old, extended-ors, extended-ands, OrsHave-each, AndsHave-each, ors_alone, ands_alone, count_true, pairs, one_if, count_pairs, late_cost, and_parts, and_both}
+use Rattle.ba_steps.proofs.SplitMeaning.{OrsHave, AndsHave, split_holds, split_has, extended, extended-old, extended-ors, extended-ands, OrsHave-each, AndsHave-each, ors_alone, ands_alone, pairs, one_if, count_pairs, late_cost, and_parts, and_both}
 use Rattle.ba_steps.proofs.LoweredLaws.{negate_twice, IsClause-rest, lowered_cost, hits, hits_count, AreAtLeast, lightest_at_least}
 
 -- everything that the induction needs: the facts, and that all variables are below the next fresh one

@@ -1,14 +1,13 @@
 -- The clauses of a split are clauses, and what holds of a state where steps are taken.
 
-use Rattle.std.proofs.Common.{◌≡◌, ◌≢◌, ℕ, suc, zero, ◌+◌, ◌-◌, ◌^◌, ◌<◌, ◌≤◌, Bool, true, false, cond, ltb, unwrap_or, Option, None, Some, option_map, List, [], ◌∷◌, ◌++◌, map, length, get_or, All, refl, sym, ap, ◌∙◌, arith, subst}
+use Rattle.std.proofs.Common.{◌≡◌, ◌≢◌, ℕ, suc, zero, ◌+◌, ◌-◌, ◌<◌, ◌≤◌, Bool, true, false, cond, ltb, Some, option_map, List, [], ◌∷◌, ◌++◌, map, length, All, refl, sym, arith, subst}
 use Rattle.std.proofs.lemmas.Bool.Decides.{nat_tests}
 use Rattle.std.proofs.lemmas.List.Elements.{All-nil, All-cons, All-append, All-weaker, All-map, All-head, All-tail}
 use Rattle.std.specs.List.{slice_get}
 use Rattle.ba_lits.specs.Literals.{Literal, negate, IsClause, lit_at}
-use Rattle.ba_lits.specs.Satisfaction.{Soft}
 use Rattle.ba_lits.proofs.ClauseLaws.{IsClause-more}
 use Rattle.ba_steps.specs.Splits.{positive, negative, in_order, or_gate, and_gate, some_of, or_clauses, and_clauses, split_clauses, fresh_count}
-use Rattle.ba_steps.specs.States.{Kept, kept, State, clause_at}
+use Rattle.ba_steps.specs.States.{Kept, kept, clause_at}
 use Rattle.ba_steps.specs.declared.store.Origin.{Origin}
 use Rattle.ba_steps.specs.declared.store.Origin.TheVariants as origins
 use Rattle.ba_steps.proofs.LoweredLaws.{IsClause-rest}

@@ -1,16 +1,14 @@
 -- Clauses listed under one literal each.
 
-use Rattle.std.proofs.Common.{◌≡◌, ◌≢◌, ℕ, suc, zero, ◌+◌, ◌-◌, ◌<◌, ◌≤◌, Bool, true, false, ◌&&◌, ◌||◌, List, [], ◌∷◌, ◌++◌, length, get_or, set, cond, eqb, refl, sym, ap, ◌∙◌, arith, subst, ⊎_elim, ◌⊎◌, inl, inr, Some, None, Result, Ok, Err}
+use Rattle.std.proofs.Common.{◌≡◌, ◌≢◌, ℕ, suc, zero, ◌+◌, ◌-◌, ◌<◌, ◌≤◌, Bool, true, false, ◌&&◌, ◌||◌, List, [], ◌∷◌, ◌++◌, length, get_or, set, cond, eqb, refl, sym, ap, ◌∙◌, arith, subst, ⊎_elim, ◌⊎◌, inl, inr, Result, Ok, Err}
 use Rattle.std.specs.Result.{is_err, OnOk}
-use Rattle.std.proofs.lemmas.List.{get_or-set_same, get_or-set_other, get_or_append_left, get_or_push, get_or_past, length-append, length_push, same_from_push}
-use Rattle.std.proofs.lemmas.Option.{slice_get-get_or}
+use Rattle.std.proofs.lemmas.List.{get_or-set_same, get_or-set_other, get_or_append_left, get_or_push, get_or_past, length-append, length_push}
 use Rattle.std.proofs.lemmas.Bool.{cases_eq, cases_lt}
 use Rattle.std.proofs.lemmas.Bool.Decides.{nat_tests}
-use Rattle.std.specs.List.{list_any, list_all, slice_get}
 use Rattle.ba_lits.specs.Literals.{Literal, index_of}
 use Rattle.ba_lits.specs.Hints.{has_literal}
 use Rattle.ba_steps.specs.Marks.{has_index}
-use Rattle.ba_steps.specs.States.{Kept, kept, lits_at}
+use Rattle.ba_steps.specs.States.{Kept, lits_at}
 use Rattle.ba_steps.specs.Parts.{is_part, holds_clause}
 use Rattle.ba_steps.specs.Listed.{latest, AreLinks, is_key, AreListed, any_listed, under_any}
 use Rattle.ba_steps.proofs.MarkLaws.{has_literal-is}

@@ -1,11 +1,11 @@
 -- What the soft literals of a core lose.
 
-use Rattle.std.proofs.Common.{◌≡◌, ◌≢◌, ℕ, suc, zero, ◌+◌, ◌*◌, ◌-◌, ◌<◌, ◌≤◌, Bool, true, false, not, ◌||◌, cond, ltb, eqb, min, unwrap_or, Option, None, Some, List, [], ◌∷◌, ◌++◌, map, length, get_or, All, refl, sym, ap, ◌∙◌, arith, subst, inl, inr, ⊎_elim, ◌⊎◌}
+use Rattle.std.proofs.Common.{◌≡◌, ℕ, suc, ◌+◌, ◌*◌, ◌-◌, ◌<◌, ◌≤◌, Bool, true, false, not, ◌||◌, cond, ltb, eqb, min, unwrap_or, Option, None, Some, List, [], ◌∷◌, length, refl, sym, ap, ◌∙◌, arith, subst, inl, inr, ⊎_elim, ◌⊎◌}
 use Rattle.std.proofs.Math.Nat.{mul-add}
 use Rattle.std.proofs.lemmas.Bool.Decides.{nat_tests}
 use Rattle.std.specs.List.{list_any}
 use Rattle.ba_lits.specs.Literals.{Literal, negate, index_of, IsClause, lit_at}
-use Rattle.ba_lits.specs.Satisfaction.{Assignment, lit_true, any_true, Soft, cost}
+use Rattle.ba_lits.specs.Satisfaction.{Assignment, lit_true, Soft, cost}
 use Rattle.ba_lits.specs.Hints.{has_literal}
 use Rattle.ba_lits.proofs.Satisfied.{lit_true-negate}
 use Rattle.ba_lits.proofs.HintLaws.{same_literal}

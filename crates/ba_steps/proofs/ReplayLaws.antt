@@ -1,8 +1,8 @@
 -- Unit propagation along hints, as the code does it.
 
-use Rattle.std.proofs.Common.{◌≡◌, ℕ, ◌+◌, ◌<◌, Bool, true, false, Option, None, Some, List, [], ◌∷◌, refl, sym, ap, ◌∙◌}
+use Rattle.std.proofs.Common.{Option, None, Some}
 use Rattle.ba_lits.specs.Literals.{Literal}
-use Rattle.ba_lits.specs.Hints.{Standing, IsFalse, IsUnit, IsOpen, with_literal, standing, value_where}
+use Rattle.ba_lits.specs.Hints.{Standing, IsFalse, IsUnit, IsOpen}
 
 -- a literal without a value was seen, and then the rest of the clause
 abbrev pub joined : Option Literal → Standing → Standing

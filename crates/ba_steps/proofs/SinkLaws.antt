@@ -1,8 +1,8 @@
 -- The logs of two sinks, one after the other.
 
-use Rattle.std.proofs.Common.{◌≡◌, List, [], ◌∷◌, ◌++◌, Result, Ok, Err, refl, inl, inr}
+use Rattle.std.proofs.Common.{◌≡◌, [], ◌∷◌, ◌++◌, Result, Ok, Err, refl, inl, inr}
 use Rattle.std.specs.Result.{OnErr}
-use Rattle.ba_steps.specs.Sinks.{Logs, with_step, with_told, MayAdd, MayAddStep}
+use Rattle.ba_steps.specs.Sinks.{Logs, with_step, MayAddStep}
 use Rattle.ba_steps.specs.declared.step.CertStep.{CertStep}
 
 pub MayAddStep-append : (step : CertStep) (a b c d : Logs) → MayAddStep step a b → MayAddStep step c d → MayAddStep step (a ++ c) (b ++ d)

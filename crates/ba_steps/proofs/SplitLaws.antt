@@ -1,12 +1,11 @@
 -- The split of a core, as the code makes it.
 
-use Rattle.std.proofs.Common.{◌≡◌, ℕ, suc, zero, ◌+◌, ◌-◌, ◌<◌, ◌≤◌, Bool, true, false, cond, ltb, min, Option, None, Some, List, [], ◌∷◌, ◌++◌, map, length, take, drop, get_or, refl, sym, ap, ◌∙◌, arith, subst}
-use Rattle.std.proofs.lemmas.List.{append_assoc, append-nil, drop_more, map-append, length-drop, take_rest}
-use Rattle.std.proofs.lemmas.Bool.Decides.{nat_tests}
+use Rattle.std.proofs.Common.{◌≡◌, ℕ, ◌+◌, ◌-◌, ◌<◌, ◌≤◌, Bool, true, false, cond, ltb, min, Option, None, Some, List, [], ◌∷◌, ◌++◌, map, length, drop, get_or, refl, sym, ap, ◌∙◌, arith}
+use Rattle.std.proofs.lemmas.List.{append_assoc, append-nil, drop_more, map-append, length-drop}
 use Rattle.ba_lits.specs.Literals.{Literal, negate, no_literal}
 use Rattle.ba_lits.specs.Satisfaction.{Soft}
 use Rattle.ba_lits.specs.Hints.{has_literal}
-use Rattle.ba_steps.specs.Splits.{negative, or_gate, and_gate, some_of, or_clauses, and_clauses, split_clauses, late_softs, lesser, lightest, lowered}
+use Rattle.ba_steps.specs.Splits.{negative, or_gate, and_gate, some_of, or_clauses, and_clauses, late_softs, lesser, lowered}
 use Rattle.ba_steps.specs.States.{Kept, kept, present}
 use Rattle.ba_steps.specs.declared.store.Origin.TheVariants as origins
 

@@ -1,20 +1,20 @@
 -- The state of a checker after its first state is made and after a core is split.
 
-use Rattle.std.proofs.Common.{◌≡◌, ◌≢◌, ℕ, suc, zero, ◌+◌, ◌-◌, ◌^◌, ◌<◌, ◌≤◌, Bool, true, false, not, ◌||◌, cond, ltb, unwrap_or, Option, None, Some, List, [], ◌∷◌, ◌++◌, map, length, get_or, All, refl, sym, ap, ◌∙◌, arith, subst}
+use Rattle.std.proofs.Common.{◌≡◌, ℕ, suc, zero, ◌+◌, ◌-◌, ◌^◌, ◌<◌, ◌≤◌, Bool, true, false, not, ◌||◌, ltb, unwrap_or, List, [], ◌∷◌, ◌++◌, map, length, All, refl, ap, ◌∙◌, arith}
 use Rattle.std.proofs.lemmas.Bool.Decides.{nat_tests}
 use Rattle.std.proofs.lemmas.List.Elements.{All-append, All-weaker}
 use Rattle.std.specs.List.{list_any}
-use Rattle.ba_lits.specs.Literals.{Literal, negate, IsClause, lit_at, no_literal, index_of}
+use Rattle.ba_lits.specs.Literals.{Literal, negate, IsClause, lit_at}
 use Rattle.ba_lits.specs.Satisfaction.{Soft}
 use Rattle.ba_lits.specs.Hints.{has_literal}
 use Rattle.ba_steps.specs.Splits.{split_clauses, fresh_count, late_softs, is_soft, lightest, lowered}
 use Rattle.ba_steps.specs.States.{Kept, kept, State, present}
 use Rattle.ba_steps.specs.Steps.{AreFormedLits}
 use Rattle.ba_steps.specs.Judging.{lacks_variable, lacks_soft}
-use Rattle.ba_steps.specs.Facts.{AreDifferent, AreAmong, AreSelectors, IsState}
+use Rattle.ba_steps.specs.Facts.{AreSelectors, IsState}
 use Rattle.ba_steps.specs.declared.store.Origin.TheVariants as origins
 use Rattle.ba_steps.proofs.FactLaws.{lowered-all, late-all, lowered-different, lowered-below, apart, among-below, lightest_weighty, present_weighty}
-use Rattle.ba_steps.proofs.FormedLaws.{AreFormed, exist_formed, core_formed, kept_formed}
+use Rattle.ba_steps.proofs.FormedLaws.{exist_formed, core_formed, kept_formed}
 
 none_at : (p : Literal → Bool) (xs : List Literal) (k : ℕ) → list_any p xs ≡ false → k < length xs → p (lit_at xs k) ≡ false
 none_at p [] k none lt = absurd (omega arith)

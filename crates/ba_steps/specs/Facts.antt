@@ -1,6 +1,6 @@
 -- What holds of every state that allowed steps lead to.
 
-use Rattle.std.specs.Prelude.{◌≡◌, ◌≢◌, ℕ, ◌+◌, ◌^◌, ◌<◌, ◌≤◌, Bool, true, false, Option, Some, List, [], ◌∷◌, ◌++◌, map, length, get_or, All}
+use Rattle.std.specs.Prelude.{◌≡◌, ◌≢◌, ℕ, ◌+◌, ◌^◌, ◌<◌, ◌≤◌, Bool, true, false, Some, List, [], ◌∷◌, ◌++◌, map, length, get_or, All}
 use Rattle.ba_lits.specs.Literals.{Literal, IsClause}
 use Rattle.ba_lits.specs.Satisfaction.{Assignment, all_true, Soft, cost, Agree}
 use Rattle.ba_lits.specs.Formulas.{Cnf}

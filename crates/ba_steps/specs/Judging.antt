@@ -1,15 +1,14 @@
 -- Which steps are allowed, the first error of one that isn't, and the state after a step.
 
 use Rattle.std.specs.Prelude.{◌≡◌, ℕ, ◌+◌, ◌==◌, ltb, Bool, true, false, not, Option, None, Some, unwrap_or, Result, Ok, Err, List, [], ◌∷◌, ◌++◌, map, length}
-use Rattle.std.specs.List.{list_any, list_all}
+use Rattle.std.specs.List.{list_any}
 use Rattle.ba_lits.specs.Literals.{Literal, negate}
 use Rattle.ba_lits.specs.Satisfaction.{Soft}
-use Rattle.ba_lits.specs.Formulas.{Cnf}
-use Rattle.ba_lits.specs.Hints.{has_literal, Replay, Refutes, StaysOpen, NamesNone, NamesIdle, replay}
+use Rattle.ba_lits.specs.Hints.{Replay, Refutes, StaysOpen, NamesNone, NamesIdle, replay}
 use Rattle.ba_tree.specs.declared.run.Choice.{Choice}
 use Rattle.ba_steps.specs.Splits.{split_clauses, fresh_count, split_softs, is_soft, lightest, lowered}
 use Rattle.ba_steps.specs.Parts.{holds_clause}
-use Rattle.ba_steps.specs.States.{kept, State, clause_at, first_state}
+use Rattle.ba_steps.specs.States.{kept, State, clause_at}
 use Rattle.ba_steps.specs.declared.store.Origin.TheVariants as origins
 use Rattle.ba_steps.specs.declared.step.CertStep.{CertStep}
 use Rattle.ba_steps.specs.declared.step.CertStep.TheVariants.{Learn, Core, EndNoRepair, EndSpent}

@@ -1,6 +1,6 @@
 -- Clauses that are listed under one literal each, so that the parts of a clause are found by its own literals.
 
-use Rattle.std.specs.Prelude.{◌≡◌, ℕ, ◌<◌, Bool, true, false, ◌&&◌, ◌||◌, eqb, List, [], ◌∷◌, length, slice_index, get_or, if◌then◌else◌}
+use Rattle.std.specs.Prelude.{◌≡◌, ℕ, ◌<◌, Bool, true, false, ◌&&◌, ◌||◌, eqb, List, [], ◌∷◌, length, slice_index, if◌then◌else◌}
 use Prim.Native.Nat.{suc, zero}
 use Rattle.ba_lits.specs.Literals.{Literal, index_of}
 use Rattle.ba_steps.specs.States.{Kept, lits_at}

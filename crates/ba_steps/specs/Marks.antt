@@ -1,6 +1,6 @@
 -- The table of a set of literals.
 
-use Rattle.std.specs.Prelude.{◌≡◌, ℕ, ◌<◌, Bool, false, ◌||◌, eqb, List, [], ◌∷◌, length, get_or}
+use Rattle.std.specs.Prelude.{◌≡◌, ℕ, Bool, false, ◌||◌, eqb, List, [], ◌∷◌, get_or}
 use Rattle.ba_lits.specs.Literals.{Literal, index_of}
 
 -- a literal of this index stands in the list

@@ -1,11 +1,11 @@
--- The split of a core: the fresh variables, clauses and soft literals that keep every cost.
+-- The split of a core: the fresh variables, clauses and soft literals that keep every cost (N. Narodytska, F. Bacchus,
+-- Maximum Satisfiability Using Core-Guided MaxSAT Resolution).
 --
 -- Where some literal of the core b1 to bk is true, their number is 1 plus the number of places i below k at which
 -- bi and a later literal are true. A fresh variable di says that a literal after bi is true, and a fresh variable ei
 -- says that bi and a later one are.
 
 use Rattle.std.specs.Prelude.{ℕ, ◌+◌, ◌-◌, Bool, true, false, ltb, Option, None, Some, min, map, List, [], ◌∷◌, ◌++◌, length, if◌then◌else◌}
-use Prim.Native.Nat.{suc}
 use Rattle.ba_lits.specs.Literals.{Literal, negate, no_literal}
 use Rattle.ba_lits.specs.Satisfaction.{Soft}
 use Rattle.ba_lits.specs.Hints.{has_literal}

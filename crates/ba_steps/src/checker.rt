@@ -69,7 +69,7 @@ impl Model for Checker {
 
 impl Checker {
     /// The state before the first step: the clauses of the formula, with numbers from 1 on, and the soft literals of
-    /// a weight above 0. `conflicts` is how many Learn and Core steps there may be, `sets` how many least sets.
+    /// a weight above 0, which are positive and of different variables of the formula. `conflicts` is how many Learn and Core steps there may be, `sets` how many least sets.
     ///
     /// The one error is want of memory.
     pub fn new(

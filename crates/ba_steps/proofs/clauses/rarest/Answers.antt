@@ -1,6 +1,5 @@
-use Rattle.std.proofs.Common.{◌≡◌, true, subst, sym}
 use Rattle.ba_steps.specs.Marks.{has_index}
-use Rattle.ba_steps.proofs.ListedLaws.{has_index-at, has_index-is}
+use Rattle.ba_steps.proofs.ListedLaws.{has_index-is}
 use Rattle.ba_steps.proofs.clauses.rarest.Goals as goal
 
 pub loop-lit-preserved : goal.loop-lit-preserved

@@ -1,4 +1,4 @@
-use Rattle.std.proofs.Common.{arith, length, get_or}
+use Rattle.std.proofs.Common.{arith, length}
 use Rattle.ba_steps.proofs.CutLaws.{start_of-le, end_within}
 use Rattle.ba_steps.proofs.store.part.Goals as goal
 

@@ -1,4 +1,3 @@
-use Rattle.std.proofs.Common.{arith, refl}
 use Rattle.ba_steps.proofs.StateLaws.{first_state_as}
 use Rattle.ba_steps.proofs.checker.Checker.new.Goals as goal
 

@@ -1,6 +1,4 @@
-use Rattle.std.proofs.Common.{◌≡◌, ◌+◌, ◌-◌, ◌<◌, ◌^◌, ◌++◌, ◌∷◌, [], map, length, arith, rules, refl, ap, sym, ◌∙◌, unwrap_or}
-use Rattle.ba_lits.specs.Literals.{Literal}
-use Rattle.ba_lits.specs.Satisfaction.{Soft}
+use Rattle.std.proofs.Common.{◌≡◌, ◌+◌, ◌-◌, ◌<◌, ◌^◌, ◌++◌, ◌∷◌, [], map, length, arith, rules, refl, ap, ◌∙◌, unwrap_or}
 use Rattle.ba_steps.specs.Splits.{fresh_count, lightest, lowered, late_softs, split_clauses}
 use Rattle.ba_steps.specs.States.{State, kept}
 use Rattle.ba_steps.specs.declared.store.Origin.TheVariants as origins

@@ -1,4 +1,3 @@
-use Rattle.std.proofs.Common.{refl}
 use Rattle.ba_steps.proofs.ListedLaws.{AreListed-length, first_found, rest_found}
 use Rattle.ba_steps.proofs.clauses.Clauses.holds_part.Goals as goal
 

@@ -1,4 +1,4 @@
-use Rattle.std.proofs.Common.{arith, ap, ◌∙◌, ◌++◌, ◌∷◌, []}
+use Rattle.std.proofs.Common.{arith}
 use Rattle.ba_steps.proofs.MarkLaws.{inserted}
 use Rattle.ba_steps.proofs.literal_set.LiteralSet.insert.Goals as goal
 
