@@ -10,7 +10,7 @@ ghost use Rattle.ba_steps.specs.declared.sink.SinkError.{SinkError};
 use crate::checker::Checker;
 use crate::judge::RunJudge;
 use crate::sink::{SinkError, StepSink};
-use crate::step::{CertStep, StepError};
+use crate::step::CertStep;
 use std::marker::Model;
 
 /// A checker, with a judge of runs and a sink. Each step goes through the checker and then to the sink. After a refusal
