@@ -17,3 +17,12 @@ pub mod EachLevel
 pub mod Depths
 pub mod Verdicts
 pub mod OneTree
+pub mod Levels
+pub mod Repeats
+pub mod TypeWords
+pub mod Begins
+pub mod OtherRepeats
+pub mod StatementBegins
+pub mod Calm
+pub mod Named
+pub mod ToldOutcomes

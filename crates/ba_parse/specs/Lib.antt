@@ -3,3 +3,14 @@ pub mod Marks
 pub mod Grammar
 pub mod Files
 pub mod Readings
+pub mod Sets
+pub mod Telling
+pub mod Views
+pub mod ExpressionViews
+pub mod ArgumentsFall
+pub mod DeclarationViews
+pub mod StatementViews
+pub mod ItemsFall
+pub mod Tails
+pub mod Outcomes
+pub mod Told

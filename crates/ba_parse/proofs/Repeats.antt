@@ -1,0 +1,65 @@
+-- Parts that are read as often as they begin.
+
+use Rattle.std.proofs.Common.{◌≡◌, ℕ, ◌+◌, ◌-◌, ◌<◌, Bool, true, false, List, [], ◌∷◌, ◌++◌, Err, append_assoc, refl, sym, ap, ◌∙◌, arith}
+use Rattle.std.proofs.lemmas.List.{append-nil}
+use Prim.Native.Nat.{zero, suc}
+use Rattle.ba_lex.specs.declared.token.Token.{Token}
+use Rattle.ba_parse.specs.declared.reader.Stop.{Stop}
+use Rattle.ba_parse.specs.declared.reader.Stop.TheVariants as stop
+use Rattle.ba_parse.specs.Marks.{Mark}
+use Rattle.ba_parse.specs.Readings.{Answer, done, syntax, too_deep, Reading, with_front, then_read, many_upto}
+use Rattle.ba_parse.specs.Telling.{Told}
+use Rattle.ba_parse.specs.Views.{joined}
+
+pub joined_push : (fs : List (List Mark)) (f : List Mark) → joined (fs ++ f ∷ []) ≡ joined fs ++ f
+joined_push [] f = append-nil f
+joined_push (g ∷ fs) f = ap (λ x. g ++ x) (joined_push fs f) ∙ sym (append_assoc g (joined fs) f)
+
+with_front-none : (a : Answer) → a ≡ with_front [] a
+with_front-none (done f rest) = refl
+with_front-none (syntax rest) = refl
+with_front-none (too_deep rest) = refl
+
+with_front-twice : (f g : List Mark) (a : Answer) → with_front f (with_front g a) ≡ with_front (f ++ g) a
+with_front-twice f g (done h rest) = ap (λ x. done x rest) (sym (append_assoc f g h))
+with_front-twice f g (syntax rest) = refl
+with_front-twice f g (too_deep rest) = refl
+
+many_upto-end : (n : ℕ) (begins : List Token → Bool) (r : Reading) (ts : List Token) → begins ts ≡ false → many_upto n begins r ts ≡ done [] ts
+unfolding many_upto
+many_upto-end zero begins r ts e = refl
+many_upto-end (suc n) begins r ts e = rw e refl
+
+many_upto-turn : (n : ℕ) (begins : List Token → Bool) (r : Reading) (ts : List Token) → begins ts ≡ true → 0 < n → many_upto n begins r ts ≡ then_read (r ts) (λ f. many_upto (n - 1) begins r)
+unfolding many_upto
+many_upto-turn zero begins r ts e some = absurd (omega arith)
+many_upto-turn (suc n) begins r ts e some =
+    let same : n ≡ suc n - 1 = omega arith in
+    rw e (ap (λ m. then_read (r ts) (λ f. many_upto m begins r)) same)
+
+-- The whole is what was read, and then what is read from here. So it begins,
+pub repeat-start : (n : ℕ) (begins : List Token → Bool) (r : Reading) (ts : List Token) → many_upto n begins r ts ≡ with_front [] (many_upto n begins r ts)
+repeat-start n begins r ts = with_front-none (many_upto n begins r ts)
+
+-- goes on,
+pub repeat-turn : (whole : Answer) (n less : ℕ) (begins : List Token → Bool) (r : Reading) (ts mid : List Token) (fs all : List (List Mark)) (g : List Mark) → whole ≡ with_front (joined fs) (many_upto n begins r ts) → begins ts ≡ true → n ≡ less + 1 → r ts ≡ done g mid → all ≡ fs ++ g ∷ [] → whole ≡ with_front (joined all) (many_upto less begins r mid)
+repeat-turn whole n less begins r ts mid fs all g h e one d push =
+    let same : n - 1 ≡ less = omega arith in
+    let turn : with_front (joined fs) (then_read (r ts) (λ f. many_upto (n - 1) begins r)) ≡ with_front (joined all) (many_upto less begins r mid) =
+    rw (d, same, push, joined_push fs g) (with_front-twice (joined fs) g (many_upto less begins r mid)) in
+    h ∙ ap (with_front (joined fs)) (many_upto-turn n begins r ts e (omega arith)) ∙ turn
+
+-- ends,
+pub repeat-end : (whole : Answer) (n : ℕ) (begins : List Token → Bool) (r : Reading) (ts : List Token) (f : List Mark) → whole ≡ with_front f (many_upto n begins r ts) → begins ts ≡ false → whole ≡ done f ts
+repeat-end whole n begins r ts f h e = h ∙ ap (with_front f) (many_upto-end n begins r ts e) ∙ ap (λ x. done x ts) (append-nil f)
+
+pub repeat-out : (whole : Answer) (n : ℕ) (begins : List Token → Bool) (r : Reading) (ts : List Token) (f : List Mark) → whole ≡ with_front f (many_upto n begins r ts) → n ≡ 0 → whole ≡ done f ts
+unfolding many_upto
+repeat-out whole zero begins r ts f h e = h ∙ ap (λ x. done x ts) (append-nil f)
+repeat-out whole (suc n) begins r ts f h e = absurd (omega arith)
+
+-- or stops.
+pub repeat-stop : {A B : Type 0} (part : A → List Mark) (all : B → List Mark) (s : Stop) (whole : Answer) (n : ℕ) (begins : List Token → Bool) (r : Reading) (ts rest : List Token) (f : List Mark) → whole ≡ with_front f (many_upto n begins r ts) → begins ts ≡ true → 0 < n → Told part (Err s) (r ts) rest → Told all (Err s) whole rest
+repeat-stop part all stop.Syntax whole n begins r ts rest f h e some d = h ∙ ap (with_front f) (many_upto-turn n begins r ts e some) ∙ rw d refl
+repeat-stop part all stop.TooDeep whole n begins r ts rest f h e some d = h ∙ ap (with_front f) (many_upto-turn n begins r ts e some) ∙ rw d refl
+repeat-stop part all stop.Memory whole n begins r ts rest f h e some d = tt

@@ -1,0 +1,41 @@
+-- How a function of the parser tells what a reading gives.
+
+use Rattle.std.specs.Prelude.{◌≡◌, Bool, true, false, not, ◌&&◌, if◌then◌else◌, List, [], ◌∷◌, Result, Ok, Err}
+use Rattle.std.specs.Borrow.{Bor}
+use Rattle.std.specs.List.{list_all}
+use Rattle.ba_lex.specs.declared.token.Token.{Token}
+use Rattle.ba_parse.specs.declared.reader.Stop.{Stop}
+use Rattle.ba_parse.specs.declared.reader.Stop.TheVariants as stop
+use Rattle.ba_parse.specs.Classes.{Classes, class_of, declaration_word, agree}
+use Rattle.ba_parse.specs.Marks.{Mark}
+use Rattle.ba_parse.specs.Readings.{Answer, Reading, done, syntax, too_deep, next_is, read_token}
+
+-- The result is what the reading answers, with these tokens left; it may instead be want of memory.
+abbrev pub Told : {A : Type 0} → (A → List Mark) → Result A Stop → Answer → List Token → Type 0
+Told marks (Ok v) answer after = answer ≡ done (marks v) after
+Told marks (Err stop.Syntax) answer after = answer ≡ syntax after
+Told marks (Err stop.TooDeep) answer after = answer ≡ too_deep after
+Told marks (Err stop.Memory) answer after = Unit {0}
+
+-- the next two tokens are of these classes
+abbrev pub next_are : Classes → Classes → List Token → Bool
+next_are first second [] = false
+next_are first second (t ∷ ts) = first (class_of t) && next_is second ts
+
+-- what refuses a part that has no level left: too many constructs, where the part begins with the next token
+abbrev pub refusal : Bool → Stop
+refusal true = stop.TooDeep
+refusal false = stop.Syntax
+
+-- the next token is of the first classes, and the one after it not of the second
+abbrev pub next_is_without : Classes → Classes → List Token → Bool
+next_is_without first second [] = false
+next_is_without first second (t ∷ ts) = first (class_of t) && not (next_is second ts)
+
+-- whether the next token agrees with these words; the next word of a type after these
+abbrev pub agrees_with : List (Bor Token) → List Token → Bool
+agrees_with words [] = false
+agrees_with words (t ∷ ts) = list_all (λ word. agree (class_of word.now) (class_of t)) words
+
+abbrev pub next_word : Bool → List (Bor Token) → Reading
+next_word static words ts = if agrees_with words ts then read_token (declaration_word static) ts else syntax ts

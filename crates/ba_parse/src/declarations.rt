@@ -1,0 +1,368 @@
+//! Reading declarations (C90 6.5).
+//!
+//! `levels` is how many more constructs may be around a token.
+
+ghost use Rattle.std.specs.Prelude.{◌≡◌};
+ghost use Rattle.ba_lex.specs.declared.token.Punct.TheVariants as punct;
+ghost use Rattle.ba_parse.specs.Classes.{mark, only};
+ghost use Rattle.ba_parse.specs.declared.class.TokenClass.TheVariants as class;
+ghost use Rattle.ba_parse.specs.Marks.{no_name};
+ghost use Rattle.ba_parse.specs.Readings.{◌▹◌, read_either, read_maybe, read_nothing, read_name, read_node, read_many, read_listed, read_sign, next_is, is_next_value, levels_left, shallow, in_length, in_parameters, maybe_expression, maybe_length, read_array_length, read_expression, read_braced, read_initialiser, read_declarator, read_declarators, read_declaration, read_parameter, read_parameters};
+ghost use Rattle.ba_parse.specs.Telling.{Told};
+ghost use Rattle.ba_parse.specs.Views.{optional, optional_leaf, name_marks, joined};
+ghost use Rattle.ba_parse.specs.DeclarationViews.{value_marks};
+
+use crate::expressions::{conditional, next_expression};
+use crate::reader::{Reader, Stop};
+use crate::sets::TokenSet;
+use crate::tree::declarations::{
+    ArrayLength, Braced, Declaration, Declarator, Declarators, InitialValue, Initialiser,
+    NextDeclarator, NextParameter, Parameter, ParameterList, Parameters,
+};
+use crate::tree::expressions::{Conditional, NextExpression};
+use crate::types::type_name;
+use ba_lex::token::{Punct, Token};
+use std::alloc::Global;
+
+const COMMA: TokenSet = TokenSet::Punct(Punct::Comma);
+
+const DECLARATION_WORD: TokenSet = TokenSet::DeclarationWord { with_static: false };
+
+/// An expression, where one begins.
+///
+/// # Errors
+///
+/// The reading's own, and want of memory.
+pub fn maybe_expression<'a>(
+    alloc: Global,
+    reader: &mut Reader<'a>,
+    levels: u32,
+) -> Result<Option<Conditional<'a>>, Stop>
+    ensures { Told optional result (maybe_expression (levels_left levels) reader.old) reader.new }
+{
+    if !reader.next_is(TokenSet::OperandStart) {
+        return Ok(None);
+    }
+    let expression = conditional(alloc, reader, levels)?;
+    Ok(Some(expression))
+}
+
+fn maybe_length<'a>(
+    alloc: Global,
+    reader: &mut Reader<'a>,
+    levels: u32,
+) -> Result<Option<ArrayLength<'a>>, Stop>
+    ensures { Told optional result (maybe_length (levels_left levels) reader.old) reader.new }
+{
+    if !reader.next_is(TokenSet::Punct(Punct::OpenBracket)) {
+        return Ok(None);
+    }
+    let open = reader.take(TokenSet::Punct(Punct::OpenBracket))?;
+    let length = inner_length(alloc, reader, levels)?;
+    let close = reader.take(TokenSet::Punct(Punct::CloseBracket))?;
+    Ok(Some(ArrayLength {
+        open,
+        length,
+        close,
+    }))
+}
+
+/// What stands between the brackets of an array, if anything.
+fn inner_length<'a>(
+    alloc: Global,
+    reader: &mut Reader<'a>,
+    levels: u32,
+) -> Result<Option<Conditional<'a>>, Stop>
+    ensures { Told optional result (levels_left levels in_length reader.old) reader.new }
+{
+    if levels == 0 {
+        return no_length(reader);
+    }
+    maybe_expression(alloc, reader, levels - 1)
+}
+
+/// The length where no level is left: none, or refused.
+fn no_length<'a>(reader: &Reader<'a>) -> Result<Option<Conditional<'a>>, Stop>
+    ensures { Told optional result (shallow in_length reader.now) reader.now }
+{
+    if reader.next_is(TokenSet::OperandStart) {
+        return Err(Stop::TooDeep);
+    }
+    Ok(None)
+}
+
+fn braced<'a>(alloc: Global, reader: &mut Reader<'a>, levels: u32) -> Result<Braced<'a>, Stop>
+    ensures { Told (λ b. b) result (read_braced (levels_left levels) reader.old) reader.new }
+{
+    let open = reader.take(TokenSet::Punct(Punct::OpenBrace))?;
+    let first = conditional(alloc, reader, levels)?;
+    let rest = next_values(alloc, reader, levels)?;
+    let comma = maybe_comma(reader)?;
+    let close = reader.take(TokenSet::Punct(Punct::CloseBrace))?;
+    Ok(Braced {
+        open,
+        first,
+        rest,
+        comma,
+        close,
+    })
+}
+
+fn maybe_comma<'a>(reader: &mut Reader<'a>) -> Result<Option<&'a Token>, Stop>
+    ensures { Told optional_leaf result (read_maybe (mark punct.Comma) (read_sign punct.Comma) reader.old) reader.new }
+{
+    if !reader.next_is(COMMA) {
+        return Ok(None);
+    }
+    let comma = reader.take(COMMA)?;
+    Ok(Some(comma))
+}
+
+/// Expressions, each after a comma; a comma before the closing brace is the last.
+fn next_values<'a>(
+    alloc: Global,
+    reader: &mut Reader<'a>,
+    levels: u32,
+) -> Result<Vec<NextExpression<'a>>, Stop>
+    ensures { Told (λ v. joined v.items) result (read_many is_next_value (read_sign punct.Comma ▹ read_expression (levels_left levels)) reader.old) reader.new }
+{
+    let mut rest = Vec::new(alloc);
+    let most = reader.rest().len();
+    for _read in 0..most {
+        if !reader.next_is_without(COMMA, TokenSet::Punct(Punct::CloseBrace)) {
+            return Ok(rest);
+        }
+        rest.push(next_expression(alloc, reader, levels)?)?;
+    }
+    Ok(rest)
+}
+
+fn maybe_initialiser<'a>(
+    alloc: Global,
+    reader: &mut Reader<'a>,
+    levels: u32,
+) -> Result<Option<Initialiser<'a>>, Stop>
+    ensures { Told optional result (read_maybe (mark punct.Assign) (read_initialiser (levels_left levels)) reader.old) reader.new }
+{
+    if !reader.next_is(TokenSet::Punct(Punct::Assign)) {
+        return Ok(None);
+    }
+    let assign = reader.take(TokenSet::Punct(Punct::Assign))?;
+    let value = initial_value(alloc, reader, levels)?;
+    Ok(Some(Initialiser { assign, value }))
+}
+
+fn initial_value<'a>(
+    alloc: Global,
+    reader: &mut Reader<'a>,
+    levels: u32,
+) -> Result<InitialValue<'a>, Stop>
+    ensures { Told value_marks result (read_either (next_is (mark punct.OpenBrace)) (read_braced (levels_left levels)) (read_expression (levels_left levels)) reader.old) reader.new }
+{
+    if reader.next_is(TokenSet::Punct(Punct::OpenBrace)) {
+        let values = braced(alloc, reader, levels)?;
+        Ok(InitialValue::Braced(values))
+    } else {
+        let value = conditional(alloc, reader, levels)?;
+        Ok(InitialValue::Expression(value))
+    }
+}
+
+fn declarator<'a>(
+    alloc: Global,
+    reader: &mut Reader<'a>,
+    levels: u32,
+) -> Result<Declarator<'a>, Stop>
+    ensures { Told (λ d. d) result (read_declarator (levels_left levels) reader.old) reader.new }
+{
+    let name = reader.take(TokenSet::Name)?;
+    let length = maybe_length(alloc, reader, levels)?;
+    let initialiser = maybe_initialiser(alloc, reader, levels)?;
+    Ok(Declarator {
+        name,
+        length,
+        initialiser,
+    })
+}
+
+fn next_declarator<'a>(
+    alloc: Global,
+    reader: &mut Reader<'a>,
+    levels: u32,
+) -> Result<NextDeclarator<'a>, Stop>
+    ensures { Told (λ n. n) result ((read_sign punct.Comma ▹ read_declarator (levels_left levels)) reader.old) reader.new }
+{
+    let comma = reader.take(COMMA)?;
+    let next = declarator(alloc, reader, levels)?;
+    Ok(NextDeclarator {
+        comma,
+        declarator: next,
+    })
+}
+
+fn next_declarators<'a>(
+    alloc: Global,
+    reader: &mut Reader<'a>,
+    levels: u32,
+) -> Result<Vec<NextDeclarator<'a>>, Stop>
+    ensures { Told (λ v. joined v.items) result (read_many (next_is (mark punct.Comma)) (read_sign punct.Comma ▹ read_declarator (levels_left levels)) reader.old) reader.new }
+{
+    let mut rest = Vec::new(alloc);
+    let most = reader.rest().len();
+    for _read in 0..most {
+        if !reader.next_is(COMMA) {
+            return Ok(rest);
+        }
+        rest.push(next_declarator(alloc, reader, levels)?)?;
+    }
+    Ok(rest)
+}
+
+/// Declarators with commas between.
+///
+/// # Errors
+///
+/// The reading's own, and want of memory.
+pub fn declarators<'a>(
+    alloc: Global,
+    reader: &mut Reader<'a>,
+    levels: u32,
+) -> Result<Declarators<'a>, Stop>
+    ensures { Told (λ d. d) result (read_declarators (levels_left levels) reader.old) reader.new }
+{
+    let first = declarator(alloc, reader, levels)?;
+    let rest = next_declarators(alloc, reader, levels)?;
+    Ok(Declarators { first, rest })
+}
+
+/// A declaration in a block.
+///
+/// # Errors
+///
+/// The reading's own, and want of memory.
+pub fn declaration<'a>(
+    alloc: Global,
+    reader: &mut Reader<'a>,
+    levels: u32,
+) -> Result<Declaration<'a>, Stop>
+    ensures { Told (λ d. d) result (read_declaration (levels_left levels) reader.old) reader.new }
+{
+    let name = type_name(alloc, reader, false)?;
+    let all = declarators(alloc, reader, levels)?;
+    let semicolon = reader.take(TokenSet::Punct(Punct::Semicolon))?;
+    Ok(Declaration {
+        name,
+        declarators: all,
+        semicolon,
+    })
+}
+
+fn maybe_name<'a>(reader: &mut Reader<'a>) -> Result<Option<&'a Token>, Stop>
+    ensures { Told name_marks result (read_either (next_is (only class.Name)) read_name (read_node no_name read_nothing) reader.old) reader.new }
+{
+    if !reader.next_is(TokenSet::Name) {
+        return Ok(None);
+    }
+    let name = reader.take(TokenSet::Name)?;
+    Ok(Some(name))
+}
+
+fn parameter<'a>(alloc: Global, reader: &mut Reader<'a>, levels: u32) -> Result<Parameter<'a>, Stop>
+    ensures { Told (λ p. p) result (read_parameter (levels_left levels) reader.old) reader.new }
+{
+    let words = type_name(alloc, reader, false)?;
+    let name = maybe_name(reader)?;
+    let length = maybe_length(alloc, reader, levels)?;
+    Ok(Parameter {
+        type_name: words,
+        name,
+        length,
+    })
+}
+
+fn next_parameter<'a>(
+    alloc: Global,
+    reader: &mut Reader<'a>,
+    levels: u32,
+) -> Result<NextParameter<'a>, Stop>
+    ensures { Told (λ n. n) result ((read_sign punct.Comma ▹ read_parameter (levels_left levels)) reader.old) reader.new }
+{
+    let comma = reader.take(COMMA)?;
+    let next = parameter(alloc, reader, levels)?;
+    Ok(NextParameter {
+        comma,
+        parameter: next,
+    })
+}
+
+fn next_parameters<'a>(
+    alloc: Global,
+    reader: &mut Reader<'a>,
+    levels: u32,
+) -> Result<Vec<NextParameter<'a>>, Stop>
+    ensures { Told (λ v. joined v.items) result (read_many (next_is (mark punct.Comma)) (read_sign punct.Comma ▹ read_parameter (levels_left levels)) reader.old) reader.new }
+{
+    let mut rest = Vec::new(alloc);
+    let most = reader.rest().len();
+    for _read in 0..most {
+        if !reader.next_is(COMMA) {
+            return Ok(rest);
+        }
+        rest.push(next_parameter(alloc, reader, levels)?)?;
+    }
+    Ok(rest)
+}
+
+fn parameter_list<'a>(
+    alloc: Global,
+    reader: &mut Reader<'a>,
+    levels: u32,
+) -> Result<ParameterList<'a>, Stop>
+    ensures { Told (λ p. p) result (read_listed (read_parameter (levels_left levels)) reader.old) reader.new }
+{
+    let first = parameter(alloc, reader, levels)?;
+    let rest = next_parameters(alloc, reader, levels)?;
+    Ok(ParameterList { first, rest })
+}
+
+fn parameters<'a>(
+    alloc: Global,
+    reader: &mut Reader<'a>,
+    levels: u32,
+) -> Result<Parameters<'a>, Stop>
+    ensures { Told (λ p. p) result (read_parameters (levels_left levels) reader.old) reader.new }
+{
+    if !reader.next_is(DECLARATION_WORD) {
+        return Ok(Parameters { list: None });
+    }
+    let list = parameter_list(alloc, reader, levels)?;
+    Ok(Parameters { list: Some(list) })
+}
+
+/// The parameters of a function, between its parentheses.
+///
+/// # Errors
+///
+/// The reading's own, and want of memory.
+pub fn inner_parameters<'a>(
+    alloc: Global,
+    reader: &mut Reader<'a>,
+    levels: u32,
+) -> Result<Parameters<'a>, Stop>
+    ensures { Told (λ p. p) result (levels_left levels in_parameters reader.old) reader.new }
+{
+    if levels == 0 {
+        return no_parameters(reader);
+    }
+    parameters(alloc, reader, levels - 1)
+}
+
+/// The parameters where no level is left: none, or refused.
+fn no_parameters<'a>(reader: &Reader<'a>) -> Result<Parameters<'a>, Stop>
+    ensures { Told (λ p. p) result (shallow in_parameters reader.now) reader.now }
+{
+    if reader.next_is(DECLARATION_WORD) {
+        return Err(Stop::TooDeep);
+    }
+    Ok(Parameters { list: None })
+}

@@ -1,0 +1,389 @@
+//! Reading expressions (C90 6.3).
+//!
+//! `levels` is how many more constructs may be around a token.
+
+ghost use Rattle.std.specs.Prelude.{◌≡◌, ◌<◌, ◌∷◌, ◌++◌, [], Option, option_map, MatchResult};
+ghost use Rattle.ba_lex.specs.declared.token.Punct.TheVariants as punct;
+ghost use Rattle.ba_parse.specs.declared.reader.Stop.TheVariants.{Memory};
+ghost use Rattle.ba_parse.specs.Classes.{mark};
+ghost use Rattle.ba_parse.specs.Grammar.{operator, prefix_sign};
+ghost use Rattle.ba_parse.specs.Readings.{◌▹◌, read_maybe, read_either, read_token, read_many, read_listed, read_sign, read_parenthesized, deeper_in, levels_left, next_is, in_expression, in_arguments, in_cast, in_unary, in_chained, read_expression, read_branches, read_operand, read_chain, read_unary, read_primary, after_name, read_name, read_arguments, shallow};
+ghost use Rattle.ba_parse.specs.Telling.{Told, refusal};
+ghost use Rattle.ba_parse.specs.Sets.{classes};
+ghost use Rattle.ba_parse.specs.Views.{optional, joined};
+ghost use Rattle.ba_parse.specs.ExpressionViews.{operand_marks, chained_marks, unary_marks, primary_marks, expressions_marks};
+
+use crate::reader::{Reader, Stop};
+use crate::sets::TokenSet;
+use crate::tree::expressions::{
+    Arguments, Branches, Chain, Conditional, Expressions, NextExpression, Operand, Primary,
+    PrimaryForm, TypeName, Unary, UnaryForm,
+};
+use crate::types::type_name;
+use ba_lex::token::{Punct, Token};
+use std::alloc::Global;
+
+/// The level of the operators that bind loosest.
+const LOOSEST: u32 = 10;
+
+const OPEN: TokenSet = TokenSet::Punct(Punct::OpenParenthesis);
+
+const CLOSE: TokenSet = TokenSet::Punct(Punct::CloseParenthesis);
+
+/// An expression.
+///
+/// # Errors
+///
+/// The reading's own, and want of memory.
+#[cycle(expression)]
+pub fn conditional<'a>(
+    alloc: Global,
+    reader: &mut Reader<'a>,
+    levels: u32,
+) -> Result<Conditional<'a>, Stop>
+    ensures { Told (λ c. c) result (read_expression (levels_left levels) reader.old) reader.new }
+{
+    let test = operand(alloc, reader, levels, LOOSEST)?;
+    let branches = maybe_branches(alloc, reader, levels)?;
+    Ok(Conditional { test, branches })
+}
+
+#[cycle(expression)]
+fn maybe_branches<'a>(
+    alloc: Global,
+    reader: &mut Reader<'a>,
+    levels: u32,
+) -> Result<Option<Branches<'a>>, Stop>
+    ensures { Told optional result (read_maybe (mark punct.Question) (read_branches (levels_left levels)) reader.old) reader.new }
+{
+    if !reader.next_is(TokenSet::Punct(Punct::Question)) {
+        return Ok(None);
+    }
+    let question = reader.take(TokenSet::Punct(Punct::Question))?;
+    let holds = inner_expression(alloc, reader, levels)?;
+    let colon = reader.take(TokenSet::Punct(Punct::Colon))?;
+    let fails = inner_expression(alloc, reader, levels)?;
+    Ok(Some(Branches {
+        question,
+        holds,
+        colon,
+        fails,
+    }))
+}
+
+/// An expression inside one more construct.
+#[cycle(expression)]
+pub fn inner_expression<'a>(
+    alloc: Global,
+    reader: &mut Reader<'a>,
+    levels: u32,
+) -> Result<Box<Conditional<'a>>, Stop>
+    ensures { Told (λ e. e.value) result (levels_left levels in_expression reader.old) reader.new }
+{
+    if levels == 0 {
+        return Err(refusal(reader, TokenSet::OperandStart));
+    }
+    let expression = conditional(alloc, reader, levels - 1)?;
+    Ok(Box::new(alloc, expression)?)
+}
+
+/// Why a part that has no level left is refused, where it begins so.
+pub fn refusal(reader: &Reader, starts: TokenSet) -> Stop
+    ensures { result ≡ refusal (next_is (classes starts) reader.now) }
+{
+    if reader.next_is(starts) {
+        Stop::TooDeep
+    } else {
+        Stop::Syntax
+    }
+}
+
+#[cycle(expression)]
+fn operand<'a>(
+    alloc: Global,
+    reader: &mut Reader<'a>,
+    levels: u32,
+    loosest: u32,
+) -> Result<Operand<'a>, Stop>
+    ensures { Told operand_marks result (read_operand (levels_left levels) loosest reader.old) reader.new }
+{
+    let first = unary(alloc, reader, levels)?;
+    let mut chains = Vec::new(alloc);
+    for tighter in 0..loosest {
+        let chain = maybe_chain(alloc, reader, levels, tighter + 1)?;
+        push_some(&mut chains, chain)?;
+    }
+    Ok(Operand { first, chains })
+}
+
+#[tactic(auto, using(crate::proofs::Repeats::joined_push))]
+fn push_some<'a>(chains: &mut Vec<Chain<'a>>, added: Option<Chain<'a>>) -> Result<(), Stop>
+    ensures { MatchResult result (λ _. joined chains.new.items ≡ joined chains.old.items ++ optional added.entry) (λ stop. stop ≡ Memory) }
+{
+    if let Some(chain) = added {
+        chains.push(chain)?;
+    }
+    Ok(())
+}
+
+#[cycle(expression)]
+fn maybe_chain<'a>(
+    alloc: Global,
+    reader: &mut Reader<'a>,
+    levels: u32,
+    level: u32,
+) -> Result<Option<Chain<'a>>, Stop>
+    requires { 0 < level }
+    ensures { Told optional result (read_maybe (operator level) (read_chain (levels_left levels) level) reader.old) reader.new }
+{
+    if !reader.next_is(TokenSet::Operator(level)) {
+        return Ok(None);
+    }
+    let operator = reader.take(TokenSet::Operator(level))?;
+    let (operand, rest) = chained(alloc, reader, levels, level)?;
+    Ok(Some(Chain {
+        level,
+        operator,
+        operand,
+        rest,
+    }))
+}
+
+/// The right operand of an operator of this level, and the rest of its chain, inside one more construct.
+#[cycle(expression)]
+fn chained<'a>(
+    alloc: Global,
+    reader: &mut Reader<'a>,
+    levels: u32,
+    level: u32,
+) -> Result<(Operand<'a>, Option<Box<Chain<'a>>>), Stop>
+    requires { 0 < level }
+    ensures { Told (λ p. chained_marks p.0 (option_map (λ c. c.value) p.1)) result (levels_left levels (in_chained level) reader.old) reader.new }
+{
+    if levels == 0 {
+        return Err(refusal(reader, TokenSet::OperandStart));
+    }
+    let operand = operand(alloc, reader, levels - 1, level - 1)?;
+    match maybe_chain(alloc, reader, levels - 1, level)? {
+        Some(chain) => Ok((operand, Some(Box::new(alloc, chain)?))),
+        None => Ok((operand, None)),
+    }
+}
+
+#[cycle(expression)]
+fn unary<'a>(alloc: Global, reader: &mut Reader<'a>, levels: u32) -> Result<Unary<'a>, Stop>
+    ensures { Told (λ u. u) result (read_unary (levels_left levels) reader.old) reader.new }
+{
+    let form = if reader.next_is(TokenSet::PrefixSign) {
+        prefixed(alloc, reader, levels)?
+    } else if reader.next_are(OPEN, TokenSet::DeclarationWord { with_static: false }) {
+        cast(alloc, reader, levels)?
+    } else {
+        UnaryForm::Primary(primary(alloc, reader, levels)?)
+    };
+    Ok(Unary { form })
+}
+
+#[cycle(expression)]
+fn prefixed<'a>(alloc: Global, reader: &mut Reader<'a>, levels: u32) -> Result<UnaryForm<'a>, Stop>
+    ensures { Told unary_marks result ((read_token prefix_sign ▹ deeper_in (levels_left levels) in_unary) reader.old) reader.new }
+{
+    let operator = reader.take(TokenSet::PrefixSign)?;
+    let operand = inner_unary(alloc, reader, levels)?;
+    Ok(UnaryForm::Prefix { operator, operand })
+}
+
+#[cycle(expression)]
+fn cast<'a>(alloc: Global, reader: &mut Reader<'a>, levels: u32) -> Result<UnaryForm<'a>, Stop>
+    ensures { Told unary_marks result ((read_parenthesized (levels_left levels) in_cast ▹ deeper_in (levels_left levels) in_unary) reader.old) reader.new }
+{
+    let open = reader.take(OPEN)?;
+    let name = inner_type_name(alloc, reader, levels)?;
+    let close = reader.take(CLOSE)?;
+    let operand = inner_unary(alloc, reader, levels)?;
+    Ok(UnaryForm::Cast {
+        open,
+        name,
+        close,
+        operand,
+    })
+}
+
+#[cycle(expression)]
+fn inner_unary<'a>(
+    alloc: Global,
+    reader: &mut Reader<'a>,
+    levels: u32,
+) -> Result<Box<Unary<'a>>, Stop>
+    ensures { Told (λ u. u.value) result (levels_left levels in_unary reader.old) reader.new }
+{
+    if levels == 0 {
+        return Err(refusal(reader, TokenSet::OperandStart));
+    }
+    let operand = unary(alloc, reader, levels - 1)?;
+    Ok(Box::new(alloc, operand)?)
+}
+
+fn inner_type_name<'a>(
+    alloc: Global,
+    reader: &mut Reader<'a>,
+    levels: u32,
+) -> Result<TypeName<'a>, Stop>
+    ensures { Told (λ t. t) result (levels_left levels in_cast reader.old) reader.new }
+{
+    if levels == 0 {
+        return Err(refusal(reader, TokenSet::DeclarationWord { with_static: false }));
+    }
+    type_name(alloc, reader, false)
+}
+
+#[cycle(expression)]
+fn primary<'a>(alloc: Global, reader: &mut Reader<'a>, levels: u32) -> Result<Primary<'a>, Stop>
+    ensures { Told (λ p. p) result (read_primary (levels_left levels) reader.old) reader.new }
+{
+    let form = if reader.next_is(TokenSet::Name) {
+        named(alloc, reader, levels)?
+    } else if reader.next_is(TokenSet::Constant) {
+        PrimaryForm::Constant {
+            constant: reader.take(TokenSet::Constant)?,
+        }
+    } else {
+        parenthesized(alloc, reader, levels)?
+    };
+    Ok(Primary { form })
+}
+
+#[cycle(expression)]
+fn parenthesized<'a>(
+    alloc: Global,
+    reader: &mut Reader<'a>,
+    levels: u32,
+) -> Result<PrimaryForm<'a>, Stop>
+    ensures { Told primary_marks result (read_parenthesized (levels_left levels) in_expression reader.old) reader.new }
+{
+    let open = reader.take(OPEN)?;
+    let expression = inner_expression(alloc, reader, levels)?;
+    let close = reader.take(CLOSE)?;
+    Ok(PrimaryForm::Parenthesized {
+        open,
+        expression,
+        close,
+    })
+}
+
+/// A name, an element of an array or a call.
+#[cycle(expression)]
+fn named<'a>(alloc: Global, reader: &mut Reader<'a>, levels: u32) -> Result<PrimaryForm<'a>, Stop>
+    ensures { Told primary_marks result ((read_name ▹ after_name (levels_left levels)) reader.old) reader.new }
+{
+    let name = reader.take(TokenSet::Name)?;
+    if reader.next_is(TokenSet::Punct(Punct::OpenBracket)) {
+        let open = reader.take(TokenSet::Punct(Punct::OpenBracket))?;
+        let index = inner_expression(alloc, reader, levels)?;
+        let close = reader.take(TokenSet::Punct(Punct::CloseBracket))?;
+        Ok(PrimaryForm::Element {
+            name,
+            open,
+            index,
+            close,
+        })
+    } else if reader.next_is(OPEN) {
+        let open = reader.take(OPEN)?;
+        let arguments = inner_arguments(alloc, reader, levels)?;
+        let close = reader.take(CLOSE)?;
+        Ok(PrimaryForm::Call {
+            name,
+            open,
+            arguments,
+            close,
+        })
+    } else {
+        Ok(PrimaryForm::Name { name })
+    }
+}
+
+#[cycle(expression)]
+pub fn inner_arguments<'a>(
+    alloc: Global,
+    reader: &mut Reader<'a>,
+    levels: u32,
+) -> Result<Arguments<'a>, Stop>
+    ensures { Told (λ a. a) result (levels_left levels in_arguments reader.old) reader.new }
+{
+    if levels == 0 {
+        return no_arguments(reader);
+    }
+    arguments(alloc, reader, levels - 1)
+}
+
+/// The arguments where no level is left: none, or refused.
+fn no_arguments<'a>(reader: &Reader<'a>) -> Result<Arguments<'a>, Stop>
+    ensures { Told (λ a. a) result (shallow in_arguments reader.now) reader.now }
+{
+    if reader.next_is(TokenSet::OperandStart) {
+        return Err(Stop::TooDeep);
+    }
+    Ok(Arguments { values: None })
+}
+
+#[cycle(expression)]
+fn arguments<'a>(alloc: Global, reader: &mut Reader<'a>, levels: u32) -> Result<Arguments<'a>, Stop>
+    ensures { Told (λ a. a) result (read_arguments (levels_left levels) reader.old) reader.new }
+{
+    if !reader.next_is(TokenSet::OperandStart) {
+        return Ok(Arguments { values: None });
+    }
+    let values = expressions(alloc, reader, levels)?;
+    Ok(Arguments {
+        values: Some(values),
+    })
+}
+
+/// One expression or more, with commas between.
+#[cycle(expression)]
+fn expressions<'a>(
+    alloc: Global,
+    reader: &mut Reader<'a>,
+    levels: u32,
+) -> Result<Expressions<'a>, Stop>
+    ensures { Told expressions_marks result (read_listed (read_expression (levels_left levels)) reader.old) reader.new }
+{
+    let first = conditional(alloc, reader, levels)?;
+    let first = Box::new(alloc, first)?;
+    let rest = next_expressions(alloc, reader, levels)?;
+    Ok(Expressions { first, rest })
+}
+
+/// Expressions, each after a comma.
+#[cycle(expression)]
+pub fn next_expressions<'a>(
+    alloc: Global,
+    reader: &mut Reader<'a>,
+    levels: u32,
+) -> Result<Vec<NextExpression<'a>>, Stop>
+    ensures { Told (λ v. joined v.items) result (read_many (next_is (mark punct.Comma)) (read_sign punct.Comma ▹ read_expression (levels_left levels)) reader.old) reader.new }
+{
+    let mut rest = Vec::new(alloc);
+    let most = reader.rest().len();
+    for _read in 0..most {
+        if !reader.next_is(TokenSet::Punct(Punct::Comma)) {
+            return Ok(rest);
+        }
+        rest.push(next_expression(alloc, reader, levels)?)?;
+    }
+    Ok(rest)
+}
+
+/// A comma and an expression.
+#[cycle(expression)]
+pub fn next_expression<'a>(
+    alloc: Global,
+    reader: &mut Reader<'a>,
+    levels: u32,
+) -> Result<NextExpression<'a>, Stop>
+    ensures { Told (λ n. n) result ((read_sign punct.Comma ▹ read_expression (levels_left levels)) reader.old) reader.new }
+{
+    let comma = reader.take(TokenSet::Punct(Punct::Comma))?;
+    let expression = conditional(alloc, reader, levels)?;
+    Ok(NextExpression { comma, expression })
+}

@@ -1,0 +1,194 @@
+//! Reading a file (C90 6.7).
+
+ghost use Rattle.std.specs.Prelude.{◌≡◌, ◌⊎◌, true, List, ◌++◌, Err};
+ghost use Rattle.ba_lex.specs.declared.token.Token.{Token};
+ghost use Rattle.ba_parse.specs.Classes.{declaration_word};
+ghost use Rattle.ba_parse.specs.Grammar.{is_void, takes_block};
+ghost use Rattle.ba_parse.specs.Marks.{yield, one_deeper, node_of, file};
+ghost use Rattle.ba_parse.specs.Readings.{done, ◌▹◌, read_many, read_semicolon, next_is, levels_left, read_declarators, read_function_end, read_function_tail, read_external, read_file};
+ghost use Rattle.ba_parse.specs.Telling.{Told};
+ghost use Rattle.ba_parse.specs.Views.{joined};
+ghost use Rattle.ba_parse.specs.StatementViews.{end_marks, external_marks};
+ghost use Rattle.ba_parse.specs.Outcomes.{outcome_of, place_of};
+ghost use Rattle.ba_parse.specs.Files.{Verdict, Says};
+ghost use Rattle.ba_parse.specs.Told.{IsTold, result_of};
+ghost use Rattle.ba_parse.specs.declared.error.ParseError.TheVariants.{Memory};
+
+use crate::class::{TokenClass, class_of};
+use crate::declarations::{declarators, inner_parameters};
+use crate::error::ParseError;
+use crate::reader::{Reader, Stop};
+use crate::sets::TokenSet;
+use crate::statements::block;
+use crate::tree::declarations::Parameters;
+use crate::tree::statements::{External, ExternalForm, FunctionEnd, RawProgram};
+use crate::types::type_name;
+use ba_lex::token::{Keyword, Punct, Token};
+use std::alloc::Global;
+
+/// How many constructs may be around a token.
+pub const MAX_LEVEL: u32 = 100;
+
+const OPEN: TokenSet = TokenSet::Punct(Punct::OpenParenthesis);
+
+const CLOSE: TokenSet = TokenSet::Punct(Punct::CloseParenthesis);
+
+const SEMICOLON: TokenSet = TokenSet::Punct(Punct::Semicolon);
+
+const EXTERNAL_WORD: TokenSet = TokenSet::DeclarationWord { with_static: true };
+
+/// The one tree of the grammar whose yield is the tokens, which are the leaves of the tree (C90 6.3 to 6.7).
+///
+/// # Errors
+///
+/// The number in an error is that of a token, from 0, or the count of tokens for the end of the list. Of two causes
+/// the one with the smaller number is answered, and `Syntax` where both fall on one token.
+///
+/// - [`ParseError::Syntax`]: the least number such that no file's tokens begin with the tokens up to this one; or, at
+///   the end, the list begins a file's tokens and is no file's.
+/// - [`ParseError::TooDeep`]: the least number of a token with more than [`MAX_LEVEL`] constructs around it.
+/// - [`ParseError::Memory`]: want of memory.
+pub fn parse<'a>(alloc: Global, tokens: &'a [Token]) -> Result<RawProgram<'a>, ParseError>
+    ensures told { IsTold tokens.now result }
+    ensures only { (verdict : Verdict) → Says tokens.now verdict → (result ≡ result_of verdict) ⊎ (result ≡ Err Memory) }
+{
+    whole_file(alloc, tokens)
+}
+
+/// The tree of a file, or where its reading stops.
+fn whole_file<'a>(alloc: Global, tokens: &'a [Token]) -> Result<RawProgram<'a>, ParseError>
+    ensures { (result ≡ Err Memory) ⊎ (result ≡ outcome_of tokens.now (read_file (levels_left 100) tokens.now)) }
+{
+    let mut reader = Reader::new(tokens);
+    match externals(alloc, &mut reader, MAX_LEVEL) {
+        Ok(all) => file_of(all, tokens, reader.rest()),
+        Err(Stop::Syntax) => Err(ParseError::Syntax(place_of(tokens, reader.rest()))),
+        Err(Stop::TooDeep) => Err(ParseError::TooDeep(place_of(tokens, reader.rest()))),
+        Err(Stop::Memory) => Err(ParseError::Memory),
+    }
+}
+
+/// The file, where nothing is left after what was read.
+fn file_of<'a>(
+    all: Vec<External<'a>>,
+    tokens: &[Token],
+    rest: &[Token],
+) -> Result<RawProgram<'a>, ParseError>
+    ensures { result ≡ outcome_of tokens.now (done (node_of file (joined all.entry.items)) rest.now) }
+{
+    match rest.split_first() {
+        Some(_) => Err(ParseError::Syntax(place_of(tokens, rest))),
+        None => Ok(RawProgram { externals: all }),
+    }
+}
+
+/// The number of the first token of `rest`, which stands at the end of the tokens.
+fn place_of(tokens: &[Token], rest: &[Token]) -> usize
+    ensures { result ≡ place_of tokens.now rest.now }
+{
+    tokens.len().saturating_sub(rest.len())
+}
+
+fn externals<'a>(
+    alloc: Global,
+    reader: &mut Reader<'a>,
+    levels: u32,
+) -> Result<Vec<External<'a>>, Stop>
+    ensures { Told (λ v. joined v.items) result (read_many (next_is (declaration_word true)) (read_external (levels_left levels)) reader.old) reader.new }
+{
+    let mut all = Vec::new(alloc);
+    let most = reader.rest().len();
+    for _read in 0..most {
+        if !reader.next_is(EXTERNAL_WORD) {
+            return Ok(all);
+        }
+        all.push(external(alloc, reader, levels)?)?;
+    }
+    Ok(all)
+}
+
+fn external<'a>(alloc: Global, reader: &mut Reader<'a>, levels: u32) -> Result<External<'a>, Stop>
+    ensures { Told (λ e. e) result (read_external (levels_left levels) reader.old) reader.new }
+{
+    let name = type_name(alloc, reader, true)?;
+    let form = if reader.next_are(TokenSet::Name, OPEN) {
+        function(alloc, reader, levels)?
+    } else {
+        variables(alloc, reader, levels)?
+    };
+    Ok(External { name, form })
+}
+
+fn variables<'a>(
+    alloc: Global,
+    reader: &mut Reader<'a>,
+    levels: u32,
+) -> Result<ExternalForm<'a>, Stop>
+    ensures { Told external_marks result ((read_declarators (levels_left levels) ▹ read_semicolon) reader.old) reader.new }
+{
+    let all = declarators(alloc, reader, levels)?;
+    let semicolon = reader.take(SEMICOLON)?;
+    Ok(ExternalForm::Variables {
+        declarators: all,
+        semicolon,
+    })
+}
+
+fn function<'a>(
+    alloc: Global,
+    reader: &mut Reader<'a>,
+    levels: u32,
+) -> Result<ExternalForm<'a>, Stop>
+    ensures { Told external_marks result (read_function_tail (levels_left levels) reader.old) reader.new }
+{
+    let name = reader.take(TokenSet::Name)?;
+    let open = reader.take(OPEN)?;
+    let before = reader.rest();
+    let parameters = inner_parameters(alloc, reader, levels)?;
+    let with_block = takes_block(&parameters, before, reader.rest());
+    let close = reader.take(CLOSE)?;
+    let end = function_end(alloc, reader, levels, with_block)?;
+    Ok(ExternalForm::Function {
+        name,
+        open,
+        parameters,
+        close,
+        end,
+    })
+}
+
+/// Whether a block may follow these parameters, which were read from `before` to `after`.
+fn takes_block(parameters: &Parameters, before: &[Token], after: &[Token]) -> bool
+    requires { yield parameters.now ++ after.now ≡ before.now }
+    ensures { result ≡ takes_block (one_deeper parameters.now) }
+{
+    parameters.is_named() || is_void(before, after)
+}
+
+/// Whether `void` alone stands from `before` to `after`.
+fn is_void(before: &[Token], after: &[Token]) -> bool
+    ensures told { (ts : List Token) → ts ++ after.now ≡ before.now → result ≡ is_void ts }
+{
+    match before.split_first() {
+        Some((first, rest)) if rest.len() == after.len() => class_of(first)
+            == TokenClass::Keyword(Keyword::Void),
+        _ => false,
+    }
+}
+
+fn function_end<'a>(
+    alloc: Global,
+    reader: &mut Reader<'a>,
+    levels: u32,
+    with_block: bool,
+) -> Result<FunctionEnd<'a>, Stop>
+    ensures { Told end_marks result (read_function_end (levels_left levels) with_block reader.old) reader.new }
+{
+    if with_block && reader.next_is(TokenSet::Punct(Punct::OpenBrace)) {
+        let body = block(alloc, reader, levels)?;
+        Ok(FunctionEnd::Body(body))
+    } else {
+        let semicolon = reader.take(SEMICOLON)?;
+        Ok(FunctionEnd::Prototype { semicolon })
+    }
+}

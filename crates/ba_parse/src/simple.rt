@@ -1,0 +1,311 @@
+//! Reading assignments, steps and calls, and what stands between the parentheses of a statement (C90 6.3.2, 6.3.16, 6.6.5).
+//!
+//! `levels` is how many more constructs may be around a token.
+
+ghost use Rattle.std.specs.Prelude.{◌≡◌, map};
+ghost use Rattle.ba_lex.specs.declared.token.Punct.TheVariants as punct;
+ghost use Rattle.ba_parse.specs.declared.class.TokenClass.TheVariants as class;
+ghost use Rattle.ba_parse.specs.Classes.{mark, only};
+ghost use Rattle.ba_parse.specs.Grammar.{step_sign, assign_sign};
+ghost use Rattle.ba_parse.specs.Marks.{leaf};
+ghost use Rattle.ba_parse.specs.Readings.{◌▹◌, read_maybe, read_either, read_many, read_token, read_name, read_sign, read_bracketed, read_parenthesized, next_is, levels_left, in_expression, in_arguments, in_for, in_printf, simple_start, read_expression, read_target, read_simple, read_simples, read_for_first, read_condition, read_for_head, read_printed};
+ghost use Rattle.ba_parse.specs.Telling.{Told};
+ghost use Rattle.ba_parse.specs.Views.{optional, joined};
+ghost use Rattle.ba_parse.specs.StatementViews.{simple_marks, for_first_marks};
+
+use crate::declarations::{declarators, maybe_expression};
+use crate::expressions::{
+    conditional, inner_arguments, inner_expression, next_expressions, refusal,
+};
+use crate::reader::{Reader, Stop};
+use crate::sets::TokenSet;
+use crate::tree::statements::{
+    Condition, ForFirst, ForFirstForm, ForHead, Index, NextSimple, Printed, Simple, SimpleForm,
+    Simples, Target,
+};
+use crate::types::type_name;
+use ba_lex::token::{Punct, Token};
+use std::alloc::Global;
+
+const OPEN: TokenSet = TokenSet::Punct(Punct::OpenParenthesis);
+
+const CLOSE: TokenSet = TokenSet::Punct(Punct::CloseParenthesis);
+
+const COMMA: TokenSet = TokenSet::Punct(Punct::Comma);
+
+const SEMICOLON: TokenSet = TokenSet::Punct(Punct::Semicolon);
+
+fn target<'a>(alloc: Global, reader: &mut Reader<'a>, levels: u32) -> Result<Target<'a>, Stop>
+    ensures { Told (λ t. t) result (read_target (levels_left levels) reader.old) reader.new }
+{
+    let name = reader.take(TokenSet::Name)?;
+    let index = maybe_index(alloc, reader, levels)?;
+    Ok(Target { name, index })
+}
+
+fn maybe_index<'a>(
+    alloc: Global,
+    reader: &mut Reader<'a>,
+    levels: u32,
+) -> Result<Option<Index<'a>>, Stop>
+    ensures { Told optional result (read_maybe (mark punct.OpenBracket) (read_bracketed (levels_left levels) in_expression) reader.old) reader.new }
+{
+    if !reader.next_is(TokenSet::Punct(Punct::OpenBracket)) {
+        return Ok(None);
+    }
+    let open = reader.take(TokenSet::Punct(Punct::OpenBracket))?;
+    let value = inner_expression(alloc, reader, levels)?;
+    let close = reader.take(TokenSet::Punct(Punct::CloseBracket))?;
+    Ok(Some(Index { open, value, close }))
+}
+
+/// An assignment, a step or a call.
+///
+/// # Errors
+///
+/// The reading's own, and want of memory.
+pub fn simple<'a>(alloc: Global, reader: &mut Reader<'a>, levels: u32) -> Result<Simple<'a>, Stop>
+    ensures { Told (λ s. s) result (read_simple (levels_left levels) reader.old) reader.new }
+{
+    let form = if reader.next_is(TokenSet::StepSign) {
+        prefix_step(alloc, reader, levels)?
+    } else if reader.next_are(TokenSet::Name, OPEN) {
+        called(alloc, reader, levels)?
+    } else {
+        assigned(alloc, reader, levels)?
+    };
+    Ok(Simple { form })
+}
+
+fn prefix_step<'a>(
+    alloc: Global,
+    reader: &mut Reader<'a>,
+    levels: u32,
+) -> Result<SimpleForm<'a>, Stop>
+    ensures { Told simple_marks result ((read_token step_sign ▹ read_target (levels_left levels)) reader.old) reader.new }
+{
+    let operator = reader.take(TokenSet::StepSign)?;
+    let stepped = target(alloc, reader, levels)?;
+    Ok(SimpleForm::PrefixStep {
+        operator,
+        target: stepped,
+    })
+}
+
+fn called<'a>(alloc: Global, reader: &mut Reader<'a>, levels: u32) -> Result<SimpleForm<'a>, Stop>
+    ensures { Told simple_marks result ((read_name ▹ read_parenthesized (levels_left levels) in_arguments) reader.old) reader.new }
+{
+    let name = reader.take(TokenSet::Name)?;
+    let open = reader.take(OPEN)?;
+    let arguments = inner_arguments(alloc, reader, levels)?;
+    let close = reader.take(CLOSE)?;
+    Ok(SimpleForm::Call {
+        name,
+        open,
+        arguments,
+        close,
+    })
+}
+
+fn assigned<'a>(alloc: Global, reader: &mut Reader<'a>, levels: u32) -> Result<SimpleForm<'a>, Stop>
+    ensures { Told simple_marks result ((read_target (levels_left levels) ▹ read_either (next_is step_sign) (read_token step_sign) (read_token assign_sign ▹ read_expression (levels_left levels))) reader.old) reader.new }
+{
+    let place = target(alloc, reader, levels)?;
+    if reader.next_is(TokenSet::StepSign) {
+        let operator = reader.take(TokenSet::StepSign)?;
+        Ok(SimpleForm::Step {
+            target: place,
+            operator,
+        })
+    } else {
+        let operator = reader.take(TokenSet::AssignSign)?;
+        let value = conditional(alloc, reader, levels)?;
+        Ok(SimpleForm::Assign {
+            target: place,
+            operator,
+            value,
+        })
+    }
+}
+
+fn next_simple<'a>(
+    alloc: Global,
+    reader: &mut Reader<'a>,
+    levels: u32,
+) -> Result<NextSimple<'a>, Stop>
+    ensures { Told (λ n. n) result ((read_sign punct.Comma ▹ read_simple (levels_left levels)) reader.old) reader.new }
+{
+    let comma = reader.take(COMMA)?;
+    let next = simple(alloc, reader, levels)?;
+    Ok(NextSimple {
+        comma,
+        simple: next,
+    })
+}
+
+fn next_simples<'a>(
+    alloc: Global,
+    reader: &mut Reader<'a>,
+    levels: u32,
+) -> Result<Vec<NextSimple<'a>>, Stop>
+    ensures { Told (λ v. joined v.items) result (read_many (next_is (mark punct.Comma)) (read_sign punct.Comma ▹ read_simple (levels_left levels)) reader.old) reader.new }
+{
+    let mut rest = Vec::new(alloc);
+    let most = reader.rest().len();
+    for _read in 0..most {
+        if !reader.next_is(COMMA) {
+            return Ok(rest);
+        }
+        rest.push(next_simple(alloc, reader, levels)?)?;
+    }
+    Ok(rest)
+}
+
+fn simples<'a>(alloc: Global, reader: &mut Reader<'a>, levels: u32) -> Result<Simples<'a>, Stop>
+    ensures { Told (λ s. s) result (read_simples (levels_left levels) reader.old) reader.new }
+{
+    let first = simple(alloc, reader, levels)?;
+    let rest = next_simples(alloc, reader, levels)?;
+    Ok(Simples { first, rest })
+}
+
+fn maybe_simples<'a>(
+    alloc: Global,
+    reader: &mut Reader<'a>,
+    levels: u32,
+) -> Result<Option<Simples<'a>>, Stop>
+    ensures { Told optional result (read_maybe simple_start (read_simples (levels_left levels)) reader.old) reader.new }
+{
+    if !reader.next_is(TokenSet::SimpleStart) {
+        return Ok(None);
+    }
+    let all = simples(alloc, reader, levels)?;
+    Ok(Some(all))
+}
+
+/// A condition in parentheses.
+///
+/// # Errors
+///
+/// The reading's own, and want of memory.
+pub fn condition<'a>(
+    alloc: Global,
+    reader: &mut Reader<'a>,
+    levels: u32,
+) -> Result<Condition<'a>, Stop>
+    ensures { Told (λ c. c) result (read_condition (levels_left levels) reader.old) reader.new }
+{
+    let open = reader.take(OPEN)?;
+    let test = inner_expression(alloc, reader, levels)?;
+    let close = reader.take(CLOSE)?;
+    Ok(Condition { open, test, close })
+}
+
+fn for_first<'a>(alloc: Global, reader: &mut Reader<'a>, levels: u32) -> Result<ForFirst<'a>, Stop>
+    ensures { Told (λ f. f) result (read_for_first (levels_left levels) reader.old) reader.new }
+{
+    let form = if reader.next_is(TokenSet::DeclarationWord { with_static: false }) {
+        let name = type_name(alloc, reader, false)?;
+        ForFirstForm::Declaration {
+            name,
+            declarators: declarators(alloc, reader, levels)?,
+        }
+    } else if reader.next_is(TokenSet::SimpleStart) {
+        ForFirstForm::Simples(simples(alloc, reader, levels)?)
+    } else {
+        ForFirstForm::Nothing
+    };
+    Ok(ForFirst { form })
+}
+
+fn boxed_first<'a>(
+    alloc: Global,
+    reader: &mut Reader<'a>,
+    levels: u32,
+) -> Result<Box<ForFirst<'a>>, Stop>
+    ensures { Told (λ f. f.value) result (read_for_first (levels_left levels) reader.old) reader.new }
+{
+    let first = for_first(alloc, reader, levels)?;
+    Ok(Box::new(alloc, first)?)
+}
+
+fn for_head<'a>(alloc: Global, reader: &mut Reader<'a>, levels: u32) -> Result<ForHead<'a>, Stop>
+    ensures { Told (λ f. f) result (read_for_head (levels_left levels) reader.old) reader.new }
+{
+    let first = boxed_first(alloc, reader, levels)?;
+    let first_semicolon = reader.take(SEMICOLON)?;
+    let test = maybe_expression(alloc, reader, levels)?;
+    let second_semicolon = reader.take(SEMICOLON)?;
+    let step = maybe_simples(alloc, reader, levels)?;
+    Ok(ForHead {
+        first,
+        first_semicolon,
+        test,
+        second_semicolon,
+        step,
+    })
+}
+
+/// The head of a `for`, between its parentheses.
+///
+/// # Errors
+///
+/// The reading's own, and want of memory.
+pub fn inner_for_head<'a>(
+    alloc: Global,
+    reader: &mut Reader<'a>,
+    levels: u32,
+) -> Result<ForHead<'a>, Stop>
+    ensures { Told (λ f. f) result (levels_left levels in_for reader.old) reader.new }
+{
+    if levels == 0 {
+        return Err(refusal(reader, TokenSet::ForStart));
+    }
+    for_head(alloc, reader, levels - 1)
+}
+
+fn next_strings<'a>(alloc: Global, reader: &mut Reader<'a>) -> Result<Vec<&'a Token>, Stop>
+    ensures { Told (λ v. map (λ t. leaf t.now) v.items) result (read_many (next_is (only class.Quoted)) (read_token (only class.Quoted)) reader.old) reader.new }
+{
+    let mut rest = Vec::new(alloc);
+    let most = reader.rest().len();
+    for _read in 0..most {
+        if !reader.next_is(TokenSet::Quoted) {
+            return Ok(rest);
+        }
+        let string = reader.take(TokenSet::Quoted)?;
+        rest.push(string)?;
+    }
+    Ok(rest)
+}
+
+fn printed<'a>(alloc: Global, reader: &mut Reader<'a>, levels: u32) -> Result<Printed<'a>, Stop>
+    ensures { Told (λ p. p) result (read_printed (levels_left levels) reader.old) reader.new }
+{
+    let first = reader.take(TokenSet::Quoted)?;
+    let rest = next_strings(alloc, reader)?;
+    let values = next_expressions(alloc, reader, levels)?;
+    Ok(Printed {
+        first,
+        rest,
+        values,
+    })
+}
+
+/// What a `printf` prints, between its parentheses.
+///
+/// # Errors
+///
+/// The reading's own, and want of memory.
+pub fn inner_printed<'a>(
+    alloc: Global,
+    reader: &mut Reader<'a>,
+    levels: u32,
+) -> Result<Printed<'a>, Stop>
+    ensures { Told (λ p. p) result (levels_left levels in_printf reader.old) reader.new }
+{
+    if levels == 0 {
+        return Err(refusal(reader, TokenSet::Quoted));
+    }
+    printed(alloc, reader, levels - 1)
+}

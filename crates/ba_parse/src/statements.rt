@@ -1,0 +1,354 @@
+//! Reading statements (C90 6.6).
+//!
+//! `levels` is how many more constructs may be around a token.
+
+ghost use Rattle.std.specs.Prelude.{◌≡◌};
+ghost use Rattle.ba_lex.specs.declared.token.Keyword.TheVariants as keyword;
+ghost use Rattle.ba_parse.specs.Readings.{◌▹◌, read_many, read_key, read_semicolon, next_is, item_start, levels_left, shallow, in_block, in_statement, in_for, maybe_expression, read_if, read_while, read_do, read_for, read_simple, read_block, read_item, read_statement, read_keyword_statement};
+ghost use Rattle.ba_parse.specs.Telling.{Told};
+ghost use Rattle.ba_parse.specs.Tails.{read_else, read_last, read_jump};
+ghost use Rattle.ba_parse.specs.StatementViews.{item_marks, items_marks, else_marks, statement_marks};
+
+use crate::declarations::{declaration, maybe_expression};
+use crate::expressions::refusal;
+use crate::reader::{Reader, Stop};
+use crate::sets::TokenSet;
+use crate::simple::{condition, inner_for_head, inner_printed, simple};
+use crate::tree::statements::{
+    Block, BlockItem, DoWhile, Else, For, ForHead, Statement, StatementForm,
+};
+use ba_lex::token::{Keyword, Punct};
+use std::alloc::Global;
+
+const OPEN: TokenSet = TokenSet::Punct(Punct::OpenParenthesis);
+
+const CLOSE: TokenSet = TokenSet::Punct(Punct::CloseParenthesis);
+
+const SEMICOLON: TokenSet = TokenSet::Punct(Punct::Semicolon);
+
+/// A block.
+///
+/// # Errors
+///
+/// The reading's own, and want of memory.
+#[cycle(statement)]
+pub fn block<'a>(alloc: Global, reader: &mut Reader<'a>, levels: u32) -> Result<Block<'a>, Stop>
+    ensures { Told (λ b. b) result (read_block (levels_left levels) reader.old) reader.new }
+{
+    let open = reader.take(TokenSet::Punct(Punct::OpenBrace))?;
+    let items = inner_items(alloc, reader, levels)?;
+    let close = reader.take(TokenSet::Punct(Punct::CloseBrace))?;
+    Ok(Block { open, items, close })
+}
+
+/// What stands between the braces of a block.
+#[cycle(statement)]
+fn inner_items<'a>(
+    alloc: Global,
+    reader: &mut Reader<'a>,
+    levels: u32,
+) -> Result<Vec<BlockItem<'a>>, Stop>
+    ensures { Told (λ v. items_marks v.items) result (levels_left levels in_block reader.old) reader.new }
+{
+    if levels == 0 {
+        return no_items(alloc, reader);
+    }
+    items(alloc, reader, levels - 1)
+}
+
+/// The items where no level is left: none, or refused.
+fn no_items<'a>(alloc: Global, reader: &Reader<'a>) -> Result<Vec<BlockItem<'a>>, Stop>
+    ensures { Told (λ v. items_marks v.items) result (shallow in_block reader.now) reader.now }
+{
+    if reader.next_is(TokenSet::ItemStart) {
+        return Err(Stop::TooDeep);
+    }
+    Ok(Vec::new(alloc))
+}
+
+#[cycle(statement)]
+fn items<'a>(
+    alloc: Global,
+    reader: &mut Reader<'a>,
+    levels: u32,
+) -> Result<Vec<BlockItem<'a>>, Stop>
+    ensures { Told (λ v. items_marks v.items) result (read_many (next_is item_start) (read_item (levels_left levels)) reader.old) reader.new }
+{
+    let mut all = Vec::new(alloc);
+    let most = reader.rest().len();
+    for _read in 0..most {
+        if !reader.next_is(TokenSet::ItemStart) {
+            return Ok(all);
+        }
+        let next = item(alloc, reader, levels)?;
+        all.push(next)?;
+    }
+    Ok(all)
+}
+
+#[cycle(statement)]
+fn item<'a>(alloc: Global, reader: &mut Reader<'a>, levels: u32) -> Result<BlockItem<'a>, Stop>
+    ensures { Told item_marks result (read_item (levels_left levels) reader.old) reader.new }
+{
+    if reader.next_is(TokenSet::DeclarationWord { with_static: false }) {
+        let declared = declaration(alloc, reader, levels)?;
+        Ok(BlockItem::Declaration(declared))
+    } else {
+        let done = statement(alloc, reader, levels)?;
+        Ok(BlockItem::Statement(done))
+    }
+}
+
+/// A statement inside one more construct.
+#[cycle(statement)]
+fn inner_statement<'a>(
+    alloc: Global,
+    reader: &mut Reader<'a>,
+    levels: u32,
+) -> Result<Box<Statement<'a>>, Stop>
+    ensures { Told (λ s. s.value) result (levels_left levels in_statement reader.old) reader.new }
+{
+    if levels == 0 {
+        return Err(refusal(reader, TokenSet::StatementStart));
+    }
+    let body = statement(alloc, reader, levels - 1)?;
+    Ok(Box::new(alloc, body)?)
+}
+
+#[cycle(statement)]
+fn statement<'a>(alloc: Global, reader: &mut Reader<'a>, levels: u32) -> Result<Statement<'a>, Stop>
+    ensures { Told (λ s. s) result (read_statement (levels_left levels) reader.old) reader.new }
+{
+    let form = if reader.next_is(TokenSet::Punct(Punct::OpenBrace)) {
+        StatementForm::Block(block(alloc, reader, levels)?)
+    } else if reader.next_is(SEMICOLON) {
+        StatementForm::Empty {
+            semicolon: reader.take(SEMICOLON)?,
+        }
+    } else if reader.next_is(TokenSet::SimpleStart) {
+        simple_statement(alloc, reader, levels)?
+    } else {
+        keyword_statement(alloc, reader, levels)?
+    };
+    Ok(Statement { form })
+}
+
+fn simple_statement<'a>(
+    alloc: Global,
+    reader: &mut Reader<'a>,
+    levels: u32,
+) -> Result<StatementForm<'a>, Stop>
+    ensures { Told statement_marks result ((read_simple (levels_left levels) ▹ read_semicolon) reader.old) reader.new }
+{
+    let done = simple(alloc, reader, levels)?;
+    let semicolon = reader.take(SEMICOLON)?;
+    Ok(StatementForm::Simple {
+        simple: done,
+        semicolon,
+    })
+}
+
+#[cycle(statement)]
+fn keyword_statement<'a>(
+    alloc: Global,
+    reader: &mut Reader<'a>,
+    levels: u32,
+) -> Result<StatementForm<'a>, Stop>
+    ensures { Told statement_marks result (read_keyword_statement (levels_left levels) reader.old) reader.new }
+{
+    if reader.next_is(TokenSet::Keyword(Keyword::If)) {
+        if_statement(alloc, reader, levels)
+    } else if reader.next_is(TokenSet::Keyword(Keyword::While)) {
+        while_statement(alloc, reader, levels)
+    } else if reader.next_is(TokenSet::Keyword(Keyword::Do)) {
+        do_statement(alloc, reader, levels)
+    } else if reader.next_is(TokenSet::Keyword(Keyword::For)) {
+        for_statement(alloc, reader, levels)
+    } else {
+        jump_statement(alloc, reader, levels)
+    }
+}
+
+#[cycle(statement)]
+fn if_statement<'a>(
+    alloc: Global,
+    reader: &mut Reader<'a>,
+    levels: u32,
+) -> Result<StatementForm<'a>, Stop>
+    ensures { Told statement_marks result (read_if (levels_left levels) reader.old) reader.new }
+{
+    let keyword = reader.take(TokenSet::Keyword(Keyword::If))?;
+    let test = condition(alloc, reader, levels)?;
+    let holds = inner_statement(alloc, reader, levels)?;
+    let fails = maybe_else(alloc, reader, levels)?;
+    Ok(StatementForm::If {
+        keyword,
+        condition: test,
+        holds,
+        fails,
+    })
+}
+
+#[cycle(statement)]
+fn maybe_else<'a>(
+    alloc: Global,
+    reader: &mut Reader<'a>,
+    levels: u32,
+) -> Result<Option<Else<'a>>, Stop>
+    ensures { Told else_marks result (read_else (levels_left levels) reader.old) reader.new }
+{
+    if !reader.next_is(TokenSet::Keyword(Keyword::Else)) {
+        return Ok(None);
+    }
+    let keyword = reader.take(TokenSet::Keyword(Keyword::Else))?;
+    let body = inner_statement(alloc, reader, levels)?;
+    Ok(Some(Else {
+        keyword,
+        statement: body,
+    }))
+}
+
+#[cycle(statement)]
+fn while_statement<'a>(
+    alloc: Global,
+    reader: &mut Reader<'a>,
+    levels: u32,
+) -> Result<StatementForm<'a>, Stop>
+    ensures { Told statement_marks result (read_while (levels_left levels) reader.old) reader.new }
+{
+    let keyword = reader.take(TokenSet::Keyword(Keyword::While))?;
+    let test = condition(alloc, reader, levels)?;
+    let body = inner_statement(alloc, reader, levels)?;
+    Ok(StatementForm::While {
+        keyword,
+        condition: test,
+        body,
+    })
+}
+
+#[cycle(statement)]
+fn do_statement<'a>(
+    alloc: Global,
+    reader: &mut Reader<'a>,
+    levels: u32,
+) -> Result<StatementForm<'a>, Stop>
+    ensures { Told statement_marks result (read_do (levels_left levels) reader.old) reader.new }
+{
+    let keyword = reader.take(TokenSet::Keyword(Keyword::Do))?;
+    let body = inner_statement(alloc, reader, levels)?;
+    let while_keyword = reader.take(TokenSet::Keyword(Keyword::While))?;
+    let test = condition(alloc, reader, levels)?;
+    let semicolon = reader.take(SEMICOLON)?;
+    Ok(StatementForm::DoWhile(DoWhile {
+        keyword,
+        body,
+        while_keyword,
+        condition: test,
+        semicolon,
+    }))
+}
+
+fn boxed_head<'a>(
+    alloc: Global,
+    reader: &mut Reader<'a>,
+    levels: u32,
+) -> Result<Box<ForHead<'a>>, Stop>
+    ensures { Told (λ h. h.value) result (levels_left levels in_for reader.old) reader.new }
+{
+    let head = inner_for_head(alloc, reader, levels)?;
+    Ok(Box::new(alloc, head)?)
+}
+
+#[cycle(statement)]
+fn for_statement<'a>(
+    alloc: Global,
+    reader: &mut Reader<'a>,
+    levels: u32,
+) -> Result<StatementForm<'a>, Stop>
+    ensures { Told statement_marks result (read_for (levels_left levels) reader.old) reader.new }
+{
+    let keyword = reader.take(TokenSet::Keyword(Keyword::For))?;
+    let open = reader.take(OPEN)?;
+    let head = boxed_head(alloc, reader, levels)?;
+    let close = reader.take(CLOSE)?;
+    let body = inner_statement(alloc, reader, levels)?;
+    Ok(StatementForm::For(For {
+        keyword,
+        open,
+        head,
+        close,
+        body,
+    }))
+}
+
+/// A statement of a keyword that has no statement in it (C90 6.6.6, 7.2).
+fn jump_statement<'a>(
+    alloc: Global,
+    reader: &mut Reader<'a>,
+    levels: u32,
+) -> Result<StatementForm<'a>, Stop>
+    ensures { Told statement_marks result (read_jump (levels_left levels) reader.old) reader.new }
+{
+    if reader.next_is(TokenSet::Keyword(Keyword::Break)) {
+        let keyword = reader.take(TokenSet::Keyword(Keyword::Break))?;
+        let semicolon = reader.take(SEMICOLON)?;
+        Ok(StatementForm::Break { keyword, semicolon })
+    } else if reader.next_is(TokenSet::Keyword(Keyword::Continue)) {
+        let keyword = reader.take(TokenSet::Keyword(Keyword::Continue))?;
+        let semicolon = reader.take(SEMICOLON)?;
+        Ok(StatementForm::Continue { keyword, semicolon })
+    } else if reader.next_is(TokenSet::Keyword(Keyword::Return)) {
+        return_statement(alloc, reader, levels)
+    } else {
+        last_statement(alloc, reader, levels)
+    }
+}
+
+fn return_statement<'a>(
+    alloc: Global,
+    reader: &mut Reader<'a>,
+    levels: u32,
+) -> Result<StatementForm<'a>, Stop>
+    ensures { Told statement_marks result ((read_key keyword.Return ▹ maybe_expression (levels_left levels) ▹ read_semicolon) reader.old) reader.new }
+{
+    let keyword = reader.take(TokenSet::Keyword(Keyword::Return))?;
+    let value = maybe_expression(alloc, reader, levels)?;
+    let semicolon = reader.take(SEMICOLON)?;
+    Ok(StatementForm::Return {
+        keyword,
+        value,
+        semicolon,
+    })
+}
+
+fn last_statement<'a>(
+    alloc: Global,
+    reader: &mut Reader<'a>,
+    levels: u32,
+) -> Result<StatementForm<'a>, Stop>
+    ensures { Told statement_marks result (read_last (levels_left levels) reader.old) reader.new }
+{
+    if reader.next_is(TokenSet::Keyword(Keyword::Assert)) {
+        let keyword = reader.take(TokenSet::Keyword(Keyword::Assert))?;
+        let test = condition(alloc, reader, levels)?;
+        let semicolon = reader.take(SEMICOLON)?;
+        Ok(StatementForm::Assert {
+            keyword,
+            condition: test,
+            semicolon,
+        })
+    } else {
+        let keyword = reader.take(TokenSet::Keyword(Keyword::Printf))?;
+        let open = reader.take(OPEN)?;
+        let printed = inner_printed(alloc, reader, levels)?;
+        let close = reader.take(CLOSE)?;
+        let semicolon = reader.take(SEMICOLON)?;
+        Ok(StatementForm::Printf {
+            keyword,
+            open,
+            printed,
+            close,
+            semicolon,
+        })
+    }
+}

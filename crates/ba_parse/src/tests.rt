@@ -1,0 +1,365 @@
+//! Texts with the place where they are refused, worked out from the grammar.
+
+use crate::error::ParseError;
+use crate::parser::parse;
+use ba_lex::{MAX_TEXT, tokens};
+use std::alloc::{AllocError, Global};
+use std::process::Abort;
+use std::test::Fail;
+
+fn answer(alloc: Global, text: &str) -> Result<String, AllocError> {
+    if text.len() > MAX_TEXT {
+        return String::from_str(alloc, "too long");
+    }
+    match tokens(alloc, text.as_bytes()) {
+        Ok(list) => match parse(alloc, list.as_slice()) {
+            Ok(_) => String::from_str(alloc, "parses"),
+            Err(ParseError::Syntax(place)) => format!(in alloc; "Syntax {place}"),
+            Err(ParseError::TooDeep(place)) => format!(in alloc; "TooDeep {place}"),
+            Err(ParseError::Memory) => String::from_str(alloc, "Memory"),
+        },
+        Err(_) => String::from_str(alloc, "no tokens"),
+    }
+}
+
+fn expect_answer(
+    rt: &impl Abort,
+    alloc: Global,
+    text: &str,
+    expected: &str,
+) -> Result<(), AllocError> {
+    let found = answer(alloc, text)?;
+    assert_eq!(rt; found.as_str(), expected, "for {text}");
+    Ok(())
+}
+
+fn expect_answers(rt: &impl Abort, alloc: Global, rows: &[(&str, &str)]) -> Result<(), AllocError> {
+    for (text, expected) in rows {
+        expect_answer(rt, alloc, text, expected)?;
+    }
+    Ok(())
+}
+
+/// The front, the part so many times, and the back.
+fn repeated(
+    alloc: Global,
+    front: &str,
+    part: &str,
+    count: u32,
+    back: &str,
+) -> Result<String, AllocError> {
+    let mut text = String::from_str(alloc, front)?;
+    for _ in 0..count {
+        text.push_str(part)?;
+    }
+    text.push_str(back)?;
+    Ok(text)
+}
+
+const PARSED_FILES: [(&str, &str); 16] = [
+    ("", "parses"),
+    ("int x ;", "parses"),
+    ("int x = 1 , y , z [ 3 ] = { 1 , 2 , } ;", "parses"),
+    ("static const unsigned int x ;", "parses"),
+    ("int unsigned static const x ;", "parses"),
+    ("long int signed x ;", "parses"),
+    (
+        "signed char c ; unsigned char d ; short int e ; long f ;",
+        "parses",
+    ),
+    ("char c [ ] = { 1 } ;", "parses"),
+    ("int a [ ] ;", "parses"),
+    ("int f ( void ) ;", "parses"),
+    ("int f ( ) ;", "parses"),
+    ("int f ( int , char b [ ] , unsigned c [ 4 ] ) ;", "parses"),
+    (
+        "int f ( const int a , int const b [ ] ) { return a ; }",
+        "parses",
+    ),
+    ("static void f ( void ) { }", "parses"),
+    ("void f ( ) { }", "parses"),
+    ("int a ; int b ; int f ( int x ) { } int c ;", "parses"),
+];
+
+const PARSED_STATEMENTS: [(&str, &str); 24] = [
+    ("int main ( void ) { return 0 ; }", "parses"),
+    (
+        "int main ( void ) { int i ; i = 1 ; { const int j = 2 , k ; j = 2 ; } ; }",
+        "parses",
+    ),
+    ("int main ( void ) { if ( 1 ) ; else ; }", "parses"),
+    (
+        "int main ( void ) { if ( 1 ) if ( 2 ) ; else ; else ; }",
+        "parses",
+    ),
+    ("int main ( void ) { while ( x < 3 ) x ++ ; }", "parses"),
+    ("int main ( void ) { do x -- ; while ( x ) ; }", "parses"),
+    ("int main ( void ) { for ( ; ; ) break ; }", "parses"),
+    (
+        "int main ( void ) { for ( i = 0 , j = 1 ; i < 3 ; i ++ , -- j ) continue ; }",
+        "parses",
+    ),
+    (
+        "int main ( void ) { for ( int i = 0 , j ; i ; ) { } }",
+        "parses",
+    ),
+    (
+        "int main ( void ) { for ( const char i = 0 ; ; f ( ) ) ; }",
+        "parses",
+    ),
+    ("int main ( void ) { return ; }", "parses"),
+    ("int main ( void ) { assert ( x == 1 ) ; }", "parses"),
+    (
+        "int main ( void ) { printf ( \"a\" \"b\" \"c\" , x , y + 1 ) ; printf ( \"a\" ) ; }",
+        "parses",
+    ),
+    (
+        "int main ( void ) { x = a * b + c << d < e == f & g ^ h | i && j || k ; }",
+        "parses",
+    ),
+    (
+        "int main ( void ) { x = a || b && c | d ^ e & f != g >= h >> i - j % k / l ; }",
+        "parses",
+    ),
+    ("int main ( void ) { x = a - b - c - d ; }", "parses"),
+    ("int main ( void ) { x = a ? b : c ? d : e ; }", "parses"),
+    ("int main ( void ) { x = a ? b ? c : d : e ; }", "parses"),
+    (
+        "int main ( void ) { x = ( int ) y ; y = ( x ) + 1 ; }",
+        "parses",
+    ),
+    (
+        "int main ( void ) { x = - ~ ! + y ; x = ( unsigned char ) - ( x ) ; }",
+        "parses",
+    ),
+    (
+        "int main ( void ) { x = f ( 1 , g ( ) , a [ 2 ] ) ; }",
+        "parses",
+    ),
+    (
+        "int main ( void ) { a [ i ] += 1 ; x -= 1 ; x *= 1 ; x /= 1 ; x %= 1 ; x &= 1 ; x ^= 1 ; x |= 1 ; x <<= 1 ; x >>= 1 ; }",
+        "parses",
+    ),
+    (
+        "int main ( void ) { ++ a [ 0 ] ; -- b ; a [ 1 ] ++ ; f ( ) ; f ( x ) ; }",
+        "parses",
+    ),
+    ("int main ( void ) { { { { } } } }", "parses"),
+];
+
+const REFUSED_FILES: [(&str, &str); 30] = [
+    ("x ;", "Syntax 0"),
+    ("int", "Syntax 1"),
+    ("const x ;", "Syntax 1"),
+    ("int const const x ;", "Syntax 2"),
+    ("int int x ;", "Syntax 1"),
+    ("short long x ;", "Syntax 1"),
+    ("void int x ;", "Syntax 1"),
+    ("unsigned signed x ;", "Syntax 1"),
+    ("char short x ;", "Syntax 1"),
+    ("static static int x ;", "Syntax 1"),
+    ("int f ( static int x ) ;", "Syntax 3"),
+    ("int f ( const void ) { }", "Syntax 6"),
+    ("int f ( int ) { }", "Syntax 5"),
+    ("int f ( void , int x ) { }", "Syntax 8"),
+    ("int f ( int x , ) ;", "Syntax 6"),
+    ("int f ( int x int y ) ;", "Syntax 5"),
+    ("int a [ ;", "Syntax 3"),
+    ("int a [ 2 , 3 ] ;", "Syntax 4"),
+    ("int a = { } ;", "Syntax 4"),
+    ("int a = { 1 , , } ;", "Syntax 6"),
+    ("int a = { 1 2 } ;", "Syntax 5"),
+    ("int a = ;", "Syntax 3"),
+    ("int a , ;", "Syntax 3"),
+    ("int a b ;", "Syntax 2"),
+    ("int a [ 1 ] [ 2 ] ;", "Syntax 5"),
+    ("int f ( void ) , g ;", "Syntax 5"),
+    ("int x , f ( void ) ;", "Syntax 4"),
+    ("int ( x ) ;", "Syntax 1"),
+    ("int main ( void ) { } }", "Syntax 7"),
+    ("int f ( void", "Syntax 4"),
+];
+
+const REFUSED_STATEMENTS: [(&str, &str); 26] = [
+    ("int main ( void ) { x + 1 ; }", "Syntax 7"),
+    ("int main ( void ) { if ( 1 ) ; else", "Syntax 12"),
+    ("int main ( void ) {", "Syntax 6"),
+    ("int main ( void ) { static int x ; }", "Syntax 6"),
+    ("int main ( void ) { x = ( static int ) y ; }", "Syntax 9"),
+    (
+        "int main ( void ) { for ( static int i ; ; ) ; }",
+        "Syntax 8",
+    ),
+    ("int main ( void ) { x = ; }", "Syntax 8"),
+    ("int main ( void ) { x = 1 }", "Syntax 9"),
+    ("int main ( void ) { x = a ? b ; }", "Syntax 11"),
+    ("int main ( void ) { x = a + * b ; }", "Syntax 10"),
+    ("int main ( void ) { x = a b ; }", "Syntax 9"),
+    ("int main ( void ) { x = ( a ; }", "Syntax 10"),
+    ("int main ( void ) { x = ( int ) ; }", "Syntax 11"),
+    ("int main ( void ) { x = ( int x ) ; }", "Syntax 10"),
+    ("int main ( void ) { f ( 1 , ) ; }", "Syntax 10"),
+    ("int main ( void ) { f ( 1 ; }", "Syntax 9"),
+    ("int main ( void ) { a [ ] = 1 ; }", "Syntax 8"),
+    ("int main ( void ) { a [ 1 ] ( 2 ) ; }", "Syntax 10"),
+    ("int main ( void ) { x ; }", "Syntax 7"),
+    ("int main ( void ) { ++ 1 ; }", "Syntax 7"),
+    ("int main ( void ) { x ++ ++ ; }", "Syntax 8"),
+    ("int main ( void ) { if x ; }", "Syntax 7"),
+    ("int main ( void ) { if ( ) ; }", "Syntax 8"),
+    ("int main ( void ) { while ( 1 ) }", "Syntax 10"),
+    ("int main ( void ) { do ; while ( 1 ) }", "Syntax 12"),
+    ("int main ( void ) { do ; x ; }", "Syntax 8"),
+];
+
+const REFUSED_OTHERS: [(&str, &str); 26] = [
+    ("int main ( void ) { for ( 1 ; ; ) ; }", "Syntax 8"),
+    ("int main ( void ) { for ( ; ; 1 ) ; }", "Syntax 10"),
+    ("int main ( void ) { for ( ; ) ; }", "Syntax 9"),
+    (
+        "int main ( void ) { for ( i = 0 , int j ; ; ) ; }",
+        "Syntax 12",
+    ),
+    (
+        "int main ( void ) { for ( int i ; ; i ++ , ) ; }",
+        "Syntax 15",
+    ),
+    ("int main ( void ) { break 1 ; }", "Syntax 7"),
+    ("int main ( void ) { return 1 2 ; }", "Syntax 8"),
+    ("int main ( void ) { assert 1 ; }", "Syntax 7"),
+    ("int main ( void ) { assert ( 1 ) }", "Syntax 10"),
+    ("int main ( void ) { printf ( x ) ; }", "Syntax 8"),
+    ("int main ( void ) { printf ( \"a\" x ) ; }", "Syntax 9"),
+    (
+        "int main ( void ) { printf ( \"a\" , \"b\" ) ; }",
+        "Syntax 10",
+    ),
+    (
+        "int main ( void ) { printf ( \"a\" , 1 \"b\" ) ; }",
+        "Syntax 11",
+    ),
+    ("int main ( void ) { ; else ; }", "Syntax 7"),
+    (
+        "int main ( void ) { if ( 1 ) ; else ; else ; }",
+        "Syntax 13",
+    ),
+    ("int main ( void ) { if ( 1 ) int x ; }", "Syntax 10"),
+    ("int main ( void ) { 1 ; }", "Syntax 6"),
+    ("int main ( void ) { ( x ) = 1 ; }", "Syntax 6"),
+    ("int main ( void ) { x = 1 , y = 2 ; }", "Syntax 9"),
+    ("int main ( void ) { int f ( void ) ; }", "Syntax 8"),
+    ("int main ( void ) { int x = 1", "Syntax 10"),
+    ("int main ( void ) { x = y = 1 ; }", "Syntax 9"),
+    ("int main ( void ) { x = ++ y ; }", "Syntax 8"),
+    ("int main ( void ) { x = * y ; }", "Syntax 8"),
+    ("int main ( void ) { x = & y ; }", "Syntax 8"),
+    ("int main ( void ) { x = \"a\" ; }", "Syntax 8"),
+];
+
+#[test]
+fn declarations_and_functions_parse(rt: HostRuntime) -> Result<(), Fail> {
+    expect_answers(&rt, rt.alloc(), &PARSED_FILES)?;
+    Ok(())
+}
+
+#[test]
+fn statements_and_expressions_parse(rt: HostRuntime) -> Result<(), Fail> {
+    expect_answers(&rt, rt.alloc(), &PARSED_STATEMENTS)?;
+    Ok(())
+}
+
+#[test]
+fn declarations_are_refused_at_the_first_token_that_cannot_stand(
+    rt: HostRuntime,
+) -> Result<(), Fail> {
+    expect_answers(&rt, rt.alloc(), &REFUSED_FILES)?;
+    Ok(())
+}
+
+#[test]
+fn statements_are_refused_at_the_first_token_that_cannot_stand(
+    rt: HostRuntime,
+) -> Result<(), Fail> {
+    expect_answers(&rt, rt.alloc(), &REFUSED_STATEMENTS)?;
+    Ok(())
+}
+
+#[test]
+fn other_statements_are_refused_so_too(rt: HostRuntime) -> Result<(), Fail> {
+    expect_answers(&rt, rt.alloc(), &REFUSED_OTHERS)?;
+    Ok(())
+}
+
+#[test]
+fn a_hundred_levels_of_parentheses_are_accepted(rt: HostRuntime) -> Result<(), Fail> {
+    let alloc = rt.alloc();
+    let most = repeated(alloc, "1", ")", 99, " ; }")?;
+    let over = repeated(alloc, "1", ")", 100, " ; }")?;
+    let accepted = repeated(alloc, "int main(void) { return ", "(", 99, most.as_str())?;
+    let refused = repeated(alloc, "int main(void) { return ", "(", 100, over.as_str())?;
+    expect_answer(&rt, alloc, accepted.as_str(), "parses")?;
+    expect_answer(&rt, alloc, refused.as_str(), "TooDeep 107")?;
+    Ok(())
+}
+
+#[test]
+fn a_hundred_levels_of_blocks_are_accepted(rt: HostRuntime) -> Result<(), Fail> {
+    let alloc = rt.alloc();
+    let most = repeated(alloc, ";", "}", 100, "")?;
+    let over = repeated(alloc, ";", "}", 101, "")?;
+    let accepted = repeated(alloc, "int main(void) ", "{", 100, most.as_str())?;
+    let refused = repeated(alloc, "int main(void) ", "{", 101, over.as_str())?;
+    expect_answer(&rt, alloc, accepted.as_str(), "parses")?;
+    expect_answer(&rt, alloc, refused.as_str(), "TooDeep 106")?;
+    Ok(())
+}
+
+#[test]
+fn a_hundred_levels_of_prefix_operators_are_accepted(rt: HostRuntime) -> Result<(), Fail> {
+    let alloc = rt.alloc();
+    let accepted = repeated(alloc, "int main(void) { return ", "- ", 99, "1 ; }")?;
+    let refused = repeated(alloc, "int main(void) { return ", "- ", 100, "1 ; }")?;
+    expect_answer(&rt, alloc, accepted.as_str(), "parses")?;
+    expect_answer(&rt, alloc, refused.as_str(), "TooDeep 107")?;
+    Ok(())
+}
+
+#[test]
+fn a_hundred_levels_of_a_chain_are_accepted(rt: HostRuntime) -> Result<(), Fail> {
+    let alloc = rt.alloc();
+    let accepted = repeated(alloc, "int main(void) { return 1", "+ 1", 99, " ; }")?;
+    let refused = repeated(alloc, "int main(void) { return 1", "+ 1", 100, " ; }")?;
+    expect_answer(&rt, alloc, accepted.as_str(), "parses")?;
+    expect_answer(&rt, alloc, refused.as_str(), "TooDeep 207")?;
+    Ok(())
+}
+
+#[test]
+fn a_hundred_levels_of_casts_are_accepted(rt: HostRuntime) -> Result<(), Fail> {
+    let alloc = rt.alloc();
+    let accepted = repeated(alloc, "int main(void) { return ", "(int) ", 99, "1 ; }")?;
+    let refused = repeated(alloc, "int main(void) { return ", "(int) ", 100, "1 ; }")?;
+    expect_answer(&rt, alloc, accepted.as_str(), "parses")?;
+    expect_answer(&rt, alloc, refused.as_str(), "TooDeep 305")?;
+    Ok(())
+}
+
+#[test]
+fn a_hundred_levels_of_controlled_statements_are_accepted(rt: HostRuntime) -> Result<(), Fail> {
+    let alloc = rt.alloc();
+    let accepted = repeated(alloc, "int main(void) { ", "if (1) ", 99, "; }")?;
+    let refused = repeated(alloc, "int main(void) { ", "if (1) ", 100, "; }")?;
+    expect_answer(&rt, alloc, accepted.as_str(), "parses")?;
+    expect_answer(&rt, alloc, refused.as_str(), "TooDeep 404")?;
+    Ok(())
+}
+
+#[test]
+fn a_hundred_levels_of_branches_are_accepted(rt: HostRuntime) -> Result<(), Fail> {
+    let alloc = rt.alloc();
+    let accepted = repeated(alloc, "int main(void) { return ", "1 ? 1 : ", 99, "1 ; }")?;
+    let refused = repeated(alloc, "int main(void) { return ", "1 ? 1 : ", 100, "1 ; }")?;
+    expect_answer(&rt, alloc, accepted.as_str(), "parses")?;
+    expect_answer(&rt, alloc, refused.as_str(), "TooDeep 405")?;
+    Ok(())
+}

@@ -1,0 +1,102 @@
+//! Reading the words of a type (C90 6.5.1, 6.5.2, 6.5.3).
+
+ghost use Rattle.std.specs.Prelude.{◌≡◌, ◌∷◌, [], map};
+ghost use Rattle.std.specs.List.{list_any, list_all};
+ghost use Rattle.ba_lex.specs.declared.token.Keyword.TheVariants as keyword;
+ghost use Rattle.ba_parse.specs.Classes.{class_of, word, ◌or◌, type_word, excludes, agree};
+ghost use Rattle.ba_parse.specs.Marks.{leaf};
+ghost use Rattle.ba_parse.specs.Readings.{read_type_words};
+ghost use Rattle.ba_parse.specs.Telling.{Told, next_word, agrees_with};
+
+use crate::class::{TokenClass, class_of};
+use crate::reader::{Reader, Stop};
+use crate::sets::{TokenSet, is_type_word};
+use crate::tree::expressions::TypeName;
+use ba_lex::token::{Keyword, Token};
+use std::alloc::Global;
+
+/// The words of a type, at least one of which names it. `static` is accepted where `with_static` says so.
+///
+/// # Errors
+///
+/// `Syntax` at the first word that does not agree with those before it, or after the words where none names a type;
+/// want of memory.
+pub fn type_name<'a>(
+    alloc: Global,
+    reader: &mut Reader<'a>,
+    with_static: bool,
+) -> Result<TypeName<'a>, Stop>
+    ensures { Told (λ t. t) result (read_type_words with_static reader.old) reader.new }
+{
+    let mut words = Vec::new(alloc);
+    while reader.next_is(TokenSet::DeclarationWord { with_static }) {
+        let word = next_word(reader, words.as_slice(), with_static)?;
+        words.push(word)?;
+    }
+    if !some_names_type(words.as_slice()) {
+        return Err(Stop::Syntax);
+    }
+    Ok(TypeName { words })
+}
+
+/// The next word, which has to agree with those before it.
+fn next_word<'a>(
+    reader: &mut Reader<'a>,
+    words: &[&'a Token],
+    with_static: bool,
+) -> Result<&'a Token, Stop>
+    ensures { Told (λ token. leaf token.now ∷ []) result (next_word with_static words.now reader.old) reader.new }
+{
+    if !agrees_with(words, reader.rest()) {
+        return Err(Stop::Syntax);
+    }
+    reader.take(TokenSet::DeclarationWord { with_static })
+}
+
+fn agrees_with(words: &[&Token], rest: &[Token]) -> bool
+    ensures { result ≡ agrees_with words.now rest.now }
+{
+    match rest.split_first() {
+        Some((token, _rest)) => agree_all(words, class_of(token)),
+        None => false,
+    }
+}
+
+fn agree_all(words: &[&Token], class: TokenClass) -> bool
+    ensures { result ≡ list_all (λ word. agree (class_of word.now) class) words.now }
+{
+    words.iter().all(|word| agree(class_of(word), class))
+}
+
+fn some_names_type(words: &[&Token]) -> bool
+    ensures { result ≡ list_any (λ word. type_word (class_of word.now)) words.now }
+{
+    words.iter().any(|word| is_type_word(class_of(word)))
+}
+
+/// Whether two words stand in one list.
+fn agree(first: TokenClass, second: TokenClass) -> bool
+    ensures { result ≡ agree first second }
+{
+    !(first == second || excludes(first, second) || excludes(second, first))
+}
+
+/// Whether the first word excludes the second, in one order of the two.
+fn excludes(first: TokenClass, second: TokenClass) -> bool
+    ensures { result ≡ excludes first second }
+{
+    (first == TokenClass::Keyword(Keyword::Void) && is_type_word(second))
+        || (first == TokenClass::Keyword(Keyword::Char) && is_length_word(second))
+        || (first == TokenClass::Keyword(Keyword::Short)
+            && second == TokenClass::Keyword(Keyword::Long))
+        || (first == TokenClass::Keyword(Keyword::Signed)
+            && second == TokenClass::Keyword(Keyword::Unsigned))
+}
+
+fn is_length_word(class: TokenClass) -> bool
+    ensures { result ≡ (word keyword.Short or word keyword.Int or word keyword.Long) class }
+{
+    class == TokenClass::Keyword(Keyword::Short)
+        || class == TokenClass::Keyword(Keyword::Int)
+        || class == TokenClass::Keyword(Keyword::Long)
+}
