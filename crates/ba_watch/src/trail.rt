@@ -73,6 +73,13 @@ impl Trail {
         &self.lits[..self.assigned]
     }
 
+    /// The reasons of the assigned literals, in their order.
+    pub fn reasons(&self) -> &[Option<ClauseRef>]
+        ensures { result.now ≡ self.now.reasons }
+    {
+        &self.reasons[..self.assigned]
+    }
+
     /// The literal at a place.
     pub fn lit(&self, place: usize) -> Lit
         requires { place < length self.now.lits }

@@ -3,7 +3,7 @@
 ghost use Rattle.std.specs.Prelude.{◌≡◌, ◌≢◌, ℕ, ◌+◌, ◌^◌, ◌<◌, ◌≤◌, ◌∷◌, ◌++◌, ◌⊎◌, [], None, Some, true, false, IfOk, OnErr, OnOk, IfSome, IfNone, IsSome, length, take, map, max, ltb, if◌then◌else◌};
 ghost use Rattle.ba_lits.specs.Literals.{lit_at, IsClause};
 ghost use Rattle.ba_watch.specs.Threads.{plain};
-ghost use Rattle.ba_watch.specs.Trails.{value_of, decided, level_of, reason_of, kept};
+ghost use Rattle.ba_watch.specs.Trails.{value_of, place_if, decided, level_of, reason_of, kept};
 ghost use Rattle.ba_watch.specs.Propagation.{clause_in, lits_in, is_false, IsReason, IsComplete, IsAsserting, Extends, AddsClause, KeepsFacts};
 
 use crate::choice::{latest, rank};
@@ -99,6 +99,22 @@ impl Watch {
         ensures { result.now ≡ self.now.trail }
     {
         self.trail.lits()
+    }
+
+    /// For each literal of the trail the clause because of which it is true; None where it was decided.
+    pub fn reasons(&self) -> &[Option<ClauseRef>]
+        ensures { result.now ≡ self.now.reasons }
+    {
+        self.trail.reasons()
+    }
+
+    /// The place on the trail where a variable got its value: None exactly where it has none.
+    pub fn place(&self, variable: u64) -> Option<usize>
+        requires counted { 1 ≤ variable }
+        requires within { variable ≤ self.now.variables }
+        ensures { result ≡ place_if self.now.trail variable }
+    {
+        self.trail.place(variable)
     }
 
     /// The clauses.
