@@ -1,7 +1,7 @@
 -- The words of an input, one after the other.
 use Rattle.std.proofs.Common.{◌≡◌, ℕ, zero, suc, ◌+◌, ◌-◌, ◌<◌, false, cond, not, Option, None, Some, List, [], ◌∷◌, ◌++◌, length, take, drop, take_while, ℤ, sym, ◌∙◌, ap, subst, refl, append_assoc, arith}
 use Rattle.std.specs.List.{prefix_len}
-use Rattle.ba_straight.specs.Text.{is_blank}
+use Rattle.ba_straight.specs.Decimal.{is_blank}
 use Rattle.ba_straight.specs.Input.{words_from, int_of, values_of, with_front}
 use Rattle.ba_straight.specs.Reading.{◌>>=◌}
 

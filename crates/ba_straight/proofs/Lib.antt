@@ -1,7 +1,7 @@
 pub mod Mapping
 pub mod Feasible
 pub mod Runs
-pub mod Cutting
+pub mod SeenKinds
 pub mod ReadSteps
 pub mod Fronts
 pub mod ItemLaws

@@ -1,5 +1,5 @@
 -- A straight-line program is read exactly as it is written.
-use Rattle.std.proofs.Common.{◌≡◌, ℕ, zero, suc, ◌+◌, ◌-◌, ◌<◌, ◌≤◌, nat_le, nat_eq, ◌==◌, not, ◌||◌, MatchOption, Bool, true, false, cond, ◌&&◌, Option, None, Some, List, [], ◌∷◌, ◌++◌, length, take, drop, codes, bytes_eq, sym, ◌∙◌, ap, subst, refl, append_assoc, arith}
+use Rattle.std.proofs.Common.{◌≡◌, ℕ, zero, suc, ◌+◌, ◌<◌, ◌≤◌, nat_le, MatchOption, Bool, true, false, cond, ◌&&◌, Option, None, Some, Result, Ok, ℤ, pos, negsuc, List, [], ◌∷◌, ◌++◌, length, drop, codes, bytes_eq, sym, ◌∙◌, ap, subst, refl, append_assoc, arith}
 use Rattle.std.proofs.lemmas.List.{length-append, length-map}
 use Rattle.std.proofs.lemmas.Grind.{common_steps}
 use Rattle.std.proofs.lemmas.Slice.Eq.{bytes_eq-Decides}
@@ -9,8 +9,13 @@ use Rattle.ba_tree.specs.declared.tree.StmtInfo.{StmtInfo}
 use Rattle.ba_straight.specs.declared.items.Item.{Item}
 use Rattle.ba_straight.specs.declared.items.Item.TheVariants.{Declare, Assign, Assert}
 use Rattle.ba_straight.specs.declared.items.Straight.{Straight}
-use Rattle.std.specs.List.{list_all, starts_with}
-use Rattle.ba_straight.specs.Text.{is_letter, is_digit, is_blank, is_reserved, is_number, digits_value, keyword_of, sign_of, marked, word_token, number_token, sign_token, token_of, size_of, pieces_from, pieces_of}
+use Rattle.ba_lex.specs.declared.error.LexError.{LexError}
+use Rattle.ba_lex.specs.declared.token.TokenKind.{TokenKind}
+use Rattle.ba_lex.specs.declared.token.TokenKind.TheVariants as kind
+use Rattle.ba_lex.specs.declared.token.Token.{Token as LexToken}
+use Rattle.ba_tree.specs.declared.numbers.CType.{CType}
+use Rattle.ba_tree.specs.declared.numbers.CType.TheVariants as ctype
+use Rattle.ba_straight.specs.Seen.{keyword_mark, punct_mark, number_of, constant_of, marked, token_of, pieces_of}
 use Rattle.ba_straight.specs.declared.pieces.Mark.{Mark}
 use Rattle.ba_straight.specs.declared.pieces.Mark.TheVariants as mark
 use Rattle.ba_straight.specs.declared.pieces.Token.{Token}
@@ -303,49 +308,50 @@ text_complete ps s w =
 pub written-unique : (ps : List Piece) (s t : Straight) → IsWritten ps s → IsWritten ps t → s ≡ t
 written-unique ps s t w v = some_is s t (sym (text_complete ps s w) ∙ text_complete ps t v)
 
--- THE NUMBERS of a text are those of int
+-- THE NUMBERS of tokens are those of int
 
-int_marked : (o : Option Mark) (t : Token) → IsInt t → IsInt (marked o t)
-int_marked None t h = h
-int_marked (Some m) t h = tt
+int_marked : (o : Option Mark) → IsInt (marked o)
+int_marked None = tt
+int_marked (Some m) = tt
 
-int_word : (word : List ℕ) → IsInt (word_token word)
-int_word word = int_marked (keyword_of word) _ (elim (is_reserved word) as (λ b. IsInt (cond b token.Other (token.Name word))) [ true ↦ tt | false ↦ tt ])
+int_within : (n : ℕ) (b : Bool) → (b ≡ true → n ≤ 2147483647) → IsInt (cond b (token.Number n) token.Other)
+int_within n true h = h refl
+int_within n false h = tt
 
-small_number : (a b : Bool) (n : ℕ) → ((a && b) && nat_le n 2147483647) ≡ true → n ≤ 2147483647
-small_number true true n h = grind (arith, common_steps)
-small_number true false n h = cc
-small_number false b n h = cc
+int_number : (z : ℤ) → IsInt (number_of z)
+int_number (pos n) = int_within n (nat_le n 2147483647) (λ h. grind (arith, common_steps))
+int_number (negsuc n) = tt
 
-int_number : (piece : List ℕ) (b : Bool) → (b ≡ true → digits_value piece ≤ 2147483647) → IsInt (cond b (token.Number (digits_value piece)) token.Other)
-int_number piece true h = h refl
-int_number piece false h = tt
+int_constant : (t : CType) (z : ℤ) → IsInt (constant_of t z)
+int_constant ctype.I8 z = tt
+int_constant ctype.U8 z = tt
+int_constant ctype.I16 z = tt
+int_constant ctype.U16 z = tt
+int_constant ctype.I32 z = int_number z
+int_constant ctype.U32 z = tt
 
-int_token : (piece : List ℕ) → IsInt (token_of piece)
-int_token [] = tt
-int_token (b ∷ bs) = elim (is_letter b) as (λ l. IsInt (cond l (word_token (b ∷ bs)) (cond (is_digit b) (number_token (b ∷ bs)) (sign_token (b ∷ bs))))) [
-  | true ↦ int_word (b ∷ bs)
-  | false ↦ elim (is_digit b) as (λ d. IsInt (cond d (number_token (b ∷ bs)) (sign_token (b ∷ bs)))) [
-    | true ↦ int_number (b ∷ bs) (is_number (b ∷ bs)) (small_number (list_all is_digit (b ∷ bs)) (bytes_eq (b ∷ bs) (48 ∷ []) || not (starts_with nat_eq (b ∷ bs) (48 ∷ []))) (digits_value (b ∷ bs)))
-    | false ↦ int_marked (sign_of (b ∷ bs)) token.Other tt
-  ]
-]
+int_token : (k : TokenKind) → IsInt (token_of k)
+int_token (kind.Name text) = tt
+int_token (kind.Keyword k) = int_marked (keyword_mark k)
+int_token (kind.Constant t value) = int_constant t value
+int_token kind.Quoted = tt
+int_token (kind.Punct p) = int_marked (punct_mark p)
 
-ints_from : (line column inside : ℕ) (text : List ℕ) → AreInts (pieces_from line column inside text)
-ints_from line column inside [] = tt
-ints_from line column zero (b ∷ bs) = elim (b == 10) as (λ t. AreInts (cond t (pieces_from (line + 1) 1 0 bs) (cond (is_blank b) (pieces_from line (column + 1) 0 bs)
-    (record { token = token_of (take (size_of (b ∷ bs)) (b ∷ bs)); at = record { line = line; column = column } } ∷ pieces_from line (column + 1) (size_of (b ∷ bs) - 1) bs)))) [
-      | true ↦ ints_from (line + 1) 1 0 bs
-      | false ↦ elim (is_blank b) as (λ t. AreInts (cond t (pieces_from line (column + 1) 0 bs)
-          (record { token = token_of (take (size_of (b ∷ bs)) (b ∷ bs)); at = record { line = line; column = column } } ∷ pieces_from line (column + 1) (size_of (b ∷ bs) - 1) bs))) [
-            | true ↦ ints_from line (column + 1) 0 bs
-            | false ↦ (int_token (take (size_of (b ∷ bs)) (b ∷ bs)), ints_from line (column + 1) (size_of (b ∷ bs) - 1) bs)
-          ]
-    ]
-ints_from line column (suc inside) (b ∷ bs) = ints_from line (column + 1) inside bs
+ints_of : (tokens : List LexToken) → AreInts (pieces_of tokens)
+ints_of [] = tt
+ints_of (t ∷ ts) = (int_token t.kind, ints_of ts)
 
--- what reading gives for a text
-pub read_is : (text : List ℕ) (pieces : List Piece) (o : Option Straight) → pieces ≡ pieces_of text → o ≡ straight_at pieces
-    → MatchOption o ((s : Straight) → IsText text s → ⊥) (IsText text)
-read_is text pieces None is_pieces h = λ s w. let none : None ≡ Some s = h ∙ ap straight_at is_pieces ∙ text_complete (pieces_of text) s w in cc
-read_is text pieces (Some s) is_pieces h = text_sound (pieces_of text) s (ints_from 1 1 0 text) (sym (h ∙ ap straight_at is_pieces))
+-- what reading gives for tokens
+pub read_is : (tokens : List LexToken) (pieces : List Piece) (o : Option Straight) → pieces ≡ pieces_of tokens → o ≡ straight_at pieces
+    → MatchOption o ((s : Straight) → IsWritten (pieces_of tokens) s → ⊥) (IsWritten (pieces_of tokens))
+read_is tokens pieces None is_pieces h = λ s w. let none : None ≡ Some s = h ∙ ap straight_at is_pieces ∙ text_complete (pieces_of tokens) s w in cc
+read_is tokens pieces (Some s) is_pieces h = text_sound (pieces_of tokens) s (ints_of tokens) (sym (h ∙ ap straight_at is_pieces))
+
+-- no text writes two programs
+pub text-unique : (text : List ℕ) (s t : Straight) → IsText text s → IsText text t → s ≡ t
+text-unique text s t w v =
+    let same : w.tokens ≡ v.tokens = ok_is w.tokens v.tokens (sym w.lexed ∙ v.lexed) in
+    written-unique (pieces_of v.tokens) s t (subst (λ ts. IsWritten (pieces_of ts) s) same w.written) v.written
+  where
+    ok_is : (a b : List LexToken) → ◌≡◌ {A = Result (List LexToken) LexError} (Ok a) (Ok b) → a ≡ b
+    ok_is a b e = cc

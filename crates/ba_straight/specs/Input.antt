@@ -5,7 +5,7 @@ use Rattle.std.specs.List.{list_all}
 use Rattle.ba_tree.specs.Numbers.{is_in}
 use Rattle.ba_tree.specs.declared.numbers.CType.TheVariants.{I32}
 use Rattle.ba_tree.specs.declared.run.Input.{Input}
-use Rattle.ba_straight.specs.Text.{is_blank, is_digit, digits_value}
+use Rattle.ba_straight.specs.Decimal.{is_blank, is_digit, digits_value}
 use Rattle.ba_straight.specs.Reading.{◌>>=◌}
 
 -- The words between the blanks of a text, of which the first bytes, as many as inside says, belong to a word that began

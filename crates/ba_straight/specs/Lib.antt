@@ -1,7 +1,8 @@
 pub mod Items
 pub mod Terms
 pub mod Sets
-pub mod Text
+pub mod Decimal
+pub mod Seen
 pub mod Spelling
 pub mod Reading
 pub mod Input

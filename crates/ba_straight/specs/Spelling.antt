@@ -1,6 +1,8 @@
 -- How a straight-line program is written.
 
-use Rattle.std.specs.Prelude.{◌≡◌, ◌⊎◌, ℕ, ◌+◌, ◌<◌, ◌≤◌, ℤ, pos, negsuc, List, [], ◌∷◌, ◌++◌, map, length, drop, slice_index_or, codes}
+use Rattle.std.specs.Prelude.{◌≡◌, ◌⊎◌, ℕ, ◌+◌, ◌<◌, ◌≤◌, ℤ, pos, negsuc, Ok, List, [], ◌∷◌, ◌++◌, map, length, drop, slice_index_or, codes}
+use Rattle.ba_lex.specs.Lines.{tokens_of}
+use Rattle.ba_lex.specs.declared.token.Token.{Token as LexToken}
 use Rattle.ba_tree.specs.declared.ids.At.{At}
 use Rattle.ba_tree.specs.declared.ids.VarId.{VarId}
 use Rattle.ba_tree.specs.declared.tree.Program.{Program}
@@ -16,7 +18,7 @@ use Rattle.ba_straight.specs.declared.pieces.Token.{Token}
 use Rattle.ba_straight.specs.declared.pieces.Token.TheVariants.{Mark, Name, Number, Other}
 use Rattle.ba_straight.specs.declared.pieces.Piece.{Piece}
 use Rattle.ba_straight.specs.Items.{IsTree, AreNumbered}
-use Rattle.ba_straight.specs.Text.{pieces_of}
+use Rattle.ba_straight.specs.Seen.{pieces_of}
 
 -- THE TOKENS that a program is written with, where these are the names of its variables
 
@@ -129,9 +131,11 @@ pub record IsWritten (pieces : List Piece) (s : Straight) : Type 0 where
   pub few_locals : length s.locals ≤ most
   pub few_statements : length s.statements ≤ most
 
--- A text of a straight-line program: its pieces are those of one.
-abbrev pub IsText : List ℕ → Straight → Type 0
-IsText text s = IsWritten (pieces_of text) s
+-- A text of a straight-line program: it has tokens, and they are those of one.
+pub record IsText (text : List ℕ) (s : Straight) : Type 0 where
+  pub tokens : List LexToken
+  pub lexed : tokens_of text ≡ Ok tokens
+  pub written : IsWritten (pieces_of tokens) s
 
 -- A text SPELLS a program where it is that of a straight-line program whose tree this is.
 pub record Spells (text : List ℕ) (p : Program) : Type 0 where

@@ -4,10 +4,10 @@ ghost use Rattle.std.specs.Prelude.{◌≡◌, ◌∷◌, [], ◌≤◌, ◌<◌
 ghost use Rattle.std.specs.List.{list_all};
 ghost use Rattle.ba_tree.specs.declared.run.Input.{Input};
 ghost use Rattle.ba_straight.specs.Input.{IsInputText, digits_number, int_of, values_of, words_of};
-ghost use Rattle.ba_straight.specs.Text.{is_blank};
+ghost use Rattle.ba_straight.specs.Decimal.{is_blank};
 ghost use Rattle.ba_straight.specs.Reading.{Gives};
 
-use crate::pieces::{are_digits, digits_value, is_blank};
+use crate::decimal_digits::{are_digits, digits_value, is_blank};
 use ba_items::Items;
 use ba_tree::run::Input;
 use std::alloc::{AllocError, Global};

@@ -1,13 +1,15 @@
 //! Reading straight-line programs.
 
 ghost use Rattle.std.specs.Prelude.{◌≡◌, ◌<◌, ◌≤◌, ◌^◌, [], ℕ, List, length, IfOk, IfSome, MatchOption, OnOk};
-ghost use Rattle.ba_straight.specs.Spelling.{IsText, most, place_of};
+ghost use Rattle.ba_straight.specs.Seen.{pieces_of};
+ghost use Rattle.ba_straight.specs.Spelling.{IsText, IsWritten, most, place_of};
 ghost use Rattle.ba_straight.specs.declared.items.Straight.{Straight};
 ghost use Rattle.ba_straight.specs.Reading.{added, after_mark, asserted_at, assigned_at, body_from, body_of, closed_at, counted, declared_at, declared_name, first_by, item_at, name_in, is_mark, is_small, number_in, opened_at, operand_in, param_at, params_at, params_from, straight_at, variable_in, variable_named, Gives};
 
 use crate::items::{Item, Operand, Straight};
 use crate::pieces::{Mark, Piece, Token, pieces_of};
 use ba_items::Items;
+use ba_lex::token::Token as LexToken;
 use ba_tree::ids::{At, StmtId, VarId};
 use ba_tree::tree::{StmtInfo, StmtKind};
 use std::alloc::{AllocError, Global};
@@ -399,14 +401,13 @@ fn straight_at(alloc: Global, pieces: &[Piece]) -> Result<Option<Straight>, Allo
     }))
 }
 
-/// The straight-line program that the text writes, if it is that of one.
+/// The straight-line program that the tokens write, if they are those of one.
 ///
 /// The one error is want of memory.
-pub fn read_straight(alloc: Global, text: &[u8]) -> Result<Option<Straight>, AllocError>
-    requires { length text.now ≤ 65536 }
-    ensures { IfOk result (λ straight. MatchOption straight ((s : Straight) → IsText text.now s → ⊥) (IsText text.now)) }
+pub fn read_straight(alloc: Global, tokens: &[LexToken]) -> Result<Option<Straight>, AllocError>
+    ensures { IfOk result (λ straight. MatchOption straight ((s : Straight) → IsWritten (pieces_of tokens.now) s → ⊥) (IsWritten (pieces_of tokens.now))) }
 {
-    let pieces = pieces_of(alloc, text)?;
+    let pieces = pieces_of(alloc, tokens)?;
     straight_at(alloc, pieces.as_slice())
 }
 

@@ -10,8 +10,12 @@ use Rattle.ba_tree.specs.Least.{AreLeast, judge_of, unit_weights}
 use Rattle.ba_tree.proofs.Sets.{AreLeast-unique}
 use Rattle.ba_tree.specs.declared.run.Input.{Input}
 use Rattle.ba_tree.specs.declared.tree.Program.{Program}
-use Rattle.ba_straight.specs.Text.{digits_value}
+use Rattle.ba_straight.specs.Decimal.{digits_value}
+use Rattle.ba_tool.specs.Refusals.{IsFaulty, IsFileText}
 use Rattle.ba_tool.specs.Words.{IsJob}
+use Rattle.ba_tool.specs.declared.fault.Fault.{Fault}
+use Rattle.ba_tool.proofs.FileTrees.{file_text}
+use Rattle.ba_tool.proofs.Refusing.{no_fault}
 use Rattle.ba_tool.specs.Tool.{CannotBeRead, EndsWith, Found, HasNoCase, HasNoJob, Holds, IsAnswer, IsCase, IsRead, IsTooLong, IsVerdict, Outside, Tells, TellsShort, as_wanted, bounds_with, limit, memory, name_of, read_answer, read_fault, runs_well, status_of, stop_of, write_fault}
 use Rattle.ba_tool.specs.declared.answer.Answer.{Answer}
 use Rattle.ba_tool.specs.declared.answer.Answer.TheVariants as answer
@@ -98,6 +102,7 @@ where_no_job words out (answer.Located bytes) result due which refuted = absurd 
 where_no_job words out answer.NotFailing result due which refuted = absurd (refuted due.read.program due.read.input due.bound due.read.job)
 where_no_job words out answer.NoRepair result due which refuted = absurd (refuted due.read.program due.read.input due.bound due.read.job)
 where_no_job words out answer.NotBuilt result due which refuted = end_from out answer.NotBuilt status.NotBuilt result which (λ e. as_wanted e)
+where_no_job words out (answer.BadProgram bytes) result due which refuted = absurd (refuted due.read.program due.read.input due.bound due.read.job)
 where_no_job words out (answer.Unreadable w) result due which refuted = absurd (refuted due.program due.input due.bound due.job)
 where_no_job words out (answer.TooLong w) result due which refuted = absurd (refuted due.program due.input due.bound due.job)
 where_no_job words out answer.Memory result due which refuted = end_from out answer.Memory status.NotBuilt result which (λ e. memory e)
@@ -132,14 +137,16 @@ told_ends words out source text bound answer.NoRepair wanted result told due whi
 told_ends words out source text bound answer.NotBuilt wanted result told (inl refuted) which is = absurd (refuted told.tells.program told.tells.input bound told.tells.job)
 told_ends words out source text bound answer.NotBuilt wanted result told (inr due) which is =
     end_from out answer.NotBuilt wanted result which (λ e. as_wanted (e ∙ is (verdict_at words out source text bound answer.NotBuilt told.tells due)))
+told_ends words out source text bound (answer.BadProgram bytes) wanted result told due which is =
+    end_from out (answer.BadProgram bytes) wanted result which (λ e. as_wanted (e ∙ is (verdict_at words out source text bound (answer.BadProgram bytes) told.tells due)))
 told_ends words out source text bound (answer.Unreadable w) wanted result told due which is =
     end_from out (answer.Unreadable w) wanted result which (fault_rose words out source text bound w wanted result told.tells due)
 told_ends words out source text bound (answer.TooLong w) wanted result told due which is = absurd (not_longer words out source text bound w told due)
 told_ends words out source text bound answer.Memory wanted result told due which is = end_from out answer.Memory wanted result which (λ e. memory e)
 
 pub where_no_case : (words : List (List ℕ)) (out : Outside) (source text : List ℕ) (bound : ℕ) (a : Answer) (result : Status) → IsAnswer words out a → CanBe a result →
-    TellsShort words out source text bound → HasNoCase source text → EndsWith out status.NotBuilt result
-where_no_case words out source text bound a result due which told refuted =
+    TellsShort words out source text bound → IsFileText source → HasNoCase source text → EndsWith out status.NotBuilt result
+where_no_case words out source text bound a result due which told file_text refuted =
     told_ends words out source text bound a status.NotBuilt result told due which (no_verdict a)
   where
     no_verdict : (a : Answer) → IsVerdict source text (bounds_with bound) a → status_of a ≡ status.NotBuilt
@@ -147,9 +154,29 @@ where_no_case words out source text bound a result due which told refuted =
     no_verdict answer.NotFailing v = absurd (refuted v.program v.input v.is_case)
     no_verdict answer.NoRepair v = absurd (refuted v.program v.input v.is_case)
     no_verdict answer.NotBuilt v = refl
+    no_verdict (answer.BadProgram bytes) v = absurd (no_fault source v.fault file_text v.faulty)
     no_verdict (answer.Unreadable w) v = absurd v
     no_verdict (answer.TooLong w) v = absurd v
     no_verdict answer.Memory v = absurd v
+
+-- a program that is spelled has no fault
+case_no_fault : (source text : List ℕ) (p : Program) (i : Input) (fault : Fault) → IsCase source text p i → IsFaulty source fault → ⊥
+case_no_fault source text p i fault case faulty = no_fault source fault (file_text source case.spelled.straight case.spelled.is_text) faulty
+
+pub where_bad_program : (words : List (List ℕ)) (out : Outside) (source text : List ℕ) (bound : ℕ) (a : Answer) (result : Status) → IsAnswer words out a → CanBe a result →
+    (fault : Fault) → TellsShort words out source text bound → IsFaulty source fault → EndsWith out status.BadProgram result
+where_bad_program words out source text bound a result due which fault told faulty =
+    told_ends words out source text bound a status.BadProgram result told due which (verdict a)
+  where
+    verdict : (a : Answer) → IsVerdict source text (bounds_with bound) a → status_of a ≡ status.BadProgram
+    verdict (answer.Located bytes) v = absurd (case_no_fault source text v.program v.input fault v.is_case faulty)
+    verdict answer.NotFailing v = absurd (case_no_fault source text v.program v.input fault v.is_case faulty)
+    verdict answer.NoRepair v = absurd (case_no_fault source text v.program v.input fault v.is_case faulty)
+    verdict answer.NotBuilt v = absurd (no_fault source fault v.0 faulty)
+    verdict (answer.BadProgram bytes) v = refl
+    verdict (answer.Unreadable w) v = absurd v
+    verdict (answer.TooLong w) v = absurd v
+    verdict answer.Memory v = absurd v
 
 pub where_too_long : (words : List (List ℕ)) (out : Outside) (source text : List ℕ) (bound : ℕ) (a : Answer) (result : Status) → IsAnswer words out a → CanBe a result →
     Tells words out source text bound → (limit < length source) ⊎ (limit < length text) → EndsWith out status.TooLong result
@@ -171,6 +198,7 @@ where_too_long words out source text bound a result due which tells long = ends 
     ends answer.NoRepair due which = absurd (not_read due.source due.text due.bound due.read long)
     ends answer.NotBuilt (inl refuted) which = absurd (refuted tells.program tells.input bound tells.job)
     ends answer.NotBuilt (inr due) which = absurd (not_read due.source due.text due.bound due.read long)
+    ends (answer.BadProgram bytes) due which = absurd (not_read due.source due.text due.bound due.read long)
     ends (answer.Unreadable w) due which = end_from out (answer.Unreadable w) status.TooLong result which (fault_rose words out source text bound w status.TooLong result tells due)
     ends (answer.TooLong w) due which = end_from out (answer.TooLong w) status.TooLong result which (λ e. as_wanted e)
     ends answer.Memory due which = end_from out answer.Memory status.TooLong result which (λ e. memory e)
@@ -188,7 +216,8 @@ where_not_failing words out source text bound a result due which p i told case w
     verdict (answer.Located bytes) v = absurd (not_both (runs_well p i (bounds_with bound)) well (v.each p i case).fails)
     verdict answer.NotFailing v = refl
     verdict answer.NoRepair v = absurd (not_both (runs_well p i (bounds_with bound)) well (v.each p i case).0)
-    verdict answer.NotBuilt v = absurd (v p i case)
+    verdict answer.NotBuilt v = absurd (v.1 p i case)
+    verdict (answer.BadProgram bytes) v = absurd (case_no_fault source text p i v.fault case v.faulty)
     verdict (answer.Unreadable w) v = absurd v
     verdict (answer.TooLong w) v = absurd v
     verdict answer.Memory v = absurd v
@@ -205,7 +234,8 @@ where_no_repair words out source text bound a result due which p i told case fai
         absurd (found.some (AreLeast-unique (unit_weights p) (judge_of p i (bounds_with bound)) found.sets [] found.least none))
     verdict answer.NotFailing v = absurd (not_both (runs_well p i (bounds_with bound)) (v.each p i case) fails)
     verdict answer.NoRepair v = refl
-    verdict answer.NotBuilt v = absurd (v p i case)
+    verdict answer.NotBuilt v = absurd (v.1 p i case)
+    verdict (answer.BadProgram bytes) v = absurd (case_no_fault source text p i v.fault case v.faulty)
     verdict (answer.Unreadable w) v = absurd v
     verdict (answer.TooLong w) v = absurd v
     verdict answer.Memory v = absurd v
@@ -220,7 +250,8 @@ where_located words out source text bound a result due which p i sets told case 
     verdict (answer.Located bytes) v = refl
     verdict answer.NotFailing v = absurd (not_both (runs_well p i (bounds_with bound)) (v.each p i case) fails)
     verdict answer.NoRepair v = absurd (some (AreLeast-unique (unit_weights p) (judge_of p i (bounds_with bound)) sets [] least (v.each p i case).1))
-    verdict answer.NotBuilt v = absurd (v p i case)
+    verdict answer.NotBuilt v = absurd (v.1 p i case)
+    verdict (answer.BadProgram bytes) v = absurd (case_no_fault source text p i v.fault case v.faulty)
     verdict (answer.Unreadable w) v = absurd v
     verdict (answer.TooLong w) v = absurd v
     verdict answer.Memory v = absurd v
@@ -234,7 +265,8 @@ completes words out source text bound a result due which p i told case = ends a 
     ends (answer.Located bytes) due which = inl (told_ends words out source text bound (answer.Located bytes) status.Ok result told due which (λ v. refl))
     ends answer.NotFailing due which = inr (inl (told_ends words out source text bound answer.NotFailing status.NotFailing result told due which (λ v. refl)))
     ends answer.NoRepair due which = inr (inr (told_ends words out source text bound answer.NoRepair status.NoRepair result told due which (λ v. refl)))
-    ends answer.NotBuilt due which = inl (told_ends words out source text bound answer.NotBuilt status.Ok result told due which (λ v. absurd (v p i case)))
+    ends answer.NotBuilt due which = inl (told_ends words out source text bound answer.NotBuilt status.Ok result told due which (λ v. absurd (v.1 p i case)))
+    ends (answer.BadProgram bytes) due which = inl (told_ends words out source text bound (answer.BadProgram bytes) status.Ok result told due which (λ v. absurd (case_no_fault source text p i v.fault case v.faulty)))
     ends (answer.Unreadable w) due which = inl (told_ends words out source text bound (answer.Unreadable w) status.Ok result told due which (λ v. absurd v))
     ends (answer.TooLong w) due which = inl (told_ends words out source text bound (answer.TooLong w) status.Ok result told due which (λ v. absurd v))
     ends answer.Memory due which = inl (told_ends words out source text bound answer.Memory status.Ok result told due which (λ v. absurd v))
@@ -258,6 +290,7 @@ found_answer words out source text bound (answer.Located bytes) read v = record 
 found_answer words out source text bound answer.NotFailing read v = record { source = source; text = text; bound = bound; read = read; verdict_is = v }
 found_answer words out source text bound answer.NoRepair read v = record { source = source; text = text; bound = bound; read = read; verdict_is = v }
 found_answer words out source text bound answer.NotBuilt read v = inr (record { source = source; text = text; bound = bound; read = read; verdict_is = v })
+found_answer words out source text bound (answer.BadProgram bytes) read v = record { source = source; text = text; bound = bound; read = read; verdict_is = v }
 found_answer words out source text bound (answer.Unreadable w) read v = absurd v
 found_answer words out source text bound (answer.TooLong w) read v = absurd v
 found_answer words out source text bound answer.Memory read v = tt

@@ -2,3 +2,5 @@ pub mod Unique
 pub mod Judging
 pub mod Ends
 mod Powers
+mod FileTrees
+mod Refusing

@@ -10,6 +10,7 @@ use Rattle.ba_tool.specs.declared.status.Status.TheVariants as status
 abbrev pub number_of : Status → ℕ
 number_of status.Ok = 0
 number_of status.NotFailing = 1
+number_of status.BadProgram = 3
 number_of status.NoRepair = 7
 number_of status.ReadFault = 11
 number_of status.WriteFault = 12

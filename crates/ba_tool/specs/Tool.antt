@@ -14,6 +14,7 @@ use Rattle.ba_tree.specs.declared.tree.Program.{Program}
 use Rattle.ba_straight.specs.Spelling.{Spells}
 use Rattle.ba_straight.specs.Input.{IsInputText}
 use Rattle.ba_tool.specs.Report.{Reports}
+use Rattle.ba_tool.specs.Refusals.{IsFileText, IsRefusal}
 use Rattle.ba_tool.specs.Texts.{no_repair_text, not_built_text, not_failing_text, too_long_text, unreadable_text}
 use Rattle.ba_tool.specs.Words.{IsJob}
 use Rattle.ba_tool.specs.declared.answer.Answer.{Answer}
@@ -75,7 +76,8 @@ abbrev pub IsVerdict : List ℕ → List ℕ → Bounds → Answer → Type 0
 IsVerdict source text b (answer.Located bytes) = IsLocated source text b bytes
 IsVerdict source text b answer.NotFailing = DoesNotFail source text b
 IsVerdict source text b answer.NoRepair = HasNoRepair source text b
-IsVerdict source text b answer.NotBuilt = HasNoCase source text
+IsVerdict source text b answer.NotBuilt = IsFileText source × HasNoCase source text
+IsVerdict source text b (answer.BadProgram bytes) = IsRefusal source bytes
 IsVerdict source text b (answer.Unreadable file) = ⊥
 IsVerdict source text b (answer.TooLong file) = ⊥
 IsVerdict source text b answer.Memory = ⊥
@@ -186,6 +188,7 @@ IsAnswer words out (answer.Located bytes) = Found words out (answer.Located byte
 IsAnswer words out answer.NotFailing = Found words out answer.NotFailing
 IsAnswer words out answer.NoRepair = Found words out answer.NoRepair
 IsAnswer words out answer.NotBuilt = HasNoJob words ⊎ Found words out answer.NotBuilt
+IsAnswer words out (answer.BadProgram bytes) = Found words out (answer.BadProgram bytes)
 IsAnswer words out (answer.Unreadable which) = CannotBeRead words out which
 IsAnswer words out (answer.TooLong which) = IsTooLong words out which
 IsAnswer words out answer.Memory = Unit {0}
@@ -196,6 +199,7 @@ status_of (answer.Located bytes) = status.Ok
 status_of answer.NotFailing = status.NotFailing
 status_of answer.NoRepair = status.NoRepair
 status_of answer.NotBuilt = status.NotBuilt
+status_of (answer.BadProgram bytes) = status.BadProgram
 status_of (answer.Unreadable which) = status.ReadFault
 status_of (answer.TooLong which) = status.TooLong
 status_of answer.Memory = status.Memory
@@ -206,6 +210,7 @@ text_of (answer.Located bytes) = bytes
 text_of answer.NotFailing = not_failing_text
 text_of answer.NoRepair = no_repair_text
 text_of answer.NotBuilt = not_built_text
+text_of (answer.BadProgram bytes) = bytes
 text_of (answer.Unreadable which) = unreadable_text which
 text_of (answer.TooLong which) = too_long_text which
 text_of answer.Memory = []

@@ -2,7 +2,7 @@
 
 use Rattle.std.specs.Prelude.{◌≡◌, ℕ, nat_le, ◌==◌, ◌&&◌, not, Bool, false, IsTrue, List, [], ◌∷◌, length, codes}
 use Rattle.std.specs.List.{list_all}
-use Rattle.ba_straight.specs.Text.{is_digit, digits_value}
+use Rattle.ba_straight.specs.Decimal.{is_digit, digits_value}
 
 -- a word that can be a file's name: it is not empty, and does not begin with `-`
 abbrev pub is_file_name : List ℕ → Bool

@@ -19,6 +19,8 @@ pub enum Answer {
     NoRepair,
     /// The words, the program or the input are of a form that is not built yet.
     NotBuilt,
+    /// The text of the program is refused: what is printed of its fault.
+    BadProgram(Items<u8>),
     /// This file cannot be read.
     Unreadable(File),
     /// This file is too long.
@@ -37,6 +39,7 @@ impl Answer {
             Answer::NotFailing => Status::NotFailing,
             Answer::NoRepair => Status::NoRepair,
             Answer::NotBuilt => Status::NotBuilt,
+            Answer::BadProgram(_) => Status::BadProgram,
             Answer::Unreadable(_) => Status::ReadFault,
             Answer::TooLong(_) => Status::TooLong,
             Answer::Memory => Status::Memory,
@@ -52,6 +55,7 @@ impl Answer {
             Answer::NotFailing => not_failing_text(),
             Answer::NoRepair => no_repair_text(),
             Answer::NotBuilt => not_built_text(),
+            Answer::BadProgram(refusal) => refusal.as_slice(),
             Answer::Unreadable(file) => unreadable_text(*file),
             Answer::TooLong(file) => too_long_text(*file),
             Answer::Memory => &[],

@@ -7,6 +7,7 @@ ghost use Rattle.std.specs.Process.{exit_status};
 ghost use Rattle.ba_tool.specs.Texts.{number_of};
 
 mod answer;
+mod fault;
 mod judge;
 mod report;
 mod rules;

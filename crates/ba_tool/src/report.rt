@@ -1,7 +1,7 @@
 //! The report: the text that names the least sets of a program.
 
 ghost use Rattle.std.specs.Prelude.{◌≡◌, ◌++◌, ◌+◌, ◌≤◌, take_while, flat_map, length, decimal, IfOk, OnOk};
-ghost use Rattle.ba_straight.specs.Text.{is_blank};
+ghost use Rattle.ba_straight.specs.Decimal.{is_blank};
 ghost use Rattle.ba_tool.specs.Report.{Reports, info_line, kind_word, line_at, place_text, set_lines, sets_lines, source_text, statement_at, trimmed, trimmed_end};
 
 use ba_items::Items;
@@ -74,7 +74,7 @@ fn statement_at(statements: &[StmtInfo], number: u32) -> StmtInfo
 }
 
 /// Adds a number in decimal digits.
-fn push_number(number: u64, text: &mut Vec<u8>) -> Result<(), AllocError>
+pub fn push_number(number: u64, text: &mut Vec<u8>) -> Result<(), AllocError>
     ensures { OnOk result (text.new.items ≡ text.old.items ++ decimal number) }
 {
     let mut buffer = Buffer::new();

@@ -10,6 +10,8 @@ pub enum Status {
     Ok = 0,
     /// The run as written meets every assertion: there is nothing to repair.
     NotFailing = 1,
+    /// The text of the program has no tokens, or its tokens are no file's.
+    BadProgram = 3,
     /// No set of statements could repair the run.
     NoRepair = 7,
     /// A file could not be read.

@@ -225,6 +225,20 @@ const THIRTEEN_DECLARATIONS: &str = "int main(void) {
 }
 ";
 
+const COMMENTED: &str = "#include <assert.h>
+#define TWO 0x2 /* as in C90 6.8.3 */
+int main(int a) {
+    int x; // a local
+    x = a;
+    assert(x == TWO);
+}
+";
+
+const COMMENTED_REPORT: &str = "located: weight 1, sets 1
+set 1:
+  5:5 assignment | x = a;
+";
+
 /// A program and an input, how the call ends on them, and what it prints.
 struct Row {
     program: &'static str,
@@ -233,7 +247,7 @@ struct Row {
     printed: &'static str,
 }
 
-const ROWS: [Row; 18] = [
+const ROWS: [Row; 19] = [
     Row {
         program: ONE_ASSIGNMENT,
         input: "1",
@@ -344,6 +358,13 @@ const ROWS: [Row; 18] = [
         status: Status::NotBuilt,
         printed: NOT_BUILT,
     },
+    // Comments, macros and other writings of constants are those of the lexer.
+    Row {
+        program: COMMENTED,
+        input: "1",
+        status: Status::Ok,
+        printed: COMMENTED_REPORT,
+    },
     // A number of the input has to be one of int.
     Row {
         program: ONE_ASSERT,
@@ -410,6 +431,86 @@ fn calls_nothing_but_print_after_a_fault(rt: HostRuntime) -> Result<(), Fail> {
             "after call {call}"
         );
     }
+    Ok(())
+}
+
+/// The most pairs of parentheses around a token of the body of a function.
+const NINETY_NINE: usize = 99;
+
+/// `int main(void) { return (..(1)..); }` with so many pairs of parentheses.
+fn nested(alloc: Global, pairs: usize) -> Result<String, AllocError> {
+    let mut text = String::from_str(alloc, "int main(void) { return ")?;
+    for _ in 0..pairs {
+        text.push_str("(")?;
+    }
+    text.push_str("1")?;
+    for _ in 0..pairs {
+        text.push_str(")")?;
+    }
+    text.push_str("; }")?;
+    Ok(text)
+}
+
+#[test]
+fn refuses_texts_that_are_no_programs(rt: HostRuntime) -> Result<(), Fail> {
+    let alloc = rt.alloc();
+    for (program, status, printed) in [
+        (
+            "int main(void) { double d; }",
+            Status::BadProgram,
+            "refused: program, error 1.3 at 1:18\n",
+        ),
+        (
+            "int main(void) { @ }",
+            Status::BadProgram,
+            "refused: program, error 1.1 at 1:18\n",
+        ),
+        (
+            "int x = 4294967296;",
+            Status::BadProgram,
+            "refused: program, error 1.2 at 1:9\n",
+        ),
+        (
+            "#pragma once\n",
+            Status::BadProgram,
+            "refused: program, error 1.4 at 1:1\n",
+        ),
+        (
+            "#define A B\n#define B 1\n",
+            Status::BadProgram,
+            "refused: program, error 1.5 at 2:9\n",
+        ),
+        (
+            "#define A 1\n#define A 2\n",
+            Status::BadProgram,
+            "refused: program, error 1.6 at 2:9\n",
+        ),
+        (
+            "int main(void) { x + 1; }",
+            Status::BadProgram,
+            "refused: program, error 2.1 at 1:20\n",
+        ),
+        (
+            "int main(void) { if (1) ; else",
+            Status::BadProgram,
+            "refused: program, error 2.1 at end\n",
+        ),
+        ("int main(int a) { return a; }", Status::NotBuilt, NOT_BUILT),
+    ] {
+        let mut world = world_of(alloc, program, "1", &[], 4096)?;
+        assert_eq!(rt; localise(alloc, &mut world), status, "{program}");
+        assert_eq!(rt; world.printed(), printed.as_bytes(), "{program}");
+    }
+    let deep = nested(alloc, NINETY_NINE)?;
+    let mut world = world_of(alloc, deep.as_str(), "", &[], 4096)?;
+    assert_eq!(rt; localise(alloc, &mut world), Status::NotBuilt);
+    let too_deep = nested(alloc, NINETY_NINE + 1)?;
+    let mut world = world_of(alloc, too_deep.as_str(), "", &[], 4096)?;
+    assert_eq!(rt; localise(alloc, &mut world), Status::BadProgram);
+    assert_eq!(rt;
+        world.printed(),
+        b"refused: program, error 2.2 at 1:125\n".as_slice()
+    );
     Ok(())
 }
 

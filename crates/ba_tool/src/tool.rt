@@ -5,7 +5,9 @@ ghost use Rattle.ba_world.specs.World.{Appends, AppendsPrefix, Rose};
 ghost use Rattle.ba_tree.specs.declared.run.Input.{Input};
 ghost use Rattle.ba_tree.specs.declared.tree.Program.{Program};
 ghost use Rattle.ba_tree.specs.Least.{AreLeast, judge_of, unit_weights};
+ghost use Rattle.ba_tool.specs.Refusals.{IsFaulty, IsFileText};
 ghost use Rattle.ba_tool.specs.declared.answer.Answer.{Answer};
+ghost use Rattle.ba_tool.specs.declared.fault.Fault.{Fault};
 ghost use Rattle.ba_tool.specs.declared.status.File.{File};
 ghost use Rattle.ba_tool.specs.Texts.{no_repair_text, not_built_text, not_failing_text, too_long_text, unreadable_text};
 ghost use Rattle.ba_tool.specs.Tool.{CannotBeRead, EndsWith, Found, HasNoCase, HasNoJob, IsAnswer, IsCase, IsTooLong, Prints, Tells, TellsShort, bounds_with, limit, outside, read_answer, runs_well, status_of, text_of};
@@ -113,8 +115,8 @@ fn finish<W: World>(world: &mut W, answer: &Answer) -> Status
 ///
 /// The words are `localise`, the name of the program's file, that of the input's file, `--bound`, and a bound
 /// from 1 to 64 on the turns of each entry of a loop. In this order it reads the words, the program's file and
-/// the input's file, each of them whole; it looks whether program and input are of the form that is built; it
-/// runs the program as written; and if that run fails it searches. It prints one text, by one call, made whole
+/// the input's file, each of them whole; it reads the program's tokens and their tree; it looks whether program and
+/// input are of the form that is built; it runs the program as written; and if that run fails it searches. It prints one text, by one call, made whole
 /// before. After a fault of reading it calls nothing of the world but the print of the refusal's text.
 ///
 /// Want of memory is the one answer that no clause ties to a cause.
@@ -144,6 +146,10 @@ where
         → Found (map (λ word. word.now) words.now) (outside W.held W.left W.is_reading W.read_faults W.given world.old world.new) Answer.NoRepair
         × Appends (W.printed world.old) (W.printed world.new) no_repair_text }
 
+    // The text of the program has no tokens, or its tokens are no file's: its fault was printed.
+    ensures bad_program { result ≡ Status.BadProgram → Prints (W.printed world.old) (W.printed world.new)
+        (λ text. Found (map (λ word. word.now) words.now) (outside W.held W.left W.is_reading W.read_faults W.given world.old world.new) (Answer.BadProgram text)) }
+
     // The words, or the program and the input, are not of the form.
     ensures not_built { result ≡ Status.NotBuilt
         → (HasNoJob (map (λ word. word.now) words.now)
@@ -171,8 +177,13 @@ where
     // The same from the causes: with which status the call ends, where no fault and no want of memory comes.
     ensures where_no_job { HasNoJob (map (λ word. word.now) words.now)
         → EndsWith (outside W.held W.left W.is_reading W.read_faults W.given world.old world.new) Status.NotBuilt result }
+    ensures where_bad_program { (source text : List ℕ) (bound : ℕ) (fault : Fault)
+        → TellsShort (map (λ word. word.now) words.now) (outside W.held W.left W.is_reading W.read_faults W.given world.old world.new) source text bound
+        → IsFaulty source fault
+        → EndsWith (outside W.held W.left W.is_reading W.read_faults W.given world.old world.new) Status.BadProgram result }
     ensures where_no_case { (source text : List ℕ) (bound : ℕ)
         → TellsShort (map (λ word. word.now) words.now) (outside W.held W.left W.is_reading W.read_faults W.given world.old world.new) source text bound
+        → IsFileText source
         → HasNoCase source text
         → EndsWith (outside W.held W.left W.is_reading W.read_faults W.given world.old world.new) Status.NotBuilt result }
     ensures where_too_long { (source text : List ℕ) (bound : ℕ)

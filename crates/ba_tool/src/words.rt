@@ -2,7 +2,7 @@
 
 ghost use Rattle.std.specs.Prelude.{◌≡◌, ◌↔◌, ℕ, ◌≤◌, true, IsTrue, if◌then◌else◌, List, length, map, MatchOption};
 ghost use Rattle.std.specs.List.{list_all};
-ghost use Rattle.ba_straight.specs.Text.{digits_value, is_digit};
+ghost use Rattle.ba_straight.specs.Decimal.{digits_value, is_digit};
 ghost use Rattle.ba_tool.specs.Words.{IsJob, is_bound, is_file_name, is_numeral};
 
 /// What the words ask for: the names of two files, and the bound on the turns of each entry of a loop, from 1

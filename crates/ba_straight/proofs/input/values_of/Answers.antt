@@ -1,7 +1,7 @@
 use Rattle.std.proofs.Common.{◌≡◌, ◌∙◌, sym, ap, false, ◌++◌, ◌∷◌, []}
 use Rattle.std.proofs.Common.{rules, SFits, w64, to_z, of_z}
 use Rattle.std.proofs.lemmas.Int.{to_z-of_z}
-use Rattle.ba_straight.specs.Text.{is_blank}
+use Rattle.ba_straight.specs.Decimal.{is_blank}
 use Rattle.ba_straight.proofs.InputLaws.{word_step}
 use Rattle.ba_straight.proofs.input.values_of.Goals as goal
 

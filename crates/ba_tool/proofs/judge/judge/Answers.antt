@@ -1,56 +1,16 @@
-use Rattle.std.proofs.Common.{◌≡◌, ◌∙◌, sym, ap, subst, length, true, false, [], arith}
-use Rattle.std.specs.List.{slice_get}
-use Rattle.std.specs.Option.{option_copied}
-use Rattle.ba_tree.specs.declared.run.Bounds.{Bounds}
-use Rattle.ba_tree.specs.Least.{AreLeast, judge_of, unit_weights, weight_of}
-use Rattle.ba_tool.specs.Report.{report_text}
-use Rattle.ba_tool.specs.Tool.{Locates, runs_well}
-use Rattle.ba_tool.proofs.Judging.{first_in, first_short, found_none, in_each, locates, no_input, no_text}
+use Rattle.std.proofs.Common.{◌∙◌, Ok, ap, sym}
+use Rattle.ba_straight.proofs.Located.{if_ok}
+use Rattle.ba_tool.specs.Refusals.{tree_fault}
+use Rattle.ba_tool.proofs.Refusing.{lexical_refusal, tree_refusal}
 use Rattle.ba_tool.proofs.judge.judge.Goals as goal
 
-pub returns-in_default : goal.returns-in_default
-returns-in_default c = λ b. no_text c.args.source.now c.args.text.now (rw c.in_default.is at c.in_ok-straight.ensures)
+pub returns-in-Err : goal.returns-in-Err
+returns-in-Err c =
+    if_ok c.refusal.result _ _ (λ a refuses. lexical_refusal c.args.source.now c.args.text.now c.in-Err.error c.lexical_fault.result a c.in-Err.ensures c.lexical_fault.ensures refuses) c.refusal.ensures
 
-pub returns-in_default-2 : goal.returns-in_default-2
-returns-in_default-2 c = λ b. no_input c.args.source.now c.args.text.now c.in-Some.straight (rw c.in-Some.is at c.in_ok-straight.ensures) (rw (c.in_default-2.is, c.len.ensures) at c.in_ok-input.ensures)
-
-pub returns-then-branch : goal.returns-then-branch
-returns-then-branch c = λ b.
-    in_each c.args.source.now c.args.text.now c.in-Some.straight c.in_ok-program.program c.in-Some-2.input (rw c.in-Some.is at c.in_ok-straight.ensures) (rw (c.in-Some-2.is, c.len.ensures) at c.in_ok-input.ensures) c.in_ok-program.ensures
-    (λ p i. runs_well p i b ≡ true)
-    (λ p tree. sym (c.in_ok-is_good.ensures p b tree) ∙ c.if-branch.true)
-
-pub returns-in_default-first : goal.returns-in_default-first
-returns-in_default-first c = λ b.
-    let none = found_none c.in_ok-sets.sets.items (option_copied c.first.result) (c.first.ensures.value ∙ ap (λ sets. slice_get sets 0) c.deref.ensures.value) (ap option_copied c.in_default-first.is) in
-    in_each c.args.source.now c.args.text.now c.in-Some.straight c.in_ok-program.program c.in-Some-2.input (rw c.in-Some.is at c.in_ok-straight.ensures) (rw (c.in-Some-2.is, c.len.ensures) at c.in_ok-input.ensures) c.in_ok-program.ensures
-    (λ p i. (runs_well p i b ≡ false) × AreLeast (unit_weights p) (judge_of p i b) [])
-    (λ p tree. (
-      sym (c.in_ok-is_good.ensures p b tree) ∙ c.if-branch.false,
-      subst (λ sets. AreLeast (unit_weights p) (judge_of p c.in-Some-2.input b) sets) none
-          (subst (λ weights. AreLeast weights (judge_of p c.in-Some-2.input b) c.in_ok-sets.sets.items) (c.in_ok-weights.ensures.weights p tree) (c.in_ok-sets.ensures p b tree)),
-    ))
-
-pub weight_of-weight-requires : goal.weight_of-weight-requires
-weight_of-weight-requires c =
-    let has = first_in c.in_ok-sets.sets.items c.in-Some-first.first.now (c.in-Some-first.ensures.value ∙ ap (λ sets. slice_get sets 0) c.deref.ensures.value) in
-    let b : Bounds = record { turns = 1; frames = 1 } in
-    let short = first_short c.in_ok-weights.weights.of (judge_of c.in_ok-program.program c.in-Some-2.input b) c.in_ok-sets.sets.items c.in-Some-first.first.now
-    (c.in_ok-sets.ensures c.in_ok-program.program b c.in_ok-program.ensures) has in
-    let text = rw c.in-Some.is at c.in_ok-straight.ensures in
-    let few = text.few_statements in
-    omega (arith, ap length c.as_slice-2.ensures, c.in_ok-weights.ensures.each)
-
-pub returns : goal.returns
-returns c = λ b.
-    let has = first_in c.in_ok-sets.sets.items c.in-Some-first.first.now (c.in-Some-first.ensures.value ∙ ap (λ sets. slice_get sets 0) c.deref.ensures.value) in
-    in_each c.args.source.now c.args.text.now c.in-Some.straight c.in_ok-program.program c.in-Some-2.input (rw c.in-Some.is at c.in_ok-straight.ensures) (rw (c.in-Some-2.is, c.len.ensures) at c.in_ok-input.ensures) c.in_ok-program.ensures
-    (λ p i. Locates c.args.source.now p i b c.from_vec.result)
-    (λ p tree. locates c.args.source.now c.in-Some.straight c.in_ok-program.program p c.in-Some-2.input b c.in_ok-weights.weights.of c.in_ok-sets.sets.items c.in-Some-first.first.now
-    c.from_vec.result c.weight_of-weight.result c.in_ok-program.ensures tree
-    (sym (c.in_ok-is_good.ensures p b tree) ∙ c.if-branch.false)
-    (c.in_ok-sets.ensures p b tree)
-    (c.in_ok-weights.ensures.weights p tree)
-    has
-    (c.weight_of-weight.ensures ∙ ap (λ weights. weight_of weights c.as_slice-2.result.now) c.as_slice.ensures ∙ ap (weight_of c.in_ok-weights.weights.of) c.as_slice-2.ensures)
-    (c.from_vec.ensures ∙ c.in_ok-bytes.ensures ∙ ap (report_text c.args.source.now c.in_ok-program.program.statements c.weight_of-weight.result) c.as_slice-3.ensures.value))
+pub returns-in-Err-parse : goal.returns-in-Err-parse
+returns-in-Err-parse c =
+    if_ok c.refusal-in-Err-parse.result _ _
+    (λ a refuses. tree_refusal c.args.source.now c.args.text.now c.as_slice.result.now c.in-Err-parse.error c.tree_fault.result a (c.in-Ok.ensures ∙ ap Ok (sym c.as_slice.ensures.value)) c.in-Err-parse.ensures.told
+    (c.tree_fault.ensures ∙ ap (λ ts. tree_fault ts c.in-Err-parse.error) (c.as_slice-in-Err-parse.ensures.value ∙ sym c.as_slice.ensures.value)) refuses)
+    c.refusal-in-Err-parse.ensures

@@ -4,9 +4,13 @@ use Rattle.ba_tool.proofs.tool.tool.Goals as goal
 pub returns-clause-where_no_job : goal.returns-clause-where_no_job
 returns-clause-where_no_job g c = ends.where_no_job _ _ _ _ (ends.answer_stays _ _ _ _ _ _ _ _ _ _ _ _ _ c.finish.ensures.left_stays c.finish.ensures.is_reading_stays c.finish.ensures.read_faults_stay c.finish.ensures.given_stays c.answer-answer.ensures.answer) c.finish.ensures.which
 
+pub returns-clause-where_bad_program : goal.returns-clause-where_bad_program
+returns-clause-where_bad_program g c = λ source text bound fault told faulty.
+    ends.where_bad_program _ _ source text bound _ _ (ends.answer_stays _ _ _ _ _ _ _ _ _ _ _ _ _ c.finish.ensures.left_stays c.finish.ensures.is_reading_stays c.finish.ensures.read_faults_stay c.finish.ensures.given_stays c.answer-answer.ensures.answer) c.finish.ensures.which fault told faulty
+
 pub returns-clause-where_no_case : goal.returns-clause-where_no_case
-returns-clause-where_no_case g c = λ source text bound told refuted.
-    ends.where_no_case _ _ source text bound _ _ (ends.answer_stays _ _ _ _ _ _ _ _ _ _ _ _ _ c.finish.ensures.left_stays c.finish.ensures.is_reading_stays c.finish.ensures.read_faults_stay c.finish.ensures.given_stays c.answer-answer.ensures.answer) c.finish.ensures.which told refuted
+returns-clause-where_no_case g c = λ source text bound told is_file refuted.
+    ends.where_no_case _ _ source text bound _ _ (ends.answer_stays _ _ _ _ _ _ _ _ _ _ _ _ _ c.finish.ensures.left_stays c.finish.ensures.is_reading_stays c.finish.ensures.read_faults_stay c.finish.ensures.given_stays c.answer-answer.ensures.answer) c.finish.ensures.which told is_file refuted
 
 pub returns-clause-where_too_long : goal.returns-clause-where_too_long
 returns-clause-where_too_long g c = λ source text bound tells long.

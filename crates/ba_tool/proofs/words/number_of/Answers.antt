@@ -3,7 +3,7 @@ use Rattle.std.specs.List.{list_all}
 use Rattle.std.specs.Result.{result_unwrap_or}
 use Rattle.std.proofs.lemmas.Str.Parse.{IsNumeralModel, IsDigitsTest, FoldsDigits, numerals_by_fold, digits_value_short, parse_gives}
 use borrow.Author.Tests.{tests}
-use Rattle.ba_straight.specs.Text.{is_digit, digits_value}
+use Rattle.ba_straight.specs.Decimal.{is_digit, digits_value}
 use Rattle.ba_tool.proofs.words.number_of.Goals as goal
 
 digits_tell : IsDigitsTest (λ ds. list_all is_digit ds ≡ true)

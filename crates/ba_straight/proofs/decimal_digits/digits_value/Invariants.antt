@@ -1,6 +1,6 @@
 use Rattle.std.proofs.Common.{◌≡◌, ◌-◌, ◌^◌, min, take}
-use Rattle.ba_straight.specs.Text.{digits_value}
-use Rattle.ba_straight.proofs.pieces.digits_value.Given as goal
+use Rattle.ba_straight.specs.Decimal.{digits_value}
+use Rattle.ba_straight.proofs.decimal_digits.digits_value.Given as goal
 
 -- the value of the digits so far, up to the greatest
 abbrev pub invariant-loop-digit : goal.invariant-loop-digit
