@@ -6,6 +6,7 @@ pub mod Cuts
 pub mod Parts
 pub mod Listed
 pub mod Judging
+pub mod GoodRuns
 pub mod Looks
 pub mod Sinks
 pub mod Lists

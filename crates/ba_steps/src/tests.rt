@@ -6,25 +6,16 @@ ghost use Rattle.ba_steps.specs.Steps.{IsFormed, AreFormedLits, AreNumbers};
 ghost use Rattle.ba_steps.specs.States.{first_state};
 ghost use Rattle.ba_steps.specs.Facts.{AreSelectors};
 
-use crate::{Both, CertStep, Checked, Checker, ListSink, NoSink, RunJudge, SinkError, StepSink};
+use crate::{
+    Both, CertStep, Checked, Checker, GoodRun, ListJudge, ListSink, NoSink, RunJudge, SinkError,
+    StepSink,
+};
 use ba_items::Items;
 use ba_lits::{Formula, Lit};
-use ba_tree::run::Choice;
+use ba_tree::run::{Choice, Values};
 use std::alloc::{AllocError, Global};
 use std::process::Abort;
 use std::test::Fail;
-
-/// A judge to whom no run is good.
-#[derive(Clone, Copy, Drop)]
-struct NoRuns;
-
-impl RunJudge for NoRuns {
-    ghost accepts = { λ _ _ _. false };
-
-    fn good(&self, groups: &[u32], run: &[Choice]) -> Result<bool, AllocError> {
-        Ok(false)
-    }
-}
 
 /// The literal of a number.
 fn lit(code: i64) -> Lit {
@@ -179,9 +170,9 @@ fn step_of(alloc: Global, row: &Row) -> Result<CertStep, AllocError> {
 }
 
 /// Puts a step through a checker, and answers the number of the error, 0 where it was allowed.
-fn put(rt: &impl Abort, checker: &mut Checker, step: &CertStep) -> u8 {
+fn put(rt: &impl Abort, alloc: Global, checker: &mut Checker, step: &CertStep) -> u8 {
     assert!(rt; is_formed(step));
-    match checker.step(step, &NoRuns) {
+    match checker.step(step, &ListJudge::new(alloc)) {
         Ok(()) => 0,
         Err(error) => error.number().unwrap_or(99),
     }
@@ -196,7 +187,7 @@ fn put_all(
 ) -> Result<(), AllocError> {
     for (place, row) in rows.iter().enumerate() {
         let step = step_of(alloc, row)?;
-        let got = put(rt, checker, &step);
+        let got = put(rt, alloc, checker, &step);
         assert_eq!(rt; got, row.3, "step {place}");
     }
     Ok(())
@@ -535,7 +526,7 @@ fn spent(alloc: Global) -> Result<Checker, AllocError>
 #[test]
 fn allowed_steps_are_handed_on(rt: HostRuntime) -> Result<(), Fail> {
     let alloc = rt.alloc();
-    let mut checked = Checked::new(spent(alloc)?, NoRuns, ListSink::new(alloc));
+    let mut checked = Checked::new(spent(alloc)?, ListJudge::new(alloc), ListSink::new(alloc));
     checked.put(&CertStep::EndSpent)?;
     assert_eq!(rt; checked.checker().last(), 0);
     let (checker, sink) = checked.finish();
@@ -547,7 +538,7 @@ fn allowed_steps_are_handed_on(rt: HostRuntime) -> Result<(), Fail> {
 #[test]
 fn a_refusal_stays(rt: HostRuntime) -> Result<(), Fail> {
     let alloc = rt.alloc();
-    let mut checked = Checked::new(spent(alloc)?, NoRuns, fails_after(0));
+    let mut checked = Checked::new(spent(alloc)?, ListJudge::new(alloc), fails_after(0));
     let first = checked.put(&CertStep::EndSpent);
     assert_eq!(rt; first, Err(SinkError::Failed));
     if first.is_err() {
@@ -555,5 +546,48 @@ fn a_refusal_stays(rt: HostRuntime) -> Result<(), Fail> {
     }
     let (_, sink) = checked.finish();
     assert_eq!(rt; sink.failed, 1);
+    Ok(())
+}
+
+/// A run of values: 100 stands for a choice that keeps the statement.
+fn run_of(alloc: Global, values: &[i64]) -> Result<Items<Choice>, AllocError> {
+    let mut run = Items::new(alloc);
+    for value in values {
+        if *value == 100 {
+            run.push(Choice::Keep)?;
+        } else {
+            let mut taken = Values::new(alloc);
+            taken.push(*value)?;
+            run.push(Choice::Take(taken))?;
+        }
+    }
+    Ok(run)
+}
+
+#[test]
+fn exactly_the_listed_runs_are_good(rt: HostRuntime) -> Result<(), Fail> {
+    let alloc = rt.alloc();
+    let mut judge = ListJudge::new(alloc);
+    judge.add(GoodRun {
+        groups: Items::from_slice(alloc, &[2, 3])?,
+        run: run_of(alloc, &[100, -7])?,
+    })?;
+    judge.add(GoodRun {
+        groups: Items::new(alloc),
+        run: run_of(alloc, &[])?,
+    })?;
+    let table: [(&[u32], &[i64], bool); 8] = [
+        (&[2, 3], &[100, -7], true),
+        (&[], &[], true),
+        (&[2], &[100, -7], false),
+        (&[2, 4], &[100, -7], false),
+        (&[2, 3], &[100, 7], false),
+        (&[2, 3], &[100], false),
+        (&[2, 3], &[100, -7, 100], false),
+        (&[2, 3], &[0, -7], false),
+    ];
+    for (groups, run, good) in table {
+        assert_eq!(rt; judge.good(groups, run_of(alloc, run)?.as_slice())?, good);
+    }
     Ok(())
 }
