@@ -7,7 +7,7 @@ use Rattle.std.proofs.lemmas.Bool.Decides.{nat_tests}
 use Rattle.std.proofs.lemmas.List.{take_all, take-take, length-take-le, drop_all, get_or-take}
 use Rattle.ba_lits.specs.Literals.{Literal, lit_at, no_literal}
 use Rattle.ba_arena.specs.Clauses.{Clauses, IsLive, lits_at}
-use Rattle.ba_watch.specs.Threads.{Clause, plain, plain_at}
+use Rattle.ba_watch.specs.Threads.{AreApart, Clause, plain, plain_at}
 use Rattle.ba_watch.specs.Trails.{Assignments, value_of, place_of, decided, level_at, kept, IsTrail}
 use Rattle.ba_watch.specs.Propagation.{State, plain_lits, clause_in, lits_in, SameClause, is_false, is_unit, IsComplete, IsReason, HasReasons, IsGuarded, AreFacts, AreUnits, IsSound, Settles, AssignsUnits, Extends, KeepsFacts}
 use Rattle.ba_watch.proofs.Values.{value_of-take, value_of-take_none, place_of-some, place_of-take}
@@ -140,13 +140,14 @@ complete_below a v T R h w facts units raised m m_in is =
     subst (λ (ls : List Literal). (is_false (value_of (take m T)) ls ≡ false) × (is_unit (value_of (take m T)) ls ≡ false)) (sym (lits_in-map a r)) (complete_at a v T R h m facts units' bound le r live') in
     record { none_false = λ r live. (both r live).0; none_unit = λ r live. (both r live).1 }
 
-pub keeps : (a : Clauses) (n : ℕ) (p : Option ℕ) (v : ℕ) (T : List Literal) (R : List (Option ℕ)) (h : ℕ) (w : List ℕ) (s : Bool) → IsSound a n p v T R h w s → KeepsFacts (record { variables = v; clauses = map plain a; trail = T; reasons = R; settled = s })
-keeps a n p v T R h w s x = record {
+pub keeps : (a : Clauses) (n : ℕ) (p : Option ℕ) (v : ℕ) (T : List Literal) (R : List (Option ℕ)) (h : ℕ) (w : List ℕ) (s : Bool) → IsSound a n p v T R h w s → ((r : ℕ) → AreApart (lits_at a r)) → KeepsFacts (record { variables = v; clauses = map plain a; trail = T; reasons = R; settled = s })
+keeps a n p v T R h w s x apart = record {
   trail = x.facts.trail_is;
   reasons = subst (λ (L : ℕ → List Literal). HasReasons L T R) (sym (lits_in-is a)) x.facts.reasons_are;
   in_range = subst (λ (L : ℕ → List Literal). (r k : ℕ) → k < length (L r) → (lit_at (L r) k).variable ≤ v) (sym (lits_in-is a)) x.facts.in_range;
   settled = λ e. complete_now a v T R h w x.facts x.units (x.settled_waiting e) (x.settled_head e);
   below = λ m m_in is. complete_below a v T R h w x.facts x.units x.raised m m_in is;
+  apart = subst (λ (L : ℕ → List Literal). (r : ℕ) → AreApart (L r)) (sym (lits_in-is a)) apart;
 }
 
 -- the trail up to the literals of at most a level

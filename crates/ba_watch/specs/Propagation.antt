@@ -6,7 +6,7 @@ use Rattle.std.specs.List.Sorted.{IsPermutation}
 use Rattle.ba_lits.specs.Literals.{Literal, negate, index_of, lit_at}
 use Rattle.ba_arena.specs.Clauses.{Clauses, IsLive, lits_at}
 use Rattle.ba_watch.specs.Chains.{occurrences}
-use Rattle.ba_watch.specs.Threads.{Clause, plain_at, index_at}
+use Rattle.ba_watch.specs.Threads.{Clause, plain_at, index_at, AreApart}
 use Rattle.ba_watch.specs.Trails.{Assignments, value_of, place_of, decided, level_at, IsTrail, Begins}
 
 -- what contracts see of a watch: the clauses by reference, and the trail with its reasons
@@ -216,13 +216,14 @@ abbrev pub rank_of : List Literal → Literal → ℕ
 rank_of trail l = if falsified (value_of trail l) then place_of trail l.variable else length trail
 
 -- what a watch makes known of itself: every variable on the trail is assigned once; reasons are reasons; where it
--- is settled propagation is complete, and before each decision it was
+-- is settled propagation is complete, and before each decision it was; no literal stands twice in a clause
 pub record KeepsFacts (s : State) : Type 0 where
   pub trail : IsTrail s.variables s.trail s.reasons
   pub reasons : HasReasons (lits_in s.clauses) s.trail s.reasons
   pub in_range : (clause k : ℕ) → k < length (lits_in s.clauses clause) → (lit_at (lits_in s.clauses clause) k).variable ≤ s.variables
   pub settled : s.settled ≡ true → IsComplete s.clauses s.trail
   pub below : (p : ℕ) → p < length s.trail → get_or s.reasons p None ≡ None → IsComplete s.clauses (take p s.trail)
+  pub apart : (clause : ℕ) → AreApart (lits_in s.clauses clause)
 
 -- a number is one of two
 abbrev pub IsOneOf : ℕ → ℕ → ℕ → Type 0

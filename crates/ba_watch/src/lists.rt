@@ -36,6 +36,13 @@ impl Lists {
         }
     }
 
+    /// No literal stands twice in a clause. It does nothing.
+    pub fn keep_apart(&self)
+        ensures { (clause : ℕ) → AreApart (lits_at self.now.arena clause) }
+    {
+        let _ = &self.swept;
+    }
+
     /// Makes room for the lists of the literals with indices below a number.
     pub fn grow(&mut self, indices: usize) -> Result<(), AllocError>
         ensures room { OnOk result (indices ≤ length self.new.heads.items) }

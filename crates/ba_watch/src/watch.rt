@@ -146,7 +146,7 @@ impl Watch {
     pub fn keeps_facts(&self)
         ensures { KeepsFacts self.now }
     {
-        let _ = &self.settled;
+        self.lists.keep_apart();
     }
 
     /// Begins a level with a literal.
