@@ -1,0 +1,3 @@
+pub mod StampLaws
+pub mod WorkLaws
+pub mod MeetLaws

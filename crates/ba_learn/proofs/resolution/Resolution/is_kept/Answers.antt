@@ -1,0 +1,14 @@
+use Rattle.std.proofs.Common.{◌≡◌, ◌<◌, ℕ, arith, length, ◌∙◌, sym, Bool, false, nat_lt}
+use Rattle.std.proofs.lemmas.Bool.Decides.{nat_tests}
+use Rattle.ba_watch.specs.Trails.{place_of, level_at}
+use Rattle.ba_learn.proofs.WorkLaws.{zero_has_reason, level-is, some_level}
+use Rattle.ba_learn.proofs.resolution.Resolution.is_kept.Goals as goal
+
+not_above : (n : ℕ) → nat_lt 0 n ≡ false → n ≡ 0
+not_above n e = grind (arith, nat_tests)
+
+pub returns-else-self-clause-resolved : goal.returns-else-self-clause-resolved
+returns-else-self-clause-resolved c = λ e.
+    let w = c.args.watch.now in
+    let l = level-is w.trail w.reasons c.args.variable c.unwrap.result c.requires.assigned (sym c.level_of.ensures ∙ c.unwrap.ensures) in
+    zero_has_reason w.reasons (place_of w.trail c.args.variable) (omega (arith, c.keeps_facts.ensures.trail.same_length, c.requires.assigned)) (sym l ∙ not_above c.unwrap.result e)

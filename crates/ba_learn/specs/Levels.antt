@@ -1,0 +1,35 @@
+-- How a learnt clause stands to the levels of the trail.
+
+use Rattle.std.specs.Prelude.{◌≡◌, ◌≢◌, ℕ, ◌<◌, ◌≤◌, true, None, ◌⊎◌, List, length, get_or}
+use Rattle.ba_lits.specs.Literals.{Literal, negate, lit_at}
+use Rattle.ba_watch.specs.Trails.{value_of, place_of, level_at, decided}
+use Rattle.ba_watch.specs.Propagation.{State, is_false}
+
+-- the level at which the variable of a clause's literal got its value
+abbrev pub level_in : State → List Literal → ℕ → ℕ
+level_in s lits k = level_at s.reasons (place_of s.trail (lit_at lits k).variable)
+
+-- a level is 0, or that of a literal of the clause other than one
+abbrev pub IsMet : State → List Literal → ℕ → ℕ → Type 0
+IsMet s lits present level =
+    (level ≡ 0) ⊎ ((k : ℕ) × (k < length lits) × (k ≢ present) × (level_in s lits k ≡ level))
+
+-- the clause is false, exactly one of its literals was assigned at the present level, and `back` is the greatest level
+-- of the others, or 0 where there is no other
+pub record IsBacked (s : State) (lits : List Literal) (back : ℕ) : Type 0 where
+  pub false_ : is_false (value_of s.trail) lits ≡ true
+  pub present : ℕ
+  pub present_in : present < length lits
+  pub present_level : level_in s lits present ≡ decided s.reasons
+  pub lower : back < decided s.reasons
+  pub others : (k : ℕ) → k < length lits → k ≢ present → level_in s lits k ≤ back
+  pub met : IsMet s lits present back
+
+-- the negation of a literal of the trail that was decided
+abbrev pub NegatesDecided : State → Literal → Type 0
+NegatesDecided s l =
+    (p : ℕ) × (p < length s.trail) × (get_or s.reasons p None ≡ None) × (l ≡ negate (lit_at s.trail p))
+
+-- each literal of the clause negates the given one, or one that was decided
+abbrev pub IsCoreOf : State → Literal → List Literal → Type 0
+IsCoreOf s lit lits = (k : ℕ) → k < length lits → (lit_at lits k ≡ negate lit) ⊎ NegatesDecided s (lit_at lits k)

@@ -1,0 +1,120 @@
+//! Resolving a false clause.
+
+ghost use Rattle.std.specs.Prelude.{◌≡◌, ℕ, ◌≤◌, [], Some, true, false, IfOk, IsSome, List};
+ghost use Rattle.ba_lits.specs.Literals.{IsClause};
+ghost use Rattle.ba_watch.specs.Trails.{value_of, decided, reason_of};
+ghost use Rattle.ba_watch.specs.Propagation.{clause_in, lits_in, is_false};
+ghost use Rattle.ba_learn.specs.Live.{Follows, IsNewTo};
+ghost use Rattle.ba_learn.specs.Levels.{IsBacked, IsCoreOf};
+
+use crate::learnt::Learnt;
+use ba_arena::ClauseRef;
+use ba_lits::Lit;
+use ba_watch::Watch;
+use std::alloc::{AllocError, Global};
+
+/// The marks that an analysis needs, kept from one to the next so that an analysis costs what it resolves and not
+/// what there is.
+#[derive(Drop)]
+pub struct Analyser {
+    alloc: Global,
+}
+
+impl Analyser {
+    /// Marks for no variables. It takes no memory.
+    pub fn new(alloc: Global) -> Analyser {
+        Analyser { alloc }
+    }
+
+    /// The clause to learn from a clause that is false above level 0: that of the first unique implication point of
+    /// the present level, without the literals that the reasons of others cover.
+    ///
+    /// Exactly one of its literals was assigned at the present level, and `back` is the greatest level of the others,
+    /// or 0. It follows by its hints from the live clauses and is new to propagation for them.
+    ///
+    /// The one error is want of memory.
+    pub fn analyse(&mut self, watch: &Watch, conflict: ClauseRef) -> Result<Learnt, AllocError>
+        requires live { IsSome (clause_in watch.now.clauses conflict) }
+        requires false_ { is_false (value_of watch.now.trail) (lits_in watch.now.clauses conflict) ≡ true }
+        requires level { 1 ≤ decided watch.now.reasons }
+        ensures clause { IfOk result (λ learnt. IsClause watch.now.variables learnt.lits) }
+        ensures follows { IfOk result (λ learnt. Follows watch.now.clauses learnt.lits learnt.hints) }
+        ensures new { IfOk result (λ learnt. IsNewTo watch.now.clauses learnt.lits) }
+        ensures backed { IfOk result (λ learnt. IsBacked watch.now learnt.lits learnt.back) }
+    {
+        let _ = (&self.alloc, watch, conflict);
+        Err(AllocError)
+    }
+
+    /// A clause that negates a false literal and decided literals alone: those because of which the literal is false.
+    /// Its `back` is 0.
+    ///
+    /// The one error is want of memory.
+    pub fn core_of(&mut self, watch: &Watch, lit: Lit) -> Result<Learnt, AllocError>
+        requires within { lit.variable ≤ watch.now.variables }
+        requires false_ { value_of watch.now.trail lit ≡ Some false }
+        requires reason { IsSome (reason_of watch.now.trail watch.now.reasons lit.variable) }
+        ensures clause { IfOk result (λ learnt. IsClause watch.now.variables learnt.lits) }
+        ensures follows { IfOk result (λ learnt. Follows watch.now.clauses learnt.lits learnt.hints) }
+        ensures core { IfOk result (λ learnt. IsCoreOf watch.now lit learnt.lits) }
+        ensures back { IfOk result (λ learnt. learnt.back ≡ 0) }
+    {
+        let _ = (&self.alloc, watch, lit);
+        Err(AllocError)
+    }
+
+    /// Hints by which the empty clause follows, from a clause that is false at level 0.
+    ///
+    /// The one error is want of memory.
+    pub fn refutation(&mut self, watch: &Watch, conflict: ClauseRef) -> Result<Vec<u64>, AllocError>
+        requires live { IsSome (clause_in watch.now.clauses conflict) }
+        requires false_ { is_false (value_of watch.now.trail) (lits_in watch.now.clauses conflict) ≡ true }
+        requires level { decided watch.now.reasons ≡ 0 }
+        ensures { IfOk result (λ hints. Follows watch.now.clauses [] hints.items) }
+    {
+        let _ = (&self.alloc, watch, conflict);
+        Err(AllocError)
+    }
+}
+
+/// [`Analyser::analyse`] with marks of its own.
+///
+/// The one error is want of memory.
+pub fn analyse(alloc: Global, watch: &Watch, conflict: ClauseRef) -> Result<Learnt, AllocError>
+    requires live { IsSome (clause_in watch.now.clauses conflict) }
+    requires false_ { is_false (value_of watch.now.trail) (lits_in watch.now.clauses conflict) ≡ true }
+    requires level { 1 ≤ decided watch.now.reasons }
+    ensures clause { IfOk result (λ learnt. IsClause watch.now.variables learnt.lits) }
+    ensures follows { IfOk result (λ learnt. Follows watch.now.clauses learnt.lits learnt.hints) }
+    ensures new { IfOk result (λ learnt. IsNewTo watch.now.clauses learnt.lits) }
+    ensures backed { IfOk result (λ learnt. IsBacked watch.now learnt.lits learnt.back) }
+{
+    Analyser::new(alloc).analyse(watch, conflict)
+}
+
+/// [`Analyser::core_of`] with marks of its own.
+///
+/// The one error is want of memory.
+pub fn core_of(alloc: Global, watch: &Watch, lit: Lit) -> Result<Learnt, AllocError>
+    requires within { lit.variable ≤ watch.now.variables }
+    requires false_ { value_of watch.now.trail lit ≡ Some false }
+    requires reason { IsSome (reason_of watch.now.trail watch.now.reasons lit.variable) }
+    ensures clause { IfOk result (λ learnt. IsClause watch.now.variables learnt.lits) }
+    ensures follows { IfOk result (λ learnt. Follows watch.now.clauses learnt.lits learnt.hints) }
+    ensures core { IfOk result (λ learnt. IsCoreOf watch.now lit learnt.lits) }
+    ensures back { IfOk result (λ learnt. learnt.back ≡ 0) }
+{
+    Analyser::new(alloc).core_of(watch, lit)
+}
+
+/// [`Analyser::refutation`] with marks of its own.
+///
+/// The one error is want of memory.
+pub fn refutation(alloc: Global, watch: &Watch, conflict: ClauseRef) -> Result<Vec<u64>, AllocError>
+    requires live { IsSome (clause_in watch.now.clauses conflict) }
+    requires false_ { is_false (value_of watch.now.trail) (lits_in watch.now.clauses conflict) ≡ true }
+    requires level { decided watch.now.reasons ≡ 0 }
+    ensures { IfOk result (λ hints. Follows watch.now.clauses [] hints.items) }
+{
+    Analyser::new(alloc).refutation(watch, conflict)
+}
