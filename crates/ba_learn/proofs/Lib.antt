@@ -1,3 +1,5 @@
 pub mod StampLaws
 pub mod WorkLaws
 pub mod MeetLaws
+pub mod ReasonLaws
+pub mod ResolveLaws

@@ -2,10 +2,11 @@
 
 use Rattle.std.specs.Prelude.{◌≡◌, ℕ, ◌+◌, ◌<◌, ◌≤◌, leb, ltb, ◌^◌, Bool, true, false, ◌&&◌, Option, None, Some, IsSome, List, [], ◌∷◌, ◌++◌, length, get_or, if◌then◌else◌}
 use Prim.Native.Nat.{suc, zero}
-use Rattle.ba_lits.specs.Literals.{Literal, lit_at}
+use Rattle.ba_lits.specs.Literals.{Literal, lit_at, negate}
 use Rattle.ba_watch.specs.Chains.{occurrences}
+use Rattle.ba_watch.specs.Threads.{Clause}
 use Rattle.ba_watch.specs.Trails.{place_of, level_at}
-use Rattle.ba_watch.specs.Propagation.{State, lits_in}
+use Rattle.ba_watch.specs.Propagation.{State, clause_in, lits_in}
 
 -- What contracts see of a resolution. Literals are named by their places on the trail. Those from the floor on are
 -- pending until the walk down the trail comes to them; of the others some are kept in the clause, and the rest are
@@ -92,6 +93,8 @@ pub record Meets (s : State) (old new : Work) (lits : List Literal) : Type 0 whe
   pub met : AreMarked s (is_marked new) lits
   pub floor : new.floor ≡ old.floor
   pub deep : new.deep ≡ old.deep
+  pub pending : old.pending ≤ new.pending
+  pub kept : length old.kept ≤ length new.kept
   pub resolved : new.resolved ≡ old.resolved
   pub spends : (n : ℕ) → AreBelow s n lits → count_below (is_marked old) n + length new.waiting ≤ count_below (is_marked new) n + length old.waiting
   pub work : (high : ℕ) → IsWork s high old → AreBelow s high lits → IsWork s high new
@@ -101,7 +104,55 @@ abbrev pub reason_lits : State → Option ℕ → List Literal
 reason_lits s None = []
 reason_lits s (Some clause) = lits_in s.clauses clause
 
+-- a place is among those that are resolved
+abbrev pub with_resolved : Work → ℕ → Work
+with_resolved w place = record w { resolved = w.resolved ++ place ∷ [] }
+
+-- a place in no part of the work may be resolved
+abbrev pub MayResolve : State → Work → ℕ → Type 0
+MayResolve s w place = (high : ℕ) × IsWork s high (with_resolved w place) × (place < high)
+
+-- the literals of the reason of a place
+abbrev pub reason_of_place : State → ℕ → List Literal
+reason_of_place s place = reason_lits s (get_or s.reasons place None)
+
 -- the literals of the reasons of places are marked
 abbrev pub AreCovered : State → (ℕ → Bool) → List ℕ → Type 0
 AreCovered s marked places =
-    (p : ℕ) → 0 < occurrences p places → AreMarked s marked (reason_lits s (get_or s.reasons p None))
+    (p : ℕ) → 0 < occurrences p places → AreMarked s marked (reason_of_place s p)
+
+-- reasons were resolved with: what was marked stays so, and what is resolved has the literals of its reason marked
+pub record Resolves (s : State) (old new : Work) : Type 0 where
+  pub grows : (p : ℕ) → is_marked old p ≡ true → is_marked new p ≡ true
+  pub floor : new.floor ≡ old.floor
+  pub deep : new.deep ≡ old.deep
+  pub covered : AreCovered s (is_marked old) old.resolved → AreCovered s (is_marked new) new.resolved
+
+-- the parts of the work stay apart, wherever the walk has come to
+abbrev pub KeepsWork : State → Work → Work → Type 0
+KeepsWork s old new = (high : ℕ) → IsWork s high old → IsWork s high new
+
+-- the present level begins at a place
+pub record IsStart (s : State) (floor : ℕ) : Type 0 where
+  pub within : floor < length s.trail
+  pub decided_ : get_or s.reasons floor None ≡ None
+  pub later : (p : ℕ) → floor < p → p < length s.trail → IsSome (get_or s.reasons p None)
+
+abbrev pub number_of : Option Clause → ℕ
+number_of None = 0
+number_of (Some c) = c.number
+
+-- the number of a clause, and of the reason of a place
+abbrev pub number_in : State → ℕ → ℕ
+number_in s clause = number_of (clause_in s.clauses clause)
+
+abbrev pub reason_number : State → Option ℕ → ℕ
+reason_number s None = 0
+reason_number s (Some clause) = number_in s clause
+
+abbrev pub number_at : State → ℕ → ℕ
+number_at s p = reason_number s (get_or s.reasons p None)
+
+-- the negation of the literal at a place of the trail
+abbrev pub negated_at : State → ℕ → Literal
+negated_at s p = negate (lit_at s.trail p)

@@ -4,7 +4,7 @@ ghost use Rattle.std.specs.Prelude.{◌≡◌, ℕ, ◌+◌, ◌^◌, ◌<◌, �
 ghost use Rattle.ba_lits.specs.Literals.{lit_at};
 ghost use Rattle.ba_watch.specs.Trails.{place_of, decided, level_at};
 ghost use Rattle.ba_watch.specs.Propagation.{clause_in, lits_in};
-ghost use Rattle.ba_learn.specs.Resolving.{Work, IsWork, is_marked, MayKeep, AreBelow, MayMeet, Parts, Meets};
+ghost use Rattle.ba_learn.specs.Resolving.{Work, IsWork, is_marked, is_above, count_below, MayKeep, AreBelow, MayMeet, Parts, Meets, with_resolved, MayResolve, reason_of_place, Resolves, KeepsWork, IsStart};
 
 use crate::marks::Marks;
 use ba_arena::ClauseRef;
@@ -120,4 +120,125 @@ impl Resolution {
         self.marks.insert(place)?;
         self.part(watch, variable, place)
     }
+
+    /// Marks the literals of a clause.
+    pub fn meet_all(&mut self, watch: &Watch, clause: ClauseRef) -> Result<(), AllocError>
+        requires live { IsSome (clause_in watch.now.clauses clause) }
+        requires may { MayMeet watch.now self.old (lits_in watch.now.clauses clause) }
+        ensures { OnOk result (Meets watch.now self.old self.new (lits_in watch.now.clauses clause)) }
+    {
+        watch.keeps_facts();
+        let arena = watch.arena();
+        for place in 0..arena.len(clause) {
+            self.meet(watch, arena.lit(clause, place))?;
+        }
+        Ok(())
+    }
+
+    /// The latest place below an end whose literal is pending.
+    fn next_pending(&self, end: usize) -> usize
+        requires { 1 ≤ count_below (is_above self.now) end }
+        ensures below { result < end }
+        ensures floor { self.now.floor ≤ result }
+        ensures marked { is_marked self.now result ≡ true }
+        ensures latest { (p : ℕ) → result < p → p < end → is_marked self.now p ≡ false }
+    {
+        let mut place = end - 1;
+        while !self.marks.contains(place) {
+            place -= 1;
+        }
+        place
+    }
+
+    /// Resolves the latest pending literal, where there are others.
+    fn resolve_pending(&mut self, watch: &Watch, place: usize) -> Result<(), AllocError>
+        requires work { IsWork watch.now (place + 1) self.old }
+        requires start { IsStart watch.now self.old.floor }
+        requires shallow { self.old.deep ≡ false }
+        requires floor { self.old.floor ≤ place }
+        requires marked { is_marked self.old place ≡ true }
+        requires others { 2 ≤ self.old.pending }
+        ensures resolves { OnOk result (Resolves watch.now self.old self.new) }
+        ensures work { OnOk result (IsWork watch.now place self.new) }
+        ensures pending { OnOk result (1 ≤ self.new.pending) }
+    {
+        watch.keeps_facts();
+        let reason = reason_at(watch, place);
+        self.meet_all(watch, reason)?;
+        self.pending -= 1;
+        self.resolved.push(place)?;
+        Ok(())
+    }
+
+    /// Walks down the trail from its end, resolving pending literals until one is left: the first unique implication
+    /// point, whose place it gives.
+    pub fn walk(&mut self, watch: &Watch) -> Result<usize, AllocError>
+        requires work { IsWork watch.now (length watch.now.trail) self.old }
+        requires start { IsStart watch.now self.old.floor }
+        requires shallow { self.old.deep ≡ false }
+        requires some { 1 ≤ self.old.pending }
+        ensures resolves { IfOk result (λ place. Resolves watch.now self.old self.new) }
+        ensures work { IfOk result (λ place. IsWork watch.now (place + 1) self.new) }
+        ensures one { IfOk result (λ place. self.new.pending ≡ 1) }
+        ensures floor { IfOk result (λ place. self.new.floor ≤ place) }
+        ensures marked { IfOk result (λ place. is_marked self.new place ≡ true) }
+    {
+        let mut place = self.next_pending(watch.trail().len());
+        while self.pending > 1 {
+            self.resolve_pending(watch, place)?;
+            place = self.next_pending(place);
+        }
+        Ok(place)
+    }
+
+    /// Resolves a place that is in no part of the work.
+    fn resolve(&mut self, watch: &Watch, place: usize) -> Result<(), AllocError>
+        requires within { place < length watch.now.trail }
+        requires reason { IsSome (get_or watch.now.reasons place None) }
+        requires may { MayResolve watch.now self.old place }
+        ensures { OnOk result (Meets watch.now (with_resolved self.old place) self.new (reason_of_place watch.now place)) }
+    {
+        watch.keeps_facts();
+        let reason = reason_at(watch, place);
+        self.resolved.push(place)?;
+        self.meet_all(watch, reason)
+    }
+
+    /// Resolves what waits, and whatever comes to wait because of that.
+    pub fn close(&mut self, watch: &Watch) -> Result<(), AllocError>
+        requires work { (high : ℕ) × IsWork watch.now high self.old }
+        ensures resolves { OnOk result (Resolves watch.now self.old self.new) }
+        ensures work { OnOk result (KeepsWork watch.now self.old self.new) }
+        ensures all { OnOk result (self.new.waiting ≡ []) }
+    {
+        watch.keeps_facts();
+        while let Some(place) = self.waiting.pop() {
+            self.resolve(watch, place)?;
+        }
+        Ok(())
+    }
+}
+
+/// The reason of a place.
+fn reason_at(watch: &Watch, place: usize) -> ClauseRef
+    requires within { place < length watch.now.trail }
+    requires reason { IsSome (get_or watch.now.reasons place None) }
+    ensures { get_or watch.now.reasons place None ≡ Some result }
+{
+    watch.keeps_facts();
+    watch.reasons()[place].unwrap()
+}
+
+/// The place of the last decision.
+pub fn level_start(watch: &Watch) -> usize
+    requires { 1 ≤ decided watch.now.reasons }
+    ensures { IsStart watch.now result }
+{
+    watch.keeps_facts();
+    let reasons = watch.reasons();
+    let mut place = reasons.len() - 1;
+    while reasons[place].is_some() {
+        place -= 1;
+    }
+    place
 }

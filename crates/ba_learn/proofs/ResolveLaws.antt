@@ -1,0 +1,251 @@
+-- Resolving with reasons: down the trail, and whatever waits.
+
+use Rattle.std.proofs.Common.{◌≡◌, ◌≢◌, ℕ, suc, zero, ◌+◌, ◌-◌, ◌*◌, ◌<◌, ◌≤◌, Bool, true, false, ◌&&◌, ◌||◌, Option, None, Some, IsSome, is_some, List, [], ◌∷◌, ◌++◌, length, get_or, take, eqb, ltb, leb, cond, refl, sym, ap, subst, ◌∙◌, arith, ◌⊎◌, inl, inr, ⊎_elim}
+use Rattle.std.proofs.lemmas.List.{length_push, take_all}
+use Rattle.std.proofs.lemmas.Bool.{cases_eq, cases_lt}
+use Rattle.std.proofs.lemmas.Bool.Decides.{nat_tests}
+use Rattle.ba_lits.specs.Literals.{Literal, lit_at}
+use Rattle.ba_watch.specs.Chains.{occurrences}
+use Rattle.ba_watch.specs.Trails.{place_of, decided}
+use Rattle.ba_watch.specs.Propagation.{State, clause_in, lits_in, KeepsFacts}
+use Rattle.ba_learn.specs.Resolving.{Work, one_if, count_below, is_marked, is_above, is_pending, MayKeep, parts_of, IsWork, place_in, AreBelow, AreMarked, MayMeet, Meets, with_resolved, MayResolve, reason_lits, reason_of_place, AreCovered, Resolves, KeepsWork, IsStart}
+use Rattle.ba_learn.proofs.WorkLaws.{occurrences-push, occurrences-append, count_below-same, count_below-le, count_below-bound}
+use Rattle.ba_learn.proofs.ReasonLaws.{reason_below, reason_live}
+
+-- without a decision the level is 0
+decided-zero : (R : List (Option ℕ)) → ((p : ℕ) → p < length R → IsSome (get_or R p None)) → decided R ≡ 0
+decided-zero [] some = refl
+decided-zero (None ∷ R) some = absurd (cc (some 0 (omega arith)))
+decided-zero (Some r ∷ R) some = decided-zero R (λ p p_in. some (suc p) (omega arith))
+
+-- the search for the last decision goes on while there is one further down
+pub start_further : (R : List (Option ℕ)) (p : ℕ) → 1 ≤ decided R → p < length R → ((q : ℕ) → p < q → q < length R → IsSome (get_or R q None)) → IsSome (get_or R p None) → 1 ≤ p
+start_further R zero level within later here =
+    absurd (omega (arith, level, decided-zero R (λ q q_in. ⊎_elim (λ e. subst (λ (x : ℕ). IsSome (get_or R x None)) (sym e) here) (λ ne. later q (omega (arith, ne)) q_in) (cases_eq q 0))))
+start_further R (suc p) level within later here = omega arith
+
+-- how many places are in a set of which some front, or some stretch, has none
+pub count_below-zero : (f : ℕ → Bool) (n : ℕ) → ((p : ℕ) → p < n → f p ≡ false) → count_below f n ≡ 0
+count_below-zero f zero none = refl
+count_below-zero f (suc n) none = omega (arith, ap one_if (none n (omega arith)), count_below-zero f n (λ p lt. none p (omega arith)))
+
+pub count_below-gap : (f : ℕ → Bool) (m n : ℕ) → m ≤ n → ((p : ℕ) → m ≤ p → p < n → f p ≡ false) → count_below f n ≡ count_below f m
+count_below-gap f zero zero le none = refl
+count_below-gap f (suc m) zero le none = absurd (omega arith)
+count_below-gap f m (suc n) le none = ⊎_elim
+    (λ e. ap (count_below f) (sym e))
+    (λ ne. omega (arith, ap one_if (none n (omega (arith, le, ne)) (omega arith)), count_below-gap f m n (omega (arith, le, ne)) (λ p ge lt. none p ge (omega arith))))
+    (cases_eq m (suc n))
+
+pub count_below-more : (f : ℕ → Bool) (n : ℕ) → count_below f (n + 1) ≡ one_if (f n) + count_below f n
+count_below-more f n = ap (count_below f) (plus_one n)
+  where
+    plus_one : (n : ℕ) → n + 1 ≡ suc n
+    plus_one n = omega arith
+
+not_above : (floor p : ℕ) (b : Bool) → p < floor → (leb floor p && b) ≡ false
+not_above floor p b lt = grind (arith, nat_tests)
+
+above_floor : (w : Work) (n : ℕ) → n ≤ w.floor → count_below (is_above w) n ≡ 0
+above_floor w n le = count_below-zero (is_above w) n (λ p lt. not_above w.floor p (is_marked w p) (omega arith))
+
+-- the latest pending place
+pub pending_floor : (w : Work) (place : ℕ) → 1 ≤ count_below (is_above w) (place + 1) → w.floor ≤ place
+pending_floor w place some = ⊎_elim
+    (λ below. absurd (omega (arith, some, above_floor w (place + 1) (omega arith))))
+    (λ above. above)
+    (cases_lt place w.floor)
+
+and_false : (a b : Bool) → b ≡ false → (a && b) ≡ false
+and_false true b e = e
+and_false false b e = refl
+
+-- the walk goes on to the latest place that is pending
+pub work_narrower : (s : State) (w : Work) (end place : ℕ) → IsWork s end w → place < end → w.floor ≤ place → ((p : ℕ) → place < p → p < end → is_marked w p ≡ false) → IsWork s (place + 1) w
+work_narrower s w end place i below above none = record {
+  short = i.short;
+  within = omega (arith, i.within);
+  floor = omega arith;
+  ranged = i.ranged;
+  parted = λ q. parted (occurrences q w.kept) (occurrences q w.resolved) (occurrences q w.waiting) w.floor q (is_marked w q) (none q) (i.parted q);
+  pending = i.pending ∙ count_below-gap (is_above w) (place + 1) end (omega arith) (λ p ge lt. and_false (leb w.floor p) (is_marked w p) (none p (omega arith) lt));
+  kept_below = i.kept_below;
+  kept = i.kept;
+  resolved = i.resolved;
+  resolved_below = i.resolved_below;
+  waiting = i.waiting;
+  waiting_below = i.waiting_below;
+}
+  where
+    parted : (k r v floor q : ℕ) (m : Bool) → (place < q → q < end → m ≡ false) → k + (r + (v + one_if (ltb q end && (leb floor q && m)))) ≡ one_if m → k + (r + (v + one_if (ltb q (place + 1) && (leb floor q && m)))) ≡ one_if m
+    parted k r v floor q true none h = grind (arith, nat_tests)
+    parted k r v floor q false none h = grind (arith, nat_tests)
+
+-- steps of resolution
+pub Resolves-none : (s : State) (w : Work) → Resolves s w w
+Resolves-none s w = record { grows = λ p e. e; floor = refl; deep = refl; covered = λ c. c }
+
+pub Resolves-trans : (s : State) (u v w : Work) → Resolves s u v → Resolves s v w → Resolves s u w
+Resolves-trans s u v w a b = record {
+  grows = λ p e. b.grows p (a.grows p e);
+  floor = b.floor ∙ a.floor;
+  deep = b.deep ∙ a.deep;
+  covered = λ c. b.covered (a.covered c);
+}
+
+pushed_cases : (p : ℕ) (xs : List ℕ) (q : ℕ) → 0 < occurrences p (xs ++ q ∷ []) → (0 < occurrences p xs) ⊎ (p ≡ q)
+pushed_cases p xs q some = ⊎_elim (λ e. inr e) (λ ne. inl (step (occurrences p xs) _ ne (occurrences-push p xs q) some)) (cases_eq p q)
+  where
+    step : (n m : ℕ) → p ≢ q → m ≡ n + one_if (eqb q p) → 0 < m → 0 < n
+    step n m ne e some = grind (arith, nat_tests)
+
+-- the reason of a place with its literals marked
+covered_push : (s : State) (old new : ℕ → Bool) (places : List ℕ) (place : ℕ) → ((p : ℕ) → old p ≡ true → new p ≡ true) → AreCovered s old places → AreMarked s new (reason_of_place s place) → AreCovered s new (places ++ place ∷ [])
+covered_push s old new places place grows covered here p some k k_in = ⊎_elim
+    (λ was. grows _ (covered p was k k_in))
+    (λ same. (subst (λ (x : ℕ). AreMarked s new (reason_of_place s x)) (sym same) here) k k_in)
+    (pushed_cases p places place some)
+
+-- a pending place is resolved
+module _ (s : State) (old mid : Work) (place reason : ℕ) (facts : KeepsFacts s) (is : get_or s.reasons place None ≡ Some reason) (work : IsWork s (place + 1) old) (marked : is_marked old place ≡ true) (above : old.floor ≤ place) (met : Meets s old mid (lits_in s.clauses reason)) where
+  within : place < length s.trail
+  within = work.ranged place marked
+
+  abbrev done : Work
+  done = record mid { pending = mid.pending - 1; resolved = mid.resolved ++ place ∷ [] }
+
+  mid_work : IsWork s (place + 1) mid
+  mid_work = met.work (place + 1) work (reason_below s place reason facts within is)
+
+  pub resolved_resolves : Resolves s old done
+  resolved_resolves = record {
+    grows = met.grows;
+    floor = met.floor;
+    deep = met.deep;
+    covered = λ c. covered_push s (is_marked old) (is_marked mid) mid.resolved place met.grows
+        (subst (λ (xs : List ℕ). AreCovered s (is_marked old) xs) (sym met.resolved) c)
+        (subst (λ (o : Option ℕ). AreMarked s (is_marked mid) (reason_lits s o)) (sym is) met.met);
+  }
+
+  mid_above : mid.floor ≤ place
+  mid_above = omega (arith, met.floor, above)
+
+  mid_marked : is_marked mid place ≡ true
+  mid_marked = met.grows place marked
+
+  pub resolved_work : old.deep ≡ false → IsWork s place done
+  resolved_work shallow = record {
+    short = mid_work.short;
+    within = omega arith;
+    floor = mid_above;
+    ranged = mid_work.ranged;
+    parted = λ q. parted (occurrences q mid.kept) (occurrences q mid.resolved) (occurrences q (mid.resolved ++ place ∷ [])) (occurrences q mid.waiting) mid.floor q (is_marked mid q) mid_above
+        (λ e. ap (is_marked mid) e ∙ mid_marked) (occurrences-push q mid.resolved place) (mid_work.parted q);
+    pending = omega (arith, mid_work.pending, count_below-more (is_above mid) place, one_above mid.floor place (is_marked mid place) mid_above mid_marked);
+    kept_below = mid_work.kept_below;
+    kept = mid_work.kept;
+    resolved = λ p some. ⊎_elim (λ was. mid_work.resolved p was) (λ same. subst (λ (x : ℕ). IsSome (get_or s.reasons x None)) (sym same) (ap is_some is)) (pushed_cases p mid.resolved place some);
+    resolved_below = λ p some deep. absurd (clash (sym deep ∙ (met.deep ∙ shallow)));
+    waiting = mid_work.waiting;
+    waiting_below = mid_work.waiting_below;
+  }
+    where
+      clash : true ≡ false → ⊥
+      clash e = cc e
+
+      one_above : (floor p : ℕ) (b : Bool) → floor ≤ p → b ≡ true → one_if (leb floor p && b) ≡ 1
+      one_above floor p b le e = grind (arith, nat_tests)
+
+      parted : (k r r' v floor q : ℕ) (m : Bool) → floor ≤ place → (q ≡ place → m ≡ true) → r' ≡ r + one_if (eqb place q)
+          → k + (r + (v + one_if (ltb q (place + 1) && (leb floor q && m)))) ≡ one_if m → k + (r' + (v + one_if (ltb q place && (leb floor q && m)))) ≡ one_if m
+      parted k r r' v floor q true le here more h = grind (arith, nat_tests)
+      parted k r r' v floor q false le here more h = grind (arith, nat_tests)
+
+-- where others are pending, the latest one was not decided
+pub pending_reason : (s : State) (w : Work) (place : ℕ) → IsWork s (place + 1) w → IsStart s w.floor → w.floor ≤ place → place < length s.trail → 2 ≤ w.pending → IsSome (get_or s.reasons place None)
+pending_reason s w place i start above within others = ⊎_elim
+    (λ e. absurd (omega (arith, i.pending, count_below-more (is_above w) place, small (is_above w place), above_floor w place (omega (arith, e)))))
+    (λ ne. start.later place (omega (arith, above, ne)) within)
+    (cases_eq place w.floor)
+  where
+    small : (b : Bool) → one_if b ≤ 1
+    small true = omega arith
+    small false = omega arith
+
+-- the literals of the reason of a place to be resolved may be met
+pub may_meet_reason : (s : State) (w w' : Work) (place reason : ℕ) → KeepsFacts s → get_or s.reasons place None ≡ Some reason → place < length s.trail → MayResolve s w place → w' ≡ with_resolved w place → MayMeet s w' (lits_in s.clauses reason)
+may_meet_reason s w w' place reason facts is within may e = (
+  may.0,
+  subst (λ (x : Work). IsWork s may.0 x) (sym e) may.1,
+  λ k k_in. omega (arith, reason_below s place reason facts within is k k_in, may.2),
+)
+
+pub met_reason : (s : State) (w w' new : Work) (place reason : ℕ) → get_or s.reasons place None ≡ Some reason → w' ≡ with_resolved w place → Meets s w' new (lits_in s.clauses reason) → Meets s (with_resolved w place) new (reason_of_place s place)
+met_reason s w w' new place reason is e met =
+    subst (λ (o : Option ℕ). Meets s (with_resolved w place) new (reason_lits s o)) (sym is) (subst (λ (x : Work). Meets s x new (lits_in s.clauses reason)) e met)
+
+-- the last waiting place is resolved
+module _ (s : State) (old : Work) (rest : List ℕ) (place : ℕ) (is : old.waiting ≡ rest ++ place ∷ []) where
+  abbrev pub popped : Work
+  popped = record old { waiting = rest }
+
+  waits : 0 < occurrences place old.waiting
+  waits = omega (arith, ap (occurrences place) is, occurrences-push place rest place, self place)
+    where
+      self : (n : ℕ) → one_if (eqb n n) ≡ 1
+      self n = grind (arith, nat_tests)
+
+  pub popped_within : (high : ℕ) → IsWork s high old → place < length s.trail
+  popped_within high i = omega (arith, i.waiting_below place waits, i.floor, i.within)
+
+  pub popped_reason : (high : ℕ) → IsWork s high old → IsSome (get_or s.reasons place None)
+  popped_reason high i = i.waiting place waits
+
+  front_waits : (p : ℕ) → 0 < occurrences p rest → 0 < occurrences p old.waiting
+  front_waits p some = omega (arith, some, ap (occurrences p) is, occurrences-append p rest (place ∷ []))
+
+  popped_work : (high : ℕ) → IsWork s high old → IsWork s high (with_resolved popped place)
+  popped_work high i = record {
+    short = i.short;
+    within = i.within;
+    floor = i.floor;
+    ranged = i.ranged;
+    parted = λ q. omega (arith, i.parted q, ap (occurrences q) is, occurrences-push q rest place, occurrences-push q old.resolved place);
+    pending = i.pending;
+    kept_below = i.kept_below;
+    kept = i.kept;
+    resolved = λ p some. ⊎_elim (λ was. i.resolved p was) (λ same. subst (λ (x : ℕ). IsSome (get_or s.reasons x None)) (sym same) (popped_reason high i)) (pushed_cases p old.resolved place some);
+    resolved_below = λ p some deep. ⊎_elim (λ was. i.resolved_below p was deep) (λ same. omega (arith, same, i.waiting_below place waits)) (pushed_cases p old.resolved place some);
+    waiting = λ p some. i.waiting p (front_waits p some);
+    waiting_below = λ p some. i.waiting_below p (front_waits p some);
+  }
+
+  pub popped_may : (high : ℕ) → IsWork s high old → MayResolve s popped place
+  popped_may high i = (high, popped_work high i, omega (arith, i.waiting_below place waits, i.floor))
+
+  module _ (new : Work) (met : Meets s (with_resolved popped place) new (reason_of_place s place)) where
+    pub popped_resolves : Resolves s old new
+    popped_resolves = record {
+      grows = met.grows;
+      floor = met.floor;
+      deep = met.deep;
+      covered = λ c. subst (λ (xs : List ℕ). AreCovered s (is_marked new) xs) (sym met.resolved) (covered_push s (is_marked old) (is_marked new) old.resolved place met.grows c met.met);
+    }
+
+    below : KeepsFacts s → (n : ℕ) → place < n → place < length s.trail → AreBelow s n (reason_of_place s place)
+    below facts n lt within = step (get_or s.reasons place None) refl
+      where
+        step : (o : Option ℕ) → get_or s.reasons place None ≡ o → AreBelow s n (reason_lits s o)
+        step None e = λ k k_in. absurd (omega arith)
+        step (Some r) e = λ k k_in. omega (arith, reason_below s place r facts within e k k_in, lt)
+
+    pub popped_keeps : KeepsFacts s → KeepsWork s old new
+    popped_keeps facts high i = met.work high (popped_work high i) (below facts high (omega (arith, i.waiting_below place waits, i.floor)) (popped_within high i))
+
+    -- each turn marks a place or takes one from those that wait
+    pub popped_less : KeepsFacts s → (high : ℕ) → IsWork s high old
+        → 2 * (length s.trail - count_below (is_marked new) (length s.trail)) + length new.waiting < 2 * (length s.trail - count_below (is_marked old) (length s.trail)) + length old.waiting
+    popped_less facts high i =
+        let n : ℕ = length s.trail in
+        let within : place < n = popped_within high i in
+        omega (arith, met.spends n (below facts n within within), count_below-le (is_marked old) (is_marked new) met.grows n, count_below-bound (is_marked new) n, ap length is, length_push rest place)

@@ -1,0 +1,12 @@
+use Rattle.std.proofs.Common.{◌+◌, ◌-◌, ◌*◌, length}
+use Rattle.ba_learn.specs.Resolving.{is_marked, count_below, Resolves, KeepsWork}
+use Rattle.ba_learn.proofs.resolution.Resolution.close.Given as goal
+
+abbrev pub invariant-loop-place : goal.invariant-loop-place
+invariant-loop-place l = record {
+  resolves : Resolves l.watch l.initial.self l.self;
+  work : KeepsWork l.watch l.initial.self l.self;
+}
+
+abbrev pub decreases-loop-place : goal.decreases-loop-place
+decreases-loop-place l = 2 * (length l.watch.trail - count_below (is_marked l.self) (length l.watch.trail)) + length l.self.waiting
