@@ -5,15 +5,15 @@ use Rattle.std.proofs.lemmas.List.{length-take-le, take-append-drop}
 use Rattle.std.proofs.lemmas.Bool.{cases_eq}
 use Rattle.std.proofs.lemmas.Bool.Decides.{nat_tests}
 use Rattle.ba_lits.specs.Literals.{Literal, index_of, lit_at}
-use Rattle.ba_arena.specs.Clauses.{Clauses, IsLive, lits_at}
-use Rattle.ba_watch.specs.Threads.{Clause, plain}
+use Rattle.ba_arena.specs.Clauses.{Clauses, Stored, IsLive, clause_at, lits_at, number_at, number_of as stored_number}
+use Rattle.ba_watch.specs.Threads.{Clause, plain, plain_at}
 use Rattle.ba_watch.specs.Trails.{value_of, place_of, IsTrail, decided}
 use Rattle.ba_watch.specs.Propagation.{State, plain_lits, clause_in, lits_in, has_literal, IsReason, KeepsFacts}
 use Rattle.ba_watch.proofs.Values.{place_of-some, place_of-append, place_of-none}
 use Rattle.ba_watch.proofs.Facts.{same_from_index}
 use Rattle.ba_watch.proofs.Visits.{some-plain}
 use Rattle.ba_watch.proofs.Sounds.{clause_in-map, lits_in-map}
-use Rattle.ba_learn.specs.Resolving.{place_in, AreBelow, reason_lits, reason_of_place}
+use Rattle.ba_learn.specs.Resolving.{place_in, AreBelow, number_of, number_in}
 
 -- what contracts see of the arena
 pub live_in : (a : Clauses) (cs : List (Option Clause)) (r : ℕ) → map plain a ≡ cs → IsSome (clause_in cs r) → IsLive a r
@@ -62,3 +62,20 @@ reason_live s p r facts within is = step (clause_in s.clauses r) (facts.reasons 
     step : (o : Option Clause) → has_literal (lit_at s.trail p) (plain_lits o) ≡ true → IsSome o
     step None has = absurd (cc has)
     step (Some c) has = refl
+
+-- only places of the trail have reasons
+pub some_within : (R : List (Option ℕ)) (p : ℕ) → IsSome (get_or R p None) → p < length R
+some_within [] p some = absurd (cc some)
+some_within (r ∷ R) zero some = omega arith
+some_within (r ∷ R) (suc p) some = omega (arith, some_within R p some)
+
+-- the numbers of clauses
+number-plain : (a : Clauses) (r : ℕ) → number_at a r ≡ number_of (plain_at a r)
+number-plain a r = step (clause_at a r)
+  where
+    step : (o : Option Stored) → stored_number o ≡ number_of (plain o)
+    step None = refl
+    step (Some s) = refl
+
+pub number_same : (s : State) (a : Clauses) (r : ℕ) → map plain a ≡ s.clauses → number_at a r ≡ number_in s r
+number_same s a r e = number-plain a r ∙ (ap number_of (sym (clause_in-map a r)) ∙ ap (λ (x : List (Option Clause)). number_of (clause_in x r)) e)

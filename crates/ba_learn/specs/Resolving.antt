@@ -2,6 +2,7 @@
 
 use Rattle.std.specs.Prelude.{◌≡◌, ℕ, ◌+◌, ◌<◌, ◌≤◌, leb, ltb, ◌^◌, Bool, true, false, ◌&&◌, Option, None, Some, IsSome, List, [], ◌∷◌, ◌++◌, length, get_or, if◌then◌else◌}
 use Prim.Native.Nat.{suc, zero}
+use Rattle.std.specs.List.Sorted.{IsPermutation, IsNonDecreasingBy}
 use Rattle.ba_lits.specs.Literals.{Literal, lit_at, negate}
 use Rattle.ba_watch.specs.Chains.{occurrences}
 use Rattle.ba_watch.specs.Threads.{Clause}
@@ -156,3 +157,12 @@ number_at s p = reason_number s (get_or s.reasons p None)
 -- the negation of the literal at a place of the trail
 abbrev pub negated_at : State → ℕ → Literal
 negated_at s p = negate (lit_at s.trail p)
+
+-- the same numbers or literals, in the order of the numbers or of the variables
+pub record SortsNumbers (old new : List ℕ) : Type 0 where
+  pub same : IsPermutation old new
+  pub ascends : IsNonDecreasingBy (λ (x : ℕ). x) new
+
+pub record SortsLiterals (old new : List Literal) : Type 0 where
+  pub same : IsPermutation old new
+  pub ascends : IsNonDecreasingBy (λ (l : Literal). l.variable) new

@@ -1,10 +1,10 @@
 //! Resolution along the trail.
 
-ghost use Rattle.std.specs.Prelude.{◌≡◌, ℕ, ◌+◌, ◌^◌, ◌<◌, ◌≤◌, [], ◌∷◌, None, Some, true, false, IfOk, OnOk, IsSome, IsTrue, length, get_or};
+ghost use Rattle.std.specs.Prelude.{◌≡◌, ℕ, ◌+◌, ◌^◌, ◌<◌, ◌≤◌, [], ◌∷◌, ◌++◌, None, true, false, IfOk, OnOk, IsSome, length, map, get_or, All};
 ghost use Rattle.ba_lits.specs.Literals.{lit_at};
 ghost use Rattle.ba_watch.specs.Trails.{place_of, decided, level_at};
 ghost use Rattle.ba_watch.specs.Propagation.{clause_in, lits_in};
-ghost use Rattle.ba_learn.specs.Resolving.{Work, IsWork, is_marked, is_above, count_below, MayKeep, AreBelow, MayMeet, Parts, Meets, with_resolved, MayResolve, reason_of_place, Resolves, KeepsWork, IsStart};
+ghost use Rattle.ba_learn.specs.Resolving.{Work, IsWork, is_marked, is_above, count_below, MayKeep, AreBelow, MayMeet, Parts, Meets, with_resolved, MayResolve, reason_of_place, Resolves, KeepsWork, IsStart, number_in, number_at, negated_at, SortsNumbers, SortsLiterals};
 
 use crate::marks::Marks;
 use ba_arena::ClauseRef;
@@ -217,6 +217,48 @@ impl Resolution {
         }
         Ok(())
     }
+
+    /// Sorts the resolved places.
+    pub fn sort(&mut self)
+        ensures sorted { SortsNumbers self.old.resolved self.new.resolved }
+        ensures kept { self.new.kept ≡ self.old.kept }
+    {
+        self.resolved.sort_unstable();
+    }
+
+    /// The numbers of the reasons of the resolved places, and then that of a clause.
+    pub fn hints(
+        &self,
+        alloc: Global,
+        watch: &Watch,
+        conflict: ClauseRef,
+    ) -> Result<Vec<u64>, AllocError>
+        requires live { IsSome (clause_in watch.now.clauses conflict) }
+        requires reasons { All (λ p. IsSome (get_or watch.now.reasons p None)) self.now.resolved }
+        ensures { IfOk result (λ hints. hints.items ≡ map (number_at watch.now) self.now.resolved ++ number_in watch.now conflict ∷ []) }
+    {
+        let mut hints = Vec::new(alloc);
+        for place in &self.resolved {
+            hints.push(reason_number(watch, *place))?;
+        }
+        hints.push(watch.arena().number(conflict))?;
+        Ok(hints)
+    }
+
+    /// A literal and the negations of those that are kept, by their variables.
+    pub fn clause(&self, alloc: Global, watch: &Watch, lead: Lit) -> Result<Vec<Lit>, AllocError>
+        requires { All (λ p. p < length watch.now.trail) self.now.kept }
+        ensures { IfOk result (λ lits. SortsLiterals (lead ∷ map (negated_at watch.now) self.now.kept) lits.items) }
+    {
+        let trail = watch.trail();
+        let mut lits = Vec::new(alloc);
+        lits.push(lead)?;
+        for place in &self.kept {
+            lits.push(trail[*place].negated())?;
+        }
+        lits.sort_unstable_by_key(|lit| lit.variable());
+        Ok(lits)
+    }
 }
 
 /// The reason of a place.
@@ -227,6 +269,16 @@ fn reason_at(watch: &Watch, place: usize) -> ClauseRef
 {
     watch.keeps_facts();
     watch.reasons()[place].unwrap()
+}
+
+/// The number of the reason of a place.
+fn reason_number(watch: &Watch, place: usize) -> u64
+    requires { IsSome (get_or watch.now.reasons place None) }
+    ensures { result ≡ number_at watch.now place }
+{
+    watch.keeps_facts();
+    let reason = reason_at(watch, place);
+    watch.arena().number(reason)
 }
 
 /// The place of the last decision.
