@@ -6,3 +6,4 @@ pub mod ResolveLaws
 pub mod Standings
 pub mod Replays
 pub mod FollowLaws
+pub mod Finishes

@@ -263,3 +263,30 @@ met_within s w l may = omega (arith, may.2 0 (omega arith), may.1.within)
 
 pub met_place : (s : State) (w : Work) (l : Literal) (v : ℕ) → v ≡ l.variable → MayMeet s w (l ∷ []) → place_of s.trail v < length s.trail
 met_place s w l v is may = subst (λ (x : ℕ). place_of s.trail x < length s.trail) (sym is) (met_within s w l may)
+
+-- a resolution of nothing
+pub work_empty : (s : State) (w : Work) (high : ℕ) → length s.trail < 2 ^ 62 → high ≤ length s.trail → w.floor ≤ high → ((p : ℕ) → is_marked w p ≡ false) → w.pending ≡ 0 → w.kept ≡ [] → w.resolved ≡ [] → w.waiting ≡ [] → IsWork s high w
+work_empty s w high short within floor none pending kept resolved waiting = record {
+  short = short;
+  within = within;
+  floor = floor;
+  ranged = λ p e. absurd (cc (sym e ∙ none p));
+  parted = λ p. parted (is_marked w p) (occurrences p w.kept) (occurrences p w.resolved) (occurrences p w.waiting) (ltb p high) (leb w.floor p) (none p) (ap (occurrences p) kept) (ap (occurrences p) resolved) (ap (occurrences p) waiting);
+  pending = pending ∙ sym (count_below-none (is_above w) high (λ p. and_false (leb w.floor p) (is_marked w p) (none p)));
+  kept_below = λ p some. absurd (omega (arith, some, ap (occurrences p) kept));
+  kept = λ p some. absurd (omega (arith, some, ap (occurrences p) kept));
+  resolved = λ p some. absurd (omega (arith, some, ap (occurrences p) resolved));
+  resolved_below = λ p some. absurd (omega (arith, some, ap (occurrences p) resolved));
+  waiting = λ p some. absurd (omega (arith, some, ap (occurrences p) waiting));
+  waiting_below = λ p some. absurd (omega (arith, some, ap (occurrences p) waiting));
+}
+  where
+    parted : (m : Bool) (k r v : ℕ) (a b : Bool) → m ≡ false → k ≡ 0 → r ≡ 0 → v ≡ 0 → k + (r + (v + one_if (a && (b && m)))) ≡ one_if m
+    parted true k r v a b e k_is r_is v_is = absurd (cc e)
+    parted false k r v true true e k_is r_is v_is = omega arith
+    parted false k r v true false e k_is r_is v_is = omega arith
+    parted false k r v false b e k_is r_is v_is = omega arith
+
+    count_below-none : (f : ℕ → Bool) (n : ℕ) → ((p : ℕ) → f p ≡ false) → count_below f n ≡ 0
+    count_below-none f zero none = refl
+    count_below-none f (suc n) none = omega (arith, ap one_if (none n), count_below-none f n none)

@@ -88,6 +88,12 @@ AreMarked s marked lits = (k : ℕ) → k < length lits → marked (place_in s l
 abbrev pub MayMeet : State → Work → List Literal → Type 0
 MayMeet s w lits = (high : ℕ) × IsWork s high w × AreBelow s high lits
 
+-- a resolution with a floor may start with the literals of a clause
+pub record MayStart (s : State) (floor high : ℕ) (lits : List Literal) : Type 0 where
+  pub floor_le : floor ≤ high
+  pub within : high ≤ length s.trail
+  pub below : AreBelow s high lits
+
 -- the literals of a clause were marked, each of them new in one part of the work
 pub record Meets (s : State) (old new : Work) (lits : List Literal) : Type 0 where
   pub grows : (p : ℕ) → is_marked old p ≡ true → is_marked new p ≡ true

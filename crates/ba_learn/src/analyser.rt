@@ -8,6 +8,7 @@ ghost use Rattle.ba_learn.specs.Live.{Follows, IsNewTo};
 ghost use Rattle.ba_learn.specs.Levels.{IsBacked, IsCoreOf};
 
 use crate::learnt::Learnt;
+use crate::resolution::Resolution;
 use ba_arena::ClauseRef;
 use ba_lits::Lit;
 use ba_watch::Watch;
@@ -18,12 +19,16 @@ use std::alloc::{AllocError, Global};
 #[derive(Drop)]
 pub struct Analyser {
     alloc: Global,
+    resolution: Resolution,
 }
 
 impl Analyser {
     /// Marks for no variables. It takes no memory.
     pub fn new(alloc: Global) -> Analyser {
-        Analyser { alloc }
+        Analyser {
+            alloc,
+            resolution: Resolution::new(alloc),
+        }
     }
 
     /// The clause to learn from a clause that is false above level 0: that of the first unique implication point of
@@ -42,7 +47,7 @@ impl Analyser {
         ensures new { IfOk result (λ learnt. IsNewTo watch.now.clauses learnt.lits) }
         ensures backed { IfOk result (λ learnt. IsBacked watch.now learnt.lits learnt.back) }
     {
-        let _ = (&self.alloc, watch, conflict);
+        let _ = (watch.level(), self.resolution.walk(watch)?, conflict);
         Err(AllocError)
     }
 
@@ -59,7 +64,7 @@ impl Analyser {
         ensures core { IfOk result (λ learnt. IsCoreOf watch.now lit learnt.lits) }
         ensures back { IfOk result (λ learnt. learnt.back ≡ 0) }
     {
-        let _ = (&self.alloc, watch, lit);
+        let _ = (watch.level(), lit);
         Err(AllocError)
     }
 
@@ -72,8 +77,12 @@ impl Analyser {
         requires level { decided watch.now.reasons ≡ 0 }
         ensures { IfOk result (λ hints. Follows watch.now.clauses [] hints.items) }
     {
-        let _ = (&self.alloc, watch, conflict);
-        Err(AllocError)
+        watch.keeps_facts();
+        let resolution = &mut self.resolution;
+        resolution.start(watch, conflict, watch.trail().len(), false)?;
+        resolution.close(watch)?;
+        resolution.sort();
+        resolution.hints(self.alloc, watch, conflict)
     }
 }
 

@@ -4,7 +4,7 @@ ghost use Rattle.std.specs.Prelude.{◌≡◌, ℕ, ◌+◌, ◌^◌, ◌<◌, �
 ghost use Rattle.ba_lits.specs.Literals.{lit_at};
 ghost use Rattle.ba_watch.specs.Trails.{place_of, decided, level_at};
 ghost use Rattle.ba_watch.specs.Propagation.{clause_in, lits_in};
-ghost use Rattle.ba_learn.specs.Resolving.{Work, IsWork, is_marked, is_above, count_below, MayKeep, AreBelow, MayMeet, Parts, Meets, with_resolved, MayResolve, reason_of_place, Resolves, KeepsWork, IsStart, number_in, number_at, negated_at, SortsNumbers, SortsLiterals};
+ghost use Rattle.ba_learn.specs.Resolving.{Work, IsWork, is_marked, is_above, count_below, MayKeep, AreBelow, AreMarked, MayMeet, MayStart, Parts, Meets, with_resolved, MayResolve, reason_of_place, Resolves, KeepsWork, IsStart, number_in, number_at, negated_at, SortsNumbers, SortsLiterals};
 
 use crate::marks::Marks;
 use ba_arena::ClauseRef;
@@ -51,7 +51,7 @@ impl Resolution {
     }
 
     /// Begins anew.
-    pub fn begin(&mut self, floor: usize, deep: bool)
+    fn begin(&mut self, floor: usize, deep: bool)
         ensures marks { (p : ℕ) → is_marked self.new p ≡ false }
         ensures floor { self.new.floor ≡ floor }
         ensures deep { self.new.deep ≡ deep }
@@ -133,6 +133,28 @@ impl Resolution {
             self.meet(watch, arena.lit(clause, place))?;
         }
         Ok(())
+    }
+
+    /// Begins anew, with the literals of a clause.
+    pub fn start(
+        &mut self,
+        watch: &Watch,
+        clause: ClauseRef,
+        floor: usize,
+        deep: bool,
+    ) -> Result<(), AllocError>
+        requires live { IsSome (clause_in watch.now.clauses clause) }
+        requires may { (high : ℕ) × MayStart watch.now floor high (lits_in watch.now.clauses clause) }
+        ensures work { OnOk result ((high : ℕ) → MayStart watch.now floor high (lits_in watch.now.clauses clause) → IsWork watch.now high self.new) }
+        ensures marked { OnOk result (AreMarked watch.now (is_marked self.new) (lits_in watch.now.clauses clause)) }
+        ensures resolved { OnOk result (self.new.resolved ≡ []) }
+        ensures floor { OnOk result (self.new.floor ≡ floor) }
+        ensures deep { OnOk result (self.new.deep ≡ deep) }
+    {
+        watch.keeps_facts();
+        prove!(watch.variables() < 1 << 62);
+        self.begin(floor, deep);
+        self.meet_all(watch, clause)
     }
 
     /// The latest place below an end whose literal is pending.
