@@ -7,3 +7,4 @@ pub mod Standings
 pub mod Replays
 pub mod FollowLaws
 pub mod Finishes
+pub mod SortedLaws
