@@ -74,3 +74,7 @@ refuted s w conflict places facts e floor deep level live is_false' sorted claus
 
     no_pending : (q : ℕ) → is_pending (length s.trail) w q ≡ true → ⊥
     no_pending q pending = between (length s.trail) w.floor q (is_marked w q) floor pending
+
+pub kept_places : (s : State) (high : ℕ) (w : Work) (places : List ℕ) → IsWork s high w → places ≡ w.kept → All (λ p. p < length s.trail) places
+kept_places s high w places work e =
+    subst (λ (xs : List ℕ). All (λ (p : ℕ). p < length s.trail) xs) (sym e) (places_all (λ p. p < length s.trail) w.kept (λ p some. omega (arith, work.kept_below p some, work.floor, work.within)))

@@ -8,3 +8,4 @@ pub mod Replays
 pub mod FollowLaws
 pub mod Finishes
 pub mod SortedLaws
+pub mod CoreLaws

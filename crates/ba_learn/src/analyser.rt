@@ -10,6 +10,7 @@ ghost use Rattle.ba_learn.specs.Levels.{IsBacked, IsCoreOf};
 use crate::learnt::Learnt;
 use crate::resolution::Resolution;
 use ba_arena::ClauseRef;
+use ba_items::Items;
 use ba_lits::Lit;
 use ba_watch::Watch;
 use std::alloc::{AllocError, Global};
@@ -64,8 +65,21 @@ impl Analyser {
         ensures core { IfOk result (λ learnt. IsCoreOf watch.now lit learnt.lits) }
         ensures back { IfOk result (λ learnt. learnt.back ≡ 0) }
     {
-        let _ = (watch.level(), lit);
-        Err(AllocError)
+        watch.keeps_facts();
+        let variable = lit.variable();
+        let place = watch.place(variable).unwrap();
+        let reason = watch.reason(variable).unwrap();
+        let resolution = &mut self.resolution;
+        resolution.start(watch, reason, place, true)?;
+        resolution.close(watch)?;
+        resolution.sort();
+        let lits = resolution.clause(self.alloc, watch, lit.negated())?;
+        let hints = resolution.hints(self.alloc, watch, reason)?;
+        Ok(Learnt {
+            lits: Items::from_vec(lits),
+            hints: Items::from_vec(hints),
+            back: 0,
+        })
     }
 
     /// Hints by which the empty clause follows, from a clause that is false at level 0.
