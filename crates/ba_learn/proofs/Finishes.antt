@@ -32,8 +32,8 @@ pub record HasEnded (s : State) (high : ℕ) (w : Work) (conflict : ℕ) : Type 
   pub covered : AreCovered s (is_marked w) w.resolved
   pub met : AreMarked s (is_marked w) (lits_in s.clauses conflict)
 
-pub ended : (s : State) (high : ℕ) (u w : Work) (conflict : ℕ) → IsWork s high u → u.resolved ≡ [] → AreMarked s (is_marked u) (lits_in s.clauses conflict) → Resolves s u w → IsWork s high w → w.waiting ≡ [] → HasEnded s high w conflict
-ended s high u w conflict work none met steps work' waiting = record {
+pub ended : (s : State) (high : ℕ) (u w : Work) (conflict : ℕ) → u.resolved ≡ [] → AreMarked s (is_marked u) (lits_in s.clauses conflict) → Resolves s u w → IsWork s high w → w.waiting ≡ [] → HasEnded s high w conflict
+ended s high u w conflict none met steps work' waiting = record {
   work = work';
   waiting = waiting;
   covered = steps.covered (λ p some. absurd (omega (arith, some, ap (occurrences p) none)));

@@ -9,3 +9,5 @@ pub mod FollowLaws
 pub mod Finishes
 pub mod SortedLaws
 pub mod CoreLaws
+pub mod Weights
+pub mod LevelLaws

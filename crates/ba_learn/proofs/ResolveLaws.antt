@@ -4,6 +4,8 @@ use Rattle.std.proofs.Common.{◌≡◌, ◌≢◌, ℕ, suc, zero, ◌+◌, ◌
 use Rattle.std.proofs.lemmas.List.{length_push, take_all}
 use Rattle.std.proofs.lemmas.Bool.{cases_eq, cases_lt}
 use Rattle.std.proofs.lemmas.Bool.Decides.{nat_tests}
+use Rattle.std.proofs.lemmas.List.Sorted.{length_permutation}
+use Rattle.std.specs.List.Sorted.{IsPermutation}
 use Rattle.ba_lits.specs.Literals.{Literal, lit_at}
 use Rattle.ba_watch.specs.Chains.{occurrences}
 use Rattle.ba_watch.specs.Trails.{place_of, decided}
@@ -11,9 +13,10 @@ use Rattle.ba_watch.specs.Propagation.{State, clause_in, lits_in, KeepsFacts}
 use Rattle.ba_learn.specs.Resolving.{Work, one_if, count_below, is_marked, is_above, is_pending, MayKeep, parts_of, IsWork, place_in, AreBelow, AreMarked, MayMeet, Meets, with_resolved, MayResolve, reason_lits, reason_of_place, AreCovered, Resolves, KeepsWork, IsStart}
 use Rattle.ba_learn.proofs.WorkLaws.{occurrences-push, occurrences-append, count_below-same, count_below-le, count_below-bound}
 use Rattle.ba_learn.proofs.ReasonLaws.{reason_below, reason_live}
+use Rattle.ba_learn.proofs.FollowLaws.{occurrences-permutation}
 
 -- without a decision the level is 0
-decided-zero : (R : List (Option ℕ)) → ((p : ℕ) → p < length R → IsSome (get_or R p None)) → decided R ≡ 0
+pub decided-zero : (R : List (Option ℕ)) → ((p : ℕ) → p < length R → IsSome (get_or R p None)) → decided R ≡ 0
 decided-zero [] some = refl
 decided-zero (None ∷ R) some = absurd (cc (some 0 (omega arith)))
 decided-zero (Some r ∷ R) some = decided-zero R (λ p p_in. some (suc p) (omega arith))
@@ -242,6 +245,9 @@ module _ (s : State) (old : Work) (rest : List ℕ) (place : ℕ) (is : old.wait
     pub popped_keeps : KeepsFacts s → KeepsWork s old new
     popped_keeps facts high i = met.work high (popped_work high i) (below facts high (omega (arith, i.waiting_below place waits, i.floor)) (popped_within high i))
 
+    pub popped_pending : KeepsFacts s → (high : ℕ) → IsWork s high old → new.pending ≡ old.pending
+    popped_pending facts high i = met.still (below facts old.floor (i.waiting_below place waits) (popped_within high i))
+
     -- each turn marks a place or takes one from those that wait
     pub popped_less : KeepsFacts s → (high : ℕ) → IsWork s high old
         → 2 * (length s.trail - count_below (is_marked new) (length s.trail)) + length new.waiting < 2 * (length s.trail - count_below (is_marked old) (length s.trail)) + length old.waiting
@@ -249,3 +255,74 @@ module _ (s : State) (old : Work) (rest : List ℕ) (place : ℕ) (is : old.wait
         let n : ℕ = length s.trail in
         let within : place < n = popped_within high i in
         omega (arith, met.spends n (below facts n within within), count_below-le (is_marked old) (is_marked new) met.grows n, count_below-bound (is_marked new) n, ap length is, length_push rest place)
+
+-- a kept place is on the trail
+pub kept_on_trail : (s : State) (old : Work) (place high : ℕ) → IsWork s high old → (rest : List ℕ) → IsPermutation old.kept (place ∷ rest) → place < length s.trail
+kept_on_trail s old place high i rest is = omega (arith, i.kept_below place (omega (arith, occurrences-permutation place old.kept (place ∷ rest) is, self place)), i.floor, i.within)
+  where
+    self : (n : ℕ) → one_if (eqb n n) ≡ 1
+    self n = grind (arith, nat_tests)
+
+-- a kept place is resolved
+module _ (s : State) (old : Work) (rest : List ℕ) (place : ℕ) (is : IsPermutation old.kept (place ∷ rest)) (some : IsSome (get_or s.reasons place None)) where
+  abbrev pub dropped : Work
+  dropped = record old { kept = rest }
+
+  kept_same : (q : ℕ) → one_if (eqb place q) + occurrences q rest ≡ occurrences q old.kept
+  kept_same q = occurrences-permutation q old.kept (place ∷ rest) is
+
+  was_kept : 0 < occurrences place old.kept
+  was_kept = omega (arith, kept_same place, self place)
+    where
+      self : (n : ℕ) → one_if (eqb n n) ≡ 1
+      self n = grind (arith, nat_tests)
+
+  front_kept : (p : ℕ) → 0 < occurrences p rest → 0 < occurrences p old.kept
+  front_kept p h = omega (arith, h, kept_same p)
+
+  pub dropped_within : (high : ℕ) → IsWork s high old → place < length s.trail
+  dropped_within high i = omega (arith, i.kept_below place was_kept, i.floor, i.within)
+
+  dropped_work : (high : ℕ) → IsWork s high old → IsWork s high (with_resolved dropped place)
+  dropped_work high i = record {
+    short = i.short;
+    within = i.within;
+    floor = i.floor;
+    ranged = i.ranged;
+    parted = λ q. omega (arith, i.parted q, kept_same q, occurrences-push q old.resolved place);
+    pending = i.pending;
+    kept_below = λ p h. i.kept_below p (front_kept p h);
+    kept = λ p h. i.kept p (front_kept p h);
+    resolved = λ p h. ⊎_elim (λ was. i.resolved p was) (λ same. subst (λ (x : ℕ). IsSome (get_or s.reasons x None)) (sym same) some) (pushed_cases p old.resolved place h);
+    resolved_below = λ p h deep. ⊎_elim (λ was. i.resolved_below p was deep) (λ same. omega (arith, same, i.kept_below place was_kept)) (pushed_cases p old.resolved place h);
+    waiting = i.waiting;
+    waiting_below = i.waiting_below;
+  }
+
+  pub dropped_may : (high : ℕ) → IsWork s high old → MayResolve s dropped place
+  dropped_may high i = (high, dropped_work high i, omega (arith, i.kept_below place was_kept, i.floor))
+
+  module _ (new : Work) (met : Meets s (with_resolved dropped place) new (reason_of_place s place)) where
+    pub dropped_resolves : Resolves s old new
+    dropped_resolves = record {
+      grows = met.grows;
+      floor = met.floor;
+      deep = met.deep;
+      covered = λ c. subst (λ (xs : List ℕ). AreCovered s (is_marked new) xs) (sym met.resolved) (covered_push s (is_marked old) (is_marked new) old.resolved place met.grows c met.met);
+    }
+
+    dropped_below : KeepsFacts s → (n : ℕ) → place < n → place < length s.trail → AreBelow s n (reason_of_place s place)
+    dropped_below facts n lt within = step (get_or s.reasons place None) refl
+      where
+        step : (o : Option ℕ) → get_or s.reasons place None ≡ o → AreBelow s n (reason_lits s o)
+        step None e = λ k k_in. absurd (omega arith)
+        step (Some r) e = λ k k_in. omega (arith, reason_below s place r facts within e k k_in, lt)
+
+    pub dropped_keeps : KeepsFacts s → KeepsWork s old new
+    dropped_keeps facts high i = met.work high (dropped_work high i) (dropped_below facts high (omega (arith, i.kept_below place was_kept, i.floor)) (dropped_within high i))
+
+    pub dropped_pending : KeepsFacts s → (high : ℕ) → IsWork s high old → new.pending ≡ old.pending
+    dropped_pending facts high i = met.still (dropped_below facts old.floor (i.kept_below place was_kept) (dropped_within high i))
+
+    pub dropped_length : (index : ℕ) → index < length old.kept → index ≤ length new.kept
+    dropped_length index within = omega (arith, within, met.kept, length_permutation old.kept (place ∷ rest) is)

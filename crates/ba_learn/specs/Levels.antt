@@ -5,9 +5,17 @@ use Rattle.ba_lits.specs.Literals.{Literal, negate, lit_at}
 use Rattle.ba_watch.specs.Trails.{value_of, place_of, level_at, decided}
 use Rattle.ba_watch.specs.Propagation.{State, is_false}
 
--- the level at which the variable of a clause's literal got its value
+-- the level at which the variable of a literal, or of a clause's literal, got its value
+abbrev pub level_of_literal : State → Literal → ℕ
+level_of_literal s l = level_at s.reasons (place_of s.trail l.variable)
+
 abbrev pub level_in : State → List Literal → ℕ → ℕ
-level_in s lits k = level_at s.reasons (place_of s.trail (lit_at lits k).variable)
+level_in s lits k = level_of_literal s (lit_at lits k)
+
+-- a level is 0, or that of one of so many literals, below the present one
+abbrev pub IsReached : State → List Literal → ℕ → ℕ → Type 0
+IsReached s lits n level =
+    (level ≡ 0) ⊎ ((k : ℕ) × (k < n) × (level_in s lits k < decided s.reasons) × (level_in s lits k ≡ level))
 
 -- a level is 0, or that of a literal of the clause other than one
 abbrev pub IsMet : State → List Literal → ℕ → ℕ → Type 0

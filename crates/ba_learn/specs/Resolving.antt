@@ -101,6 +101,7 @@ pub record Meets (s : State) (old new : Work) (lits : List Literal) : Type 0 whe
   pub floor : new.floor ≡ old.floor
   pub deep : new.deep ≡ old.deep
   pub pending : old.pending ≤ new.pending
+  pub still : AreBelow s old.floor lits → new.pending ≡ old.pending
   pub kept : length old.kept ≤ length new.kept
   pub resolved : new.resolved ≡ old.resolved
   pub spends : (n : ℕ) → AreBelow s n lits → count_below (is_marked old) n + length new.waiting ≤ count_below (is_marked new) n + length old.waiting

@@ -1,14 +1,14 @@
 //! Resolving a false clause.
 
-ghost use Rattle.std.specs.Prelude.{◌≡◌, ℕ, ◌≤◌, [], Some, true, false, IfOk, IsSome, List};
+ghost use Rattle.std.specs.Prelude.{◌≡◌, ℕ, ◌<◌, ◌≤◌, ◌⊎◌, [], Some, true, false, IfOk, IsSome, List, length, All};
 ghost use Rattle.ba_lits.specs.Literals.{IsClause};
-ghost use Rattle.ba_watch.specs.Trails.{value_of, decided, reason_of};
+ghost use Rattle.ba_watch.specs.Trails.{value_of, place_of, decided, reason_of};
 ghost use Rattle.ba_watch.specs.Propagation.{clause_in, lits_in, is_false};
 ghost use Rattle.ba_learn.specs.Live.{Follows, IsNewTo};
-ghost use Rattle.ba_learn.specs.Levels.{IsBacked, IsCoreOf};
+ghost use Rattle.ba_learn.specs.Levels.{level_in, level_of_literal, IsReached, IsBacked, IsCoreOf};
 
 use crate::learnt::Learnt;
-use crate::resolution::Resolution;
+use crate::resolution::{Resolution, level_start};
 use ba_arena::ClauseRef;
 use ba_items::Items;
 use ba_lits::Lit;
@@ -48,8 +48,21 @@ impl Analyser {
         ensures new { IfOk result (λ learnt. IsNewTo watch.now.clauses learnt.lits) }
         ensures backed { IfOk result (λ learnt. IsBacked watch.now learnt.lits learnt.back) }
     {
-        let _ = (watch.level(), self.resolution.walk(watch)?, conflict);
-        Err(AllocError)
+        watch.keeps_facts();
+        let resolution = &mut self.resolution;
+        resolution.start(watch, conflict, level_start(watch), false)?;
+        let place = resolution.walk(watch)?;
+        resolution.shorten(watch)?;
+        resolution.close(watch)?;
+        resolution.sort();
+        let lits = resolution.clause(self.alloc, watch, watch.trail()[place].negated())?;
+        let hints = resolution.hints(self.alloc, watch, conflict)?;
+        let back = back_of(watch, lits.as_slice());
+        Ok(Learnt {
+            lits: Items::from_vec(lits),
+            hints: Items::from_vec(hints),
+            back,
+        })
     }
 
     /// A clause that negates a false literal and decided literals alone: those because of which the literal is false.
@@ -98,6 +111,36 @@ impl Analyser {
         resolution.sort();
         resolution.hints(self.alloc, watch, conflict)
     }
+}
+
+/// The greater of a level and that of a literal, but for the present one.
+fn raised(watch: &Watch, lit: Lit, back: usize) -> usize
+    requires within { lit.variable ≤ watch.now.variables }
+    requires assigned { place_of watch.now.trail lit.variable < length watch.now.trail }
+    ensures grows { back ≤ result }
+    ensures below { level_of_literal watch.now lit < decided watch.now.reasons → level_of_literal watch.now lit ≤ result }
+    ensures one { (result ≡ back) ⊎ ((level_of_literal watch.now lit < decided watch.now.reasons) × (level_of_literal watch.now lit ≡ result)) }
+{
+    let level = watch.level_of(lit.variable()).unwrap();
+    if level < watch.level() {
+        back.max(level)
+    } else {
+        back
+    }
+}
+
+/// The greatest level of a clause's literals below the present one, or 0.
+fn back_of(watch: &Watch, lits: &[Lit]) -> usize
+    requires within { All (λ l. l.variable ≤ watch.now.variables) lits.now }
+    requires assigned { All (λ l. place_of watch.now.trail l.variable < length watch.now.trail) lits.now }
+    ensures greatest { (k : ℕ) → k < length lits.now → level_in watch.now lits.now k < decided watch.now.reasons → level_in watch.now lits.now k ≤ result }
+    ensures met { IsReached watch.now lits.now (length lits.now) result }
+{
+    let mut back = 0;
+    for lit in lits {
+        back = raised(watch, *lit, back);
+    }
+    back
 }
 
 /// [`Analyser::analyse`] with marks of its own.

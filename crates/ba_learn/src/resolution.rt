@@ -1,6 +1,6 @@
 //! Resolution along the trail.
 
-ghost use Rattle.std.specs.Prelude.{◌≡◌, ℕ, ◌+◌, ◌^◌, ◌<◌, ◌≤◌, [], ◌∷◌, ◌++◌, None, true, false, IfOk, OnOk, IsSome, length, map, get_or, All};
+ghost use Rattle.std.specs.Prelude.{◌≡◌, ℕ, ◌+◌, ◌^◌, ◌<◌, ◌≤◌, [], ◌∷◌, ◌++◌, None, true, false, IfOk, OnOk, IsSome, IsTrue, length, map, get_or, All};
 ghost use Rattle.ba_lits.specs.Literals.{lit_at};
 ghost use Rattle.ba_watch.specs.Trails.{place_of, decided, level_at};
 ghost use Rattle.ba_watch.specs.Propagation.{clause_in, lits_in};
@@ -226,11 +226,74 @@ impl Resolution {
         self.meet_all(watch, reason)
     }
 
+    /// Whether a literal is marked, or was assigned at level 0.
+    fn is_settled(&self, watch: &Watch, lit: Lit) -> bool
+        requires { lit.variable ≤ watch.now.variables }
+    {
+        let variable = lit.variable();
+        match watch.place(variable) {
+            None => false,
+            Some(place) => self.marks.contains(place) || watch.level_of(variable) == Some(0),
+        }
+    }
+
+    /// Whether the reason of a place has no literal that isn't settled.
+    fn is_implied(&self, watch: &Watch, place: usize) -> bool
+        requires { place < length watch.now.trail }
+        ensures { IsTrue result → IsSome (get_or watch.now.reasons place None) }
+    {
+        watch.keeps_facts();
+        let Some(reason) = watch.reasons()[place] else {
+            return false;
+        };
+        let arena = watch.arena();
+        for index in 0..arena.len(reason) {
+            if !self.is_settled(watch, arena.lit(reason, index)) {
+                return false;
+            }
+        }
+        true
+    }
+
+    /// Resolves one of the kept literals, if the others imply its negation.
+    fn shorten_at(&mut self, watch: &Watch, index: usize) -> Result<(), AllocError>
+        requires work { (high : ℕ) × IsWork watch.now high self.old }
+        requires within { index < length self.old.kept }
+        ensures resolves { OnOk result (Resolves watch.now self.old self.new) }
+        ensures work { OnOk result (KeepsWork watch.now self.old self.new) }
+        ensures pending { OnOk result (self.new.pending ≡ self.old.pending) }
+        ensures kept { OnOk result (index ≤ length self.new.kept) }
+    {
+        watch.keeps_facts();
+        let place = self.kept[index];
+        if !self.is_implied(watch, place) {
+            return Ok(());
+        }
+        self.kept.swap_remove(index);
+        self.resolve(watch, place)
+    }
+
+    /// Resolves the kept literals whose negations the others imply.
+    pub fn shorten(&mut self, watch: &Watch) -> Result<(), AllocError>
+        requires work { (high : ℕ) × IsWork watch.now high self.old }
+        ensures resolves { OnOk result (Resolves watch.now self.old self.new) }
+        ensures work { OnOk result (KeepsWork watch.now self.old self.new) }
+        ensures pending { OnOk result (self.new.pending ≡ self.old.pending) }
+    {
+        let mut index = self.kept.len();
+        while index > 0 {
+            index -= 1;
+            self.shorten_at(watch, index)?;
+        }
+        Ok(())
+    }
+
     /// Resolves what waits, and whatever comes to wait because of that.
     pub fn close(&mut self, watch: &Watch) -> Result<(), AllocError>
         requires work { (high : ℕ) × IsWork watch.now high self.old }
         ensures resolves { OnOk result (Resolves watch.now self.old self.new) }
         ensures work { OnOk result (KeepsWork watch.now self.old self.new) }
+        ensures pending { OnOk result (self.new.pending ≡ self.old.pending) }
         ensures all { OnOk result (self.new.waiting ≡ []) }
     {
         watch.keeps_facts();

@@ -1,4 +1,4 @@
-use Rattle.std.proofs.Common.{◌+◌, ◌-◌, ◌*◌, length}
+use Rattle.std.proofs.Common.{◌≡◌, ◌+◌, ◌-◌, ◌*◌, length}
 use Rattle.ba_learn.specs.Resolving.{is_marked, count_below, Resolves, KeepsWork}
 use Rattle.ba_learn.proofs.resolution.Resolution.close.Given as goal
 
@@ -6,6 +6,7 @@ abbrev pub invariant-loop-place : goal.invariant-loop-place
 invariant-loop-place l = record {
   resolves : Resolves l.watch l.initial.self l.self;
   work : KeepsWork l.watch l.initial.self l.self;
+  pending : l.self.pending ≡ l.initial.self.pending;
 }
 
 abbrev pub decreases-loop-place : goal.decreases-loop-place

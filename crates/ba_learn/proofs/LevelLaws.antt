@@ -1,0 +1,229 @@
+-- The clause of the first unique implication point, and the levels of its literals.
+
+use Rattle.std.proofs.Common.{◌≡◌, ◌≢◌, ℕ, suc, zero, ◌+◌, ◌<◌, ◌≤◌, Bool, true, false, not, ◌&&◌, ◌||◌, Option, None, Some, IsSome, is_some, List, [], ◌∷◌, ◌++◌, length, get_or, map, take, drop, eqb, ltb, leb, cond, refl, sym, ap, subst, ◌∙◌, arith, ◌⊎◌, inl, inr, ⊎_elim}
+use Rattle.std.proofs.lemmas.Bool.{cases_eq, cases_lt}
+use Rattle.std.proofs.lemmas.Bool.Decides.{nat_tests}
+use Rattle.std.proofs.lemmas.List.{get_or-drop, length-drop}
+use Rattle.std.specs.List.Sorted.{IsPermutation}
+use Rattle.ba_lits.specs.Literals.{Literal, negate, index_of, lit_at, IsClause}
+use Rattle.ba_lits.specs.Hints.{has_literal, Refutes, replay}
+use Rattle.ba_watch.specs.Chains.{occurrences}
+use Rattle.ba_watch.specs.Threads.{Clause, index_at}
+use Rattle.ba_watch.specs.Trails.{value_of, place_of, decided, level_at}
+use Rattle.ba_watch.specs.Propagation.{State, plain_lits, clause_in, lits_in, is_false, is_unit, falsified, IsReason, IsComplete, KeepsFacts, has_literal as holds_literal}
+use Rattle.ba_watch.proofs.Values.{value_of-take, value_of-take_none, value_of-at, place_of-some}
+use Rattle.ba_watch.proofs.Levels.{decided-take_drop, decided-take-le, decided-take_none}
+use Rattle.ba_watch.proofs.Facts.{is_false-all, same_from_index, value_of-negate}
+use Rattle.ba_learn.specs.Live.{IsSame, AreLive, Follows, IsQuiet, IsNew, IsNewTo}
+use Rattle.ba_learn.specs.Levels.{level_in, IsReached, IsMet, IsBacked}
+use Rattle.ba_learn.specs.Resolving.{Work, one_if, count_below, is_marked, is_above, is_pending, IsWork, AreMarked, place_in, MayStart, IsStart, number_in, number_at, negated_at, SortsNumbers, SortsLiterals}
+use Rattle.ba_learn.proofs.ResolveLaws.{decided-zero, count_below-zero, count_below-more}
+use Rattle.ba_learn.proofs.ReasonLaws.{place_of-at}
+use Rattle.ba_learn.proofs.FollowLaws.{false_at, known, refutes}
+use Rattle.ba_learn.proofs.Finishes.{HasEnded, false_below}
+use Rattle.ba_learn.proofs.SortedLaws.{has_at, has-at, HasOne, u_within, kept_within, lead_in, kept_in, literal_of, literals_free, is_clause}
+use Rattle.ba_learn.proofs.CoreLaws.{pending_above}
+use Rattle.ba_learn.proofs.Weights.{is_false-permutation, is_unit-permutation}
+
+-- places from the start of the present level on are of this level, and those before it of lower ones
+module _ (s : State) (facts : KeepsFacts s) (floor : ℕ) (start : IsStart s floor) where
+  pub level_above : (p : ℕ) → floor ≤ p → p < length s.trail → level_at s.reasons p ≡ decided s.reasons
+  level_above p above within =
+      omega (arith, decided-take_drop (p + 1) s.reasons, decided-zero (drop (p + 1) s.reasons) later)
+    where
+      later : (q : ℕ) → q < length (drop (p + 1) s.reasons) → IsSome (get_or (drop (p + 1) s.reasons) q None)
+      later q q_in =
+          subst (λ (o : Option ℕ). IsSome o) (sym (get_or-drop (p + 1) s.reasons q None)) (start.later ((p + 1) + q) (omega arith) (omega (arith, q_in, length-drop (p + 1) s.reasons, facts.trail.same_length)))
+
+  pub level_below : (p : ℕ) → p < floor → level_at s.reasons p < decided s.reasons
+  level_below p below =
+      omega (arith, decided-take-le (p + 1) floor s.reasons (omega arith), decided-take_none floor s.reasons (omega (arith, start.within, facts.trail.same_length)) start.decided_, decided-take_drop (floor + 1) s.reasons)
+
+-- a set with a place below a number is counted there
+count_below-some : (f : ℕ → Bool) (p n : ℕ) → p < n → f p ≡ true → 1 ≤ count_below f n
+count_below-some f p zero lt e = absurd (omega arith)
+count_below-some f p (suc n) lt e = ⊎_elim
+    (λ same. omega (arith, ap one_if (ap f (sym same) ∙ e)))
+    (λ other. omega (arith, count_below-some f p n (omega (arith, lt, other)) e))
+    (cases_eq p n)
+
+count_below-none : (f : ℕ → Bool) (p n : ℕ) → p < n → count_below f n ≡ 0 → f p ≡ false
+count_below-none f p n lt e = step (f p) refl
+  where
+    step : (b : Bool) → f p ≡ b → f p ≡ false
+    step true is = absurd (omega (arith, e, count_below-some f p n lt is))
+    step false is = is
+
+-- a clause that is false and wasn't so at the front of the trail has a literal that became false later
+later_literal : (T : List Literal) (d : ℕ) (xs : List Literal) → ((k : ℕ) → k < length xs → value_of T (lit_at xs k) ≡ Some false) → is_false (value_of (take d T)) xs ≡ false → (k : ℕ) × (k < length xs) × (d ≤ place_of T (lit_at xs k).variable)
+later_literal T d [] all e = absurd (cc e)
+later_literal T d (x ∷ xs) all e = ⊎_elim
+    (λ below.
+    let front : value_of (take d T) x ≡ Some false = value_of-take d T x below ∙ all 0 (omega arith) in
+    let r = later_literal T d xs (λ k k_in. all (suc k) (omega arith)) (rest (value_of (take d T) x) (is_false (value_of (take d T)) xs) front e) in
+    (suc r.0, omega (arith, r.1), r.2))
+    (λ above. (0, omega arith, above))
+    (cases_lt (place_of T x.variable) d)
+  where
+    rest : (v : Option Bool) (b : Bool) → v ≡ Some false → (falsified v && b) ≡ false → b ≡ false
+    rest None b is h = absurd (cc is)
+    rest (Some true) b is h = absurd (cc is)
+    rest (Some false) b is h = h
+
+-- at the start of the walk there is a pending literal
+pub some_pending : (s : State) (w : Work) (conflict : ℕ) → KeepsFacts s → IsStart s w.floor → IsSome (clause_in s.clauses conflict) → is_false (value_of s.trail) (lits_in s.clauses conflict) ≡ true → AreMarked s (is_marked w) (lits_in s.clauses conflict) → IsWork s (length s.trail) w → 1 ≤ w.pending
+some_pending s w conflict facts start live is_false' marked work =
+    let complete = facts.below w.floor start.within start.decided_ in
+    let k = later_literal s.trail w.floor (lits_in s.clauses conflict) (false_at (value_of s.trail) (lits_in s.clauses conflict) is_false') (complete.none_false conflict live) in
+    let p : ℕ = place_in s (lits_in s.clauses conflict) k.0 in
+    omega (arith, work.pending, count_below-some (is_above w) p (length s.trail) (false_below s (lits_in s.clauses conflict) is_false' k.0 k.1) (above w.floor p (is_marked w p) k.2 (marked k.0 k.1)))
+  where
+    above : (f p : ℕ) (m : Bool) → f ≤ p → m ≡ true → (leb f p && m) ≡ true
+    above f p m le e = grind (arith, nat_tests)
+
+-- the negation of a literal of the trail is false
+pub negated_false : (s : State) → KeepsFacts s → (q : ℕ) → q < length s.trail → value_of s.trail (negated_at s q) ≡ Some false
+negated_false s facts q within = value_of-negate s.trail (lit_at s.trail q) true (value_of-at s.trail q within (facts.trail.fresh q within))
+
+holds-has : (l : Literal) (xs : List Literal) → has_literal l xs ≡ holds_literal l xs
+holds-has l [] = refl
+holds-has l (x ∷ xs) = ap (λ (b : Bool). eqb (index_of x) (index_of l) || b) (holds-has l xs)
+
+-- the last pending place is the only one
+pub analysed_one : (s : State) (w : Work) (u : ℕ) → IsWork s (u + 1) w → w.pending ≡ 1 → w.floor ≤ u → is_marked w u ≡ true → HasOne s (u + 1) w u (negated_at s u)
+analysed_one s w u work pending above marked = record {
+  pending = here w.floor (is_marked w u) above marked;
+  only = λ q q_pending. only q q_pending;
+  lead_is = refl;
+}
+  where
+    here : (f : ℕ) (m : Bool) → f ≤ u → m ≡ true → (ltb u (u + 1) && (leb f u && m)) ≡ true
+    here f m le e = grind (arith, nat_tests)
+
+    one_above : (f : ℕ) (m : Bool) → f ≤ u → m ≡ true → one_if (leb f u && m) ≡ 1
+    one_above f m le e = grind (arith, nat_tests)
+
+    last : (a b : Bool) → (a && b) ≡ true → b ≡ true
+    last true b e = e
+    last false b e = absurd (cc e)
+
+    only : (q : ℕ) → is_pending (u + 1) w q ≡ true → q ≡ u
+    only q q_pending = ⊎_elim
+        (λ same. same)
+        (λ other.
+        let none : count_below (is_above w) u ≡ 0 = omega (arith, work.pending, pending, count_below-more (is_above w) u, one_above w.floor (is_marked w u) above marked) in
+        absurd (cc (sym (count_below-none (is_above w) q u (omega (arith, other, (pending_above (u + 1) w q q_pending).1)) none) ∙ last (ltb q (u + 1)) (is_above w q) q_pending)))
+        (cases_eq q u)
+
+module _ (s : State) (facts : KeepsFacts s) (w : Work) (u conflict : ℕ) (e : HasEnded s (u + 1) w conflict) (start : IsStart s w.floor) (pending : w.pending ≡ 1) (above : w.floor ≤ u) (marked : is_marked w u ≡ true) (live : IsSome (clause_in s.clauses conflict)) (is_false' : is_false (value_of s.trail) (lits_in s.clauses conflict) ≡ true)
+    (lits : List Literal) (places : List ℕ) (sorted : SortsLiterals (negated_at s u ∷ map (negated_at s) w.kept) lits) (ordered : SortsNumbers w.resolved places) where
+  one : HasOne s (u + 1) w u (negated_at s u)
+  one = analysed_one s w u e.work pending above marked
+
+  within : u < length s.trail
+  within = e.work.ranged u marked
+
+  place_at : (q : ℕ) → q < length s.trail → place_of s.trail (lit_at s.trail q).variable ≡ q
+  place_at q q_in = place_of-at s.trail q q_in (facts.trail.fresh q q_in)
+
+  in_clause : has_literal (negated_at s u) lits ≡ true
+  in_clause = lead_in s facts (u + 1) w e.work e.waiting u (negated_at s u) one lits sorted
+
+  pub analysed_clause : IsClause s.variables lits
+  analysed_clause = is_clause s facts (u + 1) w e.work e.waiting u (negated_at s u) one lits sorted
+
+  pending_in : (a q : ℕ) → 0 < occurrences a w.resolved → q < a → is_pending (u + 1) w q ≡ true → has_literal (negated_at s q) lits ≡ true
+  pending_in a q some lt q_pending = subst (λ (x : ℕ). has_literal (negated_at s x) lits ≡ true) (sym (one.only q q_pending)) in_clause
+
+  pub analysed_follows : Follows s.clauses lits (map (number_at s) places ++ number_in s conflict ∷ [])
+  analysed_follows clauses are =
+      refutes s facts (u + 1) w e.work e.waiting e.covered lits places ordered
+      (kept_in s facts (u + 1) w e.work e.waiting u (negated_at s u) one lits sorted) pending_in
+      (literals_free s facts (u + 1) w e.work e.waiting u (negated_at s u) one lits sorted)
+      clauses are conflict live
+      (λ k k_in. known s facts (u + 1) w e.work e.waiting e.covered lits places ordered
+      (kept_in s facts (u + 1) w e.work e.waiting u (negated_at s u) one lits sorted) pending_in
+      (literals_free s facts (u + 1) w e.work e.waiting u (negated_at s u) one lits sorted)
+      clauses are (number_in s conflict) (lit_at (lits_in s.clauses conflict) k) (false_at (value_of s.trail) (lits_in s.clauses conflict) is_false' k k_in) (e.met k k_in)
+      (λ q_pending. subst (λ (x : ℕ). has_literal (negated_at s x) lits ≡ true) (sym (one.only _ q_pending)) in_clause))
+
+  -- each literal of the clause is that of the unique implication point, or of a lower level
+  each : (k : ℕ) → k < length lits → (lit_at lits k ≡ negated_at s u) ⊎ ((q : ℕ) × (q < w.floor) × (q < length s.trail) × (lit_at lits k ≡ negated_at s q))
+  each k k_in = ⊎_elim
+      (λ is. inl is)
+      (λ q. inr (q.0, e.work.kept_below q.0 q.1, kept_within s facts (u + 1) w e.work e.waiting u (negated_at s u) one lits sorted q.0 q.1, q.2))
+      (literal_of s facts (u + 1) w e.work e.waiting u (negated_at s u) one lits sorted (lit_at lits k) (has-at lits k k_in))
+
+  each_false : (k : ℕ) → k < length lits → value_of s.trail (lit_at lits k) ≡ Some false
+  each_false k k_in = ⊎_elim
+      (λ is. ap (value_of s.trail) is ∙ negated_false s facts u within)
+      (λ q. ap (value_of s.trail) q.3 ∙ negated_false s facts q.0 q.2)
+      (each k k_in)
+
+  -- before the present level no live clause is false or unit
+  quiet : (clauses : ℕ → Option (List Literal)) → AreLive s.clauses clauses → IsQuiet clauses (take w.floor s.trail)
+  quiet clauses are = record { none_false = λ n c is. (both n c is).0; none_unit = λ n c is. (both n c is).1 }
+    where
+      same_is : (o : Option (List Literal)) (c ls : List Literal) → o ≡ Some c → IsSame o ls → IsPermutation c ls
+      same_is None c ls is same = absurd same
+      same_is (Some g) c ls is same = subst (λ (x : List Literal). IsPermutation x ls) (some_is g c is) same
+        where
+          some_is : (x y : List Literal) → Some x ≡ Some y → x ≡ y
+          some_is x y e = cc e
+
+      both : (n : ℕ) (c : List Literal) → clauses n ≡ Some c → (is_false (value_of (take w.floor s.trail)) c ≡ false) × (is_unit (value_of (take w.floor s.trail)) c ≡ false)
+      both n c is =
+          let r = are.all n c is in
+          let complete = facts.below w.floor start.within start.decided_ in
+          let same : IsPermutation c r.1.lits = same_is (clauses n) c r.1.lits is (subst (λ (m : ℕ). IsSame (clauses m) r.1.lits) r.3 (are.each r.0 r.1 r.2)) in
+          let lits_is : lits_in s.clauses r.0 ≡ r.1.lits = ap plain_lits r.2 in
+          let some : IsSome (clause_in s.clauses r.0) = ap is_some r.2 in
+          let value : Literal → Option Bool = value_of (take w.floor s.trail) in (
+            sym (is_false-permutation value c r.1.lits same) ∙ (ap (is_false value) (sym lits_is) ∙ complete.none_false r.0 some),
+            sym (is_unit-permutation value c r.1.lits same) ∙ (ap (is_unit value) (sym lits_is) ∙ complete.none_unit r.0 some),
+          )
+
+  pub analysed_new : IsNewTo s.clauses lits
+  analysed_new clauses are = record {
+    free = negated_at s u;
+    trail = take w.floor s.trail;
+    asserts = record {
+      has = sym (holds-has (negated_at s u) lits) ∙ in_clause;
+      others = λ k k_in ne. ⊎_elim
+          (λ is. absurd (ne (ap index_of is)))
+          (λ q. value_of-take w.floor s.trail (lit_at lits k) (omega (arith, ap (λ (l : Literal). place_of s.trail l.variable) q.3, place_at q.0 q.2, q.1)) ∙ each_false k k_in)
+          (each k k_in);
+    };
+    no_value = value_of-take_none w.floor s.trail (negated_at s u) (omega (arith, place_at u within, above));
+    quiet = quiet clauses are;
+  }
+
+  pub analysed_placed : (k : ℕ) → k < length lits → place_of s.trail (lit_at lits k).variable < length s.trail
+  analysed_placed k k_in = place_of-some s.trail (lit_at lits k) false (each_false k k_in)
+
+  module _ (back : ℕ) (level : 1 ≤ decided s.reasons) (greatest : (k : ℕ) → k < length lits → level_in s lits k < decided s.reasons → level_in s lits k ≤ back) (reached : IsReached s lits (length lits) back) where
+    present_at : (k : ℕ) × (k < length lits) × (lit_at lits k ≡ negated_at s u)
+    present_at = has_at (negated_at s u) lits in_clause
+
+    present_is : level_in s lits present_at.0 ≡ decided s.reasons
+    present_is = ap (λ (l : Literal). level_at s.reasons (place_of s.trail l.variable)) present_at.2 ∙ (ap (level_at s.reasons) (place_at u within) ∙ level_above s facts w.floor start u above within)
+
+    other : (k : ℕ) → k < length lits → k ≢ present_at.0 → level_in s lits k ≤ back
+    other k k_in ne = ⊎_elim
+        (λ is. absurd (⊎_elim
+        (λ lt. omega (arith, analysed_clause.ascends k present_at.0 lt present_at.1, ap (λ (l : Literal). l.variable) is, ap (λ (l : Literal). l.variable) present_at.2))
+        (λ ge. omega (arith, analysed_clause.ascends present_at.0 k (omega (arith, ge, ne)) k_in, ap (λ (l : Literal). l.variable) is, ap (λ (l : Literal). l.variable) present_at.2))
+        (cases_lt k present_at.0)))
+        (λ q. greatest k k_in (omega (arith, ap (λ (l : Literal). level_at s.reasons (place_of s.trail l.variable)) q.3, ap (level_at s.reasons) (place_at q.0 q.2), level_below s facts w.floor start q.0 q.1)))
+        (each k k_in)
+
+    pub analysed_backed : IsBacked s lits back
+    analysed_backed = record {
+      false_ = is_false-all (value_of s.trail) lits each_false;
+      present = present_at.0;
+      present_in = present_at.1;
+      present_level = present_is;
+      lower = ⊎_elim (λ z. omega (arith, z, level)) (λ k. omega (arith, k.2, k.3)) reached;
+      others = other;
+      met = ⊎_elim (λ z. inl z) (λ k. inr (k.0, k.1, (λ same. omega (arith, present_is, ap (level_in s lits) same, k.2)), k.3)) reached;
+    }
