@@ -85,7 +85,7 @@ some_pending s w conflict facts start live is_false' marked work =
 pub negated_false : (s : State) → KeepsFacts s → (q : ℕ) → q < length s.trail → value_of s.trail (negated_at s q) ≡ Some false
 negated_false s facts q within = value_of-negate s.trail (lit_at s.trail q) true (value_of-at s.trail q within (facts.trail.fresh q within))
 
-holds-has : (l : Literal) (xs : List Literal) → has_literal l xs ≡ holds_literal l xs
+pub holds-has : (l : Literal) (xs : List Literal) → has_literal l xs ≡ holds_literal l xs
 holds-has l [] = refl
 holds-has l (x ∷ xs) = ap (λ (b : Bool). eqb (index_of x) (index_of l) || b) (holds-has l xs)
 

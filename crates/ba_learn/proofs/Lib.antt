@@ -11,3 +11,5 @@ pub mod SortedLaws
 pub mod CoreLaws
 pub mod Weights
 pub mod LevelLaws
+pub mod NewLaws
+pub mod BackLaws

@@ -1,3 +1,4 @@
 pub mod Live
 pub mod Levels
 pub mod Resolving
+pub mod Backjumps

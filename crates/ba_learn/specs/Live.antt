@@ -1,9 +1,9 @@
 -- What a clause has to do with the live clauses of a watch.
 
-use Rattle.std.specs.Prelude.{◌≡◌, ℕ, Bool, false, Option, None, Some, List}
+use Rattle.std.specs.Prelude.{◌≡◌, ℕ, ◌<◌, eqb, Bool, true, false, Option, None, Some, List, [], ◌∷◌, length, if◌then◌else◌}
 use Rattle.std.specs.List.Sorted.{IsPermutation}
-use Rattle.ba_lits.specs.Literals.{Literal}
-use Rattle.ba_lits.specs.Hints.{FollowsByHints}
+use Rattle.ba_lits.specs.Literals.{Literal, lit_at}
+use Rattle.ba_lits.specs.Hints.{has_literal, FollowsByHints}
 use Rattle.ba_watch.specs.Threads.{Clause}
 use Rattle.ba_watch.specs.Trails.{value_of}
 use Rattle.ba_watch.specs.Propagation.{is_false, is_unit, clause_in, IsReason}
@@ -42,3 +42,18 @@ pub record IsNew (live : ℕ → Option (List Literal)) (lits : List Literal) : 
 -- the same for the live clauses of a watch
 abbrev pub IsNewTo : List (Option Clause) → List Literal → Type 0
 IsNewTo clauses lits = (live : ℕ → Option (List Literal)) → AreLive clauses live → IsNew live lits
+
+-- the clause of a number: the first one that has it
+abbrev pub by_number : List (Option Clause) → ℕ → Option (List Literal)
+by_number [] number = None
+by_number (None ∷ clauses) number = by_number clauses number
+by_number (Some c ∷ clauses) number = if eqb c.number number then Some c.lits else by_number clauses number
+
+-- no two clauses have the same number
+abbrev pub AreNumbered : List (Option Clause) → Type 0
+AreNumbered clauses =
+    (a b : ℕ) (c d : Clause) → clause_in clauses a ≡ Some c → clause_in clauses b ≡ Some d → c.number ≡ d.number → a ≡ b
+
+-- each literal of a clause stands in another one
+abbrev pub IsPartOf : List Literal → List Literal → Type 0
+IsPartOf c lits = (k : ℕ) → k < length c → has_literal (lit_at c k) lits ≡ true

@@ -7,6 +7,7 @@
 #![tactic(auto)]
 
 mod analyser;
+pub mod laws;
 mod learnt;
 mod marks;
 mod resolution;
