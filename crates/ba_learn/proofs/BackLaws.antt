@@ -1,7 +1,6 @@
 -- A learnt clause after going back to its level.
 
-use Rattle.std.proofs.Common.{◌≡◌, ◌≢◌, ℕ, suc, zero, ◌+◌, ◌<◌, ◌≤◌, Bool, true, false, Option, None, Some, List, [], ◌∷◌, length, take, eqb, cond, refl, sym, ap, subst, ◌∙◌, arith, ◌⊎◌, inl, inr, ⊎_elim}
-use Rattle.std.proofs.lemmas.Bool.{cases_lt, cases_eq}
+use Rattle.std.proofs.Common.{◌≡◌, ◌≢◌, ℕ, ◌+◌, ◌<◌, ◌≤◌, false, Option, None, Some, List, length, take, sym, ap, ◌∙◌, arith, ⊎_elim}
 use Rattle.std.proofs.lemmas.List.{take-take}
 use Rattle.std.proofs.lemmas.List.Sorted.{All-permutation}
 use Rattle.std.proofs.lemmas.List.Elements.{All-from_get_or, All-get_or}
@@ -10,10 +9,9 @@ use Rattle.std.specs.List.Sorted.{IsPermutation}
 use Rattle.ba_lits.specs.Literals.{Literal, index_of, lit_at, no_literal}
 use Rattle.ba_watch.specs.Threads.{Clause, index_at}
 use Rattle.ba_watch.specs.Trails.{value_of, place_of, decided, level_at, kept}
-use Rattle.ba_watch.specs.Propagation.{State, is_false, plain_lits, clause_in, lits_in, SameClause, IsReason, IsAsserting, AddsClause, KeepsFacts, has_literal as holds_literal}
+use Rattle.ba_watch.specs.Propagation.{State, plain_lits, clause_in, lits_in, SameClause, IsReason, IsAsserting, AddsClause, KeepsFacts}
 use Rattle.ba_watch.proofs.Values.{value_of-take, value_of-take_none, place_of-some, place_of-take}
-use Rattle.ba_watch.proofs.Levels.{decided-take-le, decided-kept, kept_below, kept_above, kept-le}
-use Rattle.ba_watch.proofs.Facts.{same_from_index}
+use Rattle.ba_watch.proofs.Levels.{decided-kept, kept_below, kept_above, kept-le}
 use Rattle.ba_learn.specs.Levels.{level_in, IsBacked}
 use Rattle.ba_learn.specs.Backjumps.{after_back, IsUnitAt}
 use Rattle.ba_learn.proofs.FollowLaws.{false_at}

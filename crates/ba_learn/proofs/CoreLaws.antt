@@ -1,18 +1,18 @@
 -- The clause of a literal and the decisions because of which it is false.
 
-use Rattle.std.proofs.Common.{◌≡◌, ◌≢◌, ℕ, suc, zero, ◌+◌, ◌<◌, ◌≤◌, Bool, true, false, not, ◌&&◌, ◌||◌, Option, None, Some, IsSome, List, [], ◌∷◌, ◌++◌, length, get_or, map, take, eqb, ltb, leb, cond, refl, sym, ap, subst, ◌∙◌, arith, ◌⊎◌, inl, inr, ⊎_elim}
+use Rattle.std.proofs.Common.{◌≡◌, ℕ, ◌+◌, ◌<◌, ◌≤◌, Bool, true, false, not, ◌&&◌, ◌||◌, None, Some, IsSome, List, [], ◌∷◌, ◌++◌, length, get_or, map, take, eqb, ltb, leb, refl, sym, ap, subst, ◌∙◌, arith, inl, inr, ⊎_elim}
 use Rattle.std.proofs.lemmas.Bool.{cases_eq}
 use Rattle.std.proofs.lemmas.Bool.Decides.{nat_tests}
 use Rattle.ba_lits.specs.Literals.{Literal, negate, index_of, lit_at, IsClause}
-use Rattle.ba_lits.specs.Hints.{has_literal, Refutes, replay}
+use Rattle.ba_lits.specs.Hints.{has_literal}
 use Rattle.ba_watch.specs.Chains.{occurrences}
 use Rattle.ba_watch.specs.Trails.{value_of, place_of, place_if, reason_of}
 use Rattle.ba_watch.specs.Propagation.{State, clause_in, lits_in, IsReason, KeepsFacts, has_literal as holds_literal}
-use Rattle.ba_watch.proofs.Values.{place_of-some, lit_at-place}
+use Rattle.ba_watch.proofs.Values.{place_of-some}
 use Rattle.ba_watch.proofs.Facts.{same_from_index}
-use Rattle.ba_learn.specs.Live.{AreLive, Follows}
+use Rattle.ba_learn.specs.Live.{Follows}
 use Rattle.ba_learn.specs.Levels.{IsCoreOf}
-use Rattle.ba_learn.specs.Resolving.{Work, is_marked, is_above, is_pending, IsWork, MayKeep, MayStart, number_in, number_at, negated_at, SortsNumbers, SortsLiterals}
+use Rattle.ba_learn.specs.Resolving.{Work, is_marked, is_pending, MayKeep, MayStart, number_in, number_at, negated_at, SortsNumbers, SortsLiterals}
 use Rattle.ba_learn.proofs.WorkLaws.{place-is}
 use Rattle.ba_learn.proofs.ReasonLaws.{reason_below, reason_live, place_of-front_some}
 use Rattle.ba_learn.proofs.FollowLaws.{false_negates, false_further, known, refutes}

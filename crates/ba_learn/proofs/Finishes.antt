@@ -1,22 +1,19 @@
 -- What is known when a resolution is finished.
 
-use Rattle.std.proofs.Common.{◌≡◌, ◌≢◌, ℕ, suc, zero, ◌+◌, ◌<◌, ◌≤◌, Bool, true, false, not, ◌&&◌, ◌||◌, Option, None, Some, IsSome, is_some, List, [], ◌∷◌, ◌++◌, length, get_or, map, take, drop, eqb, ltb, leb, cond, refl, sym, ap, subst, ◌∙◌, arith, ◌⊎◌, inl, inr, ⊎_elim}
-use Rattle.std.proofs.lemmas.Bool.{cases_eq, cases_lt}
+use Rattle.std.proofs.Common.{◌≡◌, ℕ, ◌+◌, ◌<◌, Bool, true, false, ◌&&◌, None, IsSome, List, [], ◌∷◌, ◌++◌, length, get_or, map, ltb, leb, sym, ap, subst, arith}
 use Rattle.std.proofs.lemmas.Bool.Decides.{nat_tests}
 use Rattle.std.proofs.lemmas.List.Elements.{All-from_get_or}
 use Rattle.std.proofs.lemmas.List.Sorted.{All-permutation}
 use Rattle.std.specs.List.{All}
-use Rattle.std.specs.List.Sorted.{IsPermutation}
-use Rattle.ba_lits.specs.Literals.{Literal, negate, index_of, lit_at}
-use Rattle.ba_lits.specs.Hints.{has_literal, Refutes, replay, FollowsByHints}
+use Rattle.ba_lits.specs.Literals.{Literal, lit_at}
 use Rattle.ba_watch.specs.Chains.{occurrences}
-use Rattle.ba_watch.specs.Trails.{value_of, place_of, decided, level_at}
+use Rattle.ba_watch.specs.Trails.{value_of, decided}
 use Rattle.ba_watch.specs.Propagation.{State, clause_in, lits_in, is_false, KeepsFacts}
 use Rattle.ba_watch.proofs.Values.{place_of-some}
 use Rattle.ba_watch.proofs.Levels.{decided-take_drop}
-use Rattle.ba_learn.specs.Live.{AreLive, Follows}
-use Rattle.ba_learn.specs.Resolving.{Work, one_if, is_marked, is_above, is_pending, IsWork, MayKeep, AreBelow, AreMarked, AreCovered, Resolves, KeepsWork, MayStart, number_in, number_at, negated_at, SortsNumbers}
-use Rattle.ba_learn.proofs.FollowLaws.{false_at, at_occurs, resolved_apart, known, refutes}
+use Rattle.ba_learn.specs.Live.{Follows}
+use Rattle.ba_learn.specs.Resolving.{Work, is_marked, is_pending, IsWork, MayKeep, AreBelow, AreMarked, AreCovered, Resolves, MayStart, number_in, number_at, SortsNumbers}
+use Rattle.ba_learn.proofs.FollowLaws.{false_at, at_occurs, known, refutes}
 
 -- the literals of a false clause are on the trail
 pub false_below : (s : State) (lits : List Literal) → is_false (value_of s.trail) lits ≡ true → AreBelow s (length s.trail) lits

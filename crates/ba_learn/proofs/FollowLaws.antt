@@ -1,27 +1,26 @@
 -- What a finished resolution gives follows by its hints.
 
-use Rattle.std.proofs.Common.{◌≡◌, ◌≢◌, ℕ, suc, zero, ◌+◌, ◌<◌, ◌≤◌, Bool, true, false, not, ◌&&◌, ◌||◌, Option, None, Some, IsSome, is_some, List, [], ◌∷◌, ◌++◌, length, get_or, map, take, drop, eqb, cond, refl, sym, ap, subst, ◌∙◌, arith, ◌⊎◌, inl, inr, ⊎_elim}
-use Rattle.std.proofs.lemmas.Bool.{cases_eq, cases_lt}
+use Rattle.std.proofs.Common.{◌≡◌, ◌≢◌, ℕ, suc, zero, ◌+◌, ◌<◌, ◌≤◌, Bool, true, false, not, ◌&&◌, Option, None, Some, IsSome, List, [], ◌∷◌, ◌++◌, length, get_or, map, take, drop, eqb, cond, refl, sym, ap, subst, ◌∙◌, arith, ◌⊎◌, inl, inr, ⊎_elim}
+use Rattle.std.proofs.lemmas.Bool.{cases_eq}
 use Rattle.std.proofs.lemmas.Bool.Decides.{nat_tests}
 use Rattle.std.proofs.lemmas.List.{take-append-drop, length-take-le, get_or-take}
 use Rattle.std.proofs.lemmas.List.Elements.{All-from_get_or}
 use Rattle.std.proofs.lemmas.List.Recursion.{is_count_by}
 use Rattle.std.proofs.lemmas.List.Sorted.{sum_by-IsPermutation, IsPermutation-sym, All-permutation}
-use Rattle.std.specs.List.{All, sum_by}
+use Rattle.std.specs.List.{sum_by}
 use Rattle.std.specs.List.Sorted.{IsPermutation, IsNonDecreasingBy}
 use Rattle.ba_lits.specs.Literals.{Literal, negate, index_of, lit_at, no_literal}
 use Rattle.ba_lits.specs.Hints.{has_literal, Refutes, replay}
 use Rattle.ba_watch.specs.Chains.{occurrences}
-use Rattle.ba_watch.specs.Threads.{Clause}
 use Rattle.ba_watch.specs.Trails.{same_sign, value_of, place_of, IsTrail}
 use Rattle.ba_watch.specs.Propagation.{State, plain_lits, clause_in, lits_in, is_false, falsified, IsReason, KeepsFacts}
-use Rattle.ba_watch.proofs.Values.{value_of-more, value_of-place, value_of-at, lit_at-place, place_of-some, same_sign_false, none_apart}
+use Rattle.ba_watch.proofs.Values.{value_of-more, value_of-place, lit_at-place, place_of-some, same_sign_false, none_apart}
 use Rattle.ba_watch.proofs.Facts.{same_from_index}
 use Rattle.ba_learn.specs.Live.{IsSame, AreLive}
-use Rattle.ba_learn.specs.Resolving.{Work, one_if, is_marked, is_above, is_pending, parts_of, IsWork, place_in, AreMarked, reason_lits, reason_of_place, AreCovered, number_of, number_in, reason_number, number_at, negated_at, SortsNumbers}
-use Rattle.ba_learn.proofs.ReasonLaws.{reason_live, some_within, place_of-at, place_of-front_some}
-use Rattle.ba_learn.proofs.Standings.{times, times-permutation, times-once}
-use Rattle.ba_learn.proofs.Replays.{IsAscending, IsKnown, IsKnownBefore, IsGiven, IsEnd, runs}
+use Rattle.ba_learn.specs.Resolving.{Work, one_if, is_marked, is_pending, IsWork, AreMarked, reason_lits, AreCovered, number_of, number_in, reason_number, number_at, negated_at, SortsNumbers}
+use Rattle.ba_learn.proofs.ReasonLaws.{reason_live, some_within, place_of-front_some}
+use Rattle.ba_learn.proofs.Standings.{times-permutation, times-once}
+use Rattle.ba_learn.proofs.Replays.{IsAscending, IsKnown, IsKnownBefore, IsGiven, runs}
 
 -- lists of places in another order
 pub occurrences-permutation : (p : ℕ) (xs ys : List ℕ) → IsPermutation xs ys → occurrences p ys ≡ occurrences p xs

@@ -1,27 +1,26 @@
 -- The clause of the first unique implication point, and the levels of its literals.
 
-use Rattle.std.proofs.Common.{◌≡◌, ◌≢◌, ℕ, suc, zero, ◌+◌, ◌<◌, ◌≤◌, Bool, true, false, not, ◌&&◌, ◌||◌, Option, None, Some, IsSome, is_some, List, [], ◌∷◌, ◌++◌, length, get_or, map, take, drop, eqb, ltb, leb, cond, refl, sym, ap, subst, ◌∙◌, arith, ◌⊎◌, inl, inr, ⊎_elim}
+use Rattle.std.proofs.Common.{◌≡◌, ◌≢◌, ℕ, suc, zero, ◌+◌, ◌<◌, ◌≤◌, Bool, true, false, ◌&&◌, ◌||◌, Option, None, Some, IsSome, is_some, List, [], ◌∷◌, ◌++◌, length, get_or, map, take, drop, eqb, ltb, leb, refl, sym, ap, subst, ◌∙◌, arith, ◌⊎◌, inl, inr, ⊎_elim}
 use Rattle.std.proofs.lemmas.Bool.{cases_eq, cases_lt}
 use Rattle.std.proofs.lemmas.Bool.Decides.{nat_tests}
 use Rattle.std.proofs.lemmas.List.{get_or-drop, length-drop}
 use Rattle.std.specs.List.Sorted.{IsPermutation}
-use Rattle.ba_lits.specs.Literals.{Literal, negate, index_of, lit_at, IsClause}
-use Rattle.ba_lits.specs.Hints.{has_literal, Refutes, replay}
+use Rattle.ba_lits.specs.Literals.{Literal, index_of, lit_at, IsClause}
+use Rattle.ba_lits.specs.Hints.{has_literal}
 use Rattle.ba_watch.specs.Chains.{occurrences}
-use Rattle.ba_watch.specs.Threads.{Clause, index_at}
 use Rattle.ba_watch.specs.Trails.{value_of, place_of, decided, level_at}
-use Rattle.ba_watch.specs.Propagation.{State, plain_lits, clause_in, lits_in, is_false, is_unit, falsified, IsReason, IsComplete, KeepsFacts, has_literal as holds_literal}
+use Rattle.ba_watch.specs.Propagation.{State, plain_lits, clause_in, lits_in, is_false, is_unit, falsified, KeepsFacts, has_literal as holds_literal}
 use Rattle.ba_watch.proofs.Values.{value_of-take, value_of-take_none, value_of-at, place_of-some}
 use Rattle.ba_watch.proofs.Levels.{decided-take_drop, decided-take-le, decided-take_none}
-use Rattle.ba_watch.proofs.Facts.{is_false-all, same_from_index, value_of-negate}
-use Rattle.ba_learn.specs.Live.{IsSame, AreLive, Follows, IsQuiet, IsNew, IsNewTo}
-use Rattle.ba_learn.specs.Levels.{level_in, IsReached, IsMet, IsBacked}
-use Rattle.ba_learn.specs.Resolving.{Work, one_if, count_below, is_marked, is_above, is_pending, IsWork, AreMarked, place_in, MayStart, IsStart, number_in, number_at, negated_at, SortsNumbers, SortsLiterals}
-use Rattle.ba_learn.proofs.ResolveLaws.{decided-zero, count_below-zero, count_below-more}
+use Rattle.ba_watch.proofs.Facts.{is_false-all, value_of-negate}
+use Rattle.ba_learn.specs.Live.{IsSame, AreLive, Follows, IsQuiet, IsNewTo}
+use Rattle.ba_learn.specs.Levels.{level_in, IsReached, IsBacked}
+use Rattle.ba_learn.specs.Resolving.{Work, one_if, count_below, is_marked, is_above, is_pending, IsWork, AreMarked, place_in, IsStart, number_in, number_at, negated_at, SortsNumbers, SortsLiterals}
+use Rattle.ba_learn.proofs.ResolveLaws.{decided-zero, count_below-more}
 use Rattle.ba_learn.proofs.ReasonLaws.{place_of-at}
 use Rattle.ba_learn.proofs.FollowLaws.{false_at, known, refutes}
 use Rattle.ba_learn.proofs.Finishes.{HasEnded, false_below}
-use Rattle.ba_learn.proofs.SortedLaws.{has_at, has-at, HasOne, u_within, kept_within, lead_in, kept_in, literal_of, literals_free, is_clause}
+use Rattle.ba_learn.proofs.SortedLaws.{has_at, has-at, HasOne, kept_within, lead_in, kept_in, literal_of, literals_free, is_clause}
 use Rattle.ba_learn.proofs.CoreLaws.{pending_above}
 use Rattle.ba_learn.proofs.Weights.{is_false-permutation, is_unit-permutation}
 

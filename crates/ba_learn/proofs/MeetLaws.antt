@@ -1,14 +1,14 @@
 -- A literal more is marked.
 
-use Rattle.std.proofs.Common.{◌≡◌, ◌≢◌, ℕ, suc, zero, ◌+◌, ◌^◌, ◌<◌, ◌≤◌, Bool, true, false, ◌&&◌, ◌||◌, Option, None, Some, IsSome, is_some, List, [], ◌∷◌, ◌++◌, length, get_or, take, eqb, ltb, leb, cond, refl, sym, ap, subst, ◌∙◌, arith, ◌⊎◌, inl, inr, ⊎_elim}
+use Rattle.std.proofs.Common.{◌≡◌, ◌≢◌, ℕ, suc, zero, ◌+◌, ◌^◌, ◌<◌, ◌≤◌, Bool, true, false, ◌&&◌, ◌||◌, None, IsSome, List, [], ◌∷◌, ◌++◌, length, get_or, take, eqb, ltb, leb, refl, sym, ap, subst, ◌∙◌, arith, ◌⊎◌, inl, inr, ⊎_elim}
 use Rattle.std.proofs.lemmas.List.{length_push, length-take-le, get_or-take}
 use Rattle.std.proofs.lemmas.Bool.{cases_eq, cases_lt}
 use Rattle.std.proofs.lemmas.Bool.Decides.{nat_tests}
 use Rattle.ba_lits.specs.Literals.{Literal, lit_at, no_literal}
 use Rattle.ba_watch.specs.Chains.{occurrences}
 use Rattle.ba_watch.specs.Trails.{place_of}
-use Rattle.ba_watch.specs.Propagation.{State, lits_in}
-use Rattle.ba_learn.specs.Resolving.{Work, one_if, count_below, is_marked, is_above, is_pending, MayKeep, parts_of, IsWork, Parts, ToPending, ToKept, ToWaiting, place_in, AreBelow, AreMarked, MayMeet, Meets}
+use Rattle.ba_watch.specs.Propagation.{State}
+use Rattle.ba_learn.specs.Resolving.{Work, one_if, count_below, is_marked, is_above, MayKeep, IsWork, Parts, ToPending, ToKept, ToWaiting, AreBelow, MayMeet, Meets}
 use Rattle.ba_learn.proofs.WorkLaws.{occurrences-push, count_below-same, count_below-add, count_below-bound}
 
 -- the place that is new is in one part of the work

@@ -1,15 +1,14 @@
 -- What it means for a clause to be new, and clauses by their numbers.
 
-use Rattle.std.proofs.Common.{◌≡◌, ◌≢◌, ℕ, suc, zero, ◌+◌, ◌<◌, ◌≤◌, Bool, true, false, not, ◌&&◌, ◌||◌, Option, None, Some, List, [], ◌∷◌, length, eqb, cond, refl, sym, ap, subst, ◌∙◌, arith, ◌⊎◌, inl, inr, ⊎_elim}
+use Rattle.std.proofs.Common.{◌≡◌, ◌≢◌, ℕ, suc, zero, ◌<◌, Bool, true, false, ◌&&◌, Option, None, Some, List, [], ◌∷◌, length, eqb, cond, refl, sym, ap, subst, ◌∙◌, arith, ◌⊎◌, inl, inr, ⊎_elim}
 use Rattle.std.proofs.lemmas.Bool.{cases_eq}
 use Rattle.std.proofs.lemmas.Bool.Decides.{nat_tests}
 use Rattle.std.proofs.lemmas.List.Sorted.{IsPermutation-refl}
 use Rattle.std.specs.List.Sorted.{IsPermutation}
 use Rattle.ba_lits.specs.Literals.{Literal, index_of, lit_at}
-use Rattle.ba_lits.specs.Hints.{has_literal}
 use Rattle.ba_watch.specs.Threads.{Clause, index_at, AreApart}
 use Rattle.ba_watch.specs.Trails.{value_of}
-use Rattle.ba_watch.specs.Propagation.{falsified, is_false, unit_step, is_unit, IsReason, clause_in}
+use Rattle.ba_watch.specs.Propagation.{falsified, is_false, unit_step, is_unit, clause_in}
 use Rattle.ba_watch.proofs.Facts.{is_false-all, same_from_index}
 use Rattle.ba_learn.specs.Live.{IsSame, AreLive, IsNew, by_number, AreNumbered, IsPartOf}
 use Rattle.ba_learn.proofs.SortedLaws.{has_at}

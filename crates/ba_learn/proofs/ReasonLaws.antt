@@ -1,19 +1,19 @@
 -- The literals of reasons, and where they stand on the trail.
 
-use Rattle.std.proofs.Common.{◌≡◌, ◌≢◌, ℕ, suc, zero, ◌+◌, ◌<◌, ◌≤◌, Bool, true, false, Option, None, Some, IsSome, is_some, List, [], ◌∷◌, ◌++◌, length, get_or, take, drop, map, eqb, cond, refl, sym, ap, subst, ◌∙◌, arith, ⊎_elim}
+use Rattle.std.proofs.Common.{◌≡◌, ℕ, suc, zero, ◌+◌, ◌<◌, ◌≤◌, Bool, true, false, Option, None, Some, IsSome, is_some, List, [], ◌∷◌, ◌++◌, length, get_or, take, drop, map, eqb, cond, refl, sym, ap, ◌∙◌, arith, ⊎_elim}
 use Rattle.std.proofs.lemmas.List.{length-take-le, take-append-drop}
 use Rattle.std.proofs.lemmas.Bool.{cases_eq}
 use Rattle.std.proofs.lemmas.Bool.Decides.{nat_tests}
 use Rattle.ba_lits.specs.Literals.{Literal, index_of, lit_at}
 use Rattle.ba_arena.specs.Clauses.{Clauses, Stored, IsLive, clause_at, lits_at, number_at, number_of as stored_number}
 use Rattle.ba_watch.specs.Threads.{Clause, plain, plain_at}
-use Rattle.ba_watch.specs.Trails.{value_of, place_of, IsTrail, decided}
-use Rattle.ba_watch.specs.Propagation.{State, plain_lits, clause_in, lits_in, has_literal, IsReason, KeepsFacts}
-use Rattle.ba_watch.proofs.Values.{place_of-some, place_of-append, place_of-none}
+use Rattle.ba_watch.specs.Trails.{value_of, place_of}
+use Rattle.ba_watch.specs.Propagation.{State, plain_lits, clause_in, lits_in, has_literal, KeepsFacts}
+use Rattle.ba_watch.proofs.Values.{place_of-some, place_of-append}
 use Rattle.ba_watch.proofs.Facts.{same_from_index}
 use Rattle.ba_watch.proofs.Visits.{some-plain}
 use Rattle.ba_watch.proofs.Sounds.{clause_in-map, lits_in-map}
-use Rattle.ba_learn.specs.Resolving.{place_in, AreBelow, number_of, number_in}
+use Rattle.ba_learn.specs.Resolving.{AreBelow, number_of, number_in}
 
 -- what contracts see of the arena
 pub live_in : (a : Clauses) (cs : List (Option Clause)) (r : ℕ) → map plain a ≡ cs → IsSome (clause_in cs r) → IsLive a r

@@ -1,12 +1,12 @@
 -- Hints that name the reasons of places in their order, and then a clause that is false, refute the negated clause.
 
-use Rattle.std.proofs.Common.{◌≡◌, ◌≢◌, ℕ, suc, zero, ◌+◌, ◌<◌, ◌≤◌, Bool, true, false, not, ◌||◌, Option, None, Some, List, [], ◌∷◌, ◌++◌, length, map, eqb, cond, refl, sym, ap, subst, ◌∙◌, arith, ◌⊎◌, inl, inr, ⊎_elim}
+use Rattle.std.proofs.Common.{◌≡◌, ◌≢◌, ℕ, ◌+◌, ◌<◌, Bool, true, false, Option, Some, List, [], ◌∷◌, ◌++◌, map, eqb, cond, refl, sym, ap, subst, ◌∙◌, arith, ◌⊎◌, inl, inr, ⊎_elim}
 use Rattle.std.proofs.lemmas.Bool.{cases_eq}
 use Rattle.std.proofs.lemmas.Bool.Decides.{nat_tests}
 use Rattle.std.proofs.lemmas.List.Elements.{All-weaker}
 use Rattle.std.specs.List.{All}
-use Rattle.ba_lits.specs.Literals.{Literal, negate, index_of}
-use Rattle.ba_lits.specs.Hints.{has_literal, Standing, IsFalse, IsUnit, standing, Replay, Refutes, is_last, after_clause, after_hint, replay}
+use Rattle.ba_lits.specs.Literals.{Literal, negate}
+use Rattle.ba_lits.specs.Hints.{has_literal, Standing, Refutes, is_last, after_clause, after_hint, replay}
 use Rattle.ba_watch.specs.Chains.{occurrences}
 use Rattle.ba_learn.proofs.Standings.{times, has-more, has-last, has-push, stands_false, stands_unit}
 

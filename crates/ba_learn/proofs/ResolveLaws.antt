@@ -1,18 +1,17 @@
 -- Resolving with reasons: down the trail, and whatever waits.
 
-use Rattle.std.proofs.Common.{◌≡◌, ◌≢◌, ℕ, suc, zero, ◌+◌, ◌-◌, ◌*◌, ◌<◌, ◌≤◌, Bool, true, false, ◌&&◌, ◌||◌, Option, None, Some, IsSome, is_some, List, [], ◌∷◌, ◌++◌, length, get_or, take, eqb, ltb, leb, cond, refl, sym, ap, subst, ◌∙◌, arith, ◌⊎◌, inl, inr, ⊎_elim}
-use Rattle.std.proofs.lemmas.List.{length_push, take_all}
+use Rattle.std.proofs.Common.{◌≡◌, ◌≢◌, ℕ, suc, zero, ◌+◌, ◌-◌, ◌*◌, ◌<◌, ◌≤◌, Bool, true, false, ◌&&◌, Option, None, Some, IsSome, is_some, List, [], ◌∷◌, ◌++◌, length, get_or, eqb, ltb, leb, refl, sym, ap, subst, ◌∙◌, arith, ◌⊎◌, inl, inr, ⊎_elim}
+use Rattle.std.proofs.lemmas.List.{length_push}
 use Rattle.std.proofs.lemmas.Bool.{cases_eq, cases_lt}
 use Rattle.std.proofs.lemmas.Bool.Decides.{nat_tests}
 use Rattle.std.proofs.lemmas.List.Sorted.{length_permutation}
 use Rattle.std.specs.List.Sorted.{IsPermutation}
-use Rattle.ba_lits.specs.Literals.{Literal, lit_at}
 use Rattle.ba_watch.specs.Chains.{occurrences}
-use Rattle.ba_watch.specs.Trails.{place_of, decided}
-use Rattle.ba_watch.specs.Propagation.{State, clause_in, lits_in, KeepsFacts}
-use Rattle.ba_learn.specs.Resolving.{Work, one_if, count_below, is_marked, is_above, is_pending, MayKeep, parts_of, IsWork, place_in, AreBelow, AreMarked, MayMeet, Meets, with_resolved, MayResolve, reason_lits, reason_of_place, AreCovered, Resolves, KeepsWork, IsStart}
-use Rattle.ba_learn.proofs.WorkLaws.{occurrences-push, occurrences-append, count_below-same, count_below-le, count_below-bound}
-use Rattle.ba_learn.proofs.ReasonLaws.{reason_below, reason_live}
+use Rattle.ba_watch.specs.Trails.{decided}
+use Rattle.ba_watch.specs.Propagation.{State, lits_in, KeepsFacts}
+use Rattle.ba_learn.specs.Resolving.{Work, one_if, count_below, is_marked, is_above, IsWork, AreBelow, AreMarked, MayMeet, Meets, with_resolved, MayResolve, reason_lits, reason_of_place, AreCovered, Resolves, KeepsWork, IsStart}
+use Rattle.ba_learn.proofs.WorkLaws.{occurrences-push, occurrences-append, count_below-le, count_below-bound}
+use Rattle.ba_learn.proofs.ReasonLaws.{reason_below}
 use Rattle.ba_learn.proofs.FollowLaws.{occurrences-permutation}
 
 -- without a decision the level is 0

@@ -1,23 +1,23 @@
 -- The literals of a learnt clause: one literal and the negations of those that were kept, by their variables.
 
-use Rattle.std.proofs.Common.{◌≡◌, ◌≢◌, ℕ, suc, zero, ◌+◌, ◌<◌, ◌≤◌, Bool, true, false, not, ◌&&◌, ◌||◌, Option, None, Some, List, [], ◌∷◌, ◌++◌, length, get_or, map, eqb, ltb, leb, cond, refl, sym, ap, subst, ◌∙◌, arith, ◌⊎◌, inl, inr, ⊎_elim}
+use Rattle.std.proofs.Common.{◌≡◌, ◌≢◌, ℕ, suc, zero, ◌+◌, ◌<◌, ◌≤◌, Bool, true, false, ◌&&◌, ◌||◌, List, [], ◌∷◌, length, map, eqb, ltb, leb, cond, refl, sym, ap, subst, ◌∙◌, arith, ◌⊎◌, inl, inr, ⊎_elim}
 use Rattle.std.proofs.lemmas.Bool.{cases_eq, cases_lt}
 use Rattle.std.proofs.lemmas.Bool.Decides.{nat_tests}
-use Rattle.std.proofs.lemmas.List.Elements.{All-from_get_or, All-get_or, All-cons, All-map}
+use Rattle.std.proofs.lemmas.List.Elements.{All-get_or, All-cons, All-map}
 use Rattle.std.proofs.lemmas.List.Recursion.{is_count_by}
 use Rattle.std.proofs.lemmas.List.Sorted.{sum_by-IsPermutation, All-permutation, list_any-IsPermutation}
 use Rattle.std.specs.List.{All, sum_by, list_any}
 use Rattle.std.specs.List.Sorted.{IsPermutation, IsNonDecreasingBy}
-use Rattle.ba_lits.specs.Literals.{Literal, negate, index_of, lit_at, no_literal, IsClause}
+use Rattle.ba_lits.specs.Literals.{Literal, index_of, lit_at, no_literal, IsClause}
 use Rattle.ba_lits.specs.Hints.{has_literal}
 use Rattle.ba_lits.proofs.HintLaws.{same_literal}
 use Rattle.ba_watch.specs.Chains.{occurrences}
-use Rattle.ba_watch.specs.Trails.{value_of, place_of}
-use Rattle.ba_watch.specs.Propagation.{State, lits_in, KeepsFacts}
-use Rattle.ba_learn.specs.Resolving.{Work, one_if, count_below, is_marked, is_above, is_pending, IsWork, negated_at, SortsLiterals}
+use Rattle.ba_watch.specs.Trails.{place_of}
+use Rattle.ba_watch.specs.Propagation.{State, KeepsFacts}
+use Rattle.ba_learn.specs.Resolving.{Work, one_if, is_marked, is_pending, IsWork, negated_at, SortsLiterals}
 use Rattle.ba_learn.proofs.ReasonLaws.{place_of-at}
-use Rattle.ba_learn.proofs.FollowLaws.{resolved_apart, resolved_within, trail_apart, at_occurs, occurs_at}
-use Rattle.ba_learn.proofs.Finishes.{places_all, HasEnded}
+use Rattle.ba_learn.proofs.FollowLaws.{resolved_apart, resolved_within, trail_apart}
+use Rattle.ba_learn.proofs.Finishes.{places_all}
 
 -- how often a variable stands in a list of literals
 abbrev pub variable_times : ℕ → List Literal → ℕ

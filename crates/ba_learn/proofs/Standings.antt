@@ -1,6 +1,6 @@
 -- How a clause stands where some literals are false, told by its literals in any order.
 
-use Rattle.std.proofs.Common.{◌≡◌, ◌≢◌, ℕ, suc, zero, ◌+◌, ◌<◌, ◌≤◌, Bool, true, false, not, ◌||◌, Option, None, Some, List, [], ◌∷◌, ◌++◌, length, eqb, cond, refl, sym, ap, subst, ◌∙◌, arith, ◌⊎◌, inl, inr, ⊎_elim}
+use Rattle.std.proofs.Common.{◌≡◌, ◌≢◌, ℕ, suc, ◌+◌, ◌<◌, Bool, true, false, ◌||◌, None, Some, List, [], ◌∷◌, ◌++◌, length, eqb, cond, refl, sym, ap, subst, ◌∙◌, arith, ◌⊎◌, inl, inr, ⊎_elim}
 use Rattle.std.proofs.lemmas.Bool.{cases_eq}
 use Rattle.std.proofs.lemmas.Bool.Decides.{nat_tests}
 use Rattle.std.proofs.lemmas.List.Elements.{All-head, All-tail}
@@ -8,8 +8,8 @@ use Rattle.std.proofs.lemmas.List.Recursion.{is_count_by}
 use Rattle.std.proofs.lemmas.List.Sorted.{sum_by-IsPermutation}
 use Rattle.std.specs.List.{All, sum_by}
 use Rattle.std.specs.List.Sorted.{IsPermutation}
-use Rattle.ba_lits.specs.Literals.{Literal, negate, index_of, lit_at}
-use Rattle.ba_lits.specs.Hints.{has_literal, value_where, Standing, IsFalse, IsUnit, IsOpen, with_literal, standing}
+use Rattle.ba_lits.specs.Literals.{Literal, negate, index_of}
+use Rattle.ba_lits.specs.Hints.{has_literal, value_where, Standing, IsFalse, IsUnit, with_literal, standing}
 use Rattle.ba_lits.proofs.HintLaws.{same_literal}
 use Rattle.ba_watch.specs.Threads.{index_at, AreApart}
 use Rattle.ba_watch.specs.Propagation.{has_literal as holds_literal}

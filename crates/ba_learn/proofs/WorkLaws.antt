@@ -1,13 +1,10 @@
 -- The parts of a resolution's work, as a place more is marked.
 
-use Rattle.std.proofs.Common.{◌≡◌, ◌≢◌, ℕ, suc, zero, ◌+◌, ◌<◌, ◌≤◌, Bool, true, false, ◌&&◌, ◌||◌, Option, None, Some, IsSome, is_some, List, [], ◌∷◌, ◌++◌, length, get_or, take, eqb, ltb, leb, cond, refl, sym, ap, subst, ◌∙◌, arith, ⊎_elim}
-use Rattle.std.proofs.lemmas.List.{length_push}
-use Rattle.std.proofs.lemmas.Bool.{cases_eq}
+use Rattle.std.proofs.Common.{◌≡◌, ℕ, suc, zero, ◌+◌, ◌<◌, ◌≤◌, Bool, true, false, ◌||◌, Option, None, Some, IsSome, List, [], ◌∷◌, ◌++◌, length, get_or, eqb, ltb, cond, refl, sym, ap, ◌∙◌, arith}
 use Rattle.std.proofs.lemmas.Bool.Decides.{nat_tests}
-use Rattle.ba_lits.specs.Literals.{Literal, lit_at}
+use Rattle.ba_lits.specs.Literals.{Literal}
 use Rattle.ba_watch.specs.Chains.{occurrences}
-use Rattle.ba_watch.specs.Trails.{place_of, place_if, decided, level_at, level_of}
-use Rattle.ba_watch.specs.Propagation.{State, lits_in}
+use Rattle.ba_watch.specs.Trails.{place_of, place_if, level_at, level_of}
 use Rattle.ba_watch.proofs.Levels.{decided-take_none}
 use Rattle.ba_learn.specs.Resolving.{one_if, count_below}
 

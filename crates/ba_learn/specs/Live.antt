@@ -1,6 +1,6 @@
 -- What a clause has to do with the live clauses of a watch.
 
-use Rattle.std.specs.Prelude.{◌≡◌, ℕ, ◌<◌, eqb, Bool, true, false, Option, None, Some, List, [], ◌∷◌, length, if◌then◌else◌}
+use Rattle.std.specs.Prelude.{◌≡◌, ℕ, ◌<◌, eqb, true, false, Option, None, Some, List, [], ◌∷◌, length, if◌then◌else◌}
 use Rattle.std.specs.List.Sorted.{IsPermutation}
 use Rattle.ba_lits.specs.Literals.{Literal, lit_at}
 use Rattle.ba_lits.specs.Hints.{has_literal, FollowsByHints}

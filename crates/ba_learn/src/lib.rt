@@ -14,3 +14,6 @@ mod resolution;
 
 pub use analyser::{Analyser, analyse, core_of, refutation};
 pub use learnt::Learnt;
+
+#[cfg(test)]
+mod tests;

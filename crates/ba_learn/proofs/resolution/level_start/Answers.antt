@@ -1,4 +1,4 @@
-use Rattle.std.proofs.Common.{◌≡◌, ℕ, ◌<◌, ◌≤◌, ◌-◌, IsSome, None, Option, List, length, get_or, subst, sym, ap, ◌∙◌, arith, is_some, true}
+use Rattle.std.proofs.Common.{◌≡◌, ℕ, ◌<◌, ◌≤◌, IsSome, None, Option, List, length, get_or, subst, sym, ap, ◌∙◌, arith, is_some, true}
 use Rattle.std.proofs.lemmas.List.{get_or_default}
 use Rattle.ba_watch.specs.Trails.{decided}
 use Rattle.ba_learn.proofs.ResolveLaws.{start_further}

@@ -1,4 +1,4 @@
-use Rattle.std.proofs.Common.{◌≡◌, ℕ, ◌+◌, List, ap, sym, subst, ◌∙◌}
+use Rattle.std.proofs.Common.{ℕ, ◌+◌, List, sym, subst, ◌∙◌}
 use Rattle.ba_lits.specs.Literals.{Literal, negate, IsClause}
 use Rattle.ba_learn.specs.Live.{Follows}
 use Rattle.ba_learn.specs.Levels.{IsCoreOf}

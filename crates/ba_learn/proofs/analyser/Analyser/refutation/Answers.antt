@@ -1,9 +1,8 @@
-use Rattle.std.proofs.Common.{◌≡◌, ℕ, ap, length, [], List, sym, ◌∙◌, subst, refl}
+use Rattle.std.proofs.Common.{ℕ, ap, length, [], List, sym, ◌∙◌, subst}
 use Rattle.std.proofs.lemmas.Result.{IfOk-weaker}
 use Rattle.ba_watch.specs.Propagation.{lits_in}
 use Rattle.ba_learn.specs.Live.{Follows}
-use Rattle.ba_learn.specs.Resolving.{IsWork, MayStart}
-use Rattle.ba_learn.proofs.Finishes.{may_start, ended, sorted_reasons, refuted, HasEnded, false_below}
+use Rattle.ba_learn.proofs.Finishes.{may_start, ended, sorted_reasons, refuted}
 use Rattle.ba_learn.proofs.analyser.Analyser.refutation.Goals as goal
 
 pub start-requires-clause-may : goal.start-requires-clause-may

@@ -1,4 +1,4 @@
-use Rattle.std.proofs.Common.{◌≡◌, ℕ, ◌<◌, Bool, false, ◌||◌, List, ap, ◌∙◌, get_or, eqb, length, arith}
+use Rattle.std.proofs.Common.{◌<◌, Bool, false, ◌||◌, List, ap, ◌∙◌, get_or, eqb, length, arith}
 use Rattle.ba_learn.proofs.StampLaws.{stamped-set}
 use Rattle.ba_learn.proofs.marks.Marks.insert.Goals as goal
 

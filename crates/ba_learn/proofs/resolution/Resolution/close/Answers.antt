@@ -1,6 +1,6 @@
-use Rattle.std.proofs.Common.{ℕ, ◌<◌, ◌≤◌, ◌≡◌, ◌++◌, ◌∷◌, [], List, length, subst, sym, ap, ◌∙◌, arith}
+use Rattle.std.proofs.Common.{◌≡◌, ◌++◌, ◌∷◌, [], subst, sym, ap, ◌∙◌}
 use Rattle.ba_learn.specs.Resolving.{Work, MayResolve, Meets, with_resolved, reason_of_place}
-use Rattle.ba_learn.proofs.ResolveLaws.{Resolves-none, Resolves-trans, popped, popped_within, popped_reason, popped_may, popped_resolves, popped_keeps, popped_pending, popped_less}
+use Rattle.ba_learn.proofs.ResolveLaws.{Resolves-trans, popped_within, popped_reason, popped_may, popped_resolves, popped_keeps, popped_pending, popped_less}
 use Rattle.ba_learn.proofs.resolution.Resolution.close.Goals as goal
 
 pub resolve-requires-clause-within : goal.resolve-requires-clause-within

@@ -1,7 +1,7 @@
-use Rattle.std.proofs.Common.{◌≡◌, ◌<◌, ℕ, arith, length, ◌∙◌, sym, Bool, false, nat_lt}
+use Rattle.std.proofs.Common.{◌≡◌, ℕ, arith, ◌∙◌, sym, false, nat_lt}
 use Rattle.std.proofs.lemmas.Bool.Decides.{nat_tests}
-use Rattle.ba_watch.specs.Trails.{place_of, level_at}
-use Rattle.ba_learn.proofs.WorkLaws.{zero_has_reason, level-is, some_level}
+use Rattle.ba_watch.specs.Trails.{place_of}
+use Rattle.ba_learn.proofs.WorkLaws.{zero_has_reason, level-is}
 use Rattle.ba_learn.proofs.resolution.Resolution.is_kept.Goals as goal
 
 not_above : (n : ℕ) → nat_lt 0 n ≡ false → n ≡ 0

@@ -1,4 +1,4 @@
-use Rattle.std.proofs.Common.{◌≡◌, ◌<◌, ℕ, arith, length, ◌∙◌, sym, ap, Bool, true, false, subst, IsSome, Option, OnOk, [], ◌∷◌, ◌^◌}
+use Rattle.std.proofs.Common.{◌≡◌, ◌<◌, ℕ, arith, length, ◌∙◌, sym, ap, true, subst, IsSome, Option, OnOk, [], ◌∷◌, ◌^◌}
 use Rattle.std.proofs.lemmas.Result.{on_ok_weaker}
 use Rattle.ba_watch.specs.Trails.{place_of}
 use Rattle.ba_learn.specs.Resolving.{Work, Meets, is_marked}

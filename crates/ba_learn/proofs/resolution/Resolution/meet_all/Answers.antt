@@ -1,10 +1,10 @@
-use Rattle.std.proofs.Common.{◌≡◌, ℕ, ◌<◌, List, length, take, subst, sym, ap, ◌∙◌, arith, Option}
+use Rattle.std.proofs.Common.{◌≡◌, ◌<◌, List, length, subst, ap, ◌∙◌, arith}
 use Rattle.std.proofs.lemmas.List.{take_all}
 use Rattle.ba_lits.specs.Literals.{Literal, lit_at}
 use Rattle.ba_arena.specs.Clauses.{lits_at}
 use Rattle.ba_watch.specs.Propagation.{lits_in}
 use Rattle.ba_learn.specs.Resolving.{Meets}
-use Rattle.ba_learn.proofs.MeetLaws.{Meets-more, MayMeet-one}
+use Rattle.ba_learn.proofs.MeetLaws.{Meets-more}
 use Rattle.ba_learn.proofs.ReasonLaws.{lits_same}
 use Rattle.ba_learn.proofs.resolution.Resolution.meet_all.Goals as goal
 

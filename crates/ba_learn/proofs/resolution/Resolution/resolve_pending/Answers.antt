@@ -1,4 +1,4 @@
-use Rattle.std.proofs.Common.{◌≡◌, ℕ, ◌+◌, ◌<◌, ◌-◌, List, Option, Some, length, ap, subst, sym, ◌∙◌, ◌++◌, ◌∷◌, []}
+use Rattle.std.proofs.Common.{ℕ, ◌+◌, ◌-◌, List, ap, subst, sym, ◌∙◌, ◌++◌, ◌∷◌, []}
 use Rattle.ba_learn.specs.Resolving.{Work, IsWork, Resolves}
 use Rattle.ba_learn.proofs.ReasonLaws.{reason_live, reason_below}
 use Rattle.ba_learn.proofs.ResolveLaws.{pending_reason, resolved_resolves, resolved_work}

@@ -1,4 +1,4 @@
-use Rattle.std.proofs.Common.{ℕ, List, subst, ap}
+use Rattle.std.proofs.Common.{ℕ, subst}
 use Rattle.std.proofs.lemmas.List.Sorted.{IsNonDecreasingBy-from_sort}
 use Rattle.ba_learn.specs.Resolving.{Work, SortsNumbers}
 use Rattle.ba_learn.proofs.resolution.Resolution.sort.Goals as goal

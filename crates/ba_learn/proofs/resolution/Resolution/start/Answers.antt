@@ -1,6 +1,5 @@
-use Rattle.std.proofs.Common.{◌≡◌, ℕ, ◌<◌, ◌≤◌, ◌^◌, length, subst, sym, arith}
+use Rattle.std.proofs.Common.{◌<◌, ◌^◌, length, arith}
 use Rattle.std.proofs.lemmas.Result.{on_ok_weaker}
-use Rattle.ba_learn.specs.Resolving.{MayStart}
 use Rattle.ba_learn.proofs.MeetLaws.{work_empty}
 use Rattle.ba_learn.proofs.resolution.Resolution.start.Goals as goal
 

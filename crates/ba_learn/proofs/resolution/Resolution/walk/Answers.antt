@@ -1,6 +1,4 @@
-use Rattle.std.proofs.Common.{ℕ, ◌<◌, ◌≤◌, ◌≡◌, List, length, subst, sym, ap, ◌∙◌, arith, false}
-use Rattle.ba_lits.specs.Literals.{Literal}
-use Rattle.ba_learn.specs.Resolving.{IsStart, is_marked, IsWork}
+use Rattle.std.proofs.Common.{◌≡◌, length, ap, arith}
 use Rattle.ba_learn.proofs.ResolveLaws.{Resolves-none, Resolves-trans, work_narrower}
 use Rattle.ba_learn.proofs.resolution.Resolution.walk.Goals as goal
 
