@@ -1,6 +1,6 @@
 -- A resolution on its way: which places of the trail it has marked, and what is to become of their literals.
 
-use Rattle.std.specs.Prelude.{◌≡◌, ℕ, ◌+◌, ◌<◌, ◌≤◌, leb, ltb, ◌^◌, Bool, true, false, ◌&&◌, Option, None, Some, IsSome, List, [], ◌∷◌, ◌++◌, length, get_or, if◌then◌else◌}
+use Rattle.std.specs.Prelude.{◌≡◌, ℕ, ◌+◌, ◌<◌, ◌≤◌, leb, ltb, ◌^◌, Bool, true, false, ◌&&◌, Option, None, Some, IsSome, ◌⊎◌, List, [], ◌∷◌, ◌++◌, length, get_or, if◌then◌else◌}
 use Prim.Native.Nat.{suc, zero}
 use Rattle.std.specs.List.Sorted.{IsPermutation, IsNonDecreasingBy}
 use Rattle.ba_lits.specs.Literals.{Literal, lit_at, negate}
@@ -128,6 +128,11 @@ reason_of_place s place = reason_lits s (get_or s.reasons place None)
 abbrev pub AreCovered : State → (ℕ → Bool) → List ℕ → Type 0
 AreCovered s marked places =
     (p : ℕ) → 0 < occurrences p places → AreMarked s marked (reason_of_place s p)
+
+-- a literal has a value, and is marked or was assigned at level 0
+abbrev pub IsSettled : State → (ℕ → Bool) → Literal → Type 0
+IsSettled s marked l =
+    (place_of s.trail l.variable < length s.trail) × ((marked (place_of s.trail l.variable) ≡ true) ⊎ (level_at s.reasons (place_of s.trail l.variable) ≡ 0))
 
 -- reasons were resolved with: what was marked stays so, and what is resolved has the literals of its reason marked
 pub record Resolves (s : State) (old new : Work) : Type 0 where

@@ -4,7 +4,7 @@ ghost use Rattle.std.specs.Prelude.{◌≡◌, ℕ, ◌+◌, ◌^◌, ◌<◌, �
 ghost use Rattle.ba_lits.specs.Literals.{lit_at};
 ghost use Rattle.ba_watch.specs.Trails.{place_of, decided, level_at};
 ghost use Rattle.ba_watch.specs.Propagation.{clause_in, lits_in};
-ghost use Rattle.ba_learn.specs.Resolving.{Work, IsWork, is_marked, is_above, count_below, MayKeep, AreBelow, AreMarked, MayMeet, MayStart, Parts, Meets, with_resolved, MayResolve, reason_of_place, Resolves, KeepsWork, IsStart, number_in, number_at, negated_at, SortsNumbers, SortsLiterals};
+ghost use Rattle.ba_learn.specs.Resolving.{Work, IsWork, is_marked, is_above, count_below, MayKeep, AreBelow, AreMarked, MayMeet, MayStart, Parts, Meets, with_resolved, MayResolve, reason_of_place, IsSettled, Resolves, KeepsWork, IsStart, number_in, number_at, negated_at, SortsNumbers, SortsLiterals};
 
 use crate::marks::Marks;
 use ba_arena::ClauseRef;
@@ -122,7 +122,7 @@ impl Resolution {
     }
 
     /// Marks the literals of a clause.
-    pub fn meet_all(&mut self, watch: &Watch, clause: ClauseRef) -> Result<(), AllocError>
+    fn meet_all(&mut self, watch: &Watch, clause: ClauseRef) -> Result<(), AllocError>
         requires live { IsSome (clause_in watch.now.clauses clause) }
         requires may { MayMeet watch.now self.old (lits_in watch.now.clauses clause) }
         ensures { OnOk result (Meets watch.now self.old self.new (lits_in watch.now.clauses clause)) }
@@ -229,26 +229,40 @@ impl Resolution {
     /// Whether a literal is marked, or was assigned at level 0.
     fn is_settled(&self, watch: &Watch, lit: Lit) -> bool
         requires { lit.variable ≤ watch.now.variables }
+        ensures { IsTrue result → IsSettled watch.now (is_marked self.now) lit }
     {
         let variable = lit.variable();
-        match watch.place(variable) {
+        let Some(place) = watch.place(variable) else {
+            return false;
+        };
+        if self.marks.contains(place) {
+            return true;
+        }
+        watch.level_of(variable) == Some(0)
+    }
+
+    /// Whether a place has a reason, and each of its literals is settled.
+    fn is_implied(&self, watch: &Watch, place: usize) -> bool
+        requires { place < length watch.now.trail }
+        ensures reason { IsTrue result → IsSome (get_or watch.now.reasons place None) }
+        ensures settled { IsTrue result → All (IsSettled watch.now (is_marked self.now)) (reason_of_place watch.now place) }
+    {
+        watch.keeps_facts();
+        match watch.reasons()[place] {
             None => false,
-            Some(place) => self.marks.contains(place) || watch.level_of(variable) == Some(0),
+            Some(reason) => self.are_settled(watch, reason),
         }
     }
 
-    /// Whether the reason of a place has no literal that isn't settled.
-    fn is_implied(&self, watch: &Watch, place: usize) -> bool
-        requires { place < length watch.now.trail }
-        ensures { IsTrue result → IsSome (get_or watch.now.reasons place None) }
+    /// Whether each literal of a clause is settled.
+    fn are_settled(&self, watch: &Watch, clause: ClauseRef) -> bool
+        requires { IsSome (clause_in watch.now.clauses clause) }
+        ensures { IsTrue result → All (IsSettled watch.now (is_marked self.now)) (lits_in watch.now.clauses clause) }
     {
         watch.keeps_facts();
-        let Some(reason) = watch.reasons()[place] else {
-            return false;
-        };
         let arena = watch.arena();
-        for index in 0..arena.len(reason) {
-            if !self.is_settled(watch, arena.lit(reason, index)) {
+        for index in 0..arena.len(clause) {
+            if !self.is_settled(watch, arena.lit(clause, index)) {
                 return false;
             }
         }
@@ -306,7 +320,7 @@ impl Resolution {
     /// Sorts the resolved places.
     pub fn sort(&mut self)
         ensures sorted { SortsNumbers self.old.resolved self.new.resolved }
-        ensures kept { self.new.kept ≡ self.old.kept }
+        ensures rest { self.new ≡ record self.old { resolved = self.new.resolved } }
     {
         self.resolved.sort_unstable();
     }

@@ -7,7 +7,7 @@ use Rattle.ba_watch.specs.Trails.{place_of, decided}
 use Rattle.ba_watch.specs.Propagation.{lits_in}
 use Rattle.ba_learn.specs.Live.{Follows, IsNewTo}
 use Rattle.ba_learn.specs.Levels.{level_in, IsReached, IsBacked}
-use Rattle.ba_learn.specs.Resolving.{is_marked, IsWork, MayStart, Resolves, IsStart, negated_at}
+use Rattle.ba_learn.specs.Resolving.{Work, is_marked, IsWork, MayStart, Resolves, IsStart, negated_at}
 use Rattle.ba_learn.proofs.ResolveLaws.{Resolves-trans}
 use Rattle.ba_learn.proofs.Finishes.{HasEnded, ended, false_below, sorted_reasons, kept_places}
 use Rattle.ba_learn.proofs.CoreLaws.{same_sorted}
@@ -38,7 +38,7 @@ clause-requires c =
     let u : ℕ = c.in_ok-place.place in
     let a = c.in_ok-place.ensures in
     let w : IsWork s (u + 1) c.close.new.self = c.in_ok-close.ensures.work (u + 1) (c.in_ok-shorten.ensures.work (u + 1) a.work) in
-    kept_places s (u + 1) c.close.new.self c.sort.new.self.kept w c.sort.ensures.kept
+    kept_places s (u + 1) c.close.new.self c.sort.new.self.kept w (ap (λ (w : Work). w.kept) c.sort.ensures.rest)
 
 pub hints-requires-clause-reasons : goal.hints-requires-clause-reasons
 hints-requires-clause-reasons c =
@@ -63,7 +63,7 @@ back_of-back-requires-clause-within c =
     let marked : is_marked c.close.new.self u ≡ true = steps.grows u a.marked in
     let within : u < length s.trail = w.ranged u marked in
     let lead : c.negated.result ≡ negated_at s u = c.negated.ensures ∙ ap negate (c.index-trail-place.is ∙ (get_or_default c.trail.result.now u _ no_literal (omega (arith, within, ap length c.trail.ensures)) ∙ ap (λ (t : List Literal). lit_at t u) c.trail.ensures)) in
-    let sorted = same_sorted s c.negated.result (negated_at s u) c.sort.new.self.kept c.close.new.self.kept c.in_ok-lits.lits.items lead c.sort.ensures.kept c.in_ok-lits.ensures in
+    let sorted = same_sorted s c.negated.result (negated_at s u) c.sort.new.self.kept c.close.new.self.kept c.in_ok-lits.lits.items lead (ap (λ (w : Work). w.kept) c.sort.ensures.rest) c.in_ok-lits.ensures in
     subst (λ (ls : List Literal). All (λ (l : Literal). l.variable ≤ s.variables) ls) (sym c.as_slice.ensures.value)
     (All-from_get_or (λ (l : Literal). l.variable ≤ s.variables) c.in_ok-lits.lits.items no_literal (analysed_clause s c.keeps_facts.ensures c.close.new.self u c.args.conflict done start pending above marked c.requires.live c.requires.false_ c.in_ok-lits.lits.items c.sort.new.self.resolved sorted c.sort.ensures.sorted).within)
 
@@ -82,7 +82,7 @@ back_of-back-requires-clause-assigned c =
     let marked : is_marked c.close.new.self u ≡ true = steps.grows u a.marked in
     let within : u < length s.trail = w.ranged u marked in
     let lead : c.negated.result ≡ negated_at s u = c.negated.ensures ∙ ap negate (c.index-trail-place.is ∙ (get_or_default c.trail.result.now u _ no_literal (omega (arith, within, ap length c.trail.ensures)) ∙ ap (λ (t : List Literal). lit_at t u) c.trail.ensures)) in
-    let sorted = same_sorted s c.negated.result (negated_at s u) c.sort.new.self.kept c.close.new.self.kept c.in_ok-lits.lits.items lead c.sort.ensures.kept c.in_ok-lits.ensures in
+    let sorted = same_sorted s c.negated.result (negated_at s u) c.sort.new.self.kept c.close.new.self.kept c.in_ok-lits.lits.items lead (ap (λ (w : Work). w.kept) c.sort.ensures.rest) c.in_ok-lits.ensures in
     subst (λ (ls : List Literal). All (λ (l : Literal). place_of s.trail l.variable < length s.trail) ls) (sym c.as_slice.ensures.value)
     (All-from_get_or (λ (l : Literal). place_of s.trail l.variable < length s.trail) c.in_ok-lits.lits.items no_literal (analysed_placed s c.keeps_facts.ensures c.close.new.self u c.args.conflict done start pending above marked c.requires.live c.requires.false_ c.in_ok-lits.lits.items c.sort.new.self.resolved sorted c.sort.ensures.sorted))
 
@@ -101,7 +101,7 @@ returns-clause-clause c =
     let marked : is_marked c.close.new.self u ≡ true = steps.grows u a.marked in
     let within : u < length s.trail = w.ranged u marked in
     let lead : c.negated.result ≡ negated_at s u = c.negated.ensures ∙ ap negate (c.index-trail-place.is ∙ (get_or_default c.trail.result.now u _ no_literal (omega (arith, within, ap length c.trail.ensures)) ∙ ap (λ (t : List Literal). lit_at t u) c.trail.ensures)) in
-    let sorted = same_sorted s c.negated.result (negated_at s u) c.sort.new.self.kept c.close.new.self.kept c.in_ok-lits.lits.items lead c.sort.ensures.kept c.in_ok-lits.ensures in
+    let sorted = same_sorted s c.negated.result (negated_at s u) c.sort.new.self.kept c.close.new.self.kept c.in_ok-lits.lits.items lead (ap (λ (w : Work). w.kept) c.sort.ensures.rest) c.in_ok-lits.ensures in
     subst (λ (ls : List Literal). IsClause s.variables ls) (sym c.from_vec.ensures) (analysed_clause s c.keeps_facts.ensures c.close.new.self u c.args.conflict done start pending above marked c.requires.live c.requires.false_ c.in_ok-lits.lits.items c.sort.new.self.resolved sorted c.sort.ensures.sorted)
 
 pub returns-clause-follows : goal.returns-clause-follows
@@ -119,7 +119,7 @@ returns-clause-follows c =
     let marked : is_marked c.close.new.self u ≡ true = steps.grows u a.marked in
     let within : u < length s.trail = w.ranged u marked in
     let lead : c.negated.result ≡ negated_at s u = c.negated.ensures ∙ ap negate (c.index-trail-place.is ∙ (get_or_default c.trail.result.now u _ no_literal (omega (arith, within, ap length c.trail.ensures)) ∙ ap (λ (t : List Literal). lit_at t u) c.trail.ensures)) in
-    let sorted = same_sorted s c.negated.result (negated_at s u) c.sort.new.self.kept c.close.new.self.kept c.in_ok-lits.lits.items lead c.sort.ensures.kept c.in_ok-lits.ensures in
+    let sorted = same_sorted s c.negated.result (negated_at s u) c.sort.new.self.kept c.close.new.self.kept c.in_ok-lits.lits.items lead (ap (λ (w : Work). w.kept) c.sort.ensures.rest) c.in_ok-lits.ensures in
     subst (λ (ls : List Literal). Follows s.clauses ls c.from_vec-2.result) (sym c.from_vec.ensures)
     (subst (λ (hs : List ℕ). Follows s.clauses c.in_ok-lits.lits.items hs) (sym (c.from_vec-2.ensures ∙ c.in_ok-hints.ensures)) (analysed_follows s c.keeps_facts.ensures c.close.new.self u c.args.conflict done start pending above marked c.requires.live c.requires.false_ c.in_ok-lits.lits.items c.sort.new.self.resolved sorted c.sort.ensures.sorted))
 
@@ -138,7 +138,7 @@ returns-clause-new c =
     let marked : is_marked c.close.new.self u ≡ true = steps.grows u a.marked in
     let within : u < length s.trail = w.ranged u marked in
     let lead : c.negated.result ≡ negated_at s u = c.negated.ensures ∙ ap negate (c.index-trail-place.is ∙ (get_or_default c.trail.result.now u _ no_literal (omega (arith, within, ap length c.trail.ensures)) ∙ ap (λ (t : List Literal). lit_at t u) c.trail.ensures)) in
-    let sorted = same_sorted s c.negated.result (negated_at s u) c.sort.new.self.kept c.close.new.self.kept c.in_ok-lits.lits.items lead c.sort.ensures.kept c.in_ok-lits.ensures in
+    let sorted = same_sorted s c.negated.result (negated_at s u) c.sort.new.self.kept c.close.new.self.kept c.in_ok-lits.lits.items lead (ap (λ (w : Work). w.kept) c.sort.ensures.rest) c.in_ok-lits.ensures in
     subst (λ (ls : List Literal). IsNewTo s.clauses ls) (sym c.from_vec.ensures) (analysed_new s c.keeps_facts.ensures c.close.new.self u c.args.conflict done start pending above marked c.requires.live c.requires.false_ c.in_ok-lits.lits.items c.sort.new.self.resolved sorted c.sort.ensures.sorted)
 
 pub returns-clause-backed : goal.returns-clause-backed
@@ -156,7 +156,7 @@ returns-clause-backed c =
     let marked : is_marked c.close.new.self u ≡ true = steps.grows u a.marked in
     let within : u < length s.trail = w.ranged u marked in
     let lead : c.negated.result ≡ negated_at s u = c.negated.ensures ∙ ap negate (c.index-trail-place.is ∙ (get_or_default c.trail.result.now u _ no_literal (omega (arith, within, ap length c.trail.ensures)) ∙ ap (λ (t : List Literal). lit_at t u) c.trail.ensures)) in
-    let sorted = same_sorted s c.negated.result (negated_at s u) c.sort.new.self.kept c.close.new.self.kept c.in_ok-lits.lits.items lead c.sort.ensures.kept c.in_ok-lits.ensures in
+    let sorted = same_sorted s c.negated.result (negated_at s u) c.sort.new.self.kept c.close.new.self.kept c.in_ok-lits.lits.items lead (ap (λ (w : Work). w.kept) c.sort.ensures.rest) c.in_ok-lits.ensures in
     let lits_is : c.as_slice.result.now ≡ c.in_ok-lits.lits.items = c.as_slice.ensures.value in
     subst (λ (ls : List Literal). IsBacked s ls c.back_of-back.result) (sym c.from_vec.ensures)
     (analysed_backed s c.keeps_facts.ensures c.close.new.self u c.args.conflict done start pending above marked c.requires.live c.requires.false_ c.in_ok-lits.lits.items c.sort.new.self.resolved sorted c.sort.ensures.sorted c.back_of-back.result c.requires.level

@@ -29,7 +29,7 @@ resolve-requires-clause-within c =
     let within : c.args.index < length i.kept.items = subst (λ (w : Work). c.args.index < length w.kept) (sym c.self.view_is) c.requires.within in
     let is : IsPermutation c.args.self.now.kept (place ∷ swap_remove i.kept.items c.args.index place) =
     subst (λ (w : Work). IsPermutation w.kept (place ∷ swap_remove i.kept.items c.args.index place)) c.self.view_is (IsPermutation-swap_remove i.kept.items c.args.index place within c.index-place.ensures) in
-    let some : IsSome (get_or s.reasons place None) = c.is_implied.ensures c.if-not-is_implied.false in
+    let some : IsSome (get_or s.reasons place None) = c.is_implied.ensures.reason c.if-not-is_implied.false in
     dropped_within s c.args.self.now (swap_remove i.kept.items c.args.index place) place is some c.requires.work.0 c.requires.work.1
 
 pub resolve-requires-clause-may : goal.resolve-requires-clause-may
@@ -40,7 +40,7 @@ resolve-requires-clause-may c =
     let within : c.args.index < length i.kept.items = subst (λ (w : Work). c.args.index < length w.kept) (sym c.self.view_is) c.requires.within in
     let is : IsPermutation c.args.self.now.kept (place ∷ swap_remove i.kept.items c.args.index place) =
     subst (λ (w : Work). IsPermutation w.kept (place ∷ swap_remove i.kept.items c.args.index place)) c.self.view_is (IsPermutation-swap_remove i.kept.items c.args.index place within c.index-place.ensures) in
-    let some : IsSome (get_or s.reasons place None) = c.is_implied.ensures c.if-not-is_implied.false in
+    let some : IsSome (get_or s.reasons place None) = c.is_implied.ensures.reason c.if-not-is_implied.false in
     let rest : List ℕ = swap_remove i.kept.items c.args.index place in
     let is_rest : c.swap_remove.new.self.items ≡ rest = removed i.kept.items c.args.index place c.swap_remove.result within c.index-place.ensures c.swap_remove.ensures.value c.swap_remove.ensures.items in
     let same : record { marks = i.marks; floor = i.floor; deep = i.deep; pending = i.pending; kept = c.swap_remove.new.self.items; resolved = i.resolved.items; waiting = i.waiting.items } ≡ record c.args.self.now { kept = rest } =
@@ -55,7 +55,7 @@ returns-clause-resolves c =
     let within : c.args.index < length i.kept.items = subst (λ (w : Work). c.args.index < length w.kept) (sym c.self.view_is) c.requires.within in
     let is : IsPermutation c.args.self.now.kept (place ∷ swap_remove i.kept.items c.args.index place) =
     subst (λ (w : Work). IsPermutation w.kept (place ∷ swap_remove i.kept.items c.args.index place)) c.self.view_is (IsPermutation-swap_remove i.kept.items c.args.index place within c.index-place.ensures) in
-    let some : IsSome (get_or s.reasons place None) = c.is_implied.ensures c.if-not-is_implied.false in
+    let some : IsSome (get_or s.reasons place None) = c.is_implied.ensures.reason c.if-not-is_implied.false in
     let rest : List ℕ = swap_remove i.kept.items c.args.index place in
     let is_rest : c.swap_remove.new.self.items ≡ rest = removed i.kept.items c.args.index place c.swap_remove.result within c.index-place.ensures c.swap_remove.ensures.value c.swap_remove.ensures.items in
     let same : record { marks = i.marks; floor = i.floor; deep = i.deep; pending = i.pending; kept = c.swap_remove.new.self.items; resolved = i.resolved.items; waiting = i.waiting.items } ≡ record c.args.self.now { kept = rest } =
@@ -72,7 +72,7 @@ returns-clause-work c =
     let within : c.args.index < length i.kept.items = subst (λ (w : Work). c.args.index < length w.kept) (sym c.self.view_is) c.requires.within in
     let is : IsPermutation c.args.self.now.kept (place ∷ swap_remove i.kept.items c.args.index place) =
     subst (λ (w : Work). IsPermutation w.kept (place ∷ swap_remove i.kept.items c.args.index place)) c.self.view_is (IsPermutation-swap_remove i.kept.items c.args.index place within c.index-place.ensures) in
-    let some : IsSome (get_or s.reasons place None) = c.is_implied.ensures c.if-not-is_implied.false in
+    let some : IsSome (get_or s.reasons place None) = c.is_implied.ensures.reason c.if-not-is_implied.false in
     let rest : List ℕ = swap_remove i.kept.items c.args.index place in
     let is_rest : c.swap_remove.new.self.items ≡ rest = removed i.kept.items c.args.index place c.swap_remove.result within c.index-place.ensures c.swap_remove.ensures.value c.swap_remove.ensures.items in
     let same : record { marks = i.marks; floor = i.floor; deep = i.deep; pending = i.pending; kept = c.swap_remove.new.self.items; resolved = i.resolved.items; waiting = i.waiting.items } ≡ record c.args.self.now { kept = rest } =
@@ -89,7 +89,7 @@ returns-clause-pending c =
     let within : c.args.index < length i.kept.items = subst (λ (w : Work). c.args.index < length w.kept) (sym c.self.view_is) c.requires.within in
     let is : IsPermutation c.args.self.now.kept (place ∷ swap_remove i.kept.items c.args.index place) =
     subst (λ (w : Work). IsPermutation w.kept (place ∷ swap_remove i.kept.items c.args.index place)) c.self.view_is (IsPermutation-swap_remove i.kept.items c.args.index place within c.index-place.ensures) in
-    let some : IsSome (get_or s.reasons place None) = c.is_implied.ensures c.if-not-is_implied.false in
+    let some : IsSome (get_or s.reasons place None) = c.is_implied.ensures.reason c.if-not-is_implied.false in
     let rest : List ℕ = swap_remove i.kept.items c.args.index place in
     let is_rest : c.swap_remove.new.self.items ≡ rest = removed i.kept.items c.args.index place c.swap_remove.result within c.index-place.ensures c.swap_remove.ensures.value c.swap_remove.ensures.items in
     let same : record { marks = i.marks; floor = i.floor; deep = i.deep; pending = i.pending; kept = c.swap_remove.new.self.items; resolved = i.resolved.items; waiting = i.waiting.items } ≡ record c.args.self.now { kept = rest } =
@@ -106,7 +106,7 @@ returns-clause-kept c =
     let within : c.args.index < length i.kept.items = subst (λ (w : Work). c.args.index < length w.kept) (sym c.self.view_is) c.requires.within in
     let is : IsPermutation c.args.self.now.kept (place ∷ swap_remove i.kept.items c.args.index place) =
     subst (λ (w : Work). IsPermutation w.kept (place ∷ swap_remove i.kept.items c.args.index place)) c.self.view_is (IsPermutation-swap_remove i.kept.items c.args.index place within c.index-place.ensures) in
-    let some : IsSome (get_or s.reasons place None) = c.is_implied.ensures c.if-not-is_implied.false in
+    let some : IsSome (get_or s.reasons place None) = c.is_implied.ensures.reason c.if-not-is_implied.false in
     let rest : List ℕ = swap_remove i.kept.items c.args.index place in
     let is_rest : c.swap_remove.new.self.items ≡ rest = removed i.kept.items c.args.index place c.swap_remove.result within c.index-place.ensures c.swap_remove.ensures.value c.swap_remove.ensures.items in
     let same : record { marks = i.marks; floor = i.floor; deep = i.deep; pending = i.pending; kept = c.swap_remove.new.self.items; resolved = i.resolved.items; waiting = i.waiting.items } ≡ record c.args.self.now { kept = rest } =
