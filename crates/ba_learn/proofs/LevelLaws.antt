@@ -5,7 +5,8 @@ use Rattle.std.proofs.lemmas.Bool.{cases_eq, cases_lt}
 use Rattle.std.proofs.lemmas.Bool.Decides.{nat_tests}
 use Rattle.std.proofs.lemmas.List.{get_or-drop, length-drop}
 use Rattle.std.specs.List.Sorted.{IsPermutation}
-use Rattle.ba_lits.specs.Literals.{Literal, index_of, lit_at, IsClause}
+use Rattle.std.proofs.lemmas.List.Elements.{All-from_get_or}
+use Rattle.ba_lits.specs.Literals.{no_literal, Literal, index_of, lit_at, IsClause}
 use Rattle.ba_lits.specs.Hints.{has_literal}
 use Rattle.ba_watch.specs.Chains.{occurrences}
 use Rattle.ba_watch.specs.Trails.{value_of, place_of, decided, level_at}
@@ -14,10 +15,10 @@ use Rattle.ba_watch.proofs.Values.{value_of-take, value_of-take_none, value_of-a
 use Rattle.ba_watch.proofs.Levels.{decided-take_drop, decided-take-le, decided-take_none}
 use Rattle.ba_watch.proofs.Facts.{is_false-all, value_of-negate}
 use Rattle.ba_learn.specs.Live.{IsSame, AreLive, Follows, IsQuiet, IsNewTo}
-use Rattle.ba_learn.specs.Levels.{level_in, IsReached, IsBacked}
-use Rattle.ba_learn.specs.Resolving.{Work, one_if, count_below, is_marked, is_above, is_pending, IsWork, AreMarked, place_in, IsStart, number_in, number_at, negated_at, SortsNumbers, SortsLiterals}
+use Rattle.ba_learn.specs.Levels.{IsShort, level_in, IsReached, IsBacked}
+use Rattle.ba_learn.specs.Resolving.{Work, one_if, count_below, is_marked, is_above, is_pending, IsWork, AreMarked, place_in, IsStart, number_in, number_at, negated_at, SortsNumbers, SortsLiterals, IsSettled, AreSettled, IsShortened, reason_lits}
 use Rattle.ba_learn.proofs.ResolveLaws.{decided-zero, count_below-more}
-use Rattle.ba_learn.proofs.ReasonLaws.{place_of-at}
+use Rattle.ba_learn.proofs.ReasonLaws.{place_of-at, reason_below}
 use Rattle.ba_learn.proofs.FollowLaws.{false_at, known, refutes}
 use Rattle.ba_learn.proofs.Finishes.{HasEnded, false_below}
 use Rattle.ba_learn.proofs.SortedLaws.{has_at, has-at, HasOne, kept_within, lead_in, kept_in, literal_of, literals_free, is_clause}
@@ -199,6 +200,43 @@ module _ (s : State) (facts : KeepsFacts s) (w : Work) (u conflict : ℕ) (e : H
 
   pub analysed_placed : (k : ℕ) → k < length lits → place_of s.trail (lit_at lits k).variable < length s.trail
   analysed_placed k k_in = place_of-some s.trail (lit_at lits k) false (each_false k k_in)
+
+  kept_marked : (q : ℕ) → 0 < occurrences q w.kept → is_marked w q ≡ true
+  kept_marked q some = part (occurrences q w.kept) (occurrences q w.resolved) (occurrences q w.waiting) (is_pending (u + 1) w q) (is_marked w q) some (e.work.parted q)
+    where
+      part : (k r v : ℕ) (a m : Bool) → 0 < k → k + (r + (v + one_if a)) ≡ one_if m → m ≡ true
+      part k r v a true some h = refl
+      part k r v a false some h = absurd (omega arith)
+
+  -- what is in the clause is marked
+  in_marked : (x : Literal) → has_literal x lits ≡ true → is_marked w (place_of s.trail x.variable) ≡ true
+  in_marked x has = ⊎_elim
+      (λ is. ap (is_marked w) (ap (λ (l : Literal). place_of s.trail l.variable) is ∙ place_at u within) ∙ marked)
+      (λ q. ap (is_marked w) (ap (λ (l : Literal). place_of s.trail l.variable) q.2 ∙ place_at q.0 (kept_within s facts (u + 1) w e.work e.waiting u (negated_at s u) one lits sorted q.0 q.1)) ∙ kept_marked q.0 q.1)
+      (literal_of s facts (u + 1) w e.work e.waiting u (negated_at s u) one lits sorted x has)
+
+  pub analysed_short : IsShortened s w → IsShort s lits
+  analysed_short short k k_in lower covered = ⊎_elim
+      (λ is. omega (arith, lower, ap (λ (l : Literal). level_at s.reasons (place_of s.trail l.variable)) is, ap (level_at s.reasons) (place_at u within), level_above s facts w.floor start u above within))
+      (λ q.
+      let q_in : q.0 < length s.trail = kept_within s facts (u + 1) w e.work e.waiting u (negated_at s u) one lits sorted q.0 q.1 in
+      let place : place_of s.trail (lit_at lits k).variable ≡ q.0 = ap (λ (l : Literal). place_of s.trail l.variable) q.2 ∙ place_at q.0 q_in in
+      let r_is : get_or s.reasons q.0 None ≡ Some covered.reason = ap (λ (x : ℕ). get_or s.reasons x None) (sym place) ∙ covered.is in
+      short q.0 q.1 (
+        ap is_some r_is,
+        subst (λ (o : Option ℕ). AreSettled s (is_marked w) (reason_lits s o)) (sym r_is)
+            (All-from_get_or (IsSettled s (is_marked w)) (lits_in s.clauses covered.reason) no_literal (λ j j_in. (
+              settled_place q.0 covered.reason q_in r_is j j_in,
+              ⊎_elim
+                  (λ same. inl (ap (is_marked w) (ap (λ (l : Literal). place_of s.trail l.variable) same ∙ place) ∙ kept_marked q.0 q.1))
+                  (λ rest. ⊎_elim (λ has. inl (in_marked (lit_at (lits_in s.clauses covered.reason) j) has)) (λ z. inr z) rest)
+                  (covered.others j j_in),
+            ))),
+      ))
+      (literal_of s facts (u + 1) w e.work e.waiting u (negated_at s u) one lits sorted (lit_at lits k) (has-at lits k k_in))
+    where
+      settled_place : (q r : ℕ) → q < length s.trail → get_or s.reasons q None ≡ Some r → (j : ℕ) → j < length (lits_in s.clauses r) → place_of s.trail (lit_at (lits_in s.clauses r) j).variable < length s.trail
+      settled_place q r q_in is j j_in = omega (arith, reason_below s q r facts q_in is j j_in)
 
   module _ (back : ℕ) (level : 1 ≤ decided s.reasons) (greatest : (k : ℕ) → k < length lits → level_in s lits k < decided s.reasons → level_in s lits k ≤ back) (reached : IsReached s lits (length lits) back) where
     present_at : (k : ℕ) × (k < length lits) × (lit_at lits k ≡ negated_at s u)

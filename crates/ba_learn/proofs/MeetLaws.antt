@@ -1,14 +1,15 @@
 -- A literal more is marked.
 
-use Rattle.std.proofs.Common.{◌≡◌, ◌≢◌, ℕ, suc, zero, ◌+◌, ◌^◌, ◌<◌, ◌≤◌, Bool, true, false, ◌&&◌, ◌||◌, None, IsSome, List, [], ◌∷◌, ◌++◌, length, get_or, take, eqb, ltb, leb, refl, sym, ap, subst, ◌∙◌, arith, ◌⊎◌, inl, inr, ⊎_elim}
-use Rattle.std.proofs.lemmas.List.{length_push, length-take-le, get_or-take}
+use Rattle.std.proofs.Common.{◌≡◌, ◌≢◌, ℕ, suc, zero, ◌+◌, ◌^◌, ◌<◌, ◌≤◌, Bool, true, false, ◌&&◌, ◌||◌, List, [], ◌∷◌, ◌++◌, length, get_or, take, eqb, ltb, leb, refl, sym, ap, subst, ◌∙◌, arith, ◌⊎◌, inl, inr, ⊎_elim}
+use Rattle.std.proofs.lemmas.List.{length_push, length-take-le, get_or-take, take-take}
+use Rattle.std.proofs.lemmas.List.Elements.{All-head, All-nil, All-cons, All-take, All-get_or}
 use Rattle.std.proofs.lemmas.Bool.{cases_eq, cases_lt}
 use Rattle.std.proofs.lemmas.Bool.Decides.{nat_tests}
 use Rattle.ba_lits.specs.Literals.{Literal, lit_at, no_literal}
 use Rattle.ba_watch.specs.Chains.{occurrences}
-use Rattle.ba_watch.specs.Trails.{place_of}
+use Rattle.ba_watch.specs.Trails.{place_of, level_at}
 use Rattle.ba_watch.specs.Propagation.{State}
-use Rattle.ba_learn.specs.Resolving.{Work, one_if, count_below, is_marked, is_above, MayKeep, IsWork, Parts, ToPending, ToKept, ToWaiting, AreBelow, MayMeet, Meets}
+use Rattle.ba_learn.specs.Resolving.{Work, one_if, count_below, is_marked, is_above, MayKeep, IsWork, Parts, ToPending, ToKept, ToWaiting, AreBelow, MayMeet, Meets, MustResolve, IsSettled, AreSettled, IsInert}
 use Rattle.ba_learn.proofs.WorkLaws.{occurrences-push, count_below-same, count_below-add, count_below-bound}
 
 -- the place that is new is in one part of the work
@@ -112,7 +113,7 @@ module _ (s : State) (old : Work) (m : List Bool) (place : ℕ) (within : place 
     waiting_below = i.waiting_below;
   }
 
-  work_waiting : (high : ℕ) → IsWork s high old → place < old.floor → IsSome (get_or s.reasons place None) → IsWork s high (record old { marks = m; waiting = old.waiting ++ place ∷ [] })
+  work_waiting : (high : ℕ) → IsWork s high old → place < old.floor → MustResolve s old.deep place → IsWork s high (record old { marks = m; waiting = old.waiting ++ place ∷ [] })
   work_waiting high i below some_reason = record {
     short = i.short;
     within = i.within;
@@ -124,12 +125,25 @@ module _ (s : State) (old : Work) (m : List Bool) (place : ℕ) (within : place 
     kept = i.kept;
     resolved = i.resolved;
     resolved_below = i.resolved_below;
-    waiting = λ p some. ⊎_elim (λ was. i.waiting p was) (λ same. subst (λ (x : ℕ). IsSome (get_or s.reasons x None)) (sym same) some_reason) (pushed_cases p old.waiting place some);
+    waiting = λ p some. ⊎_elim (λ was. i.waiting p was) (λ same. subst (λ (x : ℕ). MustResolve s old.deep x) (sym same) some_reason) (pushed_cases p old.waiting place some);
     waiting_below = λ p some. ⊎_elim (λ was. i.waiting_below p was) (λ same. omega arith) (pushed_cases p old.waiting place some);
   }
 
   counted : (n : ℕ) → place < n → count_below (is_marked (record old { marks = m })) n ≡ count_below (is_marked old) n + 1
   counted n below = omega (arith, count_below-add (is_marked old) (is_marked (record old { marks = m })) place adds fresh n, below_one n place below)
+
+  zero_level : (l : Literal) → place ≡ place_of s.trail l.variable → AreSettled s (is_marked old) (l ∷ []) → level_at s.reasons place ≡ 0
+  zero_level l is all = ⊎_elim
+      (λ m. absurd (cc (sym m ∙ (ap (is_marked old) (sym is) ∙ fresh))))
+      (λ z. ap (level_at s.reasons) is ∙ z)
+      (All-head (IsSettled s (is_marked old)) l [] all).1
+
+  inert_marks : (l : Literal) → place ≡ place_of s.trail l.variable → AreSettled s (is_marked old) (l ∷ []) → (p : ℕ) → get_or m p false ≡ true → (is_marked old p ≡ true) ⊎ (level_at s.reasons p ≡ 0)
+  inert_marks l is all p e = ⊎_elim (λ same. inr (ap (level_at s.reasons) same ∙ zero_level l is all)) (λ was. inl was) (marked_cases p e)
+
+  not_kept : (deep : Bool) → deep ≡ false → MayKeep s deep place → level_at s.reasons place ≡ 0 → ⊥
+  not_kept true shallow may z = absurd (cc shallow)
+  not_kept false shallow may z = omega (arith, may, z)
 
   pub met_new : (new : Work) (l : Literal) → place ≡ place_of s.trail l.variable → Parts s (record old { marks = m }) new place → Meets s old new (l ∷ [])
   met_new new l is (ToPending above e) = subst (λ (w : Work). Meets s old w (l ∷ [])) (sym e) (record {
@@ -143,6 +157,7 @@ module _ (s : State) (old : Work) (m : List Bool) (place : ℕ) (within : place 
     resolved = refl;
     spends = λ n below. omega (arith, counted n (rw is (below 0 (omega arith))));
     work = λ high i below. work_pending high i (rw is (below 0 (omega arith))) above;
+    inert = λ shallow all. record { marks = inert_marks l is all; kept = refl };
   })
     where
       first : (k : ℕ) → k < 1 → k ≡ 0
@@ -158,6 +173,7 @@ module _ (s : State) (old : Work) (m : List Bool) (place : ℕ) (within : place 
     resolved = refl;
     spends = λ n below. omega (arith, counted n (rw is (below 0 (omega arith))));
     work = λ high i below. work_kept high i below' may;
+    inert = λ shallow all. absurd (not_kept old.deep shallow may (zero_level l is all));
   })
     where
       first : (k : ℕ) → k < 1 → k ≡ 0
@@ -173,6 +189,7 @@ module _ (s : State) (old : Work) (m : List Bool) (place : ℕ) (within : place 
     resolved = refl;
     spends = λ n below. omega (arith, counted n (rw is (below 0 (omega arith))), length_push old.waiting place);
     work = λ high i below. work_waiting high i below' some;
+    inert = λ shallow all. record { marks = inert_marks l is all; kept = refl };
   })
     where
       first : (k : ℕ) → k < 1 → k ≡ 0
@@ -191,6 +208,7 @@ met_old s w l place is marked = record {
   resolved = refl;
   spends = λ n below. omega arith;
   work = λ high i below. i;
+  inert = λ shallow all. record { marks = λ p e. inl e; kept = refl };
 }
   where
     first : (k : ℕ) → k < 1 → k ≡ 0
@@ -209,6 +227,7 @@ Meets-none s w = record {
   resolved = refl;
   spends = λ n below. omega arith;
   work = λ high i below. i;
+  inert = λ shallow all. record { marks = λ p e. inl e; kept = refl };
 }
 
 -- what holds of the literals of a front of a clause
@@ -236,6 +255,14 @@ pub Meets-more : (s : State) (old w new : Work) (xs : List Literal) (i : ℕ) (l
 Meets-more s old w new xs i l within is a b =
     let In : ℕ → Literal → Type 0 = λ n x. place_of s.trail x.variable < n in
     let Marked : Literal → Type 0 = λ x. is_marked new (place_of s.trail x.variable) ≡ true in
+    let S : Literal → Type 0 = IsSettled s (is_marked old) in
+    let settled_front : AreSettled s (is_marked old) (take (i + 1) xs) → AreSettled s (is_marked old) (take i xs) =
+    λ all. subst (λ (ys : List Literal). AreSettled s (is_marked old) ys) (take-take i (i + 1) xs (omega arith)) (All-take S i (take (i + 1) xs) all) in
+    let settled_one : AreSettled s (is_marked old) (take (i + 1) xs) → AreSettled s (is_marked w) (l ∷ []) = λ all.
+    let h : S l = subst S (get_or-take (i + 1) xs i no_literal (omega arith) ∙ sym is) (All-get_or S (take (i + 1) xs) i no_literal (omega (arith, length-take-le (i + 1) xs (omega arith))) all) in
+    All-cons (IsSettled s (is_marked w)) l [] (h.0, ⊎_elim (λ m. inl (a.grows _ m)) (λ z. inr z) h.1) (All-nil (IsSettled s (is_marked w))) in
+    let inert_trans : IsInert s old w → IsInert s w new → IsInert s old new =
+    λ x y. record { marks = λ p e. ⊎_elim (λ m. x.marks p m) (λ z. inr z) (y.marks p e); kept = y.kept ∙ x.kept } in
     let one : (n : ℕ) → AreBelow s n (take (i + 1) xs) → AreBelow s n (l ∷ []) = λ n below. only_one (In n) l (subst (In n) (sym is) (front_last (In n) xs i within below)) in
     record {
       grows = λ p e. b.grows p (a.grows p e);
@@ -248,6 +275,7 @@ Meets-more s old w new xs i l within is a b =
       resolved = b.resolved ∙ a.resolved;
       spends = λ n below. omega (arith, a.spends n (front_less (In n) xs i within below), b.spends n (one n below));
       work = λ high i_work below. b.work high (a.work high i_work (front_less (In high) xs i within below)) (one high below);
+      inert = λ shallow all. inert_trans (a.inert shallow (settled_front all)) (b.inert (a.deep ∙ shallow) (settled_one all));
     }
 
 -- what may be met one literal after the other

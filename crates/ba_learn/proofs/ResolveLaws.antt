@@ -2,14 +2,17 @@
 
 use Rattle.std.proofs.Common.{◌≡◌, ◌≢◌, ℕ, suc, zero, ◌+◌, ◌-◌, ◌*◌, ◌<◌, ◌≤◌, Bool, true, false, ◌&&◌, Option, None, Some, IsSome, is_some, List, [], ◌∷◌, ◌++◌, length, get_or, eqb, ltb, leb, refl, sym, ap, subst, ◌∙◌, arith, ◌⊎◌, inl, inr, ⊎_elim}
 use Rattle.std.proofs.lemmas.List.{length_push}
+use Rattle.std.proofs.lemmas.List.Elements.{All-nil, All-weaker, All-from_get_or}
+use Rattle.ba_lits.specs.Literals.{Literal, lit_at, no_literal}
 use Rattle.std.proofs.lemmas.Bool.{cases_eq, cases_lt}
 use Rattle.std.proofs.lemmas.Bool.Decides.{nat_tests}
 use Rattle.std.proofs.lemmas.List.Sorted.{length_permutation}
 use Rattle.std.specs.List.Sorted.{IsPermutation}
 use Rattle.ba_watch.specs.Chains.{occurrences}
-use Rattle.ba_watch.specs.Trails.{decided}
+use Rattle.ba_watch.specs.Trails.{decided, level_at}
+use Rattle.ba_watch.proofs.Levels.{decided-take-le}
 use Rattle.ba_watch.specs.Propagation.{State, lits_in, KeepsFacts}
-use Rattle.ba_learn.specs.Resolving.{Work, one_if, count_below, is_marked, is_above, IsWork, AreBelow, AreMarked, MayMeet, Meets, with_resolved, MayResolve, reason_lits, reason_of_place, AreCovered, Resolves, KeepsWork, IsStart}
+use Rattle.ba_learn.specs.Resolving.{Work, one_if, count_below, is_marked, is_above, IsWork, AreBelow, AreMarked, MayMeet, Meets, with_resolved, MayResolve, reason_lits, reason_of_place, AreCovered, Resolves, KeepsWork, IsStart, IsSettled, AreSettled, IsInert, IsImplied, IsShortened, place_in}
 use Rattle.ba_learn.proofs.WorkLaws.{occurrences-push, occurrences-append, count_below-le, count_below-bound}
 use Rattle.ba_learn.proofs.ReasonLaws.{reason_below}
 use Rattle.ba_learn.proofs.FollowLaws.{occurrences-permutation}
@@ -186,6 +189,36 @@ pub met_reason : (s : State) (w w' new : Work) (place reason : ℕ) → get_or s
 met_reason s w w' new place reason is e met =
     subst (λ (o : Option ℕ). Meets s (with_resolved w place) new (reason_lits s o)) (sym is) (subst (λ (x : Work). Meets s x new (lits_in s.clauses reason)) e met)
 
+-- where only places of level 0 are marked, no more is settled, or implied
+pub inert_settled : (s : State) (old new : Work) (lits : List Literal) → IsInert s old new → AreSettled s (is_marked new) lits → AreSettled s (is_marked old) lits
+inert_settled s old new lits inert all =
+    All-weaker (IsSettled s (is_marked new)) (IsSettled s (is_marked old)) (λ l h. (h.0, ⊎_elim (λ m. inert.marks _ m) (λ z. inr z) h.1)) lits all
+
+pub inert_implied : (s : State) (old new : Work) (p : ℕ) → IsInert s old new → IsImplied s new p → IsImplied s old p
+inert_implied s old new p inert h = (h.0, inert_settled s old new (reason_of_place s p) inert h.1)
+
+-- the reason of a place of level 0 is settled
+zero_settled : (s : State) (marked : ℕ → Bool) (p : ℕ) → KeepsFacts s → p < length s.trail → level_at s.reasons p ≡ 0 → AreSettled s marked (reason_of_place s p)
+zero_settled s marked p facts within z = step (get_or s.reasons p None) refl
+  where
+    one : (r : ℕ) → get_or s.reasons p None ≡ Some r → (k : ℕ) → k < length (lits_in s.clauses r) → IsSettled s marked (lit_at (lits_in s.clauses r) k)
+    one r e k k_in =
+        let below : place_in s (lits_in s.clauses r) k < p + 1 = reason_below s p r facts within e k k_in in
+        let le : level_at s.reasons (place_in s (lits_in s.clauses r) k) ≤ level_at s.reasons p = decided-take-le (place_in s (lits_in s.clauses r) k + 1) (p + 1) s.reasons (omega (arith, below)) in
+        (omega (arith, below), inr (omega (arith, z, le)))
+
+    step : (o : Option ℕ) → get_or s.reasons p None ≡ o → AreSettled s marked (reason_lits s o)
+    step None e = All-nil (IsSettled s marked)
+    step (Some r) e = All-from_get_or (IsSettled s marked) (lits_in s.clauses r) no_literal (one r e)
+
+-- the last of a list in the place of one that is taken out
+pub swapped_rest : (P : ℕ → Type 0) (xs ys : List ℕ) (index : ℕ) → length ys + 1 ≡ length xs → (index + 1 < length xs → get_or ys index 0 ≡ get_or xs (length xs - 1) 0) → ((k : ℕ) → k ≢ index → k + 1 < length xs → get_or ys k 0 ≡ get_or xs k 0)
+    → ((k : ℕ) → index + 1 ≤ k → k < length xs → P (get_or xs k 0)) → (k : ℕ) → index ≤ k → k < length ys → P (get_or ys k 0)
+swapped_rest P xs ys index len here there all k above within = ⊎_elim
+    (λ same. subst (λ (j : ℕ). P (get_or ys j 0)) (sym same) (subst P (sym (here (omega (arith, same)))) (all (length xs - 1) (omega (arith, same)) (omega arith))))
+    (λ other. subst P (sym (there k other (omega arith))) (all k (omega (arith, above, other)) (omega arith)))
+    (cases_eq k index)
+
 -- the last waiting place is resolved
 module _ (s : State) (old : Work) (rest : List ℕ) (place : ℕ) (is : old.waiting ≡ rest ++ place ∷ []) where
   abbrev pub popped : Work
@@ -201,7 +234,7 @@ module _ (s : State) (old : Work) (rest : List ℕ) (place : ℕ) (is : old.wait
   popped_within high i = omega (arith, i.waiting_below place waits, i.floor, i.within)
 
   pub popped_reason : (high : ℕ) → IsWork s high old → IsSome (get_or s.reasons place None)
-  popped_reason high i = i.waiting place waits
+  popped_reason high i = (i.waiting place waits).reason
 
   front_waits : (p : ℕ) → 0 < occurrences p rest → 0 < occurrences p old.waiting
   front_waits p some = omega (arith, some, ap (occurrences p) is, occurrences-append p rest (place ∷ []))
@@ -246,6 +279,11 @@ module _ (s : State) (old : Work) (rest : List ℕ) (place : ℕ) (is : old.wait
 
     pub popped_pending : KeepsFacts s → (high : ℕ) → IsWork s high old → new.pending ≡ old.pending
     popped_pending facts high i = met.still (below facts old.floor (i.waiting_below place waits) (popped_within high i))
+
+    pub popped_short : KeepsFacts s → (high : ℕ) → IsWork s high old → old.deep ≡ false → IsShortened s old → IsShortened s new
+    popped_short facts high i shallow short p some implied =
+        let inert : IsInert s (with_resolved popped place) new = met.inert shallow (zero_settled s (is_marked old) place facts (popped_within high i) ((i.waiting place waits).level shallow)) in
+        short p (subst (λ (xs : List ℕ). 0 < occurrences p xs) inert.kept some) (inert_implied s (with_resolved popped place) new p inert implied)
 
     -- each turn marks a place or takes one from those that wait
     pub popped_less : KeepsFacts s → (high : ℕ) → IsWork s high old
@@ -322,6 +360,9 @@ module _ (s : State) (old : Work) (rest : List ℕ) (place : ℕ) (is : IsPermut
 
     pub dropped_pending : KeepsFacts s → (high : ℕ) → IsWork s high old → new.pending ≡ old.pending
     dropped_pending facts high i = met.still (dropped_below facts old.floor (i.kept_below place was_kept) (dropped_within high i))
+
+    pub dropped_inert : old.deep ≡ false → AreSettled s (is_marked old) (reason_of_place s place) → IsInert s (with_resolved dropped place) new
+    dropped_inert shallow settled = met.inert shallow settled
 
     pub dropped_length : (index : ℕ) → index < length old.kept → index ≤ length new.kept
     dropped_length index within = omega (arith, within, met.kept, length_permutation old.kept (place ∷ rest) is)

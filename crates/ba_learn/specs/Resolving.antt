@@ -2,6 +2,7 @@
 
 use Rattle.std.specs.Prelude.{◌≡◌, ℕ, ◌+◌, ◌<◌, ◌≤◌, leb, ltb, ◌^◌, Bool, true, false, ◌&&◌, Option, None, Some, IsSome, ◌⊎◌, List, [], ◌∷◌, ◌++◌, length, get_or, if◌then◌else◌}
 use Prim.Native.Nat.{suc, zero}
+use Rattle.std.specs.List.{All}
 use Rattle.std.specs.List.Sorted.{IsPermutation, IsNonDecreasingBy}
 use Rattle.ba_lits.specs.Literals.{Literal, lit_at, negate}
 use Rattle.ba_watch.specs.Chains.{occurrences}
@@ -46,6 +47,11 @@ abbrev pub MayKeep : State → Bool → ℕ → Type 0
 MayKeep s true p = get_or s.reasons p None ≡ None
 MayKeep s false p = 1 ≤ level_at s.reasons p
 
+-- otherwise it has a reason, and is of level 0 unless the resolution is deep
+pub record MustResolve (s : State) (deep : Bool) (p : ℕ) : Type 0 where
+  pub reason : IsSome (get_or s.reasons p None)
+  pub level : deep ≡ false → level_at s.reasons p ≡ 0
+
 -- in how many parts of the work a place is
 abbrev pub parts_of : ℕ → Work → ℕ → ℕ
 parts_of high w p =
@@ -63,14 +69,14 @@ pub record IsWork (s : State) (high : ℕ) (w : Work) : Type 0 where
   pub kept : (p : ℕ) → 0 < occurrences p w.kept → MayKeep s w.deep p
   pub resolved : (p : ℕ) → 0 < occurrences p w.resolved → IsSome (get_or s.reasons p None)
   pub resolved_below : (p : ℕ) → 0 < occurrences p w.resolved → w.deep ≡ true → p < w.floor
-  pub waiting : (p : ℕ) → 0 < occurrences p w.waiting → IsSome (get_or s.reasons p None)
+  pub waiting : (p : ℕ) → 0 < occurrences p w.waiting → MustResolve s w.deep p
   pub waiting_below : (p : ℕ) → 0 < occurrences p w.waiting → p < w.floor
 
 -- a place is put into its part of the work
 pub data Parts (s : State) (old new : Work) (place : ℕ) : Type 0 where
   ToPending : old.floor ≤ place → new ≡ record old { pending = old.pending + 1 } → Parts s old new place
   ToKept : place < old.floor → MayKeep s old.deep place → new ≡ record old { kept = old.kept ++ place ∷ [] } → Parts s old new place
-  ToWaiting : place < old.floor → IsSome (get_or s.reasons place None) → new ≡ record old { waiting = old.waiting ++ place ∷ [] } → Parts s old new place
+  ToWaiting : place < old.floor → MustResolve s old.deep place → new ≡ record old { waiting = old.waiting ++ place ∷ [] } → Parts s old new place
 
 -- the place of a clause's literal
 abbrev pub place_in : State → List Literal → ℕ → ℕ
@@ -94,6 +100,19 @@ pub record MayStart (s : State) (floor high : ℕ) (lits : List Literal) : Type 
   pub within : high ≤ length s.trail
   pub below : AreBelow s high lits
 
+-- a literal has a value, and is marked or was assigned at level 0
+abbrev pub IsSettled : State → (ℕ → Bool) → Literal → Type 0
+IsSettled s marked l =
+    (place_of s.trail l.variable < length s.trail) × ((marked (place_of s.trail l.variable) ≡ true) ⊎ (level_at s.reasons (place_of s.trail l.variable) ≡ 0))
+
+abbrev pub AreSettled : State → (ℕ → Bool) → List Literal → Type 0
+AreSettled s marked lits = All (IsSettled s marked) lits
+
+-- only places of level 0 were marked, and what is kept stays
+pub record IsInert (s : State) (old new : Work) : Type 0 where
+  pub marks : (p : ℕ) → is_marked new p ≡ true → (is_marked old p ≡ true) ⊎ (level_at s.reasons p ≡ 0)
+  pub kept : new.kept ≡ old.kept
+
 -- the literals of a clause were marked, each of them new in one part of the work
 pub record Meets (s : State) (old new : Work) (lits : List Literal) : Type 0 where
   pub grows : (p : ℕ) → is_marked old p ≡ true → is_marked new p ≡ true
@@ -106,6 +125,7 @@ pub record Meets (s : State) (old new : Work) (lits : List Literal) : Type 0 whe
   pub resolved : new.resolved ≡ old.resolved
   pub spends : (n : ℕ) → AreBelow s n lits → count_below (is_marked old) n + length new.waiting ≤ count_below (is_marked new) n + length old.waiting
   pub work : (high : ℕ) → IsWork s high old → AreBelow s high lits → IsWork s high new
+  pub inert : old.deep ≡ false → AreSettled s (is_marked old) lits → IsInert s old new
 
 -- the literals of a reason; none where there is none
 abbrev pub reason_lits : State → Option ℕ → List Literal
@@ -129,17 +149,20 @@ abbrev pub AreCovered : State → (ℕ → Bool) → List ℕ → Type 0
 AreCovered s marked places =
     (p : ℕ) → 0 < occurrences p places → AreMarked s marked (reason_of_place s p)
 
--- a literal has a value, and is marked or was assigned at level 0
-abbrev pub IsSettled : State → (ℕ → Bool) → Literal → Type 0
-IsSettled s marked l =
-    (place_of s.trail l.variable < length s.trail) × ((marked (place_of s.trail l.variable) ≡ true) ⊎ (level_at s.reasons (place_of s.trail l.variable) ≡ 0))
-
 -- reasons were resolved with: what was marked stays so, and what is resolved has the literals of its reason marked
 pub record Resolves (s : State) (old new : Work) : Type 0 where
   pub grows : (p : ℕ) → is_marked old p ≡ true → is_marked new p ≡ true
   pub floor : new.floor ≡ old.floor
   pub deep : new.deep ≡ old.deep
   pub covered : AreCovered s (is_marked old) old.resolved → AreCovered s (is_marked new) new.resolved
+
+-- a place has a reason, each literal of which is settled
+abbrev pub IsImplied : State → Work → ℕ → Type 0
+IsImplied s w p = IsSome (get_or s.reasons p None) × AreSettled s (is_marked w) (reason_of_place s p)
+
+-- nothing that is kept is implied
+abbrev pub IsShortened : State → Work → Type 0
+IsShortened s w = (p : ℕ) → 0 < occurrences p w.kept → IsImplied s w p → ⊥
 
 -- the parts of the work stay apart, wherever the walk has come to
 abbrev pub KeepsWork : State → Work → Work → Type 0
@@ -178,3 +201,11 @@ pub record SortsNumbers (old new : List ℕ) : Type 0 where
 pub record SortsLiterals (old new : List Literal) : Type 0 where
   pub same : IsPermutation old new
   pub ascends : IsNonDecreasingBy (λ (l : Literal). l.variable) new
+
+-- from an index on nothing that is kept is implied
+abbrev pub IsShortFrom : State → Work → ℕ → Type 0
+IsShortFrom s w index = (k : ℕ) → index ≤ k → k < length w.kept → IsImplied s w (get_or w.kept k 0) → ⊥
+
+-- the same from one index less on
+abbrev pub ShortensAt : State → Work → Work → ℕ → Type 0
+ShortensAt s old new index = old.deep ≡ false → IsShortFrom s old (index + 1) → IsShortFrom s new index

@@ -5,7 +5,7 @@ ghost use Rattle.ba_lits.specs.Literals.{IsClause};
 ghost use Rattle.ba_watch.specs.Trails.{value_of, place_of, decided, reason_of};
 ghost use Rattle.ba_watch.specs.Propagation.{clause_in, lits_in, is_false};
 ghost use Rattle.ba_learn.specs.Live.{Follows, IsNewTo};
-ghost use Rattle.ba_learn.specs.Levels.{level_in, level_of_literal, IsReached, IsBacked, IsCoreOf};
+ghost use Rattle.ba_learn.specs.Levels.{level_in, level_of_literal, IsReached, IsBacked, IsShort, IsCoreOf};
 
 use crate::learnt::Learnt;
 use crate::resolution::{Resolution, level_start};
@@ -36,7 +36,8 @@ impl Analyser {
     /// the present level, without the literals that the reasons of others cover.
     ///
     /// Exactly one of its literals was assigned at the present level, and `back` is the greatest level of the others,
-    /// or 0. It follows by its hints from the live clauses and is new to propagation for them.
+    /// or 0. It follows by its hints from the live clauses and is new to propagation for them. Each of the others
+    /// that has a reason has in it one more literal that isn't in the clause and was assigned above level 0.
     ///
     /// The one error is want of memory.
     pub fn analyse(&mut self, watch: &Watch, conflict: ClauseRef) -> Result<Learnt, AllocError>
@@ -47,6 +48,7 @@ impl Analyser {
         ensures follows { IfOk result (λ learnt. Follows watch.now.clauses learnt.lits learnt.hints) }
         ensures new { IfOk result (λ learnt. IsNewTo watch.now.clauses learnt.lits) }
         ensures backed { IfOk result (λ learnt. IsBacked watch.now learnt.lits learnt.back) }
+        ensures short { IfOk result (λ learnt. IsShort watch.now learnt.lits) }
     {
         watch.keeps_facts();
         let resolution = &mut self.resolution;
@@ -154,6 +156,7 @@ pub fn analyse(alloc: Global, watch: &Watch, conflict: ClauseRef) -> Result<Lear
     ensures follows { IfOk result (λ learnt. Follows watch.now.clauses learnt.lits learnt.hints) }
     ensures new { IfOk result (λ learnt. IsNewTo watch.now.clauses learnt.lits) }
     ensures backed { IfOk result (λ learnt. IsBacked watch.now learnt.lits learnt.back) }
+    ensures short { IfOk result (λ learnt. IsShort watch.now learnt.lits) }
 {
     Analyser::new(alloc).analyse(watch, conflict)
 }

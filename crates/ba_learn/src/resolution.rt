@@ -1,10 +1,10 @@
 //! Resolution along the trail.
 
-ghost use Rattle.std.specs.Prelude.{◌≡◌, ℕ, ◌+◌, ◌^◌, ◌<◌, ◌≤◌, [], ◌∷◌, ◌++◌, None, true, false, IfOk, OnOk, IsSome, IsTrue, length, map, get_or, All};
+ghost use Rattle.std.specs.Prelude.{◌≡◌, ℕ, ◌+◌, ◌^◌, ◌<◌, ◌≤◌, [], ◌∷◌, ◌++◌, None, true, false, IfOk, OnOk, IsSome, IsTrue, ◌↔◌, length, map, get_or, All};
 ghost use Rattle.ba_lits.specs.Literals.{lit_at};
 ghost use Rattle.ba_watch.specs.Trails.{place_of, decided, level_at};
 ghost use Rattle.ba_watch.specs.Propagation.{clause_in, lits_in};
-ghost use Rattle.ba_learn.specs.Resolving.{Work, IsWork, is_marked, is_above, count_below, MayKeep, AreBelow, AreMarked, MayMeet, MayStart, Parts, Meets, with_resolved, MayResolve, reason_of_place, IsSettled, Resolves, KeepsWork, IsStart, number_in, number_at, negated_at, SortsNumbers, SortsLiterals};
+ghost use Rattle.ba_learn.specs.Resolving.{Work, IsWork, is_marked, is_above, count_below, MayKeep, AreBelow, AreMarked, MayMeet, MayStart, Parts, Meets, with_resolved, MayResolve, reason_of_place, MustResolve, IsSettled, AreSettled, IsImplied, IsShortened, ShortensAt, Resolves, KeepsWork, IsStart, number_in, number_at, negated_at, SortsNumbers, SortsLiterals};
 
 use crate::marks::Marks;
 use ba_arena::ClauseRef;
@@ -75,7 +75,7 @@ impl Resolution {
         requires within { variable ≤ watch.now.variables }
         requires assigned { place_of watch.now.trail variable < length watch.now.trail }
         ensures kept { result ≡ true → MayKeep watch.now self.now.deep (place_of watch.now.trail variable) }
-        ensures resolved { result ≡ false → IsSome (get_or watch.now.reasons (place_of watch.now.trail variable) None) }
+        ensures resolved { result ≡ false → MustResolve watch.now self.now.deep (place_of watch.now.trail variable) }
     {
         watch.keeps_facts();
         if self.deep {
@@ -229,7 +229,7 @@ impl Resolution {
     /// Whether a literal is marked, or was assigned at level 0.
     fn is_settled(&self, watch: &Watch, lit: Lit) -> bool
         requires { lit.variable ≤ watch.now.variables }
-        ensures { IsTrue result → IsSettled watch.now (is_marked self.now) lit }
+        ensures { IsTrue result ↔ IsSettled watch.now (is_marked self.now) lit }
     {
         let variable = lit.variable();
         let Some(place) = watch.place(variable) else {
@@ -244,8 +244,7 @@ impl Resolution {
     /// Whether a place has a reason, and each of its literals is settled.
     fn is_implied(&self, watch: &Watch, place: usize) -> bool
         requires { place < length watch.now.trail }
-        ensures reason { IsTrue result → IsSome (get_or watch.now.reasons place None) }
-        ensures settled { IsTrue result → All (IsSettled watch.now (is_marked self.now)) (reason_of_place watch.now place) }
+        ensures { IsTrue result ↔ IsImplied watch.now self.now place }
     {
         watch.keeps_facts();
         match watch.reasons()[place] {
@@ -257,7 +256,7 @@ impl Resolution {
     /// Whether each literal of a clause is settled.
     fn are_settled(&self, watch: &Watch, clause: ClauseRef) -> bool
         requires { IsSome (clause_in watch.now.clauses clause) }
-        ensures { IsTrue result → All (IsSettled watch.now (is_marked self.now)) (lits_in watch.now.clauses clause) }
+        ensures { IsTrue result ↔ AreSettled watch.now (is_marked self.now) (lits_in watch.now.clauses clause) }
     {
         watch.keeps_facts();
         let arena = watch.arena();
@@ -277,6 +276,7 @@ impl Resolution {
         ensures work { OnOk result (KeepsWork watch.now self.old self.new) }
         ensures pending { OnOk result (self.new.pending ≡ self.old.pending) }
         ensures kept { OnOk result (index ≤ length self.new.kept) }
+        ensures short { OnOk result (ShortensAt watch.now self.old self.new index) }
     {
         watch.keeps_facts();
         let place = self.kept[index];
@@ -290,9 +290,11 @@ impl Resolution {
     /// Resolves the kept literals whose negations the others imply.
     pub fn shorten(&mut self, watch: &Watch) -> Result<(), AllocError>
         requires work { (high : ℕ) × IsWork watch.now high self.old }
+        requires shallow { self.old.deep ≡ false }
         ensures resolves { OnOk result (Resolves watch.now self.old self.new) }
         ensures work { OnOk result (KeepsWork watch.now self.old self.new) }
         ensures pending { OnOk result (self.new.pending ≡ self.old.pending) }
+        ensures short { OnOk result (IsShortened watch.now self.new) }
     {
         let mut index = self.kept.len();
         while index > 0 {
@@ -309,6 +311,7 @@ impl Resolution {
         ensures work { OnOk result (KeepsWork watch.now self.old self.new) }
         ensures pending { OnOk result (self.new.pending ≡ self.old.pending) }
         ensures all { OnOk result (self.new.waiting ≡ []) }
+        ensures short { OnOk result (self.old.deep ≡ false → IsShortened watch.now self.old → IsShortened watch.now self.new) }
     {
         watch.keeps_facts();
         while let Some(place) = self.waiting.pop() {

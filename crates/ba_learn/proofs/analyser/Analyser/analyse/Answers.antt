@@ -6,12 +6,12 @@ use Rattle.ba_lits.specs.Literals.{Literal, negate, lit_at, no_literal, IsClause
 use Rattle.ba_watch.specs.Trails.{place_of, decided}
 use Rattle.ba_watch.specs.Propagation.{lits_in}
 use Rattle.ba_learn.specs.Live.{Follows, IsNewTo}
-use Rattle.ba_learn.specs.Levels.{level_in, IsReached, IsBacked}
+use Rattle.ba_learn.specs.Levels.{level_in, IsReached, IsBacked, IsShort}
 use Rattle.ba_learn.specs.Resolving.{Work, is_marked, IsWork, MayStart, Resolves, IsStart, negated_at}
 use Rattle.ba_learn.proofs.ResolveLaws.{Resolves-trans}
 use Rattle.ba_learn.proofs.Finishes.{HasEnded, ended, false_below, sorted_reasons, kept_places}
 use Rattle.ba_learn.proofs.CoreLaws.{same_sorted}
-use Rattle.ba_learn.proofs.LevelLaws.{some_pending, analysed_clause, analysed_follows, analysed_new, analysed_backed, analysed_placed}
+use Rattle.ba_learn.proofs.LevelLaws.{some_pending, analysed_clause, analysed_follows, analysed_new, analysed_backed, analysed_short, analysed_placed}
 use Rattle.ba_learn.proofs.analyser.Analyser.analyse.Goals as goal
 
 pub start-requires-clause-may : goal.start-requires-clause-may
@@ -162,3 +162,21 @@ returns-clause-backed c =
     (analysed_backed s c.keeps_facts.ensures c.close.new.self u c.args.conflict done start pending above marked c.requires.live c.requires.false_ c.in_ok-lits.lits.items c.sort.new.self.resolved sorted c.sort.ensures.sorted c.back_of-back.result c.requires.level
     (subst (λ (ls : List Literal). (k : ℕ) → k < length ls → level_in s ls k < decided s.reasons → level_in s ls k ≤ c.back_of-back.result) lits_is c.back_of-back.ensures.greatest)
     (subst (λ (ls : List Literal). IsReached s ls (length ls) c.back_of-back.result) lits_is c.back_of-back.ensures.met))
+
+pub returns-clause-short : goal.returns-clause-short
+returns-clause-short c =
+    let s = c.args.watch.now in
+    let u : ℕ = c.in_ok-place.place in
+    let a = c.in_ok-place.ensures in
+    let w : IsWork s (u + 1) c.close.new.self = c.in_ok-close.ensures.work (u + 1) (c.in_ok-shorten.ensures.work (u + 1) a.work) in
+    let w0 = c.in_ok-start.ensures in
+    let steps : Resolves s c.walk.new.self c.close.new.self = Resolves-trans s c.walk.new.self c.shorten.new.self c.close.new.self c.in_ok-shorten.ensures.resolves c.in_ok-close.ensures.resolves in
+    let done : HasEnded s (u + 1) c.close.new.self c.args.conflict = ended s (u + 1) c.start.new.self c.close.new.self c.args.conflict w0.resolved w0.marked (Resolves-trans s c.start.new.self c.walk.new.self c.close.new.self a.resolves steps) w c.in_ok-close.ensures.all in
+    let start : IsStart s c.close.new.self.floor = subst (λ (f : ℕ). IsStart s f) (sym (steps.floor ∙ (a.resolves.floor ∙ w0.floor))) c.level_start.ensures in
+    let pending : c.close.new.self.pending ≡ 1 = c.in_ok-close.ensures.pending ∙ (c.in_ok-shorten.ensures.pending ∙ a.one) in
+    let above : c.close.new.self.floor ≤ u = omega (arith, steps.floor, a.floor) in
+    let marked : is_marked c.close.new.self u ≡ true = steps.grows u a.marked in
+    let within : u < length s.trail = w.ranged u marked in
+    let lead : c.negated.result ≡ negated_at s u = c.negated.ensures ∙ ap negate (c.index-trail-place.is ∙ (get_or_default c.trail.result.now u _ no_literal (omega (arith, within, ap length c.trail.ensures)) ∙ ap (λ (t : List Literal). lit_at t u) c.trail.ensures)) in
+    let sorted = same_sorted s c.negated.result (negated_at s u) c.sort.new.self.kept c.close.new.self.kept c.in_ok-lits.lits.items lead (ap (λ (w : Work). w.kept) c.sort.ensures.rest) c.in_ok-lits.ensures in
+    subst (λ (ls : List Literal). IsShort s ls) (sym c.from_vec.ensures) (analysed_short s c.keeps_facts.ensures c.close.new.self u c.args.conflict done start pending above marked c.requires.live c.requires.false_ c.in_ok-lits.lits.items c.sort.new.self.resolved sorted c.sort.ensures.sorted (c.in_ok-close.ensures.short (c.in_ok-shorten.ensures.resolves.deep ∙ (a.resolves.deep ∙ w0.deep)) c.in_ok-shorten.ensures.short))

@@ -1,6 +1,6 @@
 use Rattle.std.proofs.Common.{◌≡◌, ◌++◌, ◌∷◌, [], subst, sym, ap, ◌∙◌}
 use Rattle.ba_learn.specs.Resolving.{Work, MayResolve, Meets, with_resolved, reason_of_place}
-use Rattle.ba_learn.proofs.ResolveLaws.{Resolves-trans, popped_within, popped_reason, popped_may, popped_resolves, popped_keeps, popped_pending, popped_less}
+use Rattle.ba_learn.proofs.ResolveLaws.{Resolves-trans, popped_within, popped_reason, popped_may, popped_resolves, popped_keeps, popped_pending, popped_short, popped_less}
 use Rattle.ba_learn.proofs.resolution.Resolution.close.Goals as goal
 
 pub resolve-requires-clause-within : goal.resolve-requires-clause-within
@@ -32,6 +32,7 @@ loop-place-preserved c =
       resolves = Resolves-trans s c.args.self.now c.loop-place.self c.resolve.new.self c.loop-place.invariant.resolves (popped_resolves s c.loop-place.self c.pop.new.self.items c.in-Some.place is c.resolve.new.self met);
       work = λ high i. popped_keeps s c.loop-place.self c.pop.new.self.items c.in-Some.place is c.resolve.new.self met c.keeps_facts.ensures high (c.loop-place.invariant.work high i);
       pending = popped_pending s c.loop-place.self c.pop.new.self.items c.in-Some.place is c.resolve.new.self met c.keeps_facts.ensures c.requires.work.0 (c.loop-place.invariant.work c.requires.work.0 c.requires.work.1) ∙ c.loop-place.invariant.pending;
+      short = λ shallow h. popped_short s c.loop-place.self c.pop.new.self.items c.in-Some.place is c.resolve.new.self met c.keeps_facts.ensures c.requires.work.0 (c.loop-place.invariant.work c.requires.work.0 c.requires.work.1) (c.loop-place.invariant.resolves.deep ∙ shallow) (c.loop-place.invariant.short shallow h);
     }
 
 pub loop-place-smaller : goal.loop-place-smaller

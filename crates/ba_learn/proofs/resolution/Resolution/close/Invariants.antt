@@ -1,5 +1,5 @@
-use Rattle.std.proofs.Common.{◌≡◌, ◌+◌, ◌-◌, ◌*◌, length}
-use Rattle.ba_learn.specs.Resolving.{is_marked, count_below, Resolves, KeepsWork}
+use Rattle.std.proofs.Common.{◌≡◌, false, ◌+◌, ◌-◌, ◌*◌, length}
+use Rattle.ba_learn.specs.Resolving.{is_marked, count_below, Resolves, KeepsWork, IsShortened}
 use Rattle.ba_learn.proofs.resolution.Resolution.close.Given as goal
 
 abbrev pub invariant-loop-place : goal.invariant-loop-place
@@ -7,6 +7,7 @@ invariant-loop-place l = record {
   resolves : Resolves l.watch l.initial.self l.self;
   work : KeepsWork l.watch l.initial.self l.self;
   pending : l.self.pending ≡ l.initial.self.pending;
+  short : l.initial.self.deep ≡ false → IsShortened l.watch l.initial.self → IsShortened l.watch l.self;
 }
 
 abbrev pub decreases-loop-place : goal.decreases-loop-place

@@ -1,6 +1,7 @@
-use Rattle.std.proofs.Common.{◌≡◌, ℕ, ◌<◌, List, Option, None, Some, length, get_or, sym, ap, ◌∙◌, arith}
+use Rattle.std.proofs.Common.{◌≡◌, ℕ, ◌<◌, List, Option, None, Some, length, get_or, is_some, subst, sym, ap, ◌∙◌, arith}
 use Rattle.std.proofs.lemmas.List.{get_or_default}
 use Rattle.ba_lits.specs.Literals.{Literal}
+use Rattle.ba_learn.specs.Resolving.{is_marked, AreSettled, reason_lits}
 use Rattle.ba_learn.proofs.ReasonLaws.{reason_live}
 use Rattle.ba_learn.proofs.resolution.Resolution.is_implied.Goals as goal
 
@@ -12,3 +13,11 @@ are_settled-requires c =
     let s = c.args.watch.now in
     let is : get_or s.reasons c.args.place None ≡ Some c.in-Some.reason = read_reason c.reasons.result.now s.reasons s.trail c.args.place c.in-Some.reason _ c.reasons.ensures c.keeps_facts.ensures.trail.same_length c.requires c.in-Some.is in
     reason_live s c.args.place c.in-Some.reason c.keeps_facts.ensures c.requires is
+
+pub returns-in-Some : goal.returns-in-Some
+returns-in-Some c =
+    let s = c.args.watch.now in
+    let is : get_or s.reasons c.args.place None ≡ Some c.in-Some.reason = read_reason c.reasons.result.now s.reasons s.trail c.args.place c.in-Some.reason _ c.reasons.ensures c.keeps_facts.ensures.trail.same_length c.requires c.in-Some.is in (
+      λ e. (ap is_some is, subst (λ (o : Option ℕ). AreSettled s (is_marked c.args.self.now) (reason_lits s o)) (sym is) (c.are_settled.ensures.0 e)),
+      λ h. c.are_settled.ensures.1 (subst (λ (o : Option ℕ). AreSettled s (is_marked c.args.self.now) (reason_lits s o)) is h.1),
+    )

@@ -1,5 +1,5 @@
 use Rattle.std.proofs.Common.{◌≡◌, ◌≤◌, length}
-use Rattle.ba_learn.specs.Resolving.{Resolves, KeepsWork}
+use Rattle.ba_learn.specs.Resolving.{Resolves, KeepsWork, IsShortFrom}
 use Rattle.ba_learn.proofs.resolution.Resolution.shorten.Given as goal
 
 abbrev pub invariant-loop-index : goal.invariant-loop-index
@@ -8,6 +8,7 @@ invariant-loop-index l = record {
   work : KeepsWork l.watch l.initial.self l.self;
   pending : l.self.pending ≡ l.initial.self.pending;
   within : l.index ≤ length l.self.kept;
+  short : IsShortFrom l.watch l.self l.index;
 }
 
 abbrev pub decreases-loop-index : goal.decreases-loop-index
