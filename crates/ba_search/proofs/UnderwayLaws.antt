@@ -1,0 +1,149 @@
+-- What stays true of a search from turn to turn.
+
+use Rattle.std.proofs.Common.{◌≡◌, ℕ, ◌+◌, ◌<◌, ◌≤◌, max, false, Option, None, List, [], ◌∷◌, ◌++◌, length, get_or, take, refl, sym, ap, subst, ◌∙◌, arith, ⊎_elim}
+use Rattle.std.proofs.lemmas.Bool.{cases_lt}
+use Rattle.std.proofs.lemmas.List.{get_or-take, take-take, length-take, length_push, get_or_append_left}
+use Rattle.std.proofs.Math.Seq.{get_or-append_seam, take-append_seam}
+use Rattle.ba_lits.specs.Literals.{Literal, lit_at, no_literal}
+use Rattle.ba_watch.specs.Trails.{Begins, decided, kept}
+use Rattle.ba_watch.specs.Propagation.{State as Watching, Extends, KeepsFacts}
+use Rattle.ba_watch.proofs.Levels.{decided-take_drop, decided-take-le, decided-take_none, decided-kept}
+use Rattle.ba_learn.specs.Backjumps.{after_back}
+use Rattle.ba_steps.specs.States.{State, kept as kept_as, clause_at}
+use Rattle.ba_steps.specs.declared.store.Origin.TheVariants.{Learnt}
+use Rattle.ba_steps.specs.Judging.{after_learn}
+use Rattle.ba_search.specs.Turns.{AreTaken, AddsNext, IsChoice, AreChoices, IsUnderway}
+use Rattle.ba_search.proofs.TakenLaws.{taken_same, taken_next, taken_longer, clause_at-end}
+
+-- the front of a list
+begins_at : {X : Type 0} (front xs : List X) (p : ℕ) (d : X) → Begins front xs → p < length front → get_or xs p d ≡ get_or front p d
+begins_at front xs p d b within = sym (get_or-take (length front) xs p d within) ∙ ap (λ ys. get_or ys p d) b
+
+begins_take : {X : Type 0} (front xs : List X) (p : ℕ) → Begins front xs → p ≤ length front → take p xs ≡ take p front
+begins_take front xs p b le = sym (take-take p (length front) xs le) ∙ ap (take p) b
+
+pub begins_length : {X : Type 0} (front xs : List X) → Begins front xs → length front ≤ length xs
+begins_length front xs b = omega (arith, sym (ap length b), length-take (length front) xs)
+
+-- where no level was begun, no late place was decided
+no_late : (R S : List (Option ℕ)) (p : ℕ) → Begins R S → decided S ≡ decided R → p < length S → get_or S p None ≡ None → p < length R
+no_late R S p b same within none = ⊎_elim
+    (λ lt. lt)
+    (λ le. absurd (omega (arith, ap decided b, same, decided-take-le (length R) p S le, decided-take_none p S within none, decided-take_drop (p + 1) S)))
+    (cases_lt p (length R))
+
+pub choices_extend : (variables : ℕ) (a T U : List Literal) (R S : List (Option ℕ)) → length R ≡ length T → length S ≡ length U → Begins T U → Begins R S → decided S ≡ decided R → AreChoices variables a T R → AreChoices variables a U S
+choices_extend variables a T U R S len len' bT bR same choices p within none =
+    let early : p < length R = no_late R S p bR same (omega (arith, within, len')) none in
+    let old : IsChoice variables a (take p T) (lit_at T p) = choices p (omega (arith, early, len)) (sym (begins_at R S p None bR early) ∙ none) in
+    subst (λ (V : List Literal). IsChoice variables a V (lit_at U p)) (sym (begins_take T U p bT (omega (arith, early, len))))
+    (subst (λ (l : Literal). IsChoice variables a (take p T) l) (sym (begins_at T U p no_literal bT (omega (arith, early, len)))) old)
+
+pub choices_cut : (variables : ℕ) (a T : List Literal) (R : List (Option ℕ)) (n : ℕ) → AreChoices variables a T R → AreChoices variables a (take n T) (take n R)
+choices_cut variables a T R n choices p within none =
+    let below : p < n = omega (arith, within, length-take n T) in
+    let inside : p < length T = omega (arith, within, length-take n T) in
+    let old : IsChoice variables a (take p T) (lit_at T p) = choices p inside (sym (get_or-take n R p None below) ∙ none) in
+    subst (λ (V : List Literal). IsChoice variables a V (lit_at (take n T) p)) (sym (take-take p n T (omega arith)))
+    (subst (λ (l : Literal). IsChoice variables a (take p T) l) (sym (get_or-take n T p no_literal below)) old)
+
+pub choices_push : (variables : ℕ) (a T : List Literal) (R : List (Option ℕ)) (l : Literal) → length R ≡ length T → IsChoice variables a T l → AreChoices variables a T R → AreChoices variables a (T ++ l ∷ []) (R ++ None ∷ [])
+choices_push variables a T R l len choice choices p within none = ⊎_elim
+    (λ lt.
+    let old : IsChoice variables a (take p T) (lit_at T p) = choices p lt (sym (get_or_append_left R (None ∷ []) None p (omega (arith, lt, len))) ∙ none) in
+    subst (λ (V : List Literal). IsChoice variables a V (lit_at (T ++ l ∷ []) p)) (sym (front p (omega (arith, lt))))
+    (subst (λ (m : Literal). IsChoice variables a (take p T) m) (sym (get_or_append_left T (l ∷ []) no_literal p lt)) old))
+    (λ ge.
+    let at : p ≡ length T = omega (arith, ge, within, length_push T l) in
+    subst (λ (q : ℕ). IsChoice variables a (take q (T ++ l ∷ [])) (lit_at (T ++ l ∷ []) q)) (sym at)
+    (subst (λ (V : List Literal). IsChoice variables a V (lit_at (T ++ l ∷ []) (length T))) (sym (take-append_seam T (l ∷ [])))
+    (subst (λ (m : Literal). IsChoice variables a T m) (sym (get_or-append_seam T l [] no_literal)) choice)))
+    (cases_lt p (length T))
+  where
+    front : (p : ℕ) → p ≤ length T → take p (T ++ l ∷ []) ≡ take p T
+    front p le = sym (take-take p (length T) (T ++ l ∷ []) le) ∙ ap (take p) (take-append_seam T (l ∷ []))
+
+-- propagation
+pub underway_extends : (a : List Literal) (s t : Watching) (taken : ℕ) (c : State) → KeepsFacts s → KeepsFacts t → Extends s t → IsUnderway a s taken c → IsUnderway a t taken c
+underway_extends a s t taken c facts facts' e u = record {
+  taken_are = taken_same s.clauses t.clauses taken (clause_at c.clauses) e.clauses u.taken_are;
+  all = u.all;
+  room = omega (arith, u.room, e.variables);
+  choices = choices_extend c.variables a s.trail t.trail s.reasons t.reasons facts.trail.same_length facts'.trail.same_length e.trail e.reasons e.level u.choices;
+  begun = u.begun;
+  awake = u.awake;
+}
+
+-- going back
+pub underway_back : (a : List Literal) (s t : Watching) (taken : ℕ) (c : State) (level : ℕ) → t ≡ after_back level s → IsUnderway a s taken c → IsUnderway a t taken c
+underway_back a s t taken c level is u = subst (λ (x : Watching). IsUnderway a x taken c) (sym is) (record {
+  taken_are = u.taken_are;
+  all = u.all;
+  room = u.room;
+  choices = choices_cut c.variables a s.trail s.reasons (kept level s.reasons) u.choices;
+  begun = u.begun;
+  awake = u.awake;
+})
+
+-- deciding
+pub underway_decide : (a : List Literal) (s t : Watching) (taken : ℕ) (c : State) (l : Literal) → KeepsFacts s → t ≡ record s { trail = s.trail ++ l ∷ []; reasons = s.reasons ++ None ∷ []; settled = false } → IsChoice c.variables a s.trail l → IsUnderway a s taken c → IsUnderway a t taken c
+underway_decide a s t taken c l facts is choice u = subst (λ (x : Watching). IsUnderway a x taken c) (sym is) (record {
+  taken_are = u.taken_are;
+  all = u.all;
+  room = u.room;
+  choices = choices_push c.variables a s.trail s.reasons l facts.trail.same_length choice u.choices;
+  begun = u.begun;
+  awake = u.awake;
+})
+
+-- learning
+pub underway_learn : (a : List Literal) (s t : Watching) (taken number : ℕ) (c d : State) (lits : List Literal) → AddsNext s t taken number lits → d ≡ after_learn c lits → IsUnderway a s taken c → IsUnderway a t number d
+underway_learn a s t taken number c d lits adds is u = subst (λ (x : State). IsUnderway a t number x) (sym is) (record {
+  taken_are = taken_next s t taken number lits (clause_at (c.clauses ++ kept_as Learnt lits ∷ [])) adds
+      (taken_longer s.clauses taken c.clauses (kept_as Learnt lits ∷ []) u.taken_are)
+      (clause_at-end c.clauses (kept_as Learnt lits) (taken + 1) (ap (λ (n : ℕ). n + 1) u.all));
+  all = omega (arith, adds.next, u.all, length_push c.clauses (kept_as Learnt lits));
+  room = omega (arith, u.room, adds.adds.variables);
+  choices = subst (λ (T : List Literal). AreChoices c.variables a T t.reasons) (sym adds.adds.trail)
+      (subst (λ (R : List (Option ℕ)). AreChoices c.variables a s.trail R) (sym adds.adds.reasons) u.choices);
+  begun = u.begun;
+  awake = u.awake;
+})
+
+-- the start
+pub back_level_none : (s t : Watching) → t ≡ after_back 0 s → decided t.reasons ≡ 0
+back_level_none s t is = ap (λ (x : Watching). decided x.reasons) is ∙ decided-kept 0 s.reasons (omega arith)
+
+pub begun_taken : (s t u : Watching) (taken : ℕ) (live : ℕ → Option (List Literal)) (v : ℕ) → t ≡ record s { variables = v } → u ≡ after_back 0 t → AreTaken s.clauses taken live → AreTaken u.clauses taken live
+begun_taken s t u taken live v t_is u_is are =
+    subst (λ (cs : List (Option Rattle.ba_watch.specs.Threads.Clause)). AreTaken cs taken live) (sym (ap (λ (x : Watching). x.clauses) u_is ∙ ap (λ (x : Watching). x.clauses) t_is)) are
+
+no_choices : (variables : ℕ) (a T : List Literal) (R : List (Option ℕ)) → length R ≡ length T → decided R ≡ 0 → AreChoices variables a T R
+no_choices variables a T R len none p within is =
+    absurd (omega (arith, none, decided-take_none p R (omega (arith, within, len)) is, decided-take_drop (p + 1) R))
+
+pub underway_begin : (a : List Literal) (s t u : Watching) (taken : ℕ) (c : State) → t ≡ record s { variables = max s.variables c.variables } → u ≡ after_back 0 t → KeepsFacts u
+    → AreTaken s.clauses taken (clause_at c.clauses) → taken ≡ length c.clauses → c.ended ≡ false → c.refused ≡ false → IsUnderway a u taken c
+underway_begin a s t u taken c t_is u_is facts are all begun awake = record {
+  taken_are = begun_taken s t u taken (clause_at c.clauses) _ t_is u_is are;
+  all = all;
+  room = omega (arith, ap (λ (x : Watching). x.variables) u_is, ap (λ (x : Watching). x.variables) t_is, most s.variables c.variables);
+  choices = no_choices c.variables a u.trail u.reasons facts.trail.same_length (back_level_none t u u_is);
+  begun = begun;
+  awake = awake;
+}
+  where
+    most : (m n : ℕ) → n ≤ max m n
+    most m n = omega arith
+
+-- learning after going back
+pub underway_jump : (a : List Literal) (s r t : Watching) (taken taken' number : ℕ) (c d : State) (lits : List Literal) (back : ℕ) → r ≡ s → taken' ≡ taken → AddsNext (after_back back r) t taken' number lits → d ≡ after_learn c lits → IsUnderway a s taken c → IsUnderway a t number d
+underway_jump a s r t taken taken' number c d lits back r_is taken_is adds is u =
+    underway_learn a (after_back back s) t taken number c d lits
+    (subst (λ (n : ℕ). AddsNext (after_back back s) t n number lits) taken_is (subst (λ (x : Watching). AddsNext (after_back back x) t taken' number lits) r_is adds))
+    is (underway_back a s (after_back back s) taken c back refl u)
+
+-- the same watch and number
+pub underway_moved : (a : List Literal) (s t : Watching) (taken number : ℕ) (c : State) → t ≡ s → number ≡ taken → IsUnderway a s taken c → IsUnderway a t number c
+underway_moved a s t taken number c t_is number_is u =
+    subst (λ (n : ℕ). IsUnderway a t n c) (sym number_is) (subst (λ (x : Watching). IsUnderway a x taken c) (sym t_is) u)

@@ -1,0 +1,9 @@
+use Rattle.std.proofs.Common.{◌≡◌}
+use Rattle.ba_search.proofs.engine.Engine.reward.Given as goal
+
+abbrev pub invariant-loop-number : goal.invariant-loop-number
+invariant-loop-number l = record {
+  watch : l.self.watch ≡ l.initial.self.watch;
+  taken : l.self.taken ≡ l.initial.self.taken;
+  since : l.self.since ≡ l.initial.self.since;
+}

@@ -1,0 +1,46 @@
+use Rattle.std.proofs.Common.{ℕ, max, ap, ◌∙◌, refl, arith}
+use Rattle.ba_steps.specs.States.{State}
+use Rattle.ba_search.proofs.UnderwayLaws.{underway_moved, underway_begin}
+use Rattle.ba_search.proofs.StepLaws.{puts_none, puts_then}
+use Rattle.ba_search.proofs.engine.Engine.search.Goals as goal
+
+pub turns-init : goal.turns-init
+turns-init g c =
+    let s = c.args.self.now.watch in
+    let k = c.args.checked.now.checker in
+    record {
+      underway = underway_moved c.args.assumptions.now c.go_back.new.self.watch c.go_back.new.self.watch c.args.self.now.taken c.go_back.new.self.taken k refl (c.go_back.ensures.taken ∙ c.grow.ensures.taken)
+          (underway_begin c.args.assumptions.now s c.grow.new.self.watch c.go_back.new.self.watch c.args.self.now.taken k
+          (c.in_ok-grow.ensures.ok ∙ ap (λ (v : ℕ). record s { variables = max s.variables v }) (c.variables.ensures.variables ∙ ap (λ (x : State). x.variables) c.checker.ensures))
+          c.go_back.ensures.watch c.keeps_facts.ensures c.requires.taken c.requires.all c.requires.begun c.requires.awake);
+      variables = refl;
+      puts = puts_none (g.J.RunJudge.accepts c.args.checked.now.judge) k (g.S.StepSink.logs c.args.checked.now.sink);
+      fresh = c.requires.fresh;
+      judge = refl;
+      over = refl;
+      no_fall = omega arith;
+      references = refl;
+    }
+
+pub returns-in-Some-clause-puts : goal.returns-in-Some-clause-puts
+returns-in-Some-clause-puts g c =
+    puts_then (g.J.RunJudge.accepts c.args.checked.now.judge) (g.J.RunJudge.accepts c.turns.checked.judge) c.args.checked.now.checker c.turns.checked.checker c.turn.new.checked.checker
+    (g.S.StepSink.logs c.args.checked.now.sink) (g.S.StepSink.logs c.turns.checked.sink) (g.S.StepSink.logs c.turn.new.checked.sink)
+    (ap g.J.RunJudge.accepts c.turns.invariant.judge) c.turns.invariant.puts c.in_ok-answer.ensures.puts
+
+pub turns-preserved : goal.turns-preserved
+turns-preserved g c =
+    let i = c.turns.invariant in
+    let t = c.in_ok-answer.ensures in
+    record {
+      underway = t.underway;
+      variables = t.variables ∙ i.variables;
+      puts = puts_then (g.J.RunJudge.accepts c.args.checked.now.judge) (g.J.RunJudge.accepts c.turns.checked.judge) c.args.checked.now.checker c.turns.checked.checker c.turn.new.checked.checker
+          (g.S.StepSink.logs c.args.checked.now.sink) (g.S.StepSink.logs c.turns.checked.sink) (g.S.StepSink.logs c.turn.new.checked.sink)
+          (ap g.J.RunJudge.accepts i.judge) i.puts t.puts;
+      fresh = t.fresh;
+      judge = t.judge_stays ∙ i.judge;
+      over = t.over_stays ∙ i.over;
+      no_fall = omega (arith, t.no_fall, i.no_fall);
+      references = t.same_references ∙ i.references;
+    }

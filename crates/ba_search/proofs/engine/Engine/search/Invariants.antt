@@ -1,0 +1,18 @@
+use Rattle.std.proofs.Common.{◌≡◌, ◌≤◌, None}
+use Rattle.ba_search.specs.Turns.{IsUnderway, Puts, turns_left}
+use Rattle.ba_search.proofs.engine.Engine.search.Given as goal
+
+abbrev pub invariant-turns : goal.invariant-turns
+invariant-turns g l = record {
+  underway : IsUnderway l.assumptions l.self.watch l.self.taken l.checked.checker;
+  variables : l.checked.checker.variables ≡ l.initial.checked.checker.variables;
+  puts : Puts (g.J.RunJudge.accepts l.initial.checked.judge) l.initial.checked.checker l.checked.checker (g.S.StepSink.logs l.initial.checked.sink) (g.S.StepSink.logs l.checked.sink);
+  fresh : l.checked.refusal ≡ None;
+  judge : l.checked.judge ≡ l.initial.checked.judge;
+  over : g.S.StepSink.over l.checked.sink ≡ g.S.StepSink.over l.initial.checked.sink;
+  no_fall : g.S.StepSink.faults l.initial.checked.sink ≤ g.S.StepSink.faults l.checked.sink;
+  references : g.S.StepSink.references l.checked.sink ≡ g.S.StepSink.references l.initial.checked.sink;
+}
+
+abbrev pub decreases-turns : goal.decreases-turns
+decreases-turns g l = turns_left l.checked.checker l.self.since l.self.watch

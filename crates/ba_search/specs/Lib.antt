@@ -1,0 +1,5 @@
+pub mod Rules
+pub mod Searching
+pub mod Answers
+pub mod Choices
+pub mod Turns

@@ -1,0 +1,13 @@
+//! Search for a model under assumptions, by conflict-driven clause learning.
+//!
+//! The search decides, propagates, and learns a clause from each conflict (J. Marques-Silva, K. Sakallah, GRASP: A New
+//! Search Algorithm for Satisfiability; M. Moskewicz, C. Madigan, Y. Zhao, L. Zhang, S. Malik, Chaff: Engineering an
+//! Efficient SAT Solver; N. Een, N. Sorensson, An Extensible SAT-solver). Every clause that it learns passes
+//! a checker of derivations before it is used.
+#![tactic(auto)]
+
+mod engine;
+mod order;
+mod search;
+
+pub use search::{Answer, Search, SearchError};
