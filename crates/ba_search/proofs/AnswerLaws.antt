@@ -220,4 +220,3 @@ module _ (a : List Literal) (s : Watching) (taken : ℕ) (c : State) (formed : F
     assumed = All-from_get_or (λ (l : Literal). lit_true (assignment_of (values_of s.trail c.variables)) l ≡ true) a no_literal
         (λ k k_in. true_literal s.trail c.variables (lit_at a k) (are.counted k k_in) (are.within k k_in) (true_ k k_in));
   })
-

@@ -72,7 +72,7 @@ impl Engine {
     }
 
     /// Takes the literals of the levels above one off the trail.
-    pub fn go_back(&mut self, level: usize)
+    fn go_back(&mut self, level: usize)
         requires { level ≤ decided self.old.watch.reasons }
         ensures watch { self.new.watch ≡ after_back level self.old.watch }
         ensures taken { self.new.taken ≡ self.old.taken }
@@ -120,7 +120,7 @@ impl Engine {
     /// Adds the next clause of a checker.
     ///
     /// The one error is want of memory or of room.
-    pub fn take_next(&mut self, checker: &Checker) -> Result<(), AllocError>
+    fn take_next(&mut self, checker: &Checker) -> Result<(), AllocError>
         requires level { decided self.old.watch.reasons ≡ 0 }
         requires taken { AreTaken self.old.watch.clauses self.old.taken (clause_at checker.now.clauses) }
         ensures level { OnOk result (decided self.new.watch.reasons ≡ 0) }
@@ -242,7 +242,7 @@ impl Engine {
         ensures taken { self.new.taken ≡ self.old.taken }
         ensures since { self.new.since ≡ self.old.since }
     {
-        if checker.conflicts() == checker.budget() {
+        if is_spent(checker) {
             return Ok(Some(Answer::Spent));
         }
         if self.watch.level() > 0 {
@@ -396,7 +396,7 @@ impl Engine {
             self.decide(assumption);
             return Ok(None);
         }
-        if checker.conflicts() == checker.budget() {
+        if is_spent(checker) {
             return Ok(Some(Answer::Spent));
         }
         let core = self.analyser.core_of(&self.watch, assumption)?;
@@ -430,6 +430,14 @@ impl Engine {
         let model = model_of(self.alloc, &self.watch, variables)?;
         Ok(Some(Answer::Model(model)))
     }
+}
+
+/// Whether no conflict may follow.
+fn is_spent(checker: &Checker) -> bool
+    ensures spent { result ≡ true → checker.now.conflicts ≡ checker.now.budget }
+    ensures left { result ≡ false → checker.now.conflicts < checker.now.budget }
+{
+    checker.conflicts() == checker.budget()
 }
 
 /// Puts a learnt clause as a step.

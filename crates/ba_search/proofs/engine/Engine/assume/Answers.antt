@@ -2,9 +2,6 @@ use Rattle.std.proofs.Common.{◌≡◌, ◌≢◌, ℕ, ◌≤◌, ◌<◌, Boo
 use Rattle.ba_search.proofs.AnswerLaws.{assumed_within, core_reason_some, core_answer}
 use Rattle.ba_search.proofs.engine.Engine.assume.Goals as goal
 
-under : (m n i j : ℕ) → m ≡ i → n ≡ j → m ≤ j → (m ≡ n → ⊥) → i < j
-under m n i j a b le ne = grind arith
-
 -- a value that is there and not true is false
 is_false : (o v : Option Bool) (b : Bool) → o ≡ v → is_some o ≡ not b → b ≡ false → v ≢ Some true → v ≡ Some false
 is_false o None b e some absent untrue = absurd (step (ap is_some e ∙ refl) some absent)
@@ -42,4 +39,4 @@ returns-clause-answer c =
     core_answer c.args.assumptions.now c.args.self.now.watch c.args.self.now.taken c.args.checker.now c.keeps_facts.ensures c.requires.underway c.requires.assumptions c.args.assumption c.requires.one
     (is_false c.value.result _ c.is_none.result c.value.ensures c.is_none.ensures c.if-is_none.false c.requires.untrue)
     c.in_ok-core.core.lits c.in_ok-core.core.hints c.in_ok-core.core.back c.in_ok-core.ensures.clause c.in_ok-core.ensures.follows c.in_ok-core.ensures.core c.in_ok-core.ensures.back
-    (under c.conflicts.result c.budget.result c.args.checker.now.conflicts c.args.checker.now.budget c.conflicts.ensures.conflicts c.budget.ensures c.conflicts.ensures.within c.if-conflicts-budget.false)
+    (c.is_spent.ensures.left c.if-is_spent.false)
