@@ -1,0 +1,3 @@
+pub mod DerivesLaws
+pub mod LeastLaws
+pub mod CoreLaws

@@ -1,0 +1,38 @@
+use Rattle.std.proofs.Common.{arith, ap, length}
+use Rattle.ba_steps.specs.States.{State}
+use Rattle.ba_cores.proofs.CoreLaws.{core_formed, core_allowed, part_after_core}
+use Rattle.ba_cores.proofs.DerivesLaws.{puts_core, core_fewer, on_ok}
+use Rattle.ba_cores.specs.Rounds.{literals_of}
+use Rattle.ba_cores.proofs.rounds.put_core.Goals as goal
+
+pub put-requires-clause-formed : goal.put-requires-clause-formed
+put-requires-clause-formed g c =
+    let s = c.args.checked.now.checker in
+    core_formed s (literals_of s.softs) c.args.core.lits c.args.core.hints c.args.core.back c.requires.core
+    (omega (arith, c.keeps_facts.ensures.few, ap (λ (s : State). s.variables) c.checker.ensures))
+    (omega (arith, c.if-last.false, c.last.ensures, ap (λ (s : State). length s.clauses) c.checker-2.ensures))
+    c.requires.some
+
+pub put-requires-clause-allowed : goal.put-requires-clause-allowed
+put-requires-clause-allowed g c = λ fresh awake.
+    core_allowed (g.J.RunJudge.accepts c.args.checked.now.judge) c.args.checked.now.checker c.args.core.lits c.args.core.hints c.args.core.back c.requires.core c.requires.ready
+
+pub take_new-requires : goal.take_new-requires
+take_new-requires g c = record { part = part_after_core c.args.checked.now.checker c.put.new.self.checker c.args.core.lits c.args.core.hints c.in_default.ensures.taken c.requires.same }
+
+pub returns-clause-puts : goal.returns-clause-puts
+returns-clause-puts g c =
+    let s = c.args.checked.now.checker in
+    on_ok c.take_new.result
+    (puts_core (g.J.RunJudge.accepts c.args.checked.now.judge) s c.put.new.self.checker c.args.core.lits c.args.core.hints (g.S.StepSink.logs c.args.checked.now.sink) (g.S.StepSink.logs c.put.new.self.sink)
+    (core_formed s (literals_of s.softs) c.args.core.lits c.args.core.hints c.args.core.back c.requires.core
+    (omega (arith, c.keeps_facts.ensures.few, ap (λ (s : State). s.variables) c.checker.ensures))
+    (omega (arith, c.if-last.false, c.last.ensures, ap (λ (s : State). length s.clauses) c.checker-2.ensures))
+    c.requires.some)
+    (core_allowed (g.J.RunJudge.accepts c.args.checked.now.judge) s c.args.core.lits c.args.core.hints c.args.core.back c.requires.core c.requires.ready)
+    c.in_default.ensures.taken c.in_default.ensures.told)
+
+pub returns-clause-fewer : goal.returns-clause-fewer
+returns-clause-fewer g c =
+    on_ok c.take_new.result
+    (core_fewer c.args.checked.now.checker c.put.new.self.checker c.args.core.lits c.args.core.hints c.requires.core.left c.in_default.ensures.taken)

@@ -1,0 +1,54 @@
+use Rattle.std.proofs.Common.{◌≡◌, List, ap, sym, subst, ◌∙◌}
+use Rattle.std.proofs.lemmas.Result.{IfOk-weaker, on_ok_weaker}
+use Rattle.ba_lits.specs.Literals.{Literal}
+use Rattle.ba_steps.specs.States.{State}
+use Rattle.ba_search.specs.Answers.{IsAnswer}
+use Rattle.ba_cores.specs.Rounds.{literals_of}
+use Rattle.ba_cores.proofs.DerivesLaws.{puts_on, puts_learns, puts_ready, puts_softs, puts_as, round_as}
+use Rattle.ba_cores.proofs.CoreLaws.{softs_assumed}
+use Rattle.ba_cores.proofs.rounds.round.Goals as goal
+
+pub solve-requires-clause-assumptions : goal.solve-requires-clause-assumptions
+solve-requires-clause-assumptions g c =
+    softs_assumed c.args.checked.now.checker.variables c.checker.result.now.variables c.softs.result.now c.as_slice.result.now
+    (c.as_slice.ensures.value ∙ c.in-Ok.ensures)
+    (ap (λ (s : State). s.variables) c.checker.ensures)
+    c.softs.ensures.among c.softs.ensures.differ
+
+pub take_answer-requires-clause-answer : goal.take_answer-requires-clause-answer
+take_answer-requires-clause-answer g c =
+    let new = c.solve.new.checked.checker in
+    let steps = c.in_ok-answer.ensures.steps in
+    let softs : literals_of new.softs ≡ literals_of c.args.checked.now.checker.softs = ap literals_of (puts_softs (g.J.RunJudge.accepts c.args.checked.now.judge) c.args.checked.now.checker new steps.0 steps.1) in
+    let old : c.softs.result.now ≡ c.args.checked.now.checker.softs = c.softs.ensures.softs ∙ ap (λ (s : State). s.softs) c.checker.ensures in
+    let assumed : c.as_slice.result.now ≡ literals_of new.softs = c.as_slice.ensures.value ∙ c.in-Ok.ensures ∙ ap literals_of old ∙ sym softs in
+    subst (λ (a : List Literal). IsAnswer new a c.in_ok-answer.answer) assumed c.in_ok-answer.ensures.answer
+
+pub take_answer-requires-clause-ready : goal.take_answer-requires-clause-ready
+take_answer-requires-clause-ready g c =
+    puts_ready (g.J.RunJudge.accepts c.args.checked.now.judge) c.args.checked.now.checker c.solve.new.checked.checker (g.S.StepSink.logs c.args.checked.now.sink) (g.S.StepSink.logs c.solve.new.checked.sink)
+    (puts_learns (g.J.RunJudge.accepts c.args.checked.now.judge) c.args.checked.now.checker c.solve.new.checked.checker (g.S.StepSink.logs c.args.checked.now.sink) (g.S.StepSink.logs c.solve.new.checked.sink) c.in_ok-answer.ensures.steps)
+    c.requires.ready
+
+pub returns-clause-found : goal.returns-clause-found
+returns-clause-found g c =
+    let good = g.J.RunJudge.accepts c.args.checked.now.judge in
+    let old = c.args.checked.now in
+    let mid = c.solve.new.checked in
+    let puts = puts_learns good old.checker mid.checker (g.S.StepSink.logs old.sink) (g.S.StepSink.logs mid.sink) c.in_ok-answer.ensures.steps in
+    IfOk-weaker c.take_answer.result _ _
+    (λ found ends. round_as good (g.J.RunJudge.accepts mid.judge) old.checker mid.checker c.take_answer.new.checked.checker (g.S.StepSink.logs old.sink) (g.S.StepSink.logs mid.sink) found
+    (ap g.J.RunJudge.accepts c.in_ok-answer.ensures.judge_stays) puts ends)
+    c.take_answer.ensures.found
+
+pub returns-clause-puts : goal.returns-clause-puts
+returns-clause-puts g c =
+    let good = g.J.RunJudge.accepts c.args.checked.now.judge in
+    let old = c.args.checked.now in
+    let mid = c.solve.new.checked in
+    let new = c.take_answer.new.checked in
+    let puts = puts_learns good old.checker mid.checker (g.S.StepSink.logs old.sink) (g.S.StepSink.logs mid.sink) c.in_ok-answer.ensures.steps in
+    on_ok_weaker c.take_answer.result
+    (λ more. puts_on good old.checker mid.checker new.checker (g.S.StepSink.logs old.sink) (g.S.StepSink.logs mid.sink) (g.S.StepSink.logs new.sink) puts
+    (puts_as (g.J.RunJudge.accepts mid.judge) good mid.checker new.checker (g.S.StepSink.logs mid.sink) (g.S.StepSink.logs new.sink) (ap g.J.RunJudge.accepts c.in_ok-answer.ensures.judge_stays) more))
+    c.take_answer.ensures.puts

@@ -1,0 +1,31 @@
+-- Derivations by Learn and Core steps, and where they start.
+
+use Rattle.std.specs.Prelude.{◌≡◌, ℕ, None, Some, List, [], ◌∷◌, All}
+use Rattle.ba_lits.specs.Literals.{Literal}
+use Rattle.ba_lits.specs.Satisfaction.{Soft}
+use Rattle.ba_lits.specs.Formulas.{Cnf}
+use Rattle.ba_learn.specs.Live.{IsNew}
+use Rattle.ba_steps.specs.States.{State, clause_at, first_state}
+use Rattle.ba_steps.specs.Judging.{Judge, error_of, after, after_all}
+use Rattle.ba_steps.specs.Steps.{IsFormed}
+use Rattle.ba_steps.specs.Facts.{IsStart}
+use Rattle.ba_steps.specs.declared.step.CertStep.{CertStep}
+use Rattle.ba_steps.specs.declared.step.CertStep.TheVariants.{Learn, Core}
+
+-- Learn and Core steps lead from one state of a checker to another: each has the form that its text asks for and is allowed,
+-- and the clause of a Learn step is new to propagation for the clauses that are live at that moment
+pub data Derives (good : Judge) : State → List CertStep → State → Type 0 where
+  derives_none : (s : State) → Derives good s [] s
+  derives_learn : (s t : State) (lits : List Literal) (hints : List ℕ) (steps : List CertStep) → IsFormed (Learn lits hints) →
+      error_of good s (Learn lits hints) ≡ None → IsNew (clause_at s.clauses) lits → Derives good (after s (Learn lits hints)) steps t → Derives good s (Learn lits hints ∷ steps) t
+  derives_core : (s t : State) (lits : List Literal) (hints : List ℕ) (steps : List CertStep) → IsFormed (Core lits hints) →
+      error_of good s (Core lits hints) ≡ None → Derives good (after s (Core lits hints)) steps t → Derives good s (Core lits hints ∷ steps) t
+
+-- allowed steps lead to the state from a formula with soft literals
+pub record IsReached (good : Judge) (formula : Cnf) (softs : List Soft) (s : State) : Type 0 where
+  pub start : IsStart formula softs
+  pub conflicts : ℕ
+  pub sets : ℕ
+  pub steps : List CertStep
+  pub formed : All IsFormed steps
+  pub reached : after_all good (first_state formula softs conflicts sets) steps ≡ Some s

@@ -1,0 +1,3 @@
+pub mod Derivations
+pub mod Findings
+pub mod Rounds

@@ -1,0 +1,43 @@
+-- The rounds of the search for the least cost.
+
+use Rattle.std.specs.Prelude.{◌≡◌, ◌-◌, ◌<◌, false, Option, None, Some, List, [], map}
+use Rattle.ba_lits.specs.Literals.{Literal}
+use Rattle.ba_lits.specs.Satisfaction.{Soft}
+use Rattle.ba_steps.specs.States.{State}
+use Rattle.ba_steps.specs.Judging.{Judge}
+use Rattle.ba_steps.specs.Sinks.{Logs}
+use Rattle.ba_steps.specs.declared.step.CertStep.{CertStep}
+use Rattle.ba_steps.specs.declared.sink.SinkError.{SinkError}
+use Rattle.ba_steps.specs.declared.sink.SinkError.TheVariants as refusals
+use Rattle.ba_search.specs.Searching.{with_steps}
+use Rattle.ba_search.specs.declared.search.SearchError.{SearchError}
+use Rattle.ba_search.specs.declared.search.SearchError.TheVariants.{SinkFailed, Memory}
+use Rattle.ba_cores.specs.Derivations.{Derives}
+use Rattle.ba_cores.specs.Findings.{IsFound}
+use Rattle.ba_cores.specs.declared.costs.Found.{Found}
+
+-- the soft literals without their weights
+abbrev pub literals_of : List Soft → List Literal
+literals_of softs = map (λ (s : Soft). s.0) softs
+
+-- a checker that takes Core steps
+pub record IsReady (s : State) : Type 0 where
+  pub begun : s.ended ≡ false
+  pub awake : s.refused ≡ false
+  pub none_blocked : s.sets ≡ []
+
+-- Learn and Core steps were put
+pub record Puts (good : Judge) (old new : State) (old_logs new_logs : Logs) : Type 0 where
+  pub steps : List CertStep
+  pub derives : Derives good old steps new
+  pub logs : new_logs ≡ with_steps steps old_logs
+
+-- what a round comes to: what is found; or nothing, and then fewer conflicts are left
+abbrev pub EndsRound : Judge → State → State → Option Found → Type 0
+EndsRound good old new (Some found) = IsFound good old new found
+EndsRound good old new None = new.budget - new.conflicts < old.budget - old.conflicts
+
+-- the error of a search whose sink refuses
+abbrev pub error_of_sink : SinkError → SearchError
+error_of_sink refusals.Failed = SinkFailed
+error_of_sink refusals.Memory = Memory

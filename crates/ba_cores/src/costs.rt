@@ -1,0 +1,76 @@
+//! The least cost.
+
+ghost use Rattle.std.specs.Prelude.{◌≡◌, ◌≤◌, ◌⊎◌, ℕ, [], None, Some, false, List, IfOk, OnOk, Err};
+ghost use Rattle.ba_learn.specs.Live.{AreLive};
+ghost use Rattle.ba_steps.specs.States.{clause_at};
+ghost use Rattle.ba_steps.specs.Sinks.{Rose};
+ghost use Rattle.ba_steps.specs.declared.step.CertStep.{CertStep};
+ghost use Rattle.ba_search.specs.Rules.{IsRestartRule};
+ghost use Rattle.ba_search.specs.Searching.{with_steps};
+ghost use Rattle.ba_search.specs.declared.search.SearchError.{SearchError};
+ghost use Rattle.ba_cores.specs.Derivations.{Derives};
+ghost use Rattle.ba_cores.specs.Findings.{IsFound};
+
+use crate::rounds::round;
+use ba_items::Items;
+use ba_lits::Model;
+use ba_search::{Search, SearchError};
+use ba_steps::{Checked, RunJudge, StepSink};
+use std::alloc::Global;
+
+/// What the least cost is.
+#[derive(Drop)]
+pub enum Found {
+    /// The least cost of the formula's models, and a model of that cost.
+    Least { weight: u64, model: Model },
+    /// There is no model: the empty clause follows by these hints.
+    NoModel { hints: Items<u64> },
+    /// The stated number of conflicts is spent.
+    Spent,
+}
+
+/// The least cost of the models of the formula that the checker started from: the sum of the weights of its soft
+/// literals that are false. Learn and Core steps are put on the way.
+///
+/// `SinkFailed` comes only where the sink's faults rose, or the search answered it before; `Memory` for want of memory.
+pub fn least<S, J, R, K>(
+    alloc: Global,
+    search: &mut Search<R, K>,
+    checked: &mut Checked<S, J>,
+) -> Result<Found, SearchError>
+where
+    S: StepSink + Drop,
+    J: RunJudge + Drop,
+    R: Fn(u64) -> u64 + Drop,
+    K: Fn(u64, u64) -> bool + Drop,
+    requires restart { IsRestartRule (R.pre search.old.restart) (R.post search.old.restart) }
+    requires same { AreLive search.old.clauses (clause_at checked.old.checker.clauses) }
+    requires begun { checked.old.checker.ended ≡ false }
+    requires awake { checked.old.checker.refused ≡ false }
+    requires fresh { checked.old.refusal ≡ None }
+    requires none_blocked { checked.old.checker.sets ≡ [] }
+    ensures found { IfOk result (λ found. IsFound (J.accepts checked.old.judge) checked.old.checker checked.new.checker found) }
+    ensures same { OnOk result (AreLive search.new.clauses (clause_at checked.new.checker.clauses)) }
+    ensures steps { OnOk result ((steps : List CertStep)
+        × Derives (J.accepts checked.old.judge) checked.old.checker steps checked.new.checker
+        × (S.logs checked.new.sink ≡ with_steps steps (S.logs checked.old.sink))) }
+    ensures stays_fresh { OnOk result ((search.new.failure ≡ None) × (checked.new.refusal ≡ None)) }
+    ensures awake { OnOk result (checked.new.checker.refused ≡ false) }
+    ensures restart_stays { search.new.restart ≡ search.old.restart }
+    ensures keep_stays { search.new.keep ≡ search.old.keep }
+    ensures again { (error : SearchError) → search.old.failure ≡ Some error
+        → (result ≡ Err error) × (search.new ≡ search.old) × (checked.new ≡ checked.old) }
+    ensures cause { result ≡ Err SearchError.SinkFailed
+        → (search.old.failure ≡ Some SearchError.SinkFailed) ⊎ Rose (S.faults checked.old.sink) (S.faults checked.new.sink) }
+    ensures judge_stays { checked.new.judge ≡ checked.old.judge }
+    ensures over_stays { S.over checked.new.sink ≡ S.over checked.old.sink }
+    ensures no_fall { S.faults checked.old.sink ≤ S.faults checked.new.sink }
+    ensures same_references { S.references checked.new.sink ≡ S.references checked.old.sink }
+{
+    search.take_new(checked)?;
+    'rounds: loop {
+        if let Some(found) = round(alloc, search, checked)? {
+            return Ok(found);
+        }
+    }
+}

@@ -1,0 +1,14 @@
+//! The least cost of a formula's models, guided by cores.
+//!
+//! The present soft literals are assumed; each core that comes back raises the lower bound and is split, until a model
+//! satisfies what is left of them (Z. Fu, S. Malik, On Solving the Partial MAX-SAT Problem; N. Narodytska, F. Bacchus,
+//! Maximum Satisfiability Using Core-Guided MaxSAT Resolution).
+#![tactic(auto)]
+
+mod costs;
+mod rounds;
+
+pub use costs::{Found, least};
+
+#[cfg(test)]
+mod tests;
