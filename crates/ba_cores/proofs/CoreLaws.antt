@@ -121,7 +121,7 @@ kept_at-more [] ys k c is = absurd (cc is)
 kept_at-more (x ∷ xs) ys zero c is = is
 kept_at-more (x ∷ xs) ys (suc k) c is = kept_at-more xs ys k c is
 
-clause_at-more : (xs ys : List Kept) (number : ℕ) (c : List Literal) → clause_at xs number ≡ Some c → clause_at (xs ++ ys) number ≡ Some c
+pub clause_at-more : (xs ys : List Kept) (number : ℕ) (c : List Literal) → clause_at xs number ≡ Some c → clause_at (xs ++ ys) number ≡ Some c
 clause_at-more xs ys zero c is = absurd (cc is)
 clause_at-more xs ys (suc k) c is = kept_at-more xs ys k c is
 

@@ -1,7 +1,7 @@
 -- The rounds of the search for the least cost.
 
-use Rattle.std.specs.Prelude.{◌≡◌, ◌-◌, ◌<◌, false, Option, None, Some, List, [], map}
-use Rattle.ba_lits.specs.Literals.{Literal}
+use Rattle.std.specs.Prelude.{◌≡◌, ◌-◌, ◌<◌, false, Option, None, Some, List, [], map, reverse}
+use Rattle.ba_lits.specs.Literals.{Literal, negate}
 use Rattle.ba_lits.specs.Satisfaction.{Soft}
 use Rattle.ba_steps.specs.States.{State}
 use Rattle.ba_steps.specs.Judging.{Judge}
@@ -9,7 +9,9 @@ use Rattle.ba_steps.specs.Sinks.{Logs}
 use Rattle.ba_steps.specs.declared.step.CertStep.{CertStep}
 use Rattle.ba_steps.specs.declared.sink.SinkError.{SinkError}
 use Rattle.ba_steps.specs.declared.sink.SinkError.TheVariants as refusals
+use Rattle.ba_learn.specs.declared.learnt.Learnt.{Learnt}
 use Rattle.ba_search.specs.Searching.{with_steps}
+use Rattle.ba_search.specs.Answers.{IsCore}
 use Rattle.ba_search.specs.declared.search.SearchError.{SearchError}
 use Rattle.ba_search.specs.declared.search.SearchError.TheVariants.{SinkFailed, Memory}
 use Rattle.ba_cores.specs.Derivations.{Derives}
@@ -19,6 +21,10 @@ use Rattle.ba_cores.specs.declared.costs.Found.{Found}
 -- the soft literals without their weights
 abbrev pub literals_of : List Soft → List Literal
 literals_of softs = map (λ (s : Soft). s.0) softs
+
+-- the negations of literals, the last first
+abbrev pub negations_of : List Literal → List Literal
+negations_of lits = reverse (map negate lits)
 
 -- a checker that takes Core steps
 pub record IsReady (s : State) : Type 0 where
@@ -36,6 +42,11 @@ pub record Puts (good : Judge) (old new : State) (old_logs new_logs : Logs) : Ty
 abbrev pub EndsRound : Judge → State → State → Option Found → Type 0
 EndsRound good old new (Some found) = IsFound good old new found
 EndsRound good old new None = new.budget - new.conflicts < old.budget - old.conflicts
+
+-- a core under the present soft literals; none, and the conflicts are spent
+abbrev pub IsTrimmed : State → Option Learnt → Type 0
+IsTrimmed s (Some core) = IsCore s (literals_of s.softs) core.lits core.hints core.back
+IsTrimmed s None = s.conflicts ≡ s.budget
 
 -- the error of a search whose sink refuses
 abbrev pub error_of_sink : SinkError → SearchError

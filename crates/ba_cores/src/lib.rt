@@ -7,6 +7,7 @@
 
 mod costs;
 mod rounds;
+mod trimming;
 
 pub use costs::{Found, least};
 

@@ -39,6 +39,9 @@ pub struct Engine {
     pub taken: u64,
     analyser: Analyser,
     order: Order,
+    /// The numbers of the learnt clauses in the order in which they were learnt: the one at place n is the one before
+    /// which n clauses were learnt.
+    learnt: Vec<u64>,
     restarts: u64,
     since: u64,
 }
@@ -55,6 +58,7 @@ impl Engine {
             taken: 0,
             analyser: Analyser::new(alloc),
             order: Order::new(alloc),
+            learnt: Vec::new(alloc),
             restarts: 0,
             since: 0,
         }
@@ -301,7 +305,9 @@ impl Engine {
     {
         self.watch.keeps_facts();
         self.go_back(learnt.back);
-        self.add(learnt.lits.as_slice())
+        self.add(learnt.lits.as_slice())?;
+        self.learnt.push(self.taken)?;
+        Ok(())
     }
 
     /// Raises the activities of the variables of the clauses of these numbers.

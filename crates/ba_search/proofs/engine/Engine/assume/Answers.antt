@@ -1,4 +1,4 @@
-use Rattle.std.proofs.Common.{◌≡◌, ◌≢◌, ℕ, ◌≤◌, ◌<◌, Bool, true, false, not, Option, None, Some, is_some, sym, ap, ◌∙◌, arith, inl, refl}
+use Rattle.std.proofs.Common.{◌≡◌, ◌≢◌, Bool, true, false, not, Option, None, Some, is_some, sym, ap, ◌∙◌, arith, inl, refl}
 use Rattle.ba_search.proofs.AnswerLaws.{assumed_within, core_reason_some, core_answer}
 use Rattle.ba_search.proofs.engine.Engine.assume.Goals as goal
 
