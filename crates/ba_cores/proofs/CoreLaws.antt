@@ -1,12 +1,12 @@
 -- A core under the present soft literals makes an allowed step.
 
-use Rattle.std.proofs.Common.{◌≡◌, ◌≢◌, ℕ, suc, zero, ◌+◌, ◌-◌, ◌^◌, ◌<◌, ◌≤◌, Bool, true, false, not, ◌||◌, ltb, eqb, Option, None, Some, option_map, List, [], ◌∷◌, ◌++◌, map, length, All, refl, sym, ap, ◌∙◌, arith, subst}
+use Rattle.std.proofs.Common.{◌≡◌, ◌≢◌, ℕ, suc, zero, ◌+◌, ◌-◌, ◌^◌, ◌<◌, ◌≤◌, Bool, true, false, not, ◌||◌, ltb, eqb, Option, None, Some, option_map, List, [], ◌∷◌, ◌++◌, map, length, refl, sym, ap, ◌∙◌, arith, subst}
 use Rattle.std.proofs.lemmas.Bool.Decides.{nat_tests}
-use Rattle.std.proofs.lemmas.List.Elements.{All-nil, All-cons, All-head, All-tail}
+use Rattle.std.proofs.lemmas.List.Elements.{All-head, All-tail}
 use Rattle.std.specs.List.{slice_get, list_any}
 use Rattle.ba_lits.specs.Literals.{Literal, negate, lit_at}
 use Rattle.ba_lits.specs.Satisfaction.{Soft}
-use Rattle.ba_lits.specs.Hints.{Standing, IsFalse, IsUnit, IsOpen, standing, Replay, Refutes, is_last, after_clause, after_hint, replay}
+use Rattle.ba_lits.specs.Hints.{Replay, Refutes, replay}
 use Rattle.ba_lits.proofs.ClauseLaws.{IsClause-more}
 use Rattle.ba_learn.specs.Live.{IsSame, AreLive}
 use Rattle.ba_steps.specs.Splits.{is_soft, split_clauses}
@@ -22,17 +22,20 @@ use Rattle.ba_search.specs.Answers.{AreAssumptions, IsCore}
 use Rattle.ba_cores.specs.Rounds.{literals_of, IsReady}
 
 -- THE SOFT LITERALS ARE ASSUMPTIONS
-among_at : (n : ℕ) (softs : List Soft) (k : ℕ) → AreAmong n softs → k < length (literals_of softs) → (1 ≤ (lit_at (literals_of softs) k).variable) × ((lit_at (literals_of softs) k).variable ≤ n)
+among_at : (n : ℕ) (softs : List Soft) (k : ℕ) → AreAmong n softs → k < length (literals_of softs) →
+    (1 ≤ (lit_at (literals_of softs) k).variable) × ((lit_at (literals_of softs) k).variable ≤ n)
 among_at n [] k all lt = absurd (omega arith)
 among_at n (s ∷ ss) zero all lt = All-head (λ (s : Soft). (1 ≤ s.0.variable) × (s.0.variable ≤ n)) s ss all
 among_at n (s ∷ ss) (suc k) all lt = among_at n ss k (All-tail (λ (s : Soft). (1 ≤ s.0.variable) × (s.0.variable ≤ n)) s ss all) (omega (arith, lt))
 
-differs_at : (x : ℕ) (softs : List Soft) (k : ℕ) → Differs x softs → k < length (literals_of softs) → x ≢ (lit_at (literals_of softs) k).variable
+differs_at : (x : ℕ) (softs : List Soft) (k : ℕ) → Differs x softs → k < length (literals_of softs) →
+    x ≢ (lit_at (literals_of softs) k).variable
 differs_at x [] k d lt = absurd (omega arith)
 differs_at x (s ∷ ss) zero d lt = λ e. d.0 (sym e)
 differs_at x (s ∷ ss) (suc k) d lt = differs_at x ss k d.1 (omega (arith, lt))
 
-different_at : (softs : List Soft) (j k : ℕ) → AreDifferent softs → j < k → k < length (literals_of softs) → (lit_at (literals_of softs) j).variable ≢ (lit_at (literals_of softs) k).variable
+different_at : (softs : List Soft) (j k : ℕ) → AreDifferent softs → j < k → k < length (literals_of softs) →
+    (lit_at (literals_of softs) j).variable ≢ (lit_at (literals_of softs) k).variable
 different_at [] j k d jk lt = absurd (omega arith)
 different_at (s ∷ ss) zero zero d jk lt = absurd (omega arith)
 different_at (s ∷ ss) zero (suc k) d jk lt = differs_at s.0.variable ss k d.0 (omega (arith, lt))
@@ -46,47 +49,21 @@ all_assumed n softs among differ = record {
   differ = λ j k jk lt. different_at softs j k differ jk lt;
 }
 
-pub softs_assumed : (n m : ℕ) (softs : List Soft) (lits : List Literal) → lits ≡ literals_of softs → m ≡ n → AreAmong m softs → AreDifferent softs → AreAssumptions n lits
+pub softs_assumed : (n m : ℕ) (softs : List Soft) (lits : List Literal) → lits ≡ literals_of softs → m ≡ n →
+    AreAmong m softs → AreDifferent softs → AreAssumptions n lits
 softs_assumed n m softs lits is same among differ =
     let P : ℕ → Type 0 = λ k. AreAssumptions k lits in
     let Q : List Literal → Type 0 = λ ls. AreAssumptions m ls in
     subst P same (subst Q (sym is) (all_assumed m softs among differ))
 
 -- THE STEP IS FORMED
-number_at : (clauses : List Kept) (k : ℕ) (c : List Literal) → option_map (λ (x : Kept). x.lits) (slice_get clauses k) ≡ Some c → k < length clauses
-number_at [] k c is = absurd (cc is)
-number_at (x ∷ xs) zero c is = omega arith
-number_at (x ∷ xs) (suc k) c is = omega (arith, number_at xs k c is)
-
-number_within : (clauses : List Kept) (n : ℕ) (c : List Literal) → clause_at clauses n ≡ Some c → (1 ≤ n) × (n ≤ length clauses)
-number_within clauses zero c is = absurd (cc is)
-number_within clauses (suc k) c is = (omega arith, omega (arith, number_at clauses k c is))
-
-all_last : (P : ℕ → Type 0) (hints : List ℕ) (next : Literal → Replay) → after_clause IsFalse (is_last hints) next ≡ Refutes → All P hints
-all_last P [] next e = All-nil P
-all_last P (h ∷ hs) next e = absurd (cc e)
-
-all_after : (P : ℕ → Type 0) (st : Standing) (hints : List ℕ) (next : Literal → Replay) → ((l : Literal) → next l ≡ Refutes → All P hints) → after_clause st (is_last hints) next ≡ Refutes → All P hints
-all_after P IsFalse hints next rest e = all_last P hints next e
-all_after P (IsUnit l) hints next rest e = rest l e
-all_after P IsOpen hints next rest e = absurd (cc e)
-
-hints_name : (live : ℕ → Option (List Literal)) (P : ℕ → Type 0) → ((n : ℕ) (c : List Literal) → live n ≡ Some c → P n) → (falses : List Literal) (hints : List ℕ) → replay live falses hints ≡ Refutes → All P hints
-hints_name live P each falses [] e = absurd (cc e)
-hints_name live P each falses (h ∷ hs) e = first (live h) refl (λ l e. hints_name live P each (falses ++ negate l ∷ []) hs e) e
-  where
-    first : (o : Option (List Literal)) → live h ≡ o → ((l : Literal) → replay live (falses ++ negate l ∷ []) hs ≡ Refutes → All P hs) → after_hint o falses (is_last hs) (λ l. replay live (falses ++ negate l ∷ []) hs) ≡ Refutes → All P (h ∷ hs)
-    first None is rest e = absurd (cc e)
-    first (Some c) is rest e = All-cons P h hs (each h c is) (all_after P (standing falses c) hs (λ l. replay live (falses ++ negate l ∷ []) hs) rest e)
-
-pub core_formed : (s : State) (assumptions lits : List Literal) (hints : List ℕ) (back : ℕ) → IsCore s assumptions lits hints back → s.variables < 2 ^ 62 → length s.clauses < 2 ^ 62 → 0 < length lits → IsFormed (Core lits hints)
-core_formed s assumptions lits hints back core few few_clauses some = (
-  (IsClause-more s.variables (2 ^ 62 - 1) lits (omega (arith, few)) core.clause, some),
-  hints_name (clause_at s.clauses) (λ n. (1 ≤ n) × (n < 2 ^ 62)) (λ n c is. let w = number_within s.clauses n c is in (w.0, omega (arith, w.1, few_clauses))) lits hints core.follows,
-)
+pub core_formed : (s : State) (assumptions lits : List Literal) (hints : List ℕ) (back : ℕ) →
+    IsCore s assumptions lits hints back → s.variables < 2 ^ 62 → 0 < length lits → IsFormed (Core lits hints)
+core_formed s assumptions lits hints back core few some = ((IsClause-more s.variables (2 ^ 62 - 1) lits (omega (arith, few)) core.clause, some), core.numbers)
 
 -- THE STEP IS ALLOWED
-none_of : (p : Literal → Bool) (xs : List Literal) → ((k : ℕ) → k < length xs → p (lit_at xs k) ≡ false) → list_any p xs ≡ false
+none_of : (p : Literal → Bool) (xs : List Literal) → ((k : ℕ) → k < length xs → p (lit_at xs k) ≡ false) →
+    list_any p xs ≡ false
 none_of p [] each = refl
 none_of p (x ∷ xs) each = neither (p x) (list_any p xs) (each 0 (omega arith)) (none_of p xs (λ k lt. each (suc k) (omega (arith, lt))))
   where
@@ -94,11 +71,13 @@ none_of p (x ∷ xs) each = neither (p x) (list_any p xs) (each 0 (omega arith))
     neither false b e f = f
     neither true b e f = absurd (cc e)
 
-no_error : (refused ended lacks spent blocked others : Bool) (r : Replay) → refused ≡ false → ended ≡ false → lacks ≡ false → spent ≡ false → blocked ≡ false → others ≡ false → r ≡ Refutes →
+no_error : (refused ended lacks spent blocked others : Bool) (r : Replay) → refused ≡ false → ended ≡ false →
+    lacks ≡ false → spent ≡ false → blocked ≡ false → others ≡ false → r ≡ Refutes →
     error_if refused Memory (error_if ended AfterEnd (error_if lacks BadVariable (error_if spent WrongCount (error_if blocked CoreAfterSet (error_if others NotSofts (error_of_replay r)))))) ≡ None
 no_error refused ended lacks spent blocked others r e f g h i j k = rw (e, f, g, h, i, j, k) refl
 
-pub core_allowed : (good : Judge) (s : State) (lits : List Literal) (hints : List ℕ) (back : ℕ) → IsCore s (literals_of s.softs) lits hints back → IsReady s →
+pub core_allowed : (good : Judge) (s : State) (lits : List Literal) (hints : List ℕ) (back : ℕ) →
+    IsCore s (literals_of s.softs) lits hints back → IsReady s →
     error_of good s (Core lits hints) ≡ None
 core_allowed good s lits hints back core ready =
     no_error s.refused s.ended (lacks_variable s lits) (is_spent s) (ltb 0 (length s.sets)) (lacks_soft s.softs lits) (replay (clause_at s.clauses) lits hints)
@@ -116,23 +95,28 @@ core_allowed good s lits hints back core ready =
     left m n lt = grind (arith, nat_tests)
 
 -- THE SEARCH'S CLAUSES stay part of the checker's
-kept_at-more : (xs ys : List Kept) (k : ℕ) (c : List Literal) → option_map (λ (x : Kept). x.lits) (slice_get xs k) ≡ Some c → option_map (λ (x : Kept). x.lits) (slice_get (xs ++ ys) k) ≡ Some c
+kept_at-more : (xs ys : List Kept) (k : ℕ) (c : List Literal) →
+    option_map (λ (x : Kept). x.lits) (slice_get xs k) ≡ Some c →
+    option_map (λ (x : Kept). x.lits) (slice_get (xs ++ ys) k) ≡ Some c
 kept_at-more [] ys k c is = absurd (cc is)
 kept_at-more (x ∷ xs) ys zero c is = is
 kept_at-more (x ∷ xs) ys (suc k) c is = kept_at-more xs ys k c is
 
-pub clause_at-more : (xs ys : List Kept) (number : ℕ) (c : List Literal) → clause_at xs number ≡ Some c → clause_at (xs ++ ys) number ≡ Some c
+pub clause_at-more : (xs ys : List Kept) (number : ℕ) (c : List Literal) → clause_at xs number ≡ Some c →
+    clause_at (xs ++ ys) number ≡ Some c
 clause_at-more xs ys zero c is = absurd (cc is)
 clause_at-more xs ys (suc k) c is = kept_at-more xs ys k c is
 
-same_more : (old new : Option (List Literal)) (lits : List Literal) → ((c : List Literal) → old ≡ Some c → new ≡ Some c) → IsSame old lits → IsSame new lits
+same_more : (old new : Option (List Literal)) (lits : List Literal) →
+    ((c : List Literal) → old ≡ Some c → new ≡ Some c) → IsSame old lits → IsSame new lits
 same_more None new lits more same = absurd same
 same_more (Some c) new lits more same = subst (λ (o : Option (List Literal)). IsSame o lits) (sym (more c refl)) same
 
 pub part_of_same : (live : ℕ → Option (List Literal)) {clauses : _} → AreLive clauses live → ArePart clauses live
 part_of_same live are = are.each
 
-pub part_after_core : (s t : State) (lits : List Literal) (hints : List ℕ) {clauses : _} → t ≡ after s (Core lits hints) → AreLive clauses (clause_at s.clauses) → ArePart clauses (clause_at t.clauses)
+pub part_after_core : (s t : State) (lits : List Literal) (hints : List ℕ) {clauses : _} →
+    t ≡ after s (Core lits hints) → AreLive clauses (clause_at s.clauses) → ArePart clauses (clause_at t.clauses)
 part_after_core s t lits hints taken are = λ reference c is.
     same_more (clause_at s.clauses c.number) (clause_at t.clauses c.number) c.lits (grows c.number) (are.each reference c is)
   where

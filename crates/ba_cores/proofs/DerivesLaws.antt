@@ -1,6 +1,6 @@
 -- Derivations put end to end, and what they leave as it was.
 
-use Rattle.std.proofs.Common.{◌≡◌, ℕ, ◌+◌, ◌-◌, ◌<◌, ◌≤◌, Option, None, Some, Result, Ok, Err, List, [], ◌∷◌, ◌++◌, All, refl, sym, ap, ◌∙◌, arith, subst}
+use Rattle.std.proofs.Common.{◌≡◌, ℕ, ◌+◌, ◌-◌, ◌<◌, ◌≤◌, Option, None, Some, IfSome, IfNone, Result, Ok, Err, List, [], ◌∷◌, ◌++◌, All, refl, sym, ap, ◌∙◌, arith, subst}
 use Rattle.std.specs.Result.{OnOk}
 use Rattle.std.proofs.lemmas.List.Elements.{All-nil, All-cons, All-append}
 use Rattle.ba_lits.specs.Literals.{Literal}
@@ -8,13 +8,14 @@ use Rattle.ba_lits.specs.Satisfaction.{Soft}
 use Rattle.ba_lits.specs.Formulas.{Cnf}
 use Rattle.ba_steps.specs.States.{State, first_state}
 use Rattle.ba_steps.specs.Judging.{Judge, error_of, after, after_all, next_if}
-use Rattle.ba_steps.specs.Sinks.{Logs, with_step}
+use Rattle.ba_steps.specs.Sinks.{Logs, with_step, MayAddStep}
+use Rattle.ba_steps.specs.Puts.{IsTakenOrAsleep}
 use Rattle.ba_steps.specs.Steps.{IsFormed}
 use Rattle.ba_steps.specs.declared.step.CertStep.{CertStep}
 use Rattle.ba_steps.specs.declared.step.CertStep.TheVariants.{Learn, Core}
 use Rattle.ba_steps.specs.declared.step.StepError.{StepError}
-use Rattle.ba_search.specs.Searching.{Learns, learns_none, learns_more, with_steps}
-use Rattle.ba_cores.specs.Derivations.{Derives, derives_none, derives_learn, derives_core, IsReached}
+use Rattle.ba_search.specs.Searching.{Learns, learns_none, learns_more, with_steps, Leaves as LeavesLearnt, leaves_all as leaves_learnt, leaves_last as leaves_last_learnt}
+use Rattle.ba_cores.specs.Derivations.{Derives, derives_none, derives_learn, derives_core, Leaves, leaves_all, leaves_last, IsReached}
 use Rattle.ba_cores.specs.Findings.{IsFound}
 use Rattle.ba_cores.specs.Rounds.{IsReady, Puts, EndsRound}
 use Rattle.ba_cores.specs.declared.costs.Found.{Found}
@@ -26,14 +27,16 @@ learns_derives (learns_none s) = derives_none s
 learns_derives (learns_more s t lits hints steps formed allowed new rest) = derives_learn s t lits hints steps formed allowed new (learns_derives rest)
 
 -- one derivation after another
-pub derives_append : {good : Judge} {a b : State} {xs : List CertStep} → Derives good a xs b → (c : State) (ys : List CertStep) → Derives good b ys c → Derives good a (xs ++ ys) c
+pub derives_append : {good : Judge} {a b : State} {xs : List CertStep} → Derives good a xs b →
+    (c : State) (ys : List CertStep) → Derives good b ys c → Derives good a (xs ++ ys) c
 derives_append (derives_none s) c ys more = more
 derives_append (derives_learn s t lits hints steps formed allowed new rest) c ys more =
     derives_learn s c lits hints (steps ++ ys) formed allowed new (derives_append rest c ys more)
 derives_append (derives_core s t lits hints steps formed allowed rest) c ys more =
     derives_core s c lits hints (steps ++ ys) formed allowed (derives_append rest c ys more)
 
-pub with_steps-append : (xs ys : List CertStep) (logs : Logs) → with_steps (xs ++ ys) logs ≡ with_steps ys (with_steps xs logs)
+pub with_steps-append : (xs ys : List CertStep) (logs : Logs) →
+    with_steps (xs ++ ys) logs ≡ with_steps ys (with_steps xs logs)
 with_steps-append [] ys logs = refl
 with_steps-append (x ∷ xs) ys logs = with_steps-append xs ys (with_step x logs)
 
@@ -49,7 +52,8 @@ stays_same : (s : State) → Stays s s
 stays_same s = record { sets = refl; budget = refl; ended = refl; refused = refl; conflicts = omega arith }
 
 -- a step takes one conflict
-stays_step : (old mid new : State) → mid.sets ≡ old.sets → mid.budget ≡ old.budget → mid.ended ≡ old.ended → mid.refused ≡ old.refused → mid.conflicts ≡ old.conflicts + 1 → Stays mid new → Stays old new
+stays_step : (old mid new : State) → mid.sets ≡ old.sets → mid.budget ≡ old.budget → mid.ended ≡ old.ended →
+    mid.refused ≡ old.refused → mid.conflicts ≡ old.conflicts + 1 → Stays mid new → Stays old new
 stays_step old mid new sets budget ended refused conflicts h = record {
   sets = h.sets ∙ sets;
   budget = h.budget ∙ budget;
@@ -76,22 +80,26 @@ derives_formed (derives_none s) = All-nil IsFormed
 derives_formed (derives_learn s t lits hints steps formed allowed new rest) = All-cons IsFormed (Learn lits hints) steps formed (derives_formed rest)
 derives_formed (derives_core s t lits hints steps formed allowed rest) = All-cons IsFormed (Core lits hints) steps formed (derives_formed rest)
 
-next_allowed : (o : Option StepError) (next : Option State) (t : State) → o ≡ None → next ≡ Some t → next_if o next ≡ Some t
+next_allowed : (o : Option StepError) (next : Option State) (t : State) → o ≡ None → next ≡ Some t →
+    next_if o next ≡ Some t
 next_allowed None next t none is = is
 next_allowed (Some e) next t none is = absurd (cc none)
 
-pub derives_after : {good : Judge} {a b : State} {xs : List CertStep} → Derives good a xs b → after_all good a xs ≡ Some b
+pub derives_after : {good : Judge} {a b : State} {xs : List CertStep} → Derives good a xs b →
+    after_all good a xs ≡ Some b
 derives_after (derives_none s) = refl
 derives_after {good} (derives_learn s t lits hints steps formed allowed new rest) =
     next_allowed (error_of good s (Learn lits hints)) (after_all good (after s (Learn lits hints)) steps) t allowed (derives_after rest)
 derives_after {good} (derives_core s t lits hints steps formed allowed rest) =
     next_allowed (error_of good s (Core lits hints)) (after_all good (after s (Core lits hints)) steps) t allowed (derives_after rest)
 
-next_parts : (o : Option StepError) (next : Option State) (t : State) → next_if o next ≡ Some t → (o ≡ None) × (next ≡ Some t)
+next_parts : (o : Option StepError) (next : Option State) (t : State) → next_if o next ≡ Some t →
+    (o ≡ None) × (next ≡ Some t)
 next_parts None next t is = (refl, is)
 next_parts (Some e) next t is = absurd (cc is)
 
-after_append : (good : Judge) (xs ys : List CertStep) (a b c : State) → after_all good a xs ≡ Some b → after_all good b ys ≡ Some c → after_all good a (xs ++ ys) ≡ Some c
+after_append : (good : Judge) (xs ys : List CertStep) (a b c : State) → after_all good a xs ≡ Some b →
+    after_all good b ys ≡ Some c → after_all good a (xs ++ ys) ≡ Some c
 after_append good [] ys a b c first second =
     let e : b ≡ a = cc first in
     let P : State → Type 0 = λ s. after_all good s ys ≡ Some c in
@@ -101,7 +109,8 @@ after_append good (x ∷ xs) ys a b c first second =
     next_allowed (error_of good a x) (after_all good (after a x) (xs ++ ys)) c parts.0 (after_append good xs ys (after a x) b c parts.1 second)
 
 -- what a formula's derivation reaches, it reaches after more steps
-pub reached_on : {good : Judge} {a b : State} {xs : List CertStep} (formula : Cnf) (softs : List Soft) → IsReached good formula softs a → Derives good a xs b → IsReached good formula softs b
+pub reached_on : {good : Judge} {a b : State} {xs : List CertStep} (formula : Cnf) (softs : List Soft) →
+    IsReached good formula softs a → Derives good a xs b → IsReached good formula softs b
 reached_on {good} {a} {b} {xs} formula softs r d = record {
   start = r.start;
   conflicts = r.conflicts;
@@ -112,14 +121,16 @@ reached_on {good} {a} {b} {xs} formula softs r d = record {
 }
 
 -- what is found from a later state is found from an earlier one
-found_on : {good : Judge} {a b : State} {xs : List CertStep} → Derives good a xs b → (c : State) (found : Found) → IsFound good b c found → IsFound good a c found
-found_on d c (Least weight model) is = (is.0, λ formula softs r. is.1 formula softs (reached_on formula softs r d))
-found_on d c (NoModel hints) is = (is.0, is.1, λ formula softs r. is.2 formula softs (reached_on formula softs r d))
+found_on : {good : Judge} {a b : State} {xs : List CertStep} → Derives good a xs b → (c : State) (found : Found) →
+    IsFound good b c found → IsFound good a c found
+found_on d c (Least weight model) is = (is.0, is.1, λ formula softs r. is.2 formula softs (reached_on formula softs r d))
+found_on d c (NoModel hints) is = (is.0, is.1, is.2, λ formula softs r. is.3 formula softs (reached_on formula softs r d))
 found_on d c Spent is = is
 
-round_from : {good : Judge} {a b : State} {xs : List CertStep} → Derives good a xs b → (c : State) (found : Option Found) → EndsRound good b c found → EndsRound good a c found
-round_from d c (Some found) is = found_on d c found is
-round_from d c None is = let s = derives_stays d in omega (arith, is, s.budget, s.conflicts)
+round_from : {good : Judge} {a b : State} {xs : List CertStep} → Derives good a xs b →
+    (c : State) (v w : ℕ) (found : Option Found) → EndsRound good b c v w found → EndsRound good a c v w found
+round_from d c v w (Some found) is = found_on d c found is
+round_from d c v w None is = let s = derives_stays d in omega (arith, is, s.budget, s.conflicts)
 
 -- THE STEPS OF ROUNDS
 pub puts_none : (good : Judge) (s : State) (logs : Logs) → Puts good s s logs logs
@@ -141,7 +152,8 @@ puts_core good s t lits hints l m formed allowed taken told = record {
 }
 
 -- Learn steps, as the search tells them
-pub puts_learns : (good : Judge) (a b : State) (l m : Logs) → (xs : List CertStep) × Learns good a xs b × (m ≡ with_steps xs l) → Puts good a b l m
+pub puts_learns : (good : Judge) (a b : State) (l m : Logs) →
+    (xs : List CertStep) × Learns good a xs b × (m ≡ with_steps xs l) → Puts good a b l m
 puts_learns good a b l m (xs, learns, logs) = record { steps = xs; derives = learns_derives learns; logs = logs }
 
 pub puts_ready : (good : Judge) (a b : State) (l m : Logs) → Puts good a b l m → IsReady a → IsReady b
@@ -149,17 +161,20 @@ puts_ready good a b l m p r =
     let s = derives_stays p.derives in
     record { begun = s.ended ∙ r.begun; awake = s.refused ∙ r.awake; none_blocked = s.sets ∙ r.none_blocked }
 
-pub round_on : (good : Judge) (a b c : State) (l m : Logs) (found : Option Found) → Puts good a b l m → EndsRound good b c found → EndsRound good a c found
-round_on good a b c l m found p is = round_from p.derives c found is
+pub round_on : (good : Judge) (a b c : State) (l m : Logs) (v w : ℕ) (found : Option Found) → Puts good a b l m →
+    EndsRound good b c v w found → EndsRound good a c v w found
+round_on good a b c l m v w found p is = round_from p.derives c v w found is
 
-pub found_later : (good : Judge) (a b c : State) (l m : Logs) (found : Found) → Puts good a b l m → IsFound good b c found → IsFound good a c found
+pub found_later : (good : Judge) (a b c : State) (l m : Logs) (found : Found) → Puts good a b l m →
+    IsFound good b c found → IsFound good a c found
 found_later good a b c l m found p is = found_on p.derives c found is
 
 pub puts_softs : (good : Judge) (a b : State) (xs : List CertStep) → Learns good a xs b → b.softs ≡ a.softs
 puts_softs good a b xs learns = learns_softs learns
 
 -- a Core step takes one of the conflicts that are left
-pub core_fewer : (s t : State) (lits : List Literal) (hints : List ℕ) → s.conflicts < s.budget → t ≡ after s (Core lits hints) → t.budget - t.conflicts < s.budget - s.conflicts
+pub core_fewer : (s t : State) (lits : List Literal) (hints : List ℕ) → s.conflicts < s.budget →
+    t ≡ after s (Core lits hints) → t.budget - t.conflicts < s.budget - s.conflicts
 core_fewer s t lits hints left taken =
     let budget : t.budget ≡ s.budget = ap (λ (u : State). u.budget) taken in
     let conflicts : t.conflicts ≡ s.conflicts + 1 = ap (λ (u : State). u.conflicts) taken in
@@ -174,11 +189,56 @@ on_ok (Err e) p = tt
 pub puts_as : (good same : Judge) (a b : State) (l m : Logs) → good ≡ same → Puts good a b l m → Puts same a b l m
 puts_as good same a b l m is p = let P : Judge → Type 0 = λ g. Puts g a b l m in subst P is p
 
-pub found_as : (good same : Judge) (a b : State) (o : Option Found) (found : Found) → good ≡ same → o ≡ Some found → EndsRound good a b o → IsFound same a b found
-found_as good same a b o found is some ends =
-    let P : Option Found → Type 0 = λ p. EndsRound good a b p in
+pub found_as : (good same : Judge) (a b : State) (v w : ℕ) (o : Option Found) (found : Found) → good ≡ same →
+    o ≡ Some found → EndsRound good a b v w o → IsFound same a b found
+found_as good same a b v w o found is some ends =
+    let P : Option Found → Type 0 = λ p. EndsRound good a b v w p in
     let Q : Judge → Type 0 = λ g. IsFound g a b found in
     subst Q is (subst P some ends)
 
-pub round_as : (good same : Judge) (a b c : State) (l m : Logs) (found : Option Found) → same ≡ good → Puts good a b l m → EndsRound same b c found → EndsRound good a c found
-round_as good same a b c l m found is p ends = let P : Judge → Type 0 = λ g. EndsRound g b c found in round_on good a b c l m found p (subst P is ends)
+pub round_as : (good same : Judge) (a b c : State) (l m : Logs) (v w : ℕ) (found : Option Found) → same ≡ good →
+    Puts good a b l m → EndsRound same b c v w found → EndsRound good a c v w found
+round_as good same a b c l m v w found is p ends = let P : Judge → Type 0 = λ g. EndsRound g b c v w found in round_on good a b c l m v w found p (subst P is ends)
+
+-- a round that leaves the weight from which on soft literals are assumed
+pub round_weight : (good : Judge) (a b : State) (v : ℕ) (found : Option Found) → EndsRound good a b 0 0 found →
+    EndsRound good a b v v found
+round_weight good a b v (Some found) is = is
+round_weight good a b v None is = omega (arith, is)
+
+-- a round that ends with a model
+pub round_model : (good : Judge) (s : State) (v w : ℕ) (found : Option Found) → IfSome found (IsFound good s s) →
+    IfNone found (w < v) → EndsRound good s s v w found
+round_model good s v w (Some found) is less = is
+round_model good s v w None is less = omega (arith, less)
+
+-- WHAT IS LEFT
+pub leaves_none : (good : Judge) (s : State) (logs : Logs) → Leaves good s logs s logs
+leaves_none good s logs = leaves_all [] (derives_none s) refl
+
+pub leaves_put : (good : Judge) (a b : State) (l m : Logs) → Puts good a b l m → Leaves good a l b m
+leaves_put good a b l m p = leaves_all p.steps p.derives p.logs
+
+pub leaves_core : (good : Judge) (s t : State) (lits : List Literal) (hints : List ℕ) (l m : Logs) →
+    IsFormed (Core lits hints) → error_of good s (Core lits hints) ≡ None → IsTakenOrAsleep s (Core lits hints) t → MayAddStep (Core lits hints) l m → Leaves good s l t m
+leaves_core good s t lits hints l m formed allowed taken told =
+    leaves_last [] (Core lits hints) s (derives_none s)
+    (derives_core s (after s (Core lits hints)) lits hints [] formed allowed (derives_none (after s (Core lits hints))))
+    taken told
+
+pub leaves_learns : (good : Judge) (a b : State) (l m : Logs) → LeavesLearnt good a l b m → Leaves good a l b m
+leaves_learns good a b l m (leaves_learnt steps learns logs) = leaves_all steps (learns_derives learns) logs
+leaves_learns good a b l m (leaves_last_learnt steps last before learns tried taken told) = leaves_last steps last before (learns_derives learns) (learns_derives tried) taken told
+
+pub leaves_on : (good same : Judge) (a b c : State) (l m n : Logs) → same ≡ good → Puts good a b l m →
+    Leaves same b m c n → Leaves good a l c n
+leaves_on good same a b c l m n is p left = let P : Judge → Type 0 = λ g. Leaves g b m c n in after_put (subst P is left)
+  where
+    told : (xs : List CertStep) → with_steps xs m ≡ with_steps (p.steps ++ xs) l
+    told xs = ap (with_steps xs) p.logs ∙ sym (with_steps-append p.steps xs l)
+
+    after_put : Leaves good b m c n → Leaves good a l c n
+    after_put (leaves_all xs derives logs) = leaves_all (p.steps ++ xs) (derives_append p.derives c xs derives) (logs ∙ told xs)
+    after_put (leaves_last xs last before derives tried taken may) =
+        let P : Logs → Type 0 = λ logs. MayAddStep last logs n in
+        leaves_last (p.steps ++ xs) last before (derives_append p.derives before xs derives) tried taken (subst P (told xs) may)

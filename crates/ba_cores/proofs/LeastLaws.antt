@@ -22,11 +22,13 @@ both : (a b : Bool) → a ≡ true → b ≡ true → (a && b) ≡ true
 both a b first second = ap (λ c. c && b) first ∙ second
 
 -- clauses hold where each does
-all_of_each : (v : Assignment) (cs : List (List Literal)) → ((k : ℕ) → k < length cs → any_true v (get_or cs k []) ≡ true) → all_true v cs ≡ true
+all_of_each : (v : Assignment) (cs : List (List Literal)) →
+    ((k : ℕ) → k < length cs → any_true v (get_or cs k []) ≡ true) → all_true v cs ≡ true
 all_of_each v [] each = refl
 all_of_each v (c ∷ cs) each = both (any_true v c) (all_true v cs) (each 0 (omega arith)) (all_of_each v cs (λ k lt. each (suc k) (omega (arith, lt))))
 
-all_of_live : (v : Assignment) (kept : List Kept) → ((number : ℕ) (c : List Literal) → clause_at kept number ≡ Some c → any_true v c ≡ true) →
+all_of_live : (v : Assignment) (kept : List Kept) →
+    ((number : ℕ) (c : List Literal) → clause_at kept number ≡ Some c → any_true v c ≡ true) →
     (cs : List (List Literal)) → All (IsLive kept) cs → all_true v cs ≡ true
 all_of_live v kept holds [] all = refl
 all_of_live v kept holds (c ∷ cs) all =
@@ -34,7 +36,8 @@ all_of_live v kept holds (c ∷ cs) all =
     both (any_true v c) (all_true v cs) (holds number c is) (all_of_live v kept holds cs (All-tail (IsLive kept) c cs all))
 
 -- soft literals that are all true cost nothing
-cost_of_true : (v : Assignment) (softs : List Soft) → All (λ l. lit_true v l ≡ true) (literals_of softs) → cost v softs ≡ 0
+cost_of_true : (v : Assignment) (softs : List Soft) → All (λ l. lit_true v l ≡ true) (literals_of softs) →
+    cost v softs ≡ 0
 cost_of_true v [] all = refl
 cost_of_true v (s ∷ ss) all =
     let first : lit_true v s.0 ≡ true = All-head (λ l. lit_true v l ≡ true) s.0 (literals_of ss) all in
@@ -42,7 +45,8 @@ cost_of_true v (s ∷ ss) all =
     ap (λ b. cond b 0 s.1 + cost v ss) first ∙ (omega (arith, rest))
 
 -- the facts of a state that a formula's derivation reaches
-reached_facts : (good : Judge) (formula : Cnf) (softs : List Soft) (s : State) (r : IsReached good formula softs s) → Holds formula softs (splits_of (first_state formula softs r.conflicts r.sets) r.steps) s
+reached_facts : (good : Judge) (formula : Cnf) (softs : List Soft) (s : State) (r : IsReached good formula softs s) →
+    Holds formula softs (splits_of (first_state formula softs r.conflicts r.sets) r.steps) s
 reached_facts good formula softs s r = facts_hold good formula softs r.conflicts r.sets r.start r.steps r.formed s r.reached
 
 -- from the facts: a model of all live clauses and present soft literals is a least one
@@ -83,12 +87,14 @@ none_of_empty good formula softs s hints follows r v holds =
     let e : false ≡ true = follows_true s z [] hints (ap error_of_replay follows) lives in
     cc e
 
-none_from : (s : State) (a lits : List Literal) (hints : List ℕ) (back : ℕ) → IsCore s a lits hints back → length lits ≡ 0 → FollowsByHints (clause_at s.clauses) [] hints
+none_from : (s : State) (a lits : List Literal) (hints : List ℕ) (back : ℕ) → IsCore s a lits hints back →
+    length lits ≡ 0 → FollowsByHints (clause_at s.clauses) [] hints
 none_from s a [] hints back core none = core.follows
 none_from s a (l ∷ ls) hints back core none = absurd (omega (arith, none))
 
 -- a core without a literal
-pub none_of_core : (good : Judge) (s : State) (a lits : List Literal) (hints : List ℕ) (back : ℕ) → IsCore s a lits hints back → length lits ≡ 0 → IsFound good s s (NoModel hints)
+pub none_of_core : (good : Judge) (s : State) (a lits : List Literal) (hints : List ℕ) (back : ℕ) →
+    IsCore s a lits hints back → length lits ≡ 0 → IsFound good s s (NoModel hints)
 none_of_core good s a lits hints back core none =
     let follows = none_from s a lits hints back core none in
-    (follows, core.left, λ formula softs r v holds. none_of_empty good formula softs s hints follows r v holds)
+    (follows, core.numbers, core.left, λ formula softs r v holds. none_of_empty good formula softs s hints follows r v holds)

@@ -31,7 +31,8 @@ length_is lits = length-reverse (map negate lits) ∙ length-map lits negate
 abbrev from_end : List Literal → ℕ → ℕ
 from_end lits k = length lits - 1 - k
 
-negation_at : (lits : List Literal) (k : ℕ) → k < length (negations_of lits) → lit_at (negations_of lits) k ≡ negate (lit_at lits (from_end lits k))
+negation_at : (lits : List Literal) (k : ℕ) → k < length (negations_of lits) →
+    lit_at (negations_of lits) k ≡ negate (lit_at lits (from_end lits k))
 negation_at lits k lt =
     let within : k < length (map negate lits) = omega (arith, lt, length-reverse (map negate lits)) in
     let P : ℕ → Type 0 = λ n. lit_at (negations_of lits) k ≡ lit_at (map negate lits) (n - 1 - k) in
@@ -41,7 +42,8 @@ negation_at lits k lt =
     back_in : (n k : ℕ) → k < n → n - 1 - k < n
     back_in n k lt = omega arith
 
-variable_at : (lits : List Literal) (k : ℕ) → k < length (negations_of lits) → (lit_at (negations_of lits) k).variable ≡ (lit_at lits (from_end lits k)).variable
+variable_at : (lits : List Literal) (k : ℕ) → k < length (negations_of lits) →
+    (lit_at (negations_of lits) k).variable ≡ (lit_at lits (from_end lits k)).variable
 variable_at lits k lt = ap (λ (l : Literal). l.variable) (negation_at lits k lt)
 
 end_in : (lits : List Literal) (k : ℕ) → k < length (negations_of lits) → from_end lits k < length lits
@@ -61,21 +63,25 @@ clause_assumed n lits clause = record {
     before : (n j k : ℕ) → j < k → k < n → n - 1 - k < n - 1 - j
     before n j k jk lt = omega arith
 
-    differ : (j k : ℕ) → j < k → k < length (negations_of lits) → (lit_at (negations_of lits) j).variable ≢ (lit_at (negations_of lits) k).variable
+    differ : (j k : ℕ) → j < k → k < length (negations_of lits) →
+        (lit_at (negations_of lits) j).variable ≢ (lit_at (negations_of lits) k).variable
     differ j k jk lt = λ e.
         let j_in : j < length (negations_of lits) = omega (arith, jk, lt) in
         let less = clause.ascends (from_end lits k) (from_end lits j) (before (length lits) j k jk (omega (arith, lt, length_is lits))) (end_in lits j j_in) in
         omega (arith, less, e, variable_at lits j j_in, variable_at lits k lt)
 
-pub core_assumed : (s : State) (a lits ns : List Literal) (hints : List ℕ) (back : ℕ) → IsCore s a lits hints back → ns ≡ negations_of lits → AreAssumptions s.variables ns
+pub core_assumed : (s : State) (a lits ns : List Literal) (hints : List ℕ) (back : ℕ) → IsCore s a lits hints back →
+    ns ≡ negations_of lits → AreAssumptions s.variables ns
 core_assumed s a lits ns hints back core is = subst (AreAssumptions s.variables) (sym is) (clause_assumed s.variables lits core.clause)
 
 -- A CORE under the negations
-pub trimmed_core : (s t : State) (lits ns new : List Literal) (hints more : List ℕ) (back b : ℕ) → IsCore s (literals_of s.softs) lits hints back → t.softs ≡ s.softs → ns ≡ negations_of lits →
+pub trimmed_core : (s t : State) (lits ns new : List Literal) (hints more : List ℕ) (back b : ℕ) →
+    IsCore s (literals_of s.softs) lits hints back → t.softs ≡ s.softs → ns ≡ negations_of lits →
     IsCore t ns new more b → IsCore t (literals_of t.softs) new more b
 trimmed_core s t lits ns new hints more back b old softs is core = record {
   clause = core.clause;
   follows = core.follows;
+  numbers = core.numbers;
   negates = λ k lt. negates k lt;
   level = core.level;
   left = core.left;
@@ -90,13 +96,15 @@ trimmed_core s t lits ns new hints more back b old softs is core = record {
         subst P (ap literals_of (sym softs)) (subst Q same (old.negates (from_end lits j) (end_in lits j j_in)))
 
 -- live clauses stay
-pub learns_grow : {good : Judge} {a b : State} {xs : List CertStep} → Learns good a xs b → (n : ℕ) (c : List Literal) → clause_at a.clauses n ≡ Some c → clause_at b.clauses n ≡ Some c
+pub learns_grow : {good : Judge} {a b : State} {xs : List CertStep} → Learns good a xs b → (n : ℕ) (c : List Literal) →
+    clause_at a.clauses n ≡ Some c → clause_at b.clauses n ≡ Some c
 learns_grow (learns_none s) n c is = is
 learns_grow (learns_more s t lits hints steps formed allowed new rest) n c is =
     learns_grow rest n c (clause_at-more s.clauses (kept origins.Learnt lits ∷ []) n c is)
 
 -- NO MODEL makes a core's literals all false
-none_true : (v : Assignment) (lits : List Literal) → ((k : ℕ) → k < length lits → lit_true v (lit_at lits k) ≡ false) → any_true v lits ≡ false
+none_true : (v : Assignment) (lits : List Literal) → ((k : ℕ) → k < length lits → lit_true v (lit_at lits k) ≡ false) →
+    any_true v lits ≡ false
 none_true v [] each = refl
 none_true v (l ∷ ls) each = neither (lit_true v l) (any_true v ls) (each 0 (omega arith)) (none_true v ls (λ k lt. each (suc k) (omega (arith, lt))))
   where
@@ -111,14 +119,16 @@ false_from false e = refl
 twice : (n k : ℕ) → k < n → n - 1 - (n - 1 - k) ≡ k
 twice n k lt = omega arith
 
-all_false : (v : Assignment) (lits : List Literal) → All (λ a. lit_true v a ≡ true) (negations_of lits) → (k : ℕ) → k < length lits → lit_true v (lit_at lits k) ≡ false
+all_false : (v : Assignment) (lits : List Literal) → All (λ a. lit_true v a ≡ true) (negations_of lits) → (k : ℕ) →
+    k < length lits → lit_true v (lit_at lits k) ≡ false
 all_false v lits all k lt =
     let j : ℕ = length lits - 1 - k in
     let j_in : j < length (negations_of lits) = omega (arith, lt, length_is lits) in
     let at : lit_at (negations_of lits) j ≡ negate (lit_at lits k) = negation_at lits j j_in ∙ ap (λ (i : ℕ). negate (lit_at lits i)) (twice (length lits) k lt) in
     false_from (lit_true v (lit_at lits k)) (sym (lit_true-negate v (lit_at lits k)) ∙ ap (lit_true v) (sym at) ∙ all j no_literal j_in)
 
-pub no_model : (s t : State) (a lits ns : List Literal) (hints : List ℕ) (back : ℕ) (values : List Bool) → IsCore s a lits hints back → ns ≡ negations_of lits →
+pub no_model : (s t : State) (a lits ns : List Literal) (hints : List ℕ) (back : ℕ) (values : List Bool) →
+    IsCore s a lits hints back → ns ≡ negations_of lits →
     ((n : ℕ) (c : List Literal) → clause_at s.clauses n ≡ Some c → clause_at t.clauses n ≡ Some c) → IsModel t ns values → ⊥
 no_model s t a lits ns hints back values core is grows model =
     let v : Assignment = assignment_of values in
@@ -127,7 +137,8 @@ no_model s t a lits ns hints back values core is grows model =
     cc (sym (none_true v lits (λ k lt. all_false v lits assumed k lt)) ∙ holds)
 
 -- WHAT TRIMMING GIVES
-pub trimmed_some : (s : State) (o : Option Learnt) (core : Learnt) → o ≡ Some core → IsTrimmed s o → IsCore s (literals_of s.softs) core.lits core.hints core.back
+pub trimmed_some : (s : State) (o : Option Learnt) (core : Learnt) → o ≡ Some core → IsTrimmed s o →
+    IsCore s (literals_of s.softs) core.lits core.hints core.back
 trimmed_some s o core is h = subst (IsTrimmed s) is h
 
 pub trimmed_none : (s : State) (o : Option Learnt) → o ≡ None → IsTrimmed s o → s.conflicts ≡ s.budget

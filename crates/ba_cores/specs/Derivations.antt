@@ -9,6 +9,9 @@ use Rattle.ba_steps.specs.States.{State, clause_at, first_state}
 use Rattle.ba_steps.specs.Judging.{Judge, error_of, after, after_all}
 use Rattle.ba_steps.specs.Steps.{IsFormed}
 use Rattle.ba_steps.specs.Facts.{IsStart}
+use Rattle.ba_steps.specs.Sinks.{Logs, MayAddStep}
+use Rattle.ba_steps.specs.Puts.{IsTakenOrAsleep}
+use Rattle.ba_search.specs.Searching.{with_steps}
 use Rattle.ba_steps.specs.declared.step.CertStep.{CertStep}
 use Rattle.ba_steps.specs.declared.step.CertStep.TheVariants.{Learn, Core}
 
@@ -16,10 +19,21 @@ use Rattle.ba_steps.specs.declared.step.CertStep.TheVariants.{Learn, Core}
 -- and the clause of a Learn step is new to propagation for the clauses that are live at that moment
 pub data Derives (good : Judge) : State → List CertStep → State → Type 0 where
   derives_none : (s : State) → Derives good s [] s
-  derives_learn : (s t : State) (lits : List Literal) (hints : List ℕ) (steps : List CertStep) → IsFormed (Learn lits hints) →
+  derives_learn : (s t : State) (lits : List Literal) (hints : List ℕ) (steps : List CertStep) →
+      IsFormed (Learn lits hints) →
       error_of good s (Learn lits hints) ≡ None → IsNew (clause_at s.clauses) lits → Derives good (after s (Learn lits hints)) steps t → Derives good s (Learn lits hints ∷ steps) t
-  derives_core : (s t : State) (lits : List Literal) (hints : List ℕ) (steps : List CertStep) → IsFormed (Core lits hints) →
+  derives_core : (s t : State) (lits : List Literal) (hints : List ℕ) (steps : List CertStep) →
+      IsFormed (Core lits hints) →
       error_of good s (Core lits hints) ≡ None → Derives good (after s (Core lits hints)) steps t → Derives good s (Core lits hints ∷ steps) t
+
+-- what is left, also after an error: Learn and Core steps were put; or one more was tried, which the checker has taken or
+-- after which it refuses every step, and which some of the logs may hold
+pub data Leaves (good : Judge) (old : State) (old_logs : Logs) (new : State) (new_logs : Logs) : Type 0 where
+  leaves_all : (steps : List CertStep) → Derives good old steps new → new_logs ≡ with_steps steps old_logs →
+      Leaves good old old_logs new new_logs
+  leaves_last : (steps : List CertStep) (last : CertStep) (before : State) → Derives good old steps before →
+      Derives good before (last ∷ []) (after before last) →
+      IsTakenOrAsleep before last new → MayAddStep last (with_steps steps old_logs) new_logs → Leaves good old old_logs new new_logs
 
 -- allowed steps lead to the state from a formula with soft literals
 pub record IsReached (good : Judge) (formula : Cnf) (softs : List Soft) (s : State) : Type 0 where

@@ -1,10 +1,11 @@
 -- The least cost of a formula's models.
 
-use Rattle.std.specs.Prelude.{◌≡◌, ℕ, ◌<◌, ◌≤◌, Bool, true, List, []}
+use Rattle.std.specs.Prelude.{◌≡◌, ℕ, ◌<◌, ◌≤◌, Bool, true, List, [], length}
 use Rattle.ba_lits.specs.Satisfaction.{Assignment, all_true, assignment_of, Soft, cost}
 use Rattle.ba_lits.specs.Formulas.{Cnf}
 use Rattle.ba_lits.specs.Hints.{FollowsByHints}
 use Rattle.ba_steps.specs.States.{State, clause_at, present}
+use Rattle.ba_steps.specs.Steps.{AreNumbers}
 use Rattle.ba_steps.specs.Judging.{Judge}
 use Rattle.ba_cores.specs.Derivations.{IsReached}
 use Rattle.ba_cores.specs.declared.costs.Found.{Found}
@@ -16,12 +17,14 @@ pub record IsLeast (formula : Cnf) (softs : List Soft) (weight : ℕ) (values : 
   pub costs : cost (assignment_of values) (present softs) ≡ weight
   pub least : (v : Assignment) → all_true v formula.clauses ≡ true → weight ≤ cost v (present softs)
 
--- what is found, from a state of the checker to another: a model of least cost, which is the bound; that there is no
--- model, with hints by which the empty clause follows, while conflicts are left; or that the conflicts are spent
+-- what is found, from a state of the checker to another: a model of least cost, which is the bound, with a value for each
+-- variable; that there is no model, with hints, numbers of a step, by which the empty clause follows, while conflicts are
+-- left; or that the conflicts are spent
 abbrev pub IsFound : Judge → State → State → Found → Type 0
 IsFound good old new (Least weight model) =
-    (weight ≡ new.bound) × ((formula : Cnf) (softs : List Soft) → IsReached good formula softs old → IsLeast formula softs weight model.values)
+    (weight ≡ new.bound) × (length model.values ≡ new.variables)
+    × ((formula : Cnf) (softs : List Soft) → IsReached good formula softs old → IsLeast formula softs weight model.values)
 IsFound good old new (NoModel hints) =
-    FollowsByHints (clause_at new.clauses) [] hints × (new.conflicts < new.budget)
+    FollowsByHints (clause_at new.clauses) [] hints × AreNumbers hints × (new.conflicts < new.budget)
     × ((formula : Cnf) (softs : List Soft) → IsReached good formula softs old → (v : Assignment) → all_true v formula.clauses ≡ true → ⊥)
 IsFound good old new Spent = new.conflicts ≡ new.budget

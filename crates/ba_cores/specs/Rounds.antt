@@ -1,6 +1,6 @@
 -- The rounds of the search for the least cost.
 
-use Rattle.std.specs.Prelude.{◌≡◌, ◌-◌, ◌<◌, false, Option, None, Some, List, [], map, reverse}
+use Rattle.std.specs.Prelude.{◌≡◌, ℕ, ◌+◌, ◌-◌, ◌<◌, not, ltb, false, Option, None, Some, List, [], map, filter, reverse}
 use Rattle.ba_lits.specs.Literals.{Literal, negate}
 use Rattle.ba_lits.specs.Satisfaction.{Soft}
 use Rattle.ba_steps.specs.States.{State}
@@ -22,6 +22,10 @@ use Rattle.ba_cores.specs.declared.costs.Found.{Found}
 abbrev pub literals_of : List Soft → List Literal
 literals_of softs = map (λ (s : Soft). s.0) softs
 
+-- the soft literals of at least a weight
+abbrev pub heavy : ℕ → List Soft → List Soft
+heavy weight softs = filter (λ (s : Soft). not (ltb s.1 weight)) softs
+
 -- the negations of literals, the last first
 abbrev pub negations_of : List Literal → List Literal
 negations_of lits = reverse (map negate lits)
@@ -38,10 +42,11 @@ pub record Puts (good : Judge) (old new : State) (old_logs new_logs : Logs) : Ty
   pub derives : Derives good old steps new
   pub logs : new_logs ≡ with_steps steps old_logs
 
--- what a round comes to: what is found; or nothing, and then fewer conflicts are left
-abbrev pub EndsRound : Judge → State → State → Option Found → Type 0
-EndsRound good old new (Some found) = IsFound good old new found
-EndsRound good old new None = new.budget - new.conflicts < old.budget - old.conflicts
+-- what a round comes to: what is found; or nothing, and then fewer conflicts are left, or the soft literals that are
+-- assumed get lighter, the weight from which on they are assumed being a second one in place of a first
+abbrev pub EndsRound : Judge → State → State → ℕ → ℕ → Option Found → Type 0
+EndsRound good old new before next (Some found) = IsFound good old new found
+EndsRound good old new before next None = (new.budget - new.conflicts) + next < (old.budget - old.conflicts) + before
 
 -- a core under the present soft literals; none, and the conflicts are spent
 abbrev pub IsTrimmed : State → Option Learnt → Type 0

@@ -1,17 +1,17 @@
 //! The least cost.
 
-ghost use Rattle.std.specs.Prelude.{◌≡◌, ◌≤◌, ◌⊎◌, ℕ, [], None, Some, false, List, IfOk, OnOk, Err};
+ghost use Rattle.std.specs.Prelude.{◌≡◌, ◌≤◌, ◌⊎◌, [], None, Some, false, List, IfOk, OnOk, Err};
 ghost use Rattle.ba_learn.specs.Live.{AreLive};
 ghost use Rattle.ba_steps.specs.States.{clause_at};
 ghost use Rattle.ba_steps.specs.Sinks.{Rose};
 ghost use Rattle.ba_steps.specs.declared.step.CertStep.{CertStep};
-ghost use Rattle.ba_search.specs.Rules.{IsRestartRule};
+ghost use Rattle.ba_search.specs.Rules.{IsRestartRule, IsKeepRule};
 ghost use Rattle.ba_search.specs.Searching.{with_steps};
 ghost use Rattle.ba_search.specs.declared.search.SearchError.{SearchError};
-ghost use Rattle.ba_cores.specs.Derivations.{Derives};
+ghost use Rattle.ba_cores.specs.Derivations.{Derives, Leaves};
 ghost use Rattle.ba_cores.specs.Findings.{IsFound};
 
-use crate::rounds::round;
+use crate::rounds::{heaviest, round};
 use ba_items::Items;
 use ba_lits::Model;
 use ba_search::{Search, SearchError};
@@ -33,6 +33,7 @@ pub enum Found {
 /// literals that are false. Learn and Core steps are put on the way.
 ///
 /// `SinkFailed` comes only where the sink's faults rose, or the search answered it before; `Memory` for want of memory.
+/// Steps that were put before an error stay put.
 pub fn least<S, J, R, K>(
     alloc: Global,
     search: &mut Search<R, K>,
@@ -44,16 +45,20 @@ where
     R: Fn(u64) -> u64 + Drop,
     K: Fn(u64, u64) -> bool + Drop,
     requires restart { IsRestartRule (R.pre search.old.restart) (R.post search.old.restart) }
-    requires same { AreLive search.old.clauses (clause_at checked.old.checker.clauses) }
-    requires begun { checked.old.checker.ended ≡ false }
-    requires awake { checked.old.checker.refused ≡ false }
-    requires fresh { checked.old.refusal ≡ None }
-    requires none_blocked { checked.old.checker.sets ≡ [] }
+    requires keep { IsKeepRule (K.pre search.old.keep) (K.post search.old.keep) }
+    requires same { search.old.failure ≡ None → AreLive search.old.clauses (clause_at checked.old.checker.clauses) }
+    requires begun { search.old.failure ≡ None → checked.old.checker.ended ≡ false }
+    requires awake { search.old.failure ≡ None → checked.old.checker.refused ≡ false }
+    requires fresh { search.old.failure ≡ None → checked.old.refusal ≡ None }
+    requires none_blocked { search.old.failure ≡ None → checked.old.checker.sets ≡ [] }
     ensures found { IfOk result (λ found. IsFound (J.accepts checked.old.judge) checked.old.checker checked.new.checker found) }
     ensures same { OnOk result (AreLive search.new.clauses (clause_at checked.new.checker.clauses)) }
     ensures steps { OnOk result ((steps : List CertStep)
         × Derives (J.accepts checked.old.judge) checked.old.checker steps checked.new.checker
         × (S.logs checked.new.sink ≡ with_steps steps (S.logs checked.old.sink))) }
+    ensures leaves { Leaves (J.accepts checked.old.judge) checked.old.checker (S.logs checked.old.sink) checked.new.checker (S.logs checked.new.sink) }
+    ensures stays_begun { OnOk result (checked.new.checker.ended ≡ false) }
+    ensures none_blocked { OnOk result (checked.new.checker.sets ≡ []) }
     ensures stays_fresh { OnOk result ((search.new.failure ≡ None) × (checked.new.refusal ≡ None)) }
     ensures awake { OnOk result (checked.new.checker.refused ≡ false) }
     ensures restart_stays { search.new.restart ≡ search.old.restart }
@@ -68,8 +73,9 @@ where
     ensures same_references { S.references checked.new.sink ≡ S.references checked.old.sink }
 {
     search.take_new(checked)?;
+    let mut weight = heaviest(checked.checker().softs());
     'rounds: loop {
-        if let Some(found) = round(alloc, search, checked)? {
+        if let Some(found) = round(alloc, search, checked, &mut weight)? {
             return Ok(found);
         }
     }

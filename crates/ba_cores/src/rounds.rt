@@ -1,30 +1,35 @@
-//! One round of the search for the least cost: a search under the present soft literals, and what its answer means.
+//! One round of the search for the least cost: a search under the heavy ones of the present soft literals, and what its
+//! answer means.
 
-ghost use Rattle.std.specs.Prelude.{◌≡◌, ◌-◌, ◌<◌, ◌≤◌, None, length, IfOk, OnOk, Err};
+ghost use Rattle.std.specs.Prelude.{◌≡◌, ◌-◌, ◌<◌, ◌≤◌, ◌∷◌, ◌++◌, [], None, true, false, length, IfOk, IfSome, IfNone, OnOk, Err};
 ghost use Rattle.ba_learn.specs.Live.{AreLive};
 ghost use Rattle.ba_steps.specs.States.{clause_at};
 ghost use Rattle.ba_steps.specs.Sinks.{Rose};
-ghost use Rattle.ba_search.specs.Rules.{IsRestartRule};
-ghost use Rattle.ba_search.specs.Answers.{IsAnswer, IsCore};
+ghost use Rattle.ba_search.specs.Rules.{IsRestartRule, IsKeepRule};
+ghost use Rattle.ba_search.specs.Answers.{IsAnswer, IsCore, IsModel};
 ghost use Rattle.ba_search.specs.declared.search.SearchError.{SearchError};
-ghost use Rattle.ba_cores.specs.Rounds.{literals_of, IsReady, Puts, EndsRound, error_of_sink};
+ghost use Rattle.ba_cores.specs.Derivations.{Leaves};
+ghost use Rattle.ba_cores.specs.Findings.{IsFound};
+ghost use Rattle.ba_cores.specs.Rounds.{literals_of, heavy, IsReady, Puts, EndsRound, error_of_sink};
 
 use crate::costs::Found;
 use crate::trimming::trim;
 use ba_learn::Learnt;
-use ba_lits::Lit;
+use ba_lits::{Lit, Model};
 use ba_search::{Answer, Search, SearchError};
 use ba_steps::{CertStep, Checked, RunJudge, SinkError, StepSink};
 use std::alloc::{AllocError, Global};
 
-/// Searches once for a model that satisfies all present soft literals. What is found, or nothing where a core came
-/// back, which was then put as a step.
+/// Searches once for a model that satisfies the present soft literals of at least a weight. What is found, or nothing
+/// where a core came back, which was then put as a step, or a model while there are lighter ones; the weight is then a
+/// smaller one.
 ///
 /// `SinkFailed` comes only where the sink's faults rose; `Memory` for want of memory.
 pub fn round<S, J, R, K>(
     alloc: Global,
     search: &mut Search<R, K>,
     checked: &mut Checked<S, J>,
+    weight: &mut u32,
 ) -> Result<Option<Found>, SearchError>
 where
     S: StepSink + Drop,
@@ -32,13 +37,15 @@ where
     R: Fn(u64) -> u64 + Drop,
     K: Fn(u64, u64) -> bool + Drop,
     requires restart { IsRestartRule (R.pre search.old.restart) (R.post search.old.restart) }
+    requires keep { IsKeepRule (K.pre search.old.keep) (K.post search.old.keep) }
     requires same { AreLive search.old.clauses (clause_at checked.old.checker.clauses) }
     requires ready { IsReady checked.old.checker }
     requires fresh { checked.old.refusal ≡ None }
     requires working { search.old.failure ≡ None }
-    ensures found { IfOk result (λ found. EndsRound (J.accepts checked.old.judge) checked.old.checker checked.new.checker found) }
+    ensures found { IfOk result (λ found. EndsRound (J.accepts checked.old.judge) checked.old.checker checked.new.checker weight.old weight.new found) }
     ensures same { OnOk result (AreLive search.new.clauses (clause_at checked.new.checker.clauses)) }
     ensures puts { OnOk result (Puts (J.accepts checked.old.judge) checked.old.checker checked.new.checker (S.logs checked.old.sink) (S.logs checked.new.sink)) }
+    ensures leaves { Leaves (J.accepts checked.old.judge) checked.old.checker (S.logs checked.old.sink) checked.new.checker (S.logs checked.new.sink) }
     ensures stays_fresh { OnOk result ((search.new.failure ≡ None) × (checked.new.refusal ≡ None)) }
     ensures restart_stays { search.new.restart ≡ search.old.restart }
     ensures keep_stays { search.new.keep ≡ search.old.keep }
@@ -48,20 +55,22 @@ where
     ensures no_fall { S.faults checked.old.sink ≤ S.faults checked.new.sink }
     ensures same_references { S.references checked.new.sink ≡ S.references checked.old.sink }
 {
-    let Ok(assumptions) = literals(alloc, checked.checker().softs()) else {
+    let Ok(assumptions) = heavy_literals(alloc, checked.checker().softs(), *weight) else {
         return Err(SearchError::Memory);
     };
     let answer = search.solve(assumptions.as_slice(), checked)?;
-    take_answer(alloc, search, checked, answer)
+    take_answer(alloc, search, checked, weight, answer)
 }
 
-/// Takes what a search under the present soft literals answers: a model, which is of least cost, or a core.
+/// Takes what a search under the soft literals of at least a weight answers: a model, which is of least cost where there
+/// are no lighter ones, or a core.
 ///
 /// `SinkFailed` comes only where the sink's faults rose; `Memory` for want of memory.
 fn take_answer<S, J, R, K>(
     alloc: Global,
     search: &mut Search<R, K>,
     checked: &mut Checked<S, J>,
+    weight: &mut u32,
     answer: Answer,
 ) -> Result<Option<Found>, SearchError>
 where
@@ -70,14 +79,16 @@ where
     R: Fn(u64) -> u64 + Drop,
     K: Fn(u64, u64) -> bool + Drop,
     requires restart { IsRestartRule (R.pre search.old.restart) (R.post search.old.restart) }
-    requires answer { IsAnswer checked.old.checker (literals_of checked.old.checker.softs) answer }
+    requires keep { IsKeepRule (K.pre search.old.keep) (K.post search.old.keep) }
+    requires answer { IsAnswer checked.old.checker (literals_of (heavy weight.old checked.old.checker.softs)) answer }
     requires same { AreLive search.old.clauses (clause_at checked.old.checker.clauses) }
     requires ready { IsReady checked.old.checker }
     requires fresh { checked.old.refusal ≡ None }
     requires working { search.old.failure ≡ None }
-    ensures found { IfOk result (λ found. EndsRound (J.accepts checked.old.judge) checked.old.checker checked.new.checker found) }
+    ensures found { IfOk result (λ found. EndsRound (J.accepts checked.old.judge) checked.old.checker checked.new.checker weight.old weight.new found) }
     ensures same { OnOk result (AreLive search.new.clauses (clause_at checked.new.checker.clauses)) }
     ensures puts { OnOk result (Puts (J.accepts checked.old.judge) checked.old.checker checked.new.checker (S.logs checked.old.sink) (S.logs checked.new.sink)) }
+    ensures leaves { Leaves (J.accepts checked.old.judge) checked.old.checker (S.logs checked.old.sink) checked.new.checker (S.logs checked.new.sink) }
     ensures stays_fresh { OnOk result ((search.new.failure ≡ None) × (checked.new.refusal ≡ None)) }
     ensures restart_stays { search.new.restart ≡ search.old.restart }
     ensures keep_stays { search.new.keep ≡ search.old.keep }
@@ -88,13 +99,32 @@ where
     ensures same_references { S.references checked.new.sink ≡ S.references checked.old.sink }
 {
     match answer {
-        Answer::Model(model) => Ok(Some(Found::Least {
-            weight: checked.checker().bound(),
-            model,
-        })),
+        Answer::Model(model) => Ok(take_model(checked, weight, model)),
         Answer::Core(core) => take_core(alloc, search, checked, core),
         Answer::Spent => Ok(Some(Found::Spent)),
     }
+}
+
+/// Takes a model of the soft literals of at least a weight. It is of least cost where there are no lighter ones; else
+/// the weight gets smaller.
+fn take_model<S: Drop, J: RunJudge + Drop>(
+    checked: &Checked<S, J>,
+    weight: &mut u32,
+    model: Model,
+) -> Option<Found>
+    requires model { IsModel checked.now.checker (literals_of (heavy weight.old checked.now.checker.softs)) model.values }
+    ensures found { IfSome result (IsFound (J.accepts checked.now.judge) checked.now.checker checked.now.checker) }
+    ensures less { IfNone result (weight.new < weight.old) }
+{
+    let checker = checked.checker();
+    if !are_heavy(checker.softs(), *weight) {
+        *weight = next_weight(checker.softs(), *weight).min(*weight / 2);
+        return None;
+    }
+    Some(Found::Least {
+        weight: checker.bound(),
+        model,
+    })
 }
 
 /// Takes a core: it is shortened, and then says that there is no model or is put as a step.
@@ -112,14 +142,16 @@ where
     R: Fn(u64) -> u64 + Drop,
     K: Fn(u64, u64) -> bool + Drop,
     requires restart { IsRestartRule (R.pre search.old.restart) (R.post search.old.restart) }
+    requires keep { IsKeepRule (K.pre search.old.keep) (K.post search.old.keep) }
     requires core { IsCore checked.old.checker (literals_of checked.old.checker.softs) core.lits core.hints core.back }
     requires same { AreLive search.old.clauses (clause_at checked.old.checker.clauses) }
     requires ready { IsReady checked.old.checker }
     requires fresh { checked.old.refusal ≡ None }
     requires working { search.old.failure ≡ None }
-    ensures found { IfOk result (λ found. EndsRound (J.accepts checked.old.judge) checked.old.checker checked.new.checker found) }
+    ensures found { IfOk result (λ found. EndsRound (J.accepts checked.old.judge) checked.old.checker checked.new.checker 0 0 found) }
     ensures same { OnOk result (AreLive search.new.clauses (clause_at checked.new.checker.clauses)) }
     ensures puts { OnOk result (Puts (J.accepts checked.old.judge) checked.old.checker checked.new.checker (S.logs checked.old.sink) (S.logs checked.new.sink)) }
+    ensures leaves { Leaves (J.accepts checked.old.judge) checked.old.checker (S.logs checked.old.sink) checked.new.checker (S.logs checked.new.sink) }
     ensures stays_fresh { OnOk result ((search.new.failure ≡ None) × (checked.new.refusal ≡ None)) }
     ensures restart_stays { search.new.restart ≡ search.old.restart }
     ensures keep_stays { search.new.keep ≡ search.old.keep }
@@ -153,9 +185,10 @@ where
     requires ready { IsReady checked.old.checker }
     requires fresh { checked.old.refusal ≡ None }
     requires working { search.old.failure ≡ None }
-    ensures found { IfOk result (λ found. EndsRound (J.accepts checked.old.judge) checked.old.checker checked.new.checker found) }
+    ensures found { IfOk result (λ found. EndsRound (J.accepts checked.old.judge) checked.old.checker checked.new.checker 0 0 found) }
     ensures same { OnOk result (AreLive search.new.clauses (clause_at checked.new.checker.clauses)) }
     ensures puts { OnOk result (Puts (J.accepts checked.old.judge) checked.old.checker checked.new.checker (S.logs checked.old.sink) (S.logs checked.new.sink)) }
+    ensures leaves { Leaves (J.accepts checked.old.judge) checked.old.checker (S.logs checked.old.sink) checked.new.checker (S.logs checked.new.sink) }
     ensures stays_fresh { OnOk result ((search.new.failure ≡ None) × (checked.new.refusal ≡ None)) }
     ensures restart_stays { search.new.restart ≡ search.old.restart }
     ensures keep_stays { search.new.keep ≡ search.old.keep }
@@ -192,6 +225,7 @@ where
     requires fresh { checked.old.refusal ≡ None }
     requires working { search.old.failure ≡ None }
     ensures puts { OnOk result (Puts (J.accepts checked.old.judge) checked.old.checker checked.new.checker (S.logs checked.old.sink) (S.logs checked.new.sink)) }
+    ensures leaves { Leaves (J.accepts checked.old.judge) checked.old.checker (S.logs checked.old.sink) checked.new.checker (S.logs checked.new.sink) }
     ensures fewer { OnOk result (checked.new.checker.budget - checked.new.checker.conflicts < checked.old.checker.budget - checked.old.checker.conflicts) }
     ensures same { OnOk result (AreLive search.new.clauses (clause_at checked.new.checker.clauses)) }
     ensures stays_fresh { OnOk result ((search.new.failure ≡ None) × (checked.new.refusal ≡ None)) }
@@ -204,9 +238,6 @@ where
     ensures same_references { S.references checked.new.sink ≡ S.references checked.old.sink }
 {
     checked.checker().keeps_facts();
-    if checked.checker().last() >= 1 << 62 {
-        return Err(SearchError::Memory);
-    }
     let step = CertStep::Core {
         lits: core.lits,
         hints: core.hints,
@@ -227,15 +258,56 @@ fn search_error(refusal: SinkError) -> SearchError
     }
 }
 
-/// The soft literals without their weights, in their order.
+/// The soft literals of at least a weight, without their weights, in their order.
 ///
 /// The one error is want of memory.
-fn literals(alloc: Global, softs: &[(Lit, u32)]) -> Result<Vec<Lit>, AllocError>
-    ensures { IfOk result (λ lits. lits.items ≡ literals_of softs.now) }
+fn heavy_literals(alloc: Global, softs: &[(Lit, u32)], weight: u32) -> Result<Vec<Lit>, AllocError>
+    ensures { IfOk result (λ lits. lits.items ≡ literals_of (heavy weight softs.now)) }
 {
-    let mut lits = Vec::with_capacity(alloc, softs.len())?;
+    let mut lits = Vec::new(alloc);
     for soft in softs {
-        lits.push(soft.0)?;
+        add_heavy(&mut lits, *soft, weight)?;
     }
     Ok(lits)
+}
+
+/// Adds a soft literal of at least a weight.
+///
+/// The one error is want of memory.
+fn add_heavy(lits: &mut Vec<Lit>, soft: (Lit, u32), weight: u32) -> Result<(), AllocError>
+    ensures { OnOk result (lits.new.items ≡ lits.old.items ++ literals_of (heavy weight (soft ∷ []))) }
+{
+    if soft.1 >= weight {
+        lits.push(soft.0)?;
+    }
+    Ok(())
+}
+
+/// Whether all soft literals are of at least a weight.
+fn are_heavy(softs: &[(Lit, u32)], weight: u32) -> bool
+    ensures all { result ≡ true → heavy weight softs.now ≡ softs.now }
+    ensures one { result ≡ false → 1 ≤ weight }
+{
+    for soft in softs {
+        if soft.1 < weight {
+            return false;
+        }
+    }
+    true
+}
+
+/// The greatest weight of the soft literals.
+pub fn heaviest(softs: &[(Lit, u32)]) -> u32 {
+    next_weight(softs, u32::MAX)
+}
+
+/// The greatest weight of the soft literals of less than a weight.
+fn next_weight(softs: &[(Lit, u32)], weight: u32) -> u32 {
+    let mut heaviest = 0;
+    for soft in softs {
+        if soft.1 < weight {
+            heaviest = soft.1.max(heaviest);
+        }
+    }
+    heaviest
 }

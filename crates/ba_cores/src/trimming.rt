@@ -4,9 +4,10 @@ ghost use Rattle.std.specs.Prelude.{◌≡◌, ◌≤◌, None, IfOk, OnOk, Err}
 ghost use Rattle.ba_learn.specs.Live.{AreLive};
 ghost use Rattle.ba_steps.specs.States.{clause_at};
 ghost use Rattle.ba_steps.specs.Sinks.{Rose};
-ghost use Rattle.ba_search.specs.Rules.{IsRestartRule};
+ghost use Rattle.ba_search.specs.Rules.{IsRestartRule, IsKeepRule};
 ghost use Rattle.ba_search.specs.Answers.{IsCore};
 ghost use Rattle.ba_search.specs.declared.search.SearchError.{SearchError};
+ghost use Rattle.ba_cores.specs.Derivations.{Leaves};
 ghost use Rattle.ba_cores.specs.Rounds.{literals_of, negations_of, IsReady, Puts, IsTrimmed};
 
 use ba_learn::Learnt;
@@ -15,8 +16,8 @@ use ba_search::{Answer, Search, SearchError};
 use ba_steps::{Checked, RunJudge, StepSink};
 use std::alloc::{AllocError, Global};
 
-/// A core of some literals of a core; none where the conflicts are spent. Since the core follows by propagation, a
-/// conflict comes without a decision of the search.
+/// A core sought again under the negations of a core's literals; none where the conflicts are spent. Since the core
+/// follows by propagation, a conflict comes without a decision of the search.
 ///
 /// `SinkFailed` comes only where the sink's faults rose; `Memory` for want of memory.
 pub fn trim<S, J, R, K>(
@@ -31,6 +32,7 @@ where
     R: Fn(u64) -> u64 + Drop,
     K: Fn(u64, u64) -> bool + Drop,
     requires restart { IsRestartRule (R.pre search.old.restart) (R.post search.old.restart) }
+    requires keep { IsKeepRule (K.pre search.old.keep) (K.post search.old.keep) }
     requires core { IsCore checked.old.checker (literals_of checked.old.checker.softs) core.lits core.hints core.back }
     requires same { AreLive search.old.clauses (clause_at checked.old.checker.clauses) }
     requires ready { IsReady checked.old.checker }
@@ -39,6 +41,7 @@ where
     ensures core { IfOk result (λ core. IsTrimmed checked.new.checker core) }
     ensures same { OnOk result (AreLive search.new.clauses (clause_at checked.new.checker.clauses)) }
     ensures puts { OnOk result (Puts (J.accepts checked.old.judge) checked.old.checker checked.new.checker (S.logs checked.old.sink) (S.logs checked.new.sink)) }
+    ensures leaves { Leaves (J.accepts checked.old.judge) checked.old.checker (S.logs checked.old.sink) checked.new.checker (S.logs checked.new.sink) }
     ensures stays_fresh { OnOk result ((search.new.failure ≡ None) × (checked.new.refusal ≡ None)) }
     ensures restart_stays { search.new.restart ≡ search.old.restart }
     ensures keep_stays { search.new.keep ≡ search.old.keep }

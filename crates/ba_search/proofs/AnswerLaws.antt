@@ -8,7 +8,7 @@ use Rattle.std.proofs.lemmas.List.Elements.{All-from_get_or}
 use Rattle.std.specs.List.Sorted.{IsPermutation}
 use Rattle.ba_lits.specs.Literals.{Literal, negate, lit_at, no_literal, IsClause}
 use Rattle.ba_lits.specs.Satisfaction.{Assignment, signed, lit_true, any_true, assignment_of}
-use Rattle.ba_lits.specs.Hints.{has_literal}
+use Rattle.ba_lits.specs.Hints.{has_literal, FollowsByHints}
 use Rattle.ba_watch.specs.Threads.{Clause}
 use Rattle.ba_watch.specs.Trails.{same_sign, value_of, place_of, reason_of, decided}
 use Rattle.ba_watch.specs.Propagation.{State as Watching, falsified, is_false, clause_in, plain_lits, IsComplete, IsAsserting, KeepsFacts}
@@ -25,13 +25,15 @@ use Rattle.ba_search.specs.Answers.{AreAssumptions, IsModel, IsCore}
 use Rattle.ba_search.specs.Choices.{positive, is_true, values_of}
 use Rattle.ba_search.specs.Turns.{AreTrue, IsUnderway}
 use Rattle.ba_search.proofs.TakenLaws.{taken_live}
-use Rattle.ba_search.proofs.LearnLaws.{Formed, clause_formed}
+use Rattle.ba_search.proofs.LearnLaws.{Formed, clause_formed, learnt_numbers}
 
-pub underway_live : (a : List Literal) (s : Watching) (taken : ℕ) (c : State) → IsUnderway a s taken c → AreLive s.clauses (clause_at c.clauses)
+pub underway_live : (a : List Literal) (s : Watching) (taken : ℕ) (c : State) → IsUnderway a s taken c →
+    AreLive s.clauses (clause_at c.clauses)
 underway_live a s taken c u = taken_live s.clauses taken c.clauses u.taken_are u.all
 
 -- where a learnt clause may be added
-pub jump_level : (s t : Watching) (lits lits' : List Literal) (back : ℕ) → KeepsFacts s → IsBacked s lits back → t ≡ after_back back s → lits' ≡ lits → (decided t.reasons ≡ 0) ⊎ IsAsserting t lits'
+pub jump_level : (s t : Watching) (lits lits' : List Literal) (back : ℕ) → KeepsFacts s → IsBacked s lits back →
+    t ≡ after_back back s → lits' ≡ lits → (decided t.reasons ≡ 0) ⊎ IsAsserting t lits'
 jump_level s t lits lits' back facts backed is same = ⊎_elim
     (λ none. inl (ap (λ (x : Watching). decided x.reasons) is ∙ (back_level s lits back backed ∙ none)))
     (λ some. inr (subst (λ (x : Watching). IsAsserting x lits') (sym is) (subst (λ (ls : List Literal). IsAsserting (after_back back s) ls) (sym same) (back_asserting s lits back facts backed some))))
@@ -42,14 +44,17 @@ jump_level s t lits lits' back facts backed is same = ⊎_elim
     zero_or (suc n) = inr (omega arith)
 
 -- assumptions
-pub assumed_within : (n : ℕ) (a : List Literal) (l : Literal) → AreAssumptions n a → has_literal l a ≡ true → l.variable ≤ n
+pub assumed_within : (n : ℕ) (a : List Literal) (l : Literal) → AreAssumptions n a → has_literal l a ≡ true →
+    l.variable ≤ n
 assumed_within n a l are has = let k = has_at l a has in subst (λ (x : Literal). x.variable ≤ n) k.2 (are.within k.0 k.1)
 
-pub assumptions_within : (n v : ℕ) (a : List Literal) → AreAssumptions n a → n ≤ v → (k : ℕ) → k < length a → (lit_at a k).variable ≤ v
+pub assumptions_within : (n v : ℕ) (a : List Literal) → AreAssumptions n a → n ≤ v → (k : ℕ) → k < length a →
+    (lit_at a k).variable ≤ v
 assumptions_within n v a are le k k_in = omega (arith, are.within k k_in, le)
 
 -- two assumptions of one variable are one
-one_assumption : (n : ℕ) (a : List Literal) (l m : Literal) → AreAssumptions n a → has_literal l a ≡ true → has_literal m a ≡ true → l.variable ≡ m.variable → l ≡ m
+one_assumption : (n : ℕ) (a : List Literal) (l m : Literal) → AreAssumptions n a → has_literal l a ≡ true →
+    has_literal m a ≡ true → l.variable ≡ m.variable → l ≡ m
 one_assumption n a l m are has_l has_m same =
     let j = has_at l a has_l in
     let k = has_at m a has_m in
@@ -73,7 +78,8 @@ no_fixed l e = step l.negated (ap (λ (x : Literal). x.negated) e)
     step false e = cc e
 
 -- what is true on a front of the trail is true on all of it
-front_true : (T a : List Literal) (p : ℕ) (l : Literal) → AreTrue (take p T) a → has_literal l a ≡ true → value_of T l ≡ Some true
+front_true : (T a : List Literal) (p : ℕ) (l : Literal) → AreTrue (take p T) a → has_literal l a ≡ true →
+    value_of T l ≡ Some true
 front_true T a p l are has =
     let k = has_at l a has in
     ap (λ (ys : List Literal). value_of ys l) (sym (take-append-drop p T)) ∙ value_of-more (take p T) (drop p T) l true (ap (value_of (take p T)) (sym k.2) ∙ are k.0 k.1)
@@ -84,13 +90,15 @@ module _ (a : List Literal) (s : Watching) (taken : ℕ) (c : State) (facts : Ke
   not_all p t = cc (sym (front_true s.trail a p l t one) ∙ false_)
 
   -- what was decided is an assumption
-  decided_assumption : (p : ℕ) → p < length s.trail → get_or s.reasons p None ≡ None → has_literal (lit_at s.trail p) a ≡ true
+  decided_assumption : (p : ℕ) → p < length s.trail → get_or s.reasons p None ≡ None →
+      has_literal (lit_at s.trail p) a ≡ true
   decided_assumption p within none = ⊎_elim (λ h. h) (λ t. absurd (not_all p t)) (u.choices p within none).given
 
   pub core_reason_some : IsSome (reason_of s.trail s.reasons l.variable)
   core_reason_some = step (get_or s.reasons (place_of s.trail l.variable) None) refl
     where
-      step : (o : Option ℕ) → get_or s.reasons (place_of s.trail l.variable) None ≡ o → IsSome (get_or s.reasons (place_of s.trail l.variable) None)
+      step : (o : Option ℕ) → get_or s.reasons (place_of s.trail l.variable) None ≡ o →
+          IsSome (get_or s.reasons (place_of s.trail l.variable) None)
       step (Some r) is = subst (λ (x : Option ℕ). IsSome x) (sym is) refl
       step None is =
           let p : ℕ = place_of s.trail l.variable in
@@ -103,7 +111,8 @@ module _ (a : List Literal) (s : Watching) (taken : ℕ) (c : State) (facts : Ke
   negates_one x (inl is) = subst (λ (y : Literal). has_literal y a ≡ true) (sym (ap negate is ∙ negate-negate l)) one
   negates_one x (inr d) = subst (λ (y : Literal). has_literal y a ≡ true) (sym (ap negate d.3 ∙ negate-negate (lit_at s.trail d.0))) (decided_assumption d.0 d.1 d.2)
 
-  pub core_answer : (lits : List Literal) (hints : List ℕ) (back : ℕ) → IsClause s.variables lits → Follows s.clauses lits hints → IsCoreOf s l lits → back ≡ 0 → c.conflicts < c.budget → IsCore c a lits hints back
+  pub core_answer : (lits : List Literal) (hints : List ℕ) (back : ℕ) → IsClause s.variables lits →
+      Follows s.clauses lits hints → IsCoreOf s l lits → back ≡ 0 → c.conflicts < c.budget → IsCore c a lits hints back
   core_answer lits hints back clause follows core none left = record {
     clause = record {
       ascends = clause.ascends;
@@ -111,30 +120,40 @@ module _ (a : List Literal) (s : Watching) (taken : ℕ) (c : State) (facts : Ke
       within = λ k k_in. assumed_within c.variables a (negate (lit_at lits k)) are (negates_one (lit_at lits k) (core k k_in));
     };
     follows = follows (clause_at c.clauses) (underway_live a s taken c u);
+    numbers = learnt_numbers s.clauses taken c lits hints u.taken_are u.all (follows (clause_at c.clauses) (underway_live a s taken c u));
     negates = λ k k_in. negates_one (lit_at lits k) (core k k_in);
     level = none;
     left = left;
   }
 
-pub empty_core : (a : List Literal) (s : Watching) (taken : ℕ) (c : State) (lits : List Literal) (hints given : List ℕ) → IsUnderway a s taken c → lits ≡ [] → hints ≡ given → Follows s.clauses [] given → c.conflicts < c.budget → IsCore c a lits hints 0
+pub empty_core : (a : List Literal) (s : Watching) (taken : ℕ) (c : State) (lits : List Literal) (hints given : List ℕ) →
+    IsUnderway a s taken c → lits ≡ [] → hints ≡ given → Follows s.clauses [] given → c.conflicts < c.budget →
+    IsCore c a lits hints 0
 empty_core a s taken c lits hints given u none same follows left = subst (λ (ls : List Literal). IsCore c a ls hints 0) (sym none) (record {
   clause = record {
     ascends = λ j k lt k_in. absurd (omega arith);
     counted = λ k k_in. absurd (omega arith);
     within = λ k k_in. absurd (omega arith);
   };
-  follows = subst (λ (hs : List ℕ). Rattle.ba_lits.specs.Hints.FollowsByHints (clause_at c.clauses) [] hs) (sym same) (follows (clause_at c.clauses) (underway_live a s taken c u));
+  follows = empty_follows;
+  numbers = learnt_numbers s.clauses taken c [] hints u.taken_are u.all empty_follows;
   negates = λ k k_in. absurd (omega arith);
   level = refl;
   left = left;
 })
+  where
+    empty_follows : FollowsByHints (clause_at c.clauses) [] hints
+    empty_follows =
+        subst (λ (hs : List ℕ). FollowsByHints (clause_at c.clauses) [] hs) (sym same)
+        (follows (clause_at c.clauses) (underway_live a s taken c u))
 
 -- a model
 pub values_length : (T : List Literal) (n : ℕ) → length (values_of T n) ≡ n
 values_length T zero = refl
 values_length T (suc n) = omega (arith, length_push (values_of T n) (is_true (value_of T (positive (suc n)))), values_length T n)
 
-values_at : (T : List Literal) (n k : ℕ) → k < n → get_or (values_of T n) k false ≡ is_true (value_of T (positive (suc k)))
+values_at : (T : List Literal) (n k : ℕ) → k < n →
+    get_or (values_of T n) k false ≡ is_true (value_of T (positive (suc k)))
 values_at T zero k lt = absurd (omega arith)
 values_at T (suc n) k lt = ⊎_elim
     (λ before. get_or_append_left (values_of T n) (is_true (value_of T (positive (suc n))) ∷ []) false k (omega (arith, values_length T n, before)) ∙ values_at T n k before)
@@ -146,18 +165,21 @@ values_at T (suc n) k lt = ⊎_elim
     (cases_lt k n)
 
 -- a literal that is true gives its variable the value
-signed_value : (T : List Literal) (l : Literal) → value_of T l ≡ Some true → signed l.negated (is_true (value_of T (positive l.variable))) ≡ true
+signed_value : (T : List Literal) (l : Literal) → value_of T l ≡ Some true →
+    signed l.negated (is_true (value_of T (positive l.variable))) ≡ true
 signed_value [] l is = absurd (cc is)
 signed_value (t ∷ ts) l is = step (eqb t.variable l.variable) t.negated l.negated (value_of ts l) (value_of ts (positive l.variable)) (signed_value ts l) is
   where
-    step : (b s n : Bool) (v w : Option Bool) → (v ≡ Some true → signed n (is_true w) ≡ true) → cond b (Some (same_sign s n)) v ≡ Some true → signed n (is_true (cond b (Some (same_sign s false)) w)) ≡ true
+    step : (b s n : Bool) (v w : Option Bool) → (v ≡ Some true → signed n (is_true w) ≡ true) →
+        cond b (Some (same_sign s n)) v ≡ Some true → signed n (is_true (cond b (Some (same_sign s false)) w)) ≡ true
     step true true true v w rest e = refl
     step true true false v w rest e = absurd (cc e)
     step true false true v w rest e = absurd (cc e)
     step true false false v w rest e = refl
     step false s n v w rest e = rest e
 
-true_literal : (T : List Literal) (n : ℕ) (l : Literal) → 1 ≤ l.variable → l.variable ≤ n → value_of T l ≡ Some true → lit_true (assignment_of (values_of T n)) l ≡ true
+true_literal : (T : List Literal) (n : ℕ) (l : Literal) → 1 ≤ l.variable → l.variable ≤ n → value_of T l ≡ Some true →
+    lit_true (assignment_of (values_of T n)) l ≡ true
 true_literal T n l counted within is =
     ap (signed l.negated) (values_at T n (l.variable - 1) (omega (arith, counted, within)) ∙ ap (λ (x : ℕ). is_true (value_of T (positive x))) (later l.variable counted))
     ∙ signed_value T l is
@@ -166,16 +188,22 @@ true_literal T n l counted within is =
     later x some = omega (arith, some)
 
 -- a clause that isn't false and whose literals have values has one that is true
-some_true : (value : Literal → Option Bool) (xs : List Literal) → is_false value xs ≡ false → ((k : ℕ) → k < length xs → value (lit_at xs k) ≢ None) → (k : ℕ) × (k < length xs) × (value (lit_at xs k) ≡ Some true)
+some_true : (value : Literal → Option Bool) (xs : List Literal) → is_false value xs ≡ false →
+    ((k : ℕ) → k < length xs → value (lit_at xs k) ≢ None) →
+    (k : ℕ) × (k < length xs) × (value (lit_at xs k) ≡ Some true)
 some_true value [] open_ all = absurd (cc open_)
 some_true value (x ∷ xs) open_ all = step (value x) refl (λ e. some_true value xs e (λ k k_in. all (suc k) (omega (arith, k_in)))) open_
   where
-    step : (o : Option Bool) → value x ≡ o → (is_false value xs ≡ false → (k : ℕ) × (k < length xs) × (value (lit_at xs k) ≡ Some true)) → (falsified o && is_false value xs) ≡ false → (k : ℕ) × (k < suc (length xs)) × (value (lit_at (x ∷ xs) k) ≡ Some true)
+    step : (o : Option Bool) → value x ≡ o →
+        (is_false value xs ≡ false → (k : ℕ) × (k < length xs) × (value (lit_at xs k) ≡ Some true)) →
+        (falsified o && is_false value xs) ≡ false →
+        (k : ℕ) × (k < suc (length xs)) × (value (lit_at (x ∷ xs) k) ≡ Some true)
     step None is rest e = absurd (all 0 (omega arith) is)
     step (Some true) is rest e = (0, omega arith, is)
     step (Some false) is rest e = let r = rest e in (suc r.0, omega (arith, r.1), r.2)
 
-any_at : (v : Assignment) (xs : List Literal) (k : ℕ) → k < length xs → lit_true v (lit_at xs k) ≡ true → any_true v xs ≡ true
+any_at : (v : Assignment) (xs : List Literal) (k : ℕ) → k < length xs → lit_true v (lit_at xs k) ≡ true →
+    any_true v xs ≡ true
 any_at v [] k k_in is = absurd (omega arith)
 any_at v (x ∷ xs) zero k_in is = ap (λ (b : Bool). b || any_true v xs) is
 any_at v (x ∷ xs) (suc k) k_in is = step (lit_true v x) (any_at v xs k (omega (arith, k_in)) is)
@@ -184,7 +212,9 @@ any_at v (x ∷ xs) (suc k) k_in is = step (lit_true v x) (any_at v xs k (omega 
     step true e = refl
     step false e = e
 
-clause_holds : (T : List Literal) (n : ℕ) (given lits : List Literal) → IsPermutation given lits → IsClause n given → is_false (value_of T) lits ≡ false → ((l : Literal) → 1 ≤ l.variable → l.variable ≤ n → value_of T l ≢ None) → any_true (assignment_of (values_of T n)) given ≡ true
+clause_holds : (T : List Literal) (n : ℕ) (given lits : List Literal) → IsPermutation given lits → IsClause n given →
+    is_false (value_of T) lits ≡ false → ((l : Literal) → 1 ≤ l.variable → l.variable ≤ n → value_of T l ≢ None) →
+    any_true (assignment_of (values_of T n)) given ≡ true
 clause_holds T n given lits perm form open_ valued =
     let t = some_true (value_of T) lits open_ (λ k k_in. let j = place k k_in in valued (lit_at lits k) (subst (λ (l : Literal). 1 ≤ l.variable) j.2 (form.counted j.0 j.1)) (subst (λ (l : Literal). l.variable ≤ n) j.2 (form.within j.0 j.1))) in
     let j = place t.0 t.1 in
@@ -193,7 +223,8 @@ clause_holds T n given lits perm form open_ valued =
     place : (k : ℕ) → k < length lits → (j : ℕ) × (j < length given) × (lit_at given j ≡ lit_at lits k)
     place k k_in = has_at (lit_at lits k) given (has-permutation (lit_at lits k) given lits perm ∙ has-at lits k k_in)
 
-open_clause : (clauses : List (Option Clause)) (T : List Literal) (r : ℕ) (x : Clause) → IsComplete clauses T → clause_in clauses r ≡ Some x → is_false (value_of T) x.lits ≡ false
+open_clause : (clauses : List (Option Clause)) (T : List Literal) (r : ℕ) (x : Clause) → IsComplete clauses T →
+    clause_in clauses r ≡ Some x → is_false (value_of T) x.lits ≡ false
 open_clause clauses T r x complete is =
     subst (λ (ls : List Literal). is_false (value_of T) ls ≡ false) (ap plain_lits is) (complete.none_false r (subst (λ (o : Option Clause). IsSome o) (sym is) refl))
 
@@ -205,7 +236,8 @@ module _ (a : List Literal) (s : Watching) (taken : ℕ) (c : State) (formed : F
       step None e f = cc f
       step (Some b) e f = cc e
 
-  clause_true : (number : ℕ) (given : List Literal) → clause_at c.clauses number ≡ Some given → any_true (assignment_of (values_of s.trail c.variables)) given ≡ true
+  clause_true : (number : ℕ) (given : List Literal) → clause_at c.clauses number ≡ Some given →
+      any_true (assignment_of (values_of s.trail c.variables)) given ≡ true
   clause_true number given is =
       let live = underway_live a s taken c u in
       let r = live.all number given is in
@@ -213,7 +245,8 @@ module _ (a : List Literal) (s : Watching) (taken : ℕ) (c : State) (formed : F
       (subst (λ (o : Option (List Literal)). IsSame o r.1.lits) (ap (clause_at c.clauses) r.3 ∙ is) (live.each r.0 r.1 r.2))
       (clause_formed c number given formed u.awake is) (open_clause s.clauses s.trail r.0 r.1 complete r.2) has_value
 
-  pub model_answer : (values : List Bool) → AreAssumptions c.variables a → AreTrue s.trail a → values ≡ values_of s.trail c.variables → IsModel c a values
+  pub model_answer : (values : List Bool) → AreAssumptions c.variables a → AreTrue s.trail a →
+      values ≡ values_of s.trail c.variables → IsModel c a values
   model_answer values are true_ is = subst (λ (vs : List Bool). IsModel c a vs) (sym is) (record {
     all = values_length s.trail c.variables;
     clauses = clause_true;

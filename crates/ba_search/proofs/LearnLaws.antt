@@ -36,13 +36,15 @@ abbrev pub Formed : State → Type 0
 Formed c = IsState c.variables c.clauses c.softs c.conflicts c.budget c.learnt c.refused
 
 -- the clause of a number is formed
-at_formed : (n : ℕ) (cs : List Kept) (k : ℕ) (c : List Literal) → All (λ (x : Kept). IsClause n x.lits) cs → option_map (λ (x : Kept). x.lits) (slice_get cs k) ≡ Some c → k < length cs → IsClause n c
+at_formed : (n : ℕ) (cs : List Kept) (k : ℕ) (c : List Literal) → All (λ (x : Kept). IsClause n x.lits) cs →
+    option_map (λ (x : Kept). x.lits) (slice_get cs k) ≡ Some c → k < length cs → IsClause n c
 at_formed n cs k c all is within =
     let d : Kept = kept Given [] in
     let e : ◌≡◌ {A = Option (List Literal)} (Some (get_or cs k d).lits) (Some c) = sym (ap (option_map (λ (x : Kept). x.lits)) (slice_get-get_or cs k d within)) ∙ is in
     subst (λ (x : List Literal). IsClause n x) (cc e) (All-get_or (λ (x : Kept). IsClause n x.lits) cs k d within all)
 
-pub clause_formed : (c : State) (number : ℕ) (lits : List Literal) → Formed c → c.refused ≡ false → clause_at c.clauses number ≡ Some lits → IsClause c.variables lits
+pub clause_formed : (c : State) (number : ℕ) (lits : List Literal) → Formed c → c.refused ≡ false →
+    clause_at c.clauses number ≡ Some lits → IsClause c.variables lits
 clause_formed c zero lits f awake is = absurd (cc is)
 clause_formed c (suc k) lits f awake is = at_formed c.variables c.clauses k lits (f.formed awake) is (omega (arith, (number_within c.clauses (suc k) lits is).1))
 
@@ -59,16 +61,20 @@ clause_apart n lits c j k j_in k_in ne e =
     apart j k ne = ⊎_elim (λ lt. inl lt) (λ le. inr (omega (arith, le, ne))) (Rattle.std.proofs.lemmas.Bool.cases_lt j k)
 
 -- the clause of a reference is the checker's, in some order
-pub same_clause : (clauses : List (Option Clause)) (taken : ℕ) (c : State) (r : ℕ) → AreTaken clauses taken (clause_at c.clauses) → IsSome (clause_in clauses r) → (number : ℕ) × (given : List Literal) × (clause_at c.clauses number ≡ Some given) × IsPermutation given (lits_in clauses r)
+pub same_clause : (clauses : List (Option Clause)) (taken : ℕ) (c : State) (r : ℕ) →
+    AreTaken clauses taken (clause_at c.clauses) → IsSome (clause_in clauses r) →
+    (number : ℕ) × (given : List Literal) × (clause_at c.clauses number ≡ Some given) × IsPermutation given (lits_in clauses r)
 same_clause clauses taken c r are some = step (clause_in clauses r) refl some
   where
-    step : (o : Option Clause) → clause_in clauses r ≡ o → IsSome o → (number : ℕ) × (given : List Literal) × (clause_at c.clauses number ≡ Some given) × IsPermutation given (plain_lits o)
+    step : (o : Option Clause) → clause_in clauses r ≡ o → IsSome o →
+        (number : ℕ) × (given : List Literal) × (clause_at c.clauses number ≡ Some given) × IsPermutation given (plain_lits o)
     step None is some = absurd (cc some)
     step (Some x) is some = let s = same_some (clause_at c.clauses x.number) x.lits (are.part r x is) in (x.number, s.0, s.1, s.2)
 
 -- each variable of the trail exists
 module _ (a : List Literal) (s : Watching) (taken : ℕ) (c : State) (facts : KeepsFacts s) (formed : Formed c) (u : IsUnderway a s taken c) where
-  reason_within : (p r : ℕ) → p < length s.trail → get_or s.reasons p None ≡ Some r → (lit_at s.trail p).variable ≤ c.variables
+  reason_within : (p r : ℕ) → p < length s.trail → get_or s.reasons p None ≡ Some r →
+      (lit_at s.trail p).variable ≤ c.variables
   reason_within p r within is =
       let g = same_clause s.clauses taken c r u.taken_are (reason_live s p r facts within is) in
       let has : has_literal (lit_at s.trail p) (lits_in s.clauses r) ≡ true = holds-has (lit_at s.trail p) (lits_in s.clauses r) ∙ (facts.reasons p r within is).has in
@@ -87,7 +93,8 @@ module _ (a : List Literal) (s : Watching) (taken : ℕ) (c : State) (facts : Ke
       let p = place_of-some s.trail l b has in
       omega (arith, trail_within (place_of s.trail l.variable) p, lit_at-place s.trail l.variable p)
 
-  pub learnt_clause : (lits : List Literal) → IsClause s.variables lits → is_false (value_of s.trail) lits ≡ true → IsClause c.variables lits
+  pub learnt_clause : (lits : List Literal) → IsClause s.variables lits → is_false (value_of s.trail) lits ≡ true →
+      IsClause c.variables lits
   learnt_clause lits clause false_ = record {
     ascends = clause.ascends;
     counted = clause.counted;
@@ -95,24 +102,32 @@ module _ (a : List Literal) (s : Watching) (taken : ℕ) (c : State) (facts : Ke
   }
 
 -- the numbers of hints
-ended : (P : ℕ → Type 0) (hints : List ℕ) (next : Literal → Replay) → after_clause IsFalse (is_last hints) next ≡ Refutes → All P hints
+ended : (P : ℕ → Type 0) (hints : List ℕ) (next : Literal → Replay) →
+    after_clause IsFalse (is_last hints) next ≡ Refutes → All P hints
 ended P [] next e = All-nil P
 ended P (h ∷ hs) next e = absurd (cc e)
 
-after_one : (P : ℕ → Type 0) (st : Standing) (hints : List ℕ) (next : Literal → Replay) → ((l : Literal) → next l ≡ Refutes → All P hints) → after_clause st (is_last hints) next ≡ Refutes → All P hints
+after_one : (P : ℕ → Type 0) (st : Standing) (hints : List ℕ) (next : Literal → Replay) →
+    ((l : Literal) → next l ≡ Refutes → All P hints) → after_clause st (is_last hints) next ≡ Refutes → All P hints
 after_one P IsFalse hints next rest e = ended P hints next e
 after_one P (IsUnit l) hints next rest e = rest l e
 after_one P IsOpen hints next rest e = absurd (cc e)
 
-numbers_of : (live : ℕ → Option (List Literal)) (P : ℕ → Type 0) → ((n : ℕ) (c : List Literal) → live n ≡ Some c → P n) → (falses : List Literal) (hints : List ℕ) → replay live falses hints ≡ Refutes → All P hints
+numbers_of : (live : ℕ → Option (List Literal)) (P : ℕ → Type 0) →
+    ((n : ℕ) (c : List Literal) → live n ≡ Some c → P n) → (falses : List Literal) (hints : List ℕ) →
+    replay live falses hints ≡ Refutes → All P hints
 numbers_of live P each falses [] e = absurd (cc e)
 numbers_of live P each falses (h ∷ hs) e = first (live h) refl (λ l e. numbers_of live P each (falses ++ negate l ∷ []) hs e) e
   where
-    first : (o : Option (List Literal)) → live h ≡ o → ((l : Literal) → replay live (falses ++ negate l ∷ []) hs ≡ Refutes → All P hs) → after_hint o falses (is_last hs) (λ l. replay live (falses ++ negate l ∷ []) hs) ≡ Refutes → All P (h ∷ hs)
+    first : (o : Option (List Literal)) → live h ≡ o →
+        ((l : Literal) → replay live (falses ++ negate l ∷ []) hs ≡ Refutes → All P hs) →
+        after_hint o falses (is_last hs) (λ l. replay live (falses ++ negate l ∷ []) hs) ≡ Refutes → All P (h ∷ hs)
     first None is rest e = absurd (cc e)
     first (Some c) is rest e = All-cons P h hs (each h c is) (after_one P (standing falses c) hs (λ l. replay live (falses ++ negate l ∷ []) hs) rest e)
 
-pub learnt_numbers : (clauses : List (Option Clause)) (taken : ℕ) (c : State) (lits : List Literal) (hints : List ℕ) → AreTaken clauses taken (clause_at c.clauses) → taken ≡ length c.clauses → FollowsByHints (clause_at c.clauses) lits hints → AreNumbers hints
+pub learnt_numbers : (clauses : List (Option Clause)) (taken : ℕ) (c : State) (lits : List Literal) (hints : List ℕ) →
+    AreTaken clauses taken (clause_at c.clauses) → taken ≡ length c.clauses →
+    FollowsByHints (clause_at c.clauses) lits hints → AreNumbers hints
 learnt_numbers clauses taken c lits hints are all follows =
     numbers_of (clause_at c.clauses) (λ n. (1 ≤ n) × (n < 2 ^ 62))
     (λ n given is. let w = number_within c.clauses n given is in (w.0, omega (arith, w.1, all, are.numbered.few)))
@@ -144,18 +159,21 @@ part_of part lits all k k_in = step (has_literal (lit_at part k) lits) refl
     step true is = is
     step false is = absurd (cc (sym all ∙ list_all_at (λ (l : Literal). has_literal l lits) part k no_literal k_in is))
 
-no_part : (c : State) (lits : List Literal) → Formed c → c.refused ≡ false → IsNew (clause_at c.clauses) lits → holds_clause c.clauses lits ≡ false
+no_part : (c : State) (lits : List Literal) → Formed c → c.refused ≡ false → IsNew (clause_at c.clauses) lits →
+    holds_clause c.clauses lits ≡ false
 no_part c lits formed awake new = list_any_none (λ (x : Kept). is_part x.lits lits) c.clauses
     (All-from_get_or (λ (x : Kept). is_part x.lits lits ≡ false) c.clauses (kept Given []) (λ k k_in. step k k_in (is_part (get_or c.clauses k (kept Given [])).lits lits) refl))
   where
-    step : (k : ℕ) → k < length c.clauses → (b : Bool) → is_part (get_or c.clauses k (kept Given [])).lits lits ≡ b → is_part (get_or c.clauses k (kept Given [])).lits lits ≡ false
+    step : (k : ℕ) → k < length c.clauses → (b : Bool) → is_part (get_or c.clauses k (kept Given [])).lits lits ≡ b →
+        is_part (get_or c.clauses k (kept Given [])).lits lits ≡ false
     step k k_in false is = is
     step k k_in true is =
         let x : List Literal = (get_or c.clauses k (kept Given [])).lits in
         let at : clause_at c.clauses (suc k) ≡ Some x = ap (option_map (λ (y : Kept). y.lits)) (slice_get-get_or c.clauses k (kept Given []) k_in) in
         absurd (contains_none (clause_at c.clauses) lits new (suc k) x at (clause_apart c.variables x (clause_formed c (suc k) x formed awake at)) (part_of x lits is))
 
-pub learn_allowed : (good : Judge) (c : State) (lits : List Literal) (hints : List ℕ) → Formed c → c.ended ≡ false → c.refused ≡ false → c.conflicts < c.budget → IsClause c.variables lits
+pub learn_allowed : (good : Judge) (c : State) (lits : List Literal) (hints : List ℕ) → Formed c → c.ended ≡ false →
+    c.refused ≡ false → c.conflicts < c.budget → IsClause c.variables lits
     → FollowsByHints (clause_at c.clauses) lits hints → IsNew (clause_at c.clauses) lits → error_of good c (Learn lits hints) ≡ None
 learn_allowed good c lits hints formed begun awake left clause follows new =
     none c.refused c.ended (lacks_variable c lits) (is_spent c) (holds_clause c.clauses lits) (replay (clause_at c.clauses) lits hints) awake begun

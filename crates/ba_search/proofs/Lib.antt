@@ -4,3 +4,6 @@ pub mod LearnLaws
 pub mod AnswerLaws
 pub mod TurnLaws
 pub mod StepLaws
+pub mod TestLaws
+pub mod LearntSteps
+pub mod OnceLaws

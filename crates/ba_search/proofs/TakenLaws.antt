@@ -14,7 +14,8 @@ use Rattle.ba_search.specs.Searching.{ArePart}
 use Rattle.ba_search.specs.Turns.{IsNumbered, AreTaken, AddsNext}
 
 -- clauses by their numbers
-at_some : (cs : List Kept) (k : ℕ) (c : List Literal) → option_map (λ (x : Kept). x.lits) (slice_get cs k) ≡ Some c → k < length cs
+at_some : (cs : List Kept) (k : ℕ) (c : List Literal) → option_map (λ (x : Kept). x.lits) (slice_get cs k) ≡ Some c →
+    k < length cs
 at_some [] k c is = absurd (cc is)
 at_some (x ∷ xs) zero c is = omega arith
 at_some (x ∷ xs) (suc k) c is = omega (arith, at_some xs k c is)
@@ -23,7 +24,8 @@ pub number_within : (cs : List Kept) (n : ℕ) (c : List Literal) → clause_at 
 number_within cs zero c is = absurd (cc is)
 number_within cs (suc k) c is = (omega arith, omega (arith, at_some cs k c is))
 
-at_more : (cs ds : List Kept) (k : ℕ) → k < length cs → option_map (λ (x : Kept). x.lits) (slice_get (cs ++ ds) k) ≡ option_map (λ (x : Kept). x.lits) (slice_get cs k)
+at_more : (cs ds : List Kept) (k : ℕ) → k < length cs →
+    option_map (λ (x : Kept). x.lits) (slice_get (cs ++ ds) k) ≡ option_map (λ (x : Kept). x.lits) (slice_get cs k)
 at_more [] ds k within = absurd (omega arith)
 at_more (x ∷ xs) ds zero within = refl
 at_more (x ∷ xs) ds (suc k) within = at_more xs ds k (omega arith)
@@ -32,7 +34,8 @@ pub clause_at-more : (cs ds : List Kept) (n : ℕ) → n ≤ length cs → claus
 clause_at-more cs ds zero within = refl
 clause_at-more cs ds (suc k) within = at_more cs ds k (omega arith)
 
-at_end : (cs : List Kept) (x : Kept) → option_map (λ (y : Kept). y.lits) (slice_get (cs ++ x ∷ []) (length cs)) ≡ Some x.lits
+at_end : (cs : List Kept) (x : Kept) →
+    option_map (λ (y : Kept). y.lits) (slice_get (cs ++ x ∷ []) (length cs)) ≡ Some x.lits
 at_end [] x = refl
 at_end (c ∷ cs) x = at_end cs x
 
@@ -43,7 +46,8 @@ clause_at-end cs x n is = ap (clause_at (cs ++ x ∷ [])) (is ∙ later (length 
     later k = omega arith
 
 -- the clause of a number is some clause
-pub same_some : (o : Option (List Literal)) (lits : List Literal) → IsSame o lits → (given : List Literal) × (o ≡ Some given) × IsPermutation given lits
+pub same_some : (o : Option (List Literal)) (lits : List Literal) → IsSame o lits →
+    (given : List Literal) × (o ≡ Some given) × IsPermutation given lits
 same_some None lits h = absurd h
 same_some (Some given) lits h = (given, refl, h)
 
@@ -51,7 +55,8 @@ pub number_le : (cs : List Kept) (n : ℕ) (lits : List Literal) → IsSame (cla
 number_le cs n lits h = let s = same_some (clause_at cs n) lits h in (number_within cs n s.0 s.1).1
 
 -- nothing is taken at first
-pub taken_none : (clauses : List (Option Clause)) (taken : ℕ) (live : ℕ → Option (List Literal)) → clauses ≡ [] → taken ≡ 0 → AreTaken clauses taken live
+pub taken_none : (clauses : List (Option Clause)) (taken : ℕ) (live : ℕ → Option (List Literal)) → clauses ≡ [] →
+    taken ≡ 0 → AreTaken clauses taken live
 taken_none clauses taken live none zero_is = record {
   numbered = record {
     few = omega (arith, zero_is);
@@ -75,7 +80,8 @@ module _ (s t : State) (clause number : ℕ) (lits : List Literal) (adds : AddsC
   here = there_is (clause_in t.clauses clause) lits number adds.there
 
   -- each clause is the one that was added, or was there
-  cases : (r : ℕ) (c : Clause) → clause_in t.clauses r ≡ Some c → ((c.number ≡ number) × IsPermutation lits c.lits) ⊎ (clause_in s.clauses r ≡ Some c)
+  cases : (r : ℕ) (c : Clause) → clause_in t.clauses r ≡ Some c →
+      ((c.number ≡ number) × IsPermutation lits c.lits) ⊎ (clause_in s.clauses r ≡ Some c)
   cases r c is = ⊎_elim
       (λ same. inl (
       let e : here.0 ≡ c = some_same (sym here.1 ∙ (ap (clause_in t.clauses) (sym same) ∙ is)) in
@@ -109,25 +115,29 @@ module _ (s t : State) (clause number : ℕ) (lits : List Literal) (adds : AddsC
     }
 
 -- all clauses are taken
-pub taken_le : (clauses : List (Option Clause)) (taken : ℕ) (cs : List Kept) → IsNumbered clauses taken → ArePart clauses (clause_at cs) → taken ≤ length cs
+pub taken_le : (clauses : List (Option Clause)) (taken : ℕ) (cs : List Kept) → IsNumbered clauses taken →
+    ArePart clauses (clause_at cs) → taken ≤ length cs
 taken_le clauses zero cs n part = omega arith
 taken_le clauses (suc k) cs n part =
     let e = n.each (suc k) (omega arith) (omega arith) in
     subst (λ m. m ≤ length cs) e.3 (number_le cs e.1.number e.1.lits (part e.0 e.1 e.2))
 
-pub taken_live : (clauses : List (Option Clause)) (taken : ℕ) (cs : List Kept) → AreTaken clauses taken (clause_at cs) → taken ≡ length cs → AreLive clauses (clause_at cs)
+pub taken_live : (clauses : List (Option Clause)) (taken : ℕ) (cs : List Kept) → AreTaken clauses taken (clause_at cs) →
+    taken ≡ length cs → AreLive clauses (clause_at cs)
 taken_live clauses taken cs are all = record {
   each = are.part;
   all = λ n given is. let w = number_within cs n given is in are.numbered.each n w.0 (omega (arith, w.1, all));
 }
 
-pub live_taken : (clauses : List (Option Clause)) (taken : ℕ) (cs : List Kept) → IsNumbered clauses taken → AreLive clauses (clause_at cs) → taken ≡ length cs
+pub live_taken : (clauses : List (Option Clause)) (taken : ℕ) (cs : List Kept) → IsNumbered clauses taken →
+    AreLive clauses (clause_at cs) → taken ≡ length cs
 live_taken clauses taken cs n are = le_same (taken_le clauses taken cs n are.each) (at_most (length cs) refl)
   where
     le_same : taken ≤ length cs → length cs ≤ taken → taken ≡ length cs
     le_same a b = omega arith
 
-    last_of : (ks : List Kept) (k : ℕ) → length ks ≡ suc k → (c : List Literal) × (option_map (λ (x : Kept). x.lits) (slice_get ks k) ≡ Some c)
+    last_of : (ks : List Kept) (k : ℕ) → length ks ≡ suc k →
+        (c : List Literal) × (option_map (λ (x : Kept). x.lits) (slice_get ks k) ≡ Some c)
     last_of [] k e = absurd (omega arith)
     last_of (x ∷ []) zero e = (x.lits, refl)
     last_of (x ∷ []) (suc k) e = absurd (omega arith)
@@ -142,14 +152,16 @@ live_taken clauses taken cs n are = le_same (taken_le clauses taken cs n are.eac
         omega (arith, n.within a.0 a.1 a.2, a.3, e)
 
 -- a clause more elsewhere changes nothing
-pub taken_longer : (clauses : List (Option Clause)) (taken : ℕ) (cs ds : List Kept) → AreTaken clauses taken (clause_at cs) → AreTaken clauses taken (clause_at (cs ++ ds))
+pub taken_longer : (clauses : List (Option Clause)) (taken : ℕ) (cs ds : List Kept) →
+    AreTaken clauses taken (clause_at cs) → AreTaken clauses taken (clause_at (cs ++ ds))
 taken_longer clauses taken cs ds are = record {
   numbered = are.numbered;
   part = λ r c is. let p = are.part r c is in subst (λ o. IsSame o c.lits) (sym (clause_at-more cs ds c.number (number_le cs c.number c.lits p))) p;
 }
 
 -- nor does another order of literals
-was : (o p : Option Clause) (d : Clause) → SameClause o p → p ≡ Some d → (c : Clause) × (o ≡ Some c) × (d.number ≡ c.number) × IsPermutation c.lits d.lits
+was : (o p : Option Clause) (d : Clause) → SameClause o p → p ≡ Some d →
+    (c : Clause) × (o ≡ Some c) × (d.number ≡ c.number) × IsPermutation c.lits d.lits
 was None None d same is = absurd (cc is)
 was None (Some e) d same is = absurd same
 was (Some c) None d same is = absurd same
@@ -157,7 +169,8 @@ was (Some c) (Some e) d same is =
     let i : e ≡ d = cc is in
     (c, refl, ap (λ (x : Clause). x.number) (sym i) ∙ same.0, subst (λ (x : Clause). IsPermutation c.lits x.lits) i same.1)
 
-becomes : (o p : Option Clause) (c : Clause) → SameClause o p → o ≡ Some c → (d : Clause) × (p ≡ Some d) × (d.number ≡ c.number)
+becomes : (o p : Option Clause) (c : Clause) → SameClause o p → o ≡ Some c →
+    (d : Clause) × (p ≡ Some d) × (d.number ≡ c.number)
 becomes None None c same is = absurd (cc is)
 becomes None (Some e) c same is = absurd same
 becomes (Some b) None c same is = absurd same
@@ -169,7 +182,8 @@ same_further : (o : Option (List Literal)) (xs ys : List Literal) → IsPermutat
 same_further None xs ys p h = absurd h
 same_further (Some given) xs ys p h = IsPermutation-trans given xs ys h p
 
-pub taken_same : (old new : List (Option Clause)) (taken : ℕ) (live : ℕ → Option (List Literal)) → SameClauses old new → AreTaken old taken live → AreTaken new taken live
+pub taken_same : (old new : List (Option Clause)) (taken : ℕ) (live : ℕ → Option (List Literal)) → SameClauses old new →
+    AreTaken old taken live → AreTaken new taken live
 taken_same old new taken live same are = record {
   numbered = record {
     few = are.numbered.few;
@@ -185,5 +199,7 @@ taken_same old new taken live same are = record {
       same_further (live d.number) w.0.lits d.lits w.3 (subst (λ n. IsSame (live n) w.0.lits) (sym w.2) (are.part r w.0 w.1));
 }
 
-pub taken_next : (s t : State) (taken number : ℕ) (lits : List Literal) (live : ℕ → Option (List Literal)) → AddsNext s t taken number lits → AreTaken s.clauses taken live → live (taken + 1) ≡ Some lits → AreTaken t.clauses number live
+pub taken_next : (s t : State) (taken number : ℕ) (lits : List Literal) (live : ℕ → Option (List Literal)) →
+    AddsNext s t taken number lits → AreTaken s.clauses taken live → live (taken + 1) ≡ Some lits →
+    AreTaken t.clauses number live
 taken_next s t taken number lits live adds are is = taken_more s t adds.clause number lits adds.adds taken live are adds.next adds.few (ap live adds.next ∙ is)

@@ -16,7 +16,8 @@ use Rattle.ba_search.specs.Turns.{AreTaken, AddsNext, IsChoice, AreChoices, IsUn
 use Rattle.ba_search.proofs.TakenLaws.{taken_same, taken_next, taken_longer, clause_at-end}
 
 -- the front of a list
-begins_at : {X : Type 0} (front xs : List X) (p : ℕ) (d : X) → Begins front xs → p < length front → get_or xs p d ≡ get_or front p d
+begins_at : {X : Type 0} (front xs : List X) (p : ℕ) (d : X) → Begins front xs → p < length front →
+    get_or xs p d ≡ get_or front p d
 begins_at front xs p d b within = sym (get_or-take (length front) xs p d within) ∙ ap (λ ys. get_or ys p d) b
 
 begins_take : {X : Type 0} (front xs : List X) (p : ℕ) → Begins front xs → p ≤ length front → take p xs ≡ take p front
@@ -26,20 +27,24 @@ pub begins_length : {X : Type 0} (front xs : List X) → Begins front xs → len
 begins_length front xs b = omega (arith, sym (ap length b), length-take (length front) xs)
 
 -- where no level was begun, no late place was decided
-no_late : (R S : List (Option ℕ)) (p : ℕ) → Begins R S → decided S ≡ decided R → p < length S → get_or S p None ≡ None → p < length R
+no_late : (R S : List (Option ℕ)) (p : ℕ) → Begins R S → decided S ≡ decided R → p < length S → get_or S p None ≡ None →
+    p < length R
 no_late R S p b same within none = ⊎_elim
     (λ lt. lt)
     (λ le. absurd (omega (arith, ap decided b, same, decided-take-le (length R) p S le, decided-take_none p S within none, decided-take_drop (p + 1) S)))
     (cases_lt p (length R))
 
-pub choices_extend : (variables : ℕ) (a T U : List Literal) (R S : List (Option ℕ)) → length R ≡ length T → length S ≡ length U → Begins T U → Begins R S → decided S ≡ decided R → AreChoices variables a T R → AreChoices variables a U S
+pub choices_extend : (variables : ℕ) (a T U : List Literal) (R S : List (Option ℕ)) → length R ≡ length T →
+    length S ≡ length U → Begins T U → Begins R S → decided S ≡ decided R → AreChoices variables a T R →
+    AreChoices variables a U S
 choices_extend variables a T U R S len len' bT bR same choices p within none =
     let early : p < length R = no_late R S p bR same (omega (arith, within, len')) none in
     let old : IsChoice variables a (take p T) (lit_at T p) = choices p (omega (arith, early, len)) (sym (begins_at R S p None bR early) ∙ none) in
     subst (λ (V : List Literal). IsChoice variables a V (lit_at U p)) (sym (begins_take T U p bT (omega (arith, early, len))))
     (subst (λ (l : Literal). IsChoice variables a (take p T) l) (sym (begins_at T U p no_literal bT (omega (arith, early, len)))) old)
 
-pub choices_cut : (variables : ℕ) (a T : List Literal) (R : List (Option ℕ)) (n : ℕ) → AreChoices variables a T R → AreChoices variables a (take n T) (take n R)
+pub choices_cut : (variables : ℕ) (a T : List Literal) (R : List (Option ℕ)) (n : ℕ) → AreChoices variables a T R →
+    AreChoices variables a (take n T) (take n R)
 choices_cut variables a T R n choices p within none =
     let below : p < n = omega (arith, within, length-take n T) in
     let inside : p < length T = omega (arith, within, length-take n T) in
@@ -47,7 +52,8 @@ choices_cut variables a T R n choices p within none =
     subst (λ (V : List Literal). IsChoice variables a V (lit_at (take n T) p)) (sym (take-take p n T (omega arith)))
     (subst (λ (l : Literal). IsChoice variables a (take p T) l) (sym (get_or-take n T p no_literal below)) old)
 
-pub choices_push : (variables : ℕ) (a T : List Literal) (R : List (Option ℕ)) (l : Literal) → length R ≡ length T → IsChoice variables a T l → AreChoices variables a T R → AreChoices variables a (T ++ l ∷ []) (R ++ None ∷ [])
+pub choices_push : (variables : ℕ) (a T : List Literal) (R : List (Option ℕ)) (l : Literal) → length R ≡ length T →
+    IsChoice variables a T l → AreChoices variables a T R → AreChoices variables a (T ++ l ∷ []) (R ++ None ∷ [])
 choices_push variables a T R l len choice choices p within none = ⊎_elim
     (λ lt.
     let old : IsChoice variables a (take p T) (lit_at T p) = choices p lt (sym (get_or_append_left R (None ∷ []) None p (omega (arith, lt, len))) ∙ none) in
@@ -64,7 +70,8 @@ choices_push variables a T R l len choice choices p within none = ⊎_elim
     front p le = sym (take-take p (length T) (T ++ l ∷ []) le) ∙ ap (take p) (take-append_seam T (l ∷ []))
 
 -- propagation
-pub underway_extends : (a : List Literal) (s t : Watching) (taken : ℕ) (c : State) → KeepsFacts s → KeepsFacts t → Extends s t → IsUnderway a s taken c → IsUnderway a t taken c
+pub underway_extends : (a : List Literal) (s t : Watching) (taken : ℕ) (c : State) → KeepsFacts s → KeepsFacts t →
+    Extends s t → IsUnderway a s taken c → IsUnderway a t taken c
 underway_extends a s t taken c facts facts' e u = record {
   taken_are = taken_same s.clauses t.clauses taken (clause_at c.clauses) e.clauses u.taken_are;
   all = u.all;
@@ -75,7 +82,8 @@ underway_extends a s t taken c facts facts' e u = record {
 }
 
 -- going back
-pub underway_back : (a : List Literal) (s t : Watching) (taken : ℕ) (c : State) (level : ℕ) → t ≡ after_back level s → IsUnderway a s taken c → IsUnderway a t taken c
+pub underway_back : (a : List Literal) (s t : Watching) (taken : ℕ) (c : State) (level : ℕ) → t ≡ after_back level s →
+    IsUnderway a s taken c → IsUnderway a t taken c
 underway_back a s t taken c level is u = subst (λ (x : Watching). IsUnderway a x taken c) (sym is) (record {
   taken_are = u.taken_are;
   all = u.all;
@@ -97,7 +105,8 @@ underway_decide a s t taken c l facts is choice u = subst (λ (x : Watching). Is
 })
 
 -- learning
-pub underway_learn : (a : List Literal) (s t : Watching) (taken number : ℕ) (c d : State) (lits : List Literal) → AddsNext s t taken number lits → d ≡ after_learn c lits → IsUnderway a s taken c → IsUnderway a t number d
+pub underway_learn : (a : List Literal) (s t : Watching) (taken number : ℕ) (c d : State) (lits : List Literal) →
+    AddsNext s t taken number lits → d ≡ after_learn c lits → IsUnderway a s taken c → IsUnderway a t number d
 underway_learn a s t taken number c d lits adds is u = subst (λ (x : State). IsUnderway a t number x) (sym is) (record {
   taken_are = taken_next s t taken number lits (clause_at (c.clauses ++ kept_as Learnt lits ∷ [])) adds
       (taken_longer s.clauses taken c.clauses (kept_as Learnt lits ∷ []) u.taken_are)
@@ -118,7 +127,8 @@ pub begun_taken : (s t u : Watching) (taken : ℕ) (live : ℕ → Option (List 
 begun_taken s t u taken live v t_is u_is are =
     subst (λ (cs : List (Option Rattle.ba_watch.specs.Threads.Clause)). AreTaken cs taken live) (sym (ap (λ (x : Watching). x.clauses) u_is ∙ ap (λ (x : Watching). x.clauses) t_is)) are
 
-no_choices : (variables : ℕ) (a T : List Literal) (R : List (Option ℕ)) → length R ≡ length T → decided R ≡ 0 → AreChoices variables a T R
+no_choices : (variables : ℕ) (a T : List Literal) (R : List (Option ℕ)) → length R ≡ length T → decided R ≡ 0 →
+    AreChoices variables a T R
 no_choices variables a T R len none p within is =
     absurd (omega (arith, none, decided-take_none p R (omega (arith, within, len)) is, decided-take_drop (p + 1) R))
 
@@ -137,13 +147,16 @@ underway_begin a s t u taken c t_is u_is facts are all begun awake = record {
     most m n = omega arith
 
 -- learning after going back
-pub underway_jump : (a : List Literal) (s r t : Watching) (taken taken' number : ℕ) (c d : State) (lits : List Literal) (back : ℕ) → r ≡ s → taken' ≡ taken → AddsNext (after_back back r) t taken' number lits → d ≡ after_learn c lits → IsUnderway a s taken c → IsUnderway a t number d
+pub underway_jump : (a : List Literal) (s r t : Watching) (taken taken' number : ℕ) (c d : State) (lits : List Literal) (back : ℕ) →
+    r ≡ s → taken' ≡ taken → AddsNext (after_back back r) t taken' number lits → d ≡ after_learn c lits →
+    IsUnderway a s taken c → IsUnderway a t number d
 underway_jump a s r t taken taken' number c d lits back r_is taken_is adds is u =
     underway_learn a (after_back back s) t taken number c d lits
     (subst (λ (n : ℕ). AddsNext (after_back back s) t n number lits) taken_is (subst (λ (x : Watching). AddsNext (after_back back x) t taken' number lits) r_is adds))
     is (underway_back a s (after_back back s) taken c back refl u)
 
 -- the same watch and number
-pub underway_moved : (a : List Literal) (s t : Watching) (taken number : ℕ) (c : State) → t ≡ s → number ≡ taken → IsUnderway a s taken c → IsUnderway a t number c
+pub underway_moved : (a : List Literal) (s t : Watching) (taken number : ℕ) (c : State) → t ≡ s → number ≡ taken →
+    IsUnderway a s taken c → IsUnderway a t number c
 underway_moved a s t taken number c t_is number_is u =
     subst (λ (n : ℕ). IsUnderway a t n c) (sym number_is) (subst (λ (x : Watching). IsUnderway a x taken c) (sym t_is) u)

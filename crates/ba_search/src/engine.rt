@@ -1,24 +1,21 @@
 //! What a search works with: the clauses with their trail, and what guides it.
 
-ghost use Rattle.std.specs.Prelude.{◌≡◌, ◌≢◌, ℕ, ◌+◌, ◌-◌, ◌<◌, ◌≤◌, ◌^◌, ◌⊎◌, [], None, Some, true, false, max, map, length, get_or, is_some, IfOk, IfSome, IfNone, IsSome, OnOk, Err, List};
+ghost use Rattle.std.specs.Prelude.{◌≡◌, ◌≢◌, ℕ, ◌+◌, ◌-◌, ◌<◌, ◌≤◌, ◌^◌, ◌⊎◌, [], None, Some, true, false, max, length, IfOk, IfSome, IfNone, IsSome, OnOk, Err, List};
 ghost use Rattle.ba_lits.specs.Literals.{Literal, IsClause, lit_at};
 ghost use Rattle.ba_lits.specs.Hints.{has_literal};
 ghost use Rattle.ba_watch.specs.Trails.{value_of, decided};
-ghost use Rattle.ba_watch.specs.Propagation.{State, clause_in, lits_in, is_false, IsAsserting, AddsClause, IsComplete};
-ghost use Rattle.ba_learn.specs.Live.{Follows, IsNewTo};
+ghost use Rattle.ba_watch.specs.Propagation.{clause_in, lits_in, is_false, IsAsserting, IsComplete};
 ghost use Rattle.ba_learn.specs.Levels.{IsBacked};
 ghost use Rattle.ba_learn.specs.Backjumps.{after_back};
-ghost use Rattle.ba_steps.specs.States.{State as Checking, kept, clause_at};
-ghost use Rattle.ba_steps.specs.Sinks.{with_step, Rose};
-ghost use Rattle.ba_steps.specs.declared.store.Origin.TheVariants.{Given};
-ghost use Rattle.ba_steps.specs.Steps.{AreFormedLits, AreNumbers};
-ghost use Rattle.ba_steps.specs.Judging.{after, after_learn, error_of};
+ghost use Rattle.ba_steps.specs.States.{State as Checking, clause_at};
+ghost use Rattle.ba_steps.specs.Sinks.{Rose};
 ghost use Rattle.ba_steps.specs.declared.step.CertStep.{CertStep};
 ghost use Rattle.ba_steps.specs.declared.step.CertStep.TheVariants.{Learn};
 ghost use Rattle.ba_search.specs.Rules.{IsRestartRule};
-ghost use Rattle.ba_search.specs.Answers.{AreAssumptions, IsAnswer, IsModel};
+ghost use Rattle.ba_search.specs.Answers.{AreAssumptions, IsAnswer};
 ghost use Rattle.ba_search.specs.Choices.{positive, is_true, values_of};
-ghost use Rattle.ba_search.specs.Turns.{IsNumbered, AreTaken, AreTrue, AddsNext, IsChoice, IsUnderway, Puts, turns_left};
+ghost use Rattle.ba_search.specs.Searching.{Leaves};
+ghost use Rattle.ba_search.specs.Turns.{AreTaken, AreTrue, AddsNext, IsChoice, IsUnderway, Puts, turns_left};
 ghost use Rattle.ba_search.specs.declared.search.SearchError.{SearchError};
 
 use crate::order::Order;
@@ -44,6 +41,8 @@ pub struct Engine {
     learnt: Vec<u64>,
     restarts: u64,
     since: u64,
+    /// How many literals were assigned by propagation.
+    pub propagated: u64,
 }
 
 impl Engine {
@@ -51,6 +50,7 @@ impl Engine {
     pub fn new(alloc: Global) -> Engine
         ensures watch { result.watch ≡ record { variables = 0; clauses = []; trail = []; reasons = []; settled = true } }
         ensures taken { result.taken ≡ 0 }
+        ensures propagated { result.propagated ≡ 0 }
     {
         Engine {
             alloc,
@@ -61,6 +61,7 @@ impl Engine {
             learnt: Vec::new(alloc),
             restarts: 0,
             since: 0,
+            propagated: 0,
         }
     }
 
@@ -70,6 +71,7 @@ impl Engine {
     pub fn grow(&mut self, variables: u64) -> Result<(), AllocError>
         ensures ok { OnOk result (self.new.watch ≡ record self.old.watch { variables = max self.old.watch.variables variables }) }
         ensures taken { self.new.taken ≡ self.old.taken }
+        ensures propagated { self.new.propagated ≡ self.old.propagated }
     {
         self.order.grow(variables)?;
         self.watch.grow(variables)
@@ -81,6 +83,7 @@ impl Engine {
         ensures watch { self.new.watch ≡ after_back level self.old.watch }
         ensures taken { self.new.taken ≡ self.old.taken }
         ensures since { self.new.since ≡ self.old.since }
+        ensures propagated { self.new.propagated ≡ self.old.propagated }
     {
         self.order.release(&self.watch, level);
         self.watch.back_to(level);
@@ -94,6 +97,7 @@ impl Engine {
         requires level { (decided self.old.watch.reasons ≡ 0) ⊎ IsAsserting self.old.watch lits.now }
         ensures adds { OnOk result (AddsNext self.old.watch self.new.watch self.old.taken self.new.taken lits.now) }
         ensures since { self.new.since ≡ self.old.since }
+        ensures propagated { self.new.propagated ≡ self.old.propagated }
     {
         if self.taken >= (1 << 62) - 1 {
             return Err(AllocError);
@@ -112,6 +116,7 @@ impl Engine {
         ensures taken { OnOk result (AreTaken self.new.watch.clauses self.new.taken (clause_at checker.now.clauses)) }
         ensures all { OnOk result (self.new.taken ≡ length checker.now.clauses) }
         ensures cause { result ≢ Err SearchError.SinkFailed }
+        ensures propagated { self.new.propagated ≡ self.old.propagated }
     {
         self.grow(checker.variables())?;
         self.go_back(0);
@@ -130,6 +135,7 @@ impl Engine {
         ensures level { OnOk result (decided self.new.watch.reasons ≡ 0) }
         ensures taken { OnOk result (AreTaken self.new.watch.clauses self.new.taken (clause_at checker.now.clauses)) }
         ensures next { OnOk result (self.new.taken ≡ self.old.taken + 1) }
+        ensures propagated { self.new.propagated ≡ self.old.propagated }
     {
         let Some(lits) = checker.clause(self.taken.saturating_add(1)) else {
             return Err(AllocError);
@@ -168,6 +174,8 @@ impl Engine {
         ensures over_stays { S.over checked.new.sink ≡ S.over checked.old.sink }
         ensures no_fall { S.faults checked.old.sink ≤ S.faults checked.new.sink }
         ensures same_references { S.references checked.new.sink ≡ S.references checked.old.sink }
+        ensures propagated { self.old.propagated ≤ self.new.propagated }
+        ensures leaves { Leaves (J.accepts checked.old.judge) checked.old.checker (S.logs checked.old.sink) checked.new.checker (S.logs checked.new.sink) }
     {
         self.grow(checked.checker().variables())?;
         self.go_back(0);
@@ -201,6 +209,8 @@ impl Engine {
         ensures over_stays { S.over checked.new.sink ≡ S.over checked.old.sink }
         ensures no_fall { S.faults checked.old.sink ≤ S.faults checked.new.sink }
         ensures same_references { S.references checked.new.sink ≡ S.references checked.old.sink }
+        ensures propagated { self.old.propagated ≤ self.new.propagated }
+        ensures leaves { Leaves (J.accepts checked.old.judge) checked.old.checker (S.logs checked.old.sink) checked.new.checker (S.logs checked.new.sink) }
     {
         let Some(conflict) = self.propagate() else {
             return Ok(self.go_on(assumptions, checked.checker(), restart)?);
@@ -219,10 +229,14 @@ impl Engine {
         ensures less { (checker : Checking) → turns_left checker self.new.since self.new.watch ≤ turns_left checker self.old.since self.old.watch }
         ensures none { IfNone result ((self.new.watch.settled ≡ true) × IsComplete self.new.watch.clauses self.new.watch.trail) }
         ensures some { IfSome result (λ clause. IsSome (clause_in self.new.watch.clauses clause) × (is_false (value_of self.new.watch.trail) (lits_in self.new.watch.clauses clause) ≡ true)) }
+        ensures propagated { self.old.propagated ≤ self.new.propagated }
     {
         self.watch.keeps_facts();
+        let before = self.watch.trail().len();
         let conflict = self.watch.propagate();
         self.watch.keeps_facts();
+        let assigned = self.watch.trail().len().saturating_sub(before);
+        self.propagated = self.propagated.saturating_add(assigned as u64);
         conflict
     }
 
@@ -245,6 +259,7 @@ impl Engine {
         ensures watch { self.new.watch ≡ self.old.watch }
         ensures taken { self.new.taken ≡ self.old.taken }
         ensures since { self.new.since ≡ self.old.since }
+        ensures propagated { self.new.propagated ≡ self.old.propagated }
     {
         if is_spent(checker) {
             return Ok(Some(Answer::Spent));
@@ -283,12 +298,15 @@ impl Engine {
         ensures over_stays { S.over checked.new.sink ≡ S.over checked.old.sink }
         ensures no_fall { S.faults checked.old.sink ≤ S.faults checked.new.sink }
         ensures same_references { S.references checked.new.sink ≡ S.references checked.old.sink }
+        ensures propagated { self.new.propagated ≡ self.old.propagated }
+        ensures leaves { Leaves (J.accepts checked.old.judge) checked.old.checker (S.logs checked.old.sink) checked.new.checker (S.logs checked.new.sink) }
     {
         self.watch.keeps_facts();
         checked.checker().keeps_facts();
         let learnt = self.analyser.analyse(&self.watch, conflict)?;
         self.reward(checked.checker(), learnt.hints.as_slice());
-        put(self.alloc, &learnt, checked)?;
+        let step = step_of(self.alloc, &learnt)?;
+        checked.put(&step)?;
         self.back_jump(&learnt)?;
         self.since = self.since.saturating_add(1);
         Ok(())
@@ -302,6 +320,7 @@ impl Engine {
         requires backed { IsBacked self.old.watch learnt.now.lits learnt.now.back }
         ensures adds { OnOk result (AddsNext (after_back learnt.now.back self.old.watch) self.new.watch self.old.taken self.new.taken learnt.now.lits) }
         ensures since { self.new.since ≡ self.old.since }
+        ensures propagated { self.new.propagated ≡ self.old.propagated }
     {
         self.watch.keeps_facts();
         self.go_back(learnt.back);
@@ -315,6 +334,7 @@ impl Engine {
         ensures watch { self.new.watch ≡ self.old.watch }
         ensures taken { self.new.taken ≡ self.old.taken }
         ensures since { self.new.since ≡ self.old.since }
+        ensures propagated { self.new.propagated ≡ self.old.propagated }
     {
         for number in numbers {
             if let Some(lits) = checker.clause(*number) {
@@ -341,6 +361,7 @@ impl Engine {
         ensures answer { IfOk result (λ turn. IfSome turn (IsAnswer checker.now assumptions.now)) }
         ensures less { IfOk result (λ turn. IfNone turn (turns_left checker.now self.new.since self.new.watch < turns_left checker.now self.old.since self.old.watch)) }
         ensures underway { OnOk result (IsUnderway assumptions.now self.new.watch self.new.taken checker.now) }
+        ensures propagated { self.new.propagated ≡ self.old.propagated }
     {
         if is_due(restart, self.restarts, self.since) {
             self.begin_anew();
@@ -359,6 +380,7 @@ impl Engine {
         ensures underway { (assumptions : List Literal) (checker : Checking) → IsUnderway assumptions self.old.watch self.old.taken checker
             → IsUnderway assumptions self.new.watch self.new.taken checker }
         ensures less { (checker : Checking) → turns_left checker self.new.since self.new.watch < turns_left checker self.old.since self.old.watch }
+        ensures propagated { self.new.propagated ≡ self.old.propagated }
     {
         self.go_back(0);
         self.restarts = self.restarts.saturating_add(1);
@@ -373,6 +395,7 @@ impl Engine {
         ensures underway { (assumptions : List Literal) (checker : Checking) → IsChoice checker.variables assumptions self.old.watch.trail lit
             → IsUnderway assumptions self.old.watch self.old.taken checker → IsUnderway assumptions self.new.watch self.new.taken checker }
         ensures less { (checker : Checking) → turns_left checker self.new.since self.new.watch < turns_left checker self.old.since self.old.watch }
+        ensures propagated { self.new.propagated ≡ self.old.propagated }
     {
         self.watch.keeps_facts();
         self.watch.decide(lit);
@@ -396,6 +419,7 @@ impl Engine {
         ensures answer { IfOk result (λ turn. IfSome turn (IsAnswer checker.now assumptions.now)) }
         ensures less { IfOk result (λ turn. IfNone turn (turns_left checker.now self.new.since self.new.watch < turns_left checker.now self.old.since self.old.watch)) }
         ensures underway { OnOk result (IsUnderway assumptions.now self.new.watch self.new.taken checker.now) }
+        ensures propagated { self.new.propagated ≡ self.old.propagated }
     {
         self.watch.keeps_facts();
         if self.watch.value(assumption).is_none() {
@@ -425,6 +449,7 @@ impl Engine {
         ensures answer { IfOk result (λ turn. IfSome turn (IsAnswer checker.now assumptions.now)) }
         ensures less { IfOk result (λ turn. IfNone turn (turns_left checker.now self.new.since self.new.watch < turns_left checker.now self.old.since self.old.watch)) }
         ensures underway { OnOk result (IsUnderway assumptions.now self.new.watch self.new.taken checker.now) }
+        ensures propagated { self.new.propagated ≡ self.old.propagated }
     {
         checker.keeps_facts();
         let variables = checker.variables();
@@ -446,32 +471,16 @@ fn is_spent(checker: &Checker) -> bool
     checker.conflicts() == checker.budget()
 }
 
-/// Puts a learnt clause as a step.
-fn put<S: StepSink + Drop, J: RunJudge + Drop>(
-    alloc: Global,
-    learnt: &Learnt,
-    checked: &mut Checked<S, J>,
-) -> Result<(), SearchError>
-    requires lits { AreFormedLits learnt.now.lits }
-    requires hints { AreNumbers learnt.now.hints }
-    requires allowed { error_of (J.accepts checked.old.judge) checked.old.checker (Learn learnt.now.lits learnt.now.hints) ≡ None }
-    requires fresh { checked.old.refusal ≡ None }
-    ensures taken { OnOk result (checked.new.checker ≡ after_learn checked.old.checker learnt.now.lits) }
-    ensures awake { OnOk result (checked.new.checker.refused ≡ false) }
-    ensures told { OnOk result (S.logs checked.new.sink ≡ with_step (Learn learnt.now.lits learnt.now.hints) (S.logs checked.old.sink)) }
-    ensures fresh { OnOk result (checked.new.refusal ≡ None) }
-    ensures cause { result ≡ Err SearchError.SinkFailed → Rose (S.faults checked.old.sink) (S.faults checked.new.sink) }
-    ensures judge_stays { checked.new.judge ≡ checked.old.judge }
-    ensures over_stays { S.over checked.new.sink ≡ S.over checked.old.sink }
-    ensures no_fall { S.faults checked.old.sink ≤ S.faults checked.new.sink }
-    ensures same_references { S.references checked.new.sink ≡ S.references checked.old.sink }
+/// The step that learns a clause.
+///
+/// The one error is want of memory.
+fn step_of(alloc: Global, learnt: &Learnt) -> Result<CertStep, AllocError>
+    ensures { IfOk result (λ step. step ≡ Learn learnt.now.lits learnt.now.hints) }
 {
-    let step = CertStep::Learn {
+    Ok(CertStep::Learn {
         lits: Items::from_slice(alloc, learnt.lits.as_slice())?,
         hints: Items::from_slice(alloc, learnt.hints.as_slice())?,
-    };
-    checked.put(&step)?;
-    Ok(())
+    })
 }
 
 /// Whether it is time to begin anew.
@@ -543,7 +552,7 @@ fn is_positive(watch: &Watch, variable: u64) -> bool
 }
 
 /// Whether literals form a clause over so many variables.
-fn is_clause(variables: u64, lits: &[Lit]) -> bool
+pub fn is_clause(variables: u64, lits: &[Lit]) -> bool
     ensures { result ≡ true → IsClause variables lits.now }
 {
     let mut last = 0;

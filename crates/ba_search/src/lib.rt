@@ -7,7 +7,11 @@
 #![tactic(auto)]
 
 mod engine;
+pub mod laws;
 mod order;
 mod search;
 
 pub use search::{Answer, Search, SearchError};
+
+#[cfg(test)]
+mod tests;

@@ -11,11 +11,12 @@ use std::alloc::{AllocError, Global};
 /// The first amount by which an activity grows.
 const FIRST_REWARD: u64 = 1 << 20;
 
-/// From here on activities and their growth are made smaller.
-const GREATEST_REWARD: u64 = 1 << 60;
+/// From here on activities and their growth are made smaller. An activity is at most 20 times the growth times the most
+/// rewards of a variable from one age to the next, so up to 3000 of them it stays below 2^64.
+const GREATEST_REWARD: u64 = 1 << 48;
 
 /// By how many bits.
-const SMALLER: u32 = 40;
+const SMALLER: u32 = 28;
 
 /// Variables by their activity, the greatest first, with the value that each had last (M. Moskewicz, C. Madigan,
 /// Y. Zhao, L. Zhang, S. Malik, Chaff: Engineering an Efficient SAT Solver; K. Pipatsrisawat, A. Darwiche, A
@@ -167,7 +168,7 @@ impl Order {
 
     /// Lets the next rewards count for more than the earlier ones.
     pub fn age(&mut self) {
-        self.reward = self.reward.saturating_add(self.reward >> 4);
+        self.reward = self.reward.saturating_add(self.reward / 19);
         if self.reward >= GREATEST_REWARD {
             self.reward >>= SMALLER;
             for activity in self.activities.iter_mut() {

@@ -1,14 +1,13 @@
 //! The search.
 
-ghost use Rattle.std.specs.Prelude.{◌≡◌, ◌≤◌, ◌⊎◌, ℕ, None, Some, false, List, map, max, IfOk, IfErr, OnOk, Err};
-ghost use Rattle.ba_lits.specs.Literals.{Literal};
+ghost use Rattle.std.specs.Prelude.{◌≡◌, ◌≤◌, ◌⊎◌, None, Some, false, List, map, IfOk, IfErr, OnOk, Err};
 ghost use Rattle.ba_learn.specs.Live.{AreLive};
 ghost use Rattle.ba_steps.specs.States.{kept, clause_at};
 ghost use Rattle.ba_steps.specs.Sinks.{Rose};
 ghost use Rattle.ba_steps.specs.declared.store.Origin.TheVariants.{Given};
 ghost use Rattle.ba_steps.specs.declared.step.CertStep.{CertStep};
 ghost use Rattle.ba_search.specs.Rules.{IsRestartRule, IsKeepRule};
-ghost use Rattle.ba_search.specs.Searching.{ArePart, Learns, with_steps};
+ghost use Rattle.ba_search.specs.Searching.{ArePart, Learns, Leaves, with_steps};
 ghost use Rattle.ba_search.specs.Answers.{AreAssumptions, IsAnswer};
 ghost use Rattle.ba_search.specs.Turns.{failure_of};
 
@@ -16,7 +15,7 @@ use crate::engine::Engine;
 use ba_learn::Learnt;
 use ba_lits::{Formula, Lit, Model as Assignment};
 use ba_steps::{Checked, RunJudge, SinkError, StepSink};
-use std::alloc::{AllocError, AllocFailed, Global};
+use std::alloc::{AllocError, Global};
 use std::marker::Model;
 use thiserror::Error;
 
@@ -94,7 +93,7 @@ impl<R, K> Model for Search<R, K> {
 
     ghost Value = { Searching R K };
 
-    ghost view = { λ s. record { variables = s.engine.watch.variables; clauses = s.engine.watch.clauses; restart = s.restart; keep = s.keep; failure = s.failure } };
+    ghost view = { λ s. record { variables = s.engine.watch.variables; clauses = s.engine.watch.clauses; restart = s.restart; keep = s.keep; failure = s.failure; propagated = s.engine.propagated } };
 
     ghost invariant = { λ s. s.failure ≡ None → IsNumbered s.engine.watch.clauses s.engine.taken };
 }
@@ -116,6 +115,7 @@ impl<R: Fn(u64) -> u64 + Drop, K: Fn(u64, u64) -> bool + Drop> Search<R, K> {
         ensures restart { IfOk result (λ search. search.restart ≡ restart) }
         ensures keep { IfOk result (λ search. search.keep ≡ keep) }
         ensures fresh { IfOk result (λ search. search.failure ≡ None) }
+        ensures propagated { IfOk result (λ search. search.propagated ≡ 0) }
     {
         let mut engine = Engine::new(alloc);
         engine.grow(formula.variables())?;
@@ -137,7 +137,7 @@ impl<R: Fn(u64) -> u64 + Drop, K: Fn(u64, u64) -> bool + Drop> Search<R, K> {
         &mut self,
         checked: &Checked<S, J>,
     ) -> Result<(), SearchError>
-        requires part { ArePart self.old.clauses (clause_at checked.now.checker.clauses) }
+        requires part { self.old.failure ≡ None → ArePart self.old.clauses (clause_at checked.now.checker.clauses) }
         ensures same { OnOk result (AreLive self.new.clauses (clause_at checked.now.checker.clauses)) }
         ensures fresh { OnOk result (self.old.failure ≡ None) }
         ensures stays_fresh { OnOk result (self.new.failure ≡ None) }
@@ -146,6 +146,7 @@ impl<R: Fn(u64) -> u64 + Drop, K: Fn(u64, u64) -> bool + Drop> Search<R, K> {
         ensures keeps { IfErr result (λ error. self.new.failure ≡ Some error) }
         ensures again { (error : SearchError) → self.old.failure ≡ Some error → (result ≡ Err error) × (self.new ≡ self.old) }
         ensures cause { result ≡ Err SearchError.SinkFailed → self.old.failure ≡ Some SearchError.SinkFailed }
+        ensures propagated { self.new.propagated ≡ self.old.propagated }
     {
         if let Some(failure) = self.failure {
             return Err(failure);
@@ -155,29 +156,40 @@ impl<R: Fn(u64) -> u64 + Drop, K: Fn(u64, u64) -> bool + Drop> Search<R, K> {
         result
     }
 
+    /// How many literals were assigned by propagation so far, for measurements. It never falls; that it counts every one
+    /// is tested alone.
+    pub fn propagated(&self) -> u64
+        ensures { result ≡ self.now.propagated }
+    {
+        self.engine.propagated
+    }
+
     /// Searches for a model of the live clauses under the assumptions. Each clause that is learnt on the way is put as a
     /// step. Conflicts count until the checker's stated number is spent.
     ///
     /// `SinkFailed` comes only where the sink's faults rose, `Memory` for want of memory. A search that answered an
-    /// error answers it from then on.
+    /// error answers it from then on. Steps that were put before an error stay put.
     pub fn solve<S: StepSink + Drop, J: RunJudge + Drop>(
         &mut self,
         assumptions: &[Lit],
         checked: &mut Checked<S, J>,
     ) -> Result<Answer, SearchError>
         requires restart { IsRestartRule (R.pre self.old.restart) (R.post self.old.restart) }
-        requires same { AreLive self.old.clauses (clause_at checked.old.checker.clauses) }
-        requires begun { checked.old.checker.ended ≡ false }
-        requires awake { checked.old.checker.refused ≡ false }
-        requires fresh { checked.old.refusal ≡ None }
-        requires assumptions { AreAssumptions checked.old.checker.variables assumptions.now }
+        requires keep { IsKeepRule (K.pre self.old.keep) (K.post self.old.keep) }
+        requires same { self.old.failure ≡ None → AreLive self.old.clauses (clause_at checked.old.checker.clauses) }
+        requires begun { self.old.failure ≡ None → checked.old.checker.ended ≡ false }
+        requires awake { self.old.failure ≡ None → checked.old.checker.refused ≡ false }
+        requires fresh { self.old.failure ≡ None → checked.old.refusal ≡ None }
+        requires assumptions { self.old.failure ≡ None → AreAssumptions checked.old.checker.variables assumptions.now }
         ensures answer { IfOk result (λ answer. IsAnswer checked.new.checker assumptions.now answer) }
         ensures same { OnOk result (AreLive self.new.clauses (clause_at checked.new.checker.clauses)) }
         ensures steps { OnOk result ((steps : List CertStep)
             × Learns (J.accepts checked.old.judge) checked.old.checker steps checked.new.checker
             × (S.logs checked.new.sink ≡ with_steps steps (S.logs checked.old.sink))) }
+        ensures leaves { Leaves (J.accepts checked.old.judge) checked.old.checker (S.logs checked.old.sink) checked.new.checker (S.logs checked.new.sink) }
         ensures fresh { OnOk result (self.old.failure ≡ None) }
         ensures stays_fresh { OnOk result ((self.new.failure ≡ None) × (checked.new.refusal ≡ None)) }
+        ensures stays_begun { OnOk result (checked.new.checker.ended ≡ false) }
         ensures awake { OnOk result (checked.new.checker.refused ≡ false) }
         ensures restart_stays { self.new.restart ≡ self.old.restart }
         ensures keep_stays { self.new.keep ≡ self.old.keep }
@@ -190,6 +202,7 @@ impl<R: Fn(u64) -> u64 + Drop, K: Fn(u64, u64) -> bool + Drop> Search<R, K> {
         ensures over_stays { S.over checked.new.sink ≡ S.over checked.old.sink }
         ensures no_fall { S.faults checked.old.sink ≤ S.faults checked.new.sink }
         ensures same_references { S.references checked.new.sink ≡ S.references checked.old.sink }
+        ensures propagated { self.old.propagated ≤ self.new.propagated }
     {
         if let Some(failure) = self.failure {
             return Err(failure);

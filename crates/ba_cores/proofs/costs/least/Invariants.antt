@@ -1,4 +1,4 @@
-use Rattle.std.proofs.Common.{◌≡◌, ◌-◌, ◌≤◌, None}
+use Rattle.std.proofs.Common.{◌≡◌, ◌+◌, ◌-◌, ◌≤◌, None}
 use Rattle.ba_learn.specs.Live.{AreLive}
 use Rattle.ba_steps.specs.States.{clause_at}
 use Rattle.ba_cores.specs.Rounds.{IsReady, Puts}
@@ -21,4 +21,4 @@ invariant-rounds g l = record {
 }
 
 abbrev pub decreases-rounds : goal.decreases-rounds
-decreases-rounds g l = l.checked.checker.budget - l.checked.checker.conflicts
+decreases-rounds g l = (l.checked.checker.budget - l.checked.checker.conflicts) + l.weight

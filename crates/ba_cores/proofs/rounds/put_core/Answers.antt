@@ -1,7 +1,7 @@
-use Rattle.std.proofs.Common.{arith, ap, length}
+use Rattle.std.proofs.Common.{arith, ap}
 use Rattle.ba_steps.specs.States.{State}
 use Rattle.ba_cores.proofs.CoreLaws.{core_formed, core_allowed, part_after_core}
-use Rattle.ba_cores.proofs.DerivesLaws.{puts_core, core_fewer, on_ok}
+use Rattle.ba_cores.proofs.DerivesLaws.{puts_core, core_fewer, on_ok, leaves_put, leaves_core}
 use Rattle.ba_cores.specs.Rounds.{literals_of}
 use Rattle.ba_cores.proofs.rounds.put_core.Goals as goal
 
@@ -10,15 +10,24 @@ put-requires-clause-formed g c =
     let s = c.args.checked.now.checker in
     core_formed s (literals_of s.softs) c.args.core.lits c.args.core.hints c.args.core.back c.requires.core
     (omega (arith, c.keeps_facts.ensures.few, ap (λ (s : State). s.variables) c.checker.ensures))
-    (omega (arith, c.if-last.false, c.last.ensures, ap (λ (s : State). length s.clauses) c.checker-2.ensures))
     c.requires.some
 
 pub put-requires-clause-allowed : goal.put-requires-clause-allowed
 put-requires-clause-allowed g c = λ fresh awake.
     core_allowed (g.J.RunJudge.accepts c.args.checked.now.judge) c.args.checked.now.checker c.args.core.lits c.args.core.hints c.args.core.back c.requires.core c.requires.ready
 
+pub returns-in-Err-clause-leaves : goal.returns-in-Err-clause-leaves
+returns-in-Err-clause-leaves g c =
+    let s = c.args.checked.now.checker in
+    leaves_core (g.J.RunJudge.accepts c.args.checked.now.judge) s c.put.new.self.checker c.args.core.lits c.args.core.hints (g.S.StepSink.logs c.args.checked.now.sink) (g.S.StepSink.logs c.put.new.self.sink)
+    (core_formed s (literals_of s.softs) c.args.core.lits c.args.core.hints c.args.core.back c.requires.core
+    (omega (arith, c.keeps_facts.ensures.few, ap (λ (s : State). s.variables) c.checker.ensures))
+    c.requires.some)
+    (core_allowed (g.J.RunJudge.accepts c.args.checked.now.judge) s c.args.core.lits c.args.core.hints c.args.core.back c.requires.core c.requires.ready)
+    (c.in-Err.ensures.taken_or_asleep c.requires.fresh) c.in-Err.ensures.refused
+
 pub take_new-requires : goal.take_new-requires
-take_new-requires g c = record { part = part_after_core c.args.checked.now.checker c.put.new.self.checker c.args.core.lits c.args.core.hints c.in_default.ensures.taken c.requires.same }
+take_new-requires g c = record { part = λ working. part_after_core c.args.checked.now.checker c.put.new.self.checker c.args.core.lits c.args.core.hints c.in_default.ensures.taken c.requires.same }
 
 pub returns-clause-puts : goal.returns-clause-puts
 returns-clause-puts g c =
@@ -27,7 +36,17 @@ returns-clause-puts g c =
     (puts_core (g.J.RunJudge.accepts c.args.checked.now.judge) s c.put.new.self.checker c.args.core.lits c.args.core.hints (g.S.StepSink.logs c.args.checked.now.sink) (g.S.StepSink.logs c.put.new.self.sink)
     (core_formed s (literals_of s.softs) c.args.core.lits c.args.core.hints c.args.core.back c.requires.core
     (omega (arith, c.keeps_facts.ensures.few, ap (λ (s : State). s.variables) c.checker.ensures))
-    (omega (arith, c.if-last.false, c.last.ensures, ap (λ (s : State). length s.clauses) c.checker-2.ensures))
+    c.requires.some)
+    (core_allowed (g.J.RunJudge.accepts c.args.checked.now.judge) s c.args.core.lits c.args.core.hints c.args.core.back c.requires.core c.requires.ready)
+    c.in_default.ensures.taken c.in_default.ensures.told)
+
+pub returns-clause-leaves : goal.returns-clause-leaves
+returns-clause-leaves g c =
+    let s = c.args.checked.now.checker in
+    leaves_put (g.J.RunJudge.accepts c.args.checked.now.judge) s c.put.new.self.checker (g.S.StepSink.logs c.args.checked.now.sink) (g.S.StepSink.logs c.put.new.self.sink)
+    (puts_core (g.J.RunJudge.accepts c.args.checked.now.judge) s c.put.new.self.checker c.args.core.lits c.args.core.hints (g.S.StepSink.logs c.args.checked.now.sink) (g.S.StepSink.logs c.put.new.self.sink)
+    (core_formed s (literals_of s.softs) c.args.core.lits c.args.core.hints c.args.core.back c.requires.core
+    (omega (arith, c.keeps_facts.ensures.few, ap (λ (s : State). s.variables) c.checker.ensures))
     c.requires.some)
     (core_allowed (g.J.RunJudge.accepts c.args.checked.now.judge) s c.args.core.lits c.args.core.hints c.args.core.back c.requires.core c.requires.ready)
     c.in_default.ensures.taken c.in_default.ensures.told)

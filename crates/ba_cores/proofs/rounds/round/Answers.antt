@@ -3,14 +3,14 @@ use Rattle.std.proofs.lemmas.Result.{IfOk-weaker, on_ok_weaker}
 use Rattle.ba_lits.specs.Literals.{Literal}
 use Rattle.ba_steps.specs.States.{State}
 use Rattle.ba_search.specs.Answers.{IsAnswer}
-use Rattle.ba_cores.specs.Rounds.{literals_of}
-use Rattle.ba_cores.proofs.DerivesLaws.{puts_on, puts_learns, puts_ready, puts_softs, puts_as, round_as}
-use Rattle.ba_cores.proofs.CoreLaws.{softs_assumed}
+use Rattle.ba_cores.specs.Rounds.{literals_of, heavy}
+use Rattle.ba_cores.proofs.DerivesLaws.{puts_on, puts_learns, puts_ready, puts_softs, puts_as, round_as, leaves_none, leaves_learns, leaves_on}
+use Rattle.ba_cores.proofs.HeavyLaws.{heavy_assumed}
 use Rattle.ba_cores.proofs.rounds.round.Goals as goal
 
 pub solve-requires-clause-assumptions : goal.solve-requires-clause-assumptions
-solve-requires-clause-assumptions g c =
-    softs_assumed c.args.checked.now.checker.variables c.checker.result.now.variables c.softs.result.now c.as_slice.result.now
+solve-requires-clause-assumptions g c = λ working.
+    heavy_assumed c.args.checked.now.checker.variables c.checker.result.now.variables c.args.weight.now c.softs.result.now c.as_slice.result.now
     (c.as_slice.ensures.value ∙ c.in-Ok.ensures)
     (ap (λ (s : State). s.variables) c.checker.ensures)
     c.softs.ensures.among c.softs.ensures.differ
@@ -19,9 +19,10 @@ pub take_answer-requires-clause-answer : goal.take_answer-requires-clause-answer
 take_answer-requires-clause-answer g c =
     let new = c.solve.new.checked.checker in
     let steps = c.in_ok-answer.ensures.steps in
-    let softs : literals_of new.softs ≡ literals_of c.args.checked.now.checker.softs = ap literals_of (puts_softs (g.J.RunJudge.accepts c.args.checked.now.judge) c.args.checked.now.checker new steps.0 steps.1) in
+    let softs : new.softs ≡ c.args.checked.now.checker.softs = puts_softs (g.J.RunJudge.accepts c.args.checked.now.judge) c.args.checked.now.checker new steps.0 steps.1 in
     let old : c.softs.result.now ≡ c.args.checked.now.checker.softs = c.softs.ensures.softs ∙ ap (λ (s : State). s.softs) c.checker.ensures in
-    let assumed : c.as_slice.result.now ≡ literals_of new.softs = c.as_slice.ensures.value ∙ c.in-Ok.ensures ∙ ap literals_of old ∙ sym softs in
+    let assumed : c.as_slice.result.now ≡ literals_of (heavy c.args.weight.now new.softs) =
+    c.as_slice.ensures.value ∙ c.in-Ok.ensures ∙ ap (λ ss. literals_of (heavy c.args.weight.now ss)) (old ∙ sym softs) in
     subst (λ (a : List Literal). IsAnswer new a c.in_ok-answer.answer) assumed c.in_ok-answer.ensures.answer
 
 pub take_answer-requires-clause-ready : goal.take_answer-requires-clause-ready
@@ -37,7 +38,7 @@ returns-clause-found g c =
     let mid = c.solve.new.checked in
     let puts = puts_learns good old.checker mid.checker (g.S.StepSink.logs old.sink) (g.S.StepSink.logs mid.sink) c.in_ok-answer.ensures.steps in
     IfOk-weaker c.take_answer.result _ _
-    (λ found ends. round_as good (g.J.RunJudge.accepts mid.judge) old.checker mid.checker c.take_answer.new.checked.checker (g.S.StepSink.logs old.sink) (g.S.StepSink.logs mid.sink) found
+    (λ found ends. round_as good (g.J.RunJudge.accepts mid.judge) old.checker mid.checker c.take_answer.new.checked.checker (g.S.StepSink.logs old.sink) (g.S.StepSink.logs mid.sink) c.args.weight.now c.take_answer.new.weight found
     (ap g.J.RunJudge.accepts c.in_ok-answer.ensures.judge_stays) puts ends)
     c.take_answer.ensures.found
 
@@ -52,3 +53,20 @@ returns-clause-puts g c =
     (λ more. puts_on good old.checker mid.checker new.checker (g.S.StepSink.logs old.sink) (g.S.StepSink.logs mid.sink) (g.S.StepSink.logs new.sink) puts
     (puts_as (g.J.RunJudge.accepts mid.judge) good mid.checker new.checker (g.S.StepSink.logs mid.sink) (g.S.StepSink.logs new.sink) (ap g.J.RunJudge.accepts c.in_ok-answer.ensures.judge_stays) more))
     c.take_answer.ensures.puts
+
+pub returns-in_default-clause-leaves : goal.returns-in_default-clause-leaves
+returns-in_default-clause-leaves g c = leaves_none (g.J.RunJudge.accepts c.args.checked.now.judge) c.args.checked.now.checker (g.S.StepSink.logs c.args.checked.now.sink)
+
+pub returns-in_err-answer-clause-leaves : goal.returns-in_err-answer-clause-leaves
+returns-in_err-answer-clause-leaves g c =
+    leaves_learns (g.J.RunJudge.accepts c.args.checked.now.judge) c.args.checked.now.checker c.solve.new.checked.checker (g.S.StepSink.logs c.args.checked.now.sink) (g.S.StepSink.logs c.solve.new.checked.sink) c.solve.ensures.leaves
+
+pub returns-clause-leaves : goal.returns-clause-leaves
+returns-clause-leaves g c =
+    let good = g.J.RunJudge.accepts c.args.checked.now.judge in
+    let old = c.args.checked.now in
+    let mid = c.solve.new.checked in
+    let new = c.take_answer.new.checked in
+    let puts = puts_learns good old.checker mid.checker (g.S.StepSink.logs old.sink) (g.S.StepSink.logs mid.sink) c.in_ok-answer.ensures.steps in
+    leaves_on good (g.J.RunJudge.accepts mid.judge) old.checker mid.checker new.checker (g.S.StepSink.logs old.sink) (g.S.StepSink.logs mid.sink) (g.S.StepSink.logs new.sink)
+    (ap g.J.RunJudge.accepts c.in_ok-answer.ensures.judge_stays) puts c.take_answer.ensures.leaves

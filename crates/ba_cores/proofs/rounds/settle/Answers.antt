@@ -1,7 +1,7 @@
 use Rattle.std.proofs.Common.{◌≡◌, arith, ℕ, true, ◌==◌, length, sym, ◌∙◌}
 use Rattle.std.proofs.lemmas.Bool.Decides.{nat_tests}
 use Rattle.ba_cores.specs.Rounds.{literals_of}
-use Rattle.ba_cores.proofs.DerivesLaws.{puts_none}
+use Rattle.ba_cores.proofs.DerivesLaws.{puts_none, leaves_none}
 use Rattle.ba_cores.proofs.LeastLaws.{none_of_core}
 use Rattle.ba_cores.proofs.rounds.settle.Goals as goal
 
@@ -16,3 +16,6 @@ returns-then-is_empty-clause-found g c =
 
 pub returns-then-is_empty-clause-puts : goal.returns-then-is_empty-clause-puts
 returns-then-is_empty-clause-puts g c = puts_none (g.J.RunJudge.accepts c.args.checked.now.judge) c.args.checked.now.checker (g.S.StepSink.logs c.args.checked.now.sink)
+
+pub returns-then-is_empty-clause-leaves : goal.returns-then-is_empty-clause-leaves
+returns-then-is_empty-clause-leaves g c = leaves_none (g.J.RunJudge.accepts c.args.checked.now.judge) c.args.checked.now.checker (g.S.StepSink.logs c.args.checked.now.sink)

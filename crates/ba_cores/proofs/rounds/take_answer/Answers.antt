@@ -1,24 +1,40 @@
-use Rattle.std.proofs.Common.{◌≡◌, ℕ, ap, sym, subst, ◌∙◌}
-use Rattle.ba_steps.specs.States.{State}
-use Rattle.ba_search.specs.Answers.{IsModel, IsAnswer}
-use Rattle.ba_cores.specs.Findings.{IsLeast}
-use Rattle.ba_cores.specs.Rounds.{literals_of}
-use Rattle.ba_cores.proofs.DerivesLaws.{puts_none}
-use Rattle.ba_cores.proofs.LeastLaws.{least_of_model}
+use Rattle.std.proofs.Common.{subst}
+use Rattle.std.proofs.lemmas.Result.{IfOk-weaker}
+use Rattle.ba_search.specs.Answers.{IsAnswer}
+use Rattle.ba_cores.specs.Rounds.{literals_of, heavy}
+use Rattle.ba_cores.proofs.DerivesLaws.{puts_none, leaves_none, round_weight, round_model}
+use Rattle.ba_cores.proofs.HeavyLaws.{heavy_core}
 use Rattle.ba_cores.proofs.rounds.take_answer.Goals as goal
+
+pub take_model-requires : goal.take_model-requires
+take_model-requires g c =
+    let s = c.args.checked.now.checker in
+    record { model = subst (IsAnswer s (literals_of (heavy c.args.weight.now s.softs))) c.in-Model.is c.requires.answer }
 
 pub returns-in-Model-clause-found : goal.returns-in-Model-clause-found
 returns-in-Model-clause-found g c =
-    let s = c.args.checked.now.checker in
-    let bound : c.bound.result ≡ s.bound = c.bound.ensures ∙ ap (λ (t : State). t.bound) c.checker.ensures in
-    let model : IsModel s (literals_of s.softs) c.in-Model.model.values = subst (IsAnswer s (literals_of s.softs)) c.in-Model.is c.requires.answer in (
-      bound,
-      λ formula softs r. subst (λ (w : ℕ). IsLeast formula softs w c.in-Model.model.values) (sym bound)
-          (least_of_model (g.J.RunJudge.accepts c.args.checked.now.judge) formula softs s c.in-Model.model.values model r),
-    )
+    round_model (g.J.RunJudge.accepts c.args.checked.now.judge) c.args.checked.now.checker c.args.weight.now c.take_model.new.weight c.take_model.result c.take_model.ensures.found c.take_model.ensures.less
 
 pub returns-in-Model-clause-puts : goal.returns-in-Model-clause-puts
 returns-in-Model-clause-puts g c = puts_none (g.J.RunJudge.accepts c.args.checked.now.judge) c.args.checked.now.checker (g.S.StepSink.logs c.args.checked.now.sink)
 
+pub returns-in-Model-clause-leaves : goal.returns-in-Model-clause-leaves
+returns-in-Model-clause-leaves g c = leaves_none (g.J.RunJudge.accepts c.args.checked.now.judge) c.args.checked.now.checker (g.S.StepSink.logs c.args.checked.now.sink)
+
+pub take_core-requires-clause-core : goal.take_core-requires-clause-core
+take_core-requires-clause-core g c =
+    let s = c.args.checked.now.checker in
+    heavy_core s c.args.weight.now c.in-Core.core.lits c.in-Core.core.hints c.in-Core.core.back
+    (subst (IsAnswer s (literals_of (heavy c.args.weight.now s.softs))) c.in-Core.is c.requires.answer)
+
+pub returns-in-Core-clause-found : goal.returns-in-Core-clause-found
+returns-in-Core-clause-found g c =
+    IfOk-weaker c.take_core.result _ _
+    (λ found ends. round_weight (g.J.RunJudge.accepts c.args.checked.now.judge) c.args.checked.now.checker c.take_core.new.checked.checker c.args.weight.now found ends)
+    c.take_core.ensures.found
+
 pub returns-in-Spent-clause-puts : goal.returns-in-Spent-clause-puts
 returns-in-Spent-clause-puts g c = puts_none (g.J.RunJudge.accepts c.args.checked.now.judge) c.args.checked.now.checker (g.S.StepSink.logs c.args.checked.now.sink)
+
+pub returns-in-Spent-clause-leaves : goal.returns-in-Spent-clause-leaves
+returns-in-Spent-clause-leaves g c = leaves_none (g.J.RunJudge.accepts c.args.checked.now.judge) c.args.checked.now.checker (g.S.StepSink.logs c.args.checked.now.sink)

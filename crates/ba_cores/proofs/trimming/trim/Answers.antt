@@ -1,12 +1,12 @@
 use Rattle.std.proofs.Common.{ap, subst, ◌∙◌}
 use Rattle.ba_search.specs.Answers.{IsAnswer}
 use Rattle.ba_cores.specs.Rounds.{literals_of, negations_of}
-use Rattle.ba_cores.proofs.DerivesLaws.{puts_learns, puts_softs}
+use Rattle.ba_cores.proofs.DerivesLaws.{puts_learns, puts_softs, leaves_none, leaves_learns}
 use Rattle.ba_cores.proofs.TrimLaws.{core_assumed, trimmed_core, learns_grow, no_model}
 use Rattle.ba_cores.proofs.trimming.trim.Goals as goal
 
 pub solve-requires-clause-assumptions : goal.solve-requires-clause-assumptions
-solve-requires-clause-assumptions g c =
+solve-requires-clause-assumptions g c = λ working.
     let s = c.args.checked.now.checker in
     core_assumed s (literals_of s.softs) c.args.core.lits c.as_slice-2.result.now c.args.core.hints c.args.core.back c.requires.core
     (c.as_slice-2.ensures.value ∙ c.in-Ok.ensures ∙ ap negations_of c.as_slice.ensures)
@@ -44,3 +44,22 @@ returns-in-Model-clause-puts g c =
 pub returns-in-Spent-clause-puts : goal.returns-in-Spent-clause-puts
 returns-in-Spent-clause-puts g c =
     puts_learns (g.J.RunJudge.accepts c.args.checked.now.judge) c.args.checked.now.checker c.solve.new.checked.checker (g.S.StepSink.logs c.args.checked.now.sink) (g.S.StepSink.logs c.solve.new.checked.sink) c.in_ok-shorter.ensures.steps
+
+pub returns-in_default-clause-leaves : goal.returns-in_default-clause-leaves
+returns-in_default-clause-leaves g c = leaves_none (g.J.RunJudge.accepts c.args.checked.now.judge) c.args.checked.now.checker (g.S.StepSink.logs c.args.checked.now.sink)
+
+pub returns-in_err-shorter-clause-leaves : goal.returns-in_err-shorter-clause-leaves
+returns-in_err-shorter-clause-leaves g c =
+    leaves_learns (g.J.RunJudge.accepts c.args.checked.now.judge) c.args.checked.now.checker c.solve.new.checked.checker (g.S.StepSink.logs c.args.checked.now.sink) (g.S.StepSink.logs c.solve.new.checked.sink) c.solve.ensures.leaves
+
+pub returns-in-Core-clause-leaves : goal.returns-in-Core-clause-leaves
+returns-in-Core-clause-leaves g c =
+    leaves_learns (g.J.RunJudge.accepts c.args.checked.now.judge) c.args.checked.now.checker c.solve.new.checked.checker (g.S.StepSink.logs c.args.checked.now.sink) (g.S.StepSink.logs c.solve.new.checked.sink) c.solve.ensures.leaves
+
+pub returns-in-Model-clause-leaves : goal.returns-in-Model-clause-leaves
+returns-in-Model-clause-leaves g c =
+    leaves_learns (g.J.RunJudge.accepts c.args.checked.now.judge) c.args.checked.now.checker c.solve.new.checked.checker (g.S.StepSink.logs c.args.checked.now.sink) (g.S.StepSink.logs c.solve.new.checked.sink) c.solve.ensures.leaves
+
+pub returns-in-Spent-clause-leaves : goal.returns-in-Spent-clause-leaves
+returns-in-Spent-clause-leaves g c =
+    leaves_learns (g.J.RunJudge.accepts c.args.checked.now.judge) c.args.checked.now.checker c.solve.new.checked.checker (g.S.StepSink.logs c.args.checked.now.sink) (g.S.StepSink.logs c.solve.new.checked.sink) c.solve.ensures.leaves

@@ -6,4 +6,5 @@ invariant-loop-number l = record {
   watch : l.self.watch ≡ l.initial.self.watch;
   taken : l.self.taken ≡ l.initial.self.taken;
   since : l.self.since ≡ l.initial.self.since;
+  propagated : l.self.propagated ≡ l.initial.self.propagated;
 }

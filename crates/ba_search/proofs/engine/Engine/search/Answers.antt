@@ -1,7 +1,7 @@
 use Rattle.std.proofs.Common.{ℕ, max, ap, ◌∙◌, refl, arith}
 use Rattle.ba_steps.specs.States.{State}
 use Rattle.ba_search.proofs.UnderwayLaws.{underway_moved, underway_begin}
-use Rattle.ba_search.proofs.StepLaws.{puts_none, puts_then}
+use Rattle.ba_search.proofs.StepLaws.{puts_none, puts_then, leaves_none, leaves_then}
 use Rattle.ba_search.proofs.engine.Engine.search.Goals as goal
 
 pub turns-init : goal.turns-init
@@ -16,6 +16,7 @@ turns-init g c =
       variables = refl;
       puts = puts_none (g.J.RunJudge.accepts c.args.checked.now.judge) k (g.S.StepSink.logs c.args.checked.now.sink);
       fresh = c.requires.fresh;
+      propagated = omega (arith, c.grow.ensures.propagated, c.go_back.ensures.propagated);
       judge = refl;
       over = refl;
       no_fall = omega arith;
@@ -39,8 +40,24 @@ turns-preserved g c =
           (g.S.StepSink.logs c.args.checked.now.sink) (g.S.StepSink.logs c.turns.checked.sink) (g.S.StepSink.logs c.turn.new.checked.sink)
           (ap g.J.RunJudge.accepts i.judge) i.puts t.puts;
       fresh = t.fresh;
+      propagated = omega (arith, c.turn.ensures.propagated, i.propagated);
       judge = t.judge_stays ∙ i.judge;
       over = t.over_stays ∙ i.over;
       no_fall = omega (arith, t.no_fall, i.no_fall);
       references = t.same_references ∙ i.references;
     }
+
+pub returns-in_err-grow-clause-leaves : goal.returns-in_err-grow-clause-leaves
+returns-in_err-grow-clause-leaves g c = leaves_none (g.J.RunJudge.accepts c.args.checked.now.judge) c.args.checked.now.checker (g.S.StepSink.logs c.args.checked.now.sink)
+
+pub returns-in_err-answer-clause-leaves : goal.returns-in_err-answer-clause-leaves
+returns-in_err-answer-clause-leaves g c =
+    leaves_then (g.J.RunJudge.accepts c.args.checked.now.judge) (g.J.RunJudge.accepts c.turns.checked.judge) c.args.checked.now.checker c.turns.checked.checker c.turn.new.checked.checker
+    (g.S.StepSink.logs c.args.checked.now.sink) (g.S.StepSink.logs c.turns.checked.sink) (g.S.StepSink.logs c.turn.new.checked.sink)
+    (ap g.J.RunJudge.accepts c.turns.invariant.judge) c.turns.invariant.puts c.turn.ensures.leaves
+
+pub returns-in-Some-clause-leaves : goal.returns-in-Some-clause-leaves
+returns-in-Some-clause-leaves g c =
+    leaves_then (g.J.RunJudge.accepts c.args.checked.now.judge) (g.J.RunJudge.accepts c.turns.checked.judge) c.args.checked.now.checker c.turns.checked.checker c.turn.new.checked.checker
+    (g.S.StepSink.logs c.args.checked.now.sink) (g.S.StepSink.logs c.turns.checked.sink) (g.S.StepSink.logs c.turn.new.checked.sink)
+    (ap g.J.RunJudge.accepts c.turns.invariant.judge) c.turns.invariant.puts c.turn.ensures.leaves

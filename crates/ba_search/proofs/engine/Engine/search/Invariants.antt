@@ -8,6 +8,7 @@ invariant-turns g l = record {
   variables : l.checked.checker.variables ≡ l.initial.checked.checker.variables;
   puts : Puts (g.J.RunJudge.accepts l.initial.checked.judge) l.initial.checked.checker l.checked.checker (g.S.StepSink.logs l.initial.checked.sink) (g.S.StepSink.logs l.checked.sink);
   fresh : l.checked.refusal ≡ None;
+  propagated : l.initial.self.propagated ≤ l.self.propagated;
   judge : l.checked.judge ≡ l.initial.checked.judge;
   over : g.S.StepSink.over l.checked.sink ≡ g.S.StepSink.over l.initial.checked.sink;
   no_fall : g.S.StepSink.faults l.initial.checked.sink ≤ g.S.StepSink.faults l.checked.sink;

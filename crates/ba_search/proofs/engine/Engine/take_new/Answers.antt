@@ -11,6 +11,7 @@ loop-init c = record {
   taken = subst (λ (n : ℕ). AreTaken c.go_back.new.self.watch.clauses n (clause_at c.args.checker.now.clauses)) (sym (c.go_back.ensures.taken ∙ c.grow.ensures.taken))
       (begun_taken c.args.self.now.watch c.grow.new.self.watch c.go_back.new.self.watch c.args.self.now.taken (clause_at c.args.checker.now.clauses) _ c.in_ok-grow.ensures.ok c.go_back.ensures.watch c.requires.taken);
   next = refl;
+  propagated = refl;
 }
 
 pub returns-clause-all : goal.returns-clause-all

@@ -9,4 +9,5 @@ invariant-loop l = record {
   level : decided l.self.watch.reasons ≡ 0;
   taken : AreTaken l.self.watch.clauses l.self.taken (clause_at l.checker.clauses);
   next : l.self.taken ≡ l.counter;
+  propagated : l.self.propagated ≡ l.initial.self.propagated;
 }

@@ -2,7 +2,7 @@ use Rattle.std.proofs.Common.{sym, subst}
 use Rattle.ba_steps.specs.States.{State}
 use Rattle.ba_search.specs.Turns.{IsUnderway}
 use Rattle.ba_search.proofs.UnderwayLaws.{underway_moved}
-use Rattle.ba_search.proofs.StepLaws.{puts_none}
+use Rattle.ba_search.proofs.StepLaws.{puts_none, leaves_none}
 use Rattle.ba_search.proofs.engine.Engine.turn.Goals as goal
 
 pub go_on-requires-clause-underway : goal.go_on-requires-clause-underway
@@ -30,3 +30,15 @@ pub learn-requires-clause-underway : goal.learn-requires-clause-underway
 learn-requires-clause-underway g c =
     underway_moved c.args.assumptions.now c.propagate.new.self.watch c.give_up.new.self.watch c.propagate.new.self.taken c.give_up.new.self.taken c.args.checked.now.checker c.give_up.ensures.watch c.give_up.ensures.taken
     (c.propagate.ensures.underway c.args.assumptions.now c.args.checked.now.checker c.requires.underway)
+
+pub returns-in_err-go_on-clause-leaves : goal.returns-in_err-go_on-clause-leaves
+returns-in_err-go_on-clause-leaves g c = leaves_none (g.J.RunJudge.accepts c.args.checked.now.judge) c.args.checked.now.checker (g.S.StepSink.logs c.args.checked.now.sink)
+
+pub returns-in_default-clause-leaves : goal.returns-in_default-clause-leaves
+returns-in_default-clause-leaves g c = leaves_none (g.J.RunJudge.accepts c.args.checked.now.judge) c.args.checked.now.checker (g.S.StepSink.logs c.args.checked.now.sink)
+
+pub returns-in_err-answer-clause-leaves : goal.returns-in_err-answer-clause-leaves
+returns-in_err-answer-clause-leaves g c = leaves_none (g.J.RunJudge.accepts c.args.checked.now.judge) c.args.checked.now.checker (g.S.StepSink.logs c.args.checked.now.sink)
+
+pub returns-in-Some-2-clause-leaves : goal.returns-in-Some-2-clause-leaves
+returns-in-Some-2-clause-leaves g c = leaves_none (g.J.RunJudge.accepts c.args.checked.now.judge) c.args.checked.now.checker (g.S.StepSink.logs c.args.checked.now.sink)

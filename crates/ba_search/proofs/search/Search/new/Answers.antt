@@ -15,6 +15,7 @@ loop-place-preserved g c =
       taken = taken_next c.loop-place.engine.watch c.add.new.self.watch c.loop-place.engine.taken c.add.new.self.taken c.clause.result.now (clause_at (map (kept Given) c.args.formula.now.clauses)) adds c.loop-place.invariant.taken
           (given_next c.args.formula.now.clauses c.loop-place.engine.taken c.loop-place.place c.clause.result.now c.loop-place.invariant.next (omega (arith, c.loop-place-test.true, c.len-place-end.ensures)) c.clause.ensures.clause);
       next = omega (arith, adds.next, c.loop-place.invariant.next);
+      propagated = c.add.ensures.propagated ∙ c.loop-place.invariant.propagated;
     }
 
 pub returns-clause-clauses : goal.returns-clause-clauses

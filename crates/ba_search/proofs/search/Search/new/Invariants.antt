@@ -11,4 +11,5 @@ invariant-loop-place g l = record {
   variables : l.engine.watch.variables ≡ l.formula.variables;
   taken : AreTaken l.engine.watch.clauses l.engine.taken (clause_at (map (kept Given) l.formula.clauses));
   next : l.engine.taken ≡ l.place;
+  propagated : l.engine.propagated ≡ 0;
 }
