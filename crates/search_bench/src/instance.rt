@@ -1,0 +1,90 @@
+//! The formulas that can be named.
+
+use crate::pigeons::pigeons;
+use crate::random::random;
+use ba_lits::Formula;
+use std::alloc::{AllocError, Global};
+
+/// How a formula is made.
+#[derive(Clone, Copy, Drop)]
+pub enum Instance {
+    /// So many pigeons, each in one of so many holes of its own.
+    Pigeons {
+        pigeons: u64,
+        holes: u64,
+    },
+    /// So many random clauses of three literals, from a seed.
+    Random {
+        variables: u64,
+        clauses: u64,
+        seed: u64,
+    },
+}
+
+impl Instance {
+    /// The formula.
+    ///
+    /// The one error is want of memory.
+    pub fn formula(self, alloc: Global) -> Result<Formula, AllocError> {
+        match self {
+            Instance::Pigeons {
+                pigeons: count,
+                holes,
+            } => pigeons(alloc, count, holes),
+            Instance::Random {
+                variables,
+                clauses,
+                seed,
+            } => random(alloc, variables, clauses, seed),
+        }
+    }
+}
+
+/// The formula that is solved where none is named.
+pub const SMALL: Instance = Instance::Pigeons {
+    pigeons: 6,
+    holes: 5,
+};
+
+/// The formula of a name.
+pub fn named(name: &str) -> Option<Instance> {
+    let instance = match name {
+        "pigeons-6" => pigeons_over_holes(6),
+        "pigeons-8" => pigeons_over_holes(8),
+        "pigeons-9" => pigeons_over_holes(9),
+        "pigeons-10" => pigeons_over_holes(10),
+        "random-200-satisfiable" => threshold(200, 5),
+        "random-200-unsatisfiable" => threshold(200, 1),
+        "random-250-satisfiable" => threshold(250, 1),
+        "random-250-unsatisfiable" => threshold(250, 5),
+        "random-10000-sparse" => Instance::Random {
+            variables: 10_000,
+            clauses: 32_000,
+            seed: 1,
+        },
+        "random-10000-dense" => Instance::Random {
+            variables: 10_000,
+            clauses: 33_000,
+            seed: 1,
+        },
+        _ => return None,
+    };
+    Some(instance)
+}
+
+/// Pigeons in one hole fewer.
+fn pigeons_over_holes(pigeons: u64) -> Instance {
+    Instance::Pigeons {
+        pigeons,
+        holes: pigeons.saturating_sub(1),
+    }
+}
+
+/// As many random clauses as make formulas with and without a model about equally frequent.
+fn threshold(variables: u64, seed: u64) -> Instance {
+    Instance::Random {
+        variables,
+        clauses: variables.saturating_mul(426) / 100,
+        seed,
+    }
+}

@@ -1,0 +1,58 @@
+//! A benchmark of the search over fixed formulas.
+//!
+//! `search_bench NAME` solves the formula of that name, puts each clause that is learnt through a checker, and prints
+//! one line with the answer, the conflicts and the literals that propagation assigned. `search_bench dimacs NAME`
+//! prints the formula, so that other programs can solve it. Without words it solves a small formula.
+#![tactic(auto)]
+
+mod clauses;
+mod dimacs;
+mod instance;
+mod pigeons;
+mod random;
+mod report;
+mod rules;
+mod solving;
+mod source;
+mod words;
+
+use anyhow::{Context, Result};
+use dimacs::print_formula;
+use solving::solve;
+use std::alloc::{AllocError, Global};
+use std::env;
+use std::rt::Env;
+use words::{Task, task_of};
+
+/// The words after the program's own name.
+///
+/// The one error is want of memory.
+fn without_name(alloc: Global, words: Vec<String>) -> Result<Vec<String>, AllocError> {
+    words.into_iter().skip(1).collect(alloc)
+}
+
+/// The words as texts that are lent.
+///
+/// The one error is want of memory.
+fn texts(alloc: Global, words: &[String]) -> Result<Vec<&str>, AllocError> {
+    words.iter().map(|word| word.as_str()).collect(alloc)
+}
+
+/// Does what the words of the call ask for.
+fn run<R: Env + AllocGlobal + Print>(rt: &R) -> Result<()> {
+    let alloc = rt.alloc();
+    let words = without_name(alloc, env::args(rt)?.collect(alloc)?)?;
+    let texts = texts(alloc, words.as_slice())?;
+    match task_of(texts.as_slice()).context("the words name no formula")? {
+        Task::Solve(instance) => {
+            let report = solve(alloc, &instance.formula(alloc)?)?;
+            println!(rt; "{report}")?;
+        }
+        Task::Print(instance) => print_formula(rt, &instance.formula(alloc)?)?,
+    }
+    Ok(())
+}
+
+fn main(rt: HostRuntime) -> Result<()> {
+    run(&rt)
+}

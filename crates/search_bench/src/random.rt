@@ -1,0 +1,54 @@
+//! Random clauses of three literals.
+
+use crate::clauses::{add, literal, without_clauses};
+use crate::source::Source;
+use ba_lits::{Formula, Lit};
+use std::alloc::{AllocError, Global};
+
+/// So many random clauses of three literals, of different variables each.
+///
+/// The one error is want of memory.
+pub fn random(
+    alloc: Global,
+    variables: u64,
+    clauses: u64,
+    seed: u64,
+) -> Result<Formula, AllocError> {
+    let mut formula = without_clauses(alloc, variables)?;
+    let mut source = Source::new(seed);
+    for _ in 0..clauses {
+        let lits = three_literals(&mut source, variables);
+        add(&mut formula, lits.as_slice())?;
+    }
+    Ok(formula)
+}
+
+/// Random literals of three variables in their order.
+fn three_literals(source: &mut Source, variables: u64) -> [Lit; 3] {
+    let [low, middle, high] = three_below(source, variables);
+    let signs = source.next();
+    [
+        literal(low.saturating_add(1), signs & 1 == 1),
+        literal(middle.saturating_add(1), signs & 2 == 2),
+        literal(high.saturating_add(1), signs & 4 == 4),
+    ]
+}
+
+/// Three different numbers below a limit, the least one first.
+fn three_below(source: &mut Source, limit: u64) -> [u64; 3] {
+    let one = source.below(limit);
+    let other = past(source.below(limit.saturating_sub(1)), one);
+    let low = one.min(other);
+    let high = one.max(other);
+    let last = past(past(source.below(limit.saturating_sub(2)), low), high);
+    [low.min(last), low.max(last.min(high)), high.max(last)]
+}
+
+/// The number at a place among those without one of them.
+fn past(place: u64, left_out: u64) -> u64 {
+    if place >= left_out {
+        place.saturating_add(1)
+    } else {
+        place
+    }
+}

@@ -1,0 +1,98 @@
+//! Solving a formula, with a checker.
+
+ghost use Rattle.std.specs.Prelude.{◌≡◌, true, false, IfOk, []};
+ghost use Rattle.ba_steps.specs.States.{first_state};
+ghost use Rattle.ba_steps.specs.Steps.{AreNumbers};
+
+use crate::report::{Report, Verdict};
+use crate::rules::{keep, luby};
+use ba_items::Items;
+use ba_lits::{Formula, Lit, Model};
+use ba_search::{Answer, Search, SearchError};
+use ba_steps::{CertStep, Checked, Checker, NoSink, RunJudge};
+use ba_tree::run::Choice;
+use std::alloc::{AllocError, Global};
+
+/// How many conflicts there may be.
+const CONFLICTS: u64 = 10_000_000;
+
+/// A judge to whom no run is good.
+#[derive(Clone, Copy, Drop)]
+struct NoRuns;
+
+impl RunJudge for NoRuns {
+    ghost accepts = { λ _ _ _. false };
+
+    fn good(&self, _groups: &[u32], _run: &[Choice]) -> Result<bool, AllocError> {
+        Ok(false)
+    }
+}
+
+/// Solves a formula, with each learnt clause put through a checker, and tries the answer.
+///
+/// The one error is want of memory.
+pub fn solve(alloc: Global, formula: &Formula) -> Result<Report, SearchError> {
+    let checker = Checker::new(alloc, formula, &[], CONFLICTS, 0)?;
+    let mut checked = Checked::new(checker, NoRuns, NoSink);
+    let mut search = Search::new(alloc, formula, luby, keep)?;
+    let answer = search.solve(&[], &mut checked)?;
+    let (mut checker, _) = checked.finish();
+    Ok(Report {
+        verdict: verdict(formula, &mut checker, answer),
+        conflicts: checker.conflicts(),
+        propagated: search.propagated(),
+    })
+}
+
+/// What an answer comes to.
+fn verdict(formula: &Formula, checker: &mut Checker, answer: Answer) -> Verdict {
+    match answer {
+        Answer::Model(model) => Verdict::Satisfiable {
+            holds: holds(formula, &model),
+        },
+        Answer::Core(core) => Verdict::Unsatisfiable {
+            allowed: core.lits.is_empty() && ends(checker, core.hints),
+        },
+        Answer::Spent => Verdict::Spent,
+    }
+}
+
+/// Whether a checker allows the end by these hints, and then ends.
+fn ends(checker: &mut Checker, hints: Items<u64>) -> bool {
+    are_numbers(hints.as_slice())
+        && checker
+            .step(&CertStep::EndNoRepair { hints }, &NoRuns)
+            .is_ok()
+}
+
+/// Whether these can be numbers of clauses.
+fn are_numbers(numbers: &[u64]) -> bool
+    ensures { result ≡ true → AreNumbers numbers.now }
+{
+    numbers
+        .iter()
+        .all(|number| 1 <= *number && *number < 1 << 62)
+}
+
+/// Whether a model satisfies each clause of a formula.
+fn holds(formula: &Formula, model: &Model) -> bool {
+    for place in 0..formula.len() {
+        if !formula
+            .clause(place + 1)
+            .iter()
+            .any(|lit| is_true(model, *lit))
+        {
+            return false;
+        }
+    }
+    true
+}
+
+/// Whether a model makes a literal true.
+fn is_true(model: &Model, lit: Lit) -> bool {
+    let values = model.values.as_slice();
+    match values.get(lit.variable() as usize - 1) {
+        None => false,
+        Some(value) => *value != lit.is_negated(),
+    }
+}
