@@ -1,5 +1,6 @@
 //! The formulas that can be named.
 
+use crate::chain::chain;
 use crate::pigeons::pigeons;
 use crate::random::random;
 use ba_lits::Formula;
@@ -8,6 +9,10 @@ use std::alloc::{AllocError, Global};
 /// How a formula is made.
 #[derive(Clone, Copy, Drop)]
 pub enum Instance {
+    /// So many variables, the first of them and each where the one before is.
+    Chain {
+        variables: u64,
+    },
     /// So many pigeons, each in one of so many holes of its own.
     Pigeons {
         pigeons: u64,
@@ -27,6 +32,7 @@ impl Instance {
     /// The one error is want of memory.
     pub fn formula(self, alloc: Global) -> Result<Formula, AllocError> {
         match self {
+            Instance::Chain { variables } => chain(alloc, variables),
             Instance::Pigeons {
                 pigeons: count,
                 holes,
@@ -40,15 +46,19 @@ impl Instance {
     }
 }
 
-/// The formula that is solved where none is named.
-pub const SMALL: Instance = Instance::Pigeons {
-    pigeons: 6,
-    holes: 5,
-};
+/// The formulas that are solved where none is named. Propagation assigns a hundred literals in the first.
+pub const SMALL: [Instance; 2] = [
+    Instance::Chain { variables: 100 },
+    Instance::Pigeons {
+        pigeons: 6,
+        holes: 5,
+    },
+];
 
 /// The formula of a name.
 pub fn named(name: &str) -> Option<Instance> {
     let instance = match name {
+        "chain-100" => Instance::Chain { variables: 100 },
         "pigeons-6" => pigeons_over_holes(6),
         "pigeons-8" => pigeons_over_holes(8),
         "pigeons-9" => pigeons_over_holes(9),

@@ -2,9 +2,10 @@
 //!
 //! `search_bench NAME` solves the formula of that name, puts each clause that is learnt through a checker, and prints
 //! one line with the answer, the conflicts and the literals that propagation assigned. `search_bench dimacs NAME`
-//! prints the formula, so that other programs can solve it. Without words it solves a small formula.
+//! prints the formula, so that other programs can solve it. Without words it solves two small formulas.
 #![tactic(auto)]
 
+mod chain;
 mod clauses;
 mod dimacs;
 mod instance;
@@ -18,6 +19,7 @@ mod words;
 
 use anyhow::{Context, Result};
 use dimacs::print_formula;
+use instance::{Instance, SMALL};
 use solving::solve;
 use std::alloc::{AllocError, Global};
 use std::env;
@@ -38,16 +40,26 @@ fn texts(alloc: Global, words: &[String]) -> Result<Vec<&str>, AllocError> {
     words.iter().map(|word| word.as_str()).collect(alloc)
 }
 
+/// Solves a formula and prints what is told of it.
+fn report_on<R: AllocGlobal + Print>(rt: &R, instance: Instance) -> Result<()> {
+    let alloc = rt.alloc();
+    let report = solve(alloc, &instance.formula(alloc)?)?;
+    println!(rt; "{report}")?;
+    Ok(())
+}
+
 /// Does what the words of the call ask for.
 fn run<R: Env + AllocGlobal + Print>(rt: &R) -> Result<()> {
     let alloc = rt.alloc();
     let words = without_name(alloc, env::args(rt)?.collect(alloc)?)?;
     let texts = texts(alloc, words.as_slice())?;
     match task_of(texts.as_slice()).context("the words name no formula")? {
-        Task::Solve(instance) => {
-            let report = solve(alloc, &instance.formula(alloc)?)?;
-            println!(rt; "{report}")?;
+        Task::SolveSmall => {
+            for instance in SMALL {
+                report_on(rt, instance)?;
+            }
         }
+        Task::Solve(instance) => report_on(rt, instance)?,
         Task::Print(instance) => print_formula(rt, &instance.formula(alloc)?)?,
     }
     Ok(())
