@@ -20,6 +20,3 @@ mod types;
 pub use error::ParseError;
 pub use parser::parse;
 pub use tree::statements::RawProgram;
-
-#[cfg(test)]
-mod tests;

@@ -1,8 +1,7 @@
 //! Texts with the place where they are refused, worked out from the grammar.
 
-use crate::error::ParseError;
-use crate::parser::parse;
 use ba_lex::{MAX_TEXT, tokens};
+use ba_parse::{ParseError, parse};
 use std::alloc::{AllocError, Global};
 use std::process::Abort;
 use std::test::Fail;

@@ -1,0 +1,5 @@
+//! Texts that the parser accepts or refuses, and where.
+#![tactic(auto)]
+
+#[cfg(test)]
+mod tests;
