@@ -1,6 +1,6 @@
 -- A core under the present soft literals makes an allowed step.
 
-use Rattle.std.proofs.Common.{◌≡◌, ◌≢◌, ℕ, suc, zero, ◌+◌, ◌-◌, ◌^◌, ◌<◌, ◌≤◌, Bool, true, false, not, ◌||◌, ltb, eqb, Option, None, Some, option_map, List, [], ◌∷◌, ◌++◌, map, length, refl, sym, ap, ◌∙◌, arith, subst}
+use Rattle.std.proofs.Common.{◌≡◌, ◌≢◌, ℕ, suc, zero, ◌+◌, ◌-◌, ◌^◌, ◌<◌, ◌≤◌, Bool, true, false, not, ◌||◌, ltb, eqb, Option, None, Some, List, [], ◌∷◌, ◌++◌, map, length, refl, sym, ap, ◌∙◌, arith, subst}
 use Rattle.std.proofs.lemmas.Bool.Decides.{nat_tests}
 use Rattle.std.proofs.lemmas.List.Elements.{All-head, All-tail}
 use Rattle.std.specs.List.{slice_get, list_any}
@@ -10,7 +10,7 @@ use Rattle.ba_lits.specs.Hints.{Replay, Refutes, replay}
 use Rattle.ba_lits.proofs.ClauseLaws.{IsClause-more}
 use Rattle.ba_learn.specs.Live.{IsSame, AreLive}
 use Rattle.ba_steps.specs.Splits.{is_soft, split_clauses}
-use Rattle.ba_steps.specs.States.{Kept, kept, State, clause_at}
+use Rattle.ba_steps.specs.States.{Kept, kept, State, clause_at, live_lits}
 use Rattle.ba_steps.specs.declared.store.Origin.TheVariants as origins
 use Rattle.ba_steps.specs.Steps.{IsFormed}
 use Rattle.ba_steps.specs.Judging.{Judge, error_if, lacks_variable, is_spent, lacks_soft, error_of_replay, error_of, after}
@@ -96,13 +96,12 @@ core_allowed good s lits hints back core ready =
 
 -- THE SEARCH'S CLAUSES stay part of the checker's
 kept_at-more : (xs ys : List Kept) (k : ℕ) (c : List Literal) →
-    option_map (λ (x : Kept). x.lits) (slice_get xs k) ≡ Some c →
-    option_map (λ (x : Kept). x.lits) (slice_get (xs ++ ys) k) ≡ Some c
+    live_lits (slice_get xs k) ≡ Some c → live_lits (slice_get (xs ++ ys) k) ≡ Some c
 kept_at-more [] ys k c is = absurd (cc is)
 kept_at-more (x ∷ xs) ys zero c is = is
 kept_at-more (x ∷ xs) ys (suc k) c is = kept_at-more xs ys k c is
 
-pub clause_at-more : (xs ys : List Kept) (number : ℕ) (c : List Literal) → clause_at xs number ≡ Some c →
+clause_at-more : (xs ys : List Kept) (number : ℕ) (c : List Literal) → clause_at xs number ≡ Some c →
     clause_at (xs ++ ys) number ≡ Some c
 clause_at-more xs ys zero c is = absurd (cc is)
 clause_at-more xs ys (suc k) c is = kept_at-more xs ys k c is

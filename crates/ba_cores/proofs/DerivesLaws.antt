@@ -1,6 +1,6 @@
 -- Derivations put end to end, and what they leave as it was.
 
-use Rattle.std.proofs.Common.{◌≡◌, ℕ, ◌+◌, ◌-◌, ◌<◌, ◌≤◌, Option, None, Some, IfSome, IfNone, Result, Ok, Err, List, [], ◌∷◌, ◌++◌, All, refl, sym, ap, ◌∙◌, arith, subst}
+use Rattle.std.proofs.Common.{◌≡◌, ℕ, ◌+◌, ◌-◌, ◌<◌, ◌≤◌, Bool, Option, None, Some, IfSome, IfNone, Result, Ok, Err, List, [], ◌∷◌, ◌++◌, All, refl, sym, ap, ◌∙◌, arith, subst}
 use Rattle.std.specs.Result.{OnOk}
 use Rattle.std.proofs.lemmas.List.Elements.{All-nil, All-cons, All-append}
 use Rattle.ba_lits.specs.Literals.{Literal}
@@ -12,19 +12,25 @@ use Rattle.ba_steps.specs.Sinks.{Logs, with_step, MayAddStep}
 use Rattle.ba_steps.specs.Puts.{IsTakenOrAsleep}
 use Rattle.ba_steps.specs.Steps.{IsFormed}
 use Rattle.ba_steps.specs.declared.step.CertStep.{CertStep}
-use Rattle.ba_steps.specs.declared.step.CertStep.TheVariants.{Learn, Core}
+use Rattle.ba_steps.specs.declared.step.CertStep.TheVariants.{Learn, Core, Delete}
 use Rattle.ba_steps.specs.declared.step.StepError.{StepError}
-use Rattle.ba_search.specs.Searching.{Learns, learns_none, learns_more, with_steps, Leaves as LeavesLearnt, leaves_all as leaves_learnt, leaves_last as leaves_last_learnt}
-use Rattle.ba_cores.specs.Derivations.{Derives, derives_none, derives_learn, derives_core, Leaves, leaves_all, leaves_last, IsReached}
+use Rattle.ba_search.specs.Searching.{Searches, searches_none, searches_learn, searches_delete, with_steps, Leaves as LeavesSearched, leaves_all as leaves_searched, leaves_last as leaves_last_searched}
+use Rattle.ba_cores.specs.Derivations.{Derives, derives_none, derives_learn, derives_delete, derives_core, Leaves, leaves_all, leaves_last, IsReached}
 use Rattle.ba_cores.specs.Findings.{IsFound}
 use Rattle.ba_cores.specs.Rounds.{IsReady, Puts, EndsRound}
 use Rattle.ba_cores.specs.declared.costs.Found.{Found}
 use Rattle.ba_cores.specs.declared.costs.Found.TheVariants.{Least, NoModel, Spent}
 
--- Learn steps are steps
-pub learns_derives : {good : Judge} {a b : State} {xs : List CertStep} → Learns good a xs b → Derives good a xs b
-learns_derives (learns_none s) = derives_none s
-learns_derives (learns_more s t lits hints steps formed allowed new rest) = derives_learn s t lits hints steps formed allowed new (learns_derives rest)
+-- what a keep rule gives
+abbrev pub Gives : Type 1
+Gives = ℕ → ℕ → Bool → Type 0
+
+-- the steps of a search are steps
+pub searches_derives : {good : Judge} {gives : Gives} {a b : State} {learnt all : List ℕ} {xs : List CertStep} →
+    Searches good gives a learnt xs b all → Derives good a xs b
+searches_derives (searches_none s learnt) = derives_none s
+searches_derives (searches_learn s t learnt all lits hints steps formed allowed new rest) = derives_learn s t lits hints steps formed allowed new (searches_derives rest)
+searches_derives (searches_delete s t learnt all numbers steps formed allowed given_up rest) = derives_delete s t numbers steps formed allowed (searches_derives rest)
 
 -- one derivation after another
 pub derives_append : {good : Judge} {a b : State} {xs : List CertStep} → Derives good a xs b →
@@ -32,6 +38,8 @@ pub derives_append : {good : Judge} {a b : State} {xs : List CertStep} → Deriv
 derives_append (derives_none s) c ys more = more
 derives_append (derives_learn s t lits hints steps formed allowed new rest) c ys more =
     derives_learn s c lits hints (steps ++ ys) formed allowed new (derives_append rest c ys more)
+derives_append (derives_delete s t numbers steps formed allowed rest) c ys more =
+    derives_delete s c numbers (steps ++ ys) formed allowed (derives_append rest c ys more)
 derives_append (derives_core s t lits hints steps formed allowed rest) c ys more =
     derives_core s c lits hints (steps ++ ys) formed allowed (derives_append rest c ys more)
 
@@ -51,9 +59,9 @@ pub record Stays (old new : State) : Type 0 where
 stays_same : (s : State) → Stays s s
 stays_same s = record { sets = refl; budget = refl; ended = refl; refused = refl; conflicts = omega arith }
 
--- a step takes one conflict
+-- a step takes no conflict back
 stays_step : (old mid new : State) → mid.sets ≡ old.sets → mid.budget ≡ old.budget → mid.ended ≡ old.ended →
-    mid.refused ≡ old.refused → mid.conflicts ≡ old.conflicts + 1 → Stays mid new → Stays old new
+    mid.refused ≡ old.refused → old.conflicts ≤ mid.conflicts → Stays mid new → Stays old new
 stays_step old mid new sets budget ended refused conflicts h = record {
   sets = h.sets ∙ sets;
   budget = h.budget ∙ budget;
@@ -65,19 +73,24 @@ stays_step old mid new sets budget ended refused conflicts h = record {
 pub derives_stays : {good : Judge} {a b : State} {xs : List CertStep} → Derives good a xs b → Stays a b
 derives_stays (derives_none s) = stays_same s
 derives_stays (derives_learn s t lits hints steps formed allowed new rest) =
-    stays_step s (after s (Learn lits hints)) t refl refl refl refl refl (derives_stays rest)
+    stays_step s (after s (Learn lits hints)) t refl refl refl refl (omega arith) (derives_stays rest)
+derives_stays (derives_delete s t numbers steps formed allowed rest) =
+    stays_step s (after s (Delete numbers)) t refl refl refl refl (omega arith) (derives_stays rest)
 derives_stays (derives_core s t lits hints steps formed allowed rest) =
-    stays_step s (after s (Core lits hints)) t refl refl refl refl refl (derives_stays rest)
+    stays_step s (after s (Core lits hints)) t refl refl refl refl (omega arith) (derives_stays rest)
 
--- Learn steps leave the soft literals too
-pub learns_softs : {good : Judge} {a b : State} {xs : List CertStep} → Learns good a xs b → b.softs ≡ a.softs
-learns_softs (learns_none s) = refl
-learns_softs (learns_more s t lits hints steps formed allowed new rest) = learns_softs rest
+-- the steps of a search leave the soft literals too
+searches_softs : {good : Judge} {gives : Gives} {a b : State} {learnt all : List ℕ} {xs : List CertStep} →
+    Searches good gives a learnt xs b all → b.softs ≡ a.softs
+searches_softs (searches_none s learnt) = refl
+searches_softs (searches_learn s t learnt all lits hints steps formed allowed new rest) = searches_softs rest
+searches_softs (searches_delete s t learnt all numbers steps formed allowed given_up rest) = searches_softs rest
 
 -- a derivation is one of allowed, formed steps
 pub derives_formed : {good : Judge} {a b : State} {xs : List CertStep} → Derives good a xs b → All IsFormed xs
 derives_formed (derives_none s) = All-nil IsFormed
 derives_formed (derives_learn s t lits hints steps formed allowed new rest) = All-cons IsFormed (Learn lits hints) steps formed (derives_formed rest)
+derives_formed (derives_delete s t numbers steps formed allowed rest) = All-cons IsFormed (Delete numbers) steps formed (derives_formed rest)
 derives_formed (derives_core s t lits hints steps formed allowed rest) = All-cons IsFormed (Core lits hints) steps formed (derives_formed rest)
 
 next_allowed : (o : Option StepError) (next : Option State) (t : State) → o ≡ None → next ≡ Some t →
@@ -90,6 +103,8 @@ pub derives_after : {good : Judge} {a b : State} {xs : List CertStep} → Derive
 derives_after (derives_none s) = refl
 derives_after {good} (derives_learn s t lits hints steps formed allowed new rest) =
     next_allowed (error_of good s (Learn lits hints)) (after_all good (after s (Learn lits hints)) steps) t allowed (derives_after rest)
+derives_after {good} (derives_delete s t numbers steps formed allowed rest) =
+    next_allowed (error_of good s (Delete numbers)) (after_all good (after s (Delete numbers)) steps) t allowed (derives_after rest)
 derives_after {good} (derives_core s t lits hints steps formed allowed rest) =
     next_allowed (error_of good s (Core lits hints)) (after_all good (after s (Core lits hints)) steps) t allowed (derives_after rest)
 
@@ -151,10 +166,10 @@ puts_core good s t lits hints l m formed allowed taken told = record {
   logs = told;
 }
 
--- Learn steps, as the search tells them
-pub puts_learns : (good : Judge) (a b : State) (l m : Logs) →
-    (xs : List CertStep) × Learns good a xs b × (m ≡ with_steps xs l) → Puts good a b l m
-puts_learns good a b l m (xs, learns, logs) = record { steps = xs; derives = learns_derives learns; logs = logs }
+-- Learn and Delete steps, as the search tells them
+pub puts_searched : (good : Judge) {gives : Gives} {learnt all : List ℕ} (a b : State) (l m : Logs) →
+    (xs : List CertStep) × Searches good gives a learnt xs b all × (m ≡ with_steps xs l) → Puts good a b l m
+puts_searched good a b l m (xs, searches, logs) = record { steps = xs; derives = searches_derives searches; logs = logs }
 
 pub puts_ready : (good : Judge) (a b : State) (l m : Logs) → Puts good a b l m → IsReady a → IsReady b
 puts_ready good a b l m p r =
@@ -169,8 +184,9 @@ pub found_later : (good : Judge) (a b c : State) (l m : Logs) (found : Found) �
     IsFound good b c found → IsFound good a c found
 found_later good a b c l m found p is = found_on p.derives c found is
 
-pub puts_softs : (good : Judge) (a b : State) (xs : List CertStep) → Learns good a xs b → b.softs ≡ a.softs
-puts_softs good a b xs learns = learns_softs learns
+pub puts_softs : (good : Judge) {gives : Gives} {learnt all : List ℕ} (a b : State) (xs : List CertStep) →
+    Searches good gives a learnt xs b all → b.softs ≡ a.softs
+puts_softs good a b xs searches = searches_softs searches
 
 -- a Core step takes one of the conflicts that are left
 pub core_fewer : (s t : State) (lits : List Literal) (hints : List ℕ) → s.conflicts < s.budget →
@@ -226,9 +242,11 @@ leaves_core good s t lits hints l m formed allowed taken told =
     (derives_core s (after s (Core lits hints)) lits hints [] formed allowed (derives_none (after s (Core lits hints))))
     taken told
 
-pub leaves_learns : (good : Judge) (a b : State) (l m : Logs) → LeavesLearnt good a l b m → Leaves good a l b m
-leaves_learns good a b l m (leaves_learnt steps learns logs) = leaves_all steps (learns_derives learns) logs
-leaves_learns good a b l m (leaves_last_learnt steps last before learns tried taken told) = leaves_last steps last before (learns_derives learns) (learns_derives tried) taken told
+pub leaves_searches : (good : Judge) {gives : Gives} {learnt : List ℕ} (a b : State) (l m : Logs) →
+    LeavesSearched good gives learnt a l b m → Leaves good a l b m
+leaves_searches good a b l m (leaves_searched steps all searches logs) = leaves_all steps (searches_derives searches) logs
+leaves_searches good a b l m (leaves_last_searched steps last before all more searches tried taken told) =
+    leaves_last steps last before (searches_derives searches) (searches_derives tried) taken told
 
 pub leaves_on : (good same : Judge) (a b c : State) (l m n : Logs) → same ≡ good → Puts good a b l m →
     Leaves same b m c n → Leaves good a l c n

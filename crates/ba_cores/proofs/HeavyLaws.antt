@@ -1,6 +1,6 @@
 -- The soft literals of at least a weight, among the others.
 
-use Rattle.std.proofs.Common.{◌≡◌, ◌≢◌, ℕ, ◌<◌, ◌≤◌, Bool, true, false, not, ◌||◌, ltb, cond, List, [], ◌∷◌, All, refl, ap, ◌∙◌, arith, subst}
+use Rattle.std.proofs.Common.{◌≡◌, ◌≢◌, ℕ, ◌≤◌, Bool, true, false, not, ◌||◌, ltb, cond, List, [], ◌∷◌, refl, ap, subst}
 use Rattle.std.proofs.lemmas.List.Elements.{All-filter}
 use Rattle.ba_lits.specs.Literals.{Literal, negate, lit_at, index_of}
 use Rattle.ba_lits.specs.Satisfaction.{Soft}

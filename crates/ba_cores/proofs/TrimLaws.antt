@@ -1,22 +1,26 @@
 -- A core under the negations of another core's literals is one under the same assumptions as that.
 
-use Rattle.std.proofs.Common.{◌≡◌, ◌≢◌, ℕ, suc, zero, ◌-◌, ◌<◌, Bool, true, false, not, ◌||◌, Option, None, Some, List, [], ◌∷◌, map, length, All, refl, sym, ap, ◌∙◌, arith, subst}
+use Rattle.std.proofs.Common.{◌≡◌, ◌≢◌, ℕ, suc, zero, ◌-◌, ◌<◌, Bool, true, false, not, ◌||◌, cond, Option, None, Some, List, [], ◌∷◌, ◌++◌, map, filter, length, All, refl, sym, ap, ◌∙◌, arith, subst}
 use Rattle.std.proofs.lemmas.List.{get_or-reverse, length-reverse, length-map}
+use Rattle.std.specs.List.{slice_get}
 use Rattle.ba_lits.specs.Literals.{Literal, negate, lit_at, no_literal, IsClause}
-use Rattle.ba_lits.specs.Satisfaction.{Assignment, lit_true, any_true, assignment_of}
+use Rattle.ba_lits.specs.Satisfaction.{Assignment, lit_true, any_true, all_true, assignment_of}
 use Rattle.ba_lits.specs.Hints.{has_literal}
-use Rattle.ba_lits.proofs.HintLaws.{FollowsByHints-holds}
-use Rattle.ba_lits.proofs.Satisfied.{lit_true-negate}
+use Rattle.ba_lits.proofs.Satisfied.{lit_true-negate, all_true-append}
 use Rattle.ba_learn.proofs.SortedLaws.{has_at}
 use Rattle.ba_learn.specs.declared.learnt.Learnt.{Learnt}
-use Rattle.ba_steps.specs.States.{kept, State, clause_at}
-use Rattle.ba_steps.specs.Judging.{Judge}
+use Rattle.ba_steps.specs.States.{Kept, kept, State, live_lits, is_live_origin, is_lasting, is_lasting_origin}
+use Rattle.ba_steps.specs.Judging.{Judge, error_of_replay}
+use Rattle.ba_steps.specs.Facts.{live, lasting}
+use Rattle.ba_steps.proofs.FactLaws.{follows_true, live-append, live-without_all}
+use Rattle.ba_steps.proofs.SplitMeaning.{and_parts, and_both}
+use Rattle.ba_steps.specs.declared.store.Origin.{Origin}
 use Rattle.ba_steps.specs.declared.store.Origin.TheVariants as origins
 use Rattle.ba_steps.specs.declared.step.CertStep.{CertStep}
-use Rattle.ba_search.specs.Searching.{Learns, learns_none, learns_more}
+use Rattle.ba_search.specs.Searching.{Searches, searches_none, searches_learn, searches_delete}
 use Rattle.ba_search.specs.Answers.{AreAssumptions, IsModel, IsCore}
 use Rattle.ba_cores.specs.Rounds.{literals_of, negations_of, IsTrimmed}
-use Rattle.ba_cores.proofs.CoreLaws.{clause_at-more}
+use Rattle.ba_cores.proofs.DerivesLaws.{Gives}
 
 -- THE NEGATIONS by place
 map_at : (lits : List Literal) (k : ℕ) → k < length lits → lit_at (map negate lits) k ≡ negate (lit_at lits k)
@@ -95,12 +99,34 @@ trimmed_core s t lits ns new hints more back b old softs is core = record {
         let Q : Literal → Type 0 = λ l. has_literal l (literals_of s.softs) ≡ true in
         subst P (ap literals_of (sym softs)) (subst Q same (old.negates (from_end lits j) (end_in lits j j_in)))
 
--- live clauses stay
-pub learns_grow : {good : Judge} {a b : State} {xs : List CertStep} → Learns good a xs b → (n : ℕ) (c : List Literal) →
-    clause_at a.clauses n ≡ Some c → clause_at b.clauses n ≡ Some c
-learns_grow (learns_none s) n c is = is
-learns_grow (learns_more s t lits hints steps formed allowed new rest) n c is =
-    learns_grow rest n c (clause_at-more s.clauses (kept origins.Learnt lits ∷ []) n c is)
+-- the clauses stay with their literals, also where they are deleted
+pub searches_keep : {good : Judge} {gives : Gives} {a b : State} {learnt all : List ℕ} {xs : List CertStep} →
+    Searches good gives a learnt xs b all → (v : Assignment) → all_true v (live b.clauses) ≡ true → all_true v (live a.clauses) ≡ true
+searches_keep (searches_none s learnt) v holds = holds
+searches_keep (searches_learn s t learnt all lits hints steps formed allowed new rest) v holds =
+    let more : all_true v (live s.clauses ++ lits ∷ []) ≡ true = sym (ap (all_true v) (live-append s.clauses (kept origins.Learnt lits ∷ []))) ∙ searches_keep rest v holds in
+    (and_parts (all_true v (live s.clauses)) (all_true v (lits ∷ [])) (sym (all_true-append v (live s.clauses) (lits ∷ [])) ∙ more)).0
+searches_keep (searches_delete s t learnt all numbers steps formed allowed given_up rest) v holds =
+    sym (ap (all_true v) (live-without_all s.clauses numbers)) ∙ searches_keep rest v holds
+
+-- where each live clause holds, the lasting ones do
+lasting_lives : (origin : Origin) → is_lasting_origin origin ≡ true → is_live_origin origin ≡ true
+lasting_lives origins.Given e = refl
+lasting_lives origins.Learnt e = refl
+lasting_lives origins.Core e = refl
+lasting_lives origins.Split e = refl
+lasting_lives origins.Deleted e = absurd (cc e)
+
+lasting_true : (v : Assignment) (clauses : List Kept) →
+    ((k : ℕ) (c : List Literal) → live_lits (slice_get clauses k) ≡ Some c → any_true v c ≡ true) → all_true v (lasting clauses) ≡ true
+lasting_true v [] each = refl
+lasting_true v (x ∷ xs) each =
+    one (is_lasting x) (λ lasts. each 0 x.lits (ap (λ b. cond b (Some x.lits) None) (lasting_lives x.origin lasts))) (lasting_true v xs (λ k c is. each (suc k) c is))
+  where
+    one : (b : Bool) → (b ≡ true → any_true v x.lits ≡ true) → all_true v (lasting xs) ≡ true →
+        all_true v (live (cond b (x ∷ filter is_lasting xs) (filter is_lasting xs))) ≡ true
+    one true first rest = and_both (any_true v x.lits) (all_true v (lasting xs)) (first refl) rest
+    one false first rest = rest
 
 -- NO MODEL makes a core's literals all false
 none_true : (v : Assignment) (lits : List Literal) → ((k : ℕ) → k < length lits → lit_true v (lit_at lits k) ≡ false) →
@@ -129,10 +155,12 @@ all_false v lits all k lt =
 
 pub no_model : (s t : State) (a lits ns : List Literal) (hints : List ℕ) (back : ℕ) (values : List Bool) →
     IsCore s a lits hints back → ns ≡ negations_of lits →
-    ((n : ℕ) (c : List Literal) → clause_at s.clauses n ≡ Some c → clause_at t.clauses n ≡ Some c) → IsModel t ns values → ⊥
-no_model s t a lits ns hints back values core is grows model =
+    ((v : Assignment) → all_true v (live t.clauses) ≡ true → all_true v (live s.clauses) ≡ true) →
+    ((v : Assignment) → all_true v (lasting t.clauses) ≡ true → all_true v (live t.clauses) ≡ true) → IsModel t ns values → ⊥
+no_model s t a lits ns hints back values core is keep implied model =
     let v : Assignment = assignment_of values in
-    let holds : any_true v lits ≡ true = FollowsByHints-holds (clause_at s.clauses) v (λ n c at. model.clauses n c (grows n c at)) lits hints core.follows in
+    let lasts : all_true v (lasting t.clauses) ≡ true = lasting_true v t.clauses (λ k c at. model.clauses (suc k) c at) in
+    let holds : any_true v lits ≡ true = follows_true s v lits hints (ap error_of_replay core.follows) (keep v (implied v lasts)) in
     let assumed : All (λ a. lit_true v a ≡ true) (negations_of lits) = subst (All (λ a. lit_true v a ≡ true)) is model.assumed in
     cc (sym (none_true v lits (λ k lt. all_false v lits assumed k lt)) ∙ holds)
 

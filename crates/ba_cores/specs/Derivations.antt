@@ -1,4 +1,4 @@
--- Derivations by Learn and Core steps, and where they start.
+-- Derivations by Learn, Delete and Core steps, and where they start.
 
 use Rattle.std.specs.Prelude.{◌≡◌, ℕ, None, Some, List, [], ◌∷◌, All}
 use Rattle.ba_lits.specs.Literals.{Literal}
@@ -13,20 +13,23 @@ use Rattle.ba_steps.specs.Sinks.{Logs, MayAddStep}
 use Rattle.ba_steps.specs.Puts.{IsTakenOrAsleep}
 use Rattle.ba_search.specs.Searching.{with_steps}
 use Rattle.ba_steps.specs.declared.step.CertStep.{CertStep}
-use Rattle.ba_steps.specs.declared.step.CertStep.TheVariants.{Learn, Core}
+use Rattle.ba_steps.specs.declared.step.CertStep.TheVariants.{Learn, Core, Delete}
 
--- Learn and Core steps lead from one state of a checker to another: each has the form that its text asks for and is allowed,
--- and the clause of a Learn step is new to propagation for the clauses that are live at that moment
+-- Learn, Delete and Core steps lead from one state of a checker to another: each has the form that its text asks for and is
+-- allowed, and the clause of a Learn step is new to propagation for the clauses that are live at that moment
 pub data Derives (good : Judge) : State → List CertStep → State → Type 0 where
   derives_none : (s : State) → Derives good s [] s
   derives_learn : (s t : State) (lits : List Literal) (hints : List ℕ) (steps : List CertStep) →
       IsFormed (Learn lits hints) →
       error_of good s (Learn lits hints) ≡ None → IsNew (clause_at s.clauses) lits → Derives good (after s (Learn lits hints)) steps t → Derives good s (Learn lits hints ∷ steps) t
+  derives_delete : (s t : State) (numbers : List ℕ) (steps : List CertStep) →
+      IsFormed (Delete numbers) →
+      error_of good s (Delete numbers) ≡ None → Derives good (after s (Delete numbers)) steps t → Derives good s (Delete numbers ∷ steps) t
   derives_core : (s t : State) (lits : List Literal) (hints : List ℕ) (steps : List CertStep) →
       IsFormed (Core lits hints) →
       error_of good s (Core lits hints) ≡ None → Derives good (after s (Core lits hints)) steps t → Derives good s (Core lits hints ∷ steps) t
 
--- what is left, also after an error: Learn and Core steps were put; or one more was tried, which the checker has taken or
+-- what is left, also after an error: such steps were put; or one more was tried, which the checker has taken or
 -- after which it refuses every step, and which some of the logs may hold
 pub data Leaves (good : Judge) (old : State) (old_logs : Logs) (new : State) (new_logs : Logs) : Type 0 where
   leaves_all : (steps : List CertStep) → Derives good old steps new → new_logs ≡ with_steps steps old_logs →

@@ -36,7 +36,7 @@ pub record IsReady (s : State) : Type 0 where
   pub awake : s.refused ≡ false
   pub none_blocked : s.sets ≡ []
 
--- Learn and Core steps were put
+-- Learn, Delete and Core steps were put
 pub record Puts (good : Judge) (old new : State) (old_logs new_logs : Logs) : Type 0 where
   pub steps : List CertStep
   pub derives : Derives good old steps new

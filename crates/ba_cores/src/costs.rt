@@ -30,7 +30,7 @@ pub enum Found {
 }
 
 /// The least cost of the models of the formula that the checker started from: the sum of the weights of its soft
-/// literals that are false. Learn and Core steps are put on the way.
+/// literals that are false. Learn, Delete and Core steps are put on the way.
 ///
 /// `SinkFailed` comes only where the sink's faults rose, or the search answered it before; `Memory` for want of memory.
 /// Steps that were put before an error stay put.

@@ -136,19 +136,26 @@ fn start(
     Checker::new(alloc, formula, softs, conflicts, 0)
 }
 
-/// What is found for a formula with soft literals, and the bound of the checker then.
+/// What is found for a formula with soft literals, by a search that keeps the last 400 learnt clauses alone, and the
+/// checker then.
 fn find(
     rt: &impl Abort,
     alloc: Global,
     formula: &Formula,
     softs: &[(Lit, u32)],
     conflicts: u64,
-) -> Result<(Found, u64), Fail> {
+) -> Result<(Found, Checker), Fail> {
     let checker = start(rt, alloc, formula, softs, conflicts)?;
     let mut checked = Checked::new(checker, NoRuns, NoSink);
-    let mut search = Search::new(alloc, formula, |_: u64| 2, |_: u64, _: u64| true)?;
+    let mut search = Search::new(
+        alloc,
+        formula,
+        |_: u64| 10,
+        |width: u64, age: u64| width <= 2 || age < 400,
+    )?;
     let found = least(alloc, &mut search, &mut checked)?;
-    Ok((found, checked.checker().bound()))
+    let (checker, _) = checked.finish();
+    Ok((found, checker))
 }
 
 /// How a search for the least cost ends.
@@ -200,7 +207,7 @@ fn bits_of(model: &Model) -> u64 {
     bits
 }
 
-/// How the search for a formula's least cost ends. A model is tried on the formula and the soft literals.
+/// How the search for a formula's least cost ends.
 fn end_of(
     rt: &impl Abort,
     alloc: Global,
@@ -208,7 +215,18 @@ fn end_of(
     softs: &[(Lit, u32)],
     conflicts: u64,
 ) -> Result<End, Fail> {
-    let (found, bound) = find(rt, alloc, formula, softs, conflicts)?;
+    let (found, checker) = find(rt, alloc, formula, softs, conflicts)?;
+    tried(rt, formula, softs, found, checker.bound())
+}
+
+/// The end that a find is, with the bound of the checker. A model is tried on the formula and the soft literals.
+fn tried(
+    rt: &impl Abort,
+    formula: &Formula,
+    softs: &[(Lit, u32)],
+    found: Found,
+    bound: u64,
+) -> Result<End, Fail> {
     match found {
         Found::Least { weight, model } => {
             let bits = bits_of(&model);
@@ -291,6 +309,69 @@ fn conflicts_are_spent(rt: HostRuntime) -> Result<(), Fail> {
         let got = end_of(&rt, alloc, &formula, softs.as_slice(), conflicts)?;
         assert_eq!(rt; got, end, "with {conflicts} conflicts");
     }
+    Ok(())
+}
+
+/// The literal that says that one of seven pigeons sits in one of six holes.
+fn sits(pigeon: i64, hole: i64) -> i64 {
+    pigeon.wrapping_mul(6).wrapping_add(hole).wrapping_add(8)
+}
+
+/// The formula that seven pigeons, each unless its soft literal is false, sit in six holes, no two in one.
+fn pigeonhole(rt: &impl Abort, alloc: Global) -> Result<Formula, AllocError> {
+    let mut formula = empty(alloc, 49)?;
+    for pigeon in 0..7i64 {
+        let mut clause = Vec::new(alloc);
+        clause.push(lit(pigeon.wrapping_add(1)).negated())?;
+        for hole in 0..6 {
+            clause.push(lit(sits(pigeon, hole)))?;
+        }
+        add(rt, &mut formula, clause.as_slice())?;
+        for other in 0..pigeon {
+            add_apart(rt, &mut formula, other, pigeon)?;
+        }
+    }
+    Ok(formula)
+}
+
+/// Adds that two pigeons sit in no hole together.
+fn add_apart(
+    rt: &impl Abort,
+    formula: &mut Formula,
+    first: i64,
+    second: i64,
+) -> Result<(), AllocError> {
+    for hole in 0..6 {
+        let apart = [
+            lit(sits(first, hole)).negated(),
+            lit(sits(second, hole)).negated(),
+        ];
+        add(rt, formula, apart.as_slice())?;
+    }
+    Ok(())
+}
+
+/// How many numbers of a checker are those of deleted clauses.
+fn deleted(checker: &Checker) -> u64 {
+    let mut count = 0u64;
+    for place in 0..checker.last() {
+        if checker.clause(place.saturating_add(1)).is_none() {
+            count = count.saturating_add(1);
+        }
+    }
+    count
+}
+
+#[test]
+fn clauses_are_deleted_on_the_way(rt: HostRuntime) -> Result<(), Fail> {
+    let alloc = rt.alloc();
+    let formula = pigeonhole(&rt, alloc)?;
+    let softs = softs_of(alloc, &[1; 7])?;
+    // This takes more than a thousand conflicts.
+    let (found, checker) = find(&rt, alloc, &formula, softs.as_slice(), 100_000)?;
+    assert!(rt; deleted(&checker) > 0);
+    let end = tried(&rt, &formula, softs.as_slice(), found, checker.bound())?;
+    assert_eq!(rt; end, End::Cost(1));
     Ok(())
 }
 

@@ -16,8 +16,8 @@ use ba_search::{Answer, Search, SearchError};
 use ba_steps::{Checked, RunJudge, StepSink};
 use std::alloc::{AllocError, Global};
 
-/// A core sought again under the negations of a core's literals; none where the conflicts are spent. Since the core
-/// follows by propagation, a conflict comes without a decision of the search.
+/// A core sought again under the negations of a core's literals; none where the conflicts are spent. Unless
+/// clauses were deleted on the way, the core follows by propagation, and a conflict comes without a decision.
 ///
 /// `SinkFailed` comes only where the sink's faults rose; `Memory` for want of memory.
 pub fn trim<S, J, R, K>(
@@ -56,8 +56,11 @@ where
     };
     match search.solve(assumptions.as_slice(), checked)? {
         Answer::Core(shorter) => Ok(Some(shorter)),
-        // It can't be, since the core follows.
-        Answer::Model(_) => Ok(Some(core)),
+        // It can't be: a model satisfies the deleted clauses too, and so the core, which follows from such clauses.
+        Answer::Model(_) => {
+            checked.checker().keeps_facts();
+            unreachable!()
+        }
         Answer::Spent => Ok(None),
     }
 }

@@ -14,6 +14,7 @@ mod resolution;
 
 pub use analyser::{Analyser, analyse, core_of, refutation};
 pub use learnt::Learnt;
+pub use marks::Marks;
 
 #[cfg(test)]
 mod tests;

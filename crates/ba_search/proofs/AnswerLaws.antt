@@ -13,7 +13,7 @@ use Rattle.ba_watch.specs.Threads.{Clause}
 use Rattle.ba_watch.specs.Trails.{same_sign, value_of, place_of, reason_of, decided}
 use Rattle.ba_watch.specs.Propagation.{State as Watching, falsified, is_false, clause_in, plain_lits, IsComplete, IsAsserting, KeepsFacts}
 use Rattle.ba_watch.proofs.Values.{place_of-some, lit_at-place, value_of-more, value_of-none}
-use Rattle.ba_learn.specs.Live.{AreLive, Follows, IsSame}
+use Rattle.ba_learn.specs.Live.{Follows, IsSame}
 use Rattle.ba_learn.specs.Levels.{IsBacked, NegatesDecided, IsCoreOf}
 use Rattle.ba_learn.specs.Backjumps.{after_back}
 use Rattle.ba_learn.proofs.BackLaws.{back_level, back_asserting}
@@ -23,13 +23,8 @@ use Rattle.ba_learn.proofs.SortedLaws.{has-permutation, has_at, has-at}
 use Rattle.ba_steps.specs.States.{State, clause_at}
 use Rattle.ba_search.specs.Answers.{AreAssumptions, IsModel, IsCore}
 use Rattle.ba_search.specs.Choices.{positive, is_true, values_of}
-use Rattle.ba_search.specs.Turns.{AreTrue, IsUnderway}
-use Rattle.ba_search.proofs.TakenLaws.{taken_live}
+use Rattle.ba_search.specs.Turns.{Numbering, AreTrue, IsUnderway}
 use Rattle.ba_search.proofs.LearnLaws.{Formed, clause_formed, learnt_numbers}
-
-pub underway_live : (a : List Literal) (s : Watching) (taken : ℕ) (c : State) → IsUnderway a s taken c →
-    AreLive s.clauses (clause_at c.clauses)
-underway_live a s taken c u = taken_live s.clauses taken c.clauses u.taken_are u.all
 
 -- where a learnt clause may be added
 pub jump_level : (s t : Watching) (lits lits' : List Literal) (back : ℕ) → KeepsFacts s → IsBacked s lits back →
@@ -85,7 +80,7 @@ front_true T a p l are has =
     ap (λ (ys : List Literal). value_of ys l) (sym (take-append-drop p T)) ∙ value_of-more (take p T) (drop p T) l true (ap (value_of (take p T)) (sym k.2) ∙ are k.0 k.1)
 
 -- a core
-module _ (a : List Literal) (s : Watching) (taken : ℕ) (c : State) (facts : KeepsFacts s) (u : IsUnderway a s taken c) (are : AreAssumptions c.variables a) (l : Literal) (one : has_literal l a ≡ true) (false_ : value_of s.trail l ≡ Some false) where
+module _ (a : List Literal) (s : Watching) (numbers : Numbering) (c : State) (facts : KeepsFacts s) (u : IsUnderway a s numbers c) (are : AreAssumptions c.variables a) (l : Literal) (one : has_literal l a ≡ true) (false_ : value_of s.trail l ≡ Some false) where
   not_all : (p : ℕ) → AreTrue (take p s.trail) a → ⊥
   not_all p t = cc (sym (front_true s.trail a p l t one) ∙ false_)
 
@@ -119,24 +114,24 @@ module _ (a : List Literal) (s : Watching) (taken : ℕ) (c : State) (facts : Ke
       counted = clause.counted;
       within = λ k k_in. assumed_within c.variables a (negate (lit_at lits k)) are (negates_one (lit_at lits k) (core k k_in));
     };
-    follows = follows (clause_at c.clauses) (underway_live a s taken c u);
-    numbers = learnt_numbers s.clauses taken c lits hints u.taken_are u.all (follows (clause_at c.clauses) (underway_live a s taken c u));
+    follows = follows (clause_at c.clauses) u.live;
+    numbers = learnt_numbers c lits hints u.few (follows (clause_at c.clauses) u.live);
     negates = λ k k_in. negates_one (lit_at lits k) (core k k_in);
     level = none;
     left = left;
   }
 
-pub empty_core : (a : List Literal) (s : Watching) (taken : ℕ) (c : State) (lits : List Literal) (hints given : List ℕ) →
-    IsUnderway a s taken c → lits ≡ [] → hints ≡ given → Follows s.clauses [] given → c.conflicts < c.budget →
+pub empty_core : (a : List Literal) (s : Watching) (numbers : Numbering) (c : State) (lits : List Literal) (hints given : List ℕ) →
+    IsUnderway a s numbers c → lits ≡ [] → hints ≡ given → Follows s.clauses [] given → c.conflicts < c.budget →
     IsCore c a lits hints 0
-empty_core a s taken c lits hints given u none same follows left = subst (λ (ls : List Literal). IsCore c a ls hints 0) (sym none) (record {
+empty_core a s numbers c lits hints given u none same follows left = subst (λ (ls : List Literal). IsCore c a ls hints 0) (sym none) (record {
   clause = record {
     ascends = λ j k lt k_in. absurd (omega arith);
     counted = λ k k_in. absurd (omega arith);
     within = λ k k_in. absurd (omega arith);
   };
   follows = empty_follows;
-  numbers = learnt_numbers s.clauses taken c [] hints u.taken_are u.all empty_follows;
+  numbers = learnt_numbers c [] hints u.few empty_follows;
   negates = λ k k_in. absurd (omega arith);
   level = refl;
   left = left;
@@ -145,7 +140,7 @@ empty_core a s taken c lits hints given u none same follows left = subst (λ (ls
     empty_follows : FollowsByHints (clause_at c.clauses) [] hints
     empty_follows =
         subst (λ (hs : List ℕ). FollowsByHints (clause_at c.clauses) [] hs) (sym same)
-        (follows (clause_at c.clauses) (underway_live a s taken c u))
+        (follows (clause_at c.clauses) u.live)
 
 -- a model
 pub values_length : (T : List Literal) (n : ℕ) → length (values_of T n) ≡ n
@@ -228,7 +223,7 @@ open_clause : (clauses : List (Option Clause)) (T : List Literal) (r : ℕ) (x :
 open_clause clauses T r x complete is =
     subst (λ (ls : List Literal). is_false (value_of T) ls ≡ false) (ap plain_lits is) (complete.none_false r (subst (λ (o : Option Clause). IsSome o) (sym is) refl))
 
-module _ (a : List Literal) (s : Watching) (taken : ℕ) (c : State) (formed : Formed c) (u : IsUnderway a s taken c) (complete : IsComplete s.clauses s.trail) (all : (v : ℕ) → 1 ≤ v → v ≤ c.variables → is_none (value_of s.trail (positive v)) ≡ false) where
+module _ (a : List Literal) (s : Watching) (numbers : Numbering) (c : State) (formed : Formed c) (u : IsUnderway a s numbers c) (complete : IsComplete s.clauses s.trail) (all : (v : ℕ) → 1 ≤ v → v ≤ c.variables → is_none (value_of s.trail (positive v)) ≡ false) where
   has_value : (l : Literal) → 1 ≤ l.variable → l.variable ≤ c.variables → value_of s.trail l ≢ None
   has_value l counted within none = step (value_of s.trail (positive l.variable)) (value_of-none s.trail l (positive l.variable) refl none) (all l.variable counted within)
     where
@@ -239,7 +234,7 @@ module _ (a : List Literal) (s : Watching) (taken : ℕ) (c : State) (formed : F
   clause_true : (number : ℕ) (given : List Literal) → clause_at c.clauses number ≡ Some given →
       any_true (assignment_of (values_of s.trail c.variables)) given ≡ true
   clause_true number given is =
-      let live = underway_live a s taken c u in
+      let live = u.live in
       let r = live.all number given is in
       clause_holds s.trail c.variables given r.1.lits
       (subst (λ (o : Option (List Literal)). IsSame o r.1.lits) (ap (clause_at c.clauses) r.3 ∙ is) (live.each r.0 r.1 r.2))

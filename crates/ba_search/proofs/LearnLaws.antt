@@ -1,12 +1,11 @@
 -- A learnt clause makes a step that is allowed.
 
-use Rattle.std.proofs.Common.{◌≡◌, ◌≢◌, ℕ, suc, zero, ◌^◌, ◌<◌, ◌≤◌, Bool, true, false, ltb, Option, None, Some, option_map, IsSome, List, [], ◌∷◌, ◌++◌, length, get_or, All, refl, sym, ap, subst, ◌∙◌, arith, ◌⊎◌, inl, inr, ⊎_elim}
-use Rattle.std.proofs.lemmas.Bool.{cases_eq}
+use Rattle.std.proofs.Common.{◌≡◌, ◌≢◌, ℕ, suc, zero, ◌^◌, ◌<◌, ◌≤◌, Bool, true, false, ltb, ◌&&◌, if◌then◌else◌, Option, None, Some, IsSome, List, [], ◌∷◌, ◌++◌, length, get_or, All, refl, sym, ap, subst, ◌∙◌, arith, ◌⊎◌, inl, inr, ⊎_elim}
 use Rattle.std.proofs.lemmas.Bool.Decides.{nat_tests}
 use Rattle.std.proofs.lemmas.Option.{slice_get-get_or}
 use Rattle.std.proofs.lemmas.List.Elements.{All-cons, All-nil, All-get_or, All-from_get_or}
 use Rattle.std.proofs.lemmas.List.Folds.{list_any_none, list_all_at}
-use Rattle.std.specs.List.{slice_get, list_any, list_all}
+use Rattle.std.specs.List.{slice_get, list_any}
 use Rattle.std.specs.List.Sorted.{IsPermutation}
 use Rattle.ba_lits.specs.Literals.{Literal, negate, lit_at, no_literal, IsClause}
 use Rattle.ba_lits.specs.Hints.{Standing, IsFalse, IsUnit, IsOpen, Replay, Refutes, has_literal, standing, is_last, after_clause, after_hint, replay, FollowsByHints}
@@ -15,33 +14,42 @@ use Rattle.ba_watch.specs.Trails.{value_of, place_of}
 use Rattle.ba_watch.specs.Propagation.{State as Watching, plain_lits, clause_in, lits_in, is_false, KeepsFacts}
 use Rattle.ba_watch.proofs.Values.{place_of-some, lit_at-place}
 use Rattle.ba_watch.proofs.Facts.{same_from_index}
-use Rattle.ba_learn.specs.Live.{IsNew, IsPartOf}
+use Rattle.ba_learn.specs.Live.{AreLive, IsNew, IsPartOf}
 use Rattle.ba_learn.proofs.FollowLaws.{false_at}
 use Rattle.ba_learn.proofs.SortedLaws.{has-permutation, has_at}
 use Rattle.ba_learn.proofs.LevelLaws.{holds-has}
 use Rattle.ba_learn.proofs.ReasonLaws.{reason_live}
 use Rattle.ba_learn.proofs.NewLaws.{contains_none}
 use Rattle.ba_steps.specs.Facts.{IsState}
-use Rattle.ba_steps.specs.Parts.{is_part, holds_clause}
-use Rattle.ba_steps.specs.States.{Kept, kept, State, clause_at}
+use Rattle.ba_steps.specs.Parts.{is_part, is_live_part, holds_clause}
+use Rattle.ba_steps.specs.States.{Kept, kept, State, live_lits, is_live_origin, clause_at}
 use Rattle.ba_steps.specs.Steps.{AreNumbers, AreFormedLits}
 use Rattle.ba_steps.specs.declared.store.Origin.TheVariants.{Given}
 use Rattle.ba_steps.specs.declared.step.CertStep.TheVariants.{Learn}
 use Rattle.ba_steps.specs.Judging.{Judge, error_of, lacks_variable, is_spent, error_of_replay, error_if}
-use Rattle.ba_search.specs.Turns.{AreTaken, IsUnderway}
+use Rattle.ba_search.specs.Turns.{Numbering, IsUnderway}
 use Rattle.ba_search.proofs.TakenLaws.{number_within, same_some}
 
 -- a record for what holds of a checker
 abbrev pub Formed : State → Type 0
 Formed c = IsState c.variables c.clauses c.softs c.conflicts c.budget c.learnt c.refused
 
+-- a live clause is one of the entries
+pub lits_live : (x : Kept) (c : List Literal) → live_lits (Some x) ≡ Some c → x.lits ≡ c
+lits_live x c is = step (is_live_origin x.origin) is
+  where
+    step : (b : Bool) → (if b then Some x.lits else None) ≡ Some c → x.lits ≡ c
+    step true is = cc is
+    step false is = absurd (cc is)
+
 -- the clause of a number is formed
 at_formed : (n : ℕ) (cs : List Kept) (k : ℕ) (c : List Literal) → All (λ (x : Kept). IsClause n x.lits) cs →
-    option_map (λ (x : Kept). x.lits) (slice_get cs k) ≡ Some c → k < length cs → IsClause n c
+    live_lits (slice_get cs k) ≡ Some c → k < length cs → IsClause n c
 at_formed n cs k c all is within =
     let d : Kept = kept Given [] in
-    let e : ◌≡◌ {A = Option (List Literal)} (Some (get_or cs k d).lits) (Some c) = sym (ap (option_map (λ (x : Kept). x.lits)) (slice_get-get_or cs k d within)) ∙ is in
-    subst (λ (x : List Literal). IsClause n x) (cc e) (All-get_or (λ (x : Kept). IsClause n x.lits) cs k d within all)
+    let e : live_lits (Some (get_or cs k d)) ≡ Some c = sym (ap live_lits (slice_get-get_or cs k d within)) ∙ is in
+    subst (λ (x : List Literal). IsClause n x) (lits_live (get_or cs k d) c e)
+    (All-get_or (λ (x : Kept). IsClause n x.lits) cs k d within all)
 
 pub clause_formed : (c : State) (number : ℕ) (lits : List Literal) → Formed c → c.refused ≡ false →
     clause_at c.clauses number ≡ Some lits → IsClause c.variables lits
@@ -61,22 +69,22 @@ clause_apart n lits c j k j_in k_in ne e =
     apart j k ne = ⊎_elim (λ lt. inl lt) (λ le. inr (omega (arith, le, ne))) (Rattle.std.proofs.lemmas.Bool.cases_lt j k)
 
 -- the clause of a reference is the checker's, in some order
-pub same_clause : (clauses : List (Option Clause)) (taken : ℕ) (c : State) (r : ℕ) →
-    AreTaken clauses taken (clause_at c.clauses) → IsSome (clause_in clauses r) →
+pub same_clause : (clauses : List (Option Clause)) (c : State) (r : ℕ) →
+    AreLive clauses (clause_at c.clauses) → IsSome (clause_in clauses r) →
     (number : ℕ) × (given : List Literal) × (clause_at c.clauses number ≡ Some given) × IsPermutation given (lits_in clauses r)
-same_clause clauses taken c r are some = step (clause_in clauses r) refl some
+same_clause clauses c r are some = step (clause_in clauses r) refl some
   where
     step : (o : Option Clause) → clause_in clauses r ≡ o → IsSome o →
         (number : ℕ) × (given : List Literal) × (clause_at c.clauses number ≡ Some given) × IsPermutation given (plain_lits o)
     step None is some = absurd (cc some)
-    step (Some x) is some = let s = same_some (clause_at c.clauses x.number) x.lits (are.part r x is) in (x.number, s.0, s.1, s.2)
+    step (Some x) is some = let s = same_some (clause_at c.clauses x.number) x.lits (are.each r x is) in (x.number, s.0, s.1, s.2)
 
 -- each variable of the trail exists
-module _ (a : List Literal) (s : Watching) (taken : ℕ) (c : State) (facts : KeepsFacts s) (formed : Formed c) (u : IsUnderway a s taken c) where
+module _ (a : List Literal) (s : Watching) (numbers : Numbering) (c : State) (facts : KeepsFacts s) (formed : Formed c) (u : IsUnderway a s numbers c) where
   reason_within : (p r : ℕ) → p < length s.trail → get_or s.reasons p None ≡ Some r →
       (lit_at s.trail p).variable ≤ c.variables
   reason_within p r within is =
-      let g = same_clause s.clauses taken c r u.taken_are (reason_live s p r facts within is) in
+      let g = same_clause s.clauses c r u.live (reason_live s p r facts within is) in
       let has : has_literal (lit_at s.trail p) (lits_in s.clauses r) ≡ true = holds-has (lit_at s.trail p) (lits_in s.clauses r) ∙ (facts.reasons p r within is).has in
       let k = has_at (lit_at s.trail p) g.1 (has-permutation (lit_at s.trail p) g.1 (lits_in s.clauses r) g.3 ∙ has) in
       subst (λ (l : Literal). l.variable ≤ c.variables) k.2 ((clause_formed c g.0 g.1 formed u.awake g.2).within k.0 k.1)
@@ -125,12 +133,11 @@ numbers_of live P each falses (h ∷ hs) e = first (live h) refl (λ l e. number
     first None is rest e = absurd (cc e)
     first (Some c) is rest e = All-cons P h hs (each h c is) (after_one P (standing falses c) hs (λ l. replay live (falses ++ negate l ∷ []) hs) rest e)
 
-pub learnt_numbers : (clauses : List (Option Clause)) (taken : ℕ) (c : State) (lits : List Literal) (hints : List ℕ) →
-    AreTaken clauses taken (clause_at c.clauses) → taken ≡ length c.clauses →
+pub learnt_numbers : (c : State) (lits : List Literal) (hints : List ℕ) → length c.clauses < 2 ^ 62 →
     FollowsByHints (clause_at c.clauses) lits hints → AreNumbers hints
-learnt_numbers clauses taken c lits hints are all follows =
+learnt_numbers c lits hints few follows =
     numbers_of (clause_at c.clauses) (λ n. (1 ≤ n) × (n < 2 ^ 62))
-    (λ n given is. let w = number_within c.clauses n given is in (w.0, omega (arith, w.1, all, are.numbered.few)))
+    (λ n given is. let w = number_within c.clauses n given is in (w.0, omega (arith, w.1, few)))
     lits hints follows
 
 -- the literals of a step
@@ -161,16 +168,25 @@ part_of part lits all k k_in = step (has_literal (lit_at part k) lits) refl
 
 no_part : (c : State) (lits : List Literal) → Formed c → c.refused ≡ false → IsNew (clause_at c.clauses) lits →
     holds_clause c.clauses lits ≡ false
-no_part c lits formed awake new = list_any_none (λ (x : Kept). is_part x.lits lits) c.clauses
-    (All-from_get_or (λ (x : Kept). is_part x.lits lits ≡ false) c.clauses (kept Given []) (λ k k_in. step k k_in (is_part (get_or c.clauses k (kept Given [])).lits lits) refl))
+no_part c lits formed awake new = list_any_none (λ (x : Kept). is_live_part x lits) c.clauses
+    (All-from_get_or (λ (x : Kept). is_live_part x lits ≡ false) c.clauses (kept Given []) (λ k k_in. step k k_in (is_live_part (get_or c.clauses k (kept Given [])) lits) refl))
   where
-    step : (k : ℕ) → k < length c.clauses → (b : Bool) → is_part (get_or c.clauses k (kept Given [])).lits lits ≡ b →
-        is_part (get_or c.clauses k (kept Given [])).lits lits ≡ false
+    both : (a b : Bool) → (a && b) ≡ true → (a ≡ true) × (b ≡ true)
+    both true b e = (refl, e)
+    both false b e = absurd (cc e)
+
+    lits_of_live : (x : Kept) → is_live_origin x.origin ≡ true → live_lits (Some x) ≡ Some x.lits
+    lits_of_live x is = ap (λ b. if b then Some x.lits else None) is
+
+    step : (k : ℕ) → k < length c.clauses → (b : Bool) → is_live_part (get_or c.clauses k (kept Given [])) lits ≡ b →
+        is_live_part (get_or c.clauses k (kept Given [])) lits ≡ false
     step k k_in false is = is
     step k k_in true is =
-        let x : List Literal = (get_or c.clauses k (kept Given [])).lits in
-        let at : clause_at c.clauses (suc k) ≡ Some x = ap (option_map (λ (y : Kept). y.lits)) (slice_get-get_or c.clauses k (kept Given []) k_in) in
-        absurd (contains_none (clause_at c.clauses) lits new (suc k) x at (clause_apart c.variables x (clause_formed c (suc k) x formed awake at)) (part_of x lits is))
+        let y : Kept = get_or c.clauses k (kept Given []) in
+        let x : List Literal = y.lits in
+        let parts = both (is_live_origin y.origin) (is_part x lits) is in
+        let at : clause_at c.clauses (suc k) ≡ Some x = ap live_lits (slice_get-get_or c.clauses k (kept Given []) k_in) ∙ lits_of_live y parts.0 in
+        absurd (contains_none (clause_at c.clauses) lits new (suc k) x at (clause_apart c.variables x (clause_formed c (suc k) x formed awake at)) (part_of x lits parts.1))
 
 pub learn_allowed : (good : Judge) (c : State) (lits : List Literal) (hints : List ℕ) → Formed c → c.ended ≡ false →
     c.refused ≡ false → c.conflicts < c.budget → IsClause c.variables lits

@@ -1,4 +1,7 @@
 pub mod TakenLaws
+pub mod DeletionLaws
+pub mod ReasonLaws
+pub mod DeletedSteps
 pub mod UnderwayLaws
 pub mod LearnLaws
 pub mod AnswerLaws

@@ -1,6 +1,6 @@
--- No clause is learnt twice.
+-- No clause of at most two literals is learnt twice.
 
-use Rattle.std.proofs.Common.{◌≡◌, ℕ, ◌+◌, Some, List, [], ◌∷◌, ◌++◌, length, refl, sym, ap, ◌∙◌}
+use Rattle.std.proofs.Common.{◌≡◌, ℕ, ◌+◌, ◌≤◌, None, Some, List, [], ◌∷◌, ◌++◌, length, refl, sym, ap, ◌∙◌}
 use Rattle.ba_lits.specs.Literals.{Literal}
 use Rattle.ba_learn.specs.Live.{IsNew}
 use Rattle.ba_learn.proofs.NewLaws.{contains_none}
@@ -8,10 +8,12 @@ use Rattle.ba_learn.proofs.SortedLaws.{has-at}
 use Rattle.ba_steps.specs.States.{Kept, State, kept, clause_at}
 use Rattle.ba_steps.specs.declared.store.Origin.TheVariants.{Learnt}
 use Rattle.ba_steps.specs.Steps.{IsFormed}
-use Rattle.ba_steps.specs.Judging.{Judge}
+use Rattle.ba_steps.specs.Judging.{Judge, error_of, after_delete}
 use Rattle.ba_steps.specs.declared.step.CertStep.{CertStep}
-use Rattle.ba_steps.specs.declared.step.CertStep.TheVariants.{Learn, Core, EndNoRepair, EndSpent}
-use Rattle.ba_search.specs.Searching.{Learns, learns_none, learns_more}
+use Rattle.ba_steps.specs.declared.step.CertStep.TheVariants.{Learn, Core, Delete, EndNoRepair, EndSpent}
+use Rattle.ba_search.specs.Searching.{Searches, searches_none, searches_learn, searches_delete}
+use Rattle.ba_search.proofs.StepLaws.{Gives}
+use Rattle.ba_search.proofs.DeletionLaws.{all_go, stays_without}
 use Rattle.ba_search.proofs.LearnLaws.{clause_apart}
 use Rattle.ba_search.proofs.TakenLaws.{clause_at-end, clause_at-more, number_within}
 
@@ -21,10 +23,19 @@ clause_of (Learn lits hints) = lits
 clause_of (Core lits hints) = lits
 clause_of (EndNoRepair hints) = []
 clause_of EndSpent = []
+clause_of (Delete numbers) = []
 
 abbrev first_clause : List CertStep → List Literal
 first_clause [] = []
 first_clause (step ∷ steps) = clause_of step
+
+abbrev first_step : List CertStep → CertStep
+first_step [] = EndSpent
+first_step (step ∷ steps) = step
+
+-- a deletion learns nothing
+no_learn : (numbers : List ℕ) (lits : List Literal) (hints : List ℕ) → Delete numbers ≡ Learn lits hints → ⊥
+no_learn numbers lits hints e = cc e
 
 abbrev later : List CertStep → List CertStep
 later [] = []
@@ -41,24 +52,40 @@ still : (cs : List Kept) (x : Kept) (n : ℕ) (lits : List Literal) → clause_a
     clause_at (cs ++ x ∷ []) n ≡ Some lits
 still cs x n lits is = clause_at-more cs (x ∷ []) n (number_within cs n lits is).1 ∙ is
 
--- so it isn't learnt
-not_again : {good : Judge} {s t : State} {steps : List CertStep} → Learns good s steps t →
-    (n : ℕ) (lits : List Literal) → clause_at s.clauses n ≡ Some lits →
-    (between after : List CertStep) (hints : List ℕ) → steps ≡ between ++ Learn lits hints ∷ after → ⊥
-not_again (learns_none s) n lits is [] after hints e = cc e
-not_again (learns_none s) n lits is (step ∷ between) after hints e = cc e
-not_again (learns_more s t learnt hs steps formed allowed new rest) n lits is [] after hints e =
-    not_new (clause_at s.clauses) learnt hs n formed new (is ∙ ap (λ (c : List Literal). Some c) (sym (ap first_clause e)))
-not_again (learns_more s t learnt hs steps formed allowed new rest) n lits is (step ∷ between) after hints e =
-    not_again rest n lits (still s.clauses (kept Learnt learnt) n lits is) between after hints (ap later e)
+-- and where others are deleted, if it has at most two literals
+spared : (good : Judge) (s : State) (numbers : List ℕ) (n : ℕ) (lits : List Literal) → error_of good s (Delete numbers) ≡ None →
+    clause_at s.clauses n ≡ Some lits → length lits ≤ 2 → clause_at (after_delete s numbers).clauses n ≡ Some lits
+spared good s numbers n lits allowed is narrow =
+    stays_without s numbers n lits is narrow (all_go good s numbers allowed)
 
-pub not_twice : {good : Judge} {s t : State} {steps : List CertStep} → Learns good s steps t →
-    (before between after : List CertStep) (lits : List Literal) (first second : List ℕ) → steps ≡ before ++ Learn lits first ∷ (between ++ Learn lits second ∷ after) → ⊥
-not_twice (learns_none s) [] between after lits first second e = cc e
-not_twice (learns_none s) (step ∷ before) between after lits first second e = cc e
-not_twice (learns_more s t learnt hs steps formed allowed new rest) [] between after lits first second e =
-    not_again rest (length s.clauses + 1) lits
-    (clause_at-end s.clauses (kept Learnt learnt) (length s.clauses + 1) refl ∙ ap (λ (c : List Literal). Some c) (ap first_clause e))
+-- so it isn't learnt
+not_again : {good : Judge} {gives : Gives} {s t : State} {learnt all : List ℕ} {steps : List CertStep} →
+    Searches good gives s learnt steps t all → (n : ℕ) (lits : List Literal) → length lits ≤ 2 → clause_at s.clauses n ≡ Some lits →
+    (between after : List CertStep) (hints : List ℕ) → steps ≡ between ++ Learn lits hints ∷ after → ⊥
+not_again (searches_none s learnt) n lits narrow is [] after hints e = cc e
+not_again (searches_none s learnt) n lits narrow is (step ∷ between) after hints e = cc e
+not_again (searches_learn s t learnt all c hs steps formed allowed new rest) n lits narrow is [] after hints e =
+    not_new (clause_at s.clauses) c hs n formed new (is ∙ ap (λ (c : List Literal). Some c) (sym (ap first_clause e)))
+not_again (searches_learn s t learnt all c hs steps formed allowed new rest) n lits narrow is (step ∷ between) after hints e =
+    not_again rest n lits narrow (still s.clauses (kept Learnt c) n lits is) between after hints (ap later e)
+not_again (searches_delete s t learnt all numbers steps formed allowed given rest) n lits narrow is [] after hints e =
+    absurd (no_learn numbers lits hints (ap first_step e))
+not_again {good = good} (searches_delete s t learnt all numbers steps formed allowed given rest) n lits narrow is (step ∷ between) after hints e =
+    not_again rest n lits narrow (spared good s numbers n lits allowed is narrow) between after hints (ap later e)
+
+pub not_twice : {good : Judge} {gives : Gives} {s t : State} {learnt all : List ℕ} {steps : List CertStep} →
+    Searches good gives s learnt steps t all →
+    (before between after : List CertStep) (lits : List Literal) (first second : List ℕ) → length lits ≤ 2 →
+    steps ≡ before ++ Learn lits first ∷ (between ++ Learn lits second ∷ after) → ⊥
+not_twice (searches_none s learnt) [] between after lits first second narrow e = cc e
+not_twice (searches_none s learnt) (step ∷ before) between after lits first second narrow e = cc e
+not_twice (searches_learn s t learnt all c hs steps formed allowed new rest) [] between after lits first second narrow e =
+    not_again rest (length s.clauses + 1) lits narrow
+    (clause_at-end s.clauses c (length s.clauses + 1) refl ∙ ap (λ (c : List Literal). Some c) (ap first_clause e))
     between after second (ap later e)
-not_twice (learns_more s t learnt hs steps formed allowed new rest) (step ∷ before) between after lits first second e =
-    not_twice rest before between after lits first second (ap later e)
+not_twice (searches_learn s t learnt all c hs steps formed allowed new rest) (step ∷ before) between after lits first second narrow e =
+    not_twice rest before between after lits first second narrow (ap later e)
+not_twice (searches_delete s t learnt all numbers steps formed allowed given rest) [] between after lits first second narrow e =
+    absurd (no_learn numbers lits first (ap first_step e))
+not_twice (searches_delete s t learnt all numbers steps formed allowed given rest) (step ∷ before) between after lits first second narrow e =
+    not_twice rest before between after lits first second narrow (ap later e)

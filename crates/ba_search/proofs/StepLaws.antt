@@ -1,86 +1,167 @@
--- Learn steps, one after the other.
+-- Learn and Delete steps, one after the other.
 
-use Rattle.std.proofs.Common.{◌≡◌, ℕ, suc, zero, ◌+◌, ◌-◌, ◌<◌, Option, None, Some, option_map, List, [], ◌∷◌, ◌++◌, length, get_or, map, refl, sym, ap, subst, ◌∙◌, arith}
+use Rattle.std.proofs.Common.{◌≡◌, ℕ, suc, zero, ◌+◌, ◌-◌, ◌<◌, ◌≤◌, Bool, Option, None, Some, List, [], ◌∷◌, ◌++◌, length, get_or, map, All, refl, sym, ap, subst, ◌∙◌, arith}
 use Rattle.std.specs.List.{slice_get}
 use Rattle.std.proofs.lemmas.List.{length-map}
+use Rattle.std.proofs.lemmas.List.Elements.{All-weaker}
 use Rattle.ba_lits.specs.Literals.{Literal}
 use Rattle.ba_watch.specs.Threads.{Clause}
 use Rattle.ba_learn.specs.Live.{AreLive, IsNew}
-use Rattle.ba_steps.specs.States.{Kept, kept, State, clause_at}
+use Rattle.ba_steps.specs.States.{kept, State, live_lits, clause_at}
 use Rattle.ba_steps.specs.declared.store.Origin.TheVariants.{Given}
 use Rattle.ba_steps.specs.Steps.{IsFormed}
-use Rattle.ba_steps.specs.Judging.{Judge, error_of, after, after_learn}
+use Rattle.ba_steps.specs.Judging.{Judge, error_of, after, after_learn, after_delete}
 use Rattle.ba_steps.specs.Sinks.{Logs, with_step, MayAddStep}
 use Rattle.ba_steps.specs.Puts.{IsTakenOrAsleep}
 use Rattle.ba_steps.specs.declared.step.CertStep.{CertStep}
-use Rattle.ba_steps.specs.declared.step.CertStep.TheVariants.{Learn}
-use Rattle.ba_search.specs.Searching.{Learns, learns_none, learns_more, Leaves, leaves_all, leaves_last, with_steps}
-use Rattle.ba_search.specs.Turns.{AreTaken, Puts}
+use Rattle.ba_steps.specs.declared.step.CertStep.TheVariants.{Learn, Delete}
+use Rattle.ba_search.specs.Searching.{nothing, IsGivenUp, Searches, searches_none, searches_learn, searches_delete, Leaves, leaves_all, leaves_last, with_steps}
+use Rattle.ba_search.specs.Turns.{AreTaken, AreThere, Puts}
 use Rattle.ba_search.proofs.TakenLaws.{taken_live}
 
-pub puts_none : (good : Judge) (c : State) (logs : Logs) → Puts good c c logs logs
-puts_none good c logs = record { steps = []; learns = learns_none c; logs = refl }
+abbrev pub Gives : Type 1
+Gives = ℕ → ℕ → Bool → Type 0
 
-pub puts_one : (good : Judge) (c d : State) (logs logs' : Logs) (lits : List Literal) (hints : List ℕ) →
-    IsFormed (Learn lits hints) → error_of good c (Learn lits hints) ≡ None → IsNew (clause_at c.clauses) lits
-    → d ≡ after_learn c lits → logs' ≡ with_step (Learn lits hints) logs → Puts good c d logs logs'
-puts_one good c d logs logs' lits hints formed allowed new is told = record {
+pub puts_none : (good : Judge) (gives : Gives) (c : State) (learnt : List ℕ) (logs : Logs) →
+    Puts good gives c c learnt learnt logs logs
+puts_none good gives c learnt logs = record { steps = []; searches = searches_none c learnt; logs = refl }
+
+pub puts_stay : (good : Judge) (gives : Gives) (c : State) (learnt all : List ℕ) (logs : Logs) → all ≡ learnt →
+    Puts good gives c c learnt all logs logs
+puts_stay good gives c learnt all logs same =
+    subst (λ (ns : List ℕ). Puts good gives c c learnt ns logs logs) (sym same) (puts_none good gives c learnt logs)
+
+pub puts_learn : (good : Judge) (gives : Gives) (c d : State) (learnt all : List ℕ) (logs logs' : Logs) (lits : List Literal) (hints : List ℕ) →
+    IsFormed (Learn lits hints) → error_of good c (Learn lits hints) ≡ None → IsNew (clause_at c.clauses) lits →
+    d ≡ after_learn c lits → all ≡ learnt ++ (length c.clauses + 1) ∷ [] → logs' ≡ with_step (Learn lits hints) logs →
+    Puts good gives c d learnt all logs logs'
+puts_learn good gives c d learnt all logs logs' lits hints formed allowed new is grown told = record {
   steps = Learn lits hints ∷ [];
-  learns = learns_more c d lits hints [] formed allowed new (subst (λ (x : State). Learns good x [] d) is (learns_none d));
+  searches = searches_learn c d learnt all lits hints [] formed allowed new
+      (subst (λ (x : State). Searches good gives x (learnt ++ (length c.clauses + 1) ∷ []) [] d all) is
+      (subst (λ (ns : List ℕ). Searches good gives d ns [] d all) grown (searches_none d all)));
   logs = told;
 }
 
-learns_then : (good : Judge) (a b c : State) (xs ys : List CertStep) → Learns good a xs b → Learns good b ys c →
-    Learns good a (xs ++ ys) c
-learns_then good _ _ c _ ys (learns_none a) more = more
-learns_then good _ _ c _ ys (learns_more a b lits hints xs formed allowed new rest) more =
-    learns_more a c lits hints (xs ++ ys) formed allowed new (learns_then good (after a (Learn lits hints)) b c xs ys rest more)
+pub puts_delete : (good : Judge) (gives : Gives) (c d : State) (learnt : List ℕ) (logs logs' : Logs) (numbers : List ℕ) →
+    IsFormed (Delete numbers) → error_of good c (Delete numbers) ≡ None → All (IsGivenUp gives c learnt) numbers →
+    d ≡ after_delete c numbers → logs' ≡ with_step (Delete numbers) logs → Puts good gives c d learnt learnt logs logs'
+puts_delete good gives c d learnt logs logs' numbers formed allowed given is told = record {
+  steps = Delete numbers ∷ [];
+  searches = searches_delete c d learnt learnt numbers [] formed allowed given
+      (subst (λ (x : State). Searches good gives x learnt [] d learnt) is (searches_none d learnt));
+  logs = told;
+}
+
+searches_then : (good : Judge) (gives : Gives) (a b c : State) (k l m : List ℕ) (xs ys : List CertStep) →
+    Searches good gives a k xs b l → Searches good gives b l ys c m → Searches good gives a k (xs ++ ys) c m
+searches_then good gives _ _ c _ _ m _ ys (searches_none a k) more = more
+searches_then good gives _ _ c _ _ m _ ys (searches_learn a b k l lits hints xs formed allowed new rest) more =
+    searches_learn a c k m lits hints (xs ++ ys) formed allowed new
+    (searches_then good gives (after a (Learn lits hints)) b c (k ++ (length a.clauses + 1) ∷ []) l m xs ys rest more)
+searches_then good gives _ _ c _ _ m _ ys (searches_delete a b k l numbers xs formed allowed given rest) more =
+    searches_delete a c k m numbers (xs ++ ys) formed allowed given
+    (searches_then good gives (after a (Delete numbers)) b c k l m xs ys rest more)
+
+-- a rule that gives up more
+searches_weaker : {good : Judge} {gives more : Gives} {s t : State} {learnt all : List ℕ} {steps : List CertStep} →
+    ((width age : ℕ) (kept : Bool) → gives width age kept → more width age kept) →
+    Searches good gives s learnt steps t all → Searches good more s learnt steps t all
+searches_weaker weaker (searches_none s learnt) = searches_none s learnt
+searches_weaker weaker (searches_learn s t learnt all lits hints steps formed allowed new rest) =
+    searches_learn s t learnt all lits hints steps formed allowed new (searches_weaker weaker rest)
+searches_weaker {gives = gives} {more = more} weaker (searches_delete s t learnt all numbers steps formed allowed given rest) =
+    searches_delete s t learnt all numbers steps formed allowed
+    (All-weaker (IsGivenUp gives s learnt) (IsGivenUp more s learnt)
+    (λ n g. record { place = g.place; within = g.within; at = g.at; rule = weaker _ _ _ g.rule }) numbers given)
+    (searches_weaker weaker rest)
+
+pub puts_any : (good : Judge) (gives : Gives) (c d : State) (learnt all : List ℕ) (logs logs' : Logs) →
+    Puts good nothing c d learnt all logs logs' → Puts good gives c d learnt all logs logs'
+puts_any good gives c d learnt all logs logs' p = record {
+  steps = p.steps;
+  searches = searches_weaker (λ width age kept none. absurd none) p.searches;
+  logs = p.logs;
+}
+
+pub leaves_any : (good : Judge) (gives : Gives) (learnt : List ℕ) (c d : State) (logs logs' : Logs) →
+    Leaves good nothing learnt c logs d logs' → Leaves good gives learnt c logs d logs'
+leaves_any good gives learnt c d logs logs' (leaves_all steps all searches told) =
+    leaves_all steps all (searches_weaker (λ width age kept none. absurd none) searches) told
+leaves_any good gives learnt c d logs logs' (leaves_last steps last before all more searches tried taken told) =
+    leaves_last steps last before all more (searches_weaker (λ width age kept none. absurd none) searches)
+    (searches_weaker (λ width age kept none. absurd none) tried) taken told
 
 with_steps-append : (xs ys : List CertStep) (logs : Logs) →
     with_steps (xs ++ ys) logs ≡ with_steps ys (with_steps xs logs)
 with_steps-append [] ys logs = refl
 with_steps-append (x ∷ xs) ys logs = with_steps-append xs ys (with_step x logs)
 
-pub puts_then : (good good' : Judge) (a b c : State) (k l m : Logs) → good' ≡ good → Puts good a b k l →
-    Puts good' b c l m → Puts good a c k m
-puts_then good good' a b c k l m same p q = record {
+pub puts_then : (good good' : Judge) (gives : Gives) (a b c : State) (u v w : List ℕ) (k l m : Logs) → good' ≡ good →
+    Puts good gives a b u v k l → Puts good' gives b c v w l m → Puts good gives a c u w k m
+puts_then good good' gives a b c u v w k l m same p q = record {
   steps = p.steps ++ q.steps;
-  learns = learns_then good a b c p.steps q.steps p.learns (subst (λ (j : Judge). Learns j b q.steps c) same q.learns);
+  searches = searches_then good gives a b c u v w p.steps q.steps p.searches
+      (subst (λ (j : Judge). Searches j gives b v q.steps c w) same q.searches);
   logs = q.logs ∙ (ap (with_steps q.steps) p.logs ∙ sym (with_steps-append p.steps q.steps k));
 }
 
 -- what is left where nothing was put, where steps were put, where one was tried, and after more steps
-pub leaves_none : (good : Judge) (c : State) (logs : Logs) → Leaves good c logs c logs
-leaves_none good c logs = leaves_all [] (learns_none c) refl
+pub leaves_none : (good : Judge) (gives : Gives) (learnt : List ℕ) (c : State) (logs : Logs) →
+    Leaves good gives learnt c logs c logs
+leaves_none good gives learnt c logs = leaves_all [] learnt (searches_none c learnt) refl
 
-pub leaves_put : (good : Judge) (c d : State) (logs logs' : Logs) → Puts good c d logs logs' →
-    Leaves good c logs d logs'
-leaves_put good c d logs logs' p = leaves_all p.steps p.learns p.logs
+pub leaves_put : (good : Judge) (gives : Gives) (learnt all : List ℕ) (c d : State) (logs logs' : Logs) →
+    Puts good gives c d learnt all logs logs' → Leaves good gives learnt c logs d logs'
+leaves_put good gives learnt all c d logs logs' p = leaves_all p.steps all p.searches p.logs
 
-pub leaves_tried : (good : Judge) (c d : State) (logs logs' : Logs) (lits : List Literal) (hints : List ℕ) →
+pub leaves_tried : (good : Judge) (gives : Gives) (learnt : List ℕ) (c d : State) (logs logs' : Logs) (lits : List Literal) (hints : List ℕ) →
     IsFormed (Learn lits hints) → error_of good c (Learn lits hints) ≡ None → IsNew (clause_at c.clauses) lits
-    → IsTakenOrAsleep c (Learn lits hints) d → MayAddStep (Learn lits hints) logs logs' → Leaves good c logs d logs'
-leaves_tried good c d logs logs' lits hints formed allowed new taken told =
-    leaves_last [] (Learn lits hints) c (learns_none c)
-    (learns_more c (after c (Learn lits hints)) lits hints [] formed allowed new (learns_none (after c (Learn lits hints))))
+    → IsTakenOrAsleep c (Learn lits hints) d → MayAddStep (Learn lits hints) logs logs' → Leaves good gives learnt c logs d logs'
+leaves_tried good gives learnt c d logs logs' lits hints formed allowed new taken told =
+    leaves_last [] (Learn lits hints) c learnt (learnt ++ (length c.clauses + 1) ∷ []) (searches_none c learnt)
+    (searches_learn c (after c (Learn lits hints)) learnt (learnt ++ (length c.clauses + 1) ∷ []) lits hints [] formed allowed new
+    (searches_none (after c (Learn lits hints)) (learnt ++ (length c.clauses + 1) ∷ [])))
     taken told
 
-pub leaves_then : (good good' : Judge) (a b c : State) (k l m : Logs) → good' ≡ good → Puts good a b k l →
-    Leaves good' b l c m → Leaves good a k c m
-leaves_then good good' a b c k l m same p left = after_put (subst (λ (j : Judge). Leaves j b l c m) same left)
+pub leaves_delete : (good : Judge) (gives : Gives) (learnt : List ℕ) (c d : State) (logs logs' : Logs) (numbers : List ℕ) →
+    IsFormed (Delete numbers) → error_of good c (Delete numbers) ≡ None → All (IsGivenUp gives c learnt) numbers
+    → IsTakenOrAsleep c (Delete numbers) d → MayAddStep (Delete numbers) logs logs' → Leaves good gives learnt c logs d logs'
+leaves_delete good gives learnt c d logs logs' numbers formed allowed given taken told =
+    leaves_last [] (Delete numbers) c learnt learnt (searches_none c learnt)
+    (searches_delete c (after c (Delete numbers)) learnt learnt numbers [] formed allowed given
+    (searches_none (after c (Delete numbers)) learnt))
+    taken told
+
+pub leaves_then : (good good' : Judge) (gives : Gives) (u v : List ℕ) (a b c : State) (k l m : Logs) → good' ≡ good →
+    Puts good gives a b u v k l → Leaves good' gives v b l c m → Leaves good gives u a k c m
+leaves_then good good' gives u v a b c k l m same p left =
+    after_put (subst (λ (j : Judge). Leaves j gives v b l c m) same left)
   where
     told : (xs : List CertStep) → with_steps xs l ≡ with_steps (p.steps ++ xs) k
     told xs = ap (with_steps xs) p.logs ∙ sym (with_steps-append p.steps xs k)
 
-    after_put : Leaves good b l c m → Leaves good a k c m
-    after_put (leaves_all xs learns logs) = leaves_all (p.steps ++ xs) (learns_then good a b c p.steps xs p.learns learns) (logs ∙ told xs)
-    after_put (leaves_last xs last before learns tried taken may) =
-        leaves_last (p.steps ++ xs) last before (learns_then good a b before p.steps xs p.learns learns) tried taken
+    after_put : Leaves good gives v b l c m → Leaves good gives u a k c m
+    after_put (leaves_all xs w searches logs) =
+        leaves_all (p.steps ++ xs) w (searches_then good gives a b c u v w p.steps xs p.searches searches) (logs ∙ told xs)
+    after_put (leaves_last xs last before w x searches tried taken may) =
+        leaves_last (p.steps ++ xs) last before w x (searches_then good gives a b before u v w p.steps xs p.searches searches) tried taken
         (subst (λ (logs : Logs). MayAddStep last logs m) (told xs) may)
+
+-- the same from an equal list
+pub puts_from : (good : Judge) (gives : Gives) (c d : State) (start learnt all : List ℕ) (logs logs' : Logs) → start ≡ learnt →
+    Puts good gives c d start all logs logs' → Puts good gives c d learnt all logs logs'
+puts_from good gives c d start learnt all logs logs' same p =
+    subst (λ (ns : List ℕ). Puts good gives c d ns all logs logs') same p
+
+pub leaves_from : (good : Judge) (gives : Gives) (start learnt : List ℕ) (c d : State) (logs logs' : Logs) → start ≡ learnt →
+    Leaves good gives start c logs d logs' → Leaves good gives learnt c logs d logs'
+leaves_from good gives start learnt c d logs logs' same left =
+    subst (λ (ns : List ℕ). Leaves good gives ns c logs d logs') same left
 
 -- the clauses of a formula by their numbers
 given_at : (cs : List (List Literal)) (k : ℕ) → k < length cs →
-    option_map (λ (x : Kept). x.lits) (slice_get (map (kept Given) cs) k) ≡ Some (get_or cs k [])
+    live_lits (slice_get (map (kept Given) cs) k) ≡ Some (get_or cs k [])
 given_at [] k within = absurd (omega arith)
 given_at (c ∷ cs) zero within = refl
 given_at (c ∷ cs) (suc k) within = given_at cs k (omega (arith, within))
@@ -97,7 +178,8 @@ given_next cs n k lits same within is =
     back : (k : ℕ) → k ≡ (k + 1) - 1
     back k = omega arith
 
-pub given_live : (clauses : List (Option Clause)) (taken n : ℕ) (cs : List (List Literal)) →
-    AreTaken clauses taken (clause_at (map (kept Given) cs)) → taken ≡ length cs →
-    AreLive clauses (clause_at (map (kept Given) cs))
-given_live clauses taken n cs are all = taken_live clauses taken (map (kept Given) cs) are (all ∙ sym (length-map cs (kept Given)))
+pub given_live : (clauses : List (Option Clause)) (taken : List Bool) (last : ℕ) (cs : List (List Literal)) →
+    AreTaken clauses taken (clause_at (map (kept Given) cs)) → AreThere clauses last (clause_at (map (kept Given) cs)) →
+    length cs ≤ last → AreLive clauses (clause_at (map (kept Given) cs))
+given_live clauses taken last cs are there all =
+    taken_live clauses taken (map (kept Given) cs) last are there (omega (arith, all, length-map cs (kept Given)))

@@ -10,7 +10,7 @@ use Rattle.ba_watch.specs.Propagation.{State as Watching, Extends, KeepsFacts}
 use Rattle.ba_learn.specs.Backjumps.{after_back}
 use Rattle.ba_steps.specs.States.{State}
 use Rattle.ba_steps.specs.Judging.{after_learn}
-use Rattle.ba_search.specs.Turns.{AddsNext, owed, turns_left}
+use Rattle.ba_search.specs.Turns.{Numbering, LearnsOne, owed, turns_left}
 use Rattle.ba_search.proofs.UnderwayLaws.{begins_length}
 
 -- fewer rounds leave fewer turns, however many the round has
@@ -20,20 +20,20 @@ fewer n m v x y less within = omega (arith, mul-add-lt n (v + 1) x m less (omega
 owed_one : (since : ℕ) → 1 ≤ since → owed since ≡ 1
 owed_one since some = grind (arith, nat_tests)
 
-pub learnt_less : (c d : State) (s t u : Watching) (taken number since since' level : ℕ) (lits : List Literal) →
-    d ≡ after_learn c lits → u ≡ after_back level s → AddsNext u t taken number lits → 1 ≤ since' →
+pub learnt_less : (c d : State) (s t u : Watching) (old new : Numbering) (number since since' level : ℕ) (lits : List Literal) →
+    d ≡ after_learn c lits → u ≡ after_back level s → LearnsOne u t old new number lits → 1 ≤ since' →
     c.conflicts < c.budget → turns_left d since' t < turns_left c since s
-learnt_less c d s t u taken number since since' level lits is back adds some left =
+learnt_less c d s t u old new number since since' level lits is back adds some left =
     subst (λ (v : ℕ). (2 * (d.budget - d.conflicts) + owed since') * (v + 1) + (v - length t.trail) < turns_left c since s) (sym (adds.adds.variables ∙ ap (λ (x : Watching). x.variables) back))
     (fewer (2 * (d.budget - d.conflicts) + owed since') (2 * (c.budget - c.conflicts) + owed since) s.variables (s.variables - length t.trail) (s.variables - length s.trail)
     (omega (arith, owed_one since' some, ap (λ (x : State). x.budget) is, ap (λ (x : State). x.conflicts) is, left)) (omega arith))
 
-pub restart_less : (c : State) (s t : Watching) (since since' : ℕ) → t ≡ after_back 0 s → 1 ≤ since → since' ≡ 0 →
-    turns_left c since' t < turns_left c since s
-restart_less c s t since since' back some none =
-    subst (λ (v : ℕ). (2 * (c.budget - c.conflicts) + owed since') * (v + 1) + (v - length t.trail) < turns_left c since s) (sym (ap (λ (x : Watching). x.variables) back))
-    (fewer (2 * (c.budget - c.conflicts) + owed since') (2 * (c.budget - c.conflicts) + owed since) s.variables (s.variables - length t.trail) (s.variables - length s.trail)
-    (omega (arith, owed_one since some, ap owed none)) (omega arith))
+pub restart_less : (c d : State) (s t : Watching) (since since' : ℕ) → t.variables ≡ s.variables → 1 ≤ since → since' ≡ 0 →
+    d.conflicts ≡ c.conflicts → d.budget ≡ c.budget → turns_left d since' t < turns_left c since s
+restart_less c d s t since since' variables some none conflicts budget =
+    subst (λ (v : ℕ). (2 * (d.budget - d.conflicts) + owed since') * (v + 1) + (v - length t.trail) < turns_left c since s) (sym variables)
+    (fewer (2 * (d.budget - d.conflicts) + owed since') (2 * (c.budget - c.conflicts) + owed since) s.variables (s.variables - length t.trail) (s.variables - length s.trail)
+    (omega (arith, owed_one since some, ap owed none, conflicts, budget)) (omega arith))
 
 pub decide_less : (c : State) (s t : Watching) (since : ℕ) (l : Literal) → KeepsFacts t → t ≡ record s { trail = s.trail ++ l ∷ []; reasons = s.reasons ++ None ∷ []; settled = false } → turns_left c since t < turns_left c since s
 decide_less c s t since l facts is =

@@ -1,6 +1,6 @@
 -- What stays true of a search from turn to turn.
 
-use Rattle.std.proofs.Common.{◌≡◌, ℕ, ◌+◌, ◌<◌, ◌≤◌, max, false, Option, None, List, [], ◌∷◌, ◌++◌, length, get_or, take, refl, sym, ap, subst, ◌∙◌, arith, ⊎_elim}
+use Rattle.std.proofs.Common.{◌≡◌, ℕ, ◌+◌, ◌^◌, ◌<◌, ◌≤◌, max, false, Option, None, List, [], ◌∷◌, ◌++◌, length, get_or, take, refl, sym, ap, subst, ◌∙◌, arith, ⊎_elim}
 use Rattle.std.proofs.lemmas.Bool.{cases_lt}
 use Rattle.std.proofs.lemmas.List.{get_or-take, take-take, length-take, length_push, get_or_append_left}
 use Rattle.std.proofs.Math.Seq.{get_or-append_seam, take-append_seam}
@@ -11,9 +11,12 @@ use Rattle.ba_watch.proofs.Levels.{decided-take_drop, decided-take-le, decided-t
 use Rattle.ba_learn.specs.Backjumps.{after_back}
 use Rattle.ba_steps.specs.States.{State, kept as kept_as, clause_at}
 use Rattle.ba_steps.specs.declared.store.Origin.TheVariants.{Learnt}
-use Rattle.ba_steps.specs.Judging.{after_learn}
-use Rattle.ba_search.specs.Turns.{AreTaken, AddsNext, IsChoice, AreChoices, IsUnderway}
-use Rattle.ba_search.proofs.TakenLaws.{taken_same, taken_next, taken_longer, clause_at-end}
+use Rattle.ba_steps.specs.Judging.{after_learn, after_delete}
+use Rattle.ba_learn.specs.Live.{AreLive}
+use Rattle.ba_watch.specs.Threads.{Clause}
+use Rattle.ba_search.specs.Turns.{Numbering, IsNumbered, LearnsOne, IsChoice, AreChoices, IsUnderway}
+use Rattle.ba_search.proofs.TakenLaws.{numbered_same, live_same, numbered_more, live_more, unmarked_next}
+use Rattle.ba_search.proofs.DeletionLaws.{length-without_all}
 
 -- the front of a list
 begins_at : {X : Type 0} (front xs : List X) (p : ℕ) (d : X) → Begins front xs → p < length front →
@@ -70,11 +73,12 @@ choices_push variables a T R l len choice choices p within none = ⊎_elim
     front p le = sym (take-take p (length T) (T ++ l ∷ []) le) ∙ ap (take p) (take-append_seam T (l ∷ []))
 
 -- propagation
-pub underway_extends : (a : List Literal) (s t : Watching) (taken : ℕ) (c : State) → KeepsFacts s → KeepsFacts t →
-    Extends s t → IsUnderway a s taken c → IsUnderway a t taken c
-underway_extends a s t taken c facts facts' e u = record {
-  taken_are = taken_same s.clauses t.clauses taken (clause_at c.clauses) e.clauses u.taken_are;
-  all = u.all;
+pub underway_extends : (a : List Literal) (s t : Watching) (numbers : Numbering) (c : State) → KeepsFacts s → KeepsFacts t →
+    Extends s t → IsUnderway a s numbers c → IsUnderway a t numbers c
+underway_extends a s t numbers c facts facts' e u = record {
+  numbered = numbered_same s.clauses t.clauses numbers.taken e.clauses u.numbered;
+  live = live_same s.clauses t.clauses (clause_at c.clauses) e.clauses u.live;
+  few = u.few;
   room = omega (arith, u.room, e.variables);
   choices = choices_extend c.variables a s.trail t.trail s.reasons t.reasons facts.trail.same_length facts'.trail.same_length e.trail e.reasons e.level u.choices;
   begun = u.begun;
@@ -82,11 +86,12 @@ underway_extends a s t taken c facts facts' e u = record {
 }
 
 -- going back
-pub underway_back : (a : List Literal) (s t : Watching) (taken : ℕ) (c : State) (level : ℕ) → t ≡ after_back level s →
-    IsUnderway a s taken c → IsUnderway a t taken c
-underway_back a s t taken c level is u = subst (λ (x : Watching). IsUnderway a x taken c) (sym is) (record {
-  taken_are = u.taken_are;
-  all = u.all;
+pub underway_back : (a : List Literal) (s t : Watching) (numbers : Numbering) (c : State) (level : ℕ) → t ≡ after_back level s →
+    IsUnderway a s numbers c → IsUnderway a t numbers c
+underway_back a s t numbers c level is u = subst (λ (x : Watching). IsUnderway a x numbers c) (sym is) (record {
+  numbered = u.numbered;
+  live = u.live;
+  few = u.few;
   room = u.room;
   choices = choices_cut c.variables a s.trail s.reasons (kept level s.reasons) u.choices;
   begun = u.begun;
@@ -94,10 +99,11 @@ underway_back a s t taken c level is u = subst (λ (x : Watching). IsUnderway a 
 })
 
 -- deciding
-pub underway_decide : (a : List Literal) (s t : Watching) (taken : ℕ) (c : State) (l : Literal) → KeepsFacts s → t ≡ record s { trail = s.trail ++ l ∷ []; reasons = s.reasons ++ None ∷ []; settled = false } → IsChoice c.variables a s.trail l → IsUnderway a s taken c → IsUnderway a t taken c
-underway_decide a s t taken c l facts is choice u = subst (λ (x : Watching). IsUnderway a x taken c) (sym is) (record {
-  taken_are = u.taken_are;
-  all = u.all;
+pub underway_decide : (a : List Literal) (s t : Watching) (numbers : Numbering) (c : State) (l : Literal) → KeepsFacts s → t ≡ record s { trail = s.trail ++ l ∷ []; reasons = s.reasons ++ None ∷ []; settled = false } → IsChoice c.variables a s.trail l → IsUnderway a s numbers c → IsUnderway a t numbers c
+underway_decide a s t numbers c l facts is choice u = subst (λ (x : Watching). IsUnderway a x numbers c) (sym is) (record {
+  numbered = u.numbered;
+  live = u.live;
+  few = u.few;
   room = u.room;
   choices = choices_push c.variables a s.trail s.reasons l facts.trail.same_length choice u.choices;
   begun = u.begun;
@@ -105,38 +111,44 @@ underway_decide a s t taken c l facts is choice u = subst (λ (x : Watching). Is
 })
 
 -- learning
-pub underway_learn : (a : List Literal) (s t : Watching) (taken number : ℕ) (c d : State) (lits : List Literal) →
-    AddsNext s t taken number lits → d ≡ after_learn c lits → IsUnderway a s taken c → IsUnderway a t number d
-underway_learn a s t taken number c d lits adds is u = subst (λ (x : State). IsUnderway a t number x) (sym is) (record {
-  taken_are = taken_next s t taken number lits (clause_at (c.clauses ++ kept_as Learnt lits ∷ [])) adds
-      (taken_longer s.clauses taken c.clauses (kept_as Learnt lits ∷ []) u.taken_are)
-      (clause_at-end c.clauses (kept_as Learnt lits) (taken + 1) (ap (λ (n : ℕ). n + 1) u.all));
-  all = omega (arith, adds.next, u.all, length_push c.clauses (kept_as Learnt lits));
+pub underway_learn : (a : List Literal) (s t : Watching) (old new : Numbering) (number : ℕ) (c d : State) (lits : List Literal) →
+    LearnsOne s t old new number lits → number ≡ length d.clauses → d ≡ after_learn c lits → IsUnderway a s old c →
+    IsUnderway a t new d
+underway_learn a s t old new number c d lits adds last is u = subst (λ (x : State). IsUnderway a t new x) (sym is) (record {
+  numbered = numbered_more s t adds.clause number lits adds.adds old.taken new.taken adds.marks (unmarked_next s.clauses old.taken c.clauses number u.numbered u.live next) u.numbered;
+  live = live_more s t adds.clause number lits adds.adds c.clauses next u.live;
+  few = omega (arith, next, adds.few, length_push c.clauses (kept_as Learnt lits));
   room = omega (arith, u.room, adds.adds.variables);
   choices = subst (λ (T : List Literal). AreChoices c.variables a T t.reasons) (sym adds.adds.trail)
       (subst (λ (R : List (Option ℕ)). AreChoices c.variables a s.trail R) (sym adds.adds.reasons) u.choices);
   begun = u.begun;
   awake = u.awake;
 })
+  where
+    next : number ≡ length c.clauses + 1
+    next = last ∙ (ap (λ (x : State). length x.clauses) is ∙ length_push c.clauses (kept_as Learnt lits))
 
 -- the start
 pub back_level_none : (s t : Watching) → t ≡ after_back 0 s → decided t.reasons ≡ 0
 back_level_none s t is = ap (λ (x : Watching). decided x.reasons) is ∙ decided-kept 0 s.reasons (omega arith)
 
-pub begun_taken : (s t u : Watching) (taken : ℕ) (live : ℕ → Option (List Literal)) (v : ℕ) → t ≡ record s { variables = v } → u ≡ after_back 0 t → AreTaken s.clauses taken live → AreTaken u.clauses taken live
-begun_taken s t u taken live v t_is u_is are =
-    subst (λ (cs : List (Option Rattle.ba_watch.specs.Threads.Clause)). AreTaken cs taken live) (sym (ap (λ (x : Watching). x.clauses) u_is ∙ ap (λ (x : Watching). x.clauses) t_is)) are
+pub begun_clauses : (s t u : Watching) (v : ℕ) → t ≡ record s { variables = v } → u ≡ after_back 0 t →
+    u.clauses ≡ s.clauses
+begun_clauses s t u v t_is u_is = ap (λ (x : Watching). x.clauses) u_is ∙ ap (λ (x : Watching). x.clauses) t_is
 
 no_choices : (variables : ℕ) (a T : List Literal) (R : List (Option ℕ)) → length R ≡ length T → decided R ≡ 0 →
     AreChoices variables a T R
 no_choices variables a T R len none p within is =
     absurd (omega (arith, none, decided-take_none p R (omega (arith, within, len)) is, decided-take_drop (p + 1) R))
 
-pub underway_begin : (a : List Literal) (s t u : Watching) (taken : ℕ) (c : State) → t ≡ record s { variables = max s.variables c.variables } → u ≡ after_back 0 t → KeepsFacts u
-    → AreTaken s.clauses taken (clause_at c.clauses) → taken ≡ length c.clauses → c.ended ≡ false → c.refused ≡ false → IsUnderway a u taken c
-underway_begin a s t u taken c t_is u_is facts are all begun awake = record {
-  taken_are = begun_taken s t u taken (clause_at c.clauses) _ t_is u_is are;
-  all = all;
+pub underway_begin : (a : List Literal) (s t u : Watching) (numbers : Numbering) (c : State) →
+    t ≡ record s { variables = max s.variables c.variables } → u ≡ after_back 0 t → KeepsFacts u →
+    IsNumbered s.clauses numbers.taken → AreLive s.clauses (clause_at c.clauses) → length c.clauses < 2 ^ 62 →
+    c.ended ≡ false → c.refused ≡ false → IsUnderway a u numbers c
+underway_begin a s t u numbers c t_is u_is facts numbered live few begun awake = record {
+  numbered = subst (λ (cs : List (Option Clause)). IsNumbered cs numbers.taken) (sym (begun_clauses s t u _ t_is u_is)) numbered;
+  live = subst (λ (cs : List (Option Clause)). AreLive cs (clause_at c.clauses)) (sym (begun_clauses s t u _ t_is u_is)) live;
+  few = few;
   room = omega (arith, ap (λ (x : Watching). x.variables) u_is, ap (λ (x : Watching). x.variables) t_is, most s.variables c.variables);
   choices = no_choices c.variables a u.trail u.reasons facts.trail.same_length (back_level_none t u u_is);
   begun = begun;
@@ -147,16 +159,31 @@ underway_begin a s t u taken c t_is u_is facts are all begun awake = record {
     most m n = omega arith
 
 -- learning after going back
-pub underway_jump : (a : List Literal) (s r t : Watching) (taken taken' number : ℕ) (c d : State) (lits : List Literal) (back : ℕ) →
-    r ≡ s → taken' ≡ taken → AddsNext (after_back back r) t taken' number lits → d ≡ after_learn c lits →
-    IsUnderway a s taken c → IsUnderway a t number d
-underway_jump a s r t taken taken' number c d lits back r_is taken_is adds is u =
-    underway_learn a (after_back back s) t taken number c d lits
-    (subst (λ (n : ℕ). AddsNext (after_back back s) t n number lits) taken_is (subst (λ (x : Watching). AddsNext (after_back back x) t taken' number lits) r_is adds))
-    is (underway_back a s (after_back back s) taken c back refl u)
+pub underway_jump : (a : List Literal) (s r t : Watching) (old given new : Numbering) (number : ℕ) (c d : State) (lits : List Literal) (back : ℕ) →
+    r ≡ s → given ≡ old → LearnsOne (after_back back r) t given new number lits → number ≡ length d.clauses →
+    d ≡ after_learn c lits → IsUnderway a s old c → IsUnderway a t new d
+underway_jump a s r t old given new number c d lits back r_is given_is adds last is u =
+    underway_learn a (after_back back s) t old new number c d lits
+    (subst (λ (n : Numbering). LearnsOne (after_back back s) t n new number lits) given_is (subst (λ (x : Watching). LearnsOne (after_back back x) t given new number lits) r_is adds))
+    last is (underway_back a s (after_back back s) old c back refl u)
 
--- the same watch and number
-pub underway_moved : (a : List Literal) (s t : Watching) (taken number : ℕ) (c : State) → t ≡ s → number ≡ taken →
-    IsUnderway a s taken c → IsUnderway a t number c
-underway_moved a s t taken number c t_is number_is u =
-    subst (λ (n : ℕ). IsUnderway a t n c) (sym number_is) (subst (λ (x : Watching). IsUnderway a x taken c) (sym t_is) u)
+-- the same watch and numbers
+pub underway_moved : (a : List Literal) (s t : Watching) (old new : Numbering) (c : State) → t ≡ s → new ≡ old →
+    IsUnderway a s old c → IsUnderway a t new c
+underway_moved a s t old new c t_is new_is u =
+    subst (λ (n : Numbering). IsUnderway a t n c) (sym new_is) (subst (λ (x : Watching). IsUnderway a x old c) (sym t_is) u)
+
+-- deleting, after which the clauses are the checker's
+pub underway_reload : (a : List Literal) (s t : Watching) (old new : Numbering) (c d : State) (numbers : List ℕ) →
+    d ≡ after_delete c numbers → t.variables ≡ s.variables → IsNumbered t.clauses new.taken →
+    AreLive t.clauses (clause_at d.clauses) → decided t.reasons ≡ 0 → length t.reasons ≡ length t.trail →
+    IsUnderway a s old c → IsUnderway a t new d
+underway_reload a s t old new c d numbers is variables numbered live level len u = record {
+  numbered = numbered;
+  live = live;
+  few = omega (arith, ap (λ (x : State). length x.clauses) is, length-without_all c.clauses numbers, u.few);
+  room = omega (arith, ap (λ (x : State). x.variables) is, variables, u.room);
+  choices = no_choices d.variables a t.trail t.reasons len level;
+  begun = ap (λ (x : State). x.ended) is ∙ u.begun;
+  awake = ap (λ (x : State). x.refused) is ∙ u.awake;
+}

@@ -1,6 +1,6 @@
 //! What a search works with: the clauses with their trail, and what guides it.
 
-ghost use Rattle.std.specs.Prelude.{◌≡◌, ◌≢◌, ℕ, ◌+◌, ◌-◌, ◌<◌, ◌≤◌, ◌^◌, ◌⊎◌, [], None, Some, true, false, max, length, IfOk, IfSome, IfNone, IsSome, OnOk, Err, List};
+ghost use Rattle.std.specs.Prelude.{◌≡◌, ◌≢◌, ℕ, ◌+◌, ◌-◌, ◌<◌, ◌≤◌, ◌^◌, ◌⊎◌, [], None, Some, true, false, max, length, get_or, IfOk, IfSome, IfNone, IsSome, OnOk, Err, List};
 ghost use Rattle.ba_lits.specs.Literals.{Literal, IsClause, lit_at};
 ghost use Rattle.ba_lits.specs.Hints.{has_literal};
 ghost use Rattle.ba_watch.specs.Trails.{value_of, decided};
@@ -8,16 +8,20 @@ ghost use Rattle.ba_watch.specs.Propagation.{clause_in, lits_in, is_false, IsAss
 ghost use Rattle.ba_learn.specs.Levels.{IsBacked};
 ghost use Rattle.ba_learn.specs.Backjumps.{after_back};
 ghost use Rattle.ba_steps.specs.States.{State as Checking, clause_at};
+ghost use Rattle.ba_steps.specs.Judging.{apart_by};
 ghost use Rattle.ba_steps.specs.Sinks.{Rose};
 ghost use Rattle.ba_steps.specs.declared.step.CertStep.{CertStep};
 ghost use Rattle.ba_steps.specs.declared.step.CertStep.TheVariants.{Learn};
-ghost use Rattle.ba_search.specs.Rules.{IsRestartRule};
+ghost use Rattle.ba_search.specs.Rules.{IsRestartRule, IsKeepRule};
 ghost use Rattle.ba_search.specs.Answers.{AreAssumptions, IsAnswer};
 ghost use Rattle.ba_search.specs.Choices.{positive, is_true, values_of};
-ghost use Rattle.ba_search.specs.Searching.{Leaves};
-ghost use Rattle.ba_search.specs.Turns.{AreTaken, AreTrue, AddsNext, IsChoice, IsUnderway, Puts, turns_left};
+ghost use Rattle.ba_search.specs.Searching.{Leaves, nothing};
+ghost use Rattle.ba_search.specs.Turns.{AreTaken, AreTrue, AddsOne, HasNumber, IsChoice, IsNumbered, IsUnderway, LearnsOne, Puts, turns_left};
+ghost use Rattle.ba_learn.specs.Live.{AreLive};
 ghost use Rattle.ba_search.specs.declared.search.SearchError.{SearchError};
 
+use crate::forgetting::{given_up, may_forget};
+use crate::numbers::Numbers;
 use crate::order::Order;
 use crate::search::{Answer, SearchError};
 use ba_arena::ClauseRef;
@@ -28,17 +32,14 @@ use ba_steps::{CertStep, Checked, Checker, RunJudge, StepSink};
 use ba_watch::Watch;
 use std::alloc::{AllocError, Global};
 
-/// The clauses with their trail, and what guides a search. The live clauses have the numbers from 1 to `taken`.
+/// The clauses with their trail, and what guides a search.
 #[derive(Drop)]
 pub struct Engine {
     alloc: Global,
     pub watch: Watch,
-    pub taken: u64,
+    pub numbers: Numbers,
     analyser: Analyser,
     order: Order,
-    /// The numbers of the learnt clauses in the order in which they were learnt: the one at place n is the one before
-    /// which n clauses were learnt.
-    learnt: Vec<u64>,
     restarts: u64,
     since: u64,
     /// How many literals were assigned by propagation.
@@ -49,16 +50,16 @@ impl Engine {
     /// No variables and no clauses. It takes no memory.
     pub fn new(alloc: Global) -> Engine
         ensures watch { result.watch ≡ record { variables = 0; clauses = []; trail = []; reasons = []; settled = true } }
-        ensures taken { result.taken ≡ 0 }
+        ensures taken { (number : ℕ) → get_or result.numbers.taken number false ≡ false }
+        ensures learnt { result.numbers.learnt ≡ [] }
         ensures propagated { result.propagated ≡ 0 }
     {
         Engine {
             alloc,
             watch: Watch::new(alloc),
-            taken: 0,
+            numbers: Numbers::new(alloc),
             analyser: Analyser::new(alloc),
             order: Order::new(alloc),
-            learnt: Vec::new(alloc),
             restarts: 0,
             since: 0,
             propagated: 0,
@@ -70,7 +71,7 @@ impl Engine {
     /// The one error is want of memory.
     pub fn grow(&mut self, variables: u64) -> Result<(), AllocError>
         ensures ok { OnOk result (self.new.watch ≡ record self.old.watch { variables = max self.old.watch.variables variables }) }
-        ensures taken { self.new.taken ≡ self.old.taken }
+        ensures numbers { self.new.numbers ≡ self.old.numbers }
         ensures propagated { self.new.propagated ≡ self.old.propagated }
     {
         self.order.grow(variables)?;
@@ -81,7 +82,7 @@ impl Engine {
     fn go_back(&mut self, level: usize)
         requires { level ≤ decided self.old.watch.reasons }
         ensures watch { self.new.watch ≡ after_back level self.old.watch }
-        ensures taken { self.new.taken ≡ self.old.taken }
+        ensures numbers { self.new.numbers ≡ self.old.numbers }
         ensures since { self.new.since ≡ self.old.since }
         ensures propagated { self.new.propagated ≡ self.old.propagated }
     {
@@ -89,61 +90,87 @@ impl Engine {
         self.watch.back_to(level);
     }
 
-    /// Adds a clause under the next number.
+    /// Adds a clause under a number.
     ///
     /// The one error is want of memory or of room.
-    pub fn add(&mut self, lits: &[Lit]) -> Result<(), AllocError>
+    pub fn add(&mut self, lits: &[Lit], number: u64) -> Result<(), AllocError>
         requires clause { IsClause self.old.watch.variables lits.now }
         requires level { (decided self.old.watch.reasons ≡ 0) ⊎ IsAsserting self.old.watch lits.now }
-        ensures adds { OnOk result (AddsNext self.old.watch self.new.watch self.old.taken self.new.taken lits.now) }
+        requires fresh { get_or self.old.numbers.taken number false ≡ false }
+        ensures adds { OnOk result (AddsOne self.old.watch self.new.watch self.old.numbers self.new.numbers number lits.now) }
+        ensures variables { self.new.watch.variables ≡ self.old.watch.variables }
+        ensures learnt { self.new.numbers.learnt ≡ self.old.numbers.learnt }
         ensures since { self.new.since ≡ self.old.since }
         ensures propagated { self.new.propagated ≡ self.old.propagated }
     {
-        if self.taken >= (1 << 62) - 1 {
+        if number >= 1 << 62 {
             return Err(AllocError);
         }
-        let number = self.taken + 1;
         self.watch.add_clause(lits, number)?;
-        self.taken = number;
-        Ok(())
+        self.numbers.take(number)
     }
 
     /// Adds the clauses that a checker has and the watch hasn't.
     ///
     /// The one error is want of memory or of room.
     pub fn take_new(&mut self, checker: &Checker) -> Result<(), SearchError>
-        requires taken { AreTaken self.old.watch.clauses self.old.taken (clause_at checker.now.clauses) }
-        ensures taken { OnOk result (AreTaken self.new.watch.clauses self.new.taken (clause_at checker.now.clauses)) }
-        ensures all { OnOk result (self.new.taken ≡ length checker.now.clauses) }
+        requires taken { AreTaken self.old.watch.clauses self.old.numbers.taken (clause_at checker.now.clauses) }
+        ensures numbered { OnOk result (IsNumbered self.new.watch.clauses self.new.numbers.taken) }
+        ensures live { OnOk result (AreLive self.new.watch.clauses (clause_at checker.now.clauses)) }
         ensures cause { result ≢ Err SearchError.SinkFailed }
+        ensures learnt { self.new.numbers.learnt ≡ self.old.numbers.learnt }
         ensures propagated { self.new.propagated ≡ self.old.propagated }
     {
         self.grow(checker.variables())?;
         self.go_back(0);
-        for _ in self.taken..checker.last() {
-            self.take_next(checker)?;
+        Ok(self.take_all(checker)?)
+    }
+
+    /// Adds the clauses that a checker has and the watch hasn't.
+    ///
+    /// The one error is want of memory or of room.
+    fn take_all(&mut self, checker: &Checker) -> Result<(), AllocError>
+        requires level { decided self.old.watch.reasons ≡ 0 }
+        requires taken { AreTaken self.old.watch.clauses self.old.numbers.taken (clause_at checker.now.clauses) }
+        ensures numbered { OnOk result (IsNumbered self.new.watch.clauses self.new.numbers.taken) }
+        ensures live { OnOk result (AreLive self.new.watch.clauses (clause_at checker.now.clauses)) }
+        ensures level { OnOk result (decided self.new.watch.reasons ≡ 0) }
+        ensures variables { self.new.watch.variables ≡ self.old.watch.variables }
+        ensures learnt { self.new.numbers.learnt ≡ self.old.numbers.learnt }
+        ensures since { self.new.since ≡ self.old.since }
+        ensures propagated { self.new.propagated ≡ self.old.propagated }
+    {
+        for place in 0..checker.last() {
+            self.take_next(checker, place + 1)?;
         }
         Ok(())
     }
 
-    /// Adds the next clause of a checker.
+    /// Adds the clause of a number that a checker has, unless the watch has it or the checker has none.
     ///
     /// The one error is want of memory or of room.
-    fn take_next(&mut self, checker: &Checker) -> Result<(), AllocError>
+    fn take_next(&mut self, checker: &Checker, number: u64) -> Result<(), AllocError>
         requires level { decided self.old.watch.reasons ≡ 0 }
-        requires taken { AreTaken self.old.watch.clauses self.old.taken (clause_at checker.now.clauses) }
+        requires taken { AreTaken self.old.watch.clauses self.old.numbers.taken (clause_at checker.now.clauses) }
         ensures level { OnOk result (decided self.new.watch.reasons ≡ 0) }
-        ensures taken { OnOk result (AreTaken self.new.watch.clauses self.new.taken (clause_at checker.now.clauses)) }
-        ensures next { OnOk result (self.new.taken ≡ self.old.taken + 1) }
+        ensures taken { OnOk result (AreTaken self.new.watch.clauses self.new.numbers.taken (clause_at checker.now.clauses)) }
+        ensures stays { (k : ℕ) → HasNumber self.old.watch.clauses k → OnOk result (HasNumber self.new.watch.clauses k) }
+        ensures there { (given : List Literal) → clause_at checker.now.clauses number ≡ Some given → OnOk result (HasNumber self.new.watch.clauses number) }
+        ensures variables { self.new.watch.variables ≡ self.old.watch.variables }
+        ensures learnt { self.new.numbers.learnt ≡ self.old.numbers.learnt }
+        ensures since { self.new.since ≡ self.old.since }
         ensures propagated { self.new.propagated ≡ self.old.propagated }
     {
-        let Some(lits) = checker.clause(self.taken.saturating_add(1)) else {
-            return Err(AllocError);
+        if self.numbers.is_taken(number) {
+            return Ok(());
+        }
+        let Some(lits) = checker.clause(number) else {
+            return Ok(());
         };
         if !is_clause(self.watch.variables(), lits) {
             return Err(AllocError);
         }
-        self.add(lits)
+        self.add(lits, number)
     }
 }
 
@@ -152,22 +179,29 @@ impl Engine {
     /// Searches for a model of the live clauses under the assumptions.
     ///
     /// `SinkFailed` comes only where the sink's faults rose, `Memory` for want of memory.
-    pub fn search<S: StepSink + Drop, J: RunJudge + Drop, R: Fn(u64) -> u64 + Drop>(
+    pub fn search<
+        S: StepSink + Drop,
+        J: RunJudge + Drop,
+        R: Fn(u64) -> u64 + Drop,
+        K: Fn(u64, u64) -> bool + Drop,
+    >(
         &mut self,
         assumptions: &[Lit],
         checked: &mut Checked<S, J>,
         restart: &R,
+        keep: &K,
     ) -> Result<Answer, SearchError>
         requires restart { IsRestartRule (R.pre restart.now) (R.post restart.now) }
-        requires taken { AreTaken self.old.watch.clauses self.old.taken (clause_at checked.old.checker.clauses) }
-        requires all { self.old.taken ≡ length checked.old.checker.clauses }
+        requires keep { IsKeepRule (K.pre keep.now) (K.post keep.now) }
+        requires numbered { IsNumbered self.old.watch.clauses self.old.numbers.taken }
+        requires live { AreLive self.old.watch.clauses (clause_at checked.old.checker.clauses) }
         requires begun { checked.old.checker.ended ≡ false }
         requires awake { checked.old.checker.refused ≡ false }
         requires fresh { checked.old.refusal ≡ None }
         requires assumptions { AreAssumptions checked.old.checker.variables assumptions.now }
         ensures answer { IfOk result (λ answer. IsAnswer checked.new.checker assumptions.now answer) }
-        ensures underway { OnOk result (IsUnderway assumptions.now self.new.watch self.new.taken checked.new.checker) }
-        ensures puts { OnOk result (Puts (J.accepts checked.old.judge) checked.old.checker checked.new.checker (S.logs checked.old.sink) (S.logs checked.new.sink)) }
+        ensures underway { OnOk result (IsUnderway assumptions.now self.new.watch self.new.numbers checked.new.checker) }
+        ensures puts { OnOk result (Puts (J.accepts checked.old.judge) (K.post keep.now) checked.old.checker checked.new.checker self.old.numbers.learnt self.new.numbers.learnt (S.logs checked.old.sink) (S.logs checked.new.sink)) }
         ensures fresh { OnOk result (checked.new.refusal ≡ None) }
         ensures cause { result ≡ Err SearchError.SinkFailed → Rose (S.faults checked.old.sink) (S.faults checked.new.sink) }
         ensures judge_stays { checked.new.judge ≡ checked.old.judge }
@@ -175,34 +209,44 @@ impl Engine {
         ensures no_fall { S.faults checked.old.sink ≤ S.faults checked.new.sink }
         ensures same_references { S.references checked.new.sink ≡ S.references checked.old.sink }
         ensures propagated { self.old.propagated ≤ self.new.propagated }
-        ensures leaves { Leaves (J.accepts checked.old.judge) checked.old.checker (S.logs checked.old.sink) checked.new.checker (S.logs checked.new.sink) }
+        ensures leaves { Leaves (J.accepts checked.old.judge) (K.post keep.now) self.old.numbers.learnt checked.old.checker (S.logs checked.old.sink) checked.new.checker (S.logs checked.new.sink) }
     {
+        if checked.checker().last() >= 1 << 62 {
+            return Err(SearchError::Memory);
+        }
         self.grow(checked.checker().variables())?;
         self.go_back(0);
         self.watch.keeps_facts();
         'turns: loop {
-            if let Some(answer) = self.turn(assumptions, checked, restart)? {
+            if let Some(answer) = self.turn(assumptions, checked, restart, keep)? {
                 return Ok(answer);
             }
         }
     }
 
     /// Propagates, and learns from a false clause or goes on where there is none. None where the search isn't over.
-    fn turn<S: StepSink + Drop, J: RunJudge + Drop, R: Fn(u64) -> u64 + Drop>(
+    fn turn<
+        S: StepSink + Drop,
+        J: RunJudge + Drop,
+        R: Fn(u64) -> u64 + Drop,
+        K: Fn(u64, u64) -> bool + Drop,
+    >(
         &mut self,
         assumptions: &[Lit],
         checked: &mut Checked<S, J>,
         restart: &R,
+        keep: &K,
     ) -> Result<Option<Answer>, SearchError>
         requires restart { IsRestartRule (R.pre restart.now) (R.post restart.now) }
-        requires underway { IsUnderway assumptions.now self.old.watch self.old.taken checked.old.checker }
+        requires keep { IsKeepRule (K.pre keep.now) (K.post keep.now) }
+        requires underway { IsUnderway assumptions.now self.old.watch self.old.numbers checked.old.checker }
         requires fresh { checked.old.refusal ≡ None }
         requires assumptions { AreAssumptions checked.old.checker.variables assumptions.now }
         ensures answer { IfOk result (λ turn. IfSome turn (IsAnswer checked.new.checker assumptions.now)) }
         ensures less { IfOk result (λ turn. IfNone turn (turns_left checked.new.checker self.new.since self.new.watch < turns_left checked.old.checker self.old.since self.old.watch)) }
-        ensures underway { OnOk result (IsUnderway assumptions.now self.new.watch self.new.taken checked.new.checker) }
+        ensures underway { OnOk result (IsUnderway assumptions.now self.new.watch self.new.numbers checked.new.checker) }
         ensures variables { OnOk result (checked.new.checker.variables ≡ checked.old.checker.variables) }
-        ensures puts { OnOk result (Puts (J.accepts checked.old.judge) checked.old.checker checked.new.checker (S.logs checked.old.sink) (S.logs checked.new.sink)) }
+        ensures puts { OnOk result (Puts (J.accepts checked.old.judge) (K.post keep.now) checked.old.checker checked.new.checker self.old.numbers.learnt self.new.numbers.learnt (S.logs checked.old.sink) (S.logs checked.new.sink)) }
         ensures fresh { OnOk result (checked.new.refusal ≡ None) }
         ensures cause { result ≡ Err SearchError.SinkFailed → Rose (S.faults checked.old.sink) (S.faults checked.new.sink) }
         ensures judge_stays { checked.new.judge ≡ checked.old.judge }
@@ -210,10 +254,14 @@ impl Engine {
         ensures no_fall { S.faults checked.old.sink ≤ S.faults checked.new.sink }
         ensures same_references { S.references checked.new.sink ≡ S.references checked.old.sink }
         ensures propagated { self.old.propagated ≤ self.new.propagated }
-        ensures leaves { Leaves (J.accepts checked.old.judge) checked.old.checker (S.logs checked.old.sink) checked.new.checker (S.logs checked.new.sink) }
+        ensures leaves { Leaves (J.accepts checked.old.judge) (K.post keep.now) self.old.numbers.learnt checked.old.checker (S.logs checked.old.sink) checked.new.checker (S.logs checked.new.sink) }
     {
         let Some(conflict) = self.propagate() else {
-            return Ok(self.go_on(assumptions, checked.checker(), restart)?);
+            if is_due(restart, self.restarts, self.since) {
+                self.begin_anew(assumptions, checked, keep)?;
+                return Ok(None);
+            }
+            return Ok(self.go_on(assumptions, checked.checker())?);
         };
         if let Some(answer) = self.give_up(assumptions, checked.checker(), conflict)? {
             return Ok(Some(answer));
@@ -224,11 +272,12 @@ impl Engine {
 
     /// Makes true what unit clauses ask for, and gives a clause that is false.
     fn propagate(&mut self) -> Option<ClauseRef>
-        ensures underway { (assumptions : List Literal) (checker : Checking) → IsUnderway assumptions self.old.watch self.old.taken checker
-            → IsUnderway assumptions self.new.watch self.new.taken checker }
+        ensures underway { (assumptions : List Literal) (checker : Checking) → IsUnderway assumptions self.old.watch self.old.numbers checker
+            → IsUnderway assumptions self.new.watch self.new.numbers checker }
         ensures less { (checker : Checking) → turns_left checker self.new.since self.new.watch ≤ turns_left checker self.old.since self.old.watch }
         ensures none { IfNone result ((self.new.watch.settled ≡ true) × IsComplete self.new.watch.clauses self.new.watch.trail) }
         ensures some { IfSome result (λ clause. IsSome (clause_in self.new.watch.clauses clause) × (is_false (value_of self.new.watch.trail) (lits_in self.new.watch.clauses clause) ≡ true)) }
+        ensures numbers { self.new.numbers ≡ self.old.numbers }
         ensures propagated { self.old.propagated ≤ self.new.propagated }
     {
         self.watch.keeps_facts();
@@ -250,14 +299,14 @@ impl Engine {
         checker: &Checker,
         conflict: ClauseRef,
     ) -> Result<Option<Answer>, AllocError>
-        requires underway { IsUnderway assumptions.now self.old.watch self.old.taken checker.now }
+        requires underway { IsUnderway assumptions.now self.old.watch self.old.numbers checker.now }
         requires live { IsSome (clause_in self.old.watch.clauses conflict) }
         requires false_ { is_false (value_of self.old.watch.trail) (lits_in self.old.watch.clauses conflict) ≡ true }
         ensures answer { IfOk result (λ turn. IfSome turn (IsAnswer checker.now assumptions.now)) }
         ensures left { IfOk result (λ turn. IfNone turn (checker.now.conflicts < checker.now.budget)) }
         ensures level { IfOk result (λ turn. IfNone turn (1 ≤ decided self.old.watch.reasons)) }
         ensures watch { self.new.watch ≡ self.old.watch }
-        ensures taken { self.new.taken ≡ self.old.taken }
+        ensures numbers { self.new.numbers ≡ self.old.numbers }
         ensures since { self.new.since ≡ self.old.since }
         ensures propagated { self.new.propagated ≡ self.old.propagated }
     {
@@ -282,16 +331,16 @@ impl Engine {
         checked: &mut Checked<S, J>,
         conflict: ClauseRef,
     ) -> Result<(), SearchError>
-        requires underway { IsUnderway assumptions.now self.old.watch self.old.taken checked.old.checker }
+        requires underway { IsUnderway assumptions.now self.old.watch self.old.numbers checked.old.checker }
         requires fresh { checked.old.refusal ≡ None }
         requires live { IsSome (clause_in self.old.watch.clauses conflict) }
         requires false_ { is_false (value_of self.old.watch.trail) (lits_in self.old.watch.clauses conflict) ≡ true }
         requires level { 1 ≤ decided self.old.watch.reasons }
         requires left { checked.old.checker.conflicts < checked.old.checker.budget }
         ensures less { OnOk result (turns_left checked.new.checker self.new.since self.new.watch < turns_left checked.old.checker self.old.since self.old.watch) }
-        ensures underway { OnOk result (IsUnderway assumptions.now self.new.watch self.new.taken checked.new.checker) }
+        ensures underway { OnOk result (IsUnderway assumptions.now self.new.watch self.new.numbers checked.new.checker) }
         ensures variables { OnOk result (checked.new.checker.variables ≡ checked.old.checker.variables) }
-        ensures puts { OnOk result (Puts (J.accepts checked.old.judge) checked.old.checker checked.new.checker (S.logs checked.old.sink) (S.logs checked.new.sink)) }
+        ensures puts { OnOk result (Puts (J.accepts checked.old.judge) nothing checked.old.checker checked.new.checker self.old.numbers.learnt self.new.numbers.learnt (S.logs checked.old.sink) (S.logs checked.new.sink)) }
         ensures fresh { OnOk result (checked.new.refusal ≡ None) }
         ensures cause { result ≡ Err SearchError.SinkFailed → Rose (S.faults checked.old.sink) (S.faults checked.new.sink) }
         ensures judge_stays { checked.new.judge ≡ checked.old.judge }
@@ -299,7 +348,7 @@ impl Engine {
         ensures no_fall { S.faults checked.old.sink ≤ S.faults checked.new.sink }
         ensures same_references { S.references checked.new.sink ≡ S.references checked.old.sink }
         ensures propagated { self.new.propagated ≡ self.old.propagated }
-        ensures leaves { Leaves (J.accepts checked.old.judge) checked.old.checker (S.logs checked.old.sink) checked.new.checker (S.logs checked.new.sink) }
+        ensures leaves { Leaves (J.accepts checked.old.judge) nothing self.old.numbers.learnt checked.old.checker (S.logs checked.old.sink) checked.new.checker (S.logs checked.new.sink) }
     {
         self.watch.keeps_facts();
         checked.checker().keeps_facts();
@@ -307,32 +356,32 @@ impl Engine {
         self.reward(checked.checker(), learnt.hints.as_slice());
         let step = step_of(self.alloc, &learnt)?;
         checked.put(&step)?;
-        self.back_jump(&learnt)?;
+        self.back_jump(&learnt, checked.checker().last())?;
         self.since = self.since.saturating_add(1);
         Ok(())
     }
 
-    /// Goes back to the level at which a learnt clause is unit, and adds the clause.
+    /// Goes back to the level at which a learnt clause is unit, and adds the clause under its number.
     ///
     /// The one error is want of memory or of room.
-    fn back_jump(&mut self, learnt: &Learnt) -> Result<(), AllocError>
+    fn back_jump(&mut self, learnt: &Learnt, number: u64) -> Result<(), AllocError>
         requires clause { IsClause self.old.watch.variables learnt.now.lits }
         requires backed { IsBacked self.old.watch learnt.now.lits learnt.now.back }
-        ensures adds { OnOk result (AddsNext (after_back learnt.now.back self.old.watch) self.new.watch self.old.taken self.new.taken learnt.now.lits) }
+        requires fresh { get_or self.old.numbers.taken number false ≡ false }
+        ensures learns { OnOk result (LearnsOne (after_back learnt.now.back self.old.watch) self.new.watch self.old.numbers self.new.numbers number learnt.now.lits) }
         ensures since { self.new.since ≡ self.old.since }
         ensures propagated { self.new.propagated ≡ self.old.propagated }
     {
         self.watch.keeps_facts();
         self.go_back(learnt.back);
-        self.add(learnt.lits.as_slice())?;
-        self.learnt.push(self.taken)?;
-        Ok(())
+        self.add(learnt.lits.as_slice(), number)?;
+        self.numbers.learn(number)
     }
 
     /// Raises the activities of the variables of the clauses of these numbers.
     fn reward(&mut self, checker: &Checker, numbers: &[u64])
         ensures watch { self.new.watch ≡ self.old.watch }
-        ensures taken { self.new.taken ≡ self.old.taken }
+        ensures numbers { self.new.numbers ≡ self.old.numbers }
         ensures since { self.new.since ≡ self.old.since }
         ensures propagated { self.new.propagated ≡ self.old.propagated }
     {
@@ -344,29 +393,24 @@ impl Engine {
         self.order.age();
     }
 
-    /// What to do where no clause is false or unit: begin anew, decide, or answer. None where the search isn't over.
+    /// What to do where no clause is false or unit: decide, or answer. None where the search isn't over.
     ///
     /// The one error is want of memory.
-    fn go_on<R: Fn(u64) -> u64 + Drop>(
+    fn go_on(
         &mut self,
         assumptions: &[Lit],
         checker: &Checker,
-        restart: &R,
     ) -> Result<Option<Answer>, AllocError>
-        requires restart { IsRestartRule (R.pre restart.now) (R.post restart.now) }
-        requires underway { IsUnderway assumptions.now self.old.watch self.old.taken checker.now }
+        requires underway { IsUnderway assumptions.now self.old.watch self.old.numbers checker.now }
         requires assumptions { AreAssumptions checker.now.variables assumptions.now }
         requires settled { self.old.watch.settled ≡ true }
         requires complete { IsComplete self.old.watch.clauses self.old.watch.trail }
         ensures answer { IfOk result (λ turn. IfSome turn (IsAnswer checker.now assumptions.now)) }
         ensures less { IfOk result (λ turn. IfNone turn (turns_left checker.now self.new.since self.new.watch < turns_left checker.now self.old.since self.old.watch)) }
-        ensures underway { OnOk result (IsUnderway assumptions.now self.new.watch self.new.taken checker.now) }
+        ensures underway { OnOk result (IsUnderway assumptions.now self.new.watch self.new.numbers checker.now) }
+        ensures numbers { self.new.numbers ≡ self.old.numbers }
         ensures propagated { self.new.propagated ≡ self.old.propagated }
     {
-        if is_due(restart, self.restarts, self.since) {
-            self.begin_anew();
-            return Ok(None);
-        }
         checker.keeps_facts();
         match first_untrue(&self.watch, assumptions) {
             Some(assumption) => self.assume(assumptions, checker, assumption),
@@ -374,17 +418,106 @@ impl Engine {
         }
     }
 
-    /// Takes all decisions back.
-    fn begin_anew(&mut self)
-        requires { 1 ≤ self.old.since }
-        ensures underway { (assumptions : List Literal) (checker : Checking) → IsUnderway assumptions self.old.watch self.old.taken checker
-            → IsUnderway assumptions self.new.watch self.new.taken checker }
-        ensures less { (checker : Checking) → turns_left checker self.new.since self.new.watch < turns_left checker self.old.since self.old.watch }
+    /// Takes all decisions back, and deletes the clauses that the keep rule gives up once enough were learnt since the
+    /// last deletion.
+    fn begin_anew<S: StepSink + Drop, J: RunJudge + Drop, K: Fn(u64, u64) -> bool + Drop>(
+        &mut self,
+        assumptions: &[Lit],
+        checked: &mut Checked<S, J>,
+        keep: &K,
+    ) -> Result<(), SearchError>
+        requires due { 1 ≤ self.old.since }
+        requires keep { IsKeepRule (K.pre keep.now) (K.post keep.now) }
+        requires underway { IsUnderway assumptions.now self.old.watch self.old.numbers checked.old.checker }
+        requires fresh { checked.old.refusal ≡ None }
+        ensures less { OnOk result (turns_left checked.new.checker self.new.since self.new.watch < turns_left checked.old.checker self.old.since self.old.watch) }
+        ensures underway { OnOk result (IsUnderway assumptions.now self.new.watch self.new.numbers checked.new.checker) }
+        ensures variables { OnOk result (checked.new.checker.variables ≡ checked.old.checker.variables) }
+        ensures puts { OnOk result (Puts (J.accepts checked.old.judge) (K.post keep.now) checked.old.checker checked.new.checker self.old.numbers.learnt self.new.numbers.learnt (S.logs checked.old.sink) (S.logs checked.new.sink)) }
+        ensures fresh { OnOk result (checked.new.refusal ≡ None) }
+        ensures cause { result ≡ Err SearchError.SinkFailed → Rose (S.faults checked.old.sink) (S.faults checked.new.sink) }
+        ensures judge_stays { checked.new.judge ≡ checked.old.judge }
+        ensures over_stays { S.over checked.new.sink ≡ S.over checked.old.sink }
+        ensures no_fall { S.faults checked.old.sink ≤ S.faults checked.new.sink }
+        ensures same_references { S.references checked.new.sink ≡ S.references checked.old.sink }
         ensures propagated { self.new.propagated ≡ self.old.propagated }
+        ensures leaves { Leaves (J.accepts checked.old.judge) (K.post keep.now) self.old.numbers.learnt checked.old.checker (S.logs checked.old.sink) checked.new.checker (S.logs checked.new.sink) }
     {
         self.go_back(0);
         self.restarts = self.restarts.saturating_add(1);
         self.since = 0;
+        if may_forget(checked.checker()) {
+            self.forget(assumptions, checked, keep)
+        } else {
+            Ok(())
+        }
+    }
+
+    /// Deletes the clauses that the keep rule gives up.
+    fn forget<S: StepSink + Drop, J: RunJudge + Drop, K: Fn(u64, u64) -> bool + Drop>(
+        &mut self,
+        assumptions: &[Lit],
+        checked: &mut Checked<S, J>,
+        keep: &K,
+    ) -> Result<(), SearchError>
+        requires keep { IsKeepRule (K.pre keep.now) (K.post keep.now) }
+        requires underway { IsUnderway assumptions.now self.old.watch self.old.numbers checked.old.checker }
+        requires learnt { apart_by ≤ checked.old.checker.learnt }
+        requires fresh { checked.old.refusal ≡ None }
+        ensures underway { OnOk result (IsUnderway assumptions.now self.new.watch self.new.numbers checked.new.checker) }
+        ensures since { self.new.since ≡ self.old.since }
+        ensures room { OnOk result (self.new.watch.variables ≡ self.old.watch.variables) }
+        ensures variables { OnOk result (checked.new.checker.variables ≡ checked.old.checker.variables) }
+        ensures conflicts { OnOk result (checked.new.checker.conflicts ≡ checked.old.checker.conflicts) }
+        ensures budget { OnOk result (checked.new.checker.budget ≡ checked.old.checker.budget) }
+        ensures puts { OnOk result (Puts (J.accepts checked.old.judge) (K.post keep.now) checked.old.checker checked.new.checker self.old.numbers.learnt self.new.numbers.learnt (S.logs checked.old.sink) (S.logs checked.new.sink)) }
+        ensures fresh { OnOk result (checked.new.refusal ≡ None) }
+        ensures cause { result ≡ Err SearchError.SinkFailed → Rose (S.faults checked.old.sink) (S.faults checked.new.sink) }
+        ensures judge_stays { checked.new.judge ≡ checked.old.judge }
+        ensures over_stays { S.over checked.new.sink ≡ S.over checked.old.sink }
+        ensures no_fall { S.faults checked.old.sink ≤ S.faults checked.new.sink }
+        ensures same_references { S.references checked.new.sink ≡ S.references checked.old.sink }
+        ensures propagated { self.new.propagated ≡ self.old.propagated }
+        ensures leaves { Leaves (J.accepts checked.old.judge) (K.post keep.now) self.old.numbers.learnt checked.old.checker (S.logs checked.old.sink) checked.new.checker (S.logs checked.new.sink) }
+    {
+        let checker = checked.checker();
+        let numbers = given_up(
+            self.alloc,
+            &self.watch,
+            self.numbers.learnt(),
+            checker,
+            keep,
+        )?;
+        if numbers.is_empty() {
+            return Ok(());
+        }
+        let deletion = CertStep::Delete {
+            clauses: Items::from_vec(numbers),
+        };
+        checked.put(&deletion)?;
+        Ok(self.reload(checked.checker())?)
+    }
+
+    /// Takes the clauses of a checker in the place of all that there are.
+    ///
+    /// The one error is want of memory or of room.
+    fn reload(&mut self, checker: &Checker) -> Result<(), AllocError>
+        ensures numbered { OnOk result (IsNumbered self.new.watch.clauses self.new.numbers.taken) }
+        ensures live { OnOk result (AreLive self.new.watch.clauses (clause_at checker.now.clauses)) }
+        ensures level { OnOk result (decided self.new.watch.reasons ≡ 0) }
+        ensures trail { OnOk result (length self.new.watch.reasons ≡ length self.new.watch.trail) }
+        ensures variables { OnOk result (self.new.watch.variables ≡ self.old.watch.variables) }
+        ensures learnt { self.new.numbers.learnt ≡ self.old.numbers.learnt }
+        ensures since { self.new.since ≡ self.old.since }
+        ensures propagated { self.new.propagated ≡ self.old.propagated }
+    {
+        let variables = self.watch.variables();
+        self.watch = Watch::new(self.alloc);
+        self.numbers.take_none();
+        self.watch.grow(variables)?;
+        self.take_all(checker)?;
+        self.watch.keeps_facts();
+        Ok(())
     }
 
     /// Decides a literal.
@@ -393,8 +526,9 @@ impl Engine {
         requires within { lit.variable ≤ self.old.watch.variables }
         requires free { value_of self.old.watch.trail lit ≡ None }
         ensures underway { (assumptions : List Literal) (checker : Checking) → IsChoice checker.variables assumptions self.old.watch.trail lit
-            → IsUnderway assumptions self.old.watch self.old.taken checker → IsUnderway assumptions self.new.watch self.new.taken checker }
+            → IsUnderway assumptions self.old.watch self.old.numbers checker → IsUnderway assumptions self.new.watch self.new.numbers checker }
         ensures less { (checker : Checking) → turns_left checker self.new.since self.new.watch < turns_left checker self.old.since self.old.watch }
+        ensures numbers { self.new.numbers ≡ self.old.numbers }
         ensures propagated { self.new.propagated ≡ self.old.propagated }
     {
         self.watch.keeps_facts();
@@ -411,14 +545,15 @@ impl Engine {
         checker: &Checker,
         assumption: Lit,
     ) -> Result<Option<Answer>, AllocError>
-        requires underway { IsUnderway assumptions.now self.old.watch self.old.taken checker.now }
+        requires underway { IsUnderway assumptions.now self.old.watch self.old.numbers checker.now }
         requires assumptions { AreAssumptions checker.now.variables assumptions.now }
         requires settled { self.old.watch.settled ≡ true }
         requires one { has_literal assumption assumptions.now ≡ true }
         requires untrue { value_of self.old.watch.trail assumption ≢ Some true }
         ensures answer { IfOk result (λ turn. IfSome turn (IsAnswer checker.now assumptions.now)) }
         ensures less { IfOk result (λ turn. IfNone turn (turns_left checker.now self.new.since self.new.watch < turns_left checker.now self.old.since self.old.watch)) }
-        ensures underway { OnOk result (IsUnderway assumptions.now self.new.watch self.new.taken checker.now) }
+        ensures underway { OnOk result (IsUnderway assumptions.now self.new.watch self.new.numbers checker.now) }
+        ensures numbers { self.new.numbers ≡ self.old.numbers }
         ensures propagated { self.new.propagated ≡ self.old.propagated }
     {
         self.watch.keeps_facts();
@@ -441,14 +576,15 @@ impl Engine {
         assumptions: &[Lit],
         checker: &Checker,
     ) -> Result<Option<Answer>, AllocError>
-        requires underway { IsUnderway assumptions.now self.old.watch self.old.taken checker.now }
+        requires underway { IsUnderway assumptions.now self.old.watch self.old.numbers checker.now }
         requires settled { self.old.watch.settled ≡ true }
         requires complete { IsComplete self.old.watch.clauses self.old.watch.trail }
         requires assumptions { AreAssumptions checker.now.variables assumptions.now }
         requires true_ { AreTrue self.old.watch.trail assumptions.now }
         ensures answer { IfOk result (λ turn. IfSome turn (IsAnswer checker.now assumptions.now)) }
         ensures less { IfOk result (λ turn. IfNone turn (turns_left checker.now self.new.since self.new.watch < turns_left checker.now self.old.since self.old.watch)) }
-        ensures underway { OnOk result (IsUnderway assumptions.now self.new.watch self.new.taken checker.now) }
+        ensures underway { OnOk result (IsUnderway assumptions.now self.new.watch self.new.numbers checker.now) }
+        ensures numbers { self.new.numbers ≡ self.old.numbers }
         ensures propagated { self.new.propagated ≡ self.old.propagated }
     {
         checker.keeps_facts();

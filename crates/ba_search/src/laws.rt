@@ -1,15 +1,18 @@
 //! A law of the steps that a search puts, the clause of a function that does nothing.
 
-ghost use Rattle.std.specs.Prelude.{ℕ, List, ◌∷◌, ◌++◌};
+ghost use Rattle.std.specs.Prelude.{ℕ, ◌≤◌, List, ◌∷◌, ◌++◌, length};
 ghost use Rattle.ba_lits.specs.Literals.{Literal};
 ghost use Rattle.ba_steps.specs.States.{State};
 ghost use Rattle.ba_steps.specs.Judging.{Judge};
 ghost use Rattle.ba_steps.specs.declared.step.CertStep.{CertStep};
 ghost use Rattle.ba_steps.specs.declared.step.CertStep.TheVariants.{Learn};
-ghost use Rattle.ba_search.specs.Searching.{Learns};
+ghost use Rattle.ba_search.specs.Searching.{Searches};
 
-/// No clause is learnt twice.
-pub fn learnt_once_law()
-    ensures { (good : Judge) (s t : State) (before between after : List CertStep) (lits : List Literal) (first second : List ℕ)
-        → Learns good s (before ++ Learn lits first ∷ (between ++ Learn lits second ∷ after)) t → ⊥ }
-{}
+/// No clause of at most two literals is learnt twice, whatever the keep rule.
+pub fn learnt_once_law<K: Fn(u64, u64) -> bool + Drop>(keep: &K)
+    ensures { (good : Judge) (s t : State) (learnt all : List ℕ) (before between after : List CertStep)
+        → (lits : List Literal) (first second : List ℕ) → length lits ≤ 2
+        → Searches good (K.post keep.now) s learnt (before ++ Learn lits first ∷ (between ++ Learn lits second ∷ after)) t all → ⊥ }
+{
+    let _ = keep;
+}

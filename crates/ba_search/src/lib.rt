@@ -7,7 +7,9 @@
 #![tactic(auto)]
 
 mod engine;
+mod forgetting;
 pub mod laws;
+mod numbers;
 mod order;
 mod search;
 

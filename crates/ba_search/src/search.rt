@@ -1,13 +1,13 @@
 //! The search.
 
-ghost use Rattle.std.specs.Prelude.{◌≡◌, ◌≤◌, ◌⊎◌, None, Some, false, List, map, IfOk, IfErr, OnOk, Err};
-ghost use Rattle.ba_learn.specs.Live.{AreLive};
+ghost use Rattle.std.specs.Prelude.{◌≡◌, ◌≤◌, ◌⊎◌, None, Some, false, [], List, map, IfOk, IfErr, OnOk, Err};
+ghost use Rattle.ba_learn.specs.Live.{AreLive, AreNumbered};
 ghost use Rattle.ba_steps.specs.States.{kept, clause_at};
 ghost use Rattle.ba_steps.specs.Sinks.{Rose};
 ghost use Rattle.ba_steps.specs.declared.store.Origin.TheVariants.{Given};
 ghost use Rattle.ba_steps.specs.declared.step.CertStep.{CertStep};
 ghost use Rattle.ba_search.specs.Rules.{IsRestartRule, IsKeepRule};
-ghost use Rattle.ba_search.specs.Searching.{ArePart, Learns, Leaves, with_steps};
+ghost use Rattle.ba_search.specs.Searching.{ArePart, Searches, Leaves, with_steps};
 ghost use Rattle.ba_search.specs.Answers.{AreAssumptions, IsAnswer};
 ghost use Rattle.ba_search.specs.Turns.{failure_of};
 
@@ -77,7 +77,8 @@ fn failure_of<T>(answer: &Result<T, SearchError>) -> Option<SearchError>
 }
 
 /// A search over the clauses of a checker. `restart` answers, by the number of restarts so far, how many conflicts come
-/// before the next; `keep` answers whether a learnt clause of a width and an age is kept.
+/// before the next; `keep` answers whether a learnt clause is kept, by its width, how many literals it has, and its age,
+/// how many clauses this search has learnt after it.
 #[derive(Drop)]
 pub struct Search<R, K> {
     engine: Engine,
@@ -93,9 +94,9 @@ impl<R, K> Model for Search<R, K> {
 
     ghost Value = { Searching R K };
 
-    ghost view = { λ s. record { variables = s.engine.watch.variables; clauses = s.engine.watch.clauses; restart = s.restart; keep = s.keep; failure = s.failure; propagated = s.engine.propagated } };
+    ghost view = { λ s. record { variables = s.engine.watch.variables; clauses = s.engine.watch.clauses; learnt = s.engine.numbers.learnt; restart = s.restart; keep = s.keep; failure = s.failure; propagated = s.engine.propagated } };
 
-    ghost invariant = { λ s. s.failure ≡ None → IsNumbered s.engine.watch.clauses s.engine.taken };
+    ghost invariant = { λ s. s.failure ≡ None → IsNumbered s.engine.watch.clauses s.engine.numbers.taken };
 }
 
 impl<R: Fn(u64) -> u64 + Drop, K: Fn(u64, u64) -> bool + Drop> Search<R, K> {
@@ -112,6 +113,8 @@ impl<R: Fn(u64) -> u64 + Drop, K: Fn(u64, u64) -> bool + Drop> Search<R, K> {
         requires keep { IsKeepRule (K.pre keep) (K.post keep) }
         ensures clauses { IfOk result (λ search. AreLive search.clauses (clause_at (map (kept Given) formula.now.clauses))) }
         ensures variables { IfOk result (λ search. search.variables ≡ formula.now.variables) }
+        ensures alone { IfOk result (λ search. AreNumbered search.clauses) }
+        ensures learnt { IfOk result (λ search. search.learnt ≡ []) }
         ensures restart { IfOk result (λ search. search.restart ≡ restart) }
         ensures keep { IfOk result (λ search. search.keep ≡ keep) }
         ensures fresh { IfOk result (λ search. search.failure ≡ None) }
@@ -120,7 +123,7 @@ impl<R: Fn(u64) -> u64 + Drop, K: Fn(u64, u64) -> bool + Drop> Search<R, K> {
         let mut engine = Engine::new(alloc);
         engine.grow(formula.variables())?;
         for place in 0..formula.len() {
-            engine.add(formula.clause(place + 1))?;
+            engine.add(formula.clause(place + 1), place + 1)?;
         }
         Ok(Search {
             engine,
@@ -130,7 +133,7 @@ impl<R: Fn(u64) -> u64 + Drop, K: Fn(u64, u64) -> bool + Drop> Search<R, K> {
         })
     }
 
-    /// Adds the clauses that the checker has and the search hasn't.
+    /// Adds the clauses that the checker has and the search hasn't, each once.
     ///
     /// The one new error is want of memory. A search that answered an error answers it from then on.
     pub fn take_new<S: StepSink + Drop, J: RunJudge + Drop>(
@@ -139,6 +142,7 @@ impl<R: Fn(u64) -> u64 + Drop, K: Fn(u64, u64) -> bool + Drop> Search<R, K> {
     ) -> Result<(), SearchError>
         requires part { self.old.failure ≡ None → ArePart self.old.clauses (clause_at checked.now.checker.clauses) }
         ensures same { OnOk result (AreLive self.new.clauses (clause_at checked.now.checker.clauses)) }
+        ensures alone { OnOk result (AreNumbered self.new.clauses) }
         ensures fresh { OnOk result (self.old.failure ≡ None) }
         ensures stays_fresh { OnOk result (self.new.failure ≡ None) }
         ensures restart_stays { self.new.restart ≡ self.old.restart }
@@ -146,6 +150,7 @@ impl<R: Fn(u64) -> u64 + Drop, K: Fn(u64, u64) -> bool + Drop> Search<R, K> {
         ensures keeps { IfErr result (λ error. self.new.failure ≡ Some error) }
         ensures again { (error : SearchError) → self.old.failure ≡ Some error → (result ≡ Err error) × (self.new ≡ self.old) }
         ensures cause { result ≡ Err SearchError.SinkFailed → self.old.failure ≡ Some SearchError.SinkFailed }
+        ensures learnt { self.new.learnt ≡ self.old.learnt }
         ensures propagated { self.new.propagated ≡ self.old.propagated }
     {
         if let Some(failure) = self.failure {
@@ -165,7 +170,7 @@ impl<R: Fn(u64) -> u64 + Drop, K: Fn(u64, u64) -> bool + Drop> Search<R, K> {
     }
 
     /// Searches for a model of the live clauses under the assumptions. Each clause that is learnt on the way is put as a
-    /// step. Conflicts count until the checker's stated number is spent.
+    /// step, and so is each deletion, which comes at a restart. Conflicts count until the checker's stated number is spent.
     ///
     /// `SinkFailed` comes only where the sink's faults rose, `Memory` for want of memory. A search that answered an
     /// error answers it from then on. Steps that were put before an error stay put.
@@ -183,10 +188,11 @@ impl<R: Fn(u64) -> u64 + Drop, K: Fn(u64, u64) -> bool + Drop> Search<R, K> {
         requires assumptions { self.old.failure ≡ None → AreAssumptions checked.old.checker.variables assumptions.now }
         ensures answer { IfOk result (λ answer. IsAnswer checked.new.checker assumptions.now answer) }
         ensures same { OnOk result (AreLive self.new.clauses (clause_at checked.new.checker.clauses)) }
+        ensures alone { OnOk result (AreNumbered self.new.clauses) }
         ensures steps { OnOk result ((steps : List CertStep)
-            × Learns (J.accepts checked.old.judge) checked.old.checker steps checked.new.checker
+            × Searches (J.accepts checked.old.judge) (K.post self.old.keep) checked.old.checker self.old.learnt steps checked.new.checker self.new.learnt
             × (S.logs checked.new.sink ≡ with_steps steps (S.logs checked.old.sink))) }
-        ensures leaves { Leaves (J.accepts checked.old.judge) checked.old.checker (S.logs checked.old.sink) checked.new.checker (S.logs checked.new.sink) }
+        ensures leaves { Leaves (J.accepts checked.old.judge) (K.post self.old.keep) self.old.learnt checked.old.checker (S.logs checked.old.sink) checked.new.checker (S.logs checked.new.sink) }
         ensures fresh { OnOk result (self.old.failure ≡ None) }
         ensures stays_fresh { OnOk result ((self.new.failure ≡ None) × (checked.new.refusal ≡ None)) }
         ensures stays_begun { OnOk result (checked.new.checker.ended ≡ false) }
@@ -207,7 +213,9 @@ impl<R: Fn(u64) -> u64 + Drop, K: Fn(u64, u64) -> bool + Drop> Search<R, K> {
         if let Some(failure) = self.failure {
             return Err(failure);
         }
-        let result = self.engine.search(assumptions, checked, &self.restart);
+        let result = self
+            .engine
+            .search(assumptions, checked, &self.restart, &self.keep);
         self.failure = failure_of(&result);
         result
     }

@@ -262,16 +262,32 @@ fn end_derivation(checker: &mut Checker, hints: Items<u64>) -> Result<(), Fail>
     Ok(())
 }
 
-/// A formula has no model: a search ends with a core without a literal, whose hints end the derivation.
-fn expect_no_model(rt: &impl Abort, alloc: Global, formula: &Formula) -> Result<(), Fail> {
+/// How many numbers of a checker are those of deleted clauses.
+fn deleted(checker: &Checker) -> u64 {
+    let mut count = 0u64;
+    for place in 0..checker.last() {
+        if checker.clause(place.saturating_add(1)).is_none() {
+            count = count.saturating_add(1);
+        }
+    }
+    count
+}
+
+/// A formula has no model: a search that keeps learnt clauses of two literals alone ends with a core without a literal,
+/// and so does another, whose hints end the derivation. How many clauses were deleted.
+fn expect_no_model(rt: &impl Abort, alloc: Global, formula: &Formula) -> Result<u64, Fail> {
     let mut checked = Checked::new(start(alloc, formula, 100_000)?, NoRuns, NoSink);
-    let mut search = Search::new(alloc, formula, |_: u64| 10, |_: u64, _: u64| true)?;
+    let mut search = Search::new(alloc, formula, |_: u64| 10, |width: u64, _: u64| width <= 2)?;
     let assumptions: Vec<Lit> = Vec::new(alloc);
+    let first = search.solve(assumptions.as_slice(), &mut checked)?;
+    assert_eq!(rt; end_of(&first), End::Core(0));
+    search.take_new(&checked)?;
     match search.solve(assumptions.as_slice(), &mut checked)? {
         Answer::Core(core) => {
             assert!(rt; core.lits.is_empty());
             let (mut checker, _) = checked.finish();
-            end_derivation(&mut checker, core.hints)
+            end_derivation(&mut checker, core.hints)?;
+            Ok(deleted(&checker))
         }
         _ => panic!(rt; "there is no model"),
     }
@@ -342,11 +358,14 @@ fn add_apart(
 fn formulas_without_a_model_are_refuted(rt: HostRuntime) -> Result<(), Fail> {
     let alloc = rt.alloc();
     let formula = formula_of(&rt, alloc, 2, &[&[1, 2], &[-1, 2], &[-2]])?;
-    expect_no_model(&rt, alloc, &formula)?;
+    assert_eq!(rt; expect_no_model(&rt, alloc, &formula)?, 0);
     for (pigeons, holes) in [(2, 1), (5, 4), (6, 5)] {
         let formula = pigeonhole(&rt, alloc, pigeons, holes)?;
-        expect_no_model(&rt, alloc, &formula)?;
+        assert_eq!(rt; expect_no_model(&rt, alloc, &formula)?, 0);
     }
+    // This takes more than a thousand conflicts, after which clauses are deleted.
+    let formula = pigeonhole(&rt, alloc, 8, 7)?;
+    assert!(rt; expect_no_model(&rt, alloc, &formula)? > 0);
     Ok(())
 }
 

@@ -1,14 +1,13 @@
 -- Clauses that stand one after the other.
 
-use Rattle.std.proofs.Common.{◌≡◌, ◌≢◌, ℕ, suc, zero, ◌-◌, ◌<◌, ◌≤◌, None, Some, List, [], ◌∷◌, ◌++◌, length, get_or, take, drop, refl, sym, ap, ◌∙◌, arith, Bool, false, option_map}
-use Rattle.std.proofs.lemmas.Option.{slice_get_past}
-use Rattle.std.proofs.lemmas.List.{drop_at, take_all, take-append-le, drop-append-le, length-append, length-drop}
+use Rattle.std.proofs.Common.{◌≡◌, ◌≢◌, ℕ, suc, zero, ◌-◌, ◌<◌, ◌≤◌, None, Some, List, [], ◌∷◌, ◌++◌, length, get_or, take, drop, refl, sym, ap, ◌∙◌, arith, Bool, true, false, cond, set}
+use Rattle.std.proofs.lemmas.List.{drop_at, take_all, take-append-le, drop-append-le, length-append, length-drop, length-set}
 use Rattle.std.specs.List.{slice_range, slice_get}
 use Rattle.ba_lits.specs.Literals.{Literal}
-use Rattle.ba_steps.specs.States.{Kept, kept, clause_at, is_learnt_at, is_learnt_entry, is_learnt_origin, lits_of, lits_at}
+use Rattle.ba_steps.specs.States.{Kept, kept, kept_at, clause_at, live_lits, is_live_origin, is_live_at, is_live_entry, is_learnt_at, is_learnt_entry, is_learnt_origin, lits_of, lits_at, without}
 use Rattle.ba_steps.specs.Cuts.{IsCut, entries, start_of}
 use Rattle.ba_steps.specs.declared.store.Origin.{Origin}
-use Rattle.ba_steps.specs.declared.store.Origin.TheVariants.{Given}
+use Rattle.ba_steps.specs.declared.store.Origin.TheVariants.{Given, Deleted}
 
 -- no clause begins past the end of the list
 pub IsCut-within : (size from : ℕ) (ends : List ℕ) → IsCut size from ends → from ≤ size
@@ -57,6 +56,14 @@ entries-at lits from (e ∷ es) [] k d o same lt = absurd (omega arith)
 entries-at lits from (e ∷ es) (p ∷ ps) zero d o same lt = refl
 entries-at lits from (e ∷ es) (p ∷ ps) (suc k) d o same lt = entries-at lits e es ps k d o (omega arith) (omega arith)
 
+-- a clause is deleted
+pub entries-set : (lits : List Literal) (from : ℕ) (ends : List ℕ) (origins : List Origin) (k : ℕ) (o : Origin) →
+    entries lits from ends (set origins k o) ≡ set (entries lits from ends origins) k (kept o (lits_at (entries lits from ends origins) k))
+entries-set lits from [] origins k o = refl
+entries-set lits from (e ∷ es) [] k o = refl
+entries-set lits from (e ∷ es) (p ∷ ps) zero o = refl
+entries-set lits from (e ∷ es) (p ∷ ps) (suc k) o = ap (λ rest. kept p (slice_range lits from e) ∷ rest) (entries-set lits e es ps k o)
+
 -- a clause ends where the next begins, and within the list
 pub start_of-le : (size from : ℕ) (ends : List ℕ) (k d : ℕ) → IsCut size from ends → k < length ends → start_of from ends k ≤ get_or ends k d
 start_of-le size from [] k d cut lt = absurd (omega arith)
@@ -99,49 +106,72 @@ start_at ends (suc k) start ne lt is =
 pub named : (lits : List Literal) (ends : List ℕ) (origins : List Origin) (seen : List Kept) (number : ℕ) →
     IsCut (length lits) 0 ends × (length origins ≡ length ends) → entries lits 0 ends origins ≡ seen →
     number ≢ 0 → number ≤ length seen → (d : ℕ) (o : Origin) →
-    (clause_at seen number ≡ Some (slice_range lits (start_of 0 ends (number - 1)) (get_or ends (number - 1) d))) × (is_learnt_at seen number ≡ is_learnt_origin (get_or origins (number - 1) o)) × (number - 1 < length ends)
+    (kept_at seen number ≡ Some (kept (get_or origins (number - 1) o) (slice_range lits (start_of 0 ends (number - 1)) (get_or ends (number - 1) d)))) × (number - 1 < length ends)
 named lits ends origins seen zero inv view pos le d o = absurd (pos refl)
 named lits ends origins seen (suc k) inv view pos le d o =
     let long = length-entries lits 0 ends origins inv.1 in
     let within : k < length ends = omega (arith, ap length view, long) in
     let at = ap (λ s. slice_get s k) (sym view) ∙ entries-at lits 0 ends origins k d o inv.1 within in
     let e : suc k - 1 ≡ k = omega arith in
-    rw e (ap (option_map (λ (x : Kept). x.lits)) at, ap is_learnt_entry at, within)
-
-pub past : (seen : List Kept) (number : ℕ) → length seen < number → (clause_at seen number ≡ None) × (is_learnt_at seen number ≡ false)
-past seen zero lt = absurd (omega arith)
-past seen (suc k) lt =
-    let none = slice_get_past seen k (omega arith) in
-    (ap (option_map (λ (x : Kept). x.lits)) none, ap is_learnt_entry none)
-
-pub none_at_zero : (seen : List Kept) (number : ℕ) → number ≡ 0 → (clause_at seen number ≡ None) × (is_learnt_at seen number ≡ false)
-none_at_zero seen number zero_is = rw zero_is (refl, refl)
+    rw e (at, within)
 
 pub part_named : (lits : List Literal) (ends : List ℕ) (origins : List Origin) (seen : List Kept) (number : ℕ) →
     IsCut (length lits) 0 ends × (length origins ≡ length ends) → entries lits 0 ends origins ≡ seen →
     number ≢ 0 → number ≤ length seen → (read : List ℕ) → read ≡ ends → number - 1 < length read
 part_named lits ends origins seen number inv view pos le read same =
-    rw same ((named lits ends origins seen number inv view pos le 0 Given).2)
+    rw same ((named lits ends origins seen number inv view pos le 0 Given).1)
 
 pub clause_named : (lits : List Literal) (ends : List ℕ) (origins : List Origin) (seen : List Kept) (number : ℕ) →
     IsCut (length lits) 0 ends × (length origins ≡ length ends) → entries lits 0 ends origins ≡ seen →
-    number ≢ 0 → number ≤ length seen → (read : List ℕ) → read ≡ ends → (all : List Literal) → all ≡ lits → (part : List Literal) →
+    number ≢ 0 → number ≤ length seen → (origin : Origin) → origin ≡ get_or origins (number - 1) origin → is_live_origin origin ≡ true →
+    (read : List ℕ) → read ≡ ends → (all : List Literal) → all ≡ lits → (part : List Literal) →
     part ≡ slice_range all (start_of 0 read (number - 1)) (get_or read (number - 1) 0) → Some part ≡ clause_at seen number
-clause_named lits ends origins seen number inv view pos le read same all same_lits part is =
+clause_named lits ends origins seen number inv view pos le origin origin_is lives read same all same_lits part is =
     ap Some (is ∙ (ap (λ r. slice_range all (start_of 0 r (number - 1)) (get_or r (number - 1) 0)) same ∙ ap (λ a. slice_range a (start_of 0 ends (number - 1)) (get_or ends (number - 1) 0)) same_lits))
-    ∙ sym ((named lits ends origins seen number inv view pos le 0 Given).0)
+    ∙ sym
+    (ap live_lits ((named lits ends origins seen number inv view pos le 0 origin).0)
+    ∙ ap (λ b. cond b (Some (slice_range lits (start_of 0 ends (number - 1)) (get_or ends (number - 1) 0))) None) (ap is_live_origin (sym origin_is) ∙ lives))
+
+pub deleted_named : (lits : List Literal) (ends : List ℕ) (origins : List Origin) (seen : List Kept) (number : ℕ) →
+    IsCut (length lits) 0 ends × (length origins ≡ length ends) → entries lits 0 ends origins ≡ seen →
+    number ≢ 0 → number ≤ length seen → (origin : Origin) → origin ≡ get_or origins (number - 1) origin → is_live_origin origin ≡ false → clause_at seen number ≡ None
+deleted_named lits ends origins seen number inv view pos le origin origin_is dead =
+    ap live_lits ((named lits ends origins seen number inv view pos le 0 origin).0)
+    ∙ ap (λ b. cond b (Some (slice_range lits (start_of 0 ends (number - 1)) (get_or ends (number - 1) 0))) None) (ap is_live_origin (sym origin_is) ∙ dead)
 
 pub place_named : (lits : List Literal) (ends : List ℕ) (origins : List Origin) (seen : List Kept) (number : ℕ) →
     IsCut (length lits) 0 ends × (length origins ≡ length ends) → entries lits 0 ends origins ≡ seen →
     number ≢ 0 → number ≤ length seen → number - 1 < length origins
 place_named lits ends origins seen number inv view pos le =
-    let within = (named lits ends origins seen number inv view pos le 0 Given).2 in omega (arith, within, inv.1)
+    let within = (named lits ends origins seen number inv view pos le 0 Given).1 in omega (arith, within, inv.1)
 
 pub learnt_named : (lits : List Literal) (ends : List ℕ) (origins : List Origin) (seen : List Kept) (number : ℕ) →
     IsCut (length lits) 0 ends × (length origins ≡ length ends) → entries lits 0 ends origins ≡ seen →
     number ≢ 0 → number ≤ length seen → (origin : Origin) → origin ≡ get_or origins (number - 1) origin → (learnt : Bool) → learnt ≡ is_learnt_origin origin → learnt ≡ is_learnt_at seen number
 learnt_named lits ends origins seen number inv view pos le origin read learnt is =
-    is ∙ (ap is_learnt_origin read ∙ sym ((named lits ends origins seen number inv view pos le 0 origin).1))
+    is ∙ (ap is_learnt_origin read ∙ sym (ap is_learnt_entry ((named lits ends origins seen number inv view pos le 0 origin).0)))
+
+-- what the code has after it deleted a clause
+pub deleted : (lits : List Literal) (ends : List ℕ) (origins others : List Origin) (seen : List Kept) (number : ℕ) →
+    IsCut (length lits) 0 ends × (length origins ≡ length ends) → entries lits 0 ends origins ≡ seen →
+    number ≢ 0 → others ≡ set origins (number - 1) Deleted →
+    (IsCut (length lits) 0 ends × (length others ≡ length ends)) × (entries lits 0 ends others ≡ without seen number)
+deleted lits ends origins others seen zero inv view pos others_is = absurd (pos refl)
+deleted lits ends origins others seen (suc k) inv view pos others_is =
+    let e : suc k - 1 ≡ k = omega arith in
+    let is : others ≡ set origins k Deleted = others_is ∙ ap (λ n. set origins n Deleted) e in (
+      (inv.0, ap length is ∙ (length-set origins k Deleted ∙ inv.1)),
+      ap (entries lits 0 ends) is ∙ (entries-set lits 0 ends origins k Deleted ∙ ap (λ s. without s (suc k)) view),
+    )
+
+pub live_place : (lits : List Literal) (ends : List ℕ) (origins : List Origin) (seen : List Kept) (place : ℕ) →
+    IsCut (length lits) 0 ends × (length origins ≡ length ends) → entries lits 0 ends origins ≡ seen → place < length seen → (origin : Origin) →
+    (place < length origins) × (origin ≡ get_or origins place origin → (live : Bool) → live ≡ is_live_origin origin → live ≡ is_live_at seen place)
+live_place lits ends origins seen place inv view lt origin =
+    let long = length-entries lits 0 ends origins inv.1 in
+    let within : place < length ends = omega (arith, ap length view, long) in
+    let at = ap (λ s. slice_get s place) (sym view) ∙ entries-at lits 0 ends origins place 0 origin inv.1 within in
+    (omega (arith, within, inv.1), λ read live is. is ∙ (ap is_live_origin read ∙ sym (ap is_live_entry at)))
 
 pub at_place : (lits : List Literal) (ends : List ℕ) (origins : List Origin) (seen : List Kept) (place : ℕ) →
     IsCut (length lits) 0 ends × (length origins ≡ length ends) → entries lits 0 ends origins ≡ seen → place < length seen →

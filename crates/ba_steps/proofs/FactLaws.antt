@@ -1,12 +1,12 @@
 -- The facts hold of every state that allowed steps lead to.
 
-use Rattle.std.proofs.Common.{◌≡◌, ℕ, suc, zero, ◌+◌, ◌*◌, ◌-◌, ◌^◌, ◌<◌, ◌≤◌, Bool, true, false, not, ◌&&◌, ◌||◌, cond, ltb, eqb, min, unwrap_or, Option, None, Some, option_map, List, [], ◌∷◌, ◌++◌, map, length, get_or, All, refl, sym, ap, ◌∙◌, arith, subst, inl, inr, ⊎_elim, ◌⊎◌}
+use Rattle.std.proofs.Common.{◌≡◌, ◌≢◌, ℕ, suc, zero, ◌+◌, ◌*◌, ◌-◌, ◌^◌, ◌<◌, ◌≤◌, Bool, true, false, not, ◌&&◌, ◌||◌, cond, ltb, eqb, min, unwrap_or, Option, None, Some, List, [], ◌∷◌, ◌++◌, map, length, get_or, set, All, refl, sym, ap, ◌∙◌, arith, subst, inl, inr, ⊎_elim, ◌⊎◌}
 use Rattle.std.proofs.Math.Nat.{mul-add}
 use Rattle.std.proofs.lemmas.Bool.{cases_lt}
 use Rattle.std.proofs.lemmas.Bool.Decides.{nat_tests}
 use Rattle.std.proofs.lemmas.List.{map-append, append_assoc, append-nil}
 use Rattle.std.proofs.lemmas.List.Elements.{All-nil, All-cons, All-append, All-weaker, All-head, All-tail}
-use Rattle.std.specs.List.{slice_get}
+use Rattle.std.specs.List.{slice_get, list_all}
 use Rattle.ba_lits.specs.Literals.{Literal, negate, IsClause, index_of}
 use Rattle.ba_lits.specs.Satisfaction.{Assignment, any_true, all_true, Soft, cost, Agree}
 use Rattle.ba_lits.specs.Formulas.{Cnf}
@@ -14,38 +14,48 @@ use Rattle.ba_lits.specs.Hints.{Replay, Refutes, StaysOpen, NamesNone, NamesIdle
 use Rattle.ba_lits.proofs.Satisfied.{ClauseBelow, ClausesBelow, SoftsBelow, any_true-agree, all_true-agree, cost-agree, all_true-append, cost-append, ClauseBelow-more, ClausesBelow-more, ClausesBelow-append}
 use Rattle.ba_lits.proofs.HintLaws.{FollowsByHints-holds, same_literal}
 use Rattle.ba_steps.specs.Splits.{positive, negative, in_order, or_gate, and_gate, some_of, or_clauses, and_clauses, split_clauses, fresh_count, split_softs, late_softs, is_soft, lesser, lightest, lowered}
-use Rattle.ba_steps.specs.States.{Kept, kept, State, clause_at, present, first_state}
+use Rattle.ba_steps.specs.States.{Kept, kept, State, kept_at, clause_at, live_lits, is_live_origin, is_learnt_at, is_learnt_entry, is_learnt_origin, width_at, lits_at, without, without_all, present, first_state}
 use Rattle.ba_steps.specs.Steps.{IsFormed, AreFormedLits}
-use Rattle.ba_steps.specs.Judging.{Judge, error_if, lacks_variable, is_spent, lacks_soft, hint_error, error_of_replay, error_of, after, after_learn, after_core, after_all, next_if, learn_error, core_error}
+use Rattle.ba_steps.specs.Judging.{Judge, error_if, lacks_variable, is_spent, lacks_soft, hint_error, error_of_replay, error_of, after, after_learn, after_core, after_delete, may_go, apart_by, delete_error, after_all, next_if, learn_error, core_error}
 use Rattle.ba_steps.specs.Facts.{live, Differs, AreDifferent, AreAmong, IsStart, step_splits, splits_of, IsLive, Holds}
 use Rattle.ba_steps.specs.declared.store.Origin.{Origin}
 use Rattle.ba_steps.specs.declared.store.Origin.TheVariants as origins
 use Rattle.ba_steps.specs.declared.step.CertStep.{CertStep}
-use Rattle.ba_steps.specs.declared.step.CertStep.TheVariants.{Learn, Core, EndNoRepair, EndSpent}
+use Rattle.ba_steps.specs.declared.step.CertStep.TheVariants.{Learn, Core, Delete, EndNoRepair, EndSpent}
 use Rattle.ba_steps.specs.declared.step.StepError.{StepError}
-use Rattle.ba_steps.specs.declared.step.StepError.TheVariants.{AfterEnd, NotNew, NotSofts, CoreAfterSet, WrongCount, BadVariable, Memory}
+use Rattle.ba_steps.specs.declared.step.StepError.TheVariants.{DeadClause, AfterEnd, NotNew, TooSoon, NotSofts, CoreAfterSet, WrongCount, BadVariable, Memory}
 use Rattle.ba_steps.specs.Parts.{holds_clause}
 use Rattle.ba_steps.proofs.SplitMeaning.{OrsHave, AndsHave, split_holds, split_has, extended, extended-old, extended-ors, extended-ands, OrsHave-each, AndsHave-each, ors_alone, ands_alone, pairs, one_if, count_pairs, late_cost, and_parts, and_both}
 use Rattle.ba_steps.proofs.LoweredLaws.{negate_twice, IsClause-rest, lowered_cost, hits, hits_count, AreAtLeast, lightest_at_least}
 
--- everything that the induction needs: the facts, and that all variables are below the next fresh one
+-- the clause has an entry, which no deletion may name
+abbrev pub Stays : List Kept → List Literal → Type 0
+Stays clauses c = (number : ℕ) × (kept_at clauses number ≡ Some (kept origins.Split c))
+
+-- everything that the induction needs: the facts, that all variables are below the next fresh one, and that the clauses
+-- of the formula and of the splits are there as such
 pub record KeepsFacts (formula : Cnf) (softs : List Soft) (splits : List (List Literal)) (s : State) : Type 0 where
   pub facts : Holds formula softs splits s
   pub wide : formula.variables ≤ s.variables
   pub splits_below : ClausesBelow (s.variables + 1) splits
   pub live_below : ClausesBelow (s.variables + 1) (live s.clauses)
+  pub given_stay : (place : ℕ) → place < length formula.clauses → kept_at s.clauses (place + 1) ≡ Some (kept origins.Given (get_or formula.clauses place []))
+  pub splits_stay : All (Stays s.clauses) splits
 
 -- an allowed test is false, and the rest is allowed
-no_error : (test : Bool) (e : StepError) (rest : Option StepError) → error_if test e rest ≡ None → (test ≡ false) × (rest ≡ None)
+pub no_error : (test : Bool) (e : StepError) (rest : Option StepError) → error_if test e rest ≡ None → (test ≡ false) × (rest ≡ None)
 no_error true e rest none = absurd (cc)
 no_error false e rest none = (refl, none)
 
 -- the clause of a number holds where all do
-holds_at : (v : Assignment) (clauses : List Kept) (k : ℕ) (c : List Literal) → all_true v (live clauses) ≡ true → option_map (λ (x : Kept). x.lits) (slice_get clauses k) ≡ Some c → any_true v c ≡ true
+live_is : (lives : Bool) (lits c : List Literal) → cond lives (Some lits) None ≡ Some c → lits ≡ c
+live_is true lits c is = cc
+live_is false lits c is = absurd (cc)
+
+holds_at : (v : Assignment) (clauses : List Kept) (k : ℕ) (c : List Literal) → all_true v (live clauses) ≡ true → live_lits (slice_get clauses k) ≡ Some c → any_true v c ≡ true
 holds_at v [] k c holds is = absurd (cc)
 holds_at v (x ∷ xs) zero c holds is =
-    let e : x.lits ≡ c = cc in
-    ap (any_true v) (sym e) ∙ (and_parts (any_true v x.lits) (all_true v (live xs)) holds).0
+    ap (any_true v) (sym (live_is (is_live_origin x.origin) x.lits c is)) ∙ (and_parts (any_true v x.lits) (all_true v (live xs)) holds).0
 holds_at v (x ∷ xs) (suc k) c holds is = holds_at v xs k c ((and_parts (any_true v x.lits) (all_true v (live xs)) holds).1) is
 
 holds_number : (v : Assignment) (clauses : List Kept) (number : ℕ) (c : List Literal) → all_true v (live clauses) ≡ true → clause_at clauses number ≡ Some c → any_true v c ≡ true
@@ -77,40 +87,44 @@ exist_below s (l ∷ ls) known =
     below : (n x : ℕ) → ltb n x ≡ false → x < n + 1
     below n x e = grind (arith, nat_tests)
 
--- a clause stays live where others are added
-slice_get-more : (xs ys : List Kept) (k : ℕ) (c : List Literal) → option_map (λ (x : Kept). x.lits) (slice_get xs k) ≡ Some c → option_map (λ (x : Kept). x.lits) (slice_get (xs ++ ys) k) ≡ Some c
-slice_get-more [] ys k c is = absurd (cc)
-slice_get-more (x ∷ xs) ys zero c is = is
-slice_get-more (x ∷ xs) ys (suc k) c is = slice_get-more xs ys k c is
+-- an entry stays where others are added
+slice_get-more : (xs ys : List Kept) (k : ℕ) (x : Kept) → slice_get xs k ≡ Some x → slice_get (xs ++ ys) k ≡ Some x
+slice_get-more [] ys k x is = absurd (cc)
+slice_get-more (y ∷ xs) ys zero x is = is
+slice_get-more (y ∷ xs) ys (suc k) x is = slice_get-more xs ys k x is
 
-clause_at-more : (xs ys : List Kept) (number : ℕ) (c : List Literal) → clause_at xs number ≡ Some c → clause_at (xs ++ ys) number ≡ Some c
-clause_at-more xs ys zero c is = is
-clause_at-more xs ys (suc k) c is = slice_get-more xs ys k c is
+kept_at-more : (xs ys : List Kept) (number : ℕ) (x : Kept) → kept_at xs number ≡ Some x → kept_at (xs ++ ys) number ≡ Some x
+kept_at-more xs ys zero x is = absurd (cc)
+kept_at-more xs ys (suc k) x is = slice_get-more xs ys k x is
 
-splits_live-more : (xs ys : List Kept) (splits : List (List Literal)) → All (IsLive xs) splits → All (IsLive (xs ++ ys)) splits
-splits_live-more xs ys splits h = All-weaker (IsLive xs) (IsLive (xs ++ ys)) (λ c (number, is). (number, clause_at-more xs ys number c is)) splits h
+splits_stay-more : (xs ys : List Kept) (splits : List (List Literal)) → All (Stays xs) splits → All (Stays (xs ++ ys)) splits
+splits_stay-more xs ys splits h = All-weaker (Stays xs) (Stays (xs ++ ys)) (λ c (number, is). (number, kept_at-more xs ys number (kept origins.Split c) is)) splits h
 
--- added clauses are live
+-- such an entry is live
+stays_live : (clauses : List Kept) (splits : List (List Literal)) → All (Stays clauses) splits → All (IsLive clauses) splits
+stays_live clauses splits h = All-weaker (Stays clauses) (IsLive clauses) (λ c (number, is). (number, ap live_lits is)) splits h
+
+-- added clauses have entries
 slice_get-seam : (front : List Kept) (x : Kept) (ys : List Kept) → slice_get (front ++ x ∷ ys) (length front) ≡ Some x
 slice_get-seam [] x ys = refl
 slice_get-seam (f ∷ front) x ys = slice_get-seam front x ys
 
-added_live : (front : List Kept) (origin : Origin) (cs : List (List Literal)) → All (IsLive (front ++ map (kept origin) cs)) cs
-added_live front origin [] = All-nil (IsLive (front ++ []))
-added_live front origin (c ∷ cs) =
-    All-cons (IsLive (front ++ map (kept origin) (c ∷ cs))) c cs
-    (suc (length front), ap (option_map (λ (x : Kept). x.lits)) (slice_get-seam front (kept origin c) (map (kept origin) cs)))
-    (let P : List Kept → Type 0 = λ all. All (IsLive all) cs in subst P (append_assoc front (kept origin c ∷ []) (map (kept origin) cs)) (added_live (front ++ kept origin c ∷ []) origin cs))
+added_stay : (front : List Kept) (cs : List (List Literal)) → All (Stays (front ++ map (kept origins.Split) cs)) cs
+added_stay front [] = All-nil (Stays (front ++ []))
+added_stay front (c ∷ cs) =
+    All-cons (Stays (front ++ map (kept origins.Split) (c ∷ cs))) c cs
+    (suc (length front), slice_get-seam front (kept origins.Split c) (map (kept origins.Split) cs))
+    (let P : List Kept → Type 0 = λ all. All (Stays all) cs in subst P (append_assoc front (kept origins.Split c ∷ []) (map (kept origins.Split) cs)) (added_stay (front ++ kept origins.Split c ∷ []) cs))
 
 -- the literals of added clauses
-live-append : (xs ys : List Kept) → live (xs ++ ys) ≡ live xs ++ live ys
+pub live-append : (xs ys : List Kept) → live (xs ++ ys) ≡ live xs ++ live ys
 live-append xs ys = map-append (λ (k : Kept). k.lits) xs ys
 
-live-kept : (origin : Origin) (cs : List (List Literal)) → live (map (kept origin) cs) ≡ cs
+pub live-kept : (origin : Origin) (cs : List (List Literal)) → live (map (kept origin) cs) ≡ cs
 live-kept origin [] = refl
 live-kept origin (c ∷ cs) = ap (λ ds. c ∷ ds) (live-kept origin cs)
 
-all_true-push : (v : Assignment) (cs : List (List Literal)) (c : List Literal) → all_true v cs ≡ true → any_true v c ≡ true → all_true v (cs ++ c ∷ []) ≡ true
+pub all_true-push : (v : Assignment) (cs : List (List Literal)) (c : List Literal) → all_true v cs ≡ true → any_true v c ≡ true → all_true v (cs ++ c ∷ []) ≡ true
 all_true-push v cs c all one = all_true-append v cs (c ∷ []) ∙ and_both (all_true v cs) (any_true v c && true) all (and_both (any_true v c) true one refl)
 
 -- A LEARN STEP keeps the facts
@@ -124,15 +138,23 @@ learn_keeps formula softs splits s lits hints h exists follows = record {
     differ = h.facts.differ;
     among = h.facts.among;
     weighty = h.facts.weighty;
-    given_live = λ place lt. clause_at-more s.clauses (kept origins.Learnt lits ∷ []) (place + 1) (get_or formula.clauses place []) (h.facts.given_live place lt);
-    splits_live = splits_live-more s.clauses (kept origins.Learnt lits ∷ []) splits h.facts.splits_live;
+    given_live = λ place lt. ap live_lits (given_stay place lt);
+    splits_live = stays_live (s.clauses ++ kept origins.Learnt lits ∷ []) splits splits_stay;
   };
   wide = h.wide;
   splits_below = h.splits_below;
   live_below = let P : List (List Literal) → Type 0 = λ cs. ClausesBelow (s.variables + 1) cs in
       subst P (sym lives_is) (ClausesBelow-append (s.variables + 1) (live s.clauses) (lits ∷ []) h.live_below (exist_below s lits exists, tt));
+  given_stay = given_stay;
+  splits_stay = splits_stay;
 }
   where
+    given_stay : (place : ℕ) → place < length formula.clauses → kept_at (s.clauses ++ kept origins.Learnt lits ∷ []) (place + 1) ≡ Some (kept origins.Given (get_or formula.clauses place []))
+    given_stay place lt = kept_at-more s.clauses (kept origins.Learnt lits ∷ []) (place + 1) (kept origins.Given (get_or formula.clauses place [])) (h.given_stay place lt)
+
+    splits_stay : All (Stays (s.clauses ++ kept origins.Learnt lits ∷ [])) splits
+    splits_stay = splits_stay-more s.clauses (kept origins.Learnt lits ∷ []) splits h.splits_stay
+
     lives_is : live (s.clauses ++ kept origins.Learnt lits ∷ []) ≡ live s.clauses ++ lits ∷ []
     lives_is = live-append s.clauses (kept origins.Learnt lits ∷ [])
 
@@ -151,7 +173,70 @@ end_keeps formula softs splits s h = record {
   wide = h.wide;
   splits_below = h.splits_below;
   live_below = h.live_below;
+  given_stay = h.given_stay;
+  splits_stay = h.splits_stay;
 }
+
+-- A DELETE STEP keeps them: it names learnt clauses alone, and changes no literals
+live-without : (clauses : List Kept) (number : ℕ) → live (without clauses number) ≡ live clauses
+live-without clauses zero = refl
+live-without [] (suc k) = refl
+live-without (x ∷ xs) (suc zero) = refl
+live-without (x ∷ xs) (suc (suc k)) = ap (λ cs. x.lits ∷ cs) (live-without xs (suc k))
+
+pub live-without_all : (clauses : List Kept) (numbers : List ℕ) → live (without_all clauses numbers) ≡ live clauses
+live-without_all clauses [] = refl
+live-without_all clauses (number ∷ numbers) = live-without_all (without clauses number) numbers ∙ live-without clauses number
+
+slice_get-other : (clauses : List Kept) (j k : ℕ) (x : Kept) → j ≢ k → slice_get (set clauses j x) k ≡ slice_get clauses k
+slice_get-other [] j k x ne = refl
+slice_get-other (y ∷ ys) zero zero x ne = absurd (ne refl)
+slice_get-other (y ∷ ys) zero (suc k) x ne = refl
+slice_get-other (y ∷ ys) (suc j) zero x ne = refl
+slice_get-other (y ∷ ys) (suc j) (suc k) x ne = slice_get-other ys j k x (λ e. ne (ap suc e))
+
+kept_at-other : (clauses : List Kept) (m number : ℕ) → m ≢ number → kept_at (without clauses m) number ≡ kept_at clauses number
+kept_at-other clauses zero number ne = refl
+kept_at-other clauses (suc j) zero ne = refl
+kept_at-other clauses (suc j) (suc k) ne = slice_get-other clauses j k (kept origins.Deleted (lits_at clauses j)) (λ e. ne (ap suc e))
+
+kept_at-without_all : (s : State) (clauses : List Kept) (numbers : List ℕ) (number : ℕ) (k : Kept) → list_all (may_go s) numbers ≡ true → kept_at s.clauses number ≡ Some k → is_learnt_origin k.origin ≡ false →
+    kept_at (without_all clauses numbers) number ≡ kept_at clauses number
+kept_at-without_all s clauses [] number k go is stays = refl
+kept_at-without_all s clauses (m ∷ ms) number k go is stays =
+    let parts = and_parts (may_go s m) (list_all (may_go s) ms) go in
+    let learnt = and_parts (is_learnt_at s.clauses m) (ltb 2 (width_at s.clauses m)) parts.0 in
+    kept_at-without_all s (without clauses m) ms number k parts.1 is stays
+    ∙ kept_at-other clauses m number (λ e. let other : is_learnt_at s.clauses m ≡ false = ap (is_learnt_at s.clauses) e ∙ (ap is_learnt_entry is ∙ stays) in cc)
+
+pub delete_keeps : (formula : Cnf) (softs : List Soft) (splits : List (List Literal)) (s : State) (numbers : List ℕ) →
+    KeepsFacts formula softs splits s → list_all (may_go s) numbers ≡ true → KeepsFacts formula softs splits (after_delete s numbers)
+delete_keeps formula softs splits s numbers h go = record {
+  facts = record {
+    extends = λ v good. let (z, same, split, lives, costs) = h.facts.extends v good in
+        (z, same, split, ap (all_true z) (live-without_all s.clauses numbers) ∙ lives, costs);
+    alone = h.facts.alone;
+    differ = h.facts.differ;
+    among = h.facts.among;
+    weighty = h.facts.weighty;
+    given_live = λ place lt. ap live_lits (given_stay place lt);
+    splits_live = stays_live (without_all s.clauses numbers) splits splits_stay;
+  };
+  wide = h.wide;
+  splits_below = h.splits_below;
+  live_below = let P : List (List Literal) → Type 0 = λ cs. ClausesBelow (s.variables + 1) cs in
+      subst P (sym (live-without_all s.clauses numbers)) h.live_below;
+  given_stay = given_stay;
+  splits_stay = splits_stay;
+}
+  where
+    given_stay : (place : ℕ) → place < length formula.clauses → kept_at (without_all s.clauses numbers) (place + 1) ≡ Some (kept origins.Given (get_or formula.clauses place []))
+    given_stay place lt =
+        let is = h.given_stay place lt in
+        kept_at-without_all s s.clauses numbers (place + 1) (kept origins.Given (get_or formula.clauses place [])) go is refl ∙ is
+
+    splits_stay : All (Stays (without_all s.clauses numbers)) splits
+    splits_stay = All-weaker (Stays s.clauses) (Stays (without_all s.clauses numbers)) (λ c (number, is). (number, kept_at-without_all s s.clauses numbers number (kept origins.Split c) go is refl ∙ is)) splits h.splits_stay
 
 -- the clauses of a split have variables below the next fresh one
 in_order-below : (n : ℕ) (a b : Literal) → a.variable < n → b.variable < n → ClauseBelow n (in_order a b)
@@ -375,15 +460,20 @@ core_keeps formula softs splits s b rest hints h clause exists known follows = r
     weighty = All-append (λ (soft : Soft). 1 ≤ soft.1) (lowered (b ∷ rest) (unwrap_or (lightest (b ∷ rest) s.softs) 0) s.softs) (split_softs (unwrap_or (lightest (b ∷ rest) s.softs) 0) (s.variables + 1) (b ∷ rest))
         (lowered-all (λ (soft : Soft). 1 ≤ soft.1) (unwrap_or (lightest (b ∷ rest) s.softs) 0) (b ∷ rest) s.softs (λ soft p lt. omega (arith, lt)) h.facts.weighty)
         (late-all (λ (soft : Soft). 1 ≤ soft.1) (unwrap_or (lightest (b ∷ rest) s.softs) 0) ((s.variables + 1) + (length (b ∷ rest) - 2)) (b ∷ rest) (λ x ge lt. light));
-    given_live = λ place lt. clause_at-more s.clauses (kept origins.Core (b ∷ rest) ∷ map (kept origins.Split) (split_clauses (s.variables + 1) (b ∷ rest))) (place + 1) (get_or formula.clauses place []) (h.facts.given_live place lt);
-    splits_live = All-append (IsLive (s.clauses ++ (kept origins.Core (b ∷ rest) ∷ map (kept origins.Split) (split_clauses (s.variables + 1) (b ∷ rest))))) splits (split_clauses (s.variables + 1) (b ∷ rest)) (splits_live-more s.clauses (kept origins.Core (b ∷ rest) ∷ map (kept origins.Split) (split_clauses (s.variables + 1) (b ∷ rest))) splits h.facts.splits_live) new_live;
+    given_live = λ place lt. ap live_lits (given_stay place lt);
+    splits_live = stays_live (s.clauses ++ (kept origins.Core (b ∷ rest) ∷ map (kept origins.Split) (split_clauses (s.variables + 1) (b ∷ rest)))) (splits ++ split_clauses (s.variables + 1) (b ∷ rest)) splits_stay;
   };
   wide = omega (arith, h.wide);
   splits_below = ClausesBelow-append (s.variables + fresh_count (length (b ∷ rest)) + 1) splits (split_clauses (s.variables + 1) (b ∷ rest)) (ClausesBelow-more (s.variables + 1) (s.variables + fresh_count (length (b ∷ rest)) + 1) splits (omega arith) h.splits_below) new_below;
   live_below = let P : List (List Literal) → Type 0 = λ cs. ClausesBelow (s.variables + fresh_count (length (b ∷ rest)) + 1) cs in
       subst P (sym lives_is) (ClausesBelow-append (s.variables + fresh_count (length (b ∷ rest)) + 1) (live s.clauses) ((b ∷ rest) ∷ (split_clauses (s.variables + 1) (b ∷ rest))) (ClausesBelow-more (s.variables + 1) (s.variables + fresh_count (length (b ∷ rest)) + 1) (live s.clauses) (omega arith) h.live_below) (ClauseBelow-more (s.variables + 1) (s.variables + fresh_count (length (b ∷ rest)) + 1) (b ∷ rest) (omega arith) below, new_below));
+  given_stay = given_stay;
+  splits_stay = splits_stay;
 }
   where
+    given_stay : (place : ℕ) → place < length formula.clauses → kept_at (s.clauses ++ (kept origins.Core (b ∷ rest) ∷ map (kept origins.Split) (split_clauses (s.variables + 1) (b ∷ rest)))) (place + 1) ≡ Some (kept origins.Given (get_or formula.clauses place []))
+    given_stay place lt = kept_at-more s.clauses (kept origins.Core (b ∷ rest) ∷ map (kept origins.Split) (split_clauses (s.variables + 1) (b ∷ rest))) (place + 1) (kept origins.Given (get_or formula.clauses place [])) (h.given_stay place lt)
+
     below : ClauseBelow (s.variables + 1) (b ∷ rest)
     below = exist_below s (b ∷ rest) exists
 
@@ -396,9 +486,12 @@ core_keeps formula softs splits s b rest hints h clause exists known follows = r
     lives_is : live (s.clauses ++ (kept origins.Core (b ∷ rest) ∷ map (kept origins.Split) (split_clauses (s.variables + 1) (b ∷ rest)))) ≡ live s.clauses ++ (b ∷ rest) ∷ (split_clauses (s.variables + 1) (b ∷ rest))
     lives_is = live-append s.clauses (kept origins.Core (b ∷ rest) ∷ map (kept origins.Split) (split_clauses (s.variables + 1) (b ∷ rest))) ∙ ap (λ cs. live s.clauses ++ (b ∷ rest) ∷ cs) (live-kept origins.Split (split_clauses (s.variables + 1) (b ∷ rest)))
 
-    new_live : All (IsLive (s.clauses ++ (kept origins.Core (b ∷ rest) ∷ map (kept origins.Split) (split_clauses (s.variables + 1) (b ∷ rest))))) (split_clauses (s.variables + 1) (b ∷ rest))
-    new_live = let P : List Kept → Type 0 = λ cs. All (IsLive cs) (split_clauses (s.variables + 1) (b ∷ rest)) in
-        subst P (append_assoc s.clauses (kept origins.Core (b ∷ rest) ∷ []) (map (kept origins.Split) (split_clauses (s.variables + 1) (b ∷ rest)))) (added_live (s.clauses ++ kept origins.Core (b ∷ rest) ∷ []) origins.Split (split_clauses (s.variables + 1) (b ∷ rest)))
+    new_stay : All (Stays (s.clauses ++ (kept origins.Core (b ∷ rest) ∷ map (kept origins.Split) (split_clauses (s.variables + 1) (b ∷ rest))))) (split_clauses (s.variables + 1) (b ∷ rest))
+    new_stay = let P : List Kept → Type 0 = λ cs. All (Stays cs) (split_clauses (s.variables + 1) (b ∷ rest)) in
+        subst P (append_assoc s.clauses (kept origins.Core (b ∷ rest) ∷ []) (map (kept origins.Split) (split_clauses (s.variables + 1) (b ∷ rest)))) (added_stay (s.clauses ++ kept origins.Core (b ∷ rest) ∷ []) (split_clauses (s.variables + 1) (b ∷ rest)))
+
+    splits_stay : All (Stays (s.clauses ++ (kept origins.Core (b ∷ rest) ∷ map (kept origins.Split) (split_clauses (s.variables + 1) (b ∷ rest))))) (splits ++ split_clauses (s.variables + 1) (b ∷ rest))
+    splits_stay = All-append (Stays (s.clauses ++ (kept origins.Core (b ∷ rest) ∷ map (kept origins.Split) (split_clauses (s.variables + 1) (b ∷ rest))))) splits (split_clauses (s.variables + 1) (b ∷ rest)) (splits_stay-more s.clauses (kept origins.Core (b ∷ rest) ∷ map (kept origins.Split) (split_clauses (s.variables + 1) (b ∷ rest))) splits h.splits_stay) new_stay
 
     light : 1 ≤ (unwrap_or (lightest (b ∷ rest) s.softs) 0)
     light = lightest_weighty (b ∷ rest) s.softs b h.facts.weighty (first_there b rest) (soft_there (is_soft s.softs (negate b)) (lacks_soft s.softs rest) known)
@@ -454,6 +547,15 @@ step_keeps good formula softs splits s (Core lits hints) h formed none =
     let early = no_error (ltb 0 (length s.sets)) CoreAfterSet (error_if (lacks_soft s.softs lits) NotSofts (hint_error s lits hints)) left.1 in
     let known = no_error (lacks_soft s.softs lits) NotSofts (hint_error s lits hints) early.1 in
     core_step formula softs splits s lits hints h formed.0 exists.0 known.0 known.1
+step_keeps good formula softs splits s (Delete numbers) h formed none =
+    let awake = no_error s.refused Memory (error_if s.ended AfterEnd (delete_error s numbers)) none in
+    let going = no_error s.ended AfterEnd (delete_error s numbers) awake.1 in
+    let goes = no_error (not (list_all (may_go s) numbers)) DeadClause (error_if (ltb s.learnt apart_by) TooSoon None) going.1 in
+    no_more formula softs splits (after_delete s numbers) (delete_keeps formula softs splits s numbers h (not_not (list_all (may_go s) numbers) goes.0))
+  where
+    not_not : (b : Bool) → not b ≡ false → b ≡ true
+    not_not true e = refl
+    not_not false e = absurd (cc)
 step_keeps good formula softs splits s (EndNoRepair hints) h formed none = no_more formula softs splits (record s { ended = true }) (end_keeps formula softs splits s h)
 step_keeps good formula softs splits s EndSpent h formed none = no_more formula softs splits (record s { ended = true }) (end_keeps formula softs splits s h)
 
@@ -495,16 +597,13 @@ present_weighty (s ∷ ss) = cases (ltb 0 s.1) refl (present_weighty ss)
     cases true e rest = All-cons (λ (soft : Soft). 1 ≤ soft.1) s (present ss) (heavy s.1 e) rest
     cases false e rest = rest
 
-given_at : (cs : List (List Literal)) (place : ℕ) → place < length cs → clause_at (map (kept origins.Given) cs) (place + 1) ≡ Some (get_or cs place [])
+given_at : (cs : List (List Literal)) (place : ℕ) → place < length cs → slice_get (map (kept origins.Given) cs) place ≡ Some (kept origins.Given (get_or cs place []))
 given_at [] place lt = absurd (omega arith)
 given_at (c ∷ cs) zero lt = refl
-given_at (c ∷ cs) (suc place) lt =
-    let e : suc place + 1 ≡ suc (place + 1) = omega arith in
-    let f : suc place ≡ place + 1 = omega arith in
-    rw e (rw (← f) (step cs place (given_at cs place (omega arith))))
-  where
-    step : (cs : List (List Literal)) (place : ℕ) → clause_at (map (kept origins.Given) cs) (place + 1) ≡ Some (get_or cs place []) → option_map (λ (x : Kept). x.lits) (slice_get (map (kept origins.Given) cs) place) ≡ Some (get_or cs place [])
-    step cs place h = let f : place + 1 ≡ suc place = omega arith in let P : ℕ → Type 0 = λ k. clause_at (map (kept origins.Given) cs) k ≡ Some (get_or cs place []) in subst P f h
+given_at (c ∷ cs) (suc place) lt = given_at cs place (omega arith)
+
+given_numbered : (cs : List (List Literal)) (place : ℕ) → place < length cs → kept_at (map (kept origins.Given) cs) (place + 1) ≡ Some (kept origins.Given (get_or cs place []))
+given_numbered cs place lt = let e : place + 1 ≡ suc place = omega arith in rw e (given_at cs place lt)
 
 first_keeps : (formula : Cnf) (softs : List Soft) (conflicts sets : ℕ) → IsStart formula softs → KeepsFacts formula softs [] (first_state formula softs conflicts sets)
 first_keeps formula softs conflicts sets start = record {
@@ -514,12 +613,14 @@ first_keeps formula softs conflicts sets start = record {
     differ = start.softs_differ;
     among = start.softs_among;
     weighty = present_weighty softs;
-    given_live = λ place lt. given_at formula.clauses place lt;
+    given_live = λ place lt. ap live_lits (given_numbered formula.clauses place lt);
     splits_live = All-nil (IsLive (map (kept origins.Given) formula.clauses));
   };
   wide = omega arith;
   splits_below = tt;
   live_below = let P : List (List Literal) → Type 0 = λ cs. ClausesBelow (formula.variables + 1) cs in subst P (sym (live-kept origins.Given formula.clauses)) (clauses_below formula.variables formula.clauses start.clauses);
+  given_stay = λ place lt. given_numbered formula.clauses place lt;
+  splits_stay = All-nil (Stays (map (kept origins.Given) formula.clauses));
 }
   where
     from_zero : (k : ℕ) → k ≡ 0 + k

@@ -1,13 +1,13 @@
 -- The clauses of a split are clauses, and what holds of a state where steps are taken.
 
-use Rattle.std.proofs.Common.{◌≡◌, ◌≢◌, ℕ, suc, zero, ◌+◌, ◌-◌, ◌<◌, ◌≤◌, Bool, true, false, cond, ltb, Some, option_map, List, [], ◌∷◌, ◌++◌, map, length, All, refl, sym, arith, subst}
+use Rattle.std.proofs.Common.{◌≡◌, ◌≢◌, ℕ, suc, zero, ◌+◌, ◌-◌, ◌<◌, ◌≤◌, Bool, true, false, cond, ltb, None, Some, List, [], ◌∷◌, ◌++◌, map, length, All, refl, sym, arith, subst}
 use Rattle.std.proofs.lemmas.Bool.Decides.{nat_tests}
 use Rattle.std.proofs.lemmas.List.Elements.{All-nil, All-cons, All-append, All-weaker, All-map, All-head, All-tail}
 use Rattle.std.specs.List.{slice_get}
 use Rattle.ba_lits.specs.Literals.{Literal, negate, IsClause, lit_at}
 use Rattle.ba_lits.proofs.ClauseLaws.{IsClause-more}
 use Rattle.ba_steps.specs.Splits.{positive, negative, in_order, or_gate, and_gate, some_of, or_clauses, and_clauses, split_clauses, fresh_count}
-use Rattle.ba_steps.specs.States.{Kept, kept, clause_at}
+use Rattle.ba_steps.specs.States.{Kept, kept, clause_at, live_lits, is_live_origin, without, without_all}
 use Rattle.ba_steps.specs.declared.store.Origin.{Origin}
 use Rattle.ba_steps.specs.declared.store.Origin.TheVariants as origins
 use Rattle.ba_steps.proofs.LoweredLaws.{IsClause-rest}
@@ -132,6 +132,11 @@ AreFormed n clauses = All (λ (k : Kept). IsClause n k.lits) clauses
 pub kept_formed : (n : ℕ) (origin : Origin) (cs : List (List Literal)) → All (IsClause n) cs → AreFormed n (map (kept origin) cs)
 kept_formed n origin cs all = All-map (λ (k : Kept). IsClause n k.lits) (kept origin) cs all
 
+pub learnt_formed : (n : ℕ) (clauses : List Kept) (lits : List Literal) → AreFormed n clauses → IsClause n lits → AreFormed n (clauses ++ kept origins.Learnt lits ∷ [])
+learnt_formed n clauses lits all clause =
+    All-append (λ (k : Kept). IsClause n k.lits) clauses (kept origins.Learnt lits ∷ []) all
+    (All-cons (λ (k : Kept). IsClause n k.lits) (kept origins.Learnt lits) [] clause (All-nil (λ (k : Kept). IsClause n k.lits)))
+
 pub core_formed : (m n : ℕ) (clauses : List Kept) (lits : List Literal) → AreFormed m clauses → IsClause m lits → m + fresh_count (length lits) ≤ n →
     AreFormed n (clauses ++ kept origins.Core lits ∷ [] ++ map (kept origins.Split) (split_clauses (m + 1) lits))
 core_formed m n clauses lits all clause le =
@@ -141,10 +146,27 @@ core_formed m n clauses lits all clause le =
     (All-cons (λ (k : Kept). IsClause n k.lits) (kept origins.Core lits) [] (IsClause-more m n lits (omega arith) clause) (All-nil (λ (k : Kept). IsClause n k.lits))))
     (kept_formed n origins.Split (split_clauses (m + 1) lits) (split_formed m n lits clause le))
 
+-- clauses are deleted
+without_formed : (n : ℕ) (clauses : List Kept) (number : ℕ) → AreFormed n clauses → AreFormed n (without clauses number)
+without_formed n clauses zero all = all
+without_formed n [] (suc k) all = all
+without_formed n (x ∷ xs) (suc zero) all =
+    All-cons (λ (y : Kept). IsClause n y.lits) (kept origins.Deleted x.lits) xs (All-head (λ (y : Kept). IsClause n y.lits) x xs all) (All-tail (λ (y : Kept). IsClause n y.lits) x xs all)
+without_formed n (x ∷ xs) (suc (suc k)) all =
+    All-cons (λ (y : Kept). IsClause n y.lits) x (without xs (suc k)) (All-head (λ (y : Kept). IsClause n y.lits) x xs all) (without_formed n xs (suc k) (All-tail (λ (y : Kept). IsClause n y.lits) x xs all))
+
+pub without_all_formed : (n : ℕ) (clauses : List Kept) (numbers : List ℕ) → AreFormed n clauses → AreFormed n (without_all clauses numbers)
+without_all_formed n clauses [] all = all
+without_all_formed n clauses (number ∷ numbers) all = without_all_formed n (without clauses number) numbers (without_formed n clauses number all)
+
 -- the clause of a number is one
-clause_in : (n : ℕ) (clauses : List Kept) (k : ℕ) (c : List Literal) → AreFormed n clauses → option_map (λ (x : Kept). x.lits) (slice_get clauses k) ≡ Some c → IsClause n c
+live_is : (lives : Bool) (lits c : List Literal) → cond lives (Some lits) None ≡ Some c → lits ≡ c
+live_is true lits c is = cc
+live_is false lits c is = absurd (cc)
+
+clause_in : (n : ℕ) (clauses : List Kept) (k : ℕ) (c : List Literal) → AreFormed n clauses → live_lits (slice_get clauses k) ≡ Some c → IsClause n c
 clause_in n [] k c all is = absurd (cc)
-clause_in n (x ∷ xs) zero c all is = let e : x.lits ≡ c = cc in subst (IsClause n) e (All-head (λ (y : Kept). IsClause n y.lits) x xs all)
+clause_in n (x ∷ xs) zero c all is = subst (IsClause n) (live_is (is_live_origin x.origin) x.lits c is) (All-head (λ (y : Kept). IsClause n y.lits) x xs all)
 clause_in n (x ∷ xs) (suc k) c all is = clause_in n xs k c (All-tail (λ (y : Kept). IsClause n y.lits) x xs all) is
 
 pub clause_formed : (n : ℕ) (clauses : List Kept) (number : ℕ) (c : List Literal) → AreFormed n clauses → clause_at clauses number ≡ Some c → IsClause n c

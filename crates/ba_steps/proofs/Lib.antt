@@ -8,5 +8,6 @@ pub mod SplitMeaning
 pub mod LoweredLaws
 pub mod FactLaws
 pub mod FormedLaws
+pub mod LastingLaws
 pub mod StateLaws
 pub mod TestLaws

@@ -1,20 +1,21 @@
 -- The state of a checker after its first state is made and after a core is split.
 
-use Rattle.std.proofs.Common.{◌≡◌, ℕ, suc, zero, ◌+◌, ◌-◌, ◌^◌, ◌<◌, ◌≤◌, Bool, true, false, not, ◌||◌, ltb, unwrap_or, List, [], ◌∷◌, ◌++◌, map, length, All, refl, ap, ◌∙◌, arith}
+use Rattle.std.proofs.Common.{◌≡◌, ℕ, suc, zero, ◌+◌, ◌-◌, ◌^◌, ◌<◌, ◌≤◌, Bool, true, false, not, ◌&&◌, ◌||◌, ltb, unwrap_or, None, List, [], ◌∷◌, ◌++◌, map, length, All, refl, ap, ◌∙◌, arith}
 use Rattle.std.proofs.lemmas.Bool.Decides.{nat_tests}
 use Rattle.std.proofs.lemmas.List.Elements.{All-append, All-weaker}
-use Rattle.std.specs.List.{list_any}
+use Rattle.std.specs.List.{list_any, list_all}
 use Rattle.ba_lits.specs.Literals.{Literal, negate, IsClause, lit_at}
 use Rattle.ba_lits.specs.Satisfaction.{Soft}
 use Rattle.ba_lits.specs.Hints.{has_literal}
 use Rattle.ba_steps.specs.Splits.{split_clauses, fresh_count, late_softs, is_soft, lightest, lowered}
-use Rattle.ba_steps.specs.States.{Kept, kept, State, present}
+use Rattle.ba_steps.specs.States.{Kept, kept, State, is_learnt_at, width_at, without_all, present}
 use Rattle.ba_steps.specs.Steps.{AreFormedLits}
-use Rattle.ba_steps.specs.Judging.{lacks_variable, lacks_soft}
+use Rattle.ba_steps.specs.Judging.{lacks_variable, lacks_soft, learn_error}
 use Rattle.ba_steps.specs.Facts.{AreSelectors, IsState}
 use Rattle.ba_steps.specs.declared.store.Origin.TheVariants as origins
 use Rattle.ba_steps.proofs.FactLaws.{lowered-all, late-all, lowered-different, lowered-below, apart, among-below, lightest_weighty, present_weighty}
-use Rattle.ba_steps.proofs.FormedLaws.{exist_formed, core_formed, kept_formed}
+use Rattle.ba_steps.proofs.FormedLaws.{exist_formed, core_formed, learnt_formed, kept_formed, without_all_formed}
+use Rattle.ba_steps.proofs.LastingLaws.{given_implied, core_implied, learn_implied, deleted_implied}
 
 none_at : (p : Literal → Bool) (xs : List Literal) (k : ℕ) → list_any p xs ≡ false → k < length xs → p (lit_at xs k) ≡ false
 none_at p [] k none lt = absurd (omega arith)
@@ -58,6 +59,7 @@ pub core_state : (seen : State) (variables : ℕ) (clauses : List Kept) (softs :
 core_state seen variables clauses softs conflicts budget learnt refused lits fresh w e one grown more h variables_is softs_is awake left formed exists known fresh_is few w_is e_is more_is one_is grown_is = record {
   few = few;
   formed = λ _. rw (grown_is, one_is) (core_formed variables (variables + fresh) clauses lits (h.formed awake) (rw variables_is (exist_clause seen lits formed exists)) (omega (arith, fresh_is)));
+  implied = λ _. rw (grown_is, one_is) (core_implied clauses lits (split_clauses (variables + 1) lits) (h.implied awake));
   among = rw more_is (All-append (λ (s : Soft). (1 ≤ s.0.variable) × (s.0.variable ≤ variables + fresh)) (lowered lits w softs) (late_softs w e lits)
       (lowered-all (λ (s : Soft). (1 ≤ s.0.variable) × (s.0.variable ≤ variables + fresh)) w lits softs (λ s p lt. p) (All-weaker (λ (s : Soft). (1 ≤ s.0.variable) × (s.0.variable ≤ variables)) (λ (s : Soft). (1 ≤ s.0.variable) × (s.0.variable ≤ variables + fresh)) (λ s p. (p.0, omega (arith, p.1))) softs h.among))
       (late-all (λ (s : Soft). (1 ≤ s.0.variable) × (s.0.variable ≤ variables + fresh)) w e lits (λ x ge lt. (omega (arith, e_is), omega (arith, e_is, fresh_is)))));
@@ -80,6 +82,7 @@ pub first_state_holds : (variables : ℕ) (cs : List (List Literal)) (softs give
 first_state_holds variables cs softs given clauses conflicts few formed selectors clauses_is softs_is = rw (clauses_is, softs_is) (record {
   few = few;
   formed = λ _. kept_formed variables origins.Given cs formed;
+  implied = λ _. given_implied cs;
   among = selectors.among;
   differ = selectors.differ;
   weighty = present_weighty given;
@@ -91,3 +94,34 @@ pub first_state_as : (n variables : ℕ) (cs : List (List Literal)) (softs given
     variables ≡ n → variables < 2 ^ 62 → All (IsClause n) cs → AreSelectors n given → clauses ≡ map (kept origins.Given) cs → softs ≡ present given → IsState variables clauses softs 0 conflicts 0 false
 first_state_as n variables cs softs given clauses conflicts is few formed selectors clauses_is softs_is =
     rw is (first_state_holds n cs softs given clauses conflicts (rw (← is) few) formed selectors clauses_is softs_is)
+
+-- a clause is learnt
+pub learnt_state : (seen : State) (variables : ℕ) (clauses grown : List Kept) (softs : List Soft) (conflicts budget learnt : ℕ) (refused : Bool) (lits : List Literal) (hints : List ℕ) →
+    IsState variables clauses softs conflicts budget learnt refused → variables ≡ seen.variables → clauses ≡ seen.clauses → conflicts < budget →
+    AreFormedLits lits → lacks_variable seen lits ≡ false → learn_error seen lits hints ≡ None → grown ≡ clauses ++ kept origins.Learnt lits ∷ [] →
+    IsState variables grown softs (conflicts + 1) budget (learnt + 1) refused
+learnt_state seen variables clauses grown softs conflicts budget learnt refused lits hints h variables_is clauses_is left formed exists none grown_is = record {
+  few = h.few;
+  formed = λ awake. rw grown_is (learnt_formed variables clauses lits (h.formed awake) (rw variables_is (exist_clause seen lits formed exists)));
+  implied = λ awake. rw (grown_is, clauses_is) (learn_implied seen lits hints none (rw (← clauses_is) (h.implied awake)));
+  among = h.among;
+  differ = h.differ;
+  weighty = h.weighty;
+  within = omega (arith, left);
+  learnt_within = omega (arith, h.learnt_within);
+}
+
+-- clauses are deleted
+pub deleted_state : (variables : ℕ) (clauses less : List Kept) (softs : List Soft) (conflicts budget learnt : ℕ) (refused : Bool) (numbers : List ℕ) →
+    IsState variables clauses softs conflicts budget learnt refused → list_all (λ (n : ℕ). is_learnt_at clauses n && ltb 2 (width_at clauses n)) numbers ≡ true →
+    less ≡ without_all clauses numbers → IsState variables less softs conflicts budget 0 refused
+deleted_state variables clauses less softs conflicts budget learnt refused numbers h go less_is = record {
+  few = h.few;
+  formed = λ awake. rw less_is (without_all_formed variables clauses numbers (h.formed awake));
+  implied = λ awake. rw less_is (deleted_implied clauses numbers go (h.implied awake));
+  among = h.among;
+  differ = h.differ;
+  weighty = h.weighty;
+  within = h.within;
+  learnt_within = omega arith;
+}

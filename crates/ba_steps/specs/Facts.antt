@@ -1,18 +1,22 @@
 -- What holds of every state that allowed steps lead to.
 
-use Rattle.std.specs.Prelude.{◌≡◌, ◌≢◌, ℕ, ◌+◌, ◌^◌, ◌<◌, ◌≤◌, Bool, true, false, Some, List, [], ◌∷◌, ◌++◌, map, length, get_or, All}
+use Rattle.std.specs.Prelude.{◌≡◌, ◌≢◌, ℕ, ◌+◌, ◌^◌, ◌<◌, ◌≤◌, Bool, true, false, Some, List, [], ◌∷◌, ◌++◌, map, filter, length, get_or, All}
 use Rattle.ba_lits.specs.Literals.{Literal, IsClause}
 use Rattle.ba_lits.specs.Satisfaction.{Assignment, all_true, Soft, cost, Agree}
 use Rattle.ba_lits.specs.Formulas.{Cnf}
 use Rattle.ba_steps.specs.Splits.{split_clauses}
-use Rattle.ba_steps.specs.States.{Kept, State, clause_at, present}
+use Rattle.ba_steps.specs.States.{Kept, State, is_lasting, clause_at, present}
 use Rattle.ba_steps.specs.Judging.{after}
 use Rattle.ba_steps.specs.declared.step.CertStep.{CertStep}
-use Rattle.ba_steps.specs.declared.step.CertStep.TheVariants.{Learn, Core, EndNoRepair, EndSpent}
+use Rattle.ba_steps.specs.declared.step.CertStep.TheVariants.{Learn, Core, Delete, EndNoRepair, EndSpent}
 
--- the literals of the clauses
+-- the literals of the clauses, the deleted ones too
 abbrev pub live : List Kept → List (List Literal)
 live clauses = map (λ (k : Kept). k.lits) clauses
+
+-- the literals of the clauses that no Learn step made
+abbrev pub lasting : List Kept → List (List Literal)
+lasting clauses = live (filter is_lasting clauses)
 
 -- no soft literal of the list has this variable
 abbrev pub Differs : ℕ → List Soft → Type 0
@@ -34,10 +38,12 @@ pub record AreSelectors (variables : ℕ) (softs : List Soft) : Type 0 where
   pub among : AreAmong variables (present softs)
   pub differ : AreDifferent (present softs)
 
--- what holds of every state of a checker; where memory refuses, nothing is said of its clauses
+-- what holds of every state of a checker; where memory refuses, nothing is said of its clauses. The learnt clauses, also
+-- the deleted ones, hold wherever the lasting ones do
 pub record IsState (variables : ℕ) (clauses : List Kept) (softs : List Soft) (conflicts budget learnt : ℕ) (refused : Bool) : Type 0 where
   pub few : variables < 2 ^ 62
   pub formed : refused ≡ false → All (λ (k : Kept). IsClause variables k.lits) clauses
+  pub implied : refused ≡ false → (v : Assignment) → all_true v (lasting clauses) ≡ true → all_true v (live clauses) ≡ true
   pub among : AreAmong variables softs
   pub differ : AreDifferent softs
   pub weighty : All (λ (s : Soft). 1 ≤ s.1) softs
@@ -54,6 +60,7 @@ pub record IsStart (formula : Cnf) (softs : List Soft) : Type 0 where
 abbrev pub step_splits : State → CertStep → List (List Literal)
 step_splits s (Learn lits hints) = []
 step_splits s (Core lits hints) = split_clauses (s.variables + 1) lits
+step_splits s (Delete clauses) = []
 step_splits s (EndNoRepair hints) = []
 step_splits s EndSpent = []
 
@@ -68,7 +75,7 @@ IsLive clauses c = (number : ℕ) × (clause_at clauses number ≡ Some c)
 
 -- The facts, where `Agree (n + 1)` says that two assignments give the variables up to n the same values:
 -- (1) each assignment that satisfies the formula has exactly one extension to the fresh variables that satisfies the
--- clauses of all splits, and it satisfies every live clause; (2) its cost is the bound plus the weights of the present
+-- clauses of all splits, and it satisfies every clause, the deleted ones too; (2) its cost is the bound plus the weights of the present
 -- soft literals that are false under the extension; (3) the present soft literals are of different variables that
 -- exist, with weights of at least 1, and all clauses of the formula and of the splits are live
 pub record Holds (formula : Cnf) (softs : List Soft) (splits : List (List Literal)) (s : State) : Type 0 where

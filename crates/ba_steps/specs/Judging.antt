@@ -1,19 +1,19 @@
 -- Which steps are allowed, the first error of one that isn't, and the state after a step.
 
-use Rattle.std.specs.Prelude.{◌≡◌, ℕ, ◌+◌, ◌==◌, ltb, Bool, true, false, not, Option, None, Some, unwrap_or, Result, Ok, Err, List, [], ◌∷◌, ◌++◌, map, length}
-use Rattle.std.specs.List.{list_any}
+use Rattle.std.specs.Prelude.{◌≡◌, ℕ, ◌+◌, ◌==◌, ltb, Bool, true, false, not, ◌&&◌, Option, None, Some, unwrap_or, Result, Ok, Err, List, [], ◌∷◌, ◌++◌, map, length}
+use Rattle.std.specs.List.{list_any, list_all}
 use Rattle.ba_lits.specs.Literals.{Literal, negate}
 use Rattle.ba_lits.specs.Satisfaction.{Soft}
 use Rattle.ba_lits.specs.Hints.{Replay, Refutes, StaysOpen, NamesNone, NamesIdle, replay}
 use Rattle.ba_tree.specs.declared.run.Choice.{Choice}
 use Rattle.ba_steps.specs.Splits.{split_clauses, fresh_count, split_softs, is_soft, lightest, lowered}
 use Rattle.ba_steps.specs.Parts.{holds_clause}
-use Rattle.ba_steps.specs.States.{kept, State, clause_at}
+use Rattle.ba_steps.specs.States.{kept, State, clause_at, is_learnt_at, width_at, without_all}
 use Rattle.ba_steps.specs.declared.store.Origin.TheVariants as origins
 use Rattle.ba_steps.specs.declared.step.CertStep.{CertStep}
-use Rattle.ba_steps.specs.declared.step.CertStep.TheVariants.{Learn, Core, EndNoRepair, EndSpent}
+use Rattle.ba_steps.specs.declared.step.CertStep.TheVariants.{Learn, Core, Delete, EndNoRepair, EndSpent}
 use Rattle.ba_steps.specs.declared.step.StepError.{StepError}
-use Rattle.ba_steps.specs.declared.step.StepError.TheVariants.{HintMissing, HintNotUnit, NotClosed, NotSofts, AfterEnd, NotNew, CoreAfterSet, WrongCount, BadVariable, Memory}
+use Rattle.ba_steps.specs.declared.step.StepError.TheVariants.{HintMissing, HintNotUnit, NotClosed, NotSofts, DeadClause, AfterEnd, NotNew, TooSoon, CoreAfterSet, WrongCount, BadVariable, Memory}
 
 -- which runs are good for which groups
 abbrev pub Judge : Type 0
@@ -79,6 +79,19 @@ core_error s lits hints =
     (error_if (lacks_soft s.softs lits) NotSofts
     (hint_error s lits hints))))
 
+-- the number is that of a live clause made by a Learn step, of at least three literals
+abbrev pub may_go : State → ℕ → Bool
+may_go s number = is_learnt_at s.clauses number && ltb 2 (width_at s.clauses number)
+
+-- how many clauses are learnt before a deletion, and between two
+abbrev pub apart_by : ℕ
+apart_by = 1000
+
+abbrev pub delete_error : State → List ℕ → Option StepError
+delete_error s numbers =
+    error_if (not (list_all (may_go s) numbers)) DeadClause
+    (error_if (ltb s.learnt apart_by) TooSoon None)
+
 abbrev pub no_repair_error : State → List ℕ → Option StepError
 no_repair_error s hints =
     error_if (ltb 0 (length s.sets)) WrongCount
@@ -91,6 +104,7 @@ spent_error s = error_if (not (is_spent s)) WrongCount None
 abbrev pub error_before_end : Judge → State → CertStep → Option StepError
 error_before_end good s (Learn lits hints) = learn_error s lits hints
 error_before_end good s (Core lits hints) = core_error s lits hints
+error_before_end good s (Delete clauses) = delete_error s clauses
 error_before_end good s (EndNoRepair hints) = no_repair_error s hints
 error_before_end good s EndSpent = spent_error s
 
@@ -116,10 +130,15 @@ after_core s lits = let w = unwrap_or (lightest lits s.softs) 0 in record s {
   conflicts = s.conflicts + 1;
 }
 
+-- the state after clauses were deleted
+abbrev pub after_delete : State → List ℕ → State
+after_delete s numbers = record s { clauses = without_all s.clauses numbers; learnt = 0 }
+
 -- the state after an allowed step
 abbrev pub after : State → CertStep → State
 after s (Learn lits hints) = after_learn s lits
 after s (Core lits hints) = after_core s lits
+after s (Delete clauses) = after_delete s clauses
 after s (EndNoRepair hints) = record s { ended = true }
 after s EndSpent = record s { ended = true }
 

@@ -1,14 +1,14 @@
 -- The state of a checker of derivations.
 
-use Rattle.std.specs.Prelude.{ℕ, ltb, Bool, true, false, Option, None, Some, option_map, List, [], map, filter, slice_get}
+use Rattle.std.specs.Prelude.{ℕ, ltb, Bool, true, false, Option, None, Some, List, [], ◌∷◌, map, filter, length, set, slice_get, if◌then◌else◌}
 use Prim.Native.Nat.{suc, zero}
 use Rattle.ba_lits.specs.Literals.{Literal}
 use Rattle.ba_lits.specs.Satisfaction.{Soft}
 use Rattle.ba_lits.specs.Formulas.{Cnf}
 use Rattle.ba_steps.specs.declared.store.Origin.{Origin}
-use Rattle.ba_steps.specs.declared.store.Origin.TheVariants.{Given, Learnt, Core, Split}
+use Rattle.ba_steps.specs.declared.store.Origin.TheVariants.{Given, Learnt, Core, Split, Deleted}
 
--- a clause with where it comes from
+-- a clause with where it comes from, or that it was deleted
 pub record Kept : Type 0 where
   pub lits : List Literal
   pub origin : Origin
@@ -19,7 +19,7 @@ kept origin lits = record { lits = lits; origin = origin }
 pub record State : Type 0 where
   -- how many variables there are
   pub variables : ℕ
-  -- the clauses in the order of their numbers, which begin at 1
+  -- the clauses in the order of their numbers, which begin at 1, the deleted ones too
   pub clauses : List Kept
   -- the soft literals as they were given, by written number, and the present ones with their weights
   pub groups : List Soft
@@ -53,23 +53,69 @@ lits_of (Some k) = k.lits
 abbrev pub lits_at : List Kept → ℕ → List Literal
 lits_at clauses place = lits_of (slice_get clauses place)
 
+-- a deleted clause is no longer live
+abbrev pub is_live_origin : Origin → Bool
+is_live_origin Given = true
+is_live_origin Learnt = true
+is_live_origin Core = true
+is_live_origin Split = true
+is_live_origin Deleted = false
+
+abbrev pub live_lits : Option Kept → Option (List Literal)
+live_lits None = None
+live_lits (Some k) = if is_live_origin k.origin then Some k.lits else None
+
+-- a live clause stands at the place, from 0 on
+abbrev pub is_live_entry : Option Kept → Bool
+is_live_entry None = false
+is_live_entry (Some k) = is_live_origin k.origin
+
+abbrev pub is_live_at : List Kept → ℕ → Bool
+is_live_at clauses place = is_live_entry (slice_get clauses place)
+
 -- the live clause of a number
 abbrev pub clause_at : List Kept → ℕ → Option (List Literal)
-clause_at clauses number = option_map (λ (k : Kept). k.lits) (kept_at clauses number)
+clause_at clauses number = live_lits (kept_at clauses number)
 
 abbrev pub is_learnt_origin : Origin → Bool
 is_learnt_origin Given = false
 is_learnt_origin Learnt = true
 is_learnt_origin Core = false
 is_learnt_origin Split = false
+is_learnt_origin Deleted = false
 
 abbrev pub is_learnt_entry : Option Kept → Bool
 is_learnt_entry None = false
 is_learnt_entry (Some k) = is_learnt_origin k.origin
 
+-- whether no Learn step made the clause: it is one of the formula, a core or one of a split, and is never deleted
+abbrev pub is_lasting_origin : Origin → Bool
+is_lasting_origin Given = true
+is_lasting_origin Learnt = false
+is_lasting_origin Core = true
+is_lasting_origin Split = true
+is_lasting_origin Deleted = false
+
+abbrev pub is_lasting : Kept → Bool
+is_lasting k = is_lasting_origin k.origin
+
 -- the number is that of a live clause made by a Learn step
 abbrev pub is_learnt_at : List Kept → ℕ → Bool
 is_learnt_at clauses number = is_learnt_entry (kept_at clauses number)
+
+-- how many literals the clause of a number has, live or deleted
+abbrev pub width_at : List Kept → ℕ → ℕ
+width_at clauses number = length (lits_of (kept_at clauses number))
+
+-- the clause of a number is deleted
+abbrev pub without : List Kept → ℕ → List Kept
+without clauses zero = clauses
+without clauses (suc k) = set clauses k (kept Deleted (lits_at clauses k))
+
+-- the clauses of these numbers are deleted
+abbrev pub without_all : List Kept → List ℕ → List Kept
+without_all clauses [] = clauses
+without_all clauses (number ∷ numbers) = without_all (without clauses number) numbers
 
 -- a soft literal of weight 0 stands for none
 abbrev pub present : List Soft → List Soft

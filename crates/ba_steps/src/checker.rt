@@ -5,11 +5,10 @@ ghost use Rattle.std.specs.List.{list_any};
 ghost use Rattle.ba_lits.specs.Literals.{Literal, negate, IsClause};
 ghost use Rattle.ba_lits.specs.Hints.{has_literal};
 ghost use Rattle.ba_lits.specs.Satisfaction.{Soft};
-ghost use Rattle.ba_steps.specs.Splits.{is_soft};
 ghost use Rattle.ba_steps.specs.States.{first_state, present, clause_at, is_learnt_at, kept};
 ghost use Rattle.ba_steps.specs.Facts.{AreSelectors, AreAmong, AreDifferent, IsState};
 ghost use Rattle.ba_steps.specs.Steps.{IsFormed, AreFormedLits};
-ghost use Rattle.ba_steps.specs.Judging.{Answers, Finds, Does, is_memory, is_spent, lacks_variable, lacks_soft, error_before_end, after, learn_error, core_error, no_repair_error, spent_error, after_learn, after_core};
+ghost use Rattle.ba_steps.specs.Judging.{Answers, Finds, Does, is_memory, is_spent, lacks_variable, lacks_soft, error_before_end, after, learn_error, core_error, delete_error, no_repair_error, spent_error, after_learn, after_core, after_delete};
 ghost use Rattle.ba_steps.specs.declared.store.Origin.TheVariants as origins;
 
 use crate::clauses::Clauses;
@@ -23,6 +22,9 @@ use ba_items::Items;
 use ba_lits::{Formula, Lit};
 use std::alloc::{AllocError, Global};
 use std::marker::Model;
+
+/// How many clauses are learnt before a deletion, and between two.
+pub const APART_BY: u64 = 1000;
 
 /// The state of a derivation, to which steps are put one after the other.
 #[derive(Drop)]
@@ -223,6 +225,7 @@ impl Checker {
         match step {
             CertStep::Learn { lits, hints } => self.learn(lits.as_slice(), hints.as_slice()),
             CertStep::Core { lits, hints } => self.core(lits.as_slice(), hints.as_slice()),
+            CertStep::Delete { clauses } => self.delete(clauses.as_slice()),
             CertStep::EndNoRepair { hints } => self.end_no_repair(hints.as_slice()),
             CertStep::EndSpent => self.end_spent(),
         }
@@ -326,6 +329,21 @@ impl Checker {
         self.variables = variables;
         self.conflicts += 1;
         self.refused = false;
+        Ok(())
+    }
+
+    /// Takes a Delete step.
+    fn delete(&mut self, numbers: &[u64]) -> Result<(), StepError>
+        ensures { Does self.old self.new (delete_error self.old numbers.now) (after_delete self.old numbers.now) result }
+    {
+        if !self.clauses.may_all_go(numbers) {
+            return Err(StepError::DeadClause);
+        }
+        if self.learnt < APART_BY {
+            return Err(StepError::TooSoon);
+        }
+        self.clauses.delete(numbers);
+        self.learnt = 0;
         Ok(())
     }
 

@@ -1,30 +1,50 @@
 //! Clauses listed under one literal each.
 
-ghost use Rattle.std.specs.Prelude.{◌≡◌, ℕ, ◌≤◌, ◌<◌, ◌++◌, ◌∷◌, [], OnOk, OnErr, length, set, slice_index, List};
-ghost use Rattle.ba_steps.specs.Listed.{latest};
+ghost use Rattle.std.specs.Prelude.{◌≡◌, ℕ, ◌+◌, ◌-◌, ◌^◌, ◌≤◌, ◌<◌, ◌++◌, ◌∷◌, ◌||◌, [], ltb, IfOk, OnOk, OnErr, length, set, slice_index, slice_index_or, List};
+ghost use Rattle.ba_steps.specs.States.{is_live_at};
+ghost use Rattle.ba_steps.specs.Listed.{AreLinks, AreListed, latest, keys_of, all_keys, links, firsts, key_anew, anew};
 
+use crate::store::Store;
 use std::alloc::{AllocError, Global};
 use std::marker::Model;
 
-/// For each clause, by its place, the key under which it is listed. The clauses of a key are linked from the latest to
-/// the earliest: links are places plus 1, and 0 where there is none. Contracts see the list of the keys.
+/// The indices of up to three literals of a clause: that under which it is listed, and two further ones, which are the
+/// same where the clause has no more. Those of the empty clause are 0.
+#[derive(Clone, Copy)]
+pub struct Keys {
+    pub key: usize,
+    pub second: usize,
+    pub third: usize,
+}
+
+/// A clause in its list: its keys, and the link to the one before it.
+#[derive(Clone, Copy)]
+pub struct Node {
+    key: u32,
+    second: u32,
+    third: u32,
+    earlier: u32,
+}
+
+/// For each clause, by its place, the keys under which it is listed. The clauses of a first key are linked from the
+/// latest to the earliest: links are places plus 1, and 0 where there is none. Contracts see the list of the keys.
 #[derive(Drop)]
 pub struct Index {
-    keys: Vec<u32>,
+    nodes: Vec<Node>,
     heads: Vec<u32>,
-    earlier: Vec<u32>,
     counts: Vec<u32>,
 }
 
 impl Model for Index {
-    ghost use Rattle.std.specs.Prelude.{List, ℕ};
-    ghost use Rattle.ba_steps.specs.Listed.{AreLinks};
+    ghost use Rattle.std.specs.Prelude.{List};
+    ghost use Rattle.ba_steps.specs.declared.index.Keys.{Keys};
+    ghost use Rattle.ba_steps.specs.Listed.{AreLinks, all_keys, links, firsts};
 
-    ghost Value = { List ℕ };
+    ghost Value = { List Keys };
 
-    ghost view = { λ i. i.keys.items };
+    ghost view = { λ i. all_keys i.nodes.items };
 
-    ghost invariant = { λ i. AreLinks i.keys.items i.heads.items i.earlier.items };
+    ghost invariant = { λ i. AreLinks (firsts (all_keys i.nodes.items)) i.heads.items (links i.nodes.items) };
 }
 
 impl Index {
@@ -33,9 +53,8 @@ impl Index {
         ensures { result ≡ [] }
     {
         Index {
-            keys: Vec::new(alloc),
+            nodes: Vec::new(alloc),
             heads: Vec::new(alloc),
-            earlier: Vec::new(alloc),
             counts: Vec::new(alloc),
         }
     }
@@ -56,43 +75,48 @@ impl Index {
         }
     }
 
-    /// Lists the next clause under a key.
+    /// Lists the next clause.
     ///
     /// The one error is want of memory or of room, which is for 2^32 - 1 clauses and keys.
-    pub fn push(&mut self, key: usize) -> Result<(), AllocError>
-        ensures ok { OnOk result (self.new ≡ self.old ++ key ∷ []) }
+    pub fn push(&mut self, keys: Keys) -> Result<(), AllocError>
+        ensures ok { OnOk result (self.new ≡ self.old ++ keys ∷ []) }
         ensures err { OnErr result (self.new ≡ self.old) }
     {
-        let place = self.keys.len();
-        if place >= u32::MAX as usize || key >= u32::MAX as usize {
+        let place = self.nodes.len();
+        if place >= u32::MAX as usize {
             return Err(AllocError);
         }
-        fill_up(&mut self.heads, key + 1)?;
-        fill_up(&mut self.counts, key + 1)?;
-        self.earlier.reserve(1)?;
-        self.keys.push(key as u32)?;
-        self.earlier.push(link(self.heads.as_slice(), key))?;
-        relink(&mut self.heads, key, place as u32 + 1);
-        count_up(&mut self.counts, key);
+        let node = packed(keys, link(self.heads.as_slice(), keys.key))?;
+        fill_up(&mut self.heads, keys.key + 1)?;
+        fill_up(&mut self.counts, keys.key + 1)?;
+        self.nodes.push(node)?;
+        relink(&mut self.heads, keys.key, place as u32 + 1);
+        count_up(&mut self.counts, keys.key);
         Ok(())
     }
 
     /// Takes back the last clause that was listed.
     pub fn pop(&mut self)
-        ensures { (keys : List ℕ) (key : ℕ) → self.old ≡ keys ++ key ∷ [] → self.new ≡ keys }
+        ensures { (all : List Keys) (keys : Keys) → self.old ≡ all ++ keys ∷ [] → self.new ≡ all }
     {
-        let Some(key) = self.keys.pop() else {
+        let Some(node) = self.nodes.pop() else {
             return;
         };
-        let Some(link) = self.earlier.pop() else {
-            return;
-        };
-        relink(&mut self.heads, key as usize, link);
+        relink(&mut self.heads, node.key as usize, node.earlier);
+    }
+
+    /// Lists the clauses anew, those that are no longer live under 1. That is no literal of a clause, so they are not
+    /// looked at any more. It takes no memory.
+    pub fn relist(&mut self, store: &Store)
+        requires { AreListed self.old store.now }
+        ensures { AreListed self.new store.now }
+    {
+        link_all(&mut self.nodes, &mut self.heads, &mut self.counts, store);
     }
 
     /// The latest clause that is listed under a key.
     pub fn latest(&self, key: usize) -> u32
-        ensures { result ≡ latest self.now key (length self.now) }
+        ensures { result ≡ latest (firsts self.now) key (length self.now) }
     {
         link(self.heads.as_slice(), key)
     }
@@ -100,10 +124,92 @@ impl Index {
     /// The clause that is listed before the one at a place, under its key.
     pub fn before(&self, place: usize) -> u32
         requires { place < length self.now }
-        ensures { result ≡ latest self.now (slice_index self.now place) place }
+        ensures { result ≡ latest (firsts self.now) (slice_index (firsts self.now) place) place }
     {
-        link(self.earlier.as_slice(), place)
+        self.nodes[place].earlier
     }
+
+    /// The keys of the clause at a place.
+    pub fn keys(&self, place: usize) -> Keys
+        requires { place < length self.now }
+        ensures { result ≡ slice_index_or self.now place result }
+    {
+        unpacked(self.nodes[place])
+    }
+}
+
+/// The keys of a node.
+fn unpacked(node: Node) -> Keys
+    ensures { result ≡ keys_of node }
+{
+    Keys {
+        key: node.key as usize,
+        second: node.second as usize,
+        third: node.third as usize,
+    }
+}
+
+/// The node of keys. The one error is want of room.
+fn packed(keys: Keys, earlier: u32) -> Result<Node, AllocError>
+    ensures { IfOk result (λ node. (keys_of node ≡ keys) × (node.earlier ≡ earlier) × (keys.key < 2 ^ 32 - 1)) }
+{
+    let most = u32::MAX as usize;
+    if keys.key >= most || keys.second >= most || keys.third >= most {
+        return Err(AllocError);
+    }
+    Ok(Node {
+        key: keys.key as u32,
+        second: keys.second as u32,
+        third: keys.third as u32,
+        earlier,
+    })
+}
+
+/// Links the clauses anew, those that are no longer live under 1.
+fn link_all(nodes: &mut Vec<Node>, heads: &mut Vec<u32>, counts: &mut Vec<u32>, store: &Store)
+    requires links { AreLinks (firsts (all_keys nodes.old.items)) heads.old.items (links nodes.old.items) }
+    requires listed { AreListed (all_keys nodes.old.items) store.now }
+    ensures links { AreLinks (firsts (all_keys nodes.new.items)) heads.new.items (links nodes.new.items) }
+    ensures listed { AreListed (all_keys nodes.new.items) store.now }
+{
+    let count = nodes.len();
+    clear(heads);
+    clear(counts);
+    for place in 0..count {
+        let keeps = keeps_key(store, place, heads.as_slice());
+        let node = anew(keeps, nodes[place], heads.as_slice());
+        nodes[place] = node;
+        relink(heads, node.key as usize, place as u32 + 1);
+        count_up(counts, node.key as usize);
+    }
+}
+
+/// Whether a clause that is listed anew keeps its key: where it is live, or where the table has no room for 1.
+fn keeps_key(store: &Store, place: usize, heads: &[u32]) -> bool
+    requires { place < length store.now }
+    ensures { result ≡ (is_live_at store.now place || ltb (length heads.now) 2) }
+{
+    store.is_live(place) || heads.len() < 2
+}
+
+/// The node of a clause that is listed anew.
+fn anew(keeps: bool, node: Node, heads: &[u32]) -> Node
+    ensures { result ≡ anew keeps node heads.now }
+{
+    let key = key_anew(keeps, node.key);
+    Node {
+        key,
+        second: node.second,
+        third: node.third,
+        earlier: link(heads, key as usize),
+    }
+}
+
+/// The key of a clause that is listed anew.
+fn key_anew(keeps: bool, key: u32) -> u32
+    ensures { result ≡ key_anew keeps key }
+{
+    if keeps { key } else { 1 }
 }
 
 /// The link at a place, or 0 past the end.
@@ -122,6 +228,14 @@ fn fill_up(links: &mut Vec<u32>, count: usize) -> Result<(), AllocError>
         links.resize(count, 0)?;
     }
     Ok(())
+}
+
+/// Sets all links to 0.
+fn clear(links: &mut Vec<u32>)
+    ensures none { (k : ℕ) → slice_index links.new.items k ≡ 0 }
+    ensures len { length links.new.items ≡ length links.old.items }
+{
+    links.fill(0);
 }
 
 /// Sets the link at a place.

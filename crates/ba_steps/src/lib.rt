@@ -1,8 +1,8 @@
 //! Derivations, judged step by step and without search.
 //!
 //! A derivation starts from a formula in conjunctive normal form with weighted soft literals. Each step adds a
-//! clause that follows by unit propagation along a list of clause numbers, or ends the derivation. A core, a clause
-//! of negated soft literals, raises the lower bound of the cost and is split so that costs stay exact (N. Narodytska,
+//! clause that follows by unit propagation along a list of clause numbers, deletes learnt clauses, or ends the
+//! derivation. A core, a clause of negated soft literals, raises the lower bound of the cost and is split so that costs stay exact (N. Narodytska,
 //! F. Bacchus, Maximum Satisfiability Using Core-Guided MaxSAT Resolution). The [`Checker`] answers for
 //! each step whether it is allowed, and the first error where it isn't.
 #![tactic(auto)]
@@ -24,7 +24,7 @@ mod store;
 mod tests;
 
 pub use checked::Checked;
-pub use checker::Checker;
+pub use checker::{APART_BY, Checker};
 pub use judge::RunJudge;
 pub use list_judge::{GoodRun, ListJudge};
 pub use sink::{Basis, Both, ListSink, NoSink, SinkError, StepSink};

@@ -2,7 +2,7 @@
 
 ghost use Rattle.std.specs.Prelude.{◌≡◌, ℕ, ◌≤◌, ◌++◌, ◌∷◌, [], OnOk, false, length, get_or, set};
 ghost use Rattle.ba_lits.specs.Hints.{has_literal, value_where};
-ghost use Rattle.ba_steps.specs.Marks.{AreMarks};
+ghost use Rattle.ba_steps.specs.Marks.{AreMarks, has_index};
 
 use ba_lits::Lit;
 use std::alloc::{AllocError, Global};
@@ -44,6 +44,13 @@ impl LiteralSet {
         ensures { result ≡ has_literal lit self.now }
     {
         is_marked(self.marks.as_slice(), lit.index())
+    }
+
+    /// Whether the literal of an index is a member.
+    pub fn contains_index(&self, index: usize) -> bool
+        ensures { result ≡ has_index index self.now }
+    {
+        is_marked(self.marks.as_slice(), index)
     }
 
     /// The value of a literal where the members are false.

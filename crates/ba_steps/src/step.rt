@@ -16,6 +16,9 @@ pub enum CertStep {
     Learn { lits: Items<Lit>, hints: Items<u64> },
     /// The clause follows by the hints and negates soft literals alone. It is live from now on and split.
     Core { lits: Items<Lit>, hints: Items<u64> },
+    /// The clauses of these numbers, strictly ascending and at least one, are no longer live. They were made by Learn
+    /// steps and have at least three literals.
+    Delete { clauses: Items<u64> },
     /// The empty clause follows by the hints, so the formula has no model. It ends the derivation.
     EndNoRepair { hints: Items<u64> },
     /// The stated number of conflicts is spent. It ends the derivation.
@@ -35,6 +38,9 @@ impl CertStep {
             CertStep::Core { lits, hints } => Ok(CertStep::Core {
                 lits: Items::from_slice(alloc, lits.as_slice())?,
                 hints: Items::from_slice(alloc, hints.as_slice())?,
+            }),
+            CertStep::Delete { clauses } => Ok(CertStep::Delete {
+                clauses: Items::from_slice(alloc, clauses.as_slice())?,
             }),
             CertStep::EndNoRepair { hints } => Ok(CertStep::EndNoRepair {
                 hints: Items::from_slice(alloc, hints.as_slice())?,

@@ -1,7 +1,7 @@
 //! The literals of the clauses of a derivation.
 
 ghost use Rattle.std.specs.Prelude.{◌≡◌, ◌<◌, ◌≤◌, ◌++◌, ◌∷◌, [], None, Some, OnOk, OnErr, length, slice_range, slice_index, option_copied};
-ghost use Rattle.ba_steps.specs.States.{kept, clause_at, is_learnt_at, is_learnt_origin, lits_at};
+ghost use Rattle.ba_steps.specs.States.{kept, clause_at, is_learnt_at, is_learnt_origin, is_live_origin, is_live_at, lits_at, width_at, without, without_all};
 ghost use Rattle.ba_steps.specs.Cuts.{IsCut, start_of};
 
 use ba_lits::Lit;
@@ -19,6 +19,8 @@ pub enum Origin {
     Core,
     /// The split of a core.
     Split,
+    /// A Learn step, and a Delete step took it away.
+    Deleted,
 }
 
 /// The clauses in the order of their numbers, which begin at 1: one vector of literals, and the end of each clause
@@ -74,11 +76,14 @@ impl Store {
         Ok(())
     }
 
-    /// The clause of a number; None exactly where there is none.
+    /// The live clause of a number; None exactly where there is none.
     pub fn clause(&self, number: u64) -> Option<&[Lit]>
         ensures { option_copied result ≡ clause_at self.now number }
     {
         if number == 0 || number > self.last() {
+            return None;
+        }
+        if !is_live(self.origins[number as usize - 1]) {
             return None;
         }
         Some(part(
@@ -88,7 +93,44 @@ impl Store {
         ))
     }
 
-    /// The clause at a place, from 0 on.
+    /// How many literals the clause of a number has, live or deleted; 0 where there is none.
+    pub fn width(&self, number: u64) -> usize
+        ensures { result ≡ width_at self.now number }
+    {
+        if number == 0 || number > self.last() {
+            return 0;
+        }
+        self.at(number as usize - 1).len()
+    }
+
+    /// Deletes the clauses of these numbers, where there are any.
+    pub fn delete_all(&mut self, numbers: &[u64])
+        ensures { self.new ≡ without_all self.old numbers.now }
+    {
+        for number in numbers {
+            self.delete(*number);
+        }
+    }
+
+    /// Deletes the clause of a number, where there is one.
+    fn delete(&mut self, number: u64)
+        ensures { self.new ≡ without self.old number }
+    {
+        if number == 0 || number > self.last() {
+            return;
+        }
+        self.origins[number as usize - 1] = Origin::Deleted;
+    }
+
+    /// Whether the clause at a place is live.
+    pub fn is_live(&self, place: usize) -> bool
+        requires { place < length self.now }
+        ensures { result ≡ is_live_at self.now place }
+    {
+        is_live(self.origins[place])
+    }
+
+    /// The clause at a place, from 0 on, live or deleted.
     pub fn at(&self, place: usize) -> &[Lit]
         requires { place < length self.now }
         ensures { result.now ≡ lits_at self.now place }
@@ -96,7 +138,7 @@ impl Store {
         part(self.lits.as_slice(), self.ends.as_slice(), place)
     }
 
-    /// Whether the number is that of a clause made by a Learn step.
+    /// Whether the number is that of a live clause made by a Learn step.
     pub fn is_learnt(&self, number: u64) -> bool
         ensures { result ≡ is_learnt_at self.now number }
     {
@@ -107,7 +149,7 @@ impl Store {
     }
 }
 
-/// Whether a clause was made by a Learn step.
+/// Whether a clause was made by a Learn step and isn't deleted.
 fn is_learnt(origin: Origin) -> bool
     ensures { result ≡ is_learnt_origin origin }
 {
@@ -116,6 +158,20 @@ fn is_learnt(origin: Origin) -> bool
         Origin::Given => false,
         Origin::Core => false,
         Origin::Split => false,
+        Origin::Deleted => false,
+    }
+}
+
+/// Whether a clause is live.
+fn is_live(origin: Origin) -> bool
+    ensures { result ≡ is_live_origin origin }
+{
+    match origin {
+        Origin::Given => true,
+        Origin::Learnt => true,
+        Origin::Core => true,
+        Origin::Split => true,
+        Origin::Deleted => false,
     }
 }
 

@@ -1,8 +1,8 @@
 //! Tests of the checker and of sinks. Clauses and soft literals are written as numbers, negated ones below 0.
 
-ghost use Rattle.std.specs.Prelude.{◌≡◌, ℕ, ◌<◌, ◌≤◌, [], None, false, IsTrue, IfOk, length, All};
-ghost use Rattle.ba_lits.specs.Literals.{IsClause, lit_at};
-ghost use Rattle.ba_steps.specs.Steps.{IsFormed, AreFormedLits, AreNumbers};
+ghost use Rattle.std.specs.Prelude.{◌≡◌, ◌<◌, ◌≤◌, [], None, false, IsTrue, IfOk, length};
+ghost use Rattle.ba_lits.specs.Literals.{IsClause};
+ghost use Rattle.ba_steps.specs.Steps.{IsFormed, AreFormedLits, AreNumbers, AreAbove};
 ghost use Rattle.ba_steps.specs.States.{first_state};
 ghost use Rattle.ba_steps.specs.Facts.{AreSelectors};
 
@@ -73,6 +73,30 @@ fn are_numbers(numbers: &[u64]) -> bool
     true
 }
 
+/// Whether numbers are those of a formed Delete step.
+fn are_ascending(numbers: &[u64]) -> bool
+    ensures { IsTrue result → AreNumbers numbers.now × AreAbove 0 numbers.now × (0 < length numbers.now) }
+{
+    if numbers.is_empty() || !are_above(numbers) {
+        return false;
+    }
+    are_numbers(numbers)
+}
+
+/// Whether numbers ascend from 1 on.
+fn are_above(numbers: &[u64]) -> bool
+    ensures { IsTrue result → AreAbove 0 numbers.now }
+{
+    let mut last = 0;
+    for number in numbers {
+        if *number <= last {
+            return false;
+        }
+        last = *number;
+    }
+    true
+}
+
 /// Whether a step is formed.
 fn is_formed(step: &CertStep) -> bool
     ensures { IsTrue result → IsFormed step.now }
@@ -90,6 +114,7 @@ fn is_formed(step: &CertStep) -> bool
             }
             are_numbers(hints.as_slice())
         }
+        CertStep::Delete { clauses } => are_ascending(clauses.as_slice()),
         CertStep::EndNoRepair { hints } => are_numbers(hints.as_slice()),
         CertStep::EndSpent => true,
     }
@@ -150,11 +175,12 @@ fn start(
 enum Kind {
     Learn,
     Core,
+    Delete,
     NoRepair,
     Spent,
 }
 
-/// A step to put, and the number of its error, 0 where it is allowed.
+/// A step to put, with its literals and its hints or numbers, and the number of its error, 0 where it is allowed.
 type Row<'a> = (Kind, &'a [i64], &'a [u64], u8);
 
 /// The step of a row.
@@ -164,6 +190,7 @@ fn step_of(alloc: Global, row: &Row) -> Result<CertStep, AllocError> {
     Ok(match row.0 {
         Kind::Learn => CertStep::Learn { lits, hints },
         Kind::Core => CertStep::Core { lits, hints },
+        Kind::Delete => CertStep::Delete { clauses: hints },
         Kind::NoRepair => CertStep::EndNoRepair { hints },
         Kind::Spent => CertStep::EndSpent,
     })
@@ -364,6 +391,144 @@ fn learnt_are(rt: &impl Abort, checker: &Checker, count: u64, numbers: &[u64]) {
     for number in 0..10 {
         assert_eq!(rt; checker.is_learnt(number), numbers.contains(&number));
     }
+}
+
+#[test]
+fn short_and_given_clauses_are_not_deleted(rt: HostRuntime) -> Result<(), Fail> {
+    let alloc = rt.alloc();
+    let mut checker = start(
+        &rt,
+        alloc,
+        5,
+        &[&[1, 2, 5], &[-1, 2], &[-2, 3], &[-3, 4]],
+        &[(1, 1)],
+        9,
+    )?;
+    let rows: [Row; 10] = [
+        (Kind::Learn, &[2, 5], &[1, 2], 0),
+        (Kind::Learn, &[1, 3, 5], &[3, 1], 0),
+        (Kind::Delete, &[], &[1], 5),
+        (Kind::Delete, &[], &[2], 5),
+        (Kind::Delete, &[], &[7], 5),
+        (Kind::Delete, &[], &[5], 5),
+        (Kind::Delete, &[], &[5, 6], 5),
+        (Kind::Delete, &[], &[6, 9], 5),
+        (Kind::Delete, &[], &[6], 11),
+        (Kind::Learn, &[1, 3, 5], &[3, 1], 10),
+    ];
+    put_all(&rt, alloc, &mut checker, &rows)?;
+    check(
+        &rt,
+        &checker,
+        0,
+        4,
+        &[&[-3, 4], &[2, 5], &[1, 3, 5]],
+        &[(1, 1)],
+    );
+    learnt_are(&rt, &checker, 2, &[5, 6]);
+    Ok(())
+}
+
+/// A checker over the clauses "not i, or i + 1, or 61" for i from 1 to 59, each with the number i.
+fn row(rt: &impl Abort, alloc: Global) -> Result<Checker, Fail> {
+    let mut formula = Formula::new(alloc);
+    for _ in 0..61 {
+        formula.fresh()?;
+    }
+    for i in 1u32..60 {
+        let clause = lits(alloc, &[-(i as i64), i as i64 + 1, 61])?;
+        assert!(rt; is_clause(formula.variables(), clause.as_slice()));
+        formula.push(clause.as_slice())?;
+    }
+    let softs = Vec::new(alloc);
+    assert!(rt; are_selectors(formula.variables(), softs.as_slice()));
+    Ok(Checker::new(alloc, &formula, softs.as_slice(), 2000, 10)?)
+}
+
+/// The step that learns "not i, or j, or 61" by the clauses from i to j - 1 of the row.
+fn along(alloc: Global, i: u32, j: u32) -> Result<CertStep, AllocError> {
+    let mut hints = Items::new(alloc);
+    for number in i..j {
+        hints.push(number as u64)?;
+    }
+    let lits = lits(alloc, &[-(i as i64), j as i64, 61])?;
+    Ok(CertStep::Learn { lits, hints })
+}
+
+/// Learns "not i, or j, or 61" for j from i + 2 to 60 and i in this order, from one place to another.
+fn learn_along(
+    rt: &impl Abort,
+    alloc: Global,
+    checker: &mut Checker,
+    from: u32,
+    to: u32,
+) -> Result<(), AllocError> {
+    let mut place = 0u32;
+    for i in 1..59 {
+        for j in i + 2..61 {
+            if from <= place && place < to {
+                let step = along(alloc, i, j)?;
+                assert_eq!(rt; put(rt, alloc, checker, &step), 0);
+            }
+            place = place.saturating_add(1);
+        }
+    }
+    Ok(())
+}
+
+/// Checks that a number is that of no live clause, and how many clauses were learnt since the last deletion.
+fn is_gone(rt: &impl Abort, checker: &Checker, number: u64, learnt: u64) {
+    assert!(rt; checker.clause(number).is_none());
+    assert!(rt; !checker.is_learnt(number));
+    assert_eq!(rt; checker.learnt(), learnt);
+}
+
+#[test]
+fn a_learnt_clause_is_deleted_after_a_thousand(rt: HostRuntime) -> Result<(), Fail> {
+    let alloc = rt.alloc();
+    let mut checker = row(&rt, alloc)?;
+    learn_along(&rt, alloc, &mut checker, 0, 999)?;
+    let early: [Row; 4] = [
+        (Kind::Delete, &[], &[60], 11),
+        (Kind::Delete, &[], &[59, 60], 5),
+        (Kind::Delete, &[], &[60, 2000], 5),
+        (Kind::Learn, &[-1, 3, 61], &[1, 2], 10),
+    ];
+    put_all(&rt, alloc, &mut checker, &early)?;
+    learn_along(&rt, alloc, &mut checker, 999, 1000)?;
+    put_all(&rt, alloc, &mut checker, &[(Kind::Delete, &[], &[60], 0)])?;
+    is_gone(&rt, &checker, 60, 0);
+    let late: [Row; 7] = [
+        (Kind::Delete, &[], &[60], 5),
+        (Kind::Delete, &[], &[60, 61], 5),
+        (Kind::Delete, &[], &[61], 11),
+        (Kind::Learn, &[-1, 3, 61], &[60], 1),
+        (Kind::Learn, &[-1, 4, 61], &[61], 10),
+        (Kind::Learn, &[-1, 3, 61], &[1, 2], 0),
+        (Kind::Learn, &[-1, 3, 61], &[1, 2], 10),
+    ];
+    put_all(&rt, alloc, &mut checker, &late)?;
+    is_gone(&rt, &checker, 60, 1);
+    check(&rt, &checker, 0, 1060, &[&[-1, 3, 61]], &[]);
+    Ok(())
+}
+
+/// Whether a step deletes these clauses.
+fn deletes(step: &CertStep, numbers: &[u64]) -> bool {
+    match step {
+        CertStep::Delete { clauses } => clauses.as_slice() == numbers,
+        _ => false,
+    }
+}
+
+#[test]
+fn a_delete_step_is_copied(rt: HostRuntime) -> Result<(), Fail> {
+    let alloc = rt.alloc();
+    let step = step_of(alloc, &(Kind::Delete, &[], &[3, 5], 0))?;
+    let copy = step.copy(alloc)?;
+    assert!(rt; deletes(&copy, &[3, 5]));
+    assert!(rt; deletes(&step, &[3, 5]));
+    Ok(())
 }
 
 #[test]

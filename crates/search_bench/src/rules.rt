@@ -32,9 +32,9 @@ pub fn luby(restarts: u64) -> u64
     }
 }
 
-/// Every learnt clause is kept.
-pub fn keep(_width: u64, _age: u64) -> bool
-    ensures { result ≡ true }
+/// Whether a learnt clause is kept: where it has at most six literals, or fewer than 4,000 were learnt after it.
+pub fn keep(width: u64, age: u64) -> bool
+    ensures { width ≤ 2 → result ≡ true }
 {
-    true
+    width <= 6 || age < 4_000
 }

@@ -4,7 +4,7 @@ use Rattle.ba_lits.specs.Literals.{Literal}
 use Rattle.ba_steps.specs.States.{State}
 use Rattle.ba_search.specs.Answers.{IsAnswer}
 use Rattle.ba_cores.specs.Rounds.{literals_of, heavy}
-use Rattle.ba_cores.proofs.DerivesLaws.{puts_on, puts_learns, puts_ready, puts_softs, puts_as, round_as, leaves_none, leaves_learns, leaves_on}
+use Rattle.ba_cores.proofs.DerivesLaws.{puts_on, puts_searched, puts_ready, puts_softs, puts_as, round_as, leaves_none, leaves_searches, leaves_on}
 use Rattle.ba_cores.proofs.HeavyLaws.{heavy_assumed}
 use Rattle.ba_cores.proofs.rounds.round.Goals as goal
 
@@ -28,7 +28,7 @@ take_answer-requires-clause-answer g c =
 pub take_answer-requires-clause-ready : goal.take_answer-requires-clause-ready
 take_answer-requires-clause-ready g c =
     puts_ready (g.J.RunJudge.accepts c.args.checked.now.judge) c.args.checked.now.checker c.solve.new.checked.checker (g.S.StepSink.logs c.args.checked.now.sink) (g.S.StepSink.logs c.solve.new.checked.sink)
-    (puts_learns (g.J.RunJudge.accepts c.args.checked.now.judge) c.args.checked.now.checker c.solve.new.checked.checker (g.S.StepSink.logs c.args.checked.now.sink) (g.S.StepSink.logs c.solve.new.checked.sink) c.in_ok-answer.ensures.steps)
+    (puts_searched (g.J.RunJudge.accepts c.args.checked.now.judge) c.args.checked.now.checker c.solve.new.checked.checker (g.S.StepSink.logs c.args.checked.now.sink) (g.S.StepSink.logs c.solve.new.checked.sink) c.in_ok-answer.ensures.steps)
     c.requires.ready
 
 pub returns-clause-found : goal.returns-clause-found
@@ -36,7 +36,7 @@ returns-clause-found g c =
     let good = g.J.RunJudge.accepts c.args.checked.now.judge in
     let old = c.args.checked.now in
     let mid = c.solve.new.checked in
-    let puts = puts_learns good old.checker mid.checker (g.S.StepSink.logs old.sink) (g.S.StepSink.logs mid.sink) c.in_ok-answer.ensures.steps in
+    let puts = puts_searched good old.checker mid.checker (g.S.StepSink.logs old.sink) (g.S.StepSink.logs mid.sink) c.in_ok-answer.ensures.steps in
     IfOk-weaker c.take_answer.result _ _
     (λ found ends. round_as good (g.J.RunJudge.accepts mid.judge) old.checker mid.checker c.take_answer.new.checked.checker (g.S.StepSink.logs old.sink) (g.S.StepSink.logs mid.sink) c.args.weight.now c.take_answer.new.weight found
     (ap g.J.RunJudge.accepts c.in_ok-answer.ensures.judge_stays) puts ends)
@@ -48,7 +48,7 @@ returns-clause-puts g c =
     let old = c.args.checked.now in
     let mid = c.solve.new.checked in
     let new = c.take_answer.new.checked in
-    let puts = puts_learns good old.checker mid.checker (g.S.StepSink.logs old.sink) (g.S.StepSink.logs mid.sink) c.in_ok-answer.ensures.steps in
+    let puts = puts_searched good old.checker mid.checker (g.S.StepSink.logs old.sink) (g.S.StepSink.logs mid.sink) c.in_ok-answer.ensures.steps in
     on_ok_weaker c.take_answer.result
     (λ more. puts_on good old.checker mid.checker new.checker (g.S.StepSink.logs old.sink) (g.S.StepSink.logs mid.sink) (g.S.StepSink.logs new.sink) puts
     (puts_as (g.J.RunJudge.accepts mid.judge) good mid.checker new.checker (g.S.StepSink.logs mid.sink) (g.S.StepSink.logs new.sink) (ap g.J.RunJudge.accepts c.in_ok-answer.ensures.judge_stays) more))
@@ -59,7 +59,7 @@ returns-in_default-clause-leaves g c = leaves_none (g.J.RunJudge.accepts c.args.
 
 pub returns-in_err-answer-clause-leaves : goal.returns-in_err-answer-clause-leaves
 returns-in_err-answer-clause-leaves g c =
-    leaves_learns (g.J.RunJudge.accepts c.args.checked.now.judge) c.args.checked.now.checker c.solve.new.checked.checker (g.S.StepSink.logs c.args.checked.now.sink) (g.S.StepSink.logs c.solve.new.checked.sink) c.solve.ensures.leaves
+    leaves_searches (g.J.RunJudge.accepts c.args.checked.now.judge) c.args.checked.now.checker c.solve.new.checked.checker (g.S.StepSink.logs c.args.checked.now.sink) (g.S.StepSink.logs c.solve.new.checked.sink) c.solve.ensures.leaves
 
 pub returns-clause-leaves : goal.returns-clause-leaves
 returns-clause-leaves g c =
@@ -67,6 +67,6 @@ returns-clause-leaves g c =
     let old = c.args.checked.now in
     let mid = c.solve.new.checked in
     let new = c.take_answer.new.checked in
-    let puts = puts_learns good old.checker mid.checker (g.S.StepSink.logs old.sink) (g.S.StepSink.logs mid.sink) c.in_ok-answer.ensures.steps in
+    let puts = puts_searched good old.checker mid.checker (g.S.StepSink.logs old.sink) (g.S.StepSink.logs mid.sink) c.in_ok-answer.ensures.steps in
     leaves_on good (g.J.RunJudge.accepts mid.judge) old.checker mid.checker new.checker (g.S.StepSink.logs old.sink) (g.S.StepSink.logs mid.sink) (g.S.StepSink.logs new.sink)
     (ap g.J.RunJudge.accepts c.in_ok-answer.ensures.judge_stays) puts c.take_answer.ensures.leaves

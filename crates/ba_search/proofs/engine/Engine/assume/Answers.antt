@@ -31,12 +31,12 @@ core_of-requires-clause-within c = omega (arith, assumed_within c.args.checker.n
 
 pub core_of-requires-clause-reason : goal.core_of-requires-clause-reason
 core_of-requires-clause-reason c =
-    core_reason_some c.args.assumptions.now c.args.self.now.watch c.args.self.now.taken c.args.checker.now c.keeps_facts.ensures c.requires.underway c.requires.assumptions c.args.assumption c.requires.one
+    core_reason_some c.args.assumptions.now c.args.self.now.watch c.args.self.now.numbers c.args.checker.now c.keeps_facts.ensures c.requires.underway c.requires.assumptions c.args.assumption c.requires.one
     (is_false c.value.result _ c.is_none.result c.value.ensures c.is_none.ensures c.if-is_none.false c.requires.untrue)
 
 pub returns-clause-answer : goal.returns-clause-answer
 returns-clause-answer c =
-    core_answer c.args.assumptions.now c.args.self.now.watch c.args.self.now.taken c.args.checker.now c.keeps_facts.ensures c.requires.underway c.requires.assumptions c.args.assumption c.requires.one
+    core_answer c.args.assumptions.now c.args.self.now.watch c.args.self.now.numbers c.args.checker.now c.keeps_facts.ensures c.requires.underway c.requires.assumptions c.args.assumption c.requires.one
     (is_false c.value.result _ c.is_none.result c.value.ensures c.is_none.ensures c.if-is_none.false c.requires.untrue)
     c.in_ok-core.core.lits c.in_ok-core.core.hints c.in_ok-core.core.back c.in_ok-core.ensures.clause c.in_ok-core.ensures.follows c.in_ok-core.ensures.core c.in_ok-core.ensures.back
     (c.is_spent.ensures.left c.if-is_spent.false)

@@ -17,7 +17,7 @@ returns-in-Some-clause-underway c =
 
 pub returns-clause-answer : goal.returns-clause-answer
 returns-clause-answer c =
-    model_answer c.args.assumptions.now c.args.self.now.watch c.args.self.now.taken c.args.checker.now c.keeps_facts.ensures c.requires.underway c.requires.complete
+    model_answer c.args.assumptions.now c.args.self.now.watch c.args.self.now.numbers c.args.checker.now c.keeps_facts.ensures c.requires.underway c.requires.complete
     (λ v counted within. c.in_default.ensures.none v counted (omega (arith, within, c.variables-variables.ensures.variables)))
     c.in_ok-model.model.values c.requires.assumptions c.requires.true_
     (c.in_ok-model.ensures ∙ ap (values_of c.args.self.now.watch.trail) c.variables-variables.ensures.variables)

@@ -1,16 +1,23 @@
-use Rattle.std.proofs.Common.{subst}
-use Rattle.ba_steps.specs.States.{State}
+use Rattle.std.proofs.Common.{ℕ, ◌≡◌, false, [], ◌∷◌, ◌++◌, length, get_or, sym, ap, subst, ◌∙◌, arith}
+use Rattle.ba_search.specs.Turns.{Numbering}
+use Rattle.std.proofs.lemmas.List.{length_push}
+use Rattle.ba_steps.specs.States.{State, kept}
+use Rattle.ba_steps.specs.declared.store.Origin.TheVariants.{Learnt}
+use Rattle.ba_search.proofs.TakenLaws.{unmarked_next}
 use Rattle.ba_search.proofs.LearnLaws.{Formed}
 use Rattle.ba_search.proofs.LearntSteps.{learnt_step, step_formed, step_allowed, step_taken, learnt_puts, learnt_left, learnt_tried}
+use Rattle.ba_learn.specs.Backjumps.{after_back}
+use Rattle.ba_search.proofs.TurnLaws.{learnt_less}
 use Rattle.ba_search.proofs.UnderwayLaws.{underway_jump}
+use Rattle.ba_search.specs.Searching.{nothing}
 use Rattle.ba_search.proofs.StepLaws.{leaves_none}
 use Rattle.ba_search.proofs.engine.Engine.learn.Goals as goal
 
 pub returns-in_err-learnt-clause-leaves : goal.returns-in_err-learnt-clause-leaves
-returns-in_err-learnt-clause-leaves g c = leaves_none (g.J.RunJudge.accepts c.args.checked.now.judge) c.args.checked.now.checker (g.S.StepSink.logs c.args.checked.now.sink)
+returns-in_err-learnt-clause-leaves g c = leaves_none (g.J.RunJudge.accepts c.args.checked.now.judge) nothing c.args.self.now.numbers.learnt c.args.checked.now.checker (g.S.StepSink.logs c.args.checked.now.sink)
 
 pub returns-in_err-step-clause-leaves : goal.returns-in_err-step-clause-leaves
-returns-in_err-step-clause-leaves g c = leaves_none (g.J.RunJudge.accepts c.args.checked.now.judge) c.args.checked.now.checker (g.S.StepSink.logs c.args.checked.now.sink)
+returns-in_err-step-clause-leaves g c = leaves_none (g.J.RunJudge.accepts c.args.checked.now.judge) nothing c.args.self.now.numbers.learnt c.args.checked.now.checker (g.S.StepSink.logs c.args.checked.now.sink)
 
 pub put-requires-clause-formed : goal.put-requires-clause-formed
 put-requires-clause-formed g c =
@@ -18,9 +25,10 @@ put-requires-clause-formed g c =
     let k = c.args.checked.now.checker in
     let formed : Formed k = subst (λ (x : State). Formed x) c.checker.ensures c.keeps_facts-2.ensures in
     let l = c.in_ok-learnt.ensures in
-    let step = learnt_step (g.J.RunJudge.accepts c.args.checked.now.judge) c.args.assumptions.now s c.args.self.now.taken k c.in_ok-learnt.learnt.lits c.in_ok-learnt.learnt.hints c.in_ok-learnt.learnt.back
+    let step = learnt_step (g.J.RunJudge.accepts c.args.checked.now.judge) c.args.assumptions.now s c.args.self.now.numbers k c.in_ok-learnt.learnt.lits c.in_ok-learnt.learnt.hints c.in_ok-learnt.learnt.back
     c.keeps_facts.ensures formed c.requires.underway c.requires.left l.clause l.follows l.new l.backed in
-    step_formed (g.J.RunJudge.accepts c.args.checked.now.judge) k c.in_ok-learnt.learnt.lits c.in_ok-learnt.learnt.hints c.in_ok-step.step c.in_ok-step.ensures step
+    step_formed (g.J.RunJudge.accepts c.args.checked.now.judge) k c.in_ok-learnt.learnt.lits
+    c.in_ok-learnt.learnt.hints c.in_ok-step.step c.in_ok-step.ensures step
 
 pub put-requires-clause-allowed : goal.put-requires-clause-allowed
 put-requires-clause-allowed g c = λ fresh awake.
@@ -28,9 +36,10 @@ put-requires-clause-allowed g c = λ fresh awake.
     let k = c.args.checked.now.checker in
     let formed : Formed k = subst (λ (x : State). Formed x) c.checker.ensures c.keeps_facts-2.ensures in
     let l = c.in_ok-learnt.ensures in
-    let step = learnt_step (g.J.RunJudge.accepts c.args.checked.now.judge) c.args.assumptions.now s c.args.self.now.taken k c.in_ok-learnt.learnt.lits c.in_ok-learnt.learnt.hints c.in_ok-learnt.learnt.back
+    let step = learnt_step (g.J.RunJudge.accepts c.args.checked.now.judge) c.args.assumptions.now s c.args.self.now.numbers k c.in_ok-learnt.learnt.lits c.in_ok-learnt.learnt.hints c.in_ok-learnt.learnt.back
     c.keeps_facts.ensures formed c.requires.underway c.requires.left l.clause l.follows l.new l.backed in
-    step_allowed (g.J.RunJudge.accepts c.args.checked.now.judge) k c.in_ok-learnt.learnt.lits c.in_ok-learnt.learnt.hints c.in_ok-step.step c.in_ok-step.ensures step
+    step_allowed (g.J.RunJudge.accepts c.args.checked.now.judge) k c.in_ok-learnt.learnt.lits
+    c.in_ok-learnt.learnt.hints c.in_ok-step.step c.in_ok-step.ensures step
 
 pub returns-in_err-put-clause-leaves : goal.returns-in_err-put-clause-leaves
 returns-in_err-put-clause-leaves g c =
@@ -38,9 +47,12 @@ returns-in_err-put-clause-leaves g c =
     let k = c.args.checked.now.checker in
     let formed : Formed k = subst (λ (x : State). Formed x) c.checker.ensures c.keeps_facts-2.ensures in
     let l = c.in_ok-learnt.ensures in
-    let step = learnt_step (g.J.RunJudge.accepts c.args.checked.now.judge) c.args.assumptions.now s c.args.self.now.taken k c.in_ok-learnt.learnt.lits c.in_ok-learnt.learnt.hints c.in_ok-learnt.learnt.back
+    let step = learnt_step (g.J.RunJudge.accepts c.args.checked.now.judge) c.args.assumptions.now s c.args.self.now.numbers k c.in_ok-learnt.learnt.lits c.in_ok-learnt.learnt.hints c.in_ok-learnt.learnt.back
     c.keeps_facts.ensures formed c.requires.underway c.requires.left l.clause l.follows l.new l.backed in
-    learnt_tried (g.J.RunJudge.accepts c.args.checked.now.judge) k c.put.new.self.checker (g.S.StepSink.logs c.args.checked.now.sink) (g.S.StepSink.logs c.put.new.self.sink) c.in_ok-learnt.learnt.lits c.in_ok-learnt.learnt.hints c.in_ok-step.step c.in_ok-step.ensures step
+    learnt_tried (g.J.RunJudge.accepts c.args.checked.now.judge) nothing k c.put.new.self.checker
+    c.args.self.now.numbers.learnt (g.S.StepSink.logs c.args.checked.now.sink)
+    (g.S.StepSink.logs c.put.new.self.sink) c.in_ok-learnt.learnt.lits c.in_ok-learnt.learnt.hints c.in_ok-step.step
+    c.in_ok-step.ensures step
     (c.in_err-put.ensures.taken_or_asleep c.requires.fresh) c.in_err-put.ensures.refused
 
 pub returns-in_err-back_jump-clause-leaves : goal.returns-in_err-back_jump-clause-leaves
@@ -49,15 +61,22 @@ returns-in_err-back_jump-clause-leaves g c =
     let k = c.args.checked.now.checker in
     let formed : Formed k = subst (λ (x : State). Formed x) c.checker.ensures c.keeps_facts-2.ensures in
     let l = c.in_ok-learnt.ensures in
-    let step = learnt_step (g.J.RunJudge.accepts c.args.checked.now.judge) c.args.assumptions.now s c.args.self.now.taken k c.in_ok-learnt.learnt.lits c.in_ok-learnt.learnt.hints c.in_ok-learnt.learnt.back
+    let step = learnt_step (g.J.RunJudge.accepts c.args.checked.now.judge) c.args.assumptions.now s c.args.self.now.numbers k c.in_ok-learnt.learnt.lits c.in_ok-learnt.learnt.hints c.in_ok-learnt.learnt.back
     c.keeps_facts.ensures formed c.requires.underway c.requires.left l.clause l.follows l.new l.backed in
-    learnt_left (g.J.RunJudge.accepts c.args.checked.now.judge) k c.put.new.self.checker (g.S.StepSink.logs c.args.checked.now.sink) (g.S.StepSink.logs c.put.new.self.sink) c.in_ok-learnt.learnt.lits c.in_ok-learnt.learnt.hints c.in_ok-step.step c.in_ok-step.ensures step c.in_ok-put.ensures.taken c.in_ok-put.ensures.told
+    learnt_left (g.J.RunJudge.accepts c.args.checked.now.judge) nothing k c.put.new.self.checker
+    c.args.self.now.numbers.learnt (g.S.StepSink.logs c.args.checked.now.sink)
+    (g.S.StepSink.logs c.put.new.self.sink) c.in_ok-learnt.learnt.lits c.in_ok-learnt.learnt.hints c.in_ok-step.step
+    c.in_ok-step.ensures step c.in_ok-put.ensures.taken c.in_ok-put.ensures.told
 
 pub returns-clause-underway : goal.returns-clause-underway
 returns-clause-underway g c =
-    underway_jump c.args.assumptions.now c.args.self.now.watch c.reward.new.self.watch c.back_jump.new.self.watch c.args.self.now.taken c.reward.new.self.taken c.back_jump.new.self.taken
-    c.args.checked.now.checker c.put.new.self.checker c.in_ok-learnt.learnt.lits c.in_ok-learnt.learnt.back c.reward.ensures.watch c.reward.ensures.taken c.in_ok-back_jump.ensures.adds
-    (step_taken c.args.checked.now.checker c.put.new.self.checker c.in_ok-learnt.learnt.lits c.in_ok-learnt.learnt.hints c.in_ok-step.step c.in_ok-step.ensures c.in_ok-put.ensures.taken)
+    underway_jump c.args.assumptions.now c.args.self.now.watch c.reward.new.self.watch c.back_jump.new.self.watch
+    c.args.self.now.numbers c.reward.new.self.numbers c.back_jump.new.self.numbers
+    c.last.result c.args.checked.now.checker c.put.new.self.checker c.in_ok-learnt.learnt.lits
+    c.in_ok-learnt.learnt.back c.reward.ensures.watch c.reward.ensures.numbers c.in_ok-back_jump.ensures.learns
+    (c.last.ensures ∙ ap (λ (x : State). length x.clauses) c.checker-3.ensures)
+    (step_taken c.args.checked.now.checker c.put.new.self.checker c.in_ok-learnt.learnt.lits
+    c.in_ok-learnt.learnt.hints c.in_ok-step.step c.in_ok-step.ensures c.in_ok-put.ensures.taken)
     c.requires.underway
 
 pub returns-clause-puts : goal.returns-clause-puts
@@ -66,9 +85,17 @@ returns-clause-puts g c =
     let k = c.args.checked.now.checker in
     let formed : Formed k = subst (λ (x : State). Formed x) c.checker.ensures c.keeps_facts-2.ensures in
     let l = c.in_ok-learnt.ensures in
-    let step = learnt_step (g.J.RunJudge.accepts c.args.checked.now.judge) c.args.assumptions.now s c.args.self.now.taken k c.in_ok-learnt.learnt.lits c.in_ok-learnt.learnt.hints c.in_ok-learnt.learnt.back
+    let step = learnt_step (g.J.RunJudge.accepts c.args.checked.now.judge) c.args.assumptions.now s c.args.self.now.numbers k c.in_ok-learnt.learnt.lits c.in_ok-learnt.learnt.hints c.in_ok-learnt.learnt.back
     c.keeps_facts.ensures formed c.requires.underway c.requires.left l.clause l.follows l.new l.backed in
-    learnt_puts (g.J.RunJudge.accepts c.args.checked.now.judge) k c.put.new.self.checker (g.S.StepSink.logs c.args.checked.now.sink) (g.S.StepSink.logs c.put.new.self.sink) c.in_ok-learnt.learnt.lits c.in_ok-learnt.learnt.hints c.in_ok-step.step c.in_ok-step.ensures step c.in_ok-put.ensures.taken c.in_ok-put.ensures.told
+    learnt_puts (g.J.RunJudge.accepts c.args.checked.now.judge) nothing k c.put.new.self.checker
+    c.args.self.now.numbers.learnt c.back_jump.new.self.numbers.learnt (g.S.StepSink.logs c.args.checked.now.sink)
+    (g.S.StepSink.logs c.put.new.self.sink) c.in_ok-learnt.learnt.lits c.in_ok-learnt.learnt.hints c.in_ok-step.step
+    c.in_ok-step.ensures step c.in_ok-put.ensures.taken
+    (c.in_ok-back_jump.ensures.learns.learnt
+    ∙ (ap (λ (n : Numbering). n.learnt ++ c.last.result ∷ []) c.reward.ensures.numbers
+    ∙ ap (λ (m : ℕ). c.args.self.now.numbers.learnt ++ m ∷ [])
+    (c.last.ensures ∙ ap (λ (x : State). length x.clauses) c.checker-3.ensures)))
+    c.in_ok-put.ensures.told
 
 pub returns-clause-leaves : goal.returns-clause-leaves
 returns-clause-leaves g c =
@@ -76,6 +103,32 @@ returns-clause-leaves g c =
     let k = c.args.checked.now.checker in
     let formed : Formed k = subst (λ (x : State). Formed x) c.checker.ensures c.keeps_facts-2.ensures in
     let l = c.in_ok-learnt.ensures in
-    let step = learnt_step (g.J.RunJudge.accepts c.args.checked.now.judge) c.args.assumptions.now s c.args.self.now.taken k c.in_ok-learnt.learnt.lits c.in_ok-learnt.learnt.hints c.in_ok-learnt.learnt.back
+    let step = learnt_step (g.J.RunJudge.accepts c.args.checked.now.judge) c.args.assumptions.now s c.args.self.now.numbers k c.in_ok-learnt.learnt.lits c.in_ok-learnt.learnt.hints c.in_ok-learnt.learnt.back
     c.keeps_facts.ensures formed c.requires.underway c.requires.left l.clause l.follows l.new l.backed in
-    learnt_left (g.J.RunJudge.accepts c.args.checked.now.judge) k c.put.new.self.checker (g.S.StepSink.logs c.args.checked.now.sink) (g.S.StepSink.logs c.put.new.self.sink) c.in_ok-learnt.learnt.lits c.in_ok-learnt.learnt.hints c.in_ok-step.step c.in_ok-step.ensures step c.in_ok-put.ensures.taken c.in_ok-put.ensures.told
+    learnt_left (g.J.RunJudge.accepts c.args.checked.now.judge) nothing k c.put.new.self.checker
+    c.args.self.now.numbers.learnt (g.S.StepSink.logs c.args.checked.now.sink)
+    (g.S.StepSink.logs c.put.new.self.sink) c.in_ok-learnt.learnt.lits c.in_ok-learnt.learnt.hints c.in_ok-step.step
+    c.in_ok-step.ensures step c.in_ok-put.ensures.taken c.in_ok-put.ensures.told
+
+pub returns-clause-less : goal.returns-clause-less
+returns-clause-less g c =
+    learnt_less c.args.checked.now.checker c.put.new.self.checker c.args.self.now.watch c.back_jump.new.self.watch
+    (after_back c.in_ok-learnt.learnt.back c.reward.new.self.watch) c.reward.new.self.numbers
+    c.back_jump.new.self.numbers c.last.result
+    c.args.self.now.since c.saturating_add-self.result c.in_ok-learnt.learnt.back c.in_ok-learnt.learnt.lits
+    (step_taken c.args.checked.now.checker c.put.new.self.checker c.in_ok-learnt.learnt.lits
+    c.in_ok-learnt.learnt.hints c.in_ok-step.step c.in_ok-step.ensures c.in_ok-put.ensures.taken)
+    (ap (after_back c.in_ok-learnt.learnt.back) c.reward.ensures.watch) c.in_ok-back_jump.ensures.learns
+    (omega (arith, c.saturating_add-self.ensures)) c.requires.left
+
+pub back_jump-requires-clause-fresh : goal.back_jump-requires-clause-fresh
+back_jump-requires-clause-fresh g c =
+    let k = c.args.checked.now.checker in
+    subst (λ (n : Numbering). get_or n.taken c.last.result false ≡ false) (sym c.reward.ensures.numbers)
+    (unmarked_next c.args.self.now.watch.clauses c.args.self.now.numbers.taken k.clauses c.last.result
+    c.requires.underway.numbered c.requires.underway.live
+    (c.last.ensures ∙ (ap (λ (x : State). length x.clauses) c.checker-3.ensures
+    ∙ (ap (λ (x : State). length x.clauses)
+    (step_taken k c.put.new.self.checker c.in_ok-learnt.learnt.lits c.in_ok-learnt.learnt.hints c.in_ok-step.step
+    c.in_ok-step.ensures c.in_ok-put.ensures.taken)
+    ∙ length_push k.clauses (kept Learnt c.in_ok-learnt.learnt.lits)))))

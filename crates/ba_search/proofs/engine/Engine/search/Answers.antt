@@ -1,20 +1,24 @@
-use Rattle.std.proofs.Common.{ℕ, max, ap, ◌∙◌, refl, arith}
+use Rattle.std.proofs.Common.{ℕ, ◌^◌, ◌<◌, max, length, ap, ◌∙◌, refl, arith}
 use Rattle.ba_steps.specs.States.{State}
 use Rattle.ba_search.proofs.UnderwayLaws.{underway_moved, underway_begin}
-use Rattle.ba_search.proofs.StepLaws.{puts_none, puts_then, leaves_none, leaves_then}
+use Rattle.ba_search.specs.Turns.{Numbering}
+use Rattle.ba_search.proofs.StepLaws.{puts_none, puts_then, puts_from, leaves_none, leaves_then, leaves_from}
 use Rattle.ba_search.proofs.engine.Engine.search.Goals as goal
 
 pub turns-init : goal.turns-init
 turns-init g c =
     let s = c.args.self.now.watch in
     let k = c.args.checked.now.checker in
+    let few : length k.clauses < 2 ^ 62 = omega (arith, c.last.ensures, ap (λ (x : State). length x.clauses) c.checker.ensures, c.if-last.false) in
     record {
-      underway = underway_moved c.args.assumptions.now c.go_back.new.self.watch c.go_back.new.self.watch c.args.self.now.taken c.go_back.new.self.taken k refl (c.go_back.ensures.taken ∙ c.grow.ensures.taken)
-          (underway_begin c.args.assumptions.now s c.grow.new.self.watch c.go_back.new.self.watch c.args.self.now.taken k
-          (c.in_ok-grow.ensures.ok ∙ ap (λ (v : ℕ). record s { variables = max s.variables v }) (c.variables.ensures.variables ∙ ap (λ (x : State). x.variables) c.checker.ensures))
-          c.go_back.ensures.watch c.keeps_facts.ensures c.requires.taken c.requires.all c.requires.begun c.requires.awake);
+      underway = underway_moved c.args.assumptions.now c.go_back.new.self.watch c.go_back.new.self.watch c.args.self.now.numbers c.go_back.new.self.numbers k refl (c.go_back.ensures.numbers ∙ c.grow.ensures.numbers)
+          (underway_begin c.args.assumptions.now s c.grow.new.self.watch c.go_back.new.self.watch
+          c.args.self.now.numbers k
+          (c.in_ok-grow.ensures.ok ∙ ap (λ (v : ℕ). record s { variables = max s.variables v }) (c.variables.ensures.variables ∙ ap (λ (x : State). x.variables) c.checker-2.ensures))
+          c.go_back.ensures.watch c.keeps_facts.ensures c.requires.numbered c.requires.live
+          few c.requires.begun c.requires.awake);
       variables = refl;
-      puts = puts_none (g.J.RunJudge.accepts c.args.checked.now.judge) k (g.S.StepSink.logs c.args.checked.now.sink);
+      puts = puts_none (g.J.RunJudge.accepts c.args.checked.now.judge) (λ width age kept. g.K.Fn.post c.args.keep.now (width, (age, tt)) kept) k c.go_back.new.self.numbers.learnt (g.S.StepSink.logs c.args.checked.now.sink);
       fresh = c.requires.fresh;
       propagated = omega (arith, c.grow.ensures.propagated, c.go_back.ensures.propagated);
       judge = refl;
@@ -25,9 +29,19 @@ turns-init g c =
 
 pub returns-in-Some-clause-puts : goal.returns-in-Some-clause-puts
 returns-in-Some-clause-puts g c =
-    puts_then (g.J.RunJudge.accepts c.args.checked.now.judge) (g.J.RunJudge.accepts c.turns.checked.judge) c.args.checked.now.checker c.turns.checked.checker c.turn.new.checked.checker
-    (g.S.StepSink.logs c.args.checked.now.sink) (g.S.StepSink.logs c.turns.checked.sink) (g.S.StepSink.logs c.turn.new.checked.sink)
-    (ap g.J.RunJudge.accepts c.turns.invariant.judge) c.turns.invariant.puts c.in_ok-answer.ensures.puts
+    puts_from (g.J.RunJudge.accepts c.args.checked.now.judge)
+    (λ width age kept. g.K.Fn.post c.args.keep.now (width, (age, tt)) kept) c.args.checked.now.checker
+    c.turn.new.checked.checker c.go_back.new.self.numbers.learnt c.args.self.now.numbers.learnt
+    c.turn.new.self.numbers.learnt (g.S.StepSink.logs c.args.checked.now.sink)
+    (g.S.StepSink.logs c.turn.new.checked.sink)
+    (ap (λ (n : Numbering). n.learnt) (c.go_back.ensures.numbers ∙ c.grow.ensures.numbers))
+    (puts_then (g.J.RunJudge.accepts c.args.checked.now.judge) (g.J.RunJudge.accepts c.turns.checked.judge)
+    (λ width age kept. g.K.Fn.post c.args.keep.now (width, (age, tt)) kept) c.args.checked.now.checker
+    c.turns.checked.checker c.turn.new.checked.checker
+    c.go_back.new.self.numbers.learnt c.turns.self.numbers.learnt c.turn.new.self.numbers.learnt
+    (g.S.StepSink.logs c.args.checked.now.sink) (g.S.StepSink.logs c.turns.checked.sink)
+    (g.S.StepSink.logs c.turn.new.checked.sink)
+    (ap g.J.RunJudge.accepts c.turns.invariant.judge) c.turns.invariant.puts c.in_ok-answer.ensures.puts)
 
 pub turns-preserved : goal.turns-preserved
 turns-preserved g c =
@@ -36,8 +50,10 @@ turns-preserved g c =
     record {
       underway = t.underway;
       variables = t.variables ∙ i.variables;
-      puts = puts_then (g.J.RunJudge.accepts c.args.checked.now.judge) (g.J.RunJudge.accepts c.turns.checked.judge) c.args.checked.now.checker c.turns.checked.checker c.turn.new.checked.checker
-          (g.S.StepSink.logs c.args.checked.now.sink) (g.S.StepSink.logs c.turns.checked.sink) (g.S.StepSink.logs c.turn.new.checked.sink)
+      puts = puts_then (g.J.RunJudge.accepts c.args.checked.now.judge) (g.J.RunJudge.accepts c.turns.checked.judge) (λ width age kept. g.K.Fn.post c.args.keep.now (width, (age, tt)) kept) c.args.checked.now.checker c.turns.checked.checker c.turn.new.checked.checker
+          c.go_back.new.self.numbers.learnt c.turns.self.numbers.learnt c.turn.new.self.numbers.learnt
+          (g.S.StepSink.logs c.args.checked.now.sink) (g.S.StepSink.logs c.turns.checked.sink)
+          (g.S.StepSink.logs c.turn.new.checked.sink)
           (ap g.J.RunJudge.accepts i.judge) i.puts t.puts;
       fresh = t.fresh;
       propagated = omega (arith, c.turn.ensures.propagated, i.propagated);
@@ -47,17 +63,38 @@ turns-preserved g c =
       references = t.same_references ∙ i.references;
     }
 
+pub returns-then-last-clause-leaves : goal.returns-then-last-clause-leaves
+returns-then-last-clause-leaves g c = leaves_none (g.J.RunJudge.accepts c.args.checked.now.judge) (λ width age kept. g.K.Fn.post c.args.keep.now (width, (age, tt)) kept) c.args.self.now.numbers.learnt c.args.checked.now.checker (g.S.StepSink.logs c.args.checked.now.sink)
+
 pub returns-in_err-grow-clause-leaves : goal.returns-in_err-grow-clause-leaves
-returns-in_err-grow-clause-leaves g c = leaves_none (g.J.RunJudge.accepts c.args.checked.now.judge) c.args.checked.now.checker (g.S.StepSink.logs c.args.checked.now.sink)
+returns-in_err-grow-clause-leaves g c = leaves_none (g.J.RunJudge.accepts c.args.checked.now.judge) (λ width age kept. g.K.Fn.post c.args.keep.now (width, (age, tt)) kept) c.args.self.now.numbers.learnt c.args.checked.now.checker (g.S.StepSink.logs c.args.checked.now.sink)
 
 pub returns-in_err-answer-clause-leaves : goal.returns-in_err-answer-clause-leaves
 returns-in_err-answer-clause-leaves g c =
-    leaves_then (g.J.RunJudge.accepts c.args.checked.now.judge) (g.J.RunJudge.accepts c.turns.checked.judge) c.args.checked.now.checker c.turns.checked.checker c.turn.new.checked.checker
-    (g.S.StepSink.logs c.args.checked.now.sink) (g.S.StepSink.logs c.turns.checked.sink) (g.S.StepSink.logs c.turn.new.checked.sink)
-    (ap g.J.RunJudge.accepts c.turns.invariant.judge) c.turns.invariant.puts c.turn.ensures.leaves
+    leaves_from (g.J.RunJudge.accepts c.args.checked.now.judge)
+    (λ width age kept. g.K.Fn.post c.args.keep.now (width, (age, tt)) kept) c.go_back.new.self.numbers.learnt
+    c.args.self.now.numbers.learnt c.args.checked.now.checker c.turn.new.checked.checker
+    (g.S.StepSink.logs c.args.checked.now.sink) (g.S.StepSink.logs c.turn.new.checked.sink)
+    (ap (λ (n : Numbering). n.learnt) (c.go_back.ensures.numbers ∙ c.grow.ensures.numbers))
+    (leaves_then (g.J.RunJudge.accepts c.args.checked.now.judge) (g.J.RunJudge.accepts c.turns.checked.judge)
+    (λ width age kept. g.K.Fn.post c.args.keep.now (width, (age, tt)) kept) c.go_back.new.self.numbers.learnt
+    c.turns.self.numbers.learnt
+    c.args.checked.now.checker c.turns.checked.checker c.turn.new.checked.checker
+    (g.S.StepSink.logs c.args.checked.now.sink) (g.S.StepSink.logs c.turns.checked.sink)
+    (g.S.StepSink.logs c.turn.new.checked.sink)
+    (ap g.J.RunJudge.accepts c.turns.invariant.judge) c.turns.invariant.puts c.turn.ensures.leaves)
 
 pub returns-in-Some-clause-leaves : goal.returns-in-Some-clause-leaves
 returns-in-Some-clause-leaves g c =
-    leaves_then (g.J.RunJudge.accepts c.args.checked.now.judge) (g.J.RunJudge.accepts c.turns.checked.judge) c.args.checked.now.checker c.turns.checked.checker c.turn.new.checked.checker
-    (g.S.StepSink.logs c.args.checked.now.sink) (g.S.StepSink.logs c.turns.checked.sink) (g.S.StepSink.logs c.turn.new.checked.sink)
-    (ap g.J.RunJudge.accepts c.turns.invariant.judge) c.turns.invariant.puts c.turn.ensures.leaves
+    leaves_from (g.J.RunJudge.accepts c.args.checked.now.judge)
+    (λ width age kept. g.K.Fn.post c.args.keep.now (width, (age, tt)) kept) c.go_back.new.self.numbers.learnt
+    c.args.self.now.numbers.learnt c.args.checked.now.checker c.turn.new.checked.checker
+    (g.S.StepSink.logs c.args.checked.now.sink) (g.S.StepSink.logs c.turn.new.checked.sink)
+    (ap (λ (n : Numbering). n.learnt) (c.go_back.ensures.numbers ∙ c.grow.ensures.numbers))
+    (leaves_then (g.J.RunJudge.accepts c.args.checked.now.judge) (g.J.RunJudge.accepts c.turns.checked.judge)
+    (λ width age kept. g.K.Fn.post c.args.keep.now (width, (age, tt)) kept) c.go_back.new.self.numbers.learnt
+    c.turns.self.numbers.learnt
+    c.args.checked.now.checker c.turns.checked.checker c.turn.new.checked.checker
+    (g.S.StepSink.logs c.args.checked.now.sink) (g.S.StepSink.logs c.turns.checked.sink)
+    (g.S.StepSink.logs c.turn.new.checked.sink)
+    (ap g.J.RunJudge.accepts c.turns.invariant.judge) c.turns.invariant.puts c.turn.ensures.leaves)

@@ -4,9 +4,9 @@ use Rattle.ba_search.proofs.engine.Engine.search.Given as goal
 
 abbrev pub invariant-turns : goal.invariant-turns
 invariant-turns g l = record {
-  underway : IsUnderway l.assumptions l.self.watch l.self.taken l.checked.checker;
+  underway : IsUnderway l.assumptions l.self.watch l.self.numbers l.checked.checker;
   variables : l.checked.checker.variables ≡ l.initial.checked.checker.variables;
-  puts : Puts (g.J.RunJudge.accepts l.initial.checked.judge) l.initial.checked.checker l.checked.checker (g.S.StepSink.logs l.initial.checked.sink) (g.S.StepSink.logs l.checked.sink);
+  puts : Puts (g.J.RunJudge.accepts l.initial.checked.judge) (λ width age kept. g.K.Fn.post l.keep (width, (age, tt)) kept) l.initial.checked.checker l.checked.checker l.initial.self.numbers.learnt l.self.numbers.learnt (g.S.StepSink.logs l.initial.checked.sink) (g.S.StepSink.logs l.checked.sink);
   fresh : l.checked.refusal ≡ None;
   propagated : l.initial.self.propagated ≤ l.self.propagated;
   judge : l.checked.judge ≡ l.initial.checked.judge;

@@ -1,24 +1,30 @@
-use Rattle.std.proofs.Common.{map, ap, ◌∙◌, arith}
+use Rattle.std.proofs.Common.{map, refl, ap, ◌∙◌, ◌+◌, arith}
 use Rattle.ba_watch.specs.Trails.{decided}
 use Rattle.ba_steps.specs.States.{clause_at, kept}
 use Rattle.ba_steps.specs.declared.store.Origin.TheVariants.{Given}
-use Rattle.ba_search.proofs.TakenLaws.{taken_next}
+use Rattle.ba_search.proofs.TakenLaws.{taken_more, there_more, marks_later}
 use Rattle.ba_search.proofs.StepLaws.{given_next, given_live}
 use Rattle.ba_search.proofs.search.Search.new.Goals as goal
 
 pub loop-place-preserved : goal.loop-place-preserved
 loop-place-preserved g c =
     let adds = c.in_ok-add.ensures.adds in
+    let i = c.loop-place.invariant in
     record {
-      level = ap decided adds.adds.reasons ∙ c.loop-place.invariant.level;
-      variables = adds.adds.variables ∙ c.loop-place.invariant.variables;
-      taken = taken_next c.loop-place.engine.watch c.add.new.self.watch c.loop-place.engine.taken c.add.new.self.taken c.clause.result.now (clause_at (map (kept Given) c.args.formula.now.clauses)) adds c.loop-place.invariant.taken
-          (given_next c.args.formula.now.clauses c.loop-place.engine.taken c.loop-place.place c.clause.result.now c.loop-place.invariant.next (omega (arith, c.loop-place-test.true, c.len-place-end.ensures)) c.clause.ensures.clause);
-      next = omega (arith, adds.next, c.loop-place.invariant.next);
-      propagated = c.add.ensures.propagated ∙ c.loop-place.invariant.propagated;
+      level = ap decided adds.adds.reasons ∙ i.level;
+      variables = adds.adds.variables ∙ i.variables;
+      taken = taken_more c.loop-place.engine.watch c.add.new.self.watch c.loop-place.engine.numbers c.add.new.self.numbers (c.loop-place.place + 1) c.clause.result.now (clause_at (map (kept Given) c.args.formula.now.clauses)) adds
+          (i.unmarked (c.loop-place.place + 1) (omega arith)) i.taken
+          (given_next c.args.formula.now.clauses c.loop-place.place c.loop-place.place c.clause.result.now refl
+          (omega (arith, c.loop-place-test.true, c.len-place-end.ensures)) c.clause.ensures.clause);
+      there = there_more c.loop-place.engine.watch c.add.new.self.watch c.loop-place.engine.numbers c.add.new.self.numbers c.loop-place.place (c.loop-place.place + 1) c.clause.result.now (clause_at (map (kept Given) c.args.formula.now.clauses)) adds refl i.there;
+      unmarked = λ k past. marks_later c.loop-place.engine.numbers.taken c.add.new.self.numbers.taken c.loop-place.place k adds.marks i.unmarked past;
+      learnt = adds.learnt ∙ i.learnt;
+      propagated = c.add.ensures.propagated ∙ i.propagated;
     }
 
 pub returns-clause-clauses : goal.returns-clause-clauses
 returns-clause-clauses g c =
-    given_live c.loop-place.engine.watch.clauses c.loop-place.engine.taken 0 c.args.formula.now.clauses c.loop-place.invariant.taken
-    (omega (arith, c.loop-place.invariant.next, c.loop-place-test.false, c.loop-place.auto.place-end, c.len-place-end.ensures))
+    given_live c.loop-place.engine.watch.clauses c.loop-place.engine.numbers.taken c.loop-place.place
+    c.args.formula.now.clauses c.loop-place.invariant.taken c.loop-place.invariant.there
+    (omega (arith, c.loop-place-test.false, c.len-place-end.ensures))

@@ -1,11 +1,5 @@
-use Rattle.ba_steps.proofs.ListedLaws.{AreListed-length, first_found, rest_found}
+use Rattle.ba_steps.proofs.ListedLaws.{first_found, rest_found}
 use Rattle.ba_steps.proofs.clauses.Clauses.holds_part.Goals as goal
-
-pub lists_part-requires : goal.lists_part-requires
-lists_part-requires c = AreListed-length c.self.inside.index c.self.inside.store c.self.invariant
-
-pub lists_any-requires : goal.lists_any-requires
-lists_any-requires c = AreListed-length c.self.inside.index c.self.inside.store c.self.invariant
 
 pub returns-then-lists_part : goal.returns-then-lists_part
 returns-then-lists_part c =

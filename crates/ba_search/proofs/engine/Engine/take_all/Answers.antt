@@ -1,0 +1,25 @@
+use Rattle.std.proofs.Common.{◌+◌, refl, ◌∙◌, arith}
+use Rattle.ba_steps.specs.States.{clause_at}
+use Rattle.ba_search.proofs.TakenLaws.{there_next, taken_live}
+use Rattle.ba_search.proofs.engine.Engine.take_all.Goals as goal
+
+pub loop-place-preserved : goal.loop-place-preserved
+loop-place-preserved c =
+    let i = c.loop-place.invariant in
+    let t = c.in_ok-take_next.ensures in
+    record {
+      level = t.level;
+      taken = t.taken;
+      there = there_next c.take_next.new.self.watch.clauses c.loop-place.place (c.loop-place.place + 1) (clause_at c.args.checker.now.clauses) refl
+          (λ k within given is. t.stays k (i.there k within given is))
+          (λ given is. t.there given is);
+      variables = t.variables ∙ i.variables;
+      learnt = t.learnt ∙ i.learnt;
+      since = t.since ∙ i.since;
+      propagated = t.propagated ∙ i.propagated;
+    }
+
+pub returns-clause-live : goal.returns-clause-live
+returns-clause-live c =
+    taken_live c.loop-place.self.watch.clauses c.loop-place.self.numbers.taken c.args.checker.now.clauses c.loop-place.place c.loop-place.invariant.taken c.loop-place.invariant.there
+    (omega (arith, c.loop-place-test.false, c.last-place-end.ensures))
