@@ -182,30 +182,3 @@ fn append(words: &mut Vec<u64>, lits: &[Lit], number: u64) -> Result<(), AllocEr
     }
     Ok(())
 }
-
-#[cfg(test)]
-mod tests {
-    use super::*;
-    use std::test::Fail;
-
-    #[test]
-    fn keeps_clauses_with_their_links(rt: HostRuntime) -> Result<(), Fail> {
-        let mut arena = Arena::new(rt.alloc());
-        let one = Lit::positive(1);
-        let two = Lit::positive(2);
-        let first = arena.add([one, two].as_slice(), 7)?;
-        let second = arena.add([two.negated()].as_slice(), 9)?;
-        assert_eq!(rt; arena.number(first), 7);
-        assert_eq!(rt; arena.number(second), 9);
-        assert_eq!(rt; arena.len(first), 2);
-        assert_eq!(rt; arena.lit(second, 0), two.negated());
-        assert_eq!(rt; arena.link(first, 1), None);
-        arena.set_link(first, 1, Some(second));
-        assert_eq!(rt; arena.link(first, 1), Some(second));
-        assert_eq!(rt; arena.link(first, 0), None);
-        arena.swap(first, 0, 1);
-        assert_eq!(rt; arena.lit(first, 0), two);
-        assert_eq!(rt; arena.lit(first, 1), one);
-        Ok(())
-    }
-}

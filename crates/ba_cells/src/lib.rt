@@ -145,6 +145,3 @@ fn power_of_two(exponent: usize) -> usize
 {
     1 << exponent
 }
-
-#[cfg(test)]
-mod tests;

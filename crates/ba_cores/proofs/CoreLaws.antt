@@ -1,6 +1,7 @@
 -- A core under the present soft literals makes an allowed step.
 
-use Rattle.std.proofs.Common.{◌≡◌, ◌≢◌, ℕ, suc, zero, ◌+◌, ◌-◌, ◌^◌, ◌<◌, ◌≤◌, Bool, true, false, not, ◌||◌, ltb, eqb, Option, None, Some, List, [], ◌∷◌, ◌++◌, map, length, refl, sym, ap, ◌∙◌, arith, subst}
+use Rattle.std.proofs.Common.{◌≡◌, ◌≢◌, ℕ, suc, zero, ◌+◌, ◌-◌, ◌^◌, ◌<◌, ◌≤◌, Bool, false, not, ltb, eqb, Option, None, Some, List, [], ◌∷◌, ◌++◌, map, length, refl, sym, ap, ◌∙◌, arith, subst}
+use Rattle.std.proofs.lemmas.Bool.{or_from, le-ltb}
 use Rattle.std.proofs.lemmas.Bool.Decides.{nat_tests}
 use Rattle.std.proofs.lemmas.List.Elements.{All-head, All-tail}
 use Rattle.std.specs.List.{slice_get, list_any}
@@ -65,11 +66,9 @@ core_formed s assumptions lits hints back core few some = ((IsClause-more s.vari
 none_of : (p : Literal → Bool) (xs : List Literal) → ((k : ℕ) → k < length xs → p (lit_at xs k) ≡ false) →
     list_any p xs ≡ false
 none_of p [] each = refl
-none_of p (x ∷ xs) each = neither (p x) (list_any p xs) (each 0 (omega arith)) (none_of p xs (λ k lt. each (suc k) (omega (arith, lt))))
-  where
-    neither : (a b : Bool) → a ≡ false → b ≡ false → (a || b) ≡ false
-    neither false b e f = f
-    neither true b e f = absurd (cc e)
+none_of p (x ∷ xs) each =
+    or_from (p x) (list_any p xs) (each 0 (omega arith))
+    (none_of p xs (λ k lt. each (suc k) (omega (arith, lt))))
 
 no_error : (refused ended lacks spent blocked others : Bool) (r : Replay) → refused ≡ false → ended ≡ false →
     lacks ≡ false → spent ≡ false → blocked ≡ false → others ≡ false → r ≡ Refutes →
@@ -82,15 +81,13 @@ pub core_allowed : (good : Judge) (s : State) (lits : List Literal) (hints : Lis
 core_allowed good s lits hints back core ready =
     no_error s.refused s.ended (lacks_variable s lits) (is_spent s) (ltb 0 (length s.sets)) (lacks_soft s.softs lits) (replay (clause_at s.clauses) lits hints)
     ready.awake ready.begun
-    (none_of (λ (l : Literal). ltb s.variables l.variable) lits (λ k lt. exists s.variables (lit_at lits k).variable (core.clause.within k lt)))
+    (none_of (λ (l : Literal). ltb s.variables l.variable) lits
+    (λ k lt. le-ltb s.variables (lit_at lits k).variable (core.clause.within k lt)))
     (left s.conflicts s.budget core.left)
     (ap (λ sets. ltb 0 (length sets)) ready.none_blocked)
     (none_of (λ (l : Literal). not (is_soft s.softs (negate l))) lits (λ k lt. ap not (core.negates k lt)))
     core.follows
   where
-    exists : (n v : ℕ) → v ≤ n → ltb n v ≡ false
-    exists n v le = grind (arith, nat_tests)
-
     left : (m n : ℕ) → m < n → eqb m n ≡ false
     left m n lt = grind (arith, nat_tests)
 

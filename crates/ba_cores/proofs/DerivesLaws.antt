@@ -1,6 +1,6 @@
 -- Derivations put end to end, and what they leave as it was.
 
-use Rattle.std.proofs.Common.{◌≡◌, ℕ, ◌+◌, ◌-◌, ◌<◌, ◌≤◌, Bool, Option, None, Some, IfSome, IfNone, Result, Ok, Err, List, [], ◌∷◌, ◌++◌, All, refl, sym, ap, ◌∙◌, arith, subst}
+use Rattle.std.proofs.Common.{◌≡◌, ℕ, ◌+◌, ◌-◌, ◌<◌, ◌≤◌, Option, None, Some, IfSome, IfNone, Result, Ok, Err, List, [], ◌∷◌, ◌++◌, All, refl, ap, ◌∙◌, arith, subst}
 use Rattle.std.specs.Result.{OnOk}
 use Rattle.std.proofs.lemmas.List.Elements.{All-nil, All-cons, All-append}
 use Rattle.ba_lits.specs.Literals.{Literal}
@@ -9,21 +9,19 @@ use Rattle.ba_lits.specs.Formulas.{Cnf}
 use Rattle.ba_steps.specs.States.{State, first_state}
 use Rattle.ba_steps.specs.Judging.{Judge, error_of, after, after_all, next_if}
 use Rattle.ba_steps.specs.Sinks.{Logs, with_step, MayAddStep}
-use Rattle.ba_steps.specs.Puts.{IsTakenOrAsleep}
+use Rattle.ba_steps.specs.Puts.{IsTakenOrAsleep, with_steps, leaves_all, leaves_last}
+use Rattle.ba_steps.proofs.PutLaws.{logs_then, leaves_weaker, leaves_after}
 use Rattle.ba_steps.specs.Steps.{IsFormed}
 use Rattle.ba_steps.specs.declared.step.CertStep.{CertStep}
 use Rattle.ba_steps.specs.declared.step.CertStep.TheVariants.{Learn, Core, Delete}
 use Rattle.ba_steps.specs.declared.step.StepError.{StepError}
-use Rattle.ba_search.specs.Searching.{Searches, searches_none, searches_learn, searches_delete, with_steps, Leaves as LeavesSearched, leaves_all as leaves_searched, leaves_last as leaves_last_searched}
-use Rattle.ba_cores.specs.Derivations.{Derives, derives_none, derives_learn, derives_delete, derives_core, Leaves, leaves_all, leaves_last, IsReached}
+use Rattle.ba_search.specs.Searching.{Searches, searches_none, searches_learn, searches_delete, Leaves as LeavesSearched}
+use Rattle.ba_search.proofs.StepLaws.{Gives}
+use Rattle.ba_cores.specs.Derivations.{Derives, derives_none, derives_learn, derives_delete, derives_core, Leaves, IsReached}
 use Rattle.ba_cores.specs.Findings.{IsFound}
 use Rattle.ba_cores.specs.Rounds.{IsReady, Puts, EndsRound}
 use Rattle.ba_cores.specs.declared.costs.Found.{Found}
 use Rattle.ba_cores.specs.declared.costs.Found.TheVariants.{Least, NoModel, Spent}
-
--- what a keep rule gives
-abbrev pub Gives : Type 1
-Gives = ℕ → ℕ → Bool → Type 0
 
 -- the steps of a search are steps
 pub searches_derives : {good : Judge} {gives : Gives} {a b : State} {learnt all : List ℕ} {xs : List CertStep} →
@@ -42,11 +40,6 @@ derives_append (derives_delete s t numbers steps formed allowed rest) c ys more 
     derives_delete s c numbers (steps ++ ys) formed allowed (derives_append rest c ys more)
 derives_append (derives_core s t lits hints steps formed allowed rest) c ys more =
     derives_core s c lits hints (steps ++ ys) formed allowed (derives_append rest c ys more)
-
-pub with_steps-append : (xs ys : List CertStep) (logs : Logs) →
-    with_steps (xs ++ ys) logs ≡ with_steps ys (with_steps xs logs)
-with_steps-append [] ys logs = refl
-with_steps-append (x ∷ xs) ys logs = with_steps-append xs ys (with_step x logs)
 
 -- what a derivation leaves as it was, and what grows
 pub record Stays (old new : State) : Type 0 where
@@ -149,40 +142,42 @@ round_from d c v w None is = let s = derives_stays d in omega (arith, is, s.budg
 
 -- THE STEPS OF ROUNDS
 pub puts_none : (good : Judge) (s : State) (logs : Logs) → Puts good s s logs logs
-puts_none good s logs = record { steps = []; derives = derives_none s; logs = refl }
+puts_none good s logs = record { steps = []; leads = derives_none s; logs = refl }
 
 pub puts_on : (good : Judge) (a b c : State) (l m n : Logs) → Puts good a b l m → Puts good b c m n → Puts good a c l n
 puts_on good a b c l m n p q = record {
   steps = p.steps ++ q.steps;
-  derives = derives_append p.derives c q.steps q.derives;
-  logs = q.logs ∙ ap (with_steps q.steps) p.logs ∙ sym (with_steps-append p.steps q.steps l);
+  leads = derives_append p.leads c q.steps q.leads;
+  logs = logs_then p.steps q.steps l m n p.logs q.logs;
 }
 
 pub puts_core : (good : Judge) (s t : State) (lits : List Literal) (hints : List ℕ) (l m : Logs) →
     IsFormed (Core lits hints) → error_of good s (Core lits hints) ≡ None → t ≡ after s (Core lits hints) → m ≡ with_step (Core lits hints) l → Puts good s t l m
 puts_core good s t lits hints l m formed allowed taken told = record {
   steps = Core lits hints ∷ [];
-  derives = derives_core s t lits hints [] formed allowed (let P : State → Type 0 = λ u. Derives good u [] t in subst P taken (derives_none t));
+  leads = derives_core s t lits hints [] formed allowed
+      (let P : State → Type 0 = λ u. Derives good u [] t in subst P taken (derives_none t));
   logs = told;
 }
 
 -- Learn and Delete steps, as the search tells them
 pub puts_searched : (good : Judge) {gives : Gives} {learnt all : List ℕ} (a b : State) (l m : Logs) →
     (xs : List CertStep) × Searches good gives a learnt xs b all × (m ≡ with_steps xs l) → Puts good a b l m
-puts_searched good a b l m (xs, searches, logs) = record { steps = xs; derives = searches_derives searches; logs = logs }
+puts_searched good a b l m (xs, searches, logs) =
+    record { steps = xs; leads = searches_derives searches; logs = logs }
 
 pub puts_ready : (good : Judge) (a b : State) (l m : Logs) → Puts good a b l m → IsReady a → IsReady b
 puts_ready good a b l m p r =
-    let s = derives_stays p.derives in
+    let s = derives_stays p.leads in
     record { begun = s.ended ∙ r.begun; awake = s.refused ∙ r.awake; none_blocked = s.sets ∙ r.none_blocked }
 
 pub round_on : (good : Judge) (a b c : State) (l m : Logs) (v w : ℕ) (found : Option Found) → Puts good a b l m →
     EndsRound good b c v w found → EndsRound good a c v w found
-round_on good a b c l m v w found p is = round_from p.derives c v w found is
+round_on good a b c l m v w found p is = round_from p.leads c v w found is
 
 pub found_later : (good : Judge) (a b c : State) (l m : Logs) (found : Found) → Puts good a b l m →
     IsFound good b c found → IsFound good a c found
-found_later good a b c l m found p is = found_on p.derives c found is
+found_later good a b c l m found p is = found_on p.leads c found is
 
 pub puts_softs : (good : Judge) {gives : Gives} {learnt all : List ℕ} (a b : State) (xs : List CertStep) →
     Searches good gives a learnt xs b all → b.softs ≡ a.softs
@@ -233,7 +228,7 @@ pub leaves_none : (good : Judge) (s : State) (logs : Logs) → Leaves good s log
 leaves_none good s logs = leaves_all [] (derives_none s) refl
 
 pub leaves_put : (good : Judge) (a b : State) (l m : Logs) → Puts good a b l m → Leaves good a l b m
-leaves_put good a b l m p = leaves_all p.steps p.derives p.logs
+leaves_put good a b l m p = leaves_all p.steps p.leads p.logs
 
 pub leaves_core : (good : Judge) (s t : State) (lits : List Literal) (hints : List ℕ) (l m : Logs) →
     IsFormed (Core lits hints) → error_of good s (Core lits hints) ≡ None → IsTakenOrAsleep s (Core lits hints) t → MayAddStep (Core lits hints) l m → Leaves good s l t m
@@ -244,19 +239,10 @@ leaves_core good s t lits hints l m formed allowed taken told =
 
 pub leaves_searches : (good : Judge) {gives : Gives} {learnt : List ℕ} (a b : State) (l m : Logs) →
     LeavesSearched good gives learnt a l b m → Leaves good a l b m
-leaves_searches good a b l m (leaves_searched steps all searches logs) = leaves_all steps (searches_derives searches) logs
-leaves_searches good a b l m (leaves_last_searched steps last before all more searches tried taken told) =
-    leaves_last steps last before (searches_derives searches) (searches_derives tried) taken told
+leaves_searches good a b l m left = leaves_weaker (λ steps t s. searches_derives s.1) left
 
 pub leaves_on : (good same : Judge) (a b c : State) (l m n : Logs) → same ≡ good → Puts good a b l m →
     Leaves same b m c n → Leaves good a l c n
-leaves_on good same a b c l m n is p left = let P : Judge → Type 0 = λ g. Leaves g b m c n in after_put (subst P is left)
-  where
-    told : (xs : List CertStep) → with_steps xs m ≡ with_steps (p.steps ++ xs) l
-    told xs = ap (with_steps xs) p.logs ∙ sym (with_steps-append p.steps xs l)
-
-    after_put : Leaves good b m c n → Leaves good a l c n
-    after_put (leaves_all xs derives logs) = leaves_all (p.steps ++ xs) (derives_append p.derives c xs derives) (logs ∙ told xs)
-    after_put (leaves_last xs last before derives tried taken may) =
-        let P : Logs → Type 0 = λ logs. MayAddStep last logs n in
-        leaves_last (p.steps ++ xs) last before (derives_append p.derives before xs derives) tried taken (subst P (told xs) may)
+leaves_on good same a b c l m n is p left =
+    let P : Judge → Type 0 = λ g. Leaves g b m c n in
+    leaves_after p.steps c l m n p.logs (λ steps t d. derives_append p.leads t steps d) (subst P is left)

@@ -1,6 +1,7 @@
 -- A model that satisfies all present soft literals costs the bound, and no model costs less.
 
-use Rattle.std.proofs.Common.{◌≡◌, ℕ, suc, ◌+◌, ◌<◌, Bool, true, false, ◌&&◌, cond, Some, List, [], ◌∷◌, length, get_or, All, refl, ap, ◌∙◌, arith}
+use Rattle.std.proofs.Common.{◌≡◌, ℕ, suc, ◌+◌, ◌<◌, Bool, true, false, cond, Some, List, [], ◌∷◌, length, get_or, All, refl, ap, ◌∙◌, arith}
+use Rattle.std.proofs.lemmas.Bool.{and_from}
 use Rattle.std.proofs.lemmas.List.Elements.{All-head, All-tail}
 use Rattle.ba_lits.specs.Literals.{Literal}
 use Rattle.ba_lits.specs.Satisfaction.{Assignment, lit_true, any_true, all_true, assignment_of, Soft, cost}
@@ -17,15 +18,13 @@ use Rattle.ba_cores.specs.Findings.{IsLeast, IsFound}
 use Rattle.ba_cores.specs.declared.costs.Found.TheVariants.{NoModel}
 use Rattle.ba_cores.specs.Rounds.{literals_of}
 
--- both of two tests hold
-both : (a b : Bool) → a ≡ true → b ≡ true → (a && b) ≡ true
-both a b first second = ap (λ c. c && b) first ∙ second
-
 -- clauses hold where each does
 all_of_each : (v : Assignment) (cs : List (List Literal)) →
     ((k : ℕ) → k < length cs → any_true v (get_or cs k []) ≡ true) → all_true v cs ≡ true
 all_of_each v [] each = refl
-all_of_each v (c ∷ cs) each = both (any_true v c) (all_true v cs) (each 0 (omega arith)) (all_of_each v cs (λ k lt. each (suc k) (omega (arith, lt))))
+all_of_each v (c ∷ cs) each =
+    and_from (any_true v c) (all_true v cs) (each 0 (omega arith))
+    (all_of_each v cs (λ k lt. each (suc k) (omega (arith, lt))))
 
 all_of_live : (v : Assignment) (kept : List Kept) →
     ((number : ℕ) (c : List Literal) → clause_at kept number ≡ Some c → any_true v c ≡ true) →
@@ -33,7 +32,8 @@ all_of_live : (v : Assignment) (kept : List Kept) →
 all_of_live v kept holds [] all = refl
 all_of_live v kept holds (c ∷ cs) all =
     let (number, is) = All-head (IsLive kept) c cs all in
-    both (any_true v c) (all_true v cs) (holds number c is) (all_of_live v kept holds cs (All-tail (IsLive kept) c cs all))
+    and_from (any_true v c) (all_true v cs) (holds number c is)
+    (all_of_live v kept holds cs (All-tail (IsLive kept) c cs all))
 
 -- soft literals that are all true cost nothing
 cost_of_true : (v : Assignment) (softs : List Soft) → All (λ l. lit_true v l ≡ true) (literals_of softs) →

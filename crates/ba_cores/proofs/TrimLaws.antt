@@ -1,26 +1,26 @@
 -- A core under the negations of another core's literals is one under the same assumptions as that.
 
-use Rattle.std.proofs.Common.{◌≡◌, ◌≢◌, ℕ, suc, zero, ◌-◌, ◌<◌, Bool, true, false, not, ◌||◌, cond, Option, None, Some, List, [], ◌∷◌, ◌++◌, map, filter, length, All, refl, sym, ap, ◌∙◌, arith, subst}
+use Rattle.std.proofs.Common.{◌≡◌, ◌≢◌, ℕ, suc, zero, ◌-◌, ◌<◌, Bool, true, false, cond, Option, None, Some, List, [], ◌∷◌, ◌++◌, map, filter, length, All, refl, sym, ap, ◌∙◌, arith, subst}
+use Rattle.std.proofs.lemmas.Bool.{and_parts, and_from, or_from, not-true}
 use Rattle.std.proofs.lemmas.List.{get_or-reverse, length-reverse, length-map}
 use Rattle.std.specs.List.{slice_get}
 use Rattle.ba_lits.specs.Literals.{Literal, negate, lit_at, no_literal, IsClause}
 use Rattle.ba_lits.specs.Satisfaction.{Assignment, lit_true, any_true, all_true, assignment_of}
 use Rattle.ba_lits.specs.Hints.{has_literal}
 use Rattle.ba_lits.proofs.Satisfied.{lit_true-negate, all_true-append}
-use Rattle.ba_learn.proofs.SortedLaws.{has_at}
+use Rattle.ba_lits.proofs.Members.{literal_found}
 use Rattle.ba_learn.specs.declared.learnt.Learnt.{Learnt}
 use Rattle.ba_steps.specs.States.{Kept, kept, State, live_lits, is_live_origin, is_lasting, is_lasting_origin}
 use Rattle.ba_steps.specs.Judging.{Judge, error_of_replay}
-use Rattle.ba_steps.specs.Facts.{live, lasting}
-use Rattle.ba_steps.proofs.FactLaws.{follows_true, live-append, live-without_all}
-use Rattle.ba_steps.proofs.SplitMeaning.{and_parts, and_both}
+use Rattle.ba_steps.specs.Facts.{all_lits, lasting}
+use Rattle.ba_steps.proofs.FactLaws.{follows_true, all_lits-append, all_lits-without_all}
 use Rattle.ba_steps.specs.declared.store.Origin.{Origin}
 use Rattle.ba_steps.specs.declared.store.Origin.TheVariants as origins
 use Rattle.ba_steps.specs.declared.step.CertStep.{CertStep}
 use Rattle.ba_search.specs.Searching.{Searches, searches_none, searches_learn, searches_delete}
 use Rattle.ba_search.specs.Answers.{AreAssumptions, IsModel, IsCore}
 use Rattle.ba_cores.specs.Rounds.{literals_of, negations_of, IsTrimmed}
-use Rattle.ba_cores.proofs.DerivesLaws.{Gives}
+use Rattle.ba_search.proofs.StepLaws.{Gives}
 
 -- THE NEGATIONS by place
 map_at : (lits : List Literal) (k : ℕ) → k < length lits → lit_at (map negate lits) k ≡ negate (lit_at lits k)
@@ -35,6 +35,9 @@ length_is lits = length-reverse (map negate lits) ∙ length-map lits negate
 abbrev from_end : List Literal → ℕ → ℕ
 from_end lits k = length lits - 1 - k
 
+back_in : (n k : ℕ) → k < n → n - 1 - k < n
+back_in n k lt = omega arith
+
 negation_at : (lits : List Literal) (k : ℕ) → k < length (negations_of lits) →
     lit_at (negations_of lits) k ≡ negate (lit_at lits (from_end lits k))
 negation_at lits k lt =
@@ -42,19 +45,13 @@ negation_at lits k lt =
     let P : ℕ → Type 0 = λ n. lit_at (negations_of lits) k ≡ lit_at (map negate lits) (n - 1 - k) in
     subst P (length-map lits negate) (get_or-reverse (map negate lits) k no_literal within)
     ∙ map_at lits (from_end lits k) (back_in (length lits) k (omega (arith, within, length-map lits negate)))
-  where
-    back_in : (n k : ℕ) → k < n → n - 1 - k < n
-    back_in n k lt = omega arith
 
 variable_at : (lits : List Literal) (k : ℕ) → k < length (negations_of lits) →
     (lit_at (negations_of lits) k).variable ≡ (lit_at lits (from_end lits k)).variable
 variable_at lits k lt = ap (λ (l : Literal). l.variable) (negation_at lits k lt)
 
 end_in : (lits : List Literal) (k : ℕ) → k < length (negations_of lits) → from_end lits k < length lits
-end_in lits k lt = step (length lits) k (omega (arith, lt, length_is lits))
-  where
-    step : (n k : ℕ) → k < n → n - 1 - k < n
-    step n k lt = omega arith
+end_in lits k lt = back_in (length lits) k (omega (arith, lt, length_is lits))
 
 -- the negations of a clause's literals are assumptions
 clause_assumed : (n : ℕ) (lits : List Literal) → IsClause n lits → AreAssumptions n (negations_of lits)
@@ -94,20 +91,25 @@ trimmed_core s t lits ns new hints more back b old softs is core = record {
     negates : (k : ℕ) → k < length new → has_literal (negate (lit_at new k)) (literals_of t.softs) ≡ true
     negates k lt =
         let P : List Literal → Type 0 = λ xs. has_literal (negate (lit_at new k)) xs ≡ true in
-        let (j, j_in, at) = has_at (negate (lit_at new k)) (negations_of lits) (subst P is (core.negates k lt)) in
+        let (j, j_in, at) = literal_found (negate (lit_at new k)) (negations_of lits)
+        (subst P is (core.negates k lt)) in
         let same : negate (lit_at lits (from_end lits j)) ≡ negate (lit_at new k) = sym (negation_at lits j j_in) ∙ at in
         let Q : Literal → Type 0 = λ l. has_literal l (literals_of s.softs) ≡ true in
         subst P (ap literals_of (sym softs)) (subst Q same (old.negates (from_end lits j) (end_in lits j j_in)))
 
 -- the clauses stay with their literals, also where they are deleted
 pub searches_keep : {good : Judge} {gives : Gives} {a b : State} {learnt all : List ℕ} {xs : List CertStep} →
-    Searches good gives a learnt xs b all → (v : Assignment) → all_true v (live b.clauses) ≡ true → all_true v (live a.clauses) ≡ true
+    Searches good gives a learnt xs b all → (v : Assignment) → all_true v (all_lits b.clauses) ≡ true →
+    all_true v (all_lits a.clauses) ≡ true
 searches_keep (searches_none s learnt) v holds = holds
 searches_keep (searches_learn s t learnt all lits hints steps formed allowed new rest) v holds =
-    let more : all_true v (live s.clauses ++ lits ∷ []) ≡ true = sym (ap (all_true v) (live-append s.clauses (kept origins.Learnt lits ∷ []))) ∙ searches_keep rest v holds in
-    (and_parts (all_true v (live s.clauses)) (all_true v (lits ∷ [])) (sym (all_true-append v (live s.clauses) (lits ∷ [])) ∙ more)).0
+    let more : all_true v (all_lits s.clauses ++ lits ∷ []) ≡ true =
+    sym (ap (all_true v) (all_lits-append s.clauses (kept origins.Learnt lits ∷ [])))
+    ∙ searches_keep rest v holds in
+    (and_parts (all_true v (all_lits s.clauses)) (all_true v (lits ∷ []))
+    (sym (all_true-append v (all_lits s.clauses) (lits ∷ [])) ∙ more)).0
 searches_keep (searches_delete s t learnt all numbers steps formed allowed given_up rest) v holds =
-    sym (ap (all_true v) (live-without_all s.clauses numbers)) ∙ searches_keep rest v holds
+    sym (ap (all_true v) (all_lits-without_all s.clauses numbers)) ∙ searches_keep rest v holds
 
 -- where each live clause holds, the lasting ones do
 lasting_lives : (origin : Origin) → is_lasting_origin origin ≡ true → is_live_origin origin ≡ true
@@ -124,23 +126,17 @@ lasting_true v (x ∷ xs) each =
     one (is_lasting x) (λ lasts. each 0 x.lits (ap (λ b. cond b (Some x.lits) None) (lasting_lives x.origin lasts))) (lasting_true v xs (λ k c is. each (suc k) c is))
   where
     one : (b : Bool) → (b ≡ true → any_true v x.lits ≡ true) → all_true v (lasting xs) ≡ true →
-        all_true v (live (cond b (x ∷ filter is_lasting xs) (filter is_lasting xs))) ≡ true
-    one true first rest = and_both (any_true v x.lits) (all_true v (lasting xs)) (first refl) rest
+        all_true v (all_lits (cond b (x ∷ filter is_lasting xs) (filter is_lasting xs))) ≡ true
+    one true first rest = and_from (any_true v x.lits) (all_true v (lasting xs)) (first refl) rest
     one false first rest = rest
 
 -- NO MODEL makes a core's literals all false
 none_true : (v : Assignment) (lits : List Literal) → ((k : ℕ) → k < length lits → lit_true v (lit_at lits k) ≡ false) →
     any_true v lits ≡ false
 none_true v [] each = refl
-none_true v (l ∷ ls) each = neither (lit_true v l) (any_true v ls) (each 0 (omega arith)) (none_true v ls (λ k lt. each (suc k) (omega (arith, lt))))
-  where
-    neither : (a b : Bool) → a ≡ false → b ≡ false → (a || b) ≡ false
-    neither false b e f = f
-    neither true b e f = absurd (cc e)
-
-false_from : (b : Bool) → not b ≡ true → b ≡ false
-false_from true e = absurd (cc e)
-false_from false e = refl
+none_true v (l ∷ ls) each =
+    or_from (lit_true v l) (any_true v ls) (each 0 (omega arith))
+    (none_true v ls (λ k lt. each (suc k) (omega (arith, lt))))
 
 twice : (n k : ℕ) → k < n → n - 1 - (n - 1 - k) ≡ k
 twice n k lt = omega arith
@@ -151,12 +147,14 @@ all_false v lits all k lt =
     let j : ℕ = length lits - 1 - k in
     let j_in : j < length (negations_of lits) = omega (arith, lt, length_is lits) in
     let at : lit_at (negations_of lits) j ≡ negate (lit_at lits k) = negation_at lits j j_in ∙ ap (λ (i : ℕ). negate (lit_at lits i)) (twice (length lits) k lt) in
-    false_from (lit_true v (lit_at lits k)) (sym (lit_true-negate v (lit_at lits k)) ∙ ap (lit_true v) (sym at) ∙ all j no_literal j_in)
+    not-true (lit_true v (lit_at lits k))
+    (sym (lit_true-negate v (lit_at lits k)) ∙ ap (lit_true v) (sym at) ∙ all j no_literal j_in)
 
 pub no_model : (s t : State) (a lits ns : List Literal) (hints : List ℕ) (back : ℕ) (values : List Bool) →
     IsCore s a lits hints back → ns ≡ negations_of lits →
-    ((v : Assignment) → all_true v (live t.clauses) ≡ true → all_true v (live s.clauses) ≡ true) →
-    ((v : Assignment) → all_true v (lasting t.clauses) ≡ true → all_true v (live t.clauses) ≡ true) → IsModel t ns values → ⊥
+    ((v : Assignment) → all_true v (all_lits t.clauses) ≡ true → all_true v (all_lits s.clauses) ≡ true) →
+    ((v : Assignment) → all_true v (lasting t.clauses) ≡ true → all_true v (all_lits t.clauses) ≡ true) →
+    IsModel t ns values → ⊥
 no_model s t a lits ns hints back values core is keep implied model =
     let v : Assignment = assignment_of values in
     let lasts : all_true v (lasting t.clauses) ≡ true = lasting_true v t.clauses (λ k c at. model.clauses (suc k) c at) in

@@ -9,9 +9,8 @@ use Rattle.ba_steps.specs.States.{State, clause_at, first_state}
 use Rattle.ba_steps.specs.Judging.{Judge, error_of, after, after_all}
 use Rattle.ba_steps.specs.Steps.{IsFormed}
 use Rattle.ba_steps.specs.Facts.{IsStart}
-use Rattle.ba_steps.specs.Sinks.{Logs, MayAddStep}
-use Rattle.ba_steps.specs.Puts.{IsTakenOrAsleep}
-use Rattle.ba_search.specs.Searching.{with_steps}
+use Rattle.ba_steps.specs.Sinks.{Logs}
+use Rattle.ba_steps.specs.Puts.{LeavesSteps}
 use Rattle.ba_steps.specs.declared.step.CertStep.{CertStep}
 use Rattle.ba_steps.specs.declared.step.CertStep.TheVariants.{Learn, Core, Delete}
 
@@ -29,14 +28,9 @@ pub data Derives (good : Judge) : State → List CertStep → State → Type 0 w
       IsFormed (Core lits hints) →
       error_of good s (Core lits hints) ≡ None → Derives good (after s (Core lits hints)) steps t → Derives good s (Core lits hints ∷ steps) t
 
--- what is left, also after an error: such steps were put; or one more was tried, which the checker has taken or
--- after which it refuses every step, and which some of the logs may hold
-pub data Leaves (good : Judge) (old : State) (old_logs : Logs) (new : State) (new_logs : Logs) : Type 0 where
-  leaves_all : (steps : List CertStep) → Derives good old steps new → new_logs ≡ with_steps steps old_logs →
-      Leaves good old old_logs new new_logs
-  leaves_last : (steps : List CertStep) (last : CertStep) (before : State) → Derives good old steps before →
-      Derives good before (last ∷ []) (after before last) →
-      IsTakenOrAsleep before last new → MayAddStep last (with_steps steps old_logs) new_logs → Leaves good old old_logs new new_logs
+-- what such steps leave, also after an error
+abbrev pub Leaves : Judge → State → Logs → State → Logs → Type 0
+Leaves good old old_logs new new_logs = LeavesSteps (Derives good old) old_logs new new_logs
 
 -- allowed steps lead to the state from a formula with soft literals
 pub record IsReached (good : Judge) (formula : Cnf) (softs : List Soft) (s : State) : Type 0 where

@@ -6,14 +6,9 @@ use Rattle.ba_lits.specs.Satisfaction.{Soft}
 use Rattle.ba_steps.specs.States.{State}
 use Rattle.ba_steps.specs.Judging.{Judge}
 use Rattle.ba_steps.specs.Sinks.{Logs}
-use Rattle.ba_steps.specs.declared.step.CertStep.{CertStep}
-use Rattle.ba_steps.specs.declared.sink.SinkError.{SinkError}
-use Rattle.ba_steps.specs.declared.sink.SinkError.TheVariants as refusals
+use Rattle.ba_steps.specs.Puts.{PutsSteps}
 use Rattle.ba_learn.specs.declared.learnt.Learnt.{Learnt}
-use Rattle.ba_search.specs.Searching.{with_steps}
 use Rattle.ba_search.specs.Answers.{IsCore}
-use Rattle.ba_search.specs.declared.search.SearchError.{SearchError}
-use Rattle.ba_search.specs.declared.search.SearchError.TheVariants.{SinkFailed, Memory}
 use Rattle.ba_cores.specs.Derivations.{Derives}
 use Rattle.ba_cores.specs.Findings.{IsFound}
 use Rattle.ba_cores.specs.declared.costs.Found.{Found}
@@ -37,10 +32,8 @@ pub record IsReady (s : State) : Type 0 where
   pub none_blocked : s.sets ≡ []
 
 -- Learn, Delete and Core steps were put
-pub record Puts (good : Judge) (old new : State) (old_logs new_logs : Logs) : Type 0 where
-  pub steps : List CertStep
-  pub derives : Derives good old steps new
-  pub logs : new_logs ≡ with_steps steps old_logs
+abbrev pub Puts : Judge → State → State → Logs → Logs → Type 0
+Puts good old new old_logs new_logs = PutsSteps (λ steps. Derives good old steps new) old_logs new_logs
 
 -- what a round comes to: what is found; or nothing, and then fewer conflicts are left, or the soft literals that are
 -- assumed get lighter, the weight from which on they are assumed being a second one in place of a first
@@ -52,8 +45,3 @@ EndsRound good old new before next None = (new.budget - new.conflicts) + next < 
 abbrev pub IsTrimmed : State → Option Learnt → Type 0
 IsTrimmed s (Some core) = IsCore s (literals_of s.softs) core.lits core.hints core.back
 IsTrimmed s None = s.conflicts ≡ s.budget
-
--- the error of a search whose sink refuses
-abbrev pub error_of_sink : SinkError → SearchError
-error_of_sink refusals.Failed = SinkFailed
-error_of_sink refusals.Memory = Memory

@@ -6,7 +6,7 @@ ghost use Rattle.ba_steps.specs.States.{clause_at};
 ghost use Rattle.ba_steps.specs.Sinks.{Rose};
 ghost use Rattle.ba_steps.specs.declared.step.CertStep.{CertStep};
 ghost use Rattle.ba_search.specs.Rules.{IsRestartRule, IsKeepRule};
-ghost use Rattle.ba_search.specs.Searching.{with_steps};
+ghost use Rattle.ba_steps.specs.Puts.{with_steps};
 ghost use Rattle.ba_search.specs.declared.search.SearchError.{SearchError};
 ghost use Rattle.ba_cores.specs.Derivations.{Derives, Leaves};
 ghost use Rattle.ba_cores.specs.Findings.{IsFound};

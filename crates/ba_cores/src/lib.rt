@@ -11,6 +11,3 @@ mod rounds;
 mod trimming;
 
 pub use costs::{Found, least};
-
-#[cfg(test)]
-mod tests;

@@ -10,14 +10,14 @@ ghost use Rattle.ba_search.specs.Answers.{IsAnswer, IsCore, IsModel};
 ghost use Rattle.ba_search.specs.declared.search.SearchError.{SearchError};
 ghost use Rattle.ba_cores.specs.Derivations.{Leaves};
 ghost use Rattle.ba_cores.specs.Findings.{IsFound};
-ghost use Rattle.ba_cores.specs.Rounds.{literals_of, heavy, IsReady, Puts, EndsRound, error_of_sink};
+ghost use Rattle.ba_cores.specs.Rounds.{literals_of, heavy, IsReady, Puts, EndsRound};
 
 use crate::costs::Found;
 use crate::trimming::trim;
 use ba_learn::Learnt;
 use ba_lits::{Lit, Model};
 use ba_search::{Answer, Search, SearchError};
-use ba_steps::{CertStep, Checked, RunJudge, SinkError, StepSink};
+use ba_steps::{CertStep, Checked, RunJudge, StepSink};
 use std::alloc::{AllocError, Global};
 
 /// Searches once for a model that satisfies the present soft literals of at least a weight. What is found, or nothing
@@ -243,19 +243,9 @@ where
         hints: core.hints,
     };
     if let Err(refusal) = checked.put(&step) {
-        return Err(search_error(refusal));
+        return Err(SearchError::from(refusal));
     }
     search.take_new(checked)
-}
-
-/// The error of a search whose sink refuses.
-fn search_error(refusal: SinkError) -> SearchError
-    ensures { result ≡ error_of_sink refusal }
-{
-    match refusal {
-        SinkError::Failed => SearchError::SinkFailed,
-        SinkError::Memory => SearchError::Memory,
-    }
 }
 
 /// The soft literals of at least a weight, without their weights, in their order.

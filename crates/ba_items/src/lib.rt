@@ -4,7 +4,7 @@
 //! sees it as the list of its items, and neither its capacity nor where it lies in memory.
 #![tactic(auto)]
 
-ghost use Rattle.std.specs.Prelude.{◌≡◌, ◌==◌, [], ◌∷◌, ◌++◌, length, IfOk, OnOk, OnErr};
+ghost use Rattle.std.specs.Prelude.{◌≡◌, ◌==◌, ◌≤◌, ℕ, [], ◌∷◌, ◌++◌, length, take, get_or, IfOk, OnOk, OnErr};
 
 use std::alloc::{AllocError, Global};
 use std::marker::Model;
@@ -82,6 +82,25 @@ impl<T: Drop> Items<T> {
     }
 }
 
+/// A second value that contracts can't tell from the first. Making it may find no memory.
+///
+/// It is for types that own memory and so are not `Copy`; a list of such values is one itself.
+pub trait TryClone: Drop {
+    /// The same value once more. The one error is want of memory.
+    fn try_clone(&self, alloc: Global) -> Result<Self, AllocError>
+        ensures { IfOk result (λ clone. clone ≡ self.now) };
+}
+
+impl<T: TryClone> TryClone for Items<T> {
+    fn try_clone(&self, alloc: Global) -> Result<Items<T>, AllocError> {
+        let mut clones = Vec::with_capacity(alloc, self.len())?;
+        for item in self.as_slice() {
+            clones.push(item.try_clone(alloc)?)?;
+        }
+        Ok(Items { items: clones })
+    }
+}
+
 impl<T: Copy> Items<T> {
     /// The list of the slice's items.
     ///
@@ -93,6 +112,21 @@ impl<T: Copy> Items<T> {
             items: Vec::from_slice(alloc, items)?,
         })
     }
+}
+
+/// Makes a vector of at least so many items: what is missing is filled up.
+///
+/// The one error is want of memory, which leaves the vector as it was.
+pub fn fill_up<T: Copy>(items: &mut Vec<T>, count: usize, filler: T) -> Result<(), AllocError>
+    ensures room { OnOk result (count ≤ length items.new.items) }
+    ensures same { (k : ℕ) → get_or items.new.items k filler ≡ get_or items.old.items k filler }
+    ensures front { take (length items.old.items) items.new.items ≡ items.old.items }
+    ensures err { OnErr result (items.new.items ≡ items.old.items) }
+{
+    if items.len() < count {
+        items.resize(count, filler)?;
+    }
+    Ok(())
 }
 
 #[cfg(test)]
@@ -110,6 +144,16 @@ mod tests {
         let again = Items::from_vec(copy.into_vec());
         assert_eq!(rt; again.as_slice(), [7, 3].as_slice());
         assert_eq!(rt; again.len(), 2);
+        Ok(())
+    }
+
+    #[test]
+    fn a_vector_is_filled_up_and_never_cut(rt: HostRuntime) -> Result<(), Fail> {
+        let mut items = [7u8].to_vec(rt.alloc())?;
+        fill_up(&mut items, 3, 5)?;
+        assert_eq!(rt; items.as_slice(), [7, 5, 5].as_slice());
+        fill_up(&mut items, 2, 5)?;
+        assert_eq!(rt; items.len(), 3);
         Ok(())
     }
 }

@@ -1,13 +1,13 @@
 -- What an expression and a row of statements do, step by step.
 use Rattle.std.proofs.Common.{◌≡◌, ℤ, Bool, true, false, Result, Ok, Err, List, ◌∷◌, sym, ◌∙◌, ap}
 use Rattle.std.specs.Global.{Box}
-use Rattle.ba_tree.specs.Numbers.{value_of}
+use Rattle.ba_numbers.specs.Numbers.{value_of}
 use Rattle.ba_tree.specs.State.{State, Act, Ending, Flow, next, then_do, after_part, in_order}
 use Rattle.ba_tree.specs.Meaning.{Setting, eval, expr_step, or_trap, relaxed, with_choice}
-use Rattle.ba_tree.specs.declared.ids.StmtId.{StmtId}
-use Rattle.ba_tree.specs.declared.numbers.CType.{CType}
-use Rattle.ba_tree.specs.declared.numbers.BinOp.{BinOp}
-use Rattle.ba_tree.specs.declared.run.Choice.TheVariants.{Keep}
+use Rattle.ba_numbers.specs.declared.ids.StmtId.{StmtId}
+use Rattle.ba_numbers.specs.declared.numbers.CType.{CType}
+use Rattle.ba_numbers.specs.declared.numbers.BinOp.{BinOp}
+use Rattle.ba_choices.specs.declared.Choice.TheVariants.{Keep}
 use Rattle.ba_tree.specs.declared.run.Outcome.{Outcome}
 use Rattle.ba_tree.specs.declared.run.Step.{Step}
 use Rattle.ba_tree.specs.declared.tree.Expr.{Expr}

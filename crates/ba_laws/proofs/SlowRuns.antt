@@ -4,10 +4,10 @@ use Rattle.std.specs.Prelude.{replicate}
 use Rattle.ba_tree.specs.State.{State, Act, Ending, Flow, in_order}
 use Rattle.ba_tree.specs.Meaning.{Setting, exec}
 use Rattle.ba_tree.specs.Run.{body_in, end_of, main_of, outcome_of, params_in, run_of, with_input}
-use Rattle.ba_tree.specs.declared.ids.VarId.{VarId}
+use Rattle.ba_numbers.specs.declared.ids.VarId.{VarId}
 use Rattle.ba_tree.specs.declared.run.Allowed.{Allowed}
 use Rattle.ba_tree.specs.declared.run.Bounds.{Bounds}
-use Rattle.ba_tree.specs.declared.run.Choice.{Choice}
+use Rattle.ba_choices.specs.declared.Choice.{Choice}
 use Rattle.ba_tree.specs.declared.run.Input.{Input}
 use Rattle.ba_tree.specs.declared.run.Outcome.{Outcome}
 use Rattle.ba_tree.specs.declared.tree.Program.{Program}

@@ -4,18 +4,18 @@ use Rattle.std.specs.Prelude.{◌==◌, ◌||◌, cond, Contains, slice_set}
 use Rattle.std.specs.Ordering.{int_eq}
 use Rattle.std.specs.List.{list_any, slice_index_or}
 use Rattle.std.proofs.lemmas.Bool.Decides.{Decides-eqb}
-use Rattle.ba_tree.specs.Numbers.{value_of}
+use Rattle.ba_numbers.specs.Numbers.{value_of}
 use Rattle.ba_tree.specs.State.{State, Act, Ending, Flow, next, break, continue, return, then_do, after_part, in_order}
 use Rattle.ba_tree.specs.Meaning.{Setting, eval, exec, expr_step, or_trap, relaxed, admits, one_value_of, set_to, take_value, type_of, assert_that}
 use Rattle.ba_tree.specs.Run.{with_input, params_in, body_in, main_of, start_of, end_of, outcome_of, outcome_with, is_done, run_of, setting_of}
 use Rattle.ba_tree.specs.Least.{IsFeasible, judge_of, stmt_of}
-use Rattle.ba_tree.specs.declared.ids.StmtId.{StmtId}
-use Rattle.ba_tree.specs.declared.ids.VarId.{VarId}
+use Rattle.ba_numbers.specs.declared.ids.StmtId.{StmtId}
+use Rattle.ba_numbers.specs.declared.ids.VarId.{VarId}
 use Rattle.ba_tree.specs.declared.run.Allowed.{Allowed}
 use Rattle.ba_tree.specs.declared.run.Allowed.TheVariants.{Statements}
 use Rattle.ba_tree.specs.declared.run.Bounds.{Bounds}
-use Rattle.ba_tree.specs.declared.run.Choice.{Choice}
-use Rattle.ba_tree.specs.declared.run.Choice.TheVariants.{Keep, Take}
+use Rattle.ba_choices.specs.declared.Choice.{Choice}
+use Rattle.ba_choices.specs.declared.Choice.TheVariants.{Keep, Take}
 use Rattle.ba_tree.specs.declared.run.Input.{Input}
 use Rattle.ba_tree.specs.declared.run.Outcome.{Outcome}
 use Rattle.ba_tree.specs.declared.run.Step.{Step}

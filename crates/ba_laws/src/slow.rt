@@ -3,20 +3,21 @@
 ghost use Rattle.std.specs.Prelude.{◌≡◌, ◌==◌, ◌&&◌, ℕ, pos, List, [], ◌∷◌, map, replicate, slice_index_or, IfOk, MatchOption};
 ghost use Rattle.ba_tree.specs.Meaning.{Setting, admits, assert_that, eval, exec, one_value_of, or_trap, same_path, set_to, take_value, type_of};
 ghost use Rattle.std.specs.List.{list_any};
-ghost use Rattle.ba_tree.specs.Numbers.{is_in, value_of};
+ghost use Rattle.ba_numbers.specs.Numbers.{is_in, value_of};
 ghost use Rattle.ba_tree.specs.Run.{body_in, end_of, main_of, outcome_of, params_in, run_of, with_input};
 ghost use Rattle.ba_tree.specs.State.{State, in_order, then_do, value_at, with_value};
-ghost use Rattle.ba_tree.specs.declared.ids.StmtId.{StmtId};
+ghost use Rattle.ba_numbers.specs.declared.ids.StmtId.{StmtId};
 ghost use Rattle.ba_tree.specs.declared.run.Place.{Place};
 ghost use Rattle.ba_tree.specs.declared.run.Step.{Step};
 ghost use Rattle.ba_tree.specs.declared.tree.Program.{Program};
 ghost use Rattle.ba_tree.specs.declared.tree.Stmt.TheVariants.{Assign};
 ghost use Rattle.ba_laws.specs.Slow.{flow_of, setting_in};
 
+use ba_choices::Choice;
 use ba_items::Items;
-use ba_tree::ids::{StmtId, VarId};
-use ba_tree::numbers::{BinOp, CType, apply};
-use ba_tree::run::{Allowed, Bounds, Choice, Input, Outcome, Place, Step};
+use ba_numbers::ids::{StmtId, VarId};
+use ba_numbers::numbers::{BinOp, CType, apply};
+use ba_tree::run::{Allowed, Bounds, Input, Outcome, Place, Step};
 use ba_tree::tree::{Expr, Program, Stmt};
 use std::alloc::{AllocError, Global};
 use std::marker::Model;

@@ -2,10 +2,11 @@
 
 use crate::more_statements_stay_feasible;
 use crate::slow::slow_run;
+use ba_choices::{Choice, Values};
 use ba_items::Items;
-use ba_tree::ids::{CallId, FnId, StmtId, VarId};
-use ba_tree::numbers::{BinOp, CType};
-use ba_tree::run::{Allowed, Bounds, Choice, Input, Outcome, Place, Step, Values};
+use ba_numbers::ids::{CallId, FnId, StmtId, VarId};
+use ba_numbers::numbers::{BinOp, CType};
+use ba_tree::run::{Allowed, Bounds, Input, Outcome, Place, Step};
 use ba_tree::tree::{Expr, Function, Program, Shape, Stmt, Variable};
 use std::alloc::{AllocError, Global};
 use std::test::Fail;

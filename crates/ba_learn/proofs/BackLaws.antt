@@ -14,9 +14,8 @@ use Rattle.ba_watch.proofs.Values.{value_of-take, value_of-take_none, place_of-s
 use Rattle.ba_watch.proofs.Levels.{decided-kept, kept_below, kept_above, kept-le}
 use Rattle.ba_learn.specs.Levels.{level_in, IsBacked}
 use Rattle.ba_learn.specs.Backjumps.{after_back, IsUnitAt}
+use Rattle.ba_lits.proofs.Members.{has_literal-permutation, has_literal-at}
 use Rattle.ba_learn.proofs.FollowLaws.{false_at}
-use Rattle.ba_learn.proofs.SortedLaws.{has-permutation, has-at}
-use Rattle.ba_learn.proofs.LevelLaws.{holds-has}
 
 pub back_level : (s : State) (lits : List Literal) (back : ℕ) → IsBacked s lits back → decided (after_back back s).reasons ≡ back
 back_level s lits back b = decided-kept back s.reasons (omega (arith, b.lower))
@@ -70,7 +69,8 @@ added_reason old new clause number free lits adds unit =
     let all : All Fits (lits_in new.clauses clause) = All-permutation Fits lits (lits_in new.clauses clause) same
     (All-from_get_or Fits lits no_literal (λ k k_in ne. ap (λ (T : List Literal). value_of T (lit_at lits k)) adds.trail ∙ unit.others k k_in (λ e. ne (ap (index_at lits) e)))) in
     record {
-      has = sym (holds-has t (lits_in new.clauses clause)) ∙ (sym (has-permutation t lits (lits_in new.clauses clause) same) ∙ has-at lits free unit.free_in);
+      has = sym (has_literal-permutation t lits (lits_in new.clauses clause) same)
+          ∙ has_literal-at lits free unit.free_in;
       others = λ k k_in. All-get_or Fits (lits_in new.clauses clause) k no_literal k_in all;
     }
   where

@@ -1,15 +1,15 @@
 -- The clause of a literal and the decisions because of which it is false.
 
-use Rattle.std.proofs.Common.{◌≡◌, ℕ, ◌+◌, ◌<◌, ◌≤◌, Bool, true, false, not, ◌&&◌, ◌||◌, None, Some, IsSome, List, [], ◌∷◌, ◌++◌, length, get_or, map, take, eqb, ltb, leb, refl, sym, ap, subst, ◌∙◌, arith, inl, inr, ⊎_elim}
+use Rattle.std.proofs.Common.{◌≡◌, ℕ, ◌+◌, ◌<◌, ◌≤◌, Bool, true, false, ◌&&◌, None, Some, IsSome, List, [], ◌∷◌, ◌++◌, length, get_or, map, take, ltb, leb, sym, ap, subst, ◌∙◌, arith, inl, inr, ⊎_elim}
 use Rattle.std.proofs.lemmas.Bool.{cases_eq}
 use Rattle.std.proofs.lemmas.Bool.Decides.{nat_tests}
 use Rattle.ba_lits.specs.Literals.{Literal, negate, index_of, lit_at, IsClause}
 use Rattle.ba_lits.specs.Hints.{has_literal}
+use Rattle.ba_lits.proofs.Members.{same_from_index, negate-negate, literal_found, has_literal-at}
 use Rattle.ba_watch.specs.Chains.{occurrences}
 use Rattle.ba_watch.specs.Trails.{value_of, place_of, place_if, reason_of}
-use Rattle.ba_watch.specs.Propagation.{State, clause_in, lits_in, IsReason, KeepsFacts, has_literal as holds_literal}
+use Rattle.ba_watch.specs.Propagation.{State, clause_in, lits_in, IsReason, KeepsFacts}
 use Rattle.ba_watch.proofs.Values.{place_of-some}
-use Rattle.ba_watch.proofs.Facts.{same_from_index}
 use Rattle.ba_learn.specs.Live.{Follows}
 use Rattle.ba_learn.specs.Levels.{IsCoreOf}
 use Rattle.ba_learn.specs.Resolving.{Work, is_marked, is_pending, MayKeep, MayStart, number_in, number_at, negated_at, SortsNumbers, SortsLiterals}
@@ -17,18 +17,7 @@ use Rattle.ba_learn.proofs.WorkLaws.{place-is}
 use Rattle.ba_learn.proofs.ReasonLaws.{reason_below, reason_live, place_of-front_some}
 use Rattle.ba_learn.proofs.FollowLaws.{false_negates, false_further, known, refutes}
 use Rattle.ba_learn.proofs.Finishes.{HasEnded}
-use Rattle.ba_learn.proofs.SortedLaws.{has_at, has-at, HasOne, kept_within, lead_in, kept_in, literal_of, literals_free, is_clause}
-
-holds-has : (l : Literal) (xs : List Literal) → holds_literal l xs ≡ has_literal l xs
-holds-has l [] = refl
-holds-has l (x ∷ xs) = ap (λ (b : Bool). eqb (index_of x) (index_of l) || b) (holds-has l xs)
-
-pub negate-negate : (l : Literal) → negate (negate l) ≡ l
-negate-negate l = ap (λ (b : Bool). record { variable = l.variable; negated = b }) (twice l.negated)
-  where
-    twice : (b : Bool) → not (not b) ≡ b
-    twice true = refl
-    twice false = refl
+use Rattle.ba_learn.proofs.SortedLaws.{HasOne, kept_within, lead_in, kept_in, literal_of, literals_free, is_clause}
 
 -- a place is pending only from the floor on
 pub pending_above : (high : ℕ) (w : Work) (q : ℕ) → is_pending high w q ≡ true → (w.floor ≤ q) × (q < high)
@@ -59,7 +48,7 @@ module _ (s : State) (facts : KeepsFacts s) (lit : Literal) (p r : ℕ) (is_fals
   module _ (w : Work) (e : HasEnded s (p + 1) w r) (floor : w.floor ≡ p) (deep : w.deep ≡ true) where
     marked : is_marked w p ≡ true
     marked =
-        let k = has_at (lit_at s.trail p) (lits_in s.clauses r) (sym (holds-has (lit_at s.trail p) (lits_in s.clauses r)) ∙ reason.has) in
+        let k = literal_found (lit_at s.trail p) (lits_in s.clauses r) reason.has in
         let at : place_of s.trail (lit_at (lits_in s.clauses r) k.0).variable ≡ p =
         ap (λ (l : Literal). place_of s.trail l.variable) (k.2 ∙ sym lead_same) ∙ sym p_is in
         sym (ap (is_marked w) at) ∙ e.met k.0 k.1
@@ -103,7 +92,8 @@ module _ (s : State) (facts : KeepsFacts s) (lit : Literal) (p r : ℕ) (is_fals
       core_is k k_in = ⊎_elim
           (λ is. inl is)
           (λ q. inr (q.0, kept_within s facts (p + 1) w e.work e.waiting p (negate lit) core_one lits sorted q.0 q.1, subst (λ (b : Bool). MayKeep s b q.0) deep (e.work.kept q.0 q.1), q.2))
-          (literal_of s facts (p + 1) w e.work e.waiting p (negate lit) core_one lits sorted (lit_at lits k) (has-at lits k k_in))
+          (literal_of s facts (p + 1) w e.work e.waiting p (negate lit) core_one lits sorted (lit_at lits k)
+          (has_literal-at lits k k_in))
 
 -- what the code reads
 pub core_place : (s : State) (lit : Literal) (v p : ℕ) → v ≡ lit.variable → value_of s.trail lit ≡ Some false → place_if s.trail v ≡ Some p → p ≡ place_of s.trail lit.variable

@@ -1,37 +1,32 @@
 -- What a finished resolution gives follows by its hints.
 
 use Rattle.std.proofs.Common.{◌≡◌, ◌≢◌, ℕ, suc, zero, ◌+◌, ◌<◌, ◌≤◌, Bool, true, false, not, ◌&&◌, Option, None, Some, IsSome, List, [], ◌∷◌, ◌++◌, length, get_or, map, take, drop, eqb, cond, refl, sym, ap, subst, ◌∙◌, arith, ◌⊎◌, inl, inr, ⊎_elim}
-use Rattle.std.proofs.lemmas.Bool.{cases_eq}
+use Rattle.std.proofs.lemmas.Bool.{cases_eq, and_parts}
+use Rattle.std.proofs.lemmas.Option.{same_Some}
 use Rattle.std.proofs.lemmas.Bool.Decides.{nat_tests}
 use Rattle.std.proofs.lemmas.List.{take-append-drop, length-take-le, get_or-take}
 use Rattle.std.proofs.lemmas.List.Elements.{All-from_get_or}
-use Rattle.std.proofs.lemmas.List.Recursion.{is_count_by}
-use Rattle.std.proofs.lemmas.List.Sorted.{sum_by-IsPermutation, IsPermutation-sym, All-permutation}
-use Rattle.std.specs.List.{sum_by}
+use Rattle.std.proofs.lemmas.List.Sorted.{IsPermutation-sym, All-permutation}
 use Rattle.std.specs.List.Sorted.{IsPermutation, IsNonDecreasingBy}
 use Rattle.ba_lits.specs.Literals.{Literal, negate, index_of, lit_at, no_literal}
 use Rattle.ba_lits.specs.Hints.{has_literal, Refutes, replay}
+use Rattle.ba_lits.specs.Satisfaction.{one_if}
+use Rattle.ba_lits.proofs.Members.{same_from_index}
 use Rattle.ba_watch.specs.Chains.{occurrences}
 use Rattle.ba_watch.specs.Trails.{same_sign, value_of, place_of, IsTrail}
 use Rattle.ba_watch.specs.Propagation.{State, plain_lits, clause_in, lits_in, is_false, falsified, IsReason, KeepsFacts}
 use Rattle.ba_watch.proofs.Values.{value_of-more, value_of-place, lit_at-place, place_of-some, same_sign_false, none_apart}
-use Rattle.ba_watch.proofs.Facts.{same_from_index}
 use Rattle.ba_learn.specs.Live.{IsSame, AreLive}
-use Rattle.ba_learn.specs.Resolving.{Work, one_if, is_marked, is_pending, IsWork, AreMarked, reason_lits, AreCovered, number_of, number_in, reason_number, number_at, negated_at, SortsNumbers}
+use Rattle.ba_learn.specs.Resolving.{Work, is_marked, is_pending, IsWork, AreMarked, reason_lits, AreCovered, number_of, number_in, reason_number, number_at, negated_at, SortsNumbers}
+use Rattle.ba_learn.proofs.Weights.{total-permutation}
 use Rattle.ba_learn.proofs.ReasonLaws.{reason_live, some_within, place_of-front_some}
 use Rattle.ba_learn.proofs.Standings.{times-permutation, times-once}
 use Rattle.ba_learn.proofs.Replays.{IsAscending, IsKnown, IsKnownBefore, IsGiven, runs}
 
 -- lists of places in another order
 pub occurrences-permutation : (p : ℕ) (xs ys : List ℕ) → IsPermutation xs ys → occurrences p ys ≡ occurrences p xs
-occurrences-permutation p xs ys same = counted ys ∙ (sum_by-IsPermutation (λ (x : ℕ). cond (eqb x p) 1 0) xs ys same ∙ sym (counted xs))
-  where
-    step : (b : Bool) (n : ℕ) → cond b 1 0 + n ≡ cond b (1 + n) n
-    step true n = refl
-    step false n = omega arith
-
-    counted : (zs : List ℕ) → occurrences p zs ≡ sum_by (λ (x : ℕ). cond (eqb x p) 1 0) zs
-    counted zs = is_count_by (occurrences p) (λ (x : ℕ). eqb x p) refl (λ x xs. step (eqb x p) (occurrences p xs)) zs
+occurrences-permutation p =
+    total-permutation (occurrences p) (λ (x : ℕ). cond (eqb x p) 1 0) refl (λ x xs. refl)
 
 -- a place of a list is at some index of it
 pub occurs_at : (p : ℕ) (xs : List ℕ) → 0 < occurrences p xs → (k : ℕ) × (k < length xs) × (get_or xs k 0 ≡ p)
@@ -75,12 +70,10 @@ pub false_negates : (T : List Literal) (x : Literal) → value_of T x ≡ Some f
 false_negates T x is_false =
     let within : place_of T x.variable < length T = place_of-some T x false is_false in
     let v : (lit_at T (place_of T x.variable)).variable ≡ x.variable = lit_at-place T x.variable within in
-    let sign : same_sign (lit_at T (place_of T x.variable)).negated x.negated ≡ false = some_is _ false (sym (value_of-place T x within) ∙ is_false) in
+    let sign : same_sign (lit_at T (place_of T x.variable)).negated x.negated ≡ false =
+    same_Some _ false (sym (value_of-place T x within) ∙ is_false) in
     both x.variable (lit_at T (place_of T x.variable)).variable x.negated (not (lit_at T (place_of T x.variable)).negated) (sym v) (same_sign_false (lit_at T (place_of T x.variable)).negated x.negated sign)
   where
-    some_is : (a b : Bool) → Some a ≡ Some b → a ≡ b
-    some_is a b e = cc e
-
     both : (a b : ℕ) (m n : Bool) → a ≡ b → m ≡ n → ◌≡◌ {A = Literal} (record { variable = a; negated = m }) (record { variable = b; negated = n })
     both a b m n e f = cc
 
@@ -97,11 +90,8 @@ false_at value (x ∷ xs) h zero k_in = first (value x) (is_false value xs) h
     first None b e = absurd (cc e)
     first (Some true) b e = absurd (cc e)
     first (Some false) b e = refl
-false_at value (x ∷ xs) h (suc k) k_in = false_at value xs (rest (falsified (value x)) (is_false value xs) h) k (omega arith)
-  where
-    rest : (a b : Bool) → (a && b) ≡ true → b ≡ true
-    rest true b e = e
-    rest false b e = absurd (cc e)
+false_at value (x ∷ xs) h (suc k) k_in =
+    false_at value xs (and_parts (falsified (value x)) (is_false value xs) h).1 k (omega arith)
 
 -- the variables of a trail are apart
 pub trail_apart : (n : ℕ) (T : List Literal) (R : List (Option ℕ)) → IsTrail n T R → (p q : ℕ) → p < q → q < length T → (lit_at T p).variable ≢ (lit_at T q).variable

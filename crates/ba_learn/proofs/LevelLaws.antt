@@ -1,6 +1,6 @@
 -- The clause of the first unique implication point, and the levels of its literals.
 
-use Rattle.std.proofs.Common.{◌≡◌, ◌≢◌, ℕ, suc, zero, ◌+◌, ◌<◌, ◌≤◌, Bool, true, false, ◌&&◌, ◌||◌, Option, None, Some, IsSome, is_some, List, [], ◌∷◌, ◌++◌, length, get_or, map, take, drop, eqb, ltb, leb, refl, sym, ap, subst, ◌∙◌, arith, ◌⊎◌, inl, inr, ⊎_elim}
+use Rattle.std.proofs.Common.{◌≡◌, ◌≢◌, ℕ, suc, zero, ◌+◌, ◌<◌, ◌≤◌, Bool, true, false, ◌&&◌, Option, None, Some, IsSome, is_some, List, [], ◌∷◌, ◌++◌, length, get_or, map, take, drop, ltb, leb, refl, sym, ap, subst, ◌∙◌, arith, ◌⊎◌, inl, inr, ⊎_elim}
 use Rattle.std.proofs.lemmas.Bool.{cases_eq, cases_lt}
 use Rattle.std.proofs.lemmas.Bool.Decides.{nat_tests}
 use Rattle.std.proofs.lemmas.List.{get_or-drop, length-drop}
@@ -8,20 +8,22 @@ use Rattle.std.specs.List.Sorted.{IsPermutation}
 use Rattle.std.proofs.lemmas.List.Elements.{All-from_get_or}
 use Rattle.ba_lits.specs.Literals.{no_literal, Literal, index_of, lit_at, IsClause}
 use Rattle.ba_lits.specs.Hints.{has_literal}
+use Rattle.ba_lits.specs.Satisfaction.{one_if}
 use Rattle.ba_watch.specs.Chains.{occurrences}
+use Rattle.ba_lits.proofs.Members.{literal_found, has_literal-at}
 use Rattle.ba_watch.specs.Trails.{value_of, place_of, decided, level_at}
-use Rattle.ba_watch.specs.Propagation.{State, plain_lits, clause_in, lits_in, is_false, is_unit, falsified, KeepsFacts, has_literal as holds_literal}
+use Rattle.ba_watch.specs.Propagation.{State, plain_lits, clause_in, lits_in, is_false, is_unit, falsified, KeepsFacts}
 use Rattle.ba_watch.proofs.Values.{value_of-take, value_of-take_none, value_of-at, place_of-some}
 use Rattle.ba_watch.proofs.Levels.{decided-take_drop, decided-take-le, decided-take_none}
 use Rattle.ba_watch.proofs.Facts.{is_false-all, value_of-negate}
 use Rattle.ba_learn.specs.Live.{IsSame, AreLive, Follows, IsQuiet, IsNewTo}
 use Rattle.ba_learn.specs.Levels.{IsShort, level_in, IsReached, IsBacked}
-use Rattle.ba_learn.specs.Resolving.{Work, one_if, count_below, is_marked, is_above, is_pending, IsWork, AreMarked, place_in, IsStart, number_in, number_at, negated_at, SortsNumbers, SortsLiterals, IsSettled, AreSettled, IsShortened, reason_lits}
+use Rattle.ba_learn.specs.Resolving.{Work, count_below, is_marked, is_above, is_pending, IsWork, AreMarked, place_in, IsStart, number_in, number_at, negated_at, SortsNumbers, SortsLiterals, IsSettled, AreSettled, IsShortened, reason_lits}
 use Rattle.ba_learn.proofs.ResolveLaws.{decided-zero, count_below-more}
 use Rattle.ba_learn.proofs.ReasonLaws.{place_of-at, reason_below}
 use Rattle.ba_learn.proofs.FollowLaws.{false_at, known, refutes}
 use Rattle.ba_learn.proofs.Finishes.{HasEnded, false_below}
-use Rattle.ba_learn.proofs.SortedLaws.{has_at, has-at, HasOne, kept_within, lead_in, kept_in, literal_of, literals_free, is_clause}
+use Rattle.ba_learn.proofs.SortedLaws.{HasOne, kept_within, lead_in, kept_in, literal_of, literals_free, is_clause}
 use Rattle.ba_learn.proofs.CoreLaws.{pending_above}
 use Rattle.ba_learn.proofs.Weights.{is_false-permutation, is_unit-permutation}
 
@@ -84,10 +86,6 @@ some_pending s w conflict facts start live is_false' marked work =
 -- the negation of a literal of the trail is false
 pub negated_false : (s : State) → KeepsFacts s → (q : ℕ) → q < length s.trail → value_of s.trail (negated_at s q) ≡ Some false
 negated_false s facts q within = value_of-negate s.trail (lit_at s.trail q) true (value_of-at s.trail q within (facts.trail.fresh q within))
-
-pub holds-has : (l : Literal) (xs : List Literal) → has_literal l xs ≡ holds_literal l xs
-holds-has l [] = refl
-holds-has l (x ∷ xs) = ap (λ (b : Bool). eqb (index_of x) (index_of l) || b) (holds-has l xs)
 
 -- the last pending place is the only one
 pub analysed_one : (s : State) (w : Work) (u : ℕ) → IsWork s (u + 1) w → w.pending ≡ 1 → w.floor ≤ u → is_marked w u ≡ true → HasOne s (u + 1) w u (negated_at s u)
@@ -152,7 +150,8 @@ module _ (s : State) (facts : KeepsFacts s) (w : Work) (u conflict : ℕ) (e : H
   each k k_in = ⊎_elim
       (λ is. inl is)
       (λ q. inr (q.0, e.work.kept_below q.0 q.1, kept_within s facts (u + 1) w e.work e.waiting u (negated_at s u) one lits sorted q.0 q.1, q.2))
-      (literal_of s facts (u + 1) w e.work e.waiting u (negated_at s u) one lits sorted (lit_at lits k) (has-at lits k k_in))
+      (literal_of s facts (u + 1) w e.work e.waiting u (negated_at s u) one lits sorted (lit_at lits k)
+      (has_literal-at lits k k_in))
 
   each_false : (k : ℕ) → k < length lits → value_of s.trail (lit_at lits k) ≡ Some false
   each_false k k_in = ⊎_elim
@@ -188,7 +187,7 @@ module _ (s : State) (facts : KeepsFacts s) (w : Work) (u conflict : ℕ) (e : H
     free = negated_at s u;
     trail = take w.floor s.trail;
     asserts = record {
-      has = sym (holds-has (negated_at s u) lits) ∙ in_clause;
+      has = in_clause;
       others = λ k k_in ne. ⊎_elim
           (λ is. absurd (ne (ap index_of is)))
           (λ q. value_of-take w.floor s.trail (lit_at lits k) (omega (arith, ap (λ (l : Literal). place_of s.trail l.variable) q.3, place_at q.0 q.2, q.1)) ∙ each_false k k_in)
@@ -233,14 +232,15 @@ module _ (s : State) (facts : KeepsFacts s) (w : Work) (u conflict : ℕ) (e : H
                   (covered.others j j_in),
             ))),
       ))
-      (literal_of s facts (u + 1) w e.work e.waiting u (negated_at s u) one lits sorted (lit_at lits k) (has-at lits k k_in))
+      (literal_of s facts (u + 1) w e.work e.waiting u (negated_at s u) one lits sorted (lit_at lits k)
+      (has_literal-at lits k k_in))
     where
       settled_place : (q r : ℕ) → q < length s.trail → get_or s.reasons q None ≡ Some r → (j : ℕ) → j < length (lits_in s.clauses r) → place_of s.trail (lit_at (lits_in s.clauses r) j).variable < length s.trail
       settled_place q r q_in is j j_in = omega (arith, reason_below s q r facts q_in is j j_in)
 
   module _ (back : ℕ) (level : 1 ≤ decided s.reasons) (greatest : (k : ℕ) → k < length lits → level_in s lits k < decided s.reasons → level_in s lits k ≤ back) (reached : IsReached s lits (length lits) back) where
     present_at : (k : ℕ) × (k < length lits) × (lit_at lits k ≡ negated_at s u)
-    present_at = has_at (negated_at s u) lits in_clause
+    present_at = literal_found (negated_at s u) lits in_clause
 
     present_is : level_in s lits present_at.0 ≡ decided s.reasons
     present_is = ap (λ (l : Literal). level_at s.reasons (place_of s.trail l.variable)) present_at.2 ∙ (ap (level_at s.reasons) (place_at u within) ∙ level_above s facts w.floor start u above within)

@@ -1,4 +1,4 @@
-pub mod StampLaws
+pub mod Weights
 pub mod WorkLaws
 pub mod MeetLaws
 pub mod ReasonLaws
@@ -9,7 +9,6 @@ pub mod FollowLaws
 pub mod Finishes
 pub mod SortedLaws
 pub mod CoreLaws
-pub mod Weights
 pub mod LevelLaws
 pub mod NewLaws
 pub mod BackLaws

@@ -3,14 +3,15 @@
 use Rattle.std.proofs.Common.{◌≡◌, ◌≢◌, ℕ, suc, zero, ◌+◌, ◌^◌, ◌<◌, ◌≤◌, Bool, true, false, ◌&&◌, ◌||◌, List, [], ◌∷◌, ◌++◌, length, get_or, take, eqb, ltb, leb, refl, sym, ap, subst, ◌∙◌, arith, ◌⊎◌, inl, inr, ⊎_elim}
 use Rattle.std.proofs.lemmas.List.{length_push, length-take-le, get_or-take, take-take}
 use Rattle.std.proofs.lemmas.List.Elements.{All-head, All-nil, All-cons, All-take, All-get_or}
-use Rattle.std.proofs.lemmas.Bool.{cases_eq, cases_lt}
+use Rattle.std.proofs.lemmas.Bool.{cases_eq, cases_lt, and_right, or_right}
 use Rattle.std.proofs.lemmas.Bool.Decides.{nat_tests}
 use Rattle.ba_lits.specs.Literals.{Literal, lit_at, no_literal}
+use Rattle.ba_lits.specs.Satisfaction.{one_if}
 use Rattle.ba_watch.specs.Chains.{occurrences}
 use Rattle.ba_watch.specs.Trails.{place_of, level_at}
 use Rattle.ba_watch.specs.Propagation.{State}
-use Rattle.ba_learn.specs.Resolving.{Work, one_if, count_below, is_marked, is_above, MayKeep, IsWork, Parts, ToPending, ToKept, ToWaiting, AreBelow, MayMeet, Meets, MustResolve, IsSettled, AreSettled, IsInert}
-use Rattle.ba_learn.proofs.WorkLaws.{occurrences-push, count_below-same, count_below-add, count_below-bound}
+use Rattle.ba_learn.specs.Resolving.{Work, count_below, is_marked, is_above, MayKeep, IsWork, Parts, ToPending, ToKept, ToWaiting, AreBelow, MayMeet, Meets, MustResolve, IsSettled, AreSettled, IsInert}
+use Rattle.ba_learn.proofs.WorkLaws.{occurrences-push, pushed_cases, count_below-same, count_below-add, count_below-bound}
 
 -- the place that is new is in one part of the work
 to_pending : (k r w floor high q place : ℕ) (a b : Bool) → place < high → floor ≤ place → (q ≡ place → a ≡ false) → b ≡ (eqb q place || a)
@@ -28,12 +29,6 @@ to_waiting : (j k r w floor high q place : ℕ) (a b : Bool) → place < floor �
 to_waiting j k r w floor high q place true b below apart is more h = grind (arith, nat_tests)
 to_waiting j k r w floor high q place false b below apart is more h = grind (arith, nat_tests)
 
-pushed_cases : (p : ℕ) (xs : List ℕ) (q : ℕ) → 0 < occurrences p (xs ++ q ∷ []) → (0 < occurrences p xs) ⊎ (p ≡ q)
-pushed_cases p xs q some = ⊎_elim (λ e. inr e) (λ ne. inl (step (occurrences p xs) _ ne (occurrences-push p xs q) some)) (cases_eq p q)
-  where
-    step : (n m : ℕ) → p ≢ q → m ≡ n + one_if (eqb q p) → 0 < m → 0 < n
-    step n m ne e some = grind (arith, nat_tests)
-
 above_adds : (floor q place : ℕ) (a b : Bool) → floor ≤ place → b ≡ (eqb q place || a) → (leb floor q && b) ≡ (eqb q place || (leb floor q && a))
 above_adds floor q place true b above is = grind (arith, nat_tests)
 above_adds floor q place false b above is = grind (arith, nat_tests)
@@ -42,21 +37,13 @@ above_same : (floor q place : ℕ) (a b : Bool) → place < floor → b ≡ (eqb
 above_same floor q place true b above is = grind (arith, nat_tests)
 above_same floor q place false b above is = grind (arith, nat_tests)
 
-and_false : (a b : Bool) → b ≡ false → (a && b) ≡ false
-and_false true b e = e
-and_false false b e = refl
-
 below_one : (n p : ℕ) → p < n → one_if (ltb p n) ≡ 1
 below_one n p lt = grind (arith, nat_tests)
 
 -- the marks of a resolution, with one more
 module _ (s : State) (old : Work) (m : List Bool) (place : ℕ) (within : place < length s.trail) (fresh : is_marked old place ≡ false) (adds : (p : ℕ) → get_or m p false ≡ (eqb p place || is_marked old p)) where
   grown : (p : ℕ) → is_marked old p ≡ true → get_or m p false ≡ true
-  grown p e = adds p ∙ right (eqb p place) (is_marked old p) e
-    where
-      right : (a b : Bool) → b ≡ true → (a || b) ≡ true
-      right true b e = refl
-      right false b e = e
+  grown p e = adds p ∙ or_right (eqb p place) (is_marked old p) e
 
   here : get_or m place false ≡ true
   here = adds place ∙ left place (is_marked old place)
@@ -84,7 +71,9 @@ module _ (s : State) (old : Work) (m : List Bool) (place : ℕ) (within : place 
     ranged = ranged high i;
     parted = λ q. to_pending (occurrences q old.kept) (occurrences q old.resolved) (occurrences q old.waiting) old.floor high q place (is_marked old q) (get_or m q false) below above (apart q) (adds q) (i.parted q);
     pending =
-        let more = count_below-add (is_above old) (is_above (record old { marks = m })) place (λ q. above_adds old.floor q place (is_marked old q) (get_or m q false) above (adds q)) (and_false (leb old.floor place) (is_marked old place) fresh) high in
+        let more = count_below-add (is_above old) (is_above (record old { marks = m })) place
+        (λ q. above_adds old.floor q place (is_marked old q) (get_or m q false) above (adds q))
+        (and_right (leb old.floor place) (is_marked old place) fresh) high in
         omega (arith, more, i.pending, below_one high place below);
     kept_below = i.kept_below;
     kept = i.kept;
@@ -306,7 +295,8 @@ work_empty s w high short within floor none pending kept resolved waiting = reco
   floor = floor;
   ranged = λ p e. absurd (cc (sym e ∙ none p));
   parted = λ p. parted (is_marked w p) (occurrences p w.kept) (occurrences p w.resolved) (occurrences p w.waiting) (ltb p high) (leb w.floor p) (none p) (ap (occurrences p) kept) (ap (occurrences p) resolved) (ap (occurrences p) waiting);
-  pending = pending ∙ sym (count_below-none (is_above w) high (λ p. and_false (leb w.floor p) (is_marked w p) (none p)));
+  pending = pending ∙ sym (count_below-none (is_above w) high
+      (λ p. and_right (leb w.floor p) (is_marked w p) (none p)));
   kept_below = λ p some. absurd (omega (arith, some, ap (occurrences p) kept));
   kept = λ p some. absurd (omega (arith, some, ap (occurrences p) kept));
   resolved = λ p some. absurd (omega (arith, some, ap (occurrences p) resolved));

@@ -9,9 +9,9 @@ use Rattle.ba_lits.specs.Literals.{Literal, index_of, lit_at}
 use Rattle.ba_watch.specs.Threads.{Clause, index_at, AreApart}
 use Rattle.ba_watch.specs.Trails.{value_of}
 use Rattle.ba_watch.specs.Propagation.{falsified, is_false, unit_step, is_unit, clause_in}
-use Rattle.ba_watch.proofs.Facts.{is_false-all, same_from_index}
-use Rattle.ba_learn.specs.Live.{IsSame, AreLive, IsNew, by_number, AreNumbered, IsPartOf}
-use Rattle.ba_learn.proofs.SortedLaws.{has_at}
+use Rattle.ba_watch.proofs.Facts.{is_false-all}
+use Rattle.ba_learn.specs.Live.{IsSame, AreLive, IsNew, by_number, HaveDistinctNumbers, IsPartOf}
+use Rattle.ba_lits.proofs.Members.{same_from_index, literal_found}
 
 -- a clause all of whose literals are false or one that has no value, and in which this one stands once at most, is
 -- false or unit
@@ -45,7 +45,7 @@ contains_none live lits new number c is apart part = ⊎_elim
   where
     each : (k : ℕ) → k < length c → (lit_at c k ≡ new.free) ⊎ (value_of new.trail (lit_at c k) ≡ Some false)
     each k k_in =
-        let r = has_at (lit_at c k) lits (part k k_in) in
+        let r = literal_found (lit_at c k) lits (part k k_in) in
         ⊎_elim
         (λ same. inl (sym r.2 ∙ same_from_index (lit_at lits r.0) new.free same))
         (λ other. inr (ap (value_of new.trail) (sym r.2) ∙ new.asserts.others r.0 r.1 other))
@@ -63,13 +63,15 @@ found (Some c ∷ clauses) number given is = ⊎_elim
     rest : (n : ℕ) (o : Option (List Literal)) → n ≢ number → cond (eqb n number) (Some c.lits) o ≡ Some given → o ≡ Some given
     rest n o ne e = grind (arith, nat_tests)
 
-numbered_rest : (o : Option Clause) (clauses : List (Option Clause)) → AreNumbered (o ∷ clauses) → AreNumbered clauses
+numbered_rest : (o : Option Clause) (clauses : List (Option Clause)) → HaveDistinctNumbers (o ∷ clauses) →
+    HaveDistinctNumbers clauses
 numbered_rest o clauses h a b c d is_c is_d e = less a b (h (suc a) (suc b) c d is_c is_d e)
   where
     less : (a b : ℕ) → suc a ≡ suc b → a ≡ b
     less a b e = omega arith
 
-has_number : (clauses : List (Option Clause)) → AreNumbered clauses → (reference : ℕ) (c : Clause) → clause_in clauses reference ≡ Some c → IsSame (by_number clauses c.number) c.lits
+has_number : (clauses : List (Option Clause)) → HaveDistinctNumbers clauses → (reference : ℕ) (c : Clause) →
+    clause_in clauses reference ≡ Some c → IsSame (by_number clauses c.number) c.lits
 has_number [] h reference c is = absurd (cc is)
 has_number (None ∷ clauses) h zero c is = absurd (cc is)
 has_number (None ∷ clauses) h (suc reference) c is = has_number clauses (numbered_rest None clauses h) reference c is
@@ -94,5 +96,6 @@ has_number (Some d ∷ clauses) h (suc reference) c is =
         no' : (m n : ℕ) → m ≢ n → eqb m n ≡ false
         no' m n ne = grind (arith, nat_tests)
 
-pub live_by_number : (clauses : List (Option Clause)) → AreNumbered clauses → AreLive clauses (by_number clauses)
+pub live_by_number : (clauses : List (Option Clause)) → HaveDistinctNumbers clauses →
+    AreLive clauses (by_number clauses)
 live_by_number clauses h = record { each = has_number clauses h; all = found clauses }

@@ -8,9 +8,10 @@ use Rattle.ba_lits.specs.Literals.{Literal, index_of, lit_at}
 use Rattle.ba_arena.specs.Clauses.{Clauses, Stored, IsLive, clause_at, lits_at, number_at, number_of as stored_number}
 use Rattle.ba_watch.specs.Threads.{Clause, plain, plain_at}
 use Rattle.ba_watch.specs.Trails.{value_of, place_of}
-use Rattle.ba_watch.specs.Propagation.{State, plain_lits, clause_in, lits_in, has_literal, KeepsFacts}
+use Rattle.ba_watch.specs.Propagation.{State, plain_lits, clause_in, lits_in, KeepsFacts}
 use Rattle.ba_watch.proofs.Values.{place_of-some, place_of-append}
-use Rattle.ba_watch.proofs.Facts.{same_from_index}
+use Rattle.ba_lits.proofs.Members.{same_from_index}
+use Rattle.ba_lits.specs.Hints.{has_literal}
 use Rattle.ba_watch.proofs.Visits.{some-plain}
 use Rattle.ba_watch.proofs.Sounds.{clause_in-map, lits_in-map}
 use Rattle.ba_learn.specs.Resolving.{AreBelow, number_of, number_in}

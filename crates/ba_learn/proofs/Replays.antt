@@ -6,9 +6,10 @@ use Rattle.std.proofs.lemmas.Bool.Decides.{nat_tests}
 use Rattle.std.proofs.lemmas.List.Elements.{All-weaker}
 use Rattle.std.specs.List.{All}
 use Rattle.ba_lits.specs.Literals.{Literal, negate}
+use Rattle.ba_lits.proofs.Members.{has_literal-more, has_literal-last, has_literal-push}
 use Rattle.ba_lits.specs.Hints.{has_literal, Standing, Refutes, is_last, after_clause, after_hint, replay}
 use Rattle.ba_watch.specs.Chains.{occurrences}
-use Rattle.ba_learn.proofs.Standings.{times, has-more, has-last, has-push, stands_false, stands_unit}
+use Rattle.ba_learn.proofs.Standings.{times, stands_false, stands_unit}
 
 -- each place is above all before it
 abbrev pub IsAscending : List ℕ → Type 0
@@ -72,18 +73,19 @@ module _ (live : ℕ → Option (List Literal)) (t : ℕ → Literal) (number : 
         ∙ (ap (λ (st : Standing). after_clause st (is_last (map number ps ++ last ∷ [])) (λ l. replay live (falses ++ negate l ∷ []) (map number ps ++ last ∷ [])))
         (stands_unit falses (t p) no_t no_negation g.given (All-weaker (λ (x : Literal). (x ≡ t p) ⊎ IsKnownBefore p x) (λ (x : Literal). (x ≡ t p) ⊎ (has_literal x falses ≡ true)) fits g.given g.others) g.once)
         ∙ runs ps (falses ++ negate (t p) ∷ []) ascends.1 (λ q some. sub q (later p q (occurrences q ps) some))
-        (λ x has. has-more x falses (negate (t p) ∷ []) (start x has))
+        (λ x has. has_literal-more x falses (negate (t p) ∷ []) (start x has))
         (λ q some. ⊎_elim
         (λ left. ⊎_elim
-        (λ same. inr (subst (λ (r : ℕ). has_literal (negate (t r)) (falses ++ negate (t p) ∷ []) ≡ true) (sym same) (has-last (negate (t p)) falses)))
+        (λ same. inr (subst (λ (r : ℕ). has_literal (negate (t r)) (falses ++ negate (t p) ∷ []) ≡ true)
+        (sym same) (has_literal-last (negate (t p)) falses)))
         (λ other. inl (rest p q (occurrences q ps) other left))
         (cases_eq q p))
-        (λ has. inr (has-more (negate (t q)) falses (negate (t p) ∷ []) has))
+        (λ has. inr (has_literal-more (negate (t q)) falses (negate (t p) ∷ []) has))
         (done q some))
         (λ q some l has. ⊎_elim
         (λ was. free q (later p q (occurrences q ps) some) l was)
         (λ is. subst (λ (x : Literal). x.variable ≢ (t q).variable) is (apart p q (sub p here) (sub q (later p q (occurrences q ps) some)) (ascends.0 q some)))
-        (has-push l (negate (t p)) falses has)))
+        (has_literal-push l (negate (t p)) falses has)))
       where
         self : (n k : ℕ) → 0 < cond (eqb n n) 1 0 + k
         self n k = grind (arith, nat_tests)

@@ -1,10 +1,12 @@
 -- Resolving with reasons: down the trail, and whatever waits.
 
-use Rattle.std.proofs.Common.{◌≡◌, ◌≢◌, ℕ, suc, zero, ◌+◌, ◌-◌, ◌*◌, ◌<◌, ◌≤◌, Bool, true, false, ◌&&◌, Option, None, Some, IsSome, is_some, List, [], ◌∷◌, ◌++◌, length, get_or, eqb, ltb, leb, refl, sym, ap, subst, ◌∙◌, arith, ◌⊎◌, inl, inr, ⊎_elim}
+use Rattle.std.proofs.Common.{◌≡◌, ◌≢◌, ℕ, suc, zero, ◌+◌, ◌-◌, ◌*◌, ◌<◌, ◌≤◌, Bool, true, false, ◌&&◌, Option, None, Some, IsSome, is_some, List, [], ◌∷◌, ◌++◌, length, get_or, eqb, ltb, leb, refl, sym, ap, subst, ◌∙◌, arith, inr, ⊎_elim}
 use Rattle.std.proofs.lemmas.List.{length_push}
 use Rattle.std.proofs.lemmas.List.Elements.{All-nil, All-weaker, All-from_get_or}
 use Rattle.ba_lits.specs.Literals.{Literal, lit_at, no_literal}
-use Rattle.std.proofs.lemmas.Bool.{cases_eq, cases_lt}
+use Rattle.ba_lits.specs.Satisfaction.{one_if}
+use Rattle.std.proofs.Math.Numerals.{suc-eq-add-one}
+use Rattle.std.proofs.lemmas.Bool.{cases_eq, cases_lt, and_right}
 use Rattle.std.proofs.lemmas.Bool.Decides.{nat_tests}
 use Rattle.std.proofs.lemmas.List.Sorted.{length_permutation}
 use Rattle.std.specs.List.Sorted.{IsPermutation}
@@ -12,8 +14,8 @@ use Rattle.ba_watch.specs.Chains.{occurrences}
 use Rattle.ba_watch.specs.Trails.{decided, level_at}
 use Rattle.ba_watch.proofs.Levels.{decided-take-le}
 use Rattle.ba_watch.specs.Propagation.{State, lits_in, KeepsFacts}
-use Rattle.ba_learn.specs.Resolving.{Work, one_if, count_below, is_marked, is_above, IsWork, AreBelow, AreMarked, MayMeet, Meets, with_resolved, MayResolve, reason_lits, reason_of_place, AreCovered, Resolves, KeepsWork, IsStart, IsSettled, AreSettled, IsInert, IsImplied, IsShortened, place_in}
-use Rattle.ba_learn.proofs.WorkLaws.{occurrences-push, occurrences-append, count_below-le, count_below-bound}
+use Rattle.ba_learn.specs.Resolving.{Work, count_below, is_marked, is_above, IsWork, AreBelow, AreMarked, MayMeet, Meets, with_resolved, MayResolve, reason_lits, reason_of_place, AreCovered, Resolves, KeepsWork, IsStart, IsSettled, AreSettled, IsInert, IsImplied, IsShortened, place_in}
+use Rattle.ba_learn.proofs.WorkLaws.{occurrences-push, occurrences-append, pushed_cases, one_if-le, count_below-le, count_below-bound}
 use Rattle.ba_learn.proofs.ReasonLaws.{reason_below}
 use Rattle.ba_learn.proofs.FollowLaws.{occurrences-permutation}
 
@@ -43,10 +45,7 @@ count_below-gap f m (suc n) le none = ⊎_elim
     (cases_eq m (suc n))
 
 pub count_below-more : (f : ℕ → Bool) (n : ℕ) → count_below f (n + 1) ≡ one_if (f n) + count_below f n
-count_below-more f n = ap (count_below f) (plus_one n)
-  where
-    plus_one : (n : ℕ) → n + 1 ≡ suc n
-    plus_one n = omega arith
+count_below-more f n = ap (count_below f) (sym (suc-eq-add-one n))
 
 not_above : (floor p : ℕ) (b : Bool) → p < floor → (leb floor p && b) ≡ false
 not_above floor p b lt = grind (arith, nat_tests)
@@ -61,10 +60,6 @@ pending_floor w place some = ⊎_elim
     (λ above. above)
     (cases_lt place w.floor)
 
-and_false : (a b : Bool) → b ≡ false → (a && b) ≡ false
-and_false true b e = e
-and_false false b e = refl
-
 -- the walk goes on to the latest place that is pending
 pub work_narrower : (s : State) (w : Work) (end place : ℕ) → IsWork s end w → place < end → w.floor ≤ place → ((p : ℕ) → place < p → p < end → is_marked w p ≡ false) → IsWork s (place + 1) w
 work_narrower s w end place i below above none = record {
@@ -73,7 +68,8 @@ work_narrower s w end place i below above none = record {
   floor = omega arith;
   ranged = i.ranged;
   parted = λ q. parted (occurrences q w.kept) (occurrences q w.resolved) (occurrences q w.waiting) w.floor q (is_marked w q) (none q) (i.parted q);
-  pending = i.pending ∙ count_below-gap (is_above w) (place + 1) end (omega arith) (λ p ge lt. and_false (leb w.floor p) (is_marked w p) (none p (omega arith) lt));
+  pending = i.pending ∙ count_below-gap (is_above w) (place + 1) end (omega arith)
+      (λ p ge lt. and_right (leb w.floor p) (is_marked w p) (none p (omega arith) lt));
   kept_below = i.kept_below;
   kept = i.kept;
   resolved = i.resolved;
@@ -97,12 +93,6 @@ Resolves-trans s u v w a b = record {
   deep = b.deep ∙ a.deep;
   covered = λ c. b.covered (a.covered c);
 }
-
-pushed_cases : (p : ℕ) (xs : List ℕ) (q : ℕ) → 0 < occurrences p (xs ++ q ∷ []) → (0 < occurrences p xs) ⊎ (p ≡ q)
-pushed_cases p xs q some = ⊎_elim (λ e. inr e) (λ ne. inl (step (occurrences p xs) _ ne (occurrences-push p xs q) some)) (cases_eq p q)
-  where
-    step : (n m : ℕ) → p ≢ q → m ≡ n + one_if (eqb q p) → 0 < m → 0 < n
-    step n m ne e some = grind (arith, nat_tests)
 
 -- the reason of a place with its literals marked
 covered_push : (s : State) (old new : ℕ → Bool) (places : List ℕ) (place : ℕ) → ((p : ℕ) → old p ≡ true → new p ≡ true) → AreCovered s old places → AreMarked s new (reason_of_place s place) → AreCovered s new (places ++ place ∷ [])
@@ -169,13 +159,25 @@ module _ (s : State) (old mid : Work) (place reason : ℕ) (facts : KeepsFacts s
 -- where others are pending, the latest one was not decided
 pub pending_reason : (s : State) (w : Work) (place : ℕ) → IsWork s (place + 1) w → IsStart s w.floor → w.floor ≤ place → place < length s.trail → 2 ≤ w.pending → IsSome (get_or s.reasons place None)
 pending_reason s w place i start above within others = ⊎_elim
-    (λ e. absurd (omega (arith, i.pending, count_below-more (is_above w) place, small (is_above w place), above_floor w place (omega (arith, e)))))
+    (λ e. absurd (omega (
+      arith,
+      i.pending,
+      count_below-more (is_above w) place,
+      one_if-le
+          (is_above w place),
+      above_floor w place (omega (arith, e)),
+    )))
     (λ ne. start.later place (omega (arith, above, ne)) within)
     (cases_eq place w.floor)
+
+-- the literals of the reason of a place became false before it
+reason_of_place-below : (s : State) → KeepsFacts s → (place n : ℕ) → place < n → place < length s.trail →
+    AreBelow s n (reason_of_place s place)
+reason_of_place-below s facts place n lt within = step (get_or s.reasons place None) refl
   where
-    small : (b : Bool) → one_if b ≤ 1
-    small true = omega arith
-    small false = omega arith
+    step : (o : Option ℕ) → get_or s.reasons place None ≡ o → AreBelow s n (reason_lits s o)
+    step None e = λ k k_in. absurd (omega arith)
+    step (Some r) e = λ k k_in. omega (arith, reason_below s place r facts within e k k_in, lt)
 
 -- the literals of the reason of a place to be resolved may be met
 pub may_meet_reason : (s : State) (w w' : Work) (place reason : ℕ) → KeepsFacts s → get_or s.reasons place None ≡ Some reason → place < length s.trail → MayResolve s w place → w' ≡ with_resolved w place → MayMeet s w' (lits_in s.clauses reason)
@@ -267,18 +269,16 @@ module _ (s : State) (old : Work) (rest : List ℕ) (place : ℕ) (is : old.wait
       covered = λ c. subst (λ (xs : List ℕ). AreCovered s (is_marked new) xs) (sym met.resolved) (covered_push s (is_marked old) (is_marked new) old.resolved place met.grows c met.met);
     }
 
-    below : KeepsFacts s → (n : ℕ) → place < n → place < length s.trail → AreBelow s n (reason_of_place s place)
-    below facts n lt within = step (get_or s.reasons place None) refl
-      where
-        step : (o : Option ℕ) → get_or s.reasons place None ≡ o → AreBelow s n (reason_lits s o)
-        step None e = λ k k_in. absurd (omega arith)
-        step (Some r) e = λ k k_in. omega (arith, reason_below s place r facts within e k k_in, lt)
-
     pub popped_keeps : KeepsFacts s → KeepsWork s old new
-    popped_keeps facts high i = met.work high (popped_work high i) (below facts high (omega (arith, i.waiting_below place waits, i.floor)) (popped_within high i))
+    popped_keeps facts high i =
+        met.work high (popped_work high i)
+        (reason_of_place-below s facts place high (omega (arith, i.waiting_below place waits, i.floor))
+        (popped_within high i))
 
     pub popped_pending : KeepsFacts s → (high : ℕ) → IsWork s high old → new.pending ≡ old.pending
-    popped_pending facts high i = met.still (below facts old.floor (i.waiting_below place waits) (popped_within high i))
+    popped_pending facts high i =
+        met.still (reason_of_place-below s facts place old.floor (i.waiting_below place waits)
+        (popped_within high i))
 
     pub popped_short : KeepsFacts s → (high : ℕ) → IsWork s high old → old.deep ≡ false → IsShortened s old → IsShortened s new
     popped_short facts high i shallow short p some implied =
@@ -291,7 +291,16 @@ module _ (s : State) (old : Work) (rest : List ℕ) (place : ℕ) (is : old.wait
     popped_less facts high i =
         let n : ℕ = length s.trail in
         let within : place < n = popped_within high i in
-        omega (arith, met.spends n (below facts n within within), count_below-le (is_marked old) (is_marked new) met.grows n, count_below-bound (is_marked new) n, ap length is, length_push rest place)
+        omega (
+          arith,
+          met.spends n (reason_of_place-below s facts place n within within),
+          count_below-le
+              (is_marked old) (is_marked new) met.grows n,
+          count_below-bound
+              (is_marked new) n,
+          ap length is,
+          length_push rest place,
+        )
 
 -- a kept place is on the trail
 pub kept_on_trail : (s : State) (old : Work) (place high : ℕ) → IsWork s high old → (rest : List ℕ) → IsPermutation old.kept (place ∷ rest) → place < length s.trail
@@ -348,18 +357,16 @@ module _ (s : State) (old : Work) (rest : List ℕ) (place : ℕ) (is : IsPermut
       covered = λ c. subst (λ (xs : List ℕ). AreCovered s (is_marked new) xs) (sym met.resolved) (covered_push s (is_marked old) (is_marked new) old.resolved place met.grows c met.met);
     }
 
-    dropped_below : KeepsFacts s → (n : ℕ) → place < n → place < length s.trail → AreBelow s n (reason_of_place s place)
-    dropped_below facts n lt within = step (get_or s.reasons place None) refl
-      where
-        step : (o : Option ℕ) → get_or s.reasons place None ≡ o → AreBelow s n (reason_lits s o)
-        step None e = λ k k_in. absurd (omega arith)
-        step (Some r) e = λ k k_in. omega (arith, reason_below s place r facts within e k k_in, lt)
-
     pub dropped_keeps : KeepsFacts s → KeepsWork s old new
-    dropped_keeps facts high i = met.work high (dropped_work high i) (dropped_below facts high (omega (arith, i.kept_below place was_kept, i.floor)) (dropped_within high i))
+    dropped_keeps facts high i =
+        met.work high (dropped_work high i)
+        (reason_of_place-below s facts place high (omega (arith, i.kept_below place was_kept, i.floor))
+        (dropped_within high i))
 
     pub dropped_pending : KeepsFacts s → (high : ℕ) → IsWork s high old → new.pending ≡ old.pending
-    dropped_pending facts high i = met.still (dropped_below facts old.floor (i.kept_below place was_kept) (dropped_within high i))
+    dropped_pending facts high i =
+        met.still (reason_of_place-below s facts place old.floor (i.kept_below place was_kept)
+        (dropped_within high i))
 
     pub dropped_inert : old.deep ≡ false → AreSettled s (is_marked old) (reason_of_place s place) → IsInert s (with_resolved dropped place) new
     dropped_inert shallow settled = met.inert shallow settled

@@ -1,20 +1,21 @@
 -- The literals of a learnt clause: one literal and the negations of those that were kept, by their variables.
 
 use Rattle.std.proofs.Common.{◌≡◌, ◌≢◌, ℕ, suc, zero, ◌+◌, ◌<◌, ◌≤◌, Bool, true, false, ◌&&◌, ◌||◌, List, [], ◌∷◌, length, map, eqb, ltb, leb, cond, refl, sym, ap, subst, ◌∙◌, arith, ◌⊎◌, inl, inr, ⊎_elim}
-use Rattle.std.proofs.lemmas.Bool.{cases_eq, cases_lt}
+use Rattle.std.proofs.lemmas.Bool.{cases_eq, cases_lt, eq-eqb, or_left, or_right, and_parts}
 use Rattle.std.proofs.lemmas.Bool.Decides.{nat_tests}
 use Rattle.std.proofs.lemmas.List.Elements.{All-get_or, All-cons, All-map}
-use Rattle.std.proofs.lemmas.List.Recursion.{is_count_by}
-use Rattle.std.proofs.lemmas.List.Sorted.{sum_by-IsPermutation, All-permutation, list_any-IsPermutation}
-use Rattle.std.specs.List.{All, sum_by, list_any}
+use Rattle.std.proofs.lemmas.List.Sorted.{All-permutation}
+use Rattle.std.specs.List.{All}
 use Rattle.std.specs.List.Sorted.{IsPermutation, IsNonDecreasingBy}
 use Rattle.ba_lits.specs.Literals.{Literal, index_of, lit_at, no_literal, IsClause}
 use Rattle.ba_lits.specs.Hints.{has_literal}
-use Rattle.ba_lits.proofs.HintLaws.{same_literal}
+use Rattle.ba_lits.proofs.Members.{same_literal, has_literal-at, has_literal-permutation}
+use Rattle.ba_lits.specs.Satisfaction.{one_if}
 use Rattle.ba_watch.specs.Chains.{occurrences}
 use Rattle.ba_watch.specs.Trails.{place_of}
 use Rattle.ba_watch.specs.Propagation.{State, KeepsFacts}
-use Rattle.ba_learn.specs.Resolving.{Work, one_if, is_marked, is_pending, IsWork, negated_at, SortsLiterals}
+use Rattle.ba_learn.specs.Resolving.{Work, is_marked, is_pending, IsWork, negated_at, SortsLiterals}
+use Rattle.ba_learn.proofs.Weights.{total-permutation}
 use Rattle.ba_learn.proofs.ReasonLaws.{place_of-at}
 use Rattle.ba_learn.proofs.FollowLaws.{resolved_apart, resolved_within, trail_apart}
 use Rattle.ba_learn.proofs.Finishes.{places_all}
@@ -22,17 +23,11 @@ use Rattle.ba_learn.proofs.Finishes.{places_all}
 -- how often a variable stands in a list of literals
 abbrev pub variable_times : ℕ → List Literal → ℕ
 variable_times v [] = 0
-variable_times v (x ∷ xs) = cond (eqb x.variable v) 1 0 + variable_times v xs
+variable_times v (x ∷ xs) = one_if (eqb x.variable v) + variable_times v xs
 
 pub variable_times-permutation : (v : ℕ) (xs ys : List Literal) → IsPermutation xs ys → variable_times v ys ≡ variable_times v xs
-variable_times-permutation v xs ys same = counted ys ∙ (sum_by-IsPermutation (λ (x : Literal). cond (eqb x.variable v) 1 0) xs ys same ∙ sym (counted xs))
-  where
-    step : (b : Bool) (n : ℕ) → cond b 1 0 + n ≡ cond b (1 + n) n
-    step true n = refl
-    step false n = omega arith
-
-    counted : (zs : List Literal) → variable_times v zs ≡ sum_by (λ (x : Literal). cond (eqb x.variable v) 1 0) zs
-    counted zs = is_count_by (variable_times v) (λ (x : Literal). eqb x.variable v) refl (λ x xs. step (eqb x.variable v) (variable_times v xs)) zs
+variable_times-permutation v =
+    total-permutation (variable_times v) (λ (x : Literal). one_if (eqb x.variable v)) refl (λ x xs. refl)
 
 variable_once : (xs : List Literal) (k : ℕ) → k < length xs → 1 ≤ variable_times (lit_at xs k).variable xs
 variable_once [] k within = absurd (omega arith)
@@ -58,49 +53,19 @@ variables_ascend xs up once j k lt within = ⊎_elim
     (λ other. omega (arith, up j k no_literal (omega arith) within, other))
     (cases_eq (lit_at xs j).variable (lit_at xs k).variable)
 
--- whether a literal is in a list doesn't depend on the order
-has-any : (x : Literal) (xs : List Literal) → has_literal x xs ≡ list_any (λ (y : Literal). eqb (index_of y) (index_of x)) xs
-has-any x [] = refl
-has-any x (y ∷ ys) = ap (λ (b : Bool). eqb (index_of y) (index_of x) || b) (has-any x ys)
-
-pub has-permutation : (x : Literal) (xs ys : List Literal) → IsPermutation xs ys → has_literal x xs ≡ has_literal x ys
-has-permutation x xs ys same = has-any x xs ∙ (list_any-IsPermutation (λ (y : Literal). eqb (index_of y) (index_of x)) xs ys same ∙ sym (has-any x ys))
-
-pub has-at : (xs : List Literal) (k : ℕ) → k < length xs → has_literal (lit_at xs k) xs ≡ true
-has-at [] k within = absurd (omega arith)
-has-at (x ∷ xs) zero within = here (index_of x) (has_literal x xs)
-  where
-    here : (n : ℕ) (b : Bool) → (eqb n n || b) ≡ true
-    here n b = grind (arith, nat_tests)
-has-at (x ∷ xs) (suc k) within = there (eqb (index_of x) (index_of (lit_at xs k))) _ (has-at xs k (omega arith))
-  where
-    there : (c b : Bool) → b ≡ true → (c || b) ≡ true
-    there true b e = refl
-    there false b e = e
-
-pub has_at : (x : Literal) (xs : List Literal) → has_literal x xs ≡ true → (k : ℕ) × (k < length xs) × (lit_at xs k ≡ x)
-has_at x [] has = absurd (cc has)
-has_at x (y ∷ ys) has = step (eqb (index_of y) (index_of x)) refl has (λ h. has_at x ys h)
-  where
-    step : (c : Bool) → eqb (index_of y) (index_of x) ≡ c → (c || has_literal x ys) ≡ true → (has_literal x ys ≡ true → (k : ℕ) × (k < length ys) × (lit_at ys k ≡ x)) → (k : ℕ) × (k < length (y ∷ ys)) × (lit_at (y ∷ ys) k ≡ x)
-    step true e h rest = (0, omega arith, same_literal y x e)
-    step false e h rest = let r = rest h in (suc r.0, omega arith, r.2)
-
 -- the negations of the literals at places
 has-mapped : (s : State) (places : List ℕ) (q : ℕ) → 0 < occurrences q places → has_literal (negated_at s q) (map (negated_at s) places) ≡ true
 has-mapped s [] q some = absurd (omega arith)
 has-mapped s (p ∷ ps) q some = ⊎_elim
-    (λ same. subst (λ (x : ℕ). (eqb (index_of (negated_at s x)) (index_of (negated_at s q)) || has_literal (negated_at s q) (map (negated_at s) ps)) ≡ true) (sym same) (here (index_of (negated_at s q)) (has_literal (negated_at s q) (map (negated_at s) ps))))
-    (λ other. there (eqb (index_of (negated_at s p)) (index_of (negated_at s q))) _ (has-mapped s ps q (later (occurrences q ps) other some)))
+    (λ same. subst (λ (x : ℕ). (eqb (index_of (negated_at s x)) (index_of (negated_at s q)) || has_literal
+    (negated_at s q) (map (negated_at s) ps)) ≡ true) (sym same)
+    (or_left (eqb (index_of (negated_at s q)) (index_of (negated_at s q)))
+    (has_literal (negated_at s q) (map (negated_at s) ps))
+    (eq-eqb (index_of (negated_at s q)) (index_of (negated_at s q)) refl)))
+    (λ other. or_right (eqb (index_of (negated_at s p)) (index_of (negated_at s q))) _
+    (has-mapped s ps q (later (occurrences q ps) other some)))
     (cases_eq p q)
   where
-    here : (n : ℕ) (b : Bool) → (eqb n n || b) ≡ true
-    here n b = grind (arith, nat_tests)
-
-    there : (c b : Bool) → b ≡ true → (c || b) ≡ true
-    there true b e = refl
-    there false b e = e
-
     later : (n : ℕ) → p ≢ q → 0 < cond (eqb p q) 1 0 + n → 0 < n
     later n ne some = grind (arith, nat_tests)
 
@@ -129,12 +94,9 @@ pub record HasOne (s : State) (high : ℕ) (w : Work) (u : ℕ) (lead : Literal)
   pub lead_is : lead.variable ≡ (lit_at s.trail u).variable
 
 pending_marked : (high : ℕ) (w : Work) (q : ℕ) → is_pending high w q ≡ true → is_marked w q ≡ true
-pending_marked high w q e = last (ltb q high) (leb w.floor q) (is_marked w q) e
-  where
-    last : (a b c : Bool) → (a && (b && c)) ≡ true → c ≡ true
-    last true true c e = e
-    last true false c e = absurd (cc e)
-    last false b c e = absurd (cc e)
+pending_marked high w q e =
+    (and_parts (leb w.floor q) (is_marked w q)
+    (and_parts (ltb q high) (leb w.floor q && is_marked w q) e).1).1
 
 module _ (s : State) (facts : KeepsFacts s) (high : ℕ) (w : Work) (work : IsWork s high w) (waiting : w.waiting ≡ []) (u : ℕ) (lead : Literal) (one : HasOne s high w u lead) (lits : List Literal) (sorted : SortsLiterals (lead ∷ map (negated_at s) w.kept) lits) where
   pub u_within : u < length s.trail
@@ -144,20 +106,19 @@ module _ (s : State) (facts : KeepsFacts s) (high : ℕ) (w : Work) (work : IsWo
   kept_within q some = omega (arith, work.kept_below q some, work.floor, work.within)
 
   pub lead_in : has_literal lead lits ≡ true
-  lead_in = sym (has-permutation lead (lead ∷ map (negated_at s) w.kept) lits sorted.same) ∙ has-at (lead ∷ map (negated_at s) w.kept) 0 (omega arith)
+  lead_in = sym (has_literal-permutation lead (lead ∷ map (negated_at s) w.kept) lits sorted.same)
+      ∙ has_literal-at (lead ∷ map (negated_at s) w.kept) 0 (omega arith)
 
   pub kept_in : (q : ℕ) → 0 < occurrences q w.kept → has_literal (negated_at s q) lits ≡ true
   kept_in q some =
-      sym (has-permutation (negated_at s q) (lead ∷ map (negated_at s) w.kept) lits sorted.same)
-      ∙ there (eqb (index_of lead) (index_of (negated_at s q))) (has_literal (negated_at s q) (map (negated_at s) w.kept)) (has-mapped s w.kept q some)
-    where
-      there : (c b : Bool) → b ≡ true → (c || b) ≡ true
-      there true b e = refl
-      there false b e = e
+      sym (has_literal-permutation (negated_at s q) (lead ∷ map (negated_at s) w.kept) lits sorted.same)
+      ∙ or_right (eqb (index_of lead) (index_of (negated_at s q)))
+      (has_literal (negated_at s q) (map (negated_at s) w.kept)) (has-mapped s w.kept q some)
 
   -- each literal of the clause is the one, or was kept
   pub literal_of : (x : Literal) → has_literal x lits ≡ true → (x ≡ lead) ⊎ ((q : ℕ) × (0 < occurrences q w.kept) × (x ≡ negated_at s q))
-  literal_of x has = step (eqb (index_of lead) (index_of x)) refl (has-permutation x (lead ∷ map (negated_at s) w.kept) lits sorted.same ∙ has)
+  literal_of x has = step (eqb (index_of lead) (index_of x)) refl
+      (has_literal-permutation x (lead ∷ map (negated_at s) w.kept) lits sorted.same ∙ has)
     where
       step : (c : Bool) → eqb (index_of lead) (index_of x) ≡ c → (c || has_literal x (map (negated_at s) w.kept)) ≡ true → (x ≡ lead) ⊎ ((q : ℕ) × (0 < occurrences q w.kept) × (x ≡ negated_at s q))
       step true e h = inl (sym (same_literal lead x e))

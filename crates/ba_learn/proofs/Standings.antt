@@ -1,87 +1,51 @@
 -- How a clause stands where some literals are false, told by its literals in any order.
 
-use Rattle.std.proofs.Common.{◌≡◌, ◌≢◌, ℕ, suc, ◌+◌, ◌<◌, Bool, true, false, ◌||◌, None, Some, List, [], ◌∷◌, ◌++◌, length, eqb, cond, refl, sym, ap, subst, ◌∙◌, arith, ◌⊎◌, inl, inr, ⊎_elim}
+use Rattle.std.proofs.Common.{◌≡◌, ◌≢◌, ℕ, suc, ◌+◌, ◌<◌, Bool, true, false, ◌||◌, None, Some, List, [], ◌∷◌, length, eqb, cond, refl, sym, ap, subst, ◌∙◌, arith, ◌⊎◌, ⊎_elim}
 use Rattle.std.proofs.lemmas.Bool.{cases_eq}
 use Rattle.std.proofs.lemmas.Bool.Decides.{nat_tests}
 use Rattle.std.proofs.lemmas.List.Elements.{All-head, All-tail}
-use Rattle.std.proofs.lemmas.List.Recursion.{is_count_by}
-use Rattle.std.proofs.lemmas.List.Sorted.{sum_by-IsPermutation}
-use Rattle.std.specs.List.{All, sum_by}
+use Rattle.std.specs.List.{All}
 use Rattle.std.specs.List.Sorted.{IsPermutation}
 use Rattle.ba_lits.specs.Literals.{Literal, negate, index_of}
 use Rattle.ba_lits.specs.Hints.{has_literal, value_where, Standing, IsFalse, IsUnit, with_literal, standing}
-use Rattle.ba_lits.proofs.HintLaws.{same_literal}
+use Rattle.ba_lits.proofs.Members.{same_from_index}
+use Rattle.ba_lits.specs.Satisfaction.{one_if}
 use Rattle.ba_watch.specs.Threads.{index_at, AreApart}
-use Rattle.ba_watch.specs.Propagation.{has_literal as holds_literal}
+use Rattle.ba_learn.proofs.Weights.{total-permutation}
 
 -- how often a literal stands in a list
 abbrev pub times : Literal → List Literal → ℕ
 times t [] = 0
-times t (x ∷ xs) = cond (eqb (index_of x) (index_of t)) 1 0 + times t xs
+times t (x ∷ xs) = one_if (eqb (index_of x) (index_of t)) + times t xs
 
 -- the order of the list doesn't matter for it
 pub times-permutation : (t : Literal) (xs ys : List Literal) → IsPermutation xs ys → times t ys ≡ times t xs
-times-permutation t xs ys same = counted ys ∙ (sum_by-IsPermutation (λ (x : Literal). cond (eqb (index_of x) (index_of t)) 1 0) xs ys same ∙ sym (counted xs))
-  where
-    step : (b : Bool) (n : ℕ) → cond b 1 0 + n ≡ cond b (1 + n) n
-    step true n = refl
-    step false n = omega arith
-
-    counted : (zs : List Literal) → times t zs ≡ sum_by (λ (x : Literal). cond (eqb (index_of x) (index_of t)) 1 0) zs
-    counted zs = is_count_by (times t) (λ (x : Literal). eqb (index_of x) (index_of t)) refl (λ x xs. step (eqb (index_of x) (index_of t)) (times t xs)) zs
-
-eqb_self : (n : ℕ) → eqb n n ≡ true
-eqb_self n = grind (arith, nat_tests)
+times-permutation t =
+    total-permutation (times t) (λ (x : Literal). one_if (eqb (index_of x) (index_of t))) refl (λ x xs. refl)
 
 -- a clause in which no literal stands twice has each of its literals once
 pub times-none : (t : Literal) (xs : List Literal) → ((k : ℕ) → k < length xs → index_at xs k ≢ index_of t) → times t xs ≡ 0
 times-none t [] none = refl
 times-none t (x ∷ xs) none = step (index_of x) (index_of t) (times t xs) (none 0 (omega arith)) (times-none t xs (λ k k_in. none (suc k) (omega arith)))
   where
-    step : (m n k : ℕ) → m ≢ n → k ≡ 0 → cond (eqb m n) 1 0 + k ≡ 0
+    step : (m n k : ℕ) → m ≢ n → k ≡ 0 → one_if (eqb m n) + k ≡ 0
     step m n k ne e = grind (arith, nat_tests)
 
-pub times-once : (t : Literal) (xs : List Literal) → AreApart xs → holds_literal t xs ≡ true → times t xs ≡ 1
+pub times-once : (t : Literal) (xs : List Literal) → AreApart xs → has_literal t xs ≡ true → times t xs ≡ 1
 times-once t [] apart has = absurd (cc has)
 times-once t (x ∷ xs) apart has = ⊎_elim
     (λ same. here (index_of x) (index_of t) (times t xs) same (times-none t xs (λ k k_in e. apart 0 (suc k) (omega arith) (omega arith) (λ c. omega arith) (same ∙ sym e))))
-    (λ other. there (index_of x) (index_of t) (holds_literal t xs) (times t xs) other (times-once t xs (λ j k j_in k_in ne. apart (suc j) (suc k) (omega arith) (omega arith) (λ e. ne (omega arith)))) has)
+    (λ other. there (index_of x) (index_of t) (has_literal t xs) (times t xs) other
+    (times-once t xs (λ j k j_in k_in ne. apart (suc j) (suc k) (omega arith) (omega arith)
+    (λ e. ne (omega arith)))) has)
     (cases_eq (index_of x) (index_of t))
   where
-    here : (m n k : ℕ) → m ≡ n → k ≡ 0 → cond (eqb m n) 1 0 + k ≡ 1
+    here : (m n k : ℕ) → m ≡ n → k ≡ 0 → one_if (eqb m n) + k ≡ 1
     here m n k e z = grind (arith, nat_tests)
 
-    there : (m n : ℕ) (b : Bool) (k : ℕ) → m ≢ n → (b ≡ true → k ≡ 1) → (eqb m n || b) ≡ true → cond (eqb m n) 1 0 + k ≡ 1
+    there : (m n : ℕ) (b : Bool) (k : ℕ) → m ≢ n → (b ≡ true → k ≡ 1) → (eqb m n || b) ≡ true →
+        one_if (eqb m n) + k ≡ 1
     there m n b k ne rest has = grind (arith, nat_tests)
-
--- the literals of a list with one more
-or_true : (a : Bool) → (a || true) ≡ true
-or_true true = refl
-or_true false = refl
-
-pub has-more : (l : Literal) (xs ys : List Literal) → has_literal l xs ≡ true → has_literal l (xs ++ ys) ≡ true
-has-more l [] ys has = absurd (cc has)
-has-more l (x ∷ xs) ys has = step (eqb (index_of x) (index_of l)) (has_literal l xs) (has_literal l (xs ++ ys)) (has-more l xs ys) has
-  where
-    step : (a b c : Bool) → (b ≡ true → c ≡ true) → (a || b) ≡ true → (a || c) ≡ true
-    step true b c rest e = refl
-    step false b c rest e = rest e
-
-pub has-last : (l : Literal) (xs : List Literal) → has_literal l (xs ++ l ∷ []) ≡ true
-has-last l [] = ap (λ (b : Bool). b || false) (eqb_self (index_of l))
-has-last l (x ∷ xs) = ap (λ (b : Bool). eqb (index_of x) (index_of l) || b) (has-last l xs) ∙ or_true (eqb (index_of x) (index_of l))
-
-pub has-push : (l x : Literal) (xs : List Literal) → has_literal l (xs ++ x ∷ []) ≡ true → (has_literal l xs ≡ true) ⊎ (x ≡ l)
-has-push l x [] has = inr (same_literal x l (left (eqb (index_of x) (index_of l)) has))
-  where
-    left : (a : Bool) → (a || false) ≡ true → a ≡ true
-    left true e = refl
-    left false e = absurd (cc e)
-has-push l x (y ∷ ys) has = step (eqb (index_of y) (index_of l)) (has_literal l ys) (has_literal l (ys ++ x ∷ [])) (has-push l x ys) has
-  where
-    step : (a b c : Bool) → (c ≡ true → (b ≡ true) ⊎ (x ≡ l)) → (a || c) ≡ true → ((a || b) ≡ true) ⊎ (x ≡ l)
-    step true b c rest e = inl refl
-    step false b c rest e = rest e
 
 -- a clause all of whose literals are false
 pub stands_false : (falses g : List Literal) → All (λ (x : Literal). has_literal x falses ≡ true) g → standing falses g ≡ IsFalse
@@ -100,10 +64,8 @@ module _ (falses : List Literal) (t : Literal) (no_t : has_literal t falses ≡ 
   Fits x = (x ≡ t) ⊎ (has_literal x falses ≡ true)
 
   other : (x : Literal) → has_literal x falses ≡ true → index_of x ≢ index_of t
-  other x has e = absurd (cc (sym has ∙ ap (λ (l : Literal). has_literal l falses) (same_literal x t (same (index_of x) (index_of t) e)) ∙ no_t))
-    where
-      same : (m n : ℕ) → m ≡ n → eqb m n ≡ true
-      same m n e = grind (arith, nat_tests)
+  other x has e = absurd (cc
+      (sym has ∙ ap (λ (l : Literal). has_literal l falses) (same_from_index x t e) ∙ no_t))
 
   rest_false : (g : List Literal) → All Fits g → times t g ≡ 0 → standing falses g ≡ IsFalse
   rest_false [] all none = refl
@@ -112,7 +74,7 @@ module _ (falses : List Literal) (t : Literal) (no_t : has_literal t falses ≡ 
       (λ has. step (has_literal x falses) _ (standing falses xs) has (rest_false xs (All-tail Fits x xs all) (omega arith)))
       (All-head Fits x xs all)
     where
-      once : (m n k : ℕ) → m ≡ n → cond (eqb m n) 1 0 + k ≡ 0 → ⊥
+      once : (m n k : ℕ) → m ≡ n → one_if (eqb m n) + k ≡ 0 → ⊥
       once m n k e z = grind (arith, nat_tests)
 
       step : (a b : Bool) (st : Standing) → a ≡ true → st ≡ IsFalse → with_literal x (cond a (Some false) (cond b (Some true) None)) st ≡ IsFalse
@@ -127,10 +89,10 @@ module _ (falses : List Literal) (t : Literal) (no_t : has_literal t falses ≡ 
       (λ has. step (has_literal x falses) _ (standing falses xs) has (stands_unit xs (All-tail Fits x xs all) (later (index_of x) (index_of t) (times t xs) (other x has) once)))
       (All-head Fits x xs all)
     where
-      first : (m n k : ℕ) → m ≡ n → cond (eqb m n) 1 0 + k ≡ 1 → k ≡ 0
+      first : (m n k : ℕ) → m ≡ n → one_if (eqb m n) + k ≡ 1 → k ≡ 0
       first m n k e z = grind (arith, nat_tests)
 
-      later : (m n k : ℕ) → m ≢ n → cond (eqb m n) 1 0 + k ≡ 1 → k ≡ 1
+      later : (m n k : ℕ) → m ≢ n → one_if (eqb m n) + k ≡ 1 → k ≡ 1
       later m n k e z = grind (arith, nat_tests)
 
       free : (a b : Bool) (st : Standing) → a ≡ false → b ≡ false → st ≡ IsFalse → with_literal t (cond a (Some false) (cond b (Some true) None)) st ≡ IsUnit t

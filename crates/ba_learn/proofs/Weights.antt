@@ -4,10 +4,17 @@ use Rattle.std.proofs.Common.{◌≡◌, ℕ, ◌+◌, Bool, true, false, ◌&&�
 use Rattle.std.proofs.lemmas.Bool.Decides.{nat_tests}
 use Rattle.std.proofs.lemmas.List.Recursion.{is_sum_by}
 use Rattle.std.proofs.lemmas.List.Sorted.{sum_by-IsPermutation}
-use Rattle.std.specs.List.{sum_by}
 use Rattle.std.specs.List.Sorted.{IsPermutation}
 use Rattle.ba_lits.specs.Literals.{Literal}
 use Rattle.ba_watch.specs.Propagation.{falsified, is_false, unit_step, is_unit}
+
+-- a sum over a list doesn't depend on its order
+pub total-permutation : {X : Type 0} (total : List X → ℕ) (part : X → ℕ) → total [] ≡ 0 →
+    ((x : X) (xs : List X) → total (x ∷ xs) ≡ part x + total xs) → (xs ys : List X) → IsPermutation xs ys →
+    total ys ≡ total xs
+total-permutation total part none more xs ys same =
+    is_sum_by total part none more ys
+    ∙ (sum_by-IsPermutation part xs ys same ∙ sym (is_sum_by total part none more xs))
 
 -- a clause is false where its weight is 0, and unit where it is 1
 abbrev weight_of : Option Bool → ℕ
@@ -47,10 +54,8 @@ unit_weight value (x ∷ xs) = step (value x) (is_false value xs) (is_unit value
     step (Some false) a b n e f = f ∙ ap (λ (m : ℕ). eqb m 1) (plus_zero n)
 
 weight-permutation : (value : Literal → Option Bool) (xs ys : List Literal) → IsPermutation xs ys → weight value ys ≡ weight value xs
-weight-permutation value xs ys same = summed ys ∙ (sum_by-IsPermutation (λ (x : Literal). weight_of (value x)) xs ys same ∙ sym (summed xs))
-  where
-    summed : (zs : List Literal) → weight value zs ≡ sum_by (λ (x : Literal). weight_of (value x)) zs
-    summed zs = is_sum_by (weight value) (λ (x : Literal). weight_of (value x)) refl (λ x xs. refl) zs
+weight-permutation value =
+    total-permutation (weight value) (λ (x : Literal). weight_of (value x)) refl (λ x xs. refl)
 
 pub is_false-permutation : (value : Literal → Option Bool) (xs ys : List Literal) → IsPermutation xs ys → is_false value ys ≡ is_false value xs
 is_false-permutation value xs ys same = false_weight value ys ∙ (ap (λ (n : ℕ). eqb n 0) (weight-permutation value xs ys same) ∙ sym (false_weight value xs))

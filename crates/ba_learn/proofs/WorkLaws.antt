@@ -1,12 +1,14 @@
 -- The parts of a resolution's work, as a place more is marked.
 
-use Rattle.std.proofs.Common.{◌≡◌, ℕ, suc, zero, ◌+◌, ◌<◌, ◌≤◌, Bool, true, false, ◌||◌, Option, None, Some, IsSome, List, [], ◌∷◌, ◌++◌, length, get_or, eqb, ltb, cond, refl, sym, ap, ◌∙◌, arith}
+use Rattle.std.proofs.Common.{◌≡◌, ℕ, suc, zero, ◌+◌, ◌<◌, ◌≤◌, Bool, true, false, ◌||◌, Option, None, Some, IsSome, List, [], ◌∷◌, ◌++◌, length, get_or, eqb, ltb, cond, refl, sym, ap, ◌∙◌, arith, ◌≢◌, ◌⊎◌, inl, inr, ⊎_elim}
+use Rattle.std.proofs.lemmas.Bool.{cases_eq}
 use Rattle.std.proofs.lemmas.Bool.Decides.{nat_tests}
 use Rattle.ba_lits.specs.Literals.{Literal}
+use Rattle.ba_lits.specs.Satisfaction.{one_if}
 use Rattle.ba_watch.specs.Chains.{occurrences}
 use Rattle.ba_watch.specs.Trails.{place_of, place_if, level_at, level_of}
 use Rattle.ba_watch.proofs.Levels.{decided-take_none}
-use Rattle.ba_learn.specs.Resolving.{one_if, count_below}
+use Rattle.ba_learn.specs.Resolving.{count_below}
 
 -- a place that has a value
 pub some_place : (T : List Literal) (v : ℕ) → place_of T v < length T → IsSome (place_if T v)
@@ -49,6 +51,15 @@ occurrences-append p (x ∷ xs) ys = omega (arith, occurrences-append p xs ys)
 pub occurrences-push : (p : ℕ) (xs : List ℕ) (q : ℕ) → occurrences p (xs ++ q ∷ []) ≡ occurrences p xs + one_if (eqb q p)
 occurrences-push p xs q = omega (arith, occurrences-append p xs (q ∷ []))
 
+pub pushed_cases : (p : ℕ) (xs : List ℕ) (q : ℕ) → 0 < occurrences p (xs ++ q ∷ []) →
+    (0 < occurrences p xs) ⊎ (p ≡ q)
+pushed_cases p xs q some =
+    ⊎_elim (λ e. inr e) (λ ne. inl (step (occurrences p xs) _ ne (occurrences-push p xs q) some))
+    (cases_eq p q)
+  where
+    step : (n m : ℕ) → p ≢ q → m ≡ n + one_if (eqb q p) → 0 < m → 0 < n
+    step n m ne e some = grind (arith, nat_tests)
+
 -- how many places are in a set that has one more
 pub count_below-same : (f g : ℕ → Bool) → ((q : ℕ) → g q ≡ f q) → (n : ℕ) → count_below g n ≡ count_below f n
 count_below-same f g same zero = refl
@@ -75,10 +86,10 @@ count_below-le f g more (suc n) = step (f n) (g n) (more n) (count_below-le f g 
     step false true h le = omega arith
     step false false h le = omega arith
 
+pub one_if-le : (b : Bool) → one_if b ≤ 1
+one_if-le true = omega arith
+one_if-le false = omega arith
+
 pub count_below-bound : (f : ℕ → Bool) (n : ℕ) → count_below f n ≤ n
 count_below-bound f zero = omega arith
-count_below-bound f (suc n) = omega (arith, count_below-bound f n, small (f n))
-  where
-    small : (b : Bool) → one_if b ≤ 1
-    small true = omega arith
-    small false = omega arith
+count_below-bound f (suc n) = omega (arith, count_below-bound f n, one_if-le (f n))

@@ -50,8 +50,8 @@ by_number (None ∷ clauses) number = by_number clauses number
 by_number (Some c ∷ clauses) number = if eqb c.number number then Some c.lits else by_number clauses number
 
 -- no two clauses have the same number
-abbrev pub AreNumbered : List (Option Clause) → Type 0
-AreNumbered clauses =
+abbrev pub HaveDistinctNumbers : List (Option Clause) → Type 0
+HaveDistinctNumbers clauses =
     (a b : ℕ) (c d : Clause) → clause_in clauses a ≡ Some c → clause_in clauses b ≡ Some d → c.number ≡ d.number → a ≡ b
 
 -- each literal of a clause stands in another one

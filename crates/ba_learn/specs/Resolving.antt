@@ -1,10 +1,11 @@
 -- A resolution on its way: which places of the trail it has marked, and what is to become of their literals.
 
-use Rattle.std.specs.Prelude.{◌≡◌, ℕ, ◌+◌, ◌<◌, ◌≤◌, leb, ltb, ◌^◌, Bool, true, false, ◌&&◌, Option, None, Some, IsSome, ◌⊎◌, List, [], ◌∷◌, ◌++◌, length, get_or, if◌then◌else◌}
+use Rattle.std.specs.Prelude.{◌≡◌, ℕ, ◌+◌, ◌<◌, ◌≤◌, leb, ltb, ◌^◌, Bool, true, false, ◌&&◌, Option, None, Some, IsSome, ◌⊎◌, List, [], ◌∷◌, ◌++◌, length, get_or}
 use Prim.Native.Nat.{suc, zero}
 use Rattle.std.specs.List.{All}
 use Rattle.std.specs.List.Sorted.{IsPermutation, IsNonDecreasingBy}
 use Rattle.ba_lits.specs.Literals.{Literal, lit_at, negate}
+use Rattle.ba_lits.specs.Satisfaction.{one_if}
 use Rattle.ba_watch.specs.Chains.{occurrences}
 use Rattle.ba_watch.specs.Threads.{Clause}
 use Rattle.ba_watch.specs.Trails.{place_of, level_at}
@@ -25,9 +26,6 @@ pub record Work : Type 0 where
 -- the place is marked
 abbrev pub is_marked : Work → ℕ → Bool
 is_marked w p = get_or w.marks p false
-
-abbrev pub one_if : Bool → ℕ
-one_if b = if b then 1 else 0
 
 -- how many places below a number are in a set
 abbrev pub count_below : (ℕ → Bool) → ℕ → ℕ

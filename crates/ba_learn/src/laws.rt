@@ -5,7 +5,7 @@ ghost use Rattle.ba_lits.specs.Literals.{Literal, lit_at};
 ghost use Rattle.ba_watch.specs.Threads.{Clause, AreApart};
 ghost use Rattle.ba_watch.specs.Trails.{decided};
 ghost use Rattle.ba_watch.specs.Propagation.{State, lits_in, IsReason, IsAsserting, AddsClause, KeepsFacts};
-ghost use Rattle.ba_learn.specs.Live.{AreLive, IsNew, IsPartOf, AreNumbered, by_number};
+ghost use Rattle.ba_learn.specs.Live.{AreLive, IsNew, IsPartOf, HaveDistinctNumbers, by_number};
 ghost use Rattle.ba_learn.specs.Levels.{IsBacked};
 ghost use Rattle.ba_learn.specs.Backjumps.{after_back, IsUnitAt};
 
@@ -33,5 +33,5 @@ pub fn reason_law()
 
 /// Where no two clauses have the same number, a function has them by number.
 pub fn number_law()
-    ensures { (clauses : List (Option Clause)) → AreNumbered clauses → AreLive clauses (by_number clauses) }
+    ensures { (clauses : List (Option Clause)) → HaveDistinctNumbers clauses → AreLive clauses (by_number clauses) }
 {}

@@ -9,12 +9,7 @@
 mod analyser;
 pub mod laws;
 mod learnt;
-mod marks;
 mod resolution;
 
 pub use analyser::{Analyser, analyse, core_of, refutation};
 pub use learnt::Learnt;
-pub use marks::Marks;
-
-#[cfg(test)]
-mod tests;

@@ -6,9 +6,8 @@ ghost use Rattle.ba_watch.specs.Trails.{place_of, decided, level_at};
 ghost use Rattle.ba_watch.specs.Propagation.{clause_in, lits_in};
 ghost use Rattle.ba_learn.specs.Resolving.{Work, IsWork, is_marked, is_above, count_below, MayKeep, AreBelow, AreMarked, MayMeet, MayStart, Parts, Meets, with_resolved, MayResolve, reason_of_place, MustResolve, IsSettled, AreSettled, IsImplied, IsShortened, ShortensAt, Resolves, KeepsWork, IsStart, number_in, number_at, negated_at, SortsNumbers, SortsLiterals};
 
-use crate::marks::Marks;
 use ba_arena::ClauseRef;
-use ba_lits::Lit;
+use ba_lits::{Lit, Marks};
 use ba_watch::Watch;
 use std::alloc::{AllocError, Global};
 use std::marker::Model;

@@ -1,8 +1,8 @@
 -- The value of a byte as a signed char.
 use Rattle.std.proofs.Common.{◌≡◌, ℕ, ◌+◌, ◌-◌, ◌%◌, ◌<◌, ◌≤◌, pos, ◌-ℤ◌, arith, ap, ◌∙◌}
 use Rattle.std.proofs.lemmas.Int.{ints}
-use Rattle.ba_tree.specs.Numbers.{converted}
-use Rattle.ba_tree.specs.declared.numbers.CType.TheVariants.{I8}
+use Rattle.ba_numbers.specs.Numbers.{converted}
+use Rattle.ba_numbers.specs.declared.numbers.CType.TheVariants.{I8}
 
 pub converted-small : (n : ℕ) → n < 128 → converted I8 (pos n) ≡ pos n
 unfolding converted

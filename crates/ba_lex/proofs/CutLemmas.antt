@@ -5,8 +5,9 @@ use Rattle.std.proofs.lemmas.List.{at_drop_more}
 use Rattle.std.specs.Prelude.{◌==◌}
 use Rattle.std.specs.Char.{is_ascii_digit}
 use Rattle.std.specs.List.{prefix_len}
-use Rattle.ba_lex.specs.Pieces.{is_letter, is_word_byte, is_number_byte, is_blank, is_line_end, word_at, number_at, piece_at, is_comment_end, after_open, first_piece, next_position, position_after, with_piece, cut}
-use Rattle.ba_tree.specs.declared.ids.At.{At}
+use Rattle.ba_bytes.specs.Classes.{is_letter, is_word_byte, is_number_byte, is_blank, is_line_end}
+use Rattle.ba_lex.specs.Pieces.{word_at, number_at, piece_at, is_comment_end, after_open, first_piece, next_position, position_after, with_piece, cut}
+use Rattle.ba_numbers.specs.declared.ids.At.{At}
 use Rattle.ba_lex.specs.declared.piece.Form.{Form}
 use Rattle.ba_lex.specs.declared.piece.Piece.{Piece}
 

@@ -1,8 +1,8 @@
 -- The definition computed at worked texts.
 use Rattle.std.proofs.Common.{◌≡◌, ℕ, List, [], ◌∷◌, ◌++◌, Ok, Err, refl, codes, pos, negsuc}
-use Rattle.ba_tree.specs.Numbers.{converted}
-use Rattle.ba_tree.specs.declared.ids.At.{At}
-use Rattle.ba_tree.specs.declared.numbers.CType.TheVariants.{I32, U32}
+use Rattle.ba_numbers.specs.Numbers.{converted}
+use Rattle.ba_numbers.specs.declared.ids.At.{At}
+use Rattle.ba_numbers.specs.declared.numbers.CType.TheVariants.{I32, U32}
 use Rattle.ba_lex.specs.Constants.{number_kind, character_kind}
 use Rattle.ba_lex.specs.Pieces.{first_piece}
 use Rattle.ba_lex.specs.Lines.{tokens_of}

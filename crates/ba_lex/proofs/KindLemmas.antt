@@ -6,8 +6,8 @@ use Rattle.std.specs.Ordering.{int_eq}
 use Rattle.std.proofs.lemmas.Bool.Decides.{Decides-int_eq}
 use Rattle.std.proofs.lemmas.Slice.Eq.{bytes_eq-Decides}
 use denote.Enum.Bare.{sameb, same_true, true_same}
-use Rattle.ba_tree.specs.declared.numbers.CType.{CType}
-use Rattle.ba_tree.specs.contracts.numbers.CType as ctype
+use Rattle.ba_numbers.specs.declared.numbers.CType.{CType}
+use Rattle.ba_numbers.specs.contracts.numbers.CType as ctype
 use Rattle.ba_lex.specs.contracts.token.Keyword as word
 use Rattle.ba_lex.specs.contracts.token.Punct as mark
 use Rattle.ba_lex.specs.Lines.{same_kind}

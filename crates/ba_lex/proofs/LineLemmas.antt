@@ -6,7 +6,7 @@ use Rattle.std.proofs.lemmas.Bool.{or_parts}
 use Rattle.std.proofs.lemmas.Grind.{common_steps}
 use Rattle.std.specs.Prelude.{slice_get}
 use Rattle.std.proofs.lemmas.Option.{slice_get_past}
-use Rattle.ba_tree.specs.declared.ids.At.{At}
+use Rattle.ba_numbers.specs.declared.ids.At.{At}
 use Rattle.ba_lex.specs.Storage.{reading_so_far}
 use Rattle.ba_lex.specs.Lines.{Table, Reading, only_tokens, nothing, sequence, sequence_after, reading_of, line_reading, tokens_at, replacement, tokens_with_macros, reading_with_macros, answer, or_fault, or_too_many, Fails, max_tokens, begins_directive, is_hash, is_line_end, with_first, with_table, directive, reading, lines_of, Gives}
 use Rattle.ba_lex.specs.declared.error.LexError.{LexError}
@@ -186,3 +186,12 @@ answer-whole out few =
 pub no_pieces : (ps : List Piece) → length ps ≡ 0 → ps ≡ []
 no_pieces [] none = refl
 no_pieces (p ∷ ps) none = absurd (omega arith)
+
+-- the first line of what is left, and what is left after it
+pub line_cut : (ps rest line : List Piece) (from n : ℕ) → rest ≡ drop from ps → n ≤ length rest → line ≡ take n rest → lines_of rest ≡ take n rest ∷ lines_of (drop (n + 1) rest)
+    → lines_of (drop from ps) ≡ line ∷ lines_of (drop (from + (length line + 1)) ps)
+line_cut ps rest line from n rest_is within line_is lines =
+    let counted : length line ≡ n = grind (arith, common_steps) in
+    let on : drop (n + 1) (drop from ps) ≡ drop (from + (n + 1)) ps = grind (arith, common_steps) in
+    let past : drop (n + 1) rest ≡ drop (from + (length line + 1)) ps = ap (drop (n + 1)) rest_is ∙ on ∙ ap (λ m. drop (from + (m + 1)) ps) (sym counted) in
+    ap lines_of (sym rest_is) ∙ lines ∙ ap (λ bs. bs ∷ lines_of (drop (n + 1) rest)) (sym line_is) ∙ ap (λ others. line ∷ lines_of others) past

@@ -1,16 +1,18 @@
 -- The table of macros against the map and the set that hold it.
-use Rattle.std.proofs.Common.{◌≡◌, ℕ, Bool, true, false, cond, ◌||◌, List, [], ◌∷◌, ◌++◌, Some, refl, ap, ◌∙◌, if◌then◌else◌}
-use Rattle.std.proofs.Math.Bool.{or-false}
+use Rattle.std.proofs.Common.{◌≡◌, ℕ, Bool, true, false, cond, ◌||◌, List, [], ◌∷◌, ◌++◌, Option, None, Some, unwrap_or, refl, sym, ap, ◌∙◌, if◌then◌else◌}
+use Rattle.std.proofs.Math.Bool.{or-false, or-true}
 use Rattle.std.proofs.lemmas.List.{map-append}
 use Rattle.std.proofs.lemmas.List.Folds.{list_any-append}
 use Rattle.std.proofs.lemmas.Slice.Eq.{bytes_eq-Decides}
 use Rattle.std.specs.List.{list_any}
+use Rattle.std.specs.Option.{is_some}
 use Rattle.std.specs.Map.{lookup}
 use Rattle.std.specs.Str.{bytes_eq}
 use Rattle.indexmap.specs.IndexSet.{insert_key}
-use Rattle.ba_lex.specs.Lines.{Table, is_in_body}
-use Rattle.ba_lex.specs.Storage.{Key, table_of, is_among, is_mentioned}
+use Rattle.ba_lex.specs.Lines.{Table, body_of, is_in_body, replacement}
+use Rattle.ba_lex.specs.Storage.{HaveNamesOf, Key, table_of, is_among, is_mentioned}
 use Rattle.ba_lex.specs.declared.token.TokenKind.{TokenKind}
+use Rattle.ba_lex.specs.declared.token.TokenKind.TheVariants as kind
 
 -- two keys have the same bytes
 abbrev pub same_key : Key → Key → Bool
@@ -47,3 +49,33 @@ is_among-insert name ks k = by (list_any (same_key k) ks) refl
 -- a name that is among the keys adds nothing
 pub is_among-there : (name : List ℕ) (ks : List Key) → is_among name ks ≡ true → (other : List ℕ) → is_among other ks ≡ (is_among other ks || bytes_eq other name)
 is_among-there name ks there other = or_there (is_among other ks) (bytes_eq other name) (λ same. ap (λ n. is_among n ks) ((bytes_eq-Decides other name).0 same) ∙ there)
+
+-- THE NAMES OF A NEW BODY
+
+-- a name in a body that is found is mentioned
+mentions_here : (name : List ℕ) (b mentioned : Bool) (here body : List TokenKind) (rest : Option (List TokenKind)) → cond b (Some here) rest ≡ Some body → (rest ≡ Some body → mentioned ≡ true) → is_in_body name body ≡ true → (is_in_body name here || mentioned) ≡ true
+mentions_here name true mentioned here body rest found later holds =
+    let same : here ≡ body = cc in
+    ap (λ c. c || mentioned) (ap (is_in_body name) same ∙ holds)
+mentions_here name false mentioned here body rest found later holds = ap (λ c. is_in_body name here || c) (later found) ∙ or-true (is_in_body name here)
+
+lookup_mentions : (test : List ℕ → Bool) (name : List ℕ) (table : Table) (body : List TokenKind) → lookup test table ≡ Some body → is_in_body name body ≡ true → is_mentioned name table ≡ true
+lookup_mentions test name [] body found holds = cc
+lookup_mentions test name (m ∷ table) body found holds =
+    mentions_here name (test m.0) (is_mentioned name table) m.1 body (lookup test table) found (λ later. lookup_mentions test name table body later holds) holds
+
+-- a macro's body has no name that is not among the keys already
+pub is_among-macro : (keys : List Key) (table : Table) (macro : List ℕ) → HaveNamesOf keys table → is_some (body_of table macro) ≡ true → (name : List ℕ) → is_among name keys ≡ (is_among name keys || is_in_body name (replacement table (kind.Name macro)))
+is_among-macro keys table macro have there name = by (body_of table macro) refl there
+  where
+    by : (found : Option (List TokenKind)) → body_of table macro ≡ found → is_some found ≡ true → is_among name keys ≡ (is_among name keys || is_in_body name (unwrap_or found (kind.Name macro ∷ [])))
+    by None is some = cc
+    by (Some body) is some = or_there (is_among name keys) (is_in_body name body) (λ holds. have name (lookup_mentions (bytes_eq macro) name table body is holds))
+
+-- a name that is no macro stands for itself
+pub is_among-name : (among : Bool) (table : Table) (word : List ℕ) → is_some (body_of table word) ≡ false → (name : List ℕ) → (among || bytes_eq name word) ≡ (among || is_in_body name (replacement table (kind.Name word)))
+is_among-name among table word absent name = by (body_of table word) absent
+  where
+    by : (found : Option (List TokenKind)) → is_some found ≡ false → (among || bytes_eq name word) ≡ (among || is_in_body name (unwrap_or found (kind.Name word ∷ [])))
+    by None none = ap (λ b. among || b) (sym (or-false (bytes_eq name word)))
+    by (Some body) none = cc

@@ -6,9 +6,9 @@ use Rattle.std.specs.Str.{bytes_eq}
 use Rattle.std.specs.Char.{is_digit}
 use Rattle.std.specs.List.{list_any, list_all, prefix_len}
 use Rattle.std.specs.Str.Parse.{digits_value}
-use Rattle.ba_tree.specs.Numbers.{converted}
-use Rattle.ba_tree.specs.declared.numbers.CType.{CType}
-use Rattle.ba_tree.specs.declared.numbers.CType.TheVariants.{I8, I32, U32}
+use Rattle.ba_numbers.specs.Numbers.{converted}
+use Rattle.ba_numbers.specs.declared.numbers.CType.{CType}
+use Rattle.ba_numbers.specs.declared.numbers.CType.TheVariants.{I8, I32, U32}
 use Rattle.ba_lex.specs.declared.token.TokenKind.{TokenKind}
 use Rattle.ba_lex.specs.declared.token.TokenKind.TheVariants.{Constant}
 

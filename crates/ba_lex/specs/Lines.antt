@@ -6,7 +6,7 @@ use Rattle.std.specs.Str.{bytes_eq}
 use Rattle.std.specs.List.{list_any, flat_map}
 use Rattle.std.specs.Map.{lookup}
 use Rattle.std.specs.Cmp.Lexicographic.{pointwise}
-use Rattle.ba_tree.specs.declared.ids.At.{At}
+use Rattle.ba_numbers.specs.declared.ids.At.{At}
 use Rattle.ba_lex.specs.Pieces.{pieces_of}
 use Rattle.ba_lex.specs.declared.error.LexError.{LexError}
 use Rattle.ba_lex.specs.declared.error.LexError.TheVariants as error

@@ -1,9 +1,10 @@
 -- A text cut into its pieces, each as long as it can be from its first byte on (C90 5.1.1.2, 6.1).
 
-use Rattle.std.specs.Prelude.{ℕ, zero, suc, ◌+◌, ◌-◌, Bool, false, ◌==◌, ◌&&◌, ◌||◌, not, if◌then◌else◌, List, [], ◌∷◌, length, take, drop, Option, None, Some, option_map}
-use Rattle.std.specs.Char.{is_ascii_alphabetic, is_ascii_digit}
+use Rattle.std.specs.Prelude.{ℕ, zero, suc, ◌+◌, ◌-◌, Bool, false, ◌==◌, ◌&&◌, not, if◌then◌else◌, List, [], ◌∷◌, length, take, drop, Option, None, Some, option_map}
+use Rattle.std.specs.Char.{is_ascii_digit}
 use Rattle.std.specs.List.{prefix_len}
-use Rattle.ba_tree.specs.declared.ids.At.{At}
+use Rattle.ba_numbers.specs.declared.ids.At.{At}
+use Rattle.ba_bytes.specs.Classes.{is_blank, is_letter, is_line_end, is_number_byte, is_word_byte}
 use Rattle.ba_lex.specs.Constants.{begins_with, number_kind, character_kind}
 use Rattle.ba_lex.specs.Spelling.{keyword_of, is_refused, in_one, in_two, in_three}
 use Rattle.ba_lex.specs.declared.token.Keyword.{Keyword}
@@ -13,25 +14,6 @@ use Rattle.ba_lex.specs.declared.token.TokenKind.TheVariants as kind
 use Rattle.ba_lex.specs.declared.piece.Form.{Form}
 use Rattle.ba_lex.specs.declared.piece.Form.TheVariants.{Blank, LineEnd, Hash, Token, BadByte, BadToken, NotInProfile}
 use Rattle.ba_lex.specs.declared.piece.Piece.{Piece}
-
--- BYTES
-
--- a letter or an underscore; what may follow in a word; what may follow in a number
-abbrev pub is_letter : ℕ → Bool
-is_letter b = is_ascii_alphabetic b || (b == 95)
-
-abbrev pub is_word_byte : ℕ → Bool
-is_word_byte b = is_letter b || is_ascii_digit b
-
-abbrev pub is_number_byte : ℕ → Bool
-is_number_byte b = is_word_byte b || (b == 46)
-
--- a blank: tabs, form feed, carriage return and space
-abbrev pub is_blank : ℕ → Bool
-is_blank b = (b == 9) || (b == 11) || (b == 12) || (b == 13) || (b == 32)
-
-abbrev pub is_line_end : ℕ → Bool
-is_line_end b = b == 10
 
 -- PIECES: each with what it is, and how many bytes it has
 

@@ -1,6 +1,6 @@
 -- How the table of macros is held: a map from names to bodies, and the set of the names that stand in bodies.
 
-use Rattle.std.specs.Prelude.{◌≡◌, ℕ, Bool, List, map}
+use Rattle.std.specs.Prelude.{◌≡◌, ℕ, Bool, true, List, map}
 use Rattle.std.specs.List.{list_any}
 use Rattle.std.specs.Str.{bytes_eq}
 use Rattle.std.specs.Prelude.{Vec}
@@ -28,6 +28,10 @@ is_mentioned name table = list_any (λ m. is_in_body name m.1) table
 -- the keys are the names that stand in bodies
 abbrev pub AreMentioned : List Key → Table → Type 0
 AreMentioned keys table = (name : List ℕ) → is_among name keys ≡ is_mentioned name table
+
+-- the names that stand in bodies are among the keys
+abbrev pub HaveNamesOf : List Key → Table → Type 0
+HaveNamesOf keys table = (name : List ℕ) → is_mentioned name table ≡ true → is_among name keys ≡ true
 
 -- the tokens so far, and after them those of a line of the program
 abbrev pub reading_so_far : Table → List Token → List Piece → Reading

@@ -1,15 +1,16 @@
 //! Numbers and character constants (C90 6.1.3.2, 6.1.3.4).
 
 ghost use Rattle.std.specs.Prelude.{◌≡◌, ℕ, ◌+◌, ◌<◌, ◌≤◌, nat_le, if◌then◌else◌, Some, None, pos, length, drop};
-ghost use Rattle.std.specs.Char.{digit_value, is_digit};
+ghost use Rattle.std.specs.Char.{is_digit};
 ghost use Rattle.std.specs.List.{list_any, list_all};
 ghost use Rattle.std.specs.Str.Parse.{digits_value};
-ghost use Rattle.ba_tree.specs.Numbers.{converted};
-ghost use Rattle.ba_tree.specs.declared.numbers.CType.TheVariants.{I8};
+ghost use Rattle.ba_numbers.specs.Numbers.{converted};
+ghost use Rattle.ba_numbers.specs.declared.numbers.CType.TheVariants.{I8};
 ghost use Rattle.ba_lex.specs.Constants.{begins_with, is_hexadecimal, base_of, without_prefix, is_u, is_l, is_suffix, number_of, digit_count, number_with, number_kind, byte_code, simple_escape, escape_value, is_plain, character_value, character_constant, character_kind};
 
 use crate::token::TokenKind;
-use ba_tree::numbers::CType;
+use ba_bytes::classes::{digit_value, is_digit};
+use ba_numbers::numbers::CType;
 
 /// The greatest value of an `int`.
 const INT_MAX: u32 = 2147483647;
@@ -22,25 +23,6 @@ pub(crate) fn begins_with(byte: u8, text: &[u8]) -> bool
         [first, ..] => *first == byte,
         _ => false,
     }
-}
-
-/// The value of a digit or letter, and 36 for any other byte.
-fn digit_value(byte: u8) -> u8
-    ensures value { result ≡ digit_value byte }
-    ensures small { result ≤ 36 }
-{
-    match byte {
-        b'0'..=b'9' => byte - b'0',
-        b'A'..=b'Z' => byte - b'A' + 10,
-        b'a'..=b'z' => byte - b'a' + 10,
-        _ => 36,
-    }
-}
-
-fn is_digit(byte: u8, base: u8) -> bool
-    ensures { result ≡ is_digit byte base }
-{
-    digit_value(byte) < base
 }
 
 /// The number that the digits write, if it is at most the limit.
@@ -119,7 +101,7 @@ fn has_u(suffix: &[u8]) -> bool
     suffix.iter().any(|byte| is_u(*byte))
 }
 
-fn number_of(base: u8, digits: &[u8], suffix: &[u8]) -> Option<TokenKind>
+fn number_of(base: u8, digits: &[u8], suffix: &[u8]) -> Option<TokenKind<'static>>
     requires { 0 < base }
     ensures { result ≡ number_of base digits.now suffix.now }
 {
@@ -147,7 +129,7 @@ fn digit_count(base: u8, text: &[u8]) -> usize
         .count()
 }
 
-fn number_with(base: u8, text: &[u8]) -> Option<TokenKind>
+fn number_with(base: u8, text: &[u8]) -> Option<TokenKind<'static>>
     requires { 0 < base }
     ensures { result ≡ number_with base text.now }
 {
@@ -157,7 +139,7 @@ fn number_with(base: u8, text: &[u8]) -> Option<TokenKind>
 
 /// The constant that a number is, if it keeps its form and its value fits 32 bits.
 #[tactic(auto, unfolding(crate::specs::Constants::number_kind))]
-pub(crate) fn number_kind(number: &[u8]) -> Option<TokenKind>
+pub(crate) fn number_kind(number: &[u8]) -> Option<TokenKind<'static>>
     ensures { result ≡ number_kind number.now }
 {
     number_with(base_of(number), without_prefix(number))
@@ -247,7 +229,7 @@ fn signed_char(byte: u8) -> i64
 
 /// The constant that a character constant is, by the bytes between its quotes.
 #[tactic(auto, unfolding(crate::specs::Constants::character_kind))]
-pub(crate) fn character_kind(text: &[u8]) -> Option<TokenKind>
+pub(crate) fn character_kind(text: &[u8]) -> Option<TokenKind<'static>>
     ensures { result ≡ character_kind text.now }
 {
     let byte = character_value(text)?;

@@ -7,11 +7,10 @@ ghost use Rattle.ba_lex.specs.Lines.{is_name, is_punct, is_keyword, body_of, is_
 
 use crate::error::LexError;
 use crate::lines::line_tokens;
-use crate::macros::{Macros, replacement};
+use crate::macros::{Macros, body_from, replacement};
 use crate::piece::Piece;
 use crate::token::{Keyword, Punct, Token, TokenKind};
-use ba_items::Items;
-use ba_tree::ids::At;
+use ba_numbers::ids::At;
 use std::alloc::{AllocError, Global};
 
 /// The greatest number of macros.
@@ -85,12 +84,12 @@ fn is_parenthesis_next(at: At, name: &[u8], body: &[Token]) -> bool
 }
 
 /// Whether more tokens than so many stand for these.
-fn is_longer(macros: &Macros, tokens: &[Token], limit: usize) -> bool
+fn is_longer<'a>(macros: &Macros<'a>, tokens: &[Token<'a>], limit: usize) -> bool
     ensures { result ≡ nat_lt limit (length (body_from macros.now tokens.now)) }
 {
     let mut room = limit;
     for token in tokens {
-        let count = replacement(macros, &token.kind).len();
+        let count = replacement(&*macros, &token.kind).len();
         if room < count {
             return true;
         }
@@ -106,44 +105,16 @@ fn has_name(tokens: &[Token], name: &[u8]) -> bool
     tokens.iter().any(|token| is_name(token, name))
 }
 
-fn push_kinds(
-    alloc: Global,
-    body: &mut Items<TokenKind>,
-    kinds: &[TokenKind],
-) -> Result<(), AllocError>
-    ensures { OnOk result (body.new ≡ body.old ++ kinds.now) }
-{
-    for kind in kinds {
-        body.push(kind.copy(alloc)?)?;
-    }
-    Ok(())
-}
-
-/// What stands for these tokens.
-fn body_from(
-    alloc: Global,
-    macros: &Macros,
-    tokens: &[Token],
-) -> Result<Items<TokenKind>, AllocError>
-    ensures { IfOk result (λ body. body ≡ body_from macros.now tokens.now) }
-{
-    let mut body = Items::new(alloc);
-    for token in tokens {
-        push_kinds(alloc, &mut body, replacement(macros, &token.kind))?;
-    }
-    Ok(body)
-}
-
 /// The table with a new macro, unless it comes too late or is too much.
-fn with_new(
+fn with_new<'a>(
     alloc: Global,
-    macros: Macros,
+    macros: Macros<'a>,
     at: At,
     name: &[u8],
-    body: &[Token],
-) -> Result<Macros, LexError>
+    body: &[Token<'a>],
+) -> Result<Macros<'a>, LexError>
     requires { body_of macros name.now ≡ None }
-    ensures { Gives (λ m. m) result (with_new macros at name.now body.now) }
+    ensures { Gives (λ m. m) result (with_new macros.entry at name.now body.now) }
 {
     if has_name(body, name) || macros.is_mentioned(name) {
         return Err(LexError::MacroOrder(at));
@@ -151,16 +122,15 @@ fn with_new(
     if macros.len() >= MAX_MACROS || is_longer(&macros, body, MAX_BODY) {
         return Err(LexError::TooMany(at));
     }
-    let kinds = body_from(alloc, &macros, body)?;
-    Ok(macros.with(alloc, name, kinds)?)
+    Ok(macros.with(alloc, name, body)?)
 }
 
 /// Whether the same tokens as the old ones stand for these.
-fn is_same(
+fn is_same<'a>(
     alloc: Global,
-    macros: &Macros,
-    old: &[TokenKind],
-    body: &[Token],
+    macros: &Macros<'a>,
+    old: &[TokenKind<'a>],
+    body: &[Token<'a>],
 ) -> Result<bool, AllocError>
     ensures { IfOk result (λ same. same ≡ pointwise same_kind old.now (body_from macros.now body.now)) }
 {
@@ -168,18 +138,32 @@ fn is_same(
         return Ok(false);
     }
     let kinds = body_from(alloc, macros, body)?;
-    Ok(old == kinds.as_slice())
+    Ok(are_same(old, kinds.as_slice()))
+}
+
+fn are_same<'a>(old: &[TokenKind<'a>], new: &[TokenKind<'a>]) -> bool
+    ensures { result ≡ pointwise same_kind old.now new.now }
+{
+    if old.len() != new.len() {
+        return false;
+    }
+    for (i, kind) in old.iter().enumerate() {
+        if *kind != new[i] {
+            return false;
+        }
+    }
+    true
 }
 
 /// The table after the definition of a macro.
-fn with_macro(
+fn with_macro<'a>(
     alloc: Global,
-    macros: Macros,
+    macros: Macros<'a>,
     at: At,
     name: &[u8],
-    body: &[Token],
-) -> Result<Macros, LexError>
-    ensures { Gives (λ m. m) result (with_macro macros at name.now body.now (body_of macros name.now)) }
+    body: &[Token<'a>],
+) -> Result<Macros<'a>, LexError>
+    ensures { Gives (λ m. m) result (with_macro macros.entry at name.now body.now (body_of macros.entry name.now)) }
 {
     if let Some(old) = macros.body(name) {
         if !is_same(alloc, &macros, old.as_slice(), body)? {
@@ -191,8 +175,13 @@ fn with_macro(
 }
 
 /// The table after a `#define` with these tokens.
-fn define(alloc: Global, macros: Macros, hash: At, tokens: &[Token]) -> Result<Macros, LexError>
-    ensures { Gives (λ m. m) result (definition macros hash tokens.now) }
+fn define<'a>(
+    alloc: Global,
+    macros: Macros<'a>,
+    hash: At,
+    tokens: &[Token<'a>],
+) -> Result<Macros<'a>, LexError>
+    ensures { Gives (λ m. m) result (definition macros.entry hash tokens.now) }
 {
     let [first, body @ ..] = tokens else {
         return Err(LexError::BadDirective(hash));
@@ -207,8 +196,13 @@ fn define(alloc: Global, macros: Macros, hash: At, tokens: &[Token]) -> Result<M
 }
 
 /// The table after a directive with these tokens after its `#`.
-fn obey(alloc: Global, macros: Macros, hash: At, tokens: &[Token]) -> Result<Macros, LexError>
-    ensures { Gives (λ m. m) result (table_after macros hash tokens.now) }
+fn obey<'a>(
+    alloc: Global,
+    macros: Macros<'a>,
+    hash: At,
+    tokens: &[Token<'a>],
+) -> Result<Macros<'a>, LexError>
+    ensures { Gives (λ m. m) result (table_after macros.entry hash tokens.now) }
 {
     let [first, rest @ ..] = tokens else {
         return Ok(macros);
@@ -223,13 +217,13 @@ fn obey(alloc: Global, macros: Macros, hash: At, tokens: &[Token]) -> Result<Mac
 }
 
 /// The table after the directive of this line.
-pub fn directive(
+pub fn directive<'a>(
     alloc: Global,
-    macros: Macros,
+    macros: Macros<'a>,
     hash: At,
-    line: &[Piece],
-) -> Result<Macros, LexError>
-    ensures { Gives (λ m. m) result (directive macros hash line.now) }
+    line: &[Piece<'a>],
+) -> Result<Macros<'a>, LexError>
+    ensures { Gives (λ m. m) result (directive macros.entry hash line.now) }
 {
     let tokens = line_tokens(alloc, line)?;
     obey(alloc, macros, hash, tokens.as_slice())

@@ -1,6 +1,6 @@
 //! Why a text has no tokens.
 
-use ba_tree::ids::At;
+use ba_numbers::ids::At;
 use std::alloc::{AllocError, AllocFailed};
 use thiserror::Error;
 

@@ -3,9 +3,10 @@
 ghost use Rattle.std.specs.Prelude.{◌≡◌, ℕ, List, Err, false, slice_index, take, drop};
 ghost use Rattle.std.specs.Bool.{Decides};
 ghost use Rattle.std.specs.List.{prefix_len};
-ghost use Rattle.ba_tree.specs.declared.ids.At.{At};
+ghost use Rattle.ba_numbers.specs.declared.ids.At.{At};
 ghost use Rattle.ba_lex.specs.Lines.{Reading, answer, same_kind, sequence};
-ghost use Rattle.ba_lex.specs.Pieces.{cut, is_number_byte, is_word_byte, position_after};
+ghost use Rattle.ba_bytes.specs.Classes.{is_number_byte, is_word_byte};
+ghost use Rattle.ba_lex.specs.Pieces.{cut, position_after};
 ghost use Rattle.ba_lex.specs.declared.error.LexError.{LexError};
 ghost use Rattle.ba_lex.specs.declared.token.TokenKind.{TokenKind};
 

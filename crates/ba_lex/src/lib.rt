@@ -15,13 +15,13 @@ mod piece;
 mod spelling;
 pub mod token;
 
-ghost use Rattle.std.specs.Prelude.{◌≤◌, length};
-ghost use Rattle.ba_lex.specs.Lines.{tokens_of, Gives};
+ghost use Rattle.std.specs.Prelude.{◌≤◌, [], length};
+ghost use Rattle.ba_lex.specs.Lines.{answer, lines_of, reading, tokens_of, Gives};
 
 use crate::error::LexError;
-use crate::lines::{read_line, split_line};
+use crate::lines::{line_length, read_line};
 use crate::macros::Macros;
-use crate::piece::pieces;
+use crate::piece::{Piece, pieces};
 use crate::token::Token;
 use std::alloc::Global;
 
@@ -31,24 +31,30 @@ pub const MAX_TEXT: usize = 65536;
 /// The tokens of a text, with its macros replaced; or its first error.
 ///
 /// The text has at most 65,536 bytes. The answer is that of the definition of a text's tokens, in each of its
-/// cases: the tokens with their positions, or the first error at its position.
+/// cases: the tokens with their positions, or the first error at its position. A token's name shares the bytes of
+/// the text.
 /// [`LexError::Memory`] alone is free.
 #[tactic(auto, unfolding(crate::specs::Lines::tokens_of))]
-pub fn tokens(alloc: Global, text: &[u8]) -> Result<Vec<Token>, LexError>
+pub fn tokens<'a>(alloc: Global, text: &'a [u8]) -> Result<Vec<Token<'a>>, LexError>
     requires { length text.now ≤ MAX_TEXT }
     ensures { Gives (λ v. v.items) result (tokens_of text.now) }
 {
     let pieces = pieces(alloc, text)?;
+    read_lines(alloc, pieces.as_slice())
+}
+
+/// The tokens of the lines that are made of these pieces.
+fn read_lines<'a>(alloc: Global, pieces: &[Piece<'a>]) -> Result<Vec<Token<'a>>, LexError>
+    ensures { Gives (λ v. v.items) result (answer (reading [] (lines_of pieces.now))) }
+{
     let mut macros = Macros::new(alloc);
     let mut out = Vec::new(alloc);
-    let mut rest = pieces.as_slice();
-    while !rest.is_empty() {
-        let (line, others) = split_line(rest);
+    let mut from = 0;
+    while from < pieces.len() {
+        let (_, rest) = pieces.split_at(from);
+        let (line, _) = rest.split_at(line_length(rest));
         macros = read_line(alloc, macros, &mut out, line)?;
-        rest = others;
+        from += line.len() + 1;
     }
     Ok(out)
 }
-
-#[cfg(test)]
-mod tests;

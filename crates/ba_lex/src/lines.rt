@@ -1,6 +1,6 @@
 //! Lines of a text: directives, and lines of the program, whose macros are replaced (C90 6.8).
 
-ghost use Rattle.std.specs.Prelude.{◌≡◌, ℕ, ◌+◌, ◌<◌, ◌≤◌, ◌⊎◌, List, [], ◌∷◌, ◌++◌, length, IsTrue, IfErr, IfOk, OnOk};
+ghost use Rattle.std.specs.Prelude.{◌≡◌, ℕ, ◌+◌, ◌<◌, ◌≤◌, ◌⊎◌, List, [], ◌∷◌, ◌++◌, length, take, drop, IsTrue, IfErr, IfOk, OnOk};
 ghost use Rattle.ba_lex.specs.Storage.{reading_so_far};
 ghost use Rattle.ba_lex.specs.Lines.{answer, begins_directive, only_tokens, sequence, is_line_end, lines_of, tokens_at, reading, reading_of, tokens_in, Fails, Gives};
 ghost use Rattle.ba_lex.specs.declared.piece.Piece.{Piece};
@@ -11,7 +11,7 @@ use crate::error::LexError;
 use crate::macros::{Macros, replacement};
 use crate::piece::{Form, Piece};
 use crate::token::{Token, TokenKind};
-use ba_tree::ids::At;
+use ba_numbers::ids::At;
 use std::alloc::Global;
 
 /// The greatest number of tokens.
@@ -32,7 +32,7 @@ fn fault_of(piece: &Piece) -> Option<LexError>
     }
 }
 
-fn push_token(alloc: Global, out: &mut Vec<Token>, kind: &TokenKind, at: At) -> Result<(), LexError>
+fn push_token<'a>(out: &mut Vec<Token<'a>>, kind: &TokenKind<'a>, at: At) -> Result<(), LexError>
     requires { length out.old.items ≤ MAX_TOKENS }
     ensures ok { OnOk result ((out.new.items ≡ out.old.items ++ tokens_at at (kind.now ∷ []))
         × (length out.new.items ≤ MAX_TOKENS)) }
@@ -43,17 +43,16 @@ fn push_token(alloc: Global, out: &mut Vec<Token>, kind: &TokenKind, at: At) -> 
         return Err(LexError::TooMany(at));
     }
     out.push(Token {
-        kind: kind.copy(alloc)?,
+        kind: kind.copy(),
         at,
     })?;
     Ok(())
 }
 
 /// Adds tokens of these kinds, all at this position.
-fn push_tokens(
-    alloc: Global,
-    out: &mut Vec<Token>,
-    kinds: &[TokenKind],
+fn push_tokens<'a>(
+    out: &mut Vec<Token<'a>>,
+    kinds: &[TokenKind<'a>],
     at: At,
 ) -> Result<(), LexError>
     requires { length out.old.items ≤ MAX_TOKENS }
@@ -63,17 +62,16 @@ fn push_tokens(
         ⊎ ((e ≡ TooMany at) × (MAX_TOKENS < length out.old.items + length kinds.now))) }
 {
     for kind in kinds {
-        push_token(alloc, out, kind, at)?;
+        push_token(out, kind, at)?;
     }
     Ok(())
 }
 
 /// Adds the tokens of a line of the program, whose macros are replaced.
-fn text_line(
-    alloc: Global,
-    macros: &Macros,
-    out: &mut Vec<Token>,
-    line: &[Piece],
+fn text_line<'a>(
+    macros: &Macros<'a>,
+    out: &mut Vec<Token<'a>>,
+    line: &[Piece<'a>],
 ) -> Result<(), LexError>
     requires { length out.old.items ≤ MAX_TOKENS }
     ensures ok { OnOk result ((reading_so_far macros.now out.old.items line.now ≡ only_tokens out.new.items)
@@ -85,14 +83,14 @@ fn text_line(
             return Err(fault);
         }
         if let Form::Token(kind) = &piece.form {
-            push_tokens(alloc, out, replacement(macros, kind), piece.at)?;
+            push_tokens(out, replacement(&*macros, kind), piece.at)?;
         }
     }
     Ok(())
 }
 
 /// The tokens of a line, or its first fault.
-pub fn line_tokens(alloc: Global, line: &[Piece]) -> Result<Vec<Token>, LexError>
+pub fn line_tokens<'a>(alloc: Global, line: &[Piece<'a>]) -> Result<Vec<Token<'a>>, LexError>
     ensures { Gives (λ v. v.items) result (tokens_in line.now) }
 {
     let mut tokens = Vec::new(alloc);
@@ -102,7 +100,7 @@ pub fn line_tokens(alloc: Global, line: &[Piece]) -> Result<Vec<Token>, LexError
         }
         if let Form::Token(kind) = &piece.form {
             tokens.push(Token {
-                kind: kind.copy(alloc)?,
+                kind: kind.copy(),
                 at: piece.at,
             })?;
         }
@@ -133,38 +131,38 @@ fn begins_directive(line: &[Piece]) -> bool
     }
 }
 
-/// The first line of the pieces, and the pieces after its end.
-pub fn split_line(pieces: &[Piece]) -> (&[Piece], &[Piece])
+/// How many pieces the first line has before its end.
+pub fn line_length(pieces: &[Piece]) -> usize
     requires { 0 < length pieces.now }
-    ensures lines { lines_of pieces.now ≡ result.0.now ∷ lines_of result.1.now }
-    ensures fewer { length result.1.now < length pieces.now }
+    ensures lines { lines_of pieces.now ≡ take result pieces.now ∷ lines_of (drop (result + 1) pieces.now) }
+    ensures within { result ≤ length pieces.now }
 {
     for (i, piece) in pieces.iter().enumerate() {
         if is_line_end(piece) {
-            return (&pieces[..i], &pieces[i + 1..]);
+            return i;
         }
     }
-    (pieces, &pieces[pieces.len()..])
+    pieces.len()
 }
 
 /// Reads a line: adds the tokens of a line of the program, or gives the table after a directive.
-pub fn read_line(
+pub fn read_line<'a>(
     alloc: Global,
-    macros: Macros,
-    out: &mut Vec<Token>,
-    line: &[Piece],
-) -> Result<Macros, LexError>
+    macros: Macros<'a>,
+    out: &mut Vec<Token<'a>>,
+    line: &[Piece<'a>],
+) -> Result<Macros<'a>, LexError>
     requires { length out.old.items ≤ MAX_TOKENS }
     ensures ok { IfOk result (λ next. (lines : List (List Piece)) →
-        sequence (only_tokens out.old.items) (reading macros (line.now ∷ lines))
+        sequence (only_tokens out.old.items) (reading macros.entry (line.now ∷ lines))
         ≡ sequence (only_tokens out.new.items) (reading next lines)) }
     ensures room { OnOk result (length out.new.items ≤ MAX_TOKENS) }
     ensures err { IfErr result (λ e. (lines : List (List Piece)) →
-        Fails e (answer (sequence (only_tokens out.old.items) (reading macros (line.now ∷ lines))))) }
+        Fails e (answer (sequence (only_tokens out.old.items) (reading macros.entry (line.now ∷ lines))))) }
 {
     if begins_directive(line) {
         return directive(alloc, macros, line[0].at, &line[1..]);
     }
-    text_line(alloc, &macros, out, line)?;
+    text_line(&macros, out, line)?;
     Ok(macros)
 }

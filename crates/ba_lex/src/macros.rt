@@ -2,11 +2,11 @@
 
 ghost use Rattle.std.specs.Prelude.{◌≡◌, ℕ, List, None, [], ◌∷◌, ◌++◌, ◌||◌, length, IfOk, OnOk};
 ghost use Rattle.std.specs.Option.{option_copied};
-ghost use Rattle.ba_lex.specs.Lines.{body_of, replacement, is_in_body};
-ghost use Rattle.ba_lex.specs.Storage.{is_among, is_mentioned};
+ghost use Rattle.ba_lex.specs.Lines.{body_of, body_from, replacement, is_in_body};
+ghost use Rattle.ba_lex.specs.Storage.{HaveNamesOf, is_among, is_mentioned, table_of};
 ghost use Rattle.std.specs.Str.{bytes_eq};
 
-use crate::token::TokenKind;
+use crate::token::{Token, TokenKind};
 use ba_items::Items;
 use indexmap::{IndexMap, IndexSet};
 use std::alloc::{AllocError, Global};
@@ -14,13 +14,13 @@ use std::marker::Model;
 
 /// The macros defined so far, in their order: each name with its body. Contracts see the list of these pairs.
 #[derive(Drop)]
-pub struct Macros {
-    bodies: IndexMap<Vec<u8>, Items<TokenKind>>,
+pub struct Macros<'a> {
+    bodies: IndexMap<Vec<u8>, Items<TokenKind<'a>>>,
     /// The names that stand in bodies.
     mentioned: IndexSet<Vec<u8>>,
 }
 
-impl Model for Macros {
+impl<'a> Model for Macros<'a> {
     ghost use Rattle.std.specs.Prelude.{List, ℕ};
     ghost use Rattle.ba_lex.specs.declared.token.TokenKind.{TokenKind};
 
@@ -33,9 +33,9 @@ impl Model for Macros {
     ghost invariant = { λ macros. AreMentioned macros.mentioned.keys (table_of macros.bodies.entries) };
 }
 
-impl Macros {
+impl<'a> Macros<'a> {
     /// The table without macros.
-    pub fn new(alloc: Global) -> Macros
+    pub fn new(alloc: Global) -> Macros<'a>
         ensures { result ≡ [] }
     {
         Macros {
@@ -52,7 +52,7 @@ impl Macros {
     }
 
     /// The body of the macro of this name, if there is one.
-    pub fn body(&self, name: &[u8]) -> Option<&Items<TokenKind>>
+    pub fn body(&self, name: &[u8]) -> Option<&Items<TokenKind<'a>>>
         ensures { option_copied result ≡ body_of self.now name.now }
     {
         self.bodies.get(name)
@@ -65,30 +65,31 @@ impl Macros {
         self.mentioned.contains(name)
     }
 
-    /// The table with one more macro.
+    /// The table with one more macro, whose body is what stands for these tokens.
     ///
     /// The one error is want of memory.
     pub fn with(
         self,
         alloc: Global,
         name: &[u8],
-        body: Items<TokenKind>,
-    ) -> Result<Macros, AllocError>
+        tokens: &[Token<'a>],
+    ) -> Result<Macros<'a>, AllocError>
         requires { body_of self name.now ≡ None }
-        ensures { IfOk result (λ table. table ≡ self ++ (name.now, body) ∷ []) }
+        ensures { IfOk result (λ table. table ≡ self.entry ++ (name.now, body_from self.entry tokens.now) ∷ []) }
     {
+        let body = body_from(alloc, &self, tokens)?;
         let Macros {
             mut bodies,
             mut mentioned,
         } = self;
-        mention_all(alloc, &mut mentioned, body.as_slice())?;
+        mention_all(alloc, &mut mentioned, &bodies, tokens)?;
         bodies.insert(Vec::from_slice(alloc, name)?, body)?;
         Ok(Macros { bodies, mentioned })
     }
 }
 
 /// What stands for a token of this kind.
-pub fn replacement<'a>(macros: &'a Macros, kind: &'a TokenKind) -> &'a [TokenKind]
+pub fn replacement<'a, 'm>(macros: &'m Macros<'a>, kind: &'m TokenKind<'a>) -> &'m [TokenKind<'a>]
     ensures { result.now ≡ replacement macros.now kind.now }
 {
     let body = match kind {
@@ -112,19 +113,70 @@ fn mention(alloc: Global, mentioned: &mut IndexSet<Vec<u8>>, name: &[u8]) -> Res
     Ok(())
 }
 
-/// Adds the names that stand in a body to the set.
-fn mention_all(
+/// Adds the name to the set that stands for the token, if one does. The names in bodies are there already.
+fn mention_token<'a>(
     alloc: Global,
     mentioned: &mut IndexSet<Vec<u8>>,
-    body: &[TokenKind],
+    bodies: &IndexMap<Vec<u8>, Items<TokenKind<'a>>>,
+    token: &Token<'a>,
 ) -> Result<(), AllocError>
+    requires { HaveNamesOf mentioned.old.keys (table_of bodies.now.entries) }
     ensures { OnOk result ((name : List ℕ) →
-        is_among name mentioned.new.keys ≡ (is_among name mentioned.old.keys || is_in_body name body.now)) }
+        is_among name mentioned.new.keys
+        ≡ (is_among name mentioned.old.keys || is_in_body name (replacement (table_of bodies.now.entries) token.now.kind))) }
 {
-    for kind in body {
-        if let TokenKind::Name(name) = kind {
-            mention(alloc, mentioned, name.as_bytes())?;
-        }
+    let TokenKind::Name(name) = &token.kind else {
+        return Ok(());
+    };
+    if bodies.contains_key(name.as_bytes()) {
+        return Ok(());
+    }
+    mention(alloc, mentioned, name.as_bytes())
+}
+
+/// Adds the names that stand in what stands for these tokens to the set.
+fn mention_all<'a>(
+    alloc: Global,
+    mentioned: &mut IndexSet<Vec<u8>>,
+    bodies: &IndexMap<Vec<u8>, Items<TokenKind<'a>>>,
+    tokens: &[Token<'a>],
+) -> Result<(), AllocError>
+    requires { HaveNamesOf mentioned.old.keys (table_of bodies.now.entries) }
+    ensures { OnOk result ((name : List ℕ) →
+        is_among name mentioned.new.keys
+        ≡ (is_among name mentioned.old.keys || is_in_body name (body_from (table_of bodies.now.entries) tokens.now))) }
+{
+    for token in tokens {
+        mention_token(alloc, mentioned, &*bodies, token)?;
     }
     Ok(())
+}
+
+fn push_kinds<'a>(
+    body: &mut Items<TokenKind<'a>>,
+    kinds: &[TokenKind<'a>],
+) -> Result<(), AllocError>
+    ensures { OnOk result (body.new ≡ body.old ++ kinds.now) }
+{
+    for kind in kinds {
+        body.push(kind.copy())?;
+    }
+    Ok(())
+}
+
+/// What stands for these tokens.
+///
+/// The one error is want of memory.
+pub fn body_from<'a>(
+    alloc: Global,
+    macros: &Macros<'a>,
+    tokens: &[Token<'a>],
+) -> Result<Items<TokenKind<'a>>, AllocError>
+    ensures { IfOk result (λ body. body ≡ body_from macros.now tokens.now) }
+{
+    let mut body = Items::new(alloc);
+    for token in tokens {
+        push_kinds(&mut body, replacement(&*macros, &token.kind))?;
+    }
+    Ok(body)
 }

@@ -1,56 +1,50 @@
 //! The tokens of a program.
 
-ghost use Rattle.std.specs.Prelude.{◌≡◌, IfOk};
+ghost use Rattle.std.specs.Prelude.{◌≡◌};
 
-use ba_tree::ids::At;
-use ba_tree::numbers::CType;
-use std::alloc::{AllocError, Global};
+use ba_numbers::ids::At;
+use ba_numbers::numbers::CType;
 use std::marker::Model;
 
-/// A list of bytes, such as a name of the program. Contracts see the list and nothing else.
+/// A name of the program: bytes that stand in its text, and take no memory of their own. Contracts see the list of
+/// the bytes and nothing else.
 #[derive(Debug, Drop)]
-pub struct Text {
-    bytes: Vec<u8>,
+pub struct Text<'a> {
+    bytes: &'a [u8],
 }
 
-impl Model for Text {
+impl<'a> Model for Text<'a> {
     ghost use Rattle.std.specs.Prelude.{List, ℕ};
 
     ghost Value = { List ℕ };
 
-    ghost view = { λ text. text.bytes.items };
+    ghost view = { λ text. text.bytes.now };
 }
 
-impl Text {
+impl<'a> Text<'a> {
     /// The text of these bytes.
-    ///
-    /// The one error is want of memory.
-    pub fn from_bytes(alloc: Global, bytes: &[u8]) -> Result<Text, AllocError>
-        ensures { IfOk result (λ text. text ≡ bytes.now) }
+    pub fn new(bytes: &'a [u8]) -> Text<'a>
+        ensures { result ≡ bytes.now }
     {
-        Ok(Text {
-            bytes: Vec::from_slice(alloc, bytes)?,
-        })
+        Text { bytes }
     }
 
     /// The bytes in their order.
-    pub fn as_bytes(&self) -> &[u8]
+    pub fn as_bytes(&self) -> &'a [u8]
         ensures { result.now ≡ self.now }
     {
-        self.bytes.as_slice()
+        self.bytes
     }
 
-    /// The same text again.
-    ///
-    /// The one error is want of memory.
-    pub fn copy(&self, alloc: Global) -> Result<Text, AllocError>
-        ensures { IfOk result (λ text. text ≡ self.now) }
+    /// The same text again, of the same bytes in memory.
+    pub fn copy(&self) -> Text<'a>
+        ensures { result ≡ self.now }
     {
-        Text::from_bytes(alloc, self.as_bytes())
+        Text { bytes: self.bytes }
     }
 }
 
-impl PartialEq for Text {
+impl<'a> PartialEq for Text<'a> {
     ghost use Rattle.std.specs.Prelude.{nat_eq};
     ghost use Rattle.std.specs.Cmp.Lexicographic.{pointwise};
     ghost use Rattle.std.specs.Cmp.Rules.{comparing};
@@ -60,12 +54,12 @@ impl PartialEq for Text {
 
     ghost laws = { Prim.search (comparing, rules) };
 
-    fn eq(&self, other: &Text) -> bool {
+    fn eq(&self, other: &Text<'a>) -> bool {
         self.as_bytes() == other.as_bytes()
     }
 }
 
-impl Eq for Text {
+impl<'a> Eq for Text<'a> {
     ghost use Rattle.std.specs.Cmp.Rules.{comparing};
     ghost use Rattle.std.proofs.Common.{rules};
 
@@ -195,9 +189,9 @@ pub enum Punct {
 
 /// What a token is.
 #[derive(Debug, PartialEq, Eq, Drop)]
-pub enum TokenKind {
+pub enum TokenKind<'a> {
     /// A name, which is no keyword.
-    Name(Text),
+    Name(Text<'a>),
     /// A keyword.
     Keyword(Keyword),
     /// A constant of the type `t`; a character constant has type `I32`.
@@ -208,29 +202,27 @@ pub enum TokenKind {
     Punct(Punct),
 }
 
-impl TokenKind {
-    /// The same kind of token again.
-    ///
-    /// The one error is want of memory.
-    pub fn copy(&self, alloc: Global) -> Result<TokenKind, AllocError>
-        ensures { IfOk result (λ kind. kind ≡ self.now) }
+impl<'a> TokenKind<'a> {
+    /// The same kind of token again. A name's bytes are not copied.
+    pub fn copy(&self) -> TokenKind<'a>
+        ensures { result ≡ self.now }
     {
         match self {
-            TokenKind::Name(name) => Ok(TokenKind::Name(name.copy(alloc)?)),
-            TokenKind::Keyword(keyword) => Ok(TokenKind::Keyword(*keyword)),
-            TokenKind::Constant { t, value } => Ok(TokenKind::Constant {
+            TokenKind::Name(name) => TokenKind::Name(name.copy()),
+            TokenKind::Keyword(keyword) => TokenKind::Keyword(*keyword),
+            TokenKind::Constant { t, value } => TokenKind::Constant {
                 t: *t,
                 value: *value,
-            }),
-            TokenKind::Quoted => Ok(TokenKind::Quoted),
-            TokenKind::Punct(punct) => Ok(TokenKind::Punct(*punct)),
+            },
+            TokenKind::Quoted => TokenKind::Quoted,
+            TokenKind::Punct(punct) => TokenKind::Punct(*punct),
         }
     }
 }
 
 /// A token, and the position of its first byte; one that comes from a macro has the position of the macro's use.
 #[derive(Debug, PartialEq, Eq, Drop)]
-pub struct Token {
-    pub kind: TokenKind,
+pub struct Token<'a> {
+    pub kind: TokenKind<'a>,
     pub at: At,
 }

@@ -1,45 +1,23 @@
 -- A clause that follows by hints holds wherever the live clauses do.
 
-use Rattle.std.proofs.Common.{◌≡◌, ℕ, ◌+◌, ◌*◌, ◌/◌, ◌%◌, Bool, true, false, not, ◌||◌, cond, eqb, Option, None, Some, List, [], ◌∷◌, ◌++◌, refl, sym, ap, ◌∙◌, arith, ◌⊎◌, inl, inr, ⊎_elim}
-use Rattle.std.proofs.lemmas.Bool.Decides.{nat_tests}
+use Rattle.std.proofs.Common.{◌≡◌, ℕ, Bool, true, false, not, ◌||◌, cond, eqb, Option, None, Some, List, [], ◌∷◌, ◌++◌, refl, sym, ap, ◌∙◌, ⊎_elim}
+use Rattle.std.proofs.lemmas.Bool.{or_cases, or_parts}
+use mathlib.Core.Bool.{or-false}
 use Rattle.ba_lits.specs.Literals.{Literal, negate, index_of}
 use Rattle.ba_lits.specs.Satisfaction.{Assignment, lit_true, any_true}
-use Rattle.ba_lits.specs.Hints.{has_literal, value_where, Standing, IsFalse, IsUnit, IsOpen, with_literal, standing, Replay, Refutes, StaysOpen, NamesNone, NamesIdle, is_last, after_clause, after_hint, replay, FollowsByHints}
+use Rattle.ba_lits.specs.Hints.{has_literal, value_where, Standing, IsFalse, IsUnit, IsOpen, with_literal, standing, Refutes, is_last, after_clause, after_hint, replay, FollowsByHints}
 use Rattle.ba_lits.proofs.Satisfied.{lit_true-negate}
-
--- the index tells the literal
-pub same_literal : (x y : Literal) → eqb (index_of x) (index_of y) ≡ true → x ≡ y
-same_literal x y same = cases x.variable y.variable x.negated y.negated same
-  where
-    numbers : (m n : ℕ) → eqb m n ≡ true → m ≡ n
-    numbers m n e = grind (arith, nat_tests)
-
-    both : (a b : ℕ) (s : Bool) → a ≡ b → ◌≡◌ {A = Literal} (record { variable = a; negated = s }) (record { variable = b; negated = s })
-    both a b s e = ap (λ (v : ℕ). record { variable = v; negated = s }) e
-
-    cases : (a b : ℕ) (s t : Bool) → eqb (2 * a + cond s 1 0) (2 * b + cond t 1 0) ≡ true → ◌≡◌ {A = Literal} (record { variable = a; negated = s }) (record { variable = b; negated = t })
-    cases a b true true e = let n = numbers (2 * a + 1) (2 * b + 1) e in both a b true (omega arith)
-    cases a b true false e = let n = numbers (2 * a + 1) (2 * b + 0) e in absurd (omega arith)
-    cases a b false true e = let n = numbers (2 * a + 0) (2 * b + 1) e in absurd (omega arith)
-    cases a b false false e = let n = numbers (2 * a + 0) (2 * b + 0) e in both a b false (omega arith)
-
-or_cases : (a b : Bool) → (a || b) ≡ true → (a ≡ true) ⊎ (b ≡ true)
-or_cases true b e = inl refl
-or_cases false b e = inr e
+use Rattle.ba_lits.proofs.Members.{same_literal, has_literal-push}
 
 -- those of a clause that isn't satisfied are
 clause_false : (v : Assignment) (c : List Literal) → any_true v c ≡ false → (l : Literal) → has_literal l c ≡ true → lit_true v l ≡ false
 clause_false v [] no_true l has = absurd (cc)
 clause_false v (x ∷ xs) no_true l has =
-    let parts = both (lit_true v x) (any_true v xs) no_true in
+    let parts = or_parts (lit_true v x) (any_true v xs) no_true in
     ⊎_elim
     (λ here. ap (lit_true v) (sym (same_literal x l here)) ∙ parts.0)
     (λ rest. clause_false v xs parts.1 l rest)
     (or_cases (eqb (index_of x) (index_of l)) (has_literal l xs) has)
-  where
-    both : (a b : Bool) → (a || b) ≡ false → (a ≡ false) × (b ≡ false)
-    both true b e = absurd (cc)
-    both false b e = (refl, e)
 
 -- what it means for a clause's truth how it stands where false literals are false
 abbrev Says : Assignment → Standing → Bool → Type 0
@@ -52,11 +30,7 @@ says_literal v l (Some false) IsFalse holds is h = ap (λ b. b || holds) (is ref
 says_literal v l (Some false) (IsUnit m) holds is h = ap (λ b. b || holds) (is refl) ∙ h
 says_literal v l (Some false) IsOpen holds is h = tt
 says_literal v l (Some true) s holds is h = tt
-says_literal v l None IsFalse holds is h = ap (λ b. lit_true v l || b) h ∙ or_false (lit_true v l)
-  where
-    or_false : (a : Bool) → (a || false) ≡ a
-    or_false true = refl
-    or_false false = refl
+says_literal v l None IsFalse holds is h = ap (λ b. lit_true v l || b) h ∙ or-false (lit_true v l)
 says_literal v l None (IsUnit m) holds is h = tt
 says_literal v l None IsOpen holds is h = tt
 
@@ -70,19 +44,6 @@ says_clause v falses h [] = refl
 says_clause v falses h (l ∷ ls) =
     says_literal v l (value_where falses l) (standing falses ls) (any_true v ls)
     (λ e. h l (value_false (has_literal l falses) (has_literal (negate l) falses) e)) (says_clause v falses h ls)
-
--- a literal more is false
-has_more : (l x : Literal) (falses : List Literal) → has_literal l (falses ++ x ∷ []) ≡ true → (has_literal l falses ≡ true) ⊎ (x ≡ l)
-has_more l x [] has = ⊎_elim (λ here. inr (same_literal x l here)) (λ rest. absurd (cc)) (or_cases (eqb (index_of x) (index_of l)) false has)
-has_more l x (y ∷ ys) has =
-    ⊎_elim
-    (λ here. inl (ap (λ b. b || has_literal l ys) here))
-    (λ rest. ⊎_elim (λ there. inl (right (eqb (index_of y) (index_of l)) (has_literal l ys) there)) (λ e. inr e) (has_more l x ys rest))
-    (or_cases (eqb (index_of y) (index_of l)) (has_literal l (ys ++ x ∷ [])) has)
-  where
-    right : (a b : Bool) → b ≡ true → (a || b) ≡ true
-    right true b e = refl
-    right false b e = e
 
 -- where the live clauses hold, propagation from false literals refutes nothing
 not_refuted : (live : ℕ → Option (List Literal)) (v : Assignment) → ((n : ℕ) (c : List Literal) → live n ≡ Some c → any_true v c ≡ true) →
@@ -99,7 +60,9 @@ not_refuted live v holds (n ∷ hints) falses h refuted =
 
     more : (l : Literal) → lit_true v l ≡ true → (x : Literal) → has_literal x (falses ++ negate l ∷ []) ≡ true → lit_true v x ≡ false
     more l is_true x has =
-        ⊎_elim (λ before. h x before) (λ here. ap (lit_true v) (sym here) ∙ (lit_true-negate v l ∙ ap not is_true)) (has_more x (negate l) falses has)
+        ⊎_elim (λ before. h x before)
+        (λ here. ap (lit_true v) (sym here) ∙ (lit_true-negate v l ∙ ap not is_true))
+        (has_literal-push x (negate l) falses has)
 
     at_hint : (o : Option (List Literal)) → live n ≡ o → ((l : Literal) → lit_true v l ≡ true → replay live (falses ++ negate l ∷ []) hints ≡ Refutes → ⊥) → after_hint o falses (is_last hints) (λ l. replay live (falses ++ negate l ∷ []) hints) ≡ Refutes → ⊥
     at_hint None is next e = cc

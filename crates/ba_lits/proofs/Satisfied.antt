@@ -2,6 +2,7 @@
 
 use Rattle.std.proofs.Common.{◌≡◌, ◌≢◌, ℕ, ◌+◌, ◌<◌, ◌≤◌, Bool, true, false, not, ◌&&◌, ◌||◌, List, [], ◌∷◌, ◌++◌, refl, ap, arith, sym, ◌∙◌, cond, add_assoc}
 use Rattle.std.proofs.lemmas.Bool.Decides.{nat_tests}
+use mathlib.Core.Bool.{or_assoc, and_assoc}
 use Rattle.ba_lits.specs.Literals.{Literal, negate}
 use Rattle.ba_lits.specs.Satisfaction.{Assignment, signed, lit_true, any_true, all_true, Soft, cost, Agree, put}
 
@@ -24,14 +25,6 @@ signed-not : (s b : Bool) → signed (not s) b ≡ not (signed s b)
 signed-not true true = refl
 signed-not true false = refl
 signed-not false b = refl
-
-or_assoc : (a b c : Bool) → (a || (b || c)) ≡ ((a || b) || c)
-or_assoc true b c = refl
-or_assoc false b c = refl
-
-and_assoc : (a b c : Bool) → (a && (b && c)) ≡ ((a && b) && c)
-and_assoc true b c = refl
-and_assoc false b c = refl
 
 -- the negation of a literal has the other value
 pub lit_true-negate : (v : Assignment) (l : Literal) → lit_true v (negate l) ≡ not (lit_true v l)
@@ -59,11 +52,13 @@ cost-agree n v w (s ∷ ss) same below =
 -- lists joined end to end
 pub any_true-append : (v : Assignment) (c d : List Literal) → any_true v (c ++ d) ≡ (any_true v c || any_true v d)
 any_true-append v [] d = refl
-any_true-append v (l ∷ ls) d = ap (λ b. lit_true v l || b) (any_true-append v ls d) ∙ or_assoc (lit_true v l) (any_true v ls) (any_true v d)
+any_true-append v (l ∷ ls) d = ap (λ b. lit_true v l || b) (any_true-append v ls d)
+    ∙ sym (or_assoc (lit_true v l) (any_true v ls) (any_true v d))
 
 pub all_true-append : (v : Assignment) (cs ds : List (List Literal)) → all_true v (cs ++ ds) ≡ (all_true v cs && all_true v ds)
 all_true-append v [] ds = refl
-all_true-append v (c ∷ cs) ds = ap (λ b. any_true v c && b) (all_true-append v cs ds) ∙ and_assoc (any_true v c) (all_true v cs) (all_true v ds)
+all_true-append v (c ∷ cs) ds = ap (λ b. any_true v c && b) (all_true-append v cs ds)
+    ∙ sym (and_assoc (any_true v c) (all_true v cs) (all_true v ds))
 
 pub cost-append : (v : Assignment) (ss ts : List Soft) → cost v (ss ++ ts) ≡ cost v ss + cost v ts
 cost-append v [] ts = omega arith

@@ -2,3 +2,4 @@ pub mod Literals
 pub mod Satisfaction
 pub mod Formulas
 pub mod Hints
+pub mod Members

@@ -46,3 +46,7 @@ put v x b u = if eqb u x then b else v u
 -- the assignment of a list that has variable x at place x - 1
 abbrev pub assignment_of : List Bool → Assignment
 assignment_of values x = get_or values (x - 1) false
+
+-- 1 where a test holds, and 0 elsewhere
+abbrev pub one_if : Bool → ℕ
+one_if b = if b then 1 else 0

@@ -4,7 +4,7 @@ ghost use Rattle.std.specs.Prelude.{◌≡◌, ◌+◌, ◌-◌, ◌^◌, ◌<�
 ghost use Rattle.ba_lits.specs.Literals.{IsClause};
 
 use crate::literal::Lit;
-use ba_items::Items;
+use ba_items::{Items, TryClone};
 use std::alloc::{AllocError, Global};
 use std::marker::Model;
 
@@ -66,21 +66,6 @@ impl Formula {
         self.clauses.push(Items::from_slice(self.alloc, clause)?)
     }
 
-    /// The same formula once more. The one error is want of memory.
-    pub fn copy(&self, alloc: Global) -> Result<Formula, AllocError>
-        ensures { IfOk result (λ copy. copy ≡ self.now) }
-    {
-        let mut clauses = Items::new(alloc);
-        for clause in self.clauses.as_slice() {
-            clauses.push(Items::from_slice(alloc, clause.as_slice())?)?;
-        }
-        Ok(Formula {
-            alloc,
-            variables: self.variables,
-            clauses,
-        })
-    }
-
     /// How many variables there are, fewer than 2^62. All clauses are over them.
     pub fn variables(&self) -> u64
         ensures variables { result ≡ self.now.variables }
@@ -108,33 +93,12 @@ impl Formula {
     }
 }
 
-#[cfg(test)]
-mod tests {
-    use super::*;
-    use std::test::Fail;
-
-    #[test]
-    fn reads_what_was_pushed(rt: HostRuntime) -> Result<(), Fail> {
-        let mut formula = Formula::new(rt.alloc());
-        let a = formula.fresh()?;
-        let b = formula.fresh()?;
-        assert_eq!(rt; a, 1);
-        assert_eq!(rt; b, 2);
-        let one = Lit::positive(1);
-        let two = Lit::positive(2).negated();
-        formula.push([one, two].as_slice())?;
-        formula.push([one.negated()].as_slice())?;
-        assert_eq!(rt; formula.len(), 2);
-        assert_eq!(rt; formula.variables(), 2);
-        assert_eq!(rt; formula.clause(1), [one, two].as_slice());
-        assert_eq!(rt; formula.clause(2)[0].is_negated(), true);
-        assert_eq!(rt; formula.clause(1)[1].variable(), 2);
-        assert_eq!(rt; two.index(), 5);
-        assert_eq!(rt; Lit::from_index(5), two);
-        let copy = formula.copy(rt.alloc())?;
-        assert_eq!(rt; copy.variables(), 2);
-        assert_eq!(rt; copy.len(), 2);
-        assert_eq!(rt; copy.clause(1), [one, two].as_slice());
-        Ok(())
+impl TryClone for Formula {
+    fn try_clone(&self, alloc: Global) -> Result<Formula, AllocError> {
+        Ok(Formula {
+            alloc,
+            variables: self.variables,
+            clauses: self.clauses.try_clone(alloc)?,
+        })
     }
 }

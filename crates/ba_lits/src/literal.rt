@@ -3,6 +3,8 @@
 ghost use Rattle.std.specs.Prelude.{◌≡◌, ◌+◌, ◌^◌, ◌<◌, ◌≤◌, false};
 ghost use Rattle.ba_lits.specs.Literals.{negate, index_of, literal_at};
 
+use ba_items::TryClone;
+use std::alloc::{AllocError, Global};
 use std::marker::Model;
 
 /// A variable or its negation. Variables are counted from 1 and end below 2^62.
@@ -84,5 +86,11 @@ impl Lit {
         ensures below { result < 2 ^ 63 }
     {
         self.code as usize
+    }
+}
+
+impl TryClone for Lit {
+    fn try_clone(&self, _alloc: Global) -> Result<Lit, AllocError> {
+        Ok(*self)
     }
 }

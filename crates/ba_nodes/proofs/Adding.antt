@@ -1,13 +1,15 @@
 -- What a node that is put among others, or found there, leaves.
 
-use Rattle.std.proofs.Common.{◌≡◌, ℕ, ◌+◌, ◌<◌, Bool, true, false, nat_lt, List, [], ◌∷◌, length, Some, slice_get, if◌then◌else◌, inl, inr, sym, ap, subst, ◌∙◌, arith}
+use Rattle.std.proofs.Common.{is_some, Result, Ok, Err, IfOk, ◌≡◌, ℕ, ◌+◌, ◌<◌, Bool, true, false, nat_lt, List, [], ◌∷◌, length, Some, None, Option, IsNone, slice_get, if◌then◌else◌, inl, inr, sym, ap, subst, ◌∙◌, arith}
 use Rattle.std.proofs.lemmas.Bool.Decides.{nat_tests}
 use Rattle.std.proofs.lemmas.List.{length_push}
 use Rattle.std.proofs.lemmas.Option.{slice_get_within}
+use Rattle.std.specs.declared.alloc.AllocError.{AllocError}
 use Rattle.ba_nodes.specs.declared.Bit.{Bit}
 use Rattle.ba_nodes.specs.declared.Node.{Node}
 use Rattle.ba_nodes.specs.declared.Node.TheVariants.{Free, And}
-use Rattle.ba_nodes.specs.Gates.{node_bit, node_truth, is_gate, gates_in, MayStandAt, AreOrdered, Puts, Extends, HasValue, IsGateOf}
+use Rattle.ba_nodes.specs.Gates.{node_bit, node_truth, is_gate, gates_in, MayStandAt, AreOrdered, Puts, Extends, HasValue, IsGateOf, folded, IsMade}
+use Rattle.ba_nodes.proofs.Folding.{folded_turned}
 use Rattle.ba_nodes.proofs.Truths.{truth-node, node_truth-append, Extends_refl, Extends-append, AreOrdered-push, gates-push}
 
 pub added_ordered : (old new : List Node) (node : Node) → AreOrdered old → MayStandAt (length old) node → Puts old node new → AreOrdered new
@@ -87,3 +89,45 @@ gates_stay old new number a b extends gate =
       | inl here ↦ inl (extends.stays number (slice_get_within old number (And a b) here) ∙ here)
       | inr here ↦ inr (extends.stays number (slice_get_within old number (And b a) here) ∙ here)
     ]
+
+-- ---- pairs that were made
+
+pub made_folded : (nodes : List Node) (a b bit : Bit) → folded a b ≡ Some bit → IsMade nodes a b bit
+unfolding IsMade
+made_folded nodes a b bit is = inl is
+
+pub made_gate : (nodes : List Node) (a b bit : Bit) → IsNone (folded a b) → ((number : ℕ) × (bit ≡ node_bit number) × IsGateOf nodes number a b) → IsMade nodes a b bit
+unfolding IsMade
+made_gate nodes a b bit needed gate = inr (needed, gate)
+
+pub made_before : (nodes : List Node) (a b bit : Bit) → IsNone (folded a b) → IsMade nodes a b bit → (number : ℕ) × (bit ≡ node_bit number) × IsGateOf nodes number a b
+unfolding IsMade
+made_before nodes a b bit needed made = elim made [ inl settled ↦ absurd (unneeded (folded a b) bit needed settled) | inr gate ↦ gate.1 ]
+  where
+    unneeded : (found : Option Bit) (bit : Bit) → IsNone found → found ≡ Some bit → ⊥
+    unneeded None bit none is = absurd (cc)
+    unneeded (Some other) bit none is = absurd (cc)
+
+pub made_settled : (nodes : List Node) (a b bit known : Bit) → folded a b ≡ Some known → IsMade nodes a b bit → bit ≡ known
+unfolding IsMade
+made_settled nodes a b bit known is made = elim made [ inl settled ↦ cc | inr gate ↦ absurd (needless (folded a b) gate.0 is) ]
+  where
+    needless : (found : Option Bit) → IsNone found → found ≡ Some known → ⊥
+    needless None none is = absurd (cc)
+    needless (Some other) none is = absurd (cc)
+
+pub made_stays : (old new : List Node) (a b bit : Bit) → Extends old new → IsMade old a b bit → IsMade new a b bit
+unfolding IsMade
+made_stays old new a b bit extends made =
+    elim made [ inl settled ↦ inl settled | inr gate ↦ inr (gate.0, (gate.1.0, gate.1.1, gates_stay old new gate.1.0 a b extends gate.1.2)) ]
+
+pub all_made : (nodes : List Node) (a b : Bit) (result : Result Bit AllocError) → IsNone (folded a b) → IfOk result (λ bit. (number : ℕ) × (bit ≡ node_bit number) × IsGateOf nodes number a b) → IfOk result (IsMade nodes a b)
+all_made nodes a b (Ok bit) needed gate = made_gate nodes a b bit needed gate
+all_made nodes a b (Err error) needed gate = tt
+
+pub made_turned : (nodes : List Node) (a b bit : Bit) → IsMade nodes a b bit → IsMade nodes b a bit
+unfolding IsMade
+made_turned nodes a b bit made = elim made [
+  | inl settled ↦ inl (sym (folded_turned a b) ∙ settled)
+  | inr gate ↦ inr (ap is_some (sym (folded_turned a b)) ∙ gate.0, (gate.1.0, gate.1.1, gate_turned nodes gate.1.0 a b gate.1.2))
+]

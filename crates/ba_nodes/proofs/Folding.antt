@@ -1,20 +1,22 @@
--- An `and` that needs no gate.
+-- Operations on bits that need no gate.
 
-use Rattle.std.proofs.Common.{◌≡◌, ℕ, ◌<◌, ◌≤◌, ◌==◌, Bool, true, false, not, ◌&&◌, List, get_or, Some, None, IsNone, if◌then◌else◌, refl, sym, ap, subst, ◌∙◌, arith}
+use mathlib.Core.Bool.{beq}
+use Rattle.std.proofs.Common.{Result, Option, Ok, Err, IfOk, ◌≡◌, ℕ, ◌<◌, ◌≤◌, ◌==◌, Bool, true, false, not, ◌&&◌, List, get_or, Some, None, IsNone, if◌then◌else◌, refl, sym, ap, subst, ◌∙◌, arith}
 use Rattle.std.proofs.lemmas.Bool.{eqb-true}
 use Rattle.std.proofs.lemmas.Bool.Decides.{nat_tests}
+use Rattle.std.specs.declared.alloc.AllocError.{AllocError}
 use Rattle.ba_nodes.specs.declared.Bit.{Bit}
 use Rattle.ba_nodes.specs.declared.Node.{Node}
-use Rattle.ba_nodes.specs.Gates.{bool_xor, constant_bit, values_of, truth, IsBitOf, folded, HasValue}
+use Rattle.ba_nodes.specs.Gates.{bool_xor, bool_majority, constant_bit, values_of, truth, IsBitOf, folded, HasValue}
 use Rattle.ba_nodes.proofs.Truths.{truth-constant}
 
-truth-zero : (free : ℕ → Bool) (nodes : List Node) (a : Bit) → a.index ≡ 0 → truth free nodes a ≡ a.negated
+pub truth-zero : (free : ℕ → Bool) (nodes : List Node) (a : Bit) → a.index ≡ 0 → truth free nodes a ≡ a.negated
 truth-zero free nodes a zero =
     let same : a ≡ constant_bit a.negated = λ i. record { index = zero i; negated = a.negated } in
     ap (truth free nodes) same ∙ truth-constant free nodes a.negated
 
 -- the value of a bit from that of the other bit of its node
-truth-same : (free : ℕ → Bool) (nodes : List Node) (a b : Bit) → a.index ≡ b.index → truth free nodes b ≡ bool_xor (bool_xor a.negated b.negated) (truth free nodes a)
+pub truth-same : (free : ℕ → Bool) (nodes : List Node) (a b : Bit) → a.index ≡ b.index → truth free nodes b ≡ bool_xor (bool_xor a.negated b.negated) (truth free nodes a)
 unfolding truth
 truth-same free nodes a b same =
     ap (λ i. bool_xor b.negated (get_or (values_of free nodes) i false)) (sym same)
@@ -29,6 +31,64 @@ truth-same free nodes a b same =
     by_cases false true false = refl
     by_cases false false true = refl
     by_cases false false false = refl
+
+pub truth-opposed : (free : ℕ → Bool) (nodes : List Node) (a b : Bit) → a.index ≡ b.index → beq a.negated b.negated ≡ false → truth free nodes b ≡ not (truth free nodes a)
+truth-opposed free nodes a b same differ =
+    truth-same free nodes a b same ∙ by_cases a.negated b.negated (truth free nodes a) differ
+  where
+    by_cases : (m n t : Bool) → beq m n ≡ false → bool_xor (bool_xor m n) t ≡ not t
+    by_cases true true t differ = absurd (cc)
+    by_cases true false t differ = refl
+    by_cases false true t differ = refl
+    by_cases false false t differ = absurd (cc)
+
+-- a good outcome whose bit has a value, by an equal value
+pub ok_value : (nodes : List Node) (result : Result Bit AllocError) (value other : (ℕ → Bool) → Bool) → IfOk result (λ bit. HasValue nodes bit value) → ((free : ℕ → Bool) → value free ≡ other free) → IfOk result (λ bit. HasValue nodes bit other)
+ok_value nodes (Ok bit) value other has same = record { is_bit = has.is_bit; holds = λ free. has.holds free ∙ same free }
+ok_value nodes (Err error) value other has same = tt
+
+pub xor_turned : (x y : Bool) → bool_xor x y ≡ bool_xor y x
+xor_turned true true = refl
+xor_turned true false = refl
+xor_turned false true = refl
+xor_turned false false = refl
+
+pub xor_same : (m n t : Bool) → bool_xor n m ≡ bool_xor t (bool_xor (bool_xor m n) t)
+xor_same true true true = refl
+xor_same true true false = refl
+xor_same true false true = refl
+xor_same true false false = refl
+xor_same false true true = refl
+xor_same false true false = refl
+xor_same false false true = refl
+xor_same false false false = refl
+
+pub majority_opposed : (x z : Bool) → z ≡ bool_majority x (not x) z
+majority_opposed true z = refl
+majority_opposed false z = refl
+
+pub majority_last_opposed : (x y : Bool) → x ≡ bool_majority x y (not y)
+majority_last_opposed true true = refl
+majority_last_opposed true false = refl
+majority_last_opposed false true = refl
+majority_last_opposed false false = refl
+
+pub choice_opposed : (w y n : Bool) → n ≡ not y → bool_xor w n ≡ (if w then y else n)
+choice_opposed true true n is = ap not is
+choice_opposed true false n is = ap not is
+choice_opposed false y n is = refl
+
+pub choice_turned : (w n y : Bool) → (if not w then n else y) ≡ (if w then y else n)
+choice_turned true n y = refl
+choice_turned false n y = refl
+
+-- a bit of the node of a true bit
+pub given_true : (w b t : Bool) → t ≡ true → beq b w ≡ bool_xor (bool_xor w b) t
+given_true true true true is = refl
+given_true true false true is = refl
+given_true false true true is = refl
+given_true false false true is = refl
+given_true w b false is = absurd (cc)
 
 and_true : (b : Bool) → (b && true) ≡ b
 and_true true = refl
@@ -102,3 +162,43 @@ module _ (nodes : List Node) (a b : Bit) (first : IsBitOf nodes a) (second : IsB
 -- bits that need a gate are of two nodes
 pub indices_differ : (a b : Bit) → IsNone (folded a b) → b.index ≤ a.index → b.index < a.index
 indices_differ a b needed below = grind (arith, nat_tests)
+
+-- the order of two bits tells nothing
+module _ (a b : Bit) where
+  first_form : (zero_a zero_b same : Bool) → Option Bit
+  first_form zero_a zero_b same = if zero_a then Some (if a.negated then b else a) else if zero_b then Some (if b.negated then a else b) else if same then Some (if bool_xor a.negated b.negated then constant_bit false else a) else None
+
+  second_form : (zero_a zero_b same : Bool) → Option Bit
+  second_form zero_a zero_b same = if zero_b then Some (if b.negated then a else b) else if zero_a then Some (if a.negated then b else a) else if same then Some (if bool_xor b.negated a.negated then constant_bit false else b) else None
+
+  one_bit : a.index ≡ b.index → a.negated ≡ b.negated → a ≡ b
+  one_bit index negated = λ i. record { index = index i; negated = negated i }
+
+  either_constant : a.index ≡ b.index → (m n : Bool) → a.negated ≡ m → b.negated ≡ n → (if m then b else a) ≡ (if n then a else b)
+  either_constant index true true m_is n_is = sym (one_bit index (m_is ∙ sym n_is))
+  either_constant index true false m_is n_is = refl
+  either_constant index false true m_is n_is = refl
+  either_constant index false false m_is n_is = one_bit index (m_is ∙ sym n_is)
+
+  either_same : a.index ≡ b.index → (m n : Bool) → a.negated ≡ m → b.negated ≡ n → (if bool_xor m n then constant_bit false else a) ≡ (if bool_xor n m then constant_bit false else b)
+  either_same index true true m_is n_is = one_bit index (m_is ∙ sym n_is)
+  either_same index true false m_is n_is = refl
+  either_same index false true m_is n_is = refl
+  either_same index false false m_is n_is = one_bit index (m_is ∙ sym n_is)
+
+  either_form : (zero_a zero_b same : Bool) → (a.index == 0) ≡ zero_a → (b.index == 0) ≡ zero_b → (a.index == b.index) ≡ same → first_form zero_a zero_b same ≡ second_form zero_a zero_b same
+  unfolding first_form second_form
+  either_form true true same a_zero b_zero same_is =
+      let index : a.index ≡ b.index = eqb-true _ _ a_zero ∙ sym (eqb-true _ _ b_zero) in
+      ap Some (either_constant index a.negated b.negated refl refl)
+  either_form true false same a_zero b_zero same_is = refl
+  either_form false true same a_zero b_zero same_is = refl
+  either_form false false true a_zero b_zero same_is = ap Some (either_same (eqb-true _ _ same_is) a.negated b.negated refl refl)
+  either_form false false false a_zero b_zero same_is = refl
+
+  pub folded_turned : folded a b ≡ folded b a
+  unfolding first_form second_form
+  folded_turned =
+      let turned : (a.index == b.index) ≡ (b.index == a.index) = grind (arith, nat_tests) in
+      either_form (a.index == 0) (b.index == 0) (a.index == b.index) refl refl refl
+      ∙ ap (second_form (a.index == 0) (b.index == 0)) turned

@@ -10,7 +10,7 @@ use Rattle.std.proofs.lemmas.Option.{slice_get-get_or}
 use Rattle.indexmap.specs.IndexSet.{insert_key}
 use Rattle.ba_nodes.specs.declared.Bit.{Bit}
 use Rattle.ba_nodes.specs.declared.Node.{Node}
-use Rattle.ba_nodes.specs.declared.Node.TheVariants.{Free, And}
+use Rattle.ba_nodes.specs.declared.Node.TheVariants.{Free, And, Xor, Mux, Majority}
 use Rattle.ba_nodes.specs.Gates.{IsAbsent, Puts}
 use Rattle.ba_nodes.specs.contracts.NodePartialEq.TheImpl.{eq-value}
 
@@ -35,6 +35,14 @@ second_of_both : (a b : Bool) → (a && b) ≡ true → b ≡ true
 second_of_both true b holds = holds
 second_of_both false b holds = absurd (cc)
 
+three : (a b c : Bool) → a ≡ true → b ≡ true → c ≡ true → (a && (b && c)) ≡ true
+three a b c first second third = both a (b && c) first (both b c second third)
+
+three_parts : (a b c : Bool) → (a && (b && c)) ≡ true → (a ≡ true) × (b ≡ true) × (c ≡ true)
+three_parts a b c holds =
+    let rest : (b && c) ≡ true = second_of_both a (b && c) holds in
+    (first_of_both a (b && c) holds, first_of_both b c rest, second_of_both b c rest)
+
 bit_eq : Bit → Bit → Bool
 bit_eq a b = eqb a.index b.index && beq a.negated b.negated
 
@@ -53,6 +61,9 @@ pub eq_own : (node : Node) → eq-value.it node node ≡ true
 unfolding bit_eq
 eq_own (Free number) = eq-eqb number number refl
 eq_own (And a b) = both (bit_eq a a) (bit_eq b b) (bit_own a) (bit_own b)
+eq_own (Xor a b) = both (bit_eq a a) (bit_eq b b) (bit_own a) (bit_own b)
+eq_own (Mux a b c) = three (bit_eq a a) (bit_eq b b) (bit_eq c c) (bit_own a) (bit_own b) (bit_own c)
+eq_own (Majority a b c) = three (bit_eq a a) (bit_eq b b) (bit_eq c c) (bit_own a) (bit_own b) (bit_own c)
 
 pub eq_same : (node other : Node) → eq-value.it node other ≡ true → node ≡ other
 unfolding bit_eq
@@ -61,8 +72,23 @@ eq_same (And a b) (And x y) equal =
     let first : a ≡ x = bit_same a x (first_of_both (bit_eq a x) (bit_eq b y) equal) in
     let second : b ≡ y = bit_same b y (second_of_both (bit_eq a x) (bit_eq b y) equal) in
     λ i. And (first i) (second i)
-eq_same (Free number) (And x y) equal = absurd (cc)
-eq_same (And a b) (Free other) equal = absurd (cc)
+eq_same (Xor a b) (Xor x y) equal =
+    let first : a ≡ x = bit_same a x (first_of_both (bit_eq a x) (bit_eq b y) equal) in
+    let second : b ≡ y = bit_same b y (second_of_both (bit_eq a x) (bit_eq b y) equal) in
+    λ i. Xor (first i) (second i)
+eq_same (Mux a b c) (Mux x y z) equal =
+    let parts = three_parts (bit_eq a x) (bit_eq b y) (bit_eq c z) equal in
+    let first : a ≡ x = bit_same a x parts.0 in
+    let second : b ≡ y = bit_same b y parts.1 in
+    let third : c ≡ z = bit_same c z parts.2 in
+    λ i. Mux (first i) (second i) (third i)
+eq_same (Majority a b c) (Majority x y z) equal =
+    let parts = three_parts (bit_eq a x) (bit_eq b y) (bit_eq c z) equal in
+    let first : a ≡ x = bit_same a x parts.0 in
+    let second : b ≡ y = bit_same b y parts.1 in
+    let third : c ≡ z = bit_same c z parts.2 in
+    λ i. Majority (first i) (second i) (third i)
+eq_same one other equal = absurd (cc)
 
 -- ---- a set without the node
 

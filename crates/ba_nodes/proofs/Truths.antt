@@ -6,8 +6,8 @@ use Rattle.std.proofs.lemmas.List.{get_or_append_left, get_or_at, length_push, t
 use Rattle.std.proofs.lemmas.Option.{slice_get_within, slice_get-get_or, get_or_from_slice_get}
 use Rattle.ba_nodes.specs.declared.Bit.{Bit}
 use Rattle.ba_nodes.specs.declared.Node.{Node}
-use Rattle.ba_nodes.specs.declared.Node.TheVariants.{Free, And}
-use Rattle.ba_nodes.specs.Gates.{bool_xor, constant_bit, node_bit, opposite, value_in, node_value, values_of, truth, node_truth, IsBitOf, is_gate, gates_in, MayStandAt, AreOrdered, Extends}
+use Rattle.ba_nodes.specs.declared.Node.TheVariants.{Free, And, Xor, Mux, Majority}
+use Rattle.ba_nodes.specs.Gates.{bool_xor, bool_majority, constant_bit, node_bit, opposite, value_in, node_value, values_of, truth, node_truth, IsBitOf, is_gate, gates_in, MayStandAt, AreOrdered, Extends}
 
 abbrev step : (ℕ → Bool) → List Bool → Node → List Bool
 step free values node = values ++ node_value free values node ∷ []
@@ -43,6 +43,9 @@ node_value-truths : (free : ℕ → Bool) (nodes : List Node) (node : Node) → 
 unfolding truth
 node_value-truths free nodes (Free number) = refl
 node_value-truths free nodes (And a b) = refl
+node_value-truths free nodes (Xor a b) = refl
+node_value-truths free nodes (Mux a b c) = refl
+node_value-truths free nodes (Majority a b c) = refl
 
 -- the value of a node that was just added
 pub truth-push : (free : ℕ → Bool) (old : List Node) (node : Node) → truth free (old ++ node ∷ []) (node_bit (length old)) ≡ node_truth free old node
@@ -113,6 +116,20 @@ node_truth-append free old more (And a b) may =
     let first : truth free (old ++ more) a ≡ truth free old a = truth-append free old more a (omega (arith, may)) in
     let second : truth free (old ++ more) b ≡ truth free old b = truth-append free old more b may.2 in
     ap (λ x. x && truth free (old ++ more) b) first ∙ ap (λ y. truth free old a && y) second
+node_truth-append free old more (Xor a b) may =
+    let first : truth free (old ++ more) a ≡ truth free old a = truth-append free old more a (omega (arith, may)) in
+    let second : truth free (old ++ more) b ≡ truth free old b = truth-append free old more b may.2 in
+    λ i. bool_xor (first i) (second i)
+node_truth-append free old more (Mux a b c) may =
+    let first : truth free (old ++ more) a ≡ truth free old a = truth-append free old more a may.first.1 in
+    let second : truth free (old ++ more) b ≡ truth free old b = truth-append free old more b may.second.1 in
+    let third : truth free (old ++ more) c ≡ truth free old c = truth-append free old more c may.third.1 in
+    λ i. if first i then second i else third i
+node_truth-append free old more (Majority a b c) may =
+    let first : truth free (old ++ more) a ≡ truth free old a = truth-append free old more a (omega (arith, may)) in
+    let second : truth free (old ++ more) b ≡ truth free old b = truth-append free old more b (omega (arith, may)) in
+    let third : truth free (old ++ more) c ≡ truth free old c = truth-append free old more c may.3 in
+    λ i. bool_majority (first i) (second i) (third i)
 
 -- a node's bit has the value of the node
 pub truth-node : (free : ℕ → Bool) (nodes : List Node) (number : ℕ) (node : Node) → AreOrdered nodes → slice_get nodes number ≡ Some node → truth free nodes (node_bit number) ≡ node_truth free nodes node

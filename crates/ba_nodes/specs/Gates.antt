@@ -1,15 +1,20 @@
--- And-gates over free bits, and what they mean: under each assignment of the free bits every node and
+-- Gates over free bits, and what they mean: under each assignment of the free bits every node and
 -- every bit has a truth value. An assignment gives a free bit its value by the number of its node.
 
-use Rattle.std.specs.Prelude.{◌≡◌, ℕ, ◌+◌, ◌<◌, ◌≤◌, ◌==◌, Bool, true, false, not, ◌&&◌, List, [], ◌∷◌, ◌++◌, length, fold, Option, Some, None, slice_get, slice_index_or, count_by, if◌then◌else◌, ◌⊎◌}
+use Rattle.std.specs.Prelude.{◌≡◌, ℕ, ◌+◌, ◌<◌, ◌≤◌, ◌==◌, Bool, true, false, not, ◌&&◌, ◌||◌, ◌≢◌, List, [], ◌∷◌, ◌++◌, length, fold, Option, Some, None, slice_get, slice_index_or, count_by, if◌then◌else◌, ◌⊎◌, IsNone}
 use Rattle.ba_nodes.specs.declared.Bit.{Bit}
 use Rattle.ba_nodes.specs.declared.Node.{Node}
-use Rattle.ba_nodes.specs.declared.Node.TheVariants.{Free, And}
+use Rattle.ba_nodes.specs.declared.Node.TheVariants.{Free, And, Xor, Mux, Majority}
 
 -- one of the two, and not both
 abbrev pub bool_xor : Bool → Bool → Bool
 bool_xor true b = not b
 bool_xor false b = b
+
+-- what at least two of the three are
+abbrev pub bool_majority : Bool → Bool → Bool → Bool
+bool_majority true b c = b || c
+bool_majority false b c = b && c
 
 -- the bit that always has this value
 abbrev pub constant_bit : Bool → Bit
@@ -30,6 +35,9 @@ value_in values bit = bool_xor bit.negated (slice_index_or values bit.index fals
 abbrev pub node_value : (ℕ → Bool) → List Bool → Node → Bool
 node_value free values (Free number) = free number
 node_value free values (And a b) = value_in values a && value_in values b
+node_value free values (Xor a b) = bool_xor (value_in values a) (value_in values b)
+node_value free values (Mux a b c) = if value_in values a then value_in values b else value_in values c
+node_value free values (Majority a b c) = bool_majority (value_in values a) (value_in values b) (value_in values c)
 
 -- the value of the constant, false, and then those of the nodes
 unfoldable pub values_of : (ℕ → Bool) → List Node → List Bool
@@ -43,6 +51,9 @@ truth free nodes bit = value_in (values_of free nodes) bit
 abbrev pub node_truth : (ℕ → Bool) → List Node → Node → Bool
 node_truth free nodes (Free number) = free number
 node_truth free nodes (And a b) = truth free nodes a && truth free nodes b
+node_truth free nodes (Xor a b) = bool_xor (truth free nodes a) (truth free nodes b)
+node_truth free nodes (Mux a b c) = if truth free nodes a then truth free nodes b else truth free nodes c
+node_truth free nodes (Majority a b c) = bool_majority (truth free nodes a) (truth free nodes b) (truth free nodes c)
 
 -- the bit names the constant or one of the nodes
 abbrev pub IsBitOf : List Node → Bit → Type 0
@@ -51,15 +62,31 @@ IsBitOf nodes bit = bit.index ≤ length nodes
 abbrev pub is_gate : Node → Bool
 is_gate (Free number) = false
 is_gate (And a b) = true
+is_gate (Xor a b) = true
+is_gate (Mux a b c) = true
+is_gate (Majority a b c) = true
 
--- how many of the nodes are gates
+-- how many of the nodes are gates, each of which counts one
 abbrev pub gates_in : List Node → ℕ
 gates_in nodes = count_by is_gate nodes
 
--- a node may have this number: a free bit names itself, a gate names two earlier nodes in their order
+-- three bits of different nodes before this number
+pub record AreApart (number : ℕ) (a b c : Bit) : Type 0 where
+  pub first : (0 < a.index) × (a.index ≤ number)
+  pub second : (0 < b.index) × (b.index ≤ number)
+  pub third : (0 < c.index) × (c.index ≤ number)
+  pub first_second : a.index ≢ b.index
+  pub first_third : a.index ≢ c.index
+  pub second_third : b.index ≢ c.index
+
+-- a node may have this number: a free bit names itself, a gate names different earlier nodes, in their order
+-- where the order of its bits is free
 abbrev pub MayStandAt : ℕ → Node → Type 0
 MayStandAt number (Free own) = own ≡ number
 MayStandAt number (And a b) = (0 < a.index) × (a.index < b.index) × (b.index ≤ number)
+MayStandAt number (Xor a b) = (0 < a.index) × (a.index < b.index) × (b.index ≤ number)
+MayStandAt number (Mux a b c) = AreApart number a b c
+MayStandAt number (Majority a b c) = (0 < a.index) × (a.index < b.index) × (b.index < c.index) × (c.index ≤ number)
 
 -- each node stands behind the nodes that it names, and no two nodes are the same
 pub record AreOrdered (nodes : List Node) : Type 0 where
@@ -77,6 +104,10 @@ folded a b =
     else if b.index == 0 then Some (if b.negated then a else b)
     else if a.index == b.index then Some (if bool_xor a.negated b.negated then constant_bit false else a)
     else None
+
+-- the bit is the `and` of a pair among these nodes: that of constants, equal or opposite bits, or a gate
+unfoldable pub IsMade : List Node → Bit → Bit → Bit → Type 0
+IsMade nodes a b bit = (folded a b ≡ Some bit) ⊎ (IsNone (folded a b) × ((number : ℕ) × (bit ≡ node_bit number) × IsGateOf nodes number a b))
 
 -- new nodes were added behind the old ones, and every old bit has its value
 pub record Extends (old new : List Node) : Type 0 where

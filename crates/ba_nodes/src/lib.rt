@@ -1,14 +1,16 @@
-//! And-gates over free bits, with equal gates made once.
+//! Gates over free bits, with equal gates made once.
 //!
 //! A [`Nodes`] is an and-inverter graph (A. Kuehlmann, V. Paruthi, F. Krohm and M. K. Ganai, "Robust Boolean
-//! reasoning for equivalence checking and functional property verification"): each node is a free bit or the
-//! `and` of two earlier bits, and a negation is a flag of the bit that names a node. Constants are folded.
+//! reasoning for equivalence checking and functional property verification") with further kinds of gates: each
+//! node is a free bit, or the `and`, the exclusive `or`, the choice or the majority of earlier bits, and a
+//! negation is a flag of the bit that names a node. Constants, equal bits and opposite bits are folded, and
+//! negations and the order of operands are moved out of a gate where they can be, so that equal ones are met.
 #![tactic(auto)]
 
-ghost use Rattle.std.specs.Prelude.{◌≡◌, ℕ, ◌+◌, ◌<◌, ◌≤◌, ◌^◌, ◌⊎◌, ◌==◌, Bool, not, ◌&&◌, ◌||◌, List, [], ◌∷◌, ◌++◌, length, slice_get, IfOk, OnOk, OnErr, IfSome, IsNone, Ok, Some, if◌then◌else◌};
+ghost use Rattle.std.specs.Prelude.{◌≡◌, ℕ, ◌+◌, ◌<◌, ◌≤◌, ◌^◌, ◌⊎◌, ◌==◌, ◌≢◌, Bool, true, false, not, ◌&&◌, ◌||◌, List, [], ◌∷◌, ◌++◌, length, slice_get, IfOk, OnOk, OnErr, IfSome, IsNone, Ok, Some, if◌then◌else◌};
 ghost use Rattle.ba_nodes.specs.declared.Bit.{Bit};
 ghost use Rattle.ba_nodes.specs.declared.Node.{Node};
-ghost use Rattle.ba_nodes.specs.Gates.{bool_xor, constant_bit, node_bit, opposite, truth, node_truth, IsBitOf, gates_in, MayStandAt, AreOrdered, IsGateOf, folded, Extends, HasValue, Puts, IsAbsent, is_gate};
+ghost use Rattle.ba_nodes.specs.Gates.{bool_xor, bool_majority, constant_bit, node_bit, opposite, truth, node_truth, IsBitOf, gates_in, MayStandAt, AreOrdered, IsGateOf, IsMade, folded, Extends, HasValue, Puts, IsAbsent, is_gate};
 
 use indexmap::IndexSet;
 use std::alloc::{AllocError, Global};
@@ -23,11 +25,19 @@ pub struct Bit {
     pub negated: bool,
 }
 
-/// A node: a free bit, which names its own number, or the `and` of two earlier bits.
+/// A node: a free bit, which names its own number, or a gate of earlier bits.
 #[derive(Clone, Copy, Debug, PartialEq, Eq, Hash)]
 pub enum Node {
+    /// A free bit of this number.
     Free(u32),
+    /// True where both are.
     And(Bit, Bit),
+    /// True where just one of the two is.
+    Xor(Bit, Bit),
+    /// The value of the second where the first is true, and else that of the third.
+    Mux(Bit, Bit, Bit),
+    /// True where at least two of the three are.
+    Majority(Bit, Bit, Bit),
 }
 
 /// The nodes in their order. Contracts see the list of the nodes.
@@ -84,7 +94,8 @@ impl Nodes {
         }
     }
 
-    /// How many gates there are. It takes no memory.
+    /// How many gates there are: each counts one, whatever its kind, and a free bit counts nothing. It takes no
+    /// memory.
     pub fn count(&self) -> u64
         ensures { result ≡ gates_in self.now }
     {
@@ -115,17 +126,16 @@ impl Nodes {
         self.add(Node::Free(number))
     }
 
-    /// The bit that is true where `a` and `b` both are. A gate that was made before, of the two bits in either
-    /// order, is found again; constants, equal bits and opposite bits need no gate.
+    /// The bit that is true where `a` and `b` both are, by at most one new gate. What was made of the same two
+    /// bits before, in either order, is found again; constants, equal bits and opposite bits need no gate.
     ///
     /// The one error is want of memory, which leaves the nodes as they were.
     pub fn and(&mut self, a: Bit, b: Bit) -> Result<Bit, AllocError>
         requires first { IsBitOf self.old a }
         requires second { IsBitOf self.old b }
         ensures value { IfOk result (λ bit. HasValue self.new bit (λ free. truth free self.old a && truth free self.old b)) }
-        ensures settled { IfSome (folded a b) (λ bit. (result ≡ Ok bit) × (self.new ≡ self.old)) }
-        ensures again { IsNone (folded a b) → (number : ℕ) → IsGateOf self.old number a b → (result ≡ Ok (node_bit number)) × (self.new ≡ self.old) }
-        ensures made { IsNone (folded a b) → IfOk result (λ bit. (number : ℕ) × (bit ≡ node_bit number) × IsGateOf self.new number a b) }
+        ensures again { (bit : Bit) → IsMade self.old a b bit → (result ≡ Ok bit) × (self.new ≡ self.old) }
+        ensures made { IfOk result (IsMade self.new a b) }
         ensures extends { Extends self.old self.new }
         ensures count { gates_in self.new ≤ gates_in self.old + 1 }
         ensures err { OnErr result (self.new ≡ self.old) }
@@ -138,52 +148,243 @@ impl Nodes {
 
     /// The bit that is true where one of `a` and `b` is, by at most one new gate.
     ///
-    /// The one error is want of memory, which leaves every bit its value.
+    /// The one error is want of memory, which leaves the nodes as they were.
     pub fn or(&mut self, a: Bit, b: Bit) -> Result<Bit, AllocError>
         requires first { IsBitOf self.old a }
         requires second { IsBitOf self.old b }
         ensures value { IfOk result (λ bit. HasValue self.new bit (λ free. truth free self.old a || truth free self.old b)) }
         ensures extends { Extends self.old self.new }
         ensures count { gates_in self.new ≤ gates_in self.old + 1 }
+        ensures err { OnErr result (self.new ≡ self.old) }
     {
         let neither = self.and(Nodes::not(a), Nodes::not(b))?;
         Ok(Nodes::not(neither))
     }
 
-    /// The bit that is true where just one of `a` and `b` is, by at most three new gates.
+    /// The bit that is true where just one of `a` and `b` is, by at most one new gate.
     ///
-    /// The one error is want of memory, which leaves every bit its value.
-    #[tactic(auto, using(crate::proofs::Constants::xor_from_and))]
+    /// The one error is want of memory, which leaves the nodes as they were.
     pub fn xor(&mut self, a: Bit, b: Bit) -> Result<Bit, AllocError>
         requires first { IsBitOf self.old a }
         requires second { IsBitOf self.old b }
         ensures value { IfOk result (λ bit. HasValue self.new bit (λ free. bool_xor (truth free self.old a) (truth free self.old b))) }
         ensures extends { Extends self.old self.new }
-        ensures count { gates_in self.new ≤ gates_in self.old + 3 }
+        ensures count { gates_in self.new ≤ gates_in self.old + 1 }
+        ensures err { OnErr result (self.new ≡ self.old) }
     {
-        let both = self.and(a, b)?;
-        let neither = self.and(Nodes::not(a), Nodes::not(b))?;
-        self.and(Nodes::not(both), Nodes::not(neither))
+        if a.index == 0 {
+            return Ok(negated_if(b, a.negated));
+        }
+        if b.index == 0 {
+            return Ok(negated_if(a, b.negated));
+        }
+        if a.index == b.index {
+            return Ok(negated_if(Nodes::constant(a.negated), b.negated));
+        }
+        let gate = self.xor_gate(negated_if(a, a.negated), negated_if(b, b.negated))?;
+        Ok(negated_if(negated_if(gate, a.negated), b.negated))
     }
 
-    /// The bit that has the value of `yes` where `which` is true, and else that of `no`, by at most three new
-    /// gates, and one where a constant or an equal bit leaves no choice.
+    /// The bit that has the value of `yes` where `which` is true, and else that of `no`, by at most one new gate.
     ///
-    /// The one error is want of memory, which leaves every bit its value.
+    /// The one error is want of memory, which leaves the nodes as they were.
     pub fn mux(&mut self, which: Bit, yes: Bit, no: Bit) -> Result<Bit, AllocError>
         requires chooser { IsBitOf self.old which }
         requires first { IsBitOf self.old yes }
         requires second { IsBitOf self.old no }
         ensures value { IfOk result (λ bit. HasValue self.new bit (λ free. if truth free self.old which then truth free self.old yes else truth free self.old no)) }
         ensures extends { Extends self.old self.new }
-        ensures count { gates_in self.new ≤ gates_in self.old + 3 }
+        ensures count { gates_in self.new ≤ gates_in self.old + 1 }
+        ensures err { OnErr result (self.new ≡ self.old) }
     {
-        if yes == no {
+        if which.index == 0 {
+            return Ok(if which.negated { yes } else { no });
+        }
+        let on = given(yes, which);
+        let off = given(no, Nodes::not(which));
+        self.choice(which, on, off)
+    }
+
+    /// The bit that is true where at least two of the three are, by at most one new gate.
+    ///
+    /// The one error is want of memory, which leaves the nodes as they were.
+    pub fn majority(&mut self, a: Bit, b: Bit, c: Bit) -> Result<Bit, AllocError>
+        requires first { IsBitOf self.old a }
+        requires second { IsBitOf self.old b }
+        requires third { IsBitOf self.old c }
+        ensures value { IfOk result (λ bit. HasValue self.new bit (λ free. bool_majority (truth free self.old a) (truth free self.old b) (truth free self.old c))) }
+        ensures extends { Extends self.old self.new }
+        ensures count { gates_in self.new ≤ gates_in self.old + 1 }
+        ensures err { OnErr result (self.new ≡ self.old) }
+    {
+        if a.index > b.index {
+            return self.majority_above(b, a, c);
+        }
+        self.majority_above(a, b, c)
+    }
+
+    /// The majority of three bits, of which the first two are in order.
+    fn majority_above(&mut self, a: Bit, b: Bit, c: Bit) -> Result<Bit, AllocError>
+        requires first { IsBitOf self.old a }
+        requires second { IsBitOf self.old b }
+        requires third { IsBitOf self.old c }
+        requires order { a.index ≤ b.index }
+        ensures value { IfOk result (λ bit. HasValue self.new bit (λ free. bool_majority (truth free self.old a) (truth free self.old b) (truth free self.old c))) }
+        ensures extends { Extends self.old self.new }
+        ensures count { gates_in self.new ≤ gates_in self.old + 1 }
+        ensures err { OnErr result (self.new ≡ self.old) }
+    {
+        if c.index < a.index {
+            return self.ordered_majority(c, a, b);
+        }
+        if c.index < b.index {
+            return self.ordered_majority(a, c, b);
+        }
+        self.ordered_majority(a, b, c)
+    }
+
+    /// The majority of three bits in their order.
+    fn ordered_majority(&mut self, a: Bit, b: Bit, c: Bit) -> Result<Bit, AllocError>
+        requires first { IsBitOf self.old a }
+        requires second { IsBitOf self.old b }
+        requires third { IsBitOf self.old c }
+        requires lower { a.index ≤ b.index }
+        requires upper { b.index ≤ c.index }
+        ensures value { IfOk result (λ bit. HasValue self.new bit (λ free. bool_majority (truth free self.old a) (truth free self.old b) (truth free self.old c))) }
+        ensures extends { Extends self.old self.new }
+        ensures count { gates_in self.new ≤ gates_in self.old + 1 }
+        ensures err { OnErr result (self.new ≡ self.old) }
+    {
+        if a.index == 0 {
+            return self.settled(b, c, a.negated);
+        }
+        if a.index == b.index {
+            return Ok(if a.negated == b.negated { a } else { c });
+        }
+        if b.index == c.index {
+            return Ok(if b.negated == c.negated { b } else { a });
+        }
+        let negated = two_of(a.negated, b.negated, c.negated);
+        let (a, b, c) = (
+            negated_if(a, negated),
+            negated_if(b, negated),
+            negated_if(c, negated),
+        );
+        let gate = self.add(Node::Majority(a, b, c))?;
+        Ok(negated_if(gate, negated))
+    }
+
+    /// The `or` of two bits, or their `and`.
+    fn settled(&mut self, a: Bit, b: Bit, one_is_enough: bool) -> Result<Bit, AllocError>
+        requires first { IsBitOf self.old a }
+        requires second { IsBitOf self.old b }
+        ensures value { IfOk result (λ bit. HasValue self.new bit (λ free. bool_majority one_is_enough (truth free self.old a) (truth free self.old b))) }
+        ensures extends { Extends self.old self.new }
+        ensures count { gates_in self.new ≤ gates_in self.old + 1 }
+        ensures err { OnErr result (self.new ≡ self.old) }
+    {
+        if one_is_enough {
+            self.or(a, b)
+        } else {
+            self.and(a, b)
+        }
+    }
+
+    /// The choice between two bits that are not of the node that chooses.
+    fn choice(&mut self, which: Bit, yes: Bit, no: Bit) -> Result<Bit, AllocError>
+        requires chooser { IsBitOf self.old which }
+        requires first { IsBitOf self.old yes }
+        requires second { IsBitOf self.old no }
+        requires some { 0 < which.index }
+        requires first_apart { which.index ≢ yes.index }
+        requires second_apart { which.index ≢ no.index }
+        ensures value { IfOk result (λ bit. HasValue self.new bit (λ free. if truth free self.old which then truth free self.old yes else truth free self.old no)) }
+        ensures extends { Extends self.old self.new }
+        ensures count { gates_in self.new ≤ gates_in self.old + 1 }
+        ensures err { OnErr result (self.new ≡ self.old) }
+    {
+        if yes.index == no.index {
+            return self.choice_of_one(which, yes, no);
+        }
+        if yes.index == 0 {
+            return self.unless(which, yes.negated, no);
+        }
+        if no.index == 0 {
+            return self.unless(Nodes::not(which), no.negated, yes);
+        }
+        if which.negated {
+            self.mux_gate(Nodes::not(which), no, yes)
+        } else {
+            self.mux_gate(which, yes, no)
+        }
+    }
+
+    /// The choice between two bits of one node.
+    fn choice_of_one(&mut self, which: Bit, yes: Bit, no: Bit) -> Result<Bit, AllocError>
+        requires chooser { IsBitOf self.old which }
+        requires first { IsBitOf self.old yes }
+        requires second { IsBitOf self.old no }
+        requires same { yes.index ≡ no.index }
+        ensures value { IfOk result (λ bit. HasValue self.new bit (λ free. if truth free self.old which then truth free self.old yes else truth free self.old no)) }
+        ensures extends { Extends self.old self.new }
+        ensures count { gates_in self.new ≤ gates_in self.old + 1 }
+        ensures err { OnErr result (self.new ≡ self.old) }
+    {
+        if yes.negated == no.negated {
             return Ok(yes);
         }
-        let on = self.and(which, yes)?;
-        let off = self.and(Nodes::not(which), no)?;
-        self.or(on, off)
+        self.xor(which, no)
+    }
+
+    /// The bit that has the value `value` where `which` is true, and else that of `other`.
+    fn unless(&mut self, which: Bit, value: bool, other: Bit) -> Result<Bit, AllocError>
+        requires first { IsBitOf self.old which }
+        requires second { IsBitOf self.old other }
+        ensures value { IfOk result (λ bit. HasValue self.new bit (λ free. if truth free self.old which then value else truth free self.old other)) }
+        ensures extends { Extends self.old self.new }
+        ensures count { gates_in self.new ≤ gates_in self.old + 1 }
+        ensures err { OnErr result (self.new ≡ self.old) }
+    {
+        if value {
+            self.or(which, other)
+        } else {
+            self.and(Nodes::not(which), other)
+        }
+    }
+
+    /// The gate that chooses between bits of other nodes. Where `yes` is negated the gate is negated as a whole.
+    fn mux_gate(&mut self, which: Bit, yes: Bit, no: Bit) -> Result<Bit, AllocError>
+        requires chooser { (0 < which.index) × IsBitOf self.old which }
+        requires first { (0 < yes.index) × IsBitOf self.old yes }
+        requires second { (0 < no.index) × IsBitOf self.old no }
+        requires first_apart { which.index ≢ yes.index }
+        requires second_apart { which.index ≢ no.index }
+        requires third_apart { yes.index ≢ no.index }
+        ensures value { IfOk result (λ bit. HasValue self.new bit (λ free. if truth free self.old which then truth free self.old yes else truth free self.old no)) }
+        ensures extends { Extends self.old self.new }
+        ensures count { gates_in self.new ≤ gates_in self.old + 1 }
+        ensures err { OnErr result (self.new ≡ self.old) }
+    {
+        let negated = yes.negated;
+        let gate = self.add(Node::Mux(which, negated_if(yes, negated), negated_if(no, negated)))?;
+        Ok(negated_if(gate, negated))
+    }
+
+    /// The exclusive `or` of two bits of different nodes.
+    fn xor_gate(&mut self, a: Bit, b: Bit) -> Result<Bit, AllocError>
+        requires first { (0 < a.index) × IsBitOf self.old a }
+        requires second { (0 < b.index) × IsBitOf self.old b }
+        requires apart { a.index ≢ b.index }
+        ensures value { IfOk result (λ bit. HasValue self.new bit (λ free. bool_xor (truth free self.old a) (truth free self.old b))) }
+        ensures extends { Extends self.old self.new }
+        ensures count { gates_in self.new ≤ gates_in self.old + 1 }
+        ensures err { OnErr result (self.new ≡ self.old) }
+    {
+        if a.index < b.index {
+            self.add(Node::Xor(a, b))
+        } else {
+            self.add(Node::Xor(b, a))
+        }
     }
 
     /// The gate of two bits that need one.
@@ -240,9 +441,12 @@ impl Node {
     fn gates_more(&self, added: bool) -> u64
         ensures { result ≡ (if added then (if is_gate self.now then 1 else 0) else 0) }
     {
+        if !added {
+            return 0;
+        }
         match self {
-            Node::And(_, _) if added => 1,
-            _ => 0,
+            Node::Free(_) => 0,
+            Node::And(_, _) | Node::Xor(_, _) | Node::Mux(_, _, _) | Node::Majority(_, _, _) => 1,
         }
     }
 }
@@ -255,12 +459,42 @@ pub fn node_law()
         truth free nodes (node_bit number) ≡ node_truth free nodes node }
 {}
 
-/// Law: what was added behind what was added is added, and a gate that was made stays the gate of its bits.
+/// Law: what was added behind what was added is added, and an `and` that was made is found among later nodes, and
+/// with its bits in the other order.
 pub fn extension_law()
     ensures through { (old middle new : List Node) → Extends old middle → Extends middle new → Extends old new }
-    ensures gates_stay { (old new : List Node) (number : ℕ) (a b : Bit) →
-        Extends old new → IsGateOf old number a b → IsGateOf new number a b }
+    ensures made_stays { (old new : List Node) (a b bit : Bit) → Extends old new → IsMade old a b bit → IsMade new a b bit }
+    ensures made_turned { (nodes : List Node) (a b bit : Bit) → IsMade nodes a b bit → IsMade nodes b a bit }
 {}
+
+/// The bit, negated where `negated` is true.
+fn negated_if(bit: Bit, negated: bool) -> Bit
+    ensures index { result.index ≡ bit.index }
+    ensures value { (nodes : List Node) (free : ℕ → Bool) → truth free nodes result ≡ bool_xor negated (truth free nodes bit) }
+{
+    if negated { Nodes::not(bit) } else { bit }
+}
+
+/// What is known of `bit` where `which` is true: a constant, where both are of one node.
+fn given(bit: Bit, which: Bit) -> Bit
+    requires { 0 < which.index }
+    ensures apart { which.index ≢ result.index }
+    ensures bits { (nodes : List Node) → IsBitOf nodes bit → IsBitOf nodes result }
+    ensures value { (nodes : List Node) (free : ℕ → Bool) → truth free nodes which ≡ true → truth free nodes result ≡ truth free nodes bit }
+{
+    if bit.index == which.index {
+        Nodes::constant(bit.negated == which.negated)
+    } else {
+        bit
+    }
+}
+
+/// Whether at least two of the three are true.
+fn two_of(a: bool, b: bool, c: bool) -> bool
+    ensures { result ≡ bool_majority a b c }
+{
+    if a { b || c } else { b && c }
+}
 
 /// The bit that an `and` of `a` and `b` gives without a gate, if it needs none.
 fn folded(a: Bit, b: Bit) -> Option<Bit>
@@ -303,6 +537,3 @@ fn bit_of(number: usize) -> Bit
         negated: false,
     }
 }
-
-#[cfg(test)]
-mod tests;

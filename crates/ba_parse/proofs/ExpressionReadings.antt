@@ -7,7 +7,7 @@ use Rattle.ba_lex.specs.declared.token.TokenKind.TheVariants as kind
 use Rattle.ba_lex.specs.declared.token.Keyword.{Keyword}
 use Rattle.ba_lex.specs.declared.token.Punct.{Punct}
 use Rattle.ba_lex.specs.declared.token.Punct.TheVariants as punct
-use Rattle.ba_tree.specs.declared.numbers.CType.TheVariants.{I32}
+use Rattle.ba_numbers.specs.declared.numbers.CType.TheVariants.{I32}
 use Rattle.std.specs.Prelude.{pos}
 use Rattle.ba_parse.specs.declared.class.TokenClass.{TokenClass}
 use Rattle.ba_parse.specs.declared.class.TokenClass.TheVariants as class

@@ -1,9 +1,9 @@
 -- How a function of the parser tells what a reading gives.
 
 use Rattle.std.specs.Prelude.{◌≡◌, Bool, true, false, not, ◌&&◌, if◌then◌else◌, List, [], ◌∷◌, Result, Ok, Err}
-use Rattle.std.specs.Borrow.{Bor}
 use Rattle.std.specs.List.{list_all}
 use Rattle.ba_lex.specs.declared.token.Token.{Token}
+use Rattle.ba_parse.specs.declared.class.TokenClass.{TokenClass}
 use Rattle.ba_parse.specs.declared.reader.Stop.{Stop}
 use Rattle.ba_parse.specs.declared.reader.Stop.TheVariants as stop
 use Rattle.ba_parse.specs.Classes.{Classes, class_of, declaration_word, agree}
@@ -32,10 +32,10 @@ abbrev pub next_is_without : Classes → Classes → List Token → Bool
 next_is_without first second [] = false
 next_is_without first second (t ∷ ts) = first (class_of t) && not (next_is second ts)
 
--- whether the next token agrees with these words; the next word of a type after these
-abbrev pub agrees_with : List (Bor Token) → List Token → Bool
-agrees_with words [] = false
-agrees_with words (t ∷ ts) = list_all (λ word. agree (class_of word.now) (class_of t)) words
+-- whether the next token agrees with words of these classes; the next word of a type after these
+abbrev pub agrees_with : List TokenClass → List Token → Bool
+agrees_with before [] = false
+agrees_with before (t ∷ ts) = list_all (λ c. agree c (class_of t)) before
 
-abbrev pub next_word : Bool → List (Bor Token) → Reading
-next_word static words ts = if agrees_with words ts then read_token (declaration_word static) ts else syntax ts
+abbrev pub next_word : Bool → List TokenClass → Reading
+next_word static before ts = if agrees_with before ts then read_token (declaration_word static) ts else syntax ts

@@ -108,7 +108,7 @@ fn braced<'a>(alloc: Global, reader: &mut Reader<'a>, levels: u32) -> Result<Bra
     })
 }
 
-fn maybe_comma<'a>(reader: &mut Reader<'a>) -> Result<Option<&'a Token>, Stop>
+fn maybe_comma<'a>(reader: &mut Reader<'a>) -> Result<Option<&'a Token<'a>>, Stop>
     ensures { Told optional_leaf result (read_maybe (mark punct.Comma) (read_sign punct.Comma) reader.old) reader.new }
 {
     if !reader.next_is(COMMA) {
@@ -257,7 +257,7 @@ pub fn declaration<'a>(
     })
 }
 
-fn maybe_name<'a>(reader: &mut Reader<'a>) -> Result<Option<&'a Token>, Stop>
+fn maybe_name<'a>(reader: &mut Reader<'a>) -> Result<Option<&'a Token<'a>>, Stop>
     ensures { Told name_marks result (read_either (next_is (only class.Name)) read_name (read_node no_name read_nothing) reader.old) reader.new }
 {
     if !reader.next_is(TokenSet::Name) {

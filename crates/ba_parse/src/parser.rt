@@ -48,7 +48,7 @@ const EXTERNAL_WORD: TokenSet = TokenSet::DeclarationWord { with_static: true };
 ///   the end, the list begins a file's tokens and is no file's.
 /// - [`ParseError::TooDeep`]: the least number of a token with more than [`MAX_LEVEL`] constructs around it.
 /// - [`ParseError::Memory`]: want of memory.
-pub fn parse<'a>(alloc: Global, tokens: &'a [Token]) -> Result<RawProgram<'a>, ParseError>
+pub fn parse<'a>(alloc: Global, tokens: &'a [Token<'a>]) -> Result<RawProgram<'a>, ParseError>
     ensures told { IsTold tokens.now result }
     ensures only { (verdict : Verdict) → Says tokens.now verdict → (result ≡ result_of verdict) ⊎ (result ≡ Err Memory) }
 {
@@ -56,7 +56,7 @@ pub fn parse<'a>(alloc: Global, tokens: &'a [Token]) -> Result<RawProgram<'a>, P
 }
 
 /// The tree of a file, or where its reading stops.
-fn whole_file<'a>(alloc: Global, tokens: &'a [Token]) -> Result<RawProgram<'a>, ParseError>
+fn whole_file<'a>(alloc: Global, tokens: &'a [Token<'a>]) -> Result<RawProgram<'a>, ParseError>
     ensures { (result ≡ Err Memory) ⊎ (result ≡ outcome_of tokens.now (read_file (levels_left 100) tokens.now)) }
 {
     let mut reader = Reader::new(tokens);

@@ -49,7 +49,7 @@ impl<T: Drop> From<AllocFailed<T>> for Stop {
 /// A reader of tokens. Contracts see the tokens that are left.
 #[derive(Drop)]
 pub struct Reader<'a> {
-    rest: &'a [Token],
+    rest: &'a [Token<'a>],
 }
 
 impl<'a> Model for Reader<'a> {
@@ -63,14 +63,14 @@ impl<'a> Model for Reader<'a> {
 
 impl<'a> Reader<'a> {
     /// A reader of these tokens.
-    pub fn new(tokens: &'a [Token]) -> Reader<'a>
+    pub fn new(tokens: &'a [Token<'a>]) -> Reader<'a>
         ensures { result ≡ tokens.now }
     {
         Reader { rest: tokens }
     }
 
     /// The tokens that are left.
-    pub fn rest(&self) -> &'a [Token]
+    pub fn rest(&self) -> &'a [Token<'a>]
         ensures { result.now ≡ self.now }
     {
         self.rest
@@ -107,11 +107,11 @@ impl<'a> Reader<'a> {
     }
 
     /// The next token, which has to be in the set.
-    pub fn take(&mut self, set: TokenSet) -> Result<&'a Token, Stop>
+    pub fn take(&mut self, set: TokenSet) -> Result<&'a Token<'a>, Stop>
         ensures { Told (λ token. leaf token.now ∷ []) result (read_token (classes set) self.old) self.new }
     {
-        match self.rest.split_first() {
-            Some((token, rest)) if set.contains(class_of(token)) => {
+        match self.rest {
+            [token, rest @ ..] if set.contains(class_of(token)) => {
                 self.rest = rest;
                 Ok(token)
             }

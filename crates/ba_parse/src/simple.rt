@@ -264,7 +264,7 @@ pub fn inner_for_head<'a>(
     for_head(alloc, reader, levels - 1)
 }
 
-fn next_strings<'a>(alloc: Global, reader: &mut Reader<'a>) -> Result<Vec<&'a Token>, Stop>
+fn next_strings<'a>(alloc: Global, reader: &mut Reader<'a>) -> Result<Vec<&'a Token<'a>>, Stop>
     ensures { Told (λ v. map (λ t. leaf t.now) v.items) result (read_many (next_is (only class.Quoted)) (read_token (only class.Quoted)) reader.old) reader.new }
 {
     let mut rest = Vec::new(alloc);

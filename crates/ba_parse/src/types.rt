@@ -29,52 +29,53 @@ pub fn type_name<'a>(
     ensures { Told (λ t. t) result (read_type_words with_static reader.old) reader.new }
 {
     let mut words = Vec::new(alloc);
+    let mut classes = Vec::new(alloc);
     while reader.next_is(TokenSet::DeclarationWord { with_static }) {
-        let word = next_word(reader, words.as_slice(), with_static)?;
+        let word = next_word(reader, classes.as_slice(), with_static)?;
+        classes.push(class_of(word))?;
         words.push(word)?;
     }
-    if !some_names_type(words.as_slice()) {
+    if !some_names_type(classes.as_slice()) {
         return Err(Stop::Syntax);
     }
     Ok(TypeName { words })
 }
 
-/// The next word, which has to agree with those before it.
+/// The next word, which has to agree with those of these classes before it.
 fn next_word<'a>(
     reader: &mut Reader<'a>,
-    words: &[&'a Token],
+    before: &[TokenClass],
     with_static: bool,
-) -> Result<&'a Token, Stop>
-    ensures { Told (λ token. leaf token.now ∷ []) result (next_word with_static words.now reader.old) reader.new }
+) -> Result<&'a Token<'a>, Stop>
+    ensures { Told (λ token. leaf token.now ∷ []) result (next_word with_static before.now reader.old) reader.new }
 {
-    if !agrees_with(words, reader.rest()) {
+    if !agrees_with(before, reader.rest()) {
         return Err(Stop::Syntax);
     }
     reader.take(TokenSet::DeclarationWord { with_static })
 }
 
-fn agrees_with(words: &[&Token], rest: &[Token]) -> bool
-    ensures { result ≡ agrees_with words.now rest.now }
+fn agrees_with(before: &[TokenClass], rest: &[Token]) -> bool
+    ensures { result ≡ agrees_with before.now rest.now }
 {
     match rest.split_first() {
-        Some((token, _rest)) => agree_all(words, class_of(token)),
+        Some((token, _rest)) => agree_all(before, class_of(token)),
         None => false,
     }
 }
 
-fn agree_all(words: &[&Token], class: TokenClass) -> bool
-    ensures { result ≡ list_all (λ word. agree (class_of word.now) class) words.now }
+fn agree_all(before: &[TokenClass], class: TokenClass) -> bool
+    ensures { result ≡ list_all (λ c. agree c class) before.now }
 {
-    words.iter().all(|word| agree(class_of(word), class))
+    before.iter().all(|before| agree(*before, class))
 }
 
-fn some_names_type(words: &[&Token]) -> bool
-    ensures { result ≡ list_any (λ word. type_word (class_of word.now)) words.now }
+fn some_names_type(words: &[TokenClass]) -> bool
+    ensures { result ≡ list_any type_word words.now }
 {
-    words.iter().any(|word| is_type_word(class_of(word)))
+    words.iter().any(|class| is_type_word(*class))
 }
 
-/// Whether two words stand in one list.
 fn agree(first: TokenClass, second: TokenClass) -> bool
     ensures { result ≡ agree first second }
 {

@@ -9,6 +9,7 @@ use Rattle.std.specs.List.Sorted.{IsPermutation}
 use Rattle.ba_lits.specs.Literals.{Literal, negate, lit_at, no_literal, IsClause}
 use Rattle.ba_lits.specs.Satisfaction.{Assignment, signed, lit_true, any_true, assignment_of}
 use Rattle.ba_lits.specs.Hints.{has_literal, FollowsByHints}
+use Rattle.ba_lits.proofs.Members.{has_literal-permutation, literal_found, has_literal-at, negate-negate}
 use Rattle.ba_watch.specs.Threads.{Clause}
 use Rattle.ba_watch.specs.Trails.{same_sign, value_of, place_of, reason_of, decided}
 use Rattle.ba_watch.specs.Propagation.{State as Watching, falsified, is_false, clause_in, plain_lits, IsComplete, IsAsserting, KeepsFacts}
@@ -17,9 +18,7 @@ use Rattle.ba_learn.specs.Live.{Follows, IsSame}
 use Rattle.ba_learn.specs.Levels.{IsBacked, NegatesDecided, IsCoreOf}
 use Rattle.ba_learn.specs.Backjumps.{after_back}
 use Rattle.ba_learn.proofs.BackLaws.{back_level, back_asserting}
-use Rattle.ba_learn.proofs.CoreLaws.{negate-negate}
 use Rattle.ba_learn.proofs.FollowLaws.{false_negates}
-use Rattle.ba_learn.proofs.SortedLaws.{has-permutation, has_at, has-at}
 use Rattle.ba_steps.specs.States.{State, clause_at}
 use Rattle.ba_search.specs.Answers.{AreAssumptions, IsModel, IsCore}
 use Rattle.ba_search.specs.Choices.{positive, is_true, values_of}
@@ -41,7 +40,8 @@ jump_level s t lits lits' back facts backed is same = ⊎_elim
 -- assumptions
 pub assumed_within : (n : ℕ) (a : List Literal) (l : Literal) → AreAssumptions n a → has_literal l a ≡ true →
     l.variable ≤ n
-assumed_within n a l are has = let k = has_at l a has in subst (λ (x : Literal). x.variable ≤ n) k.2 (are.within k.0 k.1)
+assumed_within n a l are has = let k =
+    literal_found l a has in subst (λ (x : Literal). x.variable ≤ n) k.2 (are.within k.0 k.1)
 
 pub assumptions_within : (n v : ℕ) (a : List Literal) → AreAssumptions n a → n ≤ v → (k : ℕ) → k < length a →
     (lit_at a k).variable ≤ v
@@ -51,8 +51,8 @@ assumptions_within n v a are le k k_in = omega (arith, are.within k k_in, le)
 one_assumption : (n : ℕ) (a : List Literal) (l m : Literal) → AreAssumptions n a → has_literal l a ≡ true →
     has_literal m a ≡ true → l.variable ≡ m.variable → l ≡ m
 one_assumption n a l m are has_l has_m same =
-    let j = has_at l a has_l in
-    let k = has_at m a has_m in
+    let j = literal_found l a has_l in
+    let k = literal_found m a has_m in
     let at : (lit_at a j.0).variable ≡ (lit_at a k.0).variable = ap (λ (x : Literal). x.variable) j.2 ∙ (same ∙ ap (λ (x : Literal). x.variable) (sym k.2)) in
     ⊎_elim
     (λ lt. absurd (are.differ j.0 k.0 lt k.1 at))
@@ -76,7 +76,7 @@ no_fixed l e = step l.negated (ap (λ (x : Literal). x.negated) e)
 front_true : (T a : List Literal) (p : ℕ) (l : Literal) → AreTrue (take p T) a → has_literal l a ≡ true →
     value_of T l ≡ Some true
 front_true T a p l are has =
-    let k = has_at l a has in
+    let k = literal_found l a has in
     ap (λ (ys : List Literal). value_of ys l) (sym (take-append-drop p T)) ∙ value_of-more (take p T) (drop p T) l true (ap (value_of (take p T)) (sym k.2) ∙ are k.0 k.1)
 
 -- a core
@@ -216,7 +216,8 @@ clause_holds T n given lits perm form open_ valued =
     any_at (assignment_of (values_of T n)) given j.0 j.1 (true_literal T n (lit_at given j.0) (form.counted j.0 j.1) (form.within j.0 j.1) (ap (value_of T) j.2 ∙ t.2))
   where
     place : (k : ℕ) → k < length lits → (j : ℕ) × (j < length given) × (lit_at given j ≡ lit_at lits k)
-    place k k_in = has_at (lit_at lits k) given (has-permutation (lit_at lits k) given lits perm ∙ has-at lits k k_in)
+    place k k_in = literal_found (lit_at lits k) given
+        (has_literal-permutation (lit_at lits k) given lits perm ∙ has_literal-at lits k k_in)
 
 open_clause : (clauses : List (Option Clause)) (T : List Literal) (r : ℕ) (x : Clause) → IsComplete clauses T →
     clause_in clauses r ≡ Some x → is_false (value_of T) x.lits ≡ false

@@ -1,13 +1,13 @@
 -- What is deleted, and what that leaves.
 
-use Rattle.std.proofs.Common.{◌≡◌, ◌≢◌, ℕ, suc, zero, ◌+◌, ◌-◌, ◌^◌, ◌<◌, ◌≤◌, Bool, true, false, not, ltb, ◌&&◌, if◌then◌else◌, Option, None, Some, List, [], ◌∷◌, ◌++◌, length, get_or, set, All, refl, sym, ap, subst, ◌∙◌, arith}
+use Rattle.std.proofs.Common.{◌≡◌, ◌≢◌, ℕ, suc, zero, ◌^◌, ◌<◌, ◌≤◌, Bool, true, false, not, ltb, ◌&&◌, if◌then◌else◌, Option, None, Some, List, [], ◌∷◌, ◌++◌, length, get_or, set, All, refl, sym, ap, subst, ◌∙◌, arith}
+use Rattle.std.proofs.lemmas.Bool.{and_parts, and_from}
 use Rattle.std.proofs.lemmas.Bool.Decides.{nat_tests}
 use Rattle.std.proofs.lemmas.List.{length-set}
 use Rattle.std.proofs.lemmas.List.Elements.{All-append, All-cons, All-nil, All-weaker}
 use Rattle.std.specs.List.{list_all, slice_get}
 use Rattle.ba_lits.specs.Literals.{Literal}
 use Rattle.ba_steps.specs.States.{Kept, State, live_lits, lits_of, is_live_origin, clause_at, is_learnt_at, is_learnt_entry, width_at, without, without_all}
-use Rattle.ba_steps.specs.declared.store.Origin.TheVariants as origins
 use Rattle.ba_steps.specs.Judging.{Judge, error_if, error_of, may_go, after_delete}
 use Rattle.ba_steps.specs.Steps.{AreAbove}
 use Rattle.ba_steps.specs.declared.step.CertStep.TheVariants.{Delete}
@@ -29,10 +29,6 @@ pub above_push : (last : ℕ) (ns : List ℕ) (n m : ℕ) → AreAbove last (ns 
     AreAbove last ((ns ++ n ∷ []) ++ m ∷ [])
 above_push last [] n m above more = (above.0, (more, tt))
 above_push last (k ∷ ks) n m above more = (above.0, above_push k ks n m above.1 more)
-
-and_parts : (a b : Bool) → (a && b) ≡ true → (a ≡ true) × (b ≡ true)
-and_parts true b e = (refl, e)
-and_parts false b e = absurd (cc e)
 
 -- the numbers that are collected
 pub all_push : (P : ℕ → Type 0) (ns : List ℕ) (n : ℕ) → All P ns → P n → All P (ns ++ n ∷ [])
@@ -58,11 +54,10 @@ width_live cs n lits is = at (Rattle.ba_steps.specs.States.kept_at cs n) is
 
 -- a learnt clause that the keep rule gives up has at least three literals
 pub goes : (s : State) (n width : ℕ) → is_learnt_at s.clauses n ≡ true → width ≡ width_at s.clauses n → 2 < width → may_go s n ≡ true
-goes s n width learnt is wide = both (is_learnt_at s.clauses n) (ltb 2 (width_at s.clauses n)) learnt (test (width_at s.clauses n) (omega (arith, is, wide)))
+goes s n width learnt is wide =
+    and_from (is_learnt_at s.clauses n) (ltb 2 (width_at s.clauses n)) learnt
+    (test (width_at s.clauses n) (omega (arith, is, wide)))
   where
-    both : (a b : Bool) → a ≡ true → b ≡ true → (a && b) ≡ true
-    both a b e f = rw (e, f) refl
-
     test : (w : ℕ) → 2 < w → ltb 2 w ≡ true
     test w lt = grind (arith, nat_tests)
 

@@ -1,6 +1,7 @@
 -- A learnt clause makes a step that is allowed.
 
-use Rattle.std.proofs.Common.{◌≡◌, ◌≢◌, ℕ, suc, zero, ◌^◌, ◌<◌, ◌≤◌, Bool, true, false, ltb, ◌&&◌, if◌then◌else◌, Option, None, Some, IsSome, List, [], ◌∷◌, ◌++◌, length, get_or, All, refl, sym, ap, subst, ◌∙◌, arith, ◌⊎◌, inl, inr, ⊎_elim}
+use Rattle.std.proofs.Common.{◌≡◌, ◌≢◌, ℕ, suc, zero, ◌^◌, ◌<◌, ◌≤◌, Bool, true, false, ltb, if◌then◌else◌, Option, None, Some, IsSome, List, [], ◌∷◌, ◌++◌, length, get_or, All, refl, sym, ap, subst, ◌∙◌, arith, ◌⊎◌, inl, inr, ⊎_elim}
+use Rattle.std.proofs.lemmas.Bool.{and_parts}
 use Rattle.std.proofs.lemmas.Bool.Decides.{nat_tests}
 use Rattle.std.proofs.lemmas.Option.{slice_get-get_or}
 use Rattle.std.proofs.lemmas.List.Elements.{All-cons, All-nil, All-get_or, All-from_get_or}
@@ -9,15 +10,13 @@ use Rattle.std.specs.List.{slice_get, list_any}
 use Rattle.std.specs.List.Sorted.{IsPermutation}
 use Rattle.ba_lits.specs.Literals.{Literal, negate, lit_at, no_literal, IsClause}
 use Rattle.ba_lits.specs.Hints.{Standing, IsFalse, IsUnit, IsOpen, Replay, Refutes, has_literal, standing, is_last, after_clause, after_hint, replay, FollowsByHints}
+use Rattle.ba_lits.proofs.Members.{same_from_index, has_literal-permutation, literal_found}
 use Rattle.ba_watch.specs.Threads.{Clause, AreApart}
 use Rattle.ba_watch.specs.Trails.{value_of, place_of}
 use Rattle.ba_watch.specs.Propagation.{State as Watching, plain_lits, clause_in, lits_in, is_false, KeepsFacts}
 use Rattle.ba_watch.proofs.Values.{place_of-some, lit_at-place}
-use Rattle.ba_watch.proofs.Facts.{same_from_index}
 use Rattle.ba_learn.specs.Live.{AreLive, IsNew, IsPartOf}
 use Rattle.ba_learn.proofs.FollowLaws.{false_at}
-use Rattle.ba_learn.proofs.SortedLaws.{has-permutation, has_at}
-use Rattle.ba_learn.proofs.LevelLaws.{holds-has}
 use Rattle.ba_learn.proofs.ReasonLaws.{reason_live}
 use Rattle.ba_learn.proofs.NewLaws.{contains_none}
 use Rattle.ba_steps.specs.Facts.{IsState}
@@ -85,8 +84,10 @@ module _ (a : List Literal) (s : Watching) (numbers : Numbering) (c : State) (fa
       (lit_at s.trail p).variable ≤ c.variables
   reason_within p r within is =
       let g = same_clause s.clauses c r u.live (reason_live s p r facts within is) in
-      let has : has_literal (lit_at s.trail p) (lits_in s.clauses r) ≡ true = holds-has (lit_at s.trail p) (lits_in s.clauses r) ∙ (facts.reasons p r within is).has in
-      let k = has_at (lit_at s.trail p) g.1 (has-permutation (lit_at s.trail p) g.1 (lits_in s.clauses r) g.3 ∙ has) in
+      let has : has_literal (lit_at s.trail p) (lits_in s.clauses r) ≡ true =
+      (facts.reasons p r within is).has in
+      let k = literal_found (lit_at s.trail p) g.1
+      (has_literal-permutation (lit_at s.trail p) g.1 (lits_in s.clauses r) g.3 ∙ has) in
       subst (λ (l : Literal). l.variable ≤ c.variables) k.2 ((clause_formed c g.0 g.1 formed u.awake g.2).within k.0 k.1)
 
   pub trail_within : (p : ℕ) → p < length s.trail → (lit_at s.trail p).variable ≤ c.variables
@@ -171,10 +172,6 @@ no_part : (c : State) (lits : List Literal) → Formed c → c.refused ≡ false
 no_part c lits formed awake new = list_any_none (λ (x : Kept). is_live_part x lits) c.clauses
     (All-from_get_or (λ (x : Kept). is_live_part x lits ≡ false) c.clauses (kept Given []) (λ k k_in. step k k_in (is_live_part (get_or c.clauses k (kept Given [])) lits) refl))
   where
-    both : (a b : Bool) → (a && b) ≡ true → (a ≡ true) × (b ≡ true)
-    both true b e = (refl, e)
-    both false b e = absurd (cc e)
-
     lits_of_live : (x : Kept) → is_live_origin x.origin ≡ true → live_lits (Some x) ≡ Some x.lits
     lits_of_live x is = ap (λ b. if b then Some x.lits else None) is
 
@@ -184,7 +181,7 @@ no_part c lits formed awake new = list_any_none (λ (x : Kept). is_live_part x l
     step k k_in true is =
         let y : Kept = get_or c.clauses k (kept Given []) in
         let x : List Literal = y.lits in
-        let parts = both (is_live_origin y.origin) (is_part x lits) is in
+        let parts = and_parts (is_live_origin y.origin) (is_part x lits) is in
         let at : clause_at c.clauses (suc k) ≡ Some x = ap live_lits (slice_get-get_or c.clauses k (kept Given []) k_in) ∙ lits_of_live y parts.0 in
         absurd (contains_none (clause_at c.clauses) lits new (suc k) x at (clause_apart c.variables x (clause_formed c (suc k) x formed awake at)) (part_of x lits parts.1))
 

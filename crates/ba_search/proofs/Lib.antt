@@ -7,6 +7,5 @@ pub mod LearnLaws
 pub mod AnswerLaws
 pub mod TurnLaws
 pub mod StepLaws
-pub mod TestLaws
 pub mod LearntSteps
 pub mod OnceLaws

@@ -2,9 +2,9 @@
 
 use Rattle.std.proofs.Common.{◌≡◌, ℕ, ◌+◌, ◌≤◌, None, Some, List, [], ◌∷◌, ◌++◌, length, refl, sym, ap, ◌∙◌}
 use Rattle.ba_lits.specs.Literals.{Literal}
+use Rattle.ba_lits.proofs.Members.{has_literal-at}
 use Rattle.ba_learn.specs.Live.{IsNew}
 use Rattle.ba_learn.proofs.NewLaws.{contains_none}
-use Rattle.ba_learn.proofs.SortedLaws.{has-at}
 use Rattle.ba_steps.specs.States.{Kept, State, kept, clause_at}
 use Rattle.ba_steps.specs.declared.store.Origin.TheVariants.{Learnt}
 use Rattle.ba_steps.specs.Steps.{IsFormed}
@@ -45,7 +45,8 @@ later (step ∷ steps) = steps
 not_new : (live : ℕ → _) (lits : List Literal) (hints : List ℕ) (n : ℕ) → IsFormed (Learn lits hints) →
     IsNew live lits → live n ≡ Some lits → ⊥
 not_new live lits hints n formed new is =
-    contains_none live lits new n lits is (clause_apart _ lits formed.0.0) (λ k within. has-at lits k within)
+    contains_none live lits new n lits is (clause_apart _ lits formed.0.0)
+    (λ k within. has_literal-at lits k within)
 
 -- a live clause stays live where another is added
 still : (cs : List Kept) (x : Kept) (n : ℕ) (lits : List Literal) → clause_at cs n ≡ Some lits →

@@ -1,7 +1,7 @@
 -- The reasons of literals, and their numbers.
 
-use Rattle.std.proofs.Common.{◌≡◌, ℕ, ◌+◌, ◌<◌, ◌==◌, ◌||◌, Bool, true, false, Option, None, Some, List, length, get_or, map, refl, sym, ap, ◌∙◌, arith, ⊎_elim}
-use Rattle.std.proofs.lemmas.Bool.{cases_eq}
+use Rattle.std.proofs.Common.{◌≡◌, ℕ, ◌+◌, ◌<◌, ◌==◌, ◌||◌, Bool, true, false, Option, None, Some, List, length, get_or, map, sym, ap, ◌∙◌, arith, ⊎_elim}
+use Rattle.std.proofs.lemmas.Bool.{cases_eq, or_right}
 use Rattle.std.proofs.lemmas.List.{get_or_default}
 use Rattle.std.proofs.lemmas.Bool.Decides.{nat_tests}
 use Rattle.ba_arena.specs.Clauses.{Clauses, IsLive, number_at}
@@ -37,15 +37,13 @@ marks_more s clauses place reference number old new same reason number_is marks 
     let r_is : reference ≡ r = some_same reference r (sym reason ∙ (ap (λ n. get_or s.reasons n None) (sym here) ∙ is)) in
     let named : number ≡ c.number = number_is ∙ (number_same s clauses reference same ∙ (ap (number_in s) r_is ∙ ap number_of at)) in
     marks c.number ∙ one c.number (get_or old c.number false) (sym named))
-    (λ other. marks c.number ∙ later (c.number == number) (get_or old c.number false) (before p r c (omega (arith, within, other)) is at))
+    (λ other. marks c.number
+    ∙ or_right (c.number == number) (get_or old c.number false)
+    (before p r c (omega (arith, within, other)) is at))
     (cases_eq p place)
   where
     one : (k : ℕ) (b : Bool) → k ≡ number → ((k == number) || b) ≡ true
     one k b e = grind (arith, nat_tests, e)
-
-    later : (a b : Bool) → b ≡ true → (a || b) ≡ true
-    later true b e = refl
-    later false b e = e
 
 -- what is read within a list is there, whatever stands for what lies past its end
 pub read_any : (reasons read : List (Option ℕ)) (place : ℕ) (past : Option ℕ) (reference : ℕ) → read ≡ reasons →

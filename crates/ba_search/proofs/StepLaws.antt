@@ -12,10 +12,11 @@ use Rattle.ba_steps.specs.declared.store.Origin.TheVariants.{Given}
 use Rattle.ba_steps.specs.Steps.{IsFormed}
 use Rattle.ba_steps.specs.Judging.{Judge, error_of, after, after_learn, after_delete}
 use Rattle.ba_steps.specs.Sinks.{Logs, with_step, MayAddStep}
-use Rattle.ba_steps.specs.Puts.{IsTakenOrAsleep}
+use Rattle.ba_steps.specs.Puts.{IsTakenOrAsleep, leaves_all, leaves_last}
+use Rattle.ba_steps.proofs.PutLaws.{logs_then, leaves_weaker, leaves_after}
 use Rattle.ba_steps.specs.declared.step.CertStep.{CertStep}
 use Rattle.ba_steps.specs.declared.step.CertStep.TheVariants.{Learn, Delete}
-use Rattle.ba_search.specs.Searching.{nothing, IsGivenUp, Searches, searches_none, searches_learn, searches_delete, Leaves, leaves_all, leaves_last, with_steps}
+use Rattle.ba_search.specs.Searching.{nothing, IsGivenUp, Searches, searches_none, searches_learn, searches_delete, Leaves}
 use Rattle.ba_search.specs.Turns.{AreTaken, AreThere, Puts}
 use Rattle.ba_search.proofs.TakenLaws.{taken_live}
 
@@ -24,7 +25,7 @@ Gives = ℕ → ℕ → Bool → Type 0
 
 pub puts_none : (good : Judge) (gives : Gives) (c : State) (learnt : List ℕ) (logs : Logs) →
     Puts good gives c c learnt learnt logs logs
-puts_none good gives c learnt logs = record { steps = []; searches = searches_none c learnt; logs = refl }
+puts_none good gives c learnt logs = record { steps = []; leads = searches_none c learnt; logs = refl }
 
 pub puts_stay : (good : Judge) (gives : Gives) (c : State) (learnt all : List ℕ) (logs : Logs) → all ≡ learnt →
     Puts good gives c c learnt all logs logs
@@ -37,7 +38,7 @@ pub puts_learn : (good : Judge) (gives : Gives) (c d : State) (learnt all : List
     Puts good gives c d learnt all logs logs'
 puts_learn good gives c d learnt all logs logs' lits hints formed allowed new is grown told = record {
   steps = Learn lits hints ∷ [];
-  searches = searches_learn c d learnt all lits hints [] formed allowed new
+  leads = searches_learn c d learnt all lits hints [] formed allowed new
       (subst (λ (x : State). Searches good gives x (learnt ++ (length c.clauses + 1) ∷ []) [] d all) is
       (subst (λ (ns : List ℕ). Searches good gives d ns [] d all) grown (searches_none d all)));
   logs = told;
@@ -48,7 +49,7 @@ pub puts_delete : (good : Judge) (gives : Gives) (c d : State) (learnt : List �
     d ≡ after_delete c numbers → logs' ≡ with_step (Delete numbers) logs → Puts good gives c d learnt learnt logs logs'
 puts_delete good gives c d learnt logs logs' numbers formed allowed given is told = record {
   steps = Delete numbers ∷ [];
-  searches = searches_delete c d learnt learnt numbers [] formed allowed given
+  leads = searches_delete c d learnt learnt numbers [] formed allowed given
       (subst (λ (x : State). Searches good gives x learnt [] d learnt) is (searches_none d learnt));
   logs = told;
 }
@@ -80,73 +81,58 @@ pub puts_any : (good : Judge) (gives : Gives) (c d : State) (learnt all : List �
     Puts good nothing c d learnt all logs logs' → Puts good gives c d learnt all logs logs'
 puts_any good gives c d learnt all logs logs' p = record {
   steps = p.steps;
-  searches = searches_weaker (λ width age kept none. absurd none) p.searches;
+  leads = searches_weaker (λ width age kept none. absurd none) p.leads;
   logs = p.logs;
 }
 
 pub leaves_any : (good : Judge) (gives : Gives) (learnt : List ℕ) (c d : State) (logs logs' : Logs) →
     Leaves good nothing learnt c logs d logs' → Leaves good gives learnt c logs d logs'
-leaves_any good gives learnt c d logs logs' (leaves_all steps all searches told) =
-    leaves_all steps all (searches_weaker (λ width age kept none. absurd none) searches) told
-leaves_any good gives learnt c d logs logs' (leaves_last steps last before all more searches tried taken told) =
-    leaves_last steps last before all more (searches_weaker (λ width age kept none. absurd none) searches)
-    (searches_weaker (λ width age kept none. absurd none) tried) taken told
-
-with_steps-append : (xs ys : List CertStep) (logs : Logs) →
-    with_steps (xs ++ ys) logs ≡ with_steps ys (with_steps xs logs)
-with_steps-append [] ys logs = refl
-with_steps-append (x ∷ xs) ys logs = with_steps-append xs ys (with_step x logs)
+leaves_any good gives learnt c d logs logs' left =
+    leaves_weaker (λ steps t s. (s.0, searches_weaker (λ width age kept none. absurd none) s.1)) left
 
 pub puts_then : (good good' : Judge) (gives : Gives) (a b c : State) (u v w : List ℕ) (k l m : Logs) → good' ≡ good →
     Puts good gives a b u v k l → Puts good' gives b c v w l m → Puts good gives a c u w k m
 puts_then good good' gives a b c u v w k l m same p q = record {
   steps = p.steps ++ q.steps;
-  searches = searches_then good gives a b c u v w p.steps q.steps p.searches
-      (subst (λ (j : Judge). Searches j gives b v q.steps c w) same q.searches);
-  logs = q.logs ∙ (ap (with_steps q.steps) p.logs ∙ sym (with_steps-append p.steps q.steps k));
+  leads = searches_then good gives a b c u v w p.steps q.steps p.leads
+      (subst (λ (j : Judge). Searches j gives b v q.steps c w) same q.leads);
+  logs = logs_then p.steps q.steps k l m p.logs q.logs;
 }
 
 -- what is left where nothing was put, where steps were put, where one was tried, and after more steps
 pub leaves_none : (good : Judge) (gives : Gives) (learnt : List ℕ) (c : State) (logs : Logs) →
     Leaves good gives learnt c logs c logs
-leaves_none good gives learnt c logs = leaves_all [] learnt (searches_none c learnt) refl
+leaves_none good gives learnt c logs = leaves_all [] (learnt, searches_none c learnt) refl
 
 pub leaves_put : (good : Judge) (gives : Gives) (learnt all : List ℕ) (c d : State) (logs logs' : Logs) →
     Puts good gives c d learnt all logs logs' → Leaves good gives learnt c logs d logs'
-leaves_put good gives learnt all c d logs logs' p = leaves_all p.steps all p.searches p.logs
+leaves_put good gives learnt all c d logs logs' p = leaves_all p.steps (all, p.leads) p.logs
 
 pub leaves_tried : (good : Judge) (gives : Gives) (learnt : List ℕ) (c d : State) (logs logs' : Logs) (lits : List Literal) (hints : List ℕ) →
     IsFormed (Learn lits hints) → error_of good c (Learn lits hints) ≡ None → IsNew (clause_at c.clauses) lits
     → IsTakenOrAsleep c (Learn lits hints) d → MayAddStep (Learn lits hints) logs logs' → Leaves good gives learnt c logs d logs'
 leaves_tried good gives learnt c d logs logs' lits hints formed allowed new taken told =
-    leaves_last [] (Learn lits hints) c learnt (learnt ++ (length c.clauses + 1) ∷ []) (searches_none c learnt)
-    (searches_learn c (after c (Learn lits hints)) learnt (learnt ++ (length c.clauses + 1) ∷ []) lits hints [] formed allowed new
-    (searches_none (after c (Learn lits hints)) (learnt ++ (length c.clauses + 1) ∷ [])))
+    let all : List ℕ = learnt ++ (length c.clauses + 1) ∷ [] in
+    let next : State = after c (Learn lits hints) in
+    leaves_last [] (Learn lits hints) c (learnt, searches_none c learnt)
+    (all, searches_learn c next learnt all lits hints [] formed allowed new (searches_none next all))
     taken told
 
 pub leaves_delete : (good : Judge) (gives : Gives) (learnt : List ℕ) (c d : State) (logs logs' : Logs) (numbers : List ℕ) →
     IsFormed (Delete numbers) → error_of good c (Delete numbers) ≡ None → All (IsGivenUp gives c learnt) numbers
     → IsTakenOrAsleep c (Delete numbers) d → MayAddStep (Delete numbers) logs logs' → Leaves good gives learnt c logs d logs'
 leaves_delete good gives learnt c d logs logs' numbers formed allowed given taken told =
-    leaves_last [] (Delete numbers) c learnt learnt (searches_none c learnt)
-    (searches_delete c (after c (Delete numbers)) learnt learnt numbers [] formed allowed given
-    (searches_none (after c (Delete numbers)) learnt))
+    let next : State = after c (Delete numbers) in
+    leaves_last [] (Delete numbers) c (learnt, searches_none c learnt)
+    (learnt, searches_delete c next learnt learnt numbers [] formed allowed given (searches_none next learnt))
     taken told
 
 pub leaves_then : (good good' : Judge) (gives : Gives) (u v : List ℕ) (a b c : State) (k l m : Logs) → good' ≡ good →
     Puts good gives a b u v k l → Leaves good' gives v b l c m → Leaves good gives u a k c m
 leaves_then good good' gives u v a b c k l m same p left =
-    after_put (subst (λ (j : Judge). Leaves j gives v b l c m) same left)
-  where
-    told : (xs : List CertStep) → with_steps xs l ≡ with_steps (p.steps ++ xs) k
-    told xs = ap (with_steps xs) p.logs ∙ sym (with_steps-append p.steps xs k)
-
-    after_put : Leaves good gives v b l c m → Leaves good gives u a k c m
-    after_put (leaves_all xs w searches logs) =
-        leaves_all (p.steps ++ xs) w (searches_then good gives a b c u v w p.steps xs p.searches searches) (logs ∙ told xs)
-    after_put (leaves_last xs last before w x searches tried taken may) =
-        leaves_last (p.steps ++ xs) last before w x (searches_then good gives a b before u v w p.steps xs p.searches searches) tried taken
-        (subst (λ (logs : Logs). MayAddStep last logs m) (told xs) may)
+    leaves_after p.steps c k l m p.logs
+    (λ steps t s. (s.0, searches_then good gives a b t u v s.0 p.steps steps p.leads s.1))
+    (subst (λ (j : Judge). Leaves j gives v b l c m) same left)
 
 -- the same from an equal list
 pub puts_from : (good : Judge) (gives : Gives) (c d : State) (start learnt all : List ℕ) (logs logs' : Logs) → start ≡ learnt →

@@ -14,7 +14,7 @@ use Rattle.ba_learn.specs.Live.{IsSame, AreLive}
 use Rattle.ba_steps.specs.States.{Kept, kept, live_lits, clause_at}
 use Rattle.ba_steps.specs.declared.store.Origin.TheVariants.{Learnt}
 use Rattle.ba_search.specs.Searching.{ArePart}
-use Rattle.ba_search.specs.Turns.{Numbering, HasNumber, IsNumbered, AreTaken, AreThere, MarksOne, AddsOne}
+use Rattle.ba_search.specs.Turns.{Numbering, HasNumber, MarksLive, AreTaken, AreThere, MarksOne, AddsOne}
 
 -- clauses by their numbers
 at_some : (cs : List Kept) (k : ℕ) (c : List Literal) → live_lits (slice_get cs k) ≡ Some c → k < length cs
@@ -115,7 +115,7 @@ module _ (s t : State) (clause number : ℕ) (lits : List Literal) (adds : AddsC
       named_as x c named e = let i : x ≡ c = cc e in ap (λ (y : Clause). y.number) (sym i) ∙ named
 
   pub numbered_more : (taken more : List Bool) → MarksOne taken more number → get_or taken number false ≡ false →
-      IsNumbered s.clauses taken → IsNumbered t.clauses more
+      MarksLive s.clauses taken → MarksLive t.clauses more
   numbered_more taken more marks fresh numbered = record {
     each = λ k marked. ⊎_elim
         (λ same. subst (λ n. HasNumber t.clauses n) (sym same) has_new)
@@ -218,8 +218,9 @@ same_further : (o : Option (List Literal)) (xs ys : List Literal) → IsPermutat
 same_further None xs ys p h = absurd h
 same_further (Some given) xs ys p h = IsPermutation-trans given xs ys h p
 
-pub numbered_same : (old new : List (Option Clause)) (taken : List Bool) → SameClauses old new → IsNumbered old taken →
-    IsNumbered new taken
+pub numbered_same : (old new : List (Option Clause)) (taken : List Bool) → SameClauses old new →
+    MarksLive old taken →
+    MarksLive new taken
 numbered_same old new taken same numbered = record {
   each = λ n marked.
       let e = numbered.each n marked in
@@ -264,7 +265,8 @@ there_more s t old new place number lits live adds next there =
 
 -- the next number is not marked
 pub unmarked_next : (clauses : List (Option Clause)) (taken : List Bool) (cs : List Kept) (number : ℕ) →
-    IsNumbered clauses taken → AreLive clauses (clause_at cs) → number ≡ length cs + 1 → get_or taken number false ≡ false
+    MarksLive clauses taken → AreLive clauses (clause_at cs) → number ≡ length cs + 1 →
+    get_or taken number false ≡ false
 unmarked_next clauses taken cs number numbered live next = step (get_or taken number false) refl
   where
     step : (b : Bool) → get_or taken number false ≡ b → get_or taken number false ≡ false

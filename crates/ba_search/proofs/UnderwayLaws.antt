@@ -14,7 +14,7 @@ use Rattle.ba_steps.specs.declared.store.Origin.TheVariants.{Learnt}
 use Rattle.ba_steps.specs.Judging.{after_learn, after_delete}
 use Rattle.ba_learn.specs.Live.{AreLive}
 use Rattle.ba_watch.specs.Threads.{Clause}
-use Rattle.ba_search.specs.Turns.{Numbering, IsNumbered, LearnsOne, IsChoice, AreChoices, IsUnderway}
+use Rattle.ba_search.specs.Turns.{Numbering, MarksLive, LearnsOne, IsChoice, AreChoices, IsUnderway}
 use Rattle.ba_search.proofs.TakenLaws.{numbered_same, live_same, numbered_more, live_more, unmarked_next}
 use Rattle.ba_search.proofs.DeletionLaws.{length-without_all}
 
@@ -143,10 +143,11 @@ no_choices variables a T R len none p within is =
 
 pub underway_begin : (a : List Literal) (s t u : Watching) (numbers : Numbering) (c : State) →
     t ≡ record s { variables = max s.variables c.variables } → u ≡ after_back 0 t → KeepsFacts u →
-    IsNumbered s.clauses numbers.taken → AreLive s.clauses (clause_at c.clauses) → length c.clauses < 2 ^ 62 →
+    MarksLive s.clauses numbers.taken → AreLive s.clauses (clause_at c.clauses) → length c.clauses < 2 ^ 62 →
     c.ended ≡ false → c.refused ≡ false → IsUnderway a u numbers c
 underway_begin a s t u numbers c t_is u_is facts numbered live few begun awake = record {
-  numbered = subst (λ (cs : List (Option Clause)). IsNumbered cs numbers.taken) (sym (begun_clauses s t u _ t_is u_is)) numbered;
+  numbered = subst (λ (cs : List (Option Clause)). MarksLive cs numbers.taken)
+      (sym (begun_clauses s t u _ t_is u_is)) numbered;
   live = subst (λ (cs : List (Option Clause)). AreLive cs (clause_at c.clauses)) (sym (begun_clauses s t u _ t_is u_is)) live;
   few = few;
   room = omega (arith, ap (λ (x : Watching). x.variables) u_is, ap (λ (x : Watching). x.variables) t_is, most s.variables c.variables);
@@ -175,7 +176,7 @@ underway_moved a s t old new c t_is new_is u =
 
 -- deleting, after which the clauses are the checker's
 pub underway_reload : (a : List Literal) (s t : Watching) (old new : Numbering) (c d : State) (numbers : List ℕ) →
-    d ≡ after_delete c numbers → t.variables ≡ s.variables → IsNumbered t.clauses new.taken →
+    d ≡ after_delete c numbers → t.variables ≡ s.variables → MarksLive t.clauses new.taken →
     AreLive t.clauses (clause_at d.clauses) → decided t.reasons ≡ 0 → length t.reasons ≡ length t.trail →
     IsUnderway a s old c → IsUnderway a t new d
 underway_reload a s t old new c d numbers is variables numbered live level len u = record {

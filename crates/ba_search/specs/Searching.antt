@@ -7,8 +7,8 @@ use Rattle.ba_watch.specs.Propagation.{clause_in}
 use Rattle.ba_learn.specs.Live.{IsSame, IsNew}
 use Rattle.ba_steps.specs.States.{State, clause_at, width_at}
 use Rattle.ba_steps.specs.Judging.{Judge, error_of, after}
-use Rattle.ba_steps.specs.Sinks.{Logs, with_step, MayAddStep}
-use Rattle.ba_steps.specs.Puts.{IsTakenOrAsleep}
+use Rattle.ba_steps.specs.Sinks.{Logs}
+use Rattle.ba_steps.specs.Puts.{LeavesSteps}
 use Rattle.ba_steps.specs.Steps.{IsFormed}
 use Rattle.ba_steps.specs.declared.step.CertStep.{CertStep}
 use Rattle.ba_steps.specs.declared.step.CertStep.TheVariants.{Learn, Delete}
@@ -55,17 +55,7 @@ pub data Searches (good : Judge) (gives : ℕ → ℕ → Bool → Type 0) : Sta
       Searches good gives (after s (Delete numbers)) learnt steps t all →
       Searches good gives s learnt (Delete numbers ∷ steps) t all
 
--- the logs of a sink with these steps more, each in every told log
-abbrev pub with_steps : List CertStep → Logs → Logs
-with_steps [] logs = logs
-with_steps (step ∷ steps) logs = with_steps steps (with_step step logs)
-
--- what is left, also after an error: such steps were put; or one more was tried, which the checker has taken or after which
--- it refuses every step, and which some of the logs may hold
-pub data Leaves (good : Judge) (gives : ℕ → ℕ → Bool → Type 0) (learnt : List ℕ) (old : State) (old_logs : Logs) (new : State) (new_logs : Logs) : Type 0 where
-  leaves_all : (steps : List CertStep) (all : List ℕ) → Searches good gives old learnt steps new all →
-      new_logs ≡ with_steps steps old_logs → Leaves good gives learnt old old_logs new new_logs
-  leaves_last : (steps : List CertStep) (last : CertStep) (before : State) (all more : List ℕ) →
-      Searches good gives old learnt steps before all → Searches good gives before all (last ∷ []) (after before last) more →
-      IsTakenOrAsleep before last new → MayAddStep last (with_steps steps old_logs) new_logs →
-      Leaves good gives learnt old old_logs new new_logs
+-- what such steps leave, also after an error, whatever was learnt
+abbrev pub Leaves : Judge → (ℕ → ℕ → Bool → Type 0) → List ℕ → State → Logs → State → Logs → Type 0
+Leaves good gives learnt old old_logs new new_logs =
+    LeavesSteps (λ steps t. (all : List ℕ) × Searches good gives old learnt steps t all) old_logs new new_logs

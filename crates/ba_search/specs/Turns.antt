@@ -9,11 +9,11 @@ use Rattle.ba_watch.specs.Propagation.{State as Watching, clause_in, AddsClause}
 use Rattle.ba_steps.specs.States.{State, clause_at}
 use Rattle.ba_steps.specs.Judging.{Judge, may_go}
 use Rattle.ba_steps.specs.Sinks.{Logs}
-use Rattle.ba_steps.specs.declared.step.CertStep.{CertStep}
-use Rattle.ba_learn.specs.Live.{AreLive, AreNumbered}
+use Rattle.ba_steps.specs.Puts.{PutsSteps}
+use Rattle.ba_learn.specs.Live.{AreLive, HaveDistinctNumbers}
 use Rattle.std.specs.List.{list_all}
 use Rattle.ba_steps.specs.Steps.{AreNumbers, AreAbove}
-use Rattle.ba_search.specs.Searching.{ArePart, IsGivenUp, Searches, with_steps}
+use Rattle.ba_search.specs.Searching.{ArePart, IsGivenUp, Searches}
 use Rattle.ba_steps.specs.declared.sink.SinkError.{SinkError}
 use Rattle.ba_steps.specs.declared.sink.SinkError.TheVariants as refusals
 use Rattle.ba_search.specs.declared.search.SearchError.{SearchError}
@@ -32,10 +32,10 @@ pub record HasNumber (clauses : List (Option Clause)) (number : ℕ) : Type 0 wh
   pub named : clause.number ≡ number
 
 -- the marked numbers are those of the live clauses, of which no two have the same
-pub record IsNumbered (clauses : List (Option Clause)) (taken : List Bool) : Type 0 where
+pub record MarksLive (clauses : List (Option Clause)) (taken : List Bool) : Type 0 where
   pub each : (number : ℕ) → get_or taken number false ≡ true → HasNumber clauses number
   pub marked : (reference : ℕ) (c : Clause) → clause_in clauses reference ≡ Some c → get_or taken c.number false ≡ true
-  pub alone : AreNumbered clauses
+  pub alone : HaveDistinctNumbers clauses
 
 -- the clauses of reasons of so many literals of the trail are marked by their numbers
 abbrev pub MarksReasons : Watching → ℕ → List Bool → Type 0
@@ -51,7 +51,7 @@ IsNoReason s number =
 
 -- and the live clauses are among those that have their numbers elsewhere
 pub record AreTaken (clauses : List (Option Clause)) (taken : List Bool) (live : ℕ → Option (List Literal)) : Type 0 where
-  pub numbered : IsNumbered clauses taken
+  pub numbered : MarksLive clauses taken
   pub part : ArePart clauses live
 
 -- the live clauses elsewhere with numbers up to one are there
@@ -103,7 +103,7 @@ AreChoices variables assumptions trail reasons =
 
 -- a search between two turns: its clauses are the checker's
 pub record IsUnderway (assumptions : List Literal) (s : Watching) (numbers : Numbering) (c : State) : Type 0 where
-  pub numbered : IsNumbered s.clauses numbers.taken
+  pub numbered : MarksLive s.clauses numbers.taken
   pub live : AreLive s.clauses (clause_at c.clauses)
   pub few : length c.clauses < 2 ^ 62
   pub room : c.variables ≤ s.variables
@@ -112,10 +112,9 @@ pub record IsUnderway (assumptions : List Literal) (s : Watching) (numbers : Num
   pub awake : c.refused ≡ false
 
 -- Learn and Delete steps were put
-pub record Puts (good : Judge) (gives : ℕ → ℕ → Bool → Type 0) (old new : State) (learnt all : List ℕ) (old_logs new_logs : Logs) : Type 0 where
-  pub steps : List CertStep
-  pub searches : Searches good gives old learnt steps new all
-  pub logs : new_logs ≡ with_steps steps old_logs
+abbrev pub Puts : Judge → (ℕ → ℕ → Bool → Type 0) → State → State → List ℕ → List ℕ → Logs → Logs → Type 0
+Puts good gives old new learnt all old_logs new_logs =
+    PutsSteps (λ steps. Searches good gives old learnt steps new all) old_logs new_logs
 
 -- a conflict counts for two turns, one of which a restart may take later; a decision is a turn on the way to the next
 -- conflict

@@ -16,7 +16,7 @@ ghost use Rattle.ba_search.specs.Rules.{IsRestartRule, IsKeepRule};
 ghost use Rattle.ba_search.specs.Answers.{AreAssumptions, IsAnswer};
 ghost use Rattle.ba_search.specs.Choices.{positive, is_true, values_of};
 ghost use Rattle.ba_search.specs.Searching.{Leaves, nothing};
-ghost use Rattle.ba_search.specs.Turns.{AreTaken, AreTrue, AddsOne, HasNumber, IsChoice, IsNumbered, IsUnderway, LearnsOne, Puts, turns_left};
+ghost use Rattle.ba_search.specs.Turns.{AreTaken, AreTrue, AddsOne, HasNumber, IsChoice, MarksLive, IsUnderway, LearnsOne, Puts, turns_left};
 ghost use Rattle.ba_learn.specs.Live.{AreLive};
 ghost use Rattle.ba_search.specs.declared.search.SearchError.{SearchError};
 
@@ -27,7 +27,7 @@ use crate::search::{Answer, SearchError};
 use ba_arena::ClauseRef;
 use ba_items::Items;
 use ba_learn::{Analyser, Learnt};
-use ba_lits::{Lit, Model as Assignment};
+use ba_lits::{Lit, Model as Assignment, is_clause};
 use ba_steps::{CertStep, Checked, Checker, RunJudge, StepSink};
 use ba_watch::Watch;
 use std::alloc::{AllocError, Global};
@@ -115,7 +115,7 @@ impl Engine {
     /// The one error is want of memory or of room.
     pub fn take_new(&mut self, checker: &Checker) -> Result<(), SearchError>
         requires taken { AreTaken self.old.watch.clauses self.old.numbers.taken (clause_at checker.now.clauses) }
-        ensures numbered { OnOk result (IsNumbered self.new.watch.clauses self.new.numbers.taken) }
+        ensures numbered { OnOk result (MarksLive self.new.watch.clauses self.new.numbers.taken) }
         ensures live { OnOk result (AreLive self.new.watch.clauses (clause_at checker.now.clauses)) }
         ensures cause { result ≢ Err SearchError.SinkFailed }
         ensures learnt { self.new.numbers.learnt ≡ self.old.numbers.learnt }
@@ -132,7 +132,7 @@ impl Engine {
     fn take_all(&mut self, checker: &Checker) -> Result<(), AllocError>
         requires level { decided self.old.watch.reasons ≡ 0 }
         requires taken { AreTaken self.old.watch.clauses self.old.numbers.taken (clause_at checker.now.clauses) }
-        ensures numbered { OnOk result (IsNumbered self.new.watch.clauses self.new.numbers.taken) }
+        ensures numbered { OnOk result (MarksLive self.new.watch.clauses self.new.numbers.taken) }
         ensures live { OnOk result (AreLive self.new.watch.clauses (clause_at checker.now.clauses)) }
         ensures level { OnOk result (decided self.new.watch.reasons ≡ 0) }
         ensures variables { self.new.watch.variables ≡ self.old.watch.variables }
@@ -193,7 +193,7 @@ impl Engine {
     ) -> Result<Answer, SearchError>
         requires restart { IsRestartRule (R.pre restart.now) (R.post restart.now) }
         requires keep { IsKeepRule (K.pre keep.now) (K.post keep.now) }
-        requires numbered { IsNumbered self.old.watch.clauses self.old.numbers.taken }
+        requires numbered { MarksLive self.old.watch.clauses self.old.numbers.taken }
         requires live { AreLive self.old.watch.clauses (clause_at checked.old.checker.clauses) }
         requires begun { checked.old.checker.ended ≡ false }
         requires awake { checked.old.checker.refused ≡ false }
@@ -502,7 +502,7 @@ impl Engine {
     ///
     /// The one error is want of memory or of room.
     fn reload(&mut self, checker: &Checker) -> Result<(), AllocError>
-        ensures numbered { OnOk result (IsNumbered self.new.watch.clauses self.new.numbers.taken) }
+        ensures numbered { OnOk result (MarksLive self.new.watch.clauses self.new.numbers.taken) }
         ensures live { OnOk result (AreLive self.new.watch.clauses (clause_at checker.now.clauses)) }
         ensures level { OnOk result (decided self.new.watch.reasons ≡ 0) }
         ensures trail { OnOk result (length self.new.watch.reasons ≡ length self.new.watch.trail) }
@@ -685,19 +685,4 @@ fn is_positive(watch: &Watch, variable: u64) -> bool
 {
     let variables = watch.variables();
     is_true(watch, Lit::positive(variable.min(variables)))
-}
-
-/// Whether literals form a clause over so many variables.
-pub fn is_clause(variables: u64, lits: &[Lit]) -> bool
-    ensures { result ≡ true → IsClause variables lits.now }
-{
-    let mut last = 0;
-    for lit in lits {
-        let variable = lit.variable();
-        if variable <= last || variable > variables {
-            return false;
-        }
-        last = variable;
-    }
-    true
 }

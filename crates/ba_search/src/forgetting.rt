@@ -8,7 +8,7 @@ ghost use Rattle.ba_search.specs.Rules.{IsKeepRule};
 ghost use Rattle.ba_search.specs.Searching.{IsGivenUp};
 ghost use Rattle.ba_search.specs.Turns.{AreGivenUp, IsNoReason, MarksReasons};
 
-use ba_learn::Marks;
+use ba_lits::Marks;
 use ba_steps::{APART_BY, Checker};
 use ba_watch::Watch;
 use std::alloc::{AllocError, Global};

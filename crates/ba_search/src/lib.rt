@@ -14,6 +14,3 @@ mod order;
 mod search;
 
 pub use search::{Answer, Search, SearchError};
-
-#[cfg(test)]
-mod tests;

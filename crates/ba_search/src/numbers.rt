@@ -3,7 +3,7 @@
 ghost use Rattle.std.specs.Prelude.{◌≡◌, ℕ, ◌<◌, ◌^◌, ◌++◌, ◌∷◌, [], false, OnOk, get_or};
 ghost use Rattle.ba_search.specs.Turns.{MarksOne};
 
-use ba_learn::Marks;
+use ba_lits::Marks;
 use std::alloc::{AllocError, Global};
 use std::marker::Model;
 

@@ -1,13 +1,14 @@
 //! The search.
 
 ghost use Rattle.std.specs.Prelude.{◌≡◌, ◌≤◌, ◌⊎◌, None, Some, false, [], List, map, IfOk, IfErr, OnOk, Err};
-ghost use Rattle.ba_learn.specs.Live.{AreLive, AreNumbered};
+ghost use Rattle.ba_learn.specs.Live.{AreLive, HaveDistinctNumbers};
 ghost use Rattle.ba_steps.specs.States.{kept, clause_at};
 ghost use Rattle.ba_steps.specs.Sinks.{Rose};
+ghost use Rattle.ba_steps.specs.Puts.{with_steps};
 ghost use Rattle.ba_steps.specs.declared.store.Origin.TheVariants.{Given};
 ghost use Rattle.ba_steps.specs.declared.step.CertStep.{CertStep};
 ghost use Rattle.ba_search.specs.Rules.{IsRestartRule, IsKeepRule};
-ghost use Rattle.ba_search.specs.Searching.{ArePart, Searches, Leaves, with_steps};
+ghost use Rattle.ba_search.specs.Searching.{ArePart, Searches, Leaves};
 ghost use Rattle.ba_search.specs.Answers.{AreAssumptions, IsAnswer};
 ghost use Rattle.ba_search.specs.Turns.{failure_of};
 
@@ -90,13 +91,13 @@ pub struct Search<R, K> {
 impl<R, K> Model for Search<R, K> {
     ghost use Rattle.std.specs.Prelude.{◌≡◌, None};
     ghost use Rattle.ba_search.specs.Searching.{Searching};
-    ghost use Rattle.ba_search.specs.Turns.{IsNumbered};
+    ghost use Rattle.ba_search.specs.Turns.{MarksLive};
 
     ghost Value = { Searching R K };
 
     ghost view = { λ s. record { variables = s.engine.watch.variables; clauses = s.engine.watch.clauses; learnt = s.engine.numbers.learnt; restart = s.restart; keep = s.keep; failure = s.failure; propagated = s.engine.propagated } };
 
-    ghost invariant = { λ s. s.failure ≡ None → IsNumbered s.engine.watch.clauses s.engine.numbers.taken };
+    ghost invariant = { λ s. s.failure ≡ None → MarksLive s.engine.watch.clauses s.engine.numbers.taken };
 }
 
 impl<R: Fn(u64) -> u64 + Drop, K: Fn(u64, u64) -> bool + Drop> Search<R, K> {
@@ -113,7 +114,7 @@ impl<R: Fn(u64) -> u64 + Drop, K: Fn(u64, u64) -> bool + Drop> Search<R, K> {
         requires keep { IsKeepRule (K.pre keep) (K.post keep) }
         ensures clauses { IfOk result (λ search. AreLive search.clauses (clause_at (map (kept Given) formula.now.clauses))) }
         ensures variables { IfOk result (λ search. search.variables ≡ formula.now.variables) }
-        ensures alone { IfOk result (λ search. AreNumbered search.clauses) }
+        ensures alone { IfOk result (λ search. HaveDistinctNumbers search.clauses) }
         ensures learnt { IfOk result (λ search. search.learnt ≡ []) }
         ensures restart { IfOk result (λ search. search.restart ≡ restart) }
         ensures keep { IfOk result (λ search. search.keep ≡ keep) }
@@ -142,7 +143,7 @@ impl<R: Fn(u64) -> u64 + Drop, K: Fn(u64, u64) -> bool + Drop> Search<R, K> {
     ) -> Result<(), SearchError>
         requires part { self.old.failure ≡ None → ArePart self.old.clauses (clause_at checked.now.checker.clauses) }
         ensures same { OnOk result (AreLive self.new.clauses (clause_at checked.now.checker.clauses)) }
-        ensures alone { OnOk result (AreNumbered self.new.clauses) }
+        ensures alone { OnOk result (HaveDistinctNumbers self.new.clauses) }
         ensures fresh { OnOk result (self.old.failure ≡ None) }
         ensures stays_fresh { OnOk result (self.new.failure ≡ None) }
         ensures restart_stays { self.new.restart ≡ self.old.restart }
@@ -188,7 +189,7 @@ impl<R: Fn(u64) -> u64 + Drop, K: Fn(u64, u64) -> bool + Drop> Search<R, K> {
         requires assumptions { self.old.failure ≡ None → AreAssumptions checked.old.checker.variables assumptions.now }
         ensures answer { IfOk result (λ answer. IsAnswer checked.new.checker assumptions.now answer) }
         ensures same { OnOk result (AreLive self.new.clauses (clause_at checked.new.checker.clauses)) }
-        ensures alone { OnOk result (AreNumbered self.new.clauses) }
+        ensures alone { OnOk result (HaveDistinctNumbers self.new.clauses) }
         ensures steps { OnOk result ((steps : List CertStep)
             × Searches (J.accepts checked.old.judge) (K.post self.old.keep) checked.old.checker self.old.learnt steps checked.new.checker self.new.learnt
             × (S.logs checked.new.sink ≡ with_steps steps (S.logs checked.old.sink))) }

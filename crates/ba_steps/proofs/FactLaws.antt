@@ -1,23 +1,25 @@
 -- The facts hold of every state that allowed steps lead to.
 
-use Rattle.std.proofs.Common.{◌≡◌, ◌≢◌, ℕ, suc, zero, ◌+◌, ◌*◌, ◌-◌, ◌^◌, ◌<◌, ◌≤◌, Bool, true, false, not, ◌&&◌, ◌||◌, cond, ltb, eqb, min, unwrap_or, Option, None, Some, List, [], ◌∷◌, ◌++◌, map, length, get_or, set, All, refl, sym, ap, ◌∙◌, arith, subst, inl, inr, ⊎_elim, ◌⊎◌}
+use Rattle.std.proofs.Common.{◌≡◌, ◌≢◌, ℕ, suc, zero, ◌+◌, ◌*◌, ◌-◌, ◌^◌, ◌<◌, ◌≤◌, Bool, true, false, not, ◌&&◌, ◌||◌, cond, ltb, eqb, min, unwrap_or, Option, None, Some, List, [], ◌∷◌, ◌++◌, map, length, get_or, set, All, refl, sym, ap, ◌∙◌, arith, subst, ⊎_elim, ◌⊎◌}
 use Rattle.std.proofs.Math.Nat.{mul-add}
-use Rattle.std.proofs.lemmas.Bool.{cases_lt}
+use Rattle.std.proofs.lemmas.Bool.{cases_lt, or_parts, or_cases, and_parts, and_from}
 use Rattle.std.proofs.lemmas.Bool.Decides.{nat_tests}
 use Rattle.std.proofs.lemmas.List.{map-append, append_assoc, append-nil}
 use Rattle.std.proofs.lemmas.List.Elements.{All-nil, All-cons, All-append, All-weaker, All-head, All-tail}
+use Rattle.std.proofs.lemmas.Option.{same_Some, cond_some}
 use Rattle.std.specs.List.{slice_get, list_all}
 use Rattle.ba_lits.specs.Literals.{Literal, negate, IsClause, index_of}
-use Rattle.ba_lits.specs.Satisfaction.{Assignment, any_true, all_true, Soft, cost, Agree}
+use Rattle.ba_lits.specs.Satisfaction.{Assignment, any_true, all_true, Soft, cost, Agree, one_if}
 use Rattle.ba_lits.specs.Formulas.{Cnf}
 use Rattle.ba_lits.specs.Hints.{Replay, Refutes, StaysOpen, NamesNone, NamesIdle, replay, has_literal}
 use Rattle.ba_lits.proofs.Satisfied.{ClauseBelow, ClausesBelow, SoftsBelow, any_true-agree, all_true-agree, cost-agree, all_true-append, cost-append, ClauseBelow-more, ClausesBelow-more, ClausesBelow-append}
-use Rattle.ba_lits.proofs.HintLaws.{FollowsByHints-holds, same_literal}
+use Rattle.ba_lits.proofs.HintLaws.{FollowsByHints-holds}
+use Rattle.ba_lits.proofs.Members.{same_literal, negate-negate}
 use Rattle.ba_steps.specs.Splits.{positive, negative, in_order, or_gate, and_gate, some_of, or_clauses, and_clauses, split_clauses, fresh_count, split_softs, late_softs, is_soft, lesser, lightest, lowered}
 use Rattle.ba_steps.specs.States.{Kept, kept, State, kept_at, clause_at, live_lits, is_live_origin, is_learnt_at, is_learnt_entry, is_learnt_origin, width_at, lits_at, without, without_all, present, first_state}
 use Rattle.ba_steps.specs.Steps.{IsFormed, AreFormedLits}
 use Rattle.ba_steps.specs.Judging.{Judge, error_if, lacks_variable, is_spent, lacks_soft, hint_error, error_of_replay, error_of, after, after_learn, after_core, after_delete, may_go, apart_by, delete_error, after_all, next_if, learn_error, core_error}
-use Rattle.ba_steps.specs.Facts.{live, Differs, AreDifferent, AreAmong, IsStart, step_splits, splits_of, IsLive, Holds}
+use Rattle.ba_steps.specs.Facts.{all_lits, Differs, AreDifferent, AreAmong, IsStart, step_splits, splits_of, IsLive, Holds}
 use Rattle.ba_steps.specs.declared.store.Origin.{Origin}
 use Rattle.ba_steps.specs.declared.store.Origin.TheVariants as origins
 use Rattle.ba_steps.specs.declared.step.CertStep.{CertStep}
@@ -25,8 +27,8 @@ use Rattle.ba_steps.specs.declared.step.CertStep.TheVariants.{Learn, Core, Delet
 use Rattle.ba_steps.specs.declared.step.StepError.{StepError}
 use Rattle.ba_steps.specs.declared.step.StepError.TheVariants.{DeadClause, AfterEnd, NotNew, TooSoon, NotSofts, CoreAfterSet, WrongCount, BadVariable, Memory}
 use Rattle.ba_steps.specs.Parts.{holds_clause}
-use Rattle.ba_steps.proofs.SplitMeaning.{OrsHave, AndsHave, split_holds, split_has, extended, extended-old, extended-ors, extended-ands, OrsHave-each, AndsHave-each, ors_alone, ands_alone, pairs, one_if, count_pairs, late_cost, and_parts, and_both}
-use Rattle.ba_steps.proofs.LoweredLaws.{negate_twice, IsClause-rest, lowered_cost, hits, hits_count, AreAtLeast, lightest_at_least}
+use Rattle.ba_steps.proofs.SplitMeaning.{OrsHave, AndsHave, split_holds, split_has, extended, extended-old, extended-ors, extended-ands, OrsHave-each, AndsHave-each, ors_alone, ands_alone, pairs, count_pairs, late_cost}
+use Rattle.ba_steps.proofs.LoweredLaws.{IsClause-rest, lowered_cost, hits, hits_count, AreAtLeast, lightest_at_least}
 
 -- the clause has an entry, which no deletion may name
 abbrev pub Stays : List Kept → List Literal → Type 0
@@ -38,7 +40,7 @@ pub record KeepsFacts (formula : Cnf) (softs : List Soft) (splits : List (List L
   pub facts : Holds formula softs splits s
   pub wide : formula.variables ≤ s.variables
   pub splits_below : ClausesBelow (s.variables + 1) splits
-  pub live_below : ClausesBelow (s.variables + 1) (live s.clauses)
+  pub live_below : ClausesBelow (s.variables + 1) (all_lits s.clauses)
   pub given_stay : (place : ℕ) → place < length formula.clauses → kept_at s.clauses (place + 1) ≡ Some (kept origins.Given (get_or formula.clauses place []))
   pub splits_stay : All (Stays s.clauses) splits
 
@@ -47,23 +49,23 @@ pub no_error : (test : Bool) (e : StepError) (rest : Option StepError) → error
 no_error true e rest none = absurd (cc)
 no_error false e rest none = (refl, none)
 
--- the clause of a number holds where all do
-live_is : (lives : Bool) (lits c : List Literal) → cond lives (Some lits) None ≡ Some c → lits ≡ c
-live_is true lits c is = cc
-live_is false lits c is = absurd (cc)
-
-holds_at : (v : Assignment) (clauses : List Kept) (k : ℕ) (c : List Literal) → all_true v (live clauses) ≡ true → live_lits (slice_get clauses k) ≡ Some c → any_true v c ≡ true
+holds_at : (v : Assignment) (clauses : List Kept) (k : ℕ) (c : List Literal) →
+    all_true v (all_lits clauses) ≡ true → live_lits (slice_get clauses k) ≡ Some c → any_true v c ≡ true
 holds_at v [] k c holds is = absurd (cc)
 holds_at v (x ∷ xs) zero c holds is =
-    ap (any_true v) (sym (live_is (is_live_origin x.origin) x.lits c is)) ∙ (and_parts (any_true v x.lits) (all_true v (live xs)) holds).0
-holds_at v (x ∷ xs) (suc k) c holds is = holds_at v xs k c ((and_parts (any_true v x.lits) (all_true v (live xs)) holds).1) is
+    ap (any_true v) (sym ((cond_some (is_live_origin x.origin) x.lits c is).1))
+    ∙ (and_parts (any_true v x.lits) (all_true v (all_lits xs)) holds).0
+holds_at v (x ∷ xs) (suc k) c holds is =
+    holds_at v xs k c ((and_parts (any_true v x.lits) (all_true v (all_lits xs)) holds).1) is
 
-holds_number : (v : Assignment) (clauses : List Kept) (number : ℕ) (c : List Literal) → all_true v (live clauses) ≡ true → clause_at clauses number ≡ Some c → any_true v c ≡ true
+holds_number : (v : Assignment) (clauses : List Kept) (number : ℕ) (c : List Literal) →
+    all_true v (all_lits clauses) ≡ true → clause_at clauses number ≡ Some c → any_true v c ≡ true
 holds_number v clauses zero c holds is = absurd (cc)
 holds_number v clauses (suc k) c holds is = holds_at v clauses k c holds is
 
 -- a clause without an error in its hints holds where the live ones do
-pub follows_true : (s : State) (v : Assignment) (lits : List Literal) (hints : List ℕ) → hint_error s lits hints ≡ None → all_true v (live s.clauses) ≡ true → any_true v lits ≡ true
+pub follows_true : (s : State) (v : Assignment) (lits : List Literal) (hints : List ℕ) →
+    hint_error s lits hints ≡ None → all_true v (all_lits s.clauses) ≡ true → any_true v lits ≡ true
 follows_true s v lits hints none holds =
     FollowsByHints-holds (clause_at s.clauses) v (λ n c is. holds_number v s.clauses n c holds is) lits hints (refutes (replay (clause_at s.clauses) lits hints) none)
   where
@@ -77,13 +79,9 @@ follows_true s v lits hints none holds =
 exist_below : (s : State) (lits : List Literal) → lacks_variable s lits ≡ false → ClauseBelow (s.variables + 1) lits
 exist_below s [] known = tt
 exist_below s (l ∷ ls) known =
-    let parts = or_none (ltb s.variables l.variable) (lacks_variable s ls) known in
+    let parts = or_parts (ltb s.variables l.variable) (lacks_variable s ls) known in
     (below s.variables l.variable parts.0, exist_below s ls parts.1)
   where
-    or_none : (a b : Bool) → (a || b) ≡ false → (a ≡ false) × (b ≡ false)
-    or_none true b e = absurd (cc)
-    or_none false b e = (refl, e)
-
     below : (n x : ℕ) → ltb n x ≡ false → x < n + 1
     below n x e = grind (arith, nat_tests)
 
@@ -117,23 +115,30 @@ added_stay front (c ∷ cs) =
     (let P : List Kept → Type 0 = λ all. All (Stays all) cs in subst P (append_assoc front (kept origins.Split c ∷ []) (map (kept origins.Split) cs)) (added_stay (front ++ kept origins.Split c ∷ []) cs))
 
 -- the literals of added clauses
-pub live-append : (xs ys : List Kept) → live (xs ++ ys) ≡ live xs ++ live ys
-live-append xs ys = map-append (λ (k : Kept). k.lits) xs ys
+pub all_lits-append : (xs ys : List Kept) → all_lits (xs ++ ys) ≡ all_lits xs ++ all_lits ys
+all_lits-append xs ys = map-append (λ (k : Kept). k.lits) xs ys
 
-pub live-kept : (origin : Origin) (cs : List (List Literal)) → live (map (kept origin) cs) ≡ cs
-live-kept origin [] = refl
-live-kept origin (c ∷ cs) = ap (λ ds. c ∷ ds) (live-kept origin cs)
+pub all_lits-kept : (origin : Origin) (cs : List (List Literal)) → all_lits (map (kept origin) cs) ≡ cs
+all_lits-kept origin [] = refl
+all_lits-kept origin (c ∷ cs) = ap (λ ds. c ∷ ds) (all_lits-kept origin cs)
 
 pub all_true-push : (v : Assignment) (cs : List (List Literal)) (c : List Literal) → all_true v cs ≡ true → any_true v c ≡ true → all_true v (cs ++ c ∷ []) ≡ true
-all_true-push v cs c all one = all_true-append v cs (c ∷ []) ∙ and_both (all_true v cs) (any_true v c && true) all (and_both (any_true v c) true one refl)
+all_true-push v cs c all one = all_true-append v cs (c ∷ [])
+    ∙ and_from (all_true v cs) (any_true v c && true) all (and_from (any_true v c) true one refl)
 
 -- A LEARN STEP keeps the facts
 pub learn_keeps : (formula : Cnf) (softs : List Soft) (splits : List (List Literal)) (s : State) (lits : List Literal) (hints : List ℕ) →
     KeepsFacts formula softs splits s → lacks_variable s lits ≡ false → hint_error s lits hints ≡ None → KeepsFacts formula softs splits (after_learn s lits)
 learn_keeps formula softs splits s lits hints h exists follows = record {
   facts = record {
-    extends = λ v good. let (z, same, split, lives, costs) = h.facts.extends v good in
-        (z, same, split, ap (all_true z) lives_is ∙ all_true-push z (live s.clauses) lits lives (follows_true s z lits hints follows lives), costs);
+    extends = λ v good. let (z, same, split, lives, costs) = h.facts.extends v good in (
+      z,
+      same,
+      split,
+      ap (all_true z) lives_is
+          ∙ all_true-push z (all_lits s.clauses) lits lives (follows_true s z lits hints follows lives),
+      costs,
+    );
     alone = h.facts.alone;
     differ = h.facts.differ;
     among = h.facts.among;
@@ -144,7 +149,8 @@ learn_keeps formula softs splits s lits hints h exists follows = record {
   wide = h.wide;
   splits_below = h.splits_below;
   live_below = let P : List (List Literal) → Type 0 = λ cs. ClausesBelow (s.variables + 1) cs in
-      subst P (sym lives_is) (ClausesBelow-append (s.variables + 1) (live s.clauses) (lits ∷ []) h.live_below (exist_below s lits exists, tt));
+      subst P (sym lives_is) (ClausesBelow-append (s.variables + 1) (all_lits s.clauses)
+      (lits ∷ []) h.live_below (exist_below s lits exists, tt));
   given_stay = given_stay;
   splits_stay = splits_stay;
 }
@@ -155,8 +161,8 @@ learn_keeps formula softs splits s lits hints h exists follows = record {
     splits_stay : All (Stays (s.clauses ++ kept origins.Learnt lits ∷ [])) splits
     splits_stay = splits_stay-more s.clauses (kept origins.Learnt lits ∷ []) splits h.splits_stay
 
-    lives_is : live (s.clauses ++ kept origins.Learnt lits ∷ []) ≡ live s.clauses ++ lits ∷ []
-    lives_is = live-append s.clauses (kept origins.Learnt lits ∷ [])
+    lives_is : all_lits (s.clauses ++ kept origins.Learnt lits ∷ []) ≡ all_lits s.clauses ++ lits ∷ []
+    lives_is = all_lits-append s.clauses (kept origins.Learnt lits ∷ [])
 
 -- AN END keeps them
 pub end_keeps : (formula : Cnf) (softs : List Soft) (splits : List (List Literal)) (s : State) → KeepsFacts formula softs splits s → KeepsFacts formula softs splits (record s { ended = true })
@@ -178,15 +184,17 @@ end_keeps formula softs splits s h = record {
 }
 
 -- A DELETE STEP keeps them: it names learnt clauses alone, and changes no literals
-live-without : (clauses : List Kept) (number : ℕ) → live (without clauses number) ≡ live clauses
-live-without clauses zero = refl
-live-without [] (suc k) = refl
-live-without (x ∷ xs) (suc zero) = refl
-live-without (x ∷ xs) (suc (suc k)) = ap (λ cs. x.lits ∷ cs) (live-without xs (suc k))
+all_lits-without : (clauses : List Kept) (number : ℕ) → all_lits (without clauses number) ≡ all_lits clauses
+all_lits-without clauses zero = refl
+all_lits-without [] (suc k) = refl
+all_lits-without (x ∷ xs) (suc zero) = refl
+all_lits-without (x ∷ xs) (suc (suc k)) = ap (λ cs. x.lits ∷ cs) (all_lits-without xs (suc k))
 
-pub live-without_all : (clauses : List Kept) (numbers : List ℕ) → live (without_all clauses numbers) ≡ live clauses
-live-without_all clauses [] = refl
-live-without_all clauses (number ∷ numbers) = live-without_all (without clauses number) numbers ∙ live-without clauses number
+pub all_lits-without_all : (clauses : List Kept) (numbers : List ℕ) →
+    all_lits (without_all clauses numbers) ≡ all_lits clauses
+all_lits-without_all clauses [] = refl
+all_lits-without_all clauses (number ∷ numbers) = all_lits-without_all (without clauses number) numbers
+    ∙ all_lits-without clauses number
 
 slice_get-other : (clauses : List Kept) (j k : ℕ) (x : Kept) → j ≢ k → slice_get (set clauses j x) k ≡ slice_get clauses k
 slice_get-other [] j k x ne = refl
@@ -214,7 +222,7 @@ pub delete_keeps : (formula : Cnf) (softs : List Soft) (splits : List (List Lite
 delete_keeps formula softs splits s numbers h go = record {
   facts = record {
     extends = λ v good. let (z, same, split, lives, costs) = h.facts.extends v good in
-        (z, same, split, ap (all_true z) (live-without_all s.clauses numbers) ∙ lives, costs);
+        (z, same, split, ap (all_true z) (all_lits-without_all s.clauses numbers) ∙ lives, costs);
     alone = h.facts.alone;
     differ = h.facts.differ;
     among = h.facts.among;
@@ -225,7 +233,7 @@ delete_keeps formula softs splits s numbers h go = record {
   wide = h.wide;
   splits_below = h.splits_below;
   live_below = let P : List (List Literal) → Type 0 = λ cs. ClausesBelow (s.variables + 1) cs in
-      subst P (sym (live-without_all s.clauses numbers)) h.live_below;
+      subst P (sym (all_lits-without_all s.clauses numbers)) h.live_below;
   given_stay = given_stay;
   splits_stay = splits_stay;
 }
@@ -356,9 +364,6 @@ among-below variables (s ∷ ss) all =
 light_step : (core : List Literal) (s : Soft) (ss : List Soft) (m : Bool) → has_literal (negate s.0) core ≡ m → lightest core (s ∷ ss) ≡ cond m (Some (lesser s.1 (lightest core ss))) (lightest core ss)
 light_step core s ss m is = ap (λ t. cond t (Some (lesser s.1 (lightest core ss))) (lightest core ss)) is
 
-some_value : (x y : ℕ) → ◌≡◌ {A = Option ℕ} (Some x) (Some y) → x ≡ y
-some_value x y e = cc
-
 lightest_some : (core : List Literal) (softs : List Soft) (w : ℕ) → All (λ (soft : Soft). 1 ≤ soft.1) softs → lightest core softs ≡ Some w → 1 ≤ w
 lightest_some core [] w weighty is = absurd (cc)
 lightest_some core (s ∷ ss) w weighty is =
@@ -369,9 +374,11 @@ lightest_some core (s ∷ ss) w weighty is =
 
     cases : (m : Bool) → has_literal (negate s.0) core ≡ m → (o : Option ℕ) → lightest core ss ≡ o → ((u : ℕ) → lightest core ss ≡ Some u → 1 ≤ u) → 1 ≤ w
     cases true m None o next =
-        let e = some_value s.1 w (sym (light_step core s ss true m ∙ ap (λ l. Some (lesser s.1 l)) o) ∙ is) in omega (arith, e, first)
+        let e = same_Some s.1 w (sym (light_step core s ss true m ∙ ap (λ l. Some (lesser s.1 l)) o)
+        ∙ is) in omega (arith, e, first)
     cases true m (Some u) o next =
-        let e = some_value (min s.1 u) w (sym (light_step core s ss true m ∙ ap (λ l. Some (lesser s.1 l)) o) ∙ is) in
+        let e = same_Some (min s.1 u) w
+        (sym (light_step core s ss true m ∙ ap (λ l. Some (lesser s.1 l)) o) ∙ is) in
         let more = next u o in
         omega (arith, e, first, more)
     cases false m o e next = next w (sym (light_step core s ss false m) ∙ is)
@@ -380,17 +387,14 @@ lightest_there : (core : List Literal) (softs : List Soft) (b : Literal) → has
 lightest_there core [] b known is none = cc
 lightest_there core (s ∷ ss) b known is none = cases (has_literal (negate s.0) core) refl (λ later e. lightest_there core ss b known later e)
   where
-    or_cases : (x y : Bool) → (x || y) ≡ true → (x ≡ true) ⊎ (y ≡ true)
-    or_cases true y e = inl refl
-    or_cases false y e = inr e
-
     cases : (m : Bool) → has_literal (negate s.0) core ≡ m → (is_soft ss (negate b) ≡ true → lightest core ss ≡ None → ⊥) → ⊥
     cases true m next = let e = sym (light_step core s ss true m) ∙ none in cc
     cases false m next =
         ⊎_elim
         (λ here.
         let same = same_literal s.0 (negate b) here in
-        let back : has_literal (negate s.0) core ≡ true = ap (λ l. has_literal (negate l) core) same ∙ (ap (λ l. has_literal l core) (negate_twice b) ∙ known) in
+        let back : has_literal (negate s.0) core ≡ true = ap (λ l. has_literal (negate l) core) same
+        ∙ (ap (λ l. has_literal l core) (negate-negate b) ∙ known) in
         (cc))
         (λ later. next later (sym (light_step core s ss false m) ∙ none))
         (or_cases (eqb (index_of s.0) (index_of (negate b))) (is_soft ss (negate b)) is)
@@ -466,7 +470,14 @@ core_keeps formula softs splits s b rest hints h clause exists known follows = r
   wide = omega (arith, h.wide);
   splits_below = ClausesBelow-append (s.variables + fresh_count (length (b ∷ rest)) + 1) splits (split_clauses (s.variables + 1) (b ∷ rest)) (ClausesBelow-more (s.variables + 1) (s.variables + fresh_count (length (b ∷ rest)) + 1) splits (omega arith) h.splits_below) new_below;
   live_below = let P : List (List Literal) → Type 0 = λ cs. ClausesBelow (s.variables + fresh_count (length (b ∷ rest)) + 1) cs in
-      subst P (sym lives_is) (ClausesBelow-append (s.variables + fresh_count (length (b ∷ rest)) + 1) (live s.clauses) ((b ∷ rest) ∷ (split_clauses (s.variables + 1) (b ∷ rest))) (ClausesBelow-more (s.variables + 1) (s.variables + fresh_count (length (b ∷ rest)) + 1) (live s.clauses) (omega arith) h.live_below) (ClauseBelow-more (s.variables + 1) (s.variables + fresh_count (length (b ∷ rest)) + 1) (b ∷ rest) (omega arith) below, new_below));
+      subst P (sym lives_is) (ClausesBelow-append (s.variables + fresh_count (length (b ∷ rest)) + 1)
+      (all_lits s.clauses) ((b ∷ rest) ∷ (split_clauses (s.variables + 1) (b ∷ rest)))
+      (ClausesBelow-more (s.variables + 1) (s.variables + fresh_count (length (b ∷ rest)) + 1)
+      (all_lits s.clauses) (omega arith) h.live_below) (
+        ClauseBelow-more (s.variables + 1) (s.variables + fresh_count (length (b ∷ rest)) + 1)
+            (b ∷ rest) (omega arith) below,
+        new_below,
+      ));
   given_stay = given_stay;
   splits_stay = splits_stay;
 }
@@ -483,8 +494,13 @@ core_keeps formula softs splits s b rest hints h clause exists known follows = r
     new_below : ClausesBelow (s.variables + fresh_count (length (b ∷ rest)) + 1) (split_clauses (s.variables + 1) (b ∷ rest))
     new_below = split_clauses-below (s.variables + 1) (s.variables + fresh_count (length (b ∷ rest)) + 1) b rest below (omega arith)
 
-    lives_is : live (s.clauses ++ (kept origins.Core (b ∷ rest) ∷ map (kept origins.Split) (split_clauses (s.variables + 1) (b ∷ rest)))) ≡ live s.clauses ++ (b ∷ rest) ∷ (split_clauses (s.variables + 1) (b ∷ rest))
-    lives_is = live-append s.clauses (kept origins.Core (b ∷ rest) ∷ map (kept origins.Split) (split_clauses (s.variables + 1) (b ∷ rest))) ∙ ap (λ cs. live s.clauses ++ (b ∷ rest) ∷ cs) (live-kept origins.Split (split_clauses (s.variables + 1) (b ∷ rest)))
+    lives_is : all_lits (s.clauses ++ (kept origins.Core (b ∷ rest) ∷ map (kept origins.Split)
+        (split_clauses (s.variables + 1) (b ∷ rest)))) ≡ all_lits s.clauses ++ (b ∷ rest) ∷
+        (split_clauses (s.variables + 1) (b ∷ rest))
+    lives_is = all_lits-append s.clauses
+        (kept origins.Core (b ∷ rest) ∷ map (kept origins.Split) (split_clauses (s.variables + 1) (b ∷ rest)))
+        ∙ ap (λ cs. all_lits s.clauses ++ (b ∷ rest) ∷ cs)
+        (all_lits-kept origins.Split (split_clauses (s.variables + 1) (b ∷ rest)))
 
     new_stay : All (Stays (s.clauses ++ (kept origins.Core (b ∷ rest) ∷ map (kept origins.Split) (split_clauses (s.variables + 1) (b ∷ rest))))) (split_clauses (s.variables + 1) (b ∷ rest))
     new_stay = let P : List Kept → Type 0 = λ cs. All (Stays cs) (split_clauses (s.variables + 1) (b ∷ rest)) in
@@ -503,8 +519,18 @@ core_keeps formula softs splits s b rest hints h clause exists known follows = r
         soft_there true y e = refl
         soft_there false y e = absurd (cc)
 
-    extends : (v z : Assignment) → Agree (formula.variables + 1) v z → all_true z splits ≡ true → all_true z (live s.clauses) ≡ true → cost v (present softs) ≡ s.bound + cost z s.softs →
-        (y : Assignment) × Agree (formula.variables + 1) v y × (all_true y (splits ++ (split_clauses (s.variables + 1) (b ∷ rest))) ≡ true) × (all_true y (live (s.clauses ++ (kept origins.Core (b ∷ rest) ∷ map (kept origins.Split) (split_clauses (s.variables + 1) (b ∷ rest))))) ≡ true) × (cost v (present softs) ≡ s.bound + (unwrap_or (lightest (b ∷ rest) s.softs) 0) + cost y (lowered (b ∷ rest) (unwrap_or (lightest (b ∷ rest) s.softs) 0) s.softs ++ split_softs (unwrap_or (lightest (b ∷ rest) s.softs) 0) (s.variables + 1) (b ∷ rest)))
+    extends : (v z : Assignment) → Agree (formula.variables + 1) v z → all_true z splits ≡ true →
+        all_true z (all_lits s.clauses) ≡ true → cost v (present softs) ≡ s.bound + cost z s.softs →
+        (y : Assignment) × Agree
+        (formula.variables + 1) v y × (all_true y
+        (splits ++ (split_clauses (s.variables + 1) (b ∷ rest))) ≡ true) × (all_true y
+        (all_lits (s.clauses ++ (kept origins.Core (b ∷ rest) ∷ map (kept origins.Split)
+        (split_clauses (s.variables + 1) (b ∷ rest))))) ≡ true) × (cost v
+        (present softs) ≡ s.bound + (unwrap_or (lightest (b ∷ rest) s.softs) 0) + cost y
+        (lowered (b ∷ rest) (unwrap_or
+        (lightest (b ∷ rest) s.softs) 0) s.softs ++ split_softs
+        (unwrap_or (lightest (b ∷ rest) s.softs) 0) (s.variables + 1)
+        (b ∷ rest)))
     extends v z same split lives costs =
         let e = (s.variables + 1) + (length rest - 1) in
         let y : Assignment = extended z (s.variables + 1) e rest (b ∷ rest) in
@@ -515,8 +541,19 @@ core_keeps formula softs splits s b rest hints h clause exists known follows = r
         let core_true : any_true y (b ∷ rest) ≡ true = sym (any_true-agree (s.variables + 1) z y (b ∷ rest) agree below) ∙ true_ in (
           y,
           λ u lt. same u lt ∙ agree u (omega (arith, h.wide, lt)),
-          all_true-append y splits (split_clauses (s.variables + 1) (b ∷ rest)) ∙ and_both (all_true y splits) (all_true y (split_clauses (s.variables + 1) (b ∷ rest))) (sym (all_true-agree (s.variables + 1) z y splits agree h.splits_below) ∙ split) news,
-          ap (all_true y) lives_is ∙ (all_true-append y (live s.clauses) ((b ∷ rest) ∷ (split_clauses (s.variables + 1) (b ∷ rest))) ∙ and_both (all_true y (live s.clauses)) (any_true y (b ∷ rest) && all_true y (split_clauses (s.variables + 1) (b ∷ rest))) (sym (all_true-agree (s.variables + 1) z y (live s.clauses) agree h.live_below) ∙ lives) (and_both (any_true y (b ∷ rest)) (all_true y (split_clauses (s.variables + 1) (b ∷ rest))) core_true news)),
+          all_true-append y splits (split_clauses (s.variables + 1) (b ∷ rest))
+              ∙ and_from (all_true y splits) (all_true y (split_clauses (s.variables + 1) (b ∷ rest)))
+              (sym (all_true-agree (s.variables + 1) z y splits agree h.splits_below) ∙ split) news,
+          ap (all_true y) lives_is
+              ∙ (all_true-append y (all_lits s.clauses)
+              ((b ∷ rest) ∷ (split_clauses (s.variables + 1) (b ∷ rest)))
+              ∙ and_from (all_true y (all_lits s.clauses))
+              (any_true y (b ∷ rest) && all_true y (split_clauses (s.variables + 1) (b ∷ rest)))
+              (sym (all_true-agree (s.variables + 1) z y
+              (all_lits s.clauses) agree h.live_below) ∙ lives)
+              (and_from (any_true y (b ∷ rest))
+              (all_true y (split_clauses (s.variables + 1)
+              (b ∷ rest))) core_true news)),
           costs ∙ split_cost (s.variables + 1) z y b rest s.softs s.bound (unwrap_or (lightest (b ∷ rest) s.softs) 0) agree softs_below clause known h.facts.differ refl true_ means.1,
         )
 
@@ -608,7 +645,14 @@ given_numbered cs place lt = let e : place + 1 ≡ suc place = omega arith in rw
 first_keeps : (formula : Cnf) (softs : List Soft) (conflicts sets : ℕ) → IsStart formula softs → KeepsFacts formula softs [] (first_state formula softs conflicts sets)
 first_keeps formula softs conflicts sets start = record {
   facts = record {
-    extends = λ v good. (v, λ u lt. refl, refl, ap (all_true v) (live-kept origins.Given formula.clauses) ∙ good, from_zero (cost v (present softs)));
+    extends = λ v good. (
+      v,
+      λ u lt. refl,
+      refl,
+      ap (all_true v) (all_lits-kept origins.Given formula.clauses)
+          ∙ good,
+      from_zero (cost v (present softs)),
+    );
     alone = λ y z same first second. same;
     differ = start.softs_differ;
     among = start.softs_among;
@@ -618,7 +662,10 @@ first_keeps formula softs conflicts sets start = record {
   };
   wide = omega arith;
   splits_below = tt;
-  live_below = let P : List (List Literal) → Type 0 = λ cs. ClausesBelow (formula.variables + 1) cs in subst P (sym (live-kept origins.Given formula.clauses)) (clauses_below formula.variables formula.clauses start.clauses);
+  live_below = let P : List (List Literal) → Type 0 =
+      λ cs. ClausesBelow (formula.variables + 1) cs in subst P
+      (sym (all_lits-kept origins.Given formula.clauses))
+      (clauses_below formula.variables formula.clauses start.clauses);
   given_stay = λ place lt. given_numbered formula.clauses place lt;
   splits_stay = All-nil (Stays (map (kept origins.Given) formula.clauses));
 }

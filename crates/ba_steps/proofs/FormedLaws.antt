@@ -1,6 +1,7 @@
 -- The clauses of a split are clauses, and what holds of a state where steps are taken.
 
-use Rattle.std.proofs.Common.{◌≡◌, ◌≢◌, ℕ, suc, zero, ◌+◌, ◌-◌, ◌<◌, ◌≤◌, Bool, true, false, cond, ltb, None, Some, List, [], ◌∷◌, ◌++◌, map, length, All, refl, sym, arith, subst}
+use Rattle.std.proofs.Common.{◌≡◌, ◌≢◌, ℕ, suc, zero, ◌+◌, ◌-◌, ◌<◌, ◌≤◌, Bool, true, false, cond, ltb, Some, List, [], ◌∷◌, ◌++◌, map, length, All, refl, sym, arith, subst}
+use Rattle.std.proofs.lemmas.Option.{cond_some}
 use Rattle.std.proofs.lemmas.Bool.Decides.{nat_tests}
 use Rattle.std.proofs.lemmas.List.Elements.{All-nil, All-cons, All-append, All-weaker, All-map, All-head, All-tail}
 use Rattle.std.specs.List.{slice_get}
@@ -159,14 +160,11 @@ pub without_all_formed : (n : ℕ) (clauses : List Kept) (numbers : List ℕ) �
 without_all_formed n clauses [] all = all
 without_all_formed n clauses (number ∷ numbers) all = without_all_formed n (without clauses number) numbers (without_formed n clauses number all)
 
--- the clause of a number is one
-live_is : (lives : Bool) (lits c : List Literal) → cond lives (Some lits) None ≡ Some c → lits ≡ c
-live_is true lits c is = cc
-live_is false lits c is = absurd (cc)
-
 clause_in : (n : ℕ) (clauses : List Kept) (k : ℕ) (c : List Literal) → AreFormed n clauses → live_lits (slice_get clauses k) ≡ Some c → IsClause n c
 clause_in n [] k c all is = absurd (cc)
-clause_in n (x ∷ xs) zero c all is = subst (IsClause n) (live_is (is_live_origin x.origin) x.lits c is) (All-head (λ (y : Kept). IsClause n y.lits) x xs all)
+clause_in n (x ∷ xs) zero c all is =
+    subst (IsClause n) ((cond_some (is_live_origin x.origin) x.lits c is).1)
+    (All-head (λ (y : Kept). IsClause n y.lits) x xs all)
 clause_in n (x ∷ xs) (suc k) c all is = clause_in n xs k c (All-tail (λ (y : Kept). IsClause n y.lits) x xs all) is
 
 pub clause_formed : (n : ℕ) (clauses : List Kept) (number : ℕ) (c : List Literal) → AreFormed n clauses → clause_at clauses number ≡ Some c → IsClause n c

@@ -1,6 +1,7 @@
 -- The learnt clauses, also the deleted ones, hold wherever the lasting ones do.
 
 use Rattle.std.proofs.Common.{◌≡◌, ℕ, suc, zero, Bool, true, false, ◌&&◌, cond, ltb, Option, None, Some, List, [], ◌∷◌, ◌++◌, map, filter, refl, sym, ap, ◌∙◌}
+use Rattle.std.proofs.lemmas.Bool.{and_parts, and_from}
 use Rattle.std.proofs.lemmas.List.{append-nil}
 use Rattle.std.proofs.lemmas.List.Elements.{filter-append}
 use Rattle.std.specs.List.{list_all}
@@ -9,50 +10,62 @@ use Rattle.ba_lits.specs.Satisfaction.{Assignment, any_true, all_true}
 use Rattle.ba_lits.proofs.Satisfied.{all_true-append}
 use Rattle.ba_steps.specs.States.{Kept, kept, State, kept_at, is_learnt_at, is_learnt_entry, is_learnt_origin, is_lasting, is_lasting_origin, width_at, without, without_all}
 use Rattle.ba_steps.specs.Judging.{error_if, lacks_variable, is_spent, hint_error, learn_error}
-use Rattle.ba_steps.specs.Facts.{live, lasting}
+use Rattle.ba_steps.specs.Facts.{all_lits, lasting}
 use Rattle.ba_steps.specs.Parts.{holds_clause}
 use Rattle.ba_steps.specs.declared.store.Origin.{Origin}
 use Rattle.ba_steps.specs.declared.store.Origin.TheVariants as origins
 use Rattle.ba_steps.specs.declared.step.StepError.TheVariants.{NotNew, WrongCount, BadVariable}
-use Rattle.ba_steps.proofs.SplitMeaning.{and_parts, and_both}
-use Rattle.ba_steps.proofs.FactLaws.{no_error, follows_true, live-append, live-kept, live-without_all, all_true-push}
+use Rattle.ba_steps.proofs.FactLaws.{no_error, follows_true, all_lits-append, all_lits-kept, all_lits-without_all, all_true-push}
 
 abbrev pub AreImplied : List Kept → Type 0
-AreImplied clauses = (v : Assignment) → all_true v (lasting clauses) ≡ true → all_true v (live clauses) ≡ true
+AreImplied clauses = (v : Assignment) → all_true v (lasting clauses) ≡ true →
+    all_true v (all_lits clauses) ≡ true
 
 lasting-append : (xs ys : List Kept) → lasting (xs ++ ys) ≡ lasting xs ++ lasting ys
-lasting-append xs ys = ap live (filter-append is_lasting xs ys) ∙ live-append (filter is_lasting xs) (filter is_lasting ys)
+lasting-append xs ys = ap all_lits (filter-append is_lasting xs ys)
+    ∙ all_lits-append (filter is_lasting xs) (filter is_lasting ys)
 
 -- clauses of one lasting origin
 lasting_kept : (origin : Origin) (cs : List (List Literal)) → is_lasting_origin origin ≡ true → lasting (map (kept origin) cs) ≡ cs
 lasting_kept origin [] lasts = refl
 lasting_kept origin (c ∷ cs) lasts = one (is_lasting_origin origin) lasts (lasting_kept origin cs lasts)
   where
-    one : (b : Bool) → b ≡ true → lasting (map (kept origin) cs) ≡ cs → live (cond b (kept origin c ∷ filter is_lasting (map (kept origin) cs)) (filter is_lasting (map (kept origin) cs))) ≡ c ∷ cs
+    one : (b : Bool) → b ≡ true → lasting (map (kept origin) cs) ≡ cs →
+        all_lits (cond b (kept origin c ∷ filter is_lasting (map (kept origin) cs))
+        (filter is_lasting (map (kept origin) cs))) ≡ c ∷ cs
     one true e rest = ap (λ ds. c ∷ ds) rest
     one false e rest = absurd (cc)
 
 pub given_implied : (cs : List (List Literal)) → AreImplied (map (kept origins.Given) cs)
-given_implied cs v holds = ap (all_true v) (live-kept origins.Given cs) ∙ sym (ap (all_true v) (lasting_kept origins.Given cs refl)) ∙ holds
+given_implied cs v holds = ap (all_true v) (all_lits-kept origins.Given cs)
+    ∙ sym (ap (all_true v) (lasting_kept origins.Given cs refl)) ∙ holds
 
 -- lasting clauses are added
-more_implied : (xs ys : List Kept) → lasting ys ≡ live ys → AreImplied xs → AreImplied (xs ++ ys)
+more_implied : (xs ys : List Kept) → lasting ys ≡ all_lits ys → AreImplied xs → AreImplied (xs ++ ys)
 more_implied xs ys same h v holds =
     let parts = and_parts (all_true v (lasting xs)) (all_true v (lasting ys)) (sym (all_true-append v (lasting xs) (lasting ys)) ∙ sym (ap (all_true v) (lasting-append xs ys)) ∙ holds) in
-    ap (all_true v) (live-append xs ys) ∙ all_true-append v (live xs) (live ys) ∙ and_both (all_true v (live xs)) (all_true v (live ys)) (h v parts.0) (sym (ap (all_true v) same) ∙ parts.1)
+    ap (all_true v) (all_lits-append xs ys) ∙ all_true-append v (all_lits xs) (all_lits ys)
+    ∙ and_from (all_true v (all_lits xs)) (all_true v (all_lits ys)) (h v parts.0)
+    (sym (ap (all_true v) same) ∙ parts.1)
 
 pub core_implied : (clauses : List Kept) (lits : List Literal) (splits : List (List Literal)) → AreImplied clauses →
     AreImplied (clauses ++ kept origins.Core lits ∷ [] ++ map (kept origins.Split) splits)
 core_implied clauses lits splits h =
-    more_implied (clauses ++ kept origins.Core lits ∷ []) (map (kept origins.Split) splits) (lasting_kept origins.Split splits refl ∙ sym (live-kept origins.Split splits))
+    more_implied (clauses ++ kept origins.Core lits ∷ []) (map (kept origins.Split) splits)
+    (lasting_kept origins.Split splits refl ∙ sym (all_lits-kept origins.Split splits))
     (more_implied clauses (kept origins.Core lits ∷ []) refl h)
 
 -- a clause is learnt
-pub learnt_implied : (clauses : List Kept) (lits : List Literal) → ((v : Assignment) → all_true v (live clauses) ≡ true → any_true v lits ≡ true) → AreImplied clauses →
+pub learnt_implied : (clauses : List Kept) (lits : List Literal) →
+    ((v : Assignment) → all_true v (all_lits clauses) ≡ true → any_true v lits ≡ true) → AreImplied clauses →
     AreImplied (clauses ++ kept origins.Learnt lits ∷ [])
 learnt_implied clauses lits follows h v holds =
-    let before : all_true v (live clauses) ≡ true = h v (sym (ap (all_true v) (lasting-append clauses (kept origins.Learnt lits ∷ []) ∙ append-nil (lasting clauses))) ∙ holds) in
-    ap (all_true v) (live-append clauses (kept origins.Learnt lits ∷ [])) ∙ all_true-push v (live clauses) lits before (follows v before)
+    let before : all_true v (all_lits clauses) ≡ true =
+    h v (sym (ap (all_true v)
+    (lasting-append clauses (kept origins.Learnt lits ∷ []) ∙ append-nil (lasting clauses)))
+    ∙ holds) in
+    ap (all_true v) (all_lits-append clauses (kept origins.Learnt lits ∷ []))
+    ∙ all_true-push v (all_lits clauses) lits before (follows v before)
 
 pub learn_implied : (s : State) (lits : List Literal) (hints : List ℕ) → learn_error s lits hints ≡ None → AreImplied s.clauses → AreImplied (s.clauses ++ kept origins.Learnt lits ∷ [])
 learn_implied s lits hints none h =
@@ -82,13 +95,16 @@ lasting-without clauses zero goes = refl
 lasting-without [] (suc k) goes = refl
 lasting-without (x ∷ xs) (suc zero) goes = drops (is_lasting x) goes
   where
-    drops : (b : Bool) → b ≡ false → lasting xs ≡ live (cond b (x ∷ filter is_lasting xs) (filter is_lasting xs))
+    drops : (b : Bool) → b ≡ false →
+        lasting xs ≡ all_lits (cond b (x ∷ filter is_lasting xs) (filter is_lasting xs))
     drops true e = absurd (cc)
     drops false e = refl
 lasting-without (x ∷ xs) (suc (suc k)) goes = keeps (is_lasting x) (lasting-without xs (suc k) goes)
   where
     keeps : (b : Bool) → lasting (without xs (suc k)) ≡ lasting xs →
-        live (cond b (x ∷ filter is_lasting (without xs (suc k))) (filter is_lasting (without xs (suc k)))) ≡ live (cond b (x ∷ filter is_lasting xs) (filter is_lasting xs))
+        all_lits (cond b (x ∷ filter is_lasting (without xs (suc k)))
+        (filter is_lasting (without xs (suc k)))) ≡ all_lits
+        (cond b (x ∷ filter is_lasting xs) (filter is_lasting xs))
     keeps true e = ap (λ cs. x.lits ∷ cs) e
     keeps false e = e
 
@@ -114,4 +130,6 @@ lasting-without_all clauses less (m ∷ ms) same go =
 pub deleted_implied : (clauses : List Kept) (numbers : List ℕ) → list_all (λ (n : ℕ). is_learnt_at clauses n && ltb 2 (width_at clauses n)) numbers ≡ true →
     AreImplied clauses → AreImplied (without_all clauses numbers)
 deleted_implied clauses numbers go h v holds =
-    ap (all_true v) (live-without_all clauses numbers) ∙ h v (sym (ap (all_true v) (lasting-without_all clauses clauses numbers (λ n goes. goes) go)) ∙ holds)
+    ap (all_true v) (all_lits-without_all clauses numbers)
+    ∙ h v (sym (ap (all_true v) (lasting-without_all clauses clauses numbers (λ n goes. goes) go))
+    ∙ holds)

@@ -1,4 +1,3 @@
-pub mod MarkLaws
 pub mod CutLaws
 pub mod ReplayLaws
 pub mod SplitLaws
@@ -10,4 +9,4 @@ pub mod FactLaws
 pub mod FormedLaws
 pub mod LastingLaws
 pub mod StateLaws
-pub mod TestLaws
+pub mod PutLaws

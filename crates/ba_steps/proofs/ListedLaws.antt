@@ -1,28 +1,19 @@
 -- Clauses listed under one literal each.
 
-use Rattle.std.proofs.Common.{◌≡◌, ◌≢◌, ℕ, suc, zero, ◌+◌, ◌-◌, ◌^◌, ◌<◌, ◌≤◌, Bool, true, false, not, ◌&&◌, ◌||◌, List, [], ◌∷◌, ◌++◌, ltb, length, get_or, set, cond, eqb, refl, sym, ap, ◌∙◌, arith, subst, ⊎_elim, ◌⊎◌, inl, inr, Result, Ok, Err}
+use Rattle.std.proofs.Common.{◌≡◌, ◌≢◌, ℕ, suc, zero, ◌+◌, ◌-◌, ◌^◌, ◌<◌, ◌≤◌, Bool, true, false, not, ◌&&◌, ◌||◌, List, [], ◌∷◌, ◌++◌, ltb, length, get_or, set, cond, eqb, refl, sym, ap, ◌∙◌, arith, subst, ⊎_elim, ◌⊎◌, Result, Ok, Err}
 use Rattle.std.specs.Result.{is_err, OnOk}
 use Rattle.std.proofs.lemmas.List.{get_or-set_same, get_or-set_other, get_or_append_left, get_or_push, get_or_past, length-append, length_push, length-map, length-set, map-append, map-set, get_or-map}
-use Rattle.std.proofs.lemmas.Bool.{cases_eq, cases_lt}
+use Rattle.std.proofs.lemmas.Bool.{cases_eq, cases_lt, eq-eqb, ne_eqb, eqb-true, or_left, or_right, or_cases, and_parts}
 use Rattle.std.proofs.lemmas.Bool.Decides.{nat_tests}
 use Rattle.ba_lits.specs.Literals.{Literal, index_of}
 use Rattle.ba_lits.specs.Hints.{has_literal}
-use Rattle.ba_steps.specs.Marks.{has_index}
+use Rattle.ba_lits.specs.Members.{has_index}
+use Rattle.ba_lits.proofs.Members.{has_literal-is}
 use Rattle.ba_steps.specs.States.{Kept, is_live_origin, is_live_at, lits_at, without, without_all}
 use Rattle.ba_steps.specs.Parts.{is_part, is_live_part, holds_clause}
 use Rattle.ba_steps.specs.Listed.{keys_of, all_keys, links, firsts, latest, AreLinks, is_key, are_keys, is_listed, AreListed, anew, AreLinkedBelow, is_part_at, any_listed, under_any}
 use Rattle.ba_steps.specs.declared.index.Keys.{Keys}
 use Rattle.ba_steps.specs.declared.index.Node.{Node}
-use Rattle.ba_steps.proofs.MarkLaws.{has_literal-is}
-
-eqb_self : (n : ℕ) → eqb n n ≡ true
-eqb_self n = grind (arith, nat_tests)
-
-eqb_other : (m n : ℕ) → n ≢ m → eqb m n ≡ false
-eqb_other m n ne = grind (arith, nat_tests)
-
-eqb_same : (m n : ℕ) → eqb m n ≡ true → m ≡ n
-eqb_same m n e = grind (arith, nat_tests)
 
 -- places below the end of a list see the same keys in a longer one
 pub latest-push : (keys : List ℕ) (k key n : ℕ) → n ≤ length keys → latest (keys ++ k ∷ []) key n ≡ latest keys key n
@@ -35,12 +26,13 @@ latest-push keys k key (suc n) le =
 latest_last : (keys : List ℕ) (k : ℕ) → latest (keys ++ k ∷ []) k (suc (length keys)) ≡ suc (length keys)
 latest_last keys k =
     ap (λ x. cond (eqb x k) (suc (length keys)) (latest (keys ++ k ∷ []) k (length keys))) (get_or_push keys k 0 (length keys) refl)
-    ∙ ap (λ b. cond b (suc (length keys)) (latest (keys ++ k ∷ []) k (length keys))) (eqb_self k)
+    ∙ ap (λ b. cond b (suc (length keys)) (latest (keys ++ k ∷ []) k (length keys))) (eq-eqb k k refl)
 
 latest_other : (keys : List ℕ) (k key : ℕ) → key ≢ k → latest (keys ++ k ∷ []) key (suc (length keys)) ≡ latest keys key (length keys)
 latest_other keys k key ne =
     ap (λ x. cond (eqb x key) (suc (length keys)) (latest (keys ++ k ∷ []) key (length keys))) (get_or_push keys k 0 (length keys) refl)
-    ∙ (ap (λ b. cond b (suc (length keys)) (latest (keys ++ k ∷ []) key (length keys))) (eqb_other k key ne)
+    ∙ (ap (λ b. cond b (suc (length keys)) (latest (keys ++ k ∷ []) key (length keys)))
+    (ne_eqb k key (λ e. ne (sym e)))
     ∙ latest-push keys k key (length keys) (omega arith))
 
 -- a clause is listed
@@ -133,7 +125,7 @@ latest_has keys key (suc n) pos = step (eqb (get_or keys n 0) key) refl (latest_
     e = omega arith
 
     step : (b : Bool) → eqb (get_or keys n 0) key ≡ b → (0 < latest keys key n → get_or keys (latest keys key n - 1) 0 ≡ key) → get_or keys (cond (eqb (get_or keys n 0) key) (suc n) (latest keys key n) - 1) 0 ≡ key
-    step true is rest = rw is (ap (λ x. get_or keys x 0) e ∙ eqb_same (get_or keys n 0) key is)
+    step true is rest = rw is (ap (λ x. get_or keys x 0) e ∙ eqb-true (get_or keys n 0) key is)
     step false is rest =
         let P : Bool → Type 0 = λ b. 0 < cond b (suc n) (latest keys key n) in
         let still : 0 < latest keys key n = subst P is pos in
@@ -153,7 +145,8 @@ any_listed-latest clauses keys key lits (suc n) = step (eqb (get_or keys n 0) ke
 any_suc : (clauses : List Kept) (keys : List ℕ) (key : ℕ) (lits : List Literal) (place : ℕ) → get_or keys place 0 ≡ key →
     any_listed clauses keys key lits (suc place) ≡ (is_part_at clauses place lits || any_listed clauses keys key lits place)
 any_suc clauses keys key lits place has =
-    ap (λ b. (b && is_part_at clauses place lits) || any_listed clauses keys key lits place) (ap (λ x. eqb x key) has ∙ eqb_self key)
+    ap (λ b. (b && is_part_at clauses place lits) || any_listed clauses keys key lits place)
+    (ap (λ x. eqb x key) has ∙ eq-eqb key key refl)
 
 next_is : (next place : ℕ) → 0 < next → place ≡ next - 1 → next ≡ suc place
 next_is next place pos e = omega arith
@@ -230,7 +223,7 @@ latest_there keys key place zero lt has = absurd (omega arith)
 latest_there keys key place (suc n) lt has = step (eqb (get_or keys n 0) key) refl (λ other. latest_there keys key place n (omega (arith, lt, other)) has)
   where
     here : eqb (get_or keys place 0) key ≡ true
-    here = ap (λ x. eqb x key) has ∙ eqb_self key
+    here = ap (λ x. eqb x key) has ∙ eq-eqb key key refl
 
     apart : eqb (get_or keys n 0) key ≡ false → place ≢ n
     apart is same = let e : eqb (get_or keys n 0) key ≡ true = ap (λ p. eqb (get_or keys p 0) key) (sym same) ∙ here in absurd (let f = sym e ∙ is in cc)
@@ -315,9 +308,9 @@ linked_here n all heads earlier clauses k h lt within same = record {
     heads_are key =
         let whole : latest (firsts (set all n k)) key (suc n) ≡ cond (eqb k.key key) (suc n) (latest ks key n) = ap (λ all_firsts. latest all_firsts key (suc n)) ks_are ∙ latest_at key in
         ⊎_elim
-        (λ e. let test : eqb k.key key ≡ true = ap (eqb k.key) e ∙ eqb_self k.key in
+        (λ e. let test : eqb k.key key ≡ true = ap (eqb k.key) e ∙ eq-eqb k.key k.key refl in
         ap (λ x. get_or (set heads k.key (suc n)) x 0) e ∙ (get_or-set_same heads k.key (suc n) 0 within ∙ sym (whole ∙ ap (λ b. cond b (suc n) (latest ks key n)) test)))
-        (λ ne. let test : eqb k.key key ≡ false = eqb_other k.key key ne in
+        (λ ne. let test : eqb k.key key ≡ false = ne_eqb k.key key (λ e. ne (sym e)) in
         get_or-set_other heads k.key key (suc n) 0 ne ∙ (h.heads_are key ∙ sym (whole ∙ ap (λ b. cond b (suc n) (latest ks key n)) test)))
         (cases_eq key k.key)
 
@@ -387,21 +380,6 @@ linked_step n nodes more heads relinked clauses keeps read node h lt read_is kee
         let kept_key : keeps ≡ true = keeps_is ∙ ap (λ b. b || ltb (length heads) 2) lives in
         let same : keys_of node ≡ keys_of read = ap keys_of node_is ∙ ap (λ b. keys_of (anew b read heads)) kept_key in
         same ∙ (ap keys_of read_is ∙ sym (get_or-map keys_of nodes n read (keys_of node) lt))
-
-or_left : (a b : Bool) → a ≡ true → (a || b) ≡ true
-or_left a b e = ap (λ x. x || b) e
-
-or_right : (a b : Bool) → b ≡ true → (a || b) ≡ true
-or_right true b e = refl
-or_right false b e = e
-
-or_cases : (a b : Bool) → (a || b) ≡ true → (a ≡ true) ⊎ (b ≡ true)
-or_cases true b e = inl refl
-or_cases false b e = inr e
-
-and_parts : (a b : Bool) → (a && b) ≡ true → (a ≡ true) × (b ≡ true)
-and_parts true b e = (refl, e)
-and_parts false b e = absurd (cc)
 
 -- each clause has its keys
 pub AreListed-length : (all : List Keys) (clauses : List Kept) → AreListed all clauses → length all ≡ length clauses
@@ -481,7 +459,8 @@ listed_at clauses keys key lits place zero lt has is = absurd (omega arith)
 listed_at clauses keys key lits place (suc n) lt has is =
     ⊎_elim
     (λ same. or_left (eqb (get_or keys n 0) key && is_part_at clauses n lits) (any_listed clauses keys key lits n)
-    (rw (← same) (ap (λ b. b && is_part_at clauses place lits) (ap (λ x. eqb x key) has ∙ eqb_self key) ∙ is)))
+    (rw (← same) (ap (λ b. b && is_part_at clauses place lits) (ap (λ x. eqb x key) has ∙ eq-eqb key key refl)
+    ∙ is)))
     (λ other. or_right (eqb (get_or keys n 0) key && is_part_at clauses n lits) (any_listed clauses keys key lits n) (listed_at clauses keys key lits place n (omega arith) has is))
     (cases_eq place n)
 
@@ -491,7 +470,8 @@ index_in key [] lits has is = absurd (cc)
 index_in key (x ∷ xs) lits has is =
     let parts = and_parts (has_literal x lits) (is_part xs lits) is in
     ⊎_elim
-    (λ here. let e = eqb_same (index_of x) key here in ap (λ k. has_index k lits) (sym e) ∙ (sym (has_literal-is x lits) ∙ parts.0))
+    (λ here. let e = eqb-true (index_of x) key here in ap (λ k. has_index k lits) (sym e)
+    ∙ (sym (has_literal-is x lits) ∙ parts.0))
     (λ rest. index_in key xs lits rest parts.1)
     (or_cases (eqb (index_of x) key) (has_index key xs) has)
 
@@ -499,7 +479,8 @@ under_index : (clauses : List Kept) (keys : List ℕ) (lits : List Literal) (n k
 under_index clauses keys lits n key [] has is = absurd (cc)
 under_index clauses keys lits n key (l ∷ ls) has is =
     ⊎_elim
-    (λ here. or_left (any_listed clauses keys (index_of l) lits n) (under_any clauses keys lits n ls) (ap (λ k. any_listed clauses keys k lits n) (eqb_same (index_of l) key here) ∙ is))
+    (λ here. or_left (any_listed clauses keys (index_of l) lits n) (under_any clauses keys lits n ls)
+    (ap (λ k. any_listed clauses keys k lits n) (eqb-true (index_of l) key here) ∙ is))
     (λ rest. or_right (any_listed clauses keys (index_of l) lits n) (under_any clauses keys lits n ls) (under_index clauses keys lits n key ls rest is))
     (or_cases (eqb (index_of l) key) (has_index key ls) has)
 
@@ -523,7 +504,7 @@ part_found : (clauses : List Kept) (keys : List ℕ) (lits part : List Literal) 
     (any_listed clauses keys 0 lits n || under_any clauses keys lits n lits) ≡ true
 part_found clauses keys lits [] place n lt key part_is is =
     or_left (any_listed clauses keys 0 lits n) (under_any clauses keys lits n lits)
-    (listed_at clauses keys 0 lits place n lt (eqb_same (get_or keys place 0) 0 key) is)
+    (listed_at clauses keys 0 lits place n lt (eqb-true (get_or keys place 0) 0 key) is)
 part_found clauses keys lits (x ∷ xs) place n lt key part_is is =
     or_right (any_listed clauses keys 0 lits n) (under_any clauses keys lits n lits)
     (under_index clauses keys lits n (get_or keys place 0) lits (index_in (get_or keys place 0) (x ∷ xs) lits key part_is)
@@ -551,7 +532,8 @@ parts_found clauses all lits n listed n_is =
 further_held : (key further : ℕ) (part lits : List Literal) → is_key key part ≡ true → is_key further part ≡ true → is_part part lits ≡ true → (eqb key further || has_index further lits) ≡ true
 further_held key further [] lits first other is =
     or_left (eqb key further) (has_index further lits)
-    (ap (λ x. eqb x further) (eqb_same key 0 first ∙ sym (eqb_same further 0 other)) ∙ eqb_self further)
+    (ap (λ x. eqb x further) (eqb-true key 0 first ∙ sym (eqb-true further 0 other))
+    ∙ eq-eqb further further refl)
 further_held key further (x ∷ xs) lits first other is = or_right (eqb key further) (has_index further lits) (index_in further (x ∷ xs) lits other is)
 
 -- so the test of the further keys rules out no part
@@ -583,7 +565,9 @@ key_of k (l ∷ ls) is = is
 -- a literal of a clause gives a key of it
 pub has_index-at : (lits : List Literal) (i : ℕ) (l : Literal) → i < length lits → l ≡ get_or lits i l → has_index (index_of l) lits ≡ true
 has_index-at [] i l lt is = absurd (omega arith)
-has_index-at (x ∷ xs) zero l lt is = or_left (eqb (index_of x) (index_of l)) (has_index (index_of l) xs) (ap (λ y. eqb (index_of x) (index_of y)) is ∙ eqb_self (index_of x))
+has_index-at (x ∷ xs) zero l lt is =
+    or_left (eqb (index_of x) (index_of l)) (has_index (index_of l) xs)
+    (ap (λ y. eqb (index_of x) (index_of y)) is ∙ eq-eqb (index_of x) (index_of x) refl)
 has_index-at (x ∷ xs) (suc i) l lt is = or_right (eqb (index_of x) (index_of l)) (has_index (index_of l) xs) (has_index-at xs i l (omega arith) is)
 
 pub has_index-is : (lits : List Literal) (i : ℕ) (l : Literal) (k : ℕ) → i < length lits → l ≡ get_or lits i l → k ≡ index_of l → has_index k lits ≡ true

@@ -1,39 +1,19 @@
 -- What the soft literals of a core lose.
 
-use Rattle.std.proofs.Common.{◌≡◌, ℕ, suc, ◌+◌, ◌*◌, ◌-◌, ◌<◌, ◌≤◌, Bool, true, false, not, ◌||◌, cond, ltb, eqb, min, unwrap_or, Option, None, Some, List, [], ◌∷◌, length, refl, sym, ap, ◌∙◌, arith, subst, inl, inr, ⊎_elim, ◌⊎◌}
+use Rattle.std.proofs.Common.{◌≡◌, ℕ, suc, ◌+◌, ◌*◌, ◌-◌, ◌≤◌, Bool, true, false, not, ◌||◌, cond, ltb, eqb, min, unwrap_or, Option, None, Some, List, [], ◌∷◌, refl, sym, ap, ◌∙◌, arith, subst, ⊎_elim, ◌⊎◌}
+use Rattle.std.proofs.lemmas.Bool.{eq-eqb, or_parts, or_cases, false_from_ne_true}
 use Rattle.std.proofs.Math.Nat.{mul-add}
 use Rattle.std.proofs.lemmas.Bool.Decides.{nat_tests}
+use Rattle.std.proofs.lemmas.Option.{same_Some}
 use Rattle.std.specs.List.{list_any}
-use Rattle.ba_lits.specs.Literals.{Literal, negate, index_of, IsClause, lit_at}
-use Rattle.ba_lits.specs.Satisfaction.{Assignment, lit_true, Soft, cost}
+use Rattle.ba_lits.specs.Literals.{Literal, negate, index_of, IsClause}
+use Rattle.ba_lits.specs.Satisfaction.{Assignment, lit_true, Soft, cost, one_if}
 use Rattle.ba_lits.specs.Hints.{has_literal}
 use Rattle.ba_lits.proofs.Satisfied.{lit_true-negate}
-use Rattle.ba_lits.proofs.HintLaws.{same_literal}
+use Rattle.ba_lits.proofs.Members.{same_literal, negate-negate, literal_found}
 use Rattle.ba_steps.specs.Splits.{is_soft, lesser, lightest, lowered}
 use Rattle.ba_steps.specs.Facts.{Differs, AreDifferent}
-use Rattle.ba_steps.proofs.SplitMeaning.{one_if, count_true}
-
-or_cases : (a b : Bool) → (a || b) ≡ true → (a ≡ true) ⊎ (b ≡ true)
-or_cases true b e = inl refl
-or_cases false b e = inr e
-
-or_none : (a b : Bool) → (a || b) ≡ false → (a ≡ false) × (b ≡ false)
-or_none true b e = absurd (cc)
-or_none false b e = (refl, e)
-
-eqb_self : (n : ℕ) → eqb n n ≡ true
-eqb_self n = grind (arith, nat_tests)
-
-not_true : (b : Bool) → (b ≡ true → ⊥) → b ≡ false
-not_true true h = absurd (h refl)
-not_true false h = refl
-
-pub negate_twice : (l : Literal) → negate (negate l) ≡ l
-negate_twice l = ap (λ (b : Bool). record { variable = l.variable; negated = b }) (twice l.negated)
-  where
-    twice : (b : Bool) → not (not b) ≡ b
-    twice true = refl
-    twice false = refl
+use Rattle.ba_steps.proofs.SplitMeaning.{count_true}
 
 -- how many soft literals of a core are false
 abbrev pub hits : Assignment → List Literal → List Soft → ℕ
@@ -79,7 +59,8 @@ hits_none : (v : Assignment) (b : Literal) (rest : List Literal) (softs : List S
 hits_none v b rest [] h = refl
 hits_none v b rest (s ∷ ss) h =
     ap (λ t. cond (t || has_literal (negate s.0) rest) (one_if (not (lit_true v s.0))) 0 + hits v (b ∷ rest) ss)
-    (not_true (eqb (index_of b) (index_of (negate s.0))) (λ e. h.0 (sym (ap (λ (l : Literal). l.variable) (same_literal b (negate s.0) e)))))
+    (false_from_ne_true (eqb (index_of b) (index_of (negate s.0)))
+    (λ e. h.0 (sym (ap (λ (l : Literal). l.variable) (same_literal b (negate s.0) e)))))
     ∙ ap (λ k. cond (has_literal (negate s.0) rest) (one_if (not (lit_true v s.0))) 0 + k) (hits_none v b rest ss h.1)
 
 -- one whose negation is a soft literal hits that
@@ -93,8 +74,9 @@ hits_one v b rest (s ∷ ss) is differ new = cases (eqb (index_of s.0) (index_of
 
     here : s.0 ≡ negate b → hits v (b ∷ rest) (s ∷ ss) ≡ one_if (lit_true v b) + hits v rest (s ∷ ss)
     here same =
-        let back : negate s.0 ≡ b = ap negate same ∙ negate_twice b in
-        let known : has_literal (negate s.0) (b ∷ rest) ≡ true = ap (λ l. has_literal l (b ∷ rest)) back ∙ ap (λ t. t || has_literal b rest) (eqb_self (index_of b)) in
+        let back : negate s.0 ≡ b = ap negate same ∙ negate-negate b in
+        let known : has_literal (negate s.0) (b ∷ rest) ≡ true = ap (λ l. has_literal l (b ∷ rest)) back
+        ∙ ap (λ t. t || has_literal b rest) (eq-eqb (index_of b) (index_of b) refl) in
         let none : has_literal (negate s.0) rest ≡ false = ap (λ l. has_literal l rest) back ∙ new in
         let value : one_if (not (lit_true v s.0)) ≡ one_if (lit_true v b) = ap (λ l. one_if (not (lit_true v l))) same ∙ (ap (λ t. one_if (not t)) (lit_true-negate v b) ∙ turned (lit_true v b)) in
         let apart : Differs b.variable ss = let P : ℕ → Type 0 = λ x. Differs x ss in subst P (ap (λ (l : Literal). l.variable) same) differ.0 in
@@ -110,10 +92,11 @@ hits_one v b rest (s ∷ ss) is differ new = cases (eqb (index_of s.0) (index_of
     there : eqb (index_of s.0) (index_of (negate b)) ≡ false → hits v (b ∷ rest) ss ≡ one_if (lit_true v b) + hits v rest ss → hits v (b ∷ rest) (s ∷ ss) ≡ one_if (lit_true v b) + hits v rest (s ∷ ss)
     there other later =
         let apart : eqb (index_of b) (index_of (negate s.0)) ≡ false =
-        not_true (eqb (index_of b) (index_of (negate s.0))) (λ e.
+        false_from_ne_true (eqb (index_of b) (index_of (negate s.0))) (λ e.
         let same = same_literal b (negate s.0) e in
-        let back : negate b ≡ s.0 = ap negate same ∙ negate_twice s.0 in
-        let known : eqb (index_of s.0) (index_of (negate b)) ≡ true = ap (λ l. eqb (index_of s.0) (index_of l)) back ∙ eqb_self (index_of s.0) in
+        let back : negate b ≡ s.0 = ap negate same ∙ negate-negate s.0 in
+        let known : eqb (index_of s.0) (index_of (negate b)) ≡ true =
+        ap (λ l. eqb (index_of s.0) (index_of l)) back ∙ eq-eqb (index_of s.0) (index_of s.0) refl in
         (cc)) in
         ap (λ t. cond (t || has_literal (negate s.0) rest) (one_if (not (lit_true v s.0))) 0 + hits v (b ∷ rest) ss) apart
         ∙ (ap (λ k. cond (has_literal (negate s.0) rest) (one_if (not (lit_true v s.0))) 0 + k) later
@@ -133,20 +116,11 @@ hits_nothing v (s ∷ ss) = ap (λ k. 0 + k) (hits_nothing v ss) ∙ none
     none : 0 + 0 ≡ 0
     none = refl
 
--- a literal that stands in a list stands at a place
-has_place : (l : Literal) (ls : List Literal) → has_literal l ls ≡ true → (k : ℕ) × (k < length ls) × (lit_at ls k ≡ l)
-has_place l [] has = absurd (cc)
-has_place l (x ∷ xs) has =
-    ⊎_elim
-    (λ here. (0, omega arith, same_literal x l here))
-    (λ later. let (k, lt, is) = has_place l xs later in (suc k, omega arith, is))
-    (or_cases (eqb (index_of x) (index_of l)) (has_literal l xs) has)
-
 -- a clause's first literal doesn't come again
 pub first_new : (n : ℕ) (b : Literal) (rest : List Literal) → IsClause n (b ∷ rest) → has_literal b rest ≡ false
 first_new n b rest clause =
-    not_true (has_literal b rest) (λ has.
-    let (k, lt, is) = has_place b rest has in
+    false_from_ne_true (has_literal b rest) (λ has.
+    let (k, lt, is) = literal_found b rest has in
     let above = clause.ascends 0 (suc k) (omega arith) (omega arith) in
     absurd (omega (arith, above, ap (λ (l : Literal). l.variable) is)))
 
@@ -161,7 +135,8 @@ IsClause-rest n b rest clause = record {
 pub hits_count : (n : ℕ) (v : Assignment) (core : List Literal) (softs : List Soft) → IsClause n core → list_any (λ (l : Literal). not (is_soft softs (negate l))) core ≡ false → AreDifferent softs → hits v core softs ≡ count_true v core
 hits_count n v [] softs clause known differ = hits_nothing v softs
 hits_count n v (b ∷ rest) softs clause known differ =
-    let parts = or_none (not (is_soft softs (negate b))) (list_any (λ (l : Literal). not (is_soft softs (negate l))) rest) known in
+    let parts = or_parts (not (is_soft softs (negate b)))
+    (list_any (λ (l : Literal). not (is_soft softs (negate l))) rest) known in
     hits_one v b rest softs (positive (is_soft softs (negate b)) parts.0) differ (first_new n b rest clause)
     ∙ ap (λ k. one_if (lit_true v b) + k) (hits_count n v rest softs (IsClause-rest n b rest clause) parts.1 differ)
   where
@@ -186,15 +161,16 @@ some_at_least : (w : ℕ) (core : List Literal) (softs : List Soft) → lightest
 some_at_least w core [] is = absurd (cc)
 some_at_least w core (s ∷ ss) is = cases (has_literal (negate s.0) core) refl (lightest core ss) refl (λ u e. some_at_least u core ss e)
   where
-    value : (x y : ℕ) → ◌≡◌ {A = Option ℕ} (Some x) (Some y) → x ≡ y
-    value x y e = cc
-
     cases : (m : Bool) → has_literal (negate s.0) core ≡ m → (o : Option ℕ) → lightest core ss ≡ o → ((u : ℕ) → lightest core ss ≡ Some u → AreAtLeast u core ss) → AreAtLeast w core (s ∷ ss)
     cases true m None o next =
-        let e : s.1 ≡ w = value s.1 w (sym (ap (λ t. cond t (Some (lesser s.1 (lightest core ss))) (lightest core ss)) m ∙ ap (λ l. Some (lesser s.1 l)) o) ∙ is) in
+        let e : s.1 ≡ w = same_Some s.1 w
+        (sym (ap (λ t. cond t (Some (lesser s.1 (lightest core ss))) (lightest core ss)) m
+        ∙ ap (λ l. Some (lesser s.1 l)) o) ∙ is) in
         (λ _. omega (arith, e), none_at_least w core ss o)
     cases true m (Some u) o next =
-        let e : min s.1 u ≡ w = value (min s.1 u) w (sym (ap (λ t. cond t (Some (lesser s.1 (lightest core ss))) (lightest core ss)) m ∙ ap (λ l. Some (lesser s.1 l)) o) ∙ is) in
+        let e : min s.1 u ≡ w = same_Some (min s.1 u) w
+        (sym (ap (λ t. cond t (Some (lesser s.1 (lightest core ss))) (lightest core ss)) m
+        ∙ ap (λ l. Some (lesser s.1 l)) o) ∙ is) in
         (λ _. omega (arith, e), at_most u w core ss (omega (arith, e)) (next u o))
     cases false m o e next = (λ t. absurd (cc), next w (sym (ap (λ t. cond t (Some (lesser s.1 (lightest core ss))) (lightest core ss)) m) ∙ is))
 

@@ -2,10 +2,11 @@
 
 use Rattle.std.proofs.Common.{◌≡◌, ℕ, suc, ◌+◌, ◌*◌, ◌-◌, ◌<◌, ◌≤◌, Bool, true, false, not, ◌&&◌, ◌||◌, cond, ltb, if◌then◌else◌, List, [], ◌∷◌, length, drop, get_or, refl, sym, ap, ◌∙◌, arith, ⊎_elim}
 use Rattle.std.proofs.Math.Nat.{mul-add}
-use Rattle.std.proofs.lemmas.Bool.{cases_eq}
+use Rattle.std.proofs.lemmas.Bool.{cases_eq, and_parts, and_from}
 use Rattle.std.proofs.lemmas.Bool.Decides.{nat_tests}
+use mathlib.Core.Bool.{or-false}
 use Rattle.ba_lits.specs.Literals.{Literal, negate, no_literal}
-use Rattle.ba_lits.specs.Satisfaction.{Assignment, lit_true, any_true, all_true, cost, Agree}
+use Rattle.ba_lits.specs.Satisfaction.{Assignment, lit_true, any_true, all_true, cost, Agree, one_if}
 use Rattle.ba_lits.proofs.Satisfied.{ClauseBelow, lit_true-negate, lit_true-agree, any_true-agree, all_true-append}
 use Rattle.ba_steps.specs.Splits.{positive, negative, in_order, or_gate, and_gate, some_of, or_clauses, and_clauses, split_clauses, late_softs}
 
@@ -23,13 +24,6 @@ pub same_eqv : (a b : Bool) → a ≡ b → eqv a b ≡ true
 same_eqv true b e = sym e
 same_eqv false true e = absurd (cc)
 same_eqv false false e = refl
-
-pub and_parts : (a b : Bool) → (a && b) ≡ true → (a ≡ true) × (b ≡ true)
-and_parts true b e = (refl, e)
-and_parts false b e = absurd (cc)
-
-pub and_both : (a b : Bool) → a ≡ true → b ≡ true → (a && b) ≡ true
-and_both a b p q = ap (λ x. x && b) p ∙ q
 
 in_order_true : (v : Assignment) (a b : Literal) → any_true v (in_order a b) ≡ (lit_true v a || lit_true v b)
 in_order_true v a b = cases (ltb a.variable b.variable)
@@ -95,13 +89,10 @@ AndsHave v w e [] = Unit {0}
 AndsHave v w e (b ∷ []) = Unit {0}
 AndsHave v w e (b ∷ c ∷ rest) = (w e ≡ (lit_true v b && any_true v (c ∷ rest))) × AndsHave v w (e + 1) (c ∷ rest)
 
-or_false : (a : Bool) → (a || false) ≡ a
-or_false true = refl
-or_false false = refl
-
 -- what stands for `one of these is true` is true where one is
 pub some_of_true : (n : ℕ) (v w : Assignment) (d : ℕ) (b : Literal) (rest : List Literal) → Agree n v w → ClauseBelow n (b ∷ rest) → OrsHave v w d (b ∷ rest) → lit_true w (some_of d (b ∷ rest)) ≡ any_true v (b ∷ rest)
-some_of_true n v w d b [] same below have = sym (lit_true-agree n v w b same below.0) ∙ sym (or_false (lit_true v b))
+some_of_true n v w d b [] same below have = sym (lit_true-agree n v w b same below.0)
+    ∙ sym (or-false (lit_true v b))
 some_of_true n v w d b (c ∷ rest) same below have = have.0
 
 -- clauses that hold give the variables their meaning, and the other way round
@@ -123,7 +114,9 @@ ors_hold n v w d (b ∷ c ∷ rest) same below have =
     let gate = same_eqv (w d) (lit_true w b || lit_true w (some_of (d + 1) (c ∷ rest)))
     (have.0 ∙ (ap (λ x. lit_true v b || x) (sym (some_of_true n v w (d + 1) c rest same below.1 have.1)) ∙ ap (λ x. x || lit_true w (some_of (d + 1) (c ∷ rest))) (lit_true-agree n v w b same below.0))) in
     all_true-append w (or_gate d b (some_of (d + 1) (c ∷ rest))) (or_clauses (d + 1) (c ∷ rest))
-    ∙ and_both (all_true w (or_gate d b (some_of (d + 1) (c ∷ rest)))) (all_true w (or_clauses (d + 1) (c ∷ rest))) (or_gate_true w d b (some_of (d + 1) (c ∷ rest)) ∙ gate) (ors_hold n v w (d + 1) (c ∷ rest) same below.1 have.1)
+    ∙ and_from (all_true w (or_gate d b (some_of (d + 1) (c ∷ rest))))
+    (all_true w (or_clauses (d + 1) (c ∷ rest))) (or_gate_true w d b (some_of (d + 1) (c ∷ rest)) ∙ gate)
+    (ors_hold n v w (d + 1) (c ∷ rest) same below.1 have.1)
 
 -- the rest of the literals has its variables too
 ors_later : (v w : Assignment) (d : ℕ) (c : Literal) (rest : List Literal) → OrsHave v w d (c ∷ rest) → OrsHave v w (d + 1) rest
@@ -145,13 +138,19 @@ ands_hold n v w d e b (c ∷ rest) same below ors have =
     let gate = same_eqv (w e) (lit_true w b && lit_true w (some_of d (c ∷ rest)))
     (have.0 ∙ (ap (λ x. lit_true v b && x) (sym (some_of_true n v w d c rest same below.1 ors)) ∙ ap (λ x. x && lit_true w (some_of d (c ∷ rest))) (lit_true-agree n v w b same below.0))) in
     all_true-append w (and_gate e b (some_of d (c ∷ rest))) (and_clauses (d + 1) (e + 1) (c ∷ rest))
-    ∙ and_both (all_true w (and_gate e b (some_of d (c ∷ rest)))) (all_true w (and_clauses (d + 1) (e + 1) (c ∷ rest))) (and_gate_true w e b (some_of d (c ∷ rest)) ∙ gate) (ands_hold n v w (d + 1) (e + 1) c rest same below.1 (ors_later v w d c rest ors) have.1)
+    ∙ and_from (all_true w (and_gate e b (some_of d (c ∷ rest))))
+    (all_true w (and_clauses (d + 1) (e + 1) (c ∷ rest)))
+    (and_gate_true w e b (some_of d (c ∷ rest)) ∙ gate)
+    (ands_hold n v w (d + 1) (e + 1) c rest same below.1 (ors_later v w d c rest ors) have.1)
 
 -- the whole split
 pub split_holds : (n : ℕ) (v w : Assignment) (b : Literal) (rest : List Literal) → Agree n v w → ClauseBelow n (b ∷ rest) → OrsHave v w n rest → AndsHave v w (n + (length rest - 1)) (b ∷ rest) → all_true w (split_clauses n (b ∷ rest)) ≡ true
 split_holds n v w b rest same below ors ands =
     all_true-append w (or_clauses n rest) (and_clauses n (n + (length rest - 1)) (b ∷ rest))
-    ∙ and_both (all_true w (or_clauses n rest)) (all_true w (and_clauses n (n + (length rest - 1)) (b ∷ rest))) (ors_hold n v w n rest same below.1 ors) (ands_hold n v w n (n + (length rest - 1)) b rest same below ors ands)
+    ∙ and_from (all_true w (or_clauses n rest))
+    (all_true w (and_clauses n (n + (length rest - 1)) (b ∷ rest)))
+    (ors_hold n v w n rest same below.1 ors)
+    (ands_hold n v w n (n + (length rest - 1)) b rest same below ors ands)
 
 pub split_has : (n : ℕ) (v w : Assignment) (b : Literal) (rest : List Literal) → Agree n v w → ClauseBelow n (b ∷ rest) → all_true w (split_clauses n (b ∷ rest)) ≡ true → OrsHave v w n rest × AndsHave v w (n + (length rest - 1)) (b ∷ rest)
 split_has n v w b rest same below holds =
@@ -237,11 +236,7 @@ ands_alone n a z e (b ∷ c ∷ rest) same below first second u ge lt =
     (λ later. ands_alone n a z (e + 1) (c ∷ rest) same below.1 first.1 second.1 u (omega arith) (omega arith))
     (cases_eq u e)
 
--- HOW MANY literals are true, and how many are with a later one
-abbrev pub one_if : Bool → ℕ
-one_if true = 1
-one_if false = 0
-
+-- how many literals are true, and how many are with a later one
 abbrev pub count_true : Assignment → List Literal → ℕ
 count_true v [] = 0
 count_true v (l ∷ ls) = one_if (lit_true v l) + count_true v ls

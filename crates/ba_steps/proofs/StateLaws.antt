@@ -1,6 +1,7 @@
 -- The state of a checker after its first state is made and after a core is split.
 
 use Rattle.std.proofs.Common.{◌≡◌, ℕ, suc, zero, ◌+◌, ◌-◌, ◌^◌, ◌<◌, ◌≤◌, Bool, true, false, not, ◌&&◌, ◌||◌, ltb, unwrap_or, None, List, [], ◌∷◌, ◌++◌, map, length, All, refl, ap, ◌∙◌, arith}
+use Rattle.std.proofs.lemmas.Bool.{or_parts}
 use Rattle.std.proofs.lemmas.Bool.Decides.{nat_tests}
 use Rattle.std.proofs.lemmas.List.Elements.{All-append, All-weaker}
 use Rattle.std.specs.List.{list_any, list_all}
@@ -19,16 +20,8 @@ use Rattle.ba_steps.proofs.LastingLaws.{given_implied, core_implied, learn_impli
 
 none_at : (p : Literal → Bool) (xs : List Literal) (k : ℕ) → list_any p xs ≡ false → k < length xs → p (lit_at xs k) ≡ false
 none_at p [] k none lt = absurd (omega arith)
-none_at p (x ∷ xs) zero none lt = first (p x) (list_any p xs) none
-  where
-    first : (a b : Bool) → (a || b) ≡ false → a ≡ false
-    first true b e = absurd (cc)
-    first false b e = refl
-none_at p (x ∷ xs) (suc k) none lt = none_at p xs k (rest (p x) (list_any p xs) none) (omega arith)
-  where
-    rest : (a b : Bool) → (a || b) ≡ false → b ≡ false
-    rest true b e = absurd (cc)
-    rest false b e = e
+none_at p (x ∷ xs) zero none lt = (or_parts (p x) (list_any p xs) none).0
+none_at p (x ∷ xs) (suc k) none lt = none_at p xs k (or_parts (p x) (list_any p xs) none).1 (omega arith)
 
 -- a formed clause of variables that exist
 pub exist_clause : (s : State) (lits : List Literal) → AreFormedLits lits → lacks_variable s lits ≡ false → IsClause s.variables lits

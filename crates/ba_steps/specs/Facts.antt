@@ -11,12 +11,12 @@ use Rattle.ba_steps.specs.declared.step.CertStep.{CertStep}
 use Rattle.ba_steps.specs.declared.step.CertStep.TheVariants.{Learn, Core, Delete, EndNoRepair, EndSpent}
 
 -- the literals of the clauses, the deleted ones too
-abbrev pub live : List Kept → List (List Literal)
-live clauses = map (λ (k : Kept). k.lits) clauses
+abbrev pub all_lits : List Kept → List (List Literal)
+all_lits clauses = map (λ (k : Kept). k.lits) clauses
 
 -- the literals of the clauses that no Learn step made
 abbrev pub lasting : List Kept → List (List Literal)
-lasting clauses = live (filter is_lasting clauses)
+lasting clauses = all_lits (filter is_lasting clauses)
 
 -- no soft literal of the list has this variable
 abbrev pub Differs : ℕ → List Soft → Type 0
@@ -43,7 +43,8 @@ pub record AreSelectors (variables : ℕ) (softs : List Soft) : Type 0 where
 pub record IsState (variables : ℕ) (clauses : List Kept) (softs : List Soft) (conflicts budget learnt : ℕ) (refused : Bool) : Type 0 where
   pub few : variables < 2 ^ 62
   pub formed : refused ≡ false → All (λ (k : Kept). IsClause variables k.lits) clauses
-  pub implied : refused ≡ false → (v : Assignment) → all_true v (lasting clauses) ≡ true → all_true v (live clauses) ≡ true
+  pub implied : refused ≡ false → (v : Assignment) → all_true v (lasting clauses) ≡ true →
+      all_true v (all_lits clauses) ≡ true
   pub among : AreAmong variables softs
   pub differ : AreDifferent softs
   pub weighty : All (λ (s : Soft). 1 ≤ s.1) softs
@@ -80,7 +81,9 @@ IsLive clauses c = (number : ℕ) × (clause_at clauses number ≡ Some c)
 -- exist, with weights of at least 1, and all clauses of the formula and of the splits are live
 pub record Holds (formula : Cnf) (softs : List Soft) (splits : List (List Literal)) (s : State) : Type 0 where
   pub extends : (v : Assignment) → all_true v formula.clauses ≡ true →
-      (z : Assignment) × Agree (formula.variables + 1) v z × (all_true z splits ≡ true) × (all_true z (live s.clauses) ≡ true) × (cost v (present softs) ≡ s.bound + cost z s.softs)
+      (z : Assignment) × Agree
+      (formula.variables + 1) v z × (all_true z splits ≡ true) × (all_true z
+      (all_lits s.clauses) ≡ true) × (cost v (present softs) ≡ s.bound + cost z s.softs)
   pub alone : (y z : Assignment) → Agree (formula.variables + 1) y z → all_true y splits ≡ true → all_true z splits ≡ true → Agree (s.variables + 1) y z
   pub differ : AreDifferent s.softs
   pub among : AreAmong s.variables s.softs

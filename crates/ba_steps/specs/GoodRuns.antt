@@ -4,8 +4,8 @@ use Rattle.std.specs.Prelude.{ℕ, nat_eq, Bool, true, false, ◌&&◌, List, []
 use Rattle.std.specs.Ordering.{int_eq}
 use Rattle.std.specs.List.{list_any}
 use Rattle.std.specs.Cmp.Lexicographic.{pointwise}
-use Rattle.ba_tree.specs.declared.run.Choice.{Choice}
-use Rattle.ba_tree.specs.declared.run.Choice.TheVariants.{Keep, Take}
+use Rattle.ba_choices.specs.declared.Choice.{Choice}
+use Rattle.ba_choices.specs.declared.Choice.TheVariants.{Keep, Take}
 use Rattle.ba_steps.specs.declared.list_judge.GoodRun.{GoodRun}
 
 -- the same choice

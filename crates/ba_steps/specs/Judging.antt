@@ -5,7 +5,7 @@ use Rattle.std.specs.List.{list_any, list_all}
 use Rattle.ba_lits.specs.Literals.{Literal, negate}
 use Rattle.ba_lits.specs.Satisfaction.{Soft}
 use Rattle.ba_lits.specs.Hints.{Replay, Refutes, StaysOpen, NamesNone, NamesIdle, replay}
-use Rattle.ba_tree.specs.declared.run.Choice.{Choice}
+use Rattle.ba_choices.specs.declared.Choice.{Choice}
 use Rattle.ba_steps.specs.Splits.{split_clauses, fresh_count, split_softs, is_soft, lightest, lowered}
 use Rattle.ba_steps.specs.Parts.{holds_clause}
 use Rattle.ba_steps.specs.States.{kept, State, clause_at, is_learnt_at, width_at, without_all}

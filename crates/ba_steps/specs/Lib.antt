@@ -1,4 +1,3 @@
-pub mod Marks
 pub mod Steps
 pub mod Splits
 pub mod States

@@ -3,9 +3,9 @@
 use Rattle.std.specs.Prelude.{◌≡◌, ℕ, ◌<◌, Bool, true, false, not, ◌&&◌, ◌||◌, eqb, ◌^◌, Option, None, Some, List, [], ◌∷◌, map, length, slice_index, slice_get, if◌then◌else◌}
 use Prim.Native.Nat.{suc, zero}
 use Rattle.ba_lits.specs.Literals.{Literal, index_of}
+use Rattle.ba_lits.specs.Members.{has_index}
 use Rattle.ba_steps.specs.States.{Kept, is_live_origin}
 use Rattle.ba_steps.specs.Parts.{is_live_part}
-use Rattle.ba_steps.specs.Marks.{has_index}
 use Rattle.ba_steps.specs.declared.index.Keys.{Keys}
 use Rattle.ba_steps.specs.declared.index.Node.{Node}
 

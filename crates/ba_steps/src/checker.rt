@@ -13,13 +13,12 @@ ghost use Rattle.ba_steps.specs.declared.store.Origin.TheVariants as origins;
 
 use crate::clauses::Clauses;
 use crate::judge::RunJudge;
-use crate::literal_set::LiteralSet;
 use crate::replay::{refill, replay};
 use crate::split::{add_late_softs, add_split, fresh_count, lightest, lowered};
 use crate::step::{CertStep, StepError};
 use crate::store::Origin;
 use ba_items::Items;
-use ba_lits::{Formula, Lit};
+use ba_lits::{Formula, Lit, LiteralSet};
 use std::alloc::{AllocError, Global};
 use std::marker::Model;
 

@@ -6,12 +6,11 @@ ghost use Rattle.ba_steps.specs.States.{kept, clause_at, is_learnt_at, width_at,
 ghost use Rattle.ba_steps.specs.Parts.{holds_clause, is_part};
 ghost use Rattle.ba_steps.specs.Listed.{AreListed, is_key, are_keys, firsts, is_part_at, any_listed, under_any};
 ghost use Rattle.ba_lits.specs.Literals.{Literal};
-ghost use Rattle.ba_steps.specs.Marks.{has_index};
+ghost use Rattle.ba_lits.specs.Members.{has_index};
 
 use crate::index::{Index, Keys};
-use crate::literal_set::LiteralSet;
 use crate::store::{Origin, Store};
-use ba_lits::Lit;
+use ba_lits::{Lit, LiteralSet};
 use std::alloc::{AllocError, Global};
 use std::marker::Model;
 

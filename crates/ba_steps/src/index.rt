@@ -5,6 +5,7 @@ ghost use Rattle.ba_steps.specs.States.{is_live_at};
 ghost use Rattle.ba_steps.specs.Listed.{AreLinks, AreListed, latest, keys_of, all_keys, links, firsts, key_anew, anew};
 
 use crate::store::Store;
+use ba_items::fill_up;
 use std::alloc::{AllocError, Global};
 use std::marker::Model;
 
@@ -63,8 +64,8 @@ impl Index {
     pub fn grow(&mut self, keys: usize) -> Result<(), AllocError>
         ensures { self.new ≡ self.old }
     {
-        fill_up(&mut self.heads, keys)?;
-        fill_up(&mut self.counts, keys)
+        fill_up(&mut self.heads, keys, 0)?;
+        fill_up(&mut self.counts, keys, 0)
     }
 
     /// How many clauses are listed under a key, as far as 2^32 - 1.
@@ -87,8 +88,8 @@ impl Index {
             return Err(AllocError);
         }
         let node = packed(keys, link(self.heads.as_slice(), keys.key))?;
-        fill_up(&mut self.heads, keys.key + 1)?;
-        fill_up(&mut self.counts, keys.key + 1)?;
+        fill_up(&mut self.heads, keys.key + 1, 0)?;
+        fill_up(&mut self.counts, keys.key + 1, 0)?;
         self.nodes.push(node)?;
         relink(&mut self.heads, keys.key, place as u32 + 1);
         count_up(&mut self.counts, keys.key);
@@ -217,17 +218,6 @@ fn link(links: &[u32], place: usize) -> u32
     ensures { result ≡ slice_index links.now place }
 {
     if place < links.len() { links[place] } else { 0 }
-}
-
-/// Makes a table of links at least so long.
-fn fill_up(links: &mut Vec<u32>, count: usize) -> Result<(), AllocError>
-    ensures same { (k : ℕ) → slice_index links.new.items k ≡ slice_index links.old.items k }
-    ensures room { OnOk result (count ≤ length links.new.items) }
-{
-    if links.len() < count {
-        links.resize(count, 0)?;
-    }
-    Ok(())
 }
 
 /// Sets all links to 0.

@@ -1,9 +1,9 @@
 //! Who says which runs are good.
 
 ghost use Rattle.std.specs.Prelude.{◌≡◌, Bool, IfOk, List, ℕ};
-ghost use Rattle.ba_tree.specs.declared.run.Choice.{Choice};
+ghost use Rattle.ba_choices.specs.declared.Choice.{Choice};
 
-use ba_tree::run::Choice;
+use ba_choices::Choice;
 use std::alloc::AllocError;
 
 /// A judge says which lists of choices are good runs for which groups.

@@ -14,14 +14,11 @@ mod index;
 mod judge;
 pub mod laws;
 mod list_judge;
-mod literal_set;
 mod replay;
 mod sink;
 mod split;
 mod step;
 mod store;
-#[cfg(test)]
-mod tests;
 
 pub use checked::Checked;
 pub use checker::{APART_BY, Checker};

@@ -4,8 +4,8 @@ ghost use Rattle.std.specs.Prelude.{◌≡◌, ◌++◌, ◌∷◌, [], OnOk, On
 ghost use Rattle.ba_steps.specs.GoodRuns.{same_choice, same_run, is_listed, are_listed};
 
 use crate::judge::RunJudge;
+use ba_choices::Choice;
 use ba_items::Items;
-use ba_tree::run::Choice;
 use std::alloc::{AllocError, Global};
 use std::marker::Model;
 

@@ -7,9 +7,8 @@ ghost use Rattle.ba_steps.specs.Judging.{Finds, error_of_replay};
 ghost use Rattle.ba_steps.specs.Looks.{standing_of};
 
 use crate::clauses::Clauses;
-use crate::literal_set::LiteralSet;
 use crate::step::StepError;
-use ba_lits::Lit;
+use ba_lits::{Lit, LiteralSet};
 use std::alloc::AllocError;
 
 /// What a clause says where some literals are false.

@@ -9,7 +9,7 @@ ghost use Rattle.ba_steps.specs.declared.sink.Basis.{Basis};
 ghost use base.Fml.{GName};
 
 use crate::step::CertStep;
-use ba_items::Items;
+use ba_items::{Items, TryClone};
 use ba_lits::{Formula, Lit};
 use std::alloc::{AllocError, AllocFailed, Global};
 use std::marker::Model;
@@ -172,7 +172,7 @@ impl StepSink for ListSink {
         ensures unchanged { OnErr result (self.new ≡ self.old) }
         ensures never { result ≢ Err SinkError.Failed }
     {
-        let formula = formula.copy(self.alloc)?;
+        let formula = formula.try_clone(self.alloc)?;
         let softs = Items::from_slice(self.alloc, softs)?;
         self.over.push(Basis { formula, softs })?;
         Ok(())
@@ -183,7 +183,7 @@ impl StepSink for ListSink {
         ensures unchanged { OnErr result (self.new ≡ self.old) }
         ensures never { result ≢ Err SinkError.Failed }
     {
-        self.steps.push(step.copy(self.alloc)?)?;
+        self.steps.push(step.try_clone(self.alloc)?)?;
         Ok(())
     }
 }

@@ -7,9 +7,8 @@ ghost use Rattle.ba_steps.specs.States.{kept};
 ghost use Rattle.ba_steps.specs.declared.store.Origin.TheVariants as origins;
 
 use crate::clauses::Clauses;
-use crate::literal_set::LiteralSet;
 use crate::store::Origin;
-use ba_lits::Lit;
+use ba_lits::{Lit, LiteralSet};
 use std::alloc::{AllocError, Global};
 
 /// Two literals by ascending variable.

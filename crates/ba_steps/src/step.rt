@@ -1,9 +1,9 @@
 //! The steps of a derivation, and why a step isn't allowed.
 
-ghost use Rattle.std.specs.Prelude.{◌≡◌, IfOk};
+ghost use Rattle.std.specs.Prelude.{◌≡◌};
 ghost use Rattle.ba_steps.specs.Numbers.{number_of};
 
-use ba_items::Items;
+use ba_items::{Items, TryClone};
 use ba_lits::Lit;
 use std::alloc::{AllocError, AllocFailed, Global};
 use thiserror::Error;
@@ -25,11 +25,8 @@ pub enum CertStep {
     EndSpent,
 }
 
-impl CertStep {
-    /// The same step once more. The one error is want of memory.
-    pub fn copy(&self, alloc: Global) -> Result<CertStep, AllocError>
-        ensures { IfOk result (λ copy. copy ≡ self.now) }
-    {
+impl TryClone for CertStep {
+    fn try_clone(&self, alloc: Global) -> Result<CertStep, AllocError> {
         match self {
             CertStep::Learn { lits, hints } => Ok(CertStep::Learn {
                 lits: Items::from_slice(alloc, lits.as_slice())?,

@@ -5,15 +5,15 @@ use Rattle.std.proofs.lemmas.Bool.Decides.{Decides-eqb, Decides-int_eq}
 use Rattle.std.proofs.lemmas.List.{map-set}
 use Rattle.std.proofs.Math.ListN.{get_or-map}
 use Rattle.std.specs.Ordering.{int_eq}
-use Rattle.ba_tree.specs.Numbers.{IsIn, is_in, least_of, greatest_of}
+use Rattle.ba_numbers.specs.Numbers.{IsIn, is_in, least_of, greatest_of}
 use Rattle.ba_tree.specs.State.{State, Act, Ending, Flow, next, then_do, value_at, with_value, in_order, after_part}
 use Rattle.ba_tree.specs.Meaning.{relaxed, one_value_of, set_to, take_value}
 use Rattle.ba_tree.specs.Run.{outcome_of, outcome_with, is_done}
-use Rattle.ba_tree.specs.declared.ids.StmtId.{StmtId}
-use Rattle.ba_tree.specs.declared.ids.VarId.{VarId}
-use Rattle.ba_tree.specs.declared.numbers.CType.TheVariants.{I32}
-use Rattle.ba_tree.specs.declared.run.Choice.{Choice}
-use Rattle.ba_tree.specs.declared.run.Choice.TheVariants.{Keep, Take}
+use Rattle.ba_numbers.specs.declared.ids.StmtId.{StmtId}
+use Rattle.ba_numbers.specs.declared.ids.VarId.{VarId}
+use Rattle.ba_numbers.specs.declared.numbers.CType.TheVariants.{I32}
+use Rattle.ba_choices.specs.declared.Choice.{Choice}
+use Rattle.ba_choices.specs.declared.Choice.TheVariants.{Keep, Take}
 use Rattle.ba_tree.specs.declared.run.Outcome.TheVariants.{AssertFails, WrongChoices}
 use Rattle.ba_straight.specs.Items.{AreNumbered}
 use Rattle.ba_straight.specs.Terms.{term_at, with_term, term_of, is_relaxed, settled, assert_term, can_hold}

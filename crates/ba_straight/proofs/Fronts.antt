@@ -2,7 +2,7 @@
 use Rattle.std.proofs.Common.{◌≡◌, ℕ, zero, suc, ◌+◌, ◌<◌, ◌==◌, Bool, true, false, cond, Option, None, Some, is_some, option_map, List, [], ◌∷◌, length, get_or, drop, map, sym, ◌∙◌, ap, subst, refl, arith, bytes_eq, ◌⊎◌, inl, inr}
 use Rattle.std.proofs.lemmas.Bool.Decides.{Decides-eqb}
 use Rattle.std.proofs.lemmas.Slice.Eq.{bytes_eq-Decides}
-use Rattle.ba_tree.specs.declared.ids.VarId.{VarId}
+use Rattle.ba_numbers.specs.declared.ids.VarId.{VarId}
 use Rattle.ba_straight.specs.declared.pieces.Mark.{Mark}
 use Rattle.ba_straight.specs.declared.pieces.Mark.TheVariants as mark
 use Rattle.ba_straight.specs.declared.pieces.Token.{Token}

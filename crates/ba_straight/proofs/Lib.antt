@@ -8,7 +8,6 @@ pub mod ItemLaws
 pub mod BodyLaws
 pub mod ParamLaws
 pub mod TextLaws
-pub mod InputLaws
 pub mod Plain
 pub mod Found
 pub mod LeastSets

@@ -5,7 +5,7 @@ use Rattle.ba_tree.specs.State.{State, value_at, with_value}
 use Rattle.ba_tree.specs.Run.{outcome_with, is_done, run_of}
 use Rattle.ba_tree.specs.declared.run.Allowed.TheVariants.{Statements}
 use Rattle.ba_tree.specs.declared.run.Bounds.{Bounds}
-use Rattle.ba_tree.specs.declared.run.Choice.{Choice}
+use Rattle.ba_choices.specs.declared.Choice.{Choice}
 use Rattle.ba_tree.specs.declared.run.Input.{Input}
 use Rattle.ba_tree.specs.declared.run.Outcome.TheVariants.{Done}
 use Rattle.ba_tree.specs.declared.tree.Program.{Program}

@@ -3,7 +3,7 @@ use Rattle.std.proofs.Common.{◌≡◌, ℕ, suc, ◌+◌, ◌-◌, ◌<◌, �
 use Rattle.std.proofs.lemmas.List.{length-append}
 use Rattle.std.proofs.lemmas.Bool.Decides.{Decides-eqb}
 use Rattle.ba_tree.specs.declared.tree.StmtKind.TheVariants as kind
-use Rattle.ba_tree.specs.declared.ids.VarId.{VarId}
+use Rattle.ba_numbers.specs.declared.ids.VarId.{VarId}
 use Rattle.ba_straight.specs.Spelling.{place_of}
 use Rattle.ba_straight.specs.declared.items.Item.TheVariants.{Declare, Assign, Assert}
 use Rattle.ba_straight.specs.Reading.{declared_name, after_mark, param_at, params_by, params_from, item_at, added, body_by, body_from, counted, ◌>>=◌}

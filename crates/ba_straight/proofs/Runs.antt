@@ -2,26 +2,26 @@
 use Rattle.std.proofs.Common.{◌≡◌, ℕ, ◌+◌, zero, suc, ℤ, pos, Bool, true, false, cond, ◌==◌, ◌||◌, Option, None, Some, List, [], ◌∷◌, length, get_or, set, replicate, slice_get, map, sym, ◌∙◌, ap, refl, Ok, Err, ◌↔◌}
 use Rattle.std.specs.List.{list_any}
 use Rattle.std.specs.Ordering.{int_eq}
-use Rattle.ba_tree.specs.Numbers.{value_of, converted, truth}
+use Rattle.ba_numbers.specs.Numbers.{value_of, converted, truth}
 use Rattle.ba_tree.specs.State.{State, Act, Ending, Flow, next, then_do, value_at, in_order, after_part}
 use Rattle.ba_tree.specs.Meaning.{Setting, exec, eval, or_trap, relaxed, take_value, one_value_of, set_to, assert_that, type_of}
 use Rattle.ba_tree.specs.Run.{outcome_of, is_done, run_of, setting_of, with_input, start_of, main_of, params_in, body_in}
 use Rattle.ba_tree.specs.Least.{stmt_of, judge_of, IsFeasible}
 use Rattle.ba_tree.proofs.Equations.{eval-Const, eval-Var, eval-Binary}
-use Rattle.ba_tree.specs.declared.ids.StmtId.{StmtId}
-use Rattle.ba_tree.specs.declared.ids.VarId.{VarId}
-use Rattle.ba_tree.specs.declared.numbers.BinOp.TheVariants.{Eq}
-use Rattle.ba_tree.specs.declared.numbers.CType.TheVariants.{I32}
+use Rattle.ba_numbers.specs.declared.ids.StmtId.{StmtId}
+use Rattle.ba_numbers.specs.declared.ids.VarId.{VarId}
+use Rattle.ba_numbers.specs.declared.numbers.BinOp.TheVariants.{Eq}
+use Rattle.ba_numbers.specs.declared.numbers.CType.TheVariants.{I32}
 use Rattle.ba_tree.specs.declared.run.Allowed.TheVariants.{Statements}
 use Rattle.ba_tree.specs.declared.run.Bounds.{Bounds}
-use Rattle.ba_tree.specs.declared.run.Choice.{Choice}
+use Rattle.ba_choices.specs.declared.Choice.{Choice}
 use Rattle.ba_tree.specs.declared.run.Input.{Input}
 use Rattle.ba_tree.specs.declared.run.Outcome.TheVariants.{AssertFails}
 use Rattle.ba_tree.specs.declared.run.Step.{Step}
 use Rattle.ba_tree.specs.declared.tree.Expr.{Expr}
 use Rattle.ba_tree.specs.declared.tree.Expr.TheOpen.{Expr-F}
 use Rattle.ba_tree.specs.declared.tree.Expr.TheViews.{out-Expr}
-use Rattle.ba_tree.specs.declared.ids.FnId.{FnId}
+use Rattle.ba_numbers.specs.declared.ids.FnId.{FnId}
 use Rattle.ba_tree.specs.declared.tree.Function.{Function}
 use Rattle.ba_tree.specs.declared.tree.Program.{Program}
 use Rattle.std.proofs.lemmas.List.{length-replicate}

@@ -1,8 +1,8 @@
 -- What a token is, by what the grammar of straight-line programs sees of it.
 
 use Rattle.std.proofs.Common.{◌≡◌, ℕ, ℤ, pos, negsuc, nat_le, Bool, true, false, cond, refl}
-use Rattle.ba_tree.specs.declared.numbers.CType.{CType}
-use Rattle.ba_tree.specs.declared.numbers.CType.TheVariants as ctype
+use Rattle.ba_numbers.specs.declared.numbers.CType.{CType}
+use Rattle.ba_numbers.specs.declared.numbers.CType.TheVariants as ctype
 use Rattle.ba_lex.specs.declared.token.Keyword.{Keyword}
 use Rattle.ba_lex.specs.declared.token.Keyword.TheVariants as keyword
 use Rattle.ba_lex.specs.declared.token.Punct.{Punct}

@@ -4,7 +4,7 @@ use Rattle.std.proofs.lemmas.List.{length-append, length-map}
 use Rattle.std.proofs.lemmas.Grind.{common_steps}
 use Rattle.std.proofs.lemmas.Slice.Eq.{bytes_eq-Decides}
 use Rattle.std.proofs.Math.Seq.{drop-append_seam}
-use Rattle.ba_tree.specs.declared.ids.VarId.{VarId}
+use Rattle.ba_numbers.specs.declared.ids.VarId.{VarId}
 use Rattle.ba_tree.specs.declared.tree.StmtInfo.{StmtInfo}
 use Rattle.ba_straight.specs.declared.items.Item.{Item}
 use Rattle.ba_straight.specs.declared.items.Item.TheVariants.{Declare, Assign, Assert}
@@ -13,8 +13,8 @@ use Rattle.ba_lex.specs.declared.error.LexError.{LexError}
 use Rattle.ba_lex.specs.declared.token.TokenKind.{TokenKind}
 use Rattle.ba_lex.specs.declared.token.TokenKind.TheVariants as kind
 use Rattle.ba_lex.specs.declared.token.Token.{Token as LexToken}
-use Rattle.ba_tree.specs.declared.numbers.CType.{CType}
-use Rattle.ba_tree.specs.declared.numbers.CType.TheVariants as ctype
+use Rattle.ba_numbers.specs.declared.numbers.CType.{CType}
+use Rattle.ba_numbers.specs.declared.numbers.CType.TheVariants as ctype
 use Rattle.ba_straight.specs.Seen.{keyword_mark, punct_mark, number_of, constant_of, marked, token_of, pieces_of}
 use Rattle.ba_straight.specs.declared.pieces.Mark.{Mark}
 use Rattle.ba_straight.specs.declared.pieces.Mark.TheVariants as mark

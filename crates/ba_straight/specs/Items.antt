@@ -1,14 +1,14 @@
 -- The items of a straight-line program, and the tree that they stand for.
 
 use Rattle.std.specs.Prelude.{◌≡◌, ℕ, ◌+◌, ℤ, Option, None, Some, List, [], ◌∷◌, map, length, replicate}
-use Rattle.ba_tree.specs.declared.ids.StmtId.{StmtId}
-use Rattle.ba_tree.specs.declared.ids.VarId.{VarId}
-use Rattle.ba_tree.specs.declared.numbers.CType.TheVariants.{I32}
-use Rattle.ba_tree.specs.declared.numbers.BinOp.TheVariants.{Eq}
+use Rattle.ba_numbers.specs.declared.ids.StmtId.{StmtId}
+use Rattle.ba_numbers.specs.declared.ids.VarId.{VarId}
+use Rattle.ba_numbers.specs.declared.numbers.CType.TheVariants.{I32}
+use Rattle.ba_numbers.specs.declared.numbers.BinOp.TheVariants.{Eq}
 use Rattle.ba_tree.specs.declared.tree.Expr.{Expr}
 use Rattle.ba_tree.specs.declared.tree.Expr.TheOpen.{Expr-F}
 use Rattle.ba_tree.specs.declared.tree.Expr.TheViews.{out-Expr}
-use Rattle.ba_tree.specs.Numbers.{IsIn}
+use Rattle.ba_numbers.specs.Numbers.{IsIn}
 use Rattle.ba_tree.specs.declared.tree.Function.{Function}
 use Rattle.ba_tree.specs.declared.tree.Program.{Program}
 use Rattle.ba_tree.specs.declared.tree.Shape.TheVariants.{Value}

@@ -1,7 +1,6 @@
 pub mod Items
 pub mod Terms
 pub mod Sets
-pub mod Decimal
 pub mod Seen
 pub mod Spelling
 pub mod Reading

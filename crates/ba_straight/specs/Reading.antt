@@ -1,7 +1,7 @@
 -- Reading the pieces of a straight-line program from the front.
 
 use Rattle.std.specs.Prelude.{◌≡◌, ℕ, zero, suc, ◌+◌, nat_le, ◌==◌, ◌&&◌, ℤ, pos, Bool, false, cond, is_some, Option, None, Some, option_map, List, [], ◌∷◌, ◌++◌, length, codes, bytes_eq}
-use Rattle.ba_tree.specs.declared.ids.VarId.{VarId}
+use Rattle.ba_numbers.specs.declared.ids.VarId.{VarId}
 use Rattle.ba_tree.specs.declared.tree.StmtKind.TheVariants as kind
 use Rattle.ba_straight.specs.declared.items.Operand.{Operand}
 use Rattle.ba_straight.specs.declared.items.Operand.TheVariants as operand

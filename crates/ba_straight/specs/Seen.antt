@@ -1,8 +1,8 @@
 -- What the grammar of straight-line programs sees of the tokens of a program.
 
 use Rattle.std.specs.Prelude.{nat_le, ℤ, pos, negsuc, cond, Option, None, Some, List, map}
-use Rattle.ba_tree.specs.declared.numbers.CType.{CType}
-use Rattle.ba_tree.specs.declared.numbers.CType.TheVariants.{I32}
+use Rattle.ba_numbers.specs.declared.numbers.CType.{CType}
+use Rattle.ba_numbers.specs.declared.numbers.CType.TheVariants.{I32}
 use Rattle.ba_lex.specs.declared.token.Keyword.{Keyword}
 use Rattle.ba_lex.specs.declared.token.Keyword.TheVariants as keyword
 use Rattle.ba_lex.specs.declared.token.Punct.{Punct}

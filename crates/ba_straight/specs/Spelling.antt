@@ -3,8 +3,8 @@
 use Rattle.std.specs.Prelude.{◌≡◌, ◌⊎◌, ℕ, ◌+◌, ◌<◌, ◌≤◌, ℤ, pos, negsuc, Ok, List, [], ◌∷◌, ◌++◌, map, length, drop, slice_index_or, codes}
 use Rattle.ba_lex.specs.Lines.{tokens_of}
 use Rattle.ba_lex.specs.declared.token.Token.{Token as LexToken}
-use Rattle.ba_tree.specs.declared.ids.At.{At}
-use Rattle.ba_tree.specs.declared.ids.VarId.{VarId}
+use Rattle.ba_numbers.specs.declared.ids.At.{At}
+use Rattle.ba_numbers.specs.declared.ids.VarId.{VarId}
 use Rattle.ba_tree.specs.declared.tree.Program.{Program}
 use Rattle.ba_tree.specs.declared.tree.StmtInfo.{StmtInfo}
 use Rattle.ba_tree.specs.declared.tree.StmtKind.TheVariants as kind

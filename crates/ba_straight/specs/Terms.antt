@@ -4,8 +4,8 @@
 use Rattle.std.specs.Prelude.{ℕ, ℤ, pos, Bool, true, cond, ◌&&◌, ◌==◌, List, [], ◌∷◌, map, slice_index_or, slice_set, replicate}
 use Rattle.std.specs.List.{list_any}
 use Rattle.std.specs.Ordering.{int_eq}
-use Rattle.ba_tree.specs.declared.ids.StmtId.{StmtId}
-use Rattle.ba_tree.specs.declared.ids.VarId.{VarId}
+use Rattle.ba_numbers.specs.declared.ids.StmtId.{StmtId}
+use Rattle.ba_numbers.specs.declared.ids.VarId.{VarId}
 use Rattle.ba_straight.specs.declared.items.Operand.{Operand}
 use Rattle.ba_straight.specs.declared.items.Operand.TheVariants.{Number, Variable}
 use Rattle.ba_straight.specs.declared.items.Item.{Item}

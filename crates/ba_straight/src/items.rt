@@ -1,7 +1,7 @@
 //! The items of a straight-line program, and the tree that they stand for.
 
 use ba_items::Items;
-use ba_tree::ids::{StmtId, VarId};
+use ba_numbers::ids::{StmtId, VarId};
 use ba_tree::tree::StmtInfo;
 
 /// What an assignment assigns.

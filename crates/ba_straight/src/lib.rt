@@ -4,7 +4,6 @@
 //! asserts of a variable against a number. Its least sets are found by trying sets of statements by weight.
 #![tactic(auto)]
 
-mod decimal_digits;
 pub mod input;
 pub mod items;
 pub mod pieces;

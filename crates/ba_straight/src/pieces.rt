@@ -5,8 +5,8 @@ ghost use Rattle.ba_straight.specs.Seen.{constant_of, keyword_mark, marked, numb
 
 use ba_items::Items;
 use ba_lex::token::{Keyword, Punct, Token as LexToken, TokenKind};
-use ba_tree::ids::At;
-use ba_tree::numbers::CType;
+use ba_numbers::ids::At;
+use ba_numbers::numbers::CType;
 use std::alloc::{AllocError, Global};
 
 /// A keyword or a punctuator of this form.

@@ -7,8 +7,8 @@ ghost use Rattle.ba_straight.specs.Items.{IsTree, int_variable, item_of, operand
 
 use crate::items::{Item, Operand, Straight};
 use ba_items::Items;
-use ba_tree::ids::FnId;
-use ba_tree::numbers::{BinOp, CType};
+use ba_numbers::ids::FnId;
+use ba_numbers::numbers::{BinOp, CType};
 use ba_tree::run::Weights;
 use ba_tree::tree::{Expr, Function, Program, Shape, Stmt, StmtKind, Variable};
 use std::alloc::{AllocError, Global};

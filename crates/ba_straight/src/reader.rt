@@ -10,7 +10,7 @@ use crate::items::{Item, Operand, Straight};
 use crate::pieces::{Mark, Piece, Token, pieces_of};
 use ba_items::Items;
 use ba_lex::token::Token as LexToken;
-use ba_tree::ids::{At, StmtId, VarId};
+use ba_numbers::ids::{At, StmtId, VarId};
 use ba_tree::tree::{StmtInfo, StmtKind};
 use std::alloc::{AllocError, Global};
 

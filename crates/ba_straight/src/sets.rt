@@ -13,7 +13,7 @@ ghost use Rattle.ba_straight.specs.Terms.{can_hold, start_terms, terms_with};
 use crate::items::{Item, Straight};
 use crate::terms::{Term, can_hold, set_term};
 use ba_items::Items;
-use ba_tree::ids::VarId;
+use ba_numbers::ids::VarId;
 use ba_tree::run::{Input, Weights};
 use std::alloc::{AllocError, Global};
 

@@ -6,7 +6,7 @@ ghost use Rattle.ba_straight.specs.declared.terms.Term.{Term};
 ghost use Rattle.ba_straight.specs.Terms.{assert_term, can_hold, is_relaxed, settled, term_at, term_of, with_term};
 
 use crate::items::{Item, Operand};
-use ba_tree::ids::{StmtId, VarId};
+use ba_numbers::ids::{StmtId, VarId};
 
 /// The value of a variable while the values that relaxed assignments take are not settled.
 #[derive(Clone, Copy, Debug, PartialEq, Eq)]

@@ -10,7 +10,7 @@ use Rattle.ba_tree.specs.Least.{AreLeast, judge_of, unit_weights}
 use Rattle.ba_tree.proofs.Sets.{AreLeast-unique}
 use Rattle.ba_tree.specs.declared.run.Input.{Input}
 use Rattle.ba_tree.specs.declared.tree.Program.{Program}
-use Rattle.ba_straight.specs.Decimal.{digits_value}
+use Rattle.std.specs.Str.Parse.{digits_value}
 use Rattle.ba_tool.specs.Refusals.{IsFaulty, IsFileText}
 use Rattle.ba_tool.specs.Words.{IsJob}
 use Rattle.ba_tool.specs.declared.fault.Fault.{Fault}
@@ -34,7 +34,7 @@ job_same words p q i j b d one other =
     let e = one.words_are in
     let k = other.words_are in
     let bounds : one.bound_word ≡ other.bound_word = cc in
-    (cc, cc, one.bound_is ∙ ap digits_value bounds ∙ sym other.bound_is)
+    (cc, cc, one.bound_is ∙ ap (digits_value 10) bounds ∙ sym other.bound_is)
 
 -- a told file has the bytes that were read
 same_bytes : (held : Option (Option (List ℕ))) (told read : List ℕ) → held ≡ Some (Some told) → Holds held read → read ≡ told

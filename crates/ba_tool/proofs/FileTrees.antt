@@ -15,7 +15,7 @@ use Rattle.ba_parse.proofs.Calm.{unnamed_append}
 use Rattle.ba_parse.proofs.Combined.{node_pairs}
 use Rattle.ba_parse.proofs.Depths.{none_deep}
 use Rattle.ba_parse.proofs.Forests.{yield_append, yield_node, yield_deeper, pairs_append, sunk, or_tail, even_of, IsEven}
-use Rattle.ba_tree.specs.declared.ids.VarId.{VarId}
+use Rattle.ba_numbers.specs.declared.ids.VarId.{VarId}
 use Rattle.ba_straight.specs.declared.items.Item.{Item}
 use Rattle.ba_straight.specs.declared.items.Item.TheVariants.{Declare, Assign, Assert}
 use Rattle.ba_straight.specs.declared.items.Operand.{Operand}

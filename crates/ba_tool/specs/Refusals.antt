@@ -1,7 +1,7 @@
 -- Why the text of a program is refused: it has no tokens, or its tokens are no file's.
 
 use Rattle.std.specs.Prelude.{◌≡◌, ℕ, Option, None, Some, option_map, Ok, Err, List, ◌++◌, codes, decimal, slice_get}
-use Rattle.ba_tree.specs.declared.ids.At.{At}
+use Rattle.ba_numbers.specs.declared.ids.At.{At}
 use Rattle.ba_lex.specs.Lines.{tokens_of}
 use Rattle.ba_lex.specs.declared.error.LexError.{LexError}
 use Rattle.ba_lex.specs.declared.error.LexError.TheVariants as lexical

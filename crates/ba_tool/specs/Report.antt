@@ -2,8 +2,8 @@
 
 use Rattle.std.specs.Prelude.{◌≡◌, ℕ, ◌+◌, ◌-◌, ◌==◌, List, [], ◌∷◌, ◌++◌, length, take, drop, take_while, flat_map, slice_get, slice_index_or, unwrap_or, codes, decimal}
 use Rattle.std.specs.List.{suffix_len, slice_split}
-use Rattle.ba_straight.specs.Decimal.{is_blank}
-use Rattle.ba_tree.specs.declared.ids.At.{At}
+use Rattle.ba_bytes.specs.Classes.{is_blank}
+use Rattle.ba_numbers.specs.declared.ids.At.{At}
 use Rattle.ba_tree.specs.declared.tree.Program.{Program}
 use Rattle.ba_tree.specs.declared.tree.StmtInfo.{StmtInfo}
 use Rattle.ba_tree.specs.declared.tree.StmtKind.{StmtKind}

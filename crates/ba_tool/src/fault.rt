@@ -6,8 +6,8 @@ ghost use Rattle.ba_tool.specs.Refusals.{code_of, fault_text, lexical_fault, pla
 use crate::report::push_number;
 use ba_lex::error::LexError;
 use ba_lex::token::Token;
+use ba_numbers::ids::At;
 use ba_parse::ParseError;
-use ba_tree::ids::At;
 use std::alloc::{AllocError, Global};
 
 /// What is wrong: the errors of the tokens, and then those of their tree.

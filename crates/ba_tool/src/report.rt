@@ -1,20 +1,15 @@
 //! The report: the text that names the least sets of a program.
 
 ghost use Rattle.std.specs.Prelude.{◌≡◌, ◌++◌, ◌+◌, ◌≤◌, take_while, flat_map, length, decimal, IfOk, OnOk};
-ghost use Rattle.ba_straight.specs.Decimal.{is_blank};
+ghost use Rattle.ba_bytes.specs.Classes.{is_blank};
 ghost use Rattle.ba_tool.specs.Report.{Reports, info_line, kind_word, line_at, place_text, set_lines, sets_lines, source_text, statement_at, trimmed, trimmed_end};
 
+use ba_bytes::classes::is_blank;
 use ba_items::Items;
-use ba_tree::ids::At;
+use ba_numbers::ids::At;
 use ba_tree::tree::{Program, StmtInfo, StmtKind};
 use itoa::Buffer;
 use std::alloc::{AllocError, Global};
-
-fn is_blank(byte: u8) -> bool
-    ensures { result ≡ is_blank byte }
-{
-    matches!(byte, 9..=13 | b' ')
-}
 
 /// A line of a source text, counted from 1, without its line end; nothing where there is no such line.
 fn line_at(source: &[u8], line: u32) -> &[u8]

@@ -73,26 +73,3 @@ pub fn keep(width: u64, age: u64) -> bool
 {
     width <= 6 || age < 4000
 }
-
-#[cfg(test)]
-mod tests {
-    use super::*;
-
-    #[test]
-    fn restarts_follow_the_sequence(rt: HostRuntime) {
-        for (restarts, conflicts) in [
-            (0, 100),
-            (1, 100),
-            (2, 200),
-            (5, 200),
-            (6, 400),
-            (7, 100),
-            (14, 800),
-            (1_000_000, 100),
-        ] {
-            assert_eq!(rt; luby(restarts), conflicts, "after {restarts}");
-        }
-        assert_eq!(rt; steady(3), 1000);
-        assert!(rt; keep(6, 4000) && keep(7, 3999) && !keep(7, 4000));
-    }
-}

@@ -1,9 +1,10 @@
 //! The words that the program is called with.
 
 ghost use Rattle.std.specs.Prelude.{◌≡◌, ◌↔◌, ℕ, ◌≤◌, true, IsTrue, if◌then◌else◌, List, length, map, MatchOption};
-ghost use Rattle.std.specs.List.{list_all};
-ghost use Rattle.ba_straight.specs.Decimal.{digits_value, is_digit};
-ghost use Rattle.ba_tool.specs.Words.{IsJob, is_bound, is_file_name, is_numeral};
+ghost use Rattle.std.specs.Str.Parse.{digits_value};
+ghost use Rattle.ba_tool.specs.Words.{IsJob, is_bound, is_file_name};
+
+use ba_bytes::decimal::natural;
 
 /// What the words ask for: the names of two files, and the bound on the turns of each entry of a loop, from 1
 /// to 64.
@@ -30,46 +31,17 @@ fn is_file_name(word: &str) -> bool
     }
 }
 
-fn is_digit(byte: u8) -> bool
-    ensures { result ≡ is_digit byte }
-{
-    matches!(byte, b'0'..=b'9')
-}
-
-fn are_digits(word: &[u8]) -> bool
-    ensures { result ≡ list_all is_digit word.now }
-{
-    word.iter().all(|byte| is_digit(*byte))
-}
-
-/// Whether a word is one to seven decimal digits.
-fn is_numeral(word: &str) -> bool
-    ensures { result ≡ is_numeral word.now }
-{
-    are_digits(word.as_bytes()) && 1 <= word.len() && word.len() <= 7
-}
-
-/// The number that one to seven decimal digits write.
-fn number_of(word: &str) -> u32
-    requires digits { list_all is_digit word.now ≡ true }
-    requires some { 1 ≤ length word.now }
-    requires few { length word.now ≤ 7 }
-    ensures { result ≡ digits_value word.now }
-{
-    word.parse::<u32>().unwrap_or(0)
-}
-
 /// The bound that a word gives: one to seven decimal digits with a value from 1 to 64, and None for every other
 /// word.
 fn bound_of(word: &str) -> Option<u32>
-    ensures { result ≡ (if is_bound word.now then Some (digits_value word.now) else None) }
+    ensures { result ≡ (if is_bound word.now then Some (digits_value 10 word.now) else None) }
 {
-    if !is_numeral(word) {
+    if word.len() > 7 {
         return None;
     }
-    let bound = number_of(word);
+    let bound = natural(word.as_bytes())?;
     if 1 <= bound && bound <= 64 {
-        Some(bound)
+        Some(bound as u32)
     } else {
         None
     }

@@ -1,12 +1,12 @@
 -- What each form of an expression does, one equation a form.
 use Rattle.std.proofs.Common.{◌≡◌, ℕ, ℤ, Result, Ok, Err, List, refl, sym, ◌∙◌, ap}
-use Rattle.ba_tree.specs.Numbers.{value_of}
+use Rattle.ba_numbers.specs.Numbers.{value_of}
 use Rattle.ba_tree.specs.State.{State, Act, Ending, then_do, value_at}
 use Rattle.ba_tree.specs.Meaning.{Setting, eval, expr_step, or_trap}
-use Rattle.ba_tree.specs.declared.ids.StmtId.{StmtId}
-use Rattle.ba_tree.specs.declared.ids.VarId.{VarId}
-use Rattle.ba_tree.specs.declared.numbers.CType.{CType}
-use Rattle.ba_tree.specs.declared.numbers.BinOp.{BinOp}
+use Rattle.ba_numbers.specs.declared.ids.StmtId.{StmtId}
+use Rattle.ba_numbers.specs.declared.ids.VarId.{VarId}
+use Rattle.ba_numbers.specs.declared.numbers.CType.{CType}
+use Rattle.ba_numbers.specs.declared.numbers.BinOp.{BinOp}
 use Rattle.ba_tree.specs.declared.run.Step.{Step}
 use Rattle.ba_tree.specs.declared.tree.Expr.{Expr}
 use Rattle.ba_tree.specs.declared.tree.Expr.TheViews.{out-Expr}

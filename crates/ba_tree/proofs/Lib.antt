@@ -1,4 +1,3 @@
 pub mod Members
 pub mod Sets
 pub mod Equations
-pub mod Conversions

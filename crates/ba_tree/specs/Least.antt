@@ -2,10 +2,10 @@
 
 use Rattle.std.specs.Prelude.{◌≡◌, ℕ, ◌-◌, ◌<◌, ◌≤◌, ◌↔◌, Bool, true, Option, None, Some, List, [], ◌∷◌, map, Contains, slice_get, sum_by, IsSome, unwrap_or, ◌⊎◌, cond, ◌==◌}
 use Rattle.ba_tree.specs.Run.{run_of, is_done}
-use Rattle.ba_tree.specs.declared.ids.StmtId.{StmtId}
+use Rattle.ba_numbers.specs.declared.ids.StmtId.{StmtId}
 use Rattle.ba_tree.specs.declared.run.Allowed.TheVariants.{Statements}
 use Rattle.ba_tree.specs.declared.run.Bounds.{Bounds}
-use Rattle.ba_tree.specs.declared.run.Choice.{Choice}
+use Rattle.ba_choices.specs.declared.Choice.{Choice}
 use Rattle.ba_tree.specs.declared.run.Input.{Input}
 use Rattle.ba_tree.specs.declared.tree.Program.{Program}
 use Rattle.ba_tree.specs.declared.tree.StmtInfo.{StmtInfo}

@@ -3,14 +3,14 @@
 use Rattle.std.specs.Prelude.{ℕ, ℤ, pos, Bool, true, false, cond, ◌&&◌, ◌==◌, Option, None, Some, List, [], ◌∷◌, slice_index_or, Ok, Err}
 use Rattle.std.specs.List.{list_any}
 use Rattle.std.specs.Ordering.{int_eq}
-use Rattle.ba_tree.specs.Numbers.{value_of, is_in}
+use Rattle.ba_numbers.specs.Numbers.{value_of, is_in}
 use Rattle.ba_tree.specs.State.{Act, Flow, next, then_do, value_at, with_value}
-use Rattle.ba_tree.specs.declared.ids.StmtId.{StmtId}
-use Rattle.ba_tree.specs.declared.ids.VarId.{VarId}
-use Rattle.ba_tree.specs.declared.numbers.CType.{CType}
-use Rattle.ba_tree.specs.declared.numbers.CType.TheVariants.{I32}
-use Rattle.ba_tree.specs.declared.run.Choice.{Choice}
-use Rattle.ba_tree.specs.declared.run.Choice.TheVariants.{Keep, Take}
+use Rattle.ba_numbers.specs.declared.ids.StmtId.{StmtId}
+use Rattle.ba_numbers.specs.declared.ids.VarId.{VarId}
+use Rattle.ba_numbers.specs.declared.numbers.CType.{CType}
+use Rattle.ba_numbers.specs.declared.numbers.CType.TheVariants.{I32}
+use Rattle.ba_choices.specs.declared.Choice.{Choice}
+use Rattle.ba_choices.specs.declared.Choice.TheVariants.{Keep, Take}
 use Rattle.ba_tree.specs.declared.run.Outcome.TheVariants.{AssertFails, Trap, WrongChoices}
 use Rattle.ba_tree.specs.declared.run.Step.{Step}
 use Rattle.ba_tree.specs.declared.run.Step.TheVariants.{Call, Turn}

@@ -1,16 +1,16 @@
 -- Runs of a program, and their outcomes.
 
 use Rattle.std.specs.Prelude.{ℤ, pos, Bool, true, false, Option, None, Some, List, [], ◌∷◌, map, length, replicate, slice_get, slice_index_or, Ok, Err}
-use Rattle.ba_tree.specs.Numbers.{IsIn}
-use Rattle.ba_tree.specs.declared.numbers.CType.TheVariants.{I32}
+use Rattle.ba_numbers.specs.Numbers.{IsIn}
+use Rattle.ba_numbers.specs.declared.numbers.CType.TheVariants.{I32}
 use Rattle.ba_tree.specs.declared.tree.Shape.TheVariants.{Value}
 use Rattle.ba_tree.specs.declared.tree.Variable.{Variable}
 use Rattle.ba_tree.specs.State.{State, Ending, Flow, in_order, then_do, after_part, with_value}
 use Rattle.ba_tree.specs.Meaning.{Setting, exec}
-use Rattle.ba_tree.specs.declared.ids.VarId.{VarId}
+use Rattle.ba_numbers.specs.declared.ids.VarId.{VarId}
 use Rattle.ba_tree.specs.declared.run.Allowed.{Allowed}
 use Rattle.ba_tree.specs.declared.run.Bounds.{Bounds}
-use Rattle.ba_tree.specs.declared.run.Choice.{Choice}
+use Rattle.ba_choices.specs.declared.Choice.{Choice}
 use Rattle.ba_tree.specs.declared.run.Input.{Input}
 use Rattle.ba_tree.specs.declared.run.Outcome.{Outcome}
 use Rattle.ba_tree.specs.declared.run.Outcome.TheVariants.{Done, AssertFails, Trap, Beyond, WrongChoices}

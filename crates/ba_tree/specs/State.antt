@@ -1,8 +1,8 @@
 -- The state of a run, and how the parts of a program act on it.
 
 use Rattle.std.specs.Prelude.{ℤ, pos, List, [], ◌∷◌, slice_index_or, slice_set, Result, Ok, Err}
-use Rattle.ba_tree.specs.declared.ids.VarId.{VarId}
-use Rattle.ba_tree.specs.declared.run.Choice.{Choice}
+use Rattle.ba_numbers.specs.declared.ids.VarId.{VarId}
+use Rattle.ba_choices.specs.declared.Choice.{Choice}
 use Rattle.ba_tree.specs.declared.run.Outcome.{Outcome}
 
 -- How a run stands: the value of each global and of each variable of the innermost frame, by its number, and the

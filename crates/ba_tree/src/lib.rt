@@ -1,11 +1,9 @@
 //! The typed tree of a C program, and what its programs mean.
 //!
-//! This crate holds the definitions that everything else is measured against: the numbers of C and their
-//! operators, the tree, and the runs of a program with relaxed statements.
+//! This crate holds the definitions that everything else is measured against: the tree, and the runs of a program
+//! with relaxed statements.
 #![tactic(auto)]
 
-pub mod ids;
 pub mod laws;
-pub mod numbers;
 pub mod run;
 pub mod tree;

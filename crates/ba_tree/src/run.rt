@@ -1,66 +1,11 @@
 //! What a run is given beside its program: input, bounds, what may be relaxed, and how it was.
 
-ghost use Rattle.std.specs.Prelude.{◌≡◌, ◌++◌, ◌∷◌, [], IsTrue, OnOk, OnErr};
+ghost use Rattle.std.specs.Prelude.{IsTrue};
 ghost use Rattle.std.specs.List.{list_all};
 ghost use Rattle.ba_tree.specs.Weights.{is_weight};
 
-use crate::ids::{CallId, StmtId};
 use ba_items::Items;
-use smallvec::SmallVec;
-use std::alloc::{AllocError, Global};
-use std::marker::Model;
-
-/// The values of a choice. Most choices have one or two, which need no memory of their own.
-#[derive(Drop)]
-pub struct Values {
-    items: SmallVec<i64, 2>,
-}
-
-impl Model for Values {
-    ghost use Rattle.std.specs.Prelude.{List, ℤ};
-
-    ghost Value = { List ℤ };
-
-    ghost view = { λ values. values.items.items };
-}
-
-impl Values {
-    /// No value. It takes no memory.
-    pub fn new(alloc: Global) -> Values
-        ensures { result ≡ [] }
-    {
-        Values {
-            items: SmallVec::new(alloc),
-        }
-    }
-
-    /// Adds a value at the end.
-    ///
-    /// The one error is want of memory, which leaves the values as they were.
-    pub fn push(&mut self, value: i64) -> Result<(), AllocError>
-        ensures ok { OnOk result (self.new ≡ self.old ++ value ∷ []) }
-        ensures err { OnErr result (self.new ≡ self.old) }
-    {
-        self.items.push(value)?;
-        Ok(())
-    }
-
-    /// The values in their order.
-    pub fn as_slice(&self) -> &[i64]
-        ensures { result.now ≡ self.now }
-    {
-        self.items.as_slice()
-    }
-}
-
-/// How an execution of a relaxed statement goes.
-#[derive(Drop)]
-pub enum Choice {
-    /// As written.
-    Keep,
-    /// None of its expressions is evaluated, and it takes these values in their place.
-    Take(Values),
-}
+use ba_numbers::ids::{CallId, StmtId};
 
 /// One list of values for each parameter of `main`: of one value for a variable, of the array's length for an
 /// array.

@@ -1,8 +1,8 @@
 //! The typed tree of a C program.
 
-use crate::ids::{At, FnId, StmtId, VarId};
-use crate::numbers::{BinOp, CType};
 use ba_items::Items;
+use ba_numbers::ids::{At, FnId, StmtId, VarId};
+use ba_numbers::numbers::{BinOp, CType};
 
 /// An expression, with each conversion written out (C90 6.2.1, 6.3).
 #[derive(Drop)]

@@ -8,12 +8,8 @@ use Rattle.ba_arena.specs.Clauses.{Clauses, Stored, clause_at, lits_at, lits_of}
 use Rattle.ba_watch.specs.Chains.{walk, occurrences}
 use Rattle.ba_watch.specs.Threads.{next_in, next_of, list_of, index_at, watches, watch_count, AreApart, AreThreaded}
 use Rattle.ba_watch.proofs.Walks.{Leads, Leads-walk, walk-Leads, Leads-elsewhere}
-use Rattle.ba_watch.proofs.Relinks.{Rebuilt, rebuilt}
+use Rattle.ba_watch.proofs.Relinks.{Rebuilt, rebuilt, occurrences-put, none_there_in, no_more}
 use Rattle.ba_watch.proofs.Steps.{watch_count-long}
-
-no_more : (b : Bool) (l p : ℕ) → p ≡ 0 → l + cond b p 0 ≡ l
-no_more true l p e = omega arith
-no_more false l p e = omega arith
 
 pub plain_counts : (a : Clauses) (heads : List (Option ℕ)) (old : ℕ) → AreThreaded a heads old None → (index k : ℕ) → occurrences k (list_of a heads index) ≡ watch_count a index k
 plain_counts a heads old t index k =
@@ -59,15 +55,8 @@ added_short a a' heads old r s t c short =
     short_count : (n : ℕ) (b : Bool) → n < 2 → cond {A = ℕ} (leb 2 n && b) 1 0 ≡ 0
     short_count n b h = grind (arith, nat_tests)
 
-occurrences-put : (b : Bool) (k r : ℕ) (xs : List ℕ) → occurrences k (cond b (r ∷ xs) xs) ≡ cond b (cond (eqb r k) 1 0) 0 + occurrences k xs
-occurrences-put true k r xs = refl
-occurrences-put false k r xs = omega arith
-
 count_new : (b : Bool) (r n : ℕ) → n ≡ 0 → cond b (cond (eqb r r) 1 0) 0 + n ≡ cond b 1 0
 count_new b r n e = grind (arith, nat_tests)
-
-count_old : (b : Bool) (k r n : ℕ) → k ≢ r → cond b (cond (eqb r k) 1 0) 0 + n ≡ n
-count_old b k r n e = grind (arith, nat_tests)
 
 either : (g h index : ℕ) → index ≢ g → index ≢ h → (eqb g index || eqb h index) ≡ false
 either g h index ng nh = grind (arith, nat_tests)
@@ -111,7 +100,8 @@ added a a' heads old r s t c long first_in second_in first second =
     λ index k. no_more (eqb index old) (occurrences k (L' index)) 0 refl ∙ (occurrences-put (eqb g index || eqb h index) k r (L index) ∙ ⊎_elim
     (λ e. subst (λ (j : ℕ). cond (eqb g index || eqb h index) (cond (eqb r j) 1 0) 0 + occurrences j (L index) ≡ watch_count a' index j) (sym e)
     (count_new (eqb g index || eqb h index) r (occurrences r (L index)) (absent index) ∙ sym (watch_count-long a' r s index c.is long)))
-    (λ ne. count_old (eqb g index || eqb h index) k r (occurrences k (L index)) ne ∙ (plain index k ∙ ap (λ o. cond (watches (lits_of o) index) 1 0) (sym (c.others k ne))))
+    (λ ne. none_there_in (eqb g index || eqb h index) k r (occurrences k (L index)) ne
+    ∙ (plain index k ∙ ap (λ o. cond (watches (lits_of o) index) 1 0) (sym (c.others k ne))))
     (cases_eq k r)) in
     let all : Rebuilt a' heads' old None L' [] = rebuilt a' heads' old None L' [] leads refl counts (apart_all a a' r s c t.apart) in
     all.threaded

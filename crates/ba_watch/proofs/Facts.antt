@@ -1,27 +1,18 @@
 -- The facts of a watch, as the trail grows.
 
-use Rattle.std.proofs.Common.{◌≡◌, ◌≢◌, ℕ, suc, zero, ◌+◌, ◌*◌, ◌<◌, ◌≤◌, Bool, true, false, not, ◌&&◌, ◌||◌, Option, None, Some, List, [], ◌∷◌, ◌++◌, length, get_or, take, drop, eqb, cond, refl, sym, ap, subst, ◌∙◌, arith, ⊎_elim}
+use Rattle.std.proofs.Common.{◌≡◌, ◌≢◌, ℕ, suc, ◌+◌, ◌<◌, ◌≤◌, Bool, true, false, not, ◌&&◌, Option, None, Some, List, [], ◌∷◌, ◌++◌, length, get_or, take, drop, eqb, cond, refl, sym, ap, subst, ◌∙◌, arith, ⊎_elim}
 use Rattle.std.proofs.lemmas.Bool.{cases_lt}
-use Rattle.std.proofs.lemmas.Bool.Decides.{nat_tests}
 use Rattle.std.proofs.lemmas.List.{length_push, take-append-le, take_at, drop_all, drop-append-le, get_or_append_left, get_or_push}
 use Rattle.std.specs.List.{swap}
 use Rattle.ba_lits.specs.Literals.{Literal, negate, index_of, lit_at, no_literal}
+use Rattle.ba_lits.specs.Hints.{has_literal}
+use Rattle.ba_lits.proofs.Members.{has_literal-not, has_literal-none}
 use Rattle.ba_arena.specs.Clauses.{Clauses, lits_at}
 use Rattle.ba_watch.specs.Trails.{same_sign, value_of, place_of, decided, level_at, IsTrail}
-use Rattle.ba_watch.specs.Propagation.{falsified, is_false, has_literal, IsReason, HasReasons, IsGuarded, AreGuarded, AreFacts, AreUnits}
+use Rattle.ba_watch.specs.Propagation.{falsified, is_false, IsReason, HasReasons, IsGuarded, AreGuarded, AreFacts, AreUnits}
 use Rattle.ba_watch.proofs.Values.{value_of-more, value_of-take, place_of-some, place_of-append}
 use Rattle.ba_watch.proofs.Levels.{decided-append}
 use Rattle.ba_watch.proofs.Swaps.{each-swap, each-from_swap}
-
--- indices tell literals apart
-pub same_from_index : (a b : Literal) → index_of a ≡ index_of b → a ≡ b
-same_from_index a b e = step a.variable b.variable a.negated b.negated e
-  where
-    step : (v w : ℕ) (s t : Bool) → 2 * v + cond s 1 0 ≡ 2 * w + cond t 1 0 → ◌≡◌ {A = Literal} (record { variable = v; negated = s }) (record { variable = w; negated = t })
-    step v w true true e = let h : v ≡ w = omega arith in cc
-    step v w true false e = absurd (omega arith)
-    step v w false true e = absurd (omega arith)
-    step v w false false e = let h : v ≡ w = omega arith in cc
 
 -- the negation of a literal has the other value
 pub value_of-negate : (xs : List Literal) (l : Literal) (b : Bool) → value_of xs l ≡ Some b → value_of xs (negate l) ≡ Some (not b)
@@ -118,38 +109,6 @@ AreUnits-push a T U R S waiting len u = record {
   short = u.short;
 }
 
--- the literals of a clause
-pub has_literal-at : (xs : List Literal) (k : ℕ) → k < length xs → has_literal (lit_at xs k) xs ≡ true
-has_literal-at [] k within = absurd (omega arith)
-has_literal-at (x ∷ xs) zero within = here (index_of x) (has_literal x xs)
-  where
-    here : (n : ℕ) (b : Bool) → (eqb n n || b) ≡ true
-    here n b = grind (arith, nat_tests)
-has_literal-at (x ∷ xs) (suc k) within = there (eqb (index_of x) (index_of (lit_at xs k))) _ (has_literal-at xs k (omega arith))
-  where
-    there : (c b : Bool) → b ≡ true → (c || b) ≡ true
-    there true b e = refl
-    there false b e = e
-
-pub has_literal-not : (l : Literal) (xs : List Literal) → ((k : ℕ) → k < length xs → index_of (lit_at xs k) ≢ index_of l) → has_literal l xs ≡ false
-has_literal-not l [] none = refl
-has_literal-not l (x ∷ xs) none = step (index_of x) (index_of l) (has_literal l xs) (none 0 (omega arith)) (has_literal-not l xs (λ k k_in. none (suc k) (omega arith)))
-  where
-    step : (n m : ℕ) (b : Bool) → n ≢ m → b ≡ false → (eqb n m || b) ≡ false
-    step n m b ne e = grind (arith, nat_tests)
-
-pub has_literal-none : (l : Literal) (xs : List Literal) → has_literal l xs ≡ false → (k : ℕ) → k < length xs → index_of (lit_at xs k) ≢ index_of l
-has_literal-none l [] absent k within e = omega arith
-has_literal-none l (x ∷ xs) absent zero within e = step (index_of x) (index_of l) (has_literal l xs) absent e
-  where
-    step : (n m : ℕ) (b : Bool) → (eqb n m || b) ≡ false → n ≡ m → ⊥
-    step n m b absent e = grind (arith, nat_tests)
-has_literal-none l (x ∷ xs) absent (suc k) within e = has_literal-none l xs (rest (eqb (index_of x) (index_of l)) (has_literal l xs) absent) k (omega arith) e
-  where
-    rest : (c b : Bool) → (c || b) ≡ false → b ≡ false
-    rest true b absent = absurd (cc absent)
-    rest false b absent = absent
-
 pub has_literal-swap : (l : Literal) (xs : List Literal) (a b : ℕ) → a < length xs → b < length xs → has_literal l xs ≡ true → has_literal l (swap xs a b) ≡ true
 has_literal-swap l xs a b a_in b_in has = step (has_literal l (swap xs a b)) refl
   where
@@ -172,6 +131,3 @@ is_false-all value (x ∷ xs) all = step (value x) (is_false value xs) (all 0 (o
   where
     step : (v : Option Bool) (b : Bool) → v ≡ Some false → b ≡ true → (falsified v && b) ≡ true
     step v b e f = ap (λ (w : Option Bool). falsified w && b) e ∙ f
-
-pub has_literal-index : (l : Literal) (xs : List Literal) (k : ℕ) → k < length xs → index_of (lit_at xs k) ≡ index_of l → has_literal l xs ≡ true
-has_literal-index l xs k within e = subst (λ (x : Literal). has_literal x xs ≡ true) (same_from_index (lit_at xs k) l e) (has_literal-at xs k within)

@@ -2,6 +2,7 @@
 -- another literal that it watches from now on.
 
 use Rattle.std.proofs.Common.{◌≡◌, ◌≢◌, ℕ, suc, zero, ◌+◌, ◌<◌, ◌≤◌, Bool, true, false, Option, None, Some, List, [], ◌∷◌, length, get_or, set, eqb, leb, cond, ◌&&◌, refl, sym, ap, subst, ◌∙◌, arith, get_or-set_same, get_or-set_other}
+use Rattle.std.proofs.lemmas.Bool.{eq-eqb}
 use Rattle.std.proofs.lemmas.Bool.Decides.{nat_tests}
 use Rattle.std.proofs.lemmas.List.{length-set}
 use Rattle.std.specs.List.{swap}
@@ -42,11 +43,8 @@ pending_watches a heads f r t =
     let some : 1 ≤ occurrences r (pending_of a f (Some r)) = first (next_of a f) (pending_of a f (Some r)) leads in
     let listed_f = t.counts f r in
     let le : watch_count a f r ≤ 1 = watch_count-le a f r in
-    from (eqb f f) (same f) (occurrences r (list_of a heads f)) _ _ (t.counts f r) some le
+    from (eqb f f) (eq-eqb f f refl) (occurrences r (list_of a heads f)) _ _ (t.counts f r) some le
   where
-    same : (n : ℕ) → eqb n n ≡ true
-    same n = grind (arith, nat_tests)
-
     here : (x r n : ℕ) → x ≡ r → 1 ≤ cond (eqb x r) 1 0 + n
     here x r n e = grind (arith, nat_tests)
 

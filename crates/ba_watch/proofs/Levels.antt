@@ -26,6 +26,9 @@ decided-take-le (suc m) (suc n) [] le = omega arith
 decided-take-le (suc m) (suc n) (None ∷ xs) le = omega (arith, decided-take-le m n xs (omega arith))
 decided-take-le (suc m) (suc n) (Some r ∷ xs) le = decided-take-le m n xs (omega arith)
 
+later : (p : ℕ) → suc p + 1 ≡ suc (p + 1)
+later p = omega arith
+
 -- a decision begins a level, and no other place does
 pub decided-take_none : (p : ℕ) (xs : List (Option ℕ)) → p < length xs → get_or xs p None ≡ None → decided (take (p + 1) xs) ≡ decided (take p xs) + 1
 decided-take_none zero [] within is = absurd (omega arith)
@@ -33,13 +36,7 @@ decided-take_none zero (None ∷ xs) within is = refl
 decided-take_none zero (Some r ∷ xs) within is = absurd (cc is)
 decided-take_none (suc p) [] within is = absurd (omega arith)
 decided-take_none (suc p) (None ∷ xs) within is = rw (later p) (omega (arith, decided-take_none p xs (omega arith) is))
-  where
-    later : (p : ℕ) → suc p + 1 ≡ suc (p + 1)
-    later p = omega arith
 decided-take_none (suc p) (Some r ∷ xs) within is = rw (later p) (decided-take_none p xs (omega arith) is)
-  where
-    later : (p : ℕ) → suc p + 1 ≡ suc (p + 1)
-    later p = omega arith
 
 -- what is kept has at most the level, and all of it is kept
 pub kept_below : (level n : ℕ) (xs : List (Option ℕ)) → level < decided (take n xs) → kept level xs < n
@@ -79,10 +76,4 @@ decided-take_step zero (None ∷ xs) within = refl
 decided-take_step zero (Some r ∷ xs) within = refl
 decided-take_step (suc p) [] within = absurd (omega arith)
 decided-take_step (suc p) (None ∷ xs) within = rw (later p) (omega (arith, decided-take_step p xs (omega arith)))
-  where
-    later : (p : ℕ) → suc p + 1 ≡ suc (p + 1)
-    later p = omega arith
 decided-take_step (suc p) (Some r ∷ xs) within = rw (later p) (decided-take_step p xs (omega arith))
-  where
-    later : (p : ℕ) → suc p + 1 ≡ suc (p + 1)
-    later p = omega arith

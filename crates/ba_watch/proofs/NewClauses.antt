@@ -8,11 +8,12 @@ use Rattle.std.specs.List.Sorted.{IsPermutation}
 use Rattle.std.proofs.lemmas.List.Sorted.{IsPermutation-swap, IsPermutation-trans}
 use Rattle.std.proofs.lemmas.List.Edits.{length-swap}
 use Rattle.ba_lits.specs.Literals.{Literal, lit_at}
+use Rattle.ba_lits.specs.Hints.{has_literal}
 use Rattle.ba_arena.specs.Clauses.{Clauses, IsLive, clause_at, lits_at}
 use Rattle.ba_watch.specs.Chains.{occurrences}
 use Rattle.ba_watch.specs.Threads.{Clause, AddsPlain}
 use Rattle.ba_watch.specs.Trails.{Assignments, value_of, place_of, place_if, decided, level_at}
-use Rattle.ba_watch.specs.Propagation.{State, plain_lits, SameClause, falsified, has_literal, IsReason, IsGuarded, AreFacts, AreUnits, IsSound, AddsClause, IsAsserting, rank_of}
+use Rattle.ba_watch.specs.Propagation.{State, plain_lits, SameClause, falsified, IsReason, IsGuarded, AreFacts, AreUnits, IsSound, AddsClause, IsAsserting, rank_of}
 use Rattle.ba_watch.proofs.Values.{place_of-some, place_of-le}
 use Rattle.ba_watch.proofs.Levels.{decided-take_drop, decided-take-le}
 use Rattle.ba_watch.proofs.Swaps.{each-swap, lit_at-swap_first, lit_at-swap_other}

@@ -1,19 +1,13 @@
 -- What a change of a clause's links and of a head does to the threaded lists.
 
 use Rattle.std.proofs.Common.{◌≡◌, ◌≢◌, ℕ, ◌+◌, ◌<◌, ◌≤◌, Bool, true, false, Option, None, Some, List, [], ◌∷◌, length, get_or, set, drop, eqb, cond, refl, sym, ap, subst, ◌∙◌, arith, ⊎_elim, get_or-set_same, get_or-set_other}
-use Rattle.std.proofs.lemmas.Bool.{cases_eq, cases_lt}
+use Rattle.std.proofs.lemmas.Bool.{cases_eq, cases_lt, eq-eqb, ne_eqb}
 use Rattle.std.proofs.lemmas.Bool.Decides.{nat_tests}
 use Rattle.std.proofs.lemmas.List.{get_or_past}
 use Rattle.ba_arena.specs.Clauses.{Clauses, lits_at, lits_of}
 use Rattle.ba_watch.specs.Chains.{occurrences}
 use Rattle.ba_watch.specs.Threads.{next_of, list_of, pending_of, watches, watch_count, AreApart, AreThreaded}
 use Rattle.ba_watch.proofs.Walks.{Leads, Leads-walk, walk-Leads, end_of_walk-Leads, Leads-elsewhere, Leads-same, length-le_from_occurrences}
-
-eqb_same : (n : ℕ) → eqb n n ≡ true
-eqb_same n = grind (arith, nat_tests)
-
-eqb_other : (m n : ℕ) → m ≢ n → eqb m n ≡ false
-eqb_other m n h = grind (arith, nat_tests)
 
 at_most_one : (b : Bool) → cond b 1 0 ≤ 1
 at_most_one true = omega arith
@@ -45,7 +39,7 @@ rebuilt a heads swept pending L P leads leads_pending counts apart =
     let short : (index : ℕ) → length (L index) ≤ length a =
     λ index. length-le_from_occurrences (L index) (length a) (λ r. omega (arith, counts index r, watch_count-le a index r)) (λ r some. within_from_watch a index r (omega (arith, counts index r))) in
     let pending_counts : (r : ℕ) → occurrences r P ≤ watch_count a swept r =
-    λ r. at_swept r (eqb swept swept) (eqb_same swept) (counts swept r) in
+    λ r. at_swept r (eqb swept swept) (eq-eqb swept swept refl) (counts swept r) in
     let short_pending : length P ≤ length a =
     length-le_from_occurrences P (length a) (λ r. omega (arith, pending_counts r, watch_count-le a swept r)) (λ r some. within_from_watch a swept r (omega (arith, pending_counts r))) in
     let lists : (index : ℕ) → list_of a heads index ≡ L index = λ index. walk-Leads (length a) _ _ (L index) (leads index) (short index) in
@@ -70,7 +64,8 @@ uncons next r (x ∷ xs) leads =
     let e : x ≡ r = cc leads.0 in
     (ap (λ y. y ∷ xs) e, subst (λ y. Leads next (next y) xs) e leads.1)
 
-occurrences-put : (b : Bool) (k r : ℕ) (xs : List ℕ) → occurrences k (cond b (r ∷ xs) xs) ≡ cond b (cond (eqb r k) 1 0) 0 + occurrences k xs
+pub occurrences-put : (b : Bool) (k r : ℕ) (xs : List ℕ) →
+    occurrences k (cond b (r ∷ xs) xs) ≡ cond b (cond (eqb r k) 1 0) 0 + occurrences k xs
 occurrences-put true k r xs = refl
 occurrences-put false k r xs = omega arith
 
@@ -109,7 +104,7 @@ once_here r n = grind (arith, nat_tests)
 none_there : (k r n : ℕ) → k ≢ r → cond (eqb r k) 1 0 + n ≡ n
 none_there k r n h = grind (arith, nat_tests)
 
-none_there_in : (b : Bool) (k r n : ℕ) → k ≢ r → cond b (cond (eqb r k) 1 0) 0 + n ≡ n
+pub none_there_in : (b : Bool) (k r n : ℕ) → k ≢ r → cond b (cond (eqb r k) 1 0) 0 + n ≡ n
 none_there_in true k r n h = none_there k r n h
 none_there_in false k r n h = omega arith
 
@@ -126,9 +121,11 @@ moved a a' heads f g r pending t m =
     let u : (P0 ≡ r ∷ P) × Leads (next_of a f) (next_of a f r) P = uncons (next_of a f) r P0 (Leads-walk (length a) _ _ t.pending_ends) in
     let p0 : occurrences r P0 ≡ 1 + occurrences r P = ap (occurrences r) u.0 ∙ once_here r (occurrences r P) in
     let in_f : (occurrences r (L f) ≡ 0) × (occurrences r P0 ≡ 1) =
-    absent_in_f (eqb f f) _ _ _ (eqb_same f) (t.counts f r) (watch_count-le a f r) (omega arith) in
+    absent_in_f (eqb f f) _ _ _ (eq-eqb f f refl) (t.counts f r) (watch_count-le a f r) (omega arith) in
     let in_g : occurrences r (L g) ≡ 0 =
-    absent_in_g (eqb g f) _ (occurrences r P0) (watch_count a g r) (watch_count a' g r) (t.counts g r) (plus_one (eqb g g) (eqb_same g) (m.counts_here g)) (watch_count-le a g r) (watch_count-le a' g r) (omega arith) in
+    absent_in_g (eqb g f) _ (occurrences r P0) (watch_count a g r) (watch_count a' g r) (t.counts g r)
+    (plus_one (eqb g g) (eq-eqb g g refl) (m.counts_here g)) (watch_count-le a g r)
+    (watch_count-le a' g r) (omega arith) in
     let old : (index : ℕ) → Leads (next_of a index) (get_or heads index None) (L index) = λ index. Leads-walk (length a) _ _ (t.ends index) in
     let heads' : List (Option ℕ) = set heads g (Some r) in
     let away : (index : ℕ) → index ≢ g → Leads (next_of a' index) (get_or heads index None) (L index) =
@@ -140,8 +137,12 @@ moved a a' heads f g r pending t m =
     (get_or-set_same heads g (Some r) None m.within, rw m.here (Leads-elsewhere (next_of a g) (next_of a' g) r _ (L g) (m.elsewhere g) in_g (old g))) in
     let leads : (index : ℕ) → Leads (next_of a' index) (get_or heads' index None) (put_in g r L index) =
     λ index. ⊎_elim
-    (λ e. subst (λ (i : ℕ). Leads (next_of a' i) (get_or heads' i None) (put_in g r L i)) (sym e) (subst (λ (b : Bool). Leads (next_of a' g) (get_or heads' g None) (cond b (r ∷ L g) (L g))) (sym (eqb_same g)) at_g))
-    (λ ne. subst (λ (b : Bool). Leads (next_of a' index) (get_or heads' index None) (cond b (r ∷ L index) (L index))) (sym (eqb_other index g ne)) (rw (get_or-set_other heads g index (Some r) None ne) (away index ne)))
+    (λ e. subst (λ (i : ℕ). Leads (next_of a' i) (get_or heads' i None) (put_in g r L i)) (sym e)
+    (subst (λ (b : Bool). Leads (next_of a' g) (get_or heads' g None) (cond b (r ∷ L g) (L g)))
+    (sym (eq-eqb g g refl)) at_g))
+    (λ ne. subst (λ (b : Bool). Leads (next_of a' index) (get_or heads' index None)
+    (cond b (r ∷ L index) (L index))) (sym (ne_eqb index g ne))
+    (rw (get_or-set_other heads g index (Some r) None ne) (away index ne)))
     (cases_eq index g) in
     let leads_pending : Leads (next_of a' f) pending P =
     rw m.next (Leads-elsewhere (next_of a f) (next_of a' f) r _ P (m.elsewhere f) (omega arith) u.1) in
@@ -161,6 +162,10 @@ moved a a' heads f g r pending t m =
     plus_one true e h = h
     plus_one false e h = absurd (cc e)
 
+pub no_more : (b : Bool) (l p : ℕ) → p ≡ 0 → l + cond b p 0 ≡ l
+no_more true l p e = omega arith
+no_more false l p e = omega arith
+
 -- the list of f is taken to be swept
 pub taken : (a : Clauses) (heads : List (Option ℕ)) (old f : ℕ) → AreThreaded a heads old None → f < length heads
     → AreThreaded a (set heads f None) f (get_or heads f None) × ((r : ℕ) → occurrences r (pending_of a f (get_or heads f None)) ≡ watch_count a f r)
@@ -173,17 +178,21 @@ taken a heads old f t within =
     let heads' : List (Option ℕ) = set heads f None in
     let leads : (index : ℕ) → Leads (next_of a index) (get_or heads' index None) (L' index) =
     λ index. ⊎_elim
-    (λ e. subst (λ (i : ℕ). Leads (next_of a i) (get_or heads' i None) (L' i)) (sym e) (subst (λ (b : Bool). Leads (next_of a f) (get_or heads' f None) (cond b [] (L f))) (sym (eqb_same f)) (get_or-set_same heads f None None within)))
-    (λ ne. subst (λ (b : Bool). Leads (next_of a index) (get_or heads' index None) (cond b [] (L index))) (sym (eqb_other index f ne)) (rw (get_or-set_other heads f index None None ne) (Leads-walk (length a) _ _ (t.ends index))))
+    (λ e. subst (λ (i : ℕ). Leads (next_of a i) (get_or heads' i None) (L' i)) (sym e)
+    (subst (λ (b : Bool). Leads (next_of a f) (get_or heads' f None) (cond b [] (L f)))
+    (sym (eq-eqb f f refl)) (get_or-set_same heads f None None within)))
+    (λ ne. subst (λ (b : Bool). Leads (next_of a index) (get_or heads' index None) (cond b [] (L index)))
+    (sym (ne_eqb index f ne))
+    (rw (get_or-set_other heads f index None None ne) (Leads-walk (length a) _ _ (t.ends index))))
     (cases_eq index f) in
     let counts : (index k : ℕ) → occurrences k (L' index) + cond (eqb index f) (occurrences k (L f)) 0 ≡ watch_count a index k =
     λ index k. ⊎_elim
-    (λ e. subst (λ (i : ℕ). occurrences k (L' i) + cond (eqb i f) (occurrences k (L f)) 0 ≡ watch_count a i k) (sym e) (subst (λ (b : Bool). occurrences k (cond b [] (L f)) + cond b (occurrences k (L f)) 0 ≡ watch_count a f k) (sym (eqb_same f)) (omega (arith, plain f k))))
-    (λ ne. subst (λ (b : Bool). occurrences k (cond b [] (L index)) + cond b (occurrences k (L f)) 0 ≡ watch_count a index k) (sym (eqb_other index f ne)) (omega (arith, plain index k)))
+    (λ e. subst (λ (i : ℕ). occurrences k (L' i) + cond (eqb i f) (occurrences k (L f)) 0 ≡ watch_count a i k)
+    (sym e) (subst (λ (b : Bool). occurrences k (cond b [] (L f)) + cond b
+    (occurrences k (L f)) 0 ≡ watch_count a f k) (sym (eq-eqb f f refl)) (omega (arith, plain f k))))
+    (λ ne. subst (λ (b : Bool). occurrences k (cond b [] (L index)) + cond b
+    (occurrences k (L f)) 0 ≡ watch_count a index k) (sym (ne_eqb index f ne))
+    (omega (arith, plain index k)))
     (cases_eq index f) in
     let all : Rebuilt a heads' f (get_or heads f None) L' (L f) = rebuilt a heads' f (get_or heads f None) L' (L f) leads (Leads-walk (length a) _ _ (t.ends f)) counts t.apart in
     (all.threaded, λ r. plain f r)
-  where
-    no_more : (b : Bool) (l p : ℕ) → p ≡ 0 → l + cond b p 0 ≡ l
-    no_more true l p e = omega arith
-    no_more false l p e = omega arith

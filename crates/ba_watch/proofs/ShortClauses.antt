@@ -1,18 +1,21 @@
 -- Clauses of fewer than two literals, looked at one after the other.
 
 use Rattle.std.proofs.Common.{◌≡◌, ◌≢◌, ℕ, suc, zero, ◌+◌, ◌-◌, ◌<◌, Bool, true, false, None, Some, List, [], ◌∷◌, ◌++◌, length, get_or, take, eqb, cond, refl, sym, ap, subst, ◌∙◌, arith, ⊎_elim}
+use Rattle.std.proofs.lemmas.Option.{same_Some}
 use Rattle.std.proofs.lemmas.Bool.{cases_eq}
 use Rattle.std.proofs.lemmas.Bool.Decides.{nat_tests}
 use Rattle.std.proofs.lemmas.List.{take_all, take_more, get_or_read}
 use Rattle.ba_lits.specs.Literals.{Literal, index_of, lit_at}
+use Rattle.ba_lits.specs.Hints.{has_literal}
+use Rattle.ba_lits.proofs.Members.{has_literal-at}
 use Rattle.ba_arena.specs.Clauses.{Clauses, lits_at}
 use Rattle.ba_watch.specs.Chains.{occurrences}
 use Rattle.ba_watch.specs.Threads.{index_at}
 use Rattle.ba_watch.specs.Trails.{Assignments, same_sign, value_of, place_of, decided, IsTrail}
-use Rattle.ba_watch.specs.Propagation.{has_literal, IsReason, AreFacts, AreUnits, AssignsUnits, AssignsUnit}
+use Rattle.ba_watch.specs.Propagation.{IsReason, AreFacts, AreUnits, AssignsUnits, AssignsUnit}
 use Rattle.ba_watch.proofs.Values.{value_of-push_here}
 use Rattle.ba_watch.proofs.Levels.{decided-append, decided-take_drop}
-use Rattle.ba_watch.proofs.Facts.{AreFacts-push, AreUnits-push, has_literal-at, is_false-all}
+use Rattle.ba_watch.proofs.Facts.{AreFacts-push, AreUnits-push, is_false-all}
 use Rattle.ba_watch.proofs.Visits.{Begins-refl, Begins-push, Begins-trans}
 
 pub Assigns-none : (a : Clauses) (t : Assignments) → AssignsUnits a t t
@@ -39,12 +42,11 @@ Assigns-push a t u r l is trail len reason =
       reasons = Begins-push t.reasons (Some r ∷ []) u.reasons reasons_is;
       level = ap decided reasons_is ∙ (decided-append t.reasons (Some r ∷ []) ∙ omega arith);
       facts = λ h f. subst (λ (x : Assignments). AreFacts (lits_at a) x.variables x.lits x.reasons h) (sym is)
-          (AreFacts-push (lits_at a) t.variables t.lits t.reasons h l (Some r) f trail' (λ q e. subst (λ (m : ℕ). IsReason (lits_at a m) t.lits l) (some_is r q e) reason) (λ _. refl));
+          (AreFacts-push (lits_at a) t.variables t.lits t.reasons h l (Some r) f trail'
+          (λ q e. subst (λ (m : ℕ). IsReason (lits_at a m) t.lits l) (same_Some r q e) reason)
+          (λ _. refl));
       units = λ w f. subst (λ (x : Assignments). AreUnits a x.lits x.reasons w) (sym is) (AreUnits-push a t.lits (l ∷ []) t.reasons (Some r ∷ []) w len f);
     }
-  where
-    some_is : (p q : ℕ) → Some p ≡ Some q → p ≡ q
-    some_is p q e = cc e
 
 -- an empty clause is false
 pub unit_empty : (a : Clauses) (t : Assignments) (r : ℕ) → length (lits_at a r) ≡ 0 → AssignsUnit a t t r false

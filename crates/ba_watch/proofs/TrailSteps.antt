@@ -339,7 +339,7 @@ some_value : (v : Option Bool) → is_some v ≡ true → (b : Bool) × (v ≡ S
 some_value None e = absurd (cc e)
 some_value (Some b) e = (b, refl)
 
-no_value : (v : Option Bool) → is_some v ≡ false → v ≡ None
+pub no_value : (v : Option Bool) → is_some v ≡ false → v ≡ None
 no_value None e = refl
 no_value (Some b) e = absurd (cc e)
 

@@ -2,7 +2,7 @@
 
 use Rattle.std.proofs.Common.{◌≡◌, ◌≢◌, ℕ, suc, zero, ◌+◌, ◌<◌, ◌≤◌, Bool, true, false, not, Option, None, Some, List, [], ◌∷◌, ◌++◌, length, take, drop, eqb, cond, refl, sym, ap, subst, ◌∙◌, arith, ⊎_elim}
 use Rattle.std.proofs.lemmas.List.{take_more, take-append-drop}
-use Rattle.std.proofs.lemmas.Bool.{cases_eq}
+use Rattle.std.proofs.lemmas.Bool.{eq-eqb, ne_eqb, cases_eq}
 use Rattle.std.proofs.lemmas.Bool.Decides.{nat_tests}
 use Rattle.ba_lits.specs.Literals.{Literal, lit_at, no_literal}
 use Rattle.ba_lits.specs.Satisfaction.{signed}
@@ -95,41 +95,33 @@ place_of-append (t ∷ ts) ys x within = step (eqb t.variable x) (place_of ts x)
     step true p q n rest h = refl
     step false p q n rest h = ap suc (rest (omega arith))
 
+shorter : (c : Bool) → c ≡ false → (p n : ℕ) → cond c 0 (suc p) < suc n → p < n
+shorter true e p n h = absurd (cc e)
+shorter false e p n h = omega arith
+
 pub lit_at-place : (xs : List Literal) (x : ℕ) → place_of xs x < length xs → (lit_at xs (place_of xs x)).variable ≡ x
 lit_at-place [] x within = absurd (omega arith)
 lit_at-place (t ∷ ts) x within = ⊎_elim
-    (λ e. subst (λ (c : Bool). (lit_at (t ∷ ts) (cond c 0 (suc (place_of ts x)))).variable ≡ x) (sym (yes e)) e)
-    (λ ne. subst (λ (c : Bool). (lit_at (t ∷ ts) (cond c 0 (suc (place_of ts x)))).variable ≡ x) (sym (no' ne))
-    (lit_at-place ts x (shorter (eqb t.variable x) (no' ne) (place_of ts x) (length ts) within)))
+    (λ e. subst (λ (c : Bool). (lit_at (t ∷ ts) (cond c 0 (suc (place_of ts x)))).variable ≡ x)
+    (sym (eq-eqb t.variable x e)) e)
+    (λ ne. subst (λ (c : Bool). (lit_at (t ∷ ts) (cond c 0 (suc (place_of ts x)))).variable ≡ x)
+    (sym (ne_eqb t.variable x ne))
+    (lit_at-place ts x (shorter (eqb t.variable x) (ne_eqb t.variable x ne) (place_of ts x)
+    (length ts) within)))
     (cases_eq t.variable x)
-  where
-    yes : t.variable ≡ x → eqb t.variable x ≡ true
-    yes e = grind (arith, nat_tests)
-
-    no' : t.variable ≢ x → eqb t.variable x ≡ false
-    no' e = grind (arith, nat_tests)
-
-    shorter : (c : Bool) → c ≡ false → (p n : ℕ) → cond c 0 (suc p) < suc n → p < n
-    shorter true e p n h = absurd (cc e)
-    shorter false e p n h = omega arith
 
 pub value_of-place : (xs : List Literal) (l : Literal) → place_of xs l.variable < length xs → value_of xs l ≡ Some (same_sign (lit_at xs (place_of xs l.variable)).negated l.negated)
 value_of-place [] l within = absurd (omega arith)
 value_of-place (t ∷ ts) l within = ⊎_elim
-    (λ e. subst (λ (c : Bool). cond c (Some (same_sign t.negated l.negated)) (value_of ts l) ≡ Some (same_sign (lit_at (t ∷ ts) (cond c 0 (suc (place_of ts l.variable)))).negated l.negated)) (sym (yes e)) refl)
-    (λ ne. subst (λ (c : Bool). cond c (Some (same_sign t.negated l.negated)) (value_of ts l) ≡ Some (same_sign (lit_at (t ∷ ts) (cond c 0 (suc (place_of ts l.variable)))).negated l.negated)) (sym (no' ne))
-    (value_of-place ts l (shorter (eqb t.variable l.variable) (no' ne) (place_of ts l.variable) (length ts) within)))
+    (λ e. subst (λ (c : Bool). cond c (Some (same_sign t.negated l.negated)) (value_of ts l) ≡ Some
+    (same_sign (lit_at (t ∷ ts) (cond c 0 (suc (place_of ts l.variable)))).negated l.negated))
+    (sym (eq-eqb t.variable l.variable e)) refl)
+    (λ ne. subst (λ (c : Bool). cond c (Some (same_sign t.negated l.negated)) (value_of ts l) ≡ Some
+    (same_sign (lit_at (t ∷ ts) (cond c 0 (suc (place_of ts l.variable)))).negated l.negated))
+    (sym (ne_eqb t.variable l.variable ne))
+    (value_of-place ts l (shorter (eqb t.variable l.variable) (ne_eqb t.variable l.variable ne)
+    (place_of ts l.variable) (length ts) within)))
     (cases_eq t.variable l.variable)
-  where
-    yes : t.variable ≡ l.variable → eqb t.variable l.variable ≡ true
-    yes e = grind (arith, nat_tests)
-
-    no' : t.variable ≢ l.variable → eqb t.variable l.variable ≡ false
-    no' e = grind (arith, nat_tests)
-
-    shorter : (c : Bool) → c ≡ false → (p n : ℕ) → cond c 0 (suc p) < suc n → p < n
-    shorter true e p n h = absurd (cc e)
-    shorter false e p n h = omega arith
 
 -- the front of a trail
 pub value_of-take : (n : ℕ) (xs : List Literal) (l : Literal) → place_of xs l.variable < n → value_of (take n xs) l ≡ value_of xs l

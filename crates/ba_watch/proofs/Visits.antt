@@ -2,6 +2,7 @@
 
 use Rattle.std.proofs.Common.{◌≡◌, ◌≢◌, ℕ, suc, zero, ◌+◌, ◌<◌, ◌≤◌, Bool, true, false, Option, None, Some, is_some, List, [], ◌∷◌, ◌++◌, length, take, eqb, leb, ◌&&◌, ◌||◌, cond, refl, sym, ap, subst, ◌∙◌, arith, ⊎_elim}
 use mathlib.Core.Path.{fun_ext}
+use Rattle.std.proofs.lemmas.Option.{same_Some}
 use Rattle.std.proofs.lemmas.Bool.{cases_eq, cases_lt}
 use Rattle.std.proofs.lemmas.Bool.Decides.{nat_tests}
 use Rattle.std.proofs.lemmas.List.{take_all, take_at, take-take, length-take, length_push, get_or_append_left}
@@ -9,6 +10,7 @@ use Rattle.std.specs.List.{swap}
 use Rattle.std.proofs.lemmas.List.Sorted.{IsPermutation-refl, IsPermutation-swap, IsPermutation-trans}
 use Rattle.std.proofs.lemmas.List.Edits.{length-swap}
 use Rattle.ba_lits.specs.Literals.{Literal, negate, index_of, lit_at, no_literal}
+use Rattle.ba_lits.proofs.Members.{same_from_index, has_literal-at}
 use Rattle.ba_arena.specs.Clauses.{Clauses, Stored, IsLive, clause_at, lits_at, lits_of}
 use Rattle.ba_watch.specs.Chains.{occurrences}
 use Rattle.ba_watch.specs.Threads.{Clause, plain, plain_at, reordered, SamePlain, ReordersOne, index_at, watch_count, next_of, pending_of, AreApart}
@@ -18,7 +20,7 @@ use Rattle.ba_watch.specs.Propagation.{plain_lits, SameClause, is_false, IsReaso
 use Rattle.ba_watch.proofs.Values.{value_of-at, value_of-more, value_of-push_here}
 use Rattle.ba_watch.proofs.Levels.{decided-append}
 use Rattle.ba_watch.proofs.Swaps.{each-swap, lit_at-swap_first, lit_at-swap_other}
-use Rattle.ba_watch.proofs.Facts.{same_from_index, value_of-negate, AreFacts-push, AreUnits-push, has_literal-at, IsReason-swap, is_false-all}
+use Rattle.ba_watch.proofs.Facts.{value_of-negate, AreFacts-push, AreUnits-push, IsReason-swap, is_false-all}
 
 -- literals and life, read off the plain clause
 pub lits-plain : (a : Clauses) (k : ℕ) → lits_at a k ≡ plain_lits (plain_at a k)
@@ -252,14 +254,13 @@ Sweeps-push a t u r f l is trail len reason =
       in_range = λ h j k k_in. omega (arith, h j k k_in, variables_is);
       units = λ w h. subst (λ (x : Assignments). AreUnits a x.lits x.reasons w) (sym is) (AreUnits-push a t.lits (l ∷ []) t.reasons (Some r ∷ []) w len h);
       sweeping = λ head s. subst (λ (x : Assignments). IsSweeping (lits_at a) x.variables x.lits x.reasons head f) (sym is) (record {
-        facts = AreFacts-push (lits_at a) t.variables t.lits t.reasons head l (Some r) s.facts trail' (λ q e. subst (λ (m : ℕ). IsReason (lits_at a m) t.lits l) (some_is r q e) (reason head s)) (λ _. refl);
+        facts = AreFacts-push (lits_at a) t.variables t.lits t.reasons head l (Some r) s.facts trail'
+            (λ q e. subst (λ (m : ℕ). IsReason (lits_at a m) t.lits l) (same_Some r q e) (reason head s))
+            (λ _. refl);
         inside = omega (arith, s.inside, length_push t.lits l);
         swept_is = s.swept_is ∙ ap (λ (x : Literal). index_of (negate x)) (sym (get_or_append_left t.lits (l ∷ []) no_literal head s.inside));
       });
     }
-  where
-    some_is : (p q : ℕ) → Some p ≡ Some q → p ≡ q
-    some_is p q e = cc e
 
 -- one clause less is to be looked at
 AreSwept-less : (L L' : ℕ → List Literal) (T T' : List Literal) (f r : ℕ) (rest : List ℕ) → AreSwept L T f (r ∷ rest) → ((c : ℕ) → c ≢ r → L' c ≡ L c) → ((l : Literal) → value_of T l ≡ Some true → value_of T' l ≡ Some true)
@@ -383,10 +384,6 @@ some_false None e ne = absurd (cc e)
 some_false (Some true) e ne = absurd (ne refl)
 some_false (Some false) e ne = refl
 
-pub no_value : (v : Option Bool) → is_some v ≡ false → v ≡ None
-no_value None e = refl
-no_value (Some b) e = absurd (cc e)
-
 -- a sweep goes on
 pub Underway-start : (a : Clauses) (t : Assignments) (f : ℕ) (todo : List ℕ) → ((r : ℕ) → occurrences r todo ≡ watch_count a f r) → IsUnderway a a t t f todo None
 Underway-start a t f todo all = record {
@@ -444,12 +441,10 @@ pub Underway-conflict : (start a a' : Clauses) (t u w : Assignments) (f r : ℕ)
 Underway-conflict start a a' t u w f r rest conflict way live v = record {
   steps = Sweeps-trans start a a' t u w f way.steps v.steps;
   passed = λ e. absurd (cc e);
-  failed = λ k e head s. subst (λ (m : ℕ). is_false (value_of w.lits) (lits_at a' m) ≡ true) (some_is r k e) (v.failed head (way.steps.sweeping head s) refl);
-  live = λ k e. subst (λ (m : ℕ). IsLive a' m) (some_is r k e) (live-same a a' r (v.steps.clauses r) live);
+  failed = λ k e head s. subst (λ (m : ℕ). is_false (value_of w.lits) (lits_at a' m) ≡ true) (same_Some r k e)
+      (v.failed head (way.steps.sweeping head s) refl);
+  live = λ k e. subst (λ (m : ℕ). IsLive a' m) (same_Some r k e) (live-same a a' r (v.steps.clauses r) live);
 }
-  where
-    some_is : (p q : ℕ) → Some p ≡ Some q → p ≡ q
-    some_is p q e = cc e
 
 pub Underway-step : (start a a' : Clauses) (t u w : Assignments) (f g r : ℕ) (todo rest : List ℕ) (conflict conflict' : Option ℕ) → IsUnderway start a t u f todo conflict → g ≡ f → todo ≡ r ∷ rest
     → (IsUnderway start a t u g (r ∷ rest) conflict → IsUnderway start a' t w g rest conflict') → IsUnderway start a' t w f rest conflict'

@@ -1,9 +1,10 @@
 -- Unit propagation: what a watch holds, and when its propagation is complete.
 
-use Rattle.std.specs.Prelude.{◌≡◌, ◌≢◌, ℕ, ◌+◌, ◌*◌, ◌<◌, ◌≤◌, Bool, true, false, not, ◌&&◌, ◌||◌, Option, None, Some, IsSome, List, [], ◌∷◌, length, get_or, take, drop, eqb, if◌then◌else◌}
+use Rattle.std.specs.Prelude.{◌≡◌, ◌≢◌, ℕ, ◌+◌, ◌*◌, ◌<◌, ◌≤◌, Bool, true, false, not, ◌&&◌, Option, None, Some, IsSome, List, [], ◌∷◌, length, get_or, take, drop, if◌then◌else◌}
 use Prim.Native.Nat.{suc}
 use Rattle.std.specs.List.Sorted.{IsPermutation}
 use Rattle.ba_lits.specs.Literals.{Literal, negate, index_of, lit_at}
+use Rattle.ba_lits.specs.Hints.{has_literal}
 use Rattle.ba_arena.specs.Clauses.{Clauses, IsLive, lits_at}
 use Rattle.ba_watch.specs.Chains.{occurrences}
 use Rattle.ba_watch.specs.Threads.{Clause, plain_at, index_at, AreApart}
@@ -52,11 +53,6 @@ lits_in clauses clause = plain_lits (clause_in clauses clause)
 pub record IsComplete (clauses : List (Option Clause)) (trail : List Literal) : Type 0 where
   pub none_false : (clause : ℕ) → IsSome (clause_in clauses clause) → is_false (value_of trail) (lits_in clauses clause) ≡ false
   pub none_unit : (clause : ℕ) → IsSome (clause_in clauses clause) → is_unit (value_of trail) (lits_in clauses clause) ≡ false
-
--- the clause has the literal
-abbrev pub has_literal : Literal → List Literal → Bool
-has_literal l [] = false
-has_literal l (x ∷ xs) = eqb (index_of x) (index_of l) || has_literal l xs
 
 -- a clause that has the literal and whose other literals are false under a trail
 pub record IsReason (lits trail : List Literal) (lit : Literal) : Type 0 where

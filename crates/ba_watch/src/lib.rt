@@ -14,6 +14,3 @@ mod units;
 mod watch;
 
 pub use watch::Watch;
-
-#[cfg(test)]
-mod tests;

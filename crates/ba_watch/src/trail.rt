@@ -5,6 +5,7 @@ ghost use Rattle.ba_lits.specs.Literals.{lit_at};
 ghost use Rattle.ba_watch.specs.Trails.{value_of, place_if, decided, level_of, reason_of, kept, IsTrail, Begins};
 
 use ba_arena::ClauseRef;
+use ba_items::fill_up;
 use ba_lits::Lit;
 use std::alloc::{AllocError, Global};
 use std::marker::Model;
@@ -212,15 +213,4 @@ fn decisions(reason: &Option<ClauseRef>) -> usize
     ensures { result ≡ (if is_some reason.now then 0 else 1) }
 {
     if reason.is_some() { 0 } else { 1 }
-}
-
-/// Makes a vector at least so long.
-fn fill_up<T: Copy>(items: &mut Vec<T>, count: usize, filler: T) -> Result<(), AllocError>
-    ensures front { Begins items.old.items items.new.items }
-    ensures room { OnOk result (count ≤ length items.new.items) }
-{
-    if items.len() < count {
-        items.resize(count, filler)?;
-    }
-    Ok(())
 }

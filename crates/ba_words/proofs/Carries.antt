@@ -1,16 +1,29 @@
 -- Sums of words.
 
-use Rattle.std.proofs.Common.{◌≡◌, ℕ, ◌+◌, ◌-◌, ◌*◌, ◌%◌, ◌^◌, ◌<◌, Bool, true, false, ◌&&◌, ◌||◌, List, length, set, replicate, zero, suc, Some, refl, sym, ap, ◌∙◌, arith}
+use Rattle.std.proofs.Common.{◌≡◌, ℕ, ◌+◌, ◌-◌, ◌*◌, ◌%◌, ◌^◌, ◌<◌, Bool, true, false, not, ◌&&◌, ◌||◌, List, length, set, replicate, zero, suc, Some, refl, sym, ap, ◌∙◌, arith}
 use Rattle.std.proofs.lemmas.List.{length-set}
 use Rattle.ba_nodes.specs.declared.Bit.{Bit}
 use Rattle.ba_nodes.specs.declared.Node.{Node}
-use Rattle.ba_nodes.specs.Gates.{bool_xor, truth, IsBitOf, Extends, HasValue}
+use Rattle.ba_nodes.specs.Gates.{bool_xor, bool_majority, truth, IsBitOf, Extends, HasValue}
 use Rattle.ba_words.specs.Words.{digit, number_of, low_number, bit_at, AreBitsOf, HasNumber, AddUp, IsValueOf, IsValueOfOne}
-use Rattle.ba_tree.specs.declared.numbers.BinOp.TheVariants.{Add, Sub}
-use Rattle.ba_tree.specs.declared.numbers.UnOp.TheVariants.{Neg}
+use Rattle.ba_numbers.specs.declared.numbers.BinOp.TheVariants.{Add, Sub}
+use Rattle.ba_numbers.specs.declared.numbers.UnOp.TheVariants.{Neg}
 use Rattle.ba_words.proofs.Values.{read, add_value, sub_value, neg_value}
 use Rattle.ba_words.proofs.Places.{are_bits-extends, are_bits-set, low_number-extends, low_number-set_more, low_number-all, full_sum, add_step}
 use Rattle.ba_words.proofs.Circuits.{argument-more, number_small}
+
+-- a carry, and a borrow, as majorities
+pub carry_by_majority : (a b c : Bool) → bool_majority a b c ≡ ((a && b) || (bool_xor a b && c))
+carry_by_majority true true c = refl
+carry_by_majority true false c = refl
+carry_by_majority false true c = refl
+carry_by_majority false false c = refl
+
+pub borrow_by_majority : (a b c : Bool) → bool_majority (not a) b c ≡ ((not a && b) || (not (a && not b) && c))
+borrow_by_majority true true c = refl
+borrow_by_majority true false c = refl
+borrow_by_majority false true c = refl
+borrow_by_majority false false c = refl
 
 pub wrapped : (total value n : ℕ) → value + 2 ^ 32 * n ≡ total → value < 2 ^ 32 → value ≡ total % 2 ^ 32
 wrapped total value n e small = omega arith

@@ -4,10 +4,10 @@ use Rattle.std.proofs.Common.{◌≡◌, ℕ, ◌+◌, ◌-◌, ◌*◌, ◌%◌
 use Rattle.std.specs.Int.{int_rem_euclid}
 use Rattle.std.proofs.lemmas.Int.{ints}
 use Rattle.std.proofs.lemmas.Bool.Decides.{nat_tests}
-use Rattle.ba_tree.specs.declared.numbers.CType.{CType}
-use Rattle.ba_tree.specs.declared.numbers.CType.TheVariants.{I8, U8, I16, U16, I32, U32}
-use Rattle.ba_tree.specs.Numbers.{IsIn, IsCongruent, converted, width_of, low_word}
-use Rattle.ba_tree.proofs.Conversions.{converted_in_range, converted_congruent, converted_only, rem_congruent}
+use Rattle.ba_numbers.specs.declared.numbers.CType.{CType}
+use Rattle.ba_numbers.specs.declared.numbers.CType.TheVariants.{I8, U8, I16, U16, I32, U32}
+use Rattle.ba_numbers.specs.Numbers.{IsIn, IsCongruent, converted, width_of, low_word}
+use Rattle.ba_numbers.proofs.Conversions.{converted_in_range, converted_congruent, converted_only, rem_congruent}
 use Rattle.ba_nodes.specs.declared.Bit.{Bit}
 use Rattle.ba_nodes.specs.declared.Node.{Node}
 use Rattle.ba_nodes.specs.Gates.{truth}

@@ -8,11 +8,11 @@ use Rattle.std.proofs.lemmas.Bool.{cases_lt, eqb-true}
 use Rattle.std.proofs.lemmas.Nat.{div-add-mod', mod_below, div-mul-add, div_below, pow-add, pow_pos, mul-le}
 use Rattle.std.proofs.Math.Nat.{add-mul, mul_comm}
 use Rattle.std.proofs.lemmas.Bool.Decides.{nat_tests, Decides-int_eq}
-use Rattle.ba_tree.specs.declared.numbers.CType.TheVariants.{I32, U32}
-use Rattle.ba_tree.specs.declared.numbers.BinOp.TheVariants.{Add, Sub, Shl, Shr, Lt, Eq, And, Xor, Or}
-use Rattle.ba_tree.specs.declared.numbers.UnOp.TheVariants.{Neg, Flip, IsZero}
-use Rattle.ba_tree.specs.Numbers.{IsIn, IsCongruent, converted, low_word, count_of, value_of, value_of_one, truth as number_of_truth}
-use Rattle.ba_tree.proofs.Conversions.{converted_in_range, converted_congruent, converted_only, rem_only, truth_converted}
+use Rattle.ba_numbers.specs.declared.numbers.CType.TheVariants.{I32, U32}
+use Rattle.ba_numbers.specs.declared.numbers.BinOp.TheVariants.{Add, Sub, Shl, Shr, Lt, Eq, And, Xor, Or}
+use Rattle.ba_numbers.specs.declared.numbers.UnOp.TheVariants.{Neg, Flip, IsZero}
+use Rattle.ba_numbers.specs.Numbers.{IsIn, IsCongruent, converted, low_word, count_of, value_of, value_of_one, truth as number_of_truth}
+use Rattle.ba_numbers.proofs.Conversions.{converted_in_range, converted_congruent, converted_only, rem_only, truth_converted}
 use Rattle.ba_words.specs.Words.{word_type, digit, shifted_down}
 
 -- the number of a word in C

@@ -4,12 +4,12 @@ use Rattle.std.specs.Prelude.{◌≡◌, ℕ, ◌+◌, ◌-◌, ◌*◌, ◌/◌
 use Rattle.ba_nodes.specs.declared.Bit.{Bit}
 use Rattle.ba_nodes.specs.declared.Node.{Node}
 use Rattle.ba_nodes.specs.Gates.{truth, constant_bit, IsBitOf}
-use Rattle.ba_tree.specs.declared.numbers.CType.{CType}
-use Rattle.ba_tree.specs.declared.numbers.CType.TheVariants.{I32, U32}
-use Rattle.ba_tree.specs.declared.numbers.BinOp.{BinOp}
-use Rattle.ba_tree.specs.declared.numbers.UnOp.{UnOp}
-use Rattle.ba_tree.specs.declared.numbers.UnOp.TheVariants.{IsZero}
-use Rattle.ba_tree.specs.Numbers.{converted, value_of, value_of_one, truth as number_of_truth}
+use Rattle.ba_numbers.specs.declared.numbers.CType.{CType}
+use Rattle.ba_numbers.specs.declared.numbers.CType.TheVariants.{I32, U32}
+use Rattle.ba_numbers.specs.declared.numbers.BinOp.{BinOp}
+use Rattle.ba_numbers.specs.declared.numbers.UnOp.{UnOp}
+use Rattle.ba_numbers.specs.declared.numbers.UnOp.TheVariants.{IsZero}
+use Rattle.ba_numbers.specs.Numbers.{converted, value_of, value_of_one, truth as number_of_truth}
 
 -- 1 for true, 0 for false
 abbrev pub digit : Bool → ℕ

@@ -1,11 +1,11 @@
 //! Operators that work on each place alone.
 
 ghost use Rattle.std.specs.Prelude.{◌≡◌, ℕ, ◌+◌, ◌-◌, ◌*◌, ◌/◌, ◌%◌, ◌<◌, ◌≤◌, ◌^◌, ◌==◌, Bool, true, false, not, nat_lt, ◌&&◌, ◌||◌, List, length, bit_and, bit_or, bit_xor, IfOk, if◌then◌else◌};
-ghost use Rattle.ba_tree.specs.declared.numbers.BinOp.{BinOp};
-ghost use Rattle.ba_tree.specs.declared.numbers.BinOp.TheVariants.{Add, Sub, Shl, Shr, Lt, Eq, And, Xor, Or};
-ghost use Rattle.ba_tree.specs.declared.numbers.UnOp.{UnOp};
-ghost use Rattle.ba_tree.specs.declared.numbers.UnOp.TheVariants.{Neg, Flip, IsZero};
-ghost use Rattle.ba_tree.specs.Numbers.{converted, low_word};
+ghost use Rattle.ba_numbers.specs.declared.numbers.BinOp.{BinOp};
+ghost use Rattle.ba_numbers.specs.declared.numbers.BinOp.TheVariants.{Add, Sub, Shl, Shr, Lt, Eq, And, Xor, Or};
+ghost use Rattle.ba_numbers.specs.declared.numbers.UnOp.{UnOp};
+ghost use Rattle.ba_numbers.specs.declared.numbers.UnOp.TheVariants.{Neg, Flip, IsZero};
+ghost use Rattle.ba_numbers.specs.Numbers.{converted, low_word};
 ghost use Rattle.ba_nodes.specs.declared.Bit.{Bit};
 ghost use Rattle.ba_nodes.specs.declared.Node.{Node};
 ghost use Rattle.ba_nodes.specs.Gates.{bool_xor, constant_bit, opposite, truth, IsBitOf, gates_in, Extends, HasValue};
@@ -47,14 +47,14 @@ pub fn bit_or(nodes: &mut Nodes, a: &Word, b: &Word) -> Result<Word, AllocError>
     Ok(word)
 }
 
-/// The exclusive `or` of the bits of two words (C90 6.3.11), by at most 96 gates.
+/// The exclusive `or` of the bits of two words (C90 6.3.11), by at most 32 gates.
 pub fn bit_xor(nodes: &mut Nodes, a: &Word, b: &Word) -> Result<Word, AllocError>
     requires first { AreBitsOf nodes.old a.now }
     requires second { AreBitsOf nodes.old b.now }
     ensures number { IfOk result (λ word. HasNumber nodes.new word (λ free. bit_xor (number_of free nodes.old a.now) (number_of free nodes.old b.now))) }
     ensures value { IfOk result (λ word. (signed : Bool) → IsValueOf BinOp.Xor signed nodes.old a.now b.now nodes.new word) }
     ensures extends { Extends nodes.old nodes.new }
-    ensures count { gates_in nodes.new ≤ gates_in nodes.old + 96 }
+    ensures count { gates_in nodes.new ≤ gates_in nodes.old + 32 }
 {
     let mut word = *a;
     for i in 0..32 {
@@ -63,14 +63,14 @@ pub fn bit_xor(nodes: &mut Nodes, a: &Word, b: &Word) -> Result<Word, AllocError
     Ok(word)
 }
 
-/// The word `yes` where `which` is true, and else `no`, by at most 96 gates.
+/// The word `yes` where `which` is true, and else `no`, by at most 32 gates.
 pub fn select(nodes: &mut Nodes, which: Bit, yes: &Word, no: &Word) -> Result<Word, AllocError>
     requires chooser { IsBitOf nodes.old which }
     requires first { AreBitsOf nodes.old yes.now }
     requires second { AreBitsOf nodes.old no.now }
     ensures number { IfOk result (λ word. HasNumber nodes.new word (λ free. if truth free nodes.old which then number_of free nodes.old yes.now else number_of free nodes.old no.now)) }
     ensures extends { Extends nodes.old nodes.new }
-    ensures count { gates_in nodes.new ≤ gates_in nodes.old + 96 }
+    ensures count { gates_in nodes.new ≤ gates_in nodes.old + 32 }
 {
     let mut word = *yes;
     for i in 0..32 {

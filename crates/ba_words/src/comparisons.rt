@@ -1,11 +1,11 @@
 //! Comparisons, and the test for zero.
 
 ghost use Rattle.std.specs.Prelude.{◌≡◌, ℕ, ◌+◌, ◌-◌, ◌*◌, ◌/◌, ◌%◌, ◌<◌, ◌≤◌, ◌^◌, ◌==◌, Bool, true, false, not, nat_lt, ◌&&◌, ◌||◌, List, length, bit_and, bit_or, bit_xor, IfOk, if◌then◌else◌};
-ghost use Rattle.ba_tree.specs.declared.numbers.BinOp.{BinOp};
-ghost use Rattle.ba_tree.specs.declared.numbers.BinOp.TheVariants.{Add, Sub, Shl, Shr, Lt, Eq, And, Xor, Or};
-ghost use Rattle.ba_tree.specs.declared.numbers.UnOp.{UnOp};
-ghost use Rattle.ba_tree.specs.declared.numbers.UnOp.TheVariants.{Neg, Flip, IsZero};
-ghost use Rattle.ba_tree.specs.Numbers.{converted, low_word};
+ghost use Rattle.ba_numbers.specs.declared.numbers.BinOp.{BinOp};
+ghost use Rattle.ba_numbers.specs.declared.numbers.BinOp.TheVariants.{Add, Sub, Shl, Shr, Lt, Eq, And, Xor, Or};
+ghost use Rattle.ba_numbers.specs.declared.numbers.UnOp.{UnOp};
+ghost use Rattle.ba_numbers.specs.declared.numbers.UnOp.TheVariants.{Neg, Flip, IsZero};
+ghost use Rattle.ba_numbers.specs.Numbers.{converted, low_word};
 ghost use Rattle.ba_nodes.specs.declared.Bit.{Bit};
 ghost use Rattle.ba_nodes.specs.declared.Node.{Node};
 ghost use Rattle.ba_nodes.specs.Gates.{bool_xor, constant_bit, opposite, truth, IsBitOf, gates_in, Extends, HasValue};
@@ -15,15 +15,16 @@ use crate::Word;
 use ba_nodes::{Bit, Nodes};
 use std::alloc::AllocError;
 
-/// Whether `a` is less than `b`, read as signed or as unsigned (C90 6.3.8), by at most 288 gates: the borrow
+/// Whether `a` is less than `b`, read as signed or as unsigned (C90 6.3.8), by at most 32 gates: the borrow
 /// of their difference, where the highest places change sides if they are signs.
 pub fn less(nodes: &mut Nodes, a: &Word, b: &Word, signed: bool) -> Result<Bit, AllocError>
     requires first { AreBitsOf nodes.old a.now }
     requires second { AreBitsOf nodes.old b.now }
     ensures bit { IfOk result (IsBitOf nodes.new) }
     ensures value { IfOk result (λ bit. IsComparison BinOp.Lt signed nodes.old a.now b.now nodes.new bit) }
+    ensures below { IfOk result (λ bit. signed ≡ false → HasValue nodes.new bit (λ free. nat_lt (number_of free nodes.old a.now) (number_of free nodes.old b.now))) }
     ensures extends { Extends nodes.old nodes.new }
-    ensures count { gates_in nodes.new ≤ gates_in nodes.old + 288 }
+    ensures count { gates_in nodes.new ≤ gates_in nodes.old + 32 }
 {
     let low = low_less(nodes, a, b)?;
     if signed {
@@ -39,7 +40,7 @@ fn low_less(nodes: &mut Nodes, a: &Word, b: &Word) -> Result<Bit, AllocError>
     requires second { AreBitsOf nodes.old b.now }
     ensures value { IfOk result (λ bit. HasValue nodes.new bit (λ free. nat_lt (low_number free nodes.old a.now 31) (low_number free nodes.old b.now 31))) }
     ensures extends { Extends nodes.old nodes.new }
-    ensures count { gates_in nodes.new ≤ gates_in nodes.old + 4 * 31 }
+    ensures count { gates_in nodes.new ≤ gates_in nodes.old + 31 }
 {
     let mut below = Nodes::constant(false);
     for i in 0..31 {
@@ -50,28 +51,26 @@ fn low_less(nodes: &mut Nodes, a: &Word, b: &Word) -> Result<Bit, AllocError>
 
 /// The borrow of `a` less `b` at one place: `a` is false and `b` true, or they are equal and the places below
 /// borrow.
+#[tactic(auto, using(crate::proofs::Carries::borrow_by_majority))]
 fn borrow(nodes: &mut Nodes, a: Bit, b: Bit, below: Bit) -> Result<Bit, AllocError>
     requires first { IsBitOf nodes.old a }
     requires second { IsBitOf nodes.old b }
     requires third { IsBitOf nodes.old below }
     ensures value { IfOk result (λ bit. HasValue nodes.new bit (λ free. (not (truth free nodes.old a) && truth free nodes.old b) || (not (truth free nodes.old a && not (truth free nodes.old b)) && truth free nodes.old below))) }
     ensures extends { Extends nodes.old nodes.new }
-    ensures count { gates_in nodes.new ≤ gates_in nodes.old + 4 }
+    ensures count { gates_in nodes.new ≤ gates_in nodes.old + 1 }
 {
-    let here = nodes.and(Nodes::not(a), b)?;
-    let above = nodes.and(a, Nodes::not(b))?;
-    let passed = nodes.and(Nodes::not(above), below)?;
-    nodes.or(here, passed)
+    nodes.majority(Nodes::not(a), b, below)
 }
 
-/// Whether two words are equal (C90 6.3.9), by at most 127 gates.
+/// Whether two words are equal (C90 6.3.9), by at most 63 gates.
 pub fn equal(nodes: &mut Nodes, a: &Word, b: &Word) -> Result<Bit, AllocError>
     requires first { AreBitsOf nodes.old a.now }
     requires second { AreBitsOf nodes.old b.now }
     ensures same { IfOk result (λ bit. HasValue nodes.new bit (λ free. number_of free nodes.old a.now == number_of free nodes.old b.now)) }
     ensures value { IfOk result (λ bit. (signed : Bool) → IsComparison BinOp.Eq signed nodes.old a.now b.now nodes.new bit) }
     ensures extends { Extends nodes.old nodes.new }
-    ensures count { gates_in nodes.new ≤ gates_in nodes.old + 127 }
+    ensures count { gates_in nodes.new ≤ gates_in nodes.old + 63 }
 {
     let mut same = Nodes::not(nodes.xor(a[0], b[0])?);
     for i in 1..32 {
@@ -87,7 +86,7 @@ fn also_equal(nodes: &mut Nodes, same: Bit, a: Bit, b: Bit) -> Result<Bit, Alloc
     requires third { IsBitOf nodes.old b }
     ensures value { IfOk result (λ bit. HasValue nodes.new bit (λ free. truth free nodes.old same && not (bool_xor (truth free nodes.old a) (truth free nodes.old b)))) }
     ensures extends { Extends nodes.old nodes.new }
-    ensures count { gates_in nodes.new ≤ gates_in nodes.old + 4 }
+    ensures count { gates_in nodes.new ≤ gates_in nodes.old + 2 }
 {
     let differ = nodes.xor(a, b)?;
     nodes.and(same, Nodes::not(differ))

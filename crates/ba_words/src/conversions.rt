@@ -1,11 +1,11 @@
 //! Conversions to the types of C.
 
 ghost use Rattle.std.specs.Prelude.{◌≡◌, ℕ, ◌+◌, ◌-◌, ◌*◌, ◌/◌, ◌%◌, ◌<◌, ◌≤◌, ◌^◌, ◌==◌, pos, Bool, true, false, not, nat_lt, ◌&&◌, ◌||◌, List, length, bit_and, bit_or, bit_xor, IfOk, if◌then◌else◌};
-ghost use Rattle.ba_tree.specs.declared.numbers.BinOp.{BinOp};
-ghost use Rattle.ba_tree.specs.declared.numbers.BinOp.TheVariants.{Add, Sub, Shl, Shr, Lt, Eq, And, Xor, Or};
-ghost use Rattle.ba_tree.specs.declared.numbers.UnOp.{UnOp};
-ghost use Rattle.ba_tree.specs.declared.numbers.UnOp.TheVariants.{Neg, Flip, IsZero};
-ghost use Rattle.ba_tree.specs.Numbers.{converted, low_word};
+ghost use Rattle.ba_numbers.specs.declared.numbers.BinOp.{BinOp};
+ghost use Rattle.ba_numbers.specs.declared.numbers.BinOp.TheVariants.{Add, Sub, Shl, Shr, Lt, Eq, And, Xor, Or};
+ghost use Rattle.ba_numbers.specs.declared.numbers.UnOp.{UnOp};
+ghost use Rattle.ba_numbers.specs.declared.numbers.UnOp.TheVariants.{Neg, Flip, IsZero};
+ghost use Rattle.ba_numbers.specs.Numbers.{converted, low_word};
 ghost use Rattle.ba_nodes.specs.declared.Bit.{Bit};
 ghost use Rattle.ba_nodes.specs.declared.Node.{Node};
 ghost use Rattle.ba_nodes.specs.Gates.{bool_xor, constant_bit, opposite, truth, IsBitOf, gates_in, Extends, HasValue};
@@ -13,7 +13,7 @@ ghost use Rattle.ba_words.specs.Words.{digit, spelled, number_of, low_number, bi
 
 use crate::Word;
 use ba_nodes::{Bit, Nodes};
-use ba_tree::numbers::CType;
+use ba_numbers::numbers::CType;
 
 /// The word converted to a type (C90 6.2.1.2): its low bits, with the sign or with zeros above them. It takes
 /// no memory.
@@ -33,8 +33,8 @@ pub fn convert_word(t: CType, a: &Word) -> Word
     }
 }
 
-/// The low `width` bits, and `fill` above them.
-fn extended(word: &Word, width: usize, fill: Bit) -> Word
+/// The low `width` bits, and `fill` above them. It takes no memory.
+pub fn extended(word: &Word, width: usize, fill: Bit) -> Word
     ensures long { length result ≡ 32 }
     ensures bits { (nodes : List Node) → AreBitsOf nodes word.now → IsBitOf nodes fill → AreBitsOf nodes result }
     ensures places { (place : ℕ) → place < 32 → bit_at result place ≡ (if nat_lt place width then bit_at word.now place else fill) }

@@ -15,12 +15,9 @@ mod sums;
 use ba_nodes::Bit;
 pub use bitwise::{bit_and, bit_or, bit_xor, flip, select};
 pub use comparisons::{equal, less, nonzero};
-pub use conversions::convert_word;
-pub use shifts::{shl, shr};
+pub use conversions::{convert_word, extended};
+pub use shifts::{moved_up, shl, shr, sign_of};
 pub use sums::{add, add_with_carry, neg, sub};
 
 /// A word of 32 bits, the lowest bit first.
 pub type Word = [Bit; 32];
-
-#[cfg(test)]
-mod tests;

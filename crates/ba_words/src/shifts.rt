@@ -1,11 +1,11 @@
 //! Shifts, over one level of selects for each of the five bits of the count.
 
 ghost use Rattle.std.specs.Prelude.{◌≡◌, ℕ, ◌+◌, ◌-◌, ◌*◌, ◌/◌, ◌%◌, ◌<◌, ◌≤◌, ◌^◌, ◌==◌, Bool, true, false, not, nat_lt, ◌&&◌, ◌||◌, List, length, bit_and, bit_or, bit_xor, IfOk, if◌then◌else◌};
-ghost use Rattle.ba_tree.specs.declared.numbers.BinOp.{BinOp};
-ghost use Rattle.ba_tree.specs.declared.numbers.BinOp.TheVariants.{Add, Sub, Shl, Shr, Lt, Eq, And, Xor, Or};
-ghost use Rattle.ba_tree.specs.declared.numbers.UnOp.{UnOp};
-ghost use Rattle.ba_tree.specs.declared.numbers.UnOp.TheVariants.{Neg, Flip, IsZero};
-ghost use Rattle.ba_tree.specs.Numbers.{converted, low_word};
+ghost use Rattle.ba_numbers.specs.declared.numbers.BinOp.{BinOp};
+ghost use Rattle.ba_numbers.specs.declared.numbers.BinOp.TheVariants.{Add, Sub, Shl, Shr, Lt, Eq, And, Xor, Or};
+ghost use Rattle.ba_numbers.specs.declared.numbers.UnOp.{UnOp};
+ghost use Rattle.ba_numbers.specs.declared.numbers.UnOp.TheVariants.{Neg, Flip, IsZero};
+ghost use Rattle.ba_numbers.specs.Numbers.{converted, low_word};
 ghost use Rattle.ba_nodes.specs.declared.Bit.{Bit};
 ghost use Rattle.ba_nodes.specs.declared.Node.{Node};
 ghost use Rattle.ba_nodes.specs.Gates.{bool_xor, constant_bit, opposite, truth, IsBitOf, gates_in, Extends, HasValue};
@@ -15,7 +15,7 @@ use crate::{Word, select};
 use ba_nodes::{Bit, Nodes};
 use std::alloc::AllocError;
 
-/// The word times two to the power of the low five bits of `count`, modulo 2^32 (C90 6.3.7), by at most 480
+/// The word times two to the power of the low five bits of `count`, modulo 2^32 (C90 6.3.7), by at most 160
 /// gates.
 pub fn shl(nodes: &mut Nodes, a: &Word, count: &Word) -> Result<Word, AllocError>
     requires first { AreBitsOf nodes.old a.now }
@@ -23,7 +23,7 @@ pub fn shl(nodes: &mut Nodes, a: &Word, count: &Word) -> Result<Word, AllocError
     ensures number { IfOk result (λ word. HasNumber nodes.new word (λ free. (number_of free nodes.old a.now * 2 ^ (number_of free nodes.old count.now % 32)) % 2 ^ 32)) }
     ensures value { IfOk result (λ word. (signed counted : Bool) → IsShift BinOp.Shl signed counted nodes.old a.now count.now nodes.new word) }
     ensures extends { Extends nodes.old nodes.new }
-    ensures count { gates_in nodes.new ≤ gates_in nodes.old + 480 }
+    ensures count { gates_in nodes.new ≤ gates_in nodes.old + 160 }
 {
     let mut word = *a;
     for level in 0..5 {
@@ -34,14 +34,14 @@ pub fn shl(nodes: &mut Nodes, a: &Word, count: &Word) -> Result<Word, AllocError
 }
 
 /// The word divided by two to the power of the low five bits of `count`, rounded down (C90 6.3.7), by at most
-/// 480 gates. A signed word keeps its sign.
+/// 160 gates. A signed word keeps its sign.
 pub fn shr(nodes: &mut Nodes, a: &Word, count: &Word, signed: bool) -> Result<Word, AllocError>
     requires first { AreBitsOf nodes.old a.now }
     requires second { AreBitsOf nodes.old count.now }
     ensures number { IfOk result (λ word. HasNumber nodes.new word (λ free. shifted_down (number_of free nodes.old a.now) (signed && truth free nodes.old (bit_at a.now 31)) (number_of free nodes.old count.now % 32))) }
     ensures value { IfOk result (λ word. (counted : Bool) → IsShift BinOp.Shr signed counted nodes.old a.now count.now nodes.new word) }
     ensures extends { Extends nodes.old nodes.new }
-    ensures count { gates_in nodes.new ≤ gates_in nodes.old + 480 }
+    ensures count { gates_in nodes.new ≤ gates_in nodes.old + 160 }
 {
     let sign = sign_of(a, signed);
     let mut word = *a;
@@ -52,8 +52,8 @@ pub fn shr(nodes: &mut Nodes, a: &Word, count: &Word, signed: bool) -> Result<Wo
     Ok(word)
 }
 
-/// The bit that says whether the word is negative: its highest, or false for an unsigned word.
-fn sign_of(a: &Word, signed: bool) -> Bit
+/// The bit that says whether the word is negative: its highest, or false for an unsigned word. It takes no memory.
+pub fn sign_of(a: &Word, signed: bool) -> Bit
     ensures bit { result ≡ (if signed then bit_at a.now 31 else constant_bit false) }
     ensures value { (nodes : List Node) (free : ℕ → Bool) → truth free nodes result ≡ (signed && truth free nodes (bit_at a.now 31)) }
 {
@@ -64,8 +64,8 @@ fn sign_of(a: &Word, signed: bool) -> Bit
     }
 }
 
-/// The bits `by` places higher, and false below them.
-fn moved_up(word: &Word, by: usize) -> Word
+/// The bits `by` places higher, and false below them. It takes no memory.
+pub fn moved_up(word: &Word, by: usize) -> Word
     ensures long { length result ≡ 32 }
     ensures bits { (nodes : List Node) → AreBitsOf nodes word.now → AreBitsOf nodes result }
     ensures places { (place : ℕ) → place < 32 → bit_at result place ≡ (if nat_lt place by then constant_bit false else bit_at word.now (place - by)) }

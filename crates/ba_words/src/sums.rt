@@ -1,11 +1,11 @@
 //! Sums, differences and negation, by a ripple of carries.
 
 ghost use Rattle.std.specs.Prelude.{◌≡◌, ℕ, ◌+◌, ◌-◌, ◌*◌, ◌/◌, ◌%◌, ◌<◌, ◌≤◌, ◌^◌, ◌==◌, Bool, true, false, not, nat_lt, ◌&&◌, ◌||◌, List, length, bit_and, bit_or, bit_xor, IfOk, if◌then◌else◌};
-ghost use Rattle.ba_tree.specs.declared.numbers.BinOp.{BinOp};
-ghost use Rattle.ba_tree.specs.declared.numbers.BinOp.TheVariants.{Add, Sub, Shl, Shr, Lt, Eq, And, Xor, Or};
-ghost use Rattle.ba_tree.specs.declared.numbers.UnOp.{UnOp};
-ghost use Rattle.ba_tree.specs.declared.numbers.UnOp.TheVariants.{Neg, Flip, IsZero};
-ghost use Rattle.ba_tree.specs.Numbers.{converted, low_word};
+ghost use Rattle.ba_numbers.specs.declared.numbers.BinOp.{BinOp};
+ghost use Rattle.ba_numbers.specs.declared.numbers.BinOp.TheVariants.{Add, Sub, Shl, Shr, Lt, Eq, And, Xor, Or};
+ghost use Rattle.ba_numbers.specs.declared.numbers.UnOp.{UnOp};
+ghost use Rattle.ba_numbers.specs.declared.numbers.UnOp.TheVariants.{Neg, Flip, IsZero};
+ghost use Rattle.ba_numbers.specs.Numbers.{converted, low_word};
 ghost use Rattle.ba_nodes.specs.declared.Bit.{Bit};
 ghost use Rattle.ba_nodes.specs.declared.Node.{Node};
 ghost use Rattle.ba_nodes.specs.Gates.{bool_xor, constant_bit, opposite, truth, IsBitOf, gates_in, Extends, HasValue};
@@ -15,45 +15,45 @@ use crate::{Word, flip};
 use ba_nodes::{Bit, Nodes};
 use std::alloc::AllocError;
 
-/// The sum of two words modulo 2^32 (C90 6.3.6), by at most 288 gates.
+/// The sum of two words modulo 2^32 (C90 6.3.6), by at most 96 gates.
 pub fn add(nodes: &mut Nodes, a: &Word, b: &Word) -> Result<Word, AllocError>
     requires first { AreBitsOf nodes.old a.now }
     requires second { AreBitsOf nodes.old b.now }
     ensures number { IfOk result (λ word. HasNumber nodes.new word (λ free. (number_of free nodes.old a.now + number_of free nodes.old b.now) % 2 ^ 32)) }
     ensures value { IfOk result (λ word. (signed : Bool) → IsValueOf BinOp.Add signed nodes.old a.now b.now nodes.new word) }
     ensures extends { Extends nodes.old nodes.new }
-    ensures count { gates_in nodes.new ≤ gates_in nodes.old + 288 }
+    ensures count { gates_in nodes.new ≤ gates_in nodes.old + 96 }
 {
     sum(nodes, a, b, Nodes::constant(false))
 }
 
-/// The difference of two words modulo 2^32 (C90 6.3.6), by at most 288 gates.
+/// The difference of two words modulo 2^32 (C90 6.3.6), by at most 96 gates.
 pub fn sub(nodes: &mut Nodes, a: &Word, b: &Word) -> Result<Word, AllocError>
     requires first { AreBitsOf nodes.old a.now }
     requires second { AreBitsOf nodes.old b.now }
     ensures number { IfOk result (λ word. HasNumber nodes.new word (λ free. (number_of free nodes.old a.now + (2 ^ 32 - number_of free nodes.old b.now)) % 2 ^ 32)) }
     ensures value { IfOk result (λ word. (signed : Bool) → IsValueOf BinOp.Sub signed nodes.old a.now b.now nodes.new word) }
     ensures extends { Extends nodes.old nodes.new }
-    ensures count { gates_in nodes.new ≤ gates_in nodes.old + 288 }
+    ensures count { gates_in nodes.new ≤ gates_in nodes.old + 96 }
 {
     let complement = flip(b);
     sum(nodes, a, &complement, Nodes::constant(true))
 }
 
-/// The word with the opposite sign, modulo 2^32 (C90 6.3.3.3), by at most 288 gates.
+/// The word with the opposite sign, modulo 2^32 (C90 6.3.3.3), by at most 96 gates.
 pub fn neg(nodes: &mut Nodes, a: &Word) -> Result<Word, AllocError>
     requires { AreBitsOf nodes.old a.now }
     ensures number { IfOk result (λ word. HasNumber nodes.new word (λ free. (2 ^ 32 - number_of free nodes.old a.now) % 2 ^ 32)) }
     ensures value { IfOk result (λ word. (signed : Bool) → IsValueOfOne UnOp.Neg signed nodes.old a.now nodes.new word) }
     ensures extends { Extends nodes.old nodes.new }
-    ensures count { gates_in nodes.new ≤ gates_in nodes.old + 288 }
+    ensures count { gates_in nodes.new ≤ gates_in nodes.old + 96 }
 {
     let complement = flip(a);
     let zero = [Nodes::constant(false); 32];
     sum(nodes, &zero, &complement, Nodes::constant(true))
 }
 
-/// The sum of two words and a carry, and the carry out of the highest place, by at most 288 gates.
+/// The sum of two words and a carry, and the carry out of the highest place, by at most 96 gates.
 pub fn add_with_carry(
     nodes: &mut Nodes,
     a: &Word,
@@ -68,7 +68,7 @@ pub fn add_with_carry(
         number_of free nodes.new r.0 + 2 ^ 32 * digit (truth free nodes.new r.1)
         ≡ number_of free nodes.old a.now + number_of free nodes.old b.now + digit (truth free nodes.old carry)) }
     ensures extends { Extends nodes.old nodes.new }
-    ensures count { gates_in nodes.new ≤ gates_in nodes.old + 288 }
+    ensures count { gates_in nodes.new ≤ gates_in nodes.old + 96 }
 {
     let (mut sums, carried) = low_sums(nodes, a, b, carry)?;
     let (highest, carry_out) = full_adder(nodes, a[31], b[31], carried)?;
@@ -83,7 +83,7 @@ fn sum(nodes: &mut Nodes, a: &Word, b: &Word, carry: Bit) -> Result<Word, AllocE
     requires third { IsBitOf nodes.old carry }
     ensures number { IfOk result (λ word. HasNumber nodes.new word (λ free. (number_of free nodes.old a.now + number_of free nodes.old b.now + digit (truth free nodes.old carry)) % 2 ^ 32)) }
     ensures extends { Extends nodes.old nodes.new }
-    ensures count { gates_in nodes.new ≤ gates_in nodes.old + 288 }
+    ensures count { gates_in nodes.new ≤ gates_in nodes.old + 96 }
 {
     let (mut sums, carried) = low_sums(nodes, a, b, carry)?;
     sums[31] = sum_bit(nodes, a[31], b[31], carried)?;
@@ -97,7 +97,7 @@ fn sum_bit(nodes: &mut Nodes, a: Bit, b: Bit, carry: Bit) -> Result<Bit, AllocEr
     requires third { IsBitOf nodes.old carry }
     ensures sum { IfOk result (λ bit. HasValue nodes.new bit (λ free. bool_xor (bool_xor (truth free nodes.old a) (truth free nodes.old b)) (truth free nodes.old carry))) }
     ensures extends { Extends nodes.old nodes.new }
-    ensures count { gates_in nodes.new ≤ gates_in nodes.old + 6 }
+    ensures count { gates_in nodes.new ≤ gates_in nodes.old + 2 }
 {
     let half = nodes.xor(a, b)?;
     nodes.xor(half, carry)
@@ -110,7 +110,7 @@ fn low_sums(nodes: &mut Nodes, a: &Word, b: &Word, carry: Bit) -> Result<(Word, 
     requires third { IsBitOf nodes.old carry }
     ensures sums { IfOk result (λ r. AddUp nodes.old a.now b.now carry nodes.new r.0 r.1 31) }
     ensures extends { Extends nodes.old nodes.new }
-    ensures count { gates_in nodes.new ≤ gates_in nodes.old + 9 * 31 }
+    ensures count { gates_in nodes.new ≤ gates_in nodes.old + 3 * 31 }
 {
     let mut sums = *a;
     let mut carried = carry;
@@ -123,6 +123,7 @@ fn low_sums(nodes: &mut Nodes, a: &Word, b: &Word, carry: Bit) -> Result<(Word, 
 }
 
 /// The sum of three bits, and the carry.
+#[tactic(auto, using(crate::proofs::Carries::carry_by_majority))]
 fn full_adder(nodes: &mut Nodes, a: Bit, b: Bit, carry: Bit) -> Result<(Bit, Bit), AllocError>
     requires first { IsBitOf nodes.old a }
     requires second { IsBitOf nodes.old b }
@@ -130,12 +131,10 @@ fn full_adder(nodes: &mut Nodes, a: Bit, b: Bit, carry: Bit) -> Result<(Bit, Bit
     ensures sum { IfOk result (λ r. HasValue nodes.new r.0 (λ free. bool_xor (bool_xor (truth free nodes.old a) (truth free nodes.old b)) (truth free nodes.old carry))) }
     ensures carry { IfOk result (λ r. HasValue nodes.new r.1 (λ free. (truth free nodes.old a && truth free nodes.old b) || (bool_xor (truth free nodes.old a) (truth free nodes.old b) && truth free nodes.old carry))) }
     ensures extends { Extends nodes.old nodes.new }
-    ensures count { gates_in nodes.new ≤ gates_in nodes.old + 9 }
+    ensures count { gates_in nodes.new ≤ gates_in nodes.old + 3 }
 {
     let half = nodes.xor(a, b)?;
     let sum = nodes.xor(half, carry)?;
-    let both = nodes.and(a, b)?;
-    let through = nodes.and(half, carry)?;
-    let carried = nodes.or(both, through)?;
+    let carried = nodes.majority(a, b, carry)?;
     Ok((sum, carried))
 }

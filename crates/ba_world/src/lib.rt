@@ -9,8 +9,6 @@
 mod host;
 mod memory;
 mod read;
-#[cfg(test)]
-mod tests;
 mod world;
 
 pub use host::HostWorld;

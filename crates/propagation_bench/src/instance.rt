@@ -1,42 +1,12 @@
 //! Instances, and walks through them.
 
-ghost use Rattle.std.specs.Prelude.{◌≡◌, ◌≤◌, None, true, IsTrue};
-ghost use Rattle.ba_lits.specs.Literals.{IsClause};
+ghost use Rattle.std.specs.Prelude.{◌≡◌, ◌≤◌, None, true};
 ghost use Rattle.ba_watch.specs.Trails.{value_of};
 
-use crate::source::Source;
 use ba_lits::Lit;
 use ba_watch::Watch;
 use std::alloc::{AllocError, Global};
-
-/// The literal of a variable with a sign.
-fn literal(variable: u64, negated: bool) -> Lit {
-    let lit = Lit::positive(variable.clamp(1, 1 << 32));
-    if negated { lit.negated() } else { lit }
-}
-
-/// Whether literals form a clause over so many variables.
-fn is_clause(variables: u64, lits: &[Lit]) -> bool
-    ensures { IsTrue result → IsClause variables lits.now }
-{
-    let mut last = 0;
-    for lit in lits {
-        let variable = lit.variable();
-        if variable <= last || variable > variables {
-            return false;
-        }
-        last = variable;
-    }
-    true
-}
-
-/// Adds a clause, where the literals form one.
-fn add(watch: &mut Watch, lits: &[Lit], number: u64) -> Result<(), AllocError> {
-    if watch.level() == 0 && is_clause(watch.variables(), lits) {
-        watch.add_clause(lits, number)?;
-    }
-    Ok(())
-}
+use test_formulas::{Source, add_clause, literal};
 
 /// Walks along a chain in which each variable implies the next, so many times, and answers how many literals
 /// were assigned.
@@ -46,11 +16,8 @@ pub fn chain(alloc: Global, variables: u64, rounds: u64) -> Result<u64, AllocErr
     let mut watch = Watch::new(alloc);
     watch.grow(variables)?;
     for variable in 1..variables {
-        add(
-            &mut watch,
-            [literal(variable, true), literal(variable + 1, false)].as_slice(),
-            variable,
-        )?;
+        let next = [literal(variable, true), literal(variable + 1, false)];
+        let _ = add_clause(&mut watch, next.as_slice(), variable)?;
     }
     if watch.propagate().is_some() {
         return Ok(0);
@@ -104,7 +71,7 @@ pub fn random(alloc: Global, variables: u64, clauses: u64, rounds: u64) -> Resul
             literal(middle, signs & 2 == 2),
             literal(high, signs & 4 == 4),
         ];
-        add(&mut watch, lits.as_slice(), number)?;
+        let _ = add_clause(&mut watch, lits.as_slice(), number)?;
     }
     if watch.propagate().is_some() {
         return Ok(0);

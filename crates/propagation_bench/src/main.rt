@@ -4,7 +4,6 @@
 #![tactic(auto)]
 
 mod instance;
-mod source;
 
 use std::io;
 

@@ -1,10 +1,8 @@
 //! The formulas that can be named.
 
-use crate::chain::chain;
-use crate::pigeons::pigeons;
-use crate::random::random;
 use ba_lits::Formula;
 use std::alloc::{AllocError, Global};
+use test_formulas::{chain, pigeons, random};
 
 /// How a formula is made.
 #[derive(Clone, Copy, Drop)]

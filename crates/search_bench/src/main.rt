@@ -5,16 +5,11 @@
 //! prints the formula, so that other programs can solve it. Without words it solves two small formulas.
 #![tactic(auto)]
 
-mod chain;
-mod clauses;
 mod dimacs;
 mod instance;
-mod pigeons;
-mod random;
 mod report;
 mod rules;
 mod solving;
-mod source;
 mod words;
 
 use anyhow::{Context, Result};

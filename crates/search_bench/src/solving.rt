@@ -1,32 +1,16 @@
 //! Solving a formula, with a checker.
 
-ghost use Rattle.std.specs.Prelude.{◌≡◌, true, false, IfOk, []};
-ghost use Rattle.ba_steps.specs.States.{first_state};
-ghost use Rattle.ba_steps.specs.Steps.{AreNumbers};
-
 use crate::report::{Report, Verdict};
 use crate::rules::{keep, luby};
 use ba_items::Items;
 use ba_lits::{Formula, Lit, Model};
 use ba_search::{Answer, Search, SearchError};
-use ba_steps::{CertStep, Checked, Checker, NoSink, RunJudge};
-use ba_tree::run::Choice;
-use std::alloc::{AllocError, Global};
+use ba_steps::{CertStep, Checked, Checker, NoSink};
+use std::alloc::Global;
+use test_formulas::{NoRuns, are_numbers};
 
 /// How many conflicts there may be.
 const CONFLICTS: u64 = 10_000_000;
-
-/// A judge to whom no run is good.
-#[derive(Clone, Copy, Drop)]
-struct NoRuns;
-
-impl RunJudge for NoRuns {
-    ghost accepts = { λ _ _ _. false };
-
-    fn good(&self, _groups: &[u32], _run: &[Choice]) -> Result<bool, AllocError> {
-        Ok(false)
-    }
-}
 
 /// Solves a formula, with each learnt clause put through a checker, and tries the answer.
 ///
@@ -63,15 +47,6 @@ fn ends(checker: &mut Checker, hints: Items<u64>) -> bool {
         && checker
             .step(&CertStep::EndNoRepair { hints }, &NoRuns)
             .is_ok()
-}
-
-/// Whether these can be numbers of clauses.
-fn are_numbers(numbers: &[u64]) -> bool
-    ensures { result ≡ true → AreNumbers numbers.now }
-{
-    numbers
-        .iter()
-        .all(|number| 1 <= *number && *number < 1 << 62)
 }
 
 /// Whether a model satisfies each clause of a formula.

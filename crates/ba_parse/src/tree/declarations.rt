@@ -12,10 +12,10 @@ use std::marker::Model;
 #[derive(Drop)]
 pub struct ArrayLength<'a> {
     /// `[`
-    pub open: &'a Token,
+    pub open: &'a Token<'a>,
     pub length: Option<Conditional<'a>>,
     /// `]`
-    pub close: &'a Token,
+    pub close: &'a Token<'a>,
 }
 
 impl<'a> Model for ArrayLength<'a> {
@@ -32,13 +32,13 @@ impl<'a> Model for ArrayLength<'a> {
 #[derive(Drop)]
 pub struct Braced<'a> {
     /// `{`
-    pub open: &'a Token,
+    pub open: &'a Token<'a>,
     pub first: Conditional<'a>,
     pub rest: Vec<NextExpression<'a>>,
     /// The comma before the `}`, if there is one.
-    pub comma: Option<&'a Token>,
+    pub comma: Option<&'a Token<'a>>,
     /// `}`
-    pub close: &'a Token,
+    pub close: &'a Token<'a>,
 }
 
 impl<'a> Model for Braced<'a> {
@@ -56,7 +56,7 @@ impl<'a> Model for Braced<'a> {
 #[derive(Drop)]
 pub struct Initialiser<'a> {
     /// `=`
-    pub assign: &'a Token,
+    pub assign: &'a Token<'a>,
     pub value: InitialValue<'a>,
 }
 
@@ -81,7 +81,7 @@ impl<'a> Model for Initialiser<'a> {
 /// A declared name, with its length if it is an array, and its initialiser (C90 6.5.4).
 #[derive(Drop)]
 pub struct Declarator<'a> {
-    pub name: &'a Token,
+    pub name: &'a Token<'a>,
     pub length: Option<ArrayLength<'a>>,
     pub initialiser: Option<Initialiser<'a>>,
 }
@@ -99,7 +99,7 @@ impl<'a> Model for Declarator<'a> {
 /// A comma and the declarator after it.
 #[derive(Drop)]
 pub struct NextDeclarator<'a> {
-    pub comma: &'a Token,
+    pub comma: &'a Token<'a>,
     pub declarator: Declarator<'a>,
 }
 
@@ -134,7 +134,7 @@ impl<'a> Model for Declarators<'a> {
 pub struct Declaration<'a> {
     pub name: TypeName<'a>,
     pub declarators: Declarators<'a>,
-    pub semicolon: &'a Token,
+    pub semicolon: &'a Token<'a>,
 }
 
 impl<'a> Model for Declaration<'a> {
@@ -150,7 +150,7 @@ impl<'a> Model for Declaration<'a> {
 #[derive(Drop)]
 pub struct Parameter<'a> {
     pub type_name: TypeName<'a>,
-    pub name: Option<&'a Token>,
+    pub name: Option<&'a Token<'a>>,
     pub length: Option<ArrayLength<'a>>,
 }
 
@@ -179,7 +179,7 @@ impl<'a> Parameter<'a> {
 /// A comma and the parameter after it.
 #[derive(Drop)]
 pub struct NextParameter<'a> {
-    pub comma: &'a Token,
+    pub comma: &'a Token<'a>,
     pub parameter: Parameter<'a>,
 }
 

@@ -6,7 +6,7 @@ use std::marker::Model;
 /// The words that name a type (C90 6.5.1, 6.5.2, 6.5.3), in the order of the text.
 #[derive(Drop)]
 pub struct TypeName<'a> {
-    pub words: Vec<&'a Token>,
+    pub words: Vec<&'a Token<'a>>,
 }
 
 impl<'a> Model for TypeName<'a> {
@@ -49,10 +49,10 @@ impl<'a> Model for Conditional<'a> {
 #[derive(Drop)]
 pub struct Branches<'a> {
     /// `?`
-    pub question: &'a Token,
+    pub question: &'a Token<'a>,
     pub holds: Box<Conditional<'a>>,
     /// `:`
-    pub colon: &'a Token,
+    pub colon: &'a Token<'a>,
     pub fails: Box<Conditional<'a>>,
 }
 
@@ -86,7 +86,7 @@ pub struct Operand<'a> {
 pub struct Chain<'a> {
     /// The level of the operators, from 1 for `*` to 10 for `||`.
     pub level: u32,
-    pub operator: &'a Token,
+    pub operator: &'a Token<'a>,
     pub operand: Operand<'a>,
     pub rest: Option<Box<Chain<'a>>>,
 }
@@ -122,14 +122,14 @@ pub struct Unary<'a> {
 pub enum UnaryForm<'a> {
     /// `+`, `-`, `~` or `!` before its operand.
     Prefix {
-        operator: &'a Token,
+        operator: &'a Token<'a>,
         operand: Box<Unary<'a>>,
     },
     /// A cast before its operand.
     Cast {
-        open: &'a Token,
+        open: &'a Token<'a>,
         name: TypeName<'a>,
-        close: &'a Token,
+        close: &'a Token<'a>,
         operand: Box<Unary<'a>>,
     },
     /// A primary expression, or one with `[ ]` or `( )` behind it.
@@ -164,27 +164,27 @@ pub struct Primary<'a> {
 #[derive(Drop)]
 pub enum PrimaryForm<'a> {
     Name {
-        name: &'a Token,
+        name: &'a Token<'a>,
     },
     Element {
-        name: &'a Token,
-        open: &'a Token,
+        name: &'a Token<'a>,
+        open: &'a Token<'a>,
         index: Box<Conditional<'a>>,
-        close: &'a Token,
+        close: &'a Token<'a>,
     },
     Call {
-        name: &'a Token,
-        open: &'a Token,
+        name: &'a Token<'a>,
+        open: &'a Token<'a>,
         arguments: Arguments<'a>,
-        close: &'a Token,
+        close: &'a Token<'a>,
     },
     Constant {
-        constant: &'a Token,
+        constant: &'a Token<'a>,
     },
     Parenthesized {
-        open: &'a Token,
+        open: &'a Token<'a>,
         expression: Box<Conditional<'a>>,
-        close: &'a Token,
+        close: &'a Token<'a>,
     },
 }
 
@@ -242,7 +242,7 @@ pub struct Expressions<'a> {
 #[cycle(expression)]
 #[derive(Drop)]
 pub struct NextExpression<'a> {
-    pub comma: &'a Token,
+    pub comma: &'a Token<'a>,
     pub expression: Conditional<'a>,
 }
 

@@ -8,7 +8,7 @@ use std::marker::Model;
 /// A variable or an element that is assigned to.
 #[derive(Drop)]
 pub struct Target<'a> {
-    pub name: &'a Token,
+    pub name: &'a Token<'a>,
     pub index: Option<Index<'a>>,
 }
 
@@ -26,10 +26,10 @@ impl<'a> Model for Target<'a> {
 #[derive(Drop)]
 pub struct Index<'a> {
     /// `[`
-    pub open: &'a Token,
+    pub open: &'a Token<'a>,
     pub value: Box<Conditional<'a>>,
     /// `]`
-    pub close: &'a Token,
+    pub close: &'a Token<'a>,
 }
 
 impl<'a> Model for Index<'a> {
@@ -53,24 +53,24 @@ pub enum SimpleForm<'a> {
     /// `=` or a compound assignment (C90 6.3.16).
     Assign {
         target: Target<'a>,
-        operator: &'a Token,
+        operator: &'a Token<'a>,
         value: Conditional<'a>,
     },
     /// `++` or `--` behind (C90 6.3.2.4).
     Step {
         target: Target<'a>,
-        operator: &'a Token,
+        operator: &'a Token<'a>,
     },
     /// `++` or `--` before (C90 6.3.3.1).
     PrefixStep {
-        operator: &'a Token,
+        operator: &'a Token<'a>,
         target: Target<'a>,
     },
     Call {
-        name: &'a Token,
-        open: &'a Token,
+        name: &'a Token<'a>,
+        open: &'a Token<'a>,
         arguments: Arguments<'a>,
-        close: &'a Token,
+        close: &'a Token<'a>,
     },
 }
 
@@ -88,7 +88,7 @@ impl<'a> Model for Simple<'a> {
 /// A comma and what stands after it.
 #[derive(Drop)]
 pub struct NextSimple<'a> {
-    pub comma: &'a Token,
+    pub comma: &'a Token<'a>,
     pub simple: Simple<'a>,
 }
 
@@ -122,10 +122,10 @@ impl<'a> Model for Simples<'a> {
 #[derive(Drop)]
 pub struct Condition<'a> {
     /// `(`
-    pub open: &'a Token,
+    pub open: &'a Token<'a>,
     pub test: Box<Conditional<'a>>,
     /// `)`
-    pub close: &'a Token,
+    pub close: &'a Token<'a>,
 }
 
 impl<'a> Model for Condition<'a> {
@@ -169,9 +169,9 @@ impl<'a> Model for ForFirst<'a> {
 #[derive(Drop)]
 pub struct ForHead<'a> {
     pub first: Box<ForFirst<'a>>,
-    pub first_semicolon: &'a Token,
+    pub first_semicolon: &'a Token<'a>,
     pub test: Option<Conditional<'a>>,
-    pub second_semicolon: &'a Token,
+    pub second_semicolon: &'a Token<'a>,
     pub step: Option<Simples<'a>>,
 }
 
@@ -188,8 +188,8 @@ impl<'a> Model for ForHead<'a> {
 /// What a `printf` prints, between its parentheses: a string in one part or more, and values.
 #[derive(Drop)]
 pub struct Printed<'a> {
-    pub first: &'a Token,
-    pub rest: Vec<&'a Token>,
+    pub first: &'a Token<'a>,
+    pub rest: Vec<&'a Token<'a>>,
     pub values: Vec<NextExpression<'a>>,
 }
 
@@ -208,10 +208,10 @@ impl<'a> Model for Printed<'a> {
 #[derive(Drop)]
 pub struct Block<'a> {
     /// `{`
-    pub open: &'a Token,
+    pub open: &'a Token<'a>,
     pub items: Vec<BlockItem<'a>>,
     /// `}`
-    pub close: &'a Token,
+    pub close: &'a Token<'a>,
 }
 
 /// What stands in a block.
@@ -252,49 +252,49 @@ pub struct Statement<'a> {
 pub enum StatementForm<'a> {
     Block(Block<'a>),
     Empty {
-        semicolon: &'a Token,
+        semicolon: &'a Token<'a>,
     },
     Simple {
         simple: Simple<'a>,
-        semicolon: &'a Token,
+        semicolon: &'a Token<'a>,
     },
     If {
-        keyword: &'a Token,
+        keyword: &'a Token<'a>,
         condition: Condition<'a>,
         holds: Box<Statement<'a>>,
         fails: Option<Else<'a>>,
     },
     While {
-        keyword: &'a Token,
+        keyword: &'a Token<'a>,
         condition: Condition<'a>,
         body: Box<Statement<'a>>,
     },
     DoWhile(DoWhile<'a>),
     For(For<'a>),
     Break {
-        keyword: &'a Token,
-        semicolon: &'a Token,
+        keyword: &'a Token<'a>,
+        semicolon: &'a Token<'a>,
     },
     Continue {
-        keyword: &'a Token,
-        semicolon: &'a Token,
+        keyword: &'a Token<'a>,
+        semicolon: &'a Token<'a>,
     },
     Return {
-        keyword: &'a Token,
+        keyword: &'a Token<'a>,
         value: Option<Conditional<'a>>,
-        semicolon: &'a Token,
+        semicolon: &'a Token<'a>,
     },
     Assert {
-        keyword: &'a Token,
+        keyword: &'a Token<'a>,
         condition: Condition<'a>,
-        semicolon: &'a Token,
+        semicolon: &'a Token<'a>,
     },
     Printf {
-        keyword: &'a Token,
-        open: &'a Token,
+        keyword: &'a Token<'a>,
+        open: &'a Token<'a>,
         printed: Printed<'a>,
-        close: &'a Token,
-        semicolon: &'a Token,
+        close: &'a Token<'a>,
+        semicolon: &'a Token<'a>,
     },
 }
 
@@ -318,7 +318,7 @@ impl<'a> Model for Statement<'a> {
 #[cycle(statement)]
 #[derive(Drop)]
 pub struct Else<'a> {
-    pub keyword: &'a Token,
+    pub keyword: &'a Token<'a>,
     pub statement: Box<Statement<'a>>,
 }
 
@@ -341,12 +341,12 @@ impl<'a> Model for Else<'a> {
 #[derive(Drop)]
 pub struct DoWhile<'a> {
     /// `do`
-    pub keyword: &'a Token,
+    pub keyword: &'a Token<'a>,
     pub body: Box<Statement<'a>>,
     /// `while`
-    pub while_keyword: &'a Token,
+    pub while_keyword: &'a Token<'a>,
     pub condition: Condition<'a>,
-    pub semicolon: &'a Token,
+    pub semicolon: &'a Token<'a>,
 }
 
 impl<'a> Model for DoWhile<'a> {
@@ -368,12 +368,12 @@ impl<'a> Model for DoWhile<'a> {
 #[derive(Drop)]
 pub struct For<'a> {
     /// `for`
-    pub keyword: &'a Token,
+    pub keyword: &'a Token<'a>,
     /// `(`
-    pub open: &'a Token,
+    pub open: &'a Token<'a>,
     pub head: Box<ForHead<'a>>,
     /// `)`
-    pub close: &'a Token,
+    pub close: &'a Token<'a>,
     pub body: Box<Statement<'a>>,
 }
 
@@ -403,13 +403,13 @@ pub struct External<'a> {
 pub enum ExternalForm<'a> {
     Variables {
         declarators: Declarators<'a>,
-        semicolon: &'a Token,
+        semicolon: &'a Token<'a>,
     },
     Function {
-        name: &'a Token,
-        open: &'a Token,
+        name: &'a Token<'a>,
+        open: &'a Token<'a>,
         parameters: Parameters<'a>,
-        close: &'a Token,
+        close: &'a Token<'a>,
         end: FunctionEnd<'a>,
     },
 }
@@ -418,7 +418,7 @@ pub enum ExternalForm<'a> {
 #[derive(Drop)]
 pub enum FunctionEnd<'a> {
     Body(Block<'a>),
-    Prototype { semicolon: &'a Token },
+    Prototype { semicolon: &'a Token<'a> },
 }
 
 impl<'a> Model for External<'a> {

@@ -31,7 +31,7 @@ returns-in-Some-clause-steps g c =
     let new = c.round.new.checked in
     let puts = puts_on good old.checker mid.checker new.checker (g.S.StepSink.logs old.sink) (g.S.StepSink.logs mid.sink) (g.S.StepSink.logs new.sink) c.rounds.invariant.puts
     (puts_as (g.J.RunJudge.accepts mid.judge) good mid.checker new.checker (g.S.StepSink.logs mid.sink) (g.S.StepSink.logs new.sink) (ap g.J.RunJudge.accepts c.rounds.invariant.judge) c.in_ok-found.ensures.puts) in
-    (puts.steps, puts.derives, puts.logs)
+    (puts.steps, puts.leads, puts.logs)
 
 pub returns-in-Some-clause-awake : goal.returns-in-Some-clause-awake
 returns-in-Some-clause-awake g c =

@@ -1,5 +1,5 @@
 use Rattle.std.proofs.Common.{refl}
-use Rattle.ba_lex.specs.Pieces.{is_number_byte, is_word_byte}
+use Rattle.ba_bytes.specs.Classes.{is_number_byte, is_word_byte}
 use Rattle.ba_lex.proofs.CutLemmas.{prefix_stops}
 use Rattle.ba_lex.proofs.laws.words_and_numbers_are_longest.Goals as goal
 

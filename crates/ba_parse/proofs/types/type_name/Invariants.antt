@@ -6,8 +6,10 @@ use Rattle.ba_parse.proofs.TypeWords.{leaves, classes}
 use Rattle.ba_parse.proofs.types.type_name.Given as goal
 
 abbrev pub invariant-loop-reader : goal.invariant-loop-reader
-invariant-loop-reader l =
-    words_after l.fn.with_static [] l.fn.reader ≡ with_front (leaves l.words.items) (words_after l.fn.with_static (classes l.words.items) l.reader)
+invariant-loop-reader l = record {
+  whole : words_after l.fn.with_static [] l.fn.reader ≡ with_front (leaves l.words.items) (words_after l.fn.with_static (classes l.words.items) l.reader);
+  seen : l.classes.items ≡ classes l.words.items;
+}
 
 abbrev pub decreases-loop-reader : goal.decreases-loop-reader
 decreases-loop-reader l = length l.reader

@@ -1,4 +1,4 @@
-use Rattle.ba_steps.specs.Marks.{has_index}
+use Rattle.ba_lits.specs.Members.{has_index}
 use Rattle.ba_steps.proofs.ListedLaws.{has_index-is}
 use Rattle.ba_steps.proofs.clauses.rarest.Goals as goal
 

@@ -1,6 +1,6 @@
 use Rattle.std.proofs.Common.{◌≡◌, ◌+◌, ◌≤◌, length, take}
 use Rattle.std.specs.List.{suffix_len}
-use Rattle.ba_straight.specs.Decimal.{is_blank}
+use Rattle.ba_bytes.specs.Classes.{is_blank}
 use Rattle.ba_tool.proofs.report.trimmed_end.Given as goal
 
 -- what stands from the end so far on is blank

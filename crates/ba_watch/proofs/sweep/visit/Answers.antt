@@ -3,8 +3,9 @@ use Rattle.std.proofs.lemmas.Bool.{false≢true}
 use Rattle.ba_lits.specs.Literals.{Literal, lit_at}
 use Rattle.ba_arena.specs.Clauses.{lits_at}
 use Rattle.ba_watch.specs.Trails.{value_of}
-use Rattle.ba_watch.proofs.Visits.{visit_true, visit_shift, visit_false, visit_unit, some_false, no_value}
+use Rattle.ba_watch.proofs.Visits.{visit_true, visit_shift, visit_false, visit_unit, some_false}
 use Rattle.ba_watch.proofs.sweep.visit.Goals as goal
+use Rattle.ba_watch.proofs.TrailSteps.{no_value}
 
 pub returns-then-is_true-clause-visits : goal.returns-then-is_true-clause-visits
 returns-then-is_true-clause-visits c rest =

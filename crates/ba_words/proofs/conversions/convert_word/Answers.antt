@@ -1,5 +1,5 @@
 use Rattle.std.proofs.Common.{true, false, pos, sym, ap, ◌∙◌}
-use Rattle.ba_tree.specs.Numbers.{converted, low_word}
+use Rattle.ba_numbers.specs.Numbers.{converted, low_word}
 use Rattle.ba_words.specs.Words.{number_of}
 use Rattle.ba_words.proofs.Circuits.{number_small}
 use Rattle.ba_words.proofs.Values.{low_word-read}

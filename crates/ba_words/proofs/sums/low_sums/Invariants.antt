@@ -7,5 +7,5 @@ abbrev pub invariant-loop-i : goal.invariant-loop-i
 invariant-loop-i l = record {
   extends : Extends l.initial.nodes l.nodes;
   sums : AddUp l.initial.nodes l.a l.b l.initial.carried l.nodes l.sums l.carried l.i;
-  count : gates_in l.nodes ≤ gates_in l.initial.nodes + 9 * l.i;
+  count : gates_in l.nodes ≤ gates_in l.initial.nodes + 3 * l.i;
 }

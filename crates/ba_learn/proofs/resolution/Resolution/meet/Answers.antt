@@ -42,4 +42,6 @@ returns c =
     subst (λ (old : Work). OnOk c.part.result (Meets w old c.part.new.self (c.args.lit ∷ []))) c.self.view_is
     (on_ok_weaker c.part.result
     (met_new w (record { marks = i.marks; floor = i.floor; deep = i.deep; pending = i.pending; kept = i.kept.items; resolved = i.resolved.items; waiting = i.waiting.items }) c.insert.new.self c.unwrap-place.result
-    (omega arith) (sym c.contains.ensures ∙ c.if-contains.false) c.in_ok-insert.ensures c.part.new.self c.args.lit (p_is ∙ ap (place_of w.trail) v.ensures.variable)) c.part.ensures)
+    (omega arith) (sym c.contains.ensures
+    ∙ c.if-contains.false) c.in_ok-insert.ensures.ok c.part.new.self c.args.lit
+    (p_is ∙ ap (place_of w.trail) v.ensures.variable)) c.part.ensures)

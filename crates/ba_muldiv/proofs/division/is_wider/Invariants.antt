@@ -1,0 +1,11 @@
+use Rattle.std.proofs.Common.{◌+◌, ◌-◌, ◌^◌, ◌≤◌, nat_le}
+use Rattle.ba_nodes.specs.Gates.{gates_in, Extends, HasValue}
+use Rattle.ba_words.specs.Words.{number_of}
+use Rattle.ba_muldiv.proofs.division.is_wider.Given as goal
+
+abbrev pub invariant-loop-i : goal.invariant-loop-i
+invariant-loop-i l = record {
+  extends : Extends l.fn.nodes l.nodes;
+  value : HasValue l.nodes l.some (λ free. nat_le (2 ^ (32 - l.i)) (number_of free l.fn.nodes l.word));
+  gates : gates_in l.nodes ≤ gates_in l.fn.nodes + l.i;
+}

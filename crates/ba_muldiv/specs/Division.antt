@@ -1,0 +1,46 @@
+-- Products, quotients and remainders of words, as numbers and as numbers of C.
+
+use Rattle.std.specs.Prelude.{◌≡◌, ℕ, ◌+◌, ◌-◌, ◌/◌, ◌%◌, ◌^◌, ◌==◌, Bool, ◌&&◌, nat_le, List, map, drop, Some, ℤ, if◌then◌else◌}
+use Rattle.ba_nodes.specs.declared.Bit.{Bit}
+use Rattle.ba_nodes.specs.declared.Node.{Node}
+use Rattle.ba_nodes.specs.Gates.{bool_xor, truth}
+use Rattle.ba_numbers.specs.declared.numbers.BinOp.{BinOp}
+use Rattle.ba_numbers.specs.Numbers.{value_of}
+use Rattle.ba_words.specs.Words.{spelled, word_type, word_value}
+
+-- a number of 32 places is negative, where it is read as signed
+abbrev pub is_negative : Bool → ℕ → Bool
+is_negative signed n = signed && nat_le (2 ^ 31) n
+
+-- a number of 32 places, with the opposite sign where the condition holds
+abbrev pub negated_where : Bool → ℕ → ℕ
+negated_where negative n = if negative then (2 ^ 32 - n) % 2 ^ 32 else n
+
+-- how far a number of 32 places lies from zero
+abbrev pub magnitude : Bool → ℕ → ℕ
+magnitude signed n = negated_where (is_negative signed n) n
+
+-- the quotient rounded down, of numbers of so many places: all ones for a divisor of zero
+abbrev pub long_quotient : ℕ → ℕ → ℕ → ℕ
+long_quotient places m n = if n == 0 then 2 ^ places - 1 else m / n
+
+-- the quotient of two words, rounded toward zero: 1 or -1 of magnitude 2 ^ 32 - 1 for a divisor of zero
+abbrev pub quotient_of : Bool → ℕ → ℕ → ℕ
+quotient_of signed m n = negated_where (bool_xor (is_negative signed m) (is_negative signed n)) (long_quotient 32 (magnitude signed m) (magnitude signed n))
+
+-- the remainder, with the sign of the dividend: the dividend itself for a divisor of zero
+abbrev pub remainder_of : Bool → ℕ → ℕ → ℕ
+remainder_of signed m n = negated_where (is_negative signed m) (magnitude signed m % magnitude signed n)
+
+-- the word has the value of the operator at two words, read as signed or as unsigned, wherever there is one
+abbrev pub IsValueWhereDefined : BinOp → Bool → List Node → List Bit → List Bit → List Node → List Bit → Type 0
+IsValueWhereDefined op signed old a b new word =
+    (free : ℕ → Bool) (value : ℤ) → value_of op (word_type signed) (word_value signed free old a) (word_value signed free old b) ≡ Some value → word_value signed free new word ≡ value
+
+-- the number that the places of a word spell from this place on
+abbrev pub high_number : (ℕ → Bool) → List Node → List Bit → ℕ → ℕ
+high_number free nodes word place = spelled (drop place (map (truth free nodes) word))
+
+-- a sum of words, or a difference
+abbrev pub sum_or_difference : Bool → ℕ → ℕ → ℕ
+sum_or_difference minus m n = if minus then (m + (2 ^ 32 - n)) % 2 ^ 32 else (m + n) % 2 ^ 32

@@ -1,0 +1,211 @@
+//! Quotients and remainders, by long division.
+
+ghost use Rattle.std.specs.Prelude.{◌≡◌, ℕ, ◌+◌, ◌-◌, ◌*◌, ◌/◌, ◌%◌, ◌<◌, ◌≤◌, ◌^◌, ◌==◌, ◌⊎◌, Bool, true, false, not, nat_lt, nat_le, ◌&&◌, List, length, IfOk, if◌then◌else◌};
+ghost use Rattle.ba_numbers.specs.declared.numbers.BinOp.{BinOp};
+ghost use Rattle.ba_nodes.specs.declared.Bit.{Bit};
+ghost use Rattle.ba_nodes.specs.declared.Node.{Node};
+ghost use Rattle.ba_nodes.specs.Gates.{bool_xor, truth, IsBitOf, gates_in, Extends, HasValue};
+ghost use Rattle.ba_words.specs.Words.{digit, spelled, number_of, bit_at, AreBitsOf, HasNumber, IsValueOf};
+ghost use Rattle.ba_muldiv.specs.Division.{negated_where, long_quotient, quotient_of, remainder_of, IsValueWhereDefined, high_number, sum_or_difference};
+
+use ba_nodes::{Bit, Nodes};
+use ba_words::{Word, add_with_carry, extended, flip, less, moved_up, neg, select, sign_of};
+use std::alloc::AllocError;
+
+/// The quotient of two words, rounded toward zero (C90 6.3.5), by at most 14,500 gates. Where the divisor is zero it
+/// is that of magnitude 2^32 - 1 with the signs' product.
+pub fn div(nodes: &mut Nodes, a: &Word, b: &Word, signed: bool) -> Result<Word, AllocError>
+    requires first { AreBitsOf nodes.old a.now }
+    requires second { AreBitsOf nodes.old b.now }
+    ensures number { IfOk result (λ word. HasNumber nodes.new word (λ free. quotient_of signed (number_of free nodes.old a.now) (number_of free nodes.old b.now))) }
+    ensures value { IfOk result (λ word. IsValueWhereDefined BinOp.Div signed nodes.old a.now b.now nodes.new word) }
+    ensures extends { Extends nodes.old nodes.new }
+    ensures count { gates_in nodes.new ≤ gates_in nodes.old + 14500 }
+{
+    let a_sign = sign_of(a, signed);
+    let b_sign = sign_of(b, signed);
+    let dividend = negated_where(nodes, a_sign, a)?;
+    let divisor = negated_where(nodes, b_sign, b)?;
+    let quotient = long_quotient(nodes, &dividend, &divisor)?;
+    let negative = nodes.xor(a_sign, b_sign)?;
+    negated_where(nodes, negative, &quotient)
+}
+
+/// The remainder of two words, with the sign of the first (C90 6.3.5), by at most 14,500 gates. Where the divisor is
+/// zero it is the dividend.
+pub fn rem(nodes: &mut Nodes, a: &Word, b: &Word, signed: bool) -> Result<Word, AllocError>
+    requires first { AreBitsOf nodes.old a.now }
+    requires second { AreBitsOf nodes.old b.now }
+    ensures number { IfOk result (λ word. HasNumber nodes.new word (λ free. remainder_of signed (number_of free nodes.old a.now) (number_of free nodes.old b.now))) }
+    ensures value { IfOk result (λ word. IsValueWhereDefined BinOp.Rem signed nodes.old a.now b.now nodes.new word) }
+    ensures extends { Extends nodes.old nodes.new }
+    ensures count { gates_in nodes.new ≤ gates_in nodes.old + 14500 }
+{
+    let sign = sign_of(a, signed);
+    let other_sign = sign_of(b, signed);
+    let dividend = negated_where(nodes, sign, a)?;
+    let divisor = negated_where(nodes, other_sign, b)?;
+    let rest = long_remainder(nodes, &dividend, &divisor)?;
+    negated_where(nodes, sign, &rest)
+}
+
+/// The word, with the opposite sign where the bit is true.
+fn negated_where(nodes: &mut Nodes, negative: Bit, a: &Word) -> Result<Word, AllocError>
+    requires first { IsBitOf nodes.old negative }
+    requires second { AreBitsOf nodes.old a.now }
+    ensures number { IfOk result (λ word. HasNumber nodes.new word (λ free. negated_where (truth free nodes.old negative) (number_of free nodes.old a.now))) }
+    ensures extends { Extends nodes.old nodes.new }
+    ensures count { gates_in nodes.new ≤ gates_in nodes.old + 128 }
+{
+    if negative == Nodes::constant(false) {
+        return Ok(*a);
+    }
+    let opposite = neg(nodes, a)?;
+    select(nodes, negative, &opposite, a)
+}
+
+/// The quotient of two unsigned words.
+fn long_quotient(nodes: &mut Nodes, dividend: &Word, divisor: &Word) -> Result<Word, AllocError>
+    requires first { AreBitsOf nodes.old dividend.now }
+    requires second { AreBitsOf nodes.old divisor.now }
+    ensures number { IfOk result (λ word. HasNumber nodes.new word (λ free. long_quotient 32 (number_of free nodes.old dividend.now) (number_of free nodes.old divisor.now))) }
+    ensures extends { Extends nodes.old nodes.new }
+    ensures count { gates_in nodes.new ≤ gates_in nodes.old + 161 * 32 }
+{
+    let (quotient, rest) = upper_steps(nodes, dividend, divisor)?;
+    let last = brought_down(&rest, dividend[0]);
+    let exceeds = less(nodes, &last, divisor, false)?;
+    Ok(brought_down(&quotient, Nodes::not(exceeds)))
+}
+
+/// The remainder of two unsigned words.
+fn long_remainder(nodes: &mut Nodes, dividend: &Word, divisor: &Word) -> Result<Word, AllocError>
+    requires first { AreBitsOf nodes.old dividend.now }
+    requires second { AreBitsOf nodes.old divisor.now }
+    ensures number { IfOk result (λ word. HasNumber nodes.new word (λ free. number_of free nodes.old dividend.now % number_of free nodes.old divisor.now)) }
+    ensures extends { Extends nodes.old nodes.new }
+    ensures count { gates_in nodes.new ≤ gates_in nodes.old + 161 * 32 }
+{
+    let (_, rest) = upper_steps(nodes, dividend, divisor)?;
+    let last = brought_down(&rest, dividend[0]);
+    let (_, left) = step(nodes, &last, divisor, 32, known_width(divisor))?;
+    Ok(left)
+}
+
+/// The quotient and the remainder of all places of the dividend but the lowest.
+fn upper_steps(
+    nodes: &mut Nodes,
+    dividend: &Word,
+    divisor: &Word,
+) -> Result<(Word, Word), AllocError>
+    requires first { AreBitsOf nodes.old dividend.now }
+    requires second { AreBitsOf nodes.old divisor.now }
+    ensures quotient { IfOk result (λ r. HasNumber nodes.new r.0 (λ free. long_quotient 31 (high_number free nodes.old dividend.now 1) (number_of free nodes.old divisor.now))) }
+    ensures rest { IfOk result (λ r. HasNumber nodes.new r.1 (λ free. high_number free nodes.old dividend.now 1 % number_of free nodes.old divisor.now)) }
+    ensures extends { Extends nodes.old nodes.new }
+    ensures count { gates_in nodes.new ≤ gates_in nodes.old + 161 * 31 }
+{
+    let known = known_width(divisor);
+    let zero = [Nodes::constant(false); 32];
+    let mut quotient = zero;
+    let mut rest = zero;
+    for i in 0..31 {
+        let next = brought_down(&rest, dividend[31 - i]);
+        let (fits, left) = step(nodes, &next, divisor, i + 1, known)?;
+        quotient = brought_down(&quotient, fits);
+        rest = left;
+    }
+    Ok((quotient, rest))
+}
+
+/// Whether the divisor fits into what is left, of this width, and what is left then. Where the width of the
+/// divisor is known, no more places can be left.
+fn step(
+    nodes: &mut Nodes,
+    rest: &Word,
+    divisor: &Word,
+    width: usize,
+    known: usize,
+) -> Result<(Bit, Word), AllocError>
+    requires first { AreBitsOf nodes.old rest.now }
+    requires second { AreBitsOf nodes.old divisor.now }
+    requires width { width ≤ 32 }
+    requires small { (free : ℕ → Bool) → number_of free nodes.old rest.now < 2 ^ width }
+    requires known { known ≤ 32 }
+    requires narrow { (free : ℕ → Bool) → number_of free nodes.old divisor.now < 2 ^ known }
+    requires twice { known < 32 → (free : ℕ → Bool) → number_of free nodes.old rest.now < 2 * number_of free nodes.old divisor.now }
+    ensures fits { IfOk result (λ r. HasValue nodes.new r.0 (λ free. nat_le (number_of free nodes.old divisor.now) (number_of free nodes.old rest.now))) }
+    ensures left { IfOk result (λ r. HasNumber nodes.new r.1 (λ free.
+        if nat_le (number_of free nodes.old divisor.now) (number_of free nodes.old rest.now)
+        then number_of free nodes.old rest.now - number_of free nodes.old divisor.now
+        else number_of free nodes.old rest.now)) }
+    ensures extends { Extends nodes.old nodes.new }
+    ensures count { gates_in nodes.new ≤ gates_in nodes.old + 161 }
+{
+    let no = Nodes::constant(false);
+    let complement = flip(&extended(divisor, width, no));
+    let (difference, carry) = add_with_carry(nodes, rest, &complement, Nodes::constant(true))?;
+    let wider = is_wider(nodes, divisor, width)?;
+    let fits = nodes.and(carry, Nodes::not(wider))?;
+    let kept = least(width, known);
+    let left = select(
+        nodes,
+        fits,
+        &extended(&difference, kept, no),
+        &extended(rest, kept, no),
+    )?;
+    Ok((fits, left))
+}
+
+/// How many places the word takes, where its highest one is a constant, and else 32.
+fn known_width(word: &Word) -> usize
+    ensures few { result ≤ 32 }
+    ensures narrow { (nodes : List Node) (free : ℕ → Bool) → number_of free nodes word.now < 2 ^ result }
+    ensures some { result < 32 → (nodes : List Node) (free : ℕ → Bool) → 0 < number_of free nodes word.now }
+{
+    for i in 0..32 {
+        let bit = word[31 - i];
+        if bit.index != 0 {
+            return 32;
+        }
+        if bit.negated {
+            return 32 - i;
+        }
+    }
+    32
+}
+
+/// The lesser of the two.
+fn least(a: usize, b: usize) -> usize
+    ensures first { result ≤ a }
+    ensures second { result ≤ b }
+    ensures one { (result ≡ a) ⊎ (result ≡ b) }
+{
+    if a < b { a } else { b }
+}
+
+/// Whether the word has a one at this place or above it.
+fn is_wider(nodes: &mut Nodes, word: &Word, width: usize) -> Result<Bit, AllocError>
+    requires first { AreBitsOf nodes.old word.now }
+    requires width { width ≤ 32 }
+    ensures value { IfOk result (λ bit. HasValue nodes.new bit (λ free. nat_le (2 ^ width) (number_of free nodes.old word.now))) }
+    ensures extends { Extends nodes.old nodes.new }
+    ensures count { gates_in nodes.new ≤ gates_in nodes.old + 32 }
+{
+    let mut some = Nodes::constant(false);
+    for i in 0..32 - width {
+        some = nodes.or(some, word[31 - i])?;
+    }
+    Ok(some)
+}
+
+/// The word moved up by one place, with the bit as its lowest.
+fn brought_down(word: &Word, bit: Bit) -> Word
+    ensures bits { (nodes : List Node) → AreBitsOf nodes word.now → IsBitOf nodes bit → AreBitsOf nodes result }
+    ensures number { (nodes : List Node) (free : ℕ → Bool) → number_of free nodes result ≡ (2 * number_of free nodes word.now + digit (truth free nodes bit)) % 2 ^ 32 }
+    ensures long { length result ≡ 32 }
+{
+    let mut down = moved_up(word, 1);
+    down[0] = bit;
+    down
+}

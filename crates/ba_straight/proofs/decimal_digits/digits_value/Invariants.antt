@@ -1,7 +1,0 @@
-use Rattle.std.proofs.Common.{◌≡◌, ◌-◌, ◌^◌, min, take}
-use Rattle.ba_straight.specs.Decimal.{digits_value}
-use Rattle.ba_straight.proofs.decimal_digits.digits_value.Given as goal
-
--- the value of the digits so far, up to the greatest
-abbrev pub invariant-loop-digit : goal.invariant-loop-digit
-invariant-loop-digit l = l.value ≡ min (digits_value (take l.digit-index l.digits)) (2 ^ 64 - 1)

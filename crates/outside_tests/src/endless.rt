@@ -1,0 +1,75 @@
+//! A world without an end.
+
+use ba_world::{World, WorldError};
+
+/// A world whose files never end.
+#[derive(Drop)]
+pub struct Endless {
+    is_open: bool,
+    is_begun: bool,
+    pub given: u64,
+    /// Whether what was printed last is the refusal of the program as too long.
+    pub refused_the_program: bool,
+}
+
+impl Endless {
+    /// The world before its first call.
+    pub fn new() -> Endless {
+        Endless {
+            is_open: false,
+            is_begun: false,
+            given: 0,
+            refused_the_program: false,
+        }
+    }
+}
+
+impl World for Endless {
+    ghost use Rattle.std.specs.Prelude.{None};
+
+    ghost held = { λ _ _. None };
+
+    ghost left = { λ _. None };
+
+    ghost kept = { λ _ _. None };
+
+    ghost writing = { λ _. None };
+
+    ghost printed = { λ _. None };
+
+    ghost is_reading = { λ world. world.is_open };
+
+    ghost is_writing = { λ world. world.is_begun };
+
+    ghost read_faults = { λ _. 0 };
+
+    ghost write_faults = { λ _. 0 };
+
+    ghost given = { λ world. world.given };
+
+    fn open_file(&mut self, _name: &str) -> Result<(), WorldError> {
+        self.is_open = true;
+        Ok(())
+    }
+
+    fn next_piece(&mut self, into: &mut [u8]) -> Result<usize, WorldError> {
+        into[0] = b' ';
+        self.given = self.given.saturating_add(1);
+        Ok(1)
+    }
+
+    fn begin_file(&mut self, _name: &str) -> Result<(), WorldError> {
+        self.is_begun = true;
+        Ok(())
+    }
+
+    fn add(&mut self, _bytes: &[u8]) -> Result<(), WorldError> {
+        Ok(())
+    }
+
+    fn print(&mut self, bytes: &[u8]) -> Result<(), WorldError> {
+        self.refused_the_program = bytes
+            == b"refused: program is longer than 65536 bytes\n".as_slice();
+        Ok(())
+    }
+}

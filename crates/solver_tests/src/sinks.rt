@@ -1,0 +1,154 @@
+//! Tests of sinks, of a checker with a sink, and of the judge that holds a list.
+
+ghost use Rattle.std.specs.Prelude.{◌≡◌, [], None, IfOk};
+ghost use Rattle.ba_steps.specs.States.{first_state};
+
+use ba_choices::{Choice, Values};
+use ba_items::Items;
+use ba_lits::{Formula, Lit};
+use ba_steps::{
+    Both, CertStep, Checked, Checker, GoodRun, ListJudge, ListSink, NoSink, RunJudge, SinkError,
+    StepSink,
+};
+use std::alloc::{AllocError, Global};
+use std::process::Abort;
+use std::test::Fail;
+use test_formulas::{NoRuns, without_clauses};
+
+/// A sink that takes so many steps and then fails.
+#[derive(Drop)]
+struct Failing {
+    begun: u64,
+    left: u64,
+    failed: u64,
+}
+
+impl StepSink for Failing {
+    ghost over = { λ _. None };
+
+    ghost logs = { λ _. [] };
+
+    ghost faults = { λ s. s.failed };
+
+    ghost references = { λ _. [] };
+
+    fn begin(&mut self, _formula: &Formula, _softs: &[(Lit, u32)]) -> Result<(), SinkError> {
+        self.begun = self.begun.saturating_add(1);
+        Ok(())
+    }
+
+    fn take(&mut self, _step: &CertStep) -> Result<(), SinkError> {
+        if self.left == 0 {
+            self.failed = self.failed.saturating_add(1);
+            return Err(SinkError::Failed);
+        }
+        self.left -= 1;
+        Ok(())
+    }
+}
+
+/// A sink that takes so many steps.
+fn fails_after(left: u64) -> Failing {
+    Failing {
+        begun: 0,
+        left,
+        failed: 0,
+    }
+}
+
+/// Checks how many formulas and steps a sink has.
+fn has(rt: &impl Abort, sink: &ListSink, formulas: usize, steps: usize) {
+    assert_eq!(rt; sink.over().len(), formulas);
+    assert_eq!(rt; sink.steps().len(), steps);
+    for step in sink.steps() {
+        assert!(rt; matches!(step, CertStep::EndSpent));
+    }
+}
+
+/// Hands a formula and a step to a sink.
+fn feed<S: StepSink>(sink: &mut S, formula: &Formula) -> Result<(), SinkError> {
+    sink.begin(formula, &[])?;
+    sink.take(&CertStep::EndSpent)
+}
+
+#[test]
+fn both_sinks_take_what_the_first_takes(rt: HostRuntime) -> Result<(), Fail> {
+    let formula = without_clauses(rt.alloc(), 1)?;
+    let mut second = ListSink::new(rt.alloc());
+    let mut both = Both {
+        first: fails_after(1),
+        second: &mut second,
+    };
+    assert_eq!(rt; feed(&mut both, &formula), Ok(()));
+    assert_eq!(rt; feed(&mut both, &formula), Err(SinkError::Failed));
+    assert_eq!(rt; (both.first.begun, both.first.failed), (2, 1));
+    has(&rt, &second, 2, 1);
+    assert_eq!(rt; feed(&mut NoSink, &formula), Ok(()));
+    Ok(())
+}
+
+/// A checker over no variables whose conflicts are spent.
+fn spent(alloc: Global) -> Result<Checker, AllocError>
+    ensures { IfOk result (λ checker. checker ≡ first_state (record { variables = 0; clauses = [] }) [] 0 1) }
+{
+    Checker::new(alloc, &Formula::new(alloc), &[], 0, 1)
+}
+
+#[test]
+fn an_allowed_step_is_handed_on(rt: HostRuntime) -> Result<(), Fail> {
+    let mut checked = Checked::new(spent(rt.alloc())?, NoRuns, ListSink::new(rt.alloc()));
+    checked.put(&CertStep::EndSpent)?;
+    let (_, sink) = checked.finish();
+    has(&rt, &sink, 0, 1);
+    Ok(())
+}
+
+#[test]
+fn a_refusal_is_answered(rt: HostRuntime) -> Result<(), Fail> {
+    let mut checked = Checked::new(spent(rt.alloc())?, NoRuns, fails_after(0));
+    assert_eq!(rt; checked.put(&CertStep::EndSpent), Err(SinkError::Failed));
+    Ok(())
+}
+
+/// A run of values: 100 stands for a choice that keeps the statement.
+fn run_of(alloc: Global, values: &[i64]) -> Result<Items<Choice>, AllocError> {
+    let mut run = Items::new(alloc);
+    for value in values {
+        if *value == 100 {
+            run.push(Choice::Keep)?;
+        } else {
+            let mut taken = Values::new(alloc);
+            taken.push(*value)?;
+            run.push(Choice::Take(taken))?;
+        }
+    }
+    Ok(run)
+}
+
+#[test]
+fn exactly_the_listed_runs_are_good(rt: HostRuntime) -> Result<(), Fail> {
+    let alloc = rt.alloc();
+    let mut judge = ListJudge::new(alloc);
+    judge.add(GoodRun {
+        groups: Items::from_slice(alloc, &[2, 3])?,
+        run: run_of(alloc, &[100, -7])?,
+    })?;
+    judge.add(GoodRun {
+        groups: Items::new(alloc),
+        run: run_of(alloc, &[])?,
+    })?;
+    let table: [(&[u32], &[i64], bool); 8] = [
+        (&[2, 3], &[100, -7], true),
+        (&[], &[], true),
+        (&[2], &[100, -7], false),
+        (&[2, 4], &[100, -7], false),
+        (&[2, 3], &[100, 7], false),
+        (&[2, 3], &[100], false),
+        (&[2, 3], &[100, -7, 100], false),
+        (&[2, 3], &[0, -7], false),
+    ];
+    for (groups, run, good) in table {
+        assert_eq!(rt; judge.good(groups, run_of(alloc, run)?.as_slice())?, good);
+    }
+    Ok(())
+}

@@ -1,0 +1,75 @@
+//! Tests of propagation.
+
+use ba_lits::Lit;
+use ba_watch::Watch;
+use std::alloc::{AllocError, Global};
+use std::test::Fail;
+use test_formulas::{add_clause, lit, lits};
+
+/// Watch lists over clauses that are written as numbers, each under its place from 1 on.
+fn watch_of(alloc: Global, variables: u64, clauses: &[&[i64]]) -> Result<Watch, AllocError> {
+    let mut watch = Watch::new(alloc);
+    watch.grow(variables)?;
+    for (place, codes) in clauses.iter().enumerate() {
+        let number = (place as u64).saturating_add(1);
+        let _ = add_clause(&mut watch, lits(alloc, codes)?.as_slice(), number)?;
+    }
+    Ok(watch)
+}
+
+/// Propagates, and decides a literal where no clause is false and it has no value.
+fn decide(watch: &mut Watch, lit: Lit) {
+    if watch.propagate().is_some() {
+        return;
+    }
+    if lit.variable() > watch.variables() {
+        return;
+    }
+    if watch.value(lit).is_some() {
+        return;
+    }
+    watch.decide(lit);
+}
+
+/// Watch lists after literals were decided in turn.
+pub fn decided(
+    alloc: Global,
+    variables: u64,
+    clauses: &[&[i64]],
+    decisions: &[i64],
+) -> Result<Watch, AllocError> {
+    let mut watch = watch_of(alloc, variables, clauses)?;
+    for code in decisions {
+        decide(&mut watch, lit(*code));
+    }
+    Ok(watch)
+}
+
+/// How many literals are true after propagation; None where a clause is false.
+fn propagated(watch: &mut Watch) -> Option<usize> {
+    match watch.propagate() {
+        Some(_) => None,
+        None => Some(watch.trail().len()),
+    }
+}
+
+/// Variables, clauses, literals that are decided, and how many are true then.
+type Row<'a> = (u64, &'a [&'a [i64]], &'a [i64], Option<usize>);
+
+#[test]
+fn propagation_ends_as_it_must(rt: HostRuntime) -> Result<(), Fail> {
+    let rows: [Row; 7] = [
+        (2, &[&[1, 2], &[-1, 2]], &[-2], None),
+        (3, &[&[-1, 2], &[-2, 3], &[-1, -3]], &[1], None),
+        (3, &[&[-1, 2], &[-2, 3], &[-1, -3], &[-1]], &[], Some(1)),
+        (2, &[&[1], &[-1, 2]], &[], Some(2)),
+        (2, &[&[1], &[-1, 2], &[]], &[], None),
+        (4, &[&[-1, 2]], &[1, 3], Some(3)),
+        (5, &[&[-1, -2, -3, 4], &[-4, 5]], &[2, 1, 3], Some(5)),
+    ];
+    for (variables, clauses, decisions, want) in rows {
+        let mut watch = decided(rt.alloc(), variables, clauses, decisions)?;
+        assert_eq!(rt; propagated(&mut watch), want);
+    }
+    Ok(())
+}
