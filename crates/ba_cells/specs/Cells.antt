@@ -1,9 +1,9 @@
 -- Cells of words, read and written at an index that is a word itself.
 
-use Rattle.std.specs.Prelude.{◌≡◌, ℕ, ◌<◌, ◌==◌, Bool, ◌&&◌, List, [], ◌++◌, length, slice_index_or, if◌then◌else◌}
+use Rattle.std.specs.Prelude.{◌≡◌, ℕ, zero, suc, ◌+◌, ◌-◌, ◌%◌, ◌^◌, ◌<◌, ◌==◌, Bool, ◌&&◌, nat_lt, nat_le, List, [], ◌++◌, length, slice_index_or, if◌then◌else◌}
 use Rattle.ba_nodes.specs.declared.Bit.{Bit}
 use Rattle.ba_nodes.specs.declared.Node.{Node}
-use Rattle.ba_words.specs.Words.{number_of, AreBitsOf}
+use Rattle.ba_words.specs.Words.{number_of, low_number, AreBitsOf}
 
 -- the cell at a place
 abbrev pub cell_at : List (List Bit) → ℕ → List Bit
@@ -17,6 +17,21 @@ AreCellsOf nodes cells = (place : ℕ) → AreBitsOf nodes (cell_at cells place)
 abbrev pub IsCellAt : (index : (ℕ → Bool) → ℕ) → List Node → List (List Bit) → List Node → List Bit → Type 0
 IsCellAt index old cells new word =
     (free : ℕ → Bool) → index free < length cells → number_of free new word ≡ number_of free old (cell_at cells (index free))
+
+-- the place that is read among so many cells, at an index of so many bits: the bits count from the highest on,
+-- but for those that would lead behind the last cell
+unfoldable pub place_read : (cells bits index : ℕ) → ℕ
+place_read cells zero index = 0
+place_read cells (suc bits) index =
+    if nat_le (2 ^ bits) index && nat_lt (2 ^ bits) cells
+    then 2 ^ bits + place_read (cells - 2 ^ bits) bits (index % 2 ^ bits)
+    else place_read cells bits (index % 2 ^ bits)
+
+-- the word has the number of the cell that is read at the low bits of the index, whatever they are
+abbrev pub IsCellRead : (bits : ℕ) → List Node → List (List Bit) → (index : List Bit) → List Node → List Bit → Type 0
+IsCellRead bits old cells index new word = (free : ℕ → Bool) →
+    let place = place_read (length cells) bits (low_number free old index bits) in
+    number_of free new word ≡ number_of free old (cell_at cells place)
 
 -- the cells are the old ones, but that the one at the index is the value where the condition holds
 abbrev pub AreWritten : (holds : (ℕ → Bool) → Bool) (index : (ℕ → Bool) → ℕ) → List Node → List (List Bit) → List Bit → List Node → List (List Bit) → Type 0

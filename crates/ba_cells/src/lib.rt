@@ -10,7 +10,7 @@ ghost use Rattle.ba_nodes.specs.declared.Bit.{Bit};
 ghost use Rattle.ba_nodes.specs.declared.Node.{Node};
 ghost use Rattle.ba_nodes.specs.Gates.{truth, IsBitOf, gates_in, Extends, HasValue};
 ghost use Rattle.ba_words.specs.Words.{number_of, low_number, AreBitsOf};
-ghost use Rattle.ba_cells.specs.Cells.{cell_at, AreCellsOf, IsCellAt, AreWritten, Adds};
+ghost use Rattle.ba_cells.specs.Cells.{cell_at, AreCellsOf, IsCellAt, IsCellRead, AreWritten, Adds};
 
 use ba_nodes::{Bit, Nodes};
 use ba_words::{Word, select};
@@ -19,7 +19,8 @@ use std::alloc::{AllocError, Global};
 /// How many bits of an index tell 256 cells apart.
 const INDEX_BITS: usize = 8;
 
-/// The cell at the index, wherever the index is in range, by at most 96 gates a cell.
+/// The cell at the index, by at most 96 gates a cell. Where that is out of range it is the cell at the low 8 bits of
+/// the index without those that, from the highest on, would lead behind the last cell.
 pub fn read_cell(nodes: &mut Nodes, cells: &[Word], index: &Word) -> Result<Word, AllocError>
     requires some { 0 < length cells.now }
     requires few { length cells.now ≤ 256 }
@@ -27,6 +28,7 @@ pub fn read_cell(nodes: &mut Nodes, cells: &[Word], index: &Word) -> Result<Word
     requires index { AreBitsOf nodes.old index.now }
     ensures bits { IfOk result (AreBitsOf nodes.new) }
     ensures value { IfOk result (IsCellAt (λ free. number_of free nodes.old index.now) nodes.old cells.now nodes.new) }
+    ensures read { IfOk result (IsCellRead 8 nodes.old cells.now index.now nodes.new) }
     ensures extends { Extends nodes.old nodes.new }
     ensures count { gates_in nodes.new ≤ gates_in nodes.old + 96 * length cells.now }
 {
@@ -114,7 +116,7 @@ fn scatter(
     scatter(nodes, &cells[half..], index, value, bits - 1, high, written)
 }
 
-/// The cell at the number that the low bits of the index spell.
+/// The cell that is read at the low bits of the index.
 fn choose(nodes: &mut Nodes, cells: &[Word], index: &Word, bits: usize) -> Result<Word, AllocError>
     requires some { 0 < length cells.now }
     requires few { length cells.now ≤ 2 ^ bits }
@@ -122,7 +124,7 @@ fn choose(nodes: &mut Nodes, cells: &[Word], index: &Word, bits: usize) -> Resul
     requires cells { AreCellsOf nodes.old cells.now }
     requires index { AreBitsOf nodes.old index.now }
     ensures bits { IfOk result (AreBitsOf nodes.new) }
-    ensures value { IfOk result (IsCellAt (λ free. low_number free nodes.old index.now bits) nodes.old cells.now nodes.new) }
+    ensures value { IfOk result (IsCellRead bits nodes.old cells.now index.now nodes.new) }
     ensures extends { Extends nodes.old nodes.new }
     ensures count { gates_in nodes.new + 96 ≤ gates_in nodes.old + 96 * length cells.now }
 {

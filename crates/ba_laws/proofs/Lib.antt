@@ -1,3 +1,5 @@
-pub mod Wider
-mod Operands
-mod SlowRuns
+pub mod Keeps
+pub mod Replays
+pub mod Runs
+pub mod Outcomes
+pub mod MoreStatements

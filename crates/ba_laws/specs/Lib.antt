@@ -1,1 +1,1 @@
-pub mod Slow
+pub mod Visits

@@ -6,9 +6,15 @@ use Rattle.std.proofs.lemmas.List.{map-set}
 use Rattle.std.proofs.Math.ListN.{get_or-map}
 use Rattle.std.specs.Ordering.{int_eq}
 use Rattle.ba_numbers.specs.Numbers.{IsIn, is_in, least_of, greatest_of}
-use Rattle.ba_tree.specs.State.{State, Act, Ending, Flow, next, then_do, value_at, with_value, in_order, after_part}
-use Rattle.ba_tree.specs.Meaning.{relaxed, one_value_of, set_to, take_value}
-use Rattle.ba_tree.specs.Run.{outcome_of, outcome_with, is_done}
+use Rattle.ba_tree.specs.Acts.{then_do, in_order, after_part}
+use Rattle.ba_tree.specs.State.{State, Ending, Execution, value_at, with_value}
+use Rattle.ba_tree.specs.Choices.{if_fitting, one_value, value_by_choice}
+use Rattle.ba_tree.specs.Meaning.{set_value}
+use Rattle.ba_tree.specs.Run.{outcome_of, if_none_left, is_done}
+use Rattle.ba_tree.specs.declared.run.Exit.{Exit}
+use Rattle.ba_tree.specs.declared.run.Flow.{Flow}
+use Rattle.ba_tree.specs.declared.run.Flow.TheVariants.{Next}
+use Rattle.ba_tree.specs.declared.run.Halt.TheVariants as halt
 use Rattle.ba_numbers.specs.declared.ids.StmtId.{StmtId}
 use Rattle.ba_numbers.specs.declared.ids.VarId.{VarId}
 use Rattle.ba_numbers.specs.declared.numbers.CType.TheVariants.{I32}
@@ -29,15 +35,15 @@ abbrev pub operand_in : State → Operand → ℤ
 operand_in s (Number z) = z
 operand_in s (Variable v) = value_at s v
 
-abbrev pub assign_act : Bool → VarId → Operand → Act Flow
-assign_act b v e s = relaxed b (λ s. set_to v (operand_in s e) s) (λ zs s. take_value v (one_value_of I32 zs) s) s
+abbrev pub assign_act : Bool → VarId → Operand → Execution
+assign_act b v e s = then_do (value_by_choice b (one_value I32) (λ s. (Ok (operand_in s e), s)) s) (set_value v)
 
-abbrev pub assert_act : StmtId → ℤ → ℤ → Act Flow
-assert_act n x z s = cond (int_eq x z) (Ok next, s) (Err (AssertFails n), s)
+abbrev pub assert_act : StmtId → ℤ → ℤ → Execution
+assert_act n x z s = cond (int_eq x z) (Ok Next, s) (Err (halt.AssertFails n), s)
 
 -- what an item does where the assignments of a set are relaxed
-abbrev pub act_of : List ℕ → Item → Act Flow
-act_of set (Declare v) s = set_to v (pos 0) s
+abbrev pub act_of : List ℕ → Item → Execution
+act_of set (Declare v) s = set_value v (pos 0) s
 act_of set (Assign n v e) s = assign_act (is_relaxed set n) v e s
 act_of set (Assert n v z) s = assert_act n (value_at s v) z s
 
@@ -46,16 +52,13 @@ abbrev pub is_good : List ℕ → List Item → State → Bool
 is_good set items s = is_done (outcome_of (in_order (map (act_of set) items) s))
 
 -- whether what ended so and the items after it are good
-abbrev pub is_good_after : List ℕ → List Item → Ending Flow → Bool
+abbrev pub is_good_after : List ℕ → List Item → Ending (Flow Exit) → Bool
 is_good_after set items ending = is_done (outcome_of (then_do ending (after_part (in_order (map (act_of set) items)))))
 
 -- the value of a term where the unknowns have these values
 abbrev pub value_under : (ℕ → ℤ) → Term → ℤ
 value_under u (Known z) = z
 value_under u (Unknown k) = u k.0
-
-abbrev pub state_under : (ℕ → ℤ) → List Term → List Choice → State
-state_under u terms choices = record { values = map (value_under u) terms; choices = choices }
 
 -- the unknowns with another value of one of them
 abbrev pub with_unknown : (ℕ → ℤ) → ℕ → ℤ → ℕ → ℤ
@@ -69,18 +72,6 @@ IsOld n (Unknown k) = k.0 < n
 abbrev pub AreOld : ℕ → List Term → Type 0
 AreOld n [] = Unit {0}
 AreOld n (t ∷ ts) = IsOld n t × AreOld n ts
-
-value_at_under : (u : ℕ → ℤ) (terms : List Term) (choices : List Choice) (v : VarId) → value_at (state_under u terms choices) v ≡ value_under u (term_at terms v)
-value_at_under u terms choices v = get_or-map (value_under u) terms v.0 (Known (pos 0))
-
-operand_under : (u : ℕ → ℤ) (terms : List Term) (choices : List Choice) (e : Operand) → operand_in (state_under u terms choices) e ≡ value_under u (term_of terms e)
-operand_under u terms choices (Number z) = refl
-operand_under u terms choices (Variable v) = value_at_under u terms choices v
-
--- a variable that gets the value of a term
-pub set_under : (u : ℕ → ℤ) (terms : List Term) (choices : List Choice) (v : VarId) (t : Term)
-    → with_value (state_under u terms choices) v (value_under u t) ≡ state_under u (with_term terms v t) choices
-set_under u terms choices v t = ap (λ zs. record { values = zs; choices = choices }) (sym (map-set (value_under u) terms v.0 t))
 
 -- one unknown that gets its value
 settle_one : (u : ℕ → ℤ) (j : StmtId) (k : ℕ) (z : ℤ) → cond (j.0 == k) z (u j.0) ≡ value_under u (cond (j.0 == k) (Known z) (Unknown j))
@@ -110,90 +101,11 @@ both : (a b : Bool) → (a && b) ≡ true → (a ≡ true) × (b ≡ true)
 both true b h = (refl, h)
 both false b h = cc
 
--- SOUND: where all asserts can hold, some values of the unknowns and some choices make a good run
-
-pub record Succeeds (set : List ℕ) (items : List Item) (terms : List Term) : Type 0 where
-  pub unknowns : ℕ → ℤ
-  pub in_range : (k : ℕ) → is_in I32 (unknowns k) ≡ true
-  pub choices : List Choice
-  pub good : is_good set items (state_under unknowns terms choices) ≡ true
-
-succeeds-Declare : (set : List ℕ) (v : VarId) (items : List Item) (terms : List Term)
-    → Succeeds set items (with_term terms v (Known (pos 0))) → Succeeds set (Declare v ∷ items) terms
-succeeds-Declare set v items terms h = record {
-  unknowns = h.unknowns;
-  in_range = h.in_range;
-  choices = h.choices;
-  good = ap (is_good set items) (set_under h.unknowns terms h.choices v (Known (pos 0))) ∙ h.good;
-}
-
--- an assignment that is relaxed (b is true) or not
-record SucceedsBy (set : List ℕ) (items : List Item) (terms : List Term) (b : Bool) (v : VarId) (e : Operand) : Type 0 where
-  unknowns : ℕ → ℤ
-  in_range : (k : ℕ) → is_in I32 (unknowns k) ≡ true
-  choices : List Choice
-  good : is_good_after set items (assign_act b v e (state_under unknowns terms choices)) ≡ true
-
-succeeds-by : (set : List ℕ) (b : Bool) (n : StmtId) (v : VarId) (e : Operand) (items : List Item) (terms : List Term)
-    → Succeeds set items (with_term terms v (cond b (Unknown n) (term_of terms e))) → SucceedsBy set items terms b v e
-succeeds-by set true n v e items terms h =
-    let z : ℤ = h.unknowns n.0 in
-    let s : State = state_under h.unknowns terms h.choices in
-    record {
-      unknowns = h.unknowns;
-      in_range = h.in_range;
-      choices = Take (z ∷ []) ∷ h.choices;
-      good = ap (λ b. is_good_after set items (take_value v (cond b (Some z) None) s)) (h.in_range n.0)
-          ∙ ap (is_good set items) (set_under h.unknowns terms h.choices v (Unknown n)) ∙ h.good;
-    }
-succeeds-by set false n v e items terms h = record {
-  unknowns = h.unknowns;
-  in_range = h.in_range;
-  choices = h.choices;
-  good = ap (λ z. is_good set items (with_value (state_under h.unknowns terms h.choices) v z)) (operand_under h.unknowns terms h.choices e)
-      ∙ ap (is_good set items) (set_under h.unknowns terms h.choices v (term_of terms e)) ∙ h.good;
-}
-
-succeeds-Assign : (set : List ℕ) (n : StmtId) (v : VarId) (e : Operand) (items : List Item) (terms : List Term)
-    → Succeeds set items (with_term terms v (cond (is_relaxed set n) (Unknown n) (term_of terms e))) → Succeeds set (Assign n v e ∷ items) terms
-succeeds-Assign set n v e items terms h =
-    let r : SucceedsBy set items terms (is_relaxed set n) v e = succeeds-by set (is_relaxed set n) n v e items terms h in
-    record { unknowns = r.unknowns; in_range = r.in_range; choices = r.choices; good = r.good }
-
 with_unknown_in_range : (u : ℕ → ℤ) (n : ℕ) (z : ℤ) → ((k : ℕ) → is_in I32 (u k) ≡ true) → is_in I32 z ≡ true → (k : ℕ) → is_in I32 (with_unknown u n z k) ≡ true
 with_unknown_in_range u n z us in_z k = elim (k == n) as (λ b. is_in I32 (cond b z (u k)) ≡ true) [ true ↦ in_z | false ↦ us k ]
 
 with_unknown_itself : (u : ℕ → ℤ) (n : ℕ) (z : ℤ) → with_unknown u n z n ≡ z
 with_unknown_itself u n z = ap (λ b. cond b z (u n)) ((Decides-eqb n n).1 refl)
-
--- an assert of this term
-succeeds-Assert : (set : List ℕ) (n : StmtId) (v : VarId) (z : ℤ) (items : List Item) (terms : List Term) (t : Term)
-    → term_at terms v ≡ t → is_in I32 z ≡ true
-    → ((others : List Term) → can_hold set items others ≡ true → Succeeds set items others)
-    → assert_term t z (can_hold set items) terms ≡ true → Succeeds set (Assert n v z ∷ items) terms
-succeeds-Assert set n v z items terms (Known x) is_t in_z go h =
-    let two : (int_eq x z ≡ true) × (can_hold set items terms ≡ true) = both (int_eq x z) (can_hold set items terms) h in
-    let r : Succeeds set items terms = go terms two.1 in
-    let s : State = state_under r.unknowns terms r.choices in
-    record {
-      unknowns = r.unknowns;
-      in_range = r.in_range;
-      choices = r.choices;
-      good = ap (λ y. is_good_after set items (assert_act n y z s)) (value_at_under r.unknowns terms r.choices v ∙ ap (value_under r.unknowns) is_t)
-          ∙ ap (λ b. is_good_after set items (cond b (Ok next, s) (Err (AssertFails n), s))) two.0 ∙ r.good;
-    }
-succeeds-Assert set n v z items terms (Unknown k) is_t in_z go h =
-    let r : Succeeds set items (map (settled k z) terms) = go (map (settled k z) terms) h in
-    let u : ℕ → ℤ = with_unknown r.unknowns k.0 z in
-    let s : State = state_under u terms r.choices in
-    record {
-      unknowns = u;
-      in_range = with_unknown_in_range r.unknowns k.0 z r.in_range in_z;
-      choices = r.choices;
-      good = ap (λ y. is_good_after set items (assert_act n y z s)) (value_at_under u terms r.choices v ∙ ap (value_under u) is_t ∙ with_unknown_itself r.unknowns k.0 z)
-          ∙ ap (λ b. is_good_after set items (cond b (Ok next, s) (Err (AssertFails n), s))) ((Decides-int_eq z z).1 refl)
-          ∙ ap (λ zs. is_good set items (record { values = zs; choices = r.choices })) (settle_under r.unknowns k z terms) ∙ r.good;
-    }
 
 of_T : (b : Bool) → T b → b ≡ true
 of_T true h = refl
@@ -202,21 +114,11 @@ of_T false h = absurd h
 in_test : (z : ℤ) → IsIn I32 z → is_in I32 z ≡ true
 in_test z h = both_true (of_T (int_le (least_of I32) z) h.low.le) (of_T (int_le z (greatest_of I32)) h.high.le)
 
-pub succeeds : (set : List ℕ) (items : List Item) (n : ℕ) (terms : List Term) → AreNumbered n items → can_hold set items terms ≡ true → Succeeds set items terms
-succeeds set [] n terms a h = record { unknowns = λ _. pos 0; in_range = λ _. refl; choices = []; good = refl }
-succeeds set (Declare v ∷ items) n terms a h = succeeds-Declare set v items terms (succeeds set items n (with_term terms v (Known (pos 0))) a h)
-succeeds set (Assign m v e ∷ items) n terms a h =
-    succeeds-Assign set m v e items terms (succeeds set items (n + 1) (with_term terms v (cond (is_relaxed set m) (Unknown m) (term_of terms e))) a.1 h)
-succeeds set (Assert m v z ∷ items) n terms a h =
-    succeeds-Assert set m v z items terms (term_at terms v) refl (in_test z a.1) (λ others g. succeeds set items (n + 1) others a.2 g) h
-
--- COMPLETE: where some values of the unknowns and some choices make a good run, all asserts can hold
-
-bad_end : (choices : List Choice) (n : StmtId) → is_done (outcome_with choices (AssertFails n)) ≡ true → ⊥
+bad_end : (choices : List Choice) (n : StmtId) → is_done (if_none_left choices (AssertFails n)) ≡ true → ⊥
 bad_end [] n h = cc
 bad_end (c ∷ cs) n h = cc
 
-wrong_end : (choices : List Choice) → is_done (outcome_with choices WrongChoices) ≡ true → ⊥
+wrong_end : (choices : List Choice) → is_done (if_none_left choices WrongChoices) ≡ true → ⊥
 wrong_end [] h = cc
 wrong_end (c ∷ cs) h = cc
 
@@ -258,80 +160,191 @@ fresh_under u n z (Known x ∷ ts) h = ap (λ zs. x ∷ zs) (fresh_under u n z t
 fresh_under u n z (Unknown j ∷ ts) h = ap (λ x. x ∷ map (value_under (with_unknown u n z)) ts) (fresh_one u j.0 n z h.0)
     ∙ ap (λ zs. u j.0 ∷ zs) (fresh_under u n z ts h.1)
 
--- a variable that gets a value of a new unknown
-take_under : (u : ℕ → ℤ) (terms : List Term) (choices : List Choice) (v : VarId) (n : StmtId) (z : ℤ) → AreOld n.0 terms
-    → with_value (state_under u terms choices) v z ≡ state_under (with_unknown u n.0 z) (with_term terms v (Unknown n)) choices
-take_under u terms choices v n z h = ap (λ zs. with_value (record { values = zs; choices = choices }) v z) (sym (fresh_under u n.0 z terms h))
-    ∙ ap (λ x. with_value (state_under (with_unknown u n.0 z) terms choices) v x) (sym (with_unknown_itself u n.0 z))
-    ∙ set_under (with_unknown u n.0 z) terms choices v (Unknown n)
-
--- what is shown of the items that are left
-abbrev pub Completes : List ℕ → List Item → ℕ → Type 0
-Completes set items n = (u : ℕ → ℤ) (choices : List Choice) (terms : List Term) → AreOld n terms
-    → is_good set items (state_under u terms choices) ≡ true → can_hold set items terms ≡ true
-
-completes-taken : (set : List ℕ) (n : StmtId) (v : VarId) (items : List Item) (u : ℕ → ℤ) (choices : List Choice) (terms : List Term) (z : ℤ)
-    → AreOld n.0 terms → Completes set items (n.0 + 1) → is_good set items (with_value (state_under u terms choices) v z) ≡ true
-    → can_hold set items (with_term terms v (Unknown n)) ≡ true
-completes-taken set n v items u choices terms z old go h =
-    go (with_unknown u n.0 z) choices (with_term terms v (Unknown n))
-    (old_set (n.0 + 1) terms v.0 (Unknown n) (all_later n.0 terms old) (omega arith))
-    (ap (is_good set items) (sym (take_under u terms choices v n z old)) ∙ h)
-
--- what a choice makes of an assignment
-completes-values : (set : List ℕ) (n : StmtId) (v : VarId) (items : List Item) (u : ℕ → ℤ) (choices : List Choice) (terms : List Term) (o : Option ℤ)
-    → AreOld n.0 terms → Completes set items (n.0 + 1) → is_good_after set items (take_value v o (state_under u terms choices)) ≡ true
-    → can_hold set items (with_term terms v (Unknown n)) ≡ true
-completes-values set n v items u choices terms None old go h = absurd (wrong_end choices h)
-completes-values set n v items u choices terms (Some z) old go h = completes-taken set n v items u choices terms z old go h
-
-completes-by : (set : List ℕ) (b : Bool) (n : StmtId) (v : VarId) (e : Operand) (items : List Item) (u : ℕ → ℤ) (choices : List Choice) (terms : List Term)
-    → AreOld n.0 terms → Completes set items (n.0 + 1) → is_good_after set items (assign_act b v e (state_under u terms choices)) ≡ true
-    → can_hold set items (with_term terms v (cond b (Unknown n) (term_of terms e))) ≡ true
-completes-by set true n v e items u [] terms old go h = cc
-completes-by set true n v e items u (Keep ∷ choices) terms old go h =
-    completes-taken set n v items u choices terms (operand_in (state_under u terms choices) e) old go h
-completes-by set true n v e items u (Take zs ∷ choices) terms old go h =
-    completes-values set n v items u choices terms (one_value_of I32 zs) old go h
-completes-by set false n v e items u choices terms old go h =
-    go u choices (with_term terms v (term_of terms e))
-    (old_set (n.0 + 1) terms v.0 (term_of terms e) (all_later n.0 terms old) (later n.0 (term_of terms e) (old_operand n.0 terms e old)))
-    (ap (is_good set items) (sym (ap (λ z. with_value (state_under u terms choices) v z) (operand_under u terms choices e) ∙ set_under u terms choices v (term_of terms e))) ∙ h)
-
 -- a test that was passed
 pub passes : (set : List ℕ) (items : List Item) (n : StmtId) (s : State) (b : Bool)
-    → is_good_after set items (cond b (Ok next, s) (Err (AssertFails n), s)) ≡ true → (b ≡ true) × (is_good set items s ≡ true)
+    → is_good_after set items (cond b (Ok Next, s) (Err (halt.AssertFails n), s)) ≡ true → (b ≡ true) × (is_good set items s ≡ true)
 passes set items n s true h = (refl, h)
 passes set items n s false h = absurd (bad_end s.choices n h)
-
-completes-Assert : (set : List ℕ) (n : StmtId) (v : VarId) (z : ℤ) (items : List Item) (u : ℕ → ℤ) (choices : List Choice) (terms : List Term) (t : Term)
-    → term_at terms v ≡ t → AreOld n.0 terms → Completes set items (n.0 + 1)
-    → is_good_after set items (assert_act n (value_at (state_under u terms choices) v) z (state_under u terms choices)) ≡ true
-    → assert_term t z (can_hold set items) terms ≡ true
-completes-Assert set n v z items u choices terms (Known x) is_t old go h =
-    let s : State = state_under u terms choices in
-    let two : (int_eq (value_at s v) z ≡ true) × (is_good set items s ≡ true) = passes set items n s (int_eq (value_at s v) z) h in
-    let is_x : value_at s v ≡ x = value_at_under u terms choices v ∙ ap (value_under u) is_t in
-    ap (λ b. b && can_hold set items terms) (ap (λ y. int_eq y z) (sym is_x) ∙ two.0) ∙ go u choices terms (all_later n.0 terms old) two.1
-completes-Assert set n v z items u choices terms (Unknown k) is_t old go h =
-    let s : State = state_under u terms choices in
-    let two : (int_eq (value_at s v) z ≡ true) × (is_good set items s ≡ true) = passes set items n s (int_eq (value_at s v) z) h in
-    let is_k : u k.0 ≡ z = sym (value_at_under u terms choices v ∙ ap (value_under u) is_t) ∙ (Decides-int_eq (value_at s v) z).0 two.0 in
-    go u choices (map (settled k z) terms) (old_settled (n.0 + 1) k z terms (all_later n.0 terms old))
-    (ap (λ zs. is_good set items (record { values = zs; choices = choices })) (sym (same_under u k z terms is_k)) ∙ two.1)
 
 at_number : (m n : ℕ) (terms : List Term) → m ≡ n → AreOld n terms → AreOld m terms
 at_number m n terms e old = subst (λ k. AreOld k terms) (sym e) old
 
-rest_at : (set : List ℕ) (m n : ℕ) (items : List Item) → m ≡ n → Completes set items (n + 1) → Completes set items (m + 1)
-rest_at set m n items e go = subst (λ k. Completes set items (k + 1)) (sym e) go
+-- Runs of items, where these are the locations that the variables name; none of them is an array.
+module _ (locations : List ℕ) where
+  -- The state where the variables have these values, and these choices are left. The rest of it stays as it is at the start: there is
+  -- no array.
+  abbrev pub state_with : List ℤ → List Choice → State
+  state_with values choices = record { values = values; arrays = []; locations = locations; choices = choices }
 
-pub completes : (set : List ℕ) (items : List Item) (n : ℕ) → AreNumbered n items → Completes set items n
-completes set [] n a u choices terms old h = refl
-completes set (Declare v ∷ items) n a u choices terms old h =
-    completes set items n a u choices (with_term terms v (Known (pos 0))) (old_set n terms v.0 (Known (pos 0)) old tt)
-    (ap (is_good set items) (sym (set_under u terms choices v (Known (pos 0)))) ∙ h)
-completes set (Assign m v e ∷ items) n a u choices terms old h =
-    completes-by set (is_relaxed set m) m v e items u choices terms (at_number m.0 n terms a.0 old) (rest_at set m.0 n items a.0 (completes set items (n + 1) a.1)) h
-completes set (Assert m v z ∷ items) n a u choices terms old h =
-    completes-Assert set m v z items u choices terms (term_at terms v) refl (at_number m.0 n terms a.0 old) (rest_at set m.0 n items a.0 (completes set items (n + 1) a.2)) h
+  abbrev pub state_under : (ℕ → ℤ) → List Term → List Choice → State
+  state_under u terms choices = state_with (map (value_under u) terms) choices
+
+  value_at_under : (u : ℕ → ℤ) (terms : List Term) (choices : List Choice) (v : VarId) → value_at (state_under u terms choices) v ≡ value_under u (term_at terms v)
+  value_at_under u terms choices v = get_or-map (value_under u) terms v.0 (Known (pos 0))
+
+  operand_under : (u : ℕ → ℤ) (terms : List Term) (choices : List Choice) (e : Operand) → operand_in (state_under u terms choices) e ≡ value_under u (term_of terms e)
+  operand_under u terms choices (Number z) = refl
+  operand_under u terms choices (Variable v) = value_at_under u terms choices v
+
+  -- a variable that gets the value of a term
+  pub set_under : (u : ℕ → ℤ) (terms : List Term) (choices : List Choice) (v : VarId) (t : Term)
+      → with_value (state_under u terms choices) v (value_under u t) ≡ state_under u (with_term terms v t) choices
+  set_under u terms choices v t = ap (λ zs. state_with zs choices) (sym (map-set (value_under u) terms v.0 t))
+
+  -- SOUND: where all asserts can hold, some values of the unknowns and some choices make a good run
+
+  pub record Succeeds (set : List ℕ) (items : List Item) (terms : List Term) : Type 0 where
+    pub unknowns : ℕ → ℤ
+    pub in_range : (k : ℕ) → is_in I32 (unknowns k) ≡ true
+    pub choices : List Choice
+    pub good : is_good set items (state_under unknowns terms choices) ≡ true
+
+  succeeds-Declare : (set : List ℕ) (v : VarId) (items : List Item) (terms : List Term)
+      → Succeeds set items (with_term terms v (Known (pos 0))) → Succeeds set (Declare v ∷ items) terms
+  succeeds-Declare set v items terms h = record {
+    unknowns = h.unknowns;
+    in_range = h.in_range;
+    choices = h.choices;
+    good = ap (is_good set items) (set_under h.unknowns terms h.choices v (Known (pos 0))) ∙ h.good;
+  }
+
+  -- an assignment that is relaxed (b is true) or not
+  record SucceedsBy (set : List ℕ) (items : List Item) (terms : List Term) (b : Bool) (v : VarId) (e : Operand) : Type 0 where
+    unknowns : ℕ → ℤ
+    in_range : (k : ℕ) → is_in I32 (unknowns k) ≡ true
+    choices : List Choice
+    good : is_good_after set items (assign_act b v e (state_under unknowns terms choices)) ≡ true
+
+  succeeds-by : (set : List ℕ) (b : Bool) (n : StmtId) (v : VarId) (e : Operand) (items : List Item) (terms : List Term)
+      → Succeeds set items (with_term terms v (cond b (Unknown n) (term_of terms e))) → SucceedsBy set items terms b v e
+  succeeds-by set true n v e items terms h =
+      let z : ℤ = h.unknowns n.0 in
+      let s : State = state_under h.unknowns terms h.choices in
+      record {
+        unknowns = h.unknowns;
+        in_range = h.in_range;
+        choices = Take (z ∷ []) ∷ h.choices;
+        good = ap (λ b. is_good_after set items (then_do (if_fitting (cond b (Some z) None) s) (set_value v))) (h.in_range n.0)
+            ∙ ap (is_good set items) (set_under h.unknowns terms h.choices v (Unknown n)) ∙ h.good;
+      }
+  succeeds-by set false n v e items terms h = record {
+    unknowns = h.unknowns;
+    in_range = h.in_range;
+    choices = h.choices;
+    good = ap (λ z. is_good set items (with_value (state_under h.unknowns terms h.choices) v z)) (operand_under h.unknowns terms h.choices e)
+        ∙ ap (is_good set items) (set_under h.unknowns terms h.choices v (term_of terms e)) ∙ h.good;
+  }
+
+  succeeds-Assign : (set : List ℕ) (n : StmtId) (v : VarId) (e : Operand) (items : List Item) (terms : List Term)
+      → Succeeds set items (with_term terms v (cond (is_relaxed set n) (Unknown n) (term_of terms e))) → Succeeds set (Assign n v e ∷ items) terms
+  succeeds-Assign set n v e items terms h =
+      let r : SucceedsBy set items terms (is_relaxed set n) v e = succeeds-by set (is_relaxed set n) n v e items terms h in
+      record { unknowns = r.unknowns; in_range = r.in_range; choices = r.choices; good = r.good }
+
+  -- an assert of this term
+  succeeds-Assert : (set : List ℕ) (n : StmtId) (v : VarId) (z : ℤ) (items : List Item) (terms : List Term) (t : Term)
+      → term_at terms v ≡ t → is_in I32 z ≡ true
+      → ((others : List Term) → can_hold set items others ≡ true → Succeeds set items others)
+      → assert_term t z (can_hold set items) terms ≡ true → Succeeds set (Assert n v z ∷ items) terms
+  succeeds-Assert set n v z items terms (Known x) is_t in_z go h =
+      let two : (int_eq x z ≡ true) × (can_hold set items terms ≡ true) = both (int_eq x z) (can_hold set items terms) h in
+      let r : Succeeds set items terms = go terms two.1 in
+      let s : State = state_under r.unknowns terms r.choices in
+      record {
+        unknowns = r.unknowns;
+        in_range = r.in_range;
+        choices = r.choices;
+        good = ap (λ y. is_good_after set items (assert_act n y z s)) (value_at_under r.unknowns terms r.choices v ∙ ap (value_under r.unknowns) is_t)
+            ∙ ap (λ b. is_good_after set items (cond b (Ok Next, s) (Err (halt.AssertFails n), s))) two.0 ∙ r.good;
+      }
+  succeeds-Assert set n v z items terms (Unknown k) is_t in_z go h =
+      let r : Succeeds set items (map (settled k z) terms) = go (map (settled k z) terms) h in
+      let u : ℕ → ℤ = with_unknown r.unknowns k.0 z in
+      let s : State = state_under u terms r.choices in
+      record {
+        unknowns = u;
+        in_range = with_unknown_in_range r.unknowns k.0 z r.in_range in_z;
+        choices = r.choices;
+        good = ap (λ y. is_good_after set items (assert_act n y z s)) (value_at_under u terms r.choices v ∙ ap (value_under u) is_t ∙ with_unknown_itself r.unknowns k.0 z)
+            ∙ ap (λ b. is_good_after set items (cond b (Ok Next, s) (Err (halt.AssertFails n), s))) ((Decides-int_eq z z).1 refl)
+            ∙ ap (λ zs. is_good set items (state_with zs r.choices)) (settle_under r.unknowns k z terms) ∙ r.good;
+      }
+
+  pub succeeds : (set : List ℕ) (items : List Item) (n : ℕ) (terms : List Term) → AreNumbered n items → can_hold set items terms ≡ true → Succeeds set items terms
+  succeeds set [] n terms a h = record { unknowns = λ _. pos 0; in_range = λ _. refl; choices = []; good = refl }
+  succeeds set (Declare v ∷ items) n terms a h = succeeds-Declare set v items terms (succeeds set items n (with_term terms v (Known (pos 0))) a h)
+  succeeds set (Assign m v e ∷ items) n terms a h =
+      succeeds-Assign set m v e items terms (succeeds set items (n + 1) (with_term terms v (cond (is_relaxed set m) (Unknown m) (term_of terms e))) a.1 h)
+  succeeds set (Assert m v z ∷ items) n terms a h =
+      succeeds-Assert set m v z items terms (term_at terms v) refl (in_test z a.1) (λ others g. succeeds set items (n + 1) others a.2 g) h
+
+  -- COMPLETE: where some values of the unknowns and some choices make a good run, all asserts can hold
+
+  -- a variable that gets a value of a new unknown
+  take_under : (u : ℕ → ℤ) (terms : List Term) (choices : List Choice) (v : VarId) (n : StmtId) (z : ℤ) → AreOld n.0 terms
+      → with_value (state_under u terms choices) v z ≡ state_under (with_unknown u n.0 z) (with_term terms v (Unknown n)) choices
+  take_under u terms choices v n z h = ap (λ zs. with_value (state_with zs choices) v z) (sym (fresh_under u n.0 z terms h))
+      ∙ ap (λ x. with_value (state_under (with_unknown u n.0 z) terms choices) v x) (sym (with_unknown_itself u n.0 z))
+      ∙ set_under (with_unknown u n.0 z) terms choices v (Unknown n)
+
+  -- what is shown of the items that are left
+  abbrev pub Completes : List ℕ → List Item → ℕ → Type 0
+  Completes set items n = (u : ℕ → ℤ) (choices : List Choice) (terms : List Term) → AreOld n terms
+      → is_good set items (state_under u terms choices) ≡ true → can_hold set items terms ≡ true
+
+  completes-taken : (set : List ℕ) (n : StmtId) (v : VarId) (items : List Item) (u : ℕ → ℤ) (choices : List Choice) (terms : List Term) (z : ℤ)
+      → AreOld n.0 terms → Completes set items (n.0 + 1) → is_good set items (with_value (state_under u terms choices) v z) ≡ true
+      → can_hold set items (with_term terms v (Unknown n)) ≡ true
+  completes-taken set n v items u choices terms z old go h =
+      go (with_unknown u n.0 z) choices (with_term terms v (Unknown n))
+      (old_set (n.0 + 1) terms v.0 (Unknown n) (all_later n.0 terms old) (omega arith))
+      (ap (is_good set items) (sym (take_under u terms choices v n z old)) ∙ h)
+
+  -- what a choice makes of an assignment
+  completes-values : (set : List ℕ) (n : StmtId) (v : VarId) (items : List Item) (u : ℕ → ℤ) (choices : List Choice) (terms : List Term) (o : Option ℤ)
+      → AreOld n.0 terms → Completes set items (n.0 + 1) → is_good_after set items (then_do (if_fitting o (state_under u terms choices)) (set_value v)) ≡ true
+      → can_hold set items (with_term terms v (Unknown n)) ≡ true
+  completes-values set n v items u choices terms None old go h = absurd (wrong_end choices h)
+  completes-values set n v items u choices terms (Some z) old go h = completes-taken set n v items u choices terms z old go h
+
+  completes-by : (set : List ℕ) (b : Bool) (n : StmtId) (v : VarId) (e : Operand) (items : List Item) (u : ℕ → ℤ) (choices : List Choice) (terms : List Term)
+      → AreOld n.0 terms → Completes set items (n.0 + 1) → is_good_after set items (assign_act b v e (state_under u terms choices)) ≡ true
+      → can_hold set items (with_term terms v (cond b (Unknown n) (term_of terms e))) ≡ true
+  completes-by set true n v e items u [] terms old go h = cc
+  completes-by set true n v e items u (Keep ∷ choices) terms old go h =
+      completes-taken set n v items u choices terms (operand_in (state_under u terms choices) e) old go h
+  completes-by set true n v e items u (Take zs ∷ choices) terms old go h =
+      completes-values set n v items u choices terms (one_value I32 zs) old go h
+  completes-by set false n v e items u choices terms old go h =
+      go u choices (with_term terms v (term_of terms e))
+      (old_set (n.0 + 1) terms v.0 (term_of terms e) (all_later n.0 terms old) (later n.0 (term_of terms e) (old_operand n.0 terms e old)))
+      (ap (is_good set items) (sym (ap (λ z. with_value (state_under u terms choices) v z) (operand_under u terms choices e) ∙ set_under u terms choices v (term_of terms e))) ∙ h)
+
+  completes-Assert : (set : List ℕ) (n : StmtId) (v : VarId) (z : ℤ) (items : List Item) (u : ℕ → ℤ) (choices : List Choice) (terms : List Term) (t : Term)
+      → term_at terms v ≡ t → AreOld n.0 terms → Completes set items (n.0 + 1)
+      → is_good_after set items (assert_act n (value_at (state_under u terms choices) v) z (state_under u terms choices)) ≡ true
+      → assert_term t z (can_hold set items) terms ≡ true
+  completes-Assert set n v z items u choices terms (Known x) is_t old go h =
+      let s : State = state_under u terms choices in
+      let two : (int_eq (value_at s v) z ≡ true) × (is_good set items s ≡ true) = passes set items n s (int_eq (value_at s v) z) h in
+      let is_x : value_at s v ≡ x = value_at_under u terms choices v ∙ ap (value_under u) is_t in
+      ap (λ b. b && can_hold set items terms) (ap (λ y. int_eq y z) (sym is_x) ∙ two.0) ∙ go u choices terms (all_later n.0 terms old) two.1
+  completes-Assert set n v z items u choices terms (Unknown k) is_t old go h =
+      let s : State = state_under u terms choices in
+      let two : (int_eq (value_at s v) z ≡ true) × (is_good set items s ≡ true) = passes set items n s (int_eq (value_at s v) z) h in
+      let is_k : u k.0 ≡ z = sym (value_at_under u terms choices v ∙ ap (value_under u) is_t) ∙ (Decides-int_eq (value_at s v) z).0 two.0 in
+      go u choices (map (settled k z) terms) (old_settled (n.0 + 1) k z terms (all_later n.0 terms old))
+      (ap (λ zs. is_good set items (state_with zs choices)) (sym (same_under u k z terms is_k)) ∙ two.1)
+
+  rest_at : (set : List ℕ) (m n : ℕ) (items : List Item) → m ≡ n → Completes set items (n + 1) → Completes set items (m + 1)
+  rest_at set m n items e go = subst (λ k. Completes set items (k + 1)) (sym e) go
+
+  pub completes : (set : List ℕ) (items : List Item) (n : ℕ) → AreNumbered n items → Completes set items n
+  completes set [] n a u choices terms old h = refl
+  completes set (Declare v ∷ items) n a u choices terms old h =
+      completes set items n a u choices (with_term terms v (Known (pos 0))) (old_set n terms v.0 (Known (pos 0)) old tt)
+      (ap (is_good set items) (sym (set_under u terms choices v (Known (pos 0)))) ∙ h)
+  completes set (Assign m v e ∷ items) n a u choices terms old h =
+      completes-by set (is_relaxed set m) m v e items u choices terms (at_number m.0 n terms a.0 old) (rest_at set m.0 n items a.0 (completes set items (n + 1) a.1)) h
+  completes set (Assert m v z ∷ items) n a u choices terms old h =
+      completes-Assert set m v z items u choices terms (term_at terms v) refl (at_number m.0 n terms a.0 old) (rest_at set m.0 n items a.0 (completes set items (n + 1) a.2)) h

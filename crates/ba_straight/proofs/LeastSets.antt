@@ -63,7 +63,7 @@ pub record IsOfWeight (weights : List (Option ℕ)) (low weight : ℕ) (set : Li
   pub above : AreRelaxableAbove weights low set
   pub weighs : weight_of weights set ≡ weight
 
-get_here : {A : Type 0} (front rest : List A) (x : A) → slice_get (front ++ x ∷ rest) (length front) ≡ Some x
+pub get_here : {A : Type 0} (front rest : List A) (x : A) → slice_get (front ++ x ∷ rest) (length front) ≡ Some x
 get_here [] rest x = refl
 get_here (y ∷ ys) rest x = get_here ys rest x
 

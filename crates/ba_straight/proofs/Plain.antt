@@ -2,7 +2,7 @@
 use Rattle.std.proofs.Common.{◌≡◌, ◌+◌, pos, Bool, true, false, List, [], ◌∷◌, length, sym, ◌∙◌, ap, refl}
 use Rattle.std.specs.Ordering.{int_eq}
 use Rattle.ba_tree.specs.State.{State, value_at, with_value}
-use Rattle.ba_tree.specs.Run.{outcome_with, is_done, run_of}
+use Rattle.ba_tree.specs.Run.{if_none_left, is_done, run_of}
 use Rattle.ba_tree.specs.declared.run.Allowed.TheVariants.{Statements}
 use Rattle.ba_tree.specs.declared.run.Bounds.{Bounds}
 use Rattle.ba_choices.specs.declared.Choice.{Choice}
@@ -15,9 +15,9 @@ use Rattle.ba_straight.specs.declared.items.Item.{Item}
 use Rattle.ba_straight.specs.declared.items.Item.TheVariants.{Declare, Assign, Assert}
 use Rattle.ba_straight.specs.declared.items.Straight.{Straight}
 use Rattle.ba_straight.proofs.Feasible.{is_good, operand_in, Succeeds, succeeds, completes, passes, state_under}
-use Rattle.ba_straight.proofs.Runs.{terms_of, run_is, old_start, old_zeros}
+use Rattle.ba_straight.proofs.Runs.{terms_of, run_is, locations_of, none_listed, old_start, old_zeros}
 
-done_at_end : (choices : List Choice) → is_done (outcome_with choices Done) ≡ true → choices ≡ []
+done_at_end : (choices : List Choice) → is_done (if_none_left choices Done) ≡ true → choices ≡ []
 done_at_end [] h = refl
 done_at_end (c ∷ cs) h = cc
 
@@ -38,9 +38,12 @@ pub plain_run : (s : Straight) (p : Program) (input : Input) (b : Bounds) → Is
     → can_hold [] s.items (terms_of s input) ≡ is_done (run_of p input b (Statements []) [])
 plain_run s p input b tree numbered = same_test (can_hold [] s.items (terms_of s input)) (is_done (run_of p input b (Statements []) []))
     (λ h.
-    let r : Succeeds [] s.items (terms_of s input) = succeeds [] s.items 1 (terms_of s input) numbered h in
-    let none : r.choices ≡ [] = no_choices s.items (state_under r.unknowns (terms_of s input) r.choices) r.good in
-    run_is s p tree input b [] r.unknowns [] ∙ ap (λ cs. is_good [] s.items (state_under r.unknowns (terms_of s input) cs)) (sym none) ∙ r.good)
-    (λ h. completes [] s.items 1 numbered (λ _. pos 0) [] (terms_of s input)
+    let r : Succeeds (locations_of p) [] s.items (terms_of s input) =
+    succeeds (locations_of p) [] s.items 1 (terms_of s input) numbered h in
+    let none : r.choices ≡ [] =
+    no_choices s.items (state_under (locations_of p) r.unknowns (terms_of s input) r.choices) r.good in
+    run_is s p tree input b [] r.unknowns [] (none_listed p s.items)
+    ∙ ap (λ cs. is_good [] s.items (state_under (locations_of p) r.unknowns (terms_of s input) cs)) (sym none) ∙ r.good)
+    (λ h. completes (locations_of p) [] s.items 1 numbered (λ _. pos 0) [] (terms_of s input)
     (old_start 1 s.params input.values _ (old_zeros 1 (length s.params + length s.locals)))
-    (sym (run_is s p tree input b [] (λ _. pos 0) []) ∙ h))
+    (sym (run_is s p tree input b [] (λ _. pos 0) [] (none_listed p s.items)) ∙ h))

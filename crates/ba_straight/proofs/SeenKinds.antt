@@ -13,7 +13,7 @@ use Rattle.ba_straight.specs.declared.pieces.Mark.{Mark}
 use Rattle.ba_straight.specs.declared.pieces.Mark.TheVariants as mark
 use Rattle.ba_straight.specs.declared.pieces.Token.{Token}
 use Rattle.ba_straight.specs.declared.pieces.Token.TheVariants as token
-use Rattle.ba_straight.specs.Seen.{keyword_mark, punct_mark, marked, number_of, constant_of, token_of}
+use Rattle.ba_straight.specs.Seen.{keyword_mark, punct_mark, marked, constant_of, token_of}
 
 -- the kind of token that a mark is
 abbrev pub kind_of : Mark → TokenKind

@@ -1,11 +1,15 @@
 -- A straight-line program is read exactly as it is written.
-use Rattle.std.proofs.Common.{◌≡◌, ℕ, zero, suc, ◌+◌, ◌<◌, ◌≤◌, nat_le, MatchOption, Bool, true, false, cond, ◌&&◌, Option, None, Some, Result, Ok, ℤ, pos, negsuc, List, [], ◌∷◌, ◌++◌, length, drop, codes, bytes_eq, sym, ◌∙◌, ap, subst, refl, append_assoc, arith}
+use Rattle.std.proofs.Common.{◌≡◌, ℕ, zero, suc, ◌+◌, ◌-◌, ◌==◌, ◌<◌, ◌≤◌, nat_le, MatchOption, Bool, true, false, cond, ◌&&◌, Option, None, Some, Result, Ok, ℤ, pos, negsuc, List, [], ◌∷◌, ◌++◌, length, drop, slice_get, codes, bytes_eq, sym, ◌∙◌, ap, subst, refl, append_assoc, arith}
 use Rattle.std.proofs.lemmas.List.{length-append, length-map}
 use Rattle.std.proofs.lemmas.Grind.{common_steps}
 use Rattle.std.proofs.lemmas.Slice.Eq.{bytes_eq-Decides}
 use Rattle.std.proofs.Math.Seq.{drop-append_seam}
+use Rattle.ba_numbers.specs.declared.ids.StmtId.{StmtId}
 use Rattle.ba_numbers.specs.declared.ids.VarId.{VarId}
+use Rattle.ba_tree.specs.Choices.{is_assert_info}
 use Rattle.ba_tree.specs.declared.tree.StmtInfo.{StmtInfo}
+use Rattle.ba_tree.specs.declared.tree.StmtKind.TheVariants as stmt
+use Rattle.ba_straight.specs.Items.{AreNoAsserts, AreNumbered, info_in}
 use Rattle.ba_straight.specs.declared.items.Item.{Item}
 use Rattle.ba_straight.specs.declared.items.Item.TheVariants.{Declare, Assign, Assert}
 use Rattle.ba_straight.specs.declared.items.Straight.{Straight}
@@ -23,10 +27,11 @@ use Rattle.ba_straight.specs.declared.pieces.Token.TheVariants as token
 use Rattle.ba_straight.specs.declared.pieces.Piece.{Piece}
 use Rattle.ba_straight.specs.declared.reader.Body.{Body}
 use Rattle.ba_straight.specs.Reading.{after_mark, first_by, name_in, opened_at, params_or_void, params_at, closed_at, body_from, body_of, counted, is_small, straight_of, straight_at, ◌>>=◌}
-use Rattle.ba_straight.specs.Spelling.{name_of, param_tokens, more_param_tokens, head_tokens, body_tokens, AreDistinct, AreCounted, AreDeclared, declared_in, statements_in, most, IsWritten, IsText}
+use Rattle.ba_straight.specs.Spelling.{name_of, param_tokens, more_param_tokens, head_tokens, body_tokens, AreDistinct, AreCounted, AreDeclared, declared_in, statements_in, place_of, most, IsWritten, IsText}
 use Rattle.ba_straight.proofs.Fronts.{tokens_of, Front, front_tokens, Splits, tokens_front, mark_front, front_mark, front_other, Reads, by_front, front_by, bound_some, bound}
 use Rattle.ba_straight.proofs.ItemLaws.{Continues, name_is, some_is, IsInt, AreInts}
 use Rattle.ba_straight.proofs.BodyLaws.{IsBody, with_items, body_sound, body_complete}
+use Rattle.ba_straight.proofs.LeastSets.{get_here}
 use Rattle.ba_straight.proofs.ParamLaws.{IsAfter, front_after, after_after, AreParams, params_sound, AreRead, params_complete}
 
 -- COUNTED variables
@@ -160,6 +165,40 @@ small_is body h = let two : (nat_le (length body.locals) 12 ≡ true) × (nat_le
 is_small_if : (body : Body) → length body.locals ≤ 12 → length body.statements ≤ 12 → is_small body ≡ true
 is_small_if body h k = grind (arith, common_steps)
 
+-- ASSIGNMENTS are listed as such
+
+-- what stands behind so many others
+info_behind : (front rest : List StmtInfo) (info : StmtInfo) (m : StmtId)
+    → m.0 ≡ length front + 1 → info_in (front ++ info ∷ rest) m ≡ Some info
+info_behind front rest info m is_m =
+    let not_zero : (m.0 == 0) ≡ false = grind (arith, common_steps, is_m) in
+    let place : m.0 - 1 ≡ length front = omega arith in
+    ap (λ b. cond b None (slice_get (front ++ info ∷ rest) (m.0 - 1))) not_zero
+    ∙ ap (slice_get (front ++ info ∷ rest)) place ∙ get_here front rest info
+
+-- the first of the statements that follow
+next_info : (front rest : List StmtInfo) (info : StmtInfo) (items : List Item)
+    → AreNumbered (length front + 1 + 1) items
+    → (AreNumbered (length (front ++ info ∷ []) + 1) items → AreNoAsserts ((front ++ info ∷ []) ++ rest) items)
+    → AreNoAsserts (front ++ info ∷ rest) items
+next_info front rest info items num go =
+    subst (λ (infos : List StmtInfo). AreNoAsserts infos items) (append_assoc front (info ∷ []) rest)
+    (go (subst (λ n. AreNumbered (n + 1) items) (sym (length-append front (info ∷ []))) num))
+
+no_asserts : (front : List StmtInfo) (ps : List Piece) (items : List Item)
+    → AreNumbered (length front + 1) items → AreNoAsserts (front ++ statements_in ps items) items
+no_asserts front ps [] num = tt
+no_asserts front ps (Declare v ∷ items) num = no_asserts front (drop 3 ps) items num
+no_asserts front ps (Assign m v e ∷ items) num =
+    let info : StmtInfo = record { at = place_of ps; kind = stmt.Assignment } in
+    let rest : List StmtInfo = statements_in (drop 4 ps) items in (
+      ap is_assert_info (info_behind front rest info m num.0),
+      next_info front rest info items num.1 (no_asserts (front ++ info ∷ []) (drop 4 ps) items),
+    )
+no_asserts front ps (Assert m v z ∷ items) num =
+    let info : StmtInfo = record { at = place_of ps; kind = stmt.Assert } in
+    next_info front (statements_in (drop 7 ps) items) info items num.2 (no_asserts (front ++ info ∷ []) (drop 7 ps) items)
+
 written : (ps inside closing start : List Piece) (names : List (List ℕ)) (body : Body) → IsOpened ps inside → AreHeadParams inside names closing → IsClosed closing start → IsBody (body_of names) start body
     → length body.locals ≤ 12 → length body.statements ≤ 12 → IsWritten ps (straight_of (length names) body)
 written ps inside closing start names body o p c b few_locals few_statements =
@@ -181,6 +220,7 @@ written ps inside closing start names body o p c b few_locals few_statements =
       locals = refl;
       numbered = b.numbered;
       statements = ap (λ qs. statements_in qs b.items) start_is;
+      assignments = no_asserts [] start b.items b.numbered;
       few_params = subst (λ n. n ≤ 12) (sym many) p.few;
       few_locals = subst (λ (bd : Body). length bd.locals ≤ 12) b.is few_locals;
       few_statements = subst (λ (bd : Body). length bd.statements ≤ 12) b.is few_statements;

@@ -1,6 +1,6 @@
 -- The text of an input: numbers between blanks, one for each parameter.
 
-use Rattle.std.specs.Prelude.{◌≡◌, ℕ, zero, suc, ◌-◌, ◌==◌, ℤ, pos, neg_ℤ, cond, not, Option, None, Some, List, [], ◌∷◌, ◌++◌, length, take, take_while}
+use Rattle.std.specs.Prelude.{◌≡◌, ℕ, ◌==◌, ℤ, pos, neg_ℤ, cond, Option, None, Some, List, [], ◌∷◌, ◌++◌, length}
 use Rattle.ba_numbers.specs.Numbers.{is_in}
 use Rattle.ba_numbers.specs.declared.numbers.CType.TheVariants.{I32}
 use Rattle.ba_tree.specs.declared.run.Input.{Input}

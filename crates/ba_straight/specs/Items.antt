@@ -1,19 +1,23 @@
 -- The items of a straight-line program, and the tree that they stand for.
 
-use Rattle.std.specs.Prelude.{◌≡◌, ℕ, ◌+◌, ℤ, Option, None, Some, List, [], ◌∷◌, map, length, replicate}
+use Rattle.std.specs.Prelude.{◌≡◌, ℕ, ◌+◌, ◌-◌, ◌==◌, ℤ, false, cond, Option, None, Some, List, [], ◌∷◌, map, length, replicate, slice_get}
 use Rattle.ba_numbers.specs.declared.ids.StmtId.{StmtId}
 use Rattle.ba_numbers.specs.declared.ids.VarId.{VarId}
 use Rattle.ba_numbers.specs.declared.numbers.CType.TheVariants.{I32}
 use Rattle.ba_numbers.specs.declared.numbers.BinOp.TheVariants.{Eq}
+use Rattle.ba_tree.specs.Choices.{is_assert_info}
+use Rattle.ba_tree.specs.declared.tree.Arg.{Arg}
+use Rattle.ba_tree.specs.declared.tree.Arg.TheOpen.{Expr-F}
+use Rattle.ba_tree.specs.declared.tree.Arg.TheViews.{out-Expr}
 use Rattle.ba_tree.specs.declared.tree.Expr.{Expr}
-use Rattle.ba_tree.specs.declared.tree.Expr.TheOpen.{Expr-F}
-use Rattle.ba_tree.specs.declared.tree.Expr.TheViews.{out-Expr}
 use Rattle.ba_numbers.specs.Numbers.{IsIn}
 use Rattle.ba_tree.specs.declared.tree.Function.{Function}
 use Rattle.ba_tree.specs.declared.tree.Program.{Program}
 use Rattle.ba_tree.specs.declared.tree.Shape.TheVariants.{Value}
 use Rattle.ba_tree.specs.declared.tree.Stmt.{Stmt}
-use Rattle.ba_tree.specs.declared.tree.Stmt.TheVariants.{Declare, Assign, Assert}
+use Rattle.ba_tree.specs.declared.tree.Stmt.TheOpen.{Stmt-F}
+use Rattle.ba_tree.specs.declared.tree.Stmt.TheViews.{out-Stmt}
+use Rattle.ba_tree.specs.declared.tree.StmtInfo.{StmtInfo}
 use Rattle.ba_straight.specs.declared.items.Operand.{Operand}
 use Rattle.ba_straight.specs.declared.items.Operand.TheVariants as operand
 use Rattle.ba_straight.specs.declared.items.Item.{Item}
@@ -22,30 +26,26 @@ use Rattle.ba_straight.specs.declared.items.Straight.{Straight}
 use Rattle.ba_tree.specs.declared.tree.Variable.{Variable}
 
 -- a number of int
-abbrev pub number_at : Expr-F Expr → Option ℤ
+abbrev pub number_at : Expr-F Arg Expr → Option ℤ
 number_at (Expr-F.Const I32 z) = Some z
-number_at (Expr-F.Const t z) = None
-number_at (Expr-F.Var v) = None
-number_at (Expr-F.Binary op t a b) = None
+number_at _ = None
 
 abbrev pub number_of : Expr → Option ℤ
 number_of e = number_at (out-Expr e)
 
 -- a variable
-abbrev pub variable_at : Expr-F Expr → Option VarId
-variable_at (Expr-F.Const t z) = None
+abbrev pub variable_at : Expr-F Arg Expr → Option VarId
 variable_at (Expr-F.Var v) = Some v
-variable_at (Expr-F.Binary op t a b) = None
+variable_at _ = None
 
 abbrev pub variable_of : Expr → Option VarId
 variable_of e = variable_at (out-Expr e)
 
 -- a number of int or a variable
-abbrev pub operand_at : Expr-F Expr → Option Operand
+abbrev pub operand_at : Expr-F Arg Expr → Option Operand
 operand_at (Expr-F.Const I32 z) = Some (operand.Number z)
-operand_at (Expr-F.Const t z) = None
 operand_at (Expr-F.Var v) = Some (operand.Variable v)
-operand_at (Expr-F.Binary op t a b) = None
+operand_at _ = None
 
 abbrev pub operand_of : Expr → Option Operand
 operand_of e = operand_at (out-Expr e)
@@ -56,11 +56,9 @@ pair_of None z = None
 pair_of (Some v) None = None
 pair_of (Some v) (Some z) = Some (v, z)
 
-abbrev pub comparison_at : Expr-F Expr → Option (VarId × ℤ)
-comparison_at (Expr-F.Const t z) = None
-comparison_at (Expr-F.Var v) = None
+abbrev pub comparison_at : Expr-F Arg Expr → Option (VarId × ℤ)
 comparison_at (Expr-F.Binary Eq I32 a b) = pair_of (variable_of a.value) (number_of b.value)
-comparison_at (Expr-F.Binary op t a b) = None
+comparison_at _ = None
 
 abbrev pub comparison_of : Expr → Option (VarId × ℤ)
 comparison_of e = comparison_at (out-Expr e)
@@ -74,10 +72,14 @@ compared stmt None = None
 compared stmt (Some r) = Some (item.Assert stmt r.0 r.1)
 
 -- the item that a statement of the tree stands for
+abbrev pub item_in : Stmt-F Stmt → Option Item
+item_in (Stmt-F.Declare var) = Some (item.Declare var)
+item_in (Stmt-F.Assign stmt var value) = assigned stmt var (operand_of value)
+item_in (Stmt-F.Assert stmt when) = compared stmt (comparison_of when)
+item_in _ = None
+
 abbrev pub item_of : Stmt → Option Item
-item_of (Declare var) = Some (item.Declare var)
-item_of (Assign stmt var value) = assigned stmt var (operand_of value)
-item_of (Assert stmt when) = compared stmt (comparison_of when)
+item_of x = item_in (out-Stmt x)
 
 -- A STRAIGHT-LINE PROGRAM: its parameters, its other variables, its items, and its numbered statements
 
@@ -108,3 +110,15 @@ AreNumbered n [] = Unit {0}
 AreNumbered n (item.Declare var ∷ items) = AreNumbered n items
 AreNumbered n (item.Assign stmt var value ∷ items) = (stmt.0 ≡ n) × AreNumbered (n + 1) items
 AreNumbered n (item.Assert stmt var value ∷ items) = (stmt.0 ≡ n) × IsIn I32 value × AreNumbered (n + 1) items
+
+-- what the list of statements says of the statement of this number, counted from 1
+abbrev pub info_in : List StmtInfo → StmtId → Option StmtInfo
+info_in statements stmt = cond (stmt.0 == 0) None (slice_get statements (stmt.0 - 1))
+
+-- it says of no assignment that it is an assert
+abbrev pub AreNoAsserts : List StmtInfo → List Item → Type 0
+AreNoAsserts statements [] = Unit {0}
+AreNoAsserts statements (item.Declare var ∷ items) = AreNoAsserts statements items
+AreNoAsserts statements (item.Assign stmt var value ∷ items) =
+    (is_assert_info (info_in statements stmt) ≡ false) × AreNoAsserts statements items
+AreNoAsserts statements (item.Assert stmt var value ∷ items) = AreNoAsserts statements items

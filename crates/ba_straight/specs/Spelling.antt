@@ -17,7 +17,7 @@ use Rattle.ba_straight.specs.declared.pieces.Mark.TheVariants as mark
 use Rattle.ba_straight.specs.declared.pieces.Token.{Token}
 use Rattle.ba_straight.specs.declared.pieces.Token.TheVariants.{Mark, Name, Number, Other}
 use Rattle.ba_straight.specs.declared.pieces.Piece.{Piece}
-use Rattle.ba_straight.specs.Items.{IsTree, AreNumbered}
+use Rattle.ba_straight.specs.Items.{IsTree, AreNumbered, AreNoAsserts}
 use Rattle.ba_straight.specs.Seen.{pieces_of}
 
 -- THE TOKENS that a program is written with, where these are the names of its variables
@@ -127,6 +127,7 @@ pub record IsWritten (pieces : List Piece) (s : Straight) : Type 0 where
   pub locals : s.locals ≡ declared_in s.items
   pub numbered : AreNumbered 1 s.items
   pub statements : s.statements ≡ statements_in (drop (length (head_tokens names s.params)) pieces) s.items
+  pub assignments : AreNoAsserts s.statements s.items
   pub few_params : length s.params ≤ most
   pub few_locals : length s.locals ≤ most
   pub few_statements : length s.statements ≤ most

@@ -105,8 +105,8 @@ fn unit_weight(kind: StmtKind) -> Option<u32>
     ensures { result ≡ unit_weight kind }
 {
     match kind {
-        StmtKind::Assignment => Some(1),
         StmtKind::Assert => None,
+        _ => Some(1),
     }
 }
 

@@ -6,7 +6,7 @@ ghost use Rattle.ba_tree.specs.declared.tree.Program.{Program};
 ghost use Rattle.ba_tree.specs.Least.{AreLeast, judge_of};
 ghost use Rattle.ba_tree.specs.Run.{is_done, run_of};
 ghost use Rattle.ba_tree.specs.declared.run.Allowed.TheVariants.{Statements};
-ghost use Rattle.ba_straight.specs.Items.{AreNumbered, IsTree};
+ghost use Rattle.ba_straight.specs.Items.{AreNoAsserts, AreNumbered, IsTree};
 ghost use Rattle.ba_straight.specs.Sets.{AreFirst, feasible_sets, sets_of_weight, sets_with, total};
 ghost use Rattle.ba_straight.specs.Terms.{can_hold, start_terms, terms_with};
 
@@ -213,6 +213,7 @@ pub fn least_sets(
     weights: &Weights,
 ) -> Result<Vec<Items<u32>>, AllocError>
     requires numbered { AreNumbered 1 straight.now.items }
+    requires assignments { AreNoAsserts straight.now.statements straight.now.items }
     requires variables { length straight.now.params + length straight.now.locals < 2 ^ 32 }
     requires weighed { length weights.now.of + 1 < 2 ^ 32 }
     ensures { IfOk result (λ sets. (p : Program) (b : Bounds) → IsTree straight.now p → AreLeast weights.now.of (judge_of p input.now b) sets.items) }

@@ -7,6 +7,7 @@ use Rattle.ba_world.specs.World.{Rose, raised}
 use Rattle.ba_world.specs.declared.read.ReadFileError.{ReadFileError}
 use Rattle.ba_world.specs.declared.read.ReadFileError.TheVariants as read
 use Rattle.ba_tree.specs.Least.{AreLeast, judge_of, unit_weights}
+use Rattle.ba_tree.specs.Run.{runs_well}
 use Rattle.ba_tree.proofs.Sets.{AreLeast-unique}
 use Rattle.ba_tree.specs.declared.run.Input.{Input}
 use Rattle.ba_tree.specs.declared.tree.Program.{Program}
@@ -16,7 +17,7 @@ use Rattle.ba_tool.specs.Words.{IsJob}
 use Rattle.ba_tool.specs.declared.fault.Fault.{Fault}
 use Rattle.ba_tool.proofs.FileTrees.{file_text}
 use Rattle.ba_tool.proofs.Refusing.{no_fault}
-use Rattle.ba_tool.specs.Tool.{CannotBeRead, EndsWith, Found, HasNoCase, HasNoJob, Holds, IsAnswer, IsCase, IsRead, IsTooLong, IsVerdict, Outside, Tells, TellsShort, as_wanted, bounds_with, limit, memory, name_of, read_answer, read_fault, runs_well, status_of, stop_of, write_fault}
+use Rattle.ba_tool.specs.Tool.{CannotBeRead, EndsWith, Found, HasNoCase, HasNoJob, Holds, IsAnswer, IsCase, IsRead, IsTooLong, IsVerdict, Outside, Tells, TellsShort, as_wanted, bounds_with, limit, memory, name_of, read_answer, read_fault, status_of, stop_of, write_fault}
 use Rattle.ba_tool.specs.declared.answer.Answer.{Answer}
 use Rattle.ba_tool.specs.declared.answer.Answer.TheVariants as answer
 use Rattle.ba_tool.specs.declared.status.File.{File}

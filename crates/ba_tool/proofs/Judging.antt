@@ -1,27 +1,28 @@
 -- What is proved of the program and the input that were read holds in each case.
 
 use Rattle.std.proofs.Common.{◌≡◌, ℕ, ◌+◌, ◌-◌, ◌==◌, ◌<◌, ◌≤◌, Bool, true, false, cond, Option, None, List, [], ◌∷◌, length, Contains, Some, IsSome, zero, suc, refl, sym, ap, subst, ◌∙◌, arith}
-use Rattle.std.specs.List.{slice_get}
+use Rattle.std.specs.List.{slice_get, slice_index_or}
 use Rattle.ba_tree.specs.declared.run.Bounds.{Bounds}
 use Rattle.ba_tree.specs.declared.run.Input.{Input}
 use Rattle.ba_tree.specs.declared.tree.Program.{Program}
 use Rattle.ba_tree.specs.declared.tree.Function.{Function}
-use Rattle.ba_tree.specs.Run.{main_of, params_in}
+use Rattle.ba_tree.specs.Run.{main_of, no_function, runs_well}
 use Rattle.ba_tree.specs.Least.{AreLeast, judge_of, unit_weights, weight_of, WeightList, Judge, AreRelaxableAbove, entry_of, weight_at}
 use Rattle.ba_straight.specs.Items.{IsTree}
 use Rattle.ba_straight.specs.Spelling.{IsText}
 use Rattle.ba_straight.specs.declared.items.Straight.{Straight}
 use Rattle.ba_straight.specs.Input.{IsInputText}
 use Rattle.ba_tool.specs.Report.{report_text}
-use Rattle.ba_tool.specs.Tool.{HasNoCase, InEachCase, IsCase, Locates, runs_well}
+use Rattle.ba_tool.specs.Tool.{HasNoCase, InEachCase, IsCase, Locates}
 use Rattle.ba_tool.proofs.Unique.{one_program, one_input}
 
 -- the parameters of main in the tree of a straight-line program
-main_in : (fs : List Function) (f : Function) → fs ≡ f ∷ [] → params_in (slice_get fs 0) ≡ f.params
-main_in fs f e = ap (λ fs. params_in (slice_get fs 0)) e
+main_in : (fs : List Function) (f : Function) → fs ≡ f ∷ [] → (slice_index_or fs 0 no_function).params ≡ f.params
+main_in fs f e = ap (λ (fs : List Function). (slice_index_or fs 0 no_function).params) e
 
-params_of : (s : Straight) (p : Program) → IsTree s p → params_in (main_of p) ≡ s.params
-params_of s p t = ap (λ n. params_in (slice_get p.functions n)) (ap (λ m. m.0) t.main_is_first) ∙ main_in p.functions t.main t.functions ∙ t.is_main.params
+params_of : (s : Straight) (p : Program) → IsTree s p → (main_of p).params ≡ s.params
+params_of s p t = ap (λ n. (slice_index_or p.functions n no_function).params) (ap (λ m. m.0) t.main_is_first)
+    ∙ main_in p.functions t.main t.functions ∙ t.is_main.params
 
 pub no_text : (source text : List ℕ) → ((s : Straight) → IsText source s → ⊥) → HasNoCase source text
 no_text source text refuted = λ p i case. refuted case.spelled.straight case.spelled.is_text

@@ -7,7 +7,7 @@ use Rattle.ba_numbers.specs.declared.ids.At.{At}
 use Rattle.ba_tree.specs.declared.tree.Program.{Program}
 use Rattle.ba_tree.specs.declared.tree.StmtInfo.{StmtInfo}
 use Rattle.ba_tree.specs.declared.tree.StmtKind.{StmtKind}
-use Rattle.ba_tree.specs.declared.tree.StmtKind.TheVariants.{Assignment, Assert}
+use Rattle.ba_tree.specs.declared.tree.StmtKind.TheVariants.{Initialiser, Assignment, Store, Condition, Return, Call, Assert}
 
 -- a line of a source text, counted from 1, where lines end with byte 10; nothing where there is no such line
 abbrev pub line_at : List ℕ → ℕ → List ℕ
@@ -22,7 +22,12 @@ trimmed line = trimmed_end (drop (length (take_while is_blank line)) line)
 
 -- the word for a kind of statement
 abbrev pub kind_word : StmtKind → List ℕ
+kind_word Initialiser = codes "initialiser"
 kind_word Assignment = codes "assignment"
+kind_word Store = codes "store"
+kind_word Condition = codes "condition"
+kind_word Return = codes "return"
+kind_word Call = codes "call"
 kind_word Assert = codes "assert"
 
 -- a statement, counted from 1

@@ -6,8 +6,7 @@ use Rattle.ba_world.specs.World.{Rose, Appends, raised}
 use Rattle.ba_world.specs.declared.read.ReadFileError.{ReadFileError}
 use Rattle.ba_world.specs.declared.read.ReadFileError.TheVariants as read
 use Rattle.ba_tree.specs.Least.{AreLeast, judge_of, unit_weights, weight_of}
-use Rattle.ba_tree.specs.Run.{is_done, main_of, params_in, run_of}
-use Rattle.ba_tree.specs.declared.run.Allowed.TheVariants.{Statements}
+use Rattle.ba_tree.specs.Run.{main_of, runs_well}
 use Rattle.ba_tree.specs.declared.run.Bounds.{Bounds}
 use Rattle.ba_tree.specs.declared.run.Input.{Input}
 use Rattle.ba_tree.specs.declared.tree.Program.{Program}
@@ -28,7 +27,7 @@ use Rattle.ba_tool.specs.declared.status.Status.TheVariants as status
 
 pub record IsCase (source text : List ℕ) (p : Program) (i : Input) : Type 0 where
   pub spelled : Spells source p
-  pub written : IsInputText text (length (params_in (main_of p))) i
+  pub written : IsInputText text (length (main_of p).params) i
 
 -- there is a case, and this holds in every one
 pub record InEachCase (source text : List ℕ) (P : Program → Input → Type 0) : Type 0 where
@@ -40,10 +39,6 @@ pub record InEachCase (source text : List ℕ) (P : Program → Input → Type 0
 -- the bounds where the words name this bound on turns: 16 functions may be active at a time
 abbrev pub bounds_with : ℕ → Bounds
 bounds_with bound = record { turns = bound; frames = 16 }
-
--- whether the program as it is written meets every assertion
-abbrev pub runs_well : Program → Input → Bounds → Bool
-runs_well p i b = is_done (run_of p i b (Statements []) [])
 
 -- THE VERDICTS on two texts
 

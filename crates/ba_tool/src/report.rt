@@ -52,7 +52,12 @@ fn kind_word(kind: StmtKind) -> &'static [u8]
     ensures { result.now ≡ kind_word kind }
 {
     match kind {
+        StmtKind::Initialiser => b"initialiser",
         StmtKind::Assignment => b"assignment",
+        StmtKind::Store => b"store",
+        StmtKind::Condition => b"condition",
+        StmtKind::Return => b"return",
+        StmtKind::Call => b"call",
         StmtKind::Assert => b"assert",
     }
 }

@@ -5,12 +5,13 @@ ghost use Rattle.ba_world.specs.World.{Appends, AppendsPrefix, Rose};
 ghost use Rattle.ba_tree.specs.declared.run.Input.{Input};
 ghost use Rattle.ba_tree.specs.declared.tree.Program.{Program};
 ghost use Rattle.ba_tree.specs.Least.{AreLeast, judge_of, unit_weights};
+ghost use Rattle.ba_tree.specs.Run.{runs_well};
 ghost use Rattle.ba_tool.specs.Refusals.{IsFaulty, IsFileText};
 ghost use Rattle.ba_tool.specs.declared.answer.Answer.{Answer};
 ghost use Rattle.ba_tool.specs.declared.fault.Fault.{Fault};
 ghost use Rattle.ba_tool.specs.declared.status.File.{File};
 ghost use Rattle.ba_tool.specs.Texts.{no_repair_text, not_built_text, not_failing_text, too_long_text, unreadable_text};
-ghost use Rattle.ba_tool.specs.Tool.{CannotBeRead, EndsWith, Found, HasNoCase, HasNoJob, IsAnswer, IsCase, IsTooLong, Prints, Tells, TellsShort, bounds_with, limit, outside, read_answer, runs_well, status_of, text_of};
+ghost use Rattle.ba_tool.specs.Tool.{CannotBeRead, EndsWith, Found, HasNoCase, HasNoJob, IsAnswer, IsCase, IsTooLong, Prints, Tells, TellsShort, bounds_with, limit, outside, read_answer, status_of, text_of};
 
 use crate::answer::Answer;
 use crate::judge::judge;

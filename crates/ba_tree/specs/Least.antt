@@ -1,6 +1,6 @@
 -- Sets of statements: which of them could repair a run, and which of those weigh least.
 
-use Rattle.std.specs.Prelude.{◌≡◌, ℕ, ◌-◌, ◌<◌, ◌≤◌, ◌↔◌, Bool, true, Option, None, Some, List, [], ◌∷◌, map, Contains, slice_get, sum_by, IsSome, unwrap_or, ◌⊎◌, cond, ◌==◌}
+use Rattle.std.specs.Prelude.{◌≡◌, ℕ, ◌-◌, ◌<◌, ◌≤◌, ◌↔◌, Bool, true, Option, None, Some, List, [], ◌∷◌, map, length, Contains, slice_get, sum_by, IsSome, unwrap_or, ◌⊎◌, cond, ◌==◌}
 use Rattle.ba_tree.specs.Run.{run_of, is_done}
 use Rattle.ba_numbers.specs.declared.ids.StmtId.{StmtId}
 use Rattle.ba_tree.specs.declared.run.Allowed.TheVariants.{Statements}
@@ -10,9 +10,15 @@ use Rattle.ba_tree.specs.declared.run.Input.{Input}
 use Rattle.ba_tree.specs.declared.tree.Program.{Program}
 use Rattle.ba_tree.specs.declared.tree.StmtInfo.{StmtInfo}
 use Rattle.ba_tree.specs.declared.tree.StmtKind.{StmtKind}
-use Rattle.ba_tree.specs.declared.tree.StmtKind.TheVariants.{Assignment, Assert}
+use Rattle.ba_tree.specs.declared.tree.StmtKind.TheVariants.{Assert}
+use Rattle.std.specs.List.{list_all}
+use Rattle.ba_tree.specs.Choices.{is_assert}
+use Rattle.ba_tree.specs.Weights.{is_weight}
 
 -- SETS of statements are ascending lists of their numbers
+
+abbrev pub stmt_of : ℕ → StmtId
+stmt_of n = record { 0 = n }
 
 abbrev pub entry_of : Option (Option ℕ) → Option ℕ
 entry_of None = None
@@ -27,11 +33,17 @@ weight_at weights n = cond (n == 0) None (entry_of (slice_get weights (n - 1)))
 
 -- the weights that hold where none are given: 1 for each statement but the asserts
 abbrev pub unit_weight : StmtKind → Option ℕ
-unit_weight Assignment = Some 1
 unit_weight Assert = None
+unit_weight _ = Some 1
 
 abbrev pub unit_weights : Program → WeightList
 unit_weights p = map (λ (info : StmtInfo). unit_weight info.kind) p.statements
+
+-- a list of weights for a program has one entry a statement, each none or from 1 to 1,000, and none for an assert
+pub record AreWeightsOf (p : Program) (weights : WeightList) : Type 0 where
+  pub each : length weights ≡ length p.statements
+  pub in_range : list_all is_weight weights ≡ true
+  pub no_assert : (n : ℕ) → is_assert p (stmt_of n) ≡ true → weight_at weights n ≡ None
 
 -- relaxable statements in ascending order, all above low
 abbrev pub AreRelaxableAbove : WeightList → ℕ → List ℕ → Type 0
@@ -83,9 +95,6 @@ pub record AreLeast (weights : WeightList) (good : Judge) (sets : List (List ℕ
   pub exactly : (set : List ℕ) → Contains sets set ↔ IsLeastSet weights good set
 
 -- THE JUDGE of a program on an input: a run is good where its outcome is Done
-
-abbrev pub stmt_of : ℕ → StmtId
-stmt_of n = record { 0 = n }
 
 abbrev pub judge_of : Program → Input → Bounds → Judge
 judge_of p input b set choices = is_done (run_of p input b (Statements (map stmt_of set)) choices)

@@ -1,109 +1,237 @@
 -- What expressions and statements do (C90 6.3, 6.6), with statements that may be relaxed.
 
-use Rattle.std.specs.Prelude.{ℕ, ℤ, pos, Bool, true, false, cond, ◌&&◌, ◌==◌, Option, None, Some, List, [], ◌∷◌, slice_index_or, Ok, Err}
-use Rattle.std.specs.List.{list_any}
+use Rattle.std.specs.Prelude.{suc, zero, ℕ, ◌+◌, ℤ, pos, Bool, not, cond, Option, None, Some, List, ◌∷◌, ◌++◌, map, length, replicate, take, unwrap_or, slice_index_or, Ok, Err}
 use Rattle.std.specs.Ordering.{int_eq}
-use Rattle.ba_numbers.specs.Numbers.{value_of, is_in}
-use Rattle.ba_tree.specs.State.{Act, Flow, next, then_do, value_at, with_value}
+use Rattle.std.specs.Global.{Box}
+use Rattle.ba_numbers.specs.Numbers.{value_of, value_of_one, converted, truth}
 use Rattle.ba_numbers.specs.declared.ids.StmtId.{StmtId}
 use Rattle.ba_numbers.specs.declared.ids.VarId.{VarId}
+use Rattle.ba_numbers.specs.declared.ids.FnId.{FnId}
+use Rattle.ba_numbers.specs.declared.ids.CallId.{CallId}
 use Rattle.ba_numbers.specs.declared.numbers.CType.{CType}
 use Rattle.ba_numbers.specs.declared.numbers.CType.TheVariants.{I32}
-use Rattle.ba_choices.specs.declared.Choice.{Choice}
-use Rattle.ba_choices.specs.declared.Choice.TheVariants.{Keep, Take}
-use Rattle.ba_tree.specs.declared.run.Outcome.TheVariants.{AssertFails, Trap, WrongChoices}
+use Rattle.ba_tree.specs.Acts.{give, halt_with, then_do, each, fork, after_part, in_order, flow_after_body, flow_after_loop, rounds}
+use Rattle.ba_tree.specs.State.{State, Act, Execution, value_at, with_value, location_of, elements_of, with_elements, element_at, with_element}
+use Rattle.ba_tree.specs.Choices.{admits, value_by_choice, one_value, one_truth, all_elements, one_element, no_value}
+use Rattle.ba_tree.specs.declared.run.Argument.{Argument}
+use Rattle.ba_tree.specs.declared.run.Exit.TheVariants.{Break, Continue, Return}
+use Rattle.ba_tree.specs.declared.run.Flow.TheVariants.{Next, Leaves}
+use Rattle.ba_tree.specs.declared.run.Halt.TheVariants.{AssertFails, Trap, Beyond}
 use Rattle.ba_tree.specs.declared.run.Step.{Step}
 use Rattle.ba_tree.specs.declared.run.Step.TheVariants.{Call, Turn}
-use Rattle.ba_tree.specs.declared.run.Place.{Place}
 use Rattle.ba_tree.specs.declared.run.Allowed.{Allowed}
-use Rattle.ba_tree.specs.declared.run.Allowed.TheVariants.{Statements, Places}
+use Rattle.ba_tree.specs.declared.tree.Arg.TheOpen.{Arg-F, Expr-F}
+use Rattle.ba_tree.specs.declared.tree.Arg.TheFolds.{fold-Arg, fold-Expr}
+use Rattle.ba_tree.specs.declared.tree.Arg.{Arg}
 use Rattle.ba_tree.specs.declared.tree.Expr.{Expr}
-use Rattle.ba_tree.specs.declared.tree.Expr.TheOpen.{Expr-F}
-use Rattle.ba_tree.specs.declared.tree.Expr.TheFolds.{fold-Expr}
-use Rattle.ba_tree.specs.declared.tree.Stmt.{Stmt}
-use Rattle.ba_tree.specs.declared.tree.Stmt.TheVariants.{Declare, Assign, Assert}
-use Rattle.ba_tree.specs.declared.tree.Shape.TheVariants.{Value}
 use Rattle.ba_tree.specs.declared.tree.Program.{Program}
+use Rattle.ba_tree.specs.declared.tree.Shape.{Shape}
+use Rattle.ba_tree.specs.declared.tree.Shape.TheVariants.{Value, Array, Passed}
+use Rattle.ba_tree.specs.declared.tree.Stmt.{Stmt}
+use Rattle.ba_tree.specs.declared.tree.Stmt.TheOpen.{Stmt-F}
+use Rattle.ba_tree.specs.declared.tree.Stmt.TheFolds.{fold-Stmt}
+use Rattle.ba_tree.specs.declared.tree.Variable.{Variable}
 
--- the program, what may be relaxed, and how many turns each entry of a loop may have
-pub record Setting : Type 0 where
+-- A call: the path to it, its own step included, the statement that makes it, the function, and what the arguments gave.
+abbrev pub Calls : Type 0
+Calls = List Step → StmtId → FnId → List Argument → Act ℤ
+
+-- What stands still while a function's body runs: the program, what may be relaxed, how many turns each entry of a loop may have,
+-- the type that the function returns, and what calls do.
+pub record Context : Type 0 where
   pub program : Program
   pub allowed : Allowed
   pub turns : ℕ
+  pub result : Option CType
+  pub calls : Calls
 
--- EXPRESSIONS, evaluated from the left to the right, within the statement that is being executed, which is reached
--- by this path from main
+abbrev pub variable_of : Program → VarId → Variable
+variable_of p v = slice_index_or p.variables v.0 (record { t = I32; shape = Value })
 
--- the value of an operator, or a trap where it has none
+abbrev pub type_of : Program → VarId → CType
+type_of p v = (variable_of p v).t
+
+-- EXPRESSIONS, from the left to the right, within the statement `here`, which is reached by this path (innermost step first)
+
+-- the value, or a trap where there is none
 abbrev pub or_trap : StmtId → Option ℤ → Act ℤ
 or_trap here None s = (Err (Trap here), s)
 or_trap here (Some z) s = (Ok z, s)
 
-abbrev pub expr_step : Setting → List Step → StmtId → Expr-F (Act ℤ) → Act ℤ
-expr_step setting path here (Expr-F.Const t value) s = (Ok value, s)
-expr_step setting path here (Expr-F.Var var) s = (Ok (value_at s var), s)
-expr_step setting path here (Expr-F.Binary op t a b) s =
-    then_do (a.value s) (λ x s. then_do (b.value s) (λ y s. or_trap here (value_of op t x y) s))
+-- whether a value is another one than 0, as a value of C
+abbrev pub truth_of : ℤ → ℤ
+truth_of z = truth (not (int_eq z (pos 0)))
 
-abbrev pub eval : Setting → List Step → StmtId → Expr → Act ℤ
-eval setting path here = fold-Expr (Act ℤ) (expr_step setting path here)
+abbrev pub arg_step : Arg-F (Act Argument) (Act ℤ) → Act Argument
+arg_step (Arg-F.Value value) s = then_do (value s) (λ z. give (Argument.Value z))
+arg_step (Arg-F.Array array) s = (Ok (Argument.Array (location_of s array)), s)
 
--- WHAT IS RELAXED
+abbrev pub expr_step : Context → List Step → StmtId → Expr-F (Act Argument) (Act ℤ) → Act ℤ
+expr_step x path here (Expr-F.Const t value) s = (Ok value, s)
+expr_step x path here (Expr-F.Var var) s = (Ok (value_at s var), s)
+expr_step x path here (Expr-F.Element array index) s =
+    then_do (index.value s) (λ i s. or_trap here (element_at s array i) s)
+expr_step x path here (Expr-F.Unary op t a) s = then_do (a.value s) (λ z. give (value_of_one op t z))
+expr_step x path here (Expr-F.Binary op t a b) s =
+    then_do (a.value s) (λ y s. then_do (b.value s) (λ z. or_trap here (value_of op t y z)))
+expr_step x path here (Expr-F.AndAlso a b) s =
+    then_do (a.value s) (fork (λ s. then_do (b.value s) (λ z. give (truth_of z))) (give (pos 0)))
+expr_step x path here (Expr-F.OrElse a b) s =
+    then_do (a.value s) (fork (give (pos 1)) (λ s. then_do (b.value s) (λ z. give (truth_of z))))
+expr_step x path here (Expr-F.Select t when if_not_zero if_zero) s =
+    then_do (when.value s) (fork if_not_zero.value if_zero.value)
+expr_step x path here (Expr-F.Convert t a) s = then_do (a.value s) (λ z. give (converted t z))
+expr_step x path here (Expr-F.Call call function args) s =
+    then_do (each args.items s) (x.calls (Call call ∷ path) here function)
 
-abbrev pub same_step : Step → Step → Bool
-same_step (Call c) (Call d) = c.0 == d.0
-same_step (Turn l m) (Turn k n) = (l.0 == k.0) && (m == n)
-same_step (Call c) (Turn l m) = false
-same_step (Turn l m) (Call c) = false
+unfoldable pub eval : Context → List Step → StmtId → Expr → Act ℤ
+eval x path here = fold-Expr (Act Argument) (Act ℤ) arg_step (expr_step x path here)
 
-abbrev pub same_path : List Step → List Step → Bool
-same_path [] [] = true
-same_path [] (y ∷ ys) = false
-same_path (x ∷ xs) [] = false
-same_path (x ∷ xs) (y ∷ ys) = same_step x y && same_path xs ys
+unfoldable pub eval_arg : Context → List Step → StmtId → Arg → Act Argument
+eval_arg x path here = fold-Arg (Act Argument) (Act ℤ) arg_step (expr_step x path here)
 
--- whether a statement is listed, by its number or with this path; an assert is never asked about
-abbrev pub admits : Allowed → List Step → StmtId → Bool
-admits (Statements list) path stmt = list_any (λ (n : StmtId). n.0 == stmt.0) list
-admits (Places list) path stmt = list_any (λ (p : Place). (p.stmt.0 == stmt.0) && same_path p.path path) list
+-- THE PARTS OF STATEMENTS, each as written or as the choice says
 
--- At a relaxed place the first choice is used up. With Keep the statement runs as written. With Take it has the
--- effect of the values, and none of its expressions is evaluated.
-abbrev pub with_choice : {A : Type 0} → List Choice → Act A → (List ℤ → Act A) → Act A
-with_choice [] keep take s = (Err WrongChoices, s)
-with_choice (Keep ∷ choices) keep take s = keep (record s { choices = choices })
-with_choice (Take values ∷ choices) keep take s = take values (record s { choices = choices })
+-- an execution of this statement may be relaxed
+abbrev pub is_relaxed : Context → List Step → StmtId → Bool
+is_relaxed x path stmt = admits x.program x.allowed path stmt
 
-abbrev pub relaxed : {A : Type 0} → Bool → Act A → (List ℤ → Act A) → Act A
-relaxed false keep take s = keep s
-relaxed true keep take s = with_choice s.choices keep take s
+-- a value of this type, as written or as the choice says: of an initialiser, an assignment or a return
+unfoldable pub given_value : Context → List Step → StmtId → CType → Expr → Act ℤ
+given_value x path stmt t value = value_by_choice (is_relaxed x path stmt) (one_value t) (eval x path stmt value)
 
--- the value of a choice that has to be one value of this type
-abbrev pub one_value_of : CType → List ℤ → Option ℤ
-one_value_of t [] = None
-one_value_of t (z ∷ []) = cond (is_in t z) (Some z) None
-one_value_of t (z ∷ y ∷ zs) = None
+unfoldable pub condition : Context → List Step → StmtId → Expr → Act ℤ
+condition x path stmt when = value_by_choice (is_relaxed x path stmt) one_truth (eval x path stmt when)
+
+-- the values of an array's initialiser
+unfoldable pub given_elements : Context → List Step → StmtId → VarId → List Expr → Act (List ℤ)
+given_elements x path stmt array values s =
+    value_by_choice (is_relaxed x path stmt) (all_elements (type_of x.program array) (length (elements_of s array)))
+    (each (map (eval x path stmt) values)) s
+
+-- a call as a statement
+unfoldable pub call_effect : Context → List Step → StmtId → CallId → FnId → List Arg → Act Unit
+call_effect x path stmt call function args = value_by_choice (is_relaxed x path stmt) no_value
+    (λ s. then_do (then_do (each (map (eval_arg x path stmt) args) s) (x.calls (Call call ∷ path) stmt function)) (λ z. give tt))
+
+-- a printf
+unfoldable pub print_effect : Context → List Step → StmtId → List Expr → Act Unit
+print_effect x path stmt args = value_by_choice (is_relaxed x path stmt) no_value
+    (λ s. then_do (each (map (eval x path stmt) args) s) (λ zs. give tt))
+
+-- the index and the value of a store
+unfoldable pub given_element : Context → List Step → StmtId → VarId → Expr → Expr → Act (ℤ × ℤ)
+given_element x path stmt array index value s =
+    value_by_choice (is_relaxed x path stmt) (one_element (type_of x.program array) (length (elements_of s array)))
+    (λ s. then_do (eval x path stmt index s) (λ i s. then_do (eval x path stmt value s) (λ z. give (i, z)))) s
+
+abbrev pub set_value : VarId → ℤ → Execution
+set_value var z s = (Ok Next, with_value s var z)
+
+-- so many elements: these, and 0 for the rest
+abbrev pub elements_with : ℕ → List ℤ → List ℤ
+elements_with count zs = take count (zs ++ replicate count (pos 0))
+
+abbrev pub set_elements : VarId → List ℤ → Execution
+set_elements array zs s = (Ok Next, with_elements s array (elements_with (length (elements_of s array)) zs))
+
+abbrev pub or_trapped : StmtId → Option State → Execution
+or_trapped here None s = (Err (Trap here), s)
+or_trapped here (Some t) s = (Ok Next, t)
+
+-- a store traps outside the array
+abbrev pub set_element : StmtId → VarId → ℤ × ℤ → Execution
+set_element here array (i, z) s = or_trapped here (with_element s array i z) s
+
+-- a declaration sets its variable, or all elements of its array, to 0
+abbrev pub declare : Shape → VarId → State → State
+declare Value var s = with_value s var (pos 0)
+declare (Array n) var s = with_elements s var (replicate (length (elements_of s var)) (pos 0))
+declare Passed var s = s
+
+abbrev pub assert_that : StmtId → ℤ → Execution
+assert_that stmt z s = cond (int_eq z (pos 0)) (Err (AssertFails stmt), s) (Ok Next, s)
+
+-- what is done for its effect alone
+abbrev pub and_next : {A : Type 0} → A → Execution
+and_next a s = (Ok Next, s)
+
+-- LOOPS (C90 6.6.5): `stmt` is the loop's condition, and turns count from 1
+
+-- the path inside turn k
+abbrev pub in_turn : StmtId → ℕ → List Step → List Step
+in_turn stmt k path = Turn stmt k ∷ path
+
+-- a body, and where it doesn't leave the loop the loop's step
+abbrev pub turn_of : (List Step → Execution) → (List Step → Execution) → List Step → Execution
+turn_of body step path s = then_do (body path s) (λ flow. after_part (step path) (flow_after_body flow))
+
+abbrev pub no_step : List Step → Execution
+no_step path s = (Ok Next, s)
+
+-- `for` behind its first part, and `while`, which has no step: test, body, step, test, ..
+unfoldable pub for_loop : Context → List Step → StmtId → Expr → (List Step → Execution) → (List Step → Execution) → Execution
+for_loop x path stmt when body step s = then_do
+    (rounds (λ k. condition x (in_turn stmt k path) stmt when)
+    (λ k. turn_of body step (in_turn stmt k path))
+    (halt_with (Beyond stmt)) x.turns 1 s)
+    (λ flow. give (flow_after_loop flow))
+
+-- no test comes before the first turn of a `do`
+abbrev pub test_behind : (ℕ → Act ℤ) → ℕ → Act ℤ
+test_behind test zero s = (Ok (pos 1), s)
+test_behind test (suc k) s = test (suc k) s
+
+-- `do`: body, test, body, test, .. The test behind turn k stands in turn k, which it ends.
+unfoldable pub do_loop : Context → List Step → StmtId → Expr → (List Step → Execution) → Execution
+do_loop x path stmt when body s = then_do
+    (rounds (test_behind (λ k. condition x (in_turn stmt k path) stmt when))
+    (λ k. turn_of body no_step (in_turn stmt (k + 1) path))
+    (halt_with (Beyond stmt)) x.turns 0 s)
+    (λ flow. give (flow_after_loop flow))
 
 -- STATEMENTS
 
-abbrev pub type_of : Program → VarId → CType
-type_of p v = (slice_index_or p.variables v.0 (record { t = I32; shape = Value })).t
+abbrev pub at_path : List Step → (List Step → Execution) → Execution
+at_path path part = part path
 
-abbrev pub set_to : VarId → ℤ → Act Flow
-set_to var z s = (Ok next, with_value s var z)
+abbrev pub stmts_in_order : List Step → List (List Step → Execution) → Execution
+stmts_in_order path parts = in_order (map (at_path path) parts)
 
--- a relaxed assignment gives its variable the value of the choice
-abbrev pub take_value : VarId → Option ℤ → Act Flow
-take_value var None s = (Err WrongChoices, s)
-take_value var (Some z) s = set_to var z s
+abbrev pub optional : Option (Box (List Step → Execution)) → List Step → Execution
+optional None path s = (Ok Next, s)
+optional (Some part) path s = part.value path s
 
-abbrev pub assert_that : StmtId → ℤ → Act Flow
-assert_that stmt z s = cond (int_eq z (pos 0)) (Err (AssertFails stmt), s) (Ok next, s)
+-- a statement, reached by this path (innermost step first)
+abbrev pub stmt_step : Context → Stmt-F (List Step → Execution) → List Step → Execution
+stmt_step x (Stmt-F.Block body) path s = stmts_in_order path body.items s
+stmt_step x (Stmt-F.Declare var) path s = (Ok Next, declare (variable_of x.program var).shape var s)
+stmt_step x (Stmt-F.Init stmt var value) path s =
+    then_do (given_value x path stmt (type_of x.program var) value s) (set_value var)
+stmt_step x (Stmt-F.InitArray stmt array values) path s =
+    then_do (given_elements x path stmt array values.items s) (set_elements array)
+stmt_step x (Stmt-F.Assign stmt var value) path s =
+    then_do (given_value x path stmt (type_of x.program var) value s) (set_value var)
+stmt_step x (Stmt-F.Store stmt array index value) path s =
+    then_do (given_element x path stmt array index value s) (set_element stmt array)
+stmt_step x (Stmt-F.If stmt when if_not_zero if_zero) path s =
+    then_do (condition x path stmt when s) (fork (if_not_zero.value path) (optional if_zero path))
+stmt_step x (Stmt-F.While stmt when body) path s = for_loop x path stmt when body.value no_step s
+stmt_step x (Stmt-F.DoWhile stmt when body) path s = do_loop x path stmt when body.value s
+stmt_step x (Stmt-F.For stmt first when step body) path s =
+    then_do (stmts_in_order path first.items s)
+    (after_part (for_loop x path stmt when body.value (λ inside. stmts_in_order inside step.items)))
+stmt_step x Stmt-F.Break path s = (Ok (Leaves Break), s)
+stmt_step x Stmt-F.Continue path s = (Ok (Leaves Continue), s)
+stmt_step x (Stmt-F.Return stmt value) path s =
+    then_do (given_value x path stmt (unwrap_or x.result I32) value s) (λ z. give (Leaves (Return z)))
+stmt_step x Stmt-F.ReturnNone path s = (Ok (Leaves (Return (pos 0))), s)
+stmt_step x (Stmt-F.CallStmt stmt call function args) path s = then_do (call_effect x path stmt call function args.items s) and_next
+stmt_step x (Stmt-F.Print stmt args) path s = then_do (print_effect x path stmt args.items s) and_next
+stmt_step x (Stmt-F.Assert stmt when) path s = then_do (eval x path stmt when s) (assert_that stmt)
 
--- a statement, reached by this path from main
-abbrev pub exec : Setting → List Step → Stmt → Act Flow
-exec setting path (Declare var) s = set_to var (pos 0) s
-exec setting path (Assign stmt var value) s = relaxed (admits setting.allowed path stmt)
-    (λ s. then_do (eval setting path stmt value s) (set_to var))
-    (λ values s. take_value var (one_value_of (type_of setting.program var) values) s) s
-exec setting path (Assert stmt when) s = then_do (eval setting path stmt when s) (assert_that stmt)
+unfoldable pub exec : Context → Stmt → List Step → Execution
+exec x = fold-Stmt (List Step → Execution) (stmt_step x)
+
+unfoldable pub exec_all : Context → List Step → List Stmt → Execution
+exec_all x path body = stmts_in_order path (map (exec x) body)

@@ -1,49 +1,61 @@
--- The state of a run, and how the parts of a program act on it.
+-- The state of a run (C90 6.1.2.4), and what a part of a program does to it.
 
-use Rattle.std.specs.Prelude.{ℤ, pos, List, [], ◌∷◌, slice_index_or, slice_set, Result, Ok, Err}
+use Rattle.std.specs.Prelude.{ℕ, ℤ, pos, Bool, ◌&&◌, cond, Option, None, Some, List, [], length, slice_index_or, slice_set, unsigned_abs, int_le, int_lt}
+use Rattle.ba_tree.specs.Acts.{ActOn, EndOn, Executes}
+use Rattle.ba_tree.specs.declared.run.Exit.{Exit}
 use Rattle.ba_numbers.specs.declared.ids.VarId.{VarId}
 use Rattle.ba_choices.specs.declared.Choice.{Choice}
-use Rattle.ba_tree.specs.declared.run.Outcome.{Outcome}
 
--- How a run stands: the value of each global and of each variable of the innermost frame, by its number, and the
--- choices that are not used yet.
+-- How a run stands. A variable of one value has it at its number in `values`. Arrays have a location each, in `arrays`; an array
+-- variable has at its number in `locations` the one that it names: of an array of its own, or of the argument for an array parameter.
+-- At the numbers of a function's own variables stands what its innermost active frame has; its call gives back what stood there
+-- before. `choices` are those that are not used yet.
 pub record State : Type 0 where
   pub values : List ℤ
+  pub arrays : List (List ℤ)
+  pub locations : List ℕ
   pub choices : List Choice
+
+abbrev pub Ending : Type 0 → Type 0
+Ending A = EndOn State A
+
+abbrev pub Act : Type 0 → Type 0
+Act A = ActOn State A
+
+-- what a statement of C does
+abbrev pub Execution : Type 0
+Execution = Executes State Exit
+
+-- VARIABLES
 
 abbrev pub value_at : State → VarId → ℤ
 value_at s v = slice_index_or s.values v.0 (pos 0)
 
--- the state with this value in a variable
 abbrev pub with_value : State → VarId → ℤ → State
 with_value s v z = record s { values = slice_set s.values v.0 z }
 
--- What a part of a program does to a state: it ends with a value, or it ends the whole run with its outcome.
-abbrev pub Ending : Type 0 → Type 0
-Ending A = Result A Outcome × State
+-- ARRAYS
 
-abbrev pub Act : Type 0 → Type 0
-Act A = State → Ending A
+-- the location that an array variable names
+abbrev pub location_of : State → VarId → ℕ
+location_of s v = slice_index_or s.locations v.0 0
 
--- one part, and then what its value leads to; the first end that is no value is the end of both
-abbrev pub then_do : {A B : Type 0} → Ending A → (A → Act B) → Ending B
-then_do (Ok a, s) rest = rest a s
-then_do (Err outcome, s) rest = (Err outcome, s)
+abbrev pub elements_of : State → VarId → List ℤ
+elements_of s v = slice_index_or s.arrays (location_of s v) []
 
--- how a statement ends where it does not end the run
-pub data Flow : Type 0 where
-  next : Flow
-  break : Flow
-  continue : Flow
-  return : ℤ → Flow
+abbrev pub with_elements : State → VarId → List ℤ → State
+with_elements s v zs = record s { arrays = slice_set s.arrays (location_of s v) zs }
 
--- parts in a row: what comes after a break, a continue or a return is left out
-abbrev pub after_part : Act Flow → Flow → Act Flow
-after_part parts next s = parts s
-after_part parts break s = (Ok break, s)
-after_part parts continue s = (Ok continue, s)
-after_part parts (return z) s = (Ok (return z), s)
+-- an index is in an array of this length
+abbrev pub is_index : ℕ → ℤ → Bool
+is_index count i = int_le (pos 0) i && int_lt i (pos count)
 
-abbrev pub in_order : List (Act Flow) → Act Flow
-in_order [] s = (Ok next, s)
-in_order (part ∷ parts) s = then_do (part s) (after_part (in_order parts))
+-- the element at an index, None outside the array
+abbrev pub element_at : State → VarId → ℤ → Option ℤ
+element_at s v i = cond (is_index (length (elements_of s v)) i)
+    (Some (slice_index_or (elements_of s v) (unsigned_abs i) (pos 0))) None
+
+-- the state with this value in an element, None outside the array
+abbrev pub with_element : State → VarId → ℤ → ℤ → Option State
+with_element s v i z = cond (is_index (length (elements_of s v)) i)
+    (Some (with_elements s v (slice_set (elements_of s v) (unsigned_abs i) z))) None

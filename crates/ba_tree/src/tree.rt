@@ -1,11 +1,12 @@
 //! The typed tree of a C program.
 
 use ba_items::Items;
-use ba_numbers::ids::{At, FnId, StmtId, VarId};
-use ba_numbers::numbers::{BinOp, CType};
+use ba_numbers::ids::{At, CallId, FnId, StmtId, VarId};
+use ba_numbers::numbers::{BinOp, CType, UnOp};
 
 /// An expression, with each conversion written out (C90 6.2.1, 6.3).
 #[derive(Drop)]
+#[cycle(expression)]
 pub enum Expr {
     /// A constant, in the range of its type.
     Const {
@@ -16,29 +17,151 @@ pub enum Expr {
     Var {
         var: VarId,
     },
-    /// A binary operator that works in the type `t`; the left operand is evaluated first.
+    /// An element of an array (C90 6.3.2.1).
+    Element {
+        array: VarId,
+        index: Box<Expr>,
+    },
+    /// A unary operator that works in the type `t` (C90 6.3.3.3). The value of `IsZero` has the type `I32`.
+    Unary {
+        op: UnOp,
+        t: CType,
+        a: Box<Expr>,
+    },
+    /// A binary operator that works in the type `t`; the left operand is evaluated first (C90 6.3.5 to 6.3.12). The value of a
+    /// comparison has the type `I32`.
     Binary {
         op: BinOp,
         t: CType,
         a: Box<Expr>,
         b: Box<Expr>,
     },
+    /// C's `&&`: the right side is evaluated only where the left one isn't 0 (C90 6.3.13).
+    AndAlso {
+        a: Box<Expr>,
+        b: Box<Expr>,
+    },
+    /// C's `||`: the right side is evaluated only where the left one is 0 (C90 6.3.14).
+    OrElse {
+        a: Box<Expr>,
+        b: Box<Expr>,
+    },
+    /// C's `?:`, whose branches have the type `t`; only one of them is evaluated (C90 6.3.15).
+    Select {
+        t: CType,
+        when: Box<Expr>,
+        yes: Box<Expr>,
+        no: Box<Expr>,
+    },
+    /// A conversion to the type `t`, written or implied (C90 6.2.1, 6.3.4).
+    Convert {
+        t: CType,
+        a: Box<Expr>,
+    },
+    /// The value of a call of a function that has a result (C90 6.3.2.2).
+    Call {
+        call: CallId,
+        function: FnId,
+        args: Vec<Arg>,
+    },
 }
 
-/// A statement. The numbered ones are those that can be named by a report, and the asserts.
+/// An argument of a call: a value, or an array, which the parameter then names.
+#[derive(Drop)]
+#[cycle(expression)]
+pub enum Arg {
+    Value(Expr),
+    Array(VarId),
+}
+
+/// A statement (C90 6.6), or a declaration that is executed (C90 6.5). Those with a `stmt` are numbered: they are what a report
+/// can name, and the asserts.
 #[derive(Drop)]
 pub enum Stmt {
-    /// The declaration of a local variable, which sets it to 0.
+    /// A block's statements, one after the other (C90 6.6.2).
+    Block {
+        body: Vec<Stmt>,
+    },
+    /// The declaration of a local variable, which sets it, or all elements of an array, to 0.
     Declare {
         var: VarId,
     },
-    /// An assignment to a variable; the value has the variable's type.
+    /// The initialiser of a variable; the value has the variable's type (C90 6.5.7).
+    Init {
+        stmt: StmtId,
+        var: VarId,
+        value: Expr,
+    },
+    /// The initialiser of an array: all values are evaluated before it is set, and the elements that have no value are 0 (C90 6.5.7).
+    InitArray {
+        stmt: StmtId,
+        array: VarId,
+        values: Vec<Expr>,
+    },
+    /// An assignment to a variable; the value has the variable's type (C90 6.3.16).
     Assign {
         stmt: StmtId,
         var: VarId,
         value: Expr,
     },
-    /// An assertion, which fails where its value is 0.
+    /// An assignment to an element of an array; the index is evaluated before the value, and tested after it (C90 6.3.16).
+    Store {
+        stmt: StmtId,
+        array: VarId,
+        index: Expr,
+        value: Expr,
+    },
+    /// C's `if` (C90 6.6.4.1); `stmt` is its condition.
+    If {
+        stmt: StmtId,
+        when: Expr,
+        yes: Box<Stmt>,
+        no: Option<Box<Stmt>>,
+    },
+    /// C's `while` (C90 6.6.5.1); `stmt` is its condition.
+    While {
+        stmt: StmtId,
+        when: Expr,
+        body: Box<Stmt>,
+    },
+    /// C's `do` (C90 6.6.5.2); `stmt` is its condition.
+    DoWhile {
+        stmt: StmtId,
+        when: Expr,
+        body: Box<Stmt>,
+    },
+    /// C's `for` (C90 6.6.5.3); `stmt` is its condition, which is the constant 1 where none is written.
+    For {
+        stmt: StmtId,
+        first: Vec<Stmt>,
+        when: Expr,
+        step: Vec<Stmt>,
+        body: Box<Stmt>,
+    },
+    /// C's `break` (C90 6.6.6.3).
+    Break,
+    /// C's `continue` (C90 6.6.6.2).
+    Continue,
+    /// A `return` with a value of the function's type (C90 6.6.6.4).
+    Return {
+        stmt: StmtId,
+        value: Expr,
+    },
+    /// A `return` without a value (C90 6.6.6.4).
+    ReturnNone,
+    /// A call as a statement; the value of the function, if it has one, is not used (C90 6.6.3).
+    CallStmt {
+        stmt: StmtId,
+        call: CallId,
+        function: FnId,
+        args: Vec<Arg>,
+    },
+    /// A `printf`, which evaluates its arguments behind the format and prints nothing (C90 7.9.6.3).
+    Print {
+        stmt: StmtId,
+        args: Vec<Expr>,
+    },
+    /// An assertion, which fails where its value is 0 (C90 7.2.1.1).
     Assert {
         stmt: StmtId,
         when: Expr,
@@ -50,6 +173,11 @@ pub enum Stmt {
 pub enum Shape {
     /// One value of the variable's type.
     Value,
+    /// So many elements of the variable's type, from 1 to 256.
+    Array(u32),
+    /// Nothing of its own: an array parameter of a function other than `main` names the array that its call gives
+    /// (C90 6.7.1).
+    Passed,
 }
 
 /// A variable's declaration.
@@ -59,8 +187,8 @@ pub struct Variable {
     pub shape: Shape,
 }
 
-/// A function's definition: the type that it returns, if any, its parameters and its other variables, each in
-/// the order of the text, and its body.
+/// A function's definition: the type that it returns, if any, its parameters and its other variables, each in the order of the
+/// text, and its body.
 #[derive(Drop)]
 pub struct Function {
     pub result: Option<CType>,
@@ -72,8 +200,18 @@ pub struct Function {
 /// What kind of statement a number names.
 #[derive(Clone, Copy, Debug, PartialEq, Eq)]
 pub enum StmtKind {
+    /// An initialiser of a variable or of an array.
+    Initialiser,
     /// An assignment to a variable.
     Assignment,
+    /// An assignment to an element of an array.
+    Store,
+    /// The condition of an `if` or of a loop.
+    Condition,
+    /// A `return` with a value.
+    Return,
+    /// A call as a statement, or a `printf`.
+    Call,
     /// An `assert`.
     Assert,
 }
@@ -85,8 +223,9 @@ pub struct StmtInfo {
     pub kind: StmtKind,
 }
 
-/// A program. `VarId` v names `variables[v]`, `FnId` f names `functions[f]`, and `StmtId` n names
-/// `statements[n - 1]`. `inits` holds the initialisers of the globals, in the order of the text.
+/// A program. `VarId` v names `variables[v]`, `FnId` f names `functions[f]`, and `StmtId` n names `statements[n - 1]`. `inits`
+/// holds the initialisers of the globals, in the order of the text, as `globals` are. Calls are counted from 1. `main` is the function
+/// that a run executes.
 #[derive(Drop)]
 pub struct Program {
     pub variables: Items<Variable>,

@@ -8,6 +8,7 @@ use crate::support::word;
 use ba_cells::{read_cell, write_cell};
 use ba_nodes::Nodes;
 use ba_words::Word;
+use std::alloc::{AllocError, Global};
 use std::test::Fail;
 
 /// Cells of three constants.
@@ -18,26 +19,65 @@ fn three() -> [Word; 3]
     [word(10), word(20), word(30)]
 }
 
+/// Indices with the number of the cell that is read: behind the last one, that of fewer bits of the index.
+static READ: [[u32; 2]; 5] = [[0, 10], [1, 20], [2, 30], [3, 30], [257, 20]];
+
+/// Whether each read gives its number.
+fn reads(nodes: &mut Nodes) -> Result<bool, AllocError> {
+    let cells = three();
+    for [index, expected] in &READ {
+        if read_cell(nodes, &cells, &word(*index))? != word(*expected) {
+            return Ok(false);
+        }
+    }
+    Ok(true)
+}
+
+/// Writes of a 7 by index and condition, with the numbers of the cells behind them.
+static WRITTEN: [(u32, bool, [u32; 3]); 4] = [
+    (1, true, [10, 7, 30]),
+    (2, false, [10, 20, 30]),
+    (3, true, [10, 20, 30]),
+    (257, true, [10, 20, 30]),
+];
+
+/// Whether a write leaves cells of these numbers.
+fn leaves(
+    alloc: Global,
+    nodes: &mut Nodes,
+    index: u32,
+    when: bool,
+    expected: &[u32; 3],
+) -> Result<bool, AllocError> {
+    let condition = Nodes::constant(when);
+    let cells = write_cell(alloc, nodes, &three(), &word(index), &word(7), condition)?;
+    let [first, second, third] = expected;
+    Ok(cells.as_slice() == [word(*first), word(*second), word(*third)].as_slice())
+}
+
+/// Whether each write leaves its cells.
+fn writes(alloc: Global, nodes: &mut Nodes) -> Result<bool, AllocError> {
+    for (index, when, expected) in &WRITTEN {
+        if !leaves(alloc, nodes, *index, *when, expected)? {
+            return Ok(false);
+        }
+    }
+    Ok(true)
+}
+
+/// Whether reads and writes have their values without a gate.
+fn reads_then_writes(alloc: Global, nodes: &mut Nodes) -> Result<bool, AllocError> {
+    Ok(reads(nodes)? && writes(alloc, nodes)? && nodes.count() == 0)
+}
+
+/// The same from no nodes on.
+fn has_the_values(alloc: Global) -> Result<bool, AllocError> {
+    let mut nodes = Nodes::new(alloc);
+    reads_then_writes(alloc, &mut nodes)
+}
+
 #[test]
 fn reads_and_writes(rt: HostRuntime) -> Result<(), Fail> {
-    let mut nodes = Nodes::new(rt.alloc());
-    let cells = three();
-    assert_eq!(rt; read_cell(&mut nodes, &cells, &word(0))?, word(10));
-    assert_eq!(rt; read_cell(&mut nodes, &cells, &word(2))?, word(30));
-    let value = word(7);
-    let always = Nodes::constant(true);
-    let written = write_cell(rt.alloc(), &mut nodes, &cells, &word(1), &value, always)?;
-    assert_eq!(rt;
-        written.as_slice(),
-        [word(10), word(7), word(30)].as_slice()
-    );
-    let outside = write_cell(rt.alloc(), &mut nodes, &cells, &word(3), &value, always)?;
-    assert_eq!(rt; outside.as_slice(), cells.as_slice());
-    let far = write_cell(rt.alloc(), &mut nodes, &cells, &word(257), &value, always)?;
-    assert_eq!(rt; far.as_slice(), cells.as_slice());
-    let never = Nodes::constant(false);
-    let kept = write_cell(rt.alloc(), &mut nodes, &cells, &word(2), &value, never)?;
-    assert_eq!(rt; kept.as_slice(), cells.as_slice());
-    assert_eq!(rt; nodes.count(), 0);
+    assert!(rt; has_the_values(rt.alloc())?);
     Ok(())
 }

@@ -2,13 +2,15 @@
 #![tactic(auto)]
 
 #[cfg(test)]
+mod borders;
+#[cfg(test)]
 mod cells;
 #[cfg(test)]
 mod counts;
 #[cfg(test)]
 mod gates;
 #[cfg(test)]
-mod products;
+mod operators;
 #[cfg(test)]
 mod support;
 #[cfg(test)]

@@ -1,85 +1,73 @@
 //! Values of the circuits at constant words, of which none needs a gate.
 
+use crate::operators::{Operator, at_constants};
 use crate::support::word;
 use ba_nodes::Nodes;
 use ba_numbers::numbers::CType;
-use ba_words::{
-    add, add_with_carry, bit_and, bit_or, bit_xor, convert_word, equal, flip, less, neg, nonzero,
-    select, shl, shr, sub,
-};
+use ba_words::{add_with_carry, convert_word, flip, neg, nonzero, select};
+use std::alloc::{AllocError, Global};
 use std::test::Fail;
 
-#[test]
-fn adds_and_subtracts(rt: HostRuntime) -> Result<(), Fail> {
-    let mut nodes = Nodes::new(rt.alloc());
-    let sum = add(&mut nodes, &word(2147483647), &word(1))?;
-    assert_eq!(rt; sum, word(2147483648));
-    let difference = sub(&mut nodes, &word(7), &word(9))?;
-    assert_eq!(rt; difference, word(4294967294));
-    let opposite = neg(&mut nodes, &word(46341))?;
-    assert_eq!(rt; opposite, word(4294920955));
-    let (low, carry) = add_with_carry(
-        &mut nodes,
-        &word(4294967295),
-        &word(1),
-        Nodes::constant(true),
-    )?;
-    assert_eq!(rt; low, word(1));
-    assert_eq!(rt; carry, Nodes::constant(true));
-    assert_eq!(rt; nodes.count(), 0);
-    Ok(())
+/// Values of the operators at two constants.
+static VALUES: [(Operator, [u32; 2], u32); 18] = [
+    (Operator::Add, [2147483647, 1], 2147483648),
+    (Operator::Sub, [7, 9], 4294967294),
+    (Operator::Less(true), [4294967295, 1], 1),
+    (Operator::Less(false), [4294967295, 1], 0),
+    (Operator::Equal, [65537, 65537], 1),
+    (Operator::And, [0x1234_5678, 0xa987_6543], 0x0004_4440),
+    (Operator::Or, [0x1234_5678, 0xa987_6543], 0xbbb7_777b),
+    (Operator::Xor, [0x1234_5678, 0xa987_6543], 0xbbb3_333b),
+    (Operator::Shl, [1, 33], 2),
+    (Operator::Shr(true), [4294967288, 1], 4294967292),
+    (Operator::Shr(false), [4294967288, 1], 2147483644),
+    (Operator::Mul, [65536, 65536], 0),
+    (Operator::Div(true), [4294967289, 2], 4294967293),
+    (Operator::Rem(true), [4294967289, 2], 4294967295),
+    (Operator::Div(true), [2147483648, 4294967295], 2147483648),
+    (Operator::Rem(true), [2147483648, 4294967295], 0),
+    (Operator::Div(false), [4294967289, 2], 2147483644),
+    (Operator::Rem(false), [4294967289, 2], 1),
+];
+
+/// The first row of the table that is not so, if there is one.
+fn first_difference(alloc: Global) -> Result<Option<usize>, AllocError> {
+    for i in 0..VALUES.len() {
+        let (operator, [a, b], expected) = &VALUES[i];
+        if at_constants(alloc, *operator, *a, *b)? != Some(*expected) {
+            return Ok(Some(i));
+        }
+    }
+    Ok(None)
+}
+
+/// Whether a sum with a carry, an opposite, a test and a choice have their values without a gate.
+fn adds_and_chooses(nodes: &mut Nodes) -> Result<bool, AllocError> {
+    let yes = Nodes::constant(true);
+    let (low, carry) = add_with_carry(nodes, &word(4294967295), &word(1), yes)?;
+    let opposite = neg(nodes, &word(46341))?;
+    let some = nonzero(nodes, &word(2147483648))?;
+    let chosen = select(nodes, yes, &word(5), &word(6))?;
+    let sums = low == word(1) && carry == yes && opposite == word(4294920955);
+    Ok(sums && some == yes && chosen == word(5) && nodes.count() == 0)
+}
+
+/// The same from no nodes on.
+fn has_the_others(alloc: Global) -> Result<bool, AllocError> {
+    let mut nodes = Nodes::new(alloc);
+    adds_and_chooses(&mut nodes)
+}
+
+/// Whether words converted and turned over have their values.
+fn converts() -> bool {
+    convert_word(CType::I8, &word(200)) == word(4294967240)
+        && convert_word(CType::U16, &word(4294967295)) == word(65535)
+        && flip(&word(0x1234_5678)) == word(0xedcb_a987)
 }
 
 #[test]
-fn shifts_and_converts(rt: HostRuntime) -> Result<(), Fail> {
-    let mut nodes = Nodes::new(rt.alloc());
-    let up = shl(&mut nodes, &word(1), &word(33))?;
-    assert_eq!(rt; up, word(2));
-    let signed = shr(&mut nodes, &word(4294967288), &word(1), true)?;
-    assert_eq!(rt; signed, word(4294967292));
-    let unsigned = shr(&mut nodes, &word(4294967288), &word(1), false)?;
-    assert_eq!(rt; unsigned, word(2147483644));
-    assert_eq!(rt; convert_word(CType::I8, &word(200)), word(4294967240));
-    assert_eq!(rt; convert_word(CType::U16, &word(4294967295)), word(65535));
-    assert_eq!(rt; nodes.count(), 0);
-    Ok(())
-}
-
-#[test]
-fn compares(rt: HostRuntime) -> Result<(), Fail> {
-    let mut nodes = Nodes::new(rt.alloc());
-    assert_eq!(rt;
-        less(&mut nodes, &word(4294967295), &word(1), true)?,
-        Nodes::constant(true)
-    );
-    assert_eq!(rt;
-        less(&mut nodes, &word(4294967295), &word(1), false)?,
-        Nodes::constant(false)
-    );
-    assert_eq!(rt;
-        equal(&mut nodes, &word(65537), &word(65537))?,
-        Nodes::constant(true)
-    );
-    assert_eq!(rt;
-        nonzero(&mut nodes, &word(2147483648))?,
-        Nodes::constant(true)
-    );
-    assert_eq!(rt; nodes.count(), 0);
-    Ok(())
-}
-
-#[test]
-fn works_on_each_place(rt: HostRuntime) -> Result<(), Fail> {
-    let mut nodes = Nodes::new(rt.alloc());
-    let both = bit_and(&mut nodes, &word(0x1234_5678), &word(0xa987_6543))?;
-    assert_eq!(rt; both, word(0x0004_4440));
-    let either = bit_or(&mut nodes, &word(0x1234_5678), &word(0xa987_6543))?;
-    assert_eq!(rt; either, word(0xbbb7_777b));
-    let one = bit_xor(&mut nodes, &word(0x1234_5678), &word(0xa987_6543))?;
-    assert_eq!(rt; one, word(0xbbb3_333b));
-    assert_eq!(rt; flip(&word(0x1234_5678)), word(0xedcb_a987));
-    let chosen = select(&mut nodes, Nodes::constant(true), &word(5), &word(6))?;
-    assert_eq!(rt; chosen, word(5));
-    assert_eq!(rt; nodes.count(), 0);
+fn has_the_values_of_the_operators(rt: HostRuntime) -> Result<(), Fail> {
+    assert_eq!(rt; first_difference(rt.alloc())?, None);
+    assert!(rt; has_the_others(rt.alloc())? && converts());
     Ok(())
 }

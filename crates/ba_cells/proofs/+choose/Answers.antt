@@ -1,10 +1,18 @@
-use Rattle.std.proofs.Common.{◌≡◌, ◌+◌, ◌-◌, ◌*◌, ◌^◌, ◌<◌, ◌≤◌, length, take, drop, ap, subst, ◌∙◌, arith, length-take, length-drop}
+use Rattle.std.proofs.Common.{◌≡◌, ◌+◌, ◌-◌, ◌*◌, ◌^◌, ◌<◌, ◌≤◌, length, take, drop, sym, ap, subst, ◌∙◌, arith, length-take, length-drop}
 use Rattle.std.proofs.lemmas.List.{take_rest}
 use Rattle.std.proofs.lemmas.Nat.{pow_pos}
+use Rattle.ba_words.specs.Words.{number_of, low_number}
 use Rattle.ba_words.proofs.Outcomes.{on_ok}
 use Rattle.ba_words.proofs.Places.{are_bits-extends}
-use Rattle.ba_cells.proofs.Trees.{cells-extends, cells-take, cells-rest, lower_half, both_halves, doubled}
+use Rattle.ba_cells.specs.Cells.{cell_at}
+use Rattle.ba_cells.proofs.Trees.{cells-extends, cells-take, cells-rest, read-first, lower_half, both_halves, doubled}
 use Rattle.ba_cells.proofs.+choose.Goals as goal
+
+pub returns-then-bits-eq0-clause-value : goal.returns-then-bits-eq0-clause-value
+returns-then-bits-eq0-clause-value t c free =
+    let index = low_number free c.args.nodes.now c.args.index.now c.args.bits in
+    ap (λ place. number_of free c.args.nodes.now (cell_at c.args.cells.now place))
+    (sym (read-first (length c.args.cells.now) c.args.bits index c.if-bits-eq0.true))
 
 pub returns-then-cells-half-clause-value : goal.returns-then-cells-half-clause-value
 returns-then-cells-half-clause-value t c =

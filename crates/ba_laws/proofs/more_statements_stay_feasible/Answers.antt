@@ -1,4 +1,4 @@
-use Rattle.ba_laws.proofs.Wider.{still_feasible}
+use Rattle.ba_laws.proofs.MoreStatements.{still_feasible}
 use Rattle.ba_laws.proofs.more_statements_stay_feasible.Goals as goal
 
 pub returns : goal.returns

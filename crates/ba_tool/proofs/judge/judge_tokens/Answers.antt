@@ -3,8 +3,9 @@ use Rattle.std.specs.List.{slice_get}
 use Rattle.std.specs.Option.{option_copied}
 use Rattle.ba_tree.specs.declared.run.Bounds.{Bounds}
 use Rattle.ba_tree.specs.Least.{AreLeast, judge_of, unit_weights, weight_of}
+use Rattle.ba_tree.specs.Run.{runs_well}
 use Rattle.ba_tool.specs.Report.{report_text}
-use Rattle.ba_tool.specs.Tool.{Locates, runs_well}
+use Rattle.ba_tool.specs.Tool.{Locates}
 use Rattle.ba_tool.proofs.Refusing.{text_of_written, written_of_text}
 use Rattle.ba_tool.proofs.Judging.{first_in, first_short, found_none, in_each, locates, no_input, no_text}
 use Rattle.ba_tool.proofs.judge.judge_tokens.Goals as goal

@@ -1,4 +1,4 @@
-use Rattle.std.proofs.Common.{◌≡◌, ℕ, length}
+use Rattle.std.proofs.Common.{◌≡◌, length}
 use Rattle.ba_nodes.specs.Gates.{Extends}
 use Rattle.ba_words.specs.Words.{AreBitsOf}
 use Rattle.circuit_tests.proofs.support.free_word.Given as goal

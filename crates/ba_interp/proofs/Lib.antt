@@ -1,0 +1,12 @@
+mod Binding
+mod CallArms
+mod ChoiceArms
+mod ExpressionArms
+mod Falling
+mod Filling
+mod Paths
+mod Restoring
+mod Rounds
+mod RunArms
+mod StatementArms
+mod Steps

@@ -1,0 +1,7 @@
+pub mod Paths
+pub mod Doing
+pub mod Frames
+pub mod Settings
+pub mod Loops
+pub mod Heights
+pub mod Parts

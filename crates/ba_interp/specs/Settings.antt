@@ -1,0 +1,33 @@
+-- What stands still while the interpreter runs a function's body, in the words of the meaning of C.
+
+use Rattle.std.specs.Prelude.{ℤ, Option, List}
+use Rattle.ba_tree.specs.Choices.{one_value, one_truth}
+use Rattle.ba_numbers.specs.declared.ids.StmtId.{StmtId}
+use Rattle.ba_tree.specs.Meaning.{Context, given_value, condition}
+use Rattle.ba_tree.specs.State.{Act}
+use Rattle.ba_tree.specs.declared.run.Step.{Step}
+use Rattle.ba_tree.specs.declared.tree.Expr.{Expr}
+use Rattle.ba_tree.specs.Run.{call_at}
+use Rattle.ba_interp.specs.declared.setting.Frame.{Frame}
+use Rattle.ba_interp.specs.declared.setting.Setting.{Setting}
+use Rattle.ba_interp.specs.declared.relaxing.Wanted.{Wanted}
+use Rattle.ba_interp.specs.declared.relaxing.Wanted.TheVariants.{Value, Truth}
+
+unfoldable pub context_at : Setting → Frame → Context
+context_at setting frame = record {
+  program = setting.program.now;
+  allowed = setting.allowed.now;
+  turns = setting.turns;
+  result = frame.result;
+  calls = call_at setting.program.now setting.allowed.now setting.turns frame.frames;
+}
+
+-- what fits
+abbrev pub fitting_of : Wanted → List ℤ → Option ℤ
+fitting_of (Value t) = one_value t
+fitting_of Truth = one_truth
+
+-- an expression with what has to stand in its place
+abbrev pub given_at : Context → List Step → StmtId → Wanted → Expr → Act ℤ
+given_at x path stmt (Value t) e = given_value x path stmt t e
+given_at x path stmt Truth e = condition x path stmt e

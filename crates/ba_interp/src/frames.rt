@@ -1,0 +1,125 @@
+//! Frames of calls, and what a run begins with.
+
+ghost use Rattle.std.specs.Prelude.{◌≡◌, ◌++◌, ◌<◌, ℕ, List, length, OnOk, IfOk, MatchOption};
+ghost use Rattle.ba_tree.specs.Run.{begin_all, begin_frame, bind_all, end_frame, function_of, no_function, with_restored};
+ghost use Rattle.ba_tree.specs.Meaning.{variable_of};
+ghost use Rattle.ba_tree.specs.State.{State};
+ghost use Rattle.ba_interp.specs.Frames.{IsKept, all_taken};
+
+use crate::machine::{Machine, Taken};
+use ba_numbers::ids::{FnId, VarId};
+use ba_numbers::numbers::CType;
+use ba_tree::run::Argument;
+use ba_tree::tree::{Function, Program, Shape, Variable};
+use std::alloc::{AllocError, Global};
+
+/// The declaration of a variable.
+pub fn variable_of(program: &Program, var: VarId) -> Variable
+    ensures { result ≡ variable_of program.now var }
+{
+    match program.variables.as_slice().get(var.0 as usize) {
+        Some(variable) => *variable,
+        None => Variable {
+            t: CType::I32,
+            shape: Shape::Value,
+        },
+    }
+}
+
+/// The function of this number, if there is one.
+pub fn function_of(program: &Program, function: FnId) -> Option<&Function>
+    ensures { MatchOption result (function_of program.now function ≡ no_function)
+        (λ found. (function.0 < length program.now.functions) × (function_of program.now function
+        ≡ found.now)) }
+{
+    program.functions.as_slice().get(function.0 as usize)
+}
+
+/// Variables begin as 0, arrays in locations of their own.
+pub fn begin_all(
+    alloc: Global,
+    program: &Program,
+    vars: &[VarId],
+    machine: &mut Machine,
+) -> Result<(), AllocError>
+    ensures { OnOk result (machine.new ≡ begin_all program.now vars.now machine.old) }
+{
+    for var in vars {
+        machine.begin(alloc, variable_of(program, *var).shape, *var)?;
+    }
+    Ok(())
+}
+
+/// Parameters have the values, or name the arrays, of the arguments.
+fn bind_all(params: &[VarId], arguments: &[Argument], machine: &mut Machine)
+    ensures { machine.new ≡ bind_all params.now arguments.now machine.old }
+{
+    for (param, argument) in params.iter().zip(arguments.iter()) {
+        machine.bind(*param, *argument);
+    }
+}
+
+/// The frame of a function that was given these arguments.
+pub fn begin_frame(
+    alloc: Global,
+    program: &Program,
+    function: &Function,
+    arguments: &[Argument],
+    machine: &mut Machine,
+) -> Result<(), AllocError>
+    ensures { OnOk result (machine.new ≡ begin_frame program.now function.now arguments.now
+        machine.old) }
+{
+    bind_all(function.params.as_slice(), arguments, machine);
+    begin_all(alloc, program, function.locals.as_slice(), machine)
+}
+
+/// What a frame takes from its caller, to be given back.
+#[derive(Drop)]
+pub struct Kept {
+    params: Vec<Taken>,
+    locals: Vec<Taken>,
+    arrays: usize,
+}
+
+/// What these variables have.
+fn all_taken(alloc: Global, vars: &[VarId], machine: &Machine) -> Result<Vec<Taken>, AllocError>
+    ensures { IfOk result (λ taken. taken.items ≡ all_taken machine.now vars.now) }
+{
+    let mut taken = Vec::with_capacity(alloc, vars.len())?;
+    for var in vars {
+        taken.push(machine.taken(*var))?;
+    }
+    Ok(taken)
+}
+
+/// What a call of the function takes from its caller.
+pub fn keep(alloc: Global, function: &Function, machine: &Machine) -> Result<Kept, AllocError>
+    ensures { IfOk result (λ kept. IsKept function.now kept machine.now) }
+{
+    Ok(Kept {
+        params: all_taken(alloc, function.params.as_slice(), machine)?,
+        locals: all_taken(alloc, function.locals.as_slice(), machine)?,
+        arrays: machine.arrays(),
+    })
+}
+
+/// Gives these variables back what they had.
+fn restore(vars: &[VarId], taken: &[Taken], machine: &mut Machine)
+    ensures { (before : State) → taken.now ≡ all_taken before vars.now
+        → machine.new ≡ with_restored vars.now before machine.old }
+{
+    for (var, taken) in vars.iter().zip(taken.iter()) {
+        machine.give_back(*var, *taken);
+    }
+}
+
+/// Ends the frame of a function: its variables have what they had before it, and its arrays are dropped.
+pub fn end_frame(function: &Function, kept: &Kept, machine: &mut Machine)
+    ensures { (before : State) → IsKept function.now kept.now before
+        → machine.new ≡ end_frame function.now before machine.old }
+{
+    restore(function.params.as_slice(), kept.params.as_slice(), machine);
+    restore(function.locals.as_slice(), kept.locals.as_slice(), machine);
+    machine.cut(kept.arrays);
+}

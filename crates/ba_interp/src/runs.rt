@@ -1,0 +1,196 @@
+//! Runs of whole programs.
+
+ghost use Rattle.std.specs.Prelude.{◌≡◌, true, List, [], IfOk, OnOk, ◌-◌};
+ghost use Rattle.ba_tree.specs.Run.{are_bounds, enter_main, if_none_left, main_of, outcome_of, outcome_of_halt, run_main, run_of, start_of, with_input, with_input_one};
+ghost use Rattle.ba_tree.specs.State.{Ending};
+ghost use Rattle.ba_tree.specs.declared.run.Exit.{Exit};
+ghost use Rattle.ba_tree.specs.declared.run.Flow.{Flow};
+ghost use Rattle.ba_interp.specs.Doing.{Did};
+ghost use Rattle.ba_interp.specs.Settings.{context_at};
+
+use crate::execution::exec_all;
+use crate::frames::{begin_all, function_of, variable_of};
+use crate::machine::Machine;
+use crate::path::Path;
+use crate::setting::{Frame, Setting};
+use crate::stop::Stop;
+use ba_choices::Choice;
+use ba_items::Items;
+use ba_numbers::ids::VarId;
+use ba_numbers::numbers::CType;
+use ba_tree::run::{Allowed, Bounds, Exit, Flow, Halt, Input, Outcome};
+use ba_tree::tree::{Program, Stmt};
+use std::alloc::{AllocError, Global};
+
+fn main_result(program: &Program) -> Option<CType>
+    ensures { result ≡ (main_of program.now).result }
+{
+    match function_of(program, program.main) {
+        Some(main) => main.result,
+        None => None,
+    }
+}
+
+fn main_params(program: &Program) -> &[VarId]
+    ensures { result.now ≡ (main_of program.now).params }
+{
+    match function_of(program, program.main) {
+        Some(main) => main.params.as_slice(),
+        None => &[],
+    }
+}
+
+fn main_locals(program: &Program) -> &[VarId]
+    ensures { result.now ≡ (main_of program.now).locals }
+{
+    match function_of(program, program.main) {
+        Some(main) => main.locals.as_slice(),
+        None => &[],
+    }
+}
+
+fn main_body(program: &Program) -> &[Stmt]
+    ensures { result.now ≡ (main_of program.now).body }
+{
+    match function_of(program, program.main) {
+        Some(main) => main.body.as_slice(),
+        None => &[],
+    }
+}
+
+/// Each parameter of `main` has what the input gives it.
+fn give_input(program: &Program, params: &[VarId], given: &[Items<i64>], machine: &mut Machine)
+    ensures { machine.new ≡ with_input program.now params.now given.now machine.old }
+{
+    for (param, values) in params.iter().zip(given.iter()) {
+        machine.give(
+            variable_of(program, *param).shape,
+            *param,
+            values.as_slice(),
+        );
+    }
+}
+
+/// The frame of `main`, with the input.
+fn enter_main(
+    alloc: Global,
+    program: &Program,
+    input: &Input,
+    machine: &mut Machine,
+) -> Result<(), AllocError>
+    ensures { OnOk result (machine.new ≡ enter_main program.now input.now machine.old) }
+{
+    begin_all(alloc, program, main_params(program), machine)?;
+    begin_all(alloc, program, main_locals(program), machine)?;
+    give_input(
+        program,
+        main_params(program),
+        input.values.as_slice(),
+        machine,
+    );
+    Ok(())
+}
+
+/// The initialisers of the globals, and then `main` with the input.
+fn run_main(
+    setting: &Setting,
+    frame: Frame,
+    input: &Input,
+    machine: &mut Machine,
+) -> Result<Flow<Exit>, Stop>
+    ensures { Did result machine.new
+        (run_main (context_at setting.now frame) input.now machine.old) }
+{
+    let path = Path::main();
+    match exec_all(
+        setting,
+        frame,
+        &path,
+        machine,
+        setting.program.inits.as_slice(),
+    )? {
+        Flow::Next => {}
+        Flow::Leaves(exit) => return Ok(Flow::Leaves(exit)),
+    }
+    enter_main(setting.alloc, setting.program, input, machine)?;
+    exec_all(setting, frame, &path, machine, main_body(setting.program))
+}
+
+/// The outcome of a run that was ended so.
+fn outcome_of_halt(halt: Halt) -> Outcome
+    ensures { result ≡ outcome_of_halt halt }
+{
+    match halt {
+        Halt::AssertFails(stmt) => Outcome::AssertFails(stmt),
+        Halt::Trap(stmt) => Outcome::Trap(stmt),
+        Halt::Beyond(stmt) => Outcome::Beyond(stmt),
+        Halt::WrongChoices => Outcome::WrongChoices,
+    }
+}
+
+/// The outcome of a run, where choices that are left are wrong.
+fn if_none_left(machine: &Machine, outcome: Outcome) -> Outcome
+    ensures { result ≡ if_none_left machine.now.choices outcome }
+{
+    if machine.has_ended() {
+        outcome
+    } else {
+        Outcome::WrongChoices
+    }
+}
+
+/// The outcome of a run that ended like this.
+fn outcome_of(machine: &Machine, ended: Result<Flow<Exit>, Stop>) -> Result<Outcome, AllocError>
+    ensures { (end : Ending (Flow Exit)) → Did ended machine.now end → IfOk result
+        (λ outcome. outcome ≡ outcome_of end) }
+{
+    match ended {
+        Ok(_) => Ok(if_none_left(machine, Outcome::Done)),
+        Err(Stop::Halts(halt)) => Ok(if_none_left(machine, outcome_of_halt(halt))),
+        Err(Stop::Memory) => Err(AllocError),
+    }
+}
+
+/// How a run begins: all globals 0, and no frame.
+fn start<'a>(
+    alloc: Global,
+    program: &Program,
+    choices: &'a [Choice],
+) -> Result<Machine<'a>, AllocError>
+    ensures { IfOk result (λ machine. machine ≡ start_of program.now choices.now) }
+{
+    let mut machine = Machine::new(alloc, program.variables.len(), choices)?;
+    begin_all(alloc, program, program.globals.as_slice(), &mut machine)?;
+    Ok(machine)
+}
+
+/// The outcome of a run of a program on an input within these bounds, where these statements or places may be relaxed, with these
+/// choices: exactly that of the definition (C90 5.1.2.3 in this profile), for every program and input.
+///
+/// The bounds are within their limits: from 1 to 64 turns, and from 1 to 32 frames. The one error is want of memory.
+pub fn run(
+    alloc: Global,
+    program: &Program,
+    input: &Input,
+    bounds: Bounds,
+    allowed: &Allowed,
+    choices: &[Choice],
+) -> Result<Outcome, AllocError>
+    requires bounds { are_bounds bounds ≡ true }
+    ensures { IfOk result (λ outcome. outcome
+        ≡ run_of program.now input.now bounds allowed.now choices.now) }
+{
+    let mut machine = start(alloc, program, choices)?;
+    let setting = Setting {
+        alloc,
+        program,
+        allowed,
+        turns: bounds.turns,
+    };
+    let frame = Frame {
+        result: main_result(program),
+        frames: bounds.frames - 1,
+    };
+    let ended = run_main(&setting, frame, input, &mut machine);
+    outcome_of(&machine, ended)
+}

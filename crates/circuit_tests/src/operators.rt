@@ -1,0 +1,90 @@
+//! The operators of C on words by their names, and the numbers that their circuits give.
+
+ghost use Rattle.ba_words.specs.Words.{AreBitsOf};
+
+use crate::support::{number, word};
+use ba_muldiv::{div, mul, rem};
+use ba_nodes::{Bit, Nodes};
+use ba_words::{Word, add, bit_and, bit_or, bit_xor, equal, less, shl, shr, sub};
+use std::alloc::{AllocError, Global};
+
+/// An operator of two words, with whether they are signed where that tells.
+#[derive(Clone, Copy)]
+pub enum Operator {
+    Add,
+    Sub,
+    Less(bool),
+    Equal,
+    And,
+    Or,
+    Xor,
+    Shl,
+    Shr(bool),
+    Mul,
+    Div(bool),
+    Rem(bool),
+    DivAndRem(bool),
+}
+
+/// The word of an operator at two words: of a comparison 1 or 0, of a division with its remainder the remainder.
+pub fn circuit(
+    nodes: &mut Nodes,
+    operator: Operator,
+    a: &Word,
+    b: &Word,
+) -> Result<Word, AllocError>
+    requires first { AreBitsOf nodes.old a.now }
+    requires second { AreBitsOf nodes.old b.now }
+{
+    match operator {
+        Operator::Add => add(nodes, a, b),
+        Operator::Sub => sub(nodes, a, b),
+        Operator::Less(signed) => Ok(one_or_zero(less(nodes, a, b, signed)?)),
+        Operator::Equal => Ok(one_or_zero(equal(nodes, a, b)?)),
+        Operator::And => bit_and(nodes, a, b),
+        Operator::Or => bit_or(nodes, a, b),
+        Operator::Xor => bit_xor(nodes, a, b),
+        Operator::Shl => shl(nodes, a, b),
+        Operator::Shr(signed) => shr(nodes, a, b, signed),
+        Operator::Mul => mul(nodes, a, b),
+        Operator::Div(signed) => div(nodes, a, b, signed),
+        Operator::Rem(signed) => rem(nodes, a, b, signed),
+        Operator::DivAndRem(signed) => {
+            div(nodes, a, b, signed)?;
+            rem(nodes, a, b, signed)
+        }
+    }
+}
+
+/// The word of this lowest bit.
+fn one_or_zero(bit: Bit) -> Word {
+    let mut word = [Nodes::constant(false); 32];
+    word[0] = bit;
+    word
+}
+
+/// The value at two constants, or nothing where it takes a gate.
+pub fn at_constants(
+    alloc: Global,
+    operator: Operator,
+    a: u32,
+    b: u32,
+) -> Result<Option<u32>, AllocError> {
+    let mut nodes = Nodes::new(alloc);
+    folded(&mut nodes, operator, a, b)
+}
+
+/// The value at two constants, or nothing where there are gates.
+fn folded(
+    nodes: &mut Nodes,
+    operator: Operator,
+    a: u32,
+    b: u32,
+) -> Result<Option<u32>, AllocError> {
+    let word = circuit(nodes, operator, &word(a), &word(b))?;
+    Ok(if nodes.count() == 0 {
+        Some(number(&[false], &word))
+    } else {
+        None
+    })
+}
