@@ -1,4 +1,5 @@
--- The values between braces: a comma before the closing brace is the last, so two tokens show what ends the list.
+-- The values between braces: a comma before the closing brace is the last, so two tokens show what ends the
+-- list.
 -- The reading equals one that looks at a token at a time.
 
 use Rattle.std.proofs.Common.{◌≡◌, ℕ, zero, suc, ◌+◌, ◌<◌, ◌≤◌, Bool, true, false, not, ◌&&◌, ◌||◌, if◌then◌else◌, List, [], ◌∷◌, ◌++◌, length, Option, None, Some, refl, sym, ap, ◌∙◌, arith, append_assoc, inl, inr, subst, length-append, ltb}

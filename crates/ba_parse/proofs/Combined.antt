@@ -35,9 +35,11 @@ left_of (too_deep rest) = rest
 
 -- the readings agree where the first tokens, so many as were read, and the head of the rest stay
 abbrev pub Agrees : Reading → Reading → List Token → List Token → Type 0
-Agrees r other ts rest = (u us : List Token) → ts ≡ u ++ rest → head_of us ≡ head_of rest → other (u ++ us) ≡ r (u ++ us)
+Agrees r other ts rest = (u us : List Token) → ts ≡ u ++ rest → head_of us ≡ head_of rest →
+    other (u ++ us) ≡ r (u ++ us)
 
-pub moved : (n : ℕ) (a b : Part) (r other : Reading) (ts : List Token) (answer : Answer) → ((f : List Mark) → Spells a f → Spells b f) →
+pub moved : (n : ℕ) (a b : Part) (r other : Reading) (ts : List Token) (answer : Answer) →
+    ((f : List Mark) → Spells a f → Spells b f) →
     Agrees r other ts (left_of answer) → Taken n a r ts answer → Taken n b other ts answer
 moved n a b r other ts (done f rest) turn agrees e = record {
   spelled = turn f e.spelled;
@@ -83,7 +85,8 @@ reads_same n on a b goes r there back e = record {
 
 -- fewer classes are said not to go on, fewer lists are read
 pub reads_fewer : (n : ℕ) (on less : List Token → Bool) (a : Part) (goes more : Classes) (r : Reading) →
-    ((ts : List Token) → less ts ≡ true → on ts ≡ true) → ((c : TokenClass) → more c ≡ false → goes c ≡ false) →
+    ((ts : List Token) → less ts ≡ true → on ts ≡ true) → ((c : TokenClass) → more c ≡ false → goes c ≡ false)
+    →
     Reads n on a goes r → Reads n less a more r
 reads_fewer n on less a goes more r on_less fewer e = record {
   taken = λ ts h. e.taken ts (on_less ts h);
@@ -97,7 +100,14 @@ ltb_zero n = grind (arith, nat_tests)
 
 pub reads_nothing : (n : ℕ) → Reads n always nothing none read_nothing
 reads_nothing n = record {
-  taken = λ ts h. record { spelled = is_nothing; cut = refl; pairs = refl; level = refl; near = λ us e. refl };
+  taken = λ ts h. record {
+    spelled = is_nothing;
+    cut = refl;
+    pairs = refl;
+    level = refl;
+    near =
+        λ us e. refl;
+  };
   given = λ f rest u pairs ends.
       let is_nil : f ≡ [] = opened u in
       ap (λ x. done [] (yield x ++ rest)) is_nil ∙ ap (λ x. outcome n x rest) (sym is_nil);
@@ -122,18 +132,22 @@ token_given n classes f rest o =
     ∙ ap (λ x. outcome n x rest) (sym o.2)
 
 -- where the next token is known to be of the classes
-pub reads_known : (n : ℕ) (classes : Classes) → Reads n (next_is classes) (token classes) none (read_token classes)
+pub reads_known : (n : ℕ) (classes : Classes) → Reads n (next_is classes) (token classes) none
+    (read_token classes)
 reads_known n classes = record {
   taken = λ ts h. known ts h;
   given = λ f rest u pairs ends. token_given n classes f rest (opened u);
 }
   where
-    is_known : (b : Bool) (t : Token) (ts : List Token) → b ≡ true → Done n (token classes) (read_token classes) (t ∷ ts) (leaf t ∷ []) ts →
-        Taken n (token classes) (read_token classes) (t ∷ ts) (if b then done (leaf t ∷ []) ts else syntax (t ∷ ts))
+    is_known : (b : Bool) (t : Token) (ts : List Token) → b ≡ true →
+        Done n (token classes) (read_token classes) (t ∷ ts) (leaf t ∷ []) ts →
+        Taken n (token classes) (read_token classes) (t ∷ ts) (if b then done (leaf t ∷ []) ts else syntax
+        (t ∷ ts))
     is_known true t ts h e = e
     is_known false t ts h e = absurd (false_is_true h)
 
-    known : (ts : List Token) → next_is classes ts ≡ true → Taken n (token classes) (read_token classes) ts (read_token classes ts)
+    known : (ts : List Token) → next_is classes ts ≡ true → Taken n (token classes) (read_token classes) ts
+        (read_token classes ts)
     known [] h = absurd (false_is_true h)
     known (t ∷ ts) h = is_known (classes (class_of t)) t ts h (token_done n classes t ts h)
 
@@ -143,13 +157,15 @@ pub record Example (classes : Classes) : Type 0 where
   pub is_one : classes (class_of one) ≡ true
   pub calm : is_else (Some one) ≡ false
 
-pub reads_token : (n : ℕ) (classes : Classes) → Example classes → Reads n always (token classes) none (read_token classes)
+pub reads_token : (n : ℕ) (classes : Classes) → Example classes → Reads n always (token classes) none
+    (read_token classes)
 reads_token n classes e = record {
   taken = λ ts h. any ts;
   given = λ f rest u pairs ends. token_given n classes f rest (opened u);
 }
   where
-    refused : (ts : List Token) → ((us : List Token) → head_of us ≡ head_of ts → read_token classes us ≡ syntax us) →
+    refused : (ts : List Token) → ((us : List Token) → head_of us ≡ head_of ts → read_token classes us
+        ≡ syntax us) →
         Refused (token classes) (read_token classes) ts ts
     refused ts near = record {
       before = [];
@@ -170,13 +186,16 @@ reads_token n classes e = record {
     none_only [] h = refl
     none_only (u ∷ us) h = absurd (some_is_none h)
 
-    other_too : (t : Token) → classes (class_of t) ≡ false → (us : List Token) → head_of us ≡ Some t → read_token classes us ≡ syntax us
+    other_too : (t : Token) → classes (class_of t) ≡ false → (us : List Token) → head_of us ≡ Some t →
+        read_token classes us ≡ syntax us
     other_too t h [] g = absurd (some_is_none (sym g))
     other_too t h (u ∷ us) g =
-        ap (λ b. if b then done (leaf u ∷ []) us else syntax (u ∷ us)) (ap (λ x. classes (class_of x)) (some_equal g) ∙ h)
+        ap (λ b. if b then done (leaf u ∷ []) us else syntax (u ∷ us)) (ap (λ x. classes (class_of x))
+        (some_equal g) ∙ h)
 
     by_test : (b : Bool) (t : Token) (ts : List Token) → classes (class_of t) ≡ b →
-        Taken n (token classes) (read_token classes) (t ∷ ts) (if b then done (leaf t ∷ []) ts else syntax (t ∷ ts))
+        Taken n (token classes) (read_token classes) (t ∷ ts) (if b then done (leaf t ∷ []) ts else syntax
+        (t ∷ ts))
     by_test true t ts h = token_done n classes t ts h
     by_test false t ts h = refused (t ∷ ts) (other_too t h)
 
@@ -186,24 +205,31 @@ reads_token n classes e = record {
 
 -- NODES
 
-pub node_pairs : (r : Rule) (f : List Mark) (next : Option Token) → is_no_else r ≡ false → no_else_lost (node_of r f) next ≡ no_else_lost f next
+pub node_pairs : (r : Rule) (f : List Mark) (next : Option Token) → is_no_else r ≡ false →
+    no_else_lost (node_of r f) next ≡ no_else_lost f next
 node_pairs r f next h =
-    pairs_append f (leave r ∷ []) next ∙ ap (λ b. no_else_lost f next && (not (b && is_else next) && true)) h ∙ and_true_right (no_else_lost f next)
+    pairs_append f (leave r ∷ []) next ∙ ap (λ b. no_else_lost f next && (not (b && is_else next) && true)) h
+    ∙ and_true_right (no_else_lost f next)
 
-node_level : (n : ℕ) (r : Rule) (f : List Mark) → IsEven f → sunk n 0 (node_of r f) ≡ or_tail (sunk n 0 f) (leave r ∷ []) None
+node_level : (n : ℕ) (r : Rule) (f : List Mark) → IsEven f → sunk n 0 (node_of r f) ≡ or_tail (sunk n 0 f)
+    (leave r ∷ []) None
 node_level n r f e = e.joins n 0 (leave r ∷ [])
 
-node_outcome : (n : ℕ) (r : Rule) (f : List Mark) (rest : List Token) → IsEven f → (x : Option (List Mark)) → sunk n 0 f ≡ x →
+node_outcome : (n : ℕ) (r : Rule) (f : List Mark) (rest : List Token) → IsEven f → (x : Option (List Mark)) →
+    sunk n 0 f ≡ x →
     around r (outcome_of x f rest) ≡ outcome n (node_of r f) rest
 node_outcome n r f rest e None h =
-    ap (λ x. outcome_of x (node_of r f) rest) (sym (node_level n r f e ∙ ap (λ x. or_tail x (leave r ∷ []) None) h))
+    ap (λ x. outcome_of x (node_of r f) rest)
+    (sym (node_level n r f e ∙ ap (λ x. or_tail x (leave r ∷ []) None) h))
 node_outcome n r f rest e (Some ms) h =
     ap (λ x. too_deep (x ++ rest)) (sym (yield_append ms (leave r ∷ []) ∙ append-nil (yield ms)))
-    ∙ ap (λ x. outcome_of x (node_of r f) rest) (sym (node_level n r f e ∙ ap (λ x. or_tail x (leave r ∷ []) None) h))
+    ∙ ap (λ x. outcome_of x (node_of r f) rest)
+    (sym (node_level n r f e ∙ ap (λ x. or_tail x (leave r ∷ []) None) h))
 
 module _ (n : ℕ) (a b : Part) (rl : Rule) (plain : is_no_else rl ≡ false) (r : Reading)
     (wrap : (f : List Mark) → Spells a f → Spells b (node_of rl f)) where
-  node_taken : (ts : List Token) (answer : Answer) → Taken n a r ts answer → Taken n b (read_node rl r) ts (around rl answer)
+  node_taken : (ts : List Token) (answer : Answer) → Taken n a r ts answer → Taken n b (read_node rl r) ts
+      (around rl answer)
   node_taken ts (done f rest) e = record {
     spelled = wrap f e.spelled;
     cut = e.cut ∙ ap (λ x. x ++ rest) (sym (yield_node rl f));
@@ -235,29 +261,37 @@ module _ (n : ℕ) (a b : Part) (rl : Rule) (plain : is_no_else rl ≡ false) (r
     level = node_level n rl e.tree (even_of e.spelled) ∙ ap (λ x. or_tail x (leave rl ∷ []) None) e.level;
     yields =
         yield_node rl e.tree ∙ e.yields
-        ∙ ap (λ x. e.before ++ e.refused ∷ x) (sym (yield_append e.beyond (leave rl ∷ []) ∙ append-nil (yield e.beyond)));
+        ∙ ap (λ x. e.before ++ e.refused ∷ x) (sym (yield_append e.beyond (leave rl ∷ [])
+        ∙ append-nil (yield e.beyond)));
     pairs = λ next h. node_pairs rl e.tree next plain ∙ e.pairs next h;
   }
 
   pub reads_wrapped : (on : List Token → Bool) (goes : Classes) →
-      ((f : List Mark) → Spells b f → (g : List Mark) × Spells a g × (f ≡ node_of rl g)) → Reads n on a goes r → Reads n on b goes (read_node rl r)
+      ((f : List Mark) → Spells b f → (g : List Mark) × Spells a g × (f ≡ node_of rl g)) →
+      Reads n on a goes r → Reads n on b goes (read_node rl r)
   reads_wrapped on goes unwrap e = record {
     taken = λ ts h. node_taken ts (r ts) (e.taken ts h);
     given = λ f rest u pairs ends. whole f rest (unwrap f u) pairs ends;
   }
     where
-      whole : (f : List Mark) (rest : List Token) → (g : List Mark) × Spells a g × (f ≡ node_of rl g) → no_else_lost f (head_of rest) ≡ true →
+      whole : (f : List Mark) (rest : List Token) → (g : List Mark) × Spells a g × (f ≡ node_of rl g) →
+          no_else_lost f (head_of rest) ≡ true →
           next_is goes rest ≡ false → read_node rl r (yield f ++ rest) ≡ outcome n f rest
       whole f rest o pairs ends =
           ap (λ x. read_node rl r (x ++ rest)) (ap yield o.2 ∙ yield_node rl o.0)
-          ∙ ap (around rl) (e.given o.0 rest o.1 (sym (node_pairs rl o.0 (head_of rest) plain) ∙ ap (λ x. no_else_lost x (head_of rest)) (sym o.2) ∙ pairs) ends)
+          ∙ ap (around rl) (e.given o.0 rest o.1 (sym (node_pairs rl o.0 (head_of rest) plain)
+          ∙ ap (λ x. no_else_lost x (head_of rest)) (sym o.2) ∙ pairs) ends)
           ∙ node_outcome n rl o.0 rest (even_of o.1) (sunk n 0 o.0) refl
           ∙ ap (λ x. outcome n x rest) (sym o.2)
 
-pub reads_node : (n : ℕ) (on : List Token → Bool) (a : Part) (rl : Rule) (goes : Classes) (r : Reading) → is_no_else rl ≡ false →
+pub reads_node : (n : ℕ) (on : List Token → Bool) (a : Part) (rl : Rule) (goes : Classes) (r : Reading) →
+    is_no_else rl ≡ false →
     Reads n on a goes r → Reads n on (node rl a) goes (read_node rl r)
-reads_node n on a rl goes r plain = reads_wrapped n a (node rl a) rl plain r (λ f u. is_node rl a f u) on goes (λ f u. opened u)
+reads_node n on a rl goes r plain = reads_wrapped n a (node rl a) rl plain r (λ f u. is_node rl a f u) on goes
+    (λ f u. opened u)
 
-pub reads_rule : (n : ℕ) (on : List Token → Bool) (rl : Rule) (goes : Classes) (r : Reading) → is_no_else rl ≡ false →
+pub reads_rule : (n : ℕ) (on : List Token → Bool) (rl : Rule) (goes : Classes) (r : Reading) →
+    is_no_else rl ≡ false →
     Reads n on (grammar rl) goes r → Reads n on (rule rl) goes (read_node rl r)
-reads_rule n on rl goes r plain = reads_wrapped n (grammar rl) (rule rl) rl plain r (λ f u. is_rule rl f u) on goes (λ f u. opened u)
+reads_rule n on rl goes r plain = reads_wrapped n (grammar rl) (rule rl) rl plain r (λ f u. is_rule rl f u) on
+    goes (λ f u. opened u)

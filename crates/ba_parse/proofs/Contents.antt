@@ -23,10 +23,12 @@ use Rattle.ba_parse.proofs.Starts.{FromAll, Blank, first_token, first_then, firs
 
 -- TOKENS
 
-sign_sample : (q : Punct) → mark q (class.Punct q) ≡ true → is_else (Some (token_of (class.Punct q))) ≡ false → Sample (sign q)
+sign_sample : (q : Punct) → mark q (class.Punct q) ≡ true → is_else (Some (token_of (class.Punct q)))
+    ≡ false → Sample (sign q)
 sign_sample q h e = sample_token (mark q) (example (mark q) (class.Punct q) h e)
 
-key_sample : (k : Keyword) → word k (class.Keyword k) ≡ true → is_else (Some (token_of (class.Keyword k))) ≡ false → Sample (key k)
+key_sample : (k : Keyword) → word k (class.Keyword k) ≡ true → is_else (Some (token_of (class.Keyword k)))
+    ≡ false → Sample (key k)
 key_sample k h e = sample_token (word k) (example (word k) (class.Keyword k) h e)
 
 name_sample : Sample name
@@ -34,17 +36,21 @@ name_sample = sample_token (only class.Name) (example (only class.Name) class.Na
 
 -- EXPRESSIONS
 
-first_primary : First (rule primary) (only class.Name or only class.Constant or mark punct.OpenParenthesis) false
+first_primary : First (rule primary) (only class.Name or only class.Constant or mark punct.OpenParenthesis)
+    false
 first_primary =
     first_rule primary
-    (first_or_else (only class.Name or only class.Constant or mark punct.OpenParenthesis) (first_then (first_token (only class.Name)))
-    (first_or_else (only class.Constant or mark punct.OpenParenthesis) (first_token (only class.Constant)) (first_then (first_token (mark punct.OpenParenthesis))) refl) refl)
+    (first_or_else (only class.Name or only class.Constant or mark punct.OpenParenthesis)
+    (first_then (first_token (only class.Name)))
+    (first_or_else (only class.Constant or mark punct.OpenParenthesis) (first_token (only class.Constant))
+    (first_then (first_token (mark punct.OpenParenthesis))) refl) refl)
 
 pub first_unary : First (rule unary) operand_start false
 first_unary =
     first_rule unary
     (first_or_else operand_start (first_then (first_token prefix_sign))
-    (first_or_else (only class.Name or only class.Constant or mark punct.OpenParenthesis) (first_then (first_then (first_token (mark punct.OpenParenthesis)))) first_primary refl) refl)
+    (first_or_else (only class.Name or only class.Constant or mark punct.OpenParenthesis)
+    (first_then (first_then (first_token (mark punct.OpenParenthesis)))) first_primary refl) refl)
 
 first_operand : (n : ℕ) → First (operand n) operand_start false
 first_operand zero = first_unary
@@ -58,7 +64,8 @@ pub first_expression : First expression operand_start false
 first_expression = first_rule conditional (first_then (first_operand 10))
 
 sample_primary : Sample (rule primary)
-sample_primary = sample_rule primary refl (sample_first (sample_after name_sample (sample_second (sample_maybe (in_parentheses (rule arguments))))))
+sample_primary = sample_rule primary refl
+    (sample_first (sample_after name_sample (sample_second (sample_maybe (in_parentheses (rule arguments))))))
 
 pub sample_unary : Sample (rule unary)
 sample_unary = sample_rule unary refl (sample_second (sample_second sample_primary))
@@ -72,23 +79,27 @@ sample_chained zero = sample_unary
 sample_chained (suc n) = sample_after (sample_operand n) (sample_maybe (rule (chain (suc n))))
 
 pub sample_expression : Sample expression
-sample_expression = sample_rule conditional refl (sample_after (sample_operand 10) (sample_second sample_nothing))
+sample_expression = sample_rule conditional refl (sample_after (sample_operand 10)
+    (sample_second sample_nothing))
 
 expression_in_parentheses_sample : Sample (deeper expression · sign punct.CloseParenthesis)
-expression_in_parentheses_sample = sample_after (sample_deeper sample_expression) (sign_sample punct.CloseParenthesis refl refl)
+expression_in_parentheses_sample = sample_after (sample_deeper sample_expression)
+    (sign_sample punct.CloseParenthesis refl refl)
 
 from_primary : FromAll (rule primary) (only class.Name or only class.Constant or mark punct.OpenParenthesis)
 from_primary =
     from_rule primary refl
     (from_either (only class.Name or only class.Constant or mark punct.OpenParenthesis)
-    (from_then (from_token (only class.Name)) (sample_second (sample_maybe (in_parentheses (rule arguments)))))
+    (from_then (from_token (only class.Name))
+    (sample_second (sample_maybe (in_parentheses (rule arguments)))))
     (from_either (only class.Constant or mark punct.OpenParenthesis) (from_token (only class.Constant))
     (from_then (from_token (mark punct.OpenParenthesis)) expression_in_parentheses_sample) refl) refl)
 
 pub from_unary : FromAll (rule unary) operand_start
 from_unary =
     from_rule unary refl
-    (from_either operand_start (from_then (from_token prefix_sign) (sample_deeper sample_unary)) (from_second from_primary) refl)
+    (from_either operand_start (from_then (from_token prefix_sign) (sample_deeper sample_unary))
+    (from_second from_primary) refl)
 
 from_operand : (n : ℕ) → FromAll (operand n) operand_start
 from_operand zero = from_unary
@@ -105,17 +116,20 @@ pub first_arguments : First (rule arguments) operand_start true
 first_arguments = first_rule arguments (first_maybe (first_then first_expression) refl)
 
 pub from_arguments : FromAll (rule arguments) operand_start
-from_arguments = from_rule arguments refl (from_first (from_then from_expression (sample_many (sign punct.Comma · expression))))
+from_arguments = from_rule arguments refl
+    (from_first (from_then from_expression (sample_many (sign punct.Comma · expression))))
 
 -- TYPES
 
 words_of_one : (c : TokenClass) → type_word c ≡ true → names_type false (c ∷ []) ≡ true
-words_of_one c h = or_not (type_word c) (names_type false (c ∷ [])) (everywhere (λ c. not (type_word c) || names_type false (c ∷ [])) refl c) h
+words_of_one c h = or_not (type_word c) (names_type false (c ∷ []))
+    (everywhere (λ c. not (type_word c) || names_type false (c ∷ [])) refl c) h
 
 abbrev no_type : Classes
 no_type c = declaration_word false c && not (type_word c)
 
-words_of_two : (c : TokenClass) → no_type c ≡ true → names_type false (c ∷ class.Keyword keyword.Int ∷ []) ≡ true
+words_of_two : (c : TokenClass) → no_type c ≡ true → names_type false (c ∷ class.Keyword keyword.Int ∷ [])
+    ≡ true
 words_of_two c h =
     or_not (no_type c) (names_type false (c ∷ class.Keyword keyword.Int ∷ []))
     (everywhere (λ c. not (no_type c) || names_type false (c ∷ class.Keyword keyword.Int ∷ [])) refl c) h
@@ -149,7 +163,8 @@ pub sample_type_words : Sample (type_words false)
 sample_type_words = sample_node type_name refl (good_words 0 false).sample
 
 pub from_type_words : FromAll (type_words false) (declaration_word false)
-from_type_words = from_node type_name refl (from_both (declaration_word false) from_type_word from_other_word refl)
+from_type_words = from_node type_name refl (from_both (declaration_word false) from_type_word from_other_word
+    refl)
 
 -- DECLARATIONS
 
@@ -157,10 +172,12 @@ sample_declarator : Sample (rule declarator)
 sample_declarator =
     sample_rule declarator refl
     (sample_after name_sample
-    (sample_after (sample_maybe (rule array_length)) (sample_maybe (sign punct.Assign · (rule braced ∣ expression)))))
+    (sample_after (sample_maybe (rule array_length))
+    (sample_maybe (sign punct.Assign · (rule braced ∣ expression)))))
 
 sample_declarators : Sample (rule declarators)
-sample_declarators = sample_rule declarators refl (sample_after sample_declarator (sample_many (sign punct.Comma · rule declarator)))
+sample_declarators = sample_rule declarators refl (sample_after sample_declarator
+    (sample_many (sign punct.Comma · rule declarator)))
 
 semicolon_sample : Sample semicolon
 semicolon_sample = sign_sample punct.Semicolon refl refl
@@ -169,7 +186,8 @@ first_declaration : First (rule declaration) (declaration_word false) false
 first_declaration = first_rule declaration (first_then first_type_words)
 
 from_declaration : FromAll (rule declaration) (declaration_word false)
-from_declaration = from_rule declaration refl (from_then from_type_words (sample_after sample_declarators semicolon_sample))
+from_declaration = from_rule declaration refl
+    (from_then from_type_words (sample_after sample_declarators semicolon_sample))
 
 pub first_parameter : First (rule parameter) (declaration_word false) false
 first_parameter = first_rule parameter (first_then first_type_words)
@@ -178,10 +196,12 @@ pub first_parameters : First (rule parameters) (declaration_word false) true
 first_parameters = first_rule parameters (first_maybe (first_then first_parameter) refl)
 
 from_parameter : FromAll (rule parameter) (declaration_word false)
-from_parameter = from_rule parameter refl (from_then from_type_words (sample_after (sample_first name_sample) (sample_maybe (rule array_length))))
+from_parameter = from_rule parameter refl (from_then from_type_words (sample_after (sample_first name_sample)
+    (sample_maybe (rule array_length))))
 
 pub from_parameters : FromAll (rule parameters) (declaration_word false)
-from_parameters = from_rule parameters refl (from_first (from_then from_parameter (sample_many (sign punct.Comma · rule parameter))))
+from_parameters = from_rule parameters refl
+    (from_first (from_then from_parameter (sample_many (sign punct.Comma · rule parameter))))
 
 -- STATEMENTS
 
@@ -199,17 +219,20 @@ first_simple =
     (first_then (first_rule target (first_then (first_token (only class.Name))))) refl) refl)
 
 sample_simple : Sample (rule simple)
-sample_simple = sample_rule simple refl (sample_first (sample_after (sample_token step_sign step_example) sample_target))
+sample_simple = sample_rule simple refl (sample_first (sample_after (sample_token step_sign step_example)
+    sample_target))
 
 no_arguments : Sample (in_parentheses (rule arguments))
 no_arguments =
     sample_after (sign_sample punct.OpenParenthesis refl refl)
-    (sample_after (sample_deeper (sample_rule arguments refl (sample_second sample_nothing))) (sign_sample punct.CloseParenthesis refl refl))
+    (sample_after (sample_deeper (sample_rule arguments refl (sample_second sample_nothing)))
+    (sign_sample punct.CloseParenthesis refl refl))
 
 from_simple : FromAll (rule simple) simple_start
 from_simple =
     from_rule simple refl
-    (from_either simple_start (from_then (from_token step_sign) sample_target) (from_first (from_then (from_token (only class.Name)) no_arguments)) refl)
+    (from_either simple_start (from_then (from_token step_sign) sample_target)
+    (from_first (from_then (from_token (only class.Name)) no_arguments)) refl)
 
 pub sample_statement : Sample (rule statement)
 sample_statement = sample_rule statement refl (sample_second (sample_first semicolon_sample))
@@ -278,32 +301,43 @@ sample_for_first : Sample (rule for_first)
 sample_for_first = sample_rule for_first refl (sample_second (sample_second sample_nothing))
 
 sample_after_first : Sample (semicolon · maybe expression · semicolon · maybe (rule simples))
-sample_after_first = sample_after semicolon_sample (sample_after (sample_maybe expression) (sample_after semicolon_sample (sample_maybe (rule simples))))
+sample_after_first = sample_after semicolon_sample (sample_after (sample_maybe expression)
+    (sample_after semicolon_sample (sample_maybe (rule simples))))
 
 pub sample_for_head : Sample for_head
 sample_for_head = sample_after sample_for_first sample_after_first
 
 in_parentheses_sample : {a : Part} → Sample a → Sample (in_parentheses a)
-in_parentheses_sample s = sample_after (sign_sample punct.OpenParenthesis refl refl) (sample_after (sample_deeper s) (sign_sample punct.CloseParenthesis refl refl))
+in_parentheses_sample s = sample_after (sign_sample punct.OpenParenthesis refl refl)
+    (sample_after (sample_deeper s) (sign_sample punct.CloseParenthesis refl refl))
 
 pub from_statement : FromAll (rule statement) statement_start
 from_statement =
     from_rule statement refl
     (from_either statement_start
-    (from_rule block refl (from_then (from_token (mark punct.OpenBrace)) (sample_after (sample_deeper (sample_many (rule declaration ∣ rule statement))) (sign_sample punct.CloseBrace refl refl))))
+    (from_rule block refl (from_then (from_token (mark punct.OpenBrace))
+    (sample_after (sample_deeper (sample_many (rule declaration ∣ rule statement)))
+    (sign_sample punct.CloseBrace refl refl))))
     (from_either from_semicolon (from_token (mark punct.Semicolon))
     (from_either (simple_start or from_if) (from_then from_simple semicolon_sample)
-    (from_either from_if (from_then (from_key keyword.If) (sample_after condition_sample (sample_after controlled_sample (sample_second sample_no_else))))
-    (from_either from_while (from_then (from_key keyword.While) (sample_after condition_sample controlled_sample))
+    (from_either from_if (from_then (from_key keyword.If)
+    (sample_after condition_sample (sample_after controlled_sample (sample_second sample_no_else))))
+    (from_either from_while (from_then (from_key keyword.While)
+    (sample_after condition_sample controlled_sample))
     (from_either from_do
     (from_then (from_key keyword.Do)
-    (sample_after controlled_sample (sample_after (key_sample keyword.While refl refl) (sample_after condition_sample semicolon_sample))))
-    (from_either from_for (from_then (from_key keyword.For) (sample_after (in_parentheses_sample sample_for_head) controlled_sample))
+    (sample_after controlled_sample (sample_after (key_sample keyword.While refl refl)
+    (sample_after condition_sample semicolon_sample))))
+    (from_either from_for (from_then (from_key keyword.For)
+    (sample_after (in_parentheses_sample sample_for_head) controlled_sample))
     (from_either from_break (from_then (from_key keyword.Break) semicolon_sample)
     (from_either from_continue (from_then (from_key keyword.Continue) semicolon_sample)
-    (from_either from_return (from_then (from_key keyword.Return) (sample_after (sample_maybe expression) semicolon_sample))
-    (from_either from_assert (from_then (from_key keyword.Assert) (sample_after condition_sample semicolon_sample))
-    (from_then (from_key keyword.Printf) (sample_after (in_parentheses_sample sample_printed) semicolon_sample))
+    (from_either from_return (from_then (from_key keyword.Return) (sample_after (sample_maybe expression)
+    semicolon_sample))
+    (from_either from_assert (from_then (from_key keyword.Assert)
+    (sample_after condition_sample semicolon_sample))
+    (from_then (from_key keyword.Printf) (sample_after (in_parentheses_sample sample_printed)
+    semicolon_sample))
     refl) refl) refl) refl) refl) refl) refl) refl) refl) refl) refl)
 
 pub first_item : First (rule declaration ∣ rule statement) item_start false
@@ -327,18 +361,21 @@ pub first_for_head : First for_head for_start false
 first_for_head = first_skip for_start first_for_first (first_then (first_token (mark punct.Semicolon))) refl
 
 sample_simples : Sample (rule simples)
-sample_simples = sample_rule simples refl (sample_after sample_simple (sample_many (sign punct.Comma · rule simple)))
+sample_simples = sample_rule simples refl
+    (sample_after sample_simple (sample_many (sign punct.Comma · rule simple)))
 
 from_for_first : FromAll (rule for_first) (declaration_word false or simple_start)
 from_for_first =
     from_rule for_first refl
     (from_either (declaration_word false or simple_start) (from_then from_type_words sample_declarators)
-    (from_first (from_rule simples refl (from_then from_simple (sample_many (sign punct.Comma · rule simple))))) refl)
+    (from_first (from_rule simples refl
+    (from_then from_simple (sample_many (sign punct.Comma · rule simple))))) refl)
 
 blank_for_first : Blank (rule for_first)
 blank_for_first = record {
   tree = node_of for_first [];
-  spelled = is_rule for_first [] (is_second (type_words false · rule declarators) (rule simples ∣ nothing) [] (is_second (rule simples) nothing [] is_nothing));
+  spelled = is_rule for_first [] (is_second (type_words false · rule declarators) (rule simples ∣ nothing) []
+      (is_second (rule simples) nothing [] is_nothing));
   no_leaf = refl;
   pairs = λ next. refl;
 }
@@ -347,7 +384,8 @@ pub from_for_head : FromAll for_head for_start
 from_for_head =
     from_both for_start (from_then from_for_first sample_after_first)
     (from_behind blank_for_first
-    (from_then (from_token (mark punct.Semicolon)) (sample_after (sample_maybe expression) (sample_after semicolon_sample (sample_maybe (rule simples)))))) refl
+    (from_then (from_token (mark punct.Semicolon)) (sample_after (sample_maybe expression)
+    (sample_after semicolon_sample (sample_maybe (rule simples)))))) refl
 
 pub first_printed : First printed (only class.Quoted) false
 first_printed = first_then (first_token (only class.Quoted))
@@ -356,4 +394,5 @@ pub printed_sample : Sample printed
 printed_sample = sample_printed
 
 pub from_printed : FromAll printed (only class.Quoted)
-from_printed = from_then (from_token (only class.Quoted)) (sample_after (sample_many (token (only class.Quoted))) (sample_many (sign punct.Comma · expression)))
+from_printed = from_then (from_token (only class.Quoted))
+    (sample_after (sample_many (token (only class.Quoted))) (sample_many (sign punct.Comma · expression)))

@@ -1,4 +1,5 @@
--- Declarations, and what stands around them: their readings keep what readings promise, where those of what counts a level do.
+-- Declarations, and what stands around them: their readings keep what readings promise, where those of what
+-- counts a level do.
 
 use Rattle.std.proofs.Common.{◌≡◌, ℕ, Bool, true, false, List, [], ◌∷◌, refl, sym, subst}
 use Rattle.ba_lex.specs.declared.token.Token.{Token}
@@ -20,63 +21,82 @@ use Rattle.ba_parse.proofs.ExpressionReadings.{Below, example, good_sign, good_n
 use Rattle.ba_parse.proofs.StatementReadings.{but_semicolon, parameter_goes, good_maybe_length, good_simples, good_semicolon, good_maybe_expression, good_block, good_statement}
 
 module _ (n : ℕ) (inner : Inner) (b : Below n inner) where
-  pub good_type_words : (static : Bool) → Good n (type_words static) (declaration_word static) false (declaration_word static) (read_type_words static)
+  pub good_type_words : (static : Bool) → Good n (type_words static) (declaration_word static) false
+      (declaration_word static) (read_type_words static)
   good_type_words static = good_node type_name refl (good_words n static)
 
   good_braced : Good n (rule braced) (mark punct.OpenBrace) false none (read_braced inner)
-  good_braced = good_rule braced refl (good_then none (good_sign n punct.OpenBrace refl refl) (good_then none (good_expression n inner b) (good_braced_tail (good_expression n inner b) refl refl) refl) refl)
+  good_braced = good_rule braced refl (good_then none (good_sign n punct.OpenBrace refl refl)
+      (good_then none (good_expression n inner b) (good_braced_tail (good_expression n inner b) refl refl)
+      refl) refl)
 
-  good_initialiser : Good n (sign punct.Assign · (rule braced ∣ expression)) (mark punct.Assign) false in_expression_goes (read_initialiser inner)
+  good_initialiser : Good n (sign punct.Assign · (rule braced ∣ expression)) (mark punct.Assign) false
+      in_expression_goes (read_initialiser inner)
   good_initialiser =
       good_then in_expression_goes (good_sign n punct.Assign refl refl)
-      (good_either (mark punct.OpenBrace) (mark punct.OpenBrace or operand_start) in_expression_goes good_braced (good_expression n inner b) refl refl) refl
+      (good_either (mark punct.OpenBrace) (mark punct.OpenBrace or operand_start) in_expression_goes
+      good_braced (good_expression n inner b) refl refl) refl
 
   abbrev after_declared : Classes
   after_declared = mark punct.OpenBracket or mark punct.Assign
 
-  good_after_declared : Good n (maybe (rule array_length) · maybe (sign punct.Assign · (rule braced ∣ expression))) after_declared true in_expression_goes
+  good_after_declared : Good n (maybe (rule array_length) · maybe
+      (sign punct.Assign · (rule braced ∣ expression))) after_declared true in_expression_goes
       (maybe_length inner ▹ read_maybe (mark punct.Assign) (read_initialiser inner))
   good_after_declared =
       good_skip after_declared in_expression_goes (good_maybe_length n inner b)
       (good_maybe (mark punct.Assign) in_expression_goes good_initialiser refl refl) refl refl
 
-  good_declarator : Good n (rule declarator) (only class.Name) false in_expression_goes (read_declarator inner)
-  good_declarator = good_rule declarator refl (good_then in_expression_goes (good_name n) good_after_declared refl)
+  good_declarator : Good n (rule declarator) (only class.Name) false in_expression_goes
+      (read_declarator inner)
+  good_declarator = good_rule declarator refl (good_then in_expression_goes (good_name n) good_after_declared
+      refl)
 
   abbrev declarator_more : Classes
   declarator_more = after_declared or mark punct.Comma
 
-  good_more_declarators : Good n (many (sign punct.Comma · rule declarator)) (mark punct.Comma) true but_semicolon
+  good_more_declarators : Good n (many (sign punct.Comma · rule declarator)) (mark punct.Comma) true
+      but_semicolon
       (read_many (next_is (mark punct.Comma)) (read_sign punct.Comma ▹ read_declarator inner))
   good_more_declarators =
-      good_many (mark punct.Comma) but_semicolon (good_then in_expression_goes (good_sign n punct.Comma refl refl) good_declarator refl) refl
+      good_many (mark punct.Comma) but_semicolon
+      (good_then in_expression_goes (good_sign n punct.Comma refl refl) good_declarator refl) refl
 
-  pub good_declarators : Good n (rule declarators) (only class.Name) false but_semicolon (read_declarators inner)
-  good_declarators = good_rule declarators refl (good_then but_semicolon good_declarator good_more_declarators refl)
+  pub good_declarators : Good n (rule declarators) (only class.Name) false but_semicolon
+      (read_declarators inner)
+  good_declarators = good_rule declarators refl (good_then but_semicolon good_declarator good_more_declarators
+      refl)
 
-  pub good_declaration : Good n (rule declaration) (declaration_word false) false none (read_declaration inner)
+  pub good_declaration : Good n (rule declaration) (declaration_word false) false none
+      (read_declaration inner)
   good_declaration =
-      good_rule declaration refl (good_then none (good_type_words false) (good_then none good_declarators (good_semicolon n inner b) refl) refl)
+      good_rule declaration refl (good_then none (good_type_words false) (good_then none good_declarators
+      (good_semicolon n inner b) refl) refl)
 
-  good_parameter : Good n (rule parameter) (declaration_word false) false parameter_goes (read_parameter inner)
+  good_parameter : Good n (rule parameter) (declaration_word false) false parameter_goes
+      (read_parameter inner)
   good_parameter =
       good_rule parameter refl
       (good_then parameter_goes (good_type_words false)
       (good_skip (only class.Name or mark punct.OpenBracket) (only class.Name or mark punct.OpenBracket)
-      (good_either (only class.Name) (only class.Name) (only class.Name) (good_name n) (good_node no_name refl (good_nothing n)) refl refl)
+      (good_either (only class.Name) (only class.Name) (only class.Name) (good_name n)
+      (good_node no_name refl (good_nothing n)) refl refl)
       (good_maybe_length n inner b) refl refl) refl)
 
-  pub good_parameters : Good n (rule parameters) (declaration_word false) true but_closing (read_parameters inner)
+  pub good_parameters : Good n (rule parameters) (declaration_word false) true but_closing
+      (read_parameters inner)
   good_parameters =
       good_rule parameters refl
       (good_maybe (declaration_word false) but_closing
       (good_then but_closing good_parameter
-      (good_many (mark punct.Comma) but_closing (good_then parameter_goes (good_sign n punct.Comma refl refl) good_parameter refl) refl) refl)
+      (good_many (mark punct.Comma) but_closing (good_then parameter_goes (good_sign n punct.Comma refl refl)
+      good_parameter refl) refl) refl)
       refl refl)
 
   -- what counts a level
 
-  good_for_first : Good n (rule for_first) (declaration_word false or simple_start) true but_semicolon (read_for_first inner)
+  good_for_first : Good n (rule for_first) (declaration_word false or simple_start) true but_semicolon
+      (read_for_first inner)
   good_for_first =
       good_rule for_first refl
       (good_either (declaration_word false) (declaration_word false or simple_start) but_semicolon
@@ -88,30 +108,42 @@ module _ (n : ℕ) (inner : Inner) (b : Below n inner) where
       good_skip for_start but_parenthesis good_for_first
       (good_then but_parenthesis (good_semicolon n inner b)
       (good_skip (operand_start or mark punct.Semicolon) but_parenthesis (good_maybe_expression n inner b)
-      (good_then but_parenthesis (good_semicolon n inner b) (good_maybe simple_start but_parenthesis (good_simples n inner b) refl refl) refl) refl refl) refl) refl refl
+      (good_then but_parenthesis (good_semicolon n inner b) (good_maybe simple_start but_parenthesis
+      (good_simples n inner b) refl refl) refl) refl refl) refl) refl refl
 
   pub good_printed : Good n printed (only class.Quoted) false but_closing (read_printed inner)
   good_printed =
-      good_then but_closing (good_token n (only class.Quoted) (example (only class.Quoted) class.Quoted refl refl))
+      good_then but_closing (good_token n (only class.Quoted) (example (only class.Quoted) class.Quoted refl
+      refl))
       (good_skip (only class.Quoted or mark punct.Comma) but_closing
-      (good_many (only class.Quoted) (only class.Quoted) (good_token n (only class.Quoted) (example (only class.Quoted) class.Quoted refl refl)) refl)
-      (good_many (mark punct.Comma) but_closing (good_then in_expression_goes (good_sign n punct.Comma refl refl) (good_expression n inner b) refl) refl) refl refl) refl
+      (good_many (only class.Quoted) (only class.Quoted) (good_token n (only class.Quoted)
+      (example (only class.Quoted) class.Quoted refl refl)) refl)
+      (good_many (mark punct.Comma) but_closing
+      (good_then in_expression_goes (good_sign n punct.Comma refl refl) (good_expression n inner b) refl)
+      refl) refl refl) refl
 
-  pub good_items : Good n (many (rule declaration ∣ rule statement)) item_start true but_brace (read_many (next_is item_start) (read_item inner))
+  pub good_items : Good n (many (rule declaration ∣ rule statement)) item_start true but_brace
+      (read_many (next_is item_start) (read_item inner))
   good_items =
-      good_many item_start but_brace (good_either (declaration_word false) item_start none good_declaration (good_statement n inner b) refl refl) refl
+      good_many item_start but_brace (good_either (declaration_word false) item_start none good_declaration
+      (good_statement n inner b) refl refl) refl
 
   -- EXTERNALS AND FILES
 
-  good_end : (x : Bool) → Good n (function_end x) (mark punct.OpenBrace or mark punct.Semicolon) false none (read_function_end inner x)
-  good_end true = good_either (mark punct.OpenBrace) (mark punct.OpenBrace or mark punct.Semicolon) none (good_block n inner b) (good_semicolon n inner b) refl refl
-  good_end false = good_more (mark punct.OpenBrace or mark punct.Semicolon) none (good_semicolon n inner b) refl
+  good_end : (x : Bool) → Good n (function_end x) (mark punct.OpenBrace or mark punct.Semicolon) false none
+      (read_function_end inner x)
+  good_end true = good_either (mark punct.OpenBrace) (mark punct.OpenBrace or mark punct.Semicolon) none
+      (good_block n inner b) (good_semicolon n inner b) refl refl
+  good_end false = good_more (mark punct.OpenBrace or mark punct.Semicolon) none (good_semicolon n inner b)
+      refl
 
   abbrev closing_part : List Mark → Part
   closing_part f = sign punct.CloseParenthesis · function_end (takes_block f)
 
-  good_closing : (f : List Mark) → Good n (closing_part f) (mark punct.CloseParenthesis) false none (after_parameters inner f)
-  good_closing f = good_then none (good_sign n punct.CloseParenthesis refl refl) (good_end (takes_block f)) refl
+  good_closing : (f : List Mark) → Good n (closing_part f) (mark punct.CloseParenthesis) false none
+      (after_parameters inner f)
+  good_closing f = good_then none (good_sign n punct.CloseParenthesis refl refl) (good_end (takes_block f))
+      refl
 
   abbrev after_open : Part
   after_open = after (deeper (rule parameters)) closing_part
@@ -126,19 +158,24 @@ module _ (n : ℕ) (inner : Inner) (b : Below n inner) where
     last = λ c e. e;
   }
 
-  good_after_open : Good n after_open (declaration_word false or mark punct.CloseParenthesis) false none read_after_open
+  good_after_open : Good n after_open (declaration_word false or mark punct.CloseParenthesis) false none
+      read_after_open
   good_after_open = record {
     reads =
-        reads_after n (deeper (rule parameters)) closing_part (deeper_in inner in_parameters) (after_parameters inner) but_closing none none
-        (mark punct.CloseParenthesis) false always b.below_parameters.reads (λ f u. (good_closing f).reads) (λ f u. (good_closing f).first)
+        reads_after n (deeper (rule parameters)) closing_part (deeper_in inner in_parameters)
+        (after_parameters inner) but_closing none none
+        (mark punct.CloseParenthesis) false always b.below_parameters.reads (λ f u. (good_closing f).reads)
+        (λ f u. (good_closing f).first)
         (λ f u. (good_closing f).sample) open_follows;
     first = record {
       begins = λ f u.
           let o : Opened after_open f = opened u in
           subst (λ x. BeginsWith more false (yield x)) (sym o.4)
           (subst (BeginsWith more false) (sym (yield_append o.0 o.1))
-          (begins_skip (declaration_word false) (mark punct.CloseParenthesis) more false (inside (declaration_word false) more refl)
-          (inside (mark punct.CloseParenthesis) more refl) (yield o.0) (yield o.1) (b.below_parameters.first.begins o.0 o.2)
+          (begins_skip (declaration_word false) (mark punct.CloseParenthesis) more false
+          (inside (declaration_word false) more refl)
+          (inside (mark punct.CloseParenthesis) more refl) (yield o.0) (yield o.1)
+          (b.below_parameters.first.begins o.0 o.2)
           ((good_closing o.0).first.begins o.1 o.3)));
     };
     sample = sample_after b.below_parameters.sample (good_closing b.below_parameters.sample.tree).sample;
@@ -147,13 +184,15 @@ module _ (n : ℕ) (inner : Inner) (b : Below n inner) where
       more : Classes
       more = declaration_word false or mark punct.CloseParenthesis
 
-  good_open : Good n (sign punct.OpenParenthesis · after_open) (mark punct.OpenParenthesis) false none (read_sign punct.OpenParenthesis ▹ read_after_open)
+  good_open : Good n (sign punct.OpenParenthesis · after_open) (mark punct.OpenParenthesis) false none
+      (read_sign punct.OpenParenthesis ▹ read_after_open)
   good_open = good_then none (good_sign n punct.OpenParenthesis refl refl) good_after_open refl
 
   good_function_tail : Good n function_tail (only class.Name) false none (read_function_tail inner)
   good_function_tail = good_then none (good_name n) good_open refl
 
-  good_variables : Good n (rule declarators · semicolon) (only class.Name) false none (read_declarators inner ▹ read_semicolon)
+  good_variables : Good n (rule declarators · semicolon) (only class.Name) false none (read_declarators inner
+      ▹ read_semicolon)
   good_variables = good_then none good_declarators (good_semicolon n inner b) refl
 
   is_function_two : (ts : List Token) → is_function ts ≡ two (only class.Name) (mark punct.OpenParenthesis) ts
@@ -162,9 +201,11 @@ module _ (n : ℕ) (inner : Inner) (b : Below n inner) where
 
   takes_declarators : Takes (only class.Name) (read_declarators inner)
   takes_declarators =
-      takes_node (only class.Name) declarators (read_declarator inner ▹ read_many (next_is (mark punct.Comma)) (read_sign punct.Comma ▹ read_declarator inner))
+      takes_node (only class.Name) declarators (read_declarator inner ▹ read_many (next_is (mark punct.Comma))
+      (read_sign punct.Comma ▹ read_declarator inner))
       (takes_then (only class.Name) (read_declarator inner)
-      (takes_node (only class.Name) declarator (read_name ▹ maybe_length inner ▹ read_maybe (mark punct.Assign) (read_initialiser inner))
+      (takes_node (only class.Name) declarator (read_name ▹ maybe_length inner ▹ read_maybe
+      (mark punct.Assign) (read_initialiser inner))
       (takes_then (only class.Name) read_name (takes_token (only class.Name)) good_after_declared))
       good_more_declarators)
 
@@ -172,21 +213,26 @@ module _ (n : ℕ) (inner : Inner) (b : Below n inner) where
   second_declarator = second_rule declarator (second_token_then (only class.Name) good_after_declared.first)
 
   second_declarators : Second (rule declarators) declarator_more true
-  second_declarators = second_rule declarators (second_maybe_then declarator_more good_declarator.first second_declarator good_more_declarators.first refl)
+  second_declarators = second_rule declarators (second_maybe_then declarator_more good_declarator.first
+      second_declarator good_more_declarators.first refl)
 
   good_external_tail : Good n (function_tail ∣ rule declarators · semicolon) (only class.Name) false none
       (read_either is_function (read_function_tail inner) (read_declarators inner ▹ read_semicolon))
   good_external_tail =
-      good_ahead is_function (only class.Name) (mark punct.OpenParenthesis) (only class.Name) none is_function_two good_function_tail good_variables
+      good_ahead is_function (only class.Name) (mark punct.OpenParenthesis) (only class.Name) none
+      is_function_two good_function_tail good_variables
       (takes_then (only class.Name) read_name (takes_token (only class.Name)) good_open)
       (takes_then (only class.Name) (read_declarators inner) takes_declarators (good_semicolon n inner b))
-      (picks_true (only class.Name) (mark punct.OpenParenthesis) good_function_tail.first (second_token_then (only class.Name) good_open.first) refl)
+      (picks_true (only class.Name) (mark punct.OpenParenthesis) good_function_tail.first
+      (second_token_then (only class.Name) good_open.first) refl)
       (picks_false (only class.Name) (mark punct.OpenParenthesis) good_variables.first
-      (second_then (declarator_more or mark punct.Semicolon) good_declarators.first second_declarators (good_semicolon n inner b).first refl) refl)
+      (second_then (declarator_more or mark punct.Semicolon) good_declarators.first second_declarators
+      (good_semicolon n inner b).first refl) refl)
       refl refl
 
   pub good_external : Good n (rule external) (declaration_word true) false none (read_external inner)
   good_external = good_rule external refl (good_then none (good_type_words true) good_external_tail refl)
 
   pub good_file : Good n (rule file) (declaration_word true) true (declaration_word true) (read_file inner)
-  good_file = good_rule file refl (good_many (declaration_word true) (declaration_word true) good_external refl)
+  good_file = good_rule file refl (good_many (declaration_word true) (declaration_word true) good_external
+      refl)

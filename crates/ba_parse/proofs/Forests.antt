@@ -26,7 +26,8 @@ pub yield_leaves : (ts : List Token) → yield (map leaf ts) ≡ ts
 yield_leaves [] = refl
 yield_leaves (t ∷ ts) = ap (λ us. t ∷ us) (yield_leaves ts)
 
-pub first_or_append : (ts us : List Token) (next : Option Token) → first_or (ts ++ us) next ≡ first_or ts (first_or us next)
+pub first_or_append : (ts us : List Token) (next : Option Token) → first_or (ts ++ us) next ≡ first_or ts
+    (first_or us next)
 first_or_append [] us next = refl
 first_or_append (t ∷ ts) us next = refl
 
@@ -45,12 +46,15 @@ pairs_append (leave r ∷ f) g next =
     let here : first_or (yield (f ++ g)) next ≡ first_or (yield f) (first_or (yield g) next) =
     ap (λ ts. first_or ts next) (yield_append f g) ∙ first_or_append (yield f) (yield g) next in
     ap (λ o. not (is_no_else r && is_else o) && no_else_lost (f ++ g) next) here
-    ∙ ap (λ b. not (is_no_else r && is_else (first_or (yield f) (first_or (yield g) next))) && b) (pairs_append f g next)
-    ∙ sym (and_assoc (not (is_no_else r && is_else (first_or (yield f) (first_or (yield g) next)))) (no_else_lost f (first_or (yield g) next)) (no_else_lost g next))
+    ∙ ap (λ b. not (is_no_else r && is_else (first_or (yield f) (first_or (yield g) next))) && b)
+    (pairs_append f g next)
+    ∙ sym (and_assoc (not (is_no_else r && is_else (first_or (yield f) (first_or (yield g) next))))
+    (no_else_lost f (first_or (yield g) next)) (no_else_lost g next))
 pairs_append (down ∷ f) g next = pairs_append f g next
 pairs_append (up ∷ f) g next = pairs_append f g next
 
--- LEVELS: the marks from the first leaf on around which more than n constructs are, where d are around the whole
+-- LEVELS: the marks from the first leaf on around which more than n constructs are, where d are around the
+-- whole
 
 abbrev pub back : ℕ → ℕ
 back zero = zero
@@ -126,13 +130,16 @@ even_leaf t = record {
 pub even_append : (f g : List Mark) → IsEven f → IsEven g → IsEven (f ++ g)
 even_append f g p q = record {
   joins = λ n d h.
-      ap (sunk n d) (append_assoc f g h) ∙ p.joins n d (g ++ h) ∙ ap (or_tail (sunk n d f) (g ++ h)) (q.joins n d h)
-      ∙ or_tail_assoc (sunk n d f) g h (sunk n d g) (sunk n d h) ∙ ap (λ x. or_tail x h (sunk n d h)) (sym (p.joins n d g));
+      ap (sunk n d) (append_assoc f g h) ∙ p.joins n d (g ++ h) ∙ ap (or_tail (sunk n d f) (g ++ h))
+      (q.joins n d h)
+      ∙ or_tail_assoc (sunk n d f) g h (sunk n d g) (sunk n d h) ∙ ap (λ x. or_tail x h (sunk n d h))
+      (sym (p.joins n d g));
   shifts = λ n d.
       p.joins (suc n) (suc d) g ∙ ap (λ x. or_tail x g (sunk (suc n) (suc d) g)) (p.shifts n d)
       ∙ ap (or_tail (sunk n d f) g) (q.shifts n d) ∙ sym (p.joins n d g);
   sinks = λ n d h.
-      p.joins n d g ∙ ap (λ x. or_tail x g (sunk n d g)) (p.sinks n d h) ∙ ap (or_tail (from_leaf f) g) (q.sinks n d h)
+      p.joins n d g ∙ ap (λ x. or_tail x g (sunk n d g)) (p.sinks n d h)
+      ∙ ap (or_tail (from_leaf f) g) (q.sinks n d h)
       ∙ sym (from_leaf_append f g);
 }
 
@@ -140,22 +147,28 @@ pub even_node : (r : Rule) (f : List Mark) → IsEven f → IsEven (node_of r f)
 even_node r f p = record {
   joins = λ n d h.
       ap (sunk n d) (append_assoc f (leave r ∷ []) h) ∙ p.joins n d (leave r ∷ h)
-      ∙ or_tail_mark (sunk n d f) (leave r) h (sunk n d h) ∙ ap (λ x. or_tail x h (sunk n d h)) (sym (p.joins n d (leave r ∷ [])));
+      ∙ or_tail_mark (sunk n d f) (leave r) h (sunk n d h) ∙ ap (λ x. or_tail x h (sunk n d h))
+      (sym (p.joins n d (leave r ∷ [])));
   shifts = λ n d.
-      p.joins (suc n) (suc d) (leave r ∷ []) ∙ ap (λ x. or_tail x (leave r ∷ []) None) (p.shifts n d) ∙ sym (p.joins n d (leave r ∷ []));
+      p.joins (suc n) (suc d) (leave r ∷ []) ∙ ap (λ x. or_tail x (leave r ∷ []) None) (p.shifts n d)
+      ∙ sym (p.joins n d (leave r ∷ []));
   sinks = λ n d h.
-      p.joins n d (leave r ∷ []) ∙ ap (λ x. or_tail x (leave r ∷ []) None) (p.sinks n d h) ∙ sym (from_leaf_append f (leave r ∷ []));
+      p.joins n d (leave r ∷ []) ∙ ap (λ x. or_tail x (leave r ∷ []) None) (p.sinks n d h)
+      ∙ sym (from_leaf_append f (leave r ∷ []));
 }
 
 pub even_deeper : (f : List Mark) → IsEven f → IsEven (one_deeper f)
 even_deeper f p = record {
   joins = λ n d h.
       ap (sunk n (suc d)) (append_assoc f (up ∷ []) h) ∙ p.joins n (suc d) (up ∷ h)
-      ∙ or_tail_mark (sunk n (suc d) f) up h (sunk n d h) ∙ ap (λ x. or_tail x h (sunk n d h)) (sym (p.joins n (suc d) (up ∷ [])));
+      ∙ or_tail_mark (sunk n (suc d) f) up h (sunk n d h) ∙ ap (λ x. or_tail x h (sunk n d h))
+      (sym (p.joins n (suc d) (up ∷ [])));
   shifts = λ n d.
-      p.joins (suc n) (suc (suc d)) (up ∷ []) ∙ ap (λ x. or_tail x (up ∷ []) None) (p.shifts n (suc d)) ∙ sym (p.joins n (suc d) (up ∷ []));
+      p.joins (suc n) (suc (suc d)) (up ∷ []) ∙ ap (λ x. or_tail x (up ∷ []) None) (p.shifts n (suc d))
+      ∙ sym (p.joins n (suc d) (up ∷ []));
   sinks = λ n d h.
-      p.joins n (suc d) (up ∷ []) ∙ ap (λ x. or_tail x (up ∷ []) None) (p.sinks n (suc d) (deeper_is_deep n d h)) ∙ sym (from_leaf_append f (up ∷ []));
+      p.joins n (suc d) (up ∷ []) ∙ ap (λ x. or_tail x (up ∷ []) None)
+      (p.sinks n (suc d) (deeper_is_deep n d h)) ∙ sym (from_leaf_append f (up ∷ []));
 }
   where
     deeper_is_deep : (n d : ℕ) → n < d → n < suc d

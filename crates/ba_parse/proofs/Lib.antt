@@ -23,6 +23,7 @@ pub mod TypeWords
 pub mod Begins
 pub mod OtherRepeats
 pub mod StatementBegins
-pub mod Calm
+pub mod StatementForms
+pub mod Quiet
 pub mod Named
 pub mod ToldOutcomes

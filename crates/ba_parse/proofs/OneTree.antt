@@ -25,10 +25,13 @@ below_total (x ∷ xs) (suc k) = let e : get_or xs k 0 ≤ total xs = below_tota
 read_as : (n : ℕ) (tokens : List Token) (tree : List Mark) → IsFile tokens tree → total (levels 0 tree) ≤ n →
     read_file (levels_left n) tokens ≡ done tree []
 read_as n tokens tree it enough =
-    let reads : Reads n always (rule file) (declaration_word true) (read_file (levels_left n)) = (good_files n).reads in
+    let reads : Reads n always (rule file) (declaration_word true) (read_file (levels_left n)) =
+    (good_files n).reads in
     let flat : sunk n 0 tree ≡ None =
-    deep_none n 0 tree (λ k. let e : get_or (levels 0 tree) k 0 ≤ total (levels 0 tree) = below_total (levels 0 tree) k in omega (arith, e, enough)) in
-    ap (read_file (levels_left n)) (sym (append-nil (yield tree) ∙ it.yields)) ∙ reads.given tree [] it.spelled it.pairs_else refl
+    deep_none n 0 tree (λ k. let e : get_or (levels 0 tree) k 0 ≤ total (levels 0 tree) =
+    below_total (levels 0 tree) k in omega (arith, e, enough)) in
+    ap (read_file (levels_left n)) (sym (append-nil (yield tree) ∙ it.yields))
+    ∙ reads.given tree [] it.spelled it.pairs_else refl
     ∙ ap (λ x. outcome_of x tree []) flat
 
 abbrev tree_in : List Mark → Answer → List Mark
@@ -36,7 +39,9 @@ tree_in d (done f rest) = f
 tree_in d (syntax rest) = d
 tree_in d (too_deep rest) = d
 
-pub one_tree : (tokens : List Token) (tree other : List Mark) → IsFile tokens tree → IsFile tokens other → tree ≡ other
+pub one_tree : (tokens : List Token) (tree other : List Mark) → IsFile tokens tree → IsFile tokens other →
+    tree ≡ other
 one_tree tokens tree other it that =
     let n : ℕ = total (levels 0 tree) + total (levels 0 other) in
-    ap (tree_in tree) (sym (read_as n tokens tree it (omega arith)) ∙ read_as n tokens other that (omega arith))
+    ap (tree_in tree) (sym (read_as n tokens tree it (omega arith))
+    ∙ read_as n tokens other that (omega arith))

@@ -130,7 +130,8 @@ class_there class.Quoted = refl
 class_there (class.Keyword k) = keyword_there k
 class_there (class.Punct q) = punct_there q
 
-all_at : {X : Type 0} (p : X → Bool) (xs : List X) (d : X) → list_all p xs ≡ true → p d ≡ true → (i : ℕ) → p (get_or xs i d) ≡ true
+all_at : {X : Type 0} (p : X → Bool) (xs : List X) (d : X) → list_all p xs ≡ true → p d ≡ true → (i : ℕ) →
+    p (get_or xs i d) ≡ true
 all_at p [] d h e i = e
 all_at p (x ∷ xs) d h e zero = and_left (p x) (list_all p xs) h
 all_at p (x ∷ xs) d h e (suc i) = all_at p xs d (and_right (p x) (list_all p xs) h) e i
@@ -141,7 +142,8 @@ holds_everywhere p = list_all p all_classes
 
 pub everywhere : (p : Classes) → holds_everywhere p ≡ true → (c : TokenClass) → p c ≡ true
 everywhere p h c =
-    ap p (sym (class_there c)) ∙ all_at p all_classes class.Name h (and_left (p class.Name) (list_all p (tail all_classes)) h) (class_number c)
+    ap p (sym (class_there c)) ∙ all_at p all_classes class.Name h
+    (and_left (p class.Name) (list_all p (tail all_classes)) h) (class_number c)
   where
     tail : List TokenClass → List TokenClass
     tail [] = []

@@ -1,13 +1,13 @@
 -- The words of a type, one after another.
 
-use Rattle.std.proofs.Common.{◌≡◌, ◌<◌, Bool, true, false, ◌&&◌, ◌||◌, List, [], ◌∷◌, ◌++◌, length, map, Bor, Err, append_assoc, refl, sym, ap, ◌∙◌, arith}
+use Rattle.std.proofs.Common.{◌≡◌, ◌<◌, Bool, true, false, List, [], ◌∷◌, ◌++◌, length, map, Bor, Err, append_assoc, refl, sym, ap, ◌∙◌, arith}
 use Rattle.std.proofs.lemmas.List.{append-nil, map-append}
-use Rattle.std.specs.List.{list_any, list_all}
+use Rattle.std.specs.List.{list_any}
 use Rattle.ba_lex.specs.declared.token.Token.{Token}
 use Rattle.ba_parse.specs.declared.class.TokenClass.{TokenClass}
 use Rattle.ba_parse.specs.declared.reader.Stop.{Stop}
 use Rattle.ba_parse.specs.declared.reader.Stop.TheVariants as stop
-use Rattle.ba_parse.specs.Classes.{class_of, type_word, declaration_word, agree}
+use Rattle.ba_parse.specs.Classes.{class_of, type_word, declaration_word}
 use Rattle.ba_parse.specs.Marks.{Mark, leaf, node_of, type_name}
 use Rattle.ba_parse.specs.Readings.{Answer, done, syntax, too_deep, with_front, next_is, words_after, after_words, around}
 use Rattle.ba_parse.specs.Telling.{Told, next_word, agrees_with}
@@ -18,7 +18,8 @@ leaves ws = map (λ w. leaf w.now) ws
 abbrev pub classes : List (Bor Token) → List TokenClass
 classes ws = map (λ w. class_of w.now) ws
 
-pub classes-push : (ws : List (Bor Token)) (w : Bor Token) → classes (ws ++ w ∷ []) ≡ classes ws ++ class_of w.now ∷ []
+pub classes-push : (ws : List (Bor Token)) (w : Bor Token) → classes (ws ++ w ∷ []) ≡ classes ws ++ class_of
+    w.now ∷ []
 classes-push ws w = map-append (λ (x : Bor Token). class_of x.now) ws (w ∷ [])
 
 with_front-twice : (f g : List Mark) (a : Answer) → with_front f (with_front g a) ≡ with_front (f ++ g) a
@@ -27,12 +28,17 @@ with_front-twice f g (syntax rest) = refl
 with_front-twice f g (too_deep rest) = refl
 
 -- the next word is read
-word-done : (static : Bool) (ws : List (Bor Token)) (ts mid : List Token) (w : Bor Token) → next_word static (classes ws) ts ≡ done (leaf w.now ∷ []) mid → words_after static (classes ws) ts ≡ with_front (leaf w.now ∷ []) (words_after static (classes ws ++ class_of w.now ∷ []) mid)
+word-done : (static : Bool) (ws : List (Bor Token)) (ts mid : List Token) (w : Bor Token) →
+    next_word static (classes ws) ts ≡ done (leaf w.now ∷ []) mid → words_after static (classes ws) ts
+    ≡ with_front (leaf w.now ∷ []) (words_after static (classes ws ++ class_of w.now ∷ []) mid)
 unfolding words_after
 word-done static ws [] mid w e = absurd cc
-word-done static ws (t ∷ ts) mid w e = by (agrees_with (classes ws) (t ∷ ts)) refl (declaration_word static (class_of t)) refl
+word-done static ws (t ∷ ts) mid w e = by (agrees_with (classes ws) (t ∷ ts)) refl
+    (declaration_word static (class_of t)) refl
   where
-    by : (b : Bool) → agrees_with (classes ws) (t ∷ ts) ≡ b → (d : Bool) → declaration_word static (class_of t) ≡ d → words_after static (classes ws) (t ∷ ts) ≡ with_front (leaf w.now ∷ []) (words_after static (classes ws ++ class_of w.now ∷ []) mid)
+    by : (b : Bool) → agrees_with (classes ws) (t ∷ ts) ≡ b → (d : Bool) →
+        declaration_word static (class_of t) ≡ d → words_after static (classes ws) (t ∷ ts) ≡ with_front
+        (leaf w.now ∷ []) (words_after static (classes ws ++ class_of w.now ∷ []) mid)
     by true agrees true is =
         let h = rw (agrees, is) at e in
         let t_is : t ≡ w.now = cc in
@@ -42,53 +48,82 @@ word-done static ws (t ∷ ts) mid w e = by (agrees_with (classes ws) (t ∷ ts)
     by false agrees d is = let h = rw agrees at e in absurd cc
 
 -- it does not agree
-word-stop : (static : Bool) (ws : List (Bor Token)) (ts rest : List Token) → next_is (declaration_word static) ts ≡ true → next_word static (classes ws) ts ≡ syntax rest → words_after static (classes ws) ts ≡ syntax rest
+word-stop : (static : Bool) (ws : List (Bor Token)) (ts rest : List Token) → next_is (declaration_word static)
+    ts ≡ true → next_word static (classes ws) ts ≡ syntax rest → words_after static (classes ws) ts ≡ syntax
+    rest
 unfolding words_after
 word-stop static ws [] rest next e = absurd cc
 word-stop static ws (t ∷ ts) rest next e = by (agrees_with (classes ws) (t ∷ ts)) refl
   where
-    by : (b : Bool) → agrees_with (classes ws) (t ∷ ts) ≡ b → words_after static (classes ws) (t ∷ ts) ≡ syntax rest
+    by : (b : Bool) → agrees_with (classes ws) (t ∷ ts) ≡ b → words_after static (classes ws) (t ∷ ts)
+        ≡ syntax rest
     by true agrees = let h = rw (agrees, next) at e in absurd cc
     by false agrees = let h = rw agrees at e in rw (next, agrees) h
 
-never_deep : (static : Bool) (ws : List (Bor Token)) (ts rest : List Token) → next_word static (classes ws) ts ≡ too_deep rest → ⊥
+never_deep : (static : Bool) (ws : List (Bor Token)) (ts rest : List Token) → next_word static (classes ws) ts
+    ≡ too_deep rest → ⊥
 never_deep static ws [] rest e = cc
-never_deep static ws (t ∷ ts) rest e = by (agrees_with (classes ws) (t ∷ ts)) refl (declaration_word static (class_of t)) refl
+never_deep static ws (t ∷ ts) rest e = by (agrees_with (classes ws) (t ∷ ts)) refl
+    (declaration_word static (class_of t)) refl
   where
-    by : (b : Bool) → agrees_with (classes ws) (t ∷ ts) ≡ b → (d : Bool) → declaration_word static (class_of t) ≡ d → ⊥
+    by : (b : Bool) → agrees_with (classes ws) (t ∷ ts) ≡ b → (d : Bool) →
+        declaration_word static (class_of t) ≡ d → ⊥
     by true agrees true is = let h = rw (agrees, is) at e in cc
     by true agrees false is = let h = rw (agrees, is) at e in cc
     by false agrees d is = let h = rw agrees at e in cc
 
-words-end : (static : Bool) (before : List TokenClass) (ts : List Token) → next_is (declaration_word static) ts ≡ false → words_after static before ts ≡ after_words before ts
+words-end : (static : Bool) (before : List TokenClass) (ts : List Token) → next_is (declaration_word static)
+    ts ≡ false → words_after static before ts ≡ after_words before ts
 unfolding words_after
 words-end static before [] next = refl
 words-end static before (t ∷ ts) next = rw next refl
 
-pub word-shorter : (static : Bool) (ws : List (Bor Token)) (ts mid : List Token) (w : Bor Token) → next_word static (classes ws) ts ≡ done (leaf w.now ∷ []) mid → length mid < length ts
+pub word-shorter : (static : Bool) (ws : List (Bor Token)) (ts mid : List Token) (w : Bor Token) →
+    next_word static (classes ws) ts ≡ done (leaf w.now ∷ []) mid → length mid < length ts
 word-shorter static ws [] mid w e = absurd cc
-word-shorter static ws (t ∷ ts) mid w e = by (agrees_with (classes ws) (t ∷ ts)) refl (declaration_word static (class_of t)) refl
+word-shorter static ws (t ∷ ts) mid w e = by (agrees_with (classes ws) (t ∷ ts)) refl
+    (declaration_word static (class_of t)) refl
   where
-    by : (b : Bool) → agrees_with (classes ws) (t ∷ ts) ≡ b → (d : Bool) → declaration_word static (class_of t) ≡ d → length mid < length (t ∷ ts)
+    by : (b : Bool) → agrees_with (classes ws) (t ∷ ts) ≡ b → (d : Bool) →
+        declaration_word static (class_of t) ≡ d → length mid < length (t ∷ ts)
     by true agrees true is = let h = rw (agrees, is) at e in let same : ts ≡ mid = cc in rw same (omega arith)
     by true agrees false is = let h = rw (agrees, is) at e in absurd cc
     by false agrees d is = let h = rw agrees at e in absurd cc
 
 -- The whole is the words that were read, and then what is read after them. So it goes on,
-pub words-turn : (whole : Answer) (static : Bool) (ws all : List (Bor Token)) (w : Bor Token) (ts mid : List Token) → whole ≡ with_front (leaves ws) (words_after static (classes ws) ts) → next_word static (classes ws) ts ≡ done (leaf w.now ∷ []) mid → all ≡ ws ++ w ∷ [] → whole ≡ with_front (leaves all) (words_after static (classes all) mid)
+pub words-turn : (whole : Answer) (static : Bool) (ws all : List (Bor Token)) (w : Bor Token)
+    (ts mid : List Token) → whole ≡ with_front (leaves ws) (words_after static (classes ws) ts) →
+    next_word static (classes ws) ts ≡ done (leaf w.now ∷ []) mid → all ≡ ws ++ w ∷ [] →
+    whole ≡ with_front (leaves all) (words_after static (classes all) mid)
 words-turn whole static ws all w ts mid h d push =
-    let more : leaves (ws ++ w ∷ []) ≡ leaves ws ++ leaf w.now ∷ [] = map-append (λ (x : Bor Token). leaf x.now) ws (w ∷ []) in
-    rw (push, more, classes-push ws w) (h ∙ ap (with_front (leaves ws)) (word-done static ws ts mid w d) ∙ with_front-twice (leaves ws) (leaf w.now ∷ []) (words_after static (classes ws ++ class_of w.now ∷ []) mid))
+    let more : leaves (ws ++ w ∷ []) ≡ leaves ws ++ leaf w.now ∷ [] =
+    map-append (λ (x : Bor Token). leaf x.now) ws (w ∷ []) in
+    rw (push, more, classes-push ws w) (h ∙ ap (with_front (leaves ws)) (word-done static ws ts mid w d)
+    ∙ with_front-twice (leaves ws) (leaf w.now ∷ [])
+    (words_after static (classes ws ++ class_of w.now ∷ []) mid))
 
 -- stops,
-pub words-stop : (s : Stop) (whole : Answer) (static : Bool) (ws : List (Bor Token)) (ts rest : List Token) → whole ≡ with_front (leaves ws) (words_after static (classes ws) ts) → next_is (declaration_word static) ts ≡ true → Told {A = List Mark} (λ f. f) (Err s) (next_word static (classes ws) ts) rest → Told {A = List Mark} (λ f. f) (Err s) (around type_name whole) rest
+pub words-stop : (s : Stop) (whole : Answer) (static : Bool) (ws : List (Bor Token)) (ts rest : List Token) →
+    whole ≡ with_front (leaves ws) (words_after static (classes ws) ts) → next_is (declaration_word static) ts
+    ≡ true → Told {A = List Mark} (λ f. f) (Err s) (next_word static (classes ws) ts) rest →
+    Told {A = List Mark} (λ f. f) (Err s) (around type_name whole) rest
 words-stop stop.Syntax whole static ws ts rest h next d = rw (h, word-stop static ws ts rest next d) refl
 words-stop stop.TooDeep whole static ws ts rest h next d = absurd (never_deep static ws ts rest d)
 words-stop stop.Memory whole static ws ts rest h next d = tt
 
 -- or ends.
-pub words-all : (whole : Answer) (static : Bool) (ws : List (Bor Token)) (ts : List Token) → whole ≡ with_front (leaves ws) (words_after static (classes ws) ts) → next_is (declaration_word static) ts ≡ false → list_any type_word (classes ws) ≡ true → around type_name whole ≡ done (node_of type_name (leaves ws)) ts
-words-all whole static ws ts h next some = rw (h, words-end static (classes ws) ts next, some, append-nil (leaves ws)) refl
+pub words-all : (whole : Answer) (static : Bool) (ws : List (Bor Token)) (ts : List Token) →
+    whole ≡ with_front (leaves ws) (words_after static (classes ws) ts) → next_is (declaration_word static) ts
+    ≡ false → list_any type_word (classes ws) ≡ true → around type_name whole
+    ≡ done (node_of type_name (leaves ws)) ts
+words-all whole static ws ts h next some = rw (
+  h,
+  words-end static (classes ws) ts next,
+  some,
+  append-nil (leaves ws),
+) refl
 
-pub words-none : (whole : Answer) (static : Bool) (ws : List (Bor Token)) (ts : List Token) → whole ≡ with_front (leaves ws) (words_after static (classes ws) ts) → next_is (declaration_word static) ts ≡ false → list_any type_word (classes ws) ≡ false → around type_name whole ≡ syntax ts
+pub words-none : (whole : Answer) (static : Bool) (ws : List (Bor Token)) (ts : List Token) →
+    whole ≡ with_front (leaves ws) (words_after static (classes ws) ts) → next_is (declaration_word static) ts
+    ≡ false → list_any type_word (classes ws) ≡ false → around type_name whole ≡ syntax ts
 words-none whole static ws ts h next some = rw (h, words-end static (classes ws) ts next, some) refl

@@ -8,21 +8,24 @@ use Rattle.ba_parse.specs.Classes.{declaration_word}
 use Rattle.ba_parse.specs.Marks.{Mark, leaf, file, yield, no_else_lost}
 use Rattle.ba_parse.specs.Grammar.{Spells, rule}
 use Rattle.ba_parse.specs.Readings.{Answer, done, syntax, too_deep, levels_left, read_file}
-use Rattle.ba_parse.specs.Files.{IsFile, Begins, level_at, max_level, IsParsed, IsSyntaxError, IsTooDeep, Verdict, parsed, syntax_at, deep_at, Says}
+use Rattle.ba_parse.specs.Files.{IsFile, Begins, level_at, max_level, has_accepted_levels, IsParsed, IsSyntaxError, IsTooDeep, Verdict, parsed, syntax_at, deep_at, Says}
 use Rattle.ba_parse.proofs.Forests.{sunk}
 use Rattle.ba_parse.proofs.Certified.{head_of, outcome_of, outcome, Done, Refused, TooDeep, Taken, always, Reads, pairs_before, cons_is_nil}
-use Rattle.ba_parse.proofs.Depths.{none_deep, deep_none, FirstDeep, first_deep}
+use Rattle.ba_parse.proofs.Depths.{all_accepted, none_deep, deep_none, FirstDeep, first_deep}
 use Rattle.ba_parse.proofs.EachLevel.{good_files}
 
 -- LISTS
 
 pub place_of : (u rest : List Token) → length (u ++ rest) - length rest ≡ length u
-place_of u rest = let e : length (u ++ rest) ≡ length u + length rest = length-append u rest in omega (arith, e)
+place_of u rest = let e : length (u ++ rest) ≡ length u + length rest = length-append u rest in
+    omega (arith, e)
 
-take_more : (u : List Token) (t : Token) (rest : List Token) → take (length u + 1) (u ++ t ∷ rest) ≡ u ++ t ∷ []
+take_more : (u : List Token) (t : Token) (rest : List Token) → take (length u + 1) (u ++ t ∷ rest) ≡ u ++ t
+    ∷ []
 take_more u t rest =
     let e : length (u ++ t ∷ []) ≡ length u + 1 = length-append u (t ∷ []) in
-    ap (λ k. take k (u ++ t ∷ rest)) (sym e) ∙ ap (take (length (u ++ t ∷ []))) (sym (append_assoc u (t ∷ []) rest))
+    ap (λ k. take k (u ++ t ∷ rest)) (sym e) ∙ ap (take (length (u ++ t ∷ [])))
+    (sym (append_assoc u (t ∷ []) rest))
     ∙ take-append_seam (u ++ t ∷ []) rest
 
 -- a list that begins with these
@@ -36,7 +39,8 @@ take_less j k ts us le h = sym (take-take j k ts le) ∙ ap (take j) h ∙ take-
 -- a file that begins with more begins with less
 begins_less : (ts : List Token) (j k : ℕ) → j ≤ k → k ≤ length ts → Begins (take k ts) → Begins (take j ts)
 begins_less ts j k le within b =
-    let whole : take k b.tokens ≡ take k ts = ap (λ m. take m b.tokens) (sym (length-take-le k ts within)) ∙ b.begins in
+    let whole : take k b.tokens ≡ take k ts = ap (λ m. take m b.tokens) (sym (length-take-le k ts within))
+    ∙ b.begins in
     let in_part : j ≤ length ts = omega (arith, le, within) in
     record {
       tokens = b.tokens;
@@ -99,7 +103,8 @@ no_syntax ts rest tree f h = here (sunk max_level 0 tree) (sym h ∙ of_file ts 
     here None e = syntax_is_done e
     here (Some ms) e = syntax_is_deep e
 
-no_rest : (ts rest : List Token) (f tree : List Mark) (t : Token) → IsFile ts tree → answer_of ts ≡ done f (t ∷ rest) → ⊥
+no_rest : (ts rest : List Token) (f tree : List Mark) (t : Token) → IsFile ts tree →
+    answer_of ts ≡ done f (t ∷ rest) → ⊥
 no_rest ts rest f tree t it h = here (sunk max_level 0 tree) (sym h ∙ of_file ts tree it)
   where
     here : (x : Option (List Mark)) → done f (t ∷ rest) ≡ outcome_of x tree [] → ⊥
@@ -107,33 +112,43 @@ no_rest ts rest f tree t it h = here (sunk max_level 0 tree) (sym h ∙ of_file 
     here (Some ms) e = done_is_deep e
 
 -- where a file has a leaf that is too deep, reading stops there, and so it does for all that begins the same
-stops_deep : (ts : List Token) (tree : List Mark) → IsFile ts tree → (ms : List Mark) (e : FirstDeep max_level 0 tree ms) → sunk max_level 0 tree ≡ Some ms →
+stops_deep : (ts : List Token) (tree : List Mark) → IsFile ts tree →
+    (ms : List Mark) (e : FirstDeep max_level 0 tree ms) → sunk max_level 0 tree ≡ Some ms →
     (w : List Token) → answer_of (e.before ++ e.refused ∷ w) ≡ too_deep (e.refused ∷ w)
 stops_deep ts tree it ms e h w =
     let left : List Token = e.refused ∷ yield e.beyond in
     let same : answer_of ts ≡ too_deep left =
-    of_file ts tree it ∙ ap (λ x. outcome_of x tree []) h ∙ ap (λ x. too_deep (yield x ++ [])) e.marks ∙ ap too_deep (append-nil left) in
-    let d : TooDeep max_level (rule file) answer_of ts left = subst (Taken max_level (rule file) answer_of ts) same (taken ts) in
+    of_file ts tree it ∙ ap (λ x. outcome_of x tree []) h ∙ ap (λ x. too_deep (yield x ++ [])) e.marks
+    ∙ ap too_deep (append-nil left) in
+    let d : TooDeep max_level (rule file) answer_of ts left = subst (Taken max_level (rule file) answer_of ts)
+    same (taken ts) in
     let whole : e.before ++ left ≡ d.before ++ left = sym e.yields ∙ it.yields ∙ d.cut in
     let before_is : e.before ≡ d.before = append_cancel_right e.before d.before left whole in
     ap (λ x. answer_of (x ++ e.refused ∷ w)) before_is ∙ d.near (e.refused ∷ w) refl
 
--- the tokens of a file that begins with a list of tokens, up to one of them, are of levels that are accepted, where reading the list doesn't stop as too deep
-shallow_before : (ts : List Token) → ((rest : List Token) → answer_of ts ≡ too_deep rest → ⊥) → (k : ℕ) → k ≤ length ts →
-    (others : List Token) (tree : List Mark) → IsFile others tree → take k others ≡ take k ts → (j : ℕ) → j < k → level_at tree j ≤ max_level
+-- the tokens of a file that begins with a list of tokens, up to one of them, are of levels that are accepted,
+-- where reading the list doesn't stop as too deep
+shallow_before : (ts : List Token) → ((rest : List Token) → answer_of ts ≡ too_deep rest → ⊥) → (k : ℕ) →
+    k ≤ length ts →
+    (others : List Token) (tree : List Mark) → IsFile others tree → take k others ≡ take k ts → (j : ℕ) →
+    j < k → level_at tree j ≤ max_level
 shallow_before ts not_deep k within others tree it same j less = here (sunk max_level 0 tree) refl
   where
-    stop : (ms : List Mark) (e : FirstDeep max_level 0 tree ms) → sunk max_level 0 tree ≡ Some ms → length e.before ≤ j → ⊥
+    stop : (ms : List Mark) (e : FirstDeep max_level 0 tree ms) → sunk max_level 0 tree ≡ Some ms →
+        length e.before ≤ j → ⊥
     stop ms e h le =
         let cut : others ≡ e.before ++ e.refused ∷ yield e.beyond = sym it.yields ∙ e.yields in
         let enough : length e.before + 1 ≤ k = omega (arith, le, less) in
         let front : take (length e.before + 1) ts ≡ e.before ++ e.refused ∷ [] =
-        sym (take_less (length e.before + 1) k others ts enough same) ∙ ap (take (length e.before + 1)) cut ∙ take_more e.before e.refused (yield e.beyond) in
+        sym (take_less (length e.before + 1) k others ts enough same) ∙ ap (take (length e.before + 1)) cut
+        ∙ take_more e.before e.refused (yield e.beyond) in
         let w : List Token = drop (length e.before + 1) ts in
-        let ts_is : ts ≡ e.before ++ e.refused ∷ w = begins_so (length e.before + 1) ts (e.before ++ e.refused ∷ []) front ∙ append_assoc e.before (e.refused ∷ []) w in
+        let ts_is : ts ≡ e.before ++ e.refused ∷ w = begins_so (length e.before + 1) ts (e.before ++ e.refused
+        ∷ []) front ∙ append_assoc e.before (e.refused ∷ []) w in
         not_deep (e.refused ∷ w) (ap answer_of ts_is ∙ stops_deep others tree it ms e h w)
 
-    by_order : (ms : List Mark) (e : FirstDeep max_level 0 tree ms) → sunk max_level 0 tree ≡ Some ms → (j < length e.before) ⊎ (length e.before ≤ j) → level_at tree j ≤ max_level
+    by_order : (ms : List Mark) (e : FirstDeep max_level 0 tree ms) → sunk max_level 0 tree ≡ Some ms →
+        (j < length e.before) ⊎ (length e.before ≤ j) → level_at tree j ≤ max_level
     by_order ms e h (inl l) = e.shallow j l
     by_order ms e h (inr l) = absurd (stop ms e h l)
 
@@ -148,7 +163,8 @@ shallow_before ts not_deep k within others tree it same j less = here (sunk max_
 
     here : (x : Option (List Mark)) → sunk max_level 0 tree ≡ x → level_at tree j ≤ max_level
     here None h = none_deep max_level 0 tree h j
-    here (Some ms) h = let e : FirstDeep max_level 0 tree ms = first_deep max_level 0 tree ms h in by_order ms e h (order j (length e.before))
+    here (Some ms) h = let e : FirstDeep max_level 0 tree ms = first_deep max_level 0 tree ms h in
+        by_order ms e h (order j (length e.before))
 
 -- WHAT IS SAID where reading stops
 
@@ -178,27 +194,33 @@ take_next ts u rest t h = ap (take (length u + 1)) h ∙ take_more u t rest
 goes_on : (ts u rest : List Token) (t : Token) → ts ≡ u ++ t ∷ rest → (b : Begins (take (length u + 1) ts)) →
     (w : List Token) × (b.tokens ≡ u ++ t ∷ w)
 goes_on ts u rest t h b =
-    let front : take (length (take (length u + 1) ts)) b.tokens ≡ u ++ t ∷ [] = b.begins ∙ take_next ts u rest t h in
+    let front : take (length (take (length u + 1) ts)) b.tokens ≡ u ++ t ∷ [] = b.begins
+    ∙ take_next ts u rest t h in
     let k : ℕ = length (take (length u + 1) ts) in
     (drop k b.tokens, begins_so k b.tokens (u ++ t ∷ []) front ∙ append_assoc u (t ∷ []) (drop k b.tokens))
 
 -- the error at the place, where reading stops at the rest and not as too deep
-error_here : (ts u rest : List Token) → ts ≡ u ++ rest → Begins u → ((t : Token) (left w : List Token) (tree : List Mark) → rest ≡ t ∷ left → IsFile (u ++ t ∷ w) tree → ⊥) →
-    (rest ≡ [] → (tree : List Mark) → IsFile ts tree → ⊥) → ((left : List Token) → answer_of ts ≡ too_deep left → ⊥) → IsSyntaxError ts (length u)
+error_here : (ts u rest : List Token) → ts ≡ u ++ rest → Begins u →
+    ((t : Token) (left w : List Token) (tree : List Mark) → rest ≡ t ∷ left → IsFile (u ++ t ∷ w) tree → ⊥) →
+    (rest ≡ [] → (tree : List Mark) → IsFile ts tree → ⊥) →
+    ((left : List Token) → answer_of ts ≡ too_deep left → ⊥) → IsSyntaxError ts (length u)
 error_here ts u rest cut begins next ends not_deep = record {
   within = within_it;
   begins = subst Begins (sym (take_place ts u rest cut)) begins;
   stops = λ less b. at_next rest cut less b next;
   at_end = λ all tree it. ends (no_more rest (length_is ts u rest cut) all) tree it;
-  before = λ others tree it same j less. shallow_before ts not_deep (length u) within_it others tree it same j less;
+  before = λ others tree it same j less. shallow_before ts not_deep (length u) within_it others tree it same j
+      less;
 }
   where
     within_it : length u ≤ length ts
     within_it = let e : length ts ≡ length u + length rest = length_is ts u rest cut in omega (arith, e)
 
     at_next : (rest : List Token) → ts ≡ u ++ rest → length u < length ts → Begins (take (length u + 1) ts) →
-        ((t : Token) (left w : List Token) (tree : List Mark) → rest ≡ t ∷ left → IsFile (u ++ t ∷ w) tree → ⊥) → ⊥
-    at_next [] cut less b next = let e : length ts ≡ length u + 0 = length_is ts u [] cut in omega (arith, e, less)
+        ((t : Token) (left w : List Token) (tree : List Mark) → rest ≡ t ∷ left → IsFile (u ++ t ∷ w) tree →
+        ⊥) → ⊥
+    at_next [] cut less b next = let e : length ts ≡ length u + 0 = length_is ts u [] cut in
+        omega (arith, e, less)
     at_next (t ∷ left) cut less b next =
         let g : (w : List Token) × (b.tokens ≡ u ++ t ∷ w) = goes_on ts u left t cut b in
         next t left g.0 b.tree refl (subst (λ x. IsFile x b.tree) g.1 b.is_file)
@@ -207,24 +229,43 @@ error_here ts u rest cut begins next ends not_deep = record {
     no_more [] e all = refl
     no_more (t ∷ left) e all = absurd (omega (arith, e, all))
 
-file_of : (tree : List Mark) (o : Option Token) → Spells (rule file) tree → no_else_lost tree o ≡ true → IsFile (yield tree) tree
-file_of tree o u pairs = record { spelled = u; yields = refl; pairs_else = pairs_before tree o None pairs refl }
+file_of : (tree : List Mark) (o : Option Token) → Spells (rule file) tree → no_else_lost tree o ≡ true →
+    IsFile (yield tree) tree
+file_of tree o u pairs = record {
+  spelled = u;
+  yields = refl;
+  pairs_else = pairs_before tree o None pairs refl;
+}
 
-says_done : (ts : List Token) (tree : List Mark) (rest : List Token) → answer_of ts ≡ done tree rest → Done max_level (rule file) answer_of ts tree rest →
+says_done : (ts : List Token) (tree : List Mark) (rest : List Token) → answer_of ts ≡ done tree rest →
+    Done max_level (rule file) answer_of ts tree rest →
     Says ts (verdict_of ts (done tree rest))
 says_done ts tree [] is d = record {
-  is_file = record { spelled = d.spelled; yields = sym (d.cut ∙ append-nil (yield tree)); pairs_else = d.pairs };
+  is_file = record {
+    spelled = d.spelled;
+    yields = sym (d.cut ∙ append-nil (yield tree));
+    pairs_else =
+        d.pairs;
+  };
   accepted = none_deep max_level 0 tree d.level;
 }
 says_done ts tree (t ∷ rest) is d =
     subst (IsSyntaxError ts) (sym (place_is ts (yield tree) (t ∷ rest) d.cut))
     (error_here ts (yield tree) (t ∷ rest) d.cut
-    (record { tokens = yield tree; tree = tree; is_file = file_of tree (Some t) d.spelled d.pairs; begins = take-length (yield tree) })
-    (λ u left w other h it. no_rest (yield tree ++ u ∷ w) w tree other u it (d.near (u ∷ w) (sym (ap head_of h))))
+    (record {
+      tokens = yield tree;
+      tree = tree;
+      is_file = file_of tree (Some t) d.spelled d.pairs;
+      begins =
+          take-length (yield tree);
+    })
+    (λ u left w other h it. no_rest (yield tree ++ u ∷ w) w tree other u it
+    (d.near (u ∷ w) (sym (ap head_of h))))
     (λ h. absurd (cons_is_nil h))
     (λ left h. done_is_deep (sym is ∙ h)))
 
-says_syntax : (ts rest : List Token) → answer_of ts ≡ syntax rest → Refused (rule file) answer_of ts rest → Says ts (verdict_of ts (syntax rest))
+says_syntax : (ts rest : List Token) → answer_of ts ≡ syntax rest → Refused (rule file) answer_of ts rest →
+    Says ts (verdict_of ts (syntax rest))
 says_syntax ts rest is e =
     subst (IsSyntaxError ts) (sym (place_is ts e.before rest e.cut))
     (error_here ts e.before rest e.cut
@@ -234,18 +275,23 @@ says_syntax ts rest is e =
       is_file = record { spelled = e.spelled; yields = refl; pairs_else = e.pairs None refl };
       begins = ap (take (length e.before)) e.yields ∙ take-append_seam e.before e.beyond;
     })
-    (λ t left w other h it. no_syntax (e.before ++ t ∷ w) (t ∷ w) other it (e.near (t ∷ w) (sym (ap head_of h))))
+    (λ t left w other h it. no_syntax (e.before ++ t ∷ w) (t ∷ w) other it
+    (e.near (t ∷ w) (sym (ap head_of h))))
     (λ h other it. no_syntax ts rest other it is)
     (λ left h. syntax_is_deep (sym is ∙ h)))
 
-says_deep : (ts rest : List Token) → TooDeep max_level (rule file) answer_of ts rest → Says ts (verdict_of ts (too_deep rest))
+says_deep : (ts rest : List Token) → TooDeep max_level (rule file) answer_of ts rest →
+    Says ts (verdict_of ts (too_deep rest))
 says_deep ts rest e =
     let whole : ts ≡ e.before ++ e.refused ∷ e.left = e.cut ∙ ap (λ x. e.before ++ x) e.rest_is in
-    let f : FirstDeep max_level 0 e.tree (leaf e.refused ∷ e.beyond) = first_deep max_level 0 e.tree (leaf e.refused ∷ e.beyond) e.level in
+    let f : FirstDeep max_level 0 e.tree (leaf e.refused ∷ e.beyond) = first_deep max_level 0 e.tree
+    (leaf e.refused ∷ e.beyond) e.level in
     let tail_is : yield (leaf e.refused ∷ e.beyond) ≡ yield (leaf f.refused ∷ f.beyond) = ap yield f.marks in
     let before_is : f.before ≡ e.before =
-    append_cancel_right f.before e.before (e.refused ∷ yield e.beyond) (ap (λ x. f.before ++ x) tail_is ∙ sym f.yields ∙ e.yields) in
-    let size : length ts ≡ length e.before + length (e.refused ∷ e.left) = length_is ts e.before (e.refused ∷ e.left) whole in
+    append_cancel_right f.before e.before (e.refused ∷ yield e.beyond) (ap (λ x. f.before ++ x) tail_is
+    ∙ sym f.yields ∙ e.yields) in
+    let size : length ts ≡ length e.before + length (e.refused ∷ e.left) =
+    length_is ts e.before (e.refused ∷ e.left) whole in
     subst (IsTooDeep ts) (sym (place_is ts e.before rest e.cut))
     (record {
       within = omega (arith, size);
@@ -253,7 +299,8 @@ says_deep ts rest e =
       tree = e.tree;
       is_file = record { spelled = e.spelled; yields = refl; pairs_else = e.pairs None refl };
       begins =
-          ap (take (length e.before + 1)) e.yields ∙ take_more e.before e.refused (yield e.beyond) ∙ sym (take_next ts e.before e.left e.refused whole);
+          ap (take (length e.before + 1)) e.yields ∙ take_more e.before e.refused (yield e.beyond)
+          ∙ sym (take_next ts e.before e.left e.refused whole);
       deep = subst (λ x. max_level < level_at e.tree (length x)) before_is f.deep;
       before = λ j less. f.shallow j (subst (λ x. j < length x) (sym before_is) less);
     })
@@ -262,7 +309,8 @@ says_deep ts rest e =
 pub says_answer : (ts : List Token) → Says ts (verdict_of ts (answer_of ts))
 says_answer ts = here (answer_of ts) refl (taken ts)
   where
-    here : (x : Answer) → answer_of ts ≡ x → Taken max_level (rule file) answer_of ts x → Says ts (verdict_of ts x)
+    here : (x : Answer) → answer_of ts ≡ x → Taken max_level (rule file) answer_of ts x →
+        Says ts (verdict_of ts x)
     here (done tree rest) h e = says_done ts tree rest h e
     here (syntax rest) h e = says_syntax ts rest h e
     here (too_deep rest) h e = says_deep ts rest e
@@ -293,9 +341,15 @@ one_error ts j k e f = here (ordered j k)
     here (inr (inl h)) = h
     here (inr (inr l)) = absurd (no_two_errors ts k j l f e)
 
-file_begins : (ts : List Token) (tree : List Mark) (k : ℕ) → IsFile ts tree → k ≤ length ts → Begins (take k ts)
+file_begins : (ts : List Token) (tree : List Mark) (k : ℕ) → IsFile ts tree → k ≤ length ts →
+    Begins (take k ts)
 file_begins ts tree k it within =
-    record { tokens = ts; tree = tree; is_file = it; begins = ap (λ m. take m ts) (length-take-le k ts within) }
+    record {
+      tokens = ts;
+      tree = tree;
+      is_file = it;
+      begins = ap (λ m. take m ts) (length-take-le k ts within);
+    }
 
 no_error_in_file : (ts : List Token) (tree : List Mark) (k : ℕ) → IsFile ts tree → IsSyntaxError ts k → ⊥
 no_error_in_file ts tree k it e = here (ordered k (length ts))
@@ -325,7 +379,8 @@ deep_stops ts k e = here (sunk max_level 0 e.tree) refl
     too_great : (n : ℕ) → n ≤ max_level → max_level < n → ⊥
     too_great n a b = omega (arith, a, b)
 
-    size_is : (f : ℕ) → ((f < k) ⊎ ((f ≡ k) ⊎ (k < f))) → max_level < level_at e.tree f → ((j : ℕ) → j < f → level_at e.tree j ≤ max_level) → f ≡ k
+    size_is : (f : ℕ) → ((f < k) ⊎ ((f ≡ k) ⊎ (k < f))) → max_level < level_at e.tree f →
+        ((j : ℕ) → j < f → level_at e.tree j ≤ max_level) → f ≡ k
     size_is f (inl l) deep shallow = absurd (too_great (level_at e.tree f) (e.before f l) deep)
     size_is f (inr (inl h)) deep shallow = h
     size_is f (inr (inr l)) deep shallow = absurd (too_great (level_at e.tree k) (shallow k l) e.deep)
@@ -334,15 +389,18 @@ deep_stops ts k e = here (sunk max_level 0 e.tree) refl
     here None h = absurd (too_great (level_at e.tree k) (none_deep max_level 0 e.tree h k) e.deep)
     here (Some ms) h =
         let f : FirstDeep max_level 0 e.tree ms = first_deep max_level 0 e.tree ms h in
-        let size : length f.before ≡ k = size_is (length f.before) (ordered (length f.before) k) f.deep f.shallow in
+        let size : length f.before ≡ k = size_is (length f.before) (ordered (length f.before) k) f.deep
+        f.shallow in
         let cut : e.others ≡ f.before ++ f.refused ∷ yield f.beyond = sym e.is_file.yields ∙ f.yields in
         let front : take (length f.before + 1) ts ≡ f.before ++ f.refused ∷ [] =
-        ap (λ m. take (m + 1) ts) size ∙ sym e.begins ∙ ap (λ m. take (m + 1) e.others) (sym size) ∙ take_next e.others f.before (yield f.beyond) f.refused cut in
+        ap (λ m. take (m + 1) ts) size ∙ sym e.begins ∙ ap (λ m. take (m + 1) e.others) (sym size)
+        ∙ take_next e.others f.before (yield f.beyond) f.refused cut in
         record {
           before = f.before;
           refused = f.refused;
           left = drop (length f.before + 1) ts;
-          cut = begins_so (length f.before + 1) ts (f.before ++ f.refused ∷ []) front ∙ append_assoc f.before (f.refused ∷ []) (drop (length f.before + 1) ts);
+          cut = begins_so (length f.before + 1) ts (f.before ++ f.refused ∷ []) front
+              ∙ append_assoc f.before (f.refused ∷ []) (drop (length f.before + 1) ts);
           size = size;
           answer = λ w. stops_deep e.others e.tree e.is_file ms f h w;
         }
@@ -350,7 +408,8 @@ deep_stops ts k e = here (sunk max_level 0 e.tree) refl
 deep_answer : (ts : List Token) (k : ℕ) → IsTooDeep ts k → verdict_of ts (answer_of ts) ≡ deep_at k
 deep_answer ts k e =
     let s : StopsAt ts k = deep_stops ts k e in
-    ap (verdict_of ts) (ap answer_of s.cut ∙ s.answer s.left) ∙ ap deep_at (place_is ts s.before (s.refused ∷ s.left) s.cut ∙ s.size)
+    ap (verdict_of ts) (ap answer_of s.cut ∙ s.answer s.left)
+    ∙ ap deep_at (place_is ts s.before (s.refused ∷ s.left) s.cut ∙ s.size)
 
 -- a token that is too deep comes after a syntax error, or at it, in no list
 no_error_and_deep : (ts : List Token) (j k : ℕ) → IsSyntaxError ts j → IsTooDeep ts k → ⊥
@@ -368,33 +427,43 @@ no_error_and_deep ts j k e d = here (ordered k j)
     }
 
     after_error : j ≤ k → ⊥
-    after_error le = e.stops (omega (arith, le, within)) (begins_less ts (j + 1) (k + 1) (omega (arith, le)) (omega (arith, within)) begins)
+    after_error le = e.stops (omega (arith, le, within)) (begins_less ts (j + 1) (k + 1) (omega (arith, le))
+        (omega (arith, within)) begins)
 
     file_is_deep : (b : Begins (take j ts)) → k < j → ⊥
     file_is_deep b less =
         let s : StopsAt ts k = deep_stops ts k d in
         let j_within : j ≤ length ts = e.within in
-        let whole : take j b.tokens ≡ take j ts = ap (λ m. take m b.tokens) (sym (length-take-le j ts j_within)) ∙ b.begins in
+        let whole : take j b.tokens ≡ take j ts =
+        ap (λ m. take m b.tokens) (sym (length-take-le j ts j_within)) ∙ b.begins in
         let size : length s.before ≡ k = s.size in
         let front : take (length s.before + 1) b.tokens ≡ s.before ++ s.refused ∷ [] =
-        take_less (length s.before + 1) j b.tokens ts (omega (arith, less, size)) whole ∙ take_next ts s.before s.left s.refused s.cut in
+        take_less (length s.before + 1) j b.tokens ts (omega (arith, less, size)) whole
+        ∙ take_next ts s.before s.left s.refused s.cut in
         let w : List Token = drop (length s.before + 1) b.tokens in
         let tokens_are : b.tokens ≡ s.before ++ s.refused ∷ w =
-        begins_so (length s.before + 1) b.tokens (s.before ++ s.refused ∷ []) front ∙ append_assoc s.before (s.refused ∷ []) w in
+        begins_so (length s.before + 1) b.tokens (s.before ++ s.refused ∷ []) front
+        ∙ append_assoc s.before (s.refused ∷ []) w in
         let answer : answer_of b.tokens ≡ too_deep (s.refused ∷ w) = ap answer_of tokens_are ∙ s.answer w in
         by_sunk b w s answer (sunk max_level 0 b.tree) refl tokens_are whole less
       where
-        by_sunk : (b : Begins (take j ts)) (w : List Token) (s : StopsAt ts k) → answer_of b.tokens ≡ too_deep (s.refused ∷ w) →
-            (x : Option (List Mark)) → sunk max_level 0 b.tree ≡ x → b.tokens ≡ s.before ++ s.refused ∷ w → take j b.tokens ≡ take j ts → k < j → ⊥
-        by_sunk b w s answer None h tokens_are whole less = done_is_deep (sym (ap (λ x. outcome_of x b.tree []) h) ∙ sym (of_file b.tokens b.tree b.is_file) ∙ answer)
+        by_sunk : (b : Begins (take j ts)) (w : List Token) (s : StopsAt ts k) → answer_of b.tokens ≡ too_deep
+            (s.refused ∷ w) →
+            (x : Option (List Mark)) → sunk max_level 0 b.tree ≡ x → b.tokens ≡ s.before ++ s.refused ∷ w →
+            take j b.tokens ≡ take j ts → k < j → ⊥
+        by_sunk b w s answer None h tokens_are whole less =
+            done_is_deep (sym (ap (λ x. outcome_of x b.tree []) h) ∙ sym (of_file b.tokens b.tree b.is_file)
+            ∙ answer)
         by_sunk b w s answer (Some ms) h tokens_are whole less =
             let f : FirstDeep max_level 0 b.tree ms = first_deep max_level 0 b.tree ms h in
             let rest_is : yield ms ++ [] ≡ s.refused ∷ w =
-            ap left_in (sym (ap (λ x. outcome_of x b.tree []) h) ∙ sym (of_file b.tokens b.tree b.is_file) ∙ answer) in
+            ap left_in (sym (ap (λ x. outcome_of x b.tree []) h) ∙ sym (of_file b.tokens b.tree b.is_file)
+            ∙ answer) in
             let tail : yield ms ≡ s.refused ∷ w = sym (append-nil (yield ms)) ∙ rest_is in
             let cut : b.tokens ≡ f.before ++ s.refused ∷ w =
             sym b.is_file.yields ∙ f.yields ∙ ap (λ x. f.before ++ x) (sym (ap yield f.marks) ∙ tail) in
-            let same : f.before ≡ s.before = append_cancel_right f.before s.before (s.refused ∷ w) (sym cut ∙ tokens_are) in
+            let same : f.before ≡ s.before = append_cancel_right f.before s.before (s.refused ∷ w) (sym cut
+            ∙ tokens_are) in
             let size : length f.before ≡ k = ap length same ∙ s.size in
             let fine : level_at b.tree (length f.before) ≤ max_level =
             e.before b.tokens b.tree b.is_file whole (length f.before) (omega (arith, less, size)) in
@@ -420,3 +489,8 @@ says_only ts (syntax_at k) e = here (verdict_of ts (answer_of ts)) (says_answer 
 -- there is one verdict
 pub one_verdict : (ts : List Token) (v w : Verdict) → Says ts v → Says ts w → v ≡ w
 one_verdict ts v w p q = says_only ts v p ∙ sym (says_only ts w q)
+
+-- what is read has levels that are accepted
+pub accepted_levels : (ts : List Token) (tree : List Mark) (rest : List Token) → answer_of ts ≡ done tree rest →
+    has_accepted_levels tree ≡ true
+accepted_levels ts tree rest h = all_accepted max_level 0 tree (subst (Taken max_level (rule file) answer_of ts) h (taken ts)).level

@@ -44,7 +44,8 @@ abbrev pub ◌or◌ : Classes → Classes → Classes
 
 -- a word that names a type, alone or with others
 abbrev pub type_word : Classes
-type_word = word keyword.Void or word keyword.Char or word keyword.Short or word keyword.Int or word keyword.Long or word keyword.Signed or word keyword.Unsigned
+type_word = word keyword.Void or word keyword.Char or word keyword.Short or word keyword.Int or word
+    keyword.Long or word keyword.Signed or word keyword.Unsigned
 
 -- a word of a declaration; `static` only where it is accepted
 abbrev pub declaration_word : Bool → Classes

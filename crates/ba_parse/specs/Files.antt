@@ -1,6 +1,7 @@
 -- Files, what they begin with, and what is said of a list of tokens.
 
-use Rattle.std.specs.Prelude.{◌≡◌, ℕ, ◌+◌, ◌<◌, ◌≤◌, true, List, length, take, get_or, None}
+use Rattle.std.specs.Prelude.{◌≡◌, ℕ, ◌+◌, ◌<◌, ◌≤◌, nat_le, Bool, true, List, length, take, get_or, None}
+use Rattle.std.specs.List.{list_all}
 use Rattle.ba_lex.specs.declared.token.Token.{Token}
 use Rattle.ba_parse.specs.Marks.{Mark, file, yield, levels, no_else_lost}
 use Rattle.ba_parse.specs.Grammar.{Spells, rule}
@@ -25,19 +26,25 @@ level_at tree k = get_or (levels 0 tree) k 0
 abbrev pub max_level : ℕ
 max_level = 100
 
+-- no token of a tree has a level that is not accepted
+abbrev pub has_accepted_levels : List Mark → Bool
+has_accepted_levels tree = list_all (λ level. nat_le level max_level) (levels 0 tree)
+
 -- the tokens are a file's, and none has a level that is not accepted
 pub record IsParsed (tokens : List Token) (tree : List Mark) : Type 0 where
   pub is_file : IsFile tokens tree
   pub accepted : (j : ℕ) → level_at tree j ≤ max_level
 
--- No file's tokens begin with tokens 0 to k, but some file's with those before; at the end of the list, it is no file's. No
+-- No file's tokens begin with tokens 0 to k, but some file's with those before; at the end of the list, it is
+-- no file's. No
 -- token before is too deep in a file that begins with those.
 pub record IsSyntaxError (tokens : List Token) (k : ℕ) : Type 0 where
   pub within : k ≤ length tokens
   pub begins : Begins (take k tokens)
   pub stops : k < length tokens → Begins (take (k + 1) tokens) → ⊥
   pub at_end : k ≡ length tokens → (tree : List Mark) → IsFile tokens tree → ⊥
-  pub before : (others : List Token) (tree : List Mark) → IsFile others tree → take k others ≡ take k tokens → (j : ℕ) → j < k → level_at tree j ≤ max_level
+  pub before : (others : List Token) (tree : List Mark) → IsFile others tree → take k others ≡ take k tokens →
+      (j : ℕ) → j < k → level_at tree j ≤ max_level
 
 -- some file's tokens begin with tokens 0 to k, and token k is the first whose level is not accepted
 pub record IsTooDeep (tokens : List Token) (k : ℕ) : Type 0 where

@@ -11,7 +11,8 @@ use Rattle.ba_parse.specs.declared.class.TokenClass.TheVariants as class
 use Rattle.ba_parse.specs.Classes.{Classes, class_of, only, word, mark, ◌or◌, names_type}
 use Rattle.ba_parse.specs.Marks.{Rule, Mark, leaf, enter, leave, down, up, node_of, one_deeper, yield, file, external, type_name, parameters, parameter, no_name, array_length, declarators, declarator, braced, declaration, block, statement, no_else, for_first, simples, simple, target, arguments, conditional, chain, unary, primary}
 
--- What stands on the right side of a rule. `after a k` is a part and then one that may depend on it; `words static`
+-- What stands on the right side of a rule. `after a k` is a part and then one that may depend on it; `words
+-- static`
 -- are the words that name a type; `deeper` counts a level.
 pub data Part : Type 0 where
   nothing : Part
@@ -72,8 +73,10 @@ step_sign = mark punct.Increment or mark punct.Decrement
 
 abbrev pub assign_sign : Classes
 assign_sign =
-    mark punct.Assign or mark punct.PlusAssign or mark punct.MinusAssign or mark punct.StarAssign or mark punct.SlashAssign
-    or mark punct.PercentAssign or mark punct.AmpersandAssign or mark punct.CaretAssign or mark punct.BarAssign
+    mark punct.Assign or mark punct.PlusAssign or mark punct.MinusAssign or mark punct.StarAssign or mark
+    punct.SlashAssign
+    or mark punct.PercentAssign or mark punct.AmpersandAssign or mark punct.CaretAssign or mark
+    punct.BarAssign
     or mark punct.ShiftLeftAssign or mark punct.ShiftRightAssign
 
 -- the binary operators of a level, from 1, which binds tightest, to 10 (C90 6.3.5 to 6.3.14)
@@ -82,7 +85,8 @@ operator zero c = false
 operator (suc zero) c = (mark punct.Star or mark punct.Slash or mark punct.Percent) c
 operator (suc (suc zero)) c = (mark punct.Plus or mark punct.Minus) c
 operator (suc (suc (suc zero))) c = (mark punct.ShiftLeft or mark punct.ShiftRight) c
-operator (suc (suc (suc (suc zero)))) c = (mark punct.Less or mark punct.Greater or mark punct.LessEqual or mark punct.GreaterEqual) c
+operator (suc (suc (suc (suc zero)))) c = (mark punct.Less or mark punct.Greater or mark punct.LessEqual or
+    mark punct.GreaterEqual) c
 operator (suc (suc (suc (suc (suc zero))))) c = (mark punct.Equal or mark punct.NotEqual) c
 operator (suc (suc (suc (suc (suc (suc zero)))))) c = mark punct.Ampersand c
 operator (suc (suc (suc (suc (suc (suc (suc zero))))))) c = mark punct.Caret c
@@ -90,7 +94,8 @@ operator (suc (suc (suc (suc (suc (suc (suc (suc zero)))))))) c = mark punct.Bar
 operator (suc (suc (suc (suc (suc (suc (suc (suc (suc zero))))))))) c = mark punct.AndAnd c
 operator (suc (suc (suc (suc (suc (suc (suc (suc (suc (suc n)))))))))) c = mark punct.OrOr c
 
--- an operand of operators of level n + 1: a unary expression and, where operators of levels up to n follow, their chains
+-- an operand of operators of level n + 1: a unary expression and, where operators of levels up to n follow,
+-- their chains
 abbrev pub operand : ℕ → Part
 operand zero = rule unary
 operand (suc n) = operand n · maybe (rule (chain (suc n)))
@@ -149,13 +154,15 @@ statement_part =
     ∣ key keyword.If · condition · controlled · (key keyword.Else · controlled ∣ node no_else nothing)
     ∣ key keyword.While · condition · controlled
     ∣ key keyword.Do · controlled · key keyword.While · condition · semicolon
-    ∣ key keyword.For · in_parentheses (rule for_first · semicolon · maybe expression · semicolon · maybe (rule simples)) · controlled
+    ∣ key keyword.For · in_parentheses (rule for_first · semicolon · maybe expression · semicolon · maybe
+    (rule simples)) · controlled
     ∣ key keyword.Break · semicolon
     ∣ key keyword.Continue · semicolon
     ∣ key keyword.Return · maybe expression · semicolon
     ∣ key keyword.Assert · condition · semicolon
     ∣ key keyword.Printf
-    · in_parentheses (token (only class.Quoted) · many (token (only class.Quoted)) · many (sign punct.Comma · expression))
+    · in_parentheses (token (only class.Quoted) · many (token (only class.Quoted)) · many
+    (sign punct.Comma · expression))
     · semicolon
 
 -- the right side of a rule; the words of a type, and what is absent, stand in nodes of their own
@@ -170,9 +177,11 @@ grammar array_length = in_brackets (maybe expression)
 grammar declarators = listed (rule declarator)
 grammar declarator = name · maybe (rule array_length) · maybe (sign punct.Assign · (rule braced ∣ expression))
 grammar braced =
-    sign punct.OpenBrace · expression · many (sign punct.Comma · expression) · maybe (sign punct.Comma) · sign punct.CloseBrace
+    sign punct.OpenBrace · expression · many (sign punct.Comma · expression) · maybe (sign punct.Comma) · sign
+    punct.CloseBrace
 grammar declaration = type_words false · rule declarators · semicolon
-grammar block = sign punct.OpenBrace · deeper (many (rule declaration ∣ rule statement)) · sign punct.CloseBrace
+grammar block = sign punct.OpenBrace · deeper (many (rule declaration ∣ rule statement)) · sign
+    punct.CloseBrace
 grammar statement = statement_part
 grammar no_else = nothing
 grammar for_first = type_words false · rule declarators ∣ rule simples ∣ nothing
@@ -183,7 +192,8 @@ grammar simple =
     ∣ rule target · (token step_sign ∣ token assign_sign · expression)
 grammar target = name · maybe (in_brackets expression)
 grammar arguments = listed expression ∣ nothing
-grammar conditional = operand 10 · maybe (sign punct.Question · deeper expression · sign punct.Colon · deeper expression)
+grammar conditional = operand 10 · maybe (sign punct.Question · deeper expression · sign punct.Colon · deeper
+    expression)
 grammar (chain n) = token (operator n) · deeper (chained n)
 grammar unary =
     token prefix_sign · deeper (rule unary)
@@ -198,11 +208,14 @@ grammar primary =
 
 pub data Spells : Part → List Mark → Type 0 where
   is_nothing : Spells nothing []
-  is_token : (classes : Classes) (t : Token) → classes (class_of t) ≡ true → Spells (token classes) (leaf t ∷ [])
-  is_words : (static : Bool) (ts : List Token) → names_type static (map class_of ts) ≡ true → Spells (words static) (map leaf ts)
+  is_token : (classes : Classes) (t : Token) → classes (class_of t) ≡ true →
+      Spells (token classes) (leaf t ∷ [])
+  is_words : (static : Bool) (ts : List Token) → names_type static (map class_of ts) ≡ true →
+      Spells (words static) (map leaf ts)
   is_node : (r : Rule) (a : Part) (f : List Mark) → Spells a f → Spells (node r a) (node_of r f)
   is_rule : (r : Rule) (f : List Mark) → Spells (grammar r) f → Spells (rule r) (node_of r f)
-  is_after : (a : Part) (k : List Mark → Part) (f g : List Mark) → Spells a f → Spells (k f) g → Spells (after a k) (f ++ g)
+  is_after : (a : Part) (k : List Mark → Part) (f g : List Mark) → Spells a f → Spells (k f) g →
+      Spells (after a k) (f ++ g)
   is_first : (a b : Part) (f : List Mark) → Spells a f → Spells (either a b) f
   is_second : (a b : Part) (f : List Mark) → Spells b f → Spells (either a b) f
   is_none : (a : Part) → Spells (many a) []

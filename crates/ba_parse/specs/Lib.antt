@@ -6,11 +6,12 @@ pub mod Readings
 pub mod Sets
 pub mod Telling
 pub mod Views
-pub mod ExpressionViews
-pub mod ArgumentsFall
-pub mod DeclarationViews
-pub mod StatementViews
-pub mod ItemsFall
+pub mod ExpressionMarks
+pub mod DeclarationMarks
+pub mod SimpleMarks
+pub mod StatementMarks
+pub mod ExternalMarks
+pub mod FileMarks
 pub mod Tails
 pub mod Outcomes
 pub mod Told

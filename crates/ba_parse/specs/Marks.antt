@@ -1,4 +1,5 @@
--- A tree written out: its leaves in their order, with brackets around each node, and around each construct that
+-- A tree written out: its leaves in their order, with brackets around each node, and around each construct
+-- that
 -- counts a level.
 
 use Rattle.std.specs.Prelude.{ℕ, ◌-◌, List, [], ◌∷◌, ◌++◌, Bool, true, false, ◌&&◌, not, Option, None, Some}
@@ -7,8 +8,10 @@ use Rattle.ba_lex.specs.declared.token.Token.{Token}
 use Rattle.ba_lex.specs.declared.token.Keyword.TheVariants as keyword
 use Rattle.ba_parse.specs.Classes.{class_of, word}
 
--- The rules that have a node; `chain n` is what follows the first operand in a chain of binary operators of level n.
--- The nodes `no_name` and `no_else` have nothing in them: they stand where a parameter has no name, an if no else.
+-- The rules that have a node; `chain n` is what follows the first operand in a chain of binary operators of
+-- level n.
+-- The nodes `no_name` and `no_else` have nothing in them: they stand where a parameter has no name, an if no
+-- else.
 pub data Rule : Type 0 where
   file : Rule
   external : Rule
@@ -84,6 +87,7 @@ abbrev pub no_else_lost : List Mark → Option Token → Bool
 no_else_lost [] next = true
 no_else_lost (leaf t ∷ ms) next = no_else_lost ms next
 no_else_lost (enter r ∷ ms) next = no_else_lost ms next
-no_else_lost (leave r ∷ ms) next = not (is_no_else r && is_else (first_or (yield ms) next)) && no_else_lost ms next
+no_else_lost (leave r ∷ ms) next = not (is_no_else r && is_else (first_or (yield ms) next)) && no_else_lost ms
+    next
 no_else_lost (down ∷ ms) next = no_else_lost ms next
 no_else_lost (up ∷ ms) next = no_else_lost ms next

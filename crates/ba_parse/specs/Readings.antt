@@ -1,4 +1,5 @@
--- What each function of the parser gives: the tree of a part, written out, with the tokens that are left; or the tokens
+-- What each function of the parser gives: the tree of a part, written out, with the tokens that are left; or
+-- the tokens
 -- from the refused one on. These are no definitions of the grammar: laws lead from here to it.
 
 use Rattle.std.specs.Prelude.{ℕ, Bool, true, false, not, ◌&&◌, if◌then◌else◌, List, [], ◌∷◌, ◌++◌, length}
@@ -100,7 +101,8 @@ unfoldable pub words_after : Bool → List TokenClass → Reading
 words_after static before [] = after_words before []
 words_after static before (t ∷ ts) =
     if declaration_word static (class_of t)
-    then (if list_all (λ d. agree d (class_of t)) before then with_front (leaf t ∷ []) (words_after static (before ++ class_of t ∷ []) ts) else syntax (t ∷ ts))
+    then (if list_all (λ d. agree d (class_of t)) before then with_front (leaf t ∷ [])
+    (words_after static (before ++ class_of t ∷ []) ts) else syntax (t ∷ ts))
     else after_words before (t ∷ ts)
 
 abbrev pub read_type_words : Bool → Reading
@@ -130,8 +132,10 @@ simple_start = only class.Name or step_sign
 
 abbrev pub statement_start : Classes
 statement_start =
-    mark punct.OpenBrace or mark punct.Semicolon or simple_start or word keyword.If or word keyword.While or word keyword.Do
-    or word keyword.For or word keyword.Break or word keyword.Continue or word keyword.Return or word keyword.Assert
+    mark punct.OpenBrace or mark punct.Semicolon or simple_start or word keyword.If or word keyword.While or
+    word keyword.Do
+    or word keyword.For or word keyword.Break or word keyword.Continue or word keyword.Return or word
+    keyword.Assert
     or word keyword.Printf
 
 abbrev pub item_start : Classes
@@ -177,7 +181,8 @@ abbrev pub deeper_in : Inner → Inside → Reading
 deeper_in inner i ts = lowered (inner i ts)
 
 abbrev pub read_parenthesized : Inner → Inside → Reading
-read_parenthesized inner i = read_sign punct.OpenParenthesis ▹ deeper_in inner i ▹ read_sign punct.CloseParenthesis
+read_parenthesized inner i = read_sign punct.OpenParenthesis ▹ deeper_in inner i ▹ read_sign
+    punct.CloseParenthesis
 
 abbrev pub read_bracketed : Inner → Inside → Reading
 read_bracketed inner i = read_sign punct.OpenBracket ▹ deeper_in inner i ▹ read_sign punct.CloseBracket
@@ -195,7 +200,8 @@ after_name inner =
 abbrev pub read_primary : Inner → Reading
 read_primary inner = read_node primary
     (read_either (next_is (only class.Name)) (read_name ▹ after_name inner)
-    (read_either (next_is (only class.Constant)) (read_token (only class.Constant)) (read_parenthesized inner in_expression)))
+    (read_either (next_is (only class.Constant)) (read_token (only class.Constant))
+    (read_parenthesized inner in_expression)))
 
 -- a parenthesis before the words of a type is a cast's
 abbrev pub is_cast : List Token → Bool
@@ -219,10 +225,12 @@ read_chained inner zero = read_unary inner
 read_chained inner (suc n) = read_operand inner n ▹ read_maybe (operator (suc n)) (read_chain inner (suc n))
 
 abbrev pub read_branches : Inner → Reading
-read_branches inner = read_sign punct.Question ▹ deeper_in inner in_expression ▹ read_sign punct.Colon ▹ deeper_in inner in_expression
+read_branches inner = read_sign punct.Question ▹ deeper_in inner in_expression ▹ read_sign punct.Colon
+    ▹ deeper_in inner in_expression
 
 abbrev pub read_expression : Inner → Reading
-read_expression inner = read_node conditional (read_operand inner 10 ▹ read_maybe (mark punct.Question) (read_branches inner))
+read_expression inner = read_node conditional (read_operand inner 10 ▹ read_maybe (mark punct.Question)
+    (read_branches inner))
 
 abbrev pub read_arguments : Inner → Reading
 read_arguments inner = read_node arguments (read_maybe operand_start (read_listed (read_expression inner)))
@@ -242,11 +250,13 @@ is_next_value (t ∷ ts) = mark punct.Comma (class_of t) && not (next_is (mark p
 
 abbrev pub read_braced : Inner → Reading
 read_braced inner = read_node braced
-    (read_sign punct.OpenBrace ▹ read_expression inner ▹ read_many is_next_value (read_sign punct.Comma ▹ read_expression inner)
+    (read_sign punct.OpenBrace ▹ read_expression inner ▹ read_many is_next_value (read_sign punct.Comma
+    ▹ read_expression inner)
     ▹ read_maybe (mark punct.Comma) (read_sign punct.Comma) ▹ read_sign punct.CloseBrace)
 
 abbrev pub read_initialiser : Inner → Reading
-read_initialiser inner = read_sign punct.Assign ▹ read_either (next_is (mark punct.OpenBrace)) (read_braced inner) (read_expression inner)
+read_initialiser inner = read_sign punct.Assign ▹ read_either (next_is (mark punct.OpenBrace))
+    (read_braced inner) (read_expression inner)
 
 abbrev pub read_declarator : Inner → Reading
 read_declarator inner = read_node declarator
@@ -256,19 +266,23 @@ abbrev pub read_declarators : Inner → Reading
 read_declarators inner = read_node declarators (read_listed (read_declarator inner))
 
 abbrev pub read_declaration : Inner → Reading
-read_declaration inner = read_node declaration (read_type_words false ▹ read_declarators inner ▹ read_semicolon)
+read_declaration inner = read_node declaration (read_type_words false ▹ read_declarators inner
+    ▹ read_semicolon)
 
 abbrev pub read_parameter : Inner → Reading
 read_parameter inner = read_node parameter
-    (read_type_words false ▹ read_either (next_is (only class.Name)) read_name (read_node no_name read_nothing) ▹ maybe_length inner)
+    (read_type_words false ▹ read_either (next_is (only class.Name)) read_name
+    (read_node no_name read_nothing) ▹ maybe_length inner)
 
 abbrev pub read_parameters : Inner → Reading
-read_parameters inner = read_node parameters (read_maybe (declaration_word false) (read_listed (read_parameter inner)))
+read_parameters inner = read_node parameters (read_maybe (declaration_word false)
+    (read_listed (read_parameter inner)))
 
 -- statements
 
 abbrev pub read_target : Inner → Reading
-read_target inner = read_node target (read_name ▹ read_maybe (mark punct.OpenBracket) (read_bracketed inner in_expression))
+read_target inner = read_node target (read_name ▹ read_maybe (mark punct.OpenBracket)
+    (read_bracketed inner in_expression))
 
 -- a name before a parenthesis is called
 abbrev pub is_called : List Token → Bool
@@ -279,7 +293,8 @@ abbrev pub read_simple : Inner → Reading
 read_simple inner = read_node simple
     (read_either (next_is step_sign) (read_token step_sign ▹ read_target inner)
     (read_either is_called (read_name ▹ read_parenthesized inner in_arguments)
-    (read_target inner ▹ read_either (next_is step_sign) (read_token step_sign) (read_token assign_sign ▹ read_expression inner))))
+    (read_target inner ▹ read_either (next_is step_sign) (read_token step_sign) (read_token assign_sign
+    ▹ read_expression inner))))
 
 abbrev pub read_simples : Inner → Reading
 read_simples inner = read_node simples (read_listed (read_simple inner))
@@ -290,7 +305,8 @@ read_for_first inner = read_node for_first
     (read_maybe simple_start (read_simples inner)))
 
 abbrev pub read_block : Inner → Reading
-read_block inner = read_node block (read_sign punct.OpenBrace ▹ deeper_in inner in_block ▹ read_sign punct.CloseBrace)
+read_block inner = read_node block (read_sign punct.OpenBrace ▹ deeper_in inner in_block ▹ read_sign
+    punct.CloseBrace)
 
 abbrev pub read_condition : Inner → Reading
 read_condition inner = read_parenthesized inner in_expression
@@ -301,13 +317,15 @@ maybe_expression inner = read_maybe operand_start (read_expression inner)
 abbrev pub read_if : Inner → Reading
 read_if inner =
     read_key keyword.If ▹ read_condition inner ▹ deeper_in inner in_statement
-    ▹ read_either (next_is (word keyword.Else)) (read_key keyword.Else ▹ deeper_in inner in_statement) (read_node no_else read_nothing)
+    ▹ read_either (next_is (word keyword.Else)) (read_key keyword.Else ▹ deeper_in inner in_statement)
+    (read_node no_else read_nothing)
 
 abbrev pub read_while : Inner → Reading
 read_while inner = read_key keyword.While ▹ read_condition inner ▹ deeper_in inner in_statement
 
 abbrev pub read_do : Inner → Reading
-read_do inner = read_key keyword.Do ▹ deeper_in inner in_statement ▹ read_key keyword.While ▹ read_condition inner ▹ read_semicolon
+read_do inner = read_key keyword.Do ▹ deeper_in inner in_statement ▹ read_key keyword.While ▹ read_condition
+    inner ▹ read_semicolon
 
 abbrev pub read_for : Inner → Reading
 read_for inner = read_key keyword.For ▹ read_parenthesized inner in_for ▹ deeper_in inner in_statement
@@ -323,8 +341,10 @@ read_keyword_statement inner =
     (read_either (next_is (word keyword.For)) (read_for inner)
     (read_either (next_is (word keyword.Break)) (read_key keyword.Break ▹ read_semicolon)
     (read_either (next_is (word keyword.Continue)) (read_key keyword.Continue ▹ read_semicolon)
-    (read_either (next_is (word keyword.Return)) (read_key keyword.Return ▹ maybe_expression inner ▹ read_semicolon)
-    (read_either (next_is (word keyword.Assert)) (read_key keyword.Assert ▹ read_condition inner ▹ read_semicolon)
+    (read_either (next_is (word keyword.Return)) (read_key keyword.Return ▹ maybe_expression inner
+    ▹ read_semicolon)
+    (read_either (next_is (word keyword.Assert)) (read_key keyword.Assert ▹ read_condition inner
+    ▹ read_semicolon)
     (read_printf inner))))))))
 
 abbrev pub read_statement : Inner → Reading
@@ -347,20 +367,24 @@ after_parameters inner f = read_sign punct.CloseParenthesis ▹ read_function_en
 
 abbrev pub read_function_tail : Inner → Reading
 read_function_tail inner =
-    read_name ▹ read_sign punct.OpenParenthesis ▹ λ ts. then_read (deeper_in inner in_parameters ts) (after_parameters inner)
+    read_name ▹ read_sign punct.OpenParenthesis ▹ λ ts. then_read (deeper_in inner in_parameters ts)
+    (after_parameters inner)
 
 abbrev pub read_external : Inner → Reading
 read_external inner = read_node external
-    (read_type_words true ▹ read_either is_function (read_function_tail inner) (read_declarators inner ▹ read_semicolon))
+    (read_type_words true ▹ read_either is_function (read_function_tail inner) (read_declarators inner
+    ▹ read_semicolon))
 
 -- WHAT IS INSIDE, at its own level, and then with so many levels left below
 
 abbrev pub read_item : Inner → Reading
-read_item inner = read_either (next_is (declaration_word false)) (read_declaration inner) (read_statement inner)
+read_item inner = read_either (next_is (declaration_word false)) (read_declaration inner)
+    (read_statement inner)
 
 abbrev pub read_for_head : Inner → Reading
 read_for_head inner =
-    read_for_first inner ▹ read_semicolon ▹ maybe_expression inner ▹ read_semicolon ▹ read_maybe simple_start (read_simples inner)
+    read_for_first inner ▹ read_semicolon ▹ maybe_expression inner ▹ read_semicolon ▹ read_maybe simple_start
+    (read_simples inner)
 
 abbrev pub read_printed : Inner → Reading
 read_printed inner =

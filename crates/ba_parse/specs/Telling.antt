@@ -38,4 +38,5 @@ agrees_with before [] = false
 agrees_with before (t ∷ ts) = list_all (λ c. agree c (class_of t)) before
 
 abbrev pub next_word : Bool → List TokenClass → Reading
-next_word static before ts = if agrees_with before ts then read_token (declaration_word static) ts else syntax ts
+next_word static before ts = if agrees_with before ts then read_token (declaration_word static) ts else syntax
+    ts

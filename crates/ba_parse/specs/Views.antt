@@ -1,8 +1,6 @@
--- What all trees share when they are written out: parts that may be left out, parts in a row, and that no part is longer.
+-- What all trees share when they are written out: parts that may be left out, and parts in a row.
 
-use Rattle.std.specs.Prelude.{◌+◌, ◌≤◌, List, [], ◌∷◌, ◌++◌, length, Option, None, Some}
-use Rattle.std.proofs.Common.{arith, length-append}
-use denote.Param.Weighed.{most}
+use Rattle.std.specs.Prelude.{List, [], ◌∷◌, ◌++◌, Option, None, Some}
 use Rattle.std.specs.Borrow.{Bor}
 use Rattle.ba_lex.specs.declared.token.Token.{Token}
 use Rattle.ba_parse.specs.Marks.{Mark, leaf, node_of, no_name}
@@ -16,11 +14,6 @@ optional (Some f) = f
 abbrev pub joined : List (List Mark) → List Mark
 joined [] = []
 joined (f ∷ fs) = f ++ joined fs
-
--- no part is longer than all of them together
-pub most_le-joined : (fs : List (List Mark)) → most (λ f. length f + 1) fs ≤ length (joined fs) + 1
-most_le-joined [] = omega arith
-most_le-joined (f ∷ fs) = omega (arith, most_le-joined fs, length-append f (joined fs))
 
 -- a token that may be left out; the name of a parameter, where the node without a name stands for none
 abbrev pub optional_leaf : Option (Bor Token) → List Mark

@@ -2,7 +2,8 @@
 //!
 //! `levels` is how many more constructs may be around a token.
 
-ghost use Rattle.std.specs.Prelude.{◌≡◌};
+ghost use Rattle.std.specs.Prelude.{◌≡◌, ◌++◌, map, option_map, MatchResult};
+ghost use Rattle.ba_parse.specs.declared.reader.Stop.TheVariants.{Memory};
 ghost use Rattle.ba_lex.specs.declared.token.Punct.TheVariants as punct;
 ghost use Rattle.ba_parse.specs.Classes.{mark, only};
 ghost use Rattle.ba_parse.specs.declared.class.TokenClass.TheVariants as class;
@@ -10,14 +11,15 @@ ghost use Rattle.ba_parse.specs.Marks.{no_name};
 ghost use Rattle.ba_parse.specs.Readings.{◌▹◌, read_either, read_maybe, read_nothing, read_name, read_node, read_many, read_listed, read_sign, next_is, is_next_value, levels_left, shallow, in_length, in_parameters, maybe_expression, maybe_length, read_array_length, read_expression, read_braced, read_initialiser, read_declarator, read_declarators, read_declaration, read_parameter, read_parameters};
 ghost use Rattle.ba_parse.specs.Telling.{Told};
 ghost use Rattle.ba_parse.specs.Views.{optional, optional_leaf, name_marks, joined};
-ghost use Rattle.ba_parse.specs.DeclarationViews.{value_marks};
+ghost use Rattle.ba_parse.specs.ExpressionMarks.{conditional_marks, next_expression_marks};
+ghost use Rattle.ba_parse.specs.DeclarationMarks.{array_length_marks, braced_marks, declaration_marks, declarator_marks, declarators_marks, initialiser_marks, listed_declarator_marks, next_parameter_marks, parameter_list_marks, parameter_marks, parameters_marks};
 
 use crate::expressions::{conditional, next_expression};
 use crate::reader::{Reader, Stop};
 use crate::sets::TokenSet;
 use crate::tree::declarations::{
-    ArrayLength, Braced, Declaration, Declarator, Declarators, InitialValue, Initialiser,
-    NextDeclarator, NextParameter, Parameter, ParameterList, Parameters,
+    ArrayLength, Braced, Declaration, Declarator, Declarators, Initialiser, ListedDeclarator,
+    NextParameter, Parameter, ParameterList, Parameters,
 };
 use crate::tree::expressions::{Conditional, NextExpression};
 use crate::types::type_name;
@@ -38,7 +40,7 @@ pub fn maybe_expression<'a>(
     reader: &mut Reader<'a>,
     levels: u32,
 ) -> Result<Option<Conditional<'a>>, Stop>
-    ensures { Told optional result (maybe_expression (levels_left levels) reader.old) reader.new }
+    ensures { Told (λ e. optional (option_map conditional_marks e)) result (maybe_expression (levels_left levels) reader.old) reader.new }
 {
     if !reader.next_is(TokenSet::OperandStart) {
         return Ok(None);
@@ -52,7 +54,7 @@ fn maybe_length<'a>(
     reader: &mut Reader<'a>,
     levels: u32,
 ) -> Result<Option<ArrayLength<'a>>, Stop>
-    ensures { Told optional result (maybe_length (levels_left levels) reader.old) reader.new }
+    ensures { Told (λ l. optional (option_map array_length_marks l)) result (maybe_length (levels_left levels) reader.old) reader.new }
 {
     if !reader.next_is(TokenSet::Punct(Punct::OpenBracket)) {
         return Ok(None);
@@ -73,7 +75,7 @@ fn inner_length<'a>(
     reader: &mut Reader<'a>,
     levels: u32,
 ) -> Result<Option<Conditional<'a>>, Stop>
-    ensures { Told optional result (levels_left levels in_length reader.old) reader.new }
+    ensures { Told (λ e. optional (option_map conditional_marks e)) result (levels_left levels in_length reader.old) reader.new }
 {
     if levels == 0 {
         return no_length(reader);
@@ -83,7 +85,7 @@ fn inner_length<'a>(
 
 /// The length where no level is left: none, or refused.
 fn no_length<'a>(reader: &Reader<'a>) -> Result<Option<Conditional<'a>>, Stop>
-    ensures { Told optional result (shallow in_length reader.now) reader.now }
+    ensures { Told (λ e. optional (option_map conditional_marks e)) result (shallow in_length reader.now) reader.now }
 {
     if reader.next_is(TokenSet::OperandStart) {
         return Err(Stop::TooDeep);
@@ -92,7 +94,7 @@ fn no_length<'a>(reader: &Reader<'a>) -> Result<Option<Conditional<'a>>, Stop>
 }
 
 fn braced<'a>(alloc: Global, reader: &mut Reader<'a>, levels: u32) -> Result<Braced<'a>, Stop>
-    ensures { Told (λ b. b) result (read_braced (levels_left levels) reader.old) reader.new }
+    ensures { Told braced_marks result (read_braced (levels_left levels) reader.old) reader.new }
 {
     let open = reader.take(TokenSet::Punct(Punct::OpenBrace))?;
     let first = conditional(alloc, reader, levels)?;
@@ -124,7 +126,7 @@ fn next_values<'a>(
     reader: &mut Reader<'a>,
     levels: u32,
 ) -> Result<Vec<NextExpression<'a>>, Stop>
-    ensures { Told (λ v. joined v.items) result (read_many is_next_value (read_sign punct.Comma ▹ read_expression (levels_left levels)) reader.old) reader.new }
+    ensures { Told (λ v. joined (map next_expression_marks v.items)) result (read_many is_next_value (read_sign punct.Comma ▹ read_expression (levels_left levels)) reader.old) reader.new }
 {
     let mut rest = Vec::new(alloc);
     let most = reader.rest().len();
@@ -142,29 +144,29 @@ fn maybe_initialiser<'a>(
     reader: &mut Reader<'a>,
     levels: u32,
 ) -> Result<Option<Initialiser<'a>>, Stop>
-    ensures { Told optional result (read_maybe (mark punct.Assign) (read_initialiser (levels_left levels)) reader.old) reader.new }
+    ensures { Told (λ i. optional (option_map initialiser_marks i)) result (read_maybe (mark punct.Assign) (read_initialiser (levels_left levels)) reader.old) reader.new }
 {
     if !reader.next_is(TokenSet::Punct(Punct::Assign)) {
         return Ok(None);
     }
-    let assign = reader.take(TokenSet::Punct(Punct::Assign))?;
-    let value = initial_value(alloc, reader, levels)?;
-    Ok(Some(Initialiser { assign, value }))
+    let given = initialiser(alloc, reader, levels)?;
+    Ok(Some(given))
 }
 
-fn initial_value<'a>(
+fn initialiser<'a>(
     alloc: Global,
     reader: &mut Reader<'a>,
     levels: u32,
-) -> Result<InitialValue<'a>, Stop>
-    ensures { Told value_marks result (read_either (next_is (mark punct.OpenBrace)) (read_braced (levels_left levels)) (read_expression (levels_left levels)) reader.old) reader.new }
+) -> Result<Initialiser<'a>, Stop>
+    ensures { Told initialiser_marks result (read_initialiser (levels_left levels) reader.old) reader.new }
 {
+    let assign = reader.take(TokenSet::Punct(Punct::Assign))?;
     if reader.next_is(TokenSet::Punct(Punct::OpenBrace)) {
         let values = braced(alloc, reader, levels)?;
-        Ok(InitialValue::Braced(values))
+        Ok(Initialiser::Braced { assign, values })
     } else {
         let value = conditional(alloc, reader, levels)?;
-        Ok(InitialValue::Expression(value))
+        Ok(Initialiser::Expression { assign, value })
     }
 }
 
@@ -173,7 +175,7 @@ fn declarator<'a>(
     reader: &mut Reader<'a>,
     levels: u32,
 ) -> Result<Declarator<'a>, Stop>
-    ensures { Told (λ d. d) result (read_declarator (levels_left levels) reader.old) reader.new }
+    ensures { Told declarator_marks result (read_declarator (levels_left levels) reader.old) reader.new }
 {
     let name = reader.take(TokenSet::Name)?;
     let length = maybe_length(alloc, reader, levels)?;
@@ -189,13 +191,13 @@ fn next_declarator<'a>(
     alloc: Global,
     reader: &mut Reader<'a>,
     levels: u32,
-) -> Result<NextDeclarator<'a>, Stop>
-    ensures { Told (λ n. n) result ((read_sign punct.Comma ▹ read_declarator (levels_left levels)) reader.old) reader.new }
+) -> Result<ListedDeclarator<'a>, Stop>
+    ensures { Told listed_declarator_marks result ((read_sign punct.Comma ▹ read_declarator (levels_left levels)) reader.old) reader.new }
 {
     let comma = reader.take(COMMA)?;
     let next = declarator(alloc, reader, levels)?;
-    Ok(NextDeclarator {
-        comma,
+    Ok(ListedDeclarator {
+        comma: Some(comma),
         declarator: next,
     })
 }
@@ -204,8 +206,8 @@ fn next_declarators<'a>(
     alloc: Global,
     reader: &mut Reader<'a>,
     levels: u32,
-) -> Result<Vec<NextDeclarator<'a>>, Stop>
-    ensures { Told (λ v. joined v.items) result (read_many (next_is (mark punct.Comma)) (read_sign punct.Comma ▹ read_declarator (levels_left levels)) reader.old) reader.new }
+) -> Result<Vec<ListedDeclarator<'a>>, Stop>
+    ensures { Told (λ v. joined (map listed_declarator_marks v.items)) result (read_many (next_is (mark punct.Comma)) (read_sign punct.Comma ▹ read_declarator (levels_left levels)) reader.old) reader.new }
 {
     let mut rest = Vec::new(alloc);
     let most = reader.rest().len();
@@ -228,11 +230,26 @@ pub fn declarators<'a>(
     reader: &mut Reader<'a>,
     levels: u32,
 ) -> Result<Declarators<'a>, Stop>
-    ensures { Told (λ d. d) result (read_declarators (levels_left levels) reader.old) reader.new }
+    ensures { Told declarators_marks result (read_declarators (levels_left levels) reader.old) reader.new }
 {
     let first = declarator(alloc, reader, levels)?;
-    let rest = next_declarators(alloc, reader, levels)?;
-    Ok(Declarators { first, rest })
+    let mut all = next_declarators(alloc, reader, levels)?;
+    put_first(&mut all, first)?;
+    Ok(Declarators { all })
+}
+
+#[tactic(auto, using(crate::proofs::Repeats::each_front))]
+fn put_first<'a>(all: &mut Vec<ListedDeclarator<'a>>, first: Declarator<'a>) -> Result<(), Stop>
+    ensures { MatchResult result (λ _. joined (map listed_declarator_marks all.new.items) ≡ declarator_marks first.entry ++ joined (map listed_declarator_marks all.old.items)) (λ stop. stop ≡ Memory) }
+{
+    all.insert(
+        0,
+        ListedDeclarator {
+            comma: None,
+            declarator: first,
+        },
+    )?;
+    Ok(())
 }
 
 /// A declaration in a block.
@@ -245,7 +262,7 @@ pub fn declaration<'a>(
     reader: &mut Reader<'a>,
     levels: u32,
 ) -> Result<Declaration<'a>, Stop>
-    ensures { Told (λ d. d) result (read_declaration (levels_left levels) reader.old) reader.new }
+    ensures { Told declaration_marks result (read_declaration (levels_left levels) reader.old) reader.new }
 {
     let name = type_name(alloc, reader, false)?;
     let all = declarators(alloc, reader, levels)?;
@@ -268,7 +285,7 @@ fn maybe_name<'a>(reader: &mut Reader<'a>) -> Result<Option<&'a Token<'a>>, Stop
 }
 
 fn parameter<'a>(alloc: Global, reader: &mut Reader<'a>, levels: u32) -> Result<Parameter<'a>, Stop>
-    ensures { Told (λ p. p) result (read_parameter (levels_left levels) reader.old) reader.new }
+    ensures { Told parameter_marks result (read_parameter (levels_left levels) reader.old) reader.new }
 {
     let words = type_name(alloc, reader, false)?;
     let name = maybe_name(reader)?;
@@ -285,7 +302,7 @@ fn next_parameter<'a>(
     reader: &mut Reader<'a>,
     levels: u32,
 ) -> Result<NextParameter<'a>, Stop>
-    ensures { Told (λ n. n) result ((read_sign punct.Comma ▹ read_parameter (levels_left levels)) reader.old) reader.new }
+    ensures { Told next_parameter_marks result ((read_sign punct.Comma ▹ read_parameter (levels_left levels)) reader.old) reader.new }
 {
     let comma = reader.take(COMMA)?;
     let next = parameter(alloc, reader, levels)?;
@@ -300,7 +317,7 @@ fn next_parameters<'a>(
     reader: &mut Reader<'a>,
     levels: u32,
 ) -> Result<Vec<NextParameter<'a>>, Stop>
-    ensures { Told (λ v. joined v.items) result (read_many (next_is (mark punct.Comma)) (read_sign punct.Comma ▹ read_parameter (levels_left levels)) reader.old) reader.new }
+    ensures { Told (λ v. joined (map next_parameter_marks v.items)) result (read_many (next_is (mark punct.Comma)) (read_sign punct.Comma ▹ read_parameter (levels_left levels)) reader.old) reader.new }
 {
     let mut rest = Vec::new(alloc);
     let most = reader.rest().len();
@@ -318,7 +335,7 @@ fn parameter_list<'a>(
     reader: &mut Reader<'a>,
     levels: u32,
 ) -> Result<ParameterList<'a>, Stop>
-    ensures { Told (λ p. p) result (read_listed (read_parameter (levels_left levels)) reader.old) reader.new }
+    ensures { Told parameter_list_marks result (read_listed (read_parameter (levels_left levels)) reader.old) reader.new }
 {
     let first = parameter(alloc, reader, levels)?;
     let rest = next_parameters(alloc, reader, levels)?;
@@ -330,7 +347,7 @@ fn parameters<'a>(
     reader: &mut Reader<'a>,
     levels: u32,
 ) -> Result<Parameters<'a>, Stop>
-    ensures { Told (λ p. p) result (read_parameters (levels_left levels) reader.old) reader.new }
+    ensures { Told parameters_marks result (read_parameters (levels_left levels) reader.old) reader.new }
 {
     if !reader.next_is(DECLARATION_WORD) {
         return Ok(Parameters { list: None });
@@ -349,7 +366,7 @@ pub fn inner_parameters<'a>(
     reader: &mut Reader<'a>,
     levels: u32,
 ) -> Result<Parameters<'a>, Stop>
-    ensures { Told (λ p. p) result (levels_left levels in_parameters reader.old) reader.new }
+    ensures { Told parameters_marks result (levels_left levels in_parameters reader.old) reader.new }
 {
     if levels == 0 {
         return no_parameters(reader);
@@ -359,7 +376,7 @@ pub fn inner_parameters<'a>(
 
 /// The parameters where no level is left: none, or refused.
 fn no_parameters<'a>(reader: &Reader<'a>) -> Result<Parameters<'a>, Stop>
-    ensures { Told (λ p. p) result (shallow in_parameters reader.now) reader.now }
+    ensures { Told parameters_marks result (shallow in_parameters reader.now) reader.now }
 {
     if reader.next_is(DECLARATION_WORD) {
         return Err(Stop::TooDeep);

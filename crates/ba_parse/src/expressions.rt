@@ -2,22 +2,23 @@
 //!
 //! `levels` is how many more constructs may be around a token.
 
-ghost use Rattle.std.specs.Prelude.{◌≡◌, ◌<◌, ◌∷◌, ◌++◌, [], Option, option_map, MatchResult};
+ghost use Rattle.std.specs.Prelude.{◌≡◌, ◌<◌, ◌∷◌, ◌++◌, [], Option, map, option_map, MatchResult};
 ghost use Rattle.ba_lex.specs.declared.token.Punct.TheVariants as punct;
 ghost use Rattle.ba_parse.specs.declared.reader.Stop.TheVariants.{Memory};
 ghost use Rattle.ba_parse.specs.Classes.{mark};
 ghost use Rattle.ba_parse.specs.Grammar.{operator, prefix_sign};
-ghost use Rattle.ba_parse.specs.Readings.{◌▹◌, read_maybe, read_either, read_token, read_many, read_listed, read_sign, read_parenthesized, deeper_in, levels_left, next_is, in_expression, in_arguments, in_cast, in_unary, in_chained, read_expression, read_branches, read_operand, read_chain, read_unary, read_primary, after_name, read_name, read_arguments, shallow};
+ghost use Rattle.ba_parse.specs.Marks.{primary, unary};
+ghost use Rattle.ba_parse.specs.Readings.{◌▹◌, read_maybe, read_either, read_token, read_many, read_node, read_listed, read_sign, read_parenthesized, deeper_in, levels_left, next_is, in_expression, in_arguments, in_cast, in_unary, in_chained, read_expression, read_branches, read_operand, read_chain, read_unary, read_primary, after_name, read_name, read_arguments, shallow};
 ghost use Rattle.ba_parse.specs.Telling.{Told, refusal};
 ghost use Rattle.ba_parse.specs.Sets.{classes};
 ghost use Rattle.ba_parse.specs.Views.{optional, joined};
-ghost use Rattle.ba_parse.specs.ExpressionViews.{operand_marks, chained_marks, unary_marks, primary_marks, expressions_marks};
+ghost use Rattle.ba_parse.specs.ExpressionMarks.{type_name_marks, arguments_marks, branches_marks, chain_marks, conditional_marks, expressions_marks, next_expression_marks, operand_marks, primary_marks, unary_marks};
 
 use crate::reader::{Reader, Stop};
 use crate::sets::TokenSet;
 use crate::tree::expressions::{
     Arguments, Branches, Chain, Conditional, Expressions, NextExpression, Operand, Primary,
-    PrimaryForm, TypeName, Unary, UnaryForm,
+    TypeName, Unary,
 };
 use crate::types::type_name;
 use ba_lex::token::{Punct, Token};
@@ -41,7 +42,7 @@ pub fn conditional<'a>(
     reader: &mut Reader<'a>,
     levels: u32,
 ) -> Result<Conditional<'a>, Stop>
-    ensures { Told (λ c. c) result (read_expression (levels_left levels) reader.old) reader.new }
+    ensures { Told conditional_marks result (read_expression (levels_left levels) reader.old) reader.new }
 {
     let test = operand(alloc, reader, levels, LOOSEST)?;
     let branches = maybe_branches(alloc, reader, levels)?;
@@ -54,7 +55,7 @@ fn maybe_branches<'a>(
     reader: &mut Reader<'a>,
     levels: u32,
 ) -> Result<Option<Branches<'a>>, Stop>
-    ensures { Told optional result (read_maybe (mark punct.Question) (read_branches (levels_left levels)) reader.old) reader.new }
+    ensures { Told (λ b. optional (option_map branches_marks b)) result (read_maybe (mark punct.Question) (read_branches (levels_left levels)) reader.old) reader.new }
 {
     if !reader.next_is(TokenSet::Punct(Punct::Question)) {
         return Ok(None);
@@ -78,7 +79,7 @@ pub fn inner_expression<'a>(
     reader: &mut Reader<'a>,
     levels: u32,
 ) -> Result<Box<Conditional<'a>>, Stop>
-    ensures { Told (λ e. e.value) result (levels_left levels in_expression reader.old) reader.new }
+    ensures { Told (λ e. conditional_marks e.value) result (levels_left levels in_expression reader.old) reader.new }
 {
     if levels == 0 {
         return Err(refusal(reader, TokenSet::OperandStart));
@@ -116,9 +117,9 @@ fn operand<'a>(
     Ok(Operand { first, chains })
 }
 
-#[tactic(auto, using(crate::proofs::Repeats::joined_push))]
+#[tactic(auto, using(crate::proofs::Repeats::each_push))]
 fn push_some<'a>(chains: &mut Vec<Chain<'a>>, added: Option<Chain<'a>>) -> Result<(), Stop>
-    ensures { MatchResult result (λ _. joined chains.new.items ≡ joined chains.old.items ++ optional added.entry) (λ stop. stop ≡ Memory) }
+    ensures { MatchResult result (λ _. joined (map chain_marks chains.new.items) ≡ joined (map chain_marks chains.old.items) ++ optional (option_map chain_marks added.entry)) (λ stop. stop ≡ Memory) }
 {
     if let Some(chain) = added {
         chains.push(chain)?;
@@ -134,7 +135,7 @@ fn maybe_chain<'a>(
     level: u32,
 ) -> Result<Option<Chain<'a>>, Stop>
     requires { 0 < level }
-    ensures { Told optional result (read_maybe (operator level) (read_chain (levels_left levels) level) reader.old) reader.new }
+    ensures { Told (λ c. optional (option_map chain_marks c)) result (read_maybe (operator level) (read_chain (levels_left levels) level) reader.old) reader.new }
 {
     if !reader.next_is(TokenSet::Operator(level)) {
         return Ok(None);
@@ -158,7 +159,7 @@ fn chained<'a>(
     level: u32,
 ) -> Result<(Operand<'a>, Option<Box<Chain<'a>>>), Stop>
     requires { 0 < level }
-    ensures { Told (λ p. chained_marks p.0 (option_map (λ c. c.value) p.1)) result (levels_left levels (in_chained level) reader.old) reader.new }
+    ensures { Told (λ p. operand_marks p.0 ++ optional (option_map (λ c. chain_marks c.value) p.1)) result (levels_left levels (in_chained level) reader.old) reader.new }
 {
     if levels == 0 {
         return Err(refusal(reader, TokenSet::OperandStart));
@@ -172,36 +173,36 @@ fn chained<'a>(
 
 #[cycle(expression)]
 fn unary<'a>(alloc: Global, reader: &mut Reader<'a>, levels: u32) -> Result<Unary<'a>, Stop>
-    ensures { Told (λ u. u) result (read_unary (levels_left levels) reader.old) reader.new }
+    ensures { Told unary_marks result (read_unary (levels_left levels) reader.old) reader.new }
 {
-    let form = if reader.next_is(TokenSet::PrefixSign) {
-        prefixed(alloc, reader, levels)?
+    if reader.next_is(TokenSet::PrefixSign) {
+        prefixed(alloc, reader, levels)
     } else if reader.next_are(OPEN, TokenSet::DeclarationWord { with_static: false }) {
-        cast(alloc, reader, levels)?
+        cast(alloc, reader, levels)
     } else {
-        UnaryForm::Primary(primary(alloc, reader, levels)?)
-    };
-    Ok(Unary { form })
+        let primary = primary(alloc, reader, levels)?;
+        Ok(Unary::Primary(primary))
+    }
 }
 
 #[cycle(expression)]
-fn prefixed<'a>(alloc: Global, reader: &mut Reader<'a>, levels: u32) -> Result<UnaryForm<'a>, Stop>
-    ensures { Told unary_marks result ((read_token prefix_sign ▹ deeper_in (levels_left levels) in_unary) reader.old) reader.new }
+fn prefixed<'a>(alloc: Global, reader: &mut Reader<'a>, levels: u32) -> Result<Unary<'a>, Stop>
+    ensures { Told unary_marks result (read_node unary (read_token prefix_sign ▹ deeper_in (levels_left levels) in_unary) reader.old) reader.new }
 {
     let operator = reader.take(TokenSet::PrefixSign)?;
     let operand = inner_unary(alloc, reader, levels)?;
-    Ok(UnaryForm::Prefix { operator, operand })
+    Ok(Unary::Prefix { operator, operand })
 }
 
 #[cycle(expression)]
-fn cast<'a>(alloc: Global, reader: &mut Reader<'a>, levels: u32) -> Result<UnaryForm<'a>, Stop>
-    ensures { Told unary_marks result ((read_parenthesized (levels_left levels) in_cast ▹ deeper_in (levels_left levels) in_unary) reader.old) reader.new }
+fn cast<'a>(alloc: Global, reader: &mut Reader<'a>, levels: u32) -> Result<Unary<'a>, Stop>
+    ensures { Told unary_marks result (read_node unary (read_parenthesized (levels_left levels) in_cast ▹ deeper_in (levels_left levels) in_unary) reader.old) reader.new }
 {
     let open = reader.take(OPEN)?;
     let name = inner_type_name(alloc, reader, levels)?;
     let close = reader.take(CLOSE)?;
     let operand = inner_unary(alloc, reader, levels)?;
-    Ok(UnaryForm::Cast {
+    Ok(Unary::Cast {
         open,
         name,
         close,
@@ -215,7 +216,7 @@ fn inner_unary<'a>(
     reader: &mut Reader<'a>,
     levels: u32,
 ) -> Result<Box<Unary<'a>>, Stop>
-    ensures { Told (λ u. u.value) result (levels_left levels in_unary reader.old) reader.new }
+    ensures { Told (λ u. unary_marks u.value) result (levels_left levels in_unary reader.old) reader.new }
 {
     if levels == 0 {
         return Err(refusal(reader, TokenSet::OperandStart));
@@ -229,7 +230,7 @@ fn inner_type_name<'a>(
     reader: &mut Reader<'a>,
     levels: u32,
 ) -> Result<TypeName<'a>, Stop>
-    ensures { Told (λ t. t) result (levels_left levels in_cast reader.old) reader.new }
+    ensures { Told type_name_marks result (levels_left levels in_cast reader.old) reader.new }
 {
     if levels == 0 {
         return Err(refusal(reader, TokenSet::DeclarationWord { with_static: false }));
@@ -239,18 +240,16 @@ fn inner_type_name<'a>(
 
 #[cycle(expression)]
 fn primary<'a>(alloc: Global, reader: &mut Reader<'a>, levels: u32) -> Result<Primary<'a>, Stop>
-    ensures { Told (λ p. p) result (read_primary (levels_left levels) reader.old) reader.new }
+    ensures { Told primary_marks result (read_primary (levels_left levels) reader.old) reader.new }
 {
-    let form = if reader.next_is(TokenSet::Name) {
-        named(alloc, reader, levels)?
+    if reader.next_is(TokenSet::Name) {
+        named(alloc, reader, levels)
     } else if reader.next_is(TokenSet::Constant) {
-        PrimaryForm::Constant {
-            constant: reader.take(TokenSet::Constant)?,
-        }
+        let constant = reader.take(TokenSet::Constant)?;
+        Ok(Primary::Constant { constant })
     } else {
-        parenthesized(alloc, reader, levels)?
-    };
-    Ok(Primary { form })
+        parenthesized(alloc, reader, levels)
+    }
 }
 
 #[cycle(expression)]
@@ -258,13 +257,13 @@ fn parenthesized<'a>(
     alloc: Global,
     reader: &mut Reader<'a>,
     levels: u32,
-) -> Result<PrimaryForm<'a>, Stop>
-    ensures { Told primary_marks result (read_parenthesized (levels_left levels) in_expression reader.old) reader.new }
+) -> Result<Primary<'a>, Stop>
+    ensures { Told primary_marks result (read_node primary (read_parenthesized (levels_left levels) in_expression) reader.old) reader.new }
 {
     let open = reader.take(OPEN)?;
     let expression = inner_expression(alloc, reader, levels)?;
     let close = reader.take(CLOSE)?;
-    Ok(PrimaryForm::Parenthesized {
+    Ok(Primary::Parenthesized {
         open,
         expression,
         close,
@@ -273,15 +272,15 @@ fn parenthesized<'a>(
 
 /// A name, an element of an array or a call.
 #[cycle(expression)]
-fn named<'a>(alloc: Global, reader: &mut Reader<'a>, levels: u32) -> Result<PrimaryForm<'a>, Stop>
-    ensures { Told primary_marks result ((read_name ▹ after_name (levels_left levels)) reader.old) reader.new }
+fn named<'a>(alloc: Global, reader: &mut Reader<'a>, levels: u32) -> Result<Primary<'a>, Stop>
+    ensures { Told primary_marks result (read_node primary (read_name ▹ after_name (levels_left levels)) reader.old) reader.new }
 {
     let name = reader.take(TokenSet::Name)?;
     if reader.next_is(TokenSet::Punct(Punct::OpenBracket)) {
         let open = reader.take(TokenSet::Punct(Punct::OpenBracket))?;
         let index = inner_expression(alloc, reader, levels)?;
         let close = reader.take(TokenSet::Punct(Punct::CloseBracket))?;
-        Ok(PrimaryForm::Element {
+        Ok(Primary::Element {
             name,
             open,
             index,
@@ -291,14 +290,14 @@ fn named<'a>(alloc: Global, reader: &mut Reader<'a>, levels: u32) -> Result<Prim
         let open = reader.take(OPEN)?;
         let arguments = inner_arguments(alloc, reader, levels)?;
         let close = reader.take(CLOSE)?;
-        Ok(PrimaryForm::Call {
+        Ok(Primary::Call {
             name,
             open,
             arguments,
             close,
         })
     } else {
-        Ok(PrimaryForm::Name { name })
+        Ok(Primary::Name { name })
     }
 }
 
@@ -308,7 +307,7 @@ pub fn inner_arguments<'a>(
     reader: &mut Reader<'a>,
     levels: u32,
 ) -> Result<Arguments<'a>, Stop>
-    ensures { Told (λ a. a) result (levels_left levels in_arguments reader.old) reader.new }
+    ensures { Told arguments_marks result (levels_left levels in_arguments reader.old) reader.new }
 {
     if levels == 0 {
         return no_arguments(reader);
@@ -318,7 +317,7 @@ pub fn inner_arguments<'a>(
 
 /// The arguments where no level is left: none, or refused.
 fn no_arguments<'a>(reader: &Reader<'a>) -> Result<Arguments<'a>, Stop>
-    ensures { Told (λ a. a) result (shallow in_arguments reader.now) reader.now }
+    ensures { Told arguments_marks result (shallow in_arguments reader.now) reader.now }
 {
     if reader.next_is(TokenSet::OperandStart) {
         return Err(Stop::TooDeep);
@@ -328,7 +327,7 @@ fn no_arguments<'a>(reader: &Reader<'a>) -> Result<Arguments<'a>, Stop>
 
 #[cycle(expression)]
 fn arguments<'a>(alloc: Global, reader: &mut Reader<'a>, levels: u32) -> Result<Arguments<'a>, Stop>
-    ensures { Told (λ a. a) result (read_arguments (levels_left levels) reader.old) reader.new }
+    ensures { Told arguments_marks result (read_arguments (levels_left levels) reader.old) reader.new }
 {
     if !reader.next_is(TokenSet::OperandStart) {
         return Ok(Arguments { values: None });
@@ -361,7 +360,7 @@ pub fn next_expressions<'a>(
     reader: &mut Reader<'a>,
     levels: u32,
 ) -> Result<Vec<NextExpression<'a>>, Stop>
-    ensures { Told (λ v. joined v.items) result (read_many (next_is (mark punct.Comma)) (read_sign punct.Comma ▹ read_expression (levels_left levels)) reader.old) reader.new }
+    ensures { Told (λ v. joined (map next_expression_marks v.items)) result (read_many (next_is (mark punct.Comma)) (read_sign punct.Comma ▹ read_expression (levels_left levels)) reader.old) reader.new }
 {
     let mut rest = Vec::new(alloc);
     let most = reader.rest().len();
@@ -381,7 +380,7 @@ pub fn next_expression<'a>(
     reader: &mut Reader<'a>,
     levels: u32,
 ) -> Result<NextExpression<'a>, Stop>
-    ensures { Told (λ n. n) result ((read_sign punct.Comma ▹ read_expression (levels_left levels)) reader.old) reader.new }
+    ensures { Told next_expression_marks result ((read_sign punct.Comma ▹ read_expression (levels_left levels)) reader.old) reader.new }
 {
     let comma = reader.take(TokenSet::Punct(Punct::Comma))?;
     let expression = conditional(alloc, reader, levels)?;

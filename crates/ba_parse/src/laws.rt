@@ -2,12 +2,15 @@
 
 ghost use Rattle.std.specs.Prelude.{◌≡◌, List};
 ghost use Rattle.ba_lex.specs.declared.token.Token.{Token};
+ghost use Rattle.ba_parse.specs.declared.tree.statements.RawProgram.{RawProgram};
+ghost use Rattle.ba_parse.specs.FileMarks.{file_marks};
 ghost use Rattle.ba_parse.specs.Marks.{Mark};
 ghost use Rattle.ba_parse.specs.Files.{IsFile, Verdict, Says, Said};
 
-/// No list of tokens is that of two files.
+/// No list of tokens is that of two files, and two trees of one file are the same written out.
 pub fn one_tree()
-    ensures { (tokens : List Token) (tree other : List Mark) → IsFile tokens tree → IsFile tokens other → tree ≡ other }
+    ensures written { (tokens : List Token) (tree other : List Mark) → IsFile tokens tree → IsFile tokens other → tree ≡ other }
+    ensures trees { (tokens : List Token) (tree other : RawProgram) → IsFile tokens (file_marks tree) → IsFile tokens (file_marks other) → file_marks tree ≡ file_marks other }
 {}
 
 /// Of each list of tokens the grammar says one thing: it is a file's, with its tree; or it has its one syntax

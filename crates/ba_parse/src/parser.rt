@@ -1,6 +1,6 @@
 //! Reading a file (C90 6.7).
 
-ghost use Rattle.std.specs.Prelude.{◌≡◌, ◌⊎◌, true, List, ◌++◌, Err};
+ghost use Rattle.std.specs.Prelude.{◌≡◌, ◌⊎◌, true, List, ◌++◌, map, Err};
 ghost use Rattle.ba_lex.specs.declared.token.Token.{Token};
 ghost use Rattle.ba_parse.specs.Classes.{declaration_word};
 ghost use Rattle.ba_parse.specs.Grammar.{is_void, takes_block};
@@ -8,9 +8,11 @@ ghost use Rattle.ba_parse.specs.Marks.{yield, one_deeper, node_of, file};
 ghost use Rattle.ba_parse.specs.Readings.{done, ◌▹◌, read_many, read_semicolon, next_is, levels_left, read_declarators, read_function_end, read_function_tail, read_external, read_file};
 ghost use Rattle.ba_parse.specs.Telling.{Told};
 ghost use Rattle.ba_parse.specs.Views.{joined};
-ghost use Rattle.ba_parse.specs.StatementViews.{end_marks, external_marks};
+ghost use Rattle.ba_parse.specs.DeclarationMarks.{parameters_marks};
+ghost use Rattle.ba_parse.specs.ExternalMarks.{end_marks, external_form_marks, external_marks};
+ghost use Rattle.ba_parse.specs.FileMarks.{file_marks, written};
 ghost use Rattle.ba_parse.specs.Outcomes.{outcome_of, place_of};
-ghost use Rattle.ba_parse.specs.Files.{Verdict, Says};
+ghost use Rattle.ba_parse.specs.Files.{Verdict, Says, has_accepted_levels};
 ghost use Rattle.ba_parse.specs.Told.{IsTold, result_of};
 ghost use Rattle.ba_parse.specs.declared.error.ParseError.TheVariants.{Memory};
 
@@ -49,15 +51,15 @@ const EXTERNAL_WORD: TokenSet = TokenSet::DeclarationWord { with_static: true };
 /// - [`ParseError::TooDeep`]: the least number of a token with more than [`MAX_LEVEL`] constructs around it.
 /// - [`ParseError::Memory`]: want of memory.
 pub fn parse<'a>(alloc: Global, tokens: &'a [Token<'a>]) -> Result<RawProgram<'a>, ParseError>
-    ensures told { IsTold tokens.now result }
-    ensures only { (verdict : Verdict) → Says tokens.now verdict → (result ≡ result_of verdict) ⊎ (result ≡ Err Memory) }
+    ensures told { IsTold tokens.now (written result) }
+    ensures only { (verdict : Verdict) → Says tokens.now verdict → (written result ≡ result_of verdict) ⊎ (result ≡ Err Memory) }
 {
     whole_file(alloc, tokens)
 }
 
 /// The tree of a file, or where its reading stops.
 fn whole_file<'a>(alloc: Global, tokens: &'a [Token<'a>]) -> Result<RawProgram<'a>, ParseError>
-    ensures { (result ≡ Err Memory) ⊎ (result ≡ outcome_of tokens.now (read_file (levels_left 100) tokens.now)) }
+    ensures { (result ≡ Err Memory) ⊎ (written result ≡ outcome_of tokens.now (read_file (levels_left 100) tokens.now)) }
 {
     let mut reader = Reader::new(tokens);
     match externals(alloc, &mut reader, MAX_LEVEL) {
@@ -74,7 +76,8 @@ fn file_of<'a>(
     tokens: &[Token],
     rest: &[Token],
 ) -> Result<RawProgram<'a>, ParseError>
-    ensures { result ≡ outcome_of tokens.now (done (node_of file (joined all.entry.items)) rest.now) }
+    requires { has_accepted_levels (node_of file (joined (map external_marks all.items))) ≡ true }
+    ensures { written result ≡ outcome_of tokens.now (done (node_of file (joined (map external_marks all.entry.items))) rest.now) }
 {
     match rest.split_first() {
         Some(_) => Err(ParseError::Syntax(place_of(tokens, rest))),
@@ -94,7 +97,7 @@ fn externals<'a>(
     reader: &mut Reader<'a>,
     levels: u32,
 ) -> Result<Vec<External<'a>>, Stop>
-    ensures { Told (λ v. joined v.items) result (read_many (next_is (declaration_word true)) (read_external (levels_left levels)) reader.old) reader.new }
+    ensures { Told (λ v. joined (map external_marks v.items)) result (read_many (next_is (declaration_word true)) (read_external (levels_left levels)) reader.old) reader.new }
 {
     let mut all = Vec::new(alloc);
     let most = reader.rest().len();
@@ -108,7 +111,7 @@ fn externals<'a>(
 }
 
 fn external<'a>(alloc: Global, reader: &mut Reader<'a>, levels: u32) -> Result<External<'a>, Stop>
-    ensures { Told (λ e. e) result (read_external (levels_left levels) reader.old) reader.new }
+    ensures { Told external_marks result (read_external (levels_left levels) reader.old) reader.new }
 {
     let name = type_name(alloc, reader, true)?;
     let form = if reader.next_are(TokenSet::Name, OPEN) {
@@ -124,7 +127,7 @@ fn variables<'a>(
     reader: &mut Reader<'a>,
     levels: u32,
 ) -> Result<ExternalForm<'a>, Stop>
-    ensures { Told external_marks result ((read_declarators (levels_left levels) ▹ read_semicolon) reader.old) reader.new }
+    ensures { Told external_form_marks result ((read_declarators (levels_left levels) ▹ read_semicolon) reader.old) reader.new }
 {
     let all = declarators(alloc, reader, levels)?;
     let semicolon = reader.take(SEMICOLON)?;
@@ -139,7 +142,7 @@ fn function<'a>(
     reader: &mut Reader<'a>,
     levels: u32,
 ) -> Result<ExternalForm<'a>, Stop>
-    ensures { Told external_marks result (read_function_tail (levels_left levels) reader.old) reader.new }
+    ensures { Told external_form_marks result (read_function_tail (levels_left levels) reader.old) reader.new }
 {
     let name = reader.take(TokenSet::Name)?;
     let open = reader.take(OPEN)?;
@@ -159,8 +162,8 @@ fn function<'a>(
 
 /// Whether a block may follow these parameters, which were read from `before` to `after`.
 fn takes_block(parameters: &Parameters, before: &[Token], after: &[Token]) -> bool
-    requires { yield parameters.now ++ after.now ≡ before.now }
-    ensures { result ≡ takes_block (one_deeper parameters.now) }
+    requires { yield (parameters_marks parameters.now) ++ after.now ≡ before.now }
+    ensures { result ≡ takes_block (one_deeper (parameters_marks parameters.now)) }
 {
     parameters.is_named() || is_void(before, after)
 }

@@ -2,16 +2,17 @@
 //!
 //! `levels` is how many more constructs may be around a token.
 
-ghost use Rattle.std.specs.Prelude.{◌≡◌, map};
+ghost use Rattle.std.specs.Prelude.{◌≡◌, ◌++◌, map, option_map, MatchResult};
+ghost use Rattle.ba_parse.specs.declared.reader.Stop.TheVariants.{Memory};
 ghost use Rattle.ba_lex.specs.declared.token.Punct.TheVariants as punct;
 ghost use Rattle.ba_parse.specs.declared.class.TokenClass.TheVariants as class;
 ghost use Rattle.ba_parse.specs.Classes.{mark, only};
 ghost use Rattle.ba_parse.specs.Grammar.{step_sign, assign_sign};
-ghost use Rattle.ba_parse.specs.Marks.{leaf};
-ghost use Rattle.ba_parse.specs.Readings.{◌▹◌, read_maybe, read_either, read_many, read_token, read_name, read_sign, read_bracketed, read_parenthesized, next_is, levels_left, in_expression, in_arguments, in_for, in_printf, simple_start, read_expression, read_target, read_simple, read_simples, read_for_first, read_condition, read_for_head, read_printed};
+ghost use Rattle.ba_parse.specs.Marks.{leaf, simple};
+ghost use Rattle.ba_parse.specs.Readings.{◌▹◌, read_maybe, read_either, read_many, read_token, read_node, read_name, read_sign, read_bracketed, read_parenthesized, next_is, levels_left, in_expression, in_arguments, in_for, in_printf, simple_start, read_expression, read_target, read_simple, read_simples, read_for_first, read_condition, read_for_head, read_printed};
 ghost use Rattle.ba_parse.specs.Telling.{Told};
 ghost use Rattle.ba_parse.specs.Views.{optional, joined};
-ghost use Rattle.ba_parse.specs.StatementViews.{simple_marks, for_first_marks};
+ghost use Rattle.ba_parse.specs.SimpleMarks.{condition_marks, for_first_marks, for_head_marks, index_marks, listed_simple_marks, printed_marks, simple_marks, simples_marks, target_marks};
 
 use crate::declarations::{declarators, maybe_expression};
 use crate::expressions::{
@@ -20,8 +21,7 @@ use crate::expressions::{
 use crate::reader::{Reader, Stop};
 use crate::sets::TokenSet;
 use crate::tree::statements::{
-    Condition, ForFirst, ForFirstForm, ForHead, Index, NextSimple, Printed, Simple, SimpleForm,
-    Simples, Target,
+    Condition, ForFirst, ForHead, Index, ListedSimple, Printed, Simple, Simples, Target,
 };
 use crate::types::type_name;
 use ba_lex::token::{Punct, Token};
@@ -36,7 +36,7 @@ const COMMA: TokenSet = TokenSet::Punct(Punct::Comma);
 const SEMICOLON: TokenSet = TokenSet::Punct(Punct::Semicolon);
 
 fn target<'a>(alloc: Global, reader: &mut Reader<'a>, levels: u32) -> Result<Target<'a>, Stop>
-    ensures { Told (λ t. t) result (read_target (levels_left levels) reader.old) reader.new }
+    ensures { Told target_marks result (read_target (levels_left levels) reader.old) reader.new }
 {
     let name = reader.take(TokenSet::Name)?;
     let index = maybe_index(alloc, reader, levels)?;
@@ -48,7 +48,7 @@ fn maybe_index<'a>(
     reader: &mut Reader<'a>,
     levels: u32,
 ) -> Result<Option<Index<'a>>, Stop>
-    ensures { Told optional result (read_maybe (mark punct.OpenBracket) (read_bracketed (levels_left levels) in_expression) reader.old) reader.new }
+    ensures { Told (λ i. optional (option_map index_marks i)) result (read_maybe (mark punct.OpenBracket) (read_bracketed (levels_left levels) in_expression) reader.old) reader.new }
 {
     if !reader.next_is(TokenSet::Punct(Punct::OpenBracket)) {
         return Ok(None);
@@ -65,41 +65,36 @@ fn maybe_index<'a>(
 ///
 /// The reading's own, and want of memory.
 pub fn simple<'a>(alloc: Global, reader: &mut Reader<'a>, levels: u32) -> Result<Simple<'a>, Stop>
-    ensures { Told (λ s. s) result (read_simple (levels_left levels) reader.old) reader.new }
+    ensures { Told simple_marks result (read_simple (levels_left levels) reader.old) reader.new }
 {
-    let form = if reader.next_is(TokenSet::StepSign) {
-        prefix_step(alloc, reader, levels)?
+    if reader.next_is(TokenSet::StepSign) {
+        prefix_step(alloc, reader, levels)
     } else if reader.next_are(TokenSet::Name, OPEN) {
-        called(alloc, reader, levels)?
+        called(alloc, reader, levels)
     } else {
-        assigned(alloc, reader, levels)?
-    };
-    Ok(Simple { form })
+        assigned(alloc, reader, levels)
+    }
 }
 
-fn prefix_step<'a>(
-    alloc: Global,
-    reader: &mut Reader<'a>,
-    levels: u32,
-) -> Result<SimpleForm<'a>, Stop>
-    ensures { Told simple_marks result ((read_token step_sign ▹ read_target (levels_left levels)) reader.old) reader.new }
+fn prefix_step<'a>(alloc: Global, reader: &mut Reader<'a>, levels: u32) -> Result<Simple<'a>, Stop>
+    ensures { Told simple_marks result (read_node simple (read_token step_sign ▹ read_target (levels_left levels)) reader.old) reader.new }
 {
     let operator = reader.take(TokenSet::StepSign)?;
     let stepped = target(alloc, reader, levels)?;
-    Ok(SimpleForm::PrefixStep {
+    Ok(Simple::PrefixStep {
         operator,
         target: stepped,
     })
 }
 
-fn called<'a>(alloc: Global, reader: &mut Reader<'a>, levels: u32) -> Result<SimpleForm<'a>, Stop>
-    ensures { Told simple_marks result ((read_name ▹ read_parenthesized (levels_left levels) in_arguments) reader.old) reader.new }
+fn called<'a>(alloc: Global, reader: &mut Reader<'a>, levels: u32) -> Result<Simple<'a>, Stop>
+    ensures { Told simple_marks result (read_node simple (read_name ▹ read_parenthesized (levels_left levels) in_arguments) reader.old) reader.new }
 {
     let name = reader.take(TokenSet::Name)?;
     let open = reader.take(OPEN)?;
     let arguments = inner_arguments(alloc, reader, levels)?;
     let close = reader.take(CLOSE)?;
-    Ok(SimpleForm::Call {
+    Ok(Simple::Call {
         name,
         open,
         arguments,
@@ -107,20 +102,20 @@ fn called<'a>(alloc: Global, reader: &mut Reader<'a>, levels: u32) -> Result<Sim
     })
 }
 
-fn assigned<'a>(alloc: Global, reader: &mut Reader<'a>, levels: u32) -> Result<SimpleForm<'a>, Stop>
-    ensures { Told simple_marks result ((read_target (levels_left levels) ▹ read_either (next_is step_sign) (read_token step_sign) (read_token assign_sign ▹ read_expression (levels_left levels))) reader.old) reader.new }
+fn assigned<'a>(alloc: Global, reader: &mut Reader<'a>, levels: u32) -> Result<Simple<'a>, Stop>
+    ensures { Told simple_marks result (read_node simple (read_target (levels_left levels) ▹ read_either (next_is step_sign) (read_token step_sign) (read_token assign_sign ▹ read_expression (levels_left levels))) reader.old) reader.new }
 {
     let place = target(alloc, reader, levels)?;
     if reader.next_is(TokenSet::StepSign) {
         let operator = reader.take(TokenSet::StepSign)?;
-        Ok(SimpleForm::Step {
+        Ok(Simple::Step {
             target: place,
             operator,
         })
     } else {
         let operator = reader.take(TokenSet::AssignSign)?;
         let value = conditional(alloc, reader, levels)?;
-        Ok(SimpleForm::Assign {
+        Ok(Simple::Assign {
             target: place,
             operator,
             value,
@@ -132,13 +127,13 @@ fn next_simple<'a>(
     alloc: Global,
     reader: &mut Reader<'a>,
     levels: u32,
-) -> Result<NextSimple<'a>, Stop>
-    ensures { Told (λ n. n) result ((read_sign punct.Comma ▹ read_simple (levels_left levels)) reader.old) reader.new }
+) -> Result<ListedSimple<'a>, Stop>
+    ensures { Told listed_simple_marks result ((read_sign punct.Comma ▹ read_simple (levels_left levels)) reader.old) reader.new }
 {
     let comma = reader.take(COMMA)?;
     let next = simple(alloc, reader, levels)?;
-    Ok(NextSimple {
-        comma,
+    Ok(ListedSimple {
+        comma: Some(comma),
         simple: next,
     })
 }
@@ -147,8 +142,8 @@ fn next_simples<'a>(
     alloc: Global,
     reader: &mut Reader<'a>,
     levels: u32,
-) -> Result<Vec<NextSimple<'a>>, Stop>
-    ensures { Told (λ v. joined v.items) result (read_many (next_is (mark punct.Comma)) (read_sign punct.Comma ▹ read_simple (levels_left levels)) reader.old) reader.new }
+) -> Result<Vec<ListedSimple<'a>>, Stop>
+    ensures { Told (λ v. joined (map listed_simple_marks v.items)) result (read_many (next_is (mark punct.Comma)) (read_sign punct.Comma ▹ read_simple (levels_left levels)) reader.old) reader.new }
 {
     let mut rest = Vec::new(alloc);
     let most = reader.rest().len();
@@ -162,11 +157,26 @@ fn next_simples<'a>(
 }
 
 fn simples<'a>(alloc: Global, reader: &mut Reader<'a>, levels: u32) -> Result<Simples<'a>, Stop>
-    ensures { Told (λ s. s) result (read_simples (levels_left levels) reader.old) reader.new }
+    ensures { Told simples_marks result (read_simples (levels_left levels) reader.old) reader.new }
 {
     let first = simple(alloc, reader, levels)?;
-    let rest = next_simples(alloc, reader, levels)?;
-    Ok(Simples { first, rest })
+    let mut all = next_simples(alloc, reader, levels)?;
+    put_first(&mut all, first)?;
+    Ok(Simples { all })
+}
+
+#[tactic(auto, using(crate::proofs::Repeats::each_front))]
+fn put_first<'a>(all: &mut Vec<ListedSimple<'a>>, first: Simple<'a>) -> Result<(), Stop>
+    ensures { MatchResult result (λ _. joined (map listed_simple_marks all.new.items) ≡ simple_marks first.entry ++ joined (map listed_simple_marks all.old.items)) (λ stop. stop ≡ Memory) }
+{
+    all.insert(
+        0,
+        ListedSimple {
+            comma: None,
+            simple: first,
+        },
+    )?;
+    Ok(())
 }
 
 fn maybe_simples<'a>(
@@ -174,7 +184,7 @@ fn maybe_simples<'a>(
     reader: &mut Reader<'a>,
     levels: u32,
 ) -> Result<Option<Simples<'a>>, Stop>
-    ensures { Told optional result (read_maybe simple_start (read_simples (levels_left levels)) reader.old) reader.new }
+    ensures { Told (λ s. optional (option_map simples_marks s)) result (read_maybe simple_start (read_simples (levels_left levels)) reader.old) reader.new }
 {
     if !reader.next_is(TokenSet::SimpleStart) {
         return Ok(None);
@@ -193,7 +203,7 @@ pub fn condition<'a>(
     reader: &mut Reader<'a>,
     levels: u32,
 ) -> Result<Condition<'a>, Stop>
-    ensures { Told (λ c. c) result (read_condition (levels_left levels) reader.old) reader.new }
+    ensures { Told condition_marks result (read_condition (levels_left levels) reader.old) reader.new }
 {
     let open = reader.take(OPEN)?;
     let test = inner_expression(alloc, reader, levels)?;
@@ -202,37 +212,24 @@ pub fn condition<'a>(
 }
 
 fn for_first<'a>(alloc: Global, reader: &mut Reader<'a>, levels: u32) -> Result<ForFirst<'a>, Stop>
-    ensures { Told (λ f. f) result (read_for_first (levels_left levels) reader.old) reader.new }
+    ensures { Told for_first_marks result (read_for_first (levels_left levels) reader.old) reader.new }
 {
-    let form = if reader.next_is(TokenSet::DeclarationWord { with_static: false }) {
+    if reader.next_is(TokenSet::DeclarationWord { with_static: false }) {
         let name = type_name(alloc, reader, false)?;
-        ForFirstForm::Declaration {
-            name,
-            declarators: declarators(alloc, reader, levels)?,
-        }
+        let declarators = declarators(alloc, reader, levels)?;
+        Ok(ForFirst::Declaration { name, declarators })
     } else if reader.next_is(TokenSet::SimpleStart) {
-        ForFirstForm::Simples(simples(alloc, reader, levels)?)
+        let simples = simples(alloc, reader, levels)?;
+        Ok(ForFirst::Simples(simples))
     } else {
-        ForFirstForm::Nothing
-    };
-    Ok(ForFirst { form })
-}
-
-fn boxed_first<'a>(
-    alloc: Global,
-    reader: &mut Reader<'a>,
-    levels: u32,
-) -> Result<Box<ForFirst<'a>>, Stop>
-    ensures { Told (λ f. f.value) result (read_for_first (levels_left levels) reader.old) reader.new }
-{
-    let first = for_first(alloc, reader, levels)?;
-    Ok(Box::new(alloc, first)?)
+        Ok(ForFirst::Nothing)
+    }
 }
 
 fn for_head<'a>(alloc: Global, reader: &mut Reader<'a>, levels: u32) -> Result<ForHead<'a>, Stop>
-    ensures { Told (λ f. f) result (read_for_head (levels_left levels) reader.old) reader.new }
+    ensures { Told for_head_marks result (read_for_head (levels_left levels) reader.old) reader.new }
 {
-    let first = boxed_first(alloc, reader, levels)?;
+    let first = for_first(alloc, reader, levels)?;
     let first_semicolon = reader.take(SEMICOLON)?;
     let test = maybe_expression(alloc, reader, levels)?;
     let second_semicolon = reader.take(SEMICOLON)?;
@@ -256,7 +253,7 @@ pub fn inner_for_head<'a>(
     reader: &mut Reader<'a>,
     levels: u32,
 ) -> Result<ForHead<'a>, Stop>
-    ensures { Told (λ f. f) result (levels_left levels in_for reader.old) reader.new }
+    ensures { Told for_head_marks result (levels_left levels in_for reader.old) reader.new }
 {
     if levels == 0 {
         return Err(refusal(reader, TokenSet::ForStart));
@@ -280,7 +277,7 @@ fn next_strings<'a>(alloc: Global, reader: &mut Reader<'a>) -> Result<Vec<&'a To
 }
 
 fn printed<'a>(alloc: Global, reader: &mut Reader<'a>, levels: u32) -> Result<Printed<'a>, Stop>
-    ensures { Told (λ p. p) result (read_printed (levels_left levels) reader.old) reader.new }
+    ensures { Told printed_marks result (read_printed (levels_left levels) reader.old) reader.new }
 {
     let first = reader.take(TokenSet::Quoted)?;
     let rest = next_strings(alloc, reader)?;
@@ -302,7 +299,7 @@ pub fn inner_printed<'a>(
     reader: &mut Reader<'a>,
     levels: u32,
 ) -> Result<Printed<'a>, Stop>
-    ensures { Told (λ p. p) result (levels_left levels in_printf reader.old) reader.new }
+    ensures { Told printed_marks result (levels_left levels in_printf reader.old) reader.new }
 {
     if levels == 0 {
         return Err(refusal(reader, TokenSet::Quoted));

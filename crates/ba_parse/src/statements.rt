@@ -2,12 +2,16 @@
 //!
 //! `levels` is how many more constructs may be around a token.
 
-ghost use Rattle.std.specs.Prelude.{◌≡◌};
+ghost use Rattle.std.specs.Prelude.{◌≡◌, ◌∷◌, [], map, option_map, MatchResult};
 ghost use Rattle.ba_lex.specs.declared.token.Keyword.TheVariants as keyword;
-ghost use Rattle.ba_parse.specs.Readings.{◌▹◌, read_many, read_key, read_semicolon, next_is, item_start, levels_left, shallow, in_block, in_statement, in_for, maybe_expression, read_if, read_while, read_do, read_for, read_simple, read_block, read_item, read_statement, read_keyword_statement};
+ghost use Rattle.ba_parse.specs.Readings.{◌▹◌, read_many, read_key, read_semicolon, next_is, item_start, levels_left, deeper_in, shallow, in_block, in_statement, in_for, maybe_expression, read_if, read_while, read_do, read_for, read_simple, read_block, read_item, read_statement, read_keyword_statement, read_condition, read_printf};
 ghost use Rattle.ba_parse.specs.Telling.{Told};
-ghost use Rattle.ba_parse.specs.Tails.{read_else, read_last, read_jump};
-ghost use Rattle.ba_parse.specs.StatementViews.{item_marks, items_marks, else_marks, statement_marks};
+ghost use Rattle.ba_parse.specs.Marks.{leaf, one_deeper};
+ghost use Rattle.ba_parse.specs.declared.reader.Stop.TheVariants.{Memory};
+ghost use Rattle.ba_parse.specs.Tails.{read_else, read_jump, read_statement_form};
+ghost use Rattle.ba_parse.specs.Views.{joined};
+ghost use Rattle.ba_parse.specs.SimpleMarks.{for_head_marks};
+ghost use Rattle.ba_parse.specs.StatementMarks.{or_no_else, block_marks, controlled_marks, else_marks, form_marks, item_marks, statement_marks};
 
 use crate::declarations::{declaration, maybe_expression};
 use crate::expressions::refusal;
@@ -15,9 +19,9 @@ use crate::reader::{Reader, Stop};
 use crate::sets::TokenSet;
 use crate::simple::{condition, inner_for_head, inner_printed, simple};
 use crate::tree::statements::{
-    Block, BlockItem, DoWhile, Else, For, ForHead, Statement, StatementForm,
+    Block, BlockItem, Controlled, DoWhile, Else, For, ForHead, Statement, StatementForm,
 };
-use ba_lex::token::{Keyword, Punct};
+use ba_lex::token::{Keyword, Punct, Token};
 use std::alloc::Global;
 
 const OPEN: TokenSet = TokenSet::Punct(Punct::OpenParenthesis);
@@ -33,7 +37,7 @@ const SEMICOLON: TokenSet = TokenSet::Punct(Punct::Semicolon);
 /// The reading's own, and want of memory.
 #[cycle(statement)]
 pub fn block<'a>(alloc: Global, reader: &mut Reader<'a>, levels: u32) -> Result<Block<'a>, Stop>
-    ensures { Told (λ b. b) result (read_block (levels_left levels) reader.old) reader.new }
+    ensures { Told block_marks result (read_block (levels_left levels) reader.old) reader.new }
 {
     let open = reader.take(TokenSet::Punct(Punct::OpenBrace))?;
     let items = inner_items(alloc, reader, levels)?;
@@ -48,7 +52,7 @@ fn inner_items<'a>(
     reader: &mut Reader<'a>,
     levels: u32,
 ) -> Result<Vec<BlockItem<'a>>, Stop>
-    ensures { Told (λ v. items_marks v.items) result (levels_left levels in_block reader.old) reader.new }
+    ensures { Told (λ v. joined (map item_marks v.items)) result (levels_left levels in_block reader.old) reader.new }
 {
     if levels == 0 {
         return no_items(alloc, reader);
@@ -58,7 +62,7 @@ fn inner_items<'a>(
 
 /// The items where no level is left: none, or refused.
 fn no_items<'a>(alloc: Global, reader: &Reader<'a>) -> Result<Vec<BlockItem<'a>>, Stop>
-    ensures { Told (λ v. items_marks v.items) result (shallow in_block reader.now) reader.now }
+    ensures { Told (λ v. joined (map item_marks v.items)) result (shallow in_block reader.now) reader.now }
 {
     if reader.next_is(TokenSet::ItemStart) {
         return Err(Stop::TooDeep);
@@ -72,7 +76,7 @@ fn items<'a>(
     reader: &mut Reader<'a>,
     levels: u32,
 ) -> Result<Vec<BlockItem<'a>>, Stop>
-    ensures { Told (λ v. items_marks v.items) result (read_many (next_is item_start) (read_item (levels_left levels)) reader.old) reader.new }
+    ensures { Told (λ v. joined (map item_marks v.items)) result (read_many (next_is item_start) (read_item (levels_left levels)) reader.old) reader.new }
 {
     let mut all = Vec::new(alloc);
     let most = reader.rest().len();
@@ -99,38 +103,56 @@ fn item<'a>(alloc: Global, reader: &mut Reader<'a>, levels: u32) -> Result<Block
     }
 }
 
-/// A statement inside one more construct.
+/// A statement that another one controls.
 #[cycle(statement)]
-fn inner_statement<'a>(
+fn controlled<'a>(
     alloc: Global,
     reader: &mut Reader<'a>,
     levels: u32,
-) -> Result<Box<Statement<'a>>, Stop>
-    ensures { Told (λ s. s.value) result (levels_left levels in_statement reader.old) reader.new }
+) -> Result<Controlled<'a>, Stop>
+    ensures { Told controlled_marks result (deeper_in (levels_left levels) in_statement reader.old) reader.new }
 {
     if levels == 0 {
         return Err(refusal(reader, TokenSet::StatementStart));
     }
     let body = statement(alloc, reader, levels - 1)?;
-    Ok(Box::new(alloc, body)?)
+    controlled_by_another(alloc, body)
+}
+
+fn controlled_by_another<'a>(alloc: Global, body: Statement<'a>) -> Result<Controlled<'a>, Stop>
+    ensures { MatchResult result (λ c. controlled_marks c ≡ one_deeper (statement_marks body.entry)) (λ stop. stop ≡ Memory) }
+{
+    let statement = Box::new(alloc, body)?;
+    Ok(Controlled { statement })
 }
 
 #[cycle(statement)]
 fn statement<'a>(alloc: Global, reader: &mut Reader<'a>, levels: u32) -> Result<Statement<'a>, Stop>
-    ensures { Told (λ s. s) result (read_statement (levels_left levels) reader.old) reader.new }
+    ensures { Told statement_marks result (read_statement (levels_left levels) reader.old) reader.new }
 {
-    let form = if reader.next_is(TokenSet::Punct(Punct::OpenBrace)) {
-        StatementForm::Block(block(alloc, reader, levels)?)
-    } else if reader.next_is(SEMICOLON) {
-        StatementForm::Empty {
-            semicolon: reader.take(SEMICOLON)?,
-        }
-    } else if reader.next_is(TokenSet::SimpleStart) {
-        simple_statement(alloc, reader, levels)?
-    } else {
-        keyword_statement(alloc, reader, levels)?
-    };
+    let form = statement_form(alloc, reader, levels)?;
     Ok(Statement { form })
+}
+
+#[cycle(statement)]
+fn statement_form<'a>(
+    alloc: Global,
+    reader: &mut Reader<'a>,
+    levels: u32,
+) -> Result<StatementForm<'a>, Stop>
+    ensures { Told form_marks result (read_statement_form (levels_left levels) reader.old) reader.new }
+{
+    if reader.next_is(TokenSet::Punct(Punct::OpenBrace)) {
+        let block = block(alloc, reader, levels)?;
+        Ok(StatementForm::Block(block))
+    } else if reader.next_is(SEMICOLON) {
+        let semicolon = reader.take(SEMICOLON)?;
+        Ok(StatementForm::Empty { semicolon })
+    } else if reader.next_is(TokenSet::SimpleStart) {
+        simple_statement(alloc, reader, levels)
+    } else {
+        keyword_statement(alloc, reader, levels)
+    }
 }
 
 fn simple_statement<'a>(
@@ -138,7 +160,7 @@ fn simple_statement<'a>(
     reader: &mut Reader<'a>,
     levels: u32,
 ) -> Result<StatementForm<'a>, Stop>
-    ensures { Told statement_marks result ((read_simple (levels_left levels) ▹ read_semicolon) reader.old) reader.new }
+    ensures { Told form_marks result ((read_simple (levels_left levels) ▹ read_semicolon) reader.old) reader.new }
 {
     let done = simple(alloc, reader, levels)?;
     let semicolon = reader.take(SEMICOLON)?;
@@ -154,7 +176,7 @@ fn keyword_statement<'a>(
     reader: &mut Reader<'a>,
     levels: u32,
 ) -> Result<StatementForm<'a>, Stop>
-    ensures { Told statement_marks result (read_keyword_statement (levels_left levels) reader.old) reader.new }
+    ensures { Told form_marks result (read_keyword_statement (levels_left levels) reader.old) reader.new }
 {
     if reader.next_is(TokenSet::Keyword(Keyword::If)) {
         if_statement(alloc, reader, levels)
@@ -175,11 +197,11 @@ fn if_statement<'a>(
     reader: &mut Reader<'a>,
     levels: u32,
 ) -> Result<StatementForm<'a>, Stop>
-    ensures { Told statement_marks result (read_if (levels_left levels) reader.old) reader.new }
+    ensures { Told form_marks result (read_if (levels_left levels) reader.old) reader.new }
 {
     let keyword = reader.take(TokenSet::Keyword(Keyword::If))?;
     let test = condition(alloc, reader, levels)?;
-    let holds = inner_statement(alloc, reader, levels)?;
+    let holds = controlled(alloc, reader, levels)?;
     let fails = maybe_else(alloc, reader, levels)?;
     Ok(StatementForm::If {
         keyword,
@@ -195,13 +217,13 @@ fn maybe_else<'a>(
     reader: &mut Reader<'a>,
     levels: u32,
 ) -> Result<Option<Else<'a>>, Stop>
-    ensures { Told else_marks result (read_else (levels_left levels) reader.old) reader.new }
+    ensures { Told (λ e. or_no_else (option_map else_marks e)) result (read_else (levels_left levels) reader.old) reader.new }
 {
     if !reader.next_is(TokenSet::Keyword(Keyword::Else)) {
         return Ok(None);
     }
     let keyword = reader.take(TokenSet::Keyword(Keyword::Else))?;
-    let body = inner_statement(alloc, reader, levels)?;
+    let body = controlled(alloc, reader, levels)?;
     Ok(Some(Else {
         keyword,
         statement: body,
@@ -214,11 +236,11 @@ fn while_statement<'a>(
     reader: &mut Reader<'a>,
     levels: u32,
 ) -> Result<StatementForm<'a>, Stop>
-    ensures { Told statement_marks result (read_while (levels_left levels) reader.old) reader.new }
+    ensures { Told form_marks result (read_while (levels_left levels) reader.old) reader.new }
 {
     let keyword = reader.take(TokenSet::Keyword(Keyword::While))?;
     let test = condition(alloc, reader, levels)?;
-    let body = inner_statement(alloc, reader, levels)?;
+    let body = controlled(alloc, reader, levels)?;
     Ok(StatementForm::While {
         keyword,
         condition: test,
@@ -232,10 +254,10 @@ fn do_statement<'a>(
     reader: &mut Reader<'a>,
     levels: u32,
 ) -> Result<StatementForm<'a>, Stop>
-    ensures { Told statement_marks result (read_do (levels_left levels) reader.old) reader.new }
+    ensures { Told form_marks result (read_do (levels_left levels) reader.old) reader.new }
 {
     let keyword = reader.take(TokenSet::Keyword(Keyword::Do))?;
-    let body = inner_statement(alloc, reader, levels)?;
+    let body = controlled(alloc, reader, levels)?;
     let while_keyword = reader.take(TokenSet::Keyword(Keyword::While))?;
     let test = condition(alloc, reader, levels)?;
     let semicolon = reader.take(SEMICOLON)?;
@@ -253,7 +275,7 @@ fn boxed_head<'a>(
     reader: &mut Reader<'a>,
     levels: u32,
 ) -> Result<Box<ForHead<'a>>, Stop>
-    ensures { Told (λ h. h.value) result (levels_left levels in_for reader.old) reader.new }
+    ensures { Told (λ h. for_head_marks h.value) result (levels_left levels in_for reader.old) reader.new }
 {
     let head = inner_for_head(alloc, reader, levels)?;
     Ok(Box::new(alloc, head)?)
@@ -265,13 +287,13 @@ fn for_statement<'a>(
     reader: &mut Reader<'a>,
     levels: u32,
 ) -> Result<StatementForm<'a>, Stop>
-    ensures { Told statement_marks result (read_for (levels_left levels) reader.old) reader.new }
+    ensures { Told form_marks result (read_for (levels_left levels) reader.old) reader.new }
 {
     let keyword = reader.take(TokenSet::Keyword(Keyword::For))?;
     let open = reader.take(OPEN)?;
     let head = boxed_head(alloc, reader, levels)?;
     let close = reader.take(CLOSE)?;
-    let body = inner_statement(alloc, reader, levels)?;
+    let body = controlled(alloc, reader, levels)?;
     Ok(StatementForm::For(For {
         keyword,
         open,
@@ -287,21 +309,33 @@ fn jump_statement<'a>(
     reader: &mut Reader<'a>,
     levels: u32,
 ) -> Result<StatementForm<'a>, Stop>
-    ensures { Told statement_marks result (read_jump (levels_left levels) reader.old) reader.new }
+    ensures { Told form_marks result (read_jump (levels_left levels) reader.old) reader.new }
 {
     if reader.next_is(TokenSet::Keyword(Keyword::Break)) {
-        let keyword = reader.take(TokenSet::Keyword(Keyword::Break))?;
-        let semicolon = reader.take(SEMICOLON)?;
+        let (keyword, semicolon) = keyword_alone(reader, Keyword::Break)?;
         Ok(StatementForm::Break { keyword, semicolon })
     } else if reader.next_is(TokenSet::Keyword(Keyword::Continue)) {
-        let keyword = reader.take(TokenSet::Keyword(Keyword::Continue))?;
-        let semicolon = reader.take(SEMICOLON)?;
+        let (keyword, semicolon) = keyword_alone(reader, Keyword::Continue)?;
         Ok(StatementForm::Continue { keyword, semicolon })
     } else if reader.next_is(TokenSet::Keyword(Keyword::Return)) {
         return_statement(alloc, reader, levels)
+    } else if reader.next_is(TokenSet::Keyword(Keyword::Assert)) {
+        assert_statement(alloc, reader, levels)
     } else {
-        last_statement(alloc, reader, levels)
+        printf_statement(alloc, reader, levels)
     }
+}
+
+/// A keyword and the semicolon after it.
+fn keyword_alone<'a>(
+    reader: &mut Reader<'a>,
+    kind: Keyword,
+) -> Result<(&'a Token<'a>, &'a Token<'a>), Stop>
+    ensures { Told (λ p. leaf p.0.now ∷ leaf p.1.now ∷ []) result ((read_key kind ▹ read_semicolon) reader.old) reader.new }
+{
+    let keyword = reader.take(TokenSet::Keyword(kind))?;
+    let semicolon = reader.take(SEMICOLON)?;
+    Ok((keyword, semicolon))
 }
 
 fn return_statement<'a>(
@@ -309,7 +343,7 @@ fn return_statement<'a>(
     reader: &mut Reader<'a>,
     levels: u32,
 ) -> Result<StatementForm<'a>, Stop>
-    ensures { Told statement_marks result ((read_key keyword.Return ▹ maybe_expression (levels_left levels) ▹ read_semicolon) reader.old) reader.new }
+    ensures { Told form_marks result ((read_key keyword.Return ▹ maybe_expression (levels_left levels) ▹ read_semicolon) reader.old) reader.new }
 {
     let keyword = reader.take(TokenSet::Keyword(Keyword::Return))?;
     let value = maybe_expression(alloc, reader, levels)?;
@@ -321,34 +355,40 @@ fn return_statement<'a>(
     })
 }
 
-fn last_statement<'a>(
+fn assert_statement<'a>(
     alloc: Global,
     reader: &mut Reader<'a>,
     levels: u32,
 ) -> Result<StatementForm<'a>, Stop>
-    ensures { Told statement_marks result (read_last (levels_left levels) reader.old) reader.new }
+    ensures { Told form_marks result ((read_key keyword.Assert ▹ read_condition (levels_left levels) ▹ read_semicolon) reader.old) reader.new }
 {
-    if reader.next_is(TokenSet::Keyword(Keyword::Assert)) {
-        let keyword = reader.take(TokenSet::Keyword(Keyword::Assert))?;
-        let test = condition(alloc, reader, levels)?;
-        let semicolon = reader.take(SEMICOLON)?;
-        Ok(StatementForm::Assert {
-            keyword,
-            condition: test,
-            semicolon,
-        })
-    } else {
-        let keyword = reader.take(TokenSet::Keyword(Keyword::Printf))?;
-        let open = reader.take(OPEN)?;
-        let printed = inner_printed(alloc, reader, levels)?;
-        let close = reader.take(CLOSE)?;
-        let semicolon = reader.take(SEMICOLON)?;
-        Ok(StatementForm::Printf {
-            keyword,
-            open,
-            printed,
-            close,
-            semicolon,
-        })
-    }
+    let keyword = reader.take(TokenSet::Keyword(Keyword::Assert))?;
+    let test = condition(alloc, reader, levels)?;
+    let semicolon = reader.take(SEMICOLON)?;
+    Ok(StatementForm::Assert {
+        keyword,
+        condition: test,
+        semicolon,
+    })
+}
+
+fn printf_statement<'a>(
+    alloc: Global,
+    reader: &mut Reader<'a>,
+    levels: u32,
+) -> Result<StatementForm<'a>, Stop>
+    ensures { Told form_marks result (read_printf (levels_left levels) reader.old) reader.new }
+{
+    let keyword = reader.take(TokenSet::Keyword(Keyword::Printf))?;
+    let open = reader.take(OPEN)?;
+    let printed = inner_printed(alloc, reader, levels)?;
+    let close = reader.take(CLOSE)?;
+    let semicolon = reader.take(SEMICOLON)?;
+    Ok(StatementForm::Printf {
+        keyword,
+        open,
+        printed,
+        close,
+        semicolon,
+    })
 }

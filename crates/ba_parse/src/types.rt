@@ -4,6 +4,7 @@ ghost use Rattle.std.specs.Prelude.{◌≡◌, ◌∷◌, [], map};
 ghost use Rattle.std.specs.List.{list_any, list_all};
 ghost use Rattle.ba_lex.specs.declared.token.Keyword.TheVariants as keyword;
 ghost use Rattle.ba_parse.specs.Classes.{class_of, word, ◌or◌, type_word, excludes, agree};
+ghost use Rattle.ba_parse.specs.ExpressionMarks.{type_name_marks};
 ghost use Rattle.ba_parse.specs.Marks.{leaf};
 ghost use Rattle.ba_parse.specs.Readings.{read_type_words};
 ghost use Rattle.ba_parse.specs.Telling.{Told, next_word, agrees_with};
@@ -26,7 +27,7 @@ pub fn type_name<'a>(
     reader: &mut Reader<'a>,
     with_static: bool,
 ) -> Result<TypeName<'a>, Stop>
-    ensures { Told (λ t. t) result (read_type_words with_static reader.old) reader.new }
+    ensures { Told type_name_marks result (read_type_words with_static reader.old) reader.new }
 {
     let mut words = Vec::new(alloc);
     let mut classes = Vec::new(alloc);

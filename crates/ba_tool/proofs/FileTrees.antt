@@ -11,7 +11,7 @@ use Rattle.ba_parse.specs.Classes.{Classes, class_of, class_of_kind, only, names
 use Rattle.ba_parse.specs.Files.{IsParsed}
 use Rattle.ba_parse.specs.Grammar.{Part, nothing, token, words, node, rule, after, either, many, deeper, Spells, is_nothing, is_token, is_words, is_node, is_rule, is_after, is_first, is_second, is_none, is_more, is_deeper, ◌·◌, maybe, sign, key, name, type_words, operator, operand, expression, condition, function_tail, function_end, grammar, has_unnamed, is_no_name, is_void, takes_block}
 use Rattle.ba_parse.specs.Marks.{Rule, Mark, leaf, enter, leave, up, node_of, one_deeper, yield, is_no_else, no_else_lost, file, external, type_name, parameters, parameter, no_name, declarators, declarator, declaration, block, statement, simple, target, conditional, chain, unary, primary}
-use Rattle.ba_parse.proofs.Calm.{unnamed_append}
+use Rattle.ba_parse.proofs.Quiet.{unnamed_append}
 use Rattle.ba_parse.proofs.Combined.{node_pairs}
 use Rattle.ba_parse.proofs.Depths.{none_deep}
 use Rattle.ba_parse.proofs.Forests.{yield_append, yield_node, yield_deeper, pairs_append, sunk, or_tail, even_of, IsEven}

@@ -1,6 +1,9 @@
 //! Texts with the place where they are refused, worked out from the grammar.
 
+use crate::constant;
 use ba_lex::{MAX_TEXT, tokens};
+use ba_parse::tree::declarations::{Declarators, Initialiser};
+use ba_parse::tree::statements::{ExternalForm, RawProgram};
 use ba_parse::{ParseError, parse};
 use std::alloc::{AllocError, Global};
 use std::process::Abort;
@@ -360,5 +363,83 @@ fn a_hundred_levels_of_branches_are_accepted(rt: HostRuntime) -> Result<(), Fail
     let refused = repeated(alloc, "int main(void) { return ", "1 ? 1 : ", 100, "1 ; }")?;
     expect_answer(&rt, alloc, accepted.as_str(), "parses")?;
     expect_answer(&rt, alloc, refused.as_str(), "TooDeep 405")?;
+    Ok(())
+}
+
+/// Whether the expression that the file's first variable begins with is made of constants alone.
+fn initial_value(alloc: Global, text: &str) -> Result<String, AllocError> {
+    if text.len() > MAX_TEXT {
+        return String::from_str(alloc, "too long");
+    }
+    match tokens(alloc, text.as_bytes()) {
+        Ok(list) => match parse(alloc, list.as_slice()) {
+            Ok(program) => String::from_str(alloc, in_words(first_is_constant(&program))),
+            Err(_) => String::from_str(alloc, "no tree"),
+        },
+        Err(_) => String::from_str(alloc, "no tokens"),
+    }
+}
+
+fn in_words(is_constant: Option<bool>) -> &'static str {
+    match is_constant {
+        Some(true) => "constant",
+        Some(false) => "not constant",
+        None => "no expression",
+    }
+}
+
+fn first_is_constant(program: &RawProgram) -> Option<bool> {
+    match &program.externals.first()?.form {
+        ExternalForm::Variables { declarators, .. } => first_declared(declarators),
+        ExternalForm::Function { .. } => None,
+    }
+}
+
+fn first_declared(declarators: &Declarators) -> Option<bool> {
+    match &declarators.all.first()?.declarator.initialiser {
+        Some(Initialiser::Expression { value, .. }) => Some(constant::conditional(value)),
+        _ => None,
+    }
+}
+
+const INITIAL_VALUES: [(&str, &str); 11] = [
+    ("int x = 1 ;", "constant"),
+    ("int x = - ( 1 + 2 ) * 3 ;", "constant"),
+    ("int x = 1 ? 2 : ( char ) 3 ;", "constant"),
+    ("int x = 1 - 2 - 3 < 4 ;", "constant"),
+    ("int x = y ;", "not constant"),
+    ("int x = 1 + f ( 2 ) ;", "not constant"),
+    ("int x = a [ 1 ] ;", "not constant"),
+    ("int x = 1 ? 2 : y ;", "not constant"),
+    ("int x = 1 - 2 - ( char ) ~ y ;", "not constant"),
+    ("int x [ ] = { 1 } ;", "no expression"),
+    ("int f ( void ) ;", "no expression"),
+];
+
+fn expect_initial_value(
+    rt: &impl Abort,
+    alloc: Global,
+    text: &str,
+    expected: &str,
+) -> Result<(), AllocError> {
+    let found = initial_value(alloc, text)?;
+    assert_eq!(rt; found.as_str(), expected, "for {text}");
+    Ok(())
+}
+
+fn expect_initial_values(
+    rt: &impl Abort,
+    alloc: Global,
+    rows: &[(&str, &str)],
+) -> Result<(), AllocError> {
+    for (text, expected) in rows {
+        expect_initial_value(rt, alloc, text, expected)?;
+    }
+    Ok(())
+}
+
+#[test]
+fn a_fold_from_above_tells_constants(rt: HostRuntime) -> Result<(), Fail> {
+    expect_initial_values(&rt, rt.alloc(), &INITIAL_VALUES)?;
     Ok(())
 }

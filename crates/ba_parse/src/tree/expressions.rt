@@ -1,7 +1,6 @@
 //! The trees of expressions (C90 6.3).
 
 use ba_lex::token::Token;
-use std::marker::Model;
 
 /// The words that name a type (C90 6.5.1, 6.5.2, 6.5.3), in the order of the text.
 #[derive(Drop)]
@@ -9,39 +8,22 @@ pub struct TypeName<'a> {
     pub words: Vec<&'a Token<'a>>,
 }
 
-impl<'a> Model for TypeName<'a> {
-    ghost use Rattle.std.specs.Prelude.{List, map};
-    ghost use Rattle.ba_parse.specs.Marks.{Mark, leaf, node_of, type_name};
-
-    ghost Value = { List Mark };
-
-    ghost view = { λ t. node_of type_name (map (λ word. leaf word.now) t.words.items) };
-}
-
 /// A conditional expression (C90 6.3.15), the widest expression of the profile.
 #[cycle(expression)]
-#[derive(Drop)]
 pub struct Conditional<'a> {
     /// What stands before the `?`, or the whole.
     pub test: Operand<'a>,
     pub branches: Option<Branches<'a>>,
 }
 
-impl<'a> Model for Conditional<'a> {
-    ghost use Rattle.std.specs.Prelude.{List, length, ◌++◌};
-    ghost use Rattle.ba_parse.specs.Marks.{Mark, node_of, conditional};
-    ghost use Rattle.ba_parse.specs.Views.{optional, most_le-joined};
-    ghost use Rattle.std.proofs.Common.{arith, length-append};
-
-    ghost Value = { List Mark };
-
-    ghost use Rattle.ba_parse.specs.ExpressionViews.{operand_marks};
-
-    ghost view = { λ c. node_of conditional (operand_marks c.test ++ optional c.branches) };
-
-    ghost size = { length };
-
-    ghost size_decreases = { λ a h. Prim.grind (arith, length-append, most_le-joined a.test.chains.items) };
+impl<'a> Drop for Conditional<'a> {
+    #[cycle(expression)]
+    fn drop(self) {
+        let Conditional {
+            test: _,
+            branches: _,
+        } = self;
+    }
 }
 
 /// The branches of a conditional expression: `? expression : expression`.
@@ -56,27 +38,22 @@ pub struct Branches<'a> {
     pub fails: Box<Conditional<'a>>,
 }
 
-impl<'a> Model for Branches<'a> {
-    ghost use Rattle.std.specs.Prelude.{List, length, ◌++◌, ◌∷◌};
-    ghost use Rattle.ba_parse.specs.Marks.{Mark, leaf, one_deeper};
-    ghost use Rattle.std.proofs.Common.{arith, length-append};
-
-    ghost Value = { List Mark };
-
-    ghost view = { λ b. leaf b.question.now ∷ one_deeper b.holds.value ++ leaf b.colon.now ∷ one_deeper b.fails.value };
-
-    ghost size = { length };
-
-    ghost size_decreases = { λ a h. Prim.grind (arith, length-append) };
-}
-
 /// A unary expression and the chains of binary operators that follow it, those that bind tighter first (C90 6.3.5 to
 /// 6.3.14): each chain takes all that stands before it as its leftmost operand.
 #[cycle(expression)]
-#[derive(Drop)]
 pub struct Operand<'a> {
     pub first: Unary<'a>,
     pub chains: Vec<Chain<'a>>,
+}
+
+impl<'a> Drop for Operand<'a> {
+    #[cycle(expression)]
+    fn drop(self) {
+        let Operand {
+            first: _,
+            chains: _,
+        } = self;
+    }
 }
 
 /// What follows the leftmost operand in a chain of binary operators of one level: an operator, its right operand, and the
@@ -91,35 +68,10 @@ pub struct Chain<'a> {
     pub rest: Option<Box<Chain<'a>>>,
 }
 
-impl<'a> Model for Chain<'a> {
-    ghost use Rattle.std.specs.Prelude.{List, length, ◌++◌, ◌∷◌, option_map};
-    ghost use Rattle.ba_parse.specs.Views.{optional, most_le-joined};
-    ghost use Rattle.ba_parse.specs.Marks.{Mark, leaf, node_of, one_deeper, chain};
-    ghost use Rattle.std.proofs.Common.{arith, length-append};
-
-    ghost Value = { List Mark };
-
-    ghost use Rattle.ba_parse.specs.ExpressionViews.{operand_marks};
-
-    ghost view = { λ c. node_of (chain c.level)
-        (leaf c.operator.now ∷ one_deeper (operand_marks c.operand ++ optional (option_map (λ c. c.value) c.rest))) };
-
-    ghost size = { length };
-
-    ghost size_decreases = { λ a h. Prim.grind (arith, length-append, most_le-joined a.operand.chains.items) };
-}
-
 /// A unary expression (C90 6.3.3, 6.3.4).
 #[cycle(expression)]
 #[derive(Drop)]
-pub struct Unary<'a> {
-    pub form: UnaryForm<'a>,
-}
-
-/// The forms of a unary expression.
-#[cycle(expression)]
-#[derive(Drop)]
-pub enum UnaryForm<'a> {
+pub enum Unary<'a> {
     /// `+`, `-`, `~` or `!` before its operand.
     Prefix {
         operator: &'a Token<'a>,
@@ -136,51 +88,33 @@ pub enum UnaryForm<'a> {
     Primary(Primary<'a>),
 }
 
-impl<'a> Model for Unary<'a> {
-    ghost use Rattle.std.specs.Prelude.{List, length};
-    ghost use Rattle.ba_parse.specs.Marks.{Mark, node_of, unary};
-
-    ghost Value = { List Mark };
-
-    ghost use Rattle.ba_parse.specs.ExpressionViews.{unary_marks};
-    ghost use Rattle.std.proofs.Common.{arith, length-append};
-
-    ghost view = { λ u. node_of unary (unary_marks u.form) };
-
-    ghost size = { length };
-
-    ghost size_decreases = { λ a h. Prim.grind (arith, length-append) };
-}
-
 /// A name, an element of an array, a call, a constant or an expression in parentheses (C90 6.3.1, 6.3.2).
 #[cycle(expression)]
 #[derive(Drop)]
-pub struct Primary<'a> {
-    pub form: PrimaryForm<'a>,
-}
-
-/// The forms of a primary expression.
-#[cycle(expression)]
-#[derive(Drop)]
-pub enum PrimaryForm<'a> {
+pub enum Primary<'a> {
+    /// An identifier.
     Name {
         name: &'a Token<'a>,
     },
+    /// An element of an array (C90 6.3.2.1).
     Element {
         name: &'a Token<'a>,
         open: &'a Token<'a>,
         index: Box<Conditional<'a>>,
         close: &'a Token<'a>,
     },
+    /// A function call (C90 6.3.2.2).
     Call {
         name: &'a Token<'a>,
         open: &'a Token<'a>,
         arguments: Arguments<'a>,
         close: &'a Token<'a>,
     },
+    /// A constant (C90 6.1.3).
     Constant {
         constant: &'a Token<'a>,
     },
+    /// An expression in parentheses.
     Parenthesized {
         open: &'a Token<'a>,
         expression: Box<Conditional<'a>>,
@@ -188,46 +122,17 @@ pub enum PrimaryForm<'a> {
     },
 }
 
-impl<'a> Model for Primary<'a> {
-    ghost use Rattle.std.specs.Prelude.{List, length};
-    ghost use Rattle.ba_parse.specs.Marks.{Mark, node_of, primary};
-
-    ghost Value = { List Mark };
-
-    ghost use Rattle.ba_parse.specs.ExpressionViews.{primary_marks};
-    ghost use Rattle.std.proofs.Common.{arith, length-append};
-
-    ghost view = { λ p. node_of primary (primary_marks p.form) };
-
-    ghost size = { length };
-
-    ghost size_decreases = { λ a h. Prim.grind (arith, length-append) };
-}
-
-/// The arguments of a call, none or more.
+/// The arguments of a call, none or more (C90 6.3.2.2).
 #[cycle(expression)]
-#[derive(Drop)]
 pub struct Arguments<'a> {
     pub values: Option<Expressions<'a>>,
 }
 
-impl<'a> Model for Arguments<'a> {
-    ghost use Rattle.std.specs.Prelude.{List, length, ◌++◌, option_map};
-    ghost use Rattle.ba_parse.specs.Marks.{Mark, node_of, arguments};
-    ghost use Rattle.ba_parse.specs.Views.{optional, most_le-joined};
-    ghost use Rattle.std.proofs.Common.{arith, length-append};
-
-    ghost Value = { List Mark };
-
-    ghost use Rattle.ba_parse.specs.ExpressionViews.{expressions_marks};
-
-    ghost view = { λ a. node_of arguments (optional (option_map expressions_marks a.values)) };
-
-    ghost size = { length };
-
-    ghost use Rattle.ba_parse.specs.ArgumentsFall.{arguments_fall};
-
-    ghost size_decreases = { λ a h. arguments_fall a.values };
+impl<'a> Drop for Arguments<'a> {
+    #[cycle(expression)]
+    fn drop(self) {
+        let Arguments { values: _ } = self;
+    }
 }
 
 /// One expression or more, with commas between.
@@ -244,18 +149,4 @@ pub struct Expressions<'a> {
 pub struct NextExpression<'a> {
     pub comma: &'a Token<'a>,
     pub expression: Conditional<'a>,
-}
-
-impl<'a> Model for NextExpression<'a> {
-    ghost use Rattle.std.specs.Prelude.{List, length, ◌∷◌};
-    ghost use Rattle.ba_parse.specs.Marks.{Mark, leaf};
-    ghost use Rattle.std.proofs.Common.{arith, length-append};
-
-    ghost Value = { List Mark };
-
-    ghost view = { λ n. leaf n.comma.now ∷ n.expression };
-
-    ghost size = { length };
-
-    ghost size_decreases = { λ a h. Prim.grind (arith, length-append) };
 }

@@ -1,25 +1,25 @@
 //! The trees of statements and of what stands at the level of the file (C90 6.6, 6.7).
 
+ghost use Rattle.std.specs.Prelude.{IsTrue, map};
+ghost use Rattle.ba_parse.specs.ExternalMarks.{external_marks};
+ghost use Rattle.ba_parse.specs.Files.{has_accepted_levels};
+ghost use Rattle.ba_parse.specs.Marks.{node_of, file};
+ghost use Rattle.ba_parse.specs.Views.{joined};
+
 use crate::tree::declarations::{Declaration, Declarators, Parameters};
 use crate::tree::expressions::{Arguments, Conditional, NextExpression, TypeName};
 use ba_lex::token::Token;
-use std::marker::Model;
 
 /// A variable or an element that is assigned to.
-#[derive(Drop)]
 pub struct Target<'a> {
     pub name: &'a Token<'a>,
     pub index: Option<Index<'a>>,
 }
 
-impl<'a> Model for Target<'a> {
-    ghost use Rattle.std.specs.Prelude.{List, ◌∷◌};
-    ghost use Rattle.ba_parse.specs.Marks.{Mark, leaf, node_of, target};
-    ghost use Rattle.ba_parse.specs.Views.{optional};
-
-    ghost Value = { List Mark };
-
-    ghost view = { λ t. node_of target (leaf t.name.now ∷ optional t.index) };
+impl<'a> Drop for Target<'a> {
+    fn drop(self) {
+        let Target { name: _, index: _ } = self;
+    }
 }
 
 /// An index in brackets.
@@ -32,24 +32,8 @@ pub struct Index<'a> {
     pub close: &'a Token<'a>,
 }
 
-impl<'a> Model for Index<'a> {
-    ghost use Rattle.std.specs.Prelude.{List, [], ◌∷◌, ◌++◌};
-    ghost use Rattle.ba_parse.specs.Marks.{Mark, leaf, one_deeper};
-
-    ghost Value = { List Mark };
-
-    ghost view = { λ i. leaf i.«open».now ∷ one_deeper i.value.value ++ leaf i.close.now ∷ [] };
-}
-
 /// An assignment, a step or a call, as it stands in a statement or in the head of a `for`.
-#[derive(Drop)]
-pub struct Simple<'a> {
-    pub form: SimpleForm<'a>,
-}
-
-/// The forms of an assignment or the like.
-#[derive(Drop)]
-pub enum SimpleForm<'a> {
+pub enum Simple<'a> {
     /// `=` or a compound assignment (C90 6.3.16).
     Assign {
         target: Target<'a>,
@@ -66,6 +50,7 @@ pub enum SimpleForm<'a> {
         operator: &'a Token<'a>,
         target: Target<'a>,
     },
+    /// A call as a statement of its own (C90 6.3.2.2).
     Call {
         name: &'a Token<'a>,
         open: &'a Token<'a>,
@@ -74,52 +59,51 @@ pub enum SimpleForm<'a> {
     },
 }
 
-impl<'a> Model for Simple<'a> {
-    ghost use Rattle.std.specs.Prelude.{List};
-    ghost use Rattle.ba_parse.specs.Marks.{Mark, node_of, simple};
-
-    ghost Value = { List Mark };
-
-    ghost use Rattle.ba_parse.specs.StatementViews.{simple_marks};
-
-    ghost view = { λ s. node_of simple (simple_marks s.form) };
+impl<'a> Drop for Simple<'a> {
+    fn drop(self) {
+        match self {
+            Simple::Assign {
+                target: _,
+                operator: _,
+                value: _,
+            } => {}
+            Simple::Step {
+                target: _,
+                operator: _,
+            } => {}
+            Simple::PrefixStep {
+                operator: _,
+                target: _,
+            } => {}
+            Simple::Call {
+                name: _,
+                open: _,
+                arguments: _,
+                close: _,
+            } => {}
+        }
+    }
 }
 
-/// A comma and what stands after it.
+/// An assignment or the like in a list, and the comma before it, if it is not the first.
 #[derive(Drop)]
-pub struct NextSimple<'a> {
-    pub comma: &'a Token<'a>,
+pub struct ListedSimple<'a> {
+    pub comma: Option<&'a Token<'a>>,
     pub simple: Simple<'a>,
 }
 
-impl<'a> Model for NextSimple<'a> {
-    ghost use Rattle.std.specs.Prelude.{List, ◌∷◌};
-    ghost use Rattle.ba_parse.specs.Marks.{Mark, leaf};
-
-    ghost Value = { List Mark };
-
-    ghost view = { λ n. leaf n.comma.now ∷ n.simple };
-}
-
-/// One or more, with commas between.
-#[derive(Drop)]
+/// One or more, with commas between: each but the first has the comma before it.
 pub struct Simples<'a> {
-    pub first: Simple<'a>,
-    pub rest: Vec<NextSimple<'a>>,
+    pub all: Vec<ListedSimple<'a>>,
 }
 
-impl<'a> Model for Simples<'a> {
-    ghost use Rattle.std.specs.Prelude.{List, ◌++◌};
-    ghost use Rattle.ba_parse.specs.Marks.{Mark, node_of, simples};
-    ghost use Rattle.ba_parse.specs.Views.{joined};
-
-    ghost Value = { List Mark };
-
-    ghost view = { λ s. node_of simples (s.first ++ joined s.rest.items) };
+impl<'a> Drop for Simples<'a> {
+    fn drop(self) {
+        let Simples { all: _ } = self;
+    }
 }
 
-/// A condition in parentheses.
-#[derive(Drop)]
+/// The controlling expression of a statement, in its parentheses (C90 6.6.4, 6.6.5).
 pub struct Condition<'a> {
     /// `(`
     pub open: &'a Token<'a>,
@@ -128,79 +112,83 @@ pub struct Condition<'a> {
     pub close: &'a Token<'a>,
 }
 
-impl<'a> Model for Condition<'a> {
-    ghost use Rattle.std.specs.Prelude.{List, [], ◌∷◌, ◌++◌};
-    ghost use Rattle.ba_parse.specs.Marks.{Mark, leaf, one_deeper};
-
-    ghost Value = { List Mark };
-
-    ghost view = { λ c. leaf c.«open».now ∷ one_deeper c.test.value ++ leaf c.close.now ∷ [] };
+impl<'a> Drop for Condition<'a> {
+    fn drop(self) {
+        let Condition {
+            open: _,
+            test: _,
+            close: _,
+        } = self;
+    }
 }
 
 /// What a `for` begins with (C90 6.6.5.3).
-#[derive(Drop)]
-pub struct ForFirst<'a> {
-    pub form: ForFirstForm<'a>,
-}
-
-/// The forms of what a `for` begins with.
-#[derive(Drop)]
-pub enum ForFirstForm<'a> {
+pub enum ForFirst<'a> {
+    /// A declaration of variables of the loop, which the profile has beyond C90.
     Declaration {
         name: TypeName<'a>,
         declarators: Declarators<'a>,
     },
+    /// One or more assignments, steps or calls.
     Simples(Simples<'a>),
+    /// Neither.
     Nothing,
 }
 
-impl<'a> Model for ForFirst<'a> {
-    ghost use Rattle.std.specs.Prelude.{List};
-    ghost use Rattle.ba_parse.specs.Marks.{Mark, node_of, for_first};
-
-    ghost Value = { List Mark };
-
-    ghost use Rattle.ba_parse.specs.StatementViews.{for_first_marks};
-
-    ghost view = { λ f. node_of for_first (for_first_marks f.form) };
+impl<'a> Drop for ForFirst<'a> {
+    fn drop(self) {
+        match self {
+            ForFirst::Declaration {
+                name: _,
+                declarators: _,
+            } => {}
+            ForFirst::Simples(_) => {}
+            ForFirst::Nothing => {}
+        }
+    }
 }
 
 /// The head of a `for`, between its parentheses.
-#[derive(Drop)]
 pub struct ForHead<'a> {
-    pub first: Box<ForFirst<'a>>,
+    /// What is done once, before the loop.
+    pub first: ForFirst<'a>,
     pub first_semicolon: &'a Token<'a>,
+    /// The controlling expression, if there is one.
     pub test: Option<Conditional<'a>>,
     pub second_semicolon: &'a Token<'a>,
+    /// What is done after each turn.
     pub step: Option<Simples<'a>>,
 }
 
-impl<'a> Model for ForHead<'a> {
-    ghost use Rattle.std.specs.Prelude.{List, ◌∷◌, ◌++◌};
-    ghost use Rattle.ba_parse.specs.Marks.{Mark, leaf};
-    ghost use Rattle.ba_parse.specs.Views.{optional};
-
-    ghost Value = { List Mark };
-
-    ghost view = { λ f. f.first.value ++ leaf f.first_semicolon.now ∷ optional f.test ++ leaf f.second_semicolon.now ∷ optional f.step };
+impl<'a> Drop for ForHead<'a> {
+    fn drop(self) {
+        let ForHead {
+            first: _,
+            first_semicolon: _,
+            test: _,
+            second_semicolon: _,
+            step: _,
+        } = self;
+    }
 }
 
 /// What a `printf` prints, between its parentheses: a string in one part or more, and values.
-#[derive(Drop)]
 pub struct Printed<'a> {
+    /// The first part of the string.
     pub first: &'a Token<'a>,
+    /// The parts that follow it with nothing between (C90 6.1.4).
     pub rest: Vec<&'a Token<'a>>,
     pub values: Vec<NextExpression<'a>>,
 }
 
-impl<'a> Model for Printed<'a> {
-    ghost use Rattle.std.specs.Prelude.{List, ◌∷◌, ◌++◌, map};
-    ghost use Rattle.ba_parse.specs.Marks.{Mark, leaf};
-    ghost use Rattle.ba_parse.specs.Views.{joined};
-
-    ghost Value = { List Mark };
-
-    ghost view = { λ p. leaf p.first.now ∷ map (λ t. leaf t.now) p.rest.items ++ joined p.values.items };
+impl<'a> Drop for Printed<'a> {
+    fn drop(self) {
+        let Printed {
+            first: _,
+            rest: _,
+            values: _,
+        } = self;
+    }
 }
 
 /// Declarations and statements in braces (C90 6.6.2).
@@ -214,29 +202,12 @@ pub struct Block<'a> {
     pub close: &'a Token<'a>,
 }
 
-/// What stands in a block.
+/// What stands in a block: the profile lets declarations stand among the statements (C90 6.6.2 has them first).
 #[cycle(statement)]
 #[derive(Drop)]
 pub enum BlockItem<'a> {
     Declaration(Declaration<'a>),
     Statement(Statement<'a>),
-}
-
-impl<'a> Model for Block<'a> {
-    ghost use Rattle.std.specs.Prelude.{List, length, [], ◌∷◌, ◌++◌};
-    ghost use Rattle.ba_parse.specs.Marks.{Mark, leaf, node_of, one_deeper, block};
-
-    ghost Value = { List Mark };
-
-    ghost use Rattle.ba_parse.specs.StatementViews.{items_marks};
-
-    ghost view = { λ b. node_of block (leaf b.«open».now ∷ one_deeper (items_marks b.items.items) ++ leaf b.close.now ∷ []) };
-
-    ghost size = { length };
-
-    ghost use Rattle.ba_parse.specs.ItemsFall.{items_fall};
-
-    ghost size_decreases = { λ b h. items_fall b };
 }
 
 /// A statement (C90 6.6).
@@ -250,45 +221,57 @@ pub struct Statement<'a> {
 #[cycle(statement)]
 #[derive(Drop)]
 pub enum StatementForm<'a> {
+    /// A compound statement (C90 6.6.2).
     Block(Block<'a>),
+    /// A null statement (C90 6.6.3).
     Empty {
         semicolon: &'a Token<'a>,
     },
+    /// An assignment, a step or a call (C90 6.6.3).
     Simple {
         simple: Simple<'a>,
         semicolon: &'a Token<'a>,
     },
+    /// C90 6.6.4.1.
     If {
         keyword: &'a Token<'a>,
         condition: Condition<'a>,
-        holds: Box<Statement<'a>>,
+        holds: Controlled<'a>,
         fails: Option<Else<'a>>,
     },
+    /// C90 6.6.5.1.
     While {
         keyword: &'a Token<'a>,
         condition: Condition<'a>,
-        body: Box<Statement<'a>>,
+        body: Controlled<'a>,
     },
+    /// C90 6.6.5.2.
     DoWhile(DoWhile<'a>),
+    /// C90 6.6.5.3.
     For(For<'a>),
+    /// C90 6.6.6.3.
     Break {
         keyword: &'a Token<'a>,
         semicolon: &'a Token<'a>,
     },
+    /// C90 6.6.6.2.
     Continue {
         keyword: &'a Token<'a>,
         semicolon: &'a Token<'a>,
     },
+    /// C90 6.6.6.4.
     Return {
         keyword: &'a Token<'a>,
         value: Option<Conditional<'a>>,
         semicolon: &'a Token<'a>,
     },
+    /// C90 7.2.1.1.
     Assert {
         keyword: &'a Token<'a>,
         condition: Condition<'a>,
         semicolon: &'a Token<'a>,
     },
+    /// C90 7.9.6.3.
     Printf {
         keyword: &'a Token<'a>,
         open: &'a Token<'a>,
@@ -298,20 +281,18 @@ pub enum StatementForm<'a> {
     },
 }
 
-impl<'a> Model for Statement<'a> {
-    ghost use Rattle.std.specs.Prelude.{List, length};
-    ghost use Rattle.ba_parse.specs.Marks.{Mark, node_of, statement};
+/// The substatement or loop body that another statement controls (C90 6.6.4, 6.6.5): one more construct is around its
+/// tokens.
+#[cycle(statement)]
+pub struct Controlled<'a> {
+    pub statement: Box<Statement<'a>>,
+}
 
-    ghost Value = { List Mark };
-
-    ghost use Rattle.ba_parse.specs.StatementViews.{statement_marks};
-    ghost use Rattle.std.proofs.Common.{arith, length-append};
-
-    ghost view = { λ s. node_of statement (statement_marks s.form) };
-
-    ghost size = { length };
-
-    ghost size_decreases = { λ s h. Prim.grind (arith, length-append) };
+impl<'a> Drop for Controlled<'a> {
+    #[cycle(statement)]
+    fn drop(self) {
+        let Controlled { statement: _ } = self;
+    }
 }
 
 /// `else` and its statement.
@@ -319,21 +300,7 @@ impl<'a> Model for Statement<'a> {
 #[derive(Drop)]
 pub struct Else<'a> {
     pub keyword: &'a Token<'a>,
-    pub statement: Box<Statement<'a>>,
-}
-
-impl<'a> Model for Else<'a> {
-    ghost use Rattle.std.specs.Prelude.{List, length, ◌∷◌, ◌++◌};
-    ghost use Rattle.ba_parse.specs.Marks.{Mark, leaf, one_deeper};
-    ghost use Rattle.std.proofs.Common.{arith, length-append};
-
-    ghost Value = { List Mark };
-
-    ghost view = { λ e. leaf e.keyword.now ∷ one_deeper e.statement.value };
-
-    ghost size = { length };
-
-    ghost size_decreases = { λ e h. Prim.grind (arith, length-append) };
+    pub statement: Controlled<'a>,
 }
 
 /// A `do` loop (C90 6.6.5.2).
@@ -342,25 +309,11 @@ impl<'a> Model for Else<'a> {
 pub struct DoWhile<'a> {
     /// `do`
     pub keyword: &'a Token<'a>,
-    pub body: Box<Statement<'a>>,
+    pub body: Controlled<'a>,
     /// `while`
     pub while_keyword: &'a Token<'a>,
     pub condition: Condition<'a>,
     pub semicolon: &'a Token<'a>,
-}
-
-impl<'a> Model for DoWhile<'a> {
-    ghost use Rattle.std.specs.Prelude.{List, length, [], ◌∷◌, ◌++◌};
-    ghost use Rattle.ba_parse.specs.Marks.{Mark, leaf, one_deeper};
-    ghost use Rattle.std.proofs.Common.{arith, length-append};
-
-    ghost Value = { List Mark };
-
-    ghost view = { λ d. leaf d.keyword.now ∷ one_deeper d.body.value ++ leaf d.while_keyword.now ∷ d.condition ++ leaf d.semicolon.now ∷ [] };
-
-    ghost size = { length };
-
-    ghost size_decreases = { λ d h. Prim.grind (arith, length-append) };
 }
 
 /// A `for` loop (C90 6.6.5.3).
@@ -374,21 +327,7 @@ pub struct For<'a> {
     pub head: Box<ForHead<'a>>,
     /// `)`
     pub close: &'a Token<'a>,
-    pub body: Box<Statement<'a>>,
-}
-
-impl<'a> Model for For<'a> {
-    ghost use Rattle.std.specs.Prelude.{List, length, ◌∷◌, ◌++◌};
-    ghost use Rattle.ba_parse.specs.Marks.{Mark, leaf, one_deeper};
-    ghost use Rattle.std.proofs.Common.{arith, length-append};
-
-    ghost Value = { List Mark };
-
-    ghost view = { λ f. leaf f.keyword.now ∷ leaf f.«open».now ∷ one_deeper f.head.value ++ leaf f.close.now ∷ one_deeper f.body.value };
-
-    ghost size = { length };
-
-    ghost size_decreases = { λ f h. Prim.grind (arith, length-append) };
+    pub body: Controlled<'a>,
 }
 
 /// What stands at the level of the file: variables or a function (C90 6.7).
@@ -401,10 +340,12 @@ pub struct External<'a> {
 /// The forms of what stands at the level of the file.
 #[derive(Drop)]
 pub enum ExternalForm<'a> {
+    /// Variables of the file (C90 6.7.2).
     Variables {
         declarators: Declarators<'a>,
         semicolon: &'a Token<'a>,
     },
+    /// A function's definition or prototype (C90 6.7.1, 6.5.4.3).
     Function {
         name: &'a Token<'a>,
         open: &'a Token<'a>,
@@ -417,33 +358,15 @@ pub enum ExternalForm<'a> {
 /// A function's body, or the end of its prototype.
 #[derive(Drop)]
 pub enum FunctionEnd<'a> {
+    /// The body of a definition (C90 6.7.1).
     Body(Block<'a>),
+    /// The semicolon of a prototype.
     Prototype { semicolon: &'a Token<'a> },
 }
 
-impl<'a> Model for External<'a> {
-    ghost use Rattle.std.specs.Prelude.{List, ◌++◌};
-    ghost use Rattle.ba_parse.specs.Marks.{Mark, node_of, external};
-
-    ghost Value = { List Mark };
-
-    ghost use Rattle.ba_parse.specs.StatementViews.{external_marks};
-
-    ghost view = { λ e. node_of external (e.name ++ external_marks e.form) };
-}
-
-/// The tree of a file.
+/// The tree of a file, a translation unit (C90 6.7). No token in it has more than a hundred constructs around it.
 #[derive(Drop)]
 pub struct RawProgram<'a> {
     pub externals: Vec<External<'a>>,
-}
-
-impl<'a> Model for RawProgram<'a> {
-    ghost use Rattle.std.specs.Prelude.{List};
-    ghost use Rattle.ba_parse.specs.Marks.{Mark, node_of, file};
-    ghost use Rattle.ba_parse.specs.Views.{joined};
-
-    ghost Value = { List Mark };
-
-    ghost view = { λ p. node_of file (joined p.externals.items) };
+    pub ghost accepted: { IsTrue (has_accepted_levels (node_of file (joined (map external_marks externals.items)))) },
 }

@@ -3,6 +3,7 @@
 use Rattle.std.proofs.Common.{◌≡◌, ◌+◌, ◌-◌, true, false, List, length, rules, arith, ap}
 use Rattle.std.proofs.lemmas.Result.{err_from_is_err_and}
 use Rattle.ba_parse.specs.Marks.{Mark}
+use Rattle.ba_parse.specs.DeclarationMarks.{listed_declarator_marks}
 use Rattle.ba_parse.specs.Readings.{levels_left}
 use Rattle.ba_parse.proofs.Begins.{comma, next_declarator}
 use Rattle.ba_parse.proofs.Repeats.{repeat-turn, repeat-end, repeat-out, repeat-stop}
@@ -11,19 +12,27 @@ use Rattle.ba_parse.proofs.declarations.next_declarators.Goals as goal
 pub returns-then-not-next_is : goal.returns-then-not-next_is
 returns-then-not-next_is c =
     let none : comma c.loop-read.reader ≡ false = search rules in
-    repeat-end _ _ comma (next_declarator (levels_left c.args.levels)) c.loop-read.reader _ c.loop-read.invariant none
+    repeat-end _ _ comma (next_declarator (levels_left c.args.levels)) c.loop-read.reader _
+    c.loop-read.invariant none
 
 pub returns : goal.returns
-returns c = repeat-out _ _ comma (next_declarator (levels_left c.args.levels)) c.loop-read.reader _ c.loop-read.invariant (omega (arith, ap length c.rest-most.ensures))
+returns c = repeat-out _ _ comma (next_declarator (levels_left c.args.levels)) c.loop-read.reader _
+    c.loop-read.invariant (omega (arith, ap length c.rest-most.ensures))
 
 pub returns-in_err-next_declarator : goal.returns-in_err-next_declarator
 returns-in_err-next_declarator c =
     let p = err_from_is_err_and c.from_residual.result c.from_residual.ensures.1 in
     let some : comma c.loop-read.reader ≡ true = search rules in
-    rw (p.1, p.2) (repeat-stop {A = List Mark} {B = List Mark} (λ f. f) (λ f. f) c.in_err-next_declarator.field-0.0 _ _ comma (next_declarator (levels_left c.args.levels)) c.loop-read.reader c.next_declarator.new.reader _ c.loop-read.invariant some (omega (arith, ap length c.rest-most.ensures)) c.in_err-next_declarator.ensures)
+    rw (p.1, p.2) (repeat-stop {A = List Mark} {B = List Mark} (λ f. f) (λ f. f)
+    c.in_err-next_declarator.field-0.0 _ _ comma (next_declarator (levels_left c.args.levels))
+    c.loop-read.reader c.next_declarator.new.reader _ c.loop-read.invariant some
+    (omega (arith, ap length c.rest-most.ensures)) c.in_err-next_declarator.ensures)
 
 pub loop-read-preserved : goal.loop-read-preserved
 loop-read-preserved c =
     let some : comma c.loop-read.reader ≡ true = search rules in
-    let one : length c.args.reader.now - c.loop-read._read ≡ length c.args.reader.now - (c.loop-read._read + 1) + 1 = omega (arith, ap length c.rest-most.ensures) in
-    repeat-turn _ _ _ comma (next_declarator (levels_left c.args.levels)) c.loop-read.reader c.next_declarator.new.reader c.loop-read.rest.items c.push.new.self.items _ c.loop-read.invariant some one c.in_ok-next_declarator.ensures c.in_ok-push.ensures.items
+    let one : length c.args.reader.now - c.loop-read._read ≡ length c.args.reader.now
+    - (c.loop-read._read + 1) + 1 = omega (arith, ap length c.rest-most.ensures) in
+    repeat-turn listed_declarator_marks _ _ _ comma (next_declarator (levels_left c.args.levels))
+    c.loop-read.reader c.next_declarator.new.reader c.loop-read.rest.items c.push.new.self.items _
+    c.loop-read.invariant some one c.in_ok-next_declarator.ensures c.in_ok-push.ensures.items

@@ -1,11 +1,10 @@
 -- How many more constructs may be around a token, and then a rank: what is inside a construct has the least.
 
-use Rattle.std.specs.Prelude.{◌≡◌, ◌+◌, ◌-◌, ◌*◌, ◌++◌, length}
+use Rattle.std.specs.Prelude.{◌≡◌, ◌+◌, ◌-◌, ◌*◌, ◌++◌, length, map}
 use Rattle.ba_lex.specs.declared.token.Punct.TheVariants as punct
 use Rattle.ba_parse.specs.Classes.{mark}
 use Rattle.ba_parse.specs.Readings.{done, ◌▹◌, with_front, many_upto, next_is, read_sign, read_expression, read_operand, levels_left}
-use Rattle.ba_parse.specs.Marks.{node_of, unary}
-use Rattle.ba_parse.specs.ExpressionViews.{unary_marks}
+use Rattle.ba_parse.specs.ExpressionMarks.{chain_marks, next_expression_marks, unary_marks}
 use Rattle.ba_parse.specs.Views.{joined}
 use Rattle.ba_parse.proofs.expressions.+expression.Given as goal
 
@@ -63,13 +62,17 @@ decreases-expressions l = 16 * l.levels + 8
 -- what was read so far is the operand of tighter operators
 abbrev pub invariant-operand-loop-tighter : goal.invariant-operand-loop-tighter
 invariant-operand-loop-tighter l =
-    read_operand (levels_left l.levels) l.tighter l.fn.reader ≡ done (node_of unary (unary_marks l.first-inside.form) ++ joined l.chains.items) l.reader
+    read_operand (levels_left l.levels) l.tighter l.fn.reader
+    ≡ done (unary_marks l.first ++ joined (map chain_marks l.chains.items)) l.reader
 
 -- the whole is what was read, and then what is read from here
 abbrev pub invariant-next_expressions-loop-read : goal.invariant-next_expressions-loop-read
 invariant-next_expressions-loop-read l =
-    many_upto (length l.fn.reader) (next_is (mark punct.Comma)) (read_sign punct.Comma ▹ read_expression (levels_left l.levels)) l.fn.reader
-    ≡ with_front (joined l.rest.items) (many_upto (length l.fn.reader - l._read) (next_is (mark punct.Comma)) (read_sign punct.Comma ▹ read_expression (levels_left l.levels)) l.reader)
+    many_upto (length l.fn.reader) (next_is (mark punct.Comma)) (read_sign punct.Comma ▹ read_expression
+    (levels_left l.levels)) l.fn.reader
+    ≡ with_front (joined (map next_expression_marks l.rest.items)) (many_upto (length l.fn.reader - l._read)
+    (next_is (mark punct.Comma)) (read_sign punct.Comma ▹ read_expression (levels_left l.levels))
+    l.reader)
 
 abbrev pub decreases-arguments : goal.decreases-arguments
 decreases-arguments l = 16 * l.levels + 9

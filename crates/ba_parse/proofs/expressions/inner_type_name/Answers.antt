@@ -6,7 +6,9 @@ use Rattle.ba_parse.proofs.Levels.{levels_left-some, none-told}
 use Rattle.ba_parse.proofs.expressions.inner_type_name.Goals as goal
 
 pub returns-then-levels-eq0 : goal.returns-then-levels-eq0
-returns-then-levels-eq0 c = none-told c.args.levels in_cast c.args.reader.now _ c.if-levels-eq0.true refl c.refusal.ensures
+returns-then-levels-eq0 c = none-told c.args.levels in_cast c.args.reader.now _ c.if-levels-eq0.true refl
+    c.refusal.ensures
 
 pub returns : goal.returns
-returns c = rw (levels_left-some c.args.levels in_cast c.args.reader.now c.if-levels-eq0.false) c.type_name.ensures
+returns c = rw (levels_left-some c.args.levels in_cast c.args.reader.now c.if-levels-eq0.false)
+    c.type_name.ensures

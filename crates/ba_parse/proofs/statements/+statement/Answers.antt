@@ -1,30 +1,52 @@
 -- Inside a construct, by whether a level is left; and the items of a block.
 
-use Rattle.std.proofs.Common.{◌≡◌, ◌+◌, ◌-◌, true, false, List, length, rules, arith, refl, ap}
+use Rattle.std.proofs.Common.{append_assoc, option_map, ◌≡◌, ◌+◌, ◌-◌, true, false, List, [], ◌∷◌, Err, length, rules, arith, refl, ap, ◌∙◌, sym}
 use Rattle.std.proofs.lemmas.Result.{err_from_is_err_and}
-use Rattle.ba_parse.specs.Marks.{Mark}
-use Rattle.ba_parse.specs.Readings.{levels_left, in_block, in_statement}
-use Rattle.ba_parse.specs.StatementViews.{item_marks, items_marks}
-use Rattle.ba_parse.proofs.Levels.{levels_left-none, levels_left-some, none-told}
-use Rattle.ba_parse.proofs.OtherRepeats.{repeat-next, items-push}
-use Rattle.ba_parse.proofs.Repeats.{repeat-end, repeat-out, repeat-stop}
+use Rattle.ba_parse.specs.Marks.{Mark, leaf, one_deeper}
+use Rattle.ba_lex.specs.declared.token.Token.{Token}
+use Rattle.ba_lex.specs.declared.token.Keyword.TheVariants as keyword
+use Rattle.ba_lex.specs.declared.token.Punct.TheVariants as punct
+use Rattle.ba_parse.specs.Readings.{Answer, Inner, ◌▹◌, done, lowered, levels_left, in_block, in_for, in_statement, deeper_in, read_key, read_sign, read_condition, read_parenthesized}
+use Rattle.ba_parse.specs.Tails.{read_else}
+use Rattle.ba_parse.specs.Telling.{Told}
+use Rattle.ba_parse.specs.SimpleMarks.{condition_marks, for_head_marks}
+use Rattle.ba_parse.specs.StatementMarks.{or_no_else, else_marks, controlled_marks, item_marks, statement_marks}
+use Rattle.ba_parse.proofs.Levels.{both-read, levels_left-none, levels_left-some, none-told, lowered-stops, deeper-told}
+use Rattle.ba_parse.proofs.Repeats.{repeat-turn, repeat-end, repeat-out, repeat-stop}
 use Rattle.ba_parse.proofs.StatementBegins.{item, an_item}
+use Rattle.ba_parse.proofs.StatementForms.{if_marks, for_marks}
 use Rattle.ba_parse.proofs.statements.+statement.Goals as goal
 
 pub inner_items-returns-then-levels-eq0 : goal.inner_items-returns-then-levels-eq0
-inner_items-returns-then-levels-eq0 t c = rw (levels_left-none c.args.levels in_block c.args.reader.now c.if-levels-eq0.true) c.no_items.ensures
+inner_items-returns-then-levels-eq0 t c = rw (levels_left-none c.args.levels in_block c.args.reader.now
+    c.if-levels-eq0.true) c.no_items.ensures
 
 pub inner_items-returns : goal.inner_items-returns
-inner_items-returns t c = rw (levels_left-some c.args.levels in_block c.args.reader.now c.if-levels-eq0.false) c.items.ensures
+inner_items-returns t c = rw (levels_left-some c.args.levels in_block c.args.reader.now c.if-levels-eq0.false)
+    c.items.ensures
 
-pub inner_statement-returns-then-levels-eq0 : goal.inner_statement-returns-then-levels-eq0
-inner_statement-returns-then-levels-eq0 t c = none-told c.args.levels in_statement c.args.reader.now _ c.if-levels-eq0.true refl c.refusal.ensures
+pub controlled-returns-then-levels-eq0 : goal.controlled-returns-then-levels-eq0
+controlled-returns-then-levels-eq0 t c = lowered-stops {A = List Mark} (λ f. f) controlled_marks
+    c.refusal.result (levels_left c.args.levels in_statement c.args.reader.now) c.args.reader.now
+    (none-told c.args.levels in_statement c.args.reader.now _ c.if-levels-eq0.true refl c.refusal.ensures)
 
-pub inner_statement-returns-in_err-body : goal.inner_statement-returns-in_err-body
-inner_statement-returns-in_err-body t c = rw (levels_left-some c.args.levels in_statement c.args.reader.now c.if-levels-eq0.false) (search rules)
+pub controlled-returns-in_err-body : goal.controlled-returns-in_err-body
+controlled-returns-in_err-body t c =
+    let p = err_from_is_err_and c.from_residual.result c.from_residual.ensures.1 in
+    let inside : Answer = levels_left c.args.levels in_statement c.args.reader.now in
+    let told : Told statement_marks (Err c.in_err-body.field-0.0) inside c.statement.new.reader =
+    rw (levels_left-some c.args.levels in_statement c.args.reader.now c.if-levels-eq0.false)
+    c.in_err-body.ensures in
+    rw (p.1, p.2) (lowered-stops statement_marks controlled_marks c.in_err-body.field-0.0 inside _ told)
 
-pub inner_statement-returns : goal.inner_statement-returns
-inner_statement-returns t c = rw (levels_left-some c.args.levels in_statement c.args.reader.now c.if-levels-eq0.false) (search rules)
+pub controlled-returns : goal.controlled-returns
+controlled-returns t c =
+    let inside : Answer = levels_left c.args.levels in_statement c.args.reader.now in
+    let read : inside ≡ done (statement_marks c.in_ok-body.body) c.statement.new.reader =
+    levels_left-some c.args.levels in_statement c.args.reader.now c.if-levels-eq0.false
+    ∙ c.in_ok-body.ensures in
+    deeper-told controlled_marks _ inside (statement_marks c.in_ok-body.body) _ read
+    c.controlled_by_another.ensures
 
 pub items-returns-then-not-next_is : goal.items-returns-then-not-next_is
 items-returns-then-not-next_is t c =
@@ -33,16 +55,65 @@ items-returns-then-not-next_is t c =
 
 pub items-returns : goal.items-returns
 items-returns t c =
-    repeat-out _ _ item (an_item (levels_left c.args.levels)) c.loop-read.reader _ c.loop-read.invariant (omega (arith, ap length c.rest-most.ensures))
+    repeat-out _ _ item (an_item (levels_left c.args.levels)) c.loop-read.reader _ c.loop-read.invariant
+    (omega (arith, ap length c.rest-most.ensures))
 
 pub items-returns-in_err-next : goal.items-returns-in_err-next
 items-returns-in_err-next t c =
     let p = err_from_is_err_and c.from_residual.result c.from_residual.ensures.1 in
     let some : item c.loop-read.reader ≡ true = search rules in
-    rw (p.1, p.2) (repeat-stop {A = List Mark} {B = List Mark} (λ f. f) (λ f. f) c.in_err-next.field-0.0 _ _ item (an_item (levels_left c.args.levels)) c.loop-read.reader c.item.new.reader _ c.loop-read.invariant some (omega (arith, ap length c.rest-most.ensures)) c.in_err-next.ensures)
+    rw (p.1, p.2) (repeat-stop {A = List Mark} {B = List Mark} (λ f. f) (λ f. f) c.in_err-next.field-0.0 _ _
+    item (an_item (levels_left c.args.levels)) c.loop-read.reader c.item.new.reader _
+    c.loop-read.invariant some (omega (arith, ap length c.rest-most.ensures)) c.in_err-next.ensures)
 
 pub items-loop-read-preserved : goal.items-loop-read-preserved
 items-loop-read-preserved t c =
     let some : item c.loop-read.reader ≡ true = search rules in
-    let one : length c.args.reader.now - c.loop-read._read ≡ length c.args.reader.now - (c.loop-read._read + 1) + 1 = omega (arith, ap length c.rest-most.ensures) in
-    repeat-next _ _ _ item (an_item (levels_left c.args.levels)) c.loop-read.reader c.item.new.reader (items_marks c.loop-read.all.items) (items_marks c.push.new.self.items) (item_marks c.in_ok-next.next) c.loop-read.invariant some one c.in_ok-next.ensures (items-push c.loop-read.all.items c.push.new.self.items c.in_ok-next.next c.in_ok-push.ensures.items)
+    let one : length c.args.reader.now - c.loop-read._read ≡ length c.args.reader.now
+    - (c.loop-read._read + 1) + 1 = omega (arith, ap length c.rest-most.ensures) in
+    repeat-turn item_marks _ _ _ item (an_item (levels_left c.args.levels)) c.loop-read.reader
+    c.item.new.reader c.loop-read.all.items c.push.new.self.items _ c.loop-read.invariant some one
+    c.in_ok-next.ensures c.in_ok-push.ensures.items
+
+pub if_statement-returns : goal.if_statement-returns
+if_statement-returns t c =
+    let inner : Inner = levels_left c.args.levels in
+    let after : List Token = c.maybe_else.new.reader in
+    let condition : List Mark = condition_marks c.in_ok-test.test in
+    let holds : List Mark = controlled_marks c.in_ok-holds.holds in
+    let fails : List Mark = or_no_else (option_map else_marks c.in_ok-fails.fails) in
+    both-read (read_key keyword.If) (read_condition inner ▹ deeper_in inner in_statement ▹ read_else inner)
+    c.args.reader.now _ _ _ _ c.in_ok-keyword.ensures
+    (both-read (read_condition inner) (deeper_in inner in_statement ▹ read_else inner)
+    c.take.new.self _ _ _ _ c.in_ok-test.ensures
+    (both-read (deeper_in inner in_statement) (read_else inner)
+    _ _ _ _ _ c.in_ok-holds.ensures c.in_ok-fails.ensures))
+    ∙ ap (λ f. done (leaf c.in_ok-keyword.keyword.now ∷ f) after) (sym (append_assoc condition holds fails))
+    ∙ ap (λ f. done f after)
+    (sym (if_marks c.in_ok-keyword.keyword c.in_ok-test.test c.in_ok-holds.holds c.in_ok-fails.fails))
+
+pub for_statement-returns : goal.for_statement-returns
+for_statement-returns t c =
+    let inner : Inner = levels_left c.args.levels in
+    let after : List Token = c.controlled.new.reader in
+    let head : List Mark = one_deeper (for_head_marks c.in_ok-head.head.value) in
+    let close : List Mark = leaf c.in_ok-close.close.now ∷ [] in
+    let body : List Mark = controlled_marks c.in_ok-body.body in
+    both-read (read_key keyword.For) (read_parenthesized inner in_for ▹ deeper_in inner in_statement)
+    c.args.reader.now _ _ _ _ c.in_ok-keyword.ensures
+    (both-read (read_parenthesized inner in_for) (deeper_in inner in_statement)
+    c.take.new.self _ _ _ _
+    (both-read (read_sign punct.OpenParenthesis) (deeper_in inner in_for ▹ read_sign punct.CloseParenthesis)
+    c.take.new.self _ _ _ _ c.in_ok-open.ensures
+    (both-read (deeper_in inner in_for) (read_sign punct.CloseParenthesis)
+    _ _ _ _ _ (ap lowered c.in_ok-head.ensures) c.in_ok-close.ensures))
+    c.in_ok-body.ensures)
+    ∙ ap (λ f. done (leaf c.in_ok-keyword.keyword.now ∷ leaf c.in_ok-open.«open».now ∷ f) after)
+    (append_assoc head close body)
+    ∙ ap (λ f. done f after) (sym (for_marks record {
+      keyword = c.in_ok-keyword.keyword;
+      «open» = c.in_ok-open.«open»;
+      head = c.in_ok-head.head;
+      close = c.in_ok-close.close;
+      body = c.in_ok-body.body;
+    }))

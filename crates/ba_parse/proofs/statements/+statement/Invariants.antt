@@ -1,16 +1,17 @@
 -- How many more constructs may be around a token, and then a rank: what is inside a construct has the least.
 
-use Rattle.std.proofs.Common.{◌≡◌, ◌+◌, ◌-◌, ◌*◌, length}
+use Rattle.std.proofs.Common.{◌≡◌, ◌+◌, ◌-◌, ◌*◌, length, map}
 use Rattle.ba_parse.specs.Readings.{with_front, many_upto, levels_left}
-use Rattle.ba_parse.specs.StatementViews.{items_marks}
+use Rattle.ba_parse.specs.Views.{joined}
+use Rattle.ba_parse.specs.StatementMarks.{item_marks}
 use Rattle.ba_parse.proofs.StatementBegins.{item, an_item}
 use Rattle.ba_parse.proofs.statements.+statement.Given as goal
 
 abbrev pub decreases-inner_items : goal.decreases-inner_items
 decreases-inner_items l = 8 * l.levels + 0
 
-abbrev pub decreases-inner_statement : goal.decreases-inner_statement
-decreases-inner_statement l = 8 * l.levels + 0
+abbrev pub decreases-controlled : goal.decreases-controlled
+decreases-controlled l = 8 * l.levels + 0
 
 abbrev pub decreases-block : goal.decreases-block
 decreases-block l = 8 * l.levels + 1
@@ -33,17 +34,21 @@ decreases-if_statement l = 8 * l.levels + 2
 abbrev pub decreases-keyword_statement : goal.decreases-keyword_statement
 decreases-keyword_statement l = 8 * l.levels + 3
 
+abbrev pub decreases-statement_form : goal.decreases-statement_form
+decreases-statement_form l = 8 * l.levels + 4
+
 abbrev pub decreases-statement : goal.decreases-statement
-decreases-statement l = 8 * l.levels + 4
+decreases-statement l = 8 * l.levels + 5
 
 abbrev pub decreases-item : goal.decreases-item
-decreases-item l = 8 * l.levels + 5
+decreases-item l = 8 * l.levels + 6
 
 abbrev pub decreases-items : goal.decreases-items
-decreases-items l = 8 * l.levels + 6
+decreases-items l = 8 * l.levels + 7
 
 -- the whole is what was read, and then what is read from here
 abbrev pub invariant-items-loop-read : goal.invariant-items-loop-read
 invariant-items-loop-read l =
     many_upto (length l.fn.reader) item (an_item (levels_left l.levels)) l.fn.reader
-    ≡ with_front (items_marks l.all.items) (many_upto (length l.fn.reader - l._read) item (an_item (levels_left l.levels)) l.reader)
+    ≡ with_front (joined (map item_marks l.all.items)) (many_upto (length l.fn.reader - l._read) item
+    (an_item (levels_left l.levels)) l.reader)

@@ -7,7 +7,8 @@ use Rattle.ba_parse.proofs.types.type_name.Given as goal
 
 abbrev pub invariant-loop-reader : goal.invariant-loop-reader
 invariant-loop-reader l = record {
-  whole : words_after l.fn.with_static [] l.fn.reader ≡ with_front (leaves l.words.items) (words_after l.fn.with_static (classes l.words.items) l.reader);
+  whole : words_after l.fn.with_static [] l.fn.reader ≡ with_front (leaves l.words.items)
+      (words_after l.fn.with_static (classes l.words.items) l.reader);
   seen : l.classes.items ≡ classes l.words.items;
 }
 

@@ -1,13 +1,16 @@
 -- Its words and its length have no node without a name.
 
-use Rattle.std.proofs.Common.{sym, ◌∙◌, not, ap}
-use Rattle.ba_parse.specs.Grammar.{has_unnamed}
+use Rattle.std.proofs.Common.{sym, ◌∙◌, option_map}
+use Rattle.ba_parse.specs.DeclarationMarks.{array_length_marks}
+use Rattle.ba_parse.specs.ExpressionMarks.{type_name_marks}
 use Rattle.ba_parse.specs.Views.{optional}
 use Rattle.ba_parse.proofs.Named.{parameter_named}
+use Rattle.ba_parse.proofs.Quiet.{quiet_type, quiet_length}
 use Rattle.ba_parse.proofs.tree.declarations.Parameter.is_named.Goals as goal
 
 pub returns : goal.returns
 returns c =
+    let p = c.args.self.now in
     c.is_some.ensures
-    ∙ sym (parameter_named c.self.inside.type_name (optional c.self.inside.length) c.self.inside.name c.self.invariant.0 c.self.invariant.1)
-    ∙ ap (λ f. not (has_unnamed f)) c.self.view_is
+    ∙ sym (parameter_named (type_name_marks p.type_name) (optional (option_map array_length_marks p.length))
+    p.name (quiet_type p.type_name) (quiet_length p.length))
