@@ -1,3 +1,4 @@
+pub mod SignedPowers
 pub mod Rows
 pub mod Steps
 pub mod Values

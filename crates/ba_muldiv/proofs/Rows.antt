@@ -1,9 +1,10 @@
 -- Words of digits, and the rows of a product.
 
-use Rattle.std.proofs.Common.{◌≡◌, ℕ, zero, suc, ◌+◌, ◌-◌, ◌*◌, ◌%◌, ◌^◌, ◌<◌, ◌≤◌, Bool, true, false, not, nat_lt, nat_le, ◌&&◌, ◌||◌, List, [], ◌∷◌, length, map, get_or, set, drop, refl, sym, ap, subst, ◌∙◌, arith, if◌then◌else◌}
-use Rattle.std.proofs.lemmas.List.{same_lists, get_or-map, length-map, drop_more, length-drop}
-use Rattle.std.proofs.lemmas.Nat.{mul-mod_second, pow_pos}
-use Rattle.std.proofs.Math.Nat.{mul-add, mul-suc}
+use Rattle.std.proofs.Common.{◌≡◌, ℕ, zero, suc, ◌+◌, ◌-◌, ◌*◌, ◌%◌, ◌^◌, ◌<◌, ◌≤◌, Bool, true, false, not, nat_lt, nat_le, ◌&&◌, ◌||◌, List, [], ◌∷◌, length, map, get_or, set, drop, replicate, ◌⊎◌, inl, inr, refl, sym, ap, subst, ◌∙◌, arith, if◌then◌else◌}
+use Rattle.std.proofs.lemmas.List.{same_lists, get_or-map, get_or_past, length-map, drop_more, length-drop}
+use Rattle.std.proofs.lemmas.Nat.{mod-mul-add, mul-mod_second, pow_pos}
+use Rattle.std.proofs.Math.Nat.{mul-add, mul-suc, pow-le-pow_right}
+use Rattle.std.proofs.lemmas.Bool.{cases_lt}
 use Rattle.std.proofs.lemmas.Bool.Decides.{nat_tests}
 use Rattle.ba_nodes.specs.declared.Bit.{Bit}
 use Rattle.ba_nodes.specs.declared.Node.{Node}
@@ -11,11 +12,12 @@ use Rattle.ba_nodes.specs.Gates.{bool_xor, constant_bit, truth, IsBitOf, Extends
 use Rattle.ba_nodes.proofs.Truths.{truth-constant}
 use Rattle.ba_words.specs.Words.{digit, spelled, number_of, low_number, bit_at, AreBitsOf}
 use Rattle.ba_words.proofs.Digits.{spelled_below}
-use Rattle.ba_words.proofs.Places.{number_of-extends, power_more, low_number-more}
+use Rattle.ba_words.proofs.Places.{power_more, low_number-more, low_number-all}
 use Rattle.ba_words.proofs.Circuits.{low_number_below, argument-more, number_small, number-highest}
 use Rattle.ba_words.proofs.Shapes.{number-split, filled-number, low_number-same}
+use Rattle.ba_words.proofs.Values.{powers}
 use Rattle.ba_muldiv.specs.Division.{is_negative, high_number, sum_or_difference}
-use Rattle.ba_muldiv.proofs.Steps.{next_value, wider_step, step_fits, step_left, le_from_true, top_is}
+use Rattle.ba_muldiv.proofs.Steps.{next_value, wider_step, whole_fits, whole_left, narrow_fits, narrow_left, le_false, le_from_true, lt_from_false, top_is}
 
 -- ---- words
 
@@ -36,6 +38,12 @@ constants-number free nodes word digits long places =
     other_default [] k d within = absurd (omega arith)
     other_default (x ∷ digits) zero d within = refl
     other_default (x ∷ digits) (suc k) d within = other_default digits k d (omega arith)
+
+-- the places of a word of zeros
+pub zeros-places : (n place : ℕ) (bit : Bit) → bit ≡ constant_bit false → bit_at (replicate n bit) place ≡ constant_bit false
+zeros-places zero place bit is = refl
+zeros-places (suc n) zero bit is = is
+zeros-places (suc n) (suc place) bit is = zeros-places n place bit is
 
 -- the lowest bit is written, where it was false
 pub number-set_first : (free : ℕ → Bool) (nodes : List Node) (word : List Bit) (bit : Bit) → 0 < length word → truth free nodes (bit_at word 0) ≡ false
@@ -118,28 +126,6 @@ wider_more free initial nodes word k b long bits extends small is =
     (number-split free initial word (k + 1) (omega (arith, long)) ∙ ap (λ n. n + 2 ^ (k + 1) * high_number free initial word (k + 1)) (argument-more free initial nodes word k (omega (arith, long)) bits extends))
     (low_number_below free initial word k (omega (arith, long)))
 
-module _ (free : ℕ → Bool) (old nodes next : List Node) (rest divisor low complement difference : List Bit) (carry wider : Bit) (width : ℕ)
-    (divisor_long : length divisor ≡ 32) (difference_long : length difference ≡ 32) (divisor_bits : AreBitsOf old divisor) (carry_bit : IsBitOf nodes carry)
-    (first : Extends old nodes) (second : Extends nodes next) (few : width ≤ 32) (small : number_of free old rest < 2 ^ width)
-    (low_is : number_of free old low ≡ low_number free old divisor width) (whole : number_of free old complement + number_of free old low + 1 ≡ 2 ^ 32)
-    (sum : number_of free nodes difference + 2 ^ 32 * digit (truth free nodes carry) ≡ number_of free old rest + number_of free old complement + 1) where
-  complement_is : number_of free old complement + low_number free old divisor width + 1 ≡ 2 ^ 32
-  complement_is = sym (ap (λ n. number_of free old complement + n + 1) low_is) ∙ whole
-
-  pub fits_value : truth free next wider ≡ nat_le (2 ^ width) (number_of free nodes divisor) → (truth free next carry && not (truth free next wider)) ≡ nat_le (number_of free old divisor) (number_of free old rest)
-  fits_value wide =
-      (λ i. second.keeps free carry carry_bit i && not ((wide ∙ ap (nat_le (2 ^ width)) (number_of-extends free old nodes divisor first divisor_bits)) i))
-      ∙ step_fits (number_of free old rest) (number_of free old divisor) (low_number free old divisor width) (number_of free nodes difference) (low_number free nodes difference width) (2 ^ width) (number_of free old complement)
-      small (low_number_below free old divisor width (omega (arith, divisor_long))) (number_small free nodes difference difference_long) complement_is
-      (truth free nodes carry) (high_number free old divisor width) sum (number-split free old divisor width (omega (arith, divisor_long)))
-
-  pub left_value : nat_le (number_of free old divisor) (number_of free old rest) ≡ true → number_of free nodes difference ≡ number_of free old rest - number_of free old divisor
-  left_value fits =
-      step_left (number_of free old rest) (number_of free old divisor) (low_number free old divisor width) (number_of free nodes difference) (number_of free nodes difference) (2 ^ width) (number_of free old complement)
-      small (low_number_below free old divisor width (omega (arith, divisor_long))) (number_small free nodes difference difference_long) complement_is
-      (truth free nodes carry) (high_number free old divisor width) 0 sum (number-split free old divisor width (omega (arith, divisor_long)))
-      (omega arith) (le_from_true _ _ fits)
-
 -- the sign of a word
 pub sign_value : (free : ℕ → Bool) (nodes : List Node) (word : List Bit) (signed : Bool) → length word ≡ 32 → (signed && truth free nodes (bit_at word 31)) ≡ is_negative signed (number_of free nodes word)
 sign_value free nodes word signed long =
@@ -168,12 +154,17 @@ number_low free nodes word n long few above =
     let filled : number_of free nodes word + digit false * 2 ^ n ≡ low_number free nodes word n + digit false * 2 ^ 32 = filled-number free nodes word n false long few above in
     omega (arith, filled, low_number_below free nodes word n (omega (arith, long)))
 
--- a word with a one
-pub number_positive : (free : ℕ → Bool) (nodes : List Node) (word : List Bit) (k : ℕ) → length word ≡ 32 → k < 32 → truth free nodes (bit_at word k) ≡ true → 0 < number_of free nodes word
-number_positive free nodes word k long small is =
+-- a word with a one at a place
+pub number_above : (free : ℕ → Bool) (nodes : List Node) (word : List Bit) (k : ℕ) → length word ≡ 32 → k < 32 → truth free nodes (bit_at word k) ≡ true
+    → 2 ^ k ≤ number_of free nodes word
+number_above free nodes word k long small is =
     let more : low_number free nodes word (k + 1) ≡ low_number free nodes word k + 2 ^ k * 1 =
     low_number-more free nodes word k (omega (arith, long)) ∙ ap (λ t. low_number free nodes word k + 2 ^ k * digit t) is in
-    omega (arith, more, pow_pos k, number-split free nodes word (k + 1) (omega (arith, long)))
+    omega (arith, more, number-split free nodes word (k + 1) (omega (arith, long)))
+
+-- a word with a one
+pub number_positive : (free : ℕ → Bool) (nodes : List Node) (word : List Bit) (k : ℕ) → length word ≡ 32 → k < 32 → truth free nodes (bit_at word k) ≡ true → 0 < number_of free nodes word
+number_positive free nodes word k long small is = omega (arith, pow_pos k, number_above free nodes word k long small is)
 
 -- the low places alone, where there are no others
 pub low_whole : (free : ℕ → Bool) (nodes : List Node) (word : List Bit) (n : ℕ) → length word ≡ 32 → n ≤ 32 → number_of free nodes word < 2 ^ n → low_number free nodes word n ≡ number_of free nodes word
@@ -184,3 +175,105 @@ low_whole free nodes word n long few small = whole (high_number free nodes word 
     whole (suc h) split =
         let more : 2 ^ n * suc h ≡ 2 ^ n * h + 2 ^ n = mul-suc (2 ^ n) h in
         absurd (omega arith)
+
+-- the low places are what is left by a power of two
+pub low_number-mod : (free : ℕ → Bool) (nodes : List Node) (word : List Bit) (n : ℕ) → n ≤ length word → low_number free nodes word n ≡ number_of free nodes word % 2 ^ n
+low_number-mod free nodes word n few =
+    let turned : low_number free nodes word n + 2 ^ n * high_number free nodes word n ≡ high_number free nodes word n * 2 ^ n + low_number free nodes word n = grind arith in
+    sym (ap (λ m. m % 2 ^ n) (number-split free nodes word n few ∙ turned)
+    ∙ mod-mul-add (high_number free nodes word n) (2 ^ n) (low_number free nodes word n) (low_number_below free nodes word n few))
+
+-- ---- a step of a division
+
+turned : (l p h : ℕ) → l + p * h ≡ h * p + l
+turned l p h = grind arith
+
+and_true : (b : Bool) → (b && not false) ≡ b
+and_true true = refl
+and_true false = refl
+
+-- the low places of the remainder, without those of the divisor
+module _ (free : ℕ → Bool) (old middle : List Node) (rest divisor low low_divisor complement difference : List Bit) (carry : Bit) (width known kept : ℕ)
+    (rest_long : length rest ≡ 32) (divisor_long : length divisor ≡ 32) (difference_long : length difference ≡ 32)
+    (few : width ≤ 32) (first : kept ≤ width) (one : (kept ≡ width) ⊎ (kept ≡ known))
+    (small : number_of free old rest < 2 ^ width) (narrow : number_of free old divisor < 2 ^ known) (known_few : known ≤ 32)
+    (twice : known < 32 → number_of free old rest < 2 * number_of free old divisor)
+    (low_is : number_of free old low ≡ low_number free old rest kept) (low_divisor_is : number_of free old low_divisor ≡ low_number free old divisor kept)
+    (whole : number_of free old complement + number_of free old low_divisor + 1 ≡ 2 ^ 32)
+    (sum : number_of free middle difference + 2 ^ 32 * digit (truth free middle carry) ≡ number_of free old low + number_of free old complement + 1) where
+  -- all places are kept, or the divisor has no more
+  kept_is : (kept ≡ width) ⊎ ((number_of free old divisor < 2 ^ kept) × (number_of free old rest < 2 * number_of free old divisor))
+  kept_is = elim one [
+    | inl here ↦ inl here
+    | inr here ↦ elim (cases_lt known 32) [
+      | inl below ↦ inr (subst (λ n. number_of free old divisor < 2 ^ n) (sym here) narrow, twice below)
+      | inr above ↦ inl (omega arith)
+    ]
+  ]
+
+  one_more : number_of free old rest < 2 * 2 ^ kept
+  one_more = elim kept_is [
+    | inl here ↦ omega (arith, subst (λ n. number_of free old rest < 2 ^ n) (sym here) small)
+    | inr here ↦ omega (arith, here.0, here.1)
+  ]
+
+  rest_is : number_of free old rest ≡ low_number free old rest kept + 2 ^ kept * digit (truth free old (bit_at rest kept))
+  rest_is = elim (cases_lt kept 32) [
+    | inl below ↦
+        sym (low_whole free old rest (kept + 1) rest_long (omega arith) (omega (arith, one_more, power_more kept)))
+        ∙ low_number-more free old rest kept (omega (arith, rest_long))
+    | inr above ↦
+        let past : length rest ≤ kept = omega (arith, rest_long) in
+        let none : truth free old (bit_at rest kept) ≡ false = ap (truth free old) (get_or_past rest kept (constant_bit false) past) ∙ truth-constant free old false in
+        sym (low_number-all free old rest kept past) ∙ omega arith ∙ sym (ap (λ t. low_number free old rest kept + 2 ^ kept * digit t) none)
+  ]
+
+  low_sum : number_of free middle difference + 2 ^ 32 * digit (truth free middle carry) ≡ low_number free old rest kept + number_of free old complement + 1
+  low_sum = sum ∙ ap (λ n. n + number_of free old complement + 1) low_is
+
+  low_whole_divisor : number_of free old complement + low_number free old divisor kept + 1 ≡ 2 ^ 32
+  low_whole_divisor = sym (ap (λ n. number_of free old complement + n + 1) low_divisor_is) ∙ whole
+
+  narrow_sum : number_of free old divisor < 2 ^ kept → number_of free middle difference + 2 ^ 32 * digit (truth free middle carry) + number_of free old divisor ≡ low_number free old rest kept + 2 ^ 32
+  narrow_sum below = omega (arith, low_sum, low_whole_divisor, low_whole free old divisor kept divisor_long (omega arith) below)
+
+  pub fits_value : ((truth free middle carry || truth free old (bit_at rest kept)) && not (nat_le (2 ^ width) (number_of free old divisor))) ≡ nat_le (number_of free old divisor) (number_of free old rest)
+  fits_value = elim kept_is [
+    | inl here ↦
+        ap (λ n. (truth free middle carry || truth free old (bit_at rest kept)) && not (nat_le (2 ^ n) (number_of free old divisor))) (sym here)
+        ∙ whole_fits (2 ^ kept) (number_of free old rest) (number_of free old divisor) (low_number free old rest kept) (low_number free old divisor kept) (number_of free middle difference) (number_of free old complement)
+        (high_number free old divisor kept) (truth free middle carry) (subst (λ n. number_of free old rest < 2 ^ n) (sym here) small) (low_number_below free old divisor kept (omega (arith, divisor_long)))
+        (number_small free middle difference difference_long) low_whole_divisor low_sum (number-split free old divisor kept (omega (arith, divisor_long)))
+        (truth free old (bit_at rest kept)) rest_is
+    | inr here ↦
+        let most : 2 ^ kept ≤ 2 ^ width = pow-le-pow_right {n = 2} (omega arith) first in
+        ap (λ b. (truth free middle carry || truth free old (bit_at rest kept)) && not b) (le_false (2 ^ width) (number_of free old divisor) (omega (arith, most, here.0)))
+        ∙ and_true (truth free middle carry || truth free old (bit_at rest kept))
+        ∙ narrow_fits (2 ^ kept) (number_of free old rest) (number_of free old divisor) (low_number free old rest kept) (number_of free middle difference) (truth free middle carry) (truth free old (bit_at rest kept))
+        rest_is here.0 (number_small free middle difference difference_long) (narrow_sum here.0)
+  ]
+
+  pub left_value : nat_le (number_of free old divisor) (number_of free old rest) ≡ true → low_number free middle difference kept ≡ number_of free old rest - number_of free old divisor
+  left_value fits = elim kept_is [
+    | inl here ↦
+        whole_left (2 ^ kept) (number_of free old rest) (number_of free old divisor) (low_number free old rest kept) (low_number free old divisor kept) (number_of free middle difference) (number_of free old complement)
+        (high_number free old divisor kept) (truth free middle carry) (subst (λ n. number_of free old rest < 2 ^ n) (sym here) small) (low_number_below free old divisor kept (omega (arith, divisor_long)))
+        (number_small free middle difference difference_long) low_whole_divisor low_sum (number-split free old divisor kept (omega (arith, divisor_long)))
+        (truth free old (bit_at rest kept)) (low_number free middle difference kept) (high_number free middle difference kept) rest_is
+        (number-split free middle difference kept (omega (arith, difference_long))) (le_from_true _ _ fits)
+    | inr here ↦
+        let split : number_of free middle difference ≡ high_number free middle difference kept * 2 ^ kept + low_number free middle difference kept =
+        number-split free middle difference kept (omega (arith, difference_long)) ∙ turned (low_number free middle difference kept) (2 ^ kept) (high_number free middle difference kept) in
+        narrow_left (2 ^ kept) (number_of free old rest) (number_of free old divisor) (low_number free old rest kept) (number_of free middle difference) (low_number free middle difference kept)
+        (2 ^ (32 - kept)) (high_number free middle difference kept) (truth free middle carry) (truth free old (bit_at rest kept)) rest_is here.0 (number_small free middle difference difference_long)
+        (narrow_sum here.0) split (low_number_below free middle difference kept (omega (arith, difference_long))) (powers kept (omega arith)) here.1 (le_from_true _ _ fits)
+  ]
+
+  pub rest_value : nat_le (number_of free old divisor) (number_of free old rest) ≡ false → low_number free old rest kept ≡ number_of free old rest
+  rest_value fails =
+      let below : number_of free old rest < number_of free old divisor = lt_from_false _ _ fails in
+      low_whole free old rest kept rest_long (omega arith)
+      (elim kept_is [
+        | inl here ↦ subst (λ n. number_of free old rest < 2 ^ n) (sym here) small
+        | inr here ↦ omega (arith, here.0)
+      ])

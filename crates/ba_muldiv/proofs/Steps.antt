@@ -1,15 +1,16 @@
 -- The steps of a long division, over numbers.
 
-use Rattle.std.proofs.Common.{◌≡◌, ℕ, zero, suc, ◌+◌, ◌-◌, ◌*◌, ◌/◌, ◌%◌, ◌^◌, ◌<◌, ◌≤◌, Bool, true, false, not, nat_lt, nat_le, ◌&&◌, ◌||◌, inl, inr, ◌⊎◌, refl, sym, ap, subst, ◌∙◌, arith, if◌then◌else◌, ◌==◌, div-le_self}
+use Rattle.std.proofs.Common.{◌≡◌, ℕ, zero, suc, ◌+◌, ◌-◌, ◌*◌, ◌/◌, ◌%◌, ◌^◌, ◌<◌, ◌≤◌, Bool, true, false, not, nat_lt, nat_le, ◌&&◌, ◌||◌, inl, inr, refl, sym, ap, ◌∙◌, arith, if◌then◌else◌, ◌==◌, div-le_self}
 use Rattle.std.proofs.Math.Nat.{mul-suc, pow-le-pow_right}
 use Rattle.std.proofs.lemmas.Bool.{cases_lt}
 use Rattle.std.proofs.lemmas.Bool.Decides.{nat_tests}
-use Rattle.std.proofs.lemmas.Nat.{div-add-mod', mod_below, div-mul-add, mod-mul-add, pow_pos}
+use Rattle.std.proofs.lemmas.Nat.{div-add-mod', mod_below, div-mul-add, mod-mul-add, pow_pos, same_from_place}
 use native.Mathlib.Nat.{mod-zero, mod-le}
+use Rattle.ba_nodes.specs.Gates.{bool_xor}
 use Rattle.ba_words.specs.Words.{digit}
 use Rattle.ba_words.proofs.Digits.{digit_small}
 use Rattle.ba_words.proofs.Places.{power_more}
-use Rattle.ba_muldiv.specs.Division.{long_quotient}
+use Rattle.ba_muldiv.specs.Division.{negated_where, long_quotient}
 
 pub le_true : (a b : ℕ) → a ≤ b → nat_le a b ≡ true
 le_true a b below = grind (arith, nat_tests)
@@ -74,7 +75,7 @@ long_positive places a b positive = ap (λ t. if t then 2 ^ places - 1 else a / 
     not_zero : (b : ℕ) → 0 < b → (b == 0) ≡ false
     not_zero b positive = grind (arith, nat_tests)
 
-double_twice : (q d : ℕ) → 2 * (q * d) ≡ 2 * q * d
+pub double_twice : (q d : ℕ) → 2 * (q * d) ≡ 2 * q * d
 double_twice q d = grind arith
 
 next_multiple : (q d : ℕ) → (2 * q + 1) * d ≡ 2 * (q * d) + d
@@ -178,29 +179,87 @@ pub top_is : (n l : ℕ) (t : Bool) → n ≡ l + 2 ^ 31 * digit t → l < 2 ^ 3
 top_is n l true is small = sym (le_true (2 ^ 31) n (omega arith))
 top_is n l false is small = sym (le_false (2 ^ 31) n (omega arith))
 
--- what is left is less than the divisor
-
 pub lt_from_false : (a b : ℕ) → nat_le a b ≡ false → b < a
 lt_from_false a b is = grind (arith, nat_tests)
 
-pub left_narrow : (r d x width known kept : ℕ) → x ≡ r - d → d ≤ r → x < 2 ^ 32 → r < 2 ^ width → d < 2 ^ known → known ≤ 32 → (known < 32 → r < 2 * d) → (kept ≡ width) ⊎ (kept ≡ known) → x < 2 ^ kept
-left_narrow r d x width known kept is fits whole small narrow few twice one = elim one [
-  | inl here ↦ subst (λ n. x < 2 ^ n) (sym here) (omega arith)
-  | inr here ↦ elim (cases_lt known 32) [
-    | inl below ↦
-        let less : r < 2 * d = twice below in
-        subst (λ n. x < 2 ^ n) (sym here) (omega arith)
-    | inr above ↦
-        let all : known ≡ 32 = omega arith in
-        subst (λ n. x < 2 ^ n) (sym (here ∙ all)) whole
-  ]
-]
+-- a step whose remainder r has no more than the low places, of size p
+module _ (p r d l m x f h : ℕ) (c : Bool) (small : r < p) (m_small : m < p) (x_small : x < 2 ^ 32)
+    (complement : f + m + 1 ≡ 2 ^ 32) (sum : x + 2 ^ 32 * digit c ≡ l + f + 1) (d_is : d ≡ m + p * h) where
+  pub whole_fits : (t : Bool) → r ≡ l + p * digit t → ((c || t) && not (nat_le p d)) ≡ nat_le d r
+  whole_fits true is = absurd (omega arith)
+  whole_fits false is =
+      ap (λ b. b && not (nat_le p d)) (or_false c) ∙ step_fits r d m x x p f small m_small x_small complement c h (omega arith) d_is
 
-pub rest_narrow : (r d width known kept : ℕ) → r < d → r < 2 ^ width → d < 2 ^ known → (kept ≡ width) ⊎ (kept ≡ known) → r < 2 ^ kept
-rest_narrow r d width known kept less small narrow one = elim one [
-  | inl here ↦ subst (λ n. r < 2 ^ n) (sym here) small
-  | inr here ↦ subst (λ n. r < 2 ^ n) (sym here) (omega arith)
-]
+  pub whole_left : (t : Bool) (y g : ℕ) → r ≡ l + p * digit t → x ≡ y + p * g → d ≤ r → y ≡ r - d
+  whole_left true y g is split fits = absurd (omega arith)
+  whole_left false y g is split fits = step_left r d m x y p f small m_small x_small complement c h g (omega arith) d_is split fits
+
+-- a step whose divisor d has no more than the low places, and whose remainder one more at most
+pub narrow_fits : (p r d l x : ℕ) (c t : Bool) → r ≡ l + p * digit t → d < p → x < 2 ^ 32 → x + 2 ^ 32 * digit c + d ≡ l + 2 ^ 32 → (c || t) ≡ nat_le d r
+narrow_fits p r d l x true true is narrow x_small sum = sym (le_true d r (omega arith))
+narrow_fits p r d l x true false is narrow x_small sum = sym (le_true d r (omega arith))
+narrow_fits p r d l x false true is narrow x_small sum = sym (le_true d r (omega arith))
+narrow_fits p r d l x false false is narrow x_small sum = sym (le_false d r (omega arith))
+
+pub narrow_left : (p r d l x y z g : ℕ) (c t : Bool) → r ≡ l + p * digit t → d < p → x < 2 ^ 32 → x + 2 ^ 32 * digit c + d ≡ l + 2 ^ 32
+    → x ≡ g * p + y → y < p → z * p ≡ 2 ^ 32 → r < 2 * d → d ≤ r → y ≡ r - d
+narrow_left p r d l x y z g true true is narrow x_small sum split y_small whole twice fits = absurd (omega arith)
+narrow_left p r d l x y z g true false is narrow x_small sum split y_small whole twice fits =
+    let left : r - d < p = omega arith in
+    let same : g * p + y ≡ 0 * p + (r - d) = omega arith in
+    (same_from_place g y 0 (r - d) p y_small left same).1
+narrow_left p r d l x y z g false false is narrow x_small sum split y_small whole twice fits = absurd (omega arith)
+narrow_left p r d l x y zero g false true is narrow x_small sum split y_small whole twice fits = absurd (omega arith)
+narrow_left p r d l x y (suc z) g false true is narrow x_small sum split y_small whole twice fits =
+    let left : r - d < p = omega arith in
+    let more : suc z * p ≡ z * p + p = next_row z p in
+    let same : g * p + y ≡ z * p + (r - d) = omega arith in
+    (same_from_place g y z (r - d) p y_small left same).1
+  where
+    next_row : (z p : ℕ) → suc z * p ≡ z * p + p
+    next_row z p = grind arith
 
 pub next_twice : (h d n : ℕ) (t : Bool) → 0 < d → n ≡ 2 * (h % d) + digit t → n < 2 * d
 next_twice h d n t positive is = omega (arith, mod_below h d positive, digit_small t)
+
+-- ---- the opposite of a number, from the lowest place up
+
+-- whether a place is turned that has these places below it
+abbrev pub is_turned : Bool → ℕ → Bool
+is_turned negative low = negative && nat_lt 0 low
+
+-- the low places, of this size, with the opposite sign where the condition holds
+abbrev pub low_opposite : Bool → ℕ → ℕ → ℕ
+low_opposite negative size low = if is_turned negative low then size - low else low
+
+pub turned_more : (negative bit : Bool) (p low : ℕ) → low < p → (if bit then negative else is_turned negative low) ≡ is_turned negative (low + p * digit bit)
+turned_more true true p low small = sym (grind (arith, nat_tests))
+turned_more true false p low small = grind (arith, nat_tests)
+turned_more false true p low small = refl
+turned_more false false p low small = refl
+
+pub some_true : (n : ℕ) → 0 < n → nat_lt 0 n ≡ true
+some_true n some = grind (arith, nat_tests)
+
+pub opposite_more : (negative bit : Bool) (p q low : ℕ) → q ≡ 2 * p → low < p → low_opposite negative p low + p * digit (bool_xor bit (is_turned negative low)) ≡ low_opposite negative q (low + p * digit bit)
+opposite_more true true p q zero double small =
+    omega arith ∙ sym (ap (λ t. if t then q - (0 + p * 1) else 0 + p * 1) (some_true (0 + p * 1) (omega arith)))
+opposite_more true true p q (suc low) double small =
+    ap (λ t. (if t then p - suc low else suc low) + p * digit (not t)) (some_true (suc low) (omega arith))
+    ∙ omega arith
+    ∙ sym (ap (λ t. if t then q - (suc low + p * 1) else suc low + p * 1) (some_true (suc low + p * 1) (omega arith)))
+opposite_more true false p q zero double small =
+    let none : 0 + p * 0 ≡ 0 = omega arith in
+    none ∙ sym (ap (low_opposite true q) none)
+opposite_more true false p q (suc low) double small =
+    ap (λ t. (if t then p - suc low else suc low) + p * digit t) (some_true (suc low) (omega arith))
+    ∙ omega arith
+    ∙ sym (ap (λ t. if t then q - (suc low + p * 0) else suc low + p * 0) (some_true (suc low + p * 0) (omega arith)))
+opposite_more false true p q low double small = refl
+opposite_more false false p q low double small = refl
+
+pub opposite_all : (negative : Bool) (n : ℕ) → n < 2 ^ 32 → low_opposite negative (2 ^ 32) n ≡ negated_where negative n
+opposite_all true zero small = refl
+opposite_all true (suc n) small =
+    ap (λ t. if t then 2 ^ 32 - suc n else suc n) (some_true (suc n) (omega arith)) ∙ omega arith
+opposite_all false n small = refl

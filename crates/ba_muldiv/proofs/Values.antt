@@ -63,13 +63,13 @@ mul_value signed m n m_small n_small =
 
 -- ---- quotients and remainders by their signs and magnitudes
 
-quotient_parts : (signed : Bool) (m n : ℕ) (x y : Bool) (a b : ℕ) → is_negative signed m ≡ x → is_negative signed n ≡ y → negated_where x m ≡ a → negated_where y n ≡ b → 0 < b → quotient_of signed m n ≡ negated_where (bool_xor x y) (a / b)
+pub quotient_parts : (signed : Bool) (m n : ℕ) (x y : Bool) (a b : ℕ) → is_negative signed m ≡ x → is_negative signed n ≡ y → negated_where x m ≡ a → negated_where y n ≡ b → 0 < b → quotient_of signed m n ≡ negated_where (bool_xor x y) (a / b)
 quotient_parts signed m n x y a b m_sign n_sign m_is n_is positive =
     (λ i. negated_where (bool_xor (m_sign i) (n_sign i)) (long_quotient 32 (negated_where (m_sign i) m) (negated_where (n_sign i) n)))
     ∙ (λ i. negated_where (bool_xor x y) (long_quotient 32 (m_is i) (n_is i)))
     ∙ ap (negated_where (bool_xor x y)) (long_positive 32 a b positive)
 
-remainder_parts : (signed : Bool) (m n : ℕ) (x y : Bool) (a b : ℕ) → is_negative signed m ≡ x → is_negative signed n ≡ y → negated_where x m ≡ a → negated_where y n ≡ b → remainder_of signed m n ≡ negated_where x (a % b)
+pub remainder_parts : (signed : Bool) (m n : ℕ) (x y : Bool) (a b : ℕ) → is_negative signed m ≡ x → is_negative signed n ≡ y → negated_where x m ≡ a → negated_where y n ≡ b → remainder_of signed m n ≡ negated_where x (a % b)
 remainder_parts signed m n x y a b m_sign n_sign m_is n_is =
     (λ i. negated_where (m_sign i) (negated_where (m_sign i) m % negated_where (n_sign i) n))
     ∙ (λ i. negated_where x (m_is i % n_is i))

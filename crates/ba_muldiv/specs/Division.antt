@@ -1,12 +1,12 @@
 -- Products, quotients and remainders of words, as numbers and as numbers of C.
 
-use Rattle.std.specs.Prelude.{◌≡◌, ℕ, ◌+◌, ◌-◌, ◌/◌, ◌%◌, ◌^◌, ◌==◌, Bool, ◌&&◌, nat_le, List, map, drop, Some, ℤ, if◌then◌else◌}
+use Rattle.std.specs.Prelude.{◌≡◌, ℕ, ◌+◌, ◌-◌, ◌/◌, ◌%◌, ◌^◌, ◌==◌, Bool, true, ◌&&◌, nat_lt, nat_le, List, map, drop, Some, ℤ, if◌then◌else◌}
 use Rattle.ba_nodes.specs.declared.Bit.{Bit}
 use Rattle.ba_nodes.specs.declared.Node.{Node}
 use Rattle.ba_nodes.specs.Gates.{bool_xor, truth}
 use Rattle.ba_numbers.specs.declared.numbers.BinOp.{BinOp}
 use Rattle.ba_numbers.specs.Numbers.{value_of}
-use Rattle.ba_words.specs.Words.{spelled, word_type, word_value}
+use Rattle.ba_words.specs.Words.{digit, spelled, shifted_down, word_type, word_value}
 
 -- a number of 32 places is negative, where it is read as signed
 abbrev pub is_negative : Bool → ℕ → Bool
@@ -15,6 +15,10 @@ is_negative signed n = signed && nat_le (2 ^ 31) n
 -- a number of 32 places, with the opposite sign where the condition holds
 abbrev pub negated_where : Bool → ℕ → ℕ
 negated_where negative n = if negative then (2 ^ 32 - n) % 2 ^ 32 else n
+
+-- two to a power, or its opposite, as a number of 32 places
+abbrev pub signed_power : Bool → ℕ → ℕ
+signed_power negative exponent = negated_where negative (2 ^ exponent)
 
 -- how far a number of 32 places lies from zero
 abbrev pub magnitude : Bool → ℕ → ℕ
@@ -44,3 +48,11 @@ high_number free nodes word place = spelled (drop place (map (truth free nodes) 
 -- a sum of words, or a difference
 abbrev pub sum_or_difference : Bool → ℕ → ℕ → ℕ
 sum_or_difference minus m n = if minus then (m + (2 ^ 32 - n)) % 2 ^ 32 else (m + n) % 2 ^ 32
+
+-- whether a number of 32 places, read as signed, leaves a negative remainder by two to this power
+abbrev pub has_negative_remainder : ℕ → ℕ → Bool
+has_negative_remainder n exponent = is_negative true n && nat_lt 0 (n % 2 ^ exponent)
+
+-- a number of 32 places moved down with its sign, and one more where the bit is true
+abbrev pub shifted_sum : ℕ → ℕ → Bool → ℕ
+shifted_sum n by bit = (shifted_down n (is_negative true n) by + digit bit) % 2 ^ 32

@@ -1,6 +1,7 @@
 //! Quotients and remainders, by long division.
 
 ghost use Rattle.std.specs.Prelude.{◌≡◌, ℕ, ◌+◌, ◌-◌, ◌*◌, ◌/◌, ◌%◌, ◌<◌, ◌≤◌, ◌^◌, ◌==◌, ◌⊎◌, Bool, true, false, not, nat_lt, nat_le, ◌&&◌, List, length, IfOk, if◌then◌else◌};
+ghost use Rattle.std.specs.Bool.{OnTrue};
 ghost use Rattle.ba_numbers.specs.declared.numbers.BinOp.{BinOp};
 ghost use Rattle.ba_nodes.specs.declared.Bit.{Bit};
 ghost use Rattle.ba_nodes.specs.declared.Node.{Node};
@@ -8,8 +9,9 @@ ghost use Rattle.ba_nodes.specs.Gates.{bool_xor, truth, IsBitOf, gates_in, Exten
 ghost use Rattle.ba_words.specs.Words.{digit, spelled, number_of, bit_at, AreBitsOf, HasNumber, IsValueOf};
 ghost use Rattle.ba_muldiv.specs.Division.{negated_where, long_quotient, quotient_of, remainder_of, IsValueWhereDefined, high_number, sum_or_difference};
 
+use crate::powers::{constant_power, quotient_by_power, remainder_by_power};
 use ba_nodes::{Bit, Nodes};
-use ba_words::{Word, add_with_carry, extended, flip, less, moved_up, neg, select, sign_of};
+use ba_words::{Word, add_with_carry, extended, flip, less, moved_up, select, sign_of};
 use std::alloc::AllocError;
 
 /// The quotient of two words, rounded toward zero (C90 6.3.5), by at most 14,500 gates. Where the divisor is zero it
@@ -19,6 +21,25 @@ pub fn div(nodes: &mut Nodes, a: &Word, b: &Word, signed: bool) -> Result<Word, 
     requires second { AreBitsOf nodes.old b.now }
     ensures number { IfOk result (λ word. HasNumber nodes.new word (λ free. quotient_of signed (number_of free nodes.old a.now) (number_of free nodes.old b.now))) }
     ensures value { IfOk result (λ word. IsValueWhereDefined BinOp.Div signed nodes.old a.now b.now nodes.new word) }
+    ensures extends { Extends nodes.old nodes.new }
+    ensures count { gates_in nodes.new ≤ gates_in nodes.old + 14500 }
+{
+    match constant_power(b, signed) {
+        Some(power) => quotient_by_power(nodes, a, power),
+        None => quotient_by_magnitudes(nodes, a, b, signed),
+    }
+}
+
+/// The quotient of two words, by that of their magnitudes.
+fn quotient_by_magnitudes(
+    nodes: &mut Nodes,
+    a: &Word,
+    b: &Word,
+    signed: bool,
+) -> Result<Word, AllocError>
+    requires first { AreBitsOf nodes.old a.now }
+    requires second { AreBitsOf nodes.old b.now }
+    ensures number { IfOk result (λ word. HasNumber nodes.new word (λ free. quotient_of signed (number_of free nodes.old a.now) (number_of free nodes.old b.now))) }
     ensures extends { Extends nodes.old nodes.new }
     ensures count { gates_in nodes.new ≤ gates_in nodes.old + 14500 }
 {
@@ -41,6 +62,25 @@ pub fn rem(nodes: &mut Nodes, a: &Word, b: &Word, signed: bool) -> Result<Word, 
     ensures extends { Extends nodes.old nodes.new }
     ensures count { gates_in nodes.new ≤ gates_in nodes.old + 14500 }
 {
+    match constant_power(b, signed) {
+        Some(power) => remainder_by_power(nodes, a, power),
+        None => remainder_by_magnitudes(nodes, a, b, signed),
+    }
+}
+
+/// The remainder of two words, by that of their magnitudes.
+fn remainder_by_magnitudes(
+    nodes: &mut Nodes,
+    a: &Word,
+    b: &Word,
+    signed: bool,
+) -> Result<Word, AllocError>
+    requires first { AreBitsOf nodes.old a.now }
+    requires second { AreBitsOf nodes.old b.now }
+    ensures number { IfOk result (λ word. HasNumber nodes.new word (λ free. remainder_of signed (number_of free nodes.old a.now) (number_of free nodes.old b.now))) }
+    ensures extends { Extends nodes.old nodes.new }
+    ensures count { gates_in nodes.new ≤ gates_in nodes.old + 14500 }
+{
     let sign = sign_of(a, signed);
     let other_sign = sign_of(b, signed);
     let dividend = negated_where(nodes, sign, a)?;
@@ -49,19 +89,22 @@ pub fn rem(nodes: &mut Nodes, a: &Word, b: &Word, signed: bool) -> Result<Word, 
     negated_where(nodes, sign, &rest)
 }
 
-/// The word, with the opposite sign where the bit is true.
+/// The word, with the opposite sign where the bit is true: then the places above its lowest one are turned.
 fn negated_where(nodes: &mut Nodes, negative: Bit, a: &Word) -> Result<Word, AllocError>
     requires first { IsBitOf nodes.old negative }
     requires second { AreBitsOf nodes.old a.now }
     ensures number { IfOk result (λ word. HasNumber nodes.new word (λ free. negated_where (truth free nodes.old negative) (number_of free nodes.old a.now))) }
     ensures extends { Extends nodes.old nodes.new }
-    ensures count { gates_in nodes.new ≤ gates_in nodes.old + 128 }
+    ensures count { gates_in nodes.new ≤ gates_in nodes.old + 63 }
 {
-    if negative == Nodes::constant(false) {
-        return Ok(*a);
+    let mut word = *a;
+    let mut turned = Nodes::constant(false);
+    for place in 0..31 {
+        word[place] = nodes.xor(a[place], turned)?;
+        turned = nodes.mux(a[place], negative, turned)?;
     }
-    let opposite = neg(nodes, a)?;
-    select(nodes, negative, &opposite, a)
+    word[31] = nodes.xor(a[31], turned)?;
+    Ok(word)
 }
 
 /// The quotient of two unsigned words.
@@ -70,7 +113,7 @@ fn long_quotient(nodes: &mut Nodes, dividend: &Word, divisor: &Word) -> Result<W
     requires second { AreBitsOf nodes.old divisor.now }
     ensures number { IfOk result (λ word. HasNumber nodes.new word (λ free. long_quotient 32 (number_of free nodes.old dividend.now) (number_of free nodes.old divisor.now))) }
     ensures extends { Extends nodes.old nodes.new }
-    ensures count { gates_in nodes.new ≤ gates_in nodes.old + 161 * 32 }
+    ensures count { gates_in nodes.new ≤ gates_in nodes.old + 162 * 32 }
 {
     let (quotient, rest) = upper_steps(nodes, dividend, divisor)?;
     let last = brought_down(&rest, dividend[0]);
@@ -84,7 +127,7 @@ fn long_remainder(nodes: &mut Nodes, dividend: &Word, divisor: &Word) -> Result<
     requires second { AreBitsOf nodes.old divisor.now }
     ensures number { IfOk result (λ word. HasNumber nodes.new word (λ free. number_of free nodes.old dividend.now % number_of free nodes.old divisor.now)) }
     ensures extends { Extends nodes.old nodes.new }
-    ensures count { gates_in nodes.new ≤ gates_in nodes.old + 161 * 32 }
+    ensures count { gates_in nodes.new ≤ gates_in nodes.old + 162 * 32 }
 {
     let (_, rest) = upper_steps(nodes, dividend, divisor)?;
     let last = brought_down(&rest, dividend[0]);
@@ -103,7 +146,7 @@ fn upper_steps(
     ensures quotient { IfOk result (λ r. HasNumber nodes.new r.0 (λ free. long_quotient 31 (high_number free nodes.old dividend.now 1) (number_of free nodes.old divisor.now))) }
     ensures rest { IfOk result (λ r. HasNumber nodes.new r.1 (λ free. high_number free nodes.old dividend.now 1 % number_of free nodes.old divisor.now)) }
     ensures extends { Extends nodes.old nodes.new }
-    ensures count { gates_in nodes.new ≤ gates_in nodes.old + 161 * 31 }
+    ensures count { gates_in nodes.new ≤ gates_in nodes.old + 162 * 31 }
 {
     let known = known_width(divisor);
     let zero = [Nodes::constant(false); 32];
@@ -119,7 +162,8 @@ fn upper_steps(
 }
 
 /// Whether the divisor fits into what is left, of this width, and what is left then. Where the width of the
-/// divisor is known, no more places can be left.
+/// divisor is known, no more places can be left, and only these are subtracted: there is one more at most, and the
+/// divisor fits where it is true.
 fn step(
     nodes: &mut Nodes,
     rest: &Word,
@@ -140,20 +184,20 @@ fn step(
         then number_of free nodes.old rest.now - number_of free nodes.old divisor.now
         else number_of free nodes.old rest.now)) }
     ensures extends { Extends nodes.old nodes.new }
-    ensures count { gates_in nodes.new ≤ gates_in nodes.old + 161 }
+    ensures count { gates_in nodes.new ≤ gates_in nodes.old + 162 }
 {
     let no = Nodes::constant(false);
-    let complement = flip(&extended(divisor, width, no));
-    let (difference, carry) = add_with_carry(nodes, rest, &complement, Nodes::constant(true))?;
-    let wider = is_wider(nodes, divisor, width)?;
-    let fits = nodes.and(carry, Nodes::not(wider))?;
+    if is_surely_wider(divisor, width) {
+        return Ok((no, *rest));
+    }
     let kept = least(width, known);
-    let left = select(
-        nodes,
-        fits,
-        &extended(&difference, kept, no),
-        &extended(rest, kept, no),
-    )?;
+    let low = extended(rest, kept, no);
+    let complement = flip(&extended(divisor, kept, no));
+    let (difference, carry) = add_with_carry(nodes, &low, &complement, Nodes::constant(true))?;
+    let enough = nodes.or(carry, bit_at(rest, kept))?;
+    let wider = is_wider(nodes, divisor, width)?;
+    let fits = nodes.and(enough, Nodes::not(wider))?;
+    let left = select(nodes, fits, &extended(&difference, kept, no), &low)?;
     Ok((fits, left))
 }
 
@@ -182,6 +226,31 @@ fn least(a: usize, b: usize) -> usize
     ensures one { (result ≡ a) ⊎ (result ≡ b) }
 {
     if a < b { a } else { b }
+}
+
+/// The bit at a place, and false behind the last.
+fn bit_at(word: &Word, place: usize) -> Bit
+    ensures { result ≡ bit_at word.now place }
+{
+    if place < 32 {
+        word[place]
+    } else {
+        Nodes::constant(false)
+    }
+}
+
+/// Whether the word has a constant one at this place or above it.
+fn is_surely_wider(word: &Word, width: usize) -> bool
+    ensures { OnTrue result ((nodes : List Node) (free : ℕ → Bool) →
+        2 ^ width ≤ number_of free nodes word.now) }
+{
+    for i in width..32 {
+        let bit = word[i];
+        if bit.index == 0 && bit.negated {
+            return true;
+        }
+    }
+    false
 }
 
 /// Whether the word has a one at this place or above it.

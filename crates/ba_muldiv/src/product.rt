@@ -8,6 +8,7 @@ ghost use Rattle.ba_nodes.specs.Gates.{bool_xor, truth, IsBitOf, gates_in, Exten
 ghost use Rattle.ba_words.specs.Words.{digit, spelled, number_of, bit_at, AreBitsOf, HasNumber, IsValueOf};
 ghost use Rattle.ba_muldiv.specs.Division.{negated_where, long_quotient, quotient_of, remainder_of, IsValueWhereDefined, high_number, sum_or_difference};
 
+use crate::constants::{constant_of, constant_word, known_bits};
 use ba_nodes::{Bit, Nodes};
 use ba_words::{Word, add, moved_up, select, sub};
 use std::alloc::AllocError;
@@ -95,28 +96,14 @@ fn row(
     }
 }
 
-/// How many bits of the word are constants.
-fn known_bits(word: &Word) -> u32
-    ensures { result ≤ 32 }
-{
-    let mut known = 0;
-    for i in 0..32 {
-        if word[i].index == 0 {
-            known += 1;
-        }
-    }
-    known
-}
-
 /// The digits to take away, so that few are left: a constant c is c + c / 2 less c / 2, and where both have the
 /// same digit no word is summed (G. W. Reitwiesner, "Binary arithmetic"). None are taken from a factor that is not
 /// a constant, or whose own bits are as few.
 fn taken_digits(factor: &Word) -> [bool; 32] {
     let mut taken = [false; 32];
-    if known_bits(factor) < 32 {
+    let Some(value) = constant_of(factor) else {
         return taken;
-    }
-    let value = constant_value(factor);
+    };
     let half = value >> 1;
     let signed = value.wrapping_add(half) ^ half;
     if signed.count_ones() < value.count_ones() {
@@ -125,28 +112,4 @@ fn taken_digits(factor: &Word) -> [bool; 32] {
         }
     }
     taken
-}
-
-/// The number of a word of constants.
-fn constant_value(word: &Word) -> u32 {
-    let mut value = 0u32;
-    for i in 0..32 {
-        if word[i].negated {
-            value |= 1 << i;
-        }
-    }
-    value
-}
-
-/// The word of these digits.
-fn constant_word(digits: &[bool; 32]) -> Word
-    ensures bits { (nodes : List Node) → AreBitsOf nodes result }
-    ensures number { (nodes : List Node) (free : ℕ → Bool) → number_of free nodes result ≡ spelled digits.now }
-    ensures long { length result ≡ 32 }
-{
-    let mut word = [Nodes::constant(false); 32];
-    for i in 0..32 {
-        word[i] = Nodes::constant(digits[i]);
-    }
-    word
 }

@@ -7,39 +7,44 @@ use std::alloc::{AllocError, Global};
 use std::test::Fail;
 
 /// The second operands that are counted, where nothing stands for a free word.
-static SECOND: [Option<u32>; 7] = [
+static SECOND: [Option<u32>; 9] = [
     None,
     Some(0),
     Some(1),
     Some(2),
     Some(5),
     Some(255),
+    Some(256),
+    Some(4294967288),
     Some(4294967295),
 ];
 
 /// Each circuit with its gates on a free word and each second operand.
-static COUNTS: [(Operator, [u64; 7]); 18] = [
-    (Operator::Add, [94, 0, 61, 59, 61, 61, 61]),
-    (Operator::Sub, [94, 0, 61, 59, 61, 61, 61]),
-    (Operator::Less(true), [32, 0, 31, 30, 31, 31, 31]),
-    (Operator::Less(false), [32, 0, 31, 30, 31, 31, 31]),
-    (Operator::Equal, [63, 31, 31, 31, 31, 31, 31]),
-    (Operator::And, [32, 0, 0, 0, 0, 0, 0]),
-    (Operator::Or, [32, 0, 0, 0, 0, 0, 0]),
-    (Operator::Xor, [32, 0, 0, 0, 0, 0, 0]),
-    (Operator::Shl, [160, 0, 0, 0, 0, 0, 0]),
-    (Operator::Shr(true), [155, 0, 0, 0, 0, 0, 0]),
-    (Operator::Shr(false), [160, 0, 0, 0, 0, 0, 0]),
-    (Operator::Mul, [1954, 0, 0, 0, 88, 85, 61]),
-    (Operator::Div(true), [2323, 92, 184, 183, 444, 789, 184]),
-    (Operator::Div(false), [2046, 0, 0, 0, 264, 624, 961]),
-    (Operator::Rem(true), [2417, 184, 92, 93, 369, 754, 92]),
-    (Operator::Rem(false), [2141, 0, 0, 0, 270, 640, 1024]),
+static COUNTS: [(Operator, [u64; 9]); 18] = [
+    (Operator::Add, [94, 0, 61, 59, 61, 61, 45, 55, 61]),
+    (Operator::Sub, [94, 0, 61, 59, 61, 61, 45, 55, 61]),
+    (Operator::Less(true), [32, 0, 31, 30, 31, 31, 23, 28, 31]),
+    (Operator::Less(false), [32, 0, 31, 30, 31, 31, 23, 28, 31]),
+    (Operator::Equal, [63, 31, 31, 31, 31, 31, 31, 31, 31]),
+    (Operator::And, [32, 0, 0, 0, 0, 0, 0, 0, 0]),
+    (Operator::Or, [32, 0, 0, 0, 0, 0, 0, 0, 0]),
+    (Operator::Xor, [32, 0, 0, 0, 0, 0, 0, 0, 0]),
+    (Operator::Shl, [160, 0, 0, 0, 0, 0, 0, 0, 0]),
+    (Operator::Shr(true), [155, 0, 0, 0, 0, 0, 0, 0, 0]),
+    (Operator::Shr(false), [160, 0, 0, 0, 0, 0, 0, 0, 0]),
+    (Operator::Mul, [1954, 0, 0, 0, 88, 85, 0, 55, 61]),
+    (Operator::Div(true), [2233, 62, 0, 64, 355, 670, 57, 62, 63]),
+    (Operator::Div(false), [2046, 0, 0, 0, 234, 559, 0, 28, 31]),
+    (Operator::Rem(true), [2327, 123, 0, 1, 306, 651, 8, 3, 0]),
+    (Operator::Rem(false), [2141, 0, 0, 0, 239, 574, 0, 85, 94]),
     (
         Operator::DivAndRem(true),
-        [2510, 184, 184, 184, 457, 827, 184],
+        [2390, 123, 0, 64, 365, 700, 57, 62, 63],
     ),
-    (Operator::DivAndRem(false), [2141, 0, 0, 0, 270, 640, 1024]),
+    (
+        Operator::DivAndRem(false),
+        [2141, 0, 0, 0, 239, 574, 0, 85, 94],
+    ),
 ];
 
 /// How many gates a circuit of a free word and the second operand takes.
@@ -60,7 +65,7 @@ fn added(nodes: &mut Nodes, operator: Operator, second: Option<u32>) -> Result<u
 }
 
 /// Whether a circuit takes these gates.
-fn takes(alloc: Global, operator: Operator, counts: &[u64; 7]) -> Result<bool, AllocError> {
+fn takes(alloc: Global, operator: Operator, counts: &[u64; 9]) -> Result<bool, AllocError> {
     for (second, expected) in SECOND.iter().zip(counts) {
         if gates(alloc, operator, *second)? != *expected {
             return Ok(false);

@@ -12,6 +12,8 @@ mod gates;
 #[cfg(test)]
 mod operators;
 #[cfg(test)]
+mod powers;
+#[cfg(test)]
 mod support;
 #[cfg(test)]
 mod words;

@@ -1,49 +1,40 @@
-use Rattle.std.proofs.Common.{◌≡◌, ◌%◌, ap, ◌∙◌}
-use Rattle.ba_nodes.specs.Gates.{Extends}
-use Rattle.ba_nodes.proofs.Truths.{Extends-through}
-use Rattle.ba_words.specs.Words.{number_of}
+use Rattle.std.proofs.Common.{◌≡◌, Bool, List, length, Result, IfOk, ap, ◌∙◌, rules}
+use Rattle.std.specs.declared.alloc.AllocError.{AllocError}
+use Rattle.ba_nodes.specs.declared.Bit.{Bit}
+use Rattle.ba_nodes.specs.declared.Node.{Node}
+use Rattle.ba_numbers.specs.declared.numbers.BinOp.TheVariants.{Rem}
+use Rattle.ba_words.specs.Words.{number_of, HasNumber}
 use Rattle.ba_words.proofs.Outcomes.{on_ok}
-use Rattle.ba_words.proofs.Places.{number_of-extends}
 use Rattle.ba_words.proofs.Circuits.{number_small}
 use Rattle.ba_words.proofs.Values.{read}
-use Rattle.ba_muldiv.specs.Division.{negated_where, magnitude}
-use Rattle.ba_muldiv.proofs.Rows.{sign_value, sign_bit}
+use Rattle.ba_muldiv.specs.Division.{remainder_of, IsValueWhereDefined}
 use Rattle.ba_muldiv.proofs.Values.{rem_value}
 use Rattle.ba_muldiv.proofs.division.rem.Goals as goal
 
-pub returns-clause-number : goal.returns-clause-number
-returns-clause-number c =
-    on_ok c.negated_where-3.result _ _
-    (λ word has. record {
-      long = has.long;
-      are_bits = has.are_bits;
-      holds = λ free.
-          let a_bit = sign_bit c.args.nodes.now c.args.a.now c.sign_of-sign.result c.args.signed c.sign_of-sign.ensures.bit c.requires.first in
-          let b_bit = sign_bit c.args.nodes.now c.args.b.now c.sign_of-other_sign.result c.args.signed c.sign_of-other_sign.ensures.bit c.requires.second in
-          let a_sign = c.sign_of-sign.ensures.value c.args.nodes.now free ∙ sign_value free c.args.nodes.now c.args.a.now c.args.signed c.told-a in
-          let b_sign = c.sign_of-other_sign.ensures.value c.args.nodes.now free ∙ sign_value free c.args.nodes.now c.args.b.now c.args.signed c.told-b in
-          let dividend : number_of free c.negated_where-2.new.nodes c.in_ok-dividend.dividend ≡ magnitude c.args.signed (number_of free c.args.nodes.now c.args.a.now) =
-          number_of-extends free c.negated_where.new.nodes c.negated_where-2.new.nodes c.in_ok-dividend.dividend c.negated_where-2.ensures.extends c.in_ok-dividend.ensures.number.are_bits
-          ∙ c.in_ok-dividend.ensures.number.holds free
-          ∙ ap (λ t. negated_where t (number_of free c.args.nodes.now c.args.a.now)) a_sign in
-          let divisor : number_of free c.negated_where-2.new.nodes c.in_ok-divisor.divisor ≡ magnitude c.args.signed (number_of free c.args.nodes.now c.args.b.now) =
-          c.in_ok-divisor.ensures.number.holds free
-          ∙ (λ i. negated_where ((c.negated_where.ensures.extends.keeps free c.sign_of-other_sign.result b_bit ∙ b_sign) i)
-          (number_of-extends free c.args.nodes.now c.negated_where.new.nodes c.args.b.now c.negated_where.ensures.extends c.requires.second i)) in
-          let lower : Extends c.args.nodes.now c.negated_where-2.new.nodes =
-          Extends-through c.args.nodes.now c.negated_where.new.nodes c.negated_where-2.new.nodes c.negated_where.ensures.extends c.negated_where-2.ensures.extends in
-          let all : Extends c.args.nodes.now c.long_remainder.new.nodes =
-          Extends-through c.args.nodes.now c.negated_where-2.new.nodes c.long_remainder.new.nodes lower c.long_remainder.ensures.extends in
-          let rest = c.in_ok-rest.ensures.number.holds free ∙ (λ i. dividend i % divisor i) in
-          has.holds free ∙ (λ i. negated_where ((all.keeps free c.sign_of-sign.result a_bit ∙ a_sign) i) (rest i));
-    })
-    c.negated_where-3.ensures.number
-
-pub returns-clause-value : goal.returns-clause-value
-returns-clause-value c =
-    on_ok c.negated_where-3.result _ _
+-- a word with the number of the remainder has its value
+valued : (signed : Bool) (old new : List Node) (a b : List Bit) (result : Result (List Bit) AllocError) →
+    length a ≡ 32 → length b ≡ 32
+    → IfOk result (λ word. HasNumber new word (λ free. remainder_of signed (number_of free old a)
+    (number_of free old b)))
+    → IfOk result (λ word. IsValueWhereDefined Rem signed old a b new word)
+valued signed old new a b result a_long b_long =
+    on_ok result _ _
     (λ word has free value found.
-    ap (read c.args.signed) (has.holds free)
-    ∙ rem_value c.args.signed (number_of free c.args.nodes.now c.args.a.now) (number_of free c.args.nodes.now c.args.b.now)
-    (number_small free c.args.nodes.now c.args.a.now c.told-a) (number_small free c.args.nodes.now c.args.b.now c.told-b) value found)
-    (returns-clause-number c)
+    ap (read signed) (has.holds free)
+    ∙ rem_value signed (number_of free old a) (number_of free old b) (number_small free old a a_long)
+    (number_small free old b b_long) value found)
+
+pub returns-in-Some-clause-number : goal.returns-in-Some-clause-number
+returns-in-Some-clause-number c = search rules
+
+pub returns-in-Some-clause-value : goal.returns-in-Some-clause-value
+returns-in-Some-clause-value c =
+    valued c.args.signed c.args.nodes.now c.remainder_by_power.new.nodes c.args.a.now c.args.b.now
+    c.remainder_by_power.result c.told-a c.told-b
+    (returns-in-Some-clause-number c)
+
+pub returns-in-None-clause-value : goal.returns-in-None-clause-value
+returns-in-None-clause-value c =
+    valued c.args.signed c.args.nodes.now c.remainder_by_magnitudes.new.nodes c.args.a.now c.args.b.now
+    c.remainder_by_magnitudes.result c.told-a c.told-b
+    c.remainder_by_magnitudes.ensures.number

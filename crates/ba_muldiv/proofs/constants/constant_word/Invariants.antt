@@ -2,7 +2,7 @@ use Rattle.std.proofs.Common.{◌≡◌, ℕ, ◌<◌, length, get_or, false, Li
 use Rattle.ba_nodes.specs.declared.Node.{Node}
 use Rattle.ba_nodes.specs.Gates.{constant_bit}
 use Rattle.ba_words.specs.Words.{bit_at, AreBitsOf}
-use Rattle.ba_muldiv.proofs.product.constant_word.Given as goal
+use Rattle.ba_muldiv.proofs.constants.constant_word.Given as goal
 
 abbrev pub invariant-loop-i : goal.invariant-loop-i
 invariant-loop-i l = record {

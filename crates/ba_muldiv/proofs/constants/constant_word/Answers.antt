@@ -1,7 +1,7 @@
 use Rattle.std.proofs.Common.{refl, sym, ◌∙◌, arith}
 use Rattle.ba_words.proofs.Carries.{are_bits-replicate}
 use Rattle.ba_muldiv.proofs.Rows.{constants-number}
-use Rattle.ba_muldiv.proofs.product.constant_word.Goals as goal
+use Rattle.ba_muldiv.proofs.constants.constant_word.Goals as goal
 
 pub loop-i-init : goal.loop-i-init
 loop-i-init c = record {
