@@ -4,7 +4,9 @@ mod ChoiceArms
 mod ExpressionArms
 mod Falling
 mod Filling
+mod InputSteps
 mod Paths
+mod PieceCounts
 mod Restoring
 mod Rounds
 mod RunArms

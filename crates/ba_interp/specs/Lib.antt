@@ -5,3 +5,4 @@ pub mod Settings
 pub mod Loops
 pub mod Heights
 pub mod Parts
+pub mod Inputs

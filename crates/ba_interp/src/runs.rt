@@ -31,7 +31,8 @@ fn main_result(program: &Program) -> Option<CType>
     }
 }
 
-fn main_params(program: &Program) -> &[VarId]
+/// The parameters of `main`.
+pub fn main_params(program: &Program) -> &[VarId]
     ensures { result.now ≡ (main_of program.now).params }
 {
     match function_of(program, program.main) {

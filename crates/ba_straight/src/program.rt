@@ -10,7 +10,7 @@ use ba_items::Items;
 use ba_numbers::ids::FnId;
 use ba_numbers::numbers::{BinOp, CType};
 use ba_tree::run::Weights;
-use ba_tree::tree::{Expr, Function, Program, Shape, Stmt, StmtKind, Variable};
+use ba_tree::tree::{Expr, Function, Parts, Program, Shape, Stmt, StmtKind, Variable};
 use std::alloc::{AllocError, Global};
 
 fn operand_of(operand: Operand) -> Expr
@@ -78,7 +78,8 @@ fn variables(alloc: Global, count: usize) -> Result<Items<Variable>, AllocError>
 
 /// The typed tree of a straight-line program.
 ///
-/// The one error is want of memory.
+/// The one error is want of memory. That the parts make a program is tested and not proved: where they made none, the answer would be
+/// this error.
 pub fn program_of(alloc: Global, straight: &Straight) -> Result<Program, AllocError>
     requires { length straight.now.params + length straight.now.locals < 2 ^ 32 }
     ensures { IfOk result (IsTree straight.now) }
@@ -91,14 +92,18 @@ pub fn program_of(alloc: Global, straight: &Straight) -> Result<Program, AllocEr
     };
     let mut functions = Items::new(alloc);
     functions.push(main)?;
-    Ok(Program {
+    let parts = Parts {
         variables: variables(alloc, straight.params.len() + straight.locals.len())?,
         globals: Items::new(alloc),
         inits: Items::new(alloc),
         functions,
         main: FnId(0),
         statements: Items::from_slice(alloc, straight.statements.as_slice())?,
-    })
+    };
+    match ba_facts::program_of(alloc, parts) {
+        Ok(program) => Ok(program),
+        Err(_) => Err(AllocError),
+    }
 }
 
 fn unit_weight(kind: StmtKind) -> Option<u32>

@@ -3,6 +3,9 @@ pub mod State
 pub mod Choices
 pub mod Meaning
 pub mod Run
+pub mod Inputs
+pub mod Facts
+pub mod Kept
 pub mod Units
 pub mod Weights
 pub mod Least

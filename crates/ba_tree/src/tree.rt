@@ -1,5 +1,8 @@
 //! The typed tree of a C program.
 
+ghost use Rattle.std.specs.Prelude.{IsTrue};
+ghost use Rattle.ba_tree.specs.Facts.{is_program};
+
 use ba_items::Items;
 use ba_numbers::ids::{At, CallId, FnId, StmtId, VarId};
 use ba_numbers::numbers::{BinOp, CType, UnOp};
@@ -223,9 +226,21 @@ pub struct StmtInfo {
     pub kind: StmtKind,
 }
 
-/// A program. `VarId` v names `variables[v]`, `FnId` f names `functions[f]`, and `StmtId` n names `statements[n - 1]`. `inits`
-/// holds the initialisers of the globals, in the order of the text, as `globals` are. Calls are counted from 1. `main` is the function
-/// that a run executes.
+/// The parts of a program, which may fit together or not. `VarId` v names `variables[v]`, `FnId` f names `functions[f]`, and `StmtId` n
+/// names `statements[n - 1]`. `inits` holds the initialisers of the globals, in the order of the text, as `globals` are. Calls are
+/// counted from 1. `main` is the function that a run executes.
+#[derive(Drop)]
+pub struct Parts {
+    pub variables: Items<Variable>,
+    pub globals: Items<VarId>,
+    pub inits: Items<Stmt>,
+    pub functions: Items<Function>,
+    pub main: FnId,
+    pub statements: Items<StmtInfo>,
+}
+
+/// A program: parts that fit together. Its numbers name what is there, its expressions have types that fit, its `break`s and
+/// `continue`s stand in loops, and it is within the limits on its size.
 #[derive(Drop)]
 pub struct Program {
     pub variables: Items<Variable>,
@@ -234,4 +249,12 @@ pub struct Program {
     pub functions: Items<Function>,
     pub main: FnId,
     pub statements: Items<StmtInfo>,
+    pub ghost fit: { IsTrue (is_program (record {
+      variables = variables;
+      globals = globals;
+      inits = inits;
+      functions = functions;
+      main = main;
+      statements = statements;
+    })) },
 }

@@ -1,6 +1,10 @@
-//! Tests of the interpreter by examples: whole programs as trees, with the outcomes that were worked out by hand.
+//! Tests of the interpreter by examples: whole programs as trees, with the outcomes that were worked out by hand, and texts of inputs.
 #![tactic(auto)]
 
 #[cfg(test)]
 mod examples;
+#[cfg(test)]
+mod facts;
+#[cfg(test)]
+mod inputs;
 pub mod reader;

@@ -3,18 +3,31 @@
 use ba_bytes::decimal::decimal;
 use ba_bytes::pieces::Pieces;
 use ba_choices::{Choice, Values};
+use ba_facts::{ProgramError, program_of};
 use ba_items::Items;
 use ba_numbers::ids::{At, CallId, FnId, StmtId, VarId};
 use ba_numbers::numbers::{BinOp, CType, UnOp};
 use ba_tree::run::{Allowed, Input, Place, Step};
-use ba_tree::tree::{Arg, Expr, Function, Program, Shape, Stmt, StmtInfo, StmtKind, Variable};
+use ba_tree::tree::{
+    Arg, Expr, Function, Parts, Program, Shape, Stmt, StmtInfo, StmtKind, Variable,
+};
 use std::alloc::{AllocError, AllocFailed, Global};
 
-/// Why no program could be read: a word that is none of its form, or want of memory.
+/// Why no program could be read: a word that is none of its form, parts that make no program, or want of memory.
 #[derive(Clone, Copy, Debug, PartialEq, Eq)]
 pub enum Fault {
     Word,
+    Unfit,
     Memory,
+}
+
+impl From<ProgramError> for Fault {
+    fn from(error: ProgramError) -> Fault {
+        match error {
+            ProgramError::Unfit => Fault::Unfit,
+            ProgramError::Memory => Fault::Memory,
+        }
+    }
 }
 
 impl From<AllocError> for Fault {
@@ -98,6 +111,12 @@ impl<'a> Reader<'a> {
         Ok(Expr::Binary { op, t, a, b })
     }
 
+    #[cycle(expressions)]
+    fn converted(&mut self, deep: u32, t: CType) -> Result<Expr, Fault> {
+        let a = self.boxed(deep)?;
+        Ok(Expr::Convert { t, a })
+    }
+
     /// A number, `v` and a variable, or an operator in prefix form.
     #[cycle(expressions)]
     fn expr(&mut self, deep: u32) -> Result<Expr, Fault> {
@@ -121,6 +140,7 @@ impl<'a> Reader<'a> {
             b"<" => self.binary(deep, BinOp::Lt, CType::I32),
             b">=" => self.binary(deep, BinOp::Ge, CType::I32),
             b"u<" => self.binary(deep, BinOp::Lt, CType::U32),
+            b"u==" => self.binary(deep, BinOp::Eq, CType::U32),
             b"u+" => self.binary(deep, BinOp::Add, CType::U32),
             b"neg" => {
                 let a = self.boxed(deep)?;
@@ -151,10 +171,9 @@ impl<'a> Reader<'a> {
                     no,
                 })
             }
-            b"u" => {
-                let a = self.boxed(deep)?;
-                Ok(Expr::Convert { t: CType::U32, a })
-            }
+            b"u" => self.converted(deep, CType::U32),
+            b"i" => self.converted(deep, CType::I32),
+            b"s" => self.converted(deep, CType::I16),
             b"call" => {
                 let call = CallId(self.id()?);
                 let function = FnId(self.id()?);
@@ -384,13 +403,10 @@ impl<'a> Reader<'a> {
     fn statements(&mut self) -> Result<Items<StmtInfo>, Fault> {
         let mut statements = Items::new(self.alloc);
         for _ in 0..self.id()? {
-            let kind = match self.word()? {
-                b"!" => StmtKind::Assert,
-                _ => StmtKind::Assignment,
-            };
+            let word = self.word()?;
             statements.push(StmtInfo {
                 at: At { line: 1, column: 1 },
-                kind,
+                kind: kind(word)?,
             })?;
         }
         Ok(statements)
@@ -404,14 +420,15 @@ impl<'a> Reader<'a> {
         let count = self.id()?;
         let functions = self.functions(count)?;
         let statements = self.statements()?;
-        Ok(Program {
+        let parts = Parts {
             variables,
             globals,
             inits,
             functions,
             main: FnId(count.saturating_sub(1)),
             statements,
-        })
+        };
+        Ok(program_of(self.alloc, parts)?)
     }
 
     /// Numbers up to `;`.
@@ -502,6 +519,19 @@ impl<'a> Reader<'a> {
     }
 }
 
+fn kind(word: &[u8]) -> Result<StmtKind, Fault> {
+    match word {
+        b"i" => Ok(StmtKind::Initialiser),
+        b"=" => Ok(StmtKind::Assignment),
+        b"[" => Ok(StmtKind::Store),
+        b"?" => Ok(StmtKind::Condition),
+        b"r" => Ok(StmtKind::Return),
+        b"c" => Ok(StmtKind::Call),
+        b"!" => Ok(StmtKind::Assert),
+        _ => Err(Fault::Word),
+    }
+}
+
 fn variable(word: &[u8]) -> Result<Variable, Fault> {
     match word {
         b"i" => Ok(Variable {
@@ -510,6 +540,10 @@ fn variable(word: &[u8]) -> Result<Variable, Fault> {
         }),
         b"u" => Ok(Variable {
             t: CType::U32,
+            shape: Shape::Value,
+        }),
+        b"c" => Ok(Variable {
+            t: CType::I8,
             shape: Shape::Value,
         }),
         b"s" => Ok(Variable {

@@ -16,7 +16,7 @@ const LOOPS: &str = "5 13 i i i i  0  0  1  0  5 0 1 2 3 4  7 decl 0 decl 1 decl
     for 11 1 = 10 4 0 < v 4 13 1 = 12 4 + v 4 1
     []= 13 0 v 4 + e 0 v 4 v 1
     assert 14 == e 0 12 8257536
-    14 - - - - - - - - - - - - - !";
+    14 = ? = = ? = = ? = = ? = [ !";
 
 fn outcome(alloc: Global) -> Result<Outcome, Fault> {
     let program = Reader::new(alloc, LOOPS.as_bytes()).program()?;

@@ -1,0 +1,5 @@
+mod Arguments
+mod Capped
+mod Distinct
+mod Told
+mod Wholes

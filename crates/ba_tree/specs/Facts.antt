@@ -1,0 +1,427 @@
+-- What each program keeps: the constraints of C (C90 6.1.2, 6.3, 6.5 to 6.7) and the limits that have been tested.
+
+use Rattle.std.specs.Prelude.{ℕ, ◌+◌, ◌-◌, nat_le, nat_lt, Bool, true, false, not, ◌&&◌, ◌==◌, cond, max, Option, None, Some, option_map, option_and_then, unwrap_or, suc, List, [], ◌∷◌, ◌++◌, map, flat_map, length, slice_get, slice_index_or, sum_by}
+use Rattle.std.specs.Global.{Box}
+use Rattle.std.specs.List.{list_all, list_any}
+use Rattle.std.specs.Option.{is_some}
+use Rattle.ba_numbers.specs.Numbers.{is_in, compares}
+use Rattle.ba_numbers.specs.declared.ids.CallId.{CallId}
+use Rattle.ba_numbers.specs.declared.ids.FnId.{FnId}
+use Rattle.ba_numbers.specs.declared.ids.StmtId.{StmtId}
+use Rattle.ba_numbers.specs.declared.ids.VarId.{VarId}
+use Rattle.ba_numbers.specs.declared.numbers.BinOp.{BinOp}
+use Rattle.ba_numbers.specs.declared.numbers.BinOp.TheVariants.{Shl, Shr}
+use Rattle.ba_numbers.specs.declared.numbers.CType.{CType}
+use Rattle.ba_numbers.specs.declared.numbers.CType.TheVariants.{I8, U8, I16, U16, I32, U32}
+use Rattle.ba_numbers.specs.declared.numbers.UnOp.{UnOp}
+use Rattle.ba_numbers.specs.declared.numbers.UnOp.TheVariants.{IsZero}
+use Rattle.ba_tree.specs.declared.tree.Arg.TheOpen.{Arg-F, Expr-F}
+use Rattle.ba_tree.specs.declared.tree.Arg.TheFolds.{fold-Arg, fold-Expr}
+use Rattle.ba_tree.specs.declared.tree.Arg.{Arg}
+use Rattle.ba_tree.specs.declared.tree.Expr.{Expr}
+use Rattle.ba_tree.specs.declared.tree.Function.{Function}
+use Rattle.ba_tree.specs.declared.tree.Parts.{Parts}
+use Rattle.ba_tree.specs.declared.tree.Shape.{Shape}
+use Rattle.ba_tree.specs.declared.tree.Shape.TheVariants.{Value, Array, Passed}
+use Rattle.ba_tree.specs.declared.tree.Stmt.{Stmt}
+use Rattle.ba_tree.specs.declared.tree.Stmt.TheOpen.{Stmt-F}
+use Rattle.ba_tree.specs.declared.tree.Stmt.TheFolds.{fold-Stmt}
+use Rattle.ba_tree.specs.declared.tree.StmtInfo.{StmtInfo}
+use Rattle.ba_tree.specs.declared.tree.StmtKind.{StmtKind}
+use Rattle.ba_tree.specs.declared.tree.StmtKind.TheVariants as kind
+use Rattle.ba_tree.specs.declared.tree.Variable.{Variable}
+
+-- LISTS
+
+abbrev pub are_distinct : List ℕ → Bool
+are_distinct [] = true
+are_distinct (n ∷ ns) = not (list_any (λ m. m == n) ns) && are_distinct ns
+
+-- each of the `count` numbers from `first` on stands exactly once, and no other: they differ, lie there, and are as many
+abbrev pub has_each_once : ℕ → ℕ → List ℕ → Bool
+has_each_once first count ns =
+    are_distinct ns && list_all (λ n. nat_le first n && nat_lt n (first + count)) ns && (length ns == count)
+
+abbrev pub greatest : List ℕ → ℕ
+greatest [] = 0
+greatest (n ∷ ns) = max n (greatest ns)
+
+-- a test of what may be there: where nothing is, it fails
+abbrev pub holds : {A : Type 0} → (A → Bool) → Option A → Bool
+holds test None = false
+holds test (Some a) = test a
+
+abbrev pub has_variable : List VarId → VarId → Bool
+has_variable vs v = list_any (λ (w : VarId). w.0 == v.0) vs
+
+-- TYPES
+
+abbrev pub same_type : CType → CType → Bool
+same_type I8 I8 = true
+same_type U8 U8 = true
+same_type I16 I16 = true
+same_type U16 U16 = true
+same_type I32 I32 = true
+same_type U32 U32 = true
+same_type _ _ = false
+
+-- the types that the integral promotions give (C90 6.2.1.1)
+abbrev pub is_promoted : CType → Bool
+is_promoted I32 = true
+is_promoted U32 = true
+is_promoted _ = false
+
+abbrev pub shifts : BinOp → Bool
+shifts Shl = true
+shifts Shr = true
+shifts _ = false
+
+-- a binary operator that works in the type t: the type of its right operand is t, or of a shift's count a promoted one
+abbrev pub fits_right : BinOp → CType → CType → Bool
+fits_right op t right = cond (shifts op) (is_promoted right) (same_type right t)
+
+abbrev pub type_of_binary : BinOp → CType → CType
+type_of_binary op t = cond (compares op) I32 t
+
+abbrev pub type_of_unary : UnOp → CType → CType
+type_of_unary IsZero t = I32
+type_of_unary _ t = t
+
+abbrev pub same_kind : StmtKind → StmtKind → Bool
+same_kind kind.Initialiser kind.Initialiser = true
+same_kind kind.Assignment kind.Assignment = true
+same_kind kind.Store kind.Store = true
+same_kind kind.Condition kind.Condition = true
+same_kind kind.Return kind.Return = true
+same_kind kind.Call kind.Call = true
+same_kind kind.Assert kind.Assert = true
+same_kind _ _ = false
+
+-- VARIABLES
+
+abbrev pub is_value_shape : Shape → Bool
+is_value_shape Value = true
+is_value_shape _ = false
+
+-- the shapes of an array of one's own and of an array parameter
+abbrev pub is_array_shape : Shape → Bool
+is_array_shape Value = false
+is_array_shape _ = true
+
+abbrev pub is_passed_shape : Shape → Bool
+is_passed_shape Passed = true
+is_passed_shape _ = false
+
+-- how many elements a variable has of its own
+abbrev pub own_elements : Shape → ℕ
+own_elements Value = 0
+own_elements (Array n) = n
+own_elements Passed = 0
+
+-- one's own arrays have 1 to 256 elements
+abbrev pub is_own_array : Shape → Bool
+is_own_array (Array n) = true
+is_own_array _ = false
+
+abbrev pub is_array_length : Shape → Bool
+is_array_length (Array n) = nat_le 1 n && nat_le n 256
+is_array_length _ = true
+
+abbrev pub shape_at : Parts → VarId → Option Shape
+shape_at p v = option_map (λ (w : Variable). w.shape) (slice_get p.variables v.0)
+
+abbrev pub type_at : Parts → VarId → CType
+type_at p v = (slice_index_or p.variables v.0 (record { t = I32; shape = Value })).t
+
+-- the variable is there, and of one value
+abbrev pub is_value : Parts → VarId → Bool
+is_value p v = holds is_value_shape (shape_at p v)
+
+-- the variable is there, and an array or an array parameter
+abbrev pub is_array : Parts → VarId → Bool
+is_array p v = holds is_array_shape (shape_at p v)
+
+-- EXPRESSIONS (C90 6.3)
+
+-- What there is to say of an expression: its type; its height, where conversions add nothing; the variables that it names and the
+-- calls in it; and that each part of it meets the constraints.
+pub record ExprFacts : Type 0 where
+  pub t : CType
+  pub height : ℕ
+  pub variables : List VarId
+  pub calls : List CallId
+  pub is_sound : Bool
+
+-- of an argument: the array that it gives, None for a value, and what there is to say of it as an expression
+pub record ArgFacts : Type 0 where
+  pub array : Option VarId
+  pub given : ExprFacts
+
+abbrev pub are_sound : List ExprFacts → Bool
+are_sound = list_all (λ (e : ExprFacts). e.is_sound)
+
+-- an operator over these operands, which has this type, and whose constraint is said beside
+abbrev pub operator_facts : CType → List ExprFacts → Bool → ExprFacts
+operator_facts t operands meets = record {
+  t = t;
+  height = 1 + greatest (map (λ (e : ExprFacts). e.height) operands);
+  variables = flat_map (λ (e : ExprFacts). e.variables) operands;
+  calls = flat_map (λ (e : ExprFacts). e.calls) operands;
+  is_sound = meets && are_sound operands;
+}
+
+abbrev pub with_variable : VarId → ExprFacts → ExprFacts
+with_variable v e = record e { variables = v ∷ e.variables }
+
+abbrev pub with_call : CallId → ExprFacts → ExprFacts
+with_call c e = record e { calls = c ∷ e.calls }
+
+abbrev pub arg_facts_step : Parts → Arg-F ArgFacts ExprFacts → ArgFacts
+arg_facts_step p (Arg-F.Value value) = record { array = None; given = value }
+arg_facts_step p (Arg-F.Array array) = record {
+  array = Some array;
+  given = with_variable array (operator_facts (type_at p array) [] (is_array p array));
+}
+
+-- CALLS (C90 6.3.2.2)
+
+-- a value of the parameter's type, or an array of its element type
+abbrev pub fits_parameter : Parts → VarId → ArgFacts → Bool
+fits_parameter p v arg = same_type arg.given.t (type_at p v)
+    && holds (cond (is_some arg.array) is_passed_shape is_value_shape) (shape_at p v)
+
+abbrev pub fits_parameters : Parts → List VarId → List ArgFacts → Bool
+fits_parameters p [] [] = true
+fits_parameters p [] (arg ∷ args) = false
+fits_parameters p (v ∷ vs) [] = false
+fits_parameters p (v ∷ vs) (arg ∷ args) = fits_parameter p v arg && fits_parameters p vs args
+
+-- a function that is there and not main, with arguments that fit its parameters in number, shape and type
+abbrev pub is_call : Parts → FnId → List ArgFacts → Bool
+is_call p f args = not (f.0 == p.main.0)
+    && holds (λ (g : Function). fits_parameters p g.params args) (slice_get p.functions f.0)
+
+abbrev pub result_at : Parts → FnId → Option CType
+result_at p f = option_and_then (λ (g : Function). g.result) (slice_get p.functions f.0)
+
+abbrev pub givens : List ArgFacts → List ExprFacts
+givens = map (λ (arg : ArgFacts). arg.given)
+
+abbrev pub expr_facts_step : Parts → Expr-F ArgFacts ExprFacts → ExprFacts
+expr_facts_step p (Expr-F.Const t value) = operator_facts t [] (is_in t value)
+expr_facts_step p (Expr-F.Var var) = with_variable var (operator_facts (type_at p var) [] (is_value p var))
+expr_facts_step p (Expr-F.Element array index) = with_variable array
+    (operator_facts (type_at p array) (index.value ∷ []) (is_array p array && is_promoted index.value.t))
+expr_facts_step p (Expr-F.Unary op t a) =
+    operator_facts (type_of_unary op t) (a.value ∷ []) (is_promoted t && same_type a.value.t t)
+expr_facts_step p (Expr-F.Binary op t a b) = operator_facts (type_of_binary op t) (a.value ∷ b.value ∷ [])
+    (is_promoted t && same_type a.value.t t && fits_right op t b.value.t)
+expr_facts_step p (Expr-F.AndAlso a b) = operator_facts I32 (a.value ∷ b.value ∷ []) true
+expr_facts_step p (Expr-F.OrElse a b) = operator_facts I32 (a.value ∷ b.value ∷ []) true
+expr_facts_step p (Expr-F.Select t when a b) = operator_facts t (when.value ∷ a.value ∷ b.value ∷ [])
+    (is_promoted t && same_type a.value.t t && same_type b.value.t t)
+expr_facts_step p (Expr-F.Convert t a) = record a.value { t = t }
+expr_facts_step p (Expr-F.Call call function args) = with_call call
+    (operator_facts (unwrap_or (result_at p function) I32) (givens args.items)
+    (is_call p function args.items && is_some (result_at p function)))
+
+unfoldable pub expr_facts : Parts → Expr → ExprFacts
+expr_facts p = fold-Expr ArgFacts ExprFacts (arg_facts_step p) (expr_facts_step p)
+
+unfoldable pub arg_facts : Parts → Arg → ArgFacts
+arg_facts p = fold-Arg ArgFacts ExprFacts (arg_facts_step p) (expr_facts_step p)
+
+-- STATEMENTS (C90 6.6)
+
+-- What there is to say of a statement: how deep statements nest in it; the numbers in it, with the kind of each statement; the
+-- variables that it names and the calls in it; the variable that it initialises, where it is an initialiser; that it may stand in the
+-- head of a `for`; that a `break` or `continue` in it belongs to a loop around it; and that each part of it meets the constraints.
+pub record StmtFacts : Type 0 where
+  pub depth : ℕ
+  pub numbers : List (StmtId × StmtKind)
+  pub variables : List VarId
+  pub calls : List CallId
+  pub initialises : Option VarId
+  pub is_simple : Bool
+  pub leaves_loop : Bool
+  pub is_sound : Bool
+
+-- an expression that is no part of another: within the limit on heights
+abbrev pub is_whole : ExprFacts → Bool
+is_whole e = e.is_sound && nat_le e.height 100
+
+-- a value that a target of this type is given
+abbrev pub fits_type : CType → ExprFacts → Bool
+fits_type t e = same_type e.t t
+
+-- a statement of these expressions, which holds no other statement; its constraint is said beside
+abbrev pub leaf_facts : List (StmtId × StmtKind) → List ExprFacts → Bool → StmtFacts
+leaf_facts numbers es meets = record {
+  depth = 1;
+  numbers = numbers;
+  variables = flat_map (λ (e : ExprFacts). e.variables) es;
+  calls = flat_map (λ (e : ExprFacts). e.calls) es;
+  initialises = None;
+  is_simple = false;
+  leaves_loop = false;
+  is_sound = meets && list_all is_whole es;
+}
+
+-- a statement that holds these others behind its own parts
+abbrev pub around : StmtFacts → List StmtFacts → StmtFacts
+around own parts = record own {
+  depth = 1 + greatest (map (λ (s : StmtFacts). s.depth) parts);
+  numbers = own.numbers ++ flat_map (λ (s : StmtFacts). s.numbers) parts;
+  variables = own.variables ++ flat_map (λ (s : StmtFacts). s.variables) parts;
+  calls = own.calls ++ flat_map (λ (s : StmtFacts). s.calls) parts;
+  leaves_loop = list_any (λ (s : StmtFacts). s.leaves_loop) parts;
+  is_sound = own.is_sound && list_all (λ (s : StmtFacts). s.is_sound) parts;
+}
+
+-- a loop takes each `break` and `continue` of its body
+abbrev pub as_loop : StmtFacts → StmtFacts
+as_loop s = record s { leaves_loop = false }
+
+abbrev pub as_simple : StmtFacts → StmtFacts
+as_simple s = record s { is_simple = true }
+
+-- a statement that gives a variable or an array its values
+abbrev pub naming : VarId → StmtFacts → StmtFacts
+naming v s = as_simple (record s { variables = v ∷ s.variables })
+
+abbrev pub initialising : VarId → StmtFacts → StmtFacts
+initialising v s = record (naming v s) { initialises = Some v }
+
+-- a call as a statement
+abbrev pub calling : CallId → StmtFacts → StmtFacts
+calling c s = as_simple (record s { calls = c ∷ s.calls })
+
+abbrev pub numbered : StmtId → StmtKind → List (StmtId × StmtKind)
+numbered stmt k = (stmt, k) ∷ []
+
+abbrev pub optional_facts : Option (Box StmtFacts) → List StmtFacts
+optional_facts None = []
+optional_facts (Some s) = s.value ∷ []
+
+-- the values are no more than the elements
+abbrev pub fits_array : Parts → VarId → List ExprFacts → Bool
+fits_array p array values = nat_le (length values) (own_elements (unwrap_or (shape_at p array) Value))
+    && list_all (fits_type (type_at p array)) values
+
+-- a `for` may begin and go on with declarations, initialisers, assignments, stores and calls
+abbrev pub are_simple : List StmtFacts → Bool
+are_simple = list_all (λ (s : StmtFacts). s.is_simple)
+
+-- of a statement in this function
+abbrev pub stmt_facts_step : Parts → Function → Stmt-F StmtFacts → StmtFacts
+stmt_facts_step p f (Stmt-F.Block body) = around (leaf_facts [] [] true) body.items
+stmt_facts_step p f (Stmt-F.Declare var) = naming var (leaf_facts [] [] (has_variable f.locals var))
+stmt_facts_step p f (Stmt-F.Init stmt var value) = let e = expr_facts p value in initialising var
+    (leaf_facts (numbered stmt kind.Initialiser) (e ∷ []) (is_value p var && fits_type (type_at p var) e))
+stmt_facts_step p f (Stmt-F.InitArray stmt array values) = let es = map (expr_facts p) values.items in initialising array
+    (leaf_facts (numbered stmt kind.Initialiser) es (holds is_own_array (shape_at p array) && fits_array p array es))
+stmt_facts_step p f (Stmt-F.Assign stmt var value) = let e = expr_facts p value in naming var
+    (leaf_facts (numbered stmt kind.Assignment) (e ∷ []) (is_value p var && fits_type (type_at p var) e))
+stmt_facts_step p f (Stmt-F.Store stmt array index value) = let i = expr_facts p index in let e = expr_facts p value in naming array
+    (leaf_facts (numbered stmt kind.Store) (i ∷ e ∷ [])
+    (is_array p array && is_promoted i.t && fits_type (type_at p array) e))
+stmt_facts_step p f (Stmt-F.If stmt when a b) = around
+    (leaf_facts (numbered stmt kind.Condition) (expr_facts p when ∷ []) true) (a.value ∷ optional_facts b)
+stmt_facts_step p f (Stmt-F.While stmt when body) = as_loop (around
+    (leaf_facts (numbered stmt kind.Condition) (expr_facts p when ∷ []) true) (body.value ∷ []))
+stmt_facts_step p f (Stmt-F.DoWhile stmt when body) = as_loop (around
+    (leaf_facts (numbered stmt kind.Condition) (expr_facts p when ∷ []) true) (body.value ∷ []))
+stmt_facts_step p f (Stmt-F.For stmt first when step body) = as_loop (around
+    (leaf_facts (numbered stmt kind.Condition) (expr_facts p when ∷ []) (are_simple first.items && are_simple step.items))
+    (first.items ++ step.items ++ body.value ∷ []))
+stmt_facts_step p f Stmt-F.Break = record (leaf_facts [] [] true) { leaves_loop = true }
+stmt_facts_step p f Stmt-F.Continue = record (leaf_facts [] [] true) { leaves_loop = true }
+stmt_facts_step p f (Stmt-F.Return stmt value) = let e = expr_facts p value in
+    leaf_facts (numbered stmt kind.Return) (e ∷ []) (holds (λ t. fits_type t e) f.result)
+stmt_facts_step p f Stmt-F.ReturnNone = leaf_facts [] [] true
+stmt_facts_step p f (Stmt-F.CallStmt stmt call function args) = let es = map (arg_facts p) args.items in
+    calling call (leaf_facts (numbered stmt kind.Call) (givens es) (is_call p function es))
+stmt_facts_step p f (Stmt-F.Print stmt args) = leaf_facts (numbered stmt kind.Call) (map (expr_facts p) args.items) true
+stmt_facts_step p f (Stmt-F.Assert stmt when) = leaf_facts (numbered stmt kind.Assert) (expr_facts p when ∷ []) true
+
+unfoldable pub stmt_facts : Parts → Function → Stmt → StmtFacts
+stmt_facts p f = fold-Stmt StmtFacts (stmt_facts_step p f)
+
+-- FUNCTIONS (C90 6.7.1)
+
+-- a function's body, as one block
+abbrev pub body_facts : Parts → Function → StmtFacts
+body_facts p f = around (leaf_facts [] [] true) (map (stmt_facts p f) f.body)
+
+-- main's array parameters are arrays of its own; those of other functions name the arrays that calls give
+abbrev pub is_parameter_shape : Bool → Shape → Bool
+is_parameter_shape is_main Value = true
+is_parameter_shape is_main (Array n) = is_main
+is_parameter_shape is_main Passed = not is_main
+
+abbrev pub is_own_shape : Shape → Bool
+is_own_shape shape = not (is_passed_shape shape)
+
+-- statements nest at most 100 deep in the body, which is one more
+abbrev pub is_function : Parts → Bool → Function → Bool
+is_function p is_main f = nat_le (length f.params) 32
+    && list_all (λ v. holds (is_parameter_shape is_main) (shape_at p v)) f.params
+    && list_all (λ v. holds is_own_shape (shape_at p v)) f.locals
+    && (body_facts p f).is_sound && nat_le (body_facts p f).depth 101 && not (body_facts p f).leaves_loop
+    && list_all (has_variable (p.globals ++ f.params ++ f.locals)) (body_facts p f).variables
+
+-- the functions from this number on
+abbrev pub are_functions : Parts → ℕ → List Function → Bool
+are_functions p k [] = true
+are_functions p k (f ∷ fs) = is_function p (k == p.main.0) f && are_functions p (suc k) fs
+
+-- GLOBALS (C90 6.5.7): an initialiser is constant
+
+abbrev pub no_function : Function
+no_function = record { result = None; params = []; locals = []; body = [] }
+
+abbrev pub init_facts : Parts → List StmtFacts
+init_facts p = map (stmt_facts p no_function) p.inits
+
+abbrev pub is_global_initialiser : Parts → StmtFacts → Bool
+is_global_initialiser p s = s.is_sound && holds (has_variable p.globals) s.initialises
+    && (length s.variables == 1) && (length s.calls == 0)
+
+-- THE WHOLE PROGRAM
+
+abbrev pub is_own_length : Variable → Bool
+is_own_length v = is_array_length v.shape
+
+-- all its statements: those that initialise globals, and the functions' bodies
+abbrev pub all_facts : Parts → List StmtFacts
+all_facts p = init_facts p ++ map (body_facts p) p.functions
+
+abbrev pub all_numbers : Parts → List (StmtId × StmtKind)
+all_numbers p = flat_map (λ (s : StmtFacts). s.numbers) (all_facts p)
+
+abbrev pub all_calls : Parts → List CallId
+all_calls p = flat_map (λ (s : StmtFacts). s.calls) (all_facts p)
+
+-- all variables, as globals, or as parameters and other variables of a function
+abbrev pub all_owned : Parts → List VarId
+all_owned p = p.globals ++ flat_map (λ (f : Function). f.params ++ f.locals) p.functions
+
+-- the statement of this number has this kind
+abbrev pub has_kind : Parts → StmtId × StmtKind → Bool
+has_kind p (stmt, k) = holds (λ (info : StmtInfo). same_kind info.kind k) (slice_get p.statements (stmt.0 - 1))
+
+abbrev pub is_within_limits : Parts → Bool
+is_within_limits p = nat_le (length p.statements) 4000 && nat_le (length p.functions) 100
+    && nat_le (length p.variables) 2000 && nat_le (sum_by (λ (v : Variable). own_elements v.shape) p.variables) 1024
+
+-- The parts make a program.
+unfoldable pub is_program : Parts → Bool
+is_program p = is_within_limits p && nat_lt p.main.0 (length p.functions)
+    && list_all is_own_length p.variables
+    && has_each_once 0 (length p.variables) (map (λ (v : VarId). v.0) (all_owned p))
+    && list_all (λ v. holds is_own_shape (shape_at p v)) p.globals
+    && list_all (is_global_initialiser p) (init_facts p)
+    && are_functions p 0 p.functions
+    && has_each_once 1 (length p.statements) (map (λ (n : StmtId × StmtKind). n.0.0) (all_numbers p))
+    && list_all (has_kind p) (all_numbers p)
+    && are_distinct (map (λ (c : CallId). c.0) (all_calls p))

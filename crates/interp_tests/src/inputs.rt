@@ -1,0 +1,141 @@
+//! Texts of inputs, with the values or the error that each has.
+
+use crate::reader::{Fault, Reader};
+use ba_interp::{InputError, read_input};
+use ba_items::Items;
+use ba_tree::run::Input;
+use ba_tree::tree::Program;
+use std::alloc::Global;
+use std::test::Fail;
+
+fn same(values: &[Items<i64>], others: &[Items<i64>]) -> bool {
+    if values.len() != others.len() {
+        return false;
+    }
+    for (list, other) in values.iter().zip(others.iter()) {
+        if list.as_slice() != other.as_slice() {
+            return false;
+        }
+    }
+    true
+}
+
+/// Whether the text is read as this input.
+fn gives(alloc: Global, program: &Program, text: &[u8], expected: &Input) -> Result<bool, Fault> {
+    if 65_536 < text.len() {
+        return Err(Fault::Word);
+    }
+    match read_input(alloc, program, text) {
+        Ok(input) => Ok(same(input.values.as_slice(), expected.values.as_slice())),
+        Err(_) => Ok(false),
+    }
+}
+
+/// Whether the text has the values that are written as words.
+fn has_values(alloc: Global, program: &str, text: &[u8], values: &str) -> Result<bool, Fault> {
+    let program = Reader::new(alloc, program.as_bytes()).program()?;
+    let expected = Reader::new(alloc, values.as_bytes()).input()?;
+    gives(alloc, &program, text, &expected)
+}
+
+/// The error of a text, if it has one.
+fn error_of(alloc: Global, program: &str, text: &[u8]) -> Result<Option<InputError>, Fault> {
+    if 65_536 < text.len() {
+        return Err(Fault::Word);
+    }
+    let program = Reader::new(alloc, program.as_bytes()).program()?;
+    match read_input(alloc, &program, text) {
+        Ok(_) => Ok(None),
+        Err(error) => Ok(Some(error)),
+    }
+}
+
+/// `main` without parameters.
+const NONE: &str = "0  0  0  1  0  0  0  0";
+
+const CHAR: &str = "1 c  0  0  1  1 0  0  0  0";
+
+const INT: &str = "1 i  0  0  1  1 0  0  0  0";
+
+const UNSIGNED: &str = "1 u  0  0  1  1 0  0  0  0";
+
+/// `main` with an `int`, a `short`, an array of three `int`s and an `unsigned`.
+const FOUR: &str = "4 i s 3 u  0  0  1  4 0 1 2 3  0  0  0";
+
+#[test]
+fn numbers_go_to_their_parameters(rt: HostRuntime) -> Result<(), Fail> {
+    for (program, text, values) in [
+        (NONE, "", "0"),
+        (NONE, " \n\t", "0"),
+        (CHAR, "-128", "1 -128 ;"),
+        (CHAR, "127", "1 127 ;"),
+        (INT, "-2147483648\n", "1 -2147483648 ;"),
+        (INT, "-0", "1 0 ;"),
+        (INT, "007", "1 7 ;"),
+        (UNSIGNED, "4294967295", "1 4294967295 ;"),
+        (FOUR, "1 2 3 4 5 6", "4 1 ; 2 ; 3 4 5 ; 6 ;"),
+        (
+            FOUR,
+            "\t-1\n-2\u{b}-3\u{c}-4\r-5  6 ",
+            "4 -1 ; -2 ; -3 -4 -5 ; 6 ;",
+        ),
+    ] {
+        let read = has_values(rt.alloc(), program, text.as_bytes(), values);
+        assert_eq!(rt; read, Ok(true));
+    }
+    Ok(())
+}
+
+#[test]
+fn each_error_comes_at_its_piece(rt: HostRuntime) -> Result<(), Fail> {
+    for (program, text, error) in [
+        (INT, "1 x", InputError::NotANumber(2)),
+        (INT, "2147483648", InputError::OutOfRange(1)),
+        (INT, "", InputError::WrongCount),
+        (INT, "1 2", InputError::WrongCount),
+        (NONE, "0", InputError::WrongCount),
+        (NONE, "-", InputError::NotANumber(1)),
+        (CHAR, "128", InputError::OutOfRange(1)),
+        (CHAR, "-129", InputError::OutOfRange(1)),
+        (UNSIGNED, "4294967296", InputError::OutOfRange(1)),
+        (UNSIGNED, "-1", InputError::OutOfRange(1)),
+        (INT, "18446744073709551617", InputError::OutOfRange(1)),
+        (INT, "-18446744073709551615", InputError::OutOfRange(1)),
+        (INT, "+1", InputError::NotANumber(1)),
+        (INT, "--1", InputError::NotANumber(1)),
+        (INT, "1-", InputError::NotANumber(1)),
+        (INT, "0x1", InputError::NotANumber(1)),
+        (INT, "1\u{8}", InputError::NotANumber(1)),
+        (FOUR, "1 2 3 4 5", InputError::WrongCount),
+        (FOUR, "1 40000 3 -4 5 -6", InputError::OutOfRange(2)),
+        (FOUR, "1 2 3 4 5 -6", InputError::OutOfRange(6)),
+        (FOUR, "1 40000 3 4 y z", InputError::NotANumber(5)),
+        (FOUR, "1 40000 3 4 5 6 z", InputError::NotANumber(7)),
+        (FOUR, "1 40000 3 4 5 6 7", InputError::WrongCount),
+    ] {
+        let found = error_of(rt.alloc(), program, text.as_bytes());
+        assert_eq!(rt; found, Ok(Some(error)));
+    }
+    Ok(())
+}
+
+/// So many equal digits, and then one.
+fn digits(alloc: Global, count: usize, digit: u8, last: u8) -> Result<Vec<u8>, Fault> {
+    let mut text = Vec::new(alloc);
+    for _ in 0..count {
+        text.push(digit)?;
+    }
+    text.push(last)?;
+    Ok(text)
+}
+
+#[test]
+fn a_number_may_have_thousands_of_digits(rt: HostRuntime) -> Result<(), Fail> {
+    let zeros = digits(rt.alloc(), 4_999, b'0', b'7')?;
+    let nines = digits(rt.alloc(), 4_999, b'9', b'9')?;
+    let read = has_values(rt.alloc(), INT, zeros.as_slice(), "1 7 ;");
+    let found = error_of(rt.alloc(), INT, nines.as_slice());
+    assert_eq!(rt; read, Ok(true));
+    assert_eq!(rt; found, Ok(Some(InputError::OutOfRange(1))));
+    Ok(())
+}
