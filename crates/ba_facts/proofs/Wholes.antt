@@ -2,7 +2,7 @@
 use Rattle.std.proofs.Common.{◌≡◌, ◌&&◌, ◌||◌, ◌++◌, ◌+◌, ◌<◌, ◌≤◌, ◌==◌, add-one, zero, ℕ, suc, Bool, true, false, List, [], ◌∷◌, map, length, take, drop, get_or, refl, sym, ap, ◌∙◌, arith}
 use Rattle.std.specs.List.{flat_map, list_all, list_any}
 use Rattle.ba_numbers.specs.declared.ids.VarId.{VarId}
-use Rattle.ba_tree.specs.Facts.{all_facts, are_functions, body_facts, has_variable, init_facts, is_function, is_global_initialiser, no_function, stmt_facts}
+use Rattle.ba_tree.specs.Facts.{all_facts, are_functions, body_facts, has_variable, init_facts, is_function, is_global_initialiser, is_program, is_within_limits, no_function, stmt_facts}
 use Rattle.std.proofs.Math.Seq.{drop-cons}
 use Rattle.ba_facts.specs.Summaries.{with_stmts}
 use Rattle.ba_facts.specs.declared.mentions.Mentions.{Mentions}
@@ -87,3 +87,13 @@ pub any-map : (v : VarId) (vs : List VarId) → list_any (λ m. m == v.0) (map (
     has_variable vs v
 any-map v [] = refl
 any-map v (w ∷ vs) = ap (λ b. (w.0 == v.0) || b) (any-map v vs)
+
+-- THE LIMITS come first
+
+first-false : (w m l o g i f n k c : Bool) → w ≡ false → (w && m && l && o && g && i && f && n && k && c) ≡ false
+first-false false m l o g i f n k c is = refl
+first-false true m l o g i f n k c is = cc
+
+pub past-limits : (p : Parts) (within : Bool) → within ≡ is_within_limits p → within ≡ false → false ≡ is_program p
+unfolding is_program
+past-limits p within is past = sym (first-false (is_within_limits p) _ _ _ _ _ _ _ _ _ (sym is ∙ past))

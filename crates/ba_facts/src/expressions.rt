@@ -1,9 +1,9 @@
 //! Expressions: their types and heights, what they name, and whether they meet the constraints (C90 6.3).
 
-ghost use Rattle.std.specs.Prelude.{◌≡◌, ◌&&◌, [], ◌∷◌, List, map, unwrap_or, IfOk};
+ghost use Rattle.std.specs.Prelude.{◌≡◌, ◌&&◌, List, map, unwrap_or, IfOk};
 ghost use Rattle.std.specs.Option.{is_some};
 ghost use Rattle.ba_numbers.specs.declared.numbers.CType.TheVariants.{I32};
-ghost use Rattle.ba_tree.specs.Facts.{ArgFacts, ExprFacts, arg_facts, expr_facts, fits_parameter, fits_parameters, fits_right, givens, is_array, is_call, is_promoted, operator_facts, result_at, same_type, type_at, type_of_binary};
+ghost use Rattle.ba_tree.specs.Facts.{ArgFacts, ExprFacts, arg_facts, expr_facts, fits_right, givens, is_array, is_call, is_promoted, operator_facts, result_at, same_type};
 ghost use Rattle.ba_facts.specs.Summaries.{Tells, TellsAll, TellsArg, TellsArgs, arg_summary_of, fits_each, fits_one, summary_of};
 
 use crate::lookups::{

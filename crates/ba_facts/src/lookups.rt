@@ -1,8 +1,7 @@
 //! What is declared at a number, and how types, kinds and shapes agree.
 
-ghost use Rattle.std.specs.Prelude.{◌≡◌, ◌-◌, option_and_then, slice_get, MatchOption};
-ghost use Rattle.ba_tree.specs.Facts.{fits_right, has_kind, has_variable, is_array, is_array_shape, is_own_array, is_own_shape, is_parameter_shape, is_passed_shape, is_promoted, is_value, is_value_shape, own_elements, result_at, same_kind, same_type, shape_at, shifts, type_at, type_of_binary, type_of_unary, holds};
-ghost use Rattle.ba_numbers.specs.Numbers.{compares};
+ghost use Rattle.std.specs.Prelude.{◌≡◌, slice_get, MatchOption};
+ghost use Rattle.ba_tree.specs.Facts.{fits_right, has_kind, has_variable, is_array, is_own_array, is_own_shape, is_parameter_shape, is_passed_shape, is_promoted, is_value, own_elements, result_at, same_kind, same_type, shape_at, type_at, type_of_binary, type_of_unary, holds};
 
 use ba_numbers::ids::{FnId, StmtId, VarId};
 use ba_numbers::numbers::{BinOp, CType, UnOp};

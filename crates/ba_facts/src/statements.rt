@@ -4,7 +4,7 @@ ghost use Rattle.std.specs.Prelude.{◌≡◌, ◌&&◌, ◌++◌, [], ◌∷◌
 ghost use Rattle.ba_numbers.specs.declared.ids.StmtId.{StmtId};
 ghost use Rattle.ba_tree.specs.Facts.{ExprFacts, StmtFacts, are_simple, arg_facts, around, as_loop, as_simple, body_facts, calling, expr_facts, fits_array, fits_type, givens, has_variable, holds, initialising, is_array, is_call, is_own_array, is_promoted, is_value, leaf_facts, naming, numbered, same_type, shape_at, stmt_facts, type_at};
 ghost use Rattle.ba_tree.specs.declared.tree.StmtKind.{StmtKind};
-ghost use Rattle.ba_tree.specs.declared.tree.StmtKind.TheVariants.{Call, Condition, Initialiser, Store};
+ghost use Rattle.ba_tree.specs.declared.tree.StmtKind.TheVariants.{Call, Initialiser, Store};
 ghost use Rattle.ba_facts.specs.Summaries.{TellsNumbered, TellsRow, TellsStmt, is_whole_of, row_summary_of, stmt_summary_of, summary_of};
 
 use crate::expressions::{

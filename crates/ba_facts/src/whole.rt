@@ -314,6 +314,9 @@ fn are_called_once(alloc: Global, calls: &[CallId]) -> Result<bool, AllocError>
 fn is_program(alloc: Global, parts: &Parts) -> Result<bool, AllocError>
     ensures { IfOk result (λ fits. fits ≡ is_program parts.now) }
 {
+    if !is_within_limits(parts) {
+        return Ok(false);
+    }
     let mut mentions = Mentions::new(alloc);
     let initialised = are_global_initialisers(alloc, parts, &mut mentions)?;
     let defined = are_functions(alloc, parts, &mut mentions)?;
@@ -322,8 +325,7 @@ fn is_program(alloc: Global, parts: &Parts) -> Result<bool, AllocError>
     let numbered = are_numbered_once(alloc, parts.statements.len(), numbers)?;
     let called = are_called_once(alloc, mentions.calls.as_slice())?;
     Ok(
-        is_within_limits(parts)
-            & ((parts.main.0 as usize) < parts.functions.len())
+        ((parts.main.0 as usize) < parts.functions.len())
             & are_own_lengths(parts.variables.as_slice())
             & owned
             & have_own(parts, parts.globals.as_slice())
