@@ -15,3 +15,6 @@ decreases-binary l = 4 * l.deep + 2
 
 abbrev pub decreases-args : goal.decreases-args
 decreases-args l = 4 * l.deep + 2
+
+abbrev pub decreases-converted : goal.decreases-converted
+decreases-converted l = 4 * l.deep + 2
