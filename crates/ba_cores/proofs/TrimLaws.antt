@@ -117,6 +117,7 @@ lasting_lives origins.Given e = refl
 lasting_lives origins.Learnt e = refl
 lasting_lives origins.Core e = refl
 lasting_lives origins.Split e = refl
+lasting_lives origins.Blocked e = refl
 lasting_lives origins.Deleted e = absurd (cc e)
 
 lasting_true : (v : Assignment) (clauses : List Kept) →

@@ -113,6 +113,7 @@ fn take_model<S: Drop, J: RunJudge + Drop>(
     model: Model,
 ) -> Option<Found>
     requires model { IsModel checked.now.checker (literals_of (heavy weight.old checked.now.checker.softs)) model.values }
+    requires ready { IsReady checked.now.checker }
     ensures found { IfSome result (IsFound (J.accepts checked.now.judge) checked.now.checker checked.now.checker) }
     ensures less { IfNone result (weight.new < weight.old) }
 {

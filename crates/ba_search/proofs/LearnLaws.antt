@@ -31,7 +31,7 @@ use Rattle.ba_search.proofs.TakenLaws.{number_within, same_some}
 
 -- a record for what holds of a checker
 abbrev pub Formed : State → Type 0
-Formed c = IsState c.variables c.clauses c.softs c.conflicts c.budget c.learnt c.refused
+Formed c = IsState c.variables c.clauses c.groups c.softs c.conflicts c.budget c.learnt c.refused
 
 -- a live clause is one of the entries
 pub lits_live : (x : Kept) (c : List Literal) → live_lits (Some x) ≡ Some c → x.lits ≡ c

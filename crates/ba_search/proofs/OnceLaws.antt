@@ -10,7 +10,7 @@ use Rattle.ba_steps.specs.declared.store.Origin.TheVariants.{Learnt}
 use Rattle.ba_steps.specs.Steps.{IsFormed}
 use Rattle.ba_steps.specs.Judging.{Judge, error_of, after_delete}
 use Rattle.ba_steps.specs.declared.step.CertStep.{CertStep}
-use Rattle.ba_steps.specs.declared.step.CertStep.TheVariants.{Learn, Core, Delete, EndNoRepair, EndSpent}
+use Rattle.ba_steps.specs.declared.step.CertStep.TheVariants.{Learn, Core, Delete, Block, EndLocated, EndNoRepair, EndTooMany, EndSpent}
 use Rattle.ba_search.specs.Searching.{Searches, searches_none, searches_learn, searches_delete}
 use Rattle.ba_search.proofs.StepLaws.{Gives}
 use Rattle.ba_search.proofs.DeletionLaws.{all_go, stays_without}
@@ -21,7 +21,10 @@ use Rattle.ba_search.proofs.TakenLaws.{clause_at-end, clause_at-more, number_wit
 abbrev clause_of : CertStep → List Literal
 clause_of (Learn lits hints) = lits
 clause_of (Core lits hints) = lits
+clause_of (Block groups run) = []
+clause_of (EndLocated lits hints) = []
 clause_of (EndNoRepair hints) = []
+clause_of EndTooMany = []
 clause_of EndSpent = []
 clause_of (Delete numbers) = []
 

@@ -1,13 +1,15 @@
 -- The facts hold of every state that allowed steps lead to.
 
-use Rattle.std.proofs.Common.{◌≡◌, ◌≢◌, ℕ, suc, zero, ◌+◌, ◌*◌, ◌-◌, ◌^◌, ◌<◌, ◌≤◌, Bool, true, false, not, ◌&&◌, ◌||◌, cond, ltb, eqb, min, unwrap_or, Option, None, Some, List, [], ◌∷◌, ◌++◌, map, length, get_or, set, All, refl, sym, ap, ◌∙◌, arith, subst, ⊎_elim, ◌⊎◌}
+use Rattle.std.proofs.Common.{◌≡◌, ◌≢◌, ℕ, suc, zero, ◌+◌, ◌*◌, ◌-◌, ◌^◌, ◌<◌, ◌≤◌, Bool, true, false, not, ◌&&◌, ◌||◌, cond, ltb, eqb, nat_eq, ◌==◌, min, unwrap_or, Option, None, Some, List, [], ◌∷◌, ◌++◌, map, length, get_or, set, All, refl, sym, ap, ◌∙◌, arith, subst, ⊎_elim}
 use Rattle.std.proofs.Math.Nat.{mul-add}
 use Rattle.std.proofs.lemmas.Bool.{cases_lt, or_parts, or_cases, and_parts, and_from}
 use Rattle.std.proofs.lemmas.Bool.Decides.{nat_tests}
 use Rattle.std.proofs.lemmas.List.{map-append, append_assoc, append-nil}
 use Rattle.std.proofs.lemmas.List.Elements.{All-nil, All-cons, All-append, All-weaker, All-head, All-tail}
 use Rattle.std.proofs.lemmas.Option.{same_Some, cond_some}
-use Rattle.std.specs.List.{slice_get, list_all}
+use Rattle.std.specs.List.{slice_get, list_all, AllByRecursion, IsDistinct}
+use Rattle.std.specs.Cmp.Lexicographic.{pointwise}
+use Rattle.ba_choices.specs.declared.Choice.{Choice}
 use Rattle.ba_lits.specs.Literals.{Literal, negate, IsClause, index_of}
 use Rattle.ba_lits.specs.Satisfaction.{Assignment, any_true, all_true, Soft, cost, Agree, one_if}
 use Rattle.ba_lits.specs.Formulas.{Cnf}
@@ -17,32 +19,37 @@ use Rattle.ba_lits.proofs.HintLaws.{FollowsByHints-holds}
 use Rattle.ba_lits.proofs.Members.{same_literal, negate-negate}
 use Rattle.ba_steps.specs.Splits.{positive, negative, in_order, or_gate, and_gate, some_of, or_clauses, and_clauses, split_clauses, fresh_count, split_softs, late_softs, is_soft, lesser, lightest, lowered}
 use Rattle.ba_steps.specs.States.{Kept, kept, State, kept_at, clause_at, live_lits, is_live_origin, is_learnt_at, is_learnt_entry, is_learnt_origin, width_at, lits_at, without, without_all, present, first_state}
-use Rattle.ba_steps.specs.Steps.{IsFormed, AreFormedLits}
-use Rattle.ba_steps.specs.Judging.{Judge, error_if, lacks_variable, is_spent, lacks_soft, hint_error, error_of_replay, error_of, after, after_learn, after_core, after_delete, may_go, apart_by, delete_error, after_all, next_if, learn_error, core_error}
-use Rattle.ba_steps.specs.Facts.{all_lits, Differs, AreDifferent, AreAmong, IsStart, step_splits, splits_of, IsLive, Holds}
+use Rattle.ba_steps.specs.Steps.{IsFormed, AreFormedLits, AreAbove}
+use Rattle.ba_steps.specs.Judging.{Judge, error_if, lacks_variable, is_spent, lacks_soft, hint_error, error_of_replay, error_of, after, after_learn, after_core, after_delete, after_block, block_error, may_go, apart_by, delete_error, after_all, next_if, learn_error, core_error}
+use Rattle.ba_steps.specs.Facts.{all_lits, Differs, AreDifferent, AreAmong, IsStart, step_splits, splits_of, IsLive, IsBlocked, Holds}
+use Rattle.ba_steps.specs.Blocks.{lacks_group, is_among, set_weight, block_clause, block_clauses}
+use Rattle.ba_steps.proofs.BlockLaws.{block_formed}
 use Rattle.ba_steps.specs.declared.store.Origin.{Origin}
 use Rattle.ba_steps.specs.declared.store.Origin.TheVariants as origins
 use Rattle.ba_steps.specs.declared.step.CertStep.{CertStep}
-use Rattle.ba_steps.specs.declared.step.CertStep.TheVariants.{Learn, Core, Delete, EndNoRepair, EndSpent}
+use Rattle.ba_steps.specs.declared.step.CertStep.TheVariants.{Learn, Core, Delete, Block, EndLocated, EndNoRepair, EndTooMany, EndSpent}
 use Rattle.ba_steps.specs.declared.step.StepError.{StepError}
-use Rattle.ba_steps.specs.declared.step.StepError.TheVariants.{DeadClause, AfterEnd, NotNew, TooSoon, NotSofts, CoreAfterSet, WrongCount, BadVariable, Memory}
+use Rattle.ba_steps.specs.declared.step.StepError.TheVariants.{DeadClause, RunNotGood, SetTwice, WrongWeight, AfterEnd, NotNew, TooSoon, NotSofts, CoreAfterSet, WrongCount, BadVariable, Memory}
 use Rattle.ba_steps.specs.Parts.{holds_clause}
 use Rattle.ba_steps.proofs.SplitMeaning.{OrsHave, AndsHave, split_holds, split_has, extended, extended-old, extended-ors, extended-ands, OrsHave-each, AndsHave-each, ors_alone, ands_alone, pairs, count_pairs, late_cost}
 use Rattle.ba_steps.proofs.LoweredLaws.{IsClause-rest, lowered_cost, hits, hits_count, AreAtLeast, lightest_at_least}
 
 -- the clause has an entry, which no deletion may name
-abbrev pub Stays : List Kept → List Literal → Type 0
-Stays clauses c = (number : ℕ) × (kept_at clauses number ≡ Some (kept origins.Split c))
+abbrev pub Stays : Origin → List Kept → List Literal → Type 0
+Stays origin clauses c = (number : ℕ) × (kept_at clauses number ≡ Some (kept origin c))
 
 -- everything that the induction needs: the facts, that all variables are below the next fresh one, and that the clauses
--- of the formula and of the splits are there as such
-pub record KeepsFacts (formula : Cnf) (softs : List Soft) (splits : List (List Literal)) (s : State) : Type 0 where
-  pub facts : Holds formula softs splits s
+-- of the formula, of the splits and of the blocked sets are there as such
+pub record KeepsFacts (good : Judge) (formula : Cnf) (softs : List Soft) (splits : List (List Literal)) (s
+    : State) : Type 0 where
+  pub facts : Holds good formula softs splits s
+  pub groups_stay : s.groups ≡ softs
   pub wide : formula.variables ≤ s.variables
   pub splits_below : ClausesBelow (s.variables + 1) splits
   pub live_below : ClausesBelow (s.variables + 1) (all_lits s.clauses)
   pub given_stay : (place : ℕ) → place < length formula.clauses → kept_at s.clauses (place + 1) ≡ Some (kept origins.Given (get_or formula.clauses place []))
-  pub splits_stay : All (Stays s.clauses) splits
+  pub splits_stay : All (Stays origins.Split s.clauses) splits
+  pub sets_stay : All (Stays origins.Blocked s.clauses) (block_clauses softs s.sets)
 
 -- an allowed test is false, and the rest is allowed
 pub no_error : (test : Bool) (e : StepError) (rest : Option StepError) → error_if test e rest ≡ None → (test ≡ false) × (rest ≡ None)
@@ -95,24 +102,32 @@ kept_at-more : (xs ys : List Kept) (number : ℕ) (x : Kept) → kept_at xs numb
 kept_at-more xs ys zero x is = absurd (cc)
 kept_at-more xs ys (suc k) x is = slice_get-more xs ys k x is
 
-splits_stay-more : (xs ys : List Kept) (splits : List (List Literal)) → All (Stays xs) splits → All (Stays (xs ++ ys)) splits
-splits_stay-more xs ys splits h = All-weaker (Stays xs) (Stays (xs ++ ys)) (λ c (number, is). (number, kept_at-more xs ys number (kept origins.Split c) is)) splits h
+all_stay-more : (origin : Origin) (xs ys : List Kept) (cs : List (List Literal)) → All (Stays origin xs) cs →
+    All (Stays origin (xs ++ ys)) cs
+all_stay-more origin xs ys cs h = All-weaker (Stays origin xs) (Stays origin (xs ++ ys))
+    (λ c (number, is). (number, kept_at-more xs ys number (kept origin c) is)) cs h
 
 -- such an entry is live
-stays_live : (clauses : List Kept) (splits : List (List Literal)) → All (Stays clauses) splits → All (IsLive clauses) splits
-stays_live clauses splits h = All-weaker (Stays clauses) (IsLive clauses) (λ c (number, is). (number, ap live_lits is)) splits h
+stays_live : (origin : Origin) (clauses : List Kept) (cs : List (List Literal)) → is_live_origin origin ≡
+    true →
+    All (Stays origin clauses) cs → All (IsLive clauses) cs
+stays_live origin clauses cs lives h = All-weaker (Stays origin clauses) (IsLive clauses)
+    (λ c (number, is). (number, ap live_lits is ∙ ap (λ b. cond b (Some c) None) lives)) cs h
 
 -- added clauses have entries
 slice_get-seam : (front : List Kept) (x : Kept) (ys : List Kept) → slice_get (front ++ x ∷ ys) (length front) ≡ Some x
 slice_get-seam [] x ys = refl
 slice_get-seam (f ∷ front) x ys = slice_get-seam front x ys
 
-added_stay : (front : List Kept) (cs : List (List Literal)) → All (Stays (front ++ map (kept origins.Split) cs)) cs
-added_stay front [] = All-nil (Stays (front ++ []))
+added_stay : (front : List Kept) (cs : List (List Literal)) → All (Stays origins.Split (front ++ map (kept
+    origins.Split) cs)) cs
+added_stay front [] = All-nil (Stays origins.Split (front ++ []))
 added_stay front (c ∷ cs) =
-    All-cons (Stays (front ++ map (kept origins.Split) (c ∷ cs))) c cs
+    All-cons (Stays origins.Split (front ++ map (kept origins.Split) (c ∷ cs))) c cs
     (suc (length front), slice_get-seam front (kept origins.Split c) (map (kept origins.Split) cs))
-    (let P : List Kept → Type 0 = λ all. All (Stays all) cs in subst P (append_assoc front (kept origins.Split c ∷ []) (map (kept origins.Split) cs)) (added_stay (front ++ kept origins.Split c ∷ []) cs))
+    (let P : List Kept → Type 0 = λ all. All (Stays origins.Split all) cs in subst P (append_assoc front
+    (kept origins.Split c ∷ []) (map (kept origins.Split) cs)) (added_stay (front ++ kept origins.Split
+    c ∷ []) cs))
 
 -- the literals of added clauses
 pub all_lits-append : (xs ys : List Kept) → all_lits (xs ++ ys) ≡ all_lits xs ++ all_lits ys
@@ -127,11 +142,13 @@ all_true-push v cs c all one = all_true-append v cs (c ∷ [])
     ∙ and_from (all_true v cs) (any_true v c && true) all (and_from (any_true v c) true one refl)
 
 -- A LEARN STEP keeps the facts
-pub learn_keeps : (formula : Cnf) (softs : List Soft) (splits : List (List Literal)) (s : State) (lits : List Literal) (hints : List ℕ) →
-    KeepsFacts formula softs splits s → lacks_variable s lits ≡ false → hint_error s lits hints ≡ None → KeepsFacts formula softs splits (after_learn s lits)
-learn_keeps formula softs splits s lits hints h exists follows = record {
+pub learn_keeps : (good : Judge) (formula : Cnf) (softs : List Soft) (splits : List (List Literal)) (s :
+    State) (lits : List Literal) (hints : List ℕ) →
+    KeepsFacts good formula softs splits s → lacks_variable s lits ≡ false → hint_error s lits hints ≡ None
+    → KeepsFacts good formula softs splits (after_learn s lits)
+learn_keeps good formula softs splits s lits hints h exists follows = record {
   facts = record {
-    extends = λ v good. let (z, same, split, lives, costs) = h.facts.extends v good in (
+    extends = λ v given blocked. let (z, same, split, lives, costs) = h.facts.extends v given blocked in (
       z,
       same,
       split,
@@ -140,12 +157,18 @@ learn_keeps formula softs splits s lits hints h exists follows = record {
       costs,
     );
     alone = h.facts.alone;
+    sets_differ = h.facts.sets_differ;
+    sets_good = h.facts.sets_good;
     differ = h.facts.differ;
     among = h.facts.among;
     weighty = h.facts.weighty;
     given_live = λ place lt. ap live_lits (given_stay place lt);
-    splits_live = stays_live (s.clauses ++ kept origins.Learnt lits ∷ []) splits splits_stay;
+    splits_live = stays_live origins.Split (s.clauses ++ kept origins.Learnt lits ∷ []) splits refl
+        splits_stay;
+    sets_live = stays_live origins.Blocked (s.clauses ++ kept origins.Learnt lits ∷ []) (block_clauses
+        softs s.sets) refl sets_stay;
   };
+  groups_stay = h.groups_stay;
   wide = h.wide;
   splits_below = h.splits_below;
   live_below = let P : List (List Literal) → Type 0 = λ cs. ClausesBelow (s.variables + 1) cs in
@@ -153,34 +176,48 @@ learn_keeps formula softs splits s lits hints h exists follows = record {
       (lits ∷ []) h.live_below (exist_below s lits exists, tt));
   given_stay = given_stay;
   splits_stay = splits_stay;
+  sets_stay = sets_stay;
 }
   where
     given_stay : (place : ℕ) → place < length formula.clauses → kept_at (s.clauses ++ kept origins.Learnt lits ∷ []) (place + 1) ≡ Some (kept origins.Given (get_or formula.clauses place []))
     given_stay place lt = kept_at-more s.clauses (kept origins.Learnt lits ∷ []) (place + 1) (kept origins.Given (get_or formula.clauses place [])) (h.given_stay place lt)
 
-    splits_stay : All (Stays (s.clauses ++ kept origins.Learnt lits ∷ [])) splits
-    splits_stay = splits_stay-more s.clauses (kept origins.Learnt lits ∷ []) splits h.splits_stay
+    splits_stay : All (Stays origins.Split (s.clauses ++ kept origins.Learnt lits ∷ [])) splits
+    splits_stay = all_stay-more origins.Split s.clauses (kept origins.Learnt lits ∷ []) splits h.splits_stay
+
+    sets_stay : All (Stays origins.Blocked (s.clauses ++ kept origins.Learnt lits ∷ [])) (block_clauses
+        softs s.sets)
+    sets_stay = all_stay-more origins.Blocked s.clauses (kept origins.Learnt lits ∷ []) (block_clauses
+        softs s.sets) h.sets_stay
 
     lives_is : all_lits (s.clauses ++ kept origins.Learnt lits ∷ []) ≡ all_lits s.clauses ++ lits ∷ []
     lives_is = all_lits-append s.clauses (kept origins.Learnt lits ∷ [])
 
 -- AN END keeps them
-pub end_keeps : (formula : Cnf) (softs : List Soft) (splits : List (List Literal)) (s : State) → KeepsFacts formula softs splits s → KeepsFacts formula softs splits (record s { ended = true })
-end_keeps formula softs splits s h = record {
+pub end_keeps : (good : Judge) (formula : Cnf) (softs : List Soft) (splits : List (List Literal)) (s :
+    State) → KeepsFacts good formula softs splits s → KeepsFacts good formula softs splits (record s {
+      ended = true;
+    })
+end_keeps good formula softs splits s h = record {
   facts = record {
     extends = h.facts.extends;
     alone = h.facts.alone;
+    sets_differ = h.facts.sets_differ;
+    sets_good = h.facts.sets_good;
     differ = h.facts.differ;
     among = h.facts.among;
     weighty = h.facts.weighty;
     given_live = h.facts.given_live;
     splits_live = h.facts.splits_live;
+    sets_live = h.facts.sets_live;
   };
+  groups_stay = h.groups_stay;
   wide = h.wide;
   splits_below = h.splits_below;
   live_below = h.live_below;
   given_stay = h.given_stay;
   splits_stay = h.splits_stay;
+  sets_stay = h.sets_stay;
 }
 
 -- A DELETE STEP keeps them: it names learnt clauses alone, and changes no literals
@@ -217,25 +254,33 @@ kept_at-without_all s clauses (m ∷ ms) number k go is stays =
     kept_at-without_all s (without clauses m) ms number k parts.1 is stays
     ∙ kept_at-other clauses m number (λ e. let other : is_learnt_at s.clauses m ≡ false = ap (is_learnt_at s.clauses) e ∙ (ap is_learnt_entry is ∙ stays) in cc)
 
-pub delete_keeps : (formula : Cnf) (softs : List Soft) (splits : List (List Literal)) (s : State) (numbers : List ℕ) →
-    KeepsFacts formula softs splits s → list_all (may_go s) numbers ≡ true → KeepsFacts formula softs splits (after_delete s numbers)
-delete_keeps formula softs splits s numbers h go = record {
+pub delete_keeps : (good : Judge) (formula : Cnf) (softs : List Soft) (splits : List (List Literal)) (s :
+    State) (numbers : List ℕ) →
+    KeepsFacts good formula softs splits s → list_all (may_go s) numbers ≡ true → KeepsFacts good formula
+    softs splits (after_delete s numbers)
+delete_keeps good formula softs splits s numbers h go = record {
   facts = record {
-    extends = λ v good. let (z, same, split, lives, costs) = h.facts.extends v good in
+    extends = λ v given blocked. let (z, same, split, lives, costs) = h.facts.extends v given blocked in
         (z, same, split, ap (all_true z) (all_lits-without_all s.clauses numbers) ∙ lives, costs);
     alone = h.facts.alone;
+    sets_differ = h.facts.sets_differ;
+    sets_good = h.facts.sets_good;
     differ = h.facts.differ;
     among = h.facts.among;
     weighty = h.facts.weighty;
     given_live = λ place lt. ap live_lits (given_stay place lt);
-    splits_live = stays_live (without_all s.clauses numbers) splits splits_stay;
+    splits_live = stays_live origins.Split (without_all s.clauses numbers) splits refl splits_stay;
+    sets_live = stays_live origins.Blocked (without_all s.clauses numbers) (block_clauses softs s.sets)
+        refl sets_stay;
   };
+  groups_stay = h.groups_stay;
   wide = h.wide;
   splits_below = h.splits_below;
   live_below = let P : List (List Literal) → Type 0 = λ cs. ClausesBelow (s.variables + 1) cs in
       subst P (sym (all_lits-without_all s.clauses numbers)) h.live_below;
   given_stay = given_stay;
   splits_stay = splits_stay;
+  sets_stay = sets_stay;
 }
   where
     given_stay : (place : ℕ) → place < length formula.clauses → kept_at (without_all s.clauses numbers) (place + 1) ≡ Some (kept origins.Given (get_or formula.clauses place []))
@@ -243,8 +288,25 @@ delete_keeps formula softs splits s numbers h go = record {
         let is = h.given_stay place lt in
         kept_at-without_all s s.clauses numbers (place + 1) (kept origins.Given (get_or formula.clauses place [])) go is refl ∙ is
 
-    splits_stay : All (Stays (without_all s.clauses numbers)) splits
-    splits_stay = All-weaker (Stays s.clauses) (Stays (without_all s.clauses numbers)) (λ c (number, is). (number, kept_at-without_all s s.clauses numbers number (kept origins.Split c) go is refl ∙ is)) splits h.splits_stay
+    splits_stay : All (Stays origins.Split (without_all s.clauses numbers)) splits
+    splits_stay = All-weaker (Stays origins.Split s.clauses) (Stays origins.Split (without_all s.clauses
+        numbers))
+        (λ c (number, is). (
+          number,
+          kept_at-without_all s s.clauses numbers number (kept origins.Split c)
+              go is refl ∙ is,
+        ))
+        splits h.splits_stay
+
+    sets_stay : All (Stays origins.Blocked (without_all s.clauses numbers)) (block_clauses softs s.sets)
+    sets_stay = All-weaker (Stays origins.Blocked s.clauses) (Stays origins.Blocked (without_all s.clauses
+        numbers))
+        (λ c (number, is). (
+          number,
+          kept_at-without_all s s.clauses numbers number (kept origins.Blocked c)
+              go is refl ∙ is,
+        ))
+        (block_clauses softs s.sets) h.sets_stay
 
 -- the clauses of a split have variables below the next fresh one
 in_order-below : (n : ℕ) (a b : Literal) → a.variable < n → b.variable < n → ClauseBelow n (in_order a b)
@@ -446,16 +508,22 @@ split_alone n m y z b rest same below first second m_is u lt =
     (cases_lt u n)
 
 -- A CORE STEP keeps the facts
-pub core_keeps : (formula : Cnf) (softs : List Soft) (splits : List (List Literal)) (s : State) (b : Literal) (rest : List Literal) (hints : List ℕ) →
-    KeepsFacts formula softs splits s → IsClause (2 ^ 62 - 1) (b ∷ rest) → lacks_variable s (b ∷ rest) ≡ false → lacks_soft s.softs (b ∷ rest) ≡ false → hint_error s (b ∷ rest) hints ≡ None →
-    KeepsFacts formula softs (splits ++ split_clauses (s.variables + 1) (b ∷ rest)) (after_core s (b ∷ rest))
-core_keeps formula softs splits s b rest hints h clause exists known follows = record {
+pub core_keeps : (good : Judge) (formula : Cnf) (softs : List Soft) (splits : List (List Literal)) (s :
+    State) (b : Literal) (rest : List Literal) (hints : List ℕ) →
+    KeepsFacts good formula softs splits s → IsClause (2 ^ 62 - 1) (b ∷ rest) → lacks_variable s (b ∷ rest)
+    ≡ false → lacks_soft s.softs (b ∷ rest) ≡ false → s.sets ≡ [] → hint_error s (b ∷ rest) hints ≡ None →
+    KeepsFacts good formula softs (splits ++ split_clauses (s.variables + 1) (b ∷ rest)) (after_core s (b ∷
+    rest))
+core_keeps good formula softs splits s b rest hints h clause exists known no_sets follows = record {
   facts = record {
-    extends = λ v good. let (z, same, split, lives, costs) = h.facts.extends v good in extends v z same split lives costs;
+    extends = λ v given blocked. let (z, same, split, lives, costs) = h.facts.extends v given blocked in
+        extends v z same split lives costs;
     alone = λ y z same first second.
         let own = and_parts (all_true y splits) (all_true y (split_clauses (s.variables + 1) (b ∷ rest))) (sym (all_true-append y splits (split_clauses (s.variables + 1) (b ∷ rest))) ∙ first) in
         let other = and_parts (all_true z splits) (all_true z (split_clauses (s.variables + 1) (b ∷ rest))) (sym (all_true-append z splits (split_clauses (s.variables + 1) (b ∷ rest))) ∙ second) in
         split_alone (s.variables + 1) (s.variables + fresh_count (length (b ∷ rest)) + 1) y z b rest (h.facts.alone y z same own.0 other.0) below own.1 other.1 (omega arith);
+    sets_differ = h.facts.sets_differ;
+    sets_good = none_blocked s.sets no_sets;
     differ = apart (s.variables + 1) (unwrap_or (lightest (b ∷ rest) s.softs) 0) ((s.variables + 1) + (length (b ∷ rest) - 2)) (lowered (b ∷ rest) (unwrap_or (lightest (b ∷ rest) s.softs) 0) s.softs) (b ∷ rest) (omega arith) (lowered-below (s.variables + 1) (unwrap_or (lightest (b ∷ rest) s.softs) 0) (b ∷ rest) s.softs softs_below) (lowered-different (unwrap_or (lightest (b ∷ rest) s.softs) 0) (b ∷ rest) s.softs h.facts.differ);
     among = All-append (λ (soft : Soft). (1 ≤ soft.0.variable) × (soft.0.variable ≤ s.variables + fresh_count (length (b ∷ rest)))) (lowered (b ∷ rest) (unwrap_or (lightest (b ∷ rest) s.softs) 0) s.softs) (split_softs (unwrap_or (lightest (b ∷ rest) s.softs) 0) (s.variables + 1) (b ∷ rest))
         (lowered-all (λ (soft : Soft). (1 ≤ soft.0.variable) × (soft.0.variable ≤ s.variables + fresh_count (length (b ∷ rest)))) (unwrap_or (lightest (b ∷ rest) s.softs) 0) (b ∷ rest) s.softs (λ soft p lt. p)
@@ -465,8 +533,12 @@ core_keeps formula softs splits s b rest hints h clause exists known follows = r
         (lowered-all (λ (soft : Soft). 1 ≤ soft.1) (unwrap_or (lightest (b ∷ rest) s.softs) 0) (b ∷ rest) s.softs (λ soft p lt. omega (arith, lt)) h.facts.weighty)
         (late-all (λ (soft : Soft). 1 ≤ soft.1) (unwrap_or (lightest (b ∷ rest) s.softs) 0) ((s.variables + 1) + (length (b ∷ rest) - 2)) (b ∷ rest) (λ x ge lt. light));
     given_live = λ place lt. ap live_lits (given_stay place lt);
-    splits_live = stays_live (s.clauses ++ (kept origins.Core (b ∷ rest) ∷ map (kept origins.Split) (split_clauses (s.variables + 1) (b ∷ rest)))) (splits ++ split_clauses (s.variables + 1) (b ∷ rest)) splits_stay;
+    splits_live = stays_live origins.Split (s.clauses ++ (kept origins.Core (b ∷ rest) ∷ map (kept
+        origins.Split) (split_clauses (s.variables + 1) (b ∷ rest)))) (splits ++ split_clauses (s.variables
+        + 1) (b ∷ rest)) refl splits_stay;
+    sets_live = stays_live origins.Blocked grown (block_clauses softs s.sets) refl sets_stay;
   };
+  groups_stay = h.groups_stay;
   wide = omega (arith, h.wide);
   splits_below = ClausesBelow-append (s.variables + fresh_count (length (b ∷ rest)) + 1) splits (split_clauses (s.variables + 1) (b ∷ rest)) (ClausesBelow-more (s.variables + 1) (s.variables + fresh_count (length (b ∷ rest)) + 1) splits (omega arith) h.splits_below) new_below;
   live_below = let P : List (List Literal) → Type 0 = λ cs. ClausesBelow (s.variables + fresh_count (length (b ∷ rest)) + 1) cs in
@@ -480,8 +552,24 @@ core_keeps formula softs splits s b rest hints h clause exists known follows = r
       ));
   given_stay = given_stay;
   splits_stay = splits_stay;
+  sets_stay = sets_stay;
 }
   where
+    grown : List Kept
+    grown = s.clauses ++ (kept origins.Core (b ∷ rest) ∷ map (kept origins.Split) (split_clauses
+        (s.variables + 1) (b ∷ rest)))
+
+    none_blocked : (sets : List (List ℕ)) → sets ≡ [] →
+        All (IsBlocked good softs (s.bound + unwrap_or (lightest (b ∷ rest) s.softs) 0)) sets
+    none_blocked [] none = All-nil (IsBlocked good softs (s.bound + unwrap_or (lightest (b ∷ rest) s.softs)
+        0))
+    none_blocked (x ∷ xs) none = absurd (cc)
+
+    sets_stay : All (Stays origins.Blocked grown) (block_clauses softs s.sets)
+    sets_stay = all_stay-more origins.Blocked s.clauses
+        (kept origins.Core (b ∷ rest) ∷ map (kept origins.Split) (split_clauses (s.variables + 1) (b ∷ rest)))
+        (block_clauses softs s.sets) h.sets_stay
+
     given_stay : (place : ℕ) → place < length formula.clauses → kept_at (s.clauses ++ (kept origins.Core (b ∷ rest) ∷ map (kept origins.Split) (split_clauses (s.variables + 1) (b ∷ rest)))) (place + 1) ≡ Some (kept origins.Given (get_or formula.clauses place []))
     given_stay place lt = kept_at-more s.clauses (kept origins.Core (b ∷ rest) ∷ map (kept origins.Split) (split_clauses (s.variables + 1) (b ∷ rest))) (place + 1) (kept origins.Given (get_or formula.clauses place [])) (h.given_stay place lt)
 
@@ -502,12 +590,20 @@ core_keeps formula softs splits s b rest hints h clause exists known follows = r
         ∙ ap (λ cs. all_lits s.clauses ++ (b ∷ rest) ∷ cs)
         (all_lits-kept origins.Split (split_clauses (s.variables + 1) (b ∷ rest)))
 
-    new_stay : All (Stays (s.clauses ++ (kept origins.Core (b ∷ rest) ∷ map (kept origins.Split) (split_clauses (s.variables + 1) (b ∷ rest))))) (split_clauses (s.variables + 1) (b ∷ rest))
-    new_stay = let P : List Kept → Type 0 = λ cs. All (Stays cs) (split_clauses (s.variables + 1) (b ∷ rest)) in
+    new_stay : All (Stays origins.Split (s.clauses ++ (kept origins.Core (b ∷ rest) ∷ map (kept
+        origins.Split) (split_clauses (s.variables + 1) (b ∷ rest))))) (split_clauses (s.variables + 1) (b
+        ∷ rest))
+    new_stay = let P : List Kept → Type 0 = λ cs. All (Stays origins.Split cs) (split_clauses (s.variables
+        + 1) (b ∷ rest)) in
         subst P (append_assoc s.clauses (kept origins.Core (b ∷ rest) ∷ []) (map (kept origins.Split) (split_clauses (s.variables + 1) (b ∷ rest)))) (added_stay (s.clauses ++ kept origins.Core (b ∷ rest) ∷ []) (split_clauses (s.variables + 1) (b ∷ rest)))
 
-    splits_stay : All (Stays (s.clauses ++ (kept origins.Core (b ∷ rest) ∷ map (kept origins.Split) (split_clauses (s.variables + 1) (b ∷ rest))))) (splits ++ split_clauses (s.variables + 1) (b ∷ rest))
-    splits_stay = All-append (Stays (s.clauses ++ (kept origins.Core (b ∷ rest) ∷ map (kept origins.Split) (split_clauses (s.variables + 1) (b ∷ rest))))) splits (split_clauses (s.variables + 1) (b ∷ rest)) (splits_stay-more s.clauses (kept origins.Core (b ∷ rest) ∷ map (kept origins.Split) (split_clauses (s.variables + 1) (b ∷ rest))) splits h.splits_stay) new_stay
+    splits_stay : All (Stays origins.Split (s.clauses ++ (kept origins.Core (b ∷ rest) ∷ map (kept
+        origins.Split) (split_clauses (s.variables + 1) (b ∷ rest))))) (splits ++ split_clauses
+        (s.variables + 1) (b ∷ rest))
+    splits_stay = All-append (Stays origins.Split (s.clauses ++ (kept origins.Core (b ∷ rest) ∷ map (kept
+        origins.Split) (split_clauses (s.variables + 1) (b ∷ rest))))) splits (split_clauses (s.variables +
+        1) (b ∷ rest)) (all_stay-more origins.Split s.clauses (kept origins.Core (b ∷ rest) ∷ map (kept
+        origins.Split) (split_clauses (s.variables + 1) (b ∷ rest))) splits h.splits_stay) new_stay
 
     light : 1 ≤ (unwrap_or (lightest (b ∷ rest) s.softs) 0)
     light = lightest_weighty (b ∷ rest) s.softs b h.facts.weighty (first_there b rest) (soft_there (is_soft s.softs (negate b)) (lacks_soft s.softs rest) known)
@@ -558,43 +654,233 @@ core_keeps formula softs splits s b rest hints h clause exists known follows = r
         )
 
 -- AN ALLOWED STEP keeps the facts
-no_more : (formula : Cnf) (softs : List Soft) (splits : List (List Literal)) (s : State) → KeepsFacts formula softs splits s → KeepsFacts formula softs (splits ++ []) s
-no_more formula softs splits s h = let P : List (List Literal) → Type 0 = λ cs. KeepsFacts formula softs cs s in subst P (sym (append-nil splits)) h
+no_more : (good : Judge) (formula : Cnf) (softs : List Soft) (splits : List (List Literal)) (s : State) →
+    KeepsFacts good formula softs splits s → KeepsFacts good formula softs (splits ++ []) s
+no_more good formula softs splits s h = let P : List (List Literal) → Type 0 = λ cs. KeepsFacts good
+    formula softs cs s in subst P (sym (append-nil splits)) h
 
-core_step : (formula : Cnf) (softs : List Soft) (splits : List (List Literal)) (s : State) (lits : List Literal) (hints : List ℕ) →
-    KeepsFacts formula softs splits s → AreFormedLits lits → lacks_variable s lits ≡ false → lacks_soft s.softs lits ≡ false → hint_error s lits hints ≡ None →
-    KeepsFacts formula softs (splits ++ split_clauses (s.variables + 1) lits) (after_core s lits)
-core_step formula softs splits s [] hints h formed exists known follows = absurd (omega (arith, formed.1))
-core_step formula softs splits s (b ∷ rest) hints h formed exists known follows = core_keeps formula softs splits s b rest hints h formed.0 exists known follows
+core_step : (good : Judge) (formula : Cnf) (softs : List Soft) (splits : List (List Literal)) (s : State)
+    (lits : List Literal) (hints : List ℕ) →
+    KeepsFacts good formula softs splits s → AreFormedLits lits → lacks_variable s lits ≡ false →
+    lacks_soft s.softs lits ≡ false → s.sets ≡ [] → hint_error s lits hints ≡ None →
+    KeepsFacts good formula softs (splits ++ split_clauses (s.variables + 1) lits) (after_core s lits)
+core_step good formula softs splits s [] hints h formed exists known no_sets follows = absurd (omega
+    (arith, formed.1))
+core_step good formula softs splits s (b ∷ rest) hints h formed exists known no_sets follows =
+    core_keeps good formula softs splits s b rest hints h formed.0 exists known no_sets follows
+
+-- A BLOCK STEP keeps them: a clause over the formula's variables is added, which is a premise from then on
+clause_below : (n : ℕ) (c : List Literal) → IsClause n c → ClauseBelow (n + 1) c
+clause_below n [] clause = tt
+clause_below n (l ∷ ls) clause = (
+  let le = clause.within 0 (omega arith) in omega (arith, le),
+  clause_below
+      n ls (IsClause-rest n l ls clause),
+)
+
+clauses_below : (n : ℕ) (cs : List (List Literal)) → All (IsClause n) cs → ClausesBelow (n + 1) cs
+clauses_below n [] all = tt
+clauses_below n (c ∷ cs) all = (
+  clause_below n c (All-head (IsClause n) c cs all),
+  clauses_below n cs
+      (All-tail (IsClause n) c cs all),
+)
+
+-- a list more that differs from each
+distinct_none : IsDistinct (pointwise nat_eq) []
+unfolding IsDistinct
+distinct_none = tt
+
+distinct_more : (sets : List (List ℕ)) (set : List ℕ) → IsDistinct (pointwise nat_eq) sets →
+    is_among sets set ≡ false → IsDistinct (pointwise nat_eq) (sets ++ set ∷ [])
+unfolding IsDistinct
+distinct_more [] set distinct other = (tt, tt)
+distinct_more (x ∷ xs) set distinct other =
+    let parts = or_parts (pointwise nat_eq x set) (is_among xs set) other in
+    (each xs distinct.0 parts.0, distinct_more xs set distinct.1 parts.1)
+  where
+    each : (ys : List (List ℕ)) → AllByRecursion (λ y. pointwise nat_eq x y ≡ false) ys →
+        pointwise nat_eq x set ≡ false →
+        AllByRecursion (λ y. pointwise nat_eq x y ≡ false) (ys ++ set ∷ [])
+    each [] all last = (last, tt)
+    each (y ∷ ys) all last = (all.0, each ys all.1 last)
+
+-- what an allowed Block step says of its set
+pub block_parts : (good : Judge) (s : State) (set : List ℕ) (run : List Choice) →
+    block_error good s set run ≡ None →
+    (lacks_group s.groups set ≡ false) × (is_among s.sets set ≡ false)
+    × (set_weight s.groups set ≡ s.bound) × (good set run ≡ true)
+block_parts good s set run none =
+    let runs : Option StepError = error_if (not (good set run)) RunNotGood None in
+    let weighs : Option StepError = error_if (not (set_weight s.groups set == s.bound)) WrongWeight runs in
+    let known = no_error (lacks_group s.groups set) BadVariable (error_if (is_among s.sets set) SetTwice
+    weighs) none in
+    let once = no_error (is_among s.sets set) SetTwice weighs known.1 in
+    let heavy = no_error (not (set_weight s.groups set == s.bound)) WrongWeight runs once.1 in
+    let run_good = no_error (not (good set run)) RunNotGood None heavy.1 in
+    (known.0, once.0, same (set_weight s.groups set) s.bound heavy.0, is_true (good set run) run_good.0)
+  where
+    same : (a b : ℕ) → not (a == b) ≡ false → a ≡ b
+    same a b e = grind (arith, nat_tests)
+
+    is_true : (b : Bool) → not b ≡ false → b ≡ true
+    is_true true e = refl
+    is_true false e = absurd (cc)
+
+block_keeps : (good : Judge) (formula : Cnf) (softs : List Soft) (splits : List (List Literal)) (s : State)
+    (set : List ℕ) (run : List Choice) →
+    IsStart formula softs → KeepsFacts good formula softs splits s → AreAbove 0 set →
+    block_error good s set run ≡ None → KeepsFacts good formula softs splits (after_block s set)
+block_keeps good formula softs splits s set run start h above none = record {
+  facts = record {
+    extends = λ v given blocked.
+        let parts = and_parts (all_true v (block_clauses softs s.sets)) (any_true v new && true)
+        (sym (all_true-append v (block_clauses softs s.sets) (new ∷ []))
+        ∙ (sym (ap (all_true v) sets_is) ∙ blocked)) in
+        let (z, same, split, lives, costs) = h.facts.extends v given parts.0 in (
+          z,
+          same,
+          split,
+          ap (all_true z) lives_is
+              ∙ all_true-push z (all_lits s.clauses) new lives
+              (sym (any_true-agree (formula.variables + 1) v z new same below)
+              ∙ (and_parts (any_true v new) true parts.1).0),
+          costs,
+        );
+    alone = h.facts.alone;
+    sets_differ = distinct_more s.sets set h.facts.sets_differ parts_of.1;
+    sets_good = All-append (IsBlocked good softs s.bound) s.sets (set ∷ []) h.facts.sets_good
+        (All-cons (IsBlocked good softs s.bound) set [] is_blocked (All-nil (IsBlocked good softs s.bound)));
+    differ = h.facts.differ;
+    among = h.facts.among;
+    weighty = h.facts.weighty;
+    given_live = λ place lt. ap live_lits (given_stay place lt);
+    splits_live = stays_live origins.Split grown splits refl splits_stay;
+    sets_live = stays_live origins.Blocked grown (block_clauses softs (s.sets ++ set ∷ [])) refl sets_stay;
+  };
+  groups_stay = h.groups_stay;
+  wide = h.wide;
+  splits_below = h.splits_below;
+  live_below = let P : List (List Literal) → Type 0 = λ cs. ClausesBelow (s.variables + 1) cs in
+      subst P (sym lives_is) (ClausesBelow-append (s.variables + 1) (all_lits s.clauses) (new ∷ [])
+      h.live_below (
+        ClauseBelow-more (formula.variables + 1) (s.variables + 1) new (omega (arith, h.wide))
+            below,
+        tt,
+      ));
+  given_stay = given_stay;
+  splits_stay = splits_stay;
+  sets_stay = sets_stay;
+}
+  where
+    parts_of : (lacks_group s.groups set ≡ false) × (is_among s.sets set ≡ false)
+        × (set_weight s.groups set ≡ s.bound) × (good set run ≡ true)
+    parts_of = block_parts good s set run none
+
+    new : List Literal
+    new = block_clause softs set
+
+    added : List Kept
+    added = kept origins.Blocked (block_clause s.groups set) ∷ []
+
+    grown : List Kept
+    grown = s.clauses ++ added
+
+    exist : lacks_group softs set ≡ false
+    exist = ap (λ g. lacks_group g set) (sym h.groups_stay) ∙ parts_of.0
+
+    is_blocked : IsBlocked good softs s.bound set
+    is_blocked = record {
+      ascends = above;
+      exist = exist;
+      weight = ap (λ g. set_weight g set) (sym h.groups_stay) ∙ parts_of.2;
+      run = run;
+      is_good = parts_of.3;
+    }
+
+    below : ClauseBelow (formula.variables + 1) new
+    below = clause_below formula.variables new
+        (block_formed formula.variables softs set start.softs_among start.softs_differ above exist)
+
+    lives_is : all_lits grown ≡ all_lits s.clauses ++ new ∷ []
+    lives_is = all_lits-append s.clauses added
+        ∙ ap (λ g. all_lits s.clauses ++ block_clause g set ∷ []) h.groups_stay
+
+    sets_is : block_clauses softs (s.sets ++ set ∷ []) ≡ block_clauses softs s.sets ++ new ∷ []
+    sets_is = map-append (block_clause softs) s.sets (set ∷ [])
+
+    given_stay : (place : ℕ) → place < length formula.clauses →
+        kept_at grown (place + 1) ≡ Some (kept origins.Given (get_or formula.clauses place []))
+    given_stay place lt = kept_at-more s.clauses added (place + 1)
+        (kept origins.Given (get_or formula.clauses place [])) (h.given_stay place lt)
+
+    splits_stay : All (Stays origins.Split grown) splits
+    splits_stay = all_stay-more origins.Split s.clauses added splits h.splits_stay
+
+    new_stays : Stays origins.Blocked grown new
+    new_stays = (
+      suc (length s.clauses),
+      slice_get-seam s.clauses (kept origins.Blocked (block_clause s.groups set)) []
+          ∙ ap (λ g. Some (kept origins.Blocked (block_clause g set))) h.groups_stay,
+    )
+
+    sets_stay : All (Stays origins.Blocked grown) (block_clauses softs (s.sets ++ set ∷ []))
+    sets_stay = let P : List (List Literal) → Type 0 = λ cs. All (Stays origins.Blocked grown) cs in
+        subst P (sym sets_is) (All-append (Stays origins.Blocked grown) (block_clauses softs s.sets) (new ∷
+        [])
+        (all_stay-more origins.Blocked s.clauses added (block_clauses softs s.sets) h.sets_stay)
+        (All-cons (Stays origins.Blocked grown) new [] new_stays (All-nil (Stays origins.Blocked grown))))
 
 step_keeps : (good : Judge) (formula : Cnf) (softs : List Soft) (splits : List (List Literal)) (s : State) (step : CertStep) →
-    KeepsFacts formula softs splits s → IsFormed step → error_of good s step ≡ None → KeepsFacts formula softs (splits ++ step_splits s step) (after s step)
-step_keeps good formula softs splits s (Learn lits hints) h formed none =
+    IsStart formula softs → KeepsFacts good formula softs splits s → IsFormed step → error_of good s step ≡
+    None → KeepsFacts good formula softs (splits ++ step_splits s step) (after s step)
+step_keeps good formula softs splits s (Learn lits hints) start h formed none =
     let awake = no_error s.refused Memory (error_if s.ended AfterEnd (learn_error s lits hints)) none in
     let going = no_error s.ended AfterEnd (learn_error s lits hints) awake.1 in
     let exists = no_error (lacks_variable s lits) BadVariable (error_if (is_spent s) WrongCount (error_if (holds_clause s.clauses lits) NotNew (hint_error s lits hints))) going.1 in
     let left = no_error (is_spent s) WrongCount (error_if (holds_clause s.clauses lits) NotNew (hint_error s lits hints)) exists.1 in
     let new = no_error (holds_clause s.clauses lits) NotNew (hint_error s lits hints) left.1 in
-    no_more formula softs splits (after_learn s lits) (learn_keeps formula softs splits s lits hints h exists.0 new.1)
-step_keeps good formula softs splits s (Core lits hints) h formed none =
+    no_more good formula softs splits (after_learn s lits) (learn_keeps good formula softs splits s lits
+    hints h exists.0 new.1)
+step_keeps good formula softs splits s (Core lits hints) start h formed none =
     let awake = no_error s.refused Memory (error_if s.ended AfterEnd (core_error s lits hints)) none in
     let going = no_error s.ended AfterEnd (core_error s lits hints) awake.1 in
     let exists = no_error (lacks_variable s lits) BadVariable (error_if (is_spent s) WrongCount (error_if (ltb 0 (length s.sets)) CoreAfterSet (error_if (lacks_soft s.softs lits) NotSofts (hint_error s lits hints)))) going.1 in
     let left = no_error (is_spent s) WrongCount (error_if (ltb 0 (length s.sets)) CoreAfterSet (error_if (lacks_soft s.softs lits) NotSofts (hint_error s lits hints))) exists.1 in
     let early = no_error (ltb 0 (length s.sets)) CoreAfterSet (error_if (lacks_soft s.softs lits) NotSofts (hint_error s lits hints)) left.1 in
     let known = no_error (lacks_soft s.softs lits) NotSofts (hint_error s lits hints) early.1 in
-    core_step formula softs splits s lits hints h formed.0 exists.0 known.0 known.1
-step_keeps good formula softs splits s (Delete numbers) h formed none =
+    core_step good formula softs splits s lits hints h formed.0 exists.0 known.0 (none_yet s.sets early.0)
+    known.1
+  where
+    none_yet : (sets : List (List ℕ)) → ltb 0 (length sets) ≡ false → sets ≡ []
+    none_yet [] none = refl
+    none_yet (x ∷ xs) none = absurd (some (length xs) none)
+      where
+        some : (n : ℕ) → ltb 0 (suc n) ≡ false → ⊥
+        some n e = grind (arith, nat_tests)
+step_keeps good formula softs splits s (Delete numbers) start h formed none =
     let awake = no_error s.refused Memory (error_if s.ended AfterEnd (delete_error s numbers)) none in
     let going = no_error s.ended AfterEnd (delete_error s numbers) awake.1 in
     let goes = no_error (not (list_all (may_go s) numbers)) DeadClause (error_if (ltb s.learnt apart_by) TooSoon None) going.1 in
-    no_more formula softs splits (after_delete s numbers) (delete_keeps formula softs splits s numbers h (not_not (list_all (may_go s) numbers) goes.0))
+    no_more good formula softs splits (after_delete s numbers) (delete_keeps good formula softs splits s
+    numbers h (not_not (list_all (may_go s) numbers) goes.0))
   where
     not_not : (b : Bool) → not b ≡ false → b ≡ true
     not_not true e = refl
     not_not false e = absurd (cc)
-step_keeps good formula softs splits s (EndNoRepair hints) h formed none = no_more formula softs splits (record s { ended = true }) (end_keeps formula softs splits s h)
-step_keeps good formula softs splits s EndSpent h formed none = no_more formula softs splits (record s { ended = true }) (end_keeps formula softs splits s h)
+step_keeps good formula softs splits s (Block groups run) start h formed none =
+    let awake = no_error s.refused Memory (error_if s.ended AfterEnd (block_error good s groups run)) none in
+    let going = no_error s.ended AfterEnd (block_error good s groups run) awake.1 in
+    no_more good formula softs splits (after_block s groups) (block_keeps good formula softs splits s
+    groups run start h formed.0 going.1)
+step_keeps good formula softs splits s (EndLocated lits hints) start h formed none = no_more good formula
+    softs splits (record s { ended = true }) (end_keeps good formula softs splits s h)
+step_keeps good formula softs splits s (EndNoRepair hints) start h formed none = no_more good formula softs
+    splits (record s { ended = true }) (end_keeps good formula softs splits s h)
+step_keeps good formula softs splits s EndTooMany start h formed none = no_more good formula softs splits
+    (record s { ended = true }) (end_keeps good formula softs splits s h)
+step_keeps good formula softs splits s EndSpent start h formed none = no_more good formula softs splits
+    (record s { ended = true }) (end_keeps good formula softs splits s h)
 
 -- so do any allowed steps
 allowed : (o : Option StepError) (next : Option State) (t : State) → next_if o next ≡ Some t → (o ≡ None) × (next ≡ Some t)
@@ -602,27 +888,21 @@ allowed None next t is = (refl, is)
 allowed (Some e) next t is = absurd (cc)
 
 steps_keep : (good : Judge) (formula : Cnf) (softs : List Soft) (splits : List (List Literal)) (s : State) (steps : List CertStep) (t : State) →
-    KeepsFacts formula softs splits s → All IsFormed steps → after_all good s steps ≡ Some t → KeepsFacts formula softs (splits ++ splits_of s steps) t
-steps_keep good formula softs splits s [] t h formed is =
+    IsStart formula softs → KeepsFacts good formula softs splits s → All IsFormed steps → after_all good s
+    steps ≡ Some t → KeepsFacts good formula softs (splits ++ splits_of s steps) t
+steps_keep good formula softs splits s [] t start h formed is =
     let e : s ≡ t = cc in
-    let P : State → Type 0 = λ u. KeepsFacts formula softs (splits ++ []) u in
-    subst P e (no_more formula softs splits s h)
-steps_keep good formula softs splits s (step ∷ steps) t h formed is =
+    let P : State → Type 0 = λ u. KeepsFacts good formula softs (splits ++ []) u in
+    subst P e (no_more good formula softs splits s h)
+steps_keep good formula softs splits s (step ∷ steps) t start h formed is =
     let next = allowed (error_of good s step) (after_all good (after s step) steps) t is in
-    let P : List (List Literal) → Type 0 = λ cs. KeepsFacts formula softs cs t in
+    let P : List (List Literal) → Type 0 = λ cs. KeepsFacts good formula softs cs t in
     subst P (append_assoc splits (step_splits s step) (splits_of (after s step) steps))
-    (steps_keep good formula softs (splits ++ step_splits s step) (after s step) steps t
-    (step_keeps good formula softs splits s step h (All-head IsFormed step steps formed) next.0) (All-tail IsFormed step steps formed) next.1)
+    (steps_keep good formula softs (splits ++ step_splits s step) (after s step) steps t start
+    (step_keeps good formula softs splits s step start h (All-head IsFormed step steps formed) next.0)
+    (All-tail IsFormed step steps formed) next.1)
 
 -- THE FIRST STATE has them
-clause_below : (n : ℕ) (c : List Literal) → IsClause n c → ClauseBelow (n + 1) c
-clause_below n [] clause = tt
-clause_below n (l ∷ ls) clause = (let le = clause.within 0 (omega arith) in omega (arith, le), clause_below n ls (IsClause-rest n l ls clause))
-
-clauses_below : (n : ℕ) (cs : List (List Literal)) → All (IsClause n) cs → ClausesBelow (n + 1) cs
-clauses_below n [] all = tt
-clauses_below n (c ∷ cs) all = (clause_below n c (All-head (IsClause n) c cs all), clauses_below n cs (All-tail (IsClause n) c cs all))
-
 pub present_weighty : (softs : List Soft) → All (λ (soft : Soft). 1 ≤ soft.1) (present softs)
 present_weighty [] = All-nil (λ (soft : Soft). 1 ≤ soft.1)
 present_weighty (s ∷ ss) = cases (ltb 0 s.1) refl (present_weighty ss)
@@ -642,24 +922,29 @@ given_at (c ∷ cs) (suc place) lt = given_at cs place (omega arith)
 given_numbered : (cs : List (List Literal)) (place : ℕ) → place < length cs → kept_at (map (kept origins.Given) cs) (place + 1) ≡ Some (kept origins.Given (get_or cs place []))
 given_numbered cs place lt = let e : place + 1 ≡ suc place = omega arith in rw e (given_at cs place lt)
 
-first_keeps : (formula : Cnf) (softs : List Soft) (conflicts sets : ℕ) → IsStart formula softs → KeepsFacts formula softs [] (first_state formula softs conflicts sets)
-first_keeps formula softs conflicts sets start = record {
+first_keeps : (good : Judge) (formula : Cnf) (softs : List Soft) (conflicts sets : ℕ) → IsStart formula
+    softs → KeepsFacts good formula softs [] (first_state formula softs conflicts sets)
+first_keeps good formula softs conflicts sets start = record {
   facts = record {
-    extends = λ v good. (
+    extends = λ v given blocked. (
       v,
       λ u lt. refl,
       refl,
       ap (all_true v) (all_lits-kept origins.Given formula.clauses)
-          ∙ good,
+          ∙ given,
       from_zero (cost v (present softs)),
     );
     alone = λ y z same first second. same;
+    sets_differ = distinct_none;
+    sets_good = All-nil (IsBlocked good softs 0);
     differ = start.softs_differ;
     among = start.softs_among;
     weighty = present_weighty softs;
     given_live = λ place lt. ap live_lits (given_numbered formula.clauses place lt);
     splits_live = All-nil (IsLive (map (kept origins.Given) formula.clauses));
+    sets_live = All-nil (IsLive (map (kept origins.Given) formula.clauses));
   };
+  groups_stay = refl;
   wide = omega arith;
   splits_below = tt;
   live_below = let P : List (List Literal) → Type 0 =
@@ -667,7 +952,8 @@ first_keeps formula softs conflicts sets start = record {
       (sym (all_lits-kept origins.Given formula.clauses))
       (clauses_below formula.variables formula.clauses start.clauses);
   given_stay = λ place lt. given_numbered formula.clauses place lt;
-  splits_stay = All-nil (Stays (map (kept origins.Given) formula.clauses));
+  splits_stay = All-nil (Stays origins.Split (map (kept origins.Given) formula.clauses));
+  sets_stay = All-nil (Stays origins.Blocked (map (kept origins.Given) formula.clauses));
 }
   where
     from_zero : (k : ℕ) → k ≡ 0 + k
@@ -675,6 +961,8 @@ first_keeps formula softs conflicts sets start = record {
 
 -- the law
 pub facts_hold : (good : Judge) (formula : Cnf) (softs : List Soft) (conflicts sets : ℕ) → IsStart formula softs → (steps : List CertStep) → All IsFormed steps → (s : State) →
-    after_all good (first_state formula softs conflicts sets) steps ≡ Some s → Holds formula softs (splits_of (first_state formula softs conflicts sets) steps) s
+    after_all good (first_state formula softs conflicts sets) steps ≡ Some s → Holds good formula softs
+    (splits_of (first_state formula softs conflicts sets) steps) s
 facts_hold good formula softs conflicts sets start steps formed s is =
-    (steps_keep good formula softs [] (first_state formula softs conflicts sets) steps s (first_keeps formula softs conflicts sets start) formed is).facts
+    (steps_keep good formula softs [] (first_state formula softs conflicts sets) steps s start (first_keeps
+    good formula softs conflicts sets start) formed is).facts

@@ -13,7 +13,7 @@ use Rattle.ba_steps.specs.declared.store.Origin.{Origin}
 use Rattle.ba_steps.specs.declared.store.Origin.TheVariants as origins
 use Rattle.ba_steps.proofs.LoweredLaws.{IsClause-rest}
 
-nil_formed : (n : ℕ) → IsClause n []
+pub nil_formed : (n : ℕ) → IsClause n []
 nil_formed n = record {
   ascends = λ j k jk lt. absurd (omega arith);
   counted = λ k lt. absurd (omega arith);
@@ -42,7 +42,7 @@ cons_formed n a rest counted within first clause = record { ascends = ascends; c
     each_within zero lt = within
     each_within (suc k) lt = clause.within k (omega arith)
 
-single_formed : (n : ℕ) (a : Literal) → 1 ≤ a.variable → a.variable ≤ n → IsClause n (a ∷ [])
+pub single_formed : (n : ℕ) (a : Literal) → 1 ≤ a.variable → a.variable ≤ n → IsClause n (a ∷ [])
 single_formed n a counted within = cons_formed n a [] counted within (λ some. absurd (omega arith)) (nil_formed n)
 
 pair_formed : (n : ℕ) (a b : Literal) → 1 ≤ a.variable → a.variable < b.variable → b.variable ≤ n → IsClause n (a ∷ b ∷ [])
@@ -133,10 +133,11 @@ AreFormed n clauses = All (λ (k : Kept). IsClause n k.lits) clauses
 pub kept_formed : (n : ℕ) (origin : Origin) (cs : List (List Literal)) → All (IsClause n) cs → AreFormed n (map (kept origin) cs)
 kept_formed n origin cs all = All-map (λ (k : Kept). IsClause n k.lits) (kept origin) cs all
 
-pub learnt_formed : (n : ℕ) (clauses : List Kept) (lits : List Literal) → AreFormed n clauses → IsClause n lits → AreFormed n (clauses ++ kept origins.Learnt lits ∷ [])
-learnt_formed n clauses lits all clause =
-    All-append (λ (k : Kept). IsClause n k.lits) clauses (kept origins.Learnt lits ∷ []) all
-    (All-cons (λ (k : Kept). IsClause n k.lits) (kept origins.Learnt lits) [] clause (All-nil (λ (k : Kept). IsClause n k.lits)))
+pub one_formed : (n : ℕ) (origin : Origin) (clauses : List Kept) (lits : List Literal) → AreFormed n clauses →
+    IsClause n lits → AreFormed n (clauses ++ kept origin lits ∷ [])
+one_formed n origin clauses lits all clause =
+    All-append (λ (k : Kept). IsClause n k.lits) clauses (kept origin lits ∷ []) all
+    (All-cons (λ (k : Kept). IsClause n k.lits) (kept origin lits) [] clause (All-nil (λ (k : Kept). IsClause n k.lits)))
 
 pub core_formed : (m n : ℕ) (clauses : List Kept) (lits : List Literal) → AreFormed m clauses → IsClause m lits → m + fresh_count (length lits) ≤ n →
     AreFormed n (clauses ++ kept origins.Core lits ∷ [] ++ map (kept origins.Split) (split_clauses (m + 1) lits))

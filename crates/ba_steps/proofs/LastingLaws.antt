@@ -55,6 +55,11 @@ core_implied clauses lits splits h =
     (lasting_kept origins.Split splits refl ∙ sym (all_lits-kept origins.Split splits))
     (more_implied clauses (kept origins.Core lits ∷ []) refl h)
 
+-- a set is blocked
+pub blocked_implied : (clauses : List Kept) (lits : List Literal) → AreImplied clauses →
+    AreImplied (clauses ++ kept origins.Blocked lits ∷ [])
+blocked_implied clauses lits h = more_implied clauses (kept origins.Blocked lits ∷ []) refl h
+
 -- a clause is learnt
 pub learnt_implied : (clauses : List Kept) (lits : List Literal) →
     ((v : Assignment) → all_true v (all_lits clauses) ≡ true → any_true v lits ≡ true) → AreImplied clauses →
@@ -88,6 +93,7 @@ learnt_goes (Some k) e = of_origin k.origin e
     of_origin origins.Learnt e = refl
     of_origin origins.Core e = absurd (cc)
     of_origin origins.Split e = absurd (cc)
+    of_origin origins.Blocked e = absurd (cc)
     of_origin origins.Deleted e = refl
 
 lasting-without : (clauses : List Kept) (m : ℕ) → lasts (kept_at clauses m) ≡ false → lasting (without clauses m) ≡ lasting clauses

@@ -7,6 +7,7 @@ pub mod SplitMeaning
 pub mod LoweredLaws
 pub mod FactLaws
 pub mod FormedLaws
+pub mod BlockLaws
 pub mod LastingLaws
 pub mod StateLaws
 pub mod PutLaws

@@ -1,6 +1,6 @@
 -- Clauses listed under one literal each.
 
-use Rattle.std.proofs.Common.{◌≡◌, ◌≢◌, ℕ, suc, zero, ◌+◌, ◌-◌, ◌^◌, ◌<◌, ◌≤◌, Bool, true, false, not, ◌&&◌, ◌||◌, List, [], ◌∷◌, ◌++◌, ltb, length, get_or, set, cond, eqb, refl, sym, ap, ◌∙◌, arith, subst, ⊎_elim, ◌⊎◌, Result, Ok, Err}
+use Rattle.std.proofs.Common.{◌≡◌, ◌≢◌, ℕ, suc, zero, ◌+◌, ◌-◌, ◌^◌, ◌<◌, ◌≤◌, Bool, true, false, not, ◌&&◌, ◌||◌, List, [], ◌∷◌, ◌++◌, ltb, length, get_or, set, cond, eqb, refl, sym, ap, ◌∙◌, arith, subst, ⊎_elim, Result, Ok, Err}
 use Rattle.std.specs.Result.{is_err, OnOk}
 use Rattle.std.proofs.lemmas.List.{get_or-set_same, get_or-set_other, get_or_append_left, get_or_push, get_or_past, length-append, length_push, length-map, length-set, map-append, map-set, get_or-map}
 use Rattle.std.proofs.lemmas.Bool.{cases_eq, cases_lt, eq-eqb, ne_eqb, eqb-true, or_left, or_right, or_cases, and_parts}

@@ -1,6 +1,6 @@
 -- What the soft literals of a core lose.
 
-use Rattle.std.proofs.Common.{◌≡◌, ℕ, suc, ◌+◌, ◌*◌, ◌-◌, ◌≤◌, Bool, true, false, not, ◌||◌, cond, ltb, eqb, min, unwrap_or, Option, None, Some, List, [], ◌∷◌, refl, sym, ap, ◌∙◌, arith, subst, ⊎_elim, ◌⊎◌}
+use Rattle.std.proofs.Common.{◌≡◌, ℕ, suc, ◌+◌, ◌*◌, ◌-◌, ◌≤◌, Bool, true, false, not, ◌||◌, cond, ltb, eqb, min, unwrap_or, Option, None, Some, List, [], ◌∷◌, refl, sym, ap, ◌∙◌, arith, subst, ⊎_elim}
 use Rattle.std.proofs.lemmas.Bool.{eq-eqb, or_parts, or_cases, false_from_ne_true}
 use Rattle.std.proofs.Math.Nat.{mul-add}
 use Rattle.std.proofs.lemmas.Bool.Decides.{nat_tests}

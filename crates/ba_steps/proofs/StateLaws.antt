@@ -10,13 +10,15 @@ use Rattle.ba_lits.specs.Satisfaction.{Soft}
 use Rattle.ba_lits.specs.Hints.{has_literal}
 use Rattle.ba_steps.specs.Splits.{split_clauses, fresh_count, late_softs, is_soft, lightest, lowered}
 use Rattle.ba_steps.specs.States.{Kept, kept, State, is_learnt_at, width_at, without_all, present}
-use Rattle.ba_steps.specs.Steps.{AreFormedLits}
+use Rattle.ba_steps.specs.Steps.{AreFormedLits, AreAbove}
 use Rattle.ba_steps.specs.Judging.{lacks_variable, lacks_soft, learn_error}
 use Rattle.ba_steps.specs.Facts.{AreSelectors, IsState}
 use Rattle.ba_steps.specs.declared.store.Origin.TheVariants as origins
 use Rattle.ba_steps.proofs.FactLaws.{lowered-all, late-all, lowered-different, lowered-below, apart, among-below, lightest_weighty, present_weighty}
-use Rattle.ba_steps.proofs.FormedLaws.{exist_formed, core_formed, learnt_formed, kept_formed, without_all_formed}
-use Rattle.ba_steps.proofs.LastingLaws.{given_implied, core_implied, learn_implied, deleted_implied}
+use Rattle.ba_steps.proofs.FormedLaws.{exist_formed, core_formed, one_formed, kept_formed, without_all_formed}
+use Rattle.ba_steps.proofs.LastingLaws.{given_implied, core_implied, learn_implied, blocked_implied, deleted_implied}
+use Rattle.ba_steps.specs.Blocks.{lacks_group, block_clause}
+use Rattle.ba_steps.proofs.BlockLaws.{block_formed}
 
 none_at : (p : Literal → Bool) (xs : List Literal) (k : ℕ) → list_any p xs ≡ false → k < length xs → p (lit_at xs k) ≡ false
 none_at p [] k none lt = absurd (omega arith)
@@ -43,26 +45,41 @@ core_weight softs (b ∷ rest) some known weighty = lightest_weighty (b ∷ rest
     there true y e = refl
     there false y e = absurd (cc)
 
-pub core_state : (seen : State) (variables : ℕ) (clauses : List Kept) (softs : List Soft) (conflicts budget learnt : ℕ) (refused : Bool) (lits : List Literal) (fresh w e : ℕ) (one grown : List Kept) (more : List Soft) →
-    IsState variables clauses softs conflicts budget learnt refused → variables ≡ seen.variables → softs ≡ seen.softs → refused ≡ false → conflicts < budget →
+pub core_state : (seen : State) (variables : ℕ) (clauses : List Kept) (groups softs : List Soft) (conflicts
+    budget learnt : ℕ) (refused : Bool) (lits : List Literal) (fresh w e : ℕ) (one grown : List Kept) (more
+    : List Soft) →
+    IsState variables clauses groups softs conflicts budget learnt refused → variables ≡ seen.variables →
+    softs ≡ seen.softs → refused ≡ false → conflicts < budget →
     AreFormedLits lits → lacks_variable seen lits ≡ false → lacks_soft seen.softs lits ≡ false →
     fresh ≡ fresh_count (length lits) → variables + fresh < 2 ^ 62 → w ≡ unwrap_or (lightest lits softs) 0 → e ≡ variables + 1 + (length lits - 2) →
     more ≡ lowered lits w softs ++ late_softs w e lits → one ≡ clauses ++ kept origins.Core lits ∷ [] → grown ≡ one ++ map (kept origins.Split) (split_clauses (variables + 1) lits) →
-    IsState (variables + fresh) grown more (conflicts + 1) budget learnt false
-core_state seen variables clauses softs conflicts budget learnt refused lits fresh w e one grown more h variables_is softs_is awake left formed exists known fresh_is few w_is e_is more_is one_is grown_is = record {
-  few = few;
-  formed = λ _. rw (grown_is, one_is) (core_formed variables (variables + fresh) clauses lits (h.formed awake) (rw variables_is (exist_clause seen lits formed exists)) (omega (arith, fresh_is)));
-  implied = λ _. rw (grown_is, one_is) (core_implied clauses lits (split_clauses (variables + 1) lits) (h.implied awake));
-  among = rw more_is (All-append (λ (s : Soft). (1 ≤ s.0.variable) × (s.0.variable ≤ variables + fresh)) (lowered lits w softs) (late_softs w e lits)
-      (lowered-all (λ (s : Soft). (1 ≤ s.0.variable) × (s.0.variable ≤ variables + fresh)) w lits softs (λ s p lt. p) (All-weaker (λ (s : Soft). (1 ≤ s.0.variable) × (s.0.variable ≤ variables)) (λ (s : Soft). (1 ≤ s.0.variable) × (s.0.variable ≤ variables + fresh)) (λ s p. (p.0, omega (arith, p.1))) softs h.among))
-      (late-all (λ (s : Soft). (1 ≤ s.0.variable) × (s.0.variable ≤ variables + fresh)) w e lits (λ x ge lt. (omega (arith, e_is), omega (arith, e_is, fresh_is)))));
-  differ = rw more_is (apart (variables + 1) w e (lowered lits w softs) lits (omega (arith, e_is)) (lowered-below (variables + 1) w lits softs (among-below variables softs h.among)) (lowered-different w lits softs h.differ));
-  weighty = rw more_is (All-append (λ (s : Soft). 1 ≤ s.1) (lowered lits w softs) (late_softs w e lits)
-      (lowered-all (λ (s : Soft). 1 ≤ s.1) w lits softs (λ s p lt. omega (arith, lt)) h.weighty)
-      (late-all (λ (s : Soft). 1 ≤ s.1) w e lits (λ x ge lt. heavy)));
-  within = omega (arith, left);
-  learnt_within = omega (arith, h.learnt_within);
-}
+    IsState (variables + fresh) grown groups more (conflicts + 1) budget learnt false
+core_state seen variables clauses groups softs conflicts budget learnt refused lits fresh w e one grown
+    more h variables_is softs_is awake left formed exists known fresh_is few w_is e_is more_is one_is
+    grown_is = record {
+      few = few;
+      formed = λ _. rw (grown_is, one_is) (core_formed variables (variables + fresh) clauses lits (h.formed awake) (rw variables_is (exist_clause seen lits formed exists)) (omega (arith, fresh_is)));
+      implied = λ _. rw (grown_is, one_is) (core_implied clauses lits (split_clauses (variables + 1) lits) (h.implied awake));
+      groups_among = All-weaker (λ (s : Soft). (1 ≤ s.0.variable) × (s.0.variable ≤ variables))
+          (λ (s : Soft). (1 ≤ s.0.variable) × (s.0.variable ≤ variables + fresh)) (λ s p. (
+            p.0,
+            omega (
+              arith,
+              p.1,
+            ),
+          ))
+          (present groups) h.groups_among;
+      groups_differ = h.groups_differ;
+      among = rw more_is (All-append (λ (s : Soft). (1 ≤ s.0.variable) × (s.0.variable ≤ variables + fresh)) (lowered lits w softs) (late_softs w e lits)
+          (lowered-all (λ (s : Soft). (1 ≤ s.0.variable) × (s.0.variable ≤ variables + fresh)) w lits softs (λ s p lt. p) (All-weaker (λ (s : Soft). (1 ≤ s.0.variable) × (s.0.variable ≤ variables)) (λ (s : Soft). (1 ≤ s.0.variable) × (s.0.variable ≤ variables + fresh)) (λ s p. (p.0, omega (arith, p.1))) softs h.among))
+          (late-all (λ (s : Soft). (1 ≤ s.0.variable) × (s.0.variable ≤ variables + fresh)) w e lits (λ x ge lt. (omega (arith, e_is), omega (arith, e_is, fresh_is)))));
+      differ = rw more_is (apart (variables + 1) w e (lowered lits w softs) lits (omega (arith, e_is)) (lowered-below (variables + 1) w lits softs (among-below variables softs h.among)) (lowered-different w lits softs h.differ));
+      weighty = rw more_is (All-append (λ (s : Soft). 1 ≤ s.1) (lowered lits w softs) (late_softs w e lits)
+          (lowered-all (λ (s : Soft). 1 ≤ s.1) w lits softs (λ s p lt. omega (arith, lt)) h.weighty)
+          (late-all (λ (s : Soft). 1 ≤ s.1) w e lits (λ x ge lt. heavy)));
+      within = omega (arith, left);
+      learnt_within = omega (arith, h.learnt_within);
+    }
   where
     heavy : 1 ≤ w
     heavy =
@@ -71,11 +88,14 @@ core_state seen variables clauses softs conflicts budget learnt refused lits fre
         omega (arith, a, w_is)
 
 pub first_state_holds : (variables : ℕ) (cs : List (List Literal)) (softs given : List Soft) (clauses : List Kept) (conflicts : ℕ) →
-    variables < 2 ^ 62 → All (IsClause variables) cs → AreSelectors variables given → clauses ≡ map (kept origins.Given) cs → softs ≡ present given → IsState variables clauses softs 0 conflicts 0 false
+    variables < 2 ^ 62 → All (IsClause variables) cs → AreSelectors variables given → clauses ≡ map (kept
+    origins.Given) cs → softs ≡ present given → IsState variables clauses given softs 0 conflicts 0 false
 first_state_holds variables cs softs given clauses conflicts few formed selectors clauses_is softs_is = rw (clauses_is, softs_is) (record {
   few = few;
   formed = λ _. kept_formed variables origins.Given cs formed;
   implied = λ _. given_implied cs;
+  groups_among = selectors.among;
+  groups_differ = selectors.differ;
   among = selectors.among;
   differ = selectors.differ;
   weighty = present_weighty given;
@@ -84,37 +104,73 @@ first_state_holds variables cs softs given clauses conflicts few formed selector
 })
 
 pub first_state_as : (n variables : ℕ) (cs : List (List Literal)) (softs given : List Soft) (clauses : List Kept) (conflicts : ℕ) →
-    variables ≡ n → variables < 2 ^ 62 → All (IsClause n) cs → AreSelectors n given → clauses ≡ map (kept origins.Given) cs → softs ≡ present given → IsState variables clauses softs 0 conflicts 0 false
+    variables ≡ n → variables < 2 ^ 62 → All (IsClause n) cs → AreSelectors n given → clauses ≡ map (kept
+    origins.Given) cs → softs ≡ present given → IsState variables clauses given softs 0 conflicts 0 false
 first_state_as n variables cs softs given clauses conflicts is few formed selectors clauses_is softs_is =
     rw is (first_state_holds n cs softs given clauses conflicts (rw (← is) few) formed selectors clauses_is softs_is)
 
 -- a clause is learnt
-pub learnt_state : (seen : State) (variables : ℕ) (clauses grown : List Kept) (softs : List Soft) (conflicts budget learnt : ℕ) (refused : Bool) (lits : List Literal) (hints : List ℕ) →
-    IsState variables clauses softs conflicts budget learnt refused → variables ≡ seen.variables → clauses ≡ seen.clauses → conflicts < budget →
+pub learnt_state : (seen : State) (variables : ℕ) (clauses grown : List Kept) (groups softs : List Soft)
+    (conflicts budget learnt : ℕ) (refused : Bool) (lits : List Literal) (hints : List ℕ) →
+    IsState variables clauses groups softs conflicts budget learnt refused → variables ≡ seen.variables →
+    clauses ≡ seen.clauses → conflicts < budget →
     AreFormedLits lits → lacks_variable seen lits ≡ false → learn_error seen lits hints ≡ None → grown ≡ clauses ++ kept origins.Learnt lits ∷ [] →
-    IsState variables grown softs (conflicts + 1) budget (learnt + 1) refused
-learnt_state seen variables clauses grown softs conflicts budget learnt refused lits hints h variables_is clauses_is left formed exists none grown_is = record {
-  few = h.few;
-  formed = λ awake. rw grown_is (learnt_formed variables clauses lits (h.formed awake) (rw variables_is (exist_clause seen lits formed exists)));
-  implied = λ awake. rw (grown_is, clauses_is) (learn_implied seen lits hints none (rw (← clauses_is) (h.implied awake)));
-  among = h.among;
-  differ = h.differ;
-  weighty = h.weighty;
-  within = omega (arith, left);
-  learnt_within = omega (arith, h.learnt_within);
-}
+    IsState variables grown groups softs (conflicts + 1) budget (learnt + 1) refused
+learnt_state seen variables clauses grown groups softs conflicts budget learnt refused lits hints h
+    variables_is clauses_is left formed exists none grown_is = record {
+      few = h.few;
+      formed = λ awake. rw grown_is (one_formed variables origins.Learnt clauses lits (h.formed awake) (rw
+          variables_is (exist_clause seen lits formed exists)));
+      implied = λ awake. rw (grown_is, clauses_is) (learn_implied seen lits hints none (rw (← clauses_is) (h.implied awake)));
+      groups_among = h.groups_among;
+      groups_differ = h.groups_differ;
+      among = h.among;
+      differ = h.differ;
+      weighty = h.weighty;
+      within = omega (arith, left);
+      learnt_within = omega (arith, h.learnt_within);
+    }
 
 -- clauses are deleted
-pub deleted_state : (variables : ℕ) (clauses less : List Kept) (softs : List Soft) (conflicts budget learnt : ℕ) (refused : Bool) (numbers : List ℕ) →
-    IsState variables clauses softs conflicts budget learnt refused → list_all (λ (n : ℕ). is_learnt_at clauses n && ltb 2 (width_at clauses n)) numbers ≡ true →
-    less ≡ without_all clauses numbers → IsState variables less softs conflicts budget 0 refused
-deleted_state variables clauses less softs conflicts budget learnt refused numbers h go less_is = record {
-  few = h.few;
-  formed = λ awake. rw less_is (without_all_formed variables clauses numbers (h.formed awake));
-  implied = λ awake. rw less_is (deleted_implied clauses numbers go (h.implied awake));
-  among = h.among;
-  differ = h.differ;
-  weighty = h.weighty;
-  within = h.within;
-  learnt_within = omega arith;
-}
+pub deleted_state : (variables : ℕ) (clauses less : List Kept) (groups softs : List Soft) (conflicts budget
+    learnt : ℕ) (refused : Bool) (numbers : List ℕ) →
+    IsState variables clauses groups softs conflicts budget learnt refused → list_all (λ (n : ℕ).
+    is_learnt_at clauses n && ltb 2 (width_at clauses n)) numbers ≡ true →
+    less ≡ without_all clauses numbers → IsState variables less groups softs conflicts budget 0 refused
+deleted_state variables clauses less groups softs conflicts budget learnt refused numbers h go less_is =
+    record {
+      few = h.few;
+      formed = λ awake. rw less_is (without_all_formed variables clauses numbers (h.formed awake));
+      implied = λ awake. rw less_is (deleted_implied clauses numbers go (h.implied awake));
+      groups_among = h.groups_among;
+      groups_differ = h.groups_differ;
+      among = h.among;
+      differ = h.differ;
+      weighty = h.weighty;
+      within = h.within;
+      learnt_within = omega arith;
+    }
+
+-- a set is blocked
+pub blocked_state : (variables : ℕ) (clauses grown : List Kept) (groups softs : List Soft) (conflicts
+    budget learnt : ℕ) (refused : Bool)
+    (set : List ℕ) (lits : List Literal) →
+    IsState variables clauses groups softs conflicts budget learnt refused → AreAbove 0 set →
+    lacks_group groups set ≡ false → lits ≡ block_clause groups set → grown ≡ clauses ++ kept
+    origins.Blocked lits ∷ [] →
+    IsState variables grown groups softs conflicts budget learnt refused
+blocked_state variables clauses grown groups softs conflicts budget learnt refused set lits h above exist
+    lits_is grown_is = record {
+      few = h.few;
+      formed = λ awake. rw (grown_is, lits_is) (one_formed variables origins.Blocked clauses (block_clause
+          groups set) (h.formed awake)
+          (block_formed variables groups set h.groups_among h.groups_differ above exist));
+      implied = λ awake. rw grown_is (blocked_implied clauses lits (h.implied awake));
+      groups_among = h.groups_among;
+      groups_differ = h.groups_differ;
+      among = h.among;
+      differ = h.differ;
+      weighty = h.weighty;
+      within = h.within;
+      learnt_within = h.learnt_within;
+    }

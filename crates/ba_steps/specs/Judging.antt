@@ -8,12 +8,13 @@ use Rattle.ba_lits.specs.Hints.{Replay, Refutes, StaysOpen, NamesNone, NamesIdle
 use Rattle.ba_choices.specs.declared.Choice.{Choice}
 use Rattle.ba_steps.specs.Splits.{split_clauses, fresh_count, split_softs, is_soft, lightest, lowered}
 use Rattle.ba_steps.specs.Parts.{holds_clause}
+use Rattle.ba_steps.specs.Blocks.{lacks_group, is_among, set_weight, block_clause}
 use Rattle.ba_steps.specs.States.{kept, State, clause_at, is_learnt_at, width_at, without_all}
 use Rattle.ba_steps.specs.declared.store.Origin.TheVariants as origins
 use Rattle.ba_steps.specs.declared.step.CertStep.{CertStep}
-use Rattle.ba_steps.specs.declared.step.CertStep.TheVariants.{Learn, Core, Delete, EndNoRepair, EndSpent}
+use Rattle.ba_steps.specs.declared.step.CertStep.TheVariants.{Learn, Core, Delete, Block, EndLocated, EndNoRepair, EndTooMany, EndSpent}
 use Rattle.ba_steps.specs.declared.step.StepError.{StepError}
-use Rattle.ba_steps.specs.declared.step.StepError.TheVariants.{HintMissing, HintNotUnit, NotClosed, NotSofts, DeadClause, AfterEnd, NotNew, TooSoon, CoreAfterSet, WrongCount, BadVariable, Memory}
+use Rattle.ba_steps.specs.declared.step.StepError.TheVariants.{HintMissing, HintNotUnit, NotClosed, NotSofts, DeadClause, RunNotGood, SetTwice, WrongWeight, AfterEnd, NotNew, TooSoon, CoreAfterSet, WrongCount, BadVariable, Memory}
 
 -- which runs are good for which groups
 abbrev pub Judge : Type 0
@@ -92,11 +93,33 @@ delete_error s numbers =
     error_if (not (list_all (may_go s) numbers)) DeadClause
     (error_if (ltb s.learnt apart_by) TooSoon None)
 
+abbrev pub block_error : Judge → State → List ℕ → List Choice → Option StepError
+block_error good s groups run =
+    error_if (lacks_group s.groups groups) BadVariable
+    (error_if (is_among s.sets groups) SetTwice
+    (error_if (not (set_weight s.groups groups == s.bound)) WrongWeight
+    (error_if (not (good groups run)) RunNotGood None)))
+
+abbrev pub located_error : State → List Literal → List ℕ → Option StepError
+located_error s lits hints =
+    error_if (not (ltb 0 (length s.sets))) WrongCount
+    (error_if (is_spent s) WrongCount
+    (error_if (lacks_variable s lits) BadVariable
+    (error_if (lacks_soft s.softs lits) NotSofts
+    (hint_error s lits hints))))
+
 abbrev pub no_repair_error : State → List ℕ → Option StepError
 no_repair_error s hints =
     error_if (ltb 0 (length s.sets)) WrongCount
     (error_if (is_spent s) WrongCount
     (hint_error s [] hints))
+
+-- the blocked sets are one more than there may be least sets
+abbrev pub are_too_many : State → Bool
+are_too_many s = length s.sets == s.most_sets + 1
+
+abbrev pub too_many_error : State → Option StepError
+too_many_error s = error_if (not (are_too_many s)) WrongCount None
 
 abbrev pub spent_error : State → Option StepError
 spent_error s = error_if (not (is_spent s)) WrongCount None
@@ -105,7 +128,10 @@ abbrev pub error_before_end : Judge → State → CertStep → Option StepError
 error_before_end good s (Learn lits hints) = learn_error s lits hints
 error_before_end good s (Core lits hints) = core_error s lits hints
 error_before_end good s (Delete clauses) = delete_error s clauses
+error_before_end good s (Block groups run) = block_error good s groups run
+error_before_end good s (EndLocated lits hints) = located_error s lits hints
 error_before_end good s (EndNoRepair hints) = no_repair_error s hints
+error_before_end good s EndTooMany = too_many_error s
 error_before_end good s EndSpent = spent_error s
 
 -- the first error of a step; None exactly where it is allowed
@@ -134,12 +160,22 @@ after_core s lits = let w = unwrap_or (lightest lits s.softs) 0 in record s {
 abbrev pub after_delete : State → List ℕ → State
 after_delete s numbers = record s { clauses = without_all s.clauses numbers; learnt = 0 }
 
+-- the state after a set was blocked
+abbrev pub after_block : State → List ℕ → State
+after_block s groups = record s {
+  clauses = s.clauses ++ kept origins.Blocked (block_clause s.groups groups) ∷ [];
+  sets = s.sets ++ groups ∷ [];
+}
+
 -- the state after an allowed step
 abbrev pub after : State → CertStep → State
 after s (Learn lits hints) = after_learn s lits
 after s (Core lits hints) = after_core s lits
 after s (Delete clauses) = after_delete s clauses
+after s (Block groups run) = after_block s groups
+after s (EndLocated lits hints) = record s { ended = true }
 after s (EndNoRepair hints) = record s { ended = true }
+after s EndTooMany = record s { ended = true }
 after s EndSpent = record s { ended = true }
 
 -- the state after steps of which each is allowed

@@ -1,6 +1,7 @@
 pub mod Steps
 pub mod Splits
 pub mod States
+pub mod Blocks
 pub mod Cuts
 pub mod Parts
 pub mod Listed

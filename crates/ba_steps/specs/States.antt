@@ -6,7 +6,7 @@ use Rattle.ba_lits.specs.Literals.{Literal}
 use Rattle.ba_lits.specs.Satisfaction.{Soft}
 use Rattle.ba_lits.specs.Formulas.{Cnf}
 use Rattle.ba_steps.specs.declared.store.Origin.{Origin}
-use Rattle.ba_steps.specs.declared.store.Origin.TheVariants.{Given, Learnt, Core, Split, Deleted}
+use Rattle.ba_steps.specs.declared.store.Origin.TheVariants.{Given, Learnt, Core, Split, Blocked, Deleted}
 
 -- a clause with where it comes from, or that it was deleted
 pub record Kept : Type 0 where
@@ -59,6 +59,7 @@ is_live_origin Given = true
 is_live_origin Learnt = true
 is_live_origin Core = true
 is_live_origin Split = true
+is_live_origin Blocked = true
 is_live_origin Deleted = false
 
 abbrev pub live_lits : Option Kept → Option (List Literal)
@@ -82,18 +83,21 @@ is_learnt_origin Given = false
 is_learnt_origin Learnt = true
 is_learnt_origin Core = false
 is_learnt_origin Split = false
+is_learnt_origin Blocked = false
 is_learnt_origin Deleted = false
 
 abbrev pub is_learnt_entry : Option Kept → Bool
 is_learnt_entry None = false
 is_learnt_entry (Some k) = is_learnt_origin k.origin
 
--- whether no Learn step made the clause: it is one of the formula, a core or one of a split, and is never deleted
+-- whether no Learn step made the clause: it is one of the formula, a core, one of a split or that of a blocked set, and is
+-- never deleted
 abbrev pub is_lasting_origin : Origin → Bool
 is_lasting_origin Given = true
 is_lasting_origin Learnt = false
 is_lasting_origin Core = true
 is_lasting_origin Split = true
+is_lasting_origin Blocked = true
 is_lasting_origin Deleted = false
 
 abbrev pub is_lasting : Kept → Bool

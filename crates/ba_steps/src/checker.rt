@@ -7,16 +7,21 @@ ghost use Rattle.ba_lits.specs.Hints.{has_literal};
 ghost use Rattle.ba_lits.specs.Satisfaction.{Soft};
 ghost use Rattle.ba_steps.specs.States.{first_state, present, clause_at, is_learnt_at, kept};
 ghost use Rattle.ba_steps.specs.Facts.{AreSelectors, AreAmong, AreDifferent, IsState};
-ghost use Rattle.ba_steps.specs.Steps.{IsFormed, AreFormedLits};
-ghost use Rattle.ba_steps.specs.Judging.{Answers, Finds, Does, is_memory, is_spent, lacks_variable, lacks_soft, error_before_end, after, learn_error, core_error, delete_error, no_repair_error, spent_error, after_learn, after_core, after_delete};
+ghost use Rattle.ba_steps.specs.Steps.{IsFormed, AreFormedLits, AreAbove};
+ghost use Rattle.ba_steps.specs.Judging.{Answers, Finds, Does, is_memory, is_spent, are_too_many, lacks_variable, lacks_soft, error_before_end, after};
+ghost use Rattle.ba_steps.specs.Judging.{learn_error, core_error, delete_error, block_error, located_error, no_repair_error, too_many_error, spent_error};
+ghost use Rattle.ba_steps.specs.Judging.{after_learn, after_core, after_delete, after_block};
+ghost use Rattle.ba_steps.specs.Blocks.{lacks_group};
 ghost use Rattle.ba_steps.specs.declared.store.Origin.TheVariants as origins;
 
+use crate::block::{block_clause, is_among, lacks_group, set_weight};
 use crate::clauses::Clauses;
 use crate::judge::RunJudge;
 use crate::replay::{refill, replay};
 use crate::split::{add_late_softs, add_split, fresh_count, lightest, lowered};
 use crate::step::{CertStep, StepError};
 use crate::store::Origin;
+use ba_choices::Choice;
 use ba_items::Items;
 use ba_lits::{Formula, Lit, LiteralSet};
 use std::alloc::{AllocError, Global};
@@ -65,7 +70,8 @@ impl Model for Checker {
       refused = c.refused;
     } };
 
-    ghost invariant = { λ c. IsState c.variables c.clauses c.softs.items c.conflicts c.budget c.learnt c.refused };
+    ghost invariant = { λ c. IsState c.variables c.clauses c.groups.items c.softs.items
+        c.conflicts c.budget c.learnt c.refused };
 }
 
 impl Checker {
@@ -105,9 +111,10 @@ impl Checker {
     }
 
     /// Takes a step. Ok exactly where it is allowed, and the state is then the one after it; else the first error, and
-    /// the state is as before.
+    /// the state is as before. The judge is asked for the run of a Block step alone, and after all its other tests.
     ///
-    /// It may answer `Memory` in place of either, and answers it to every step from then on.
+    /// It may answer `Memory` in place of either, where the judge or the checker finds no memory, and answers it to every
+    /// step from then on.
     pub fn step<J: RunJudge>(&mut self, step: &CertStep, judge: &J) -> Result<(), StepError>
         requires formed { IsFormed step.now }
         ensures exactly { Answers (J.accepts judge.now) self.old step.now self.new result }
@@ -202,7 +209,8 @@ impl Checker {
 
     /// What holds of every checker. It does nothing.
     pub fn keeps_facts(&self)
-        ensures { IsState self.now.variables self.now.clauses self.now.softs self.now.conflicts self.now.budget self.now.learnt self.now.refused }
+        ensures { IsState self.now.variables self.now.clauses self.now.groups self.now.softs
+            self.now.conflicts self.now.budget self.now.learnt self.now.refused }
     {
         let _ = &self.ended;
     }
@@ -220,12 +228,17 @@ impl Checker {
         requires awake { self.old.refused ≡ false }
         ensures { Does self.old self.new (error_before_end (J.accepts judge.now) self.old step.now) (after self.old step.now) result }
     {
-        let _ = judge;
         match step {
             CertStep::Learn { lits, hints } => self.learn(lits.as_slice(), hints.as_slice()),
             CertStep::Core { lits, hints } => self.core(lits.as_slice(), hints.as_slice()),
             CertStep::Delete { clauses } => self.delete(clauses.as_slice()),
+            CertStep::Block { groups, run } => self.block(groups.as_slice(), run.as_slice(), judge),
+            CertStep::EndLocated { lits, hints } => self.end_located(
+                lits.as_slice(),
+                hints.as_slice(),
+            ),
             CertStep::EndNoRepair { hints } => self.end_no_repair(hints.as_slice()),
+            CertStep::EndTooMany => self.end_too_many(),
             CertStep::EndSpent => self.end_spent(),
         }
     }
@@ -346,6 +359,83 @@ impl Checker {
         Ok(())
     }
 
+    /// Takes a Block step.
+    fn block<J: RunJudge>(
+        &mut self,
+        groups: &[u32],
+        run: &[Choice],
+        judge: &J,
+    ) -> Result<(), StepError>
+        requires { AreAbove 0 groups.now }
+        ensures { Does self.old self.new
+            (block_error (J.accepts judge.now) self.old groups.now run.now)
+            (after_block self.old groups.now) result }
+    {
+        self.block_error(groups, run, judge)?;
+        let clause = block_clause(self.alloc, self.groups.as_slice(), groups)?;
+        let set = Items::from_slice(self.alloc, groups)?;
+        self.sets.push(set)?;
+        self.clauses.add(clause.as_slice(), Origin::Blocked)?;
+        Ok(())
+    }
+
+    /// The first error of a Block step.
+    fn block_error<J: RunJudge>(
+        &self,
+        groups: &[u32],
+        run: &[Choice],
+        judge: &J,
+    ) -> Result<(), StepError>
+        ensures exist { OnOk result (lacks_group self.now.groups groups.now ≡ false) }
+        ensures finds { Finds result
+            (block_error (J.accepts judge.now) self.now groups.now run.now) }
+    {
+        if lacks_group(self.groups.as_slice(), groups) {
+            return Err(StepError::BadVariable);
+        }
+        if is_among(self.sets.as_slice(), groups) {
+            return Err(StepError::SetTwice);
+        }
+        if set_weight(self.groups.as_slice(), groups) != self.bound as u128 {
+            return Err(StepError::WrongWeight);
+        }
+        if !judge.good(groups, run)? {
+            return Err(StepError::RunNotGood);
+        }
+        Ok(())
+    }
+
+    /// Takes an EndLocated step.
+    fn end_located(&mut self, lits: &[Lit], hints: &[u64]) -> Result<(), StepError>
+        ensures { Does self.old self.new (located_error self.old lits.now hints.now)
+            (record self.old { ended = true }) result }
+    {
+        self.located_error(lits, hints)?;
+        self.ended = true;
+        Ok(())
+    }
+
+    /// The first error of an EndLocated step.
+    fn located_error(&mut self, lits: &[Lit], hints: &[u64]) -> Result<(), StepError>
+        ensures stays { self.new ≡ self.old }
+        ensures finds { Finds result (located_error self.old lits.now hints.now) }
+    {
+        if self.sets.is_empty() {
+            return Err(StepError::WrongCount);
+        }
+        if self.is_spent() {
+            return Err(StepError::WrongCount);
+        }
+        if lacks_variable(self.variables, lits) {
+            return Err(StepError::BadVariable);
+        }
+        if lacks_soft(&mut self.falses, self.softs.as_slice(), lits)? {
+            return Err(StepError::NotSofts);
+        }
+        refill(&mut self.falses, lits)?;
+        replay(&self.clauses, &mut self.falses, hints)
+    }
+
     /// Takes an EndNoRepair step.
     fn end_no_repair(&mut self, hints: &[u64]) -> Result<(), StepError>
         ensures { Does self.old self.new (no_repair_error self.old hints.now) (record self.old { ended = true }) result }
@@ -360,6 +450,25 @@ impl Checker {
         replay(&self.clauses, &mut self.falses, hints)?;
         self.ended = true;
         Ok(())
+    }
+
+    /// Takes an EndTooMany step.
+    fn end_too_many(&mut self) -> Result<(), StepError>
+        ensures { Does self.old self.new (too_many_error self.old)
+            (record self.old { ended = true }) result }
+    {
+        if !self.are_too_many() {
+            return Err(StepError::WrongCount);
+        }
+        self.ended = true;
+        Ok(())
+    }
+
+    /// Whether the blocked sets are one more than there may be least sets.
+    fn are_too_many(&self) -> bool
+        ensures { result ≡ are_too_many self.now }
+    {
+        self.sets.len() as u64 == self.most_sets as u64 + 1
     }
 
     /// Takes an EndSpent step.

@@ -20,5 +20,5 @@ pub fn implied_law()
 /// The facts hold of every state that allowed steps lead to, whatever the judge says.
 pub fn facts_law()
     ensures { (good : Judge) (formula : Cnf) (softs : List Soft) (conflicts sets : ℕ) → IsStart formula softs → (steps : List CertStep) → All IsFormed steps → (s : State)
-        → after_all good (first_state formula softs conflicts sets) steps ≡ Some s → Holds formula softs (splits_of (first_state formula softs conflicts sets) steps) s }
+        → after_all good (first_state formula softs conflicts sets) steps ≡ Some s → Holds good formula softs (splits_of (first_state formula softs conflicts sets) steps) s }
 {}

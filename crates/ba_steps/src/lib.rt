@@ -7,6 +7,7 @@
 //! each step whether it is allowed, and the first error where it isn't.
 #![tactic(auto)]
 
+mod block;
 mod checked;
 mod checker;
 mod clauses;

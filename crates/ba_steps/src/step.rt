@@ -3,24 +3,49 @@
 ghost use Rattle.std.specs.Prelude.{◌≡◌};
 ghost use Rattle.ba_steps.specs.Numbers.{number_of};
 
+use ba_choices::Choice;
 use ba_items::{Items, TryClone};
 use ba_lits::Lit;
 use std::alloc::{AllocError, AllocFailed, Global};
 use thiserror::Error;
 
-/// A step of a derivation. The literals of a step have strictly ascending variables and are at least one; numbers of
-/// clauses are at least 1; all numbers are below 2^62.
+/// A step of a derivation. The literals of a step have strictly ascending variables and, but in `EndLocated`, are at
+/// least one; numbers of clauses are at least 1; all numbers are below 2^62, values without their signs.
 #[derive(Drop)]
 pub enum CertStep {
     /// The clause follows by the hints, numbers of live clauses, and is live from now on.
-    Learn { lits: Items<Lit>, hints: Items<u64> },
+    Learn {
+        lits: Items<Lit>,
+        hints: Items<u64>,
+    },
     /// The clause follows by the hints and negates soft literals alone. It is live from now on and split.
-    Core { lits: Items<Lit>, hints: Items<u64> },
+    Core {
+        lits: Items<Lit>,
+        hints: Items<u64>,
+    },
     /// The clauses of these numbers, strictly ascending and at least one, are no longer live. They were made by Learn
     /// steps and have at least three literals.
-    Delete { clauses: Items<u64> },
+    Delete {
+        clauses: Items<u64>,
+    },
+    /// The set is blocked: the clause that one of its groups' selectors is true is live from now on. Groups are numbered from
+    /// 1, strictly ascending and at least one. Their weights make the bound, and the run is good where they are relaxed.
+    Block {
+        groups: Items<u32>,
+        run: Items<Choice>,
+    },
+    /// The clause follows by the hints and negates soft literals alone, so no further set is of weight bound: the blocked
+    /// sets are all of them. It ends the derivation.
+    EndLocated {
+        lits: Items<Lit>,
+        hints: Items<u64>,
+    },
     /// The empty clause follows by the hints, so the formula has no model. It ends the derivation.
-    EndNoRepair { hints: Items<u64> },
+    EndNoRepair {
+        hints: Items<u64>,
+    },
+    /// There are more least sets than there may be: one more is blocked. It ends the derivation.
+    EndTooMany,
     /// The stated number of conflicts is spent. It ends the derivation.
     EndSpent,
 }
@@ -39,9 +64,18 @@ impl TryClone for CertStep {
             CertStep::Delete { clauses } => Ok(CertStep::Delete {
                 clauses: Items::from_slice(alloc, clauses.as_slice())?,
             }),
+            CertStep::Block { groups, run } => Ok(CertStep::Block {
+                groups: Items::from_slice(alloc, groups.as_slice())?,
+                run: run.try_clone(alloc)?,
+            }),
+            CertStep::EndLocated { lits, hints } => Ok(CertStep::EndLocated {
+                lits: Items::from_slice(alloc, lits.as_slice())?,
+                hints: Items::from_slice(alloc, hints.as_slice())?,
+            }),
             CertStep::EndNoRepair { hints } => Ok(CertStep::EndNoRepair {
                 hints: Items::from_slice(alloc, hints.as_slice())?,
             }),
+            CertStep::EndTooMany => Ok(CertStep::EndTooMany),
             CertStep::EndSpent => Ok(CertStep::EndSpent),
         }
     }

@@ -19,6 +19,8 @@ pub enum Origin {
     Core,
     /// The split of a core.
     Split,
+    /// A blocked set.
+    Blocked,
     /// A Learn step, and a Delete step took it away.
     Deleted,
 }
@@ -158,6 +160,7 @@ fn is_learnt(origin: Origin) -> bool
         Origin::Given => false,
         Origin::Core => false,
         Origin::Split => false,
+        Origin::Blocked => false,
         Origin::Deleted => false,
     }
 }
@@ -171,6 +174,7 @@ fn is_live(origin: Origin) -> bool
         Origin::Learnt => true,
         Origin::Core => true,
         Origin::Split => true,
+        Origin::Blocked => true,
         Origin::Deleted => false,
     }
 }

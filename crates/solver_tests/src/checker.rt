@@ -1,17 +1,17 @@
 //! Tests of the checker: rows of steps with the number of the error of each, 0 where it is allowed.
 
-ghost use Rattle.std.specs.Prelude.{◌≡◌, ◌<◌, true, length};
-ghost use Rattle.ba_steps.specs.Steps.{IsFormed, AreFormedLits, AreNumbers, AreAbove};
+ghost use Rattle.std.specs.Prelude.{◌≡◌, ◌<◌, ◌-◌, ◌^◌, true, length, All};
+ghost use Rattle.ba_lits.specs.Literals.{IsClause};
+ghost use Rattle.ba_steps.specs.Steps.{IsFormed, AreFormedLits, AreNumbers, AreAbove, IsFormedChoice, IsValue};
 
+use ba_choices::{Choice, Values};
 use ba_items::{Items, TryClone};
 use ba_lits::{Formula, Lit, is_clause};
-use ba_steps::{CertStep, Checker};
+use ba_steps::{CertStep, Checker, GoodRun, ListJudge};
 use std::alloc::{AllocError, Global};
 use std::process::Abort;
 use std::test::Fail;
-use test_formulas::{
-    NoRuns, add, are_numbers, are_selectors, formula_of, lit, lits, without_clauses,
-};
+use test_formulas::{add, are_numbers, are_selectors, formula_of, lit, lits, without_clauses};
 
 /// Whether literals are those of a formed step.
 fn are_formed(lits: &[Lit]) -> bool
@@ -47,6 +47,57 @@ fn are_above(numbers: &[u64]) -> bool
     true
 }
 
+/// Whether groups and a run are those of a formed Block step.
+fn is_set(groups: &[u32], run: &[Choice]) -> bool
+    ensures { result ≡ true → AreAbove 0 groups.now × (0 < length groups.now) × All IsFormedChoice run.now }
+{
+    if groups.is_empty() || !are_groups(groups) {
+        return false;
+    }
+    run.iter().all(|choice| is_choice(choice))
+}
+
+/// Whether numbers of groups ascend from 1 on.
+fn are_groups(groups: &[u32]) -> bool
+    ensures { result ≡ true → AreAbove 0 groups.now }
+{
+    let mut last = 0;
+    for group in groups {
+        if *group <= last {
+            return false;
+        }
+        last = *group;
+    }
+    true
+}
+
+/// Whether the values of a choice are those of a formed step.
+fn is_choice(choice: &Choice) -> bool
+    ensures { result ≡ true → IsFormedChoice choice.now }
+{
+    match choice {
+        Choice::Keep => true,
+        Choice::Take(values) => values.as_slice().iter().all(|value| is_value(*value)),
+    }
+}
+
+/// Whether a value is one of a formed step.
+fn is_value(value: i64) -> bool
+    ensures { result ≡ true → IsValue value }
+{
+    -((1 << 62) - 1) <= value && value <= (1 << 62) - 1
+}
+
+/// Whether literals and hints are those of an EndLocated step.
+fn are_last(lits: &[Lit], hints: &[u64]) -> bool
+    ensures { result ≡ true → IsClause (2 ^ 62 - 1) lits.now × AreNumbers hints.now }
+{
+    if !is_clause((1 << 62) - 1, lits) {
+        return false;
+    }
+    are_numbers(hints)
+}
+
 /// Whether literals and hints are those of a formed step.
 fn are_parts(lits: &[Lit], hints: &[u64]) -> bool
     ensures { result ≡ true → AreFormedLits lits.now × AreNumbers hints.now }
@@ -65,7 +116,10 @@ fn is_formed(step: &CertStep) -> bool
         CertStep::Learn { lits, hints } => are_parts(lits.as_slice(), hints.as_slice()),
         CertStep::Core { lits, hints } => are_parts(lits.as_slice(), hints.as_slice()),
         CertStep::Delete { clauses } => are_ascending(clauses.as_slice()),
+        CertStep::Block { groups, run } => is_set(groups.as_slice(), run.as_slice()),
+        CertStep::EndLocated { lits, hints } => are_last(lits.as_slice(), hints.as_slice()),
         CertStep::EndNoRepair { hints } => are_numbers(hints.as_slice()),
+        CertStep::EndTooMany => true,
         CertStep::EndSpent => true,
     }
 }
@@ -76,11 +130,15 @@ enum Kind {
     Learn,
     Core,
     Delete,
+    Block,
+    Located,
     NoRepair,
+    TooMany,
     Spent,
 }
 
-/// A step to put, with its literals and its hints or numbers, and the number of its error, 0 where it is allowed.
+/// A step to put, with its literals or the values that its run takes, its hints, numbers or groups, and the number of its
+/// error, 0 where it is allowed.
 type Row<'a> = (Kind, &'a [i64], &'a [u64], u8);
 
 /// The step of a row, which is a clone.
@@ -91,19 +149,55 @@ fn step_of(alloc: Global, row: &Row) -> Result<CertStep, AllocError> {
         Kind::Learn => CertStep::Learn { lits, hints },
         Kind::Core => CertStep::Core { lits, hints },
         Kind::Delete => CertStep::Delete { clauses: hints },
+        Kind::Block => block_of(alloc, row)?,
+        Kind::Located => CertStep::EndLocated { lits, hints },
         Kind::NoRepair => CertStep::EndNoRepair { hints },
+        Kind::TooMany => CertStep::EndTooMany,
         Kind::Spent => CertStep::EndSpent,
     };
     step.try_clone(alloc)
 }
 
+/// The Block step of a row.
+fn block_of(alloc: Global, row: &Row) -> Result<CertStep, AllocError> {
+    let mut groups = Items::new(alloc);
+    for number in row.2 {
+        groups.push(u32::try_from(*number).unwrap_or(0))?;
+    }
+    let run = run_of(alloc, row.1)?;
+    Ok(CertStep::Block { groups, run })
+}
+
+/// The run that keeps one execution, and then takes values, one each.
+fn run_of(alloc: Global, values: &[i64]) -> Result<Items<Choice>, AllocError> {
+    let mut run = Items::new(alloc);
+    run.push(Choice::Keep)?;
+    for value in values {
+        let mut taken = Values::new(alloc);
+        taken.push(*value)?;
+        run.push(Choice::Take(taken))?;
+    }
+    Ok(run)
+}
+
+/// A judge to whom the run that takes 7 is good for each of the first two groups alone.
+fn judge(alloc: Global) -> Result<ListJudge, AllocError> {
+    let mut judge = ListJudge::new(alloc);
+    for group in [1, 2] {
+        let groups = Items::from_slice(alloc, [group].as_slice())?;
+        let run = run_of(alloc, [7].as_slice())?;
+        judge.add(GoodRun { groups, run })?;
+    }
+    Ok(judge)
+}
+
 /// Puts a step through a checker, and answers the number of the error, 0 where it was allowed, and 99 for want of memory
 /// or where the step isn't formed.
-fn put(checker: &mut Checker, step: &CertStep) -> u8 {
+fn put(checker: &mut Checker, step: &CertStep, judge: &ListJudge) -> u8 {
     if !is_formed(step) {
         return 99;
     }
-    match checker.step(step, &NoRuns) {
+    match checker.step(step, judge) {
         Ok(()) => 0,
         Err(error) => error.number().unwrap_or(99),
     }
@@ -115,8 +209,9 @@ fn put_all(
     checker: &mut Checker,
     rows: &[Row],
 ) -> Result<Option<usize>, AllocError> {
+    let judge = judge(alloc)?;
     for (place, row) in rows.iter().enumerate() {
-        if put(checker, &step_of(alloc, row)?) != row.3 {
+        if put(checker, &step_of(alloc, row)?, &judge) != row.3 {
             return Ok(Some(place));
         }
     }
@@ -180,7 +275,7 @@ fn start(
         list.push((lit(*code), *weight))?;
     }
     assert!(rt; are_selectors(formula.variables(), list.as_slice()));
-    Checker::new(alloc, formula, list.as_slice(), conflicts, 10)
+    Checker::new(alloc, formula, list.as_slice(), conflicts, 1)
 }
 
 /// Puts the steps of a case, and compares the checker with what is expected then.
@@ -357,6 +452,86 @@ fn each_error_comes_where_it_must(rt: HostRuntime) -> Result<(), Fail> {
     Ok(())
 }
 
+#[test]
+fn sets_are_blocked(rt: HostRuntime) -> Result<(), Fail> {
+    let cases: [Case; 3] = [
+        (
+            4,
+            &[&[-1, -2]],
+            &[(1, 1), (2, 1), (3, 0), (4, 3)],
+            3,
+            &[
+                (Kind::Located, &[], &[1], 13),
+                (Kind::Core, &[-1, -2], &[1], 0),
+                (Kind::Block, &[7], &[3], 14),
+                (Kind::Block, &[7], &[5], 14),
+                (Kind::Block, &[7], &[1, 5], 14),
+                (Kind::Block, &[7], &[1, 2], 8),
+                (Kind::Block, &[7], &[4], 8),
+                (Kind::Block, &[8], &[1], 6),
+                (Kind::Block, &[], &[1], 6),
+                (Kind::Block, &[7], &[1], 0),
+                (Kind::Block, &[8], &[1], 7),
+                (Kind::Core, &[-4], &[9], 12),
+                (Kind::Learn, &[1, 3], &[9], 10),
+                (Kind::NoRepair, &[], &[1], 13),
+                (Kind::TooMany, &[], &[], 13),
+                (Kind::Located, &[6], &[9], 14),
+                (Kind::Located, &[1], &[9], 4),
+                (Kind::Located, &[-5], &[9], 4),
+                (Kind::Located, &[-4], &[9], 1),
+                (Kind::Located, &[-4], &[2], 2),
+                (Kind::Located, &[-4, 5], &[6], 3),
+                (Kind::Block, &[7], &[2], 0),
+                (Kind::Located, &[], &[6, 7, 2], 0),
+                (Kind::Block, &[7], &[2], 9),
+            ],
+            1,
+            6,
+            &[&[1], &[2]],
+            &[(4, 3), (-5, 1)],
+        ),
+        (
+            2,
+            &[&[-1, -2]],
+            &[(1, 1), (2, 1)],
+            2,
+            &[
+                (Kind::Core, &[-1, -2], &[1], 0),
+                (Kind::Block, &[7], &[1], 0),
+                (Kind::TooMany, &[], &[], 13),
+                (Kind::Block, &[7], &[2], 0),
+                (Kind::TooMany, &[], &[], 0),
+                (Kind::TooMany, &[], &[], 9),
+            ],
+            1,
+            6,
+            &[&[1], &[2]],
+            &[(-3, 1)],
+        ),
+        (
+            2,
+            &[&[-1, -2]],
+            &[(1, 1), (2, 1)],
+            1,
+            &[
+                (Kind::Core, &[-1, -2], &[1], 0),
+                (Kind::Block, &[7], &[2], 0),
+                (Kind::Located, &[9], &[9], 13),
+                (Kind::Spent, &[], &[], 0),
+            ],
+            1,
+            6,
+            &[&[2]],
+            &[(-3, 1)],
+        ),
+    ];
+    for case in &cases {
+        check(&rt, rt.alloc(), case)?;
+    }
+    Ok(())
+}
+
 /// The formula of the clauses "not i, or i + 1, or 61" for i from 1 to 59, each with the number i.
 fn row(alloc: Global) -> Result<Formula, AllocError> {
     let mut formula = without_clauses(alloc, 61)?;
@@ -389,11 +564,12 @@ fn learn_along(
     from: u32,
     to: u32,
 ) -> Result<u32, AllocError> {
+    let judge = ListJudge::new(alloc);
     let mut place = 0u32;
     let mut allowed = 0u32;
     for i in 1..59 {
         for j in i + 2..61 {
-            if from <= place && place < to && put(checker, &along(alloc, i, j)?) == 0 {
+            if from <= place && place < to && put(checker, &along(alloc, i, j)?, &judge) == 0 {
                 allowed = allowed.saturating_add(1);
             }
             place = place.saturating_add(1);

@@ -11,7 +11,7 @@ no_literal n e = grind (arith, nat_tests)
 pub returns-then-is_empty-clause-found : goal.returns-then-is_empty-clause-found
 returns-then-is_empty-clause-found g c =
     let s = c.args.checked.now.checker in
-    none_of_core (g.J.RunJudge.accepts c.args.checked.now.judge) s (literals_of s.softs) c.args.core.lits c.args.core.hints c.args.core.back c.requires.core
+    none_of_core (g.J.RunJudge.accepts c.args.checked.now.judge) s (literals_of s.softs) c.args.core.lits c.args.core.hints c.args.core.back c.requires.core c.requires.ready.none_blocked
     (no_literal (length c.args.core.lits) (sym c.is_empty.ensures ∙ c.if-is_empty.true))
 
 pub returns-then-is_empty-clause-puts : goal.returns-then-is_empty-clause-puts

@@ -9,7 +9,10 @@ use Rattle.ba_cores.proofs.rounds.take_answer.Goals as goal
 pub take_model-requires : goal.take_model-requires
 take_model-requires g c =
     let s = c.args.checked.now.checker in
-    record { model = subst (IsAnswer s (literals_of (heavy c.args.weight.now s.softs))) c.in-Model.is c.requires.answer }
+    record {
+      model = subst (IsAnswer s (literals_of (heavy c.args.weight.now s.softs))) c.in-Model.is c.requires.answer;
+      ready = c.requires.ready;
+    }
 
 pub returns-in-Model-clause-found : goal.returns-in-Model-clause-found
 returns-in-Model-clause-found g c =

@@ -19,5 +19,5 @@ returns-clause-found g c =
       bound,
       model.all,
       λ formula softs r. subst (λ (w : _). IsLeast formula softs w c.args.model.values) (sym bound)
-          (least_of_model (g.J.RunJudge.accepts c.args.checked.now.judge) formula softs s c.args.model.values model r),
+          (least_of_model (g.J.RunJudge.accepts c.args.checked.now.judge) formula softs s c.args.model.values model c.requires.ready.none_blocked r),
     )

@@ -45,7 +45,7 @@ unreachable-requires g c =
     let t = c.solve.new.checked.checker in
     let ns = c.as_slice-2.result.now in
     let after = c.in_ok-shorter.ensures in
-    let facts = subst (λ (u : State). IsState u.variables u.clauses u.softs u.conflicts u.budget u.learnt u.refused) c.checker.ensures c.keeps_facts.ensures in
+    let facts = subst (λ (u : State). IsState u.variables u.clauses u.groups u.softs u.conflicts u.budget u.learnt u.refused) c.checker.ensures c.keeps_facts.ensures in
     no_model s t (literals_of s.softs) c.args.core.lits ns c.args.core.hints c.args.core.back c.in-Model.field-0.values c.requires.core
     (c.as_slice-2.ensures.value ∙ c.in-Ok.ensures ∙ ap negations_of c.as_slice.ensures)
     (searches_keep after.steps.1) (facts.implied after.awake) (subst (IsAnswer t ns) c.in-Model.is after.answer)

@@ -25,5 +25,5 @@ invariant_of-self-2 c =
     let fresh_is : c.fresh_count.result ≡ fresh_count (length lits) = search rules in
     let left : i.conflicts < i.budget = rw (ap (λ (s : State). s.conflicts) c.self.view_is, ap (λ (s : State). s.budget) c.self.view_is) c.requires.left in
     let few : i.variables + c.fresh_count.result < 2 ^ 62 = omega (arith, c.if-count-room.false, fresh_is, c.self.invariant.few) in
-    core_state seen i.variables i.clauses i.softs.items i.conflicts i.budget i.learnt i.refused lits c.fresh_count.result w e c.add.new.self c.add_split.new.clauses c.add_late_softs.new.softs.items
+    core_state seen i.variables i.clauses i.groups.items i.softs.items i.conflicts i.budget i.learnt i.refused lits c.fresh_count.result w e c.add.new.self c.add_split.new.clauses c.add_late_softs.new.softs.items
     c.self.invariant variables_is softs_is awake left c.requires.formed c.requires.exists c.requires.known fresh_is few w_is refl more_is one_is grown_is
