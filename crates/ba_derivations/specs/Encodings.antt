@@ -1,0 +1,48 @@
+-- Formulas whose models are the sets that could repair a run.
+
+use Rattle.std.specs.Prelude.{◌≡◌, ℕ, suc, ◌==◌, ◌↔◌, Bool, true, not, ◌&&◌, cond, ltb, Option, None, Some, List, [], ◌∷◌}
+use Rattle.ba_lits.specs.Formulas.{Cnf}
+use Rattle.ba_lits.specs.Satisfaction.{Assignment, Soft, all_true, lit_true}
+use Rattle.ba_steps.specs.Blocks as groups
+use Rattle.ba_steps.specs.Facts.{IsStart}
+use Rattle.ba_tree.specs.Least.{Judge, WeightList, IsFeasible, IsRelaxableSet, weight_at}
+
+-- THE SET OF AN ASSIGNMENT. Entry n - 1 of a list of soft literals is the selector of group n, with its
+-- weight; an entry of weight 0 stands for no group. The groups of an assignment are those whose selectors
+-- are false, by ascending numbers.
+
+abbrev pub is_false_group : Assignment → Soft → Bool
+is_false_group v s = ltb 0 s.1 && not (lit_true v s.0)
+
+abbrev pub with_if : Bool → ℕ → List ℕ → List ℕ
+with_if b n ns = cond b (n ∷ ns) ns
+
+-- of entries that stand behind so many
+abbrev pub false_groups_from : ℕ → Assignment → List Soft → List ℕ
+false_groups_from k v [] = []
+false_groups_from k v (s ∷ ss) = with_if (is_false_group v s) (suc k) (false_groups_from (suc k) v ss)
+
+abbrev pub false_groups : Assignment → List Soft → List ℕ
+false_groups = false_groups_from 0
+
+-- a model of the formula under which exactly these groups are false
+pub record IsModelFor (formula : Cnf) (softs : List Soft) (set : List ℕ) (v : Assignment) : Type 0 where
+  pub satisfies : all_true v formula.clauses ≡ true
+  pub groups_are : false_groups v softs ≡ set
+
+pub record HasModelFor (formula : Cnf) (softs : List Soft) (set : List ℕ) : Type 0 where
+  pub assignment : Assignment
+  pub is_model : IsModelFor formula softs set assignment
+
+-- the weight of a group, where 0 stands for no group
+abbrev pub weight_if : ℕ → Option ℕ
+weight_if w = cond (w == 0) None (Some w)
+
+-- A formula and its soft literals encode a judge FAITHFULLY: the groups are the relaxable statements (or
+-- places) with their weights, and the formula has a model under which exactly the groups of a set are false
+-- where, and only where, some run is good for that set.
+pub record IsFaithful (formula : Cnf) (softs : List Soft) (weights : WeightList) (good : Judge) : Type 0 where
+  pub start : IsStart formula softs
+  pub weighs : (n : ℕ) → weight_at weights n ≡ weight_if (groups.weight_at softs n)
+  pub models : (set : List ℕ) → IsRelaxableSet weights set →
+      HasModelFor formula softs set ↔ IsFeasible good set

@@ -1,0 +1,25 @@
+//! What a search finds: sets of groups with runs, and the verdict.
+
+use ba_choices::Choice;
+use ba_items::Items;
+
+/// A set of groups, by ascending numbers from 1, and the choices of a run that is good where they are
+/// relaxed.
+#[derive(Drop)]
+pub struct FoundSet {
+    pub groups: Items<u32>,
+    pub run: Items<Choice>,
+}
+
+/// What a search comes to.
+#[derive(Drop)]
+pub enum Verdict {
+    /// These are all sets of least weight, in order, and this is their weight.
+    Located { weight: u64, sets: Items<FoundSet> },
+    /// No set has a good run.
+    NoRepair,
+    /// These are sets of least weight, and they are one more than may be listed.
+    TooMany { weight: u64, sets: Items<FoundSet> },
+    /// The stated number of conflicts is spent.
+    Spent,
+}
