@@ -1,11 +1,11 @@
 //! Programs, inputs, bounds, what may be relaxed, choices, and outcomes that were worked out by hand.
 
-use crate::reader::{Fault, Reader};
 use ba_interp::run;
 use ba_numbers::ids::StmtId;
 use ba_tree::run::{Bounds, Outcome};
 use std::alloc::Global;
 use std::test::Fail;
+use test_programs::reader::{Fault, Reader};
 
 /// The outcome of a run that is written as words.
 fn outcome(
@@ -51,33 +51,34 @@ const fn beyond(stmt: u32) -> Outcome {
 }
 
 /// An array, `if` and `else`, an assert, an element returned.
-const P1: &str = "3 3 i i  1 0  0  1  1 1  1 2  5
+pub const P1: &str = "3 3 i i  1 0  0  1  1 1  1 2  5
     decl 2  ife 1 != v 1 1 = 2 1 2 = 3 1 + v 1 2  = 4 2 v 1
     assert 5 && >= v 2 0 < v 2 3  return 6 e 0 v 2  6 ? = = = ! r";
 
 /// A call whose function returns a wrong value.
-const P2: &str = "3 i i i  0  0  2  1 0  0  1 return 1 + v 0 1
+pub const P2: &str = "3 i i i  0  0  2  1 0  0  1 return 1 + v 0 1
     1 1  1 2  4 decl 2 = 2 2 call 1 0 1 x v 1 assert 3 == v 2 v 1 return 4 0  4 r = ! r";
 
 /// A sum in a `for`.
-const P3: &str = "3 u u u  0  0  1  1 0  2 1 2  6 decl 1 decl 2 = 1 1 u 0
+pub const P3: &str = "3 u u u  0  0  1  1 0  2 1 2  6 decl 1 decl 2 = 1 1 u 0
     for 3 1 = 2 2 u 1 u< v 2 v 0 1 = 4 2 u+ v 2 u 1 = 5 1 u+ v 1 v 2
     assert 6 u== v 1 u 6 return 7 0  7 = = ? = = ! r";
 
 /// A function that calls itself down to 0.
-const P5: &str = "2 i i  0  0  2  1 0  0  2 if 1 == v 0 0 return 2 0 return 3 call 1 0 1 x - v 0 1
+pub const P5: &str =
+    "2 i i  0  0  2  1 0  0  2 if 1 == v 0 0 return 2 0 return 3 call 1 0 1 x - v 0 1
     1 1  0  1 return 4 call 2 0 1 x v 1  4 ? r r r";
 
 /// A store, whose index is the input.
-const STORE: &str =
+pub const STORE: &str =
     "2 i 2  0  0  1  1 0  1 1  4 decl 1 []= 1 1 v 0 1 assert 2 == e 1 0 1 return 3 0  3 [ ! r";
 
 /// A division by the input.
-const DIVISION: &str =
+pub const DIVISION: &str =
     "2 i i  0  0  1  1 0  1 1  4 decl 1 = 1 1 / 6 v 0 assert 2 == v 1 2 return 3 0  3 = ! r";
 
 /// A call that changes a global.
-const GLOBAL: &str = "2 i i  1 0  0  2  0  0  2 = 1 0 1 return 2 0
+pub const GLOBAL: &str = "2 i i  1 0  0  2  0  0  2 = 1 0 1 return 2 0
     0  1 1  4 decl 1 = 3 1 call 1 0 0 assert 4 == v 0 0 return 5 v 1  5 = r = ! r";
 
 /// Two wrong assignments.
@@ -85,37 +86,40 @@ const TWO: &str = "2 i i  0  0  1  0  2 0 1  7 decl 0 decl 1 = 1 0 1 = 2 1 1
     assert 3 == v 0 2 assert 4 == v 1 2 return 5 0  5 = = ! ! r";
 
 /// A loop for ever.
-const ENDLESS: &str = "1 i  0  0  1  1 0  0  2 while 1 v 0 { 0 return 2 0  2 ? r";
+pub const ENDLESS: &str = "1 i  0  0  1  1 0  0  2 while 1 v 0 { 0 return 2 0  2 ? r";
 
 /// An array's initialiser that reads its array.
-const OWN: &str = "1 2  0  0  1  0  1 0  3 decl 0 inits 1 0 2 5 e 0 0 assert 2 == e 0 1 0  2 i !";
+pub const OWN: &str =
+    "1 2  0  0  1  0  1 0  3 decl 0 inits 1 0 2 5 e 0 0 assert 2 == e 0 1 0  2 i !";
 
 /// A global's initialiser that divides by 0.
-const INITIALISER: &str = "1 i  1 0  1 init 1 0 / 1 0  1  0  0  1 return 2 v 0  2 i r";
+pub const INITIALISER: &str = "1 i  1 0  1 init 1 0 / 1 0  1  0  0  1 return 2 v 0  2 i r";
 
 /// The arguments of a call make calls: one divides by the input, and the next one fails.
-const ARGUMENTS: &str = "4 i i i i  0  0  4  2 0 1  0  1 return 1 v 0  1 2  0  1 return 2 / 6 v 2
+pub const ARGUMENTS: &str =
+    "4 i i i i  0  0  4  2 0 1  0  1 return 1 v 0  1 2  0  1 return 2 / 6 v 2
     0  0  2 assert 3 0 return 4 0  1 3  0  1 return 5 call 1 0 2 x call 2 1 1 x v 3 x call 3 2 0  5 r r ! r r";
 
 /// A function that calls itself with its own array, and writes to the one that it was given.
-const ARRAYS: &str = "4 p i 2 2  0  0  2  2 0 1  1 2
+pub const ARRAYS: &str = "4 p i 2 2  0  0  2  2 0 1  1 2
     4 decl 2 if 1 v 1 calls 2 1 0 2 a 2 x - v 1 1 assert 3 == e 2 0 v 1 []= 4 0 0 1
     0  1 3  3 decl 3 calls 5 2 0 2 a 3 x 1 assert 6 == e 3 0 1  6 ? c ! [ c !";
 
 /// As many turns as the input says.
-const TURNS: &str =
+pub const TURNS: &str =
     "2 i i  0  0  1  1 0  1 1  2 decl 1 for 2 1 = 1 1 0 < v 1 v 0 1 = 3 1 + v 1 1 { 0  3 = ? =";
 
 /// `break` and `continue`.
-const JUMPS: &str = "1 i  0  0  1  0  1 0  3 decl 0 for 2 1 = 1 0 0 < v 0 5 1 = 3 0 + v 0 1
+pub const JUMPS: &str = "1 i  0  0  1  0  1 0  3 decl 0 for 2 1 = 1 0 0 < v 0 5 1 = 3 0 + v 0 1
     { 2 if 4 == v 0 3 break continue assert 5 == v 0 3  5 = ? = ? !";
 
 /// A `do` whose condition is the input.
-const BEHIND: &str =
+pub const BEHIND: &str =
     "2 i i  0  0  1  1 0  1 1  3 decl 1 do 2 v 0 = 1 1 + v 1 1 assert 3 == v 1 1  3 = ? !";
 
 /// A comparison as unsigned, a short variable, the operators that evaluate one side.
-const VALUES: &str = "2 i s  0  0  1  1 0  1 1  6 decl 1 assert 1 == u< u neg 1 u 1 0 = 2 1 s v 0
+pub const VALUES: &str =
+    "2 i s  0  0  1  1 0  1 1  6 decl 1 assert 1 == u< u neg 1 u 1 0 = 2 1 s v 0
     assert 3 && == i v 1 v 0 || 1 / 1 0 assert 4 == ? v 0 7 / 1 0 7 print 5 1 / 1 v 0  5 ! = ! ! c";
 
 #[test]

@@ -1,6 +1,5 @@
 //! Parts that make a program, each beside parts that make none.
 
-use crate::reader::{Fault, Reader};
 use ba_facts::{ProgramError, program_of};
 use ba_items::Items;
 use ba_numbers::ids::{At, FnId, StmtId, VarId};
@@ -8,6 +7,7 @@ use ba_numbers::numbers::{BinOp, CType};
 use ba_tree::tree::{Expr, Function, Parts, Shape, Stmt, StmtInfo, StmtKind, Variable};
 use std::alloc::Global;
 use std::test::Fail;
+use test_programs::reader::{Fault, Reader};
 
 /// Whether the words are those of parts that make a program.
 fn is_program(alloc: Global, words: &str) -> Result<bool, Fault> {

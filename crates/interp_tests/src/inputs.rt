@@ -1,12 +1,12 @@
 //! Texts of inputs, with the values or the error that each has.
 
-use crate::reader::{Fault, Reader};
 use ba_interp::{InputError, read_input};
 use ba_items::Items;
 use ba_tree::run::Input;
 use ba_tree::tree::Program;
 use std::alloc::Global;
 use std::test::Fail;
+use test_programs::reader::{Fault, Reader};
 
 fn same(values: &[Items<i64>], others: &[Items<i64>]) -> bool {
     if values.len() != others.len() {

@@ -1,4 +1,4 @@
-//! Tests of the interpreter by examples: whole programs as trees, with the outcomes that were worked out by hand, and texts of inputs.
+//! Tests by examples: whole programs as trees, with the outcomes and the units that were worked out by hand, and texts of inputs.
 #![tactic(auto)]
 
 #[cfg(test)]
@@ -7,4 +7,5 @@ mod examples;
 mod facts;
 #[cfg(test)]
 mod inputs;
-pub mod reader;
+#[cfg(test)]
+mod sizes;

@@ -4,9 +4,9 @@
 use ba_interp::run;
 use ba_items::Items;
 use ba_tree::run::{Allowed, Bounds, Outcome};
-use interp_tests::reader::{Fault, Reader};
 use std::alloc::Global;
 use std::io;
+use test_programs::reader::{Fault, Reader};
 
 /// `int a[13], i, j, k, l;` and loops of 64, 64, 64 and 13 turns, whose innermost body is `a[l] = a[l] + i;`.
 const LOOPS: &str = "5 13 i i i i  0  0  1  0  5 0 1 2 3 4  7 decl 0 decl 1 decl 2 decl 3 decl 4

@@ -1,5 +1,5 @@
 use Rattle.std.proofs.Common.{◌+◌, ◌*◌}
-use Rattle.interp_tests.proofs.reader.Reader.+expressions.Given as goal
+use Rattle.test_programs.proofs.reader.Reader.+expressions.Given as goal
 
 abbrev pub decreases-expr : goal.decreases-expr
 decreases-expr l = 4 * l.deep

@@ -1,5 +1,5 @@
 use Rattle.std.proofs.Common.{◌+◌, ◌*◌}
-use Rattle.interp_tests.proofs.reader.Reader.+statements.Given as goal
+use Rattle.test_programs.proofs.reader.Reader.+statements.Given as goal
 
 abbrev pub decreases-stmt : goal.decreases-stmt
 decreases-stmt l = 4 * l.deep

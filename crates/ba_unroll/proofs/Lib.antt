@@ -1,0 +1,9 @@
+mod ArrayLengths
+mod CallForms
+mod ExpressionForms
+mod Falling
+mod Maps
+mod Remainders
+mod StatementForms
+mod TurnSums
+mod UnitSums

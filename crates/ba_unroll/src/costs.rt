@@ -1,0 +1,100 @@
+//! What single forms cost.
+
+ghost use Rattle.std.specs.Prelude.{◌≡◌, ◌-◌, ◌<◌, ℕ, length, MatchOption};
+ghost use Rattle.ba_tree.specs.Meaning.{variable_of};
+ghost use Rattle.ba_tree.specs.Run.{function_of, main_of, no_function};
+ghost use Rattle.ba_tree.specs.Units.{declaration_units, declared_length, element_units, loop_units, operator_units};
+
+use ba_numbers::ids::{FnId, VarId};
+use ba_numbers::numbers::{BinOp, CType};
+use ba_tree::tree::{Function, Program, Shape, Stmt, Variable};
+
+/// The declaration of a variable.
+pub fn variable_of(program: &Program, var: VarId) -> Variable
+    ensures { result ≡ variable_of program.now var }
+{
+    match program.variables.as_slice().get(var.0 as usize) {
+        Some(variable) => *variable,
+        None => Variable {
+            t: CType::I32,
+            shape: Shape::Value,
+        },
+    }
+}
+
+/// The function of this number, if there is one.
+pub fn function_of(program: &Program, function: FnId) -> Option<&Function>
+    ensures { MatchOption result (function_of program.now function ≡ no_function)
+        (λ found. (function.0 < length program.now.functions) × (function_of program.now function
+        ≡ found.now)) }
+{
+    program.functions.as_slice().get(function.0 as usize)
+}
+
+/// The body of `main`.
+pub fn main_body(program: &Program) -> &[Stmt]
+    ensures { result.now ≡ (main_of program.now).body }
+{
+    match function_of(program, program.main) {
+        Some(main) => main.body.as_slice(),
+        None => &[],
+    }
+}
+
+/// How many elements a variable of this shape has of its own; none where it is no array.
+pub fn declared_length(shape: Shape) -> u32
+    ensures { result ≡ declared_length shape }
+{
+    match shape {
+        Shape::Array(length) => length,
+        Shape::Value | Shape::Passed => 0,
+    }
+}
+
+/// What the declaration of a variable of this shape costs.
+fn declaration_units(shape: Shape) -> u32
+    ensures { result ≡ declaration_units shape }
+{
+    match shape {
+        Shape::Value => 1,
+        Shape::Array(length) => 1 + length.div_ceil(2),
+        Shape::Passed => 0,
+    }
+}
+
+/// What is left behind the declaration of a variable.
+pub fn left_after_declaration(program: &Program, left: u32, var: VarId) -> u32
+    ensures { result ≡ left - declaration_units (variable_of program.now var).shape }
+{
+    let shape = variable_of(program, var).shape;
+    left.saturating_sub(declaration_units(shape))
+}
+
+/// What an element of an array of so many costs, read or written, without its index.
+pub fn element_units(length: u32) -> u32
+    ensures { result ≡ element_units length }
+{
+    1 + length.div_ceil(3)
+}
+
+/// What a binary operator costs without its operands.
+pub fn operator_units(op: BinOp) -> u32
+    ensures { result ≡ operator_units op }
+{
+    match op {
+        BinOp::Mul => 15,
+        BinOp::Div | BinOp::Rem => 40,
+        BinOp::Shl | BinOp::Shr => 2,
+        _ => 1,
+    }
+}
+
+/// What is left behind a loop of so many turns, where `left` are left before it, `condition` behind one of its conditions, and `turn`
+/// behind a condition and a turn.
+pub fn left_after_turns(turns: u32, left: u32, condition: u32, turn: u32) -> u32
+    ensures { (c b s : ℕ) → condition ≡ left - c → turn ≡ (condition - b) - s
+        → result ≡ left - loop_units turns c b s }
+{
+    let once = left.saturating_sub(turn);
+    condition.saturating_sub(turns.saturating_mul(once))
+}

@@ -1,0 +1,4 @@
+//! Programs for tests and benchmarks, read from words.
+#![tactic(auto)]
+
+pub mod reader;
