@@ -1,0 +1,13 @@
+pub mod Trees
+pub mod Names
+pub mod Faults
+pub mod Expressions
+pub mod Declarations
+pub mod Statements
+pub mod Files
+pub mod Judging
+pub mod Adding
+pub mod Controlling
+pub mod Marks
+pub mod Filing
+pub mod Storage

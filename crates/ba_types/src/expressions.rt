@@ -1,0 +1,280 @@
+//! The types, the values and the faults of expressions (C90 6.3).
+
+ghost use Rattle.std.specs.Prelude.{◌≡◌, length, option_map, IfOk};
+ghost use Rattle.ba_types.specs.Expressions.{Seen, called, params_of, see_arg, see_args, see_arguments, see_call, see_chain, see_conditional, see_constant_kind, see_element, see_name, see_operand, see_primary, see_unary_expression};
+ghost use Rattle.ba_types.specs.Judging.{Gives, GivesArg, GivesArgs, GivesCall, Judges, Stands};
+ghost use Rattle.ba_types.specs.Names.{meaning_of, name_of};
+ghost use Rattle.ba_types.specs.declared.tally.Tally.{Tally};
+
+use crate::arguments::{JudgedArg, JudgedArgs, give};
+use crate::fault::Cause;
+use crate::judged;
+use crate::judged::{Judged, JudgedCall};
+use crate::names::{binary_operator, is_void, name_of, punct_of, type_named, unary_operator};
+use crate::scopes::{ParamType, Scope, Signature};
+use crate::tally::Tally;
+use crate::uses::{
+    CallUse, add_array_name_faults, add_call_faults, add_height_fault, add_value_name_faults,
+    function_of, param_of, result_of,
+};
+use ba_lex::token::{Token, TokenKind};
+use ba_numbers::numbers::{CType, convert};
+use ba_parse::tree::expressions::{Arguments, Chain, Conditional, Operand, Primary, Unary};
+use std::alloc::{AllocError, Global};
+
+/// An expression in a scope: what there is to say of it, and its calls and faults.
+///
+/// The one error is want of memory, which also stands for want of numbers for calls and heights.
+#[cycle(expression)]
+pub(crate) fn conditional<'a>(
+    alloc: Global,
+    scope: &Scope<'a>,
+    c: &Conditional<'a>,
+    tally: &mut Tally,
+) -> Result<Judged<'a>, AllocError>
+    ensures { Gives (see_conditional c.now scope.now tally.old.calls) tally.old tally.new result }
+{
+    let test = operand(alloc, scope, &c.test, tally)?;
+    match &c.branches {
+        None => Ok(test),
+        Some(branches) => {
+            let holds = conditional(alloc, scope, &branches.holds, tally)?;
+            let fails = conditional(alloc, scope, &branches.fails, tally)?;
+            judged::select(alloc, test, holds, fails)
+        }
+    }
+}
+
+/// A unary expression and the chains of operators behind it.
+#[cycle(expression)]
+fn operand<'a>(
+    alloc: Global,
+    scope: &Scope<'a>,
+    o: &Operand<'a>,
+    tally: &mut Tally,
+) -> Result<Judged<'a>, AllocError>
+    ensures { Gives (see_operand o.now scope.now tally.old.calls) tally.old tally.new result }
+{
+    let mut left = unary(alloc, scope, &o.first, tally)?;
+    for c in &o.chains {
+        left = chain(alloc, scope, c, left, tally)?;
+    }
+    Ok(left)
+}
+
+/// A chain of operators behind its leftmost operand.
+#[cycle(expression)]
+fn chain<'a>(
+    alloc: Global,
+    scope: &Scope<'a>,
+    c: &Chain<'a>,
+    left: Judged<'a>,
+    tally: &mut Tally,
+) -> Result<Judged<'a>, AllocError>
+    ensures { (base : Tally) (s : Seen) → Stands left.entry s base tally.old →
+        Gives (see_chain c.now scope.now base.calls s) base tally.new result }
+{
+    let right = operand(alloc, scope, &c.operand, tally)?;
+    let operator = binary_operator(punct_of(c.operator));
+    let left = judged::binary(alloc, operator, left, right)?;
+    match &c.rest {
+        None => Ok(left),
+        Some(rest) => chain(alloc, scope, rest, left, tally),
+    }
+}
+
+/// A unary expression.
+#[cycle(expression)]
+fn unary<'a>(
+    alloc: Global,
+    scope: &Scope<'a>,
+    u: &Unary<'a>,
+    tally: &mut Tally,
+) -> Result<Judged<'a>, AllocError>
+    ensures { Gives (see_unary_expression u.now scope.now tally.old.calls)
+        tally.old tally.new result }
+{
+    match u {
+        Unary::Prefix { operator, operand } => {
+            let a = unary(alloc, scope, operand, tally)?;
+            judged::unary(alloc, operator.at, unary_operator(punct_of(operator)), a)
+        }
+        Unary::Cast {
+            open,
+            name,
+            operand,
+            ..
+        } => {
+            let to = type_named(name);
+            tally.add_if(is_void(to), Cause::WrongKind, open.at);
+            let a = unary(alloc, scope, operand, tally)?;
+            judged::cast(alloc, open.at, to, a)
+        }
+        Unary::Primary(p) => primary(alloc, scope, p, tally),
+    }
+}
+
+/// A primary expression.
+#[cycle(expression)]
+fn primary<'a>(
+    alloc: Global,
+    scope: &Scope<'a>,
+    p: &Primary<'a>,
+    tally: &mut Tally,
+) -> Result<Judged<'a>, AllocError>
+    ensures { Gives (see_primary p.now scope.now tally.old.calls) tally.old tally.new result }
+{
+    match p {
+        Primary::Name { name } => named(scope, name, tally),
+        Primary::Element { name, index, .. } => {
+            let meaning = scope.meaning_of(&name_of(name));
+            add_array_name_faults(&meaning, name.at, tally);
+            let index = conditional(alloc, scope, index, tally)?;
+            judged::element(alloc, name.at, &meaning, index)
+        }
+        Primary::Call {
+            name,
+            arguments,
+            ..
+        } => {
+            let j = call(alloc, scope, true, name, arguments, tally)?;
+            judged::called(name.at, j)
+        }
+        Primary::Constant { constant } => constant_of(constant),
+        Primary::Parenthesized {
+            open,
+            expression,
+            ..
+        } => {
+            let j = conditional(alloc, scope, expression, tally)?;
+            Ok(j.beginning_at(open.at))
+        }
+    }
+}
+
+/// A name where a value is wanted.
+fn named<'a>(
+    scope: &Scope<'a>,
+    name: &Token<'a>,
+    tally: &mut Tally,
+) -> Result<Judged<'a>, AllocError>
+    ensures { Gives
+        (see_name name.now.at (name_of name.now) (meaning_of scope.now (name_of name.now)))
+        tally.old tally.new result }
+{
+    let text = name_of(name);
+    let meaning = scope.meaning_of(&text);
+    add_value_name_faults(&meaning, name.at, tally);
+    judged::name(name.at, text, &meaning)
+}
+
+/// A constant token.
+fn constant_of<'a>(constant: &Token<'a>) -> Result<Judged<'a>, AllocError>
+    ensures { IfOk result (λ j. Judges j (see_constant_kind constant.now.at constant.now.kind)) }
+{
+    match &constant.kind {
+        TokenKind::Constant { t, value } => judged::constant(constant.at, *t, convert(*t, *value)),
+        _ => judged::constant(constant.at, CType::I32, 0),
+    }
+}
+
+/// A call of a name with these arguments, as a value or as a statement: what there is to say of it, and its calls and faults. The
+/// arguments of a statement are looked at each as a whole.
+///
+/// The one error is want of memory, which also stands for want of numbers for calls and heights.
+#[cycle(expression)]
+pub(crate) fn call<'a>(
+    alloc: Global,
+    scope: &Scope<'a>,
+    as_value: bool,
+    name: &Token<'a>,
+    a: &Arguments<'a>,
+    tally: &mut Tally,
+) -> Result<JudgedCall, AllocError>
+    ensures { GivesCall (record { as_value = as_value; at = name.now.at })
+        (see_call as_value name.now.at (name_of name.now) (see_arguments a.now)
+        scope.now tally.old.calls) tally.old tally.new result }
+{
+    let usage = CallUse {
+        as_value,
+        at: name.at,
+    };
+    let text = name_of(name);
+    let definition = scope.called(&text);
+    let meaning = scope.meaning_of(&text);
+    let call = tally.next_call()?;
+    add_call_faults(&text, &meaning, definition, usage, count_of(a), tally);
+    let args = arguments(alloc, scope, usage, definition, a, tally)?;
+    Ok(JudgedCall {
+        call,
+        function: function_of(definition),
+        result: result_of(definition),
+        args: args.given,
+        height: args.tallest,
+    })
+}
+
+/// How many arguments a call has.
+fn count_of(a: &Arguments) -> usize
+    ensures { result ≡ length (see_arguments a.now) }
+{
+    match &a.values {
+        None => 0,
+        Some(values) => values.rest.len() + 1,
+    }
+}
+
+/// The arguments of a call of a function with this definition.
+#[cycle(expression)]
+fn arguments<'a>(
+    alloc: Global,
+    scope: &Scope<'a>,
+    usage: CallUse,
+    definition: Option<&Signature<'a>>,
+    a: &Arguments<'a>,
+    tally: &mut Tally,
+) -> Result<JudgedArgs, AllocError>
+    ensures { GivesArgs usage (see_args scope.now tally.old.calls
+        (params_of (option_map (λ s. s.now) definition.entry)) (see_arguments a.now))
+        tally.old tally.new result }
+{
+    let mut args = JudgedArgs::new(alloc);
+    let Some(values) = &a.values else {
+        return Ok(args);
+    };
+    args.push(argument(
+        alloc,
+        scope,
+        usage,
+        param_of(definition, 0),
+        &values.first,
+        tally,
+    )?)?;
+    for next in &values.rest {
+        let param = param_of(definition, args.given.len());
+        args.push(argument(alloc, scope, usage, param, &next.expression, tally)?)?;
+    }
+    Ok(args)
+}
+
+/// An argument for a parameter, `None` where the function has no more.
+#[cycle(expression)]
+fn argument<'a>(
+    alloc: Global,
+    scope: &Scope<'a>,
+    usage: CallUse,
+    param: Option<ParamType>,
+    c: &Conditional<'a>,
+    tally: &mut Tally,
+) -> Result<JudgedArg, AllocError>
+    ensures { GivesArg usage
+        (see_arg scope.now param (see_conditional c.now scope.now tally.old.calls))
+        tally.old tally.new result }
+{
+    let before = tally.least;
+    let j = conditional(alloc, scope, c, tally)?;
+    let height = j.height;
+    let given = give(alloc, scope, param, before, j, tally)?;
+    add_height_fault(usage, height, tally);
+    Ok(JudgedArg { given, height })
+}

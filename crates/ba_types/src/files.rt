@@ -1,0 +1,372 @@
+//! Functions and files (C90 6.7).
+
+ghost use Rattle.std.specs.Prelude.{◌≡◌, ◌-◌, cond, ◌∷◌, ◌++◌, [], List, option_map, map, IfOk, OnOk};
+ghost use Rattle.ba_parse.specs.declared.tree.statements.External.{External};
+ghost use Rattle.ba_types.specs.Adding.{before_of, behind_part, state};
+ghost use Rattle.ba_types.specs.Declarations.{in_order};
+ghost use Rattle.ba_types.specs.Files.{Checked, add_external, add_externals, add_function, body_parts, params_of, vars_from};
+ghost use Rattle.ba_types.specs.Filing.{CheckedParts, GivesFunction, IsTyped, behind_externals, error_of, file_place, file_state, with_part};
+ghost use Rattle.ba_types.specs.Names.{definition_in, main_name};
+ghost use Rattle.ba_types.specs.Trees.{StmtTree, tree_of_function};
+ghost use Rattle.ba_types.specs.declared.scopes.Signature.{Signature};
+
+use crate::declarations::add_declarators;
+use crate::error::TypeError;
+use crate::fault::{Cause, Fault};
+use crate::names::type_named;
+use crate::parameters::{Owner, add_params};
+use crate::scopes::{Functions, Scope, Signature};
+use crate::signatures::{
+    add_signature, add_signature_faults, definitions_behind, functions, signature,
+};
+use crate::statements::add_items;
+use crate::uses::is_main;
+use crate::work::Work;
+use ba_items::Items;
+use ba_lex::token::Text;
+use ba_numbers::ids::{At, FnId, VarId};
+use ba_numbers::numbers::CType;
+use ba_parse::tree::declarations::Parameters;
+use ba_parse::tree::statements::{External, ExternalForm, FunctionEnd, RawProgram};
+use ba_tree::tree::{Function, Parts, Program, Stmt};
+use std::alloc::{AllocError, Global};
+
+/// What stands in the body of a function, put behind those statements; a prototype has none.
+///
+/// The one error is want of memory, which also stands for want of numbers.
+fn add_body<'a>(
+    alloc: Global,
+    end: &FunctionEnd<'a>,
+    scope: &mut Scope<'a>,
+    work: &mut Work,
+    stmts: &mut Vec<Stmt>,
+) -> Result<(), AllocError>
+    ensures { OnOk result (state scope.new work.new stmts.new
+        ≡ behind_part (in_order (body_parts end.now)) (state scope.old work.old stmts.old)) }
+{
+    match end {
+        FunctionEnd::Body(block) => add_items(alloc, block, scope, work, stmts),
+        FunctionEnd::Prototype { .. } => Ok(()),
+    }
+}
+
+/// The variables of the numbers from one up to another one. The one error is want of memory.
+fn vars_between(alloc: Global, low: u32, high: u32) -> Result<Vec<VarId>, AllocError>
+    ensures { IfOk result (λ vars. vars.items ≡ vars_from low (high - low)) }
+{
+    let mut vars = Vec::new(alloc);
+    for n in low..high {
+        vars.push(VarId(n))?;
+    }
+    Ok(vars)
+}
+
+/// What stands in a function, in a scope of its own: its parameters and its body.
+///
+/// The one error is want of memory, which also stands for want of numbers.
+fn add_inside<'a>(
+    alloc: Global,
+    owner: Owner,
+    result_type: Option<CType>,
+    parameters: &Parameters<'a>,
+    end: &FunctionEnd<'a>,
+    scope: &mut Scope<'a>,
+    work: &mut Work,
+) -> Result<Function, AllocError>
+    ensures { IfOk result (λ f. GivesFunction owner result_type (params_of parameters.now) end.now
+        scope.old work.old scope.new work.new f) }
+{
+    let outside = scope.count();
+    add_params(alloc, owner, parameters, scope, work)?;
+    let params = scope.vars_behind(alloc, outside)?;
+    let first = work.next_variable()?;
+    let mut body = Vec::new(alloc);
+    add_body(alloc, end, scope, work, &mut body)?;
+    let past = work.next_variable()?;
+    let locals = vars_between(alloc, first.0, past.0)?;
+    Ok(Function {
+        result: result_type,
+        params,
+        locals: Items::from_vec(locals),
+        body: Items::from_vec(body),
+    })
+}
+
+/// A function is put behind those where it is defined. The one error is want of memory.
+fn put_function(
+    functions: &mut Vec<Function>,
+    is_definition: bool,
+    function: Function,
+) -> Result<(), AllocError>
+    ensures { OnOk result (map tree_of_function functions.new.items
+        ≡ map tree_of_function functions.old.items
+        ++ cond is_definition (tree_of_function function ∷ []) []) }
+{
+    if !is_definition {
+        return Ok(());
+    }
+    functions.push(function)?;
+    Ok(())
+}
+
+/// A function, whose name stands at this position, behind the functions that are declared before it. Nothing of what stands in it is in
+/// scope behind it.
+///
+/// The one error is want of memory, which also stands for want of numbers.
+fn add_function<'a>(
+    alloc: Global,
+    at: At,
+    signature: &Signature<'a>,
+    parameters: &Parameters<'a>,
+    end: &FunctionEnd<'a>,
+    earlier: &Functions<'a>,
+    scope: &mut Scope<'a>,
+    work: &mut Work,
+    functions: &mut Vec<Function>,
+) -> Result<(), AllocError>
+    ensures { OnOk result ((inits : List StmtTree) →
+        file_place scope.new work.new inits functions.new
+        ≡ with_part (file_place scope.old work.old inits functions.old)
+        (add_function at signature.now (params_of parameters.now) end.now
+        scope.old earlier.now (before_of work.old))) }
+{
+    add_signature_faults(at, signature, earlier, scope, &mut work.tally);
+    let owner = Owner {
+        is_main: is_main(&signature.name),
+        is_defined: signature.is_definition,
+        at,
+    };
+    let mark = scope.mark();
+    scope.enter()?;
+    scope.set_result(signature.result);
+    let function = add_inside(alloc, owner, signature.result, parameters, end, scope, work)?;
+    scope.back_to(mark);
+    put_function(functions, signature.is_definition, function)
+}
+
+/// A part of a file, which says this of a function, behind the functions that are declared before it.
+///
+/// The one error is want of memory, which also stands for want of numbers.
+fn add_external<'a>(
+    alloc: Global,
+    external: &External<'a>,
+    signature: &Option<Signature<'a>>,
+    earlier: &Functions<'a>,
+    scope: &mut Scope<'a>,
+    work: &mut Work,
+    inits: &mut Vec<Stmt>,
+    functions: &mut Vec<Function>,
+) -> Result<(), AllocError>
+    ensures { OnOk result (file_state scope.new work.new inits.new functions.new
+        ≡ with_part (file_state scope.old work.old inits.old functions.old)
+        (add_external external.now signature.now scope.old earlier.now (before_of work.old))) }
+{
+    match &external.form {
+        ExternalForm::Variables { declarators, .. } => {
+            let t = type_named(&external.name);
+            add_declarators(alloc, earlier, t, declarators, scope, work, inits)
+        }
+        ExternalForm::Function {
+            name,
+            parameters,
+            end,
+            ..
+        } => {
+            let Some(signature) = signature else {
+                return Ok(());
+            };
+            add_function(
+                alloc, name.at, signature, parameters, end, earlier, scope, work, functions,
+            )
+        }
+    }
+}
+
+/// Parts of a file, behind the functions that are declared before them, which are counted on.
+///
+/// The one error is want of memory, which also stands for want of numbers.
+fn add_each<'a>(
+    alloc: Global,
+    externals: &[External<'a>],
+    earlier: &mut Functions<'a>,
+    scope: &mut Scope<'a>,
+    work: &mut Work,
+    inits: &mut Vec<Stmt>,
+    functions: &mut Vec<Function>,
+) -> Result<(), AllocError>
+    ensures { OnOk result (file_state scope.new work.new inits.new functions.new
+        ≡ behind_externals 0 externals.now earlier.old
+        (file_state scope.old work.old inits.old functions.old)) }
+{
+    let mut definitions = 0u32;
+    for external in externals {
+        let declared = signature(alloc, definitions, external)?;
+        add_external(
+            alloc, external, &declared, earlier, scope, work, inits, functions,
+        )?;
+        definitions = definitions_behind(definitions, &declared)?;
+        add_signature(earlier, declared)?;
+    }
+    Ok(())
+}
+
+/// All parts of a file.
+///
+/// The one error is want of memory, which also stands for want of numbers.
+fn add_externals<'a>(
+    alloc: Global,
+    externals: &[External<'a>],
+    scope: &mut Scope<'a>,
+    work: &mut Work,
+    inits: &mut Vec<Stmt>,
+    functions: &mut Vec<Function>,
+) -> Result<(), AllocError>
+    ensures { OnOk result (file_state scope.new work.new inits.new functions.new
+        ≡ with_part (file_state scope.old work.old inits.old functions.old)
+        (add_externals 0 externals.now scope.old [] (before_of work.old))) }
+{
+    let mut earlier = Functions::new(alloc);
+    add_each(
+        alloc,
+        externals,
+        &mut earlier,
+        scope,
+        work,
+        inits,
+        functions,
+    )
+}
+
+/// The function that a run begins with, where these define it.
+fn main_of(functions: &Functions) -> Option<FnId>
+    ensures { result ≡ option_map (λ (s : Signature). s.function)
+        (definition_in functions.now main_name) }
+{
+    match functions.definition(&Text::new(b"main")) {
+        None => None,
+        Some(signature) => Some(signature.function),
+    }
+}
+
+/// What typing makes of a file: its `main`, if it defines one, its globals, their initialisers, its functions, and what was counted.
+#[derive(Drop)]
+pub struct TypedFile {
+    pub main: Option<FnId>,
+    pub globals: Items<VarId>,
+    pub inits: Items<Stmt>,
+    pub functions: Items<Function>,
+    pub work: Work,
+}
+
+/// A whole file.
+///
+/// The one error is want of memory, which also stands for want of numbers.
+fn typed_file<'a>(alloc: Global, externals: &[External<'a>]) -> Result<TypedFile, AllocError>
+    ensures { IfOk result (λ file. IsTyped file externals.now) }
+{
+    let declared = functions(alloc, externals)?;
+    let main = main_of(&declared);
+    let mut scope = Scope::of_file(alloc, declared);
+    let mut work = Work::new(alloc);
+    let mut inits = Vec::new(alloc);
+    let mut functions = Vec::new(alloc);
+    add_externals(
+        alloc,
+        externals,
+        &mut scope,
+        &mut work,
+        &mut inits,
+        &mut functions,
+    )?;
+    let globals = scope.vars_behind(alloc, 0)?;
+    Ok(TypedFile {
+        main,
+        globals,
+        inits: Items::from_vec(inits),
+        functions: Items::from_vec(functions),
+        work,
+    })
+}
+
+/// A fault as an answer.
+fn error_of(fault: Fault) -> TypeError
+    ensures { result ≡ error_of fault.cause fault.at }
+{
+    match fault.cause {
+        Cause::UnknownName => TypeError::UnknownName(fault.at),
+        Cause::Twice => TypeError::Twice(fault.at),
+        Cause::WrongKind => TypeError::WrongKind(fault.at),
+        Cause::WrongCount => TypeError::WrongCount(fault.at),
+        Cause::BadLength => TypeError::BadLength(fault.at),
+        Cause::BreakOutside => TypeError::BreakOutside(fault.at),
+        Cause::CallInIndex => TypeError::CallInIndex(fault.at),
+        Cause::Limit => TypeError::Limit(fault.at),
+    }
+}
+
+/// The parts of a file's typed program, the file's first fault, or that it has neither fault nor `main`.
+fn verdict(file: TypedFile) -> Result<Parts, TypeError>
+    ensures { (xs : List External) → IsTyped file xs → CheckedParts xs result }
+{
+    let TypedFile {
+        main,
+        globals,
+        inits,
+        functions,
+        work,
+    } = file;
+    if let Some(fault) = work.tally.first_fault() {
+        return Err(error_of(fault));
+    }
+    let Some(main) = main else {
+        return Err(TypeError::NoMain);
+    };
+    let Work {
+        variables,
+        statements,
+        ..
+    } = work;
+    Ok(Parts {
+        variables,
+        globals,
+        inits,
+        functions,
+        main,
+        statements,
+    })
+}
+
+/// The parts of the typed program of a tree, the tree's first fault, or that it has neither fault nor `main`.
+///
+/// Beside those, the one error is want of memory, which also stands for want of numbers.
+fn typed_parts(alloc: Global, program: &RawProgram) -> Result<Parts, TypeError>
+    ensures { CheckedParts program.now.externals.items result }
+{
+    let file = typed_file(alloc, program.externals.as_slice())?;
+    verdict(file)
+}
+
+/// The typed program of a parser's tree, or why there is none (C90 6.1.2, 6.3, 6.5 to 6.7).
+///
+/// Where the tree has faults, the answer is the one whose position comes first, and of those at one position the one with the smaller
+/// number; `NoMain` comes where it has no fault and defines no `main`. `Memory` is want of memory, which also stands for want of numbers.
+pub fn check(alloc: Global, program: &RawProgram) -> Result<Program, TypeError>
+    ensures { Checked program.now.externals.items result }
+{
+    let Parts {
+        variables,
+        globals,
+        inits,
+        functions,
+        main,
+        statements,
+    } = typed_parts(alloc, program)?;
+    Ok(Program {
+        variables,
+        globals,
+        inits,
+        functions,
+        main,
+        statements,
+    })
+}

@@ -1,0 +1,278 @@
+//! The parameters of functions (C90 6.5.4.3).
+
+ghost use Rattle.std.specs.Prelude.{◌≡◌, ◌++◌, List, Option, true, IfOk, OnOk};
+ghost use Rattle.ba_types.specs.Adding.{AddsLength, IsLength, at_place, behind_part, plain_length};
+ghost use Rattle.ba_types.specs.Declarations.{SeenLength};
+ghost use Rattle.ba_types.specs.Faults.{limit_faults, parameter_limit, void_faults};
+ghost use Rattle.ba_types.specs.Files.{add_param, add_params, check_length, first_at, name_of_param, param_length, param_shape, params_of, place_of_param};
+ghost use Rattle.ba_types.specs.Filing.{declaring_param, is_bad, next_params};
+ghost use Rattle.ba_types.specs.Judging.{with_faults};
+ghost use Rattle.ba_types.specs.Names.{words_of};
+ghost use Rattle.ba_types.specs.Trees.{StmtTree};
+
+use crate::declarations::{Length, add_length, add_variable, array_length, shape_of};
+use crate::fault::Cause;
+use crate::names::{is_void, name_of, type_named};
+use crate::scopes::{Functions, Scope};
+use crate::signatures::{listed, number_behind};
+use crate::tally::Tally;
+use crate::work::Work;
+use ba_lex::token::Text;
+use ba_numbers::ids::At;
+use ba_numbers::numbers::CType;
+use ba_parse::tree::declarations::{ArrayLength, NextParameter, Parameter, Parameters};
+use ba_parse::tree::expressions::TypeName;
+use ba_tree::tree::{Shape, Variable};
+use std::alloc::{AllocError, Global};
+
+/// The greatest number of parameters.
+const PARAMETER_LIMIT: u32 = 32;
+
+/// Whose parameter it is: whether of `main`, whether of a definition, and the position of the function's name.
+#[derive(Clone, Copy, Debug, PartialEq, Eq)]
+pub struct Owner {
+    pub is_main: bool,
+    pub is_defined: bool,
+    pub at: At,
+}
+
+/// The position of a type's first word.
+fn first_at(name: &TypeName, other: At) -> At
+    ensures { result ≡ first_at (words_of name.now) other }
+{
+    if name.words.is_empty() {
+        return other;
+    }
+    name.words[0].at
+}
+
+/// The position of a parameter: its name, or its first word.
+fn place_of_param(other: At, parameter: &Parameter) -> At
+    ensures { result ≡ place_of_param other parameter.now }
+{
+    match parameter.name {
+        None => first_at(&parameter.type_name, other),
+        Some(name) => name.at,
+    }
+}
+
+/// The name of a parameter, without bytes where it has none.
+fn name_of_param<'a>(parameter: &Parameter<'a>) -> Text<'a>
+    ensures { result ≡ name_of_param parameter.now.name }
+{
+    match parameter.name {
+        None => Text::new(b""),
+        Some(name) => name_of(name),
+    }
+}
+
+/// What a parameter holds, which has this length, if it is one of main's arrays.
+fn param_shape(is_main: bool, written: &Option<ArrayLength>, length: Option<Length>) -> Shape
+    ensures { (l : Option SeenLength) → length ≡ plain_length l →
+        result ≡ param_shape is_main written.now l }
+{
+    if written.is_none() {
+        return Shape::Value;
+    }
+    if is_main {
+        shape_of(length)
+    } else {
+        Shape::Passed
+    }
+}
+
+/// The length of an array parameter of a definition at this position: its elements are counted. Only that of one of main's is looked at.
+///
+/// The one error is want of memory, which also stands for want of numbers.
+fn add_own_length<'a>(
+    alloc: Global,
+    is_main: bool,
+    at: At,
+    length: &Option<ArrayLength<'a>>,
+    scope: &Scope<'a>,
+    work: &mut Work,
+) -> Result<Option<Length>, AllocError>
+    ensures { IfOk result (λ l. AddsLength at
+        (param_length is_main at length.now scope.now work.old.tally.calls)
+        scope.now work.old work.new l) }
+{
+    if !is_main {
+        return Ok(None);
+    }
+    add_length(alloc, at, None, length, scope, work)
+}
+
+/// A parameter of a definition, at this position and of this type: it is a variable.
+///
+/// The one error is want of memory, which also stands for want of numbers.
+fn add_own<'a>(
+    alloc: Global,
+    is_main: bool,
+    at: At,
+    t: Option<CType>,
+    parameter: &Parameter<'a>,
+    scope: &mut Scope<'a>,
+    work: &mut Work,
+) -> Result<(), AllocError>
+    ensures { OnOk result ((stmts : List StmtTree) → at_place scope.new work.new stmts
+        ≡ behind_part (declaring_param is_main true at t parameter.now)
+        (at_place scope.old work.old stmts)) }
+{
+    let length = add_own_length(alloc, is_main, at, &parameter.length, scope, work)?;
+    let variable = Variable {
+        t: t.unwrap_or(CType::I32),
+        shape: param_shape(is_main, &parameter.length, length),
+    };
+    let name = name_of_param(parameter);
+    let functions = Functions::new(alloc);
+    add_variable(&functions, at, name, variable, scope, work)
+}
+
+/// The length of an array parameter of a prototype at this position. Only that of one of main's is looked at.
+///
+/// The one error is want of memory, which also stands for want of numbers for calls and heights.
+fn length_of_param<'a>(
+    alloc: Global,
+    is_main: bool,
+    at: At,
+    length: &Option<ArrayLength<'a>>,
+    scope: &Scope<'a>,
+    tally: &mut Tally,
+) -> Result<Option<Length>, AllocError>
+    ensures { IfOk result (λ l. IsLength
+        (param_length is_main at length.now scope.now tally.old.calls) tally.old tally.new l) }
+{
+    if !is_main {
+        return Ok(None);
+    }
+    array_length(alloc, at, None, length, scope, tally)
+}
+
+/// Whether a length counts no elements.
+fn is_bad(length: Option<Length>) -> bool
+    ensures { result ≡ is_bad length }
+{
+    match length {
+        None => false,
+        Some(length) => length.count.is_none(),
+    }
+}
+
+/// The length of an array parameter of a prototype at this position: a bad one is at fault.
+///
+/// The one error is want of memory, which also stands for want of numbers for calls and heights.
+fn check_length<'a>(
+    alloc: Global,
+    is_main: bool,
+    at: At,
+    length: &Option<ArrayLength<'a>>,
+    scope: &Scope<'a>,
+    work: &mut Work,
+) -> Result<(), AllocError>
+    ensures { OnOk result ((stmts : List StmtTree) → at_place scope.now work.new stmts
+        ≡ behind_part (check_length at (param_length is_main at length.now scope.now
+        work.old.tally.calls)) (at_place scope.now work.old stmts)) }
+{
+    let seen = length_of_param(alloc, is_main, at, length, scope, &mut work.tally)?;
+    work.tally.add_if(is_bad(seen), Cause::BadLength, at);
+    Ok(())
+}
+
+/// A parameter at this position and of this type: one of a definition is a variable, one of a prototype is looked at alone.
+///
+/// The one error is want of memory, which also stands for want of numbers.
+fn declare_param<'a>(
+    alloc: Global,
+    owner: Owner,
+    at: At,
+    t: Option<CType>,
+    parameter: &Parameter<'a>,
+    scope: &mut Scope<'a>,
+    work: &mut Work,
+) -> Result<(), AllocError>
+    ensures { OnOk result ((stmts : List StmtTree) → at_place scope.new work.new stmts
+        ≡ behind_part (declaring_param owner.is_main owner.is_defined at t parameter.now)
+        (at_place scope.old work.old stmts)) }
+{
+    if owner.is_defined {
+        add_own(alloc, owner.is_main, at, t, parameter, scope, work)
+    } else {
+        check_length(alloc, owner.is_main, at, &parameter.length, scope, work)
+    }
+}
+
+/// The faults of a parameter of this number, counted from 1, at this position and of this type.
+fn add_param_faults(at: At, t: Option<CType>, number: u32, tally: &mut Tally)
+    ensures { tally.new ≡ with_faults tally.old
+        (void_faults t at ++ limit_faults parameter_limit number at) }
+{
+    tally.add_if(is_void(t), Cause::WrongKind, at);
+    tally.add_limit(PARAMETER_LIMIT, number, at);
+}
+
+/// A parameter of this number, counted from 1 (C90 6.5.4.3): of a definition it is a variable.
+///
+/// The one error is want of memory, which also stands for want of numbers.
+fn add_param<'a>(
+    alloc: Global,
+    owner: Owner,
+    number: u32,
+    parameter: &Parameter<'a>,
+    scope: &mut Scope<'a>,
+    work: &mut Work,
+) -> Result<(), AllocError>
+    ensures { OnOk result ((stmts : List StmtTree) → at_place scope.new work.new stmts
+        ≡ behind_part (add_param owner.is_main owner.is_defined owner.at number parameter.now)
+        (at_place scope.old work.old stmts)) }
+{
+    let at = place_of_param(owner.at, parameter);
+    let t = type_named(&parameter.type_name);
+    declare_param(alloc, owner, at, t, parameter, scope, work)?;
+    add_param_faults(at, t, number, &mut work.tally);
+    Ok(())
+}
+
+/// The parameters behind the first one.
+///
+/// The one error is want of memory, which also stands for want of numbers.
+fn add_next_params<'a>(
+    alloc: Global,
+    owner: Owner,
+    rest: &[NextParameter<'a>],
+    scope: &mut Scope<'a>,
+    work: &mut Work,
+) -> Result<(), AllocError>
+    ensures { OnOk result ((stmts : List StmtTree) → at_place scope.new work.new stmts
+        ≡ behind_part
+        (add_params owner.is_main owner.is_defined owner.at 2 (next_params rest.now))
+        (at_place scope.old work.old stmts)) }
+{
+    let mut number = 2u32;
+    for next in rest {
+        add_param(alloc, owner, number, &next.parameter, scope, work)?;
+        number = number_behind(number)?;
+    }
+    Ok(())
+}
+
+/// The parameters of a function.
+///
+/// The one error is want of memory, which also stands for want of numbers.
+pub(crate) fn add_params<'a>(
+    alloc: Global,
+    owner: Owner,
+    parameters: &Parameters<'a>,
+    scope: &mut Scope<'a>,
+    work: &mut Work,
+) -> Result<(), AllocError>
+    ensures { OnOk result ((stmts : List StmtTree) → at_place scope.new work.new stmts
+        ≡ behind_part
+        (add_params owner.is_main owner.is_defined owner.at 1 (params_of parameters.now))
+        (at_place scope.old work.old stmts)) }
+{
+    let Some(list) = listed(parameters) else {
+        return Ok(());
+    };
+    add_param(alloc, owner, 1, &list.first, scope, work)?;
+    add_next_params(alloc, owner, list.rest.as_slice(), scope, work)
+}
