@@ -1,8 +1,8 @@
 -- What a call of the program answers, and what it prints.
 
-use Rattle.std.specs.Prelude.{◌≡◌, ◌≢◌, ◌⊎◌, ℕ, ◌+◌, ◌<◌, ◌≤◌, Bool, true, false, List, [], length, Contains, Option, Some, IfSome, IsSomeAnd}
-use Rattle.ba_world.specs.Read.{Stop, Stopped}
-use Rattle.ba_world.specs.World.{Rose, Appends, raised}
+use Rattle.std.specs.Prelude.{◌≡◌, ◌≢◌, ◌⊎◌, ℕ, ◌≤◌, true, false, List, [], length, Contains, Option, Some, IfSome}
+use Rattle.ba_world.specs.Read.{IsReadWhole, Stopped, StoppedPast}
+use Rattle.ba_world.specs.World.{HasReadFault, OnlyReads, Outside, Prints, raised}
 use Rattle.ba_world.specs.declared.read.ReadFileError.{ReadFileError}
 use Rattle.ba_world.specs.declared.read.ReadFileError.TheVariants as read
 use Rattle.ba_tree.specs.Least.{AreLeast, judge_of, unit_weights, weight_of}
@@ -77,28 +77,14 @@ IsVerdict source text b (answer.Unreadable file) = ⊥
 IsVerdict source text b (answer.TooLong file) = ⊥
 IsVerdict source text b answer.Memory = ⊥
 
--- THE OUTSIDE: what the world tells of its files at the start of a call, of the file that is being read at its end, and its counts
--- of read faults and of bytes given at both
+-- THE OUTSIDE at the start of a call and at its end
 
-pub record Outside : Type 0 where
-  pub held : List ℕ → Option (Option (List ℕ))
-  pub left_after : Option (List ℕ)
-  pub reading_after : Bool
-  pub faults : ℕ
-  pub faults_after : ℕ
-  pub given : ℕ
-  pub given_after : ℕ
+pub record Seen : Type 0 where
+  pub before : Outside
+  pub after : Outside
 
-abbrev pub outside : {S : Type 0} → (S → List ℕ → Option (Option (List ℕ))) → (S → Option (List ℕ)) → (S → Bool) → (S → ℕ) → (S → ℕ) → S → S → Outside
-outside held left is_reading faults given old new = record {
-  held = held old;
-  left_after = left new;
-  reading_after = is_reading new;
-  faults = faults old;
-  faults_after = faults new;
-  given = given old;
-  given_after = given new;
-}
+abbrev pub seen : Outside → Outside → Seen
+seen before after = record { before = before; after = after }
 
 -- how many bytes a file may have
 abbrev pub limit : ℕ
@@ -108,19 +94,20 @@ limit = 65536
 abbrev pub Holds : Option (Option (List ℕ)) → List ℕ → Type 0
 Holds held bytes = IfSome held (λ file. file ≡ Some bytes)
 
--- the two files that the words name were read whole, and have these bytes
-pub record IsRead (words : List (List ℕ)) (out : Outside) (source text : List ℕ) (bound : ℕ) : Type 0 where
+-- the two files that the words name were read whole, and have these bytes; nothing is left of the second
+pub record IsRead (words : List (List ℕ)) (out : Seen) (source text : List ℕ) (bound : ℕ) : Type 0 where
   pub program : List ℕ
   pub input : List ℕ
   pub job : IsJob words program input bound
-  pub source_is : Holds (out.held program) source
-  pub text_is : Holds (out.held input) text
+  pub source_is : Holds (out.before.held program) source
+  pub text_is : Holds (out.before.held input) text
   pub source_short : length source ≤ limit
   pub text_short : length text ≤ limit
-  pub counted : out.given_after ≡ raised (raised out.given (length source)) (length text)
+  pub counted : out.after.given ≡ raised (raised out.before.given (length source)) (length text)
+  pub at_end : IfSome out.after.left (λ rest. rest ≡ [])
 
 -- this verdict holds of the two files that the words name, with the bound that they name
-pub record Found (words : List (List ℕ)) (out : Outside) (verdict : Answer) : Type 0 where
+pub record Found (words : List (List ℕ)) (out : Seen) (verdict : Answer) : Type 0 where
   pub source : List ℕ
   pub text : List ℕ
   pub bound : ℕ
@@ -135,50 +122,39 @@ abbrev pub name_of : File → List ℕ → List ℕ → List ℕ
 name_of file.Program program input = program
 name_of file.Input program input = input
 
--- What was read whole before a file that the words name was opened, and the count of bytes given when it was: before the program
--- nothing, before the input the program.
-abbrev pub WasReadBefore : File → Option (Option (List ℕ)) → ℕ → ℕ → Type 0
-WasReadBefore file.Program program given given_before = given_before ≡ given
-WasReadBefore file.Input program given given_before =
-    (source : List ℕ) × Holds program source × (length source ≤ limit) × (given_before ≡ raised given (length source))
-
--- the read of the file of this name, which was opened when this many bytes had been given, as the call shows it at its end
-abbrev pub stop_of : Outside → List ℕ → ℕ → Stop
-stop_of out name given_before = record {
-  held = out.held name;
-  is_reading = out.reading_after;
-  left = out.left_after;
-  faults = out.faults;
-  faults_after = out.faults_after;
-  given = given_before;
-  given_after = out.given_after;
-}
+-- What was read whole from the start of a call until a file that the words name was opened: before the program nothing, before the
+-- input the program.
+abbrev pub WasReadBefore : File → List ℕ → Outside → Outside → Type 0
+WasReadBefore file.Program program before opened = opened ≡ before
+WasReadBefore file.Input program before opened =
+    (source : List ℕ) × IsReadWhole program source before opened × (length source ≤ limit) × OnlyReads before opened
 
 -- a file that the words name cannot be read: its read stopped, in opening it or in reading it
-pub record CannotBeRead (words : List (List ℕ)) (out : Outside) (which : File) : Type 0 where
+pub record CannotBeRead (words : List (List ℕ)) (out : Seen) (which : File) : Type 0 where
   pub program : List ℕ
   pub input : List ℕ
   pub bound : ℕ
-  pub given_before : ℕ
   pub job : IsJob words program input bound
-  pub before : WasReadBefore which (out.held program) out.given given_before
-  pub stopped : Stopped (stop_of out (name_of which program input) given_before)
+  -- the outside when it was opened
+  pub opened : Outside
+  pub read_before : WasReadBefore which program out.before opened
+  pub stopped : Stopped (name_of which program input) limit opened out.after
 
 -- a file that the words name is too long: more bytes than the limit were given of it
-pub record IsTooLong (words : List (List ℕ)) (out : Outside) (which : File) : Type 0 where
+pub record IsTooLong (words : List (List ℕ)) (out : Seen) (which : File) : Type 0 where
   pub program : List ℕ
   pub input : List ℕ
   pub bound : ℕ
-  pub given_before : ℕ
   pub job : IsJob words program input bound
-  pub before : WasReadBefore which (out.held program) out.given given_before
-  pub longer : IfSome (out.held (name_of which program input)) (λ held. IsSomeAnd held (λ bytes. limit < length bytes))
-  pub given : Rose (given_before + limit) out.given_after
+  -- the outside when it was opened
+  pub opened : Outside
+  pub read_before : WasReadBefore which program out.before opened
+  pub stopped : StoppedPast (name_of which program input) limit opened out.after
 
 -- ANSWERS
 
 -- the answer that a call comes to
-abbrev pub IsAnswer : List (List ℕ) → Outside → Answer → Type 0
+abbrev pub IsAnswer : List (List ℕ) → Seen → Answer → Type 0
 IsAnswer words out (answer.Located bytes) = Found words out (answer.Located bytes)
 IsAnswer words out answer.NotFailing = Found words out answer.NotFailing
 IsAnswer words out answer.NoRepair = Found words out answer.NoRepair
@@ -210,31 +186,41 @@ text_of (answer.Unreadable which) = unreadable_text which
 text_of (answer.TooLong which) = too_long_text which
 text_of answer.Memory = []
 
--- WHAT A CALL PRINTS
+-- WHAT A CALL PRINTS AND LEAVES
 
-abbrev pub Prints : Option (List ℕ) → Option (List ℕ) → (List ℕ → Type 0) → Type 0
-Prints old new P = (text : List ℕ) × P text × Appends old new text
+-- a text of which this holds was printed
+abbrev pub PrintsText : Seen → (List ℕ → Type 0) → Type 0
+PrintsText out P = (text : List ℕ) × P text × Prints out.before out.after text
+
+-- no file was begun or added to, and no count of faults fell
+pub record WritesNoFile (old new : Outside) : Type 0 where
+  pub held : new.held ≡ old.held
+  pub kept : new.kept ≡ old.kept
+  pub writing : new.writing ≡ old.writing
+  pub is_writing : new.is_writing ≡ old.is_writing
+  pub read_no_fall : old.read_faults ≤ new.read_faults
+  pub write_no_fall : old.write_faults ≤ new.write_faults
 
 -- WHAT A CALL COMES TO, from its causes
 
 -- the world tells the two files that the words name: they have these bytes
-pub record Tells (words : List (List ℕ)) (out : Outside) (source text : List ℕ) (bound : ℕ) : Type 0 where
+pub record Tells (words : List (List ℕ)) (out : Seen) (source text : List ℕ) (bound : ℕ) : Type 0 where
   pub program : List ℕ
   pub input : List ℕ
   pub job : IsJob words program input bound
-  pub source_is : out.held program ≡ Some (Some source)
-  pub text_is : out.held input ≡ Some (Some text)
+  pub source_is : out.before.held program ≡ Some (Some source)
+  pub text_is : out.before.held input ≡ Some (Some text)
 
 -- and neither is too long
-pub record TellsShort (words : List (List ℕ)) (out : Outside) (source text : List ℕ) (bound : ℕ) : Type 0 where
+pub record TellsShort (words : List (List ℕ)) (out : Seen) (source text : List ℕ) (bound : ℕ) : Type 0 where
   pub tells : Tells words out source text bound
   pub source_short : length source ≤ limit
   pub text_short : length text ≤ limit
 
 -- the call ends with this status, unless a fault or want of memory comes in its place
-pub data EndsWith (out : Outside) (wanted result : Status) : Type 0 where
+pub data EndsWith (out : Seen) (wanted result : Status) : Type 0 where
   as_wanted : result ≡ wanted → EndsWith out wanted result
-  read_fault : result ≡ status.ReadFault → Rose out.faults out.faults_after → EndsWith out wanted result
+  read_fault : result ≡ status.ReadFault → HasReadFault out.before out.after → EndsWith out wanted result
   write_fault : result ≡ status.WriteFault → EndsWith out wanted result
   memory : result ≡ status.Memory → EndsWith out wanted result
 

@@ -8,7 +8,7 @@ ghost use Rattle.ba_tool.specs.Texts.{number_of};
 use crate::rules::{Rules, keep, luby, steady};
 use crate::status::Status;
 use crate::tool::tool;
-use ba_world::HostWorld;
+use ba_world::{HostWorld, RuntimeFiles};
 use std::alloc::{AllocError, Global};
 use std::env;
 use std::io::{self, ErrorKind};
@@ -55,7 +55,7 @@ pub fn run<R: Env + Alloc<A = Global> + Files + Print>(rt: &R) -> Result<Status,
     let alloc = rt.alloc();
     let arguments = arguments(rt)?;
     let words = texts(alloc, arguments.as_slice())?;
-    let mut world = HostWorld::new(rt, io::writer(rt));
+    let mut world = HostWorld::new(RuntimeFiles(rt), io::writer(rt));
     let rules = Rules::new(luby, steady, keep);
     Ok(tool(alloc, words.as_slice(), &mut world, rules))
 }

@@ -1,7 +1,8 @@
 //! The top call of the program.
 
-ghost use Rattle.std.specs.Prelude.{◌≡◌, ◌≢◌, ◌⊎◌, ℕ, ◌≤◌, ◌<◌, [], List, length, map, false, true};
-ghost use Rattle.ba_world.specs.World.{Appends, AppendsPrefix, Rose};
+ghost use Rattle.std.specs.Prelude.{◌≡◌, ◌≢◌, ◌⊎◌, ℕ, ◌+◌, ◌*◌, ◌≤◌, ◌<◌, [], List, length, map, false, true};
+ghost use Rattle.ba_world.specs.Read.{piece_size};
+ghost use Rattle.ba_world.specs.World.{HasWriteFault, OnlyPrints, OnlyReads, Outside, Prints, PrintsPrefix};
 ghost use Rattle.ba_tree.specs.declared.run.Input.{Input};
 ghost use Rattle.ba_tree.specs.declared.tree.Program.{Program};
 ghost use Rattle.ba_tree.specs.Least.{AreLeast, judge_of, unit_weights};
@@ -11,7 +12,7 @@ ghost use Rattle.ba_tool.specs.declared.answer.Answer.{Answer};
 ghost use Rattle.ba_tool.specs.declared.fault.Fault.{Fault};
 ghost use Rattle.ba_tool.specs.declared.status.File.{File};
 ghost use Rattle.ba_tool.specs.Texts.{no_repair_text, not_built_text, not_failing_text, too_long_text, unreadable_text};
-ghost use Rattle.ba_tool.specs.Tool.{CannotBeRead, EndsWith, Found, HasNoCase, HasNoJob, IsAnswer, IsCase, IsTooLong, Prints, Tells, TellsShort, bounds_with, limit, outside, read_answer, status_of, text_of};
+ghost use Rattle.ba_tool.specs.Tool.{CannotBeRead, EndsWith, Found, HasNoCase, HasNoJob, IsAnswer, IsCase, IsTooLong, PrintsText, Tells, TellsShort, WritesNoFile, bounds_with, limit, read_answer, seen, status_of, text_of};
 
 use crate::answer::Answer;
 use crate::judge::judge;
@@ -37,15 +38,9 @@ fn read_answer(file: File, error: ReadFileError) -> Answer
 
 /// What the call comes to: it reads the words, then the files, each of them whole, and then judges.
 fn answer<W: World>(alloc: Global, words: &[&str], world: &mut W) -> Answer
-    ensures answer { IsAnswer (map (λ word. word.now) words.now) (outside W.held W.left W.is_reading W.read_faults W.given world.old world.new) result }
-    ensures no_fall { W.read_faults world.old ≤ W.read_faults world.new }
-
-    ensures held_stays { W.held world.new ≡ W.held world.old }
-    ensures kept_stays { W.kept world.new ≡ W.kept world.old }
-    ensures writing_stays { W.writing world.new ≡ W.writing world.old }
-    ensures is_writing_stays { W.is_writing world.new ≡ W.is_writing world.old }
-    ensures printed_stays { W.printed world.new ≡ W.printed world.old }
-    ensures write_faults_stay { W.write_faults world.new ≡ W.write_faults world.old }
+    ensures answer { IsAnswer (map (λ word. word.now) words.now) (seen (W.outside world.old) (W.outside world.new)) result }
+    ensures bounded { (W.outside world.new).given ≤ (W.outside world.old).given + 2 * (limit + piece_size) }
+    ensures stays { OnlyReads (W.outside world.old) (W.outside world.new) }
 {
     let Some(job) = first_words(words) else {
         return Answer::NotBuilt;
@@ -67,19 +62,10 @@ fn answer<W: World>(alloc: Global, words: &[&str], world: &mut W) -> Answer
 /// Prints a text by one call, and answers how the program then ends.
 fn show<W: World>(world: &mut W, text: &[u8], status: Status) -> Status
     ensures which { (result ≡ status) ⊎ (result ≡ Status.WriteFault) ⊎ (result ≡ Status.Memory) }
-    ensures shown { Appends (W.printed world.old) (W.printed world.new) text.now ⊎ (result ≡ Status.WriteFault) ⊎ (result ≡ Status.Memory) }
-    ensures prefix { AppendsPrefix (W.printed world.old) (W.printed world.new) text.now }
-    ensures cause { (result ≡ status) ⊎ Rose (W.write_faults world.old) (W.write_faults world.new) ⊎ (result ≡ Status.Memory) }
-    ensures no_fall { W.write_faults world.old ≤ W.write_faults world.new }
-
-    ensures held_stays { W.held world.new ≡ W.held world.old }
-    ensures kept_stays { W.kept world.new ≡ W.kept world.old }
-    ensures writing_stays { W.writing world.new ≡ W.writing world.old }
-    ensures is_writing_stays { W.is_writing world.new ≡ W.is_writing world.old }
-    ensures left_stays { W.left world.new ≡ W.left world.old }
-    ensures is_reading_stays { W.is_reading world.new ≡ W.is_reading world.old }
-    ensures read_faults_stay { W.read_faults world.new ≡ W.read_faults world.old }
-    ensures given_stays { W.given world.new ≡ W.given world.old }
+    ensures shown { Prints (W.outside world.old) (W.outside world.new) text.now ⊎ (result ≡ Status.WriteFault) ⊎ (result ≡ Status.Memory) }
+    ensures prefix { PrintsPrefix (W.outside world.old) (W.outside world.new) text.now }
+    ensures cause { (result ≡ status) ⊎ HasWriteFault (W.outside world.old) (W.outside world.new) ⊎ (result ≡ Status.Memory) }
+    ensures stays { OnlyPrints (W.outside world.old) (W.outside world.new) }
 {
     match world.print(text) {
         Ok(()) => status,
@@ -91,19 +77,15 @@ fn show<W: World>(world: &mut W, text: &[u8], status: Status) -> Status
 /// Prints the answer's text, and answers how the program then ends. Want of memory has no text.
 fn finish<W: World>(world: &mut W, answer: &Answer) -> Status
     ensures which { (result ≡ status_of answer.now) ⊎ (result ≡ Status.WriteFault) ⊎ (result ≡ Status.Memory) }
-    ensures shown { Appends (W.printed world.old) (W.printed world.new) (text_of answer.now) ⊎ (result ≡ Status.WriteFault) ⊎ (result ≡ Status.Memory) }
-    ensures prefix { AppendsPrefix (W.printed world.old) (W.printed world.new) (text_of answer.now) }
-    ensures cause { (result ≡ status_of answer.now) ⊎ Rose (W.write_faults world.old) (W.write_faults world.new) ⊎ (result ≡ Status.Memory) }
-    ensures no_fall { W.write_faults world.old ≤ W.write_faults world.new }
+    ensures shown { Prints (W.outside world.old) (W.outside world.new) (text_of answer.now) ⊎ (result ≡ Status.WriteFault) ⊎ (result ≡ Status.Memory) }
+    ensures prefix { PrintsPrefix (W.outside world.old) (W.outside world.new) (text_of answer.now) }
+    ensures cause { (result ≡ status_of answer.now) ⊎ HasWriteFault (W.outside world.old) (W.outside world.new) ⊎ (result ≡ Status.Memory) }
+    ensures stays { OnlyPrints (W.outside world.old) (W.outside world.new) }
 
-    ensures held_stays { W.held world.new ≡ W.held world.old }
-    ensures kept_stays { W.kept world.new ≡ W.kept world.old }
-    ensures writing_stays { W.writing world.new ≡ W.writing world.old }
-    ensures is_writing_stays { W.is_writing world.new ≡ W.is_writing world.old }
-    ensures left_stays { W.left world.new ≡ W.left world.old }
-    ensures is_reading_stays { W.is_reading world.new ≡ W.is_reading world.old }
-    ensures read_faults_stay { W.read_faults world.new ≡ W.read_faults world.old }
-    ensures given_stays { W.given world.new ≡ W.given world.old }
+    // What the outside shows of a read still stands after it.
+    ensures later { (words : List (List ℕ)) (before : Outside)
+        → IsAnswer words (seen before (W.outside world.old)) answer.now
+        → IsAnswer words (seen before (W.outside world.new)) answer.now }
 {
     match answer {
         Answer::Memory => Status::Memory,
@@ -134,93 +116,89 @@ where
 
     // THE HEADLINE. What was printed is the report of exactly the least sets of the program that the program's file spells, on
     // the input that the input's file writes: all of them, each once and in order, with the weight of each.
-    ensures located { result ≡ Status.Ok → Prints (W.printed world.old) (W.printed world.new)
-        (λ text. Found (map (λ word. word.now) words.now) (outside W.held W.left W.is_reading W.read_faults W.given world.old world.new) (Answer.Located text)) }
+    ensures located { result ≡ Status.Ok → PrintsText (seen (W.outside world.old) (W.outside world.new))
+        (λ text. Found (map (λ word. word.now) words.now) (seen (W.outside world.old) (W.outside world.new)) (Answer.Located text)) }
 
     // The run as written meets every assertion.
     ensures not_failing { result ≡ Status.NotFailing
-        → Found (map (λ word. word.now) words.now) (outside W.held W.left W.is_reading W.read_faults W.given world.old world.new) Answer.NotFailing
-        × Appends (W.printed world.old) (W.printed world.new) not_failing_text }
+        → Found (map (λ word. word.now) words.now) (seen (W.outside world.old) (W.outside world.new)) Answer.NotFailing
+        × Prints (W.outside world.old) (W.outside world.new) not_failing_text }
 
     // It fails, and the list of least sets is empty.
     ensures no_repair { result ≡ Status.NoRepair
-        → Found (map (λ word. word.now) words.now) (outside W.held W.left W.is_reading W.read_faults W.given world.old world.new) Answer.NoRepair
-        × Appends (W.printed world.old) (W.printed world.new) no_repair_text }
+        → Found (map (λ word. word.now) words.now) (seen (W.outside world.old) (W.outside world.new)) Answer.NoRepair
+        × Prints (W.outside world.old) (W.outside world.new) no_repair_text }
 
     // The text of the program has no tokens, or its tokens are no file's: its fault was printed.
-    ensures bad_program { result ≡ Status.BadProgram → Prints (W.printed world.old) (W.printed world.new)
-        (λ text. Found (map (λ word. word.now) words.now) (outside W.held W.left W.is_reading W.read_faults W.given world.old world.new) (Answer.BadProgram text)) }
+    ensures bad_program { result ≡ Status.BadProgram → PrintsText (seen (W.outside world.old) (W.outside world.new))
+        (λ text. Found (map (λ word. word.now) words.now) (seen (W.outside world.old) (W.outside world.new)) (Answer.BadProgram text)) }
 
     // The words, or the program and the input, are not of the form.
     ensures not_built { result ≡ Status.NotBuilt
         → (HasNoJob (map (λ word. word.now) words.now)
-        ⊎ Found (map (λ word. word.now) words.now) (outside W.held W.left W.is_reading W.read_faults W.given world.old world.new) Answer.NotBuilt)
-        × Appends (W.printed world.old) (W.printed world.new) not_built_text }
+        ⊎ Found (map (λ word. word.now) words.now) (seen (W.outside world.old) (W.outside world.new)) Answer.NotBuilt)
+        × Prints (W.outside world.old) (W.outside world.new) not_built_text }
 
     // The file that is named could not be opened, or not be read to its end, since a fault of reading rose or there is no such
     // file: what was read before, what is left and the count of bytes given are those of a call that stopped at this file.
     ensures read_fault { result ≡ Status.ReadFault → (which : File)
-        × CannotBeRead (map (λ word. word.now) words.now) (outside W.held W.left W.is_reading W.read_faults W.given world.old world.new) which
-        × Appends (W.printed world.old) (W.printed world.new) (unreadable_text which) }
+        × CannotBeRead (map (λ word. word.now) words.now) (seen (W.outside world.old) (W.outside world.new)) which
+        × Prints (W.outside world.old) (W.outside world.new) (unreadable_text which) }
 
     // The file that is named is too long.
     ensures too_long { result ≡ Status.TooLong → (which : File)
-        × IsTooLong (map (λ word. word.now) words.now) (outside W.held W.left W.is_reading W.read_faults W.given world.old world.new) which
-        × Appends (W.printed world.old) (W.printed world.new) (too_long_text which) }
+        × IsTooLong (map (λ word. word.now) words.now) (seen (W.outside world.old) (W.outside world.new)) which
+        × Prints (W.outside world.old) (W.outside world.new) (too_long_text which) }
 
-    ensures write_fault { result ≡ Status.WriteFault → Rose (W.write_faults world.old) (W.write_faults world.new) }
+    ensures write_fault { result ≡ Status.WriteFault → HasWriteFault (W.outside world.old) (W.outside world.new) }
 
     // However the call ends, it printed a prefix of the text of an answer for which there is a cause.
     ensures prefix { (answer : Answer)
-        × IsAnswer (map (λ word. word.now) words.now) (outside W.held W.left W.is_reading W.read_faults W.given world.old world.new) answer
-        × AppendsPrefix (W.printed world.old) (W.printed world.new) (text_of answer) }
+        × IsAnswer (map (λ word. word.now) words.now) (seen (W.outside world.old) (W.outside world.new)) answer
+        × PrintsPrefix (W.outside world.old) (W.outside world.new) (text_of answer) }
 
     // The same from the causes: with which status the call ends, where no fault and no want of memory comes.
     ensures where_no_job { HasNoJob (map (λ word. word.now) words.now)
-        → EndsWith (outside W.held W.left W.is_reading W.read_faults W.given world.old world.new) Status.NotBuilt result }
+        → EndsWith (seen (W.outside world.old) (W.outside world.new)) Status.NotBuilt result }
     ensures where_bad_program { (source text : List ℕ) (bound : ℕ) (fault : Fault)
-        → TellsShort (map (λ word. word.now) words.now) (outside W.held W.left W.is_reading W.read_faults W.given world.old world.new) source text bound
+        → TellsShort (map (λ word. word.now) words.now) (seen (W.outside world.old) (W.outside world.new)) source text bound
         → IsFaulty source fault
-        → EndsWith (outside W.held W.left W.is_reading W.read_faults W.given world.old world.new) Status.BadProgram result }
+        → EndsWith (seen (W.outside world.old) (W.outside world.new)) Status.BadProgram result }
     ensures where_no_case { (source text : List ℕ) (bound : ℕ)
-        → TellsShort (map (λ word. word.now) words.now) (outside W.held W.left W.is_reading W.read_faults W.given world.old world.new) source text bound
+        → TellsShort (map (λ word. word.now) words.now) (seen (W.outside world.old) (W.outside world.new)) source text bound
         → IsFileText source
         → HasNoCase source text
-        → EndsWith (outside W.held W.left W.is_reading W.read_faults W.given world.old world.new) Status.NotBuilt result }
+        → EndsWith (seen (W.outside world.old) (W.outside world.new)) Status.NotBuilt result }
     ensures where_too_long { (source text : List ℕ) (bound : ℕ)
-        → Tells (map (λ word. word.now) words.now) (outside W.held W.left W.is_reading W.read_faults W.given world.old world.new) source text bound
+        → Tells (map (λ word. word.now) words.now) (seen (W.outside world.old) (W.outside world.new)) source text bound
         → (limit < length source) ⊎ (limit < length text)
-        → EndsWith (outside W.held W.left W.is_reading W.read_faults W.given world.old world.new) Status.TooLong result }
+        → EndsWith (seen (W.outside world.old) (W.outside world.new)) Status.TooLong result }
     ensures where_not_failing { (source text : List ℕ) (bound : ℕ) (p : Program) (i : Input)
-        → TellsShort (map (λ word. word.now) words.now) (outside W.held W.left W.is_reading W.read_faults W.given world.old world.new) source text bound
+        → TellsShort (map (λ word. word.now) words.now) (seen (W.outside world.old) (W.outside world.new)) source text bound
         → IsCase source text p i → runs_well p i (bounds_with bound) ≡ true
-        → EndsWith (outside W.held W.left W.is_reading W.read_faults W.given world.old world.new) Status.NotFailing result }
+        → EndsWith (seen (W.outside world.old) (W.outside world.new)) Status.NotFailing result }
     ensures where_no_repair { (source text : List ℕ) (bound : ℕ) (p : Program) (i : Input)
-        → TellsShort (map (λ word. word.now) words.now) (outside W.held W.left W.is_reading W.read_faults W.given world.old world.new) source text bound
+        → TellsShort (map (λ word. word.now) words.now) (seen (W.outside world.old) (W.outside world.new)) source text bound
         → IsCase source text p i → runs_well p i (bounds_with bound) ≡ false
         → AreLeast (unit_weights p) (judge_of p i (bounds_with bound)) []
-        → EndsWith (outside W.held W.left W.is_reading W.read_faults W.given world.old world.new) Status.NoRepair result }
+        → EndsWith (seen (W.outside world.old) (W.outside world.new)) Status.NoRepair result }
     ensures where_located { (source text : List ℕ) (bound : ℕ) (p : Program) (i : Input) (sets : List (List ℕ))
-        → TellsShort (map (λ word. word.now) words.now) (outside W.held W.left W.is_reading W.read_faults W.given world.old world.new) source text bound
+        → TellsShort (map (λ word. word.now) words.now) (seen (W.outside world.old) (W.outside world.new)) source text bound
         → IsCase source text p i → runs_well p i (bounds_with bound) ≡ false
         → AreLeast (unit_weights p) (judge_of p i (bounds_with bound)) sets → sets ≢ []
-        → EndsWith (outside W.held W.left W.is_reading W.read_faults W.given world.old world.new) Status.Ok result }
+        → EndsWith (seen (W.outside world.old) (W.outside world.new)) Status.Ok result }
 
     // Where words, program and input are of the form and told, and nothing failed, the call says whether there is something to repair.
     ensures completes { (source text : List ℕ) (bound : ℕ) (p : Program) (i : Input)
-        → TellsShort (map (λ word. word.now) words.now) (outside W.held W.left W.is_reading W.read_faults W.given world.old world.new) source text bound
+        → TellsShort (map (λ word. word.now) words.now) (seen (W.outside world.old) (W.outside world.new)) source text bound
         → IsCase source text p i
-        → EndsWith (outside W.held W.left W.is_reading W.read_faults W.given world.old world.new) Status.Ok result
-        ⊎ EndsWith (outside W.held W.left W.is_reading W.read_faults W.given world.old world.new) Status.NotFailing result
-        ⊎ EndsWith (outside W.held W.left W.is_reading W.read_faults W.given world.old world.new) Status.NoRepair result }
+        → EndsWith (seen (W.outside world.old) (W.outside world.new)) Status.Ok result
+        ⊎ EndsWith (seen (W.outside world.old) (W.outside world.new)) Status.NotFailing result
+        ⊎ EndsWith (seen (W.outside world.old) (W.outside world.new)) Status.NoRepair result }
 
-    // No file is written.
-    ensures held_stays { W.held world.new ≡ W.held world.old }
-    ensures kept_stays { W.kept world.new ≡ W.kept world.old }
-    ensures writing_stays { W.writing world.new ≡ W.writing world.old }
-    ensures is_writing_stays { W.is_writing world.new ≡ W.is_writing world.old }
-    ensures read_faults_no_fall { W.read_faults world.old ≤ W.read_faults world.new }
-    ensures write_faults_no_fall { W.write_faults world.old ≤ W.write_faults world.new }
+    // No file is written, and of each that is read come no more bytes than the limit and one piece.
+    ensures stays { WritesNoFile (W.outside world.old) (W.outside world.new) }
+    ensures bounded { (W.outside world.new).given ≤ (W.outside world.old).given + 2 * (limit + piece_size) }
 {
     let _ = rules;
     let answer = answer(alloc, words, world);

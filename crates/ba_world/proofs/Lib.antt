@@ -1,2 +1,4 @@
 pub mod Files
 pub mod Told
+pub mod WholeReads
+pub mod Later

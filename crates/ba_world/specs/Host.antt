@@ -1,16 +1,22 @@
 -- A world over real files and standard output, which tells no content.
 
-use Rattle.std.specs.Prelude.{ℕ, List, Option, None, Some}
-use Rattle.std.specs.Io.KnownBytes.{Appends, Consumes}
+use Rattle.std.specs.Prelude.{ℕ, List, take, Option, None, is_some, option_and_then}
+use Rattle.std.specs.Io.KnownBytes.{Appends}
+use Rattle.ba_world.specs.World.{Outside}
 
--- What is known of the bytes that an open file holds or has left.
+-- what is known of a name, or of bytes
 abbrev pub Known : Type 0
 Known = Option (List ℕ)
 
+-- an open file: the name by which it was opened or made, and the bytes that it has left or holds
+pub record OpenFile : Type 0 where
+  pub name : Known
+  pub bytes : Known
+
 -- the files being read and written, the output, and the counts
 pub record Host : Type 0 where
-  pub reading : Option Known
-  pub writing : Option Known
+  pub reading : Option OpenFile
+  pub writing : Option OpenFile
   pub output : Known
   pub read_faults : ℕ
   pub write_faults : ℕ
@@ -20,14 +26,28 @@ pub record Host : Type 0 where
 abbrev pub new_host : Known → Host
 new_host output = record { reading = None; writing = None; output = output; read_faults = 0; write_faults = 0; given = 0 }
 
--- the bytes were added to the open file, as far as it is known what that holds
-abbrev pub Adds : Option Known → Option Known → List ℕ → Type 0
-Adds None new bytes = ⊥
-Adds (Some old) None bytes = ⊥
-Adds (Some old) (Some new) bytes = Appends old new bytes
+-- what is known of the name and of the bytes of a file, where it is open
+abbrev pub known_name : Option OpenFile → Known
+known_name file = option_and_then (λ (file : OpenFile). file.name) file
 
--- the bytes were taken from the front of what the open file has left, as far as that is known
-abbrev pub Takes : Option Known → Option Known → List ℕ → Type 0
-Takes None new bytes = ⊥
-Takes (Some old) None bytes = ⊥
-Takes (Some old) (Some new) bytes = Consumes old new bytes
+abbrev pub known_bytes : Option OpenFile → Known
+known_bytes file = option_and_then (λ (file : OpenFile). file.bytes) file
+
+-- some prefix of the bytes was appended to what a file or an output holds, as far as that is known
+abbrev pub AppendsPrefix : Known → Known → List ℕ → Type 0
+AppendsPrefix old new bytes = (count : ℕ) × Appends old new (take count bytes)
+
+-- what the world tells
+abbrev pub outside_of : Host → Outside
+outside_of host = record {
+  held = λ name. None;
+  left = None;
+  kept = λ name. None;
+  writing = None;
+  printed = None;
+  is_reading = is_some host.reading;
+  is_writing = is_some host.writing;
+  read_faults = host.read_faults;
+  write_faults = host.write_faults;
+  given = host.given;
+}

@@ -1,10 +1,10 @@
 -- A world in memory: its files, what was printed, and which of its calls fail.
 
-use Rattle.std.specs.Prelude.{◌≢◌, ℕ, ◌+◌, ◌/◌, ◌==◌, ◌<◌, min, Bool, true, false, cond, List, [], ◌∷◌, ◌++◌, length, take, drop, find, slice_index_or, Option, None, Some, option_map, option_and_then, Result, Ok, Err, AllPairs}
+use Rattle.std.specs.Prelude.{◌≢◌, ℕ, ◌+◌, ◌/◌, ◌==◌, ◌<◌, min, Bool, true, false, cond, List, [], ◌∷◌, ◌++◌, length, take, drop, find, slice_index_or, Option, None, Some, is_some, option_map, option_and_then, Result, Ok, Err, AllPairs}
 use Rattle.std.specs.List.{list_any}
 use Rattle.std.specs.Str.{bytes_eq}
 use Rattle.std.specs.Option.{option_map_or, ForSome}
-use Rattle.ba_world.specs.World.{raised}
+use Rattle.ba_world.specs.World.{Outside, raised}
 use Rattle.ba_world.specs.declared.world.WorldError.{WorldError}
 use Rattle.ba_world.specs.declared.world.WorldError.TheVariants.{Failed}
 
@@ -74,6 +74,21 @@ pub record IsSound (files : List File) (reading writing : Option ℕ) (piece : �
 -- the bytes of the opened file that weren't given yet
 abbrev pub left_of : List File → Opened → List ℕ
 left_of files opened = drop opened.offset (bytes_of files opened.name)
+
+-- what the world tells: everything
+abbrev pub outside_of : Memory → Outside
+outside_of world = record {
+  held = held_in world.files;
+  left = option_map (left_of world.files) world.reading;
+  kept = kept_in world.files;
+  writing = world.writing;
+  printed = Some world.printed;
+  is_reading = is_some world.reading;
+  is_writing = is_some world.writing;
+  read_faults = world.read_faults;
+  write_faults = world.write_faults;
+  given = world.given;
+}
 
 -- the first half of the bytes, rounded down
 abbrev pub half_of : List ℕ → List ℕ

@@ -1,7 +1,7 @@
--- How a fault of a world is answered by a call that reads a file whole, and where such a call stopped.
+-- What a read of a whole file has come to.
 
-use Rattle.std.specs.Prelude.{◌≡◌, ◌⊎◌, ℕ, ◌+◌, ◌-◌, ◌^◌, ◌≤◌, Bool, true, false, List, ◌++◌, length, Option, None, Some, option_map}
-use Rattle.ba_world.specs.World.{Rose}
+use Rattle.std.specs.Prelude.{◌≡◌, ◌⊎◌, ℕ, ◌+◌, ◌<◌, ◌≤◌, true, false, List, [], ◌++◌, length, None, Some, IfSome, option_map}
+use Rattle.ba_world.specs.World.{HasReadFault, Outside, raised}
 use Rattle.ba_world.specs.declared.world.WorldError.{WorldError}
 use Rattle.ba_world.specs.declared.world.WorldError.TheVariants.{Failed, Memory}
 use Rattle.ba_world.specs.declared.read.ReadFileError.{ReadFileError}
@@ -12,36 +12,48 @@ abbrev pub read_error : WorldError → ReadFileError
 read_error Failed = read.Failed
 read_error Memory = read.Memory
 
--- a count rose by exactly so much, where one that has come to its type's end counts as risen
+-- a count rose by exactly so much, where one that has come to its type's end may stand still
 abbrev pub RoseBy : ℕ → ℕ → ℕ → Type 0
-RoseBy by old new = (new ≡ old + by) ⊎ (2 ^ 64 - 1 ≤ new)
+RoseBy by old new = (raised old by ≤ new) × (new ≤ old + by)
 
--- what the outside shows of a read that stopped: what was told of the file when it began, whether a file is being read and what is
--- left of it when it ends, and the counts of faults and of bytes given at both ends
-pub record Stop : Type 0 where
-  pub held : Option (Option (List ℕ))
-  pub is_reading : Bool
-  pub left : Option (List ℕ)
-  pub faults : ℕ
-  pub faults_after : ℕ
-  pub given : ℕ
-  pub given_after : ℕ
+-- how many bytes are read at a time
+abbrev pub piece_size : ℕ
+piece_size = 4096
 
--- it stopped in opening the file, since a fault rose or there is no such file: no file is being read, and no byte was given
-pub record InOpening (stop : Stop) : Type 0 where
-  pub cause : Rose stop.faults stop.faults_after ⊎ (stop.held ≡ Some None)
-  pub closed : stop.is_reading ≡ false
-  pub none_given : stop.given_after ≡ stop.given
+-- The file of this name was read up to here: it is being read, and the bytes given and those left make it up.
+pub record IsReadTo (name bytes : List ℕ) (old new : Outside) : Type 0 where
+  pub reading : new.is_reading ≡ true
+  pub parts : old.held name ≡ option_map (λ rest. Some (bytes ++ rest)) new.left
+  pub counted : RoseBy (length bytes) old.given new.given
 
--- it stopped in reading the file, since a fault rose: the file is being read, and the bytes that were given and those that are left
--- make it up
-pub record InReading (stop : Stop) : Type 0 where
+-- The file of this name was read to its end: these are its bytes, where they are told, and nothing is left.
+pub record IsReadWhole (name bytes : List ℕ) (old new : Outside) : Type 0 where
+  pub reading : new.is_reading ≡ true
+  pub bytes_are : IfSome (old.held name) (λ file. file ≡ Some bytes)
+  pub at_end : IfSome new.left (λ rest. rest ≡ [])
+  pub counted : new.given ≡ raised old.given (length bytes)
+
+-- A read of the file of this name stopped in opening it, since a fault rose or there is no such file: no file is
+-- being read, and no byte was given.
+pub record StoppedInOpening (name : List ℕ) (old new : Outside) : Type 0 where
+  pub cause : HasReadFault old new ⊎ (old.held name ≡ Some None)
+  pub closed : new.is_reading ≡ false
+  pub none_given : new.given ≡ old.given
+
+-- It stopped in reading it, since a fault rose, when no more bytes than the limit had been given.
+pub record StoppedInReading (name : List ℕ) (limit : ℕ) (old new : Outside) : Type 0 where
   pub bytes : List ℕ
-  pub cause : Rose stop.faults stop.faults_after
-  pub opened : stop.is_reading ≡ true
-  pub parts : stop.held ≡ option_map (λ rest. Some (bytes ++ rest)) stop.left
-  pub counted : RoseBy (length bytes) stop.given stop.given_after
+  pub read : IsReadTo name bytes old new
+  pub within : length bytes ≤ limit
+  pub cause : HasReadFault old new
 
--- a read stopped by a fault, or since there is no such file
-abbrev pub Stopped : Stop → Type 0
-Stopped stop = InOpening stop ⊎ InReading stop
+-- It stopped by a fault, or since there is no such file.
+abbrev pub Stopped : List ℕ → ℕ → Outside → Outside → Type 0
+Stopped name limit old new = StoppedInOpening name old new ⊎ StoppedInReading name limit old new
+
+-- It stopped with the piece by which more bytes than the limit had been given.
+pub record StoppedPast (name : List ℕ) (limit : ℕ) (old new : Outside) : Type 0 where
+  pub bytes : List ℕ
+  pub read : IsReadTo name bytes old new
+  pub longer : limit < length bytes
+  pub last : length bytes ≤ limit + piece_size

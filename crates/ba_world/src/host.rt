@@ -1,41 +1,45 @@
 //! The world over real files and standard output.
 
-ghost use Rattle.std.specs.Prelude.{◌≡◌, ◌<◌, ◌≤◌, None, take, length, is_some, IsSome, IfOk, OnOk, IfErr, OnErr};
-ghost use Rattle.std.specs.Io.KnownBytes.{Appends};
-ghost use Rattle.ba_world.specs.Host.{Adds, Takes, new_host};
+ghost use Rattle.std.specs.Prelude.{◌≡◌, ◌<◌, ◌≤◌, None, length, IsSome, IfSome, IsErr, IfOk, OnOk, IfErr, OnErr};
+ghost use Rattle.std.specs.Io.KnownBytes.{Appends, ReadConsumes};
+ghost use Rattle.ba_world.specs.Host.{AppendsPrefix, known_bytes, known_name, new_host, outside_of};
 ghost use Rattle.ba_world.specs.World.{raised};
 
+use crate::file_system::FileSystem;
 use crate::world::{World, WorldError, raise};
+use std::io;
 use std::io::{ErrorKind, Read, Write};
 use std::marker::Model;
-use std::rt::Files;
-use std::{fs, io};
 
-/// The world over the files of a runtime and a standard output, as `main` is given them.
+/// The world over a file system and a standard output, as `main` is given them.
 ///
-/// It tells no content: what a real file holds or an output takes is outside of any contract. Where the bytes
-/// of a file or of the output are known, the clauses of its own calls say how each of them changes these. A file
-/// is closed where another takes its place or the world is dropped.
+/// It tells no content: what a real file holds or an output takes is outside of any contract. Where names and
+/// bytes are known, the clauses of its own calls say which file is opened or made, and how each call changes the
+/// bytes of the files and of the output. A file is closed where another takes its place or the world is dropped.
 #[derive(Drop)]
-pub struct HostWorld<R: Files + Drop, O: Write + Drop> {
-    runtime: R,
+pub struct HostWorld<F: FileSystem + Drop, O: Write + Drop> {
+    files: F,
     output: O,
-    reading: Option<R::File>,
-    writing: Option<R::File>,
+    reading: Option<F::File>,
+    writing: Option<F::File>,
     read_faults: u64,
     write_faults: u64,
     given: u64,
 }
 
-impl<R: Files + Drop, O: Write + Drop> Model for HostWorld<R, O> {
+impl<F: FileSystem + Drop, O: Write + Drop> Model for HostWorld<F, O> {
     ghost use Rattle.std.specs.Prelude.{option_map};
     ghost use Rattle.ba_world.specs.Host.{Host};
 
     ghost Value = { Host };
 
     ghost view = { λ world. record {
-      reading = option_map R.File.remaining world.reading;
-      writing = option_map R.File.contents world.writing;
+      reading = option_map
+          (λ file. record { name = F.opened file; bytes = F.File.remaining file })
+          world.reading;
+      writing = option_map
+          (λ file. record { name = F.created file; bytes = F.File.contents file })
+          world.writing;
       output = O.contents world.output;
       read_faults = world.read_faults;
       write_faults = world.write_faults;
@@ -43,13 +47,14 @@ impl<R: Files + Drop, O: Write + Drop> Model for HostWorld<R, O> {
     } };
 }
 
-impl<R: Files + Drop, O: Write + Drop> HostWorld<R, O> {
-    /// The world of this runtime, which prints to this output. No file is being read or written, and there were no faults.
-    pub fn new(runtime: R, output: O) -> HostWorld<R, O>
+impl<F: FileSystem + Drop, O: Write + Drop> HostWorld<F, O> {
+    /// The world over these files, which prints to this output. No file is being read or written, and there
+    /// were no faults.
+    pub fn new(files: F, output: O) -> HostWorld<F, O>
         ensures { result ≡ new_host (O.contents output) }
     {
         HostWorld {
-            runtime,
+            files,
             output,
             reading: None,
             writing: None,
@@ -61,30 +66,21 @@ impl<R: Files + Drop, O: Write + Drop> HostWorld<R, O> {
 }
 
 /// Each error of the system is a fault, and is answered [`WorldError::Failed`].
-impl<R: Files + Drop, O: Write + Drop> World for HostWorld<R, O> {
-    ghost held = { λ _ _. None };
+impl<F: FileSystem + Drop, O: Write + Drop> World for HostWorld<F, O> {
+    ghost outside = { outside_of };
 
-    ghost left = { λ _. None };
-
-    ghost kept = { λ _ _. None };
-
-    ghost writing = { λ _. None };
-
-    ghost printed = { λ _. None };
-
-    ghost is_reading = { λ world. is_some world.reading };
-
-    ghost is_writing = { λ world. is_some world.writing };
-
-    ghost read_faults = { λ world. world.read_faults };
-
-    ghost write_faults = { λ world. world.write_faults };
-
-    ghost given = { λ world. world.given };
-
-    fn open_file(&mut self, name: &str) -> Result<(), WorldError> {
+    fn open_file(&mut self, name: &str) -> Result<(), WorldError>
+        ensures is_open { OnOk result (IsSome self.new.reading) }
+        ensures named { OnOk result
+            (IfSome (known_name self.new.reading) (λ known. known ≡ name.now)) }
+        ensures ok { OnOk result (self.new ≡ record self.old { reading = self.new.reading }) }
+        ensures failed { OnErr result (self.new
+            ≡ record self.old { reading = None; read_faults = raised self.old.read_faults 1 }) }
+        ensures fault { IfErr result (λ error. error ≡ WorldError.Failed) }
+        ensures no_fall { self.old.read_faults ≤ self.new.read_faults }
+    {
         self.reading = None;
-        let file = counted(fs::open(&self.runtime, name), &mut self.read_faults)?;
+        let file = counted(self.files.open_file(name), &mut self.read_faults)?;
         self.reading = Some(file);
         Ok(())
     }
@@ -93,7 +89,10 @@ impl<R: Files + Drop, O: Write + Drop> World for HostWorld<R, O> {
         requires room { 0 < length into.old }
         requires reading { IsSome self.old.reading }
         ensures within { IfOk result (λ count. count ≤ length into.new) }
-        ensures taken { IfOk result (λ count. Takes self.old.reading self.new.reading (take count into.new)) }
+
+        // The bytes are those that the file had left, and there is none only where it had none.
+        ensures read { ReadConsumes
+            (known_bytes self.old.reading) (known_bytes self.new.reading) result into.new }
         ensures ok { IfOk result (λ count. self.new
             ≡ record self.old { reading = self.new.reading; given = raised self.old.given count }) }
         ensures failed { OnErr result (self.new
@@ -110,16 +109,28 @@ impl<R: Files + Drop, O: Write + Drop> World for HostWorld<R, O> {
         Ok(count)
     }
 
-    fn begin_file(&mut self, name: &str) -> Result<(), WorldError> {
+    fn begin_file(&mut self, name: &str) -> Result<(), WorldError>
+        ensures is_open { OnOk result (IsSome self.new.writing) }
+        ensures named { OnOk result
+            (IfSome (known_name self.new.writing) (λ known. known ≡ name.now)) }
+        ensures ok { OnOk result (self.new ≡ record self.old { writing = self.new.writing }) }
+        ensures failed { OnErr result (self.new
+            ≡ record self.old { writing = None; write_faults = raised self.old.write_faults 1 }) }
+        ensures fault { IfErr result (λ error. error ≡ WorldError.Failed) }
+        ensures no_fall { self.old.write_faults ≤ self.new.write_faults }
+    {
         self.writing = None;
-        let file = counted(fs::create(&self.runtime, name), &mut self.write_faults)?;
+        let file = counted(self.files.create_file(name), &mut self.write_faults)?;
         self.writing = Some(file);
         Ok(())
     }
 
     fn add(&mut self, bytes: &[u8]) -> Result<(), WorldError>
         requires { IsSome self.old.writing }
-        ensures added { OnOk result (Adds self.old.writing self.new.writing bytes.now) }
+        ensures added { OnOk result (Appends
+            (known_bytes self.old.writing) (known_bytes self.new.writing) bytes.now) }
+        ensures prefix { AppendsPrefix
+            (known_bytes self.old.writing) (known_bytes self.new.writing) bytes.now }
         ensures ok { OnOk result (self.new ≡ record self.old { writing = self.new.writing }) }
         ensures failed { OnErr result (self.new
             ≡ record self.old { writing = self.new.writing; write_faults = raised self.old.write_faults 1 }) }
@@ -135,6 +146,7 @@ impl<R: Files + Drop, O: Write + Drop> World for HostWorld<R, O> {
 
     fn print(&mut self, bytes: &[u8]) -> Result<(), WorldError>
         ensures added { OnOk result (Appends self.old.output self.new.output bytes.now) }
+        ensures prefix { AppendsPrefix self.old.output self.new.output bytes.now }
         ensures ok { OnOk result (self.new ≡ record self.old { output = self.new.output }) }
         ensures failed { OnErr result (self.new
             ≡ record self.old { output = self.new.output; write_faults = raised self.old.write_faults 1 }) }
@@ -149,6 +161,7 @@ impl<R: Files + Drop, O: Write + Drop> World for HostWorld<R, O> {
 fn counted<T>(outcome: io::Result<T>, faults: &mut u64) -> Result<T, WorldError>
     ensures ok { IfOk result (λ value. outcome ≡ Ok value) }
     ensures same { OnOk result (faults.new ≡ faults.old) }
+    ensures refused { OnErr result (IsErr outcome) }
     ensures failed { IfErr result (λ error. error ≡ WorldError.Failed) }
     ensures fault { OnErr result (faults.new ≡ raised faults.old 1) }
     ensures no_fall { faults.old ≤ faults.new }
@@ -162,9 +175,10 @@ fn counted<T>(outcome: io::Result<T>, faults: &mut u64) -> Result<T, WorldError>
     }
 }
 
-/// Writes all of the bytes, or fails.
+/// Writes all of the bytes, or fails when it has written some prefix of them.
 fn write_whole<W: Write>(writer: &mut W, bytes: &[u8]) -> io::Result<()>
-    ensures { OnOk result (Appends (W.contents writer.old) (W.contents writer.new) bytes.now) }
+    ensures whole { OnOk result (Appends (W.contents writer.old) (W.contents writer.new) bytes.now) }
+    ensures prefix { AppendsPrefix (W.contents writer.old) (W.contents writer.new) bytes.now }
 {
     let mut rest = bytes;
     while !rest.is_empty() {

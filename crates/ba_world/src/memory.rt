@@ -1,10 +1,10 @@
 //! A world in memory, for tests.
 
-ghost use Rattle.std.specs.Prelude.{◌≡◌, ◌≢◌, ◌==◌, ℕ, ◌+◌, ◌^◌, ◌<◌, ◌≤◌, min, true, Some, [], ◌++◌, length, take, drop, map, slice_index_or, AllPairs, option_copied, IfOk, OnOk, OnErr, MatchOption, IsSome, is_some, option_map};
+ghost use Rattle.std.specs.Prelude.{◌≡◌, ◌≢◌, ◌==◌, ℕ, ◌+◌, ◌^◌, ◌<◌, ◌≤◌, min, true, Some, [], ◌++◌, length, take, drop, map, slice_index_or, AllPairs, option_copied, IfOk, OnOk, OnErr, MatchOption, IsSome};
 ghost use Rattle.std.specs.String.{string_bytes};
 ghost use Rattle.std.specs.List.{list_any};
 ghost use Rattle.ba_world.specs.World.{raised};
-ghost use Rattle.ba_world.specs.Memory.{File, held_file, new_memory, file_of, name_at, left_of, held_in, kept_in, with_file, added_to, NamesDiffer, called, after_open, after_next, after_begin, after_add, after_print};
+ghost use Rattle.ba_world.specs.Memory.{File, held_file, new_memory, file_of, name_at, held_in, with_file, added_to, outside_of, NamesDiffer, called, after_open, after_next, after_begin, after_add, after_print};
 
 use crate::world::{World, WorldError, raise};
 use std::alloc::{AllocError, Global};
@@ -257,25 +257,7 @@ impl MemoryWorld {
 }
 
 impl World for MemoryWorld {
-    ghost held = { λ world. held_in world.files };
-
-    ghost left = { λ world. option_map (left_of world.files) world.reading };
-
-    ghost kept = { λ world. kept_in world.files };
-
-    ghost writing = { λ world. world.writing };
-
-    ghost printed = { λ world. Some world.printed };
-
-    ghost is_reading = { λ world. is_some world.reading };
-
-    ghost is_writing = { λ world. is_some world.writing };
-
-    ghost read_faults = { λ world. world.read_faults };
-
-    ghost write_faults = { λ world. world.write_faults };
-
-    ghost given = { λ world. world.given };
+    ghost outside = { outside_of };
 
     fn open_file(&mut self, name: &str) -> Result<(), WorldError>
         ensures exactly { (result, self.new) ≡ after_open name.now self.old }

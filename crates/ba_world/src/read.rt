@@ -1,8 +1,8 @@
 //! Files read whole.
 
-ghost use Rattle.std.specs.Prelude.{◌≡◌, ◌⊎◌, ◌+◌, ◌<◌, ◌≤◌, length, IfSome, IsSomeAnd, IfOk};
-ghost use Rattle.ba_world.specs.Read.{Stopped};
-ghost use Rattle.ba_world.specs.World.{raised, Rose};
+ghost use Rattle.std.specs.Prelude.{◌≡◌, ◌⊎◌, ◌+◌, ◌<◌, ◌≤◌, length, IfOk};
+ghost use Rattle.ba_world.specs.Read.{IsReadWhole, Stopped, StoppedPast, piece_size};
+ghost use Rattle.ba_world.specs.World.{HasReadFault, OnlyReads};
 
 use crate::world::{World, WorldError};
 use std::alloc::{AllocError, Global};
@@ -51,7 +51,7 @@ impl From<WorldError> for ReadFileError {
 const BUFFER: usize = 4096;
 
 /// Reads the file of this name from its first byte to its last, if it has at most `limit` bytes, which are
-/// at most 65,536. It stops as soon as more have come.
+/// at most 65,536. It stops as soon as more have come, and at a fault.
 ///
 /// `Failed` comes only where a fault of reading rose in this call or there is no such file, `TooLong`
 /// exactly where more than `limit` bytes were given in this call.
@@ -62,39 +62,26 @@ pub fn read_whole<W: World>(
     limit: u64,
 ) -> Result<Vec<u8>, ReadFileError>
     requires { limit ≤ 65536 }
-    ensures whole { IfOk result (λ bytes. IfSome (W.held world.old name.now) (λ file. file ≡ Some bytes.items)) }
+    ensures whole { IfOk result (λ bytes.
+        IsReadWhole name.now bytes.items (W.outside world.old) (W.outside world.new)) }
     ensures within { IfOk result (λ bytes. length bytes.items ≤ limit) }
-    ensures counted { IfOk result (λ bytes. W.given world.new ≡ raised (W.given world.old) (length bytes.items)) }
+
     ensures cause { result ≡ Err ReadFileError.Failed
-        → Rose (W.read_faults world.old) (W.read_faults world.new)
-        ⊎ (W.held world.old name.now ≡ Some None) }
+        → HasReadFault (W.outside world.old) (W.outside world.new)
+        ⊎ ((W.outside world.old).held name.now ≡ Some None) }
 
     // After a failure the world shows whether it was in opening the file or in reading it.
-    ensures stopped { result ≡ Err ReadFileError.Failed → Stopped (record {
-      held = W.held world.old name.now;
-      is_reading = W.is_reading world.new;
-      left = W.left world.new;
-      faults = W.read_faults world.old;
-      faults_after = W.read_faults world.new;
-      given = W.given world.old;
-      given_after = W.given world.new;
-    }) }
-    ensures too_long { result ≡ Err ReadFileError.TooLong → Rose (W.given world.old + limit) (W.given world.new) }
-    ensures longer { result ≡ Err ReadFileError.TooLong
-        → IfSome (W.held world.old name.now)
-        (λ file. IsSomeAnd file (λ bytes. limit < length bytes)) }
-    ensures only_too_long { W.given world.old + limit < W.given world.new → result ≡ Err ReadFileError.TooLong }
+    ensures stopped { result ≡ Err ReadFileError.Failed
+        → Stopped name.now limit (W.outside world.old) (W.outside world.new) }
 
-    // It takes no further piece once more than `limit` bytes came.
-    ensures stops { W.given world.new ≤ W.given world.old + limit + BUFFER }
-    ensures no_fall { W.read_faults world.old ≤ W.read_faults world.new }
+    ensures too_long { result ≡ Err ReadFileError.TooLong
+        → StoppedPast name.now limit (W.outside world.old) (W.outside world.new) }
+    ensures only_too_long { (W.outside world.old).given + limit < (W.outside world.new).given
+        → result ≡ Err ReadFileError.TooLong }
 
-    ensures held_stays { W.held world.new ≡ W.held world.old }
-    ensures kept_stays { W.kept world.new ≡ W.kept world.old }
-    ensures writing_stays { W.writing world.new ≡ W.writing world.old }
-    ensures is_writing_stays { W.is_writing world.new ≡ W.is_writing world.old }
-    ensures printed_stays { W.printed world.new ≡ W.printed world.old }
-    ensures write_faults_stay { W.write_faults world.new ≡ W.write_faults world.old }
+    // However it ends, it takes no further piece once more than `limit` bytes came.
+    ensures stops { (W.outside world.new).given ≤ (W.outside world.old).given + limit + piece_size }
+    ensures stays { OnlyReads (W.outside world.old) (W.outside world.new) }
 {
     world.open_file(name)?;
     let mut bytes = Vec::new(alloc);

@@ -27,25 +27,18 @@ impl Endless {
 impl World for Endless {
     ghost use Rattle.std.specs.Prelude.{None};
 
-    ghost held = { λ _ _. None };
-
-    ghost left = { λ _. None };
-
-    ghost kept = { λ _ _. None };
-
-    ghost writing = { λ _. None };
-
-    ghost printed = { λ _. None };
-
-    ghost is_reading = { λ world. world.is_open };
-
-    ghost is_writing = { λ world. world.is_begun };
-
-    ghost read_faults = { λ _. 0 };
-
-    ghost write_faults = { λ _. 0 };
-
-    ghost given = { λ world. world.given };
+    ghost outside = { λ world. record {
+      held = λ _. None;
+      left = None;
+      kept = λ _. None;
+      writing = None;
+      printed = None;
+      is_reading = world.is_open;
+      is_writing = world.is_begun;
+      read_faults = 0;
+      write_faults = 0;
+      given = world.given;
+    } };
 
     fn open_file(&mut self, _name: &str) -> Result<(), WorldError> {
         self.is_open = true;

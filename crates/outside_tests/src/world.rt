@@ -3,7 +3,9 @@
 ghost use Rattle.std.specs.Prelude.{◌<◌};
 
 use crate::endless::Endless;
-use ba_world::{HostWorld, MemoryWorld, ReadFileError, World, WorldError, read_whole};
+use ba_world::{
+    HostWorld, MemoryWorld, ReadFileError, RuntimeFiles, World, WorldError, read_whole,
+};
 use std::alloc::{AllocError, Global};
 use std::io;
 use std::test::Fail;
@@ -104,7 +106,7 @@ fn stops_where_a_file_never_ends(rt: HostRuntime) {
 #[test]
 fn reads_what_it_wrote_to_a_real_file(rt: HostRuntime) -> Result<(), Fail> {
     let alloc = rt.alloc();
-    let mut world = HostWorld::new(&rt, io::writer(&rt));
+    let mut world = HostWorld::new(RuntimeFiles(&rt), io::writer(&rt));
     world.begin_file("written")?;
     world.add(b"int main(void) ")?;
     world.add(b"{ return 0; }\n")?;
