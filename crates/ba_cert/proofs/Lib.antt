@@ -1,0 +1,10 @@
+pub mod Binding
+pub mod NumberLaws
+pub mod ListLaws
+pub mod ChoiceLaws
+pub mod CutLaws
+pub mod PlainLaws
+pub mod StepLaws
+pub mod LineLaws
+pub mod CertificateLaws
+pub mod SinkLaws

@@ -1,0 +1,5 @@
+pub mod Text
+pub mod Reading
+pub mod Readers
+pub mod Certificates
+pub mod Writing

@@ -1,0 +1,15 @@
+-- What a reader answers, beside what reading gives.
+
+use Rattle.std.specs.Prelude.{◌≡◌, Option, None, Some, Result, Ok, Err}
+use Rattle.ba_cert.specs.declared.error.CertError.{CertError}
+use Rattle.ba_cert.specs.declared.error.CertError.TheVariants.{BadLine, Memory}
+
+-- an error is a bad line where reading gives nothing; want of memory says nothing
+abbrev pub Refuses : {Y : Type 0} → CertError → Option Y → Type 0
+Refuses BadLine read = read ≡ None
+Refuses Memory read = Unit {0}
+
+-- an answer, seen by view, is what reading gives
+abbrev pub Gives : {X Y : Type 0} → (X → Y) → Result X CertError → Option Y → Type 0
+Gives view (Ok x) read = read ≡ Some (view x)
+Gives view (Err error) read = Refuses error read

@@ -1,0 +1,85 @@
+-- The text of a derivation: a head line, and a line for each step.
+
+use Rattle.std.specs.Prelude.{ℕ, ◌^◌, ◌<◌, Bool, true, false, List, [], ◌∷◌, ◌++◌, map, flat_map, codes, decimal, All}
+use Rattle.std.specs.Fmt.{signed_decimal}
+use Rattle.ba_choices.specs.declared.Choice.{Choice}
+use Rattle.ba_choices.specs.declared.Choice.TheVariants.{Keep, Take}
+use Rattle.ba_lits.specs.Literals.{Literal}
+use Rattle.ba_steps.specs.Steps.{IsFormed}
+use Rattle.ba_steps.specs.declared.step.CertStep.{CertStep}
+use Rattle.ba_steps.specs.declared.step.CertStep.TheVariants.{Learn, Core, Delete, Block, EndLocated, EndNoRepair, EndTooMany, EndSpent}
+
+-- A LINE is made of parts. A literal is its variable, with a minus sign before it where it is negated.
+
+abbrev pub sign_text : Bool → List ℕ
+sign_text true = codes "-"
+sign_text false = []
+
+abbrev pub literal_text : Literal → List ℕ
+literal_text l = sign_text l.negated ++ decimal l.variable
+
+-- a list is ended by the part `0`
+abbrev pub ended : List (List ℕ) → List (List ℕ)
+ended parts = parts ++ codes "0" ∷ []
+
+-- literals and hints
+abbrev pub clause_parts : List Literal → List ℕ → List (List ℕ)
+clause_parts lits hints = ended (map literal_text lits) ++ ended (map decimal hints)
+
+-- a choice: `k`, or `t` and its values
+abbrev pub choice_parts : Choice → List (List ℕ)
+choice_parts Keep = codes "k" ∷ []
+choice_parts (Take values) = codes "t" ∷ map signed_decimal values
+
+-- a step: one letter or two, and its lists
+abbrev pub step_parts : CertStep → List (List ℕ)
+step_parts (Learn lits hints) = codes "l" ∷ clause_parts lits hints
+step_parts (Core lits hints) = codes "c" ∷ clause_parts lits hints
+step_parts (Delete clauses) = codes "d" ∷ ended (map decimal clauses)
+step_parts (Block groups run) = codes "s" ∷ (ended (map decimal groups) ++ flat_map choice_parts run)
+step_parts (EndLocated lits hints) = codes "e" ∷ codes "l" ∷ clause_parts lits hints
+step_parts (EndNoRepair hints) = codes "e" ∷ codes "n" ∷ ended (map decimal hints)
+step_parts EndTooMany = codes "e" ∷ codes "m" ∷ []
+step_parts EndSpent = codes "e" ∷ codes "b" ∷ []
+
+-- parts, each after a space
+abbrev pub after_space : List ℕ → List ℕ
+after_space part = 32 ∷ part
+
+abbrev pub spaced : List (List ℕ) → List ℕ
+spaced parts = flat_map after_space parts
+
+-- parts with one space between each two
+abbrev pub joined : List (List ℕ) → List ℕ
+joined [] = []
+joined (part ∷ parts) = part ++ spaced parts
+
+-- the line of a step, without its line feed
+abbrev pub line_of : CertStep → List ℕ
+line_of step = joined (step_parts step)
+
+-- THE TEXT: each line ends with a line feed
+
+abbrev pub with_feed : List ℕ → List ℕ
+with_feed line = line ++ 10 ∷ []
+
+abbrev pub head_line : List ℕ
+head_line = codes "bugassist 1"
+
+abbrev pub text_of : List CertStep → List ℕ
+text_of steps = with_feed head_line ++ flat_map (λ step. with_feed (line_of step)) steps
+
+-- WHICH STEPS HAVE A LINE: those that are formed, with numbers of groups of 32 bits, which their type keeps
+
+abbrev pub HasSmallGroups : CertStep → Type 0
+HasSmallGroups (Learn lits hints) = Unit {0}
+HasSmallGroups (Core lits hints) = Unit {0}
+HasSmallGroups (Delete clauses) = Unit {0}
+HasSmallGroups (Block groups run) = All (λ n. n < 2 ^ 32) groups
+HasSmallGroups (EndLocated lits hints) = Unit {0}
+HasSmallGroups (EndNoRepair hints) = Unit {0}
+HasSmallGroups EndTooMany = Unit {0}
+HasSmallGroups EndSpent = Unit {0}
+
+abbrev pub HasLine : CertStep → Type 0
+HasLine step = IsFormed step × HasSmallGroups step

@@ -1,0 +1,54 @@
+-- A certificate that is written to a file of a world, which may tell what it keeps under the file's name.
+
+use Rattle.std.specs.Prelude.{◌≡◌, ℕ, Bool, true, false, ◌&&◌, is_some, Option, None, Some, option_and_then, List, bytes_eq, IfSome}
+use Rattle.ba_steps.specs.declared.sink.SinkError.{SinkError}
+use Rattle.ba_steps.specs.declared.sink.SinkError.TheVariants as sink
+use Rattle.ba_steps.specs.declared.step.CertStep.{CertStep}
+use Rattle.ba_world.specs.World.{Appends, OnlyWrites, Outside, StaysBut}
+use Rattle.ba_world.specs.declared.world.WorldError.{WorldError}
+use Rattle.ba_world.specs.declared.world.WorldError.TheVariants as world
+use Rattle.ba_cert.specs.Certificates.{steps_from}
+
+-- each fault by its name
+abbrev pub sink_error : WorldError → SinkError
+sink_error world.Failed = sink.Failed
+sink_error world.Memory = sink.Memory
+
+-- the steps of the whole lines that are kept
+abbrev pub steps_kept : Option (List ℕ) → Option (List CertStep)
+steps_kept kept = option_and_then (steps_from false) kept
+
+-- the steps of the whole lines in the file of this name
+abbrev pub steps_at : List ℕ → Outside → Option (List CertStep)
+steps_at name outside = steps_kept (outside.kept name)
+
+-- the file of this name holds this text, where what it holds is told; and text was appended to it
+abbrev pub Holds : List ℕ → List ℕ → Outside → Type 0
+Holds name text outside = IfSome (outside.kept name) (λ bytes. bytes ≡ text)
+
+abbrev pub AppendsTo : List ℕ → List ℕ → Outside → Outside → Type 0
+AppendsTo name text old new = Appends (old.kept name) (new.kept name) text
+
+-- the file being written has this name; the second also where its name isn't told
+abbrev pub is_named : List ℕ → Option (List ℕ) → Bool
+is_named name None = false
+is_named name (Some other) = bytes_eq other name
+
+abbrev pub may_be_named : List ℕ → Option (List ℕ) → Bool
+may_be_named name None = true
+may_be_named name (Some other) = bytes_eq other name
+
+-- A file is being written, of this name as far as that is told. If what is kept under the name is told, it is
+-- the lines of steps; where it is whole, nothing stands after the last of them.
+abbrev pub is_written : Bool → List ℕ → Bool → Option (List ℕ) → Option (List ℕ) → Bool
+is_written whole name is_writing writing None = is_writing && may_be_named name writing
+is_written whole name is_writing writing (Some bytes) =
+    is_writing && (is_named name writing && is_some (steps_from whole bytes))
+
+unfoldable pub is_sound : Bool → List ℕ → Outside → Bool
+is_sound whole name outside = is_written whole name outside.is_writing outside.writing (outside.kept name)
+
+-- only the file of this name was written
+pub record OnlyWritesTo (name : List ℕ) (old new : Outside) : Type 0 where
+  pub kept : StaysBut name old.kept new.kept
+  pub stays : OnlyWrites old new

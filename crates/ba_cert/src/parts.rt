@@ -1,0 +1,90 @@
+//! The parts of a line.
+
+ghost use Rattle.std.specs.Prelude.{◌≡◌, ◌<◌, ◌∷◌, [], length, position, MatchOption, IfSome};
+ghost use Rattle.std.specs.Option.{option_map_or};
+ghost use Rattle.ba_cert.specs.Reading.{has_more, is_space, letter_at, letter_of, parts_of};
+ghost use Rattle.ba_cert.specs.Readers.{Gives};
+
+use crate::error::CertError;
+use std::marker::Model;
+
+/// The parts of a line, which stand between single spaces, read one after the other. Contracts see
+/// the list of those that are left.
+#[derive(Drop)]
+pub(crate) struct Parts<'a> {
+    rest: Option<&'a [u8]>,
+}
+
+impl<'a> Model for Parts<'a> {
+    ghost use Rattle.std.specs.Prelude.{List, ℕ, []};
+    ghost use Rattle.std.specs.Option.{option_map_or};
+    ghost use Rattle.ba_cert.specs.Reading.{parts_of};
+
+    ghost Value = { List (List ℕ) };
+
+    ghost view = { λ parts. option_map_or (λ rest. parts_of rest.now) parts.rest [] };
+}
+
+impl<'a> Parts<'a> {
+    /// The parts of this line.
+    pub(crate) fn new(line: &'a [u8]) -> Parts<'a>
+        ensures { result ≡ parts_of line.now }
+    {
+        Parts { rest: Some(line) }
+    }
+
+    /// The next part, if one is left.
+    pub(crate) fn next_part(&mut self) -> Option<&'a [u8]>
+        ensures { MatchOption result ((self.old ≡ []) × (self.new ≡ []))
+            (λ part. self.old ≡ part.now ∷ self.new) }
+    {
+        let line = self.rest?;
+        let (part, rest) = cut(line);
+        self.rest = rest;
+        Some(part)
+    }
+}
+
+/// Where the first space stands.
+fn space_in(line: &[u8]) -> Option<usize>
+    ensures place { result ≡ position is_space line.now }
+    ensures within { IfSome result (λ place. place < length line.now) }
+{
+    line.iter().position(|byte| *byte == b' ')
+}
+
+/// The part that a line begins with, and what stands after the space that ends it, if one does.
+fn cut(line: &[u8]) -> (&[u8], Option<&[u8]>)
+    ensures { parts_of line.now
+        ≡ result.0.now ∷ option_map_or (λ rest. parts_of rest.now) result.1 [] }
+{
+    match space_in(line) {
+        Some(place) => (&line[..place], Some(&line[place + 1..])),
+        None => (line, None),
+    }
+}
+
+/// Whether a part is left.
+pub(crate) fn has_more(parts: &mut Parts) -> bool
+    ensures { result ≡ has_more parts.old }
+{
+    parts.next_part().is_some()
+}
+
+/// The one byte of a part that is one byte long.
+fn letter_of(part: &[u8]) -> Option<u8>
+    ensures { result ≡ letter_of part.now }
+{
+    match part {
+        [letter] => Some(*letter),
+        _ => None,
+    }
+}
+
+/// Reads a part that is one byte.
+pub(crate) fn letter_at(parts: &mut Parts) -> Result<u8, CertError>
+    ensures { Gives (λ letter. (letter, parts.new)) result (letter_at parts.old) }
+{
+    let part = parts.next_part().ok_or(CertError::BadLine)?;
+    letter_of(part).ok_or(CertError::BadLine)
+}

@@ -1,0 +1,166 @@
+//! A certificate that is written as its steps are made.
+
+ghost use Rattle.std.specs.Prelude.{◌≡◌, ◌++◌, true, false, [], ◌∷◌, None, Some, option_map, All, OnOk, OnErr};
+ghost use Rattle.ba_world.specs.World.{HasWriteFault};
+ghost use Rattle.ba_steps.specs.Steps.{IsFormed};
+ghost use Rattle.ba_steps.specs.Sinks.{MayAdd, with_told};
+ghost use Rattle.ba_cert.specs.Text.{line_of, text_of, with_feed};
+ghost use Rattle.ba_cert.specs.Writing.{AppendsTo, Holds, OnlyWritesTo, is_sound, sink_error, steps_at};
+
+use crate::writer::{groups_have_32_bits, head_text, step_text};
+use ba_lits::{Formula, Lit};
+use ba_steps::{CertStep, SinkError, StepSink};
+use ba_world::{World, WorldError};
+use std::alloc::Global;
+
+fn sink_error(error: WorldError) -> SinkError
+    ensures { result ≡ sink_error error }
+{
+    match error {
+        WorldError::Failed => SinkError::Failed,
+        WorldError::Memory => SinkError::Memory,
+    }
+}
+
+/// Begins the file of this name in place of one that is there, and adds the head line of a
+/// certificate.
+///
+/// `Failed` comes only where the world's faults of writing rose in this call, and the other error
+/// is want of memory. What was written until then stays.
+pub fn begin_text<W: World>(world: &mut W, name: &str) -> Result<(), SinkError>
+    ensures sound { OnOk result (is_sound true name.now (W.outside world.new) ≡ true) }
+    ensures head { OnOk result (Holds name.now (text_of []) (W.outside world.new)) }
+    ensures no_step { OnOk result (steps_at name.now (W.outside world.new)
+        ≡ option_map (λ _. []) ((W.outside world.new).kept name.now)) }
+    ensures cause { result ≡ Err SinkError.Failed
+        → HasWriteFault (W.outside world.old) (W.outside world.new) }
+    ensures stays { OnlyWritesTo name.now (W.outside world.old) (W.outside world.new) }
+{
+    if let Err(error) = world.begin_file(name) {
+        return Err(sink_error(error));
+    }
+    if let Err(error) = world.add(head_text()) {
+        return Err(sink_error(error));
+    }
+    Ok(())
+}
+
+/// Adds the line of a step to the file of this name, which ends with a whole line.
+fn add_line<W: World>(
+    alloc: Global,
+    world: &mut W,
+    name: &str,
+    step: &CertStep,
+) -> Result<(), SinkError>
+    requires formed { IsFormed step.now }
+    requires sound { is_sound true name.now (W.outside world.old) ≡ true }
+    ensures sound { OnOk result (is_sound true name.now (W.outside world.new) ≡ true) }
+    ensures still { is_sound false name.now (W.outside world.new) ≡ true }
+    ensures added { OnOk result (AppendsTo name.now (with_feed (line_of step.now))
+        (W.outside world.old) (W.outside world.new)) }
+    ensures told { OnOk result (steps_at name.now (W.outside world.new)
+        ≡ with_told step.now (steps_at name.now (W.outside world.old))) }
+    ensures refused { OnErr result (MayAdd step.now
+        (steps_at name.now (W.outside world.old)) (steps_at name.now (W.outside world.new))) }
+    ensures cause { result ≡ Err SinkError.Failed
+        → HasWriteFault (W.outside world.old) (W.outside world.new) }
+    ensures stays { OnlyWritesTo name.now (W.outside world.old) (W.outside world.new) }
+{
+    groups_have_32_bits(step);
+    let line = step_text(alloc, step)?;
+    if let Err(error) = world.add(line.as_slice()) {
+        return Err(sink_error(error));
+    }
+    Ok(())
+}
+
+/// Writes the certificate of these steps under a name, in place of a file that is there.
+///
+/// `Failed` comes only where the world's faults of writing rose in this call, and the other error
+/// is want of memory. What was written until then stays.
+pub fn write_text<W: World>(
+    alloc: Global,
+    world: &mut W,
+    name: &str,
+    steps: &[CertStep],
+) -> Result<(), SinkError>
+    requires { All IsFormed steps.now }
+    ensures whole { OnOk result (Holds name.now (text_of steps.now) (W.outside world.new)) }
+    ensures cause { result ≡ Err SinkError.Failed
+        → HasWriteFault (W.outside world.old) (W.outside world.new) }
+    ensures stays { OnlyWritesTo name.now (W.outside world.old) (W.outside world.new) }
+{
+    begin_text(world, name)?;
+    for step in steps {
+        add_line(alloc, world, name, step)?;
+    }
+    Ok(())
+}
+
+/// A sink that writes each step as a line of a certificate, into a file of a world.
+///
+/// Its log is the list of steps of the whole lines that the world keeps under the file's name,
+/// where it tells them. Its faults are the world's faults of writing, and it tells no formulas. After
+/// a refusal the file may end inside a line, so every further step is refused with `Memory`, and the
+/// world isn't called.
+#[derive(Drop)]
+pub struct TextSink<'a, W: World> {
+    alloc: Global,
+    world: &'a mut W,
+    name: &'a str,
+    /// No step was refused.
+    whole: bool,
+    ghost sound: { is_sound whole name.now (W.outside world.now) ≡ true },
+}
+
+impl<'a, W: World> TextSink<'a, W> {
+    /// A sink over a file that [`begin_text`] has begun, in a world that is still the same. It
+    /// takes no memory.
+    pub fn new(alloc: Global, world: &'a mut W, name: &'a str) -> TextSink<'a, W>
+        requires { is_sound true name.now (W.outside world.old) ≡ true }
+        ensures same_reference { result.world.ghost_name ≡ world.entry.ghost_name }
+        ensures same_world { result.world.now ≡ world.old }
+        ensures named { result.name.now ≡ name.now }
+    {
+        TextSink {
+            alloc,
+            world,
+            name,
+            whole: true,
+        }
+    }
+
+    /// Whether the file has this name and no step was refused, so that it holds the certificate of
+    /// the steps in the log and nothing more.
+    pub fn is_whole(&self, name: &str) -> bool
+        ensures named { result ≡ true → name.now ≡ self.now.name.now }
+        ensures whole { result ≡ true → (W.outside self.now.world.now).kept name.now
+            ≡ option_map text_of (steps_at name.now (W.outside self.now.world.now)) }
+    {
+        self.whole && self.name == name
+    }
+}
+
+impl<'a, W: World> StepSink for TextSink<'a, W> {
+    ghost over = { λ _. None };
+
+    ghost logs = { λ sink. steps_at sink.name.now (W.outside sink.world.now) ∷ [] };
+
+    ghost faults = { λ sink. (W.outside sink.world.now).write_faults };
+
+    ghost references = { λ sink. sink.world.ghost_name ∷ [] };
+
+    fn begin(&mut self, _formula: &Formula, _softs: &[(Lit, u32)]) -> Result<(), SinkError> {
+        Ok(())
+    }
+
+    fn take(&mut self, step: &CertStep) -> Result<(), SinkError> {
+        if !self.whole {
+            return Err(SinkError::Memory);
+        }
+        self.whole = false;
+        add_line(self.alloc, &mut *self.world, self.name, step)?;
+        self.whole = true;
+        Ok(())
+    }
+}

@@ -1,0 +1,87 @@
+//! Writing the line of a step.
+
+ghost use Rattle.std.specs.Prelude.{◌≡◌, ◌++◌, ◌^◌, ◌<◌, All, IfOk, OnOk};
+ghost use Rattle.ba_cert.specs.Text.{HasSmallGroups, clause_parts, head_line, line_of, spaced, with_feed};
+
+use crate::choices::push_run;
+use crate::entry::push_list;
+use ba_lits::Lit;
+use ba_steps::CertStep;
+use std::alloc::{AllocError, Global};
+
+/// Adds literals and hints, each part after a space.
+fn push_clause(lits: &[Lit], hints: &[u64], text: &mut Vec<u8>) -> Result<(), AllocError>
+    ensures { OnOk result (text.new.items
+        ≡ text.old.items ++ spaced (clause_parts lits.now hints.now)) }
+{
+    push_list(lits, text)?;
+    push_list(hints, text)
+}
+
+/// Adds the line of a step, without its line feed.
+fn push_line(step: &CertStep, text: &mut Vec<u8>) -> Result<(), AllocError>
+    ensures { OnOk result (text.new.items ≡ text.old.items ++ line_of step.now) }
+{
+    match step {
+        CertStep::Learn { lits, hints } => {
+            text.extend_from_slice(b"l")?;
+            push_clause(lits.as_slice(), hints.as_slice(), text)
+        }
+        CertStep::Core { lits, hints } => {
+            text.extend_from_slice(b"c")?;
+            push_clause(lits.as_slice(), hints.as_slice(), text)
+        }
+        CertStep::Delete { clauses } => {
+            text.extend_from_slice(b"d")?;
+            push_list(clauses.as_slice(), text)
+        }
+        CertStep::Block { groups, run } => {
+            text.extend_from_slice(b"s")?;
+            push_list(groups.as_slice(), text)?;
+            push_run(run.as_slice(), text)
+        }
+        CertStep::EndLocated { lits, hints } => {
+            text.extend_from_slice(b"e l")?;
+            push_clause(lits.as_slice(), hints.as_slice(), text)
+        }
+        CertStep::EndNoRepair { hints } => {
+            text.extend_from_slice(b"e n")?;
+            push_list(hints.as_slice(), text)
+        }
+        CertStep::EndTooMany => text.extend_from_slice(b"e m"),
+        CertStep::EndSpent => text.extend_from_slice(b"e b"),
+    }
+}
+
+/// The line of a step, with its line feed.
+///
+/// The one error is want of memory.
+pub fn step_text(alloc: Global, step: &CertStep) -> Result<Vec<u8>, AllocError>
+    ensures { IfOk result (λ text. text.items ≡ with_feed (line_of step.now)) }
+{
+    let mut text = Vec::new(alloc);
+    push_line(step, &mut text)?;
+    text.extend_from_slice(b"\n")?;
+    Ok(text)
+}
+
+/// The first line of a certificate, with its line feed.
+pub fn head_text() -> &'static [u8]
+    ensures { result.now ≡ with_feed head_line }
+{
+    b"bugassist 1\n"
+}
+
+/// Says what the type of a step keeps: the numbers of groups have 32 bits.
+pub(crate) fn have_32_bits(groups: &[u32])
+    ensures { All (λ n. n < 2 ^ 32) groups.now }
+{}
+
+/// The same of a step.
+pub(crate) fn groups_have_32_bits(step: &CertStep)
+    ensures { HasSmallGroups step.now }
+{
+    if let CertStep::Block { groups, .. } = step {
+        have_32_bits(groups.as_slice());
+    }
+}

@@ -1,0 +1,276 @@
+//! Lines with the steps that they are, and lines that are no step's.
+
+use ba_cert::{CertError, head_text, read_line, step_text};
+use ba_choices::Choice;
+use ba_lits::Lit;
+use ba_steps::CertStep;
+use std::alloc::{AllocError, Global};
+use std::process::Abort;
+use std::test::Fail;
+
+/// A step without its types: its kind, and two lists of numbers. A literal is its variable with its sign; in a run, 1000 stands
+/// for a choice that keeps the statement and 2000 begins one that takes the values after it.
+#[derive(Drop)]
+struct Plain {
+    kind: &'static str,
+    first: Vec<i64>,
+    second: Vec<i64>,
+}
+
+fn signed(lit: Lit) -> i64 {
+    let variable = lit.variable() as i64;
+    if lit.is_negated() { -variable } else { variable }
+}
+
+fn signed_all(alloc: Global, lits: &[Lit]) -> Result<Vec<i64>, AllocError> {
+    let mut numbers = Vec::new(alloc);
+    for lit in lits {
+        numbers.push(signed(*lit))?;
+    }
+    Ok(numbers)
+}
+
+fn numbers_of(alloc: Global, numbers: &[u64]) -> Result<Vec<i64>, AllocError> {
+    let mut all = Vec::new(alloc);
+    for number in numbers {
+        all.push(i64::try_from(*number).unwrap_or(-1))?;
+    }
+    Ok(all)
+}
+
+fn groups_of(alloc: Global, groups: &[u32]) -> Result<Vec<i64>, AllocError> {
+    let mut all = Vec::new(alloc);
+    for group in groups {
+        all.push(i64::from(*group))?;
+    }
+    Ok(all)
+}
+
+fn add_choice(choice: &Choice, all: &mut Vec<i64>) -> Result<(), AllocError> {
+    match choice {
+        Choice::Keep => all.push(1000)?,
+        Choice::Take(values) => {
+            all.push(2000)?;
+            all.extend_from_slice(values.as_slice())?;
+        }
+    }
+    Ok(())
+}
+
+fn run_of(alloc: Global, run: &[Choice]) -> Result<Vec<i64>, AllocError> {
+    let mut all = Vec::new(alloc);
+    for choice in run {
+        add_choice(choice, &mut all)?;
+    }
+    Ok(all)
+}
+
+fn clause(
+    alloc: Global,
+    kind: &'static str,
+    lits: &[Lit],
+    hints: &[u64],
+) -> Result<Plain, AllocError> {
+    Ok(Plain {
+        kind,
+        first: signed_all(alloc, lits)?,
+        second: numbers_of(alloc, hints)?,
+    })
+}
+
+fn list(alloc: Global, kind: &'static str, numbers: &[u64]) -> Result<Plain, AllocError> {
+    Ok(Plain {
+        kind,
+        first: numbers_of(alloc, numbers)?,
+        second: Vec::new(alloc),
+    })
+}
+
+fn plain(alloc: Global, step: &CertStep) -> Result<Plain, AllocError> {
+    match step {
+        CertStep::Learn { lits, hints } => {
+            clause(alloc, "learn", lits.as_slice(), hints.as_slice())
+        }
+        CertStep::Core { lits, hints } => clause(alloc, "core", lits.as_slice(), hints.as_slice()),
+        CertStep::Delete { clauses } => list(alloc, "delete", clauses.as_slice()),
+        CertStep::Block { groups, run } => Ok(Plain {
+            kind: "block",
+            first: groups_of(alloc, groups.as_slice())?,
+            second: run_of(alloc, run.as_slice())?,
+        }),
+        CertStep::EndLocated { lits, hints } => {
+            clause(alloc, "located", lits.as_slice(), hints.as_slice())
+        }
+        CertStep::EndNoRepair { hints } => list(alloc, "no repair", hints.as_slice()),
+        CertStep::EndTooMany => list(alloc, "too many", &[]),
+        CertStep::EndSpent => list(alloc, "spent", &[]),
+    }
+}
+
+const STEPS: [(&str, &str, &[i64], &[i64]); 16] = [
+    ("l 1 0 0", "learn", &[1], &[]),
+    ("l -1 2 -3 0 7 7 10 0", "learn", &[-1, 2, -3], &[7, 7, 10]),
+    (
+        "l -4611686018427387903 0 4611686018427387903 0",
+        "learn",
+        &[-4_611_686_018_427_387_903],
+        &[4_611_686_018_427_387_903],
+    ),
+    ("c -1 -2 0 1 0", "core", &[-1, -2], &[1]),
+    ("d 1 0", "delete", &[1], &[]),
+    ("d 60 61 1000 0", "delete", &[60, 61, 1000], &[]),
+    ("s 3 0 t 2", "block", &[3], &[2000, 2]),
+    ("s 5 0 k", "block", &[5], &[1000]),
+    ("s 3 4 0 t 2 t 2", "block", &[3, 4], &[2000, 2, 2000, 2]),
+    (
+        "s 1 4294967295 0 k t t 0 -1 4611686018427387903 k",
+        "block",
+        &[1, 4_294_967_295],
+        &[1000, 2000, 2000, 0, -1, 4_611_686_018_427_387_903, 1000],
+    ),
+    ("s 3 0", "block", &[3], &[]),
+    ("e l 0 0", "located", &[], &[]),
+    ("e l -1 4 0 2 3 0", "located", &[-1, 4], &[2, 3]),
+    ("e n 0", "no repair", &[], &[]),
+    ("e m", "too many", &[], &[]),
+    ("e b", "spent", &[], &[]),
+];
+
+/// Reads a line and compares the step, and writes the step and compares the line.
+fn compare(
+    rt: &impl Abort,
+    alloc: Global,
+    line: &str,
+    kind: &str,
+    first: &[i64],
+    second: &[i64],
+) -> Result<(), Fail> {
+    let step = read_line(alloc, line.as_bytes())?;
+    let read = plain(alloc, &step)?;
+    let text = step_text(alloc, &step)?;
+    assert_eq!(rt; read.kind, kind, "at {line}");
+    assert_eq!(rt; read.first.as_slice(), first, "at {line}");
+    assert_eq!(rt; read.second.as_slice(), second, "at {line}");
+    let (feed, front) = text.as_slice().split_last().ok_or("an empty text")?;
+    assert_eq!(rt; front, line.as_bytes(), "at {line}");
+    assert_eq!(rt; *feed, b'\n', "at {line}");
+    Ok(())
+}
+
+#[test]
+fn each_form_of_a_line_is_read_and_written(rt: HostRuntime) -> Result<(), Fail> {
+    for (line, kind, first, second) in STEPS.as_slice() {
+        compare(&rt, rt.alloc(), line, kind, first, second)?;
+    }
+    assert_eq!(rt; head_text(), b"bugassist 1\n".as_slice());
+    Ok(())
+}
+
+const BAD_LISTS: [&str; 36] = [
+    "l 01 0 1 0",
+    "l 1 0 01 0",
+    "l 00 0 0",
+    "l 1 00 0",
+    "l 0 0",
+    "l 2 1 0 0",
+    "l 1 1 0 0",
+    "l 1 -1 0 0",
+    "l -0 0 0",
+    "l -01 0 0",
+    "l +1 0 0",
+    "l --1 0 0",
+    "l - 0 0",
+    "l 1- 0 0",
+    "l 4611686018427387904 0 0",
+    "l -4611686018427387904 0 0",
+    "l 18446744073709551617 0 0",
+    "l 1 0 4611686018427387904 0",
+    "l 1 0 -1 0",
+    "l 1 0",
+    "l 1",
+    "l",
+    "l 1 0 1",
+    "l 1 0 0 0",
+    "l 1 0 0 1",
+    "c 0 0",
+    "c -2 -1 0 0",
+    "c -1 0",
+    "d 0",
+    "d 2 1 0",
+    "d 1 1 0",
+    "d -1 0",
+    "d 1",
+    "d 1 0 0",
+    "e l 1 0 0 0",
+    "e l 2 1 0 0",
+];
+
+const BAD_RUNS: [&str; 22] = [
+    "s 0 k",
+    "s 3 t 2",
+    "s 3",
+    "s 2 1 0 k",
+    "s 3 3 0 k",
+    "s 4294967296 0 k",
+    "s -1 0 k",
+    "s 03 0 k",
+    "s 3 0 2",
+    "s 3 0 k 2",
+    "s 3 0 kk",
+    "s 3 0 k0",
+    "s 3 0 K",
+    "s 3 0 t2",
+    "s 3 0 t 02",
+    "s 3 0 t 00",
+    "s 3 0 t -0",
+    "s 3 0 t -02",
+    "s 3 0 t +2",
+    "s 3 0 t 4611686018427387904",
+    "s 3 0 t -4611686018427387904",
+    "s 3 0 t 2 0x1",
+];
+
+const BAD_FORMS: [&str; 28] = [
+    "",
+    " ",
+    "  ",
+    "l 1 0 0 ",
+    " l 1 0 0",
+    "l  1 0 0",
+    "l 1 0  0",
+    "l 1\t0 0",
+    "l 1 0 0\n",
+    "l 1 0 0\r",
+    "\nl 1 0 0",
+    "e b\r",
+    "e b ",
+    "e  b",
+    " e b",
+    "e",
+    "e e",
+    "e l",
+    "e l 0",
+    "e n",
+    "e n 0 0",
+    "e m 0",
+    "e b 0",
+    "E b",
+    "ll 1 0 0",
+    "x",
+    "bugassist 1",
+    "# e b",
+];
+
+fn refuses(rt: &impl Abort, alloc: Global, lines: &[&str]) {
+    for line in lines {
+        let answer = read_line(alloc, line.as_bytes());
+        assert_eq!(rt; answer.err(), Some(CertError::BadLine), "at {line:?}");
+    }
+}
+
+#[test]
+fn a_line_of_no_step_is_refused(rt: HostRuntime) {
+    refuses(&rt, rt.alloc(), BAD_LISTS.as_slice());
+    refuses(&rt, rt.alloc(), BAD_RUNS.as_slice());
+    refuses(&rt, rt.alloc(), BAD_FORMS.as_slice());
+}
