@@ -1,0 +1,463 @@
+-- What `clap` finds in words gives the command that the words are.
+use Rattle.std.proofs.Common.{◌≡◌, ℕ, suc, Bool, true, false, cond, ◌&&◌, ◌||◌, ◌==◌, not, inl, inr, Option, None, Some, List, [], ◌∷◌, ◌++◌, length, take, drop, codes, refl, sym, ap, ap₂, ◌∙◌, arith, fold, subst, true≢false}
+use Rattle.std.specs.Prelude.{nat_le, option_and_then, find, is_some, slice_get}
+use Rattle.std.specs.List.{list_all}
+use Rattle.std.specs.Str.{bytes_eq}
+use Rattle.std.proofs.lemmas.Bool.Decides.{nat_tests}
+use Rattle.clap.specs.Faults.{entered_fault, fault_of, level_fault}
+use Rattle.clap.specs.Kinds.{Kinds}
+use Rattle.clap.specs.Matches.{first_value, one_text}
+use Rattle.clap.specs.Simple.{App, built, entered, matches_of}
+use Rattle.clap.specs.Walk.{Row, first_of as first_value_of, has_row, idle, nothing_held, one_of, row_text, rows_of, walk, with_default}
+use Rattle.clap.specs.declared.parser.matches.Found.{Found}
+use Rattle.clap.specs.declared.parser.matches.ValueSource.TheVariants.{DefaultValue}
+use Rattle.clap.proofs.WalkLemmas.{first_value-rows, one_text-rows}
+use Rattle.ba_commands.specs.declared.commands.Command.{Command}
+use Rattle.ba_commands.specs.declared.modes.Mode.{Mode}
+use Rattle.ba_commands.specs.declared.modes.Mode.TheVariants.{Localise, Check, Run, Sample}
+use Rattle.ba_commands.specs.Modes.{Usage, Word, usage_of}
+use Rattle.ba_commands.specs.Words.{Part, are_distinct, files_in, has_bound, is_accepted, is_line, options_in, parts_of, split_words, stands}
+use Rattle.ba_commands.specs.Commands.{bounds_from, check_from, command_in, command_of_parts, command_on, command_with, file_at, localise_from, number_of, run_from, sample_from, value_in}
+use Rattle.ba_commands.specs.Parsing.{app_for, is_readable}
+use Rattle.ba_commands.proofs.Testing.{and_false, eq_comm, neither, not_both, same_either}
+use Rattle.ba_commands.proofs.Splitting.{IsRefused, readable_accepted, unreadable_refused}
+use Rattle.ba_commands.proofs.Rows.{Agrees, held, row}
+use Rattle.ba_commands.proofs.Turns.{walk_at}
+use Rattle.ba_commands.proofs.Taking.{Use, fits, names_of_uses, rows_of_uses, taken, taken-first, taken_all, uses_of}
+use Rattle.ba_commands.proofs.Walking.{faults_from, rows_from, whole_walk}
+use Rattle.ba_commands.proofs.Placing.{differs, first-file, first-option, first-switch, fits-length, is_known, each_option, parts-known, uses-distinct, uses-stand, value-none}
+use Rattle.ba_commands.proofs.Finishing.{first-finished, no_defaults, one_default, switch_rule, switched_off, switched_on}
+use Rattle.ba_commands.proofs.ModeFacts.{fits_mode, rules_in}
+
+-- THE CALL OF `clap` is the walk over the words behind the first
+
+fault_of-walk : (u : Usage) (first : Word) (words : List Word)
+    → fault_of (app_for u) (first ∷ words) ≡ faults_from (rules_in u) (walk_at (held [] None) idle 1) words
+fault_of-walk u first words = by (walk (rules_in u) [] nothing_held words).stopped
+  where
+    top : App
+    top = built (app_for u)
+
+    by : (stop : Option (Word × List Word))
+        → level_fault top.top [] nothing_held words (is_some (entered top stop)) (entered_fault top stop)
+        ≡ faults_from (rules_in u) (walk_at (held [] None) idle 1) words
+    by None = refl
+    by (Some p) = refl
+
+matches_of-walk : (u : Usage) (first : Word) (words : List Word)
+    → matches_of (app_for u) (first ∷ words)
+    ≡ fold with_default (rows_from (rules_in u) (walk_at (held [] None) idle 1) words) (rules_in u)
+matches_of-walk u first words = refl
+
+-- THE ROWS AT THE END
+
+localise-finished : (rows : List Row)
+    → fold with_default rows (rules_in (usage_of Localise)) ≡ with_default rows (switch_rule (codes "runs"))
+localise-finished rows = one_default (take 7 (rules_in (usage_of Localise)))
+    (drop 8 (rules_in (usage_of Localise))) (switch_rule (codes "runs")) rows
+    (refl, (refl, (refl, (refl, (refl, (refl, (refl, tt))))))) (refl, (refl, tt))
+
+finished-first : (mode : Mode) (name : Word) (rows : List Row) → bytes_eq (codes "runs") name ≡ false
+    → first_value_of name (fold with_default rows (rules_in (usage_of mode))) ≡ first_value_of name rows
+finished-first Localise name rows e = ap (first_value_of name) (localise-finished rows)
+    ∙ first-finished name (codes "runs") rows e
+finished-first Check name rows e = ap (first_value_of name)
+    (no_defaults (rules_in (usage_of Check)) rows
+    (refl, (refl, (refl, (refl, (refl, (refl, (refl, (refl, tt)))))))))
+finished-first Run name rows e =
+    ap (first_value_of name) (no_defaults (rules_in (usage_of Run)) rows (refl, (refl, (refl, (refl, tt)))))
+finished-first Sample name rows e =
+    ap (first_value_of name) (no_defaults (rules_in (usage_of Sample)) rows (refl, tt))
+
+-- what was found, where the words have these parts
+record IsFound (mode : Mode) (parts : List Part) (found : Found) : Type 0 where
+  known : list_all (is_known (usage_of mode)) parts ≡ true
+  rows : rows_of found
+      ≡ fold with_default (rows_of_uses (uses_of parts (usage_of mode).files)) (rules_in (usage_of mode))
+
+found-first : (mode : Mode) (parts : List Part) (found : Found) (name : Word) → IsFound mode parts found
+    → bytes_eq (codes "runs") name ≡ false
+    → first_value found name ≡ first_value_of name (rows_of_uses (uses_of parts (usage_of mode).files))
+found-first mode parts found name f e = first_value-rows found name ∙ ap (first_value_of name) f.rows
+    ∙ finished-first mode name (rows_of_uses (uses_of parts (usage_of mode).files)) e
+
+value-found : (mode : Mode) (parts : List Part) (found : Found) (name : Word) → IsFound mode parts found
+    → bytes_eq (codes "runs") name ≡ false
+    → list_all (differs name) (usage_of mode).plain ≡ true
+    → list_all (differs name) (usage_of mode).files ≡ true
+    → value_in parts name ≡ first_value found name
+value-found mode parts found name f e plain files = sym (found-first mode parts found name f e
+    ∙ first-option (usage_of mode) name parts (usage_of mode).files f.known plain files)
+
+file-found : (mode : Mode) (parts : List Part) (found : Found) (name : Word) → IsFound mode parts found
+    → bytes_eq (codes "runs") name ≡ false
+    → list_all (differs name) (usage_of mode).valued ≡ true
+    → list_all (differs name) (usage_of mode).plain ≡ true
+    → file_at (usage_of mode).files (files_in parts) name ≡ first_value found name
+file-found mode parts found name f e valued plain = sym (found-first mode parts found name f e
+    ∙ first-file (usage_of mode) name parts (usage_of mode).files f.known valued plain)
+
+-- THE SWITCH `--runs`
+
+has_row-uses : (name : Word) (uses : List Use)
+    → has_row name (rows_of_uses uses) ≡ stands name (names_of_uses uses)
+has_row-uses name [] = refl
+has_row-uses name (u ∷ uses) = ap₂ (λ a b. a || b) (eq_comm u.0 name) (has_row-uses name uses)
+
+one_of-uses : (name : Word) (uses : List Use)
+    → one_of name (rows_of_uses uses) ≡ first_value_of name (rows_of_uses uses)
+one_of-uses name [] = refl
+one_of-uses name (u ∷ uses) = by (bytes_eq u.0 name) (one_of-uses name uses)
+  where
+    others : Option Row
+    others = find (λ (r : Row). bytes_eq r.id name) (rows_of_uses uses)
+
+    by : (b : Bool)
+        → option_and_then row_text others ≡ option_and_then (λ (r : Row). slice_get r.values 0) others
+        → option_and_then row_text (cond b (Some (row u.0 u.1)) others)
+        ≡ option_and_then (λ (r : Row). slice_get r.values 0) (cond b (Some (row u.0 u.1)) others)
+    by true h = refl
+    by false h = h
+
+find-last : (name : Word) (rows : List Row) (r : Row) → has_row name rows ≡ false → bytes_eq r.id name ≡ true
+    → find (λ (r : Row). bytes_eq r.id name) (rows ++ r ∷ []) ≡ Some r
+find-last name [] r none here = ap (λ b. cond b (Some r) None) here
+find-last name (x ∷ rows) r none here =
+    let each = neither (bytes_eq x.id name) (has_row name rows) none in
+    ap (λ b. cond b (Some x) (find (λ (r : Row). bytes_eq r.id name) (rows ++ r ∷ []))) each.0
+    ∙ find-last name rows r each.1 here
+
+-- how the switch was read
+pub record IsRead (found : Found) (runs : Bool) : Type 0 where
+  pub on : one_text found (codes "runs") ≡ Some (codes "true") → runs ≡ true
+  pub off : one_text found (codes "runs") ≡ Some (codes "false") → runs ≡ false
+
+switch-found : (parts : List Part) (found : Found) (runs : Bool) → IsFound Localise parts found
+    → IsRead found runs
+    → stands (codes "runs") (options_in parts) ≡ runs
+switch-found parts found runs f read = by (stands (codes "runs") (options_in parts)) refl
+  where
+    places : List Word
+    places = (usage_of Localise).files
+
+    rows : List Row
+    rows = rows_of_uses (uses_of parts places)
+
+    there : has_row (codes "runs") rows ≡ stands (codes "runs") (options_in parts)
+    there = has_row-uses (codes "runs") (uses_of parts places) ∙ uses-stand (codes "runs") parts places refl
+
+    text : one_text found (codes "runs")
+        ≡ one_of (codes "runs") (with_default rows (switch_rule (codes "runs")))
+    text = one_text-rows found (codes "runs") ∙ ap (one_of (codes "runs")) (f.rows ∙ localise-finished rows)
+
+    by : (b : Bool) → stands (codes "runs") (options_in parts) ≡ b → b ≡ runs
+    by true s = sym (read.on (text ∙ ap (one_of (codes "runs")) (switched_on (codes "runs") rows (there ∙ s))
+        ∙ one_of-uses (codes "runs") (uses_of parts places)
+        ∙ first-switch (usage_of Localise) (codes "runs") parts places f.known refl refl
+        ∙ ap (λ b. cond b (Some (codes "true")) None) s))
+    by false s =
+        sym (read.off (text ∙ ap (one_of (codes "runs")) (switched_off (codes "runs") rows (there ∙ s))
+        ∙ ap (option_and_then row_text)
+        (find-last (codes "runs") rows (record (row (codes "runs") (codes "false")) {
+          source = Some DefaultValue;
+        }) (there ∙ s) refl)))
+
+-- THE COMMAND of the parts is that of what was found
+
+same_command : (mode : Mode) (parts : List Part) (found : Found) (runs : Bool) → IsFound mode parts found
+    → IsRead found runs
+    → command_of_parts mode parts ≡ command_with mode (first_value found) (first_value found) runs
+same_command Localise parts found runs f read =
+    let value = value-found Localise parts found in
+    let place = file-found Localise parts found in
+    let program = place (codes "PROGRAM") f refl refl refl in
+    let input = place (codes "INPUT") f refl refl refl in
+    let bound = value (codes "bound") f refl refl refl in
+    let depth = value (codes "depth") f refl refl refl in
+    let weights = value (codes "weights") f refl refl refl in
+    let conflicts = value (codes "conflicts") f refl refl refl in
+    let sets = value (codes "sets") f refl refl refl in
+    let cert = value (codes "cert") f refl refl refl in
+    let restart = value (codes "restart") f refl refl refl in
+    let on = switch-found parts found runs f read in
+    λ i. localise_from (program i) (input i) (bounds_from (bound i) (depth i)) (weights i) (conflicts i)
+    (sets i) (cert i) (on i) (restart i)
+same_command Check parts found runs f read =
+    let value = value-found Check parts found in
+    let place = file-found Check parts found in
+    let program = place (codes "PROGRAM") f refl refl refl in
+    let input = place (codes "INPUT") f refl refl refl in
+    let cert = place (codes "CERT") f refl refl refl in
+    let bound = value (codes "bound") f refl refl refl in
+    let depth = value (codes "depth") f refl refl refl in
+    let weights = value (codes "weights") f refl refl refl in
+    let conflicts = value (codes "conflicts") f refl refl refl in
+    let sets = value (codes "sets") f refl refl refl in
+    λ i. check_from (program i) (input i) (cert i) (bounds_from (bound i) (depth i)) (weights i) (conflicts i)
+    (sets i)
+same_command Run parts found runs f read =
+    let value = value-found Run parts found in
+    let place = file-found Run parts found in
+    let program = place (codes "PROGRAM") f refl refl refl in
+    let input = place (codes "INPUT") f refl refl refl in
+    let bound = value (codes "bound") f refl refl refl in
+    let depth = value (codes "depth") f refl refl refl in
+    λ i. run_from (program i) (input i) (bounds_from (bound i) (depth i))
+same_command Sample parts found runs f read =
+    let additions = file-found Sample parts found (codes "N") f refl refl refl in
+    λ i. sample_from (number_of 1 500 (additions i))
+
+-- A LINE THAT LACKS a file name, or `--bound`, is no command
+
+localise-unbounded : (a b c d e f g : Option Word) (runs : Bool)
+    → localise_from a b None c d e f runs g ≡ None
+localise-unbounded None b c d e f g runs = refl
+localise-unbounded (Some a) None c d e f g runs = refl
+localise-unbounded (Some a) (Some b) c d e f g runs = refl
+
+check-unbounded : (a b c d e f : Option Word) → check_from a b c None d e f ≡ None
+check-unbounded None b c d e f = refl
+check-unbounded (Some a) None c d e f = refl
+check-unbounded (Some a) (Some b) None d e f = refl
+check-unbounded (Some a) (Some b) (Some c) d e f = refl
+
+run-unbounded : (a b : Option Word) → run_from a b None ≡ None
+run-unbounded None b = refl
+run-unbounded (Some a) None = refl
+run-unbounded (Some a) (Some b) = refl
+
+unbounded : (mode : Mode) (place value : Word → Option Word) (runs : Bool)
+    → stands (codes "bound") (usage_of mode).valued ≡ true
+    → value (codes "bound") ≡ None → command_with mode place value runs ≡ None
+unbounded Localise place value runs has none =
+    ap (λ b. localise_from (place (codes "PROGRAM")) (place (codes "INPUT"))
+    (bounds_from b (value (codes "depth"))) (value (codes "weights"))
+    (value (codes "conflicts")) (value (codes "sets")) (value (codes "cert")) runs (value (codes "restart")))
+    none
+    ∙ localise-unbounded (place (codes "PROGRAM")) (place (codes "INPUT")) (value (codes "weights"))
+    (value (codes "conflicts"))
+    (value (codes "sets")) (value (codes "cert")) (value (codes "restart")) runs
+unbounded Check place value runs has none =
+    ap (λ b. check_from (place (codes "PROGRAM")) (place (codes "INPUT")) (place (codes "CERT"))
+    (bounds_from b (value (codes "depth")))
+    (value (codes "weights")) (value (codes "conflicts")) (value (codes "sets"))) none
+    ∙ check-unbounded (place (codes "PROGRAM")) (place (codes "INPUT")) (place (codes "CERT"))
+    (value (codes "weights"))
+    (value (codes "conflicts")) (value (codes "sets"))
+unbounded Run place value runs has none =
+    ap (λ b. run_from (place (codes "PROGRAM")) (place (codes "INPUT"))
+    (bounds_from b (value (codes "depth")))) none
+    ∙ run-unbounded (place (codes "PROGRAM")) (place (codes "INPUT"))
+unbounded Sample place value runs has none = absurd (true≢false (sym has))
+
+too_few : (mode : Mode) (files : List Word) (value : Word → Option Word) (runs : Bool)
+    → nat_le (length files) (length (usage_of mode).files) ≡ true
+    → (length files == length (usage_of mode).files) ≡ false
+    → command_with mode (file_at (usage_of mode).files files) value runs ≡ None
+too_few Localise [] value runs few lacks = refl
+too_few Localise (a ∷ []) value runs few lacks = refl
+too_few Localise (a ∷ b ∷ []) value runs few lacks = absurd (true≢false lacks)
+too_few Localise (a ∷ b ∷ c ∷ files) value runs few lacks = absurd (three (length files) few)
+  where
+    three : (n : ℕ) → nat_le (suc (suc (suc n))) 2 ≡ true → ⊥
+    three n e = grind (arith, nat_tests)
+too_few Run [] value runs few lacks = refl
+too_few Run (a ∷ []) value runs few lacks = refl
+too_few Run (a ∷ b ∷ []) value runs few lacks = absurd (true≢false lacks)
+too_few Run (a ∷ b ∷ c ∷ files) value runs few lacks = absurd (three (length files) few)
+  where
+    three : (n : ℕ) → nat_le (suc (suc (suc n))) 2 ≡ true → ⊥
+    three n e = grind (arith, nat_tests)
+too_few Check [] value runs few lacks = refl
+too_few Check (a ∷ []) value runs few lacks = refl
+too_few Check (a ∷ b ∷ []) value runs few lacks = refl
+too_few Check (a ∷ b ∷ c ∷ []) value runs few lacks = absurd (true≢false lacks)
+too_few Check (a ∷ b ∷ c ∷ d ∷ files) value runs few lacks = absurd (four (length files) few)
+  where
+    four : (n : ℕ) → nat_le (suc (suc (suc (suc n)))) 3 ≡ true → ⊥
+    four n e = grind (arith, nat_tests)
+too_few Sample [] value runs few lacks = refl
+too_few Sample (a ∷ []) value runs few lacks = absurd (true≢false lacks)
+too_few Sample (a ∷ b ∷ files) value runs few lacks = absurd (two (length files) few)
+  where
+    two : (n : ℕ) → nat_le (suc (suc n)) 1 ≡ true → ⊥
+    two n e = grind (arith, nat_tests)
+
+on_parts : (mode : Mode) (parts : List Part) → fits parts (usage_of mode).files ≡ true
+    → are_distinct (options_in parts) ≡ true
+    → command_on mode parts ≡ command_of_parts mode parts
+on_parts mode parts fit distinct =
+    by (length (files_in parts) == length (usage_of mode).files)
+    (stands (codes "bound") (usage_of mode).valued)
+    (stands (codes "bound") (options_in parts)) refl refl refl
+  where
+    whole : Option Command
+    whole = command_of_parts mode parts
+
+    by : (a b c : Bool) → (length (files_in parts) == length (usage_of mode).files) ≡ a
+        → stands (codes "bound") (usage_of mode).valued ≡ b
+        → stands (codes "bound") (options_in parts) ≡ c
+        → cond (a && (are_distinct (options_in parts) && (not b || c))) whole None ≡ whole
+    by false b c count has there =
+        sym (too_few mode (files_in parts) (value_in parts) (stands (codes "runs") (options_in parts))
+        (sym (fits-length parts (usage_of mode).files) ∙ fit) count)
+    by true true false count has there = ap (λ d. cond (d && false) whole None) distinct
+        ∙ sym (unbounded mode (file_at (usage_of mode).files (files_in parts)) (value_in parts)
+        (stands (codes "runs") (options_in parts)) has
+        (value-none parts (codes "bound") there))
+    by true true true count has there = ap (λ d. cond (d && true) whole None) distinct
+    by true false c count has there = ap (λ d. cond (d && true) whole None) distinct
+
+-- THE ANSWERS
+
+places_distinct : (mode : Mode) → are_distinct (usage_of mode).files ≡ true
+places_distinct Localise = refl
+places_distinct Check = refl
+places_distinct Run = refl
+places_distinct Sample = refl
+
+valued_apart : (mode : Mode)
+    → list_all (λ name. not (stands name (usage_of mode).files)) (usage_of mode).valued ≡ true
+valued_apart Localise = refl
+valued_apart Check = refl
+valued_apart Run = refl
+valued_apart Sample = refl
+
+plain_apart : (mode : Mode)
+    → list_all (λ name. not (stands name (usage_of mode).files)) (usage_of mode).plain ≡ true
+plain_apart Localise = refl
+plain_apart Check = refl
+plain_apart Run = refl
+plain_apart Sample = refl
+
+same_distinct : (mode : Mode) (parts : List Part) → list_all (is_known (usage_of mode)) parts ≡ true
+    → are_distinct (names_of_uses (uses_of parts (usage_of mode).files)) ≡ are_distinct (options_in parts)
+same_distinct mode parts known = uses-distinct parts (usage_of mode).files (places_distinct mode)
+    (each_option (usage_of mode) (λ name. not (stands name (usage_of mode).files)) parts known
+    (valued_apart mode) (plain_apart mode))
+
+-- what the parts come to, by the rules
+taken-rules : (mode : Mode) (parts : List Part) → list_all (is_known (usage_of mode)) parts ≡ true
+    → taken parts (usage_of mode).files []
+    ≡ cond (fits parts (usage_of mode).files && are_distinct (options_in parts))
+    (Some (rows_of_uses (uses_of parts (usage_of mode).files))) None
+taken-rules mode parts known = taken-first parts (usage_of mode).files
+    ∙ ap (λ d. cond (fits parts (usage_of mode).files && d)
+    (Some (rows_of_uses (uses_of parts (usage_of mode).files))) None)
+    (same_distinct mode parts known)
+
+accepted-in : (mode : Mode) (words : List Word) → list_all (is_accepted (usage_of mode)) words ≡ true
+    → command_in mode words ≡ option_and_then (command_on mode) (parts_of (usage_of mode) words)
+accepted-in mode words ok =
+    ap (λ b. cond b (option_and_then (command_on mode) (parts_of (usage_of mode) words)) None) ok
+
+pub answered : (mode : Mode) (first : Word) (words : List Word) (found : Found) (runs : Bool)
+    → list_all (is_readable (usage_of mode)) words ≡ true
+    → fault_of (app_for (usage_of mode)) (first ∷ words) ≡ []
+    → rows_of found ≡ matches_of (app_for (usage_of mode)) (first ∷ words) → IsRead found runs
+    → command_in mode (split_words (usage_of mode) words)
+    ≡ command_with mode (first_value found) (first_value found) runs
+answered mode first words found runs ok none is read =
+    accepted-in mode (split_words u words) (readable_accepted u words ok)
+    ∙ by (parts_of u (split_words u words)) refl walked
+  where
+    u : Usage
+    u = usage_of mode
+
+    kinds : Kinds
+    kinds = faults_from (rules_in u) (walk_at (held [] None) idle 1) words
+
+    rows : List Row
+    rows = rows_from (rules_in u) (walk_at (held [] None) idle 1) words
+
+    no_fault : kinds ≡ []
+    no_fault = sym (fault_of-walk u first words) ∙ none
+
+    walked : Agrees kinds rows (taken_all u.files (parts_of u (split_words u words)) [])
+    walked = whole_walk u (rules_in u) (fits_mode mode) words ok
+
+    chosen : (parts : List Part) (f d : Bool) → fits parts u.files ≡ f → are_distinct (options_in parts) ≡ d
+        → list_all (is_known u) parts ≡ true
+        → Agrees kinds rows (cond (f && d) (Some (rows_of_uses (uses_of parts u.files))) None)
+        → command_on mode parts ≡ command_with mode (first_value found) (first_value found) runs
+    chosen parts true true f d known agrees = on_parts mode parts f d
+        ∙ same_command mode parts found runs (record {
+          known = known;
+          rows = is ∙ ap (λ r. fold with_default r (rules_in u)) agrees.1;
+        }) read
+    chosen parts true false f d known agrees = absurd (agrees no_fault)
+    chosen parts false d f e known agrees = absurd (agrees no_fault)
+
+    by : (o : Option (List Part)) → parts_of u (split_words u words) ≡ o
+        → Agrees kinds rows (taken_all u.files o [])
+        → option_and_then (command_on mode) o ≡ command_with mode (first_value found) (first_value found) runs
+    by None are agrees = absurd (agrees no_fault)
+    by (Some parts) are agrees =
+        let known = parts-known u (split_words u words) parts are in
+        chosen parts (fits parts u.files) (are_distinct (options_in parts)) refl refl known
+        (subst (Agrees kinds rows) (taken-rules mode parts known) agrees)
+
+-- words in which `clap` finds a fault
+pub faulty_refused : (mode : Mode) (first : Word) (words : List Word)
+    → list_all (is_readable (usage_of mode)) words ≡ true
+    → (fault_of (app_for (usage_of mode)) (first ∷ words) ≡ [] → ⊥)
+    → command_in mode (split_words (usage_of mode) words) ≡ None
+faulty_refused mode first words ok faulty =
+    accepted-in mode (split_words u words) (readable_accepted u words ok)
+    ∙ by (parts_of u (split_words u words)) refl walked
+  where
+    u : Usage
+    u = usage_of mode
+
+    kinds : Kinds
+    kinds = faults_from (rules_in u) (walk_at (held [] None) idle 1) words
+
+    rows : List Row
+    rows = rows_from (rules_in u) (walk_at (held [] None) idle 1) words
+
+    some_fault : kinds ≡ [] → ⊥
+    some_fault none = faulty (fault_of-walk u first words ∙ none)
+
+    walked : Agrees kinds rows (taken_all u.files (parts_of u (split_words u words)) [])
+    walked = whole_walk u (rules_in u) (fits_mode mode) words ok
+
+    exact : (m n : ℕ) → (m == n) ≡ true → nat_le m n ≡ true
+    exact m n e = grind (arith, nat_tests)
+
+    chosen : (parts : List Part) (f d : Bool) → fits parts u.files ≡ f → are_distinct (options_in parts) ≡ d
+        → Agrees kinds rows (cond (f && d) (Some (rows_of_uses (uses_of parts u.files))) None)
+        → is_line u parts ≡ false
+    chosen parts true true f d agrees = absurd (some_fault agrees.0)
+    chosen parts true false f d agrees =
+        ap (λ e. (length (files_in parts) == length u.files) && (e && has_bound u (options_in parts))) d
+        ∙ and_false (length (files_in parts) == length u.files)
+    chosen parts false d f e agrees = count (length (files_in parts) == length u.files) refl
+      where
+        count : (b : Bool) → (length (files_in parts) == length u.files) ≡ b
+            → (b && (are_distinct (options_in parts) && has_bound u (options_in parts))) ≡ false
+        count true same = absurd (not_both (fits parts u.files)
+            (fits-length parts u.files ∙ exact (length (files_in parts)) (length u.files) same) f)
+        count false same = refl
+
+    by : (o : Option (List Part)) → parts_of u (split_words u words) ≡ o
+        → Agrees kinds rows (taken_all u.files o [])
+        → option_and_then (command_on mode) o ≡ None
+    by None are agrees = refl
+    by (Some parts) are agrees = ap (λ b. cond b (command_of_parts mode parts) None)
+        (chosen parts (fits parts u.files) (are_distinct (options_in parts)) refl refl
+        (subst (Agrees kinds rows) (taken-rules mode parts (parts-known u (split_words u words) parts are))
+        agrees))
+
+-- words that are refused before
+pub unread_refused : (mode : Mode) (words : List Word) → list_all (is_readable (usage_of mode)) words ≡ false
+    → command_in mode (split_words (usage_of mode) words) ≡ None
+unread_refused mode words unread = by (unreadable_refused (usage_of mode) words unread)
+  where
+    split : List Word
+    split = split_words (usage_of mode) words
+
+    by : IsRefused (usage_of mode) split → command_in mode split ≡ None
+    by (inl e) = ap (λ b. cond b (option_and_then (command_on mode) (parts_of (usage_of mode) split)) None) e
+    by (inr e) = ap (λ o. cond (list_all (is_accepted (usage_of mode)) split)
+        (option_and_then (command_on mode) o) None) e
+        ∙ same_either (list_all (is_accepted (usage_of mode)) split) None

@@ -1,0 +1,95 @@
+//! What the program is asked to do.
+
+ghost use Rattle.std.specs.Prelude.{◌≡◌};
+
+use ba_tree::run::Bounds;
+use std::marker::Model;
+
+/// A text that stands in the words of the call, and takes no memory of its own: the name of a file. Contracts
+/// see the list of its bytes and nothing else.
+#[derive(Debug, Drop)]
+pub struct Text<'a> {
+    text: &'a str,
+}
+
+impl<'a> Model for Text<'a> {
+    ghost use Rattle.std.specs.Prelude.{List, ℕ};
+
+    ghost Value = { List ℕ };
+
+    ghost view = { λ text. text.text.now };
+}
+
+impl<'a> Text<'a> {
+    /// The text of this word, or of a part of it.
+    pub(crate) fn new(text: &'a str) -> Text<'a>
+        ensures { result ≡ text.now }
+    {
+        Text { text }
+    }
+
+    /// The text as it stands in the words.
+    pub fn as_str(&self) -> &'a str
+        ensures { result.now ≡ self.now }
+    {
+        self.text
+    }
+}
+
+/// What the words of a call ask for. Files are named as the words name them; what is left out has its
+/// default.
+#[derive(Debug, Drop)]
+pub enum Command<'a> {
+    /// Find the least sets of statements whose change could repair the run.
+    Localise {
+        /// The file of the program.
+        program: Text<'a>,
+        /// The file of the input.
+        input: Text<'a>,
+        /// How far a run may go.
+        bounds: Bounds,
+        /// The file of the weights, if there is one.
+        weights: Option<Text<'a>>,
+        /// How many conflicts the search may have: 1 to 1,000,000, by default 200,000.
+        conflicts: u64,
+        /// How many sets may be listed: 1 to 10,000, by default 1,000.
+        sets: u32,
+        /// The file that the certificate is written to, if there is one.
+        cert: Option<Text<'a>>,
+        /// Whether a run is shown for each set.
+        runs: bool,
+        /// Whether the search restarts steadily, and not by Luby's sequence.
+        steady: bool,
+    },
+    /// Check a certificate.
+    Check {
+        /// The file of the program.
+        program: Text<'a>,
+        /// The file of the input.
+        input: Text<'a>,
+        /// The file of the certificate.
+        cert: Text<'a>,
+        /// How far a run may go.
+        bounds: Bounds,
+        /// The file of the weights, if there is one.
+        weights: Option<Text<'a>>,
+        /// How many conflicts the certificate is of: 1 to 1,000,000, by default 200,000.
+        conflicts: u64,
+        /// How many sets may be listed: 1 to 10,000, by default 1,000.
+        sets: u32,
+    },
+    /// Run the program.
+    Run {
+        /// The file of the program.
+        program: Text<'a>,
+        /// The file of the input.
+        input: Text<'a>,
+        /// How far the run may go.
+        bounds: Bounds,
+    },
+    /// Search a program made for the purpose.
+    Sample {
+        /// How many additions the program has: 1 to 500.
+        additions: u32,
+    },
+}
