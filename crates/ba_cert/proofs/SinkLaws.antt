@@ -126,7 +126,7 @@ pub stays-self : (name : List ℕ) (old : Outside) → OnlyWritesTo name old old
 stays-self name old = record {
   kept = λ other apart. refl;
   stays = record
-      { no_fall = omega arith; printed = refl; is_reading = refl; read_faults = refl; given = refl };
+      { no_fall = omega arith; printed = refl; is_reading = refl; read_faults = refl; print_shortages = refl; given = refl };
 }
 
 pub stays-then : (name : List ℕ) (a b c : Outside) → OnlyWritesTo name a b → OnlyWritesTo name b c →
@@ -138,6 +138,7 @@ stays-then name a b c first second = record {
     printed = second.stays.printed ∙ first.stays.printed;
     is_reading = second.stays.is_reading ∙ first.stays.is_reading;
     read_faults = second.stays.read_faults ∙ first.stays.read_faults;
+    print_shortages = second.stays.print_shortages ∙ first.stays.print_shortages;
     given = second.stays.given ∙ first.stays.given;
   };
 }

@@ -9,7 +9,7 @@ use Rattle.std.proofs.Math.Seq.{take-length}
 use Rattle.ba_world.specs.declared.world.WorldError.{WorldError}
 use Rattle.ba_world.specs.declared.world.WorldError.TheVariants.{Failed, Memory as NoMemory}
 use Rattle.ba_world.specs.World.{Gives, GivesNone, GivesPiece, IsBegun, IsOpened, WritesNone, Appends, AppendsPrefix, StaysButWritten}
-use Rattle.ba_world.specs.Memory.{File, Opened, Memory, After, file_of, bytes_of, moved_on, kept_of, kept_in, held_in, left_of, with_file, added_to, half_of, with_added, called, write_failed, with_printed, fails_next, piece_of, after_piece, read_failed, after_next, after_open, after_search, outside_of}
+use Rattle.ba_world.specs.Memory.{File, Opened, Memory, After, file_of, bytes_of, moved_on, kept_of, kept_in, held_in, left_of, with_file, added_to, half_of, with_added, called, write_failed, print_short, with_printed, fails_next, piece_of, after_piece, read_failed, after_next, after_open, after_search, outside_of}
 use Rattle.ba_world.proofs.Files.{bytes_eq_self, bytes_eq_other, Gives-piece}
 
 -- the file found has the name
@@ -73,7 +73,7 @@ ending (Ok x) new none failed done false exactly memory = ends refl (ap (λ (p :
 
 -- what `print` leaves is a prefix after what was there
 pub printed_prefix : (result : Result (Unit {0}) WorldError) (bytes : List ℕ) (old new : Memory) →
-    Ending result new (called old) (with_printed (half_of bytes) (write_failed old))
+    Ending result new (print_short old) (with_printed (half_of bytes) (write_failed old))
     (with_printed bytes (called old)) → AppendsPrefix (Some old.printed) (Some new.printed) bytes
 printed_prefix result bytes old new (without e is) = (0, ap (λ (m : Memory). Some m.printed) is ∙ ap Some (sym (append-nil old.printed)))
 printed_prefix result bytes old new (fails e is) = (length bytes / 2, ap (λ (m : Memory). Some m.printed) is)

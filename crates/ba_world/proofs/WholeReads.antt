@@ -14,6 +14,7 @@ only_reads_none outside = record {
   printed = refl;
   is_writing = refl;
   write_faults = refl;
+  print_shortages = refl;
 }
 
 pub only_reads_on : (old mid new : Outside) → OnlyReads old mid → OnlyReads mid new → OnlyReads old new
@@ -25,6 +26,7 @@ only_reads_on old mid new before after = record {
   printed = after.printed ∙ before.printed;
   is_writing = after.is_writing ∙ before.is_writing;
   write_faults = after.write_faults ∙ before.write_faults;
+  print_shortages = after.print_shortages ∙ before.print_shortages;
 }
 
 -- a count that rose since a later moment rose since an earlier one

@@ -49,5 +49,6 @@ outside_of host = record {
   is_writing = is_some host.writing;
   read_faults = host.read_faults;
   write_faults = host.write_faults;
+  print_shortages = 0;
   given = host.given;
 }

@@ -30,6 +30,7 @@ pub record Memory : Type 0 where
   pub calls : ℕ
   pub read_faults : ℕ
   pub write_faults : ℕ
+  pub print_shortages : ℕ
   pub given : ℕ
 
 -- the files have different names
@@ -87,6 +88,7 @@ outside_of world = record {
   is_writing = is_some world.writing;
   read_faults = world.read_faults;
   write_faults = world.write_faults;
+  print_shortages = world.print_shortages;
   given = world.given;
 }
 
@@ -98,7 +100,7 @@ half_of bytes = take (length bytes / 2) bytes
 abbrev pub fails_next : Memory → Bool
 fails_next world = list_any (λ number. number == world.calls) world.fails
 
--- after one more call, and after one that failed
+-- after one more call, after one that failed, and after a print that found no memory
 abbrev pub called : Memory → Memory
 called world = record world { calls = raised world.calls 1 }
 
@@ -107,6 +109,9 @@ read_failed world = record (called world) { read_faults = raised world.read_faul
 
 abbrev pub write_failed : Memory → Memory
 write_failed world = record (called world) { write_faults = raised world.write_faults 1 }
+
+abbrev pub print_short : Memory → Memory
+print_short world = record (called world) { print_shortages = raised world.print_shortages 1 }
 
 -- a file that wasn't begun
 abbrev pub held_file : List ℕ → List ℕ → File
@@ -124,6 +129,7 @@ new_memory files fails piece = record {
   calls = 0;
   read_faults = 0;
   write_faults = 0;
+  print_shortages = 0;
   given = 0;
 }
 

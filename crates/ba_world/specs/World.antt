@@ -21,6 +21,8 @@ pub record Outside : Type 0 where
   -- the faults of reading, and those of writing and printing
   pub read_faults : ℕ
   pub write_faults : ℕ
+  -- the prints that found no memory
+  pub print_shortages : ℕ
   -- how many bytes of files were given
   pub given : ℕ
 
@@ -41,6 +43,10 @@ HasReadFault old new = Rose old.read_faults new.read_faults
 abbrev pub HasWriteFault : Outside → Outside → Type 0
 HasWriteFault old new = Rose old.write_faults new.write_faults
 
+-- a print found no memory
+abbrev pub HasPrintShortage : Outside → Outside → Type 0
+HasPrintShortage old new = Rose old.print_shortages new.print_shortages
+
 -- WHAT STAYS
 
 -- Only reading went on: the file being read, what is left of it and the count of bytes given may be others, the
@@ -53,6 +59,7 @@ pub record OnlyReads (old new : Outside) : Type 0 where
   pub printed : new.printed ≡ old.printed
   pub is_writing : new.is_writing ≡ old.is_writing
   pub write_faults : new.write_faults ≡ old.write_faults
+  pub print_shortages : new.print_shortages ≡ old.print_shortages
 
 -- Only files were written: what is held and kept, the file being written, and what is left of the one being
 -- read, which may be the same, may be others, the faults of writing don't fall, and all else stays.
@@ -61,11 +68,14 @@ pub record OnlyWrites (old new : Outside) : Type 0 where
   pub printed : new.printed ≡ old.printed
   pub is_reading : new.is_reading ≡ old.is_reading
   pub read_faults : new.read_faults ≡ old.read_faults
+  pub print_shortages : new.print_shortages ≡ old.print_shortages
   pub given : new.given ≡ old.given
 
--- Only printing went on: more may have been printed, the faults of printing don't fall, and all else stays.
+-- Only printing went on: more may have been printed, the faults of printing and the prints that found no memory don't
+-- fall, and all else stays.
 pub record OnlyPrints (old new : Outside) : Type 0 where
   pub no_fall : old.write_faults ≤ new.write_faults
+  pub no_fewer : old.print_shortages ≤ new.print_shortages
   pub held : new.held ≡ old.held
   pub left : new.left ≡ old.left
   pub kept : new.kept ≡ old.kept

@@ -4,7 +4,7 @@ ghost use Rattle.std.specs.Prelude.{◌≡◌, ◌≢◌, ◌==◌, ℕ, ◌+◌
 ghost use Rattle.std.specs.String.{string_bytes};
 ghost use Rattle.std.specs.List.{list_any};
 ghost use Rattle.ba_world.specs.World.{raised};
-ghost use Rattle.ba_world.specs.Memory.{File, held_file, new_memory, file_of, name_at, held_in, with_file, added_to, outside_of, NamesDiffer, called, after_open, after_next, after_begin, after_add, after_print};
+ghost use Rattle.ba_world.specs.Memory.{File, held_file, new_memory, file_of, name_at, held_in, with_file, added_to, outside_of, NamesDiffer, called, print_short, after_open, after_next, after_begin, after_add, after_print};
 
 use crate::world::{World, WorldError, raise};
 use std::alloc::{AllocError, Global};
@@ -178,6 +178,7 @@ pub struct MemoryWorld {
     calls: u64,
     read_faults: u64,
     write_faults: u64,
+    print_shortages: u64,
     given: u64,
 }
 
@@ -199,6 +200,7 @@ impl Model for MemoryWorld {
       calls = world.calls;
       read_faults = world.read_faults;
       write_faults = world.write_faults;
+      print_shortages = world.print_shortages;
       given = world.given;
     } };
 
@@ -236,6 +238,7 @@ impl MemoryWorld {
             calls: 0,
             read_faults: 0,
             write_faults: 0,
+            print_shortages: 0,
             given: 0,
         })
     }
@@ -336,15 +339,24 @@ impl World for MemoryWorld {
 
     fn print(&mut self, bytes: &[u8]) -> Result<(), WorldError>
         ensures exactly { result ≢ Err WorldError.Memory → (result, self.new) ≡ after_print bytes.now self.old }
-        ensures memory { result ≡ Err WorldError.Memory → self.new ≡ called self.old }
+        ensures memory { result ≡ Err WorldError.Memory → self.new ≡ print_short self.old }
         ensures no_fall { self.old.write_faults ≤ self.new.write_faults }
+        ensures no_fewer { self.old.print_shortages ≤ self.new.print_shortages }
     {
-        if count_call(&mut self.calls, self.fails.as_slice()) {
-            self.printed.extend_from_slice(&bytes[..bytes.len() / 2])?;
+        let fails = count_call(&mut self.calls, self.fails.as_slice());
+        let taken = if fails {
+            &bytes[..bytes.len() / 2]
+        } else {
+            bytes
+        };
+        if self.printed.extend_from_slice(taken).is_err() {
+            raise(&mut self.print_shortages, 1);
+            return Err(WorldError::Memory);
+        }
+        if fails {
             raise(&mut self.write_faults, 1);
             return Err(WorldError::Failed);
         }
-        self.printed.extend_from_slice(bytes)?;
         Ok(())
     }
 }

@@ -1,7 +1,7 @@
 //! What the program meets of the outside.
 
 ghost use Rattle.std.specs.Prelude.{◌≡◌, ◌⊎◌, ◌<◌, ◌≤◌, true, false, length, IfOk, OnOk, OnErr};
-ghost use Rattle.ba_world.specs.World.{Adds, AddsPrefix, GivesNone, GivesPiece, HasReadFault, HasWriteFault, IsBegun, IsOpened, OnlyPrints, OnlyReads, OnlyWrites, OthersStay, Outside, Prints, PrintsPrefix, StillWrites, WritesNone, raised};
+ghost use Rattle.ba_world.specs.World.{Adds, AddsPrefix, GivesNone, GivesPiece, HasPrintShortage, HasReadFault, HasWriteFault, IsBegun, IsOpened, OnlyPrints, OnlyReads, OnlyWrites, OthersStay, Outside, Prints, PrintsPrefix, StillWrites, WritesNone, raised};
 
 use std::alloc::AllocError;
 use thiserror::Error;
@@ -34,8 +34,8 @@ impl From<AllocError> for WorldError {
 /// may tell of them or not: what it doesn't tell is `None`.
 ///
 /// Each call may answer [`WorldError::Memory`]. It answers [`WorldError::Failed`] only where the count of
-/// faults of its kind rose in it or, for `open_file`, where there is no file of that name. A count that has
-/// come to 2^64 - 1 counts as risen.
+/// faults of its kind rose in it or, for `open_file`, where there is no file of that name. Where `print` answers
+/// `Memory`, the count of prints that found no memory rose in it. A count that has come to 2^64 - 1 counts as risen.
 pub trait World {
     // The outside, as far as this world tells it.
     ghost outside: { Self → Outside };
@@ -90,6 +90,8 @@ pub trait World {
         ensures prefix { PrintsPrefix (outside self.old) (outside self.new) bytes.now }
         ensures cause { result ≡ Err WorldError.Failed
             → HasWriteFault (outside self.old) (outside self.new) }
+        ensures shortage { result ≡ Err WorldError.Memory
+            → HasPrintShortage (outside self.old) (outside self.new) }
         ensures stays { OnlyPrints (outside self.old) (outside self.new) };
 }
 

@@ -37,6 +37,7 @@ impl World for Endless {
       is_writing = world.is_begun;
       read_faults = 0;
       write_faults = 0;
+      print_shortages = 0;
       given = world.given;
     } };
 

@@ -9,8 +9,10 @@ print-tells c =
       printed = search rules;
       prefix = printed_prefix c.result c.args.bytes.now c.args.self.now c.new.self.now end;
       cause = search rules;
+      shortage = search rules;
       stays = record {
         no_fall = search rules;
+        no_fewer = search rules;
         held = search rules;
         left = search rules;
         kept = search rules;
@@ -42,6 +44,7 @@ add-tells c =
         printed = search rules;
         is_reading = search rules;
         read_faults = search rules;
+        print_shortages = search rules;
         given = search rules;
       };
     }
@@ -63,6 +66,7 @@ begin_file-tells c =
         printed = search rules;
         is_reading = search rules;
         read_faults = search rules;
+        print_shortages = search rules;
         given = search rules;
       };
     }
@@ -81,6 +85,7 @@ next_piece-tells c = record {
     printed = search rules;
     is_writing = search rules;
     write_faults = search rules;
+    print_shortages = search rules;
   };
 }
 
@@ -98,5 +103,6 @@ open_file-tells c = record {
     printed = search rules;
     is_writing = search rules;
     write_faults = search rules;
+    print_shortages = search rules;
   };
 }
