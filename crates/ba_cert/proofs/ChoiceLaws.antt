@@ -10,7 +10,7 @@ use Rattle.std.proofs.lemmas.Slice.Eq.{bytes_eq-Decides}
 use Rattle.ba_choices.specs.declared.Choice.{Choice}
 use Rattle.ba_choices.specs.declared.Choice.TheVariants.{Keep, Take}
 use Rattle.ba_steps.specs.Steps.{IsValue, IsFormedChoice}
-use Rattle.ba_cert.specs.Text.{choice_parts}
+use Rattle.ba_text.specs.Texts.{choice_parts}
 use Rattle.ba_cert.specs.Reading.{◌>>=◌, value_of, pending_choice, choices_of, no_choice, with_value, with_part, run_at}
 use Rattle.ba_cert.specs.declared.choices.Run.{Run}
 use Rattle.ba_cert.proofs.Binding.{bound, mapped, choose}

@@ -8,7 +8,8 @@ use Rattle.ba_steps.specs.declared.step.CertStep.TheVariants.{Learn, Core, Delet
 use Rattle.ba_cert.specs.declared.error.CertError.{CertError}
 use Rattle.ba_cert.specs.declared.error.CertError.TheVariants.{BadLine, Memory}
 use Rattle.ba_cert.specs.Readers.{Gives}
-use Rattle.ba_cert.specs.Text.{ended, clause_parts, choice_parts, step_parts, joined, line_of, HasLine}
+use Rattle.ba_cert.specs.Text.{ended, clause_parts, step_parts, joined, line_of, HasLine}
+use Rattle.ba_text.specs.Texts.{choice_parts}
 use Rattle.ba_cert.specs.Reading.{parts_of, step_at, step_in}
 use Rattle.ba_cert.proofs.ListLaws.{IsCount, IsGroup, clause-formed, groups-formed}
 use Rattle.ba_cert.proofs.PlainLaws.{is_plain, are_plain, all-append, numbers-plain, clause-plain, run-plain, has_no_feed, joined-feedless}

@@ -14,7 +14,8 @@ use Rattle.ba_choices.specs.declared.Choice.{Choice}
 use Rattle.ba_choices.specs.declared.Choice.TheVariants.{Keep, Take}
 use Rattle.ba_lits.specs.Literals.{Literal}
 use Rattle.ba_steps.specs.Steps.{IsValue, IsFormedChoice, AreNumbers}
-use Rattle.ba_cert.specs.Text.{literal_text, ended, clause_parts, choice_parts, joined, spaced}
+use Rattle.ba_cert.specs.Text.{literal_text, ended, clause_parts, joined}
+use Rattle.ba_text.specs.Texts.{choice_parts, spaced}
 use Rattle.ba_cert.specs.Reading.{is_space}
 use Rattle.ba_cert.proofs.NumberLaws.{decimal-digits, above_is, under_is}
 

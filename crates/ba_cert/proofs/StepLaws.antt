@@ -9,7 +9,8 @@ use Rattle.ba_lits.specs.Literals.{Literal, IsClause}
 use Rattle.ba_steps.specs.Steps.{AreNumbers}
 use Rattle.ba_steps.specs.declared.step.CertStep.{CertStep}
 use Rattle.ba_steps.specs.declared.step.CertStep.TheVariants.{Learn, Core, Delete, Block, EndLocated, EndNoRepair, EndTooMany, EndSpent}
-use Rattle.ba_cert.specs.Text.{literal_text, ended, clause_parts, choice_parts, step_parts, HasLine}
+use Rattle.ba_cert.specs.Text.{literal_text, ended, clause_parts, step_parts, HasLine}
+use Rattle.ba_text.specs.Texts.{choice_parts}
 use Rattle.ba_cert.specs.Reading.{◌>>=◌, has_more, counted_of, group_of, literal_of, listed, ascends, variable_of, itself, clause_by, clause_at, no_choice, run_at, learn_by, learn_at, core_by, core_at, delete_by, delete_at, block_by, block_at, located_by, located_at, no_repair_by, no_repair_at, alone, letter_at, end_by, end_at, step_by, step_at}
 use Rattle.ba_cert.proofs.Binding.{bound, refused, choose}
 use Rattle.ba_cert.proofs.ListLaws.{IsCount, IsGroup, IsFormedLit, counts, groups, literals, listed-again, listed-last, listed-back, above-test, above-from, groups-formed, clause-from, clause-test, clause-formed}

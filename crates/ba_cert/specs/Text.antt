@@ -1,13 +1,11 @@
 -- The text of a derivation: a head line, and a line for each step.
 
 use Rattle.std.specs.Prelude.{ℕ, ◌^◌, ◌<◌, Bool, true, false, List, [], ◌∷◌, ◌++◌, map, flat_map, codes, decimal, All}
-use Rattle.std.specs.Fmt.{signed_decimal}
-use Rattle.ba_choices.specs.declared.Choice.{Choice}
-use Rattle.ba_choices.specs.declared.Choice.TheVariants.{Keep, Take}
 use Rattle.ba_lits.specs.Literals.{Literal}
 use Rattle.ba_steps.specs.Steps.{IsFormed}
 use Rattle.ba_steps.specs.declared.step.CertStep.{CertStep}
 use Rattle.ba_steps.specs.declared.step.CertStep.TheVariants.{Learn, Core, Delete, Block, EndLocated, EndNoRepair, EndTooMany, EndSpent}
+use Rattle.ba_text.specs.Texts.{choice_parts, spaced}
 
 -- A LINE is made of parts. A literal is its variable, with a minus sign before it where it is negated.
 
@@ -26,11 +24,6 @@ ended parts = parts ++ codes "0" ∷ []
 abbrev pub clause_parts : List Literal → List ℕ → List (List ℕ)
 clause_parts lits hints = ended (map literal_text lits) ++ ended (map decimal hints)
 
--- a choice: `k`, or `t` and its values
-abbrev pub choice_parts : Choice → List (List ℕ)
-choice_parts Keep = codes "k" ∷ []
-choice_parts (Take values) = codes "t" ∷ map signed_decimal values
-
 -- a step: one letter or two, and its lists
 abbrev pub step_parts : CertStep → List (List ℕ)
 step_parts (Learn lits hints) = codes "l" ∷ clause_parts lits hints
@@ -41,13 +34,6 @@ step_parts (EndLocated lits hints) = codes "e" ∷ codes "l" ∷ clause_parts li
 step_parts (EndNoRepair hints) = codes "e" ∷ codes "n" ∷ ended (map decimal hints)
 step_parts EndTooMany = codes "e" ∷ codes "m" ∷ []
 step_parts EndSpent = codes "e" ∷ codes "b" ∷ []
-
--- parts, each after a space
-abbrev pub after_space : List ℕ → List ℕ
-after_space part = 32 ∷ part
-
-abbrev pub spaced : List (List ℕ) → List ℕ
-spaced parts = flat_map after_space parts
 
 -- parts with one space between each two
 abbrev pub joined : List (List ℕ) → List ℕ

@@ -1,13 +1,11 @@
 //! The choices of a run in the line of a step.
 
-ghost use Rattle.std.specs.Prelude.{◌≡◌, ◌++◌, None, map, flat_map, OnOk};
-ghost use Rattle.std.specs.Fmt.{signed_decimal};
-ghost use Rattle.ba_cert.specs.Text.{choice_parts, spaced};
+ghost use Rattle.std.specs.Prelude.{◌≡◌, None, OnOk};
 ghost use Rattle.ba_cert.specs.Reading.{choices_of, no_choice, run_at, with_part, with_value};
 ghost use Rattle.ba_cert.specs.Readers.{Gives};
 
 use crate::error::CertError;
-use crate::numerals::{push_value, value_of};
+use crate::numerals::value_of;
 use crate::parts::Parts;
 use ba_choices::{Choice, Values};
 use ba_items::Items;
@@ -77,40 +75,4 @@ pub(crate) fn run_at(alloc: Global, parts: &mut Parts) -> Result<Items<Choice>, 
     }
     run.complete()?;
     Ok(run.done)
-}
-
-/// Adds the values, each after a space.
-fn push_values(values: &[i64], text: &mut Vec<u8>) -> Result<(), AllocError>
-    ensures { OnOk result (text.new.items
-        ≡ text.old.items ++ spaced (map signed_decimal values.now)) }
-{
-    for value in values {
-        text.extend_from_slice(b" ")?;
-        push_value(*value, text)?;
-    }
-    Ok(())
-}
-
-/// Adds the parts of a choice, each after a space.
-fn push_choice(choice: &Choice, text: &mut Vec<u8>) -> Result<(), AllocError>
-    ensures { OnOk result (text.new.items ≡ text.old.items ++ spaced (choice_parts choice.now)) }
-{
-    match choice {
-        Choice::Keep => text.extend_from_slice(b" k"),
-        Choice::Take(values) => {
-            text.extend_from_slice(b" t")?;
-            push_values(values.as_slice(), text)
-        }
-    }
-}
-
-/// Adds the parts of the choices, each after a space.
-pub(crate) fn push_run(run: &[Choice], text: &mut Vec<u8>) -> Result<(), AllocError>
-    ensures { OnOk result (text.new.items
-        ≡ text.old.items ++ spaced (flat_map choice_parts run.now)) }
-{
-    for choice in run {
-        push_choice(choice, text)?;
-    }
-    Ok(())
 }

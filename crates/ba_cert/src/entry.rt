@@ -1,15 +1,17 @@
 //! What stands in the lists of a line.
 
 ghost use Rattle.std.specs.Prelude.{◌≡◌, ◌++◌, ℕ, List, [], Option, decimal, map, OnOk};
-ghost use Rattle.ba_cert.specs.Text.{ended, literal_text, spaced};
+ghost use Rattle.ba_cert.specs.Text.{ended, literal_text};
+ghost use Rattle.ba_text.specs.Texts.{spaced};
 ghost use Rattle.ba_cert.specs.Reading.{ascends, counted_of, group_of, itself, listed, literal_of, variable_of};
 ghost use Rattle.ba_cert.specs.Readers.{Gives};
 
 use crate::error::CertError;
-use crate::numerals::{counted_of, group_of, literal_of, push_number, sign_text};
+use crate::numerals::{counted_of, group_of, literal_of, sign_text};
 use crate::parts::Parts;
 use ba_items::Items;
 use ba_lits::Lit;
+use ba_text::push_number;
 use std::alloc::{AllocError, Global};
 
 /// What stands in a list of a line: a literal, the number of a clause, or the number of a group.

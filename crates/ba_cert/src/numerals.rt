@@ -1,14 +1,11 @@
 //! Numbers, literals and values as parts of a line.
 
-ghost use Rattle.std.specs.Prelude.{◌≡◌, ◌++◌, ◌^◌, ◌<◌, ◌≤◌, pos, neg_ℤ, decimal, option_map, IfSome, OnOk};
-ghost use Rattle.std.specs.Fmt.{signed_decimal};
+ghost use Rattle.std.specs.Prelude.{◌≡◌, ◌^◌, ◌<◌, ◌≤◌, pos, neg_ℤ, option_map, IfSome};
 ghost use Rattle.ba_cert.specs.Text.{sign_text};
 ghost use Rattle.ba_cert.specs.Reading.{after_minus, counted_of, group_of, if_below, leads_with_zero, literal_of, number_of, value_of};
 
 use ba_bytes::decimal::natural;
 use ba_lits::Lit;
-use itoa::Buffer;
-use std::alloc::AllocError;
 
 /// Numbers in a line are below this one, which is 2^62.
 const LIMIT: u64 = 0x4000_0000_0000_0000;
@@ -115,22 +112,6 @@ pub(crate) fn value_of(part: &[u8]) -> Option<i64>
         Some(digits) => Some(minus(counted_of(digits)?)),
         None => Some(plus(number_of(part)?)),
     }
-}
-
-/// Adds a number in decimal digits.
-pub(crate) fn push_number(number: u64, text: &mut Vec<u8>) -> Result<(), AllocError>
-    ensures { OnOk result (text.new.items ≡ text.old.items ++ decimal number) }
-{
-    let mut buffer = Buffer::new();
-    text.extend_from_slice(buffer.format(number).as_bytes())
-}
-
-/// Adds a value in decimal digits, with a minus sign before it where it is negative.
-pub(crate) fn push_value(value: i64, text: &mut Vec<u8>) -> Result<(), AllocError>
-    ensures { OnOk result (text.new.items ≡ text.old.items ++ signed_decimal value) }
-{
-    let mut buffer = Buffer::new();
-    text.extend_from_slice(buffer.format(value).as_bytes())
 }
 
 /// The sign before a variable.

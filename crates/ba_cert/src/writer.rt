@@ -1,12 +1,13 @@
 //! Writing the line of a step.
 
 ghost use Rattle.std.specs.Prelude.{◌≡◌, ◌++◌, ◌^◌, ◌<◌, All, IfOk, OnOk};
-ghost use Rattle.ba_cert.specs.Text.{HasSmallGroups, clause_parts, head_line, line_of, spaced, with_feed};
+ghost use Rattle.ba_cert.specs.Text.{HasSmallGroups, clause_parts, head_line, line_of, with_feed};
+ghost use Rattle.ba_text.specs.Texts.{spaced};
 
-use crate::choices::push_run;
 use crate::entry::push_list;
 use ba_lits::Lit;
 use ba_steps::CertStep;
+use ba_text::push_choices;
 use std::alloc::{AllocError, Global};
 
 /// Adds literals and hints, each part after a space.
@@ -38,7 +39,7 @@ fn push_line(step: &CertStep, text: &mut Vec<u8>) -> Result<(), AllocError>
         CertStep::Block { groups, run } => {
             text.extend_from_slice(b"s")?;
             push_list(groups.as_slice(), text)?;
-            push_run(run.as_slice(), text)
+            push_choices(run.as_slice(), text)
         }
         CertStep::EndLocated { lits, hints } => {
             text.extend_from_slice(b"e l")?;

@@ -1,5 +1,6 @@
 use Rattle.std.proofs.Common.{◌≡◌, ◌++◌, map, drop}
-use Rattle.ba_cert.specs.Text.{spaced, ended}
+use Rattle.ba_cert.specs.Text.{ended}
+use Rattle.ba_text.specs.Texts.{spaced}
 use Rattle.ba_cert.proofs.entry.push_list.Given as goal
 
 -- the text so far and what is left are the whole

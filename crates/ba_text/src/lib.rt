@@ -1,0 +1,8 @@
+//! Numbers and choices as text.
+#![tactic(auto)]
+
+mod choices;
+mod numbers;
+
+pub use choices::push_choices;
+pub use numbers::{push_number, push_value};
