@@ -1,0 +1,12 @@
+use Rattle.std.proofs.Common.{◌≡◌, ◌+◌, ◌++◌, drop}
+use Rattle.ba_report.specs.Report.{sets_lines}
+use Rattle.ba_report.proofs.listing.Listing.push_sets.Given as goal
+
+-- the text so far and the sets that are left are the whole
+abbrev pub invariant-loop-set : goal.invariant-loop-set
+invariant-loop-set l = record {
+  counted : l.number ≡ l.set-index + 1;
+  whole : l.text.items
+      ++ sets_lines l.self.lines l.self.program.now l.self.runs l.number (drop l.set-index l.sets)
+      ≡ l.initial.text.items ++ sets_lines l.self.lines l.self.program.now l.self.runs 1 l.sets;
+}

@@ -1,0 +1,21 @@
+-- The lines of a text.
+
+use Rattle.std.specs.Prelude.{ℕ, zero, suc, ◌-◌, List, [], length, take, drop, take_while, slice_index_or}
+use Rattle.std.specs.List.{slice_split, suffix_len}
+use Rattle.ba_bytes.specs.Classes.{is_blank, is_line_end}
+
+-- the lines, without the line feeds that end them; what stands after the last line feed is a line too
+abbrev pub lines_of : List ℕ → List (List ℕ)
+lines_of text = slice_split is_line_end text
+
+-- a line, counted from 1; where there is no such line, nothing stands there
+abbrev pub line_at : List (List ℕ) → ℕ → List ℕ
+line_at lines zero = []
+line_at lines (suc n) = slice_index_or lines n []
+
+-- a line without blanks at its end, and without blanks at both ends
+abbrev pub trimmed_end : List ℕ → List ℕ
+trimmed_end line = take (length line - suffix_len is_blank line) line
+
+abbrev pub trimmed : List ℕ → List ℕ
+trimmed line = trimmed_end (drop (length (take_while is_blank line)) line)

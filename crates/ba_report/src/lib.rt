@@ -1,0 +1,10 @@
+//! The report: the text that names the least sets of a program.
+//!
+//! Each set has a line for each of its statements, with position, kind and source line, and may have
+//! one for a run that is good for it. [`report`] makes the text of a verdict.
+#![tactic(auto)]
+
+mod lines;
+mod listing;
+
+pub use listing::report;

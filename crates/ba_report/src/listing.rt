@@ -1,0 +1,185 @@
+//! The report of a verdict.
+
+ghost use Rattle.std.specs.Prelude.{◌≡◌, ◌++◌, ℕ, List, true, All, flat_map, IfOk, OnOk};
+ghost use Rattle.ba_derivations.specs.Derivations.{IsGood, sets_of};
+ghost use Rattle.ba_derivations.specs.declared.verdict.FoundSet.{FoundSet};
+ghost use Rattle.ba_report.specs.Report.{IsLocated, Reports, info_line, kind_word, located_text, place_text};
+ghost use Rattle.ba_report.specs.Report.{report_text, run_line, set_lines, sets_lines, source_text, statement_line};
+ghost use Rattle.ba_tree.specs.Choices.{info_of};
+ghost use Rattle.ba_tree.specs.Least.{Judge, stmt_of};
+
+use crate::lines::{Lines, trimmed};
+use ba_choices::Choice;
+use ba_derivations::{FoundSet, Verdict};
+use ba_text::{push_choices, push_number};
+use ba_tree::tree::{Program, StmtInfo, StmtKind};
+use std::alloc::{AllocError, Global};
+
+fn kind_word(kind: StmtKind) -> &'static [u8]
+    ensures { result.now ≡ kind_word kind }
+{
+    match kind {
+        StmtKind::Initialiser => b"initialiser",
+        StmtKind::Assignment => b"assignment",
+        StmtKind::Store => b"store",
+        StmtKind::Condition => b"condition",
+        StmtKind::Return => b"return",
+        StmtKind::Call => b"call",
+        StmtKind::Assert => b"assert",
+    }
+}
+
+/// What the program says of a statement, counted from 1.
+fn info_of(program: &Program, number: u32) -> Option<StmtInfo>
+    ensures { result ≡ info_of program.now (stmt_of number) }
+{
+    let place = number.checked_sub(1)?;
+    program.statements.as_slice().get(place as usize).copied()
+}
+
+/// Adds the position of a statement.
+fn push_place(info: StmtInfo, text: &mut Vec<u8>) -> Result<(), AllocError>
+    ensures { OnOk result (text.new.items ≡ text.old.items ++ place_text info) }
+{
+    text.extend_from_slice(b"  ")?;
+    push_number(u64::from(info.at.line), text)?;
+    text.extend_from_slice(b":")?;
+    push_number(u64::from(info.at.column), text)
+}
+
+/// Adds a source line without blanks at both ends.
+fn push_source(line: &[u8], text: &mut Vec<u8>) -> Result<(), AllocError>
+    ensures { OnOk result (text.new.items ≡ text.old.items ++ source_text line.now) }
+{
+    text.extend_from_slice(b" | ")?;
+    text.extend_from_slice(trimmed(line))?;
+    text.extend_from_slice(b"\n")
+}
+
+/// What the lines of a report are written from: the lines of the source and the program that they
+/// spell, and whether each set has a line for its run.
+#[derive(Drop)]
+struct Listing<'a> {
+    lines: Lines<'a>,
+    program: &'a Program,
+    runs: bool,
+}
+
+impl Listing<'_> {
+    /// Adds the line of a statement.
+    fn push_info(&self, info: StmtInfo, text: &mut Vec<u8>) -> Result<(), AllocError>
+        ensures { OnOk result (text.new.items ≡ text.old.items ++ info_line self.now.lines info) }
+    {
+        push_place(info, text)?;
+        text.extend_from_slice(b" ")?;
+        text.extend_from_slice(kind_word(info.kind))?;
+        push_source(self.lines.at(info.at.line), text)
+    }
+
+    /// Adds the line of the statement of this number.
+    fn push_statement(&self, number: u32, text: &mut Vec<u8>) -> Result<(), AllocError>
+        ensures { OnOk result (text.new.items
+            ≡ text.old.items ++ statement_line self.now.lines self.now.program.now number) }
+    {
+        match info_of(self.program, number) {
+            Some(info) => self.push_info(info, text),
+            None => Ok(()),
+        }
+    }
+
+    /// Adds the lines of the statements of these numbers.
+    fn push_statements(&self, numbers: &[u32], text: &mut Vec<u8>) -> Result<(), AllocError>
+        ensures { OnOk result (text.new.items ≡ text.old.items
+            ++ flat_map (statement_line self.now.lines self.now.program.now) numbers.now) }
+    {
+        for number in numbers {
+            self.push_statement(*number, text)?;
+        }
+        Ok(())
+    }
+
+    /// Adds the lines of a set, which has this number.
+    fn push_set(&self, number: u64, set: &[u32], text: &mut Vec<u8>) -> Result<(), AllocError>
+        ensures { OnOk result (text.new.items ≡ text.old.items
+            ++ set_lines self.now.lines self.now.program.now number set.now) }
+    {
+        text.extend_from_slice(b"set ")?;
+        push_number(number, text)?;
+        text.extend_from_slice(b":\n")?;
+        self.push_statements(set, text)
+    }
+
+    /// Adds the line of a run, where runs are shown.
+    fn push_run(&self, run: &[Choice], text: &mut Vec<u8>) -> Result<(), AllocError>
+        ensures { OnOk result (text.new.items ≡ text.old.items ++ run_line self.now.runs run.now) }
+    {
+        if !self.runs {
+            return Ok(());
+        }
+        text.extend_from_slice(b"  run:")?;
+        push_choices(run, text)?;
+        text.extend_from_slice(b"\n")
+    }
+
+    /// Adds the lines of all sets, which are numbered from 1, with their runs.
+    fn push_sets(&self, sets: &[FoundSet], text: &mut Vec<u8>) -> Result<(), AllocError>
+        ensures { OnOk result (text.new.items ≡ text.old.items
+            ++ sets_lines self.now.lines self.now.program.now self.now.runs 1 sets.now) }
+    {
+        let mut number = 1;
+        for set in sets {
+            self.push_set(number, set.groups.as_slice(), text)?;
+            self.push_run(set.run.as_slice(), text)?;
+            number += 1;
+        }
+        Ok(())
+    }
+
+    /// The text of a report: the weight and the number of the sets, and their lines.
+    fn text(&self, alloc: Global, weight: u64, sets: &[FoundSet]) -> Result<Vec<u8>, AllocError>
+        ensures { IfOk result (λ text. text.items
+            ≡ located_text self.now.lines self.now.program.now self.now.runs weight sets.now) }
+    {
+        let mut text = Vec::from_slice(alloc, b"located: weight ")?;
+        push_number(weight, &mut text)?;
+        text.extend_from_slice(b", sets ")?;
+        push_number(sets.len() as u64, &mut text)?;
+        text.extend_from_slice(b"\n")?;
+        self.push_sets(sets, &mut text)?;
+        Ok(text)
+    }
+}
+
+/// The report of a verdict on the program that the source text spells: a line with the weight and the
+/// number of the least sets, and for each set a line, one for each of its statements with position,
+/// kind and source line, and where `runs` is true one for its run.
+///
+/// The one error is want of memory.
+pub fn report(
+    alloc: Global,
+    source: &[u8],
+    program: &Program,
+    verdict: &Verdict,
+    runs: bool,
+) -> Result<Vec<u8>, AllocError>
+    requires { IsLocated verdict.now }
+    ensures text { (weight : ℕ) (found : List FoundSet) → verdict.now ≡ Verdict.Located weight found
+        → IfOk result (λ bytes. bytes.items
+        ≡ report_text source.now program.now runs weight found) }
+    // where each run that is shown is good for its set
+    ensures good { (good : Judge) (weight : ℕ) (found : List FoundSet)
+        → verdict.now ≡ Verdict.Located weight found → (runs ≡ true → All (IsGood good) found)
+        → IfOk result (λ bytes.
+        Reports good source.now program.now runs weight (sets_of found) bytes.items) }
+{
+    let Verdict::Located { weight, sets } = verdict else {
+        unreachable!()
+    };
+    let lines = Lines::new(alloc, source)?;
+    let listing = Listing {
+        lines,
+        program,
+        runs,
+    };
+    listing.text(alloc, *weight, sets.as_slice())
+}
