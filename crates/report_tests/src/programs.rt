@@ -1,5 +1,8 @@
 //! Programs with statements of given kinds and positions, and verdicts on them.
 
+ghost use Rattle.std.specs.Prelude.{IfOk};
+ghost use Rattle.ba_report.specs.Report.{IsLocated};
+
 use ba_choices::{Choice, Values};
 use ba_derivations::{FoundSet, Verdict};
 use ba_facts::{ProgramError, program_of};
@@ -151,7 +154,9 @@ fn run_of(alloc: Global, spelled: &[&'static [i64]]) -> Result<Items<Choice>, Al
 }
 
 /// A verdict that names these sets.
-pub(crate) fn located(alloc: Global, weight: u64, found: &[Found]) -> Result<Verdict, AllocError> {
+pub(crate) fn located(alloc: Global, weight: u64, found: &[Found]) -> Result<Verdict, AllocError>
+    ensures { IfOk result IsLocated }
+{
     let mut sets = Items::new(alloc);
     for (groups, run) in found {
         sets.push(FoundSet {
