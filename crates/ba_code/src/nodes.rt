@@ -1,0 +1,136 @@
+//! The nodes of three-address code: operators take constants and variables, and the order in which things are done is that of the nodes
+//! (Aho, Sethi and Ullman, "Compilers", 1986, section 8.1).
+
+use ba_numbers::ids::StmtId;
+use ba_numbers::numbers::{BinOp, CType, UnOp};
+use ba_tree::run::Place;
+
+/// An array: how many elements it has, from 1 to 256, and their type.
+#[derive(Clone, Copy, Debug, PartialEq, Eq)]
+pub struct ArrayInfo {
+    pub len: u32,
+    pub t: CType,
+}
+
+/// What a parameter of `main` is given to: the variable, or the array, of this number.
+#[derive(Clone, Copy, Debug, PartialEq, Eq)]
+pub enum Param {
+    Var(u32),
+    Array(u32),
+}
+
+/// What a node reads: a constant, in the range of `I32` or of `U32`, or the variable of this number.
+#[derive(Clone, Copy, Debug, PartialEq, Eq)]
+pub enum Operand {
+    Const(i64),
+    Var(u32),
+}
+
+/// What the values of a choice do in place of a statement that is relaxed. They are those that fit the statement, as in a run of the
+/// program.
+#[derive(Clone, Copy, Debug, PartialEq, Eq)]
+pub enum Take {
+    /// One value of the type: the variable has it.
+    Value { to: u32, t: CType },
+    /// 0 or 1: the variable has it.
+    Truth { to: u32 },
+    /// An index in the array, and a value of its type: that element has it.
+    Cell { array: u32 },
+    /// One value of its type for each element of the array.
+    Cells { array: u32 },
+    /// No value: nothing happens.
+    Nothing,
+}
+
+/// A step of a program without calls. Variables and arrays are named by their numbers, from 0; `stmt` is the statement of the program at
+/// which a run ends that the node ends.
+#[derive(Drop)]
+pub enum Node {
+    /// The variable `to` has the value of `from`.
+    Set {
+        to: u32,
+        from: Operand,
+    },
+    /// A unary operator that works in the type `t`, which is `I32` or `U32` (C90 6.3.3.3).
+    Unary {
+        to: u32,
+        op: UnOp,
+        t: CType,
+        a: Operand,
+    },
+    /// A binary operator that works in the type `t`, which is `I32` or `U32` (C90 6.3.5 to 6.3.12). It traps on a zero divisor.
+    Binary {
+        to: u32,
+        op: BinOp,
+        t: CType,
+        a: Operand,
+        b: Operand,
+        stmt: StmtId,
+    },
+    /// A conversion to the type `t` (C90 6.2.1).
+    Convert {
+        to: u32,
+        t: CType,
+        a: Operand,
+    },
+    /// The variable `to` has the element at the index. It traps on an index outside the array.
+    Load {
+        to: u32,
+        array: u32,
+        index: Operand,
+        stmt: StmtId,
+    },
+    /// The element at the index has the value. It traps on an index outside the array.
+    Save {
+        array: u32,
+        index: Operand,
+        value: Operand,
+        stmt: StmtId,
+    },
+    /// All elements of the array have these values, one for each.
+    Fill {
+        array: u32,
+        values: Vec<Operand>,
+    },
+    /// An execution of a statement that may be relaxed. Where the place is, it uses up a choice: Keep runs `keep`, and the values of Take
+    /// do what `take` says. Where it isn't, `keep` runs. In the place, a turn of number 0 stands for the present turn of the loop.
+    Pick {
+        place: Place,
+        take: Take,
+        keep: Vec<Node>,
+    },
+    /// The one or the other, the first where the value isn't 0.
+    If {
+        when: Operand,
+        yes: Vec<Node>,
+        no: Vec<Node>,
+    },
+    /// The nodes of the body, which a `Leave` of the label can end.
+    Block {
+        label: u32,
+        body: Vec<Node>,
+    },
+    /// Ends the innermost block around it that has this label.
+    Leave {
+        label: u32,
+    },
+    /// A loop: `head`, and where `when` isn't 0 then, `body`, `step` and again. Where `after` is true no `head` comes before the first
+    /// turn, as in a `do`. `stmt` is its condition, at which a run ends whose bound on turns it would pass.
+    Loop {
+        after: bool,
+        head: Vec<Node>,
+        when: Operand,
+        body: Vec<Node>,
+        step: Vec<Node>,
+        stmt: StmtId,
+    },
+    /// An assertion, which fails where its value is 0.
+    Assert {
+        when: Operand,
+        stmt: StmtId,
+    },
+    /// The end of a run whose bound is passed.
+    Beyond {
+        stmt: StmtId,
+    },
+}

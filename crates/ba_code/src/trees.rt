@@ -1,0 +1,49 @@
+//! Programs without calls.
+
+ghost use Rattle.std.specs.Prelude.{IsTrue};
+ghost use Rattle.ba_code.specs.Facts.{is_loop_tree, is_bound_tree};
+
+use crate::nodes::{ArrayInfo, Node, Param};
+use ba_items::Items;
+
+/// The parts of a program without calls, which may fit together or not: how many variables there are, the arrays, what the parameters
+/// of `main` are given to, in their order, and the nodes.
+#[derive(Drop)]
+pub struct Code {
+    pub vars: u32,
+    pub arrays: Items<ArrayInfo>,
+    pub params: Items<Param>,
+    pub body: Items<Node>,
+}
+
+/// A program without calls, whose parts fit together: each number in it names a variable or an array that is there, each `Leave` stands
+/// inside a block of its label, an array has 1 to 256 elements and a `Fill` one value for each, constants are in the range of `I32` or
+/// of `U32`, and operators work in one of these types.
+#[derive(Drop)]
+pub struct LoopTree {
+    pub vars: u32,
+    pub arrays: Items<ArrayInfo>,
+    pub params: Items<Param>,
+    pub body: Items<Node>,
+    pub ghost fit: { IsTrue (is_loop_tree (record {
+      vars = vars;
+      arrays = arrays;
+      params = params;
+      body = body;
+    })) },
+}
+
+/// A program without calls and loops: what a [`LoopTree`] keeps holds of it, it has no `Loop`, and turns in its places are counted from 1.
+#[derive(Drop)]
+pub struct BoundTree {
+    pub vars: u32,
+    pub arrays: Items<ArrayInfo>,
+    pub params: Items<Param>,
+    pub body: Items<Node>,
+    pub ghost fit: { IsTrue (is_bound_tree (record {
+      vars = vars;
+      arrays = arrays;
+      params = params;
+      body = body;
+    })) },
+}
