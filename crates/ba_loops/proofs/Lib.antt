@@ -1,0 +1,9 @@
+mod Paths
+mod Heights
+mod Forms
+mod Adding
+mod Leaves
+mod Branches
+mod Rounds
+mod Rows
+mod Trees
