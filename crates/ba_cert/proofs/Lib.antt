@@ -7,4 +7,5 @@ pub mod PlainLaws
 pub mod StepLaws
 pub mod LineLaws
 pub mod CertificateLaws
+pub mod PrefixLaws
 pub mod SinkLaws

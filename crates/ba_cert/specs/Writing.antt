@@ -1,10 +1,10 @@
 -- A certificate that is written to a file of a world, which may tell what it keeps under the file's name.
 
-use Rattle.std.specs.Prelude.{◌≡◌, ℕ, Bool, true, false, ◌&&◌, is_some, Option, None, Some, option_and_then, List, bytes_eq, IfSome}
+use Rattle.std.specs.Prelude.{◌≡◌, ℕ, Bool, true, false, ◌&&◌, is_some, Option, None, Some, option_and_then, List, take, bytes_eq, IfSome}
 use Rattle.ba_steps.specs.declared.sink.SinkError.{SinkError}
 use Rattle.ba_steps.specs.declared.sink.SinkError.TheVariants as sink
 use Rattle.ba_steps.specs.declared.step.CertStep.{CertStep}
-use Rattle.ba_world.specs.World.{Appends, OnlyWrites, Outside, StaysBut}
+use Rattle.ba_world.specs.World.{Appends, AppendsPrefix, OnlyWrites, Outside, StaysBut}
 use Rattle.ba_world.specs.declared.world.WorldError.{WorldError}
 use Rattle.ba_world.specs.declared.world.WorldError.TheVariants as world
 use Rattle.ba_cert.specs.Certificates.{steps_from}
@@ -28,6 +28,17 @@ Holds name text outside = IfSome (outside.kept name) (λ bytes. bytes ≡ text)
 
 abbrev pub AppendsTo : List ℕ → List ℕ → Outside → Outside → Type 0
 AppendsTo name text old new = Appends (old.kept name) (new.kept name) text
+
+-- some first bytes of it were
+abbrev pub AppendsPrefixTo : List ℕ → List ℕ → Outside → Outside → Type 0
+AppendsPrefixTo name text old new = AppendsPrefix (old.kept name) (new.kept name) text
+
+-- the first bytes of a text; and the file of this name holds those of this one, where it is told
+abbrev pub IsPrefix : List ℕ → List ℕ → Type 0
+IsPrefix bytes text = (count : ℕ) × (bytes ≡ take count text)
+
+abbrev pub HoldsPrefix : List ℕ → List ℕ → Outside → Type 0
+HoldsPrefix name text outside = IfSome (outside.kept name) (λ bytes. IsPrefix bytes text)
 
 -- the file being written has this name; the second also where its name isn't told
 abbrev pub is_named : List ℕ → Option (List ℕ) → Bool

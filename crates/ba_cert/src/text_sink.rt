@@ -5,7 +5,7 @@ ghost use Rattle.ba_world.specs.World.{HasWriteFault};
 ghost use Rattle.ba_steps.specs.Steps.{IsFormed};
 ghost use Rattle.ba_steps.specs.Sinks.{MayAdd, with_told};
 ghost use Rattle.ba_cert.specs.Text.{line_of, text_of, with_feed};
-ghost use Rattle.ba_cert.specs.Writing.{AppendsTo, Holds, OnlyWritesTo, is_sound, sink_error, steps_at};
+ghost use Rattle.ba_cert.specs.Writing.{AppendsPrefixTo, AppendsTo, Holds, HoldsPrefix, OnlyWritesTo, is_sound, sink_error, steps_at};
 
 use crate::writer::{groups_have_32_bits, head_text, step_text};
 use ba_lits::{Formula, Lit};
@@ -26,12 +26,14 @@ fn sink_error(error: WorldError) -> SinkError
 /// certificate.
 ///
 /// `Failed` comes only where the world's faults of writing rose in this call, and the other error
-/// is want of memory. What was written until then stays.
+/// is want of memory. A file that was begun then holds a prefix of the head line.
 pub fn begin_text<W: World>(world: &mut W, name: &str) -> Result<(), SinkError>
     ensures sound { OnOk result (is_sound true name.now (W.outside world.new) ≡ true) }
     ensures head { OnOk result (Holds name.now (text_of []) (W.outside world.new)) }
     ensures no_step { OnOk result (steps_at name.now (W.outside world.new)
         ≡ option_map (λ _. []) ((W.outside world.new).kept name.now)) }
+    ensures prefix { (W.outside world.new).is_writing ≡ true
+        → HoldsPrefix name.now (text_of []) (W.outside world.new) }
     ensures cause { result ≡ Err SinkError.Failed
         → HasWriteFault (W.outside world.old) (W.outside world.new) }
     ensures stays { OnlyWritesTo name.now (W.outside world.old) (W.outside world.new) }
@@ -58,6 +60,8 @@ fn add_line<W: World>(
     ensures still { is_sound false name.now (W.outside world.new) ≡ true }
     ensures added { OnOk result (AppendsTo name.now (with_feed (line_of step.now))
         (W.outside world.old) (W.outside world.new)) }
+    ensures prefix { AppendsPrefixTo name.now (with_feed (line_of step.now))
+        (W.outside world.old) (W.outside world.new) }
     ensures told { OnOk result (steps_at name.now (W.outside world.new)
         ≡ with_told step.now (steps_at name.now (W.outside world.old))) }
     ensures refused { OnErr result (MayAdd step.now
@@ -77,7 +81,7 @@ fn add_line<W: World>(
 /// Writes the certificate of these steps under a name, in place of a file that is there.
 ///
 /// `Failed` comes only where the world's faults of writing rose in this call, and the other error
-/// is want of memory. What was written until then stays.
+/// is want of memory. A file that was begun then holds a prefix of the certificate.
 pub fn write_text<W: World>(
     alloc: Global,
     world: &mut W,
@@ -86,6 +90,8 @@ pub fn write_text<W: World>(
 ) -> Result<(), SinkError>
     requires { All IsFormed steps.now }
     ensures whole { OnOk result (Holds name.now (text_of steps.now) (W.outside world.new)) }
+    ensures prefix { (W.outside world.new).is_writing ≡ true
+        → HoldsPrefix name.now (text_of steps.now) (W.outside world.new) }
     ensures cause { result ≡ Err SinkError.Failed
         → HasWriteFault (W.outside world.old) (W.outside world.new) }
     ensures stays { OnlyWritesTo name.now (W.outside world.old) (W.outside world.new) }

@@ -1,6 +1,7 @@
 use Rattle.std.proofs.Common.{◌≡◌, true, false, sym, ◌∙◌}
 use Rattle.ba_cert.specs.Text.{HasLine, line_of, with_feed}
 use Rattle.ba_cert.proofs.SinkLaws.{followed-sound, writes-sound, others-stay, appended, prefixed, sound-is, sound-same, sound-still, added-sound, added-told, partly-sound, partly-may}
+use Rattle.ba_cert.proofs.PrefixLaws.{no-bytes}
 use Rattle.ba_cert.proofs.text_sink.add_line.Goals as goal
 
 pub returns-in_err-line-clause-still : goal.returns-in_err-line-clause-still
@@ -127,3 +128,30 @@ returns-clause-added g c =
     let is = c.as_slice.ensures.value ∙ c.in_ok-line.ensures in
     appended name old.writing old.kept new.kept c.as_slice.result.now
     (with_feed (line_of step)) follows is c.in_default.ensures.added c.add.ensures.others.kept
+
+pub returns-in_err-line-clause-prefix : goal.returns-in_err-line-clause-prefix
+returns-in_err-line-clause-prefix g c = (0, no-bytes ((g.W.World.outside c.args.world.now).kept c.args.name.now))
+
+pub returns-in-Err-clause-prefix : goal.returns-in-Err-clause-prefix
+returns-in-Err-clause-prefix g c =
+    let line = with_feed (line_of c.args.step.now) in
+    let name = c.args.name.now in
+    let old = g.W.World.outside c.args.world.now in
+    let new = g.W.World.outside c.add.new.self in
+    let is : c.as_slice.result.now ≡ line = c.as_slice.ensures.value ∙ c.in_ok-line.ensures in
+    let sound = sym (sound-is true name old) ∙ c.requires.sound in
+    let follows = followed-sound true name old.is_writing old.writing (old.kept name) sound in
+    prefixed name old.writing old.kept new.kept c.as_slice.result.now line follows is
+    c.add.ensures.prefix c.add.ensures.others.kept
+
+pub returns-clause-prefix : goal.returns-clause-prefix
+returns-clause-prefix g c =
+    let line = with_feed (line_of c.args.step.now) in
+    let name = c.args.name.now in
+    let old = g.W.World.outside c.args.world.now in
+    let new = g.W.World.outside c.add.new.self in
+    let is : c.as_slice.result.now ≡ line = c.as_slice.ensures.value ∙ c.in_ok-line.ensures in
+    let sound = sym (sound-is true name old) ∙ c.requires.sound in
+    let follows = followed-sound true name old.is_writing old.writing (old.kept name) sound in
+    prefixed name old.writing old.kept new.kept c.as_slice.result.now line follows is
+    c.add.ensures.prefix c.add.ensures.others.kept

@@ -1,0 +1,88 @@
+-- A file that holds the first bytes of a certificate.
+
+use Rattle.std.proofs.Common.{◌≡◌, ℕ, zero, suc, ◌+◌, ◌<◌, Option, None, Some, option_map, List, [], ◌∷◌, ◌++◌, length, take, drop, get_or, flat_map, IfSome, refl, sym, ap, ◌∙◌, subst, append_assoc, append-nil, ◌≤◌, arith}
+use Rattle.std.proofs.lemmas.Grind.{flat_map-append}
+use Rattle.std.proofs.lemmas.List.{take_all, take_more, take-append-drop}
+use Rattle.ba_steps.specs.declared.step.CertStep.{CertStep}
+use Rattle.ba_world.specs.World.{AppendsPrefix}
+use Rattle.ba_cert.specs.Text.{line_of, with_feed, head_line, text_of}
+use Rattle.ba_cert.specs.Writing.{IsPrefix}
+use Rattle.ba_cert.proofs.CertificateLaws.{text-push}
+
+-- the first bytes of a text are the first of a longer one
+pub front-of : (count : ℕ) (a b : List ℕ) → IsPrefix (take count a) (a ++ b)
+front-of zero a b = (0, refl)
+front-of (suc n) [] b = (0, refl)
+front-of (suc n) (x ∷ a) b = let r = front-of n a b in (suc r.0, ap (λ r. x ∷ r) r.1)
+
+-- and so are a text and the first bytes of what follows it
+pub front-behind : (a b c : List ℕ) (count : ℕ) → IsPrefix (a ++ take count b) (a ++ (b ++ c))
+front-behind [] b c count = front-of count b c
+front-behind (x ∷ a) b c count = let r = front-behind a b c count in (suc r.0, ap (λ r. x ∷ r) r.1)
+
+lines_after : List CertStep → List ℕ
+lines_after steps = flat_map (λ (s : CertStep). with_feed (line_of s)) steps
+
+-- the text of steps up to one of them, its line, and the lines of the others
+text-at : (steps : List CertStep) (i : ℕ) (step : CertStep) → i < length steps → step ≡ get_or steps i step
+    → text_of steps ≡ text_of (take i steps) ++ (with_feed (line_of step) ++ lines_after (drop (i + 1) steps))
+unfolding lines_after
+text-at steps i step within is =
+    let front : take (i + 1) steps ≡ take i steps ++ step ∷ [] =
+    take_more steps i step within ∙ ap (λ s. take i steps ++ s ∷ []) (sym is) in
+    ap text_of (sym (take-append-drop (i + 1) steps))
+    ∙ ap (λ lines. with_feed head_line ++ lines)
+    (flat_map-append (λ (s : CertStep). with_feed (line_of s)) (take (i + 1) steps) (drop (i + 1) steps))
+    ∙ sym (append_assoc (with_feed head_line) (lines_after (take (i + 1) steps)) (lines_after (drop (i + 1) steps)))
+    ∙ ap (λ text. text ++ lines_after (drop (i + 1) steps))
+    (ap text_of front ∙ text-push (take i steps) step)
+    ∙ append_assoc (text_of (take i steps)) (with_feed (line_of step)) (lines_after (drop (i + 1) steps))
+
+-- after the first bytes of the head line
+pub begun-prefix : (old new : Option (List ℕ)) → IfSome old (λ bytes. bytes ≡ [])
+    → AppendsPrefix old new (with_feed head_line) → IfSome new (λ bytes. IsPrefix bytes (text_of []))
+begun-prefix None new empty prefix =
+    subst (λ kept. IfSome kept (λ bytes. IsPrefix bytes (text_of []))) (sym prefix.1) tt
+begun-prefix (Some bytes) new empty prefix =
+    let front = front-of prefix.0 (with_feed head_line) [] in
+    subst (λ kept. IfSome kept (λ bytes. IsPrefix bytes (text_of []))) (sym prefix.1)
+    (front.0, ap (λ b. b ++ take prefix.0 (with_feed head_line)) empty ∙ front.1)
+
+-- after the first bytes of the line of the next step
+pub added-prefix : (steps : List CertStep) (i : ℕ) (step : CertStep) (old new : Option (List ℕ))
+    → i < length steps → step ≡ get_or steps i step → IfSome old (λ bytes. bytes ≡ text_of (take i steps))
+    → AppendsPrefix old new (with_feed (line_of step)) → IfSome new (λ bytes. IsPrefix bytes (text_of steps))
+added-prefix steps i step None new within is held prefix =
+    subst (λ kept. IfSome kept (λ bytes. IsPrefix bytes (text_of steps))) (sym prefix.1) tt
+added-prefix steps i step (Some bytes) new within is held prefix =
+    let front = front-behind (text_of (take i steps)) (with_feed (line_of step))
+    (lines_after (drop (i + 1) steps)) prefix.0 in
+    subst (λ kept. IfSome kept (λ bytes. IsPrefix bytes (text_of steps))) (sym prefix.1) (
+      front.0,
+      ap (λ b. b ++ take prefix.0 (with_feed (line_of step))) held ∙ front.1
+          ∙ ap (take front.0) (sym (text-at steps i step within is)),
+    )
+
+-- the first bytes of the text of no step are the first of each
+pub head-prefix : (steps : List CertStep) (kept : Option (List ℕ))
+    → IfSome kept (λ bytes. IsPrefix bytes (text_of [])) → IfSome kept (λ bytes. IsPrefix bytes (text_of steps))
+unfolding lines_after
+head-prefix steps None held = tt
+head-prefix steps (Some bytes) held =
+    let front = front-of held.0 (with_feed head_line) (lines_after steps) in
+    (front.0, held.1 ∙ ap (take held.0) (append-nil (with_feed head_line)) ∙ front.1)
+
+-- without bytes a file is as before
+pub no-bytes : (kept : Option (List ℕ)) → kept ≡ option_map (λ text. text ++ []) kept
+no-bytes None = refl
+no-bytes (Some bytes) = ap (λ b. Some b) (sym (append-nil bytes))
+
+-- a whole text is some first bytes of it
+pub whole-prefix : (kept : Option (List ℕ)) (steps : List CertStep) (i : ℕ) → length steps ≤ i
+    → IfSome kept (λ bytes. bytes ≡ text_of (take i steps)) → IfSome kept (λ bytes. IsPrefix bytes (text_of steps))
+whole-prefix None steps i all held = tt
+whole-prefix (Some bytes) steps i all held = (
+  length (text_of steps),
+  held ∙ ap text_of (take_all i steps all)
+      ∙ sym (take_all (length (text_of steps)) (text_of steps) (omega arith)),
+)
