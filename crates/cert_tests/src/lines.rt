@@ -19,7 +19,11 @@ struct Plain {
 
 fn signed(lit: Lit) -> i64 {
     let variable = lit.variable() as i64;
-    if lit.is_negated() { -variable } else { variable }
+    if lit.is_negated() {
+        -variable
+    } else {
+        variable
+    }
 }
 
 fn signed_all(alloc: Global, lits: &[Lit]) -> Result<Vec<i64>, AllocError> {
@@ -86,7 +90,7 @@ fn list(alloc: Global, kind: &'static str, numbers: &[u64]) -> Result<Plain, All
     })
 }
 
-fn plain(alloc: Global, step: &CertStep) -> Result<Plain, AllocError> {
+fn plain_of(alloc: Global, step: &CertStep) -> Result<Plain, AllocError> {
     match step {
         CertStep::Learn { lits, hints } => {
             clause(alloc, "learn", lits.as_slice(), hints.as_slice())
@@ -146,7 +150,7 @@ fn compare(
     second: &[i64],
 ) -> Result<(), Fail> {
     let step = read_line(alloc, line.as_bytes())?;
-    let read = plain(alloc, &step)?;
+    let read = plain_of(alloc, &step)?;
     let text = step_text(alloc, &step)?;
     assert_eq!(rt; read.kind, kind, "at {line}");
     assert_eq!(rt; read.first.as_slice(), first, "at {line}");
