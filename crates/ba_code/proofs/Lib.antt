@@ -1,5 +1,5 @@
 pub mod Equations
 pub mod Rows
-mod Ranges
+pub mod Ranges
 mod Agreeing
 pub mod Typed

@@ -108,7 +108,7 @@ binary-in op t a b z found = binary-by op t a b (compares op) refl z found
 
 -- ELEMENTS
 
-all-zero : (t : CType) (n : ℕ) → list_all (is_in t) (replicate n (pos 0)) ≡ true
+pub all-zero : (t : CType) (n : ℕ) → list_all (is_in t) (replicate n (pos 0)) ≡ true
 all-zero t zero = refl
 all-zero t (suc n) = and_from (is_in t (pos 0)) (list_all (is_in t) (replicate n (pos 0))) (zero-in t) (all-zero t n)
 

@@ -4,5 +4,6 @@
 //! the words of the runs of programs (`ba_tree`), and what each tree keeps.
 #![tactic(auto)]
 
+pub mod fitting;
 pub mod nodes;
 pub mod trees;
