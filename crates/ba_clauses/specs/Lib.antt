@@ -1,0 +1,4 @@
+pub mod Encodings
+pub mod Clauses
+pub mod Uses
+pub mod Sides
