@@ -15,12 +15,12 @@ use Rattle.ba_tree.specs.declared.tree.StmtKind.{StmtKind}
 use Rattle.ba_tree.specs.declared.tree.StmtKind.TheVariants as kind
 use Rattle.ba_types.specs.Declarations.{Added, Before, behind, Part, in_order, faults_added, next_stmt, whole_faults}
 use Rattle.ba_types.specs.Declarations as add
-use Rattle.ba_types.specs.Expressions.{Seen, Sight, see_name, see_element, see_value, tree_as, promoted, variable_type, element_type, array_of}
+use Rattle.ba_types.specs.Expressions.{Typed, Typing, typed_name, typed_element, typed_value, tree_as, promoted, variable_type, element_type, array_of}
 use Rattle.ba_types.specs.Faults.{fault_if, limit_faults, statement_limit, height_limit, value_name_faults, array_name_faults}
 use Rattle.ba_types.specs.Names.{Scope, meaning_of, is_array_entry}
 use Rattle.ba_types.specs.declared.scopes.Meaning.{Meaning}
 use Rattle.ba_types.specs.declared.scopes.Meaning.TheVariants as meaning
-use Rattle.ba_types.specs.Statements.{var_of, see_target, index_faults, changed, assigned_tree, kind_of_target}
+use Rattle.ba_types.specs.Statements.{var_of, typed_target, index_faults, changed, assigned_tree, kind_of_target}
 use Rattle.ba_types.specs.Trees.{ExprTree, ArgTree, StmtTree}
 use Rattle.ba_types.specs.Trees as tree
 use Rattle.ba_types.specs.declared.fault.Cause.TheVariants.{WrongKind, CallInIndex}
@@ -28,37 +28,38 @@ use Rattle.ba_types.specs.declared.fault.Fault.{Fault}
 use Rattle.ba_types.proofs.AdditionFacts.{InScope, IsPiece, PieceAt, all_facts_of}
 use Rattle.ba_types.proofs.FittingFacts.{calls_of, nil_left, nil_right}
 use Rattle.ba_types.proofs.LeafFacts.{AreWhole, within, kind_is, leaf_are}
-use Rattle.ba_types.proofs.PrimaryFacts.{IsSight, not_so, name_seen, element_seen}
+use Rattle.ba_types.proofs.PrimaryFacts.{IsWellTyping, not_so, name_typed, element_typed}
 use Rattle.ba_types.proofs.ScopeFacts.{IsMeaning, meaning_is, value_is, array_is, type_is}
 use Rattle.ba_types.proofs.SequenceFacts.{AreStmts, naming_are}
 use Rattle.ba_types.proofs.TreeFacts.{facts_of}
-use Rattle.ba_types.proofs.OperatorFacts.{IsSeen, as_typed, value_seen, promoted_is, same_type-of}
+use Rattle.ba_types.proofs.OperatorFacts.{IsWellTyped, as_typed, value_typed, promoted_is, same_type-of}
 
 module _ (p : Parts) (owned : List VarId) (f : Function) (inside : Bool) where
   -- TREES
 
-  module _ {in_loop : Bool} (n : Before) (v : VarId) (t : CType) (w : Seen)
+  module _ {in_loop : Bool} (n : Before) (v : VarId) (t : CType) (w : Typed)
       (is_owned : has_variable owned v ≡ true) (typed : type_at p v ≡ t) where
-    assign_are : IsSeen p owned n.calls w → AreWhole (w ∷ []) → is_value p v ≡ true
+    assign_are : IsWellTyped p owned n.calls w → AreWhole (w ∷ []) → is_value p v ≡ true
         → has_kind p (next_stmt n, kind.Assignment) ≡ true
         → AreStmts p owned n.statements 1 n.calls (calls_of (w ∷ [])) in_loop
         (all_facts_of p f (tree.assign (next_stmt n) v (tree_as t w) ∷ []))
-    assign_are seen whole is_one is_kind =
-        let x = as_typed p owned w t (seen.right whole.are_clean.0) in
+    assign_are expression whole is_one is_kind =
+        let x = as_typed p owned w t (expression.right whole.are_clean.0) in
         let xs = facts_of p (tree_as t w) ∷ [] in
         let meets = is_value p v && fits_type (type_at p v) (facts_of p (tree_as t w)) in
         naming_are p owned v (leaf_facts (numbered (next_stmt n) kind.Assignment) xs meets) is_owned
         (leaf_are p owned n kind.Assignment (w ∷ []) xs meets (x.fits, tt) whole.are_low
         (and_from _ _ is_one (same_type-of (x.typed ∙ sym typed))) is_kind)
 
-    store_are : (i : Seen) → IsSeen p owned n.calls i → IsSeen p owned (n.calls + i.calls) w → AreWhole
+    store_are : (i : Typed) → IsWellTyped p owned n.calls i → IsWellTyped p owned (n.calls + i.calls) w →
+        AreWhole
         (i ∷ w ∷ [])
         → is_array p v ≡ true → has_kind p (next_stmt n, kind.Store) ≡ true
         → AreStmts p owned n.statements 1 n.calls (calls_of (i ∷ w ∷ [])) in_loop
         (all_facts_of p f (tree.store (next_stmt n) v (tree_as (promoted i.t) i) (tree_as t w) ∷ []))
-    store_are i index seen whole is_one is_kind =
+    store_are i index expression whole is_one is_kind =
         let y = as_typed p owned i (promoted i.t) (index.right whole.are_clean.0) in
-        let x = as_typed p owned w t (seen.right whole.are_clean.1.0) in
+        let x = as_typed p owned w t (expression.right whole.are_clean.1.0) in
         let xs = facts_of p (tree_as (promoted i.t) i) ∷ facts_of p (tree_as t w) ∷ [] in
         let meets = is_array p v && is_promoted (facts_of p (tree_as (promoted i.t) i)).t
         && fits_type (type_at p v) (facts_of p (tree_as t w)) in
@@ -109,20 +110,20 @@ module _ (p : Parts) (owned : List VarId) (f : Function) (inside : Bool) where
   -- ASSIGNMENTS
 
   -- what is assigned: the value, or an operator over the target and the value
-  changed_seen : (before : ℕ) (op : Option BinOp) (target e : Seen) → IsSeen p owned before target
-      → IsSeen p owned (before + target.calls) e → target.calls ≡ 0 → IsSeen p owned before
+  changed_typed : (before : ℕ) (op : Option BinOp) (target e : Typed) → IsWellTyped p owned before target
+      → IsWellTyped p owned (before + target.calls) e → target.calls ≡ 0 → IsWellTyped p owned before
       (changed op target e)
-  changed_seen before None target e h k none =
-      subst (λ b. IsSeen p owned b e) (let same : before + target.calls ≡ before = omega
+  changed_typed before None target e h k none =
+      subst (λ b. IsWellTyped p owned b e) (let same : before + target.calls ≡ before = omega
       (arith, none) in same) k
-  changed_seen before (Some op) target e h k none = value_seen p owned before target e h k op
+  changed_typed before (Some op) target e h k none = value_typed p owned before target e h k op
 
-  changed_clean : (op : Option BinOp) (target e : Seen) → target.faults ≡ [] → e.faults ≡ []
+  changed_clean : (op : Option BinOp) (target e : Typed) → target.faults ≡ [] → e.faults ≡ []
       → (changed op target e).faults ≡ []
   changed_clean None target e h k = k
   changed_clean (Some op) target e h k = ap (λ fs. fs ++ (e.faults ++ [])) h ∙ ap (λ fs. fs ++ []) k
 
-  changed_calls : (op : Option BinOp) (target e : Seen) → target.calls ≡ 0
+  changed_calls : (op : Option BinOp) (target e : Typed) → target.calls ≡ 0
       → 0 + (changed op target e).calls ≡ target.calls + e.calls
   changed_calls None target e none = omega (arith, none)
   changed_calls (Some op) target e none = omega arith
@@ -149,28 +150,29 @@ module _ (p : Parts) (owned : List VarId) (f : Function) (inside : Bool) where
       in_loop ss
   counted_calls {in_loop} n c d ss is = subst (λ k. AreStmts p owned n.statements 1 n.calls k in_loop ss) is
 
-  abbrev pub AreOptional : Option Sight → Type 0
+  abbrev pub AreOptional : Option Typing → Type 0
   AreOptional None = Unit {0}
-  AreOptional (Some s) = IsSight p owned s
+  AreOptional (Some s) = IsWellTyping p owned s
 
   -- an assignment to a name, or to its element
-  abbrev pub assignment : At → At → List ℕ → Option Sight → Option BinOp → Sight → Part
-  assignment at name_at name o op sight scope n =
-      let place = see_target name_at name o scope n.calls in
-      let e = sight scope (n.calls + place.seen.calls) in
-      let whole = changed op place.seen e in
+  abbrev pub assignment : At → At → List ℕ → Option Typing → Option BinOp → Typing → Part
+  assignment at name_at name o op typing scope n =
+      let place = typed_target name_at name o scope n.calls in
+      let e = typing scope (n.calls + place.expression.calls) in
+      let whole = changed op place.expression e in
       add.numbered n at (kind_of_target place.index) (assigned_tree (next_stmt n) place whole)
-      (place.seen.calls + e.calls)
-      (place.seen.faults ++ index_faults at name_at (is_some op) place.index
+      (place.expression.calls + e.calls)
+      (place.expression.faults ++ index_faults at name_at (is_some op) place.index
       ++ e.faults ++ limit_faults height_limit whole.height at)
 
-  module _ (at name_at : At) (name : List ℕ) (op : Option BinOp) (sight : Sight) (is : IsSight p owned sight)
+  module _ (at name_at : At) (name : List ℕ) (op : Option BinOp) (typing : Typing) (is : IsWellTyping p
+      owned typing)
       (scope : Scope) (in_scope : InScope p owned f inside scope) (n : Before) where
-    variable_assigned : PieceAt p owned f inside (assignment at name_at name None op sight) scope n
+    variable_assigned : PieceAt p owned f inside (assignment at name_at name None op typing) scope n
     variable_assigned stands none =
         let m = meaning_of scope name in
-        let t = see_name name_at name m in
-        let e = sight scope (n.calls + t.calls) in
+        let t = typed_name name_at name m in
+        let e = typing scope (n.calls + t.calls) in
         let whole = changed op t e in
         let limit = limit_faults statement_limit (n.statements + 1) at in
         let low = limit_faults height_limit whole.height at in
@@ -181,11 +183,11 @@ module _ (p : Parts) (owned : List VarId) (f : Function) (inside : Bool) where
         let target = variable_target name_at m meant (nil_left (value_name_faults m name_at) [] target_none)
         in
         numbered_piece n at kind.Assignment (assigned_tree (next_stmt n)
-        (see_target name_at name None scope n.calls) whole)
+        (typed_target name_at name None scope n.calls) whole)
         (t.calls + e.calls) _
         (counted_calls n (calls_of (whole ∷ [])) (t.calls + e.calls) _ (changed_calls op t e refl)
         (assign_are n (var_of m) (variable_type m) whole target.is_owned target.typed
-        (changed_seen n.calls op t e (name_seen p owned n.calls name_at name m meant)
+        (changed_typed n.calls op t e (name_typed p owned n.calls name_at name m meant)
         (is.by scope in_scope.sound (n.calls + t.calls)) refl)
         (record {
           are_clean = (changed_clean op t e target_none (nil_right (t.faults ++ []) e.faults before_low), tt);
@@ -197,31 +199,32 @@ module _ (p : Parts) (owned : List VarId) (f : Function) (inside : Bool) where
         none
 
     -- the second expression of an assignment to an element
-    stored_seen : (op : Option BinOp) (i target e : Seen) → IsSeen p owned n.calls target → target.calls
+    stored_typed : (op : Option BinOp) (i target e : Typed) → IsWellTyped p owned n.calls target →
+        target.calls
         ≡ i.calls
-        → IsSeen p owned (n.calls + target.calls) e → (is_some op && nat_lt 0 i.calls) ≡ false
-        → IsSeen p owned (n.calls + i.calls) (changed op target e)
-    stored_seen None i target e h same k none = subst (λ c. IsSeen p owned (n.calls + c) e) same k
-    stored_seen (Some op) i target e h same k none =
+        → IsWellTyped p owned (n.calls + target.calls) e → (is_some op && nat_lt 0 i.calls) ≡ false
+        → IsWellTyped p owned (n.calls + i.calls) (changed op target e)
+    stored_typed None i target e h same k none = subst (λ c. IsWellTyped p owned (n.calls + c) e) same k
+    stored_typed (Some op) i target e h same k none =
         let zero_calls : i.calls ≡ 0 = (let few = ltb-false 0 i.calls none in omega (arith, few)) in
-        subst (λ c. IsSeen p owned c (see_value op target e))
+        subst (λ c. IsWellTyped p owned c (typed_value op target e))
         (let place : n.calls ≡ n.calls + i.calls = omega (arith, zero_calls) in place)
-        (value_seen p owned n.calls target e h k op)
+        (value_typed p owned n.calls target e h k op)
 
-    stored_calls : (op : Option BinOp) (i target e : Seen) → target.calls ≡ i.calls
+    stored_calls : (op : Option BinOp) (i target e : Typed) → target.calls ≡ i.calls
         → (is_some op && nat_lt 0 i.calls) ≡ false
         → (0 + i.calls) + (changed op target e).calls ≡ target.calls + e.calls
     stored_calls None i target e same none = omega (arith, same)
     stored_calls (Some op) i target e same none = let few = ltb-false 0 i.calls none in omega
         (arith, same, few)
 
-    element_assigned : (s : Sight) → IsSight p owned s
-        → PieceAt p owned f inside (assignment at name_at name (Some s) op sight) scope n
+    element_assigned : (s : Typing) → IsWellTyping p owned s
+        → PieceAt p owned f inside (assignment at name_at name (Some s) op typing) scope n
     element_assigned s index_is stands none =
         let m = meaning_of scope name in
         let i = s scope n.calls in
-        let t = see_element name_at m i in
-        let e = sight scope (n.calls + t.calls) in
+        let t = typed_element name_at m i in
+        let e = typing scope (n.calls + t.calls) in
         let whole = changed op t e in
         let limit = limit_faults statement_limit (n.statements + 1) at in
         let low = limit_faults height_limit whole.height at in
@@ -235,17 +238,17 @@ module _ (p : Parts) (owned : List VarId) (f : Function) (inside : Bool) where
         let no_call = not_so (is_some op && nat_lt 0 i.calls) CallInIndex name_at
         (nil_right index_low call_in index_none) in
         let meant = meaning_is p owned scope in_scope.sound name in
-        let index_seen = index_is.by scope in_scope.sound n.calls in
+        let index_typed = index_is.by scope in_scope.sound n.calls in
         let target = array_target name_at m meant (nil_left (array_name_faults m name_at)
         (i.faults ++ []) target_none) in
         let same : t.calls ≡ i.calls = omega arith in
-        numbered_piece n at kind.Store (assigned_tree (next_stmt n) (see_target name_at name
+        numbered_piece n at kind.Store (assigned_tree (next_stmt n) (typed_target name_at name
         (Some s) scope n.calls) whole)
         (t.calls + e.calls) _
         (counted_calls n (calls_of (i ∷ whole ∷ [])) (t.calls + e.calls) _
         (stored_calls op i t e same no_call)
-        (store_are n (array_of m) (element_type m) whole target.is_owned target.typed i index_seen
-        (stored_seen op i t e (element_seen p owned n.calls name_at m i meant index_seen) same
+        (store_are n (array_of m) (element_type m) whole target.is_owned target.typed i index_typed
+        (stored_typed op i t e (element_typed p owned n.calls name_at m i meant index_typed) same
         (is.by scope in_scope.sound (n.calls + t.calls)) no_call)
         (record {
           are_clean = (
@@ -268,7 +271,7 @@ module _ (p : Parts) (owned : List VarId) (f : Function) (inside : Bool) where
         }) target.shaped (kind_is p owned n at kind.Store stands.1)))
         none
 
-    pub assigned : (o : Option Sight) → AreOptional o → PieceAt p owned f inside
-        (assignment at name_at name o op sight) scope n
+    pub assigned : (o : Option Typing) → AreOptional o → PieceAt p owned f inside
+        (assignment at name_at name o op typing) scope n
     assigned None h = variable_assigned
     assigned (Some s) h = element_assigned s h

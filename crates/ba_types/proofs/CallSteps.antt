@@ -7,7 +7,7 @@ use Rattle.ba_tree.specs.declared.tree.Stmt as code
 use Rattle.ba_tree.specs.declared.tree.StmtKind.TheVariants as kind
 use Rattle.ba_types.specs.Adding.{Numbers, at_place, before_of, behind_part}
 use Rattle.ba_types.specs.Declarations.{calls_in, next_stmt, whole_faults}
-use Rattle.ba_types.specs.Expressions.{Sight, see_call, seen_args, trees_of_args}
+use Rattle.ba_types.specs.Expressions.{Typing, typed_call, expressions_of_args, trees_of_args}
 use Rattle.ba_types.specs.Judging.{JudgesCall, after}
 use Rattle.ba_types.specs.Names.{Scope}
 use Rattle.ba_types.specs.Statements.{add_call}
@@ -19,21 +19,26 @@ use Rattle.ba_types.specs.declared.work.Work.{Work}
 use Rattle.ba_types.proofs.Adding.{numbered-is}
 use Rattle.ba_types.proofs.StmtForms.{tree-CallStmt}
 
-pub call-is : (at : At) (name : List ℕ) (sights : List Sight) (scope : Scope) (w u : Work) (j : JudgedCall)
+pub call-is : (at : At) (name : List ℕ) (typings : List Typing) (scope : Scope) (w u : Work) (j : JudgedCall)
     (new : Tally)
     (stmt : StmtId) (olds news : List StmtTree)
-    → JudgesCall j (see_call false at name sights scope w.tally.calls)
-    → new ≡ after w.tally (1 + calls_in (seen_args (see_call false at name sights scope w.tally.calls).args))
-    ((see_call false at name sights scope w.tally.calls).faults
-    ++ flat_map (whole_faults at) (seen_args (see_call false at name sights scope w.tally.calls).args))
+    → JudgesCall j (typed_call false at name typings scope w.tally.calls)
+    → new ≡ after w.tally (1 + calls_in (expressions_of_args (typed_call false at name typings scope
+    w.tally.calls).args))
+    ((typed_call false at name typings scope w.tally.calls).faults
+    ++ flat_map (whole_faults at) (expressions_of_args (typed_call false at name typings scope
+    w.tally.calls).args))
     → Numbers at kind.Call stmt (record w { tally = new }) u
     → news ≡ olds ++ tree_of_stmt (code.CallStmt stmt j.call j.function j.args) ∷ []
-    → at_place scope u news ≡ behind_part (add_call at name sights) (at_place scope w olds)
-call-is at name sights scope w u j new stmt olds news judges counts counted pushed =
-    let c = see_call false at name sights scope w.tally.calls in let n = next_stmt (before_of w) in
-    numbered-is (add_call at name sights) scope w (record w { tally = new }) u olds news at kind.Call
-    (tree.call_stmt n c.call c.function (trees_of_args c.args)) (1 + calls_in (seen_args c.args))
-    (c.faults ++ flat_map (whole_faults at) (seen_args c.args)) refl (ap (λ t. record w { tally = t })
+    → at_place scope u news ≡ behind_part (add_call at name typings) (at_place scope w olds)
+call-is at name typings scope w u j new stmt olds news judges counts counted pushed =
+    let c = typed_call false at name typings scope w.tally.calls in let n = next_stmt (before_of w) in
+    numbered-is (add_call at name typings) scope w (record w { tally = new }) u olds news at kind.Call
+    (tree.call_stmt n c.call c.function (trees_of_args c.args)) (1 + calls_in (expressions_of_args c.args))
+    (c.faults ++ flat_map (whole_faults at) (expressions_of_args c.args)) refl (ap (λ t. record w {
+      tally =
+          t;
+    })
     counts) counted.1
     (pushed ∙ ap (λ x. olds ++ x ∷ []) (tree-CallStmt stmt j.call j.function j.args
     ∙ ap (λ n. tree.call_stmt n j.call j.function (map tree_of_arg j.args.items)) counted.0

@@ -7,7 +7,7 @@ use Rattle.ba_tree.specs.declared.tree.Function.{Function}
 use Rattle.ba_tree.specs.declared.tree.Parts.{Parts}
 use Rattle.ba_tree.specs.declared.tree.StmtKind.TheVariants as kind
 use Rattle.ba_types.specs.Declarations.{Added, nothing_added, ◌and◌, Before, behind, Part, in_order, next_stmt, whole_faults}
-use Rattle.ba_types.specs.Expressions.{Seen, Sight}
+use Rattle.ba_types.specs.Expressions.{Typed, Typing}
 use Rattle.ba_types.specs.Faults.{limit_faults, statement_limit}
 use Rattle.ba_types.specs.Names.{Scope, inner, looping}
 use Rattle.ba_types.specs.Statements.{add_test, enclosing, one_of, add_if, add_while, add_do, add_block}
@@ -16,12 +16,12 @@ use Rattle.ba_types.specs.Trees as tree
 use Rattle.ba_types.proofs.AdditionFacts.{Stands, stands_left, stands_right, InScope, in_looping, IsPiece, IsFew, few-and, few_none, PieceAt, IsPart, IsCounted, counted-and, AreParts, parts_in_order, all_facts_of}
 use Rattle.ba_types.proofs.FittingFacts.{nil_left, nil_right}
 use Rattle.ba_types.proofs.LeafFacts.{HasAt, one_whole, within, kind_is, leaf_are}
-use Rattle.ba_types.proofs.PrimaryFacts.{IsSight}
+use Rattle.ba_types.proofs.PrimaryFacts.{IsWellTyping}
 use Rattle.ba_types.proofs.SimpleFacts.{none_counted}
 use Rattle.ba_types.proofs.StatementTreeFacts.{stmt_facts_of, stmts_facts-map, condition_facts}
 use Rattle.ba_types.proofs.SequenceFacts.{AreStmts, stmts-append, told_first, around_are, block_are, loop_are}
 use Rattle.ba_types.proofs.TreeFacts.{facts_of}
-use Rattle.ba_types.proofs.OperatorFacts.{IsSeen}
+use Rattle.ba_types.proofs.OperatorFacts.{IsWellTyped}
 
 -- BEHIND two parts
 
@@ -104,7 +104,7 @@ module _ (p : Parts) (owned : List VarId) (f : Function) where
 
   -- CONDITIONS
 
-  abbrev pub condition_leaf : Before → Seen → Bool → StmtFacts
+  abbrev pub condition_leaf : Before → Typed → Bool → StmtFacts
   condition_leaf n w meets = leaf_facts (numbered (next_stmt n) kind.Condition) (facts_of p w.tree ∷ []) meets
 
   pub recount : {before calls_before : ℕ} {in_loop : Bool} {ss : List StmtFacts} (m n k l : ℕ) → m ≡ n → k ≡ l
@@ -114,16 +114,16 @@ module _ (p : Parts) (owned : List VarId) (f : Function) where
       subst (λ c. AreStmts p owned before n calls_before c in_loop ss) same_calls
       (subst (λ c. AreStmts p owned before c calls_before k in_loop ss) same h)
 
-  module _ (scope : Scope) (n : Before) (w : Seen) (none : (add_test w.first w scope n).faults ≡ []) where
-    pub condition_are : {in_loop : Bool} (meets : Bool) → meets ≡ true → IsSeen p owned n.calls w
+  module _ (scope : Scope) (n : Before) (w : Typed) (none : (add_test w.first w scope n).faults ≡ []) where
+    pub condition_are : {in_loop : Bool} (meets : Bool) → meets ≡ true → IsWellTyped p owned n.calls w
         → HasAt p.statements n.statements (add_test w.first w scope n).statements
         → AreStmts p owned n.statements 1 n.calls w.calls in_loop (condition_leaf n w meets ∷ [])
-    condition_are meets met seen stands =
+    condition_are meets met expression stands =
         let limit = limit_faults statement_limit (n.statements + 1) w.first in
         let whole = one_whole w.first w (nil_right limit (whole_faults w.first w) none) in
         recount 1 1 (0 + w.calls) w.calls refl (let e : 0 + w.calls ≡ w.calls = omega arith in e)
         (leaf_are p owned n kind.Condition (w ∷ []) (facts_of p w.tree ∷ []) meets
-        ((seen.right whole.are_clean.0).fits, tt) whole.are_low met (kind_is p owned n w.first
+        ((expression.right whole.are_clean.0).fits, tt) whole.are_low met (kind_is p owned n w.first
         kind.Condition stands))
 
     pub condition_few : IsFew n (add_test w.first w scope n)
@@ -135,7 +135,7 @@ module _ (p : Parts) (owned : List VarId) (f : Function) where
     }
 
   -- a condition and what it controls
-  controlled_are : {in_loop : Bool} (n : Before) (w : Seen) (m k : ℕ) (parts : List StmtFacts)
+  controlled_are : {in_loop : Bool} (n : Before) (w : Typed) (m k : ℕ) (parts : List StmtFacts)
       → AreStmts p owned n.statements 1 n.calls w.calls in_loop (condition_leaf n w true ∷ [])
       → AreStmts p owned (n.statements + 1) m (n.calls + w.calls) k in_loop parts
       → AreStmts p owned n.statements (1 + m) n.calls (w.calls + k) in_loop
@@ -145,7 +145,8 @@ module _ (p : Parts) (owned : List VarId) (f : Function) where
 
   -- C90 6.6.4.1
 
-  module _ (test : Sight) (test_is : IsSight p owned test) (holds : Part) (holds_is : IsStatement holds) where
+  module _ (test : Typing) (test_is : IsWellTyping p owned test) (holds : Part) (holds_is : IsStatement
+      holds) where
     if_piece : (scope : Scope) → InScope p owned f true scope → (n : Before)
         → PieceAt p owned f true (add_if test holds None) scope n
     if_piece scope in_scope n stands none =
@@ -246,80 +247,81 @@ module _ (p : Parts) (owned : List VarId) (f : Function) where
 
   -- C90 6.6.5.1, 6.6.5.2
 
-  module _ (test : Sight) (test_is : IsSight p owned test) (body : Part) (body_is : IsStatement body) where
-    while_piece : (scope : Scope) → InScope p owned f true scope → (n : Before)
-        → PieceAt p owned f true (add_while test body) scope n
-    while_piece scope in_scope n stands none =
-        let w = test scope n.calls in
-        let c = add_test w.first w scope n in
-        let a = body (looping scope) (behind n c) in
-        let c_none = nil_left c.faults a.faults none in
-        let inside = body_is.fits.piece.by (looping scope) (in_looping p owned f true scope in_scope)
-        (behind n c)
-        (stands_right p owned f true n c a stands) (nil_right c.faults a.faults none) in
-        piece_enclosing n (tree.while_loop (next_stmt n) w.tree (one_of a.stmts)) (c and a)
-        (few-and n c a (condition_few scope n w c_none) inside.few)
-        (recount (1 + length a.statements) (length (c.statements ++ a.statements)) (w.calls + a.calls)
-        (w.calls + a.calls)
-        (omega arith) refl
-        (loop_are p owned scope.in_loop _
-        (controlled_are n w (length a.statements) a.calls (stmt_facts_of p f (one_of a.stmts) ∷ [])
-        (condition_are scope n w c_none true refl (test_is.by scope in_scope.sound n.calls)
-        (stands_left p owned f true n c a stands).1)
-        (one_are a.stmts (body_is.single (looping scope) (behind n c)) inside.stmts))))
+  module _ (test : Typing) (test_is : IsWellTyping p owned test) (body : Part) (body_is : IsStatement body)
+    where
+      while_piece : (scope : Scope) → InScope p owned f true scope → (n : Before)
+          → PieceAt p owned f true (add_while test body) scope n
+      while_piece scope in_scope n stands none =
+          let w = test scope n.calls in
+          let c = add_test w.first w scope n in
+          let a = body (looping scope) (behind n c) in
+          let c_none = nil_left c.faults a.faults none in
+          let inside = body_is.fits.piece.by (looping scope) (in_looping p owned f true scope in_scope)
+          (behind n c)
+          (stands_right p owned f true n c a stands) (nil_right c.faults a.faults none) in
+          piece_enclosing n (tree.while_loop (next_stmt n) w.tree (one_of a.stmts)) (c and a)
+          (few-and n c a (condition_few scope n w c_none) inside.few)
+          (recount (1 + length a.statements) (length (c.statements ++ a.statements)) (w.calls + a.calls)
+          (w.calls + a.calls)
+          (omega arith) refl
+          (loop_are p owned scope.in_loop _
+          (controlled_are n w (length a.statements) a.calls (stmt_facts_of p f (one_of a.stmts) ∷ [])
+          (condition_are scope n w c_none true refl (test_is.by scope in_scope.sound n.calls)
+          (stands_left p owned f true n c a stands).1)
+          (one_are a.stmts (body_is.single (looping scope) (behind n c)) inside.stmts))))
 
-    while_counted : (scope : Scope) (n : Before) → (add_while test body scope n).faults ≡ []
-        → IsCounted (add_while test body scope n)
-    while_counted scope n none =
-        let w = test scope n.calls in
-        let c = add_test w.first w scope n in
-        let a = body (looping scope) (behind n c) in
-        counted_enclosing (tree.while_loop (next_stmt n) w.tree (one_of a.stmts)) (c and a)
-        (counted-and c a (none_counted p owned f true c refl refl)
-        (body_is.fits.counted (looping scope) (behind n c) (nil_right c.faults a.faults none)))
+      while_counted : (scope : Scope) (n : Before) → (add_while test body scope n).faults ≡ []
+          → IsCounted (add_while test body scope n)
+      while_counted scope n none =
+          let w = test scope n.calls in
+          let c = add_test w.first w scope n in
+          let a = body (looping scope) (behind n c) in
+          counted_enclosing (tree.while_loop (next_stmt n) w.tree (one_of a.stmts)) (c and a)
+          (counted-and c a (none_counted p owned f true c refl refl)
+          (body_is.fits.counted (looping scope) (behind n c) (nil_right c.faults a.faults none)))
 
-    pub while_part : IsStatement (add_while test body)
-    while_part = record {
-      fits = record { piece = record { by = while_piece }; counted = while_counted };
-      single = λ scope n. omega arith;
-    }
+      pub while_part : IsStatement (add_while test body)
+      while_part = record {
+        fits = record { piece = record { by = while_piece }; counted = while_counted };
+        single = λ scope n. omega arith;
+      }
 
-    do_piece : (scope : Scope) → InScope p owned f true scope → (n : Before)
-        → PieceAt p owned f true (add_do test body) scope n
-    do_piece scope in_scope n stands none =
-        let a = body (looping scope) n in
-        let w = test scope (behind n a).calls in
-        let c = add_test w.first w scope (behind n a) in
-        let c_none = nil_right a.faults c.faults none in
-        let inside = body_is.fits.piece.by (looping scope) (in_looping p owned f true scope in_scope) n
-        (stands_left p owned f true n a c stands) (nil_left a.faults c.faults none) in
-        let own = condition_leaf (behind n a) w true in
-        let part = stmt_facts_of p f (one_of a.stmts) in
-        piece_enclosing n (tree.do_while (next_stmt (behind n a)) w.tree (one_of a.stmts)) (a and c)
-        (few-and n a c inside.few (condition_few scope (behind n a) w c_none))
-        (recount (length a.statements + 1) (length (a.statements ++ c.statements)) (a.calls + w.calls)
-        (a.calls + w.calls)
-        (let e = length-append a.statements c.statements in omega (arith, e)) refl
-        (loop_are p owned scope.in_loop (around own (part ∷ []))
-        (around_are p owned own (part ∷ []) refl
-        (told_first p owned (part ∷ []) (own ∷ []) []
-        (stmts-append p owned (one_are a.stmts (body_is.single (looping scope) n) inside.stmts)
-        (condition_are scope (behind n a) w c_none true refl (test_is.by scope in_scope.sound
-        (behind n a).calls)
-        (stands_right p owned f true n a c stands).1))))))
+      do_piece : (scope : Scope) → InScope p owned f true scope → (n : Before)
+          → PieceAt p owned f true (add_do test body) scope n
+      do_piece scope in_scope n stands none =
+          let a = body (looping scope) n in
+          let w = test scope (behind n a).calls in
+          let c = add_test w.first w scope (behind n a) in
+          let c_none = nil_right a.faults c.faults none in
+          let inside = body_is.fits.piece.by (looping scope) (in_looping p owned f true scope in_scope) n
+          (stands_left p owned f true n a c stands) (nil_left a.faults c.faults none) in
+          let own = condition_leaf (behind n a) w true in
+          let part = stmt_facts_of p f (one_of a.stmts) in
+          piece_enclosing n (tree.do_while (next_stmt (behind n a)) w.tree (one_of a.stmts)) (a and c)
+          (few-and n a c inside.few (condition_few scope (behind n a) w c_none))
+          (recount (length a.statements + 1) (length (a.statements ++ c.statements)) (a.calls + w.calls)
+          (a.calls + w.calls)
+          (let e = length-append a.statements c.statements in omega (arith, e)) refl
+          (loop_are p owned scope.in_loop (around own (part ∷ []))
+          (around_are p owned own (part ∷ []) refl
+          (told_first p owned (part ∷ []) (own ∷ []) []
+          (stmts-append p owned (one_are a.stmts (body_is.single (looping scope) n) inside.stmts)
+          (condition_are scope (behind n a) w c_none true refl (test_is.by scope in_scope.sound
+          (behind n a).calls)
+          (stands_right p owned f true n a c stands).1))))))
 
-    do_counted : (scope : Scope) (n : Before) → (add_do test body scope n).faults ≡ []
-        → IsCounted (add_do test body scope n)
-    do_counted scope n none =
-        let a = body (looping scope) n in
-        let w = test scope (behind n a).calls in
-        let c = add_test w.first w scope (behind n a) in
-        counted_enclosing (tree.do_while (next_stmt (behind n a)) w.tree (one_of a.stmts)) (a and c)
-        (counted-and a c (body_is.fits.counted (looping scope) n (nil_left a.faults c.faults none))
-        (none_counted p owned f true c refl refl))
+      do_counted : (scope : Scope) (n : Before) → (add_do test body scope n).faults ≡ []
+          → IsCounted (add_do test body scope n)
+      do_counted scope n none =
+          let a = body (looping scope) n in
+          let w = test scope (behind n a).calls in
+          let c = add_test w.first w scope (behind n a) in
+          counted_enclosing (tree.do_while (next_stmt (behind n a)) w.tree (one_of a.stmts)) (a and c)
+          (counted-and a c (body_is.fits.counted (looping scope) n (nil_left a.faults c.faults none))
+          (none_counted p owned f true c refl refl))
 
-    pub do_part : IsStatement (add_do test body)
-    do_part = record {
-      fits = record { piece = record { by = do_piece }; counted = do_counted };
-      single = λ scope n. omega arith;
-    }
+      pub do_part : IsStatement (add_do test body)
+      do_part = record {
+        fits = record { piece = record { by = do_piece }; counted = do_counted };
+        single = λ scope n. omega arith;
+      }

@@ -22,7 +22,7 @@ use Rattle.ba_tree.specs.declared.tree.StmtKind.TheVariants as kind
 use Rattle.ba_types.specs.Adding.{GivesTest, Numbers, State, at_place, before_of, behind_part, with_added}
 use Rattle.ba_types.specs.Controlling.{GivesBody, GivesGuarded, GivesHead}
 use Rattle.ba_types.specs.Declarations.{Added, ◌and◌, Before, Part, add_declarators, behind, in_order, next_stmt, nothing_added}
-use Rattle.ba_types.specs.Expressions.{Sight, see_constant}
+use Rattle.ba_types.specs.Expressions.{Typing, typed_constant}
 use Rattle.ba_types.specs.Faults.{height_limit, limit_faults}
 use Rattle.ba_types.specs.Judging.{Judges, with_faults}
 use Rattle.ba_types.specs.Marks.{back_to, mark_of}
@@ -32,7 +32,7 @@ use Rattle.ba_types.specs.Statements.{
   add_do,
   add_first,
   add_for,
-  add_form,
+  add_statement_form,
   add_if,
   add_item,
   add_statement,
@@ -77,14 +77,14 @@ added-assoc w a b c = sym (with_added-both w (a and b) c)
     ∙ with_added-both (with_added w a) b c ∙ with_added-both w a (b and c)
 
 -- a condition behind so much
-abbrev TestAt : Sight → Scope → Before → Work → Work → Test → Type 0
-TestAt sight scope n old new t = let e = sight scope n.calls in
+abbrev TestAt : Typing → Scope → Before → Work → Work → Test → Type 0
+TestAt typing scope n old new t = let e = typing scope n.calls in
     (t.stmt ≡ next_stmt n) × (tree_of_expr t.when ≡ e.tree)
     × (new ≡ with_added old (add_test e.first e scope n))
 
-test-at : (sight : Sight) (scope : Scope) (n : Before) (old new : Work) (t : Test) → before_of old ≡ n
-    → GivesTest (sight scope old.tally.calls) scope old new t → TestAt sight scope n old new t
-test-at sight scope n old new t is h = subst (λ n. TestAt sight scope n old new t) is h
+test-at : (typing : Typing) (scope : Scope) (n : Before) (old new : Work) (t : Test) → before_of old ≡ n
+    → GivesTest (typing scope old.tally.calls) scope old new t → TestAt typing scope n old new t
+test-at typing scope n old new t is h = subst (λ n. TestAt typing scope n old new t) is h
 
 -- a body behind so much
 body-at : (body : Part) (scope : Scope) (n : Before) (old new : Work) (s : Stmt) → before_of old ≡ n
@@ -182,12 +182,12 @@ pub body-is : (part : Part) (scope k : Scope) (w u : Work) (stmts : List StmtTre
 body-is part scope k w u stmts s inside first =
     let made = part-at part scope k w u stmts inside in (first ∙ ap one_of made.1, made.0)
 
-pub guarded-is : (sight : Sight) (holds : Part) (scope : Scope) (w mid u : Work) (t : Test) (s : Stmt)
-    → GivesTest (sight scope w.tally.calls) scope w mid t → GivesBody (holds scope (before_of mid)) mid u s
-    → GivesGuarded sight holds scope w u (record { test = t; body = s })
-guarded-is sight holds scope w mid u t s tested held =
+pub guarded-is : (typing : Typing) (holds : Part) (scope : Scope) (w mid u : Work) (t : Test) (s : Stmt)
+    → GivesTest (typing scope w.tally.calls) scope w mid t → GivesBody (holds scope (before_of mid)) mid u s
+    → GivesGuarded typing holds scope w u (record { test = t; body = s })
+guarded-is typing holds scope w mid u t s tested held =
     let n = before_of w in
-    let e = sight scope n.calls in
+    let e = typing scope n.calls in
     let c = add_test e.first e scope n in
     let inside = body-at holds scope (behind n c) mid u s (behind-added w mid c tested.2) held in (
       tested.0,
@@ -203,16 +203,16 @@ controls-as : (typed : StmtId → ExprTree → StmtTree → StmtTree) (m n : Stm
 controls-as typed m n d e a b numbers tests bodies =
     ap (λ m. typed m d a) numbers ∙ ap (λ d. typed n d a) tests ∙ ap (typed n e) bodies
 
-module _ (sight : Sight) (holds : Part) (scope : Scope) (w mid : Work) (g : Guarded)
-    (gives : GivesGuarded sight holds scope w mid g) (olds news : List StmtTree) where
+module _ (typing : Typing) (holds : Part) (scope : Scope) (w mid : Work) (g : Guarded)
+    (gives : GivesGuarded typing holds scope w mid g) (olds news : List StmtTree) where
   pub if-adds : news ≡ olds ++ tree.if_then g.test.stmt (tree_of_expr g.test.when) (tree_of_stmt g.body) ∷ []
-      → at_place scope mid news ≡ behind_part (add_if sight holds None) (at_place scope w olds)
+      → at_place scope mid news ≡ behind_part (add_if typing holds None) (at_place scope w olds)
   if-adds pushed =
       let n = before_of w in
-      let e = sight scope n.calls in
+      let e = typing scope n.calls in
       let c = add_test e.first e scope n in
       let a = holds scope (behind n c) in
-      in-scope (add_if sight holds None)
+      in-scope (add_if typing holds None)
       (enclosing (tree.if_then (next_stmt n) e.tree (one_of a.stmts)) (c and (a and nothing_added)))
       scope w mid olds news refl refl
       (both-added w mid mid (c and a) nothing_added gives.3 (with_added-nothing mid)
@@ -223,16 +223,16 @@ module _ (sight : Sight) (holds : Part) (scope : Scope) (w mid : Work) (g : Guar
   pub if_else-adds : (fails : Part) (u : Work) (s : Stmt) → GivesBody (fails scope (before_of mid)) mid u s
       → news ≡ olds ++ tree.if_else g.test.stmt (tree_of_expr g.test.when) (tree_of_stmt g.body)
       (tree_of_stmt s) ∷ []
-      → at_place scope u news ≡ behind_part (add_if sight holds (Some fails)) (at_place scope w olds)
+      → at_place scope u news ≡ behind_part (add_if typing holds (Some fails)) (at_place scope w olds)
   if_else-adds fails u s other pushed =
       let n = before_of w in
-      let e = sight scope n.calls in
+      let e = typing scope n.calls in
       let c = add_test e.first e scope n in
       let a = holds scope (behind n c) in
       let b = fails scope (behind n (c and a)) in
       let inside = body-at fails scope (behind n (c and a)) mid u s
       (behind-added w mid (c and a) gives.3) other in
-      in-scope (add_if sight holds (Some fails))
+      in-scope (add_if typing holds (Some fails))
       (enclosing (tree.if_else (next_stmt n) e.tree (one_of a.stmts) (one_of b.stmts)) (c and (a and b)))
       scope w u olds news refl refl
       (both-added w mid u (c and a) b gives.3 inside.1 ∙ added-assoc w c a b)
@@ -243,35 +243,35 @@ module _ (sight : Sight) (holds : Part) (scope : Scope) (w mid : Work) (g : Guar
 
 -- LOOPS
 
-module _ (sight : Sight) (body : Part) (scope : Scope) (w mid u : Work) (t : Test) (s : Stmt)
+module _ (typing : Typing) (body : Part) (scope : Scope) (w mid u : Work) (t : Test) (s : Stmt)
     (olds news : List StmtTree) where
-  pub while-adds : GivesTest (sight scope w.tally.calls) scope w mid t
+  pub while-adds : GivesTest (typing scope w.tally.calls) scope w mid t
       → GivesBody (body (looping scope) (before_of mid)) mid u s
       → news ≡ olds ++ tree.while_loop t.stmt (tree_of_expr t.when) (tree_of_stmt s) ∷ []
-      → at_place scope u news ≡ behind_part (add_while sight body) (at_place scope w olds)
+      → at_place scope u news ≡ behind_part (add_while typing body) (at_place scope w olds)
   while-adds tested held pushed =
       let n = before_of w in
-      let e = sight scope n.calls in
+      let e = typing scope n.calls in
       let c = add_test e.first e scope n in
       let a = body (looping scope) (behind n c) in
       let inside = body-at body (looping scope) (behind n c) mid u s (behind-added w mid c tested.2) held in
-      in-scope (add_while sight body) (enclosing (tree.while_loop (next_stmt n) e.tree (one_of a.stmts))
+      in-scope (add_while typing body) (enclosing (tree.while_loop (next_stmt n) e.tree (one_of a.stmts))
       (c and a))
       scope w u olds news refl refl (both-added w mid u c a tested.2 inside.1)
       (pushed ∙ ap (λ x. olds ++ x ∷ []) (controls-as tree.while_loop t.stmt (next_stmt n)
       (tree_of_expr t.when) e.tree (tree_of_stmt s) (one_of a.stmts) tested.0 tested.1 inside.0))
 
   pub do-adds : GivesBody (body (looping scope) (before_of w)) w mid s
-      → GivesTest (sight scope mid.tally.calls) scope mid u t
+      → GivesTest (typing scope mid.tally.calls) scope mid u t
       → news ≡ olds ++ tree.do_while t.stmt (tree_of_expr t.when) (tree_of_stmt s) ∷ []
-      → at_place scope u news ≡ behind_part (add_do sight body) (at_place scope w olds)
+      → at_place scope u news ≡ behind_part (add_do typing body) (at_place scope w olds)
   do-adds held tested pushed =
       let n = before_of w in
       let a = body (looping scope) n in
-      let e = sight scope (behind n a).calls in
+      let e = typing scope (behind n a).calls in
       let c = add_test e.first e scope (behind n a) in
-      let behind_body = test-at sight scope (behind n a) mid u t (behind-added w mid a held.1) tested in
-      in-scope (add_do sight body)
+      let behind_body = test-at typing scope (behind n a) mid u t (behind-added w mid a held.1) tested in
+      in-scope (add_do typing body)
       (enclosing (tree.do_while (next_stmt (behind n a)) e.tree (one_of a.stmts)) (a and c))
       scope w u olds news refl refl (both-added w mid u a c held.1 behind_body.2)
       (pushed ∙ ap (λ x. olds ++ x ∷ []) (controls-as tree.do_while t.stmt (next_stmt (behind n a))
@@ -281,12 +281,12 @@ module _ (sight : Sight) (body : Part) (scope : Scope) (w mid u : Work) (t : Tes
 
 -- an absent condition
 pub absent-is : (at : At) (scope : Scope) (w u : Work) (j : Judged) (new : Tally) (stmt : StmtId)
-    → Judges j (see_constant at I32 (pos 1))
+    → Judges j (typed_constant at I32 (pos 1))
     → new ≡ with_faults w.tally (limit_faults height_limit j.height j.first)
     → Numbers j.first kind.Condition stmt (record w { tally = new }) u
     → GivesTest (one at scope w.tally.calls) scope w u (record { stmt = stmt; when = j.expr })
 absent-is at scope w u j new stmt judges more counted =
-    test-is (see_constant at I32 (pos 1)) scope w u j w.tally new stmt (judges, after-nothing w.tally) more
+    test-is (typed_constant at I32 (pos 1)) scope w u j w.tally new stmt (judges, after-nothing w.tally) more
     counted
 
 module _ (f : ForFirst) (scope : Scope) (w : Work) (stmts : List StmtTree) (new : State) where
@@ -406,12 +406,12 @@ module _ (b : BlockItem) (old new : State) where
 
 pub form-adds : (s : Statement) (f : StatementForm) (part : Part) (old new : State)
     → (out-Statement s).form ≡ f
-    → add_form f ≡ part → new ≡ behind_part part old → new ≡ behind_part (add_statement s) old
+    → add_statement_form f ≡ part → new ≡ behind_part part old → new ≡ behind_part (add_statement s) old
 form-adds s f part old new is makes adds = adds
     ∙ ap (λ (part : Part). behind_part part old) (sym (by-form s f part is makes))
 
 pub form-answers : {A E : Type 0} (r : Result A E) (s : Statement) (f : StatementForm) (part : Part)
     (old new : State)
-    → (out-Statement s).form ≡ f → add_form f ≡ part → OnOk r (new ≡ behind_part part old)
+    → (out-Statement s).form ≡ f → add_statement_form f ≡ part → OnOk r (new ≡ behind_part part old)
     → OnOk r (new ≡ behind_part (add_statement s) old)
 form-answers r s f part old new is makes answer = on_ok_weaker r (form-adds s f part old new is makes) answer

@@ -22,8 +22,8 @@ use Rattle.ba_tree.specs.declared.tree.Shape.{Shape}
 use Rattle.ba_tree.specs.declared.tree.Shape.TheVariants.{Value, Array}
 use Rattle.ba_tree.specs.declared.tree.StmtKind.TheVariants as kind
 use Rattle.ba_tree.specs.declared.tree.Variable.{Variable}
-use Rattle.ba_types.specs.Declarations.{Added, nothing_added, Before, behind, Part, ◌then◌, faults_added, next_stmt, initial_faults, add_variable, values_of, has_braces, see_each, init_tree, SeenLength, see_array_length, length_faults, add_length, shape_of, limit_of, exceeds, add_initialiser, add_optional_initialiser, add_declare, count_of_values, add_declarator, add_declarators}
-use Rattle.ba_types.specs.Expressions.{Seen, Sight, see_conditional, see_next, tree_as}
+use Rattle.ba_types.specs.Declarations.{Added, nothing_added, Before, behind, Part, ◌then◌, faults_added, next_stmt, initial_faults, add_variable, values_of, has_braces, typed_each, init_tree, TypedLength, typed_array_length, length_faults, add_length, shape_of, written_count, exceeds, add_initialiser, add_optional_initialiser, add_declare, count_of_values, add_declarator, add_declarators}
+use Rattle.ba_types.specs.Expressions.{Typed, Typing, typed_conditional, typed_next, tree_as}
 use Rattle.ba_types.specs.Faults.{fault_if, limit_faults, statement_limit, variable_limit, element_limit, void_faults}
 use Rattle.ba_types.specs.Names.{Scope, knowing, name_of}
 use Rattle.ba_types.specs.Trees.{ExprTree, StmtTree}
@@ -31,25 +31,25 @@ use Rattle.ba_types.specs.Trees as tree
 use Rattle.ba_types.specs.declared.fault.Cause.TheVariants.{WrongKind, WrongCount}
 use Rattle.ba_types.specs.declared.scopes.Signature.{Signature}
 use Rattle.ba_types.proofs.AdditionFacts.{Stands, stands_right, InScope, IsPiece, piece_none, PieceAt, HasPiece, piece_then, IsPart, IsCounted, AreParts, parts_in_order, all_facts_of, elements_of, are_own}
-use Rattle.ba_types.proofs.ExpressionFacts.{conditional_sight, next_sight}
+use Rattle.ba_types.proofs.ExpressionFacts.{conditional_typing, next_typing}
 use Rattle.ba_types.proofs.FittingFacts.{calls_of, AreFit, nil_left, nil_right}
-use Rattle.ba_types.proofs.LeafFacts.{AreWhole, all_initial, within, kind_is, AreSeen, each_seen, each_fit, leaf_are, bare_are}
-use Rattle.ba_types.proofs.PrimaryFacts.{AreSights, not_so}
+use Rattle.ba_types.proofs.LeafFacts.{AreWhole, all_initial, within, kind_is, AreWellTyped, each_typed, each_fit, leaf_are, bare_are}
+use Rattle.ba_types.proofs.PrimaryFacts.{AreWellTypings, not_so}
 use Rattle.ba_types.proofs.ScopeFacts.{IsScope}
 use Rattle.ba_types.proofs.SequenceFacts.{AreStmts, stmts_none, naming_are, initialising_are}
 use Rattle.ba_types.proofs.TreeFacts.{facts_of}
-use Rattle.ba_types.proofs.OperatorFacts.{IsSeen, as_typed, same_type-of, AreClean}
+use Rattle.ba_types.proofs.OperatorFacts.{IsWellTyped, as_typed, same_type-of, AreClean}
 use Rattle.ba_types.proofs.LengthFacts.{same_count, good_count, IsLengthOf, array_length_is, shape_range}
 
 -- a length, if there is one, that is good
-abbrev pub IsGood : Option SeenLength → Type 0
+abbrev pub IsGood : Option TypedLength → Type 0
 IsGood None = Unit {0}
 IsGood (Some l) = is_some l.count ≡ true
 
 module _ (p : Parts) (owned : List VarId) (f : Function) (inside : Bool) where
   -- THE PIECES of a declarator
 
-  length_piece : (n : Before) (at : At) (l : SeenLength) {in_loop : Bool} → (l.faults ≡ [] → is_some l.count
+  length_piece : (n : Before) (at : At) (l : TypedLength) {in_loop : Bool} → (l.faults ≡ [] → is_some l.count
       ≡ true → l.calls ≡ 0)
       → length_faults n at l.count ++ l.faults ≡ []
       → IsPiece p owned f inside in_loop n (record nothing_added {
@@ -78,7 +78,7 @@ module _ (p : Parts) (owned : List VarId) (f : Function) (inside : Bool) where
           };
         }
 
-  pub length_at : (values : Option ℕ) (at : At) (l : Option SeenLength) → IsLengthOf p owned values l →
+  pub length_at : (values : Option ℕ) (at : At) (l : Option TypedLength) → IsLengthOf p owned values l →
       (scope : Scope) (n : Before)
       → PieceAt p owned f inside (add_length at l) scope n
   length_at values at None h scope n stands none = piece_none p owned f inside n []
@@ -131,13 +131,17 @@ module _ (p : Parts) (owned : List VarId) (f : Function) (inside : Bool) where
 
   -- INITIALISERS
 
-  next_sights : (es : List NextExpression) → AreSights p owned (map see_next es)
-  next_sights [] = tt
-  next_sights (e ∷ es) = (next_sight p owned e, next_sights es)
+  next_typings : (es : List NextExpression) → AreWellTypings p owned (map typed_next es)
+  next_typings [] = tt
+  next_typings (e ∷ es) = (next_typing p owned e, next_typings es)
 
-  pub value_sights : (init : Initialiser) → AreSights p owned (values_of init)
-  value_sights (initialiser.Expression assign e) = (conditional_sight p owned e, tt)
-  value_sights (initialiser.Braced assign b) = (conditional_sight p owned b.first, next_sights b.rest.items)
+  pub value_typings : (init : Initialiser) → AreWellTypings p owned (values_of init)
+  value_typings (initialiser.Expression assign e) = (conditional_typing p owned e, tt)
+  value_typings (initialiser.Braced assign b) = (
+    conditional_typing p owned b.first,
+    next_typings
+        b.rest.items,
+  )
 
   -- the variable that is initialised is there
   pub record IsTarget (v : VarId) (t : CType) (shape : Shape) : Type 0 where
@@ -152,11 +156,11 @@ module _ (p : Parts) (owned : List VarId) (f : Function) (inside : Bool) where
       (get_or_from_slice_get p.variables v.0 (record { t = t; shape = shape }) _ h.place)
 
   -- expressions converted to a type
-  converted_fits : (t : CType) (before : ℕ) (es : List Seen) → AreSeen p owned before es → AreClean es
+  converted_fits : (t : CType) (before : ℕ) (es : List Typed) → AreWellTyped p owned before es → AreClean es
       → AreFit owned before es (map (facts_of p) (map (tree_as t) es))
   converted_fits t = each_fit p owned (tree_as t) (λ e before h. (as_typed p owned e t h).fits)
 
-  converted_types : (t u : CType) → u ≡ t → (before : ℕ) (es : List Seen) → AreSeen p owned before es
+  converted_types : (t u : CType) → u ≡ t → (before : ℕ) (es : List Typed) → AreWellTyped p owned before es
       → AreClean es
       → list_all (fits_type u) (map (facts_of p) (map (tree_as t) es)) ≡ true
   converted_types t u is before [] h none = refl
@@ -164,17 +168,17 @@ module _ (p : Parts) (owned : List VarId) (f : Function) (inside : Bool) where
       (same_type-of ((as_typed p owned e t (h.0.right none.0)).typed ∙ sym is))
       (converted_types t u is (before + e.calls) es h.1 none.1)
 
-  each_length : (scope : Scope) (calls : ℕ) (sights : List Sight) → length (see_each scope calls sights)
-      ≡ length sights
+  each_length : (scope : Scope) (calls : ℕ) (typings : List Typing) → length (typed_each scope calls typings)
+      ≡ length typings
   each_length scope calls [] = refl
   each_length scope calls (s ∷ ss) = ap suc (each_length scope (calls + (s scope calls).calls) ss)
 
-  array_init_are : {in_loop : Bool} (n : Before) (v : VarId) (t : CType) (count : ℕ) (es : List Seen)
-      → IsTarget v t (Array count) → length es ≤ count → AreSeen p owned n.calls es → AreWhole es
+  array_init_are : {in_loop : Bool} (n : Before) (v : VarId) (t : CType) (count : ℕ) (es : List Typed)
+      → IsTarget v t (Array count) → length es ≤ count → AreWellTyped p owned n.calls es → AreWhole es
       → has_kind p (next_stmt n, kind.Initialiser) ≡ true
       → AreStmts p owned n.statements 1 n.calls (calls_of es) in_loop
       (all_facts_of p f (tree.init_array (next_stmt n) v (map (tree_as t) es) ∷ []))
-  array_init_are n v t count es target few seen whole is_kind =
+  array_init_are n v t count es target few expression whole is_kind =
       let xs = map (facts_of p) (map (tree_as t) es) in
       let shape = target_shape v t (Array count) target in
       let lengths : length xs ≡ length es = length-map (map (tree_as t) es) (facts_of p) ∙ length-map es
@@ -184,20 +188,20 @@ module _ (p : Parts) (owned : List VarId) (f : Function) (inside : Bool) where
       let own = leaf_facts (numbered (next_stmt n) kind.Initialiser) xs meets in
       initialising_are p owned v own (naming_are p owned v own target.is_owned
       (leaf_are p owned n kind.Initialiser es xs meets
-      (converted_fits t n.calls es seen whole.are_clean) whole.are_low
+      (converted_fits t n.calls es expression whole.are_clean) whole.are_low
       (and_from _ _ (ap (holds is_own_array) shape) (and_from _ _
       (ap (λ s. nat_le (length xs) (own_elements (unwrap_or s Value))) shape ∙ le-leb (length xs) count room)
-      (converted_types t (type_at p v) (target_type v t (Array count) target) n.calls es seen
+      (converted_types t (type_at p v) (target_type v t (Array count) target) n.calls es expression
       whole.are_clean)))
       is_kind))
 
-  value_init_are : {in_loop : Bool} (n : Before) (v : VarId) (t : CType) (e : Seen)
-      → IsTarget v t Value → IsSeen p owned n.calls e → AreWhole (e ∷ [])
+  value_init_are : {in_loop : Bool} (n : Before) (v : VarId) (t : CType) (e : Typed)
+      → IsTarget v t Value → IsWellTyped p owned n.calls e → AreWhole (e ∷ [])
       → has_kind p (next_stmt n, kind.Initialiser) ≡ true
       → AreStmts p owned n.statements 1 n.calls (calls_of (e ∷ [])) in_loop
       (all_facts_of p f (tree.init (next_stmt n) v (tree_as t e) ∷ []))
-  value_init_are n v t e target seen whole is_kind =
-      let x = as_typed p owned e t (seen.right whole.are_clean.0) in
+  value_init_are n v t e target expression whole is_kind =
+      let x = as_typed p owned e t (expression.right whole.are_clean.0) in
       let xs = facts_of p (tree_as t e) ∷ [] in
       let meets = is_value p v && fits_type (type_at p v) (facts_of p (tree_as t e)) in
       let own = leaf_facts (numbered (next_stmt n) kind.Initialiser) xs meets in
@@ -208,42 +212,42 @@ module _ (p : Parts) (owned : List VarId) (f : Function) (inside : Bool) where
       (same_type-of (x.typed ∙ sym (target_type v t Value target)))) is_kind))
 
   -- what an initialiser adds, of a good length
-  initialiser_stmts : {in_loop : Bool} (n : Before) (at : At) (v : VarId) (t : CType) (l : Option SeenLength)
+  initialiser_stmts : {in_loop : Bool} (n : Before) (at : At) (v : VarId) (t : CType) (l : Option TypedLength)
       (init : Initialiser) (scope : Scope) → IsScope p owned scope
       → IsLengthOf p owned (Some (length (values_of init))) l → IsGood l
       → IsTarget v t (shape_of l)
       → (cond (is_some l) (not (has_braces init)) (has_braces init)) ≡ false
-      → exceeds (limit_of l) (length (see_each scope n.calls (values_of init))) ≡ false
-      → AreWhole (see_each scope n.calls (values_of init))
+      → exceeds (written_count l) (length (typed_each scope n.calls (values_of init))) ≡ false
+      → AreWhole (typed_each scope n.calls (values_of init))
       → has_kind p (next_stmt n, kind.Initialiser) ≡ true
-      → AreStmts p owned n.statements 1 n.calls (calls_of (see_each scope n.calls (values_of init))) in_loop
-      (all_facts_of p f (init_tree (next_stmt n) v t (is_some l) (see_each scope n.calls
+      → AreStmts p owned n.statements 1 n.calls (calls_of (typed_each scope n.calls (values_of init))) in_loop
+      (all_facts_of p f (init_tree (next_stmt n) v t (is_some l) (typed_each scope n.calls
       (values_of init)) ∷ []))
   initialiser_stmts n at v t None (initialiser.Expression assign e) scope sound len good target braces few
       whole is_kind =
-      value_init_are n v t (see_conditional e scope n.calls) target
-      ((conditional_sight p owned e).by scope sound n.calls) whole is_kind
+      value_init_are n v t (typed_conditional e scope n.calls) target
+      ((conditional_typing p owned e).by scope sound n.calls) whole is_kind
   initialiser_stmts n at v t None (initialiser.Braced assign b) scope sound len good target braces few whole
       is_kind = cc
   initialiser_stmts n at v t (Some s) init scope sound len good target braces few whole is_kind =
-      let es = see_each scope n.calls (values_of init) in
+      let es = typed_each scope n.calls (values_of init) in
       let same = each_length scope n.calls (values_of init) in
       array_init_are n v t (unwrap_or s.count 1) es target
       (subst (λ k. k ≤ unwrap_or s.count 1) (sym same)
       (len.room (length (values_of init)) refl good
-      (ap (exceeds (limit_of (Some s))) (sym same) ∙ few)))
-      (each_seen p owned scope sound n.calls (values_of init) (value_sights init)) whole is_kind
+      (ap (exceeds (written_count (Some s))) (sym same) ∙ few)))
+      (each_typed p owned scope sound n.calls (values_of init) (value_typings init)) whole is_kind
 
-  initialiser_at : (at : At) (v : VarId) (t : CType) (l : Option SeenLength) (init : Initialiser)
+  initialiser_at : (at : At) (v : VarId) (t : CType) (l : Option TypedLength) (init : Initialiser)
       → IsLengthOf p owned (Some (length (values_of init))) l → IsGood l
       → IsTarget v t (shape_of l)
       → (scope : Scope) → InScope p owned f inside scope → (n : Before)
       → PieceAt p owned f inside (add_initialiser at v t l init) scope n
   initialiser_at at v t l init len good target scope in_scope n stands none =
-      let es = see_each scope n.calls (values_of init) in
+      let es = typed_each scope n.calls (values_of init) in
       let limit = limit_faults statement_limit (n.statements + 1) at in
       let braces = fault_if (cond (is_some l) (not (has_braces init)) (has_braces init)) WrongKind at in
-      let count = fault_if (exceeds (limit_of l) (length es)) WrongCount at in
+      let count = fault_if (exceeds (written_count l) (length es)) WrongCount at in
       let values = flat_map (initial_faults at (scope.depth == 0)) es in
       let own = nil_right limit (braces ++ count ++ values) none in
       let shape = nil_left (braces ++ count) values own in record {
@@ -261,7 +265,7 @@ module _ (p : Parts) (owned : List VarId) (f : Function) (inside : Bool) where
         };
       }
 
-  pub optional_initialiser_at : (at : At) (v : VarId) (t : CType) (l : Option SeenLength)
+  pub optional_initialiser_at : (at : At) (v : VarId) (t : CType) (l : Option TypedLength)
       (o : Option Initialiser)
       → IsLengthOf p owned (count_of_values o) l → IsGood l
       → IsTarget v t (shape_of l)
@@ -274,12 +278,12 @@ module _ (p : Parts) (owned : List VarId) (f : Function) (inside : Bool) where
 
   -- DECLARATORS
 
-  no_variables : (at : At) (l : Option SeenLength) (scope : Scope) (n : Before)
+  no_variables : (at : At) (l : Option TypedLength) (scope : Scope) (n : Before)
       → length (add_length at l scope n).variables ≡ 0
   no_variables at None scope n = refl
   no_variables at (Some l) scope n = refl
 
-  good_length : (n : Before) (at : At) (l : Option SeenLength) (scope : Scope) →
+  good_length : (n : Before) (at : At) (l : Option TypedLength) (scope : Scope) →
       (add_length at l scope n).faults ≡ []
       → IsGood l
   good_length n at None scope none = tt
@@ -296,8 +300,8 @@ module _ (p : Parts) (owned : List VarId) (f : Function) (inside : Bool) where
     abbrev pub base : CType
     base = unwrap_or t I32
 
-    abbrev pub len : Option SeenLength
-    len = see_array_length at_name (count_of_values d.initialiser) scope n.calls d.length
+    abbrev pub len : Option TypedLength
+    len = typed_array_length at_name (count_of_values d.initialiser) scope n.calls d.length
 
     abbrev pub declared : Variable
     declared = record { t = base; shape = shape_of len }
@@ -385,12 +389,12 @@ module _ (p : Parts) (owned : List VarId) (f : Function) (inside : Bool) where
 
     -- THE ELEMENTS AND LENGTHS of arrays
 
-    shape_counts : (l : Option SeenLength) → IsGood l → own_elements (shape_of l) ≡
+    shape_counts : (l : Option TypedLength) → IsGood l → own_elements (shape_of l) ≡
         (add_length at_name l scope n).elements
     shape_counts None h = refl
     shape_counts (Some l) h = same_count l.count h
 
-    own_shape : (l : Option SeenLength) → is_own_shape (shape_of l) ≡ true
+    own_shape : (l : Option TypedLength) → is_own_shape (shape_of l) ≡ true
     own_shape None = refl
     own_shape (Some l) = refl
 
@@ -409,7 +413,7 @@ module _ (p : Parts) (owned : List VarId) (f : Function) (inside : Bool) where
         (knowing (add_declare number declare_scope declare_before).entries declare_scope)
         (behind declare_before (add_declare number declare_scope declare_before))
 
-    no_more : (l : Option SeenLength) (o : Option Initialiser) (scope : Scope) (n : Before)
+    no_more : (l : Option TypedLength) (o : Option Initialiser) (scope : Scope) (n : Before)
         → ((add_optional_initialiser at_name number base l o scope n).variables ≡ [])
         × ((add_optional_initialiser at_name number base l o scope n).elements ≡ 0)
     no_more l None scope n = (refl, refl)
@@ -420,7 +424,7 @@ module _ (p : Parts) (owned : List VarId) (f : Function) (inside : Bool) where
     one_declared first last is_first is_last = ap (λ vs. vs ++ (declared ∷ (last ++ []))) is_first
         ∙ ap (λ vs. declared ∷ (vs ++ [])) is_last
 
-    no_variable : (l : Option SeenLength) → (add_length at_name l scope n).variables ≡ []
+    no_variable : (l : Option TypedLength) → (add_length at_name l scope n).variables ≡ []
     no_variable None = refl
     no_variable (Some l) = refl
 

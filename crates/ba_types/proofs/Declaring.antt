@@ -21,8 +21,8 @@ use Rattle.ba_tree.specs.declared.tree.Expr.{Expr}
 use Rattle.ba_tree.specs.declared.tree.Shape.{Shape}
 use Rattle.ba_tree.specs.declared.tree.StmtKind.TheVariants as kind
 use Rattle.ba_types.specs.Adding.{AddsLength, IsLength, Keeping, Kept, Numbers, State, at_place, before_of, behind_part, initialising, keep_each, keep_one, plain_length, with_added, with_count}
-use Rattle.ba_types.specs.Declarations.{Part, ◌then◌, SeenLength, add_declarator, add_declare, add_initialiser, add_length, add_optional_initialiser, add_variable, braced_values, calls_in, count_of_values, exceeds, faults_added, has_braces, init_tree, initial_faults, length_faults, length_in_range, limit_of, next_stmt, nothing_added, see_array_length, see_each, see_length, shape_of, values_of, whole_faults, written_length}
-use Rattle.ba_types.specs.Expressions.{Seen, Sight, see_conditional, tree_as}
+use Rattle.ba_types.specs.Declarations.{Part, ◌then◌, TypedLength, add_declarator, add_declare, add_initialiser, add_length, add_optional_initialiser, add_variable, braced_values, calls_in, count_of_values, exceeds, faults_added, has_braces, init_tree, initial_faults, length_faults, length_in_range, written_count, next_stmt, nothing_added, typed_array_length, typed_each, typed_length, shape_of, values_of, whole_faults, written_length}
+use Rattle.ba_types.specs.Expressions.{Typed, Typing, typed_conditional, tree_as}
 use Rattle.ba_types.specs.Faults.{fault, fault_if, limit_faults, element_limit, void_faults}
 use Rattle.ba_types.specs.Judging.{Judges, after, with_faults}
 use Rattle.ba_types.specs.Names.{Scope, name_of}
@@ -78,7 +78,8 @@ count-work w at (Some count) calls faults =
     ∙ ap (λ l. record whole { tally = record { calls = w.tally.calls + calls; least = l } })
     (least-swap w.tally.least faults more)
 
-pub no-length : (at : At) (scope : Scope) (w u : Work) (s : Option SeenLength) (t : Tally) (l : Option Length)
+pub no-length : (at : At) (scope : Scope) (w u : Work) (s : Option TypedLength) (t : Tally) (l : Option
+    Length)
     → IsLength s w.tally t l → l ≡ None → u ≡ record w { tally = t } → AddsLength at s scope w u None
 no-length at scope w u None t l is none work = (
   refl,
@@ -87,7 +88,7 @@ no-length at scope w u None t l is none work = (
 )
 no-length at scope w u (Some s) t l is none work = absurd (let no_l : ⊥ = cc in no_l)
 
-pub some-length : (at : At) (scope : Scope) (w mid u : Work) (s : Option SeenLength) (t : Tally) (l :
+pub some-length : (at : At) (scope : Scope) (w mid u : Work) (s : Option TypedLength) (t : Tally) (l :
     Option Length) (k : Length)
     → IsLength s w.tally t l → l ≡ Some k → mid ≡ record w { tally = t } → u ≡ with_count mid at k.count
     → AddsLength at s scope w u (Some k)
@@ -104,7 +105,7 @@ some-length at scope w mid u (Some s) t l k is some work counted =
           ∙ count-work w at s.count s.calls s.faults,
     )
 
-pub length-part : (at : At) (s : Option SeenLength) (scope : Scope) (w u : Work) (stmts : List StmtTree)
+pub length-part : (at : At) (s : Option TypedLength) (scope : Scope) (w u : Work) (stmts : List StmtTree)
     → u ≡ with_added w (add_length at s scope (before_of w))
     → at_place scope u stmts ≡ behind_part (add_length at s) (at_place scope w stmts)
 length-part at None scope w u stmts is =
@@ -123,26 +124,26 @@ module _ (functions : List Signature) (t : Option CType) (d : Declarator) (s0 s1
   abbrev var : VarId
   var = record { 0 = length s0.work.variables }
 
-  abbrev seen : Option SeenLength
-  seen = see_array_length place (count_of_values d.initialiser) s0.scope s0.work.tally.calls d.length
+  abbrev expression : Option TypedLength
+  expression = typed_array_length place (count_of_values d.initialiser) s0.scope s0.work.tally.calls d.length
 
-  pub declarator-is : s1 ≡ behind_part (add_length place seen) s0
+  pub declarator-is : s1 ≡ behind_part (add_length place expression) s0
       → s2 ≡ behind_part (add_variable functions place (name_of d.name.now)
-      (record { t = unwrap_or t I32; shape = shape_of seen })) s1
+      (record { t = unwrap_or t I32; shape = shape_of expression })) s1
       → s3 ≡ behind_part (add_declare var) s2
-      → s4 ≡ behind_part (add_optional_initialiser place var (unwrap_or t I32) seen d.initialiser) s3
+      → s4 ≡ behind_part (add_optional_initialiser place var (unwrap_or t I32) expression d.initialiser) s3
       → s5 ≡ behind_part (λ scope n. faults_added (void_faults t place)) s4
       → s5 ≡ behind_part (add_declarator functions t d) s0
   unfolding behind_part
   declarator-is a b c e f =
-      let one = add_length place seen in
+      let one = add_length place expression in
       let two = add_variable functions place (name_of d.name.now) (record {
         t = unwrap_or t I32;
         shape =
-            shape_of seen;
+            shape_of expression;
       }) in
       let three = add_declare var in
-      let four = add_optional_initialiser place var (unwrap_or t I32) seen d.initialiser in
+      let four = add_optional_initialiser place var (unwrap_or t I32) expression d.initialiser in
       let five : Part = λ scope n. faults_added (void_faults t place) in
       and-then one (two then three then four then five) s0 s1 s5 a
       (and-then two (three then four then five) s1 s2 s5 b
@@ -152,11 +153,11 @@ module _ (functions : List Signature) (t : Option CType) (d : Declarator) (s0 s1
   -- the same by the names that the code has for these
   pub declarator-from : (name : List ℕ) (v : VarId) (x : CType) (k : Shape) → name ≡ name_of d.name.now → v
       ≡ var
-      → x ≡ unwrap_or t I32 → k ≡ shape_of seen
-      → s1 ≡ behind_part (add_length place seen) s0
+      → x ≡ unwrap_or t I32 → k ≡ shape_of expression
+      → s1 ≡ behind_part (add_length place expression) s0
       → s2 ≡ behind_part (add_variable functions place name (record { t = x; shape = k })) s1
       → s3 ≡ behind_part (add_declare v) s2
-      → s4 ≡ behind_part (add_optional_initialiser place v x seen d.initialiser) s3
+      → s4 ≡ behind_part (add_optional_initialiser place v x expression d.initialiser) s3
       → s5 ≡ behind_part (λ scope n. faults_added (void_faults t place)) s4
       → s5 ≡ behind_part (add_declarator functions t d) s0
   declarator-from name v x k names vars types shapes a b c e f =
@@ -171,8 +172,8 @@ module _ (functions : List Signature) (t : Option CType) (d : Declarator) (s0 s1
       ∙ ap (λ (k : Shape). behind_part (add_variable functions place (name_of d.name.now)
       (record { t = unwrap_or t I32; shape = k })) s1) shapes)
       (c ∙ ap (λ v. behind_part (add_declare v) s2) vars)
-      (e ∙ ap (λ v. behind_part (add_optional_initialiser place v x seen d.initialiser) s3) vars
-      ∙ ap (λ x. behind_part (add_optional_initialiser place var x seen d.initialiser) s3) types)
+      (e ∙ ap (λ v. behind_part (add_optional_initialiser place v x expression d.initialiser) s3) vars
+      ∙ ap (λ x. behind_part (add_optional_initialiser place var x expression d.initialiser) s3) types)
       f
 
 -- the declaration of a local variable
@@ -183,7 +184,7 @@ declare-is v scope w old new is = adds-is (add_declare v) (add_declare v scope (
     w old new
     refl (knowing-nothing scope) (with_added-nothing w) is
 
-module _ (at : At) (v : VarId) (t : CType) (l : Option SeenLength) (init : Option Initialiser) where
+module _ (at : At) (v : VarId) (t : CType) (l : Option TypedLength) (init : Option Initialiser) where
   pub none-is : (s : State) → init ≡ None → s ≡ behind_part (add_optional_initialiser at v t l init) s
   none-is s is = behind-nothing s ∙ ap (λ i. behind_part (add_optional_initialiser at v t l i) s) (sym is)
 
@@ -193,7 +194,7 @@ module _ (at : At) (v : VarId) (t : CType) (l : Option SeenLength) (init : Optio
   some-is s u i is added = added ∙ ap (λ i. behind_part (add_optional_initialiser at v t l i) s) (sym is)
 
 -- a value of an initialiser
-pub value-is : (at : At) (t : CType) (is_global : Bool) (s : Seen) (j : Judged) (old mid new : Tally) (e :
+pub value-is : (at : At) (t : CType) (is_global : Bool) (s : Typed) (j : Judged) (old mid new : Tally) (e :
     Expr)
     (olds news : List Expr) → Judges j s → mid ≡ after old s.calls (whole_faults at s)
     → new ≡ with_faults mid (fault_if (is_global && not j.is_constant) WrongKind at)
@@ -209,41 +210,41 @@ value-is at t is_global s j old mid new e olds news judges counted more tree pus
     (more ∙ ap (λ t. with_faults t (fault_if (is_global && not j.is_constant) WrongKind at)) counted
     ∙ ap (λ l. record { calls = old.calls + s.calls; least = l })
     (least-append old.least fs (fault_if (is_global && not j.is_constant) WrongKind at))
-    ∙ ap (λ b. after old s.calls (fs ++ fault_if (is_global && not b) WrongKind at)) (ap (λ (e : Seen).
+    ∙ ap (λ b. after old s.calls (fs ++ fault_if (is_global && not b) WrongKind at)) (ap (λ (e : Typed).
     e.is_constant) judges))
 
 -- THE LENGTH OF AN ARRAY
 
 module _ (at : At) (values : Option ℕ) (length : Option ArrayLength) (scope : Scope) (t : Tally) where
-  pub not-array : length ≡ None → IsLength (see_array_length at values scope t.calls length) t t None
-  not-array is = subst (λ o. IsLength (see_array_length at values scope t.calls o) t t None) (sym is)
+  pub not-array : length ≡ None → IsLength (typed_array_length at values scope t.calls length) t t None
+  not-array is = subst (λ o. IsLength (typed_array_length at values scope t.calls o) t t None) (sym is)
       (refl, after-nothing t)
 
   pub not-written : (a : ArrayLength) (count : Option ℕ) → length ≡ Some a → a.length ≡ None
       → count ≡ length_in_range (option_map pos values)
-      → IsLength (see_array_length at values scope t.calls length) t t (Some (record {
+      → IsLength (typed_array_length at values scope t.calls length) t t (Some (record {
         count = count;
         is_written = false;
       }))
   not-written a count is none counts =
       let l : Option Length = Some (record { count = count; is_written = false }) in
-      subst (λ o. IsLength (see_array_length at values scope t.calls o) t t l) (sym is)
-      (subst (λ o. IsLength (Some (see_length at values o scope t.calls)) t t l) (sym none)
+      subst (λ o. IsLength (typed_array_length at values scope t.calls o) t t l) (sym is)
+      (subst (λ o. IsLength (Some (typed_length at values o scope t.calls)) t t l) (sym none)
       (ap (λ (c : Option ℕ). Some (record { count = c; is_written = false })) counts, after-nothing t))
 
   pub written : (a : ArrayLength) (e : Conditional) (new : Tally) (count : Option ℕ) → length ≡ Some a →
       a.length ≡ Some e
-      → count ≡ written_length (see_conditional e scope t.calls)
-      → new ≡ after t (see_conditional e scope t.calls).calls (whole_faults at (see_conditional e scope
+      → count ≡ written_length (typed_conditional e scope t.calls)
+      → new ≡ after t (typed_conditional e scope t.calls).calls (whole_faults at (typed_conditional e scope
       t.calls))
-      → IsLength (see_array_length at values scope t.calls length) t new (Some (record {
+      → IsLength (typed_array_length at values scope t.calls length) t new (Some (record {
         count = count;
         is_written = true;
       }))
   written a e new count is some counts counted =
       let l : Option Length = Some (record { count = count; is_written = true }) in
-      subst (λ o. IsLength (see_array_length at values scope t.calls o) t new l) (sym is)
-      (subst (λ o. IsLength (Some (see_length at values o scope t.calls)) t new l) (sym some)
+      subst (λ o. IsLength (typed_array_length at values scope t.calls o) t new l) (sym is)
+      (subst (λ o. IsLength (Some (typed_length at values o scope t.calls)) t new l) (sym some)
       (ap (λ (c : Option ℕ). Some (record { count = c; is_written = true })) counts, counted))
 
 pub not-zero : (n : ℕ) → (n ≡ 0 → ⊥) → (n == 0) ≡ false
@@ -259,7 +260,7 @@ count-is (Some c) init h = h
 
 module _ (how : Keeping) (scope : Scope) (init : Initialiser) (k new : Kept) where
   pub values-expression : (assign : Bor Token) (e : Conditional) → init ≡ initialiser.Expression assign e
-      → new ≡ keep_one how (see_conditional e scope k.tally.calls) k → new ≡ keep_each how scope (values_of
+      → new ≡ keep_one how (typed_conditional e scope k.tally.calls) k → new ≡ keep_each how scope (values_of
       init) k
   values-expression assign e is one = one ∙ ap (λ i. keep_each how scope (values_of i) k) (sym is)
 
@@ -267,16 +268,16 @@ module _ (how : Keeping) (scope : Scope) (init : Initialiser) (k new : Kept) whe
       → new ≡ keep_each how scope (braced_values b) k → new ≡ keep_each how scope (values_of init) k
   values-braced assign b is all = all ∙ ap (λ i. keep_each how scope (values_of i) k) (sym is)
 
-module _ (at : At) (v : VarId) (t : CType) (l : Option SeenLength) (init : Initialiser) (scope : Scope) (w
+module _ (at : At) (v : VarId) (t : CType) (l : Option TypedLength) (init : Initialiser) (scope : Scope) (w
     u : Work) where
-  abbrev es : List Seen
-  es = see_each scope w.tally.calls (values_of init)
+  abbrev es : List Typed
+  es = typed_each scope w.tally.calls (values_of init)
 
   abbrev kind_faults : List Fault
   kind_faults = fault_if (cond (is_some l) (not (has_braces init)) (has_braces init)) WrongKind at
 
   abbrev count_faults : List Fault
-  count_faults = fault_if (exceeds (limit_of l) (length es)) WrongCount at
+  count_faults = fault_if (exceeds (written_count l) (length es)) WrongCount at
 
   abbrev value_faults : List Fault
   value_faults = flat_map (initial_faults at (scope.depth == 0)) es
@@ -300,17 +301,17 @@ module _ (at : At) (v : VarId) (t : CType) (l : Option SeenLength) (init : Initi
       (pushed ∙ ap (λ x. olds ++ x ∷ []) (tree ∙ ap (λ n. init_tree n v t (is_some l) es) counted.0))
 
 -- the trees and the count of values that were kept
-pub kept-all : (at : At) (t : CType) (is_global : Bool) (scope : Scope) (sights : List Sight) (exprs : List
+pub kept-all : (at : At) (t : CType) (is_global : Bool) (scope : Scope) (typings : List Typing) (exprs : List
     Expr) (old new : Tally)
     → record { trees = map tree_of_expr exprs; tally = new }
-    ≡ keep_each (initialising at t is_global) scope sights (record { trees = []; tally = old })
-    → (map tree_of_expr exprs ≡ map (tree_as t) (see_each scope old.calls sights))
-    × (new ≡ after old (calls_in (see_each scope old.calls sights))
-    (flat_map (initial_faults at is_global) (see_each scope old.calls sights)))
-    × (length exprs ≡ length (see_each scope old.calls sights))
-kept-all at t is_global scope sights exprs old new is =
-    let es = see_each scope old.calls sights in
-    let whole = is ∙ kept-is (initialising at t is_global) scope sights (record {
+    ≡ keep_each (initialising at t is_global) scope typings (record { trees = []; tally = old })
+    → (map tree_of_expr exprs ≡ map (tree_as t) (typed_each scope old.calls typings))
+    × (new ≡ after old (calls_in (typed_each scope old.calls typings))
+    (flat_map (initial_faults at is_global) (typed_each scope old.calls typings)))
+    × (length exprs ≡ length (typed_each scope old.calls typings))
+kept-all at t is_global scope typings exprs old new is =
+    let es = typed_each scope old.calls typings in
+    let whole = is ∙ kept-is (initialising at t is_global) scope typings (record {
       trees = [];
       tally = old;
     }) in
@@ -320,7 +321,7 @@ kept-all at t is_global scope sights exprs old new is =
       sym (length-map exprs tree_of_expr) ∙ ap length trees ∙ length-map es (tree_as t),
     )
 
-pub some-length-some : (k : Option Length) (l : Option SeenLength) → k ≡ plain_length l → is_some k ≡
+pub some-length-some : (k : Option Length) (l : Option TypedLength) → k ≡ plain_length l → is_some k ≡
     is_some l
 some-length-some k None same = ap is_some same
 some-length-some k (Some l) same = ap is_some same

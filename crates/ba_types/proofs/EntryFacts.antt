@@ -15,7 +15,7 @@ use Rattle.ba_parse.specs.declared.tree.declarations.ListedDeclarator.{ListedDec
 use Rattle.ba_parse.specs.declared.tree.declarations.Parameter.{Parameter}
 use Rattle.ba_tree.specs.Facts.{has_variable}
 use Rattle.ba_tree.specs.declared.tree.Variable.{Variable}
-use Rattle.ba_types.specs.Declarations.{Added, ◌and◌, Before, behind, Part, ◌then◌, in_order, faults_added, add_length, add_variable, add_declare, add_optional_initialiser, add_declarator, add_declarators, SeenLength, see_array_length, count_of_values, shape_of}
+use Rattle.ba_types.specs.Declarations.{Added, ◌and◌, Before, behind, Part, ◌then◌, in_order, faults_added, add_length, add_variable, add_declare, add_optional_initialiser, add_declarator, add_declarators, TypedLength, typed_array_length, count_of_values, shape_of}
 use Rattle.ba_types.specs.Faults.{void_faults, limit_faults, parameter_limit}
 use Rattle.ba_types.specs.Files.{vars_of, vars_from, add_param, add_params, param_length, param_shape, place_of_param, name_of_param}
 use Rattle.ba_types.specs.Names.{Scope, knowing, name_of, type_named}
@@ -52,7 +52,7 @@ entries_then first second h k = record {
 
 -- THE PIECES
 
-length_entries : (at : At) (l : Option SeenLength) → HasEntries (add_length at l)
+length_entries : (at : At) (l : Option TypedLength) → HasEntries (add_length at l)
 length_entries at None = record { by = λ scope n. refl }
 length_entries at (Some l) = record { by = λ scope n. refl }
 
@@ -60,7 +60,7 @@ variable_entries : (functions : List Signature) (at : At) (name : List ℕ) (v :
     → HasEntries (add_variable functions at name v)
 variable_entries functions at name v = record { by = λ scope n. refl }
 
-initialiser_entries : (at : At) (v : VarId) (t : CType) (l : Option SeenLength) (o : Option Initialiser)
+initialiser_entries : (at : At) (v : VarId) (t : CType) (l : Option TypedLength) (o : Option Initialiser)
     → HasEntries (add_optional_initialiser at v t l o)
 initialiser_entries at v t l None = record { by = λ scope n. refl }
 initialiser_entries at v t l (Some init) = record { by = λ scope n. refl }
@@ -74,7 +74,7 @@ declarator_entries functions t d = record {
       let at = d.name.now.at in
       let v : VarId = record { 0 = n.variables } in
       let s = unwrap_or t I32 in
-      let l = see_array_length at (count_of_values d.initialiser) scope n.calls d.length in
+      let l = typed_array_length at (count_of_values d.initialiser) scope n.calls d.length in
       let void_part : Part = (λ scope n. faults_added (void_faults t at)) in
       let initialised = entries_then (add_optional_initialiser at v s l d.initialiser) void_part
       (initialiser_entries at v s l d.initialiser) (record { by = λ scope n. refl }) in

@@ -1,8 +1,8 @@
 -- Each expression of the grammar: what is said of it holds of its typed tree, where there is no fault in it.
 -- By induction on the
 -- parser's trees, one line a form.
-use Rattle.std.proofs.Common.{◌≡◌, ℕ, ◌+◌, ℤ, pos, Bool, true, false, Option, None, Some, List, [], ◌∷◌, map, refl, sym, subst, int_le, T, Box, Global}
-use Rattle.std.specs.Prelude.{unwrap_or}
+use Rattle.std.proofs.Common.{◌≡◌, ℕ, ◌+◌, ℤ, pos, Bool, true, false, Option, None, Some, List, [], ◌∷◌, ◌++◌, cond, map, refl, sym, subst, int_le, T, Box, Global}
+use Rattle.std.specs.Prelude.{nat_lt, unwrap_or}
 use Rattle.std.proofs.lemmas.Bool.{and_from}
 use Rattle.ba_lex.specs.declared.token.TokenKind.{TokenKind}
 use Rattle.ba_lex.specs.declared.token.TokenKind.TheVariants as kind
@@ -26,11 +26,12 @@ use Rattle.ba_parse.specs.declared.tree.expressions.Primary.TheShapes.{former-Ar
 use Rattle.ba_parse.specs.declared.tree.expressions.Primary.TheViews.{roll-Primary, roll-Unary, roll-Arguments, roll-Branches, roll-Chain, roll-Conditional, roll-Expressions, roll-NextExpression, roll-Operand}
 use Rattle.ba_parse.specs.declared.tree.expressions.Primary.TheFolds.{map-Primary, map-Unary, map-Arguments, map-Branches, map-Chain, map-Conditional, map-Expressions, map-NextExpression, map-Operand, ind-Arguments, ind-Conditional, ind-NextExpression, fold-Branches, fold-Expressions, fold-roll-Primary, fold-roll-Unary, fold-roll-Arguments, fold-roll-Branches, fold-roll-Chain, fold-roll-Conditional, fold-roll-Expressions, fold-roll-NextExpression, fold-roll-Operand}
 use Rattle.ba_tree.specs.declared.tree.Parts.{Parts}
-use Rattle.ba_types.specs.Expressions.{Seen, Sight, Sights, BranchSights, ChainSight, see_binary, see_constant_kind, parenthesized, select_sight, with_branches, chain_rest, after_chains, primary_step, unary_step, arguments_step, branches_step, chain_step, conditional_step, expressions_step, next_expression_step, operand_step, see_conditional, see_operand, see_chain, see_unary_expression, see_primary, see_arguments, see_next}
+use Rattle.ba_types.specs.Expressions.{Typed, OperandTyping, chain_of, whole_operand, tighter, from_looser, typed_token_kind, Typing, Typings, BranchTypings, ChainTyping, typed_binary, typed_constant_kind, parenthesized, select_typing, with_branches, rest_of_chain, after_chains, primary_step, unary_step, arguments_step, branches_step, chain_step, conditional_step, expressions_step, next_expression_step, operand_step, typed_conditional, typed_operand, typed_chain, typed_unary_expression, typed_primary, typed_arguments, typed_next}
+use Rattle.ba_types.specs.declared.names.Operator.{Operator}
 use Rattle.ba_types.specs.Names.{Scope, meaning_of, name_of, punct_of, type_named, unary_operator, binary_operator}
-use Rattle.ba_types.proofs.OperatorFacts.{IsSeen, unary_seen, cast_seen, binary_seen, select_seen, constant_seen}
+use Rattle.ba_types.proofs.OperatorFacts.{IsWellTyped, unary_typed, cast_typed, binary_typed, select_typed, constant_typed}
 use Rattle.ba_types.proofs.ScopeFacts.{IsScope, meaning_is}
-use Rattle.ba_types.proofs.PrimaryFacts.{IsSight, AreSights, name_seen, element_seen, called_seen}
+use Rattle.ba_types.proofs.PrimaryFacts.{IsWellTyping, AreWellTypings, name_typed, element_typed, called_typed}
 
 is_in_from : (t : CType) (z : ℤ) → IsIn t z → is_in t z ≡ true
 is_in_from t z h = and_from _ _ (from (int_le (least_of t) z) h.low.le) (from (int_le z
@@ -40,55 +41,65 @@ is_in_from t z h = and_from _ _ (from (int_le (least_of t) z) h.low.le) (from (i
     from true h = refl
     from false h = absurd h
 
-abbrev see_branches : Branches → BranchSights
-see_branches = fold-Branches Sight Sight Sights BranchSights ChainSight Sight Sights Sight Sight primary_step
+abbrev typed_branches : Branches → BranchTypings
+typed_branches = fold-Branches Typing Typing Typings BranchTypings ChainTyping Typing Typings Typing
+    OperandTyping primary_step
     unary_step arguments_step branches_step chain_step conditional_step expressions_step next_expression_step
     operand_step
 
-abbrev see_expressions : Expressions → Sights
-see_expressions = fold-Expressions Sight Sight Sights BranchSights ChainSight Sight Sights Sight Sight
+abbrev typed_expressions : Expressions → Typings
+typed_expressions = fold-Expressions Typing Typing Typings BranchTypings ChainTyping Typing Typings Typing
+    OperandTyping
     primary_step unary_step arguments_step branches_step chain_step conditional_step expressions_step
     next_expression_step operand_step
 
 module _ (p : Parts) (owned : List VarId) where
-  abbrev AreBranches : BranchSights → Type 0
-  AreBranches b = IsSight p owned b.0 × IsSight p owned b.1
+  abbrev AreBranches : BranchTypings → Type 0
+  AreBranches b = IsWellTyping p owned b.0 × IsWellTyping p owned b.1
 
   -- the rest of a chain keeps it of what stands before
-  record IsChain (c : ChainSight) : Type 0 where
-    by : (scope : Scope) → IsScope p owned scope → (before : ℕ) (left : Seen) → IsSeen p owned before left
-        → IsSeen p owned before (c scope before left)
+  record IsChain (c : ChainTyping) : Type 0 where
+    by : (scope : Scope) → IsScope p owned scope → (before : ℕ) (left : Typed) →
+        IsWellTyped p owned before left
+        → IsWellTyped p owned before (c.over scope before left)
+
+  abbrev AreChains : List ChainTyping → Type 0
+  AreChains [] = Unit {0}
+  AreChains (c ∷ cs) = IsChain c × AreChains cs
+
+  abbrev IsOperand : OperandTyping → Type 0
+  IsOperand o = IsWellTyping p owned o.first × AreChains o.chains
 
   -- parts of a tree of which it holds
   abbrev Of : {A S : Type 0} → (S → Type 0) → (A → S) → Type 0
   Of {A} holds see = (x : A) × holds (see x)
 
   abbrev OfPrimary : Type 0
-  OfPrimary = Of (IsSight p owned) see_primary
+  OfPrimary = Of (IsWellTyping p owned) typed_primary
 
   abbrev OfUnary : Type 0
-  OfUnary = Of (IsSight p owned) see_unary_expression
+  OfUnary = Of (IsWellTyping p owned) typed_unary_expression
 
   abbrev OfArguments : Type 0
-  OfArguments = Of (AreSights p owned) see_arguments
+  OfArguments = Of (AreWellTypings p owned) typed_arguments
 
   abbrev OfBranches : Type 0
-  OfBranches = Of AreBranches see_branches
+  OfBranches = Of AreBranches typed_branches
 
   abbrev OfChain : Type 0
-  OfChain = Of IsChain see_chain
+  OfChain = Of IsChain typed_chain
 
   abbrev OfConditional : Type 0
-  OfConditional = Of (IsSight p owned) see_conditional
+  OfConditional = Of (IsWellTyping p owned) typed_conditional
 
   abbrev OfExpressions : Type 0
-  OfExpressions = Of (AreSights p owned) see_expressions
+  OfExpressions = Of (AreWellTypings p owned) typed_expressions
 
   abbrev OfNext : Type 0
-  OfNext = Of (IsSight p owned) see_next
+  OfNext = Of (IsWellTyping p owned) typed_next
 
   abbrev OfOperand : Type 0
-  OfOperand = Of (IsSight p owned) see_operand
+  OfOperand = Of IsOperand typed_operand
 
   abbrev Bare : (Type 0 → Type 0 → Type 0 → Type 0 → Type 0 → Type 0 → Type 0 → Type 0 → Type 0 → Type 0)
       → Type 0
@@ -98,9 +109,10 @@ module _ (p : Parts) (owned : List VarId) where
       → Type 0
   Pieces F = F OfPrimary OfUnary OfArguments OfBranches OfChain OfConditional OfExpressions OfNext OfOperand
 
-  abbrev Seens : (Type 0 → Type 0 → Type 0 → Type 0 → Type 0 → Type 0 → Type 0 → Type 0 → Type 0 → Type 0)
+  abbrev Attributes : (Type 0 → Type 0 → Type 0 → Type 0 → Type 0 → Type 0 → Type 0 → Type 0 → Type 0 →
+      Type 0)
       → Type 0
-  Seens F = F Sight Sight Sights BranchSights ChainSight Sight Sights Sight Sight
+  Attributes F = F Typing Typing Typings BranchTypings ChainTyping Typing Typings Typing OperandTyping
 
   abbrev bare_primary : Pieces Primary-F → Bare Primary-F
   bare_primary = map-Primary OfPrimary OfUnary OfArguments OfBranches OfChain OfConditional OfExpressions
@@ -108,12 +120,14 @@ module _ (p : Parts) (owned : List VarId) where
       Primary Unary Arguments Branches Chain Conditional Expressions NextExpression Operand
       (λ e. e.0) (λ e. e.0) (λ e. e.0) (λ e. e.0) (λ e. e.0) (λ e. e.0) (λ e. e.0) (λ e. e.0) (λ e. e.0)
 
-  abbrev seen_primary : Bare Primary-F → Seens Primary-F
-  seen_primary = map-Primary Primary Unary Arguments Branches Chain Conditional Expressions NextExpression
+  abbrev attributes_primary : Bare Primary-F → Attributes Primary-F
+  attributes_primary = map-Primary Primary Unary Arguments Branches Chain Conditional Expressions
+      NextExpression
       Operand
-      Sight Sight Sights BranchSights ChainSight Sight Sights Sight Sight
-      see_primary see_unary_expression see_arguments see_branches see_chain see_conditional see_expressions
-      see_next see_operand
+      Typing Typing Typings BranchTypings ChainTyping Typing Typings Typing OperandTyping
+      typed_primary typed_unary_expression typed_arguments typed_branches typed_chain typed_conditional
+      typed_expressions
+      typed_next typed_operand
 
   abbrev bare_unary : Pieces Unary-F → Bare Unary-F
   bare_unary = map-Unary OfPrimary OfUnary OfArguments OfBranches OfChain OfConditional OfExpressions OfNext
@@ -121,11 +135,13 @@ module _ (p : Parts) (owned : List VarId) where
       Primary Unary Arguments Branches Chain Conditional Expressions NextExpression Operand
       (λ e. e.0) (λ e. e.0) (λ e. e.0) (λ e. e.0) (λ e. e.0) (λ e. e.0) (λ e. e.0) (λ e. e.0) (λ e. e.0)
 
-  abbrev seen_unary : Bare Unary-F → Seens Unary-F
-  seen_unary = map-Unary Primary Unary Arguments Branches Chain Conditional Expressions NextExpression Operand
-      Sight Sight Sights BranchSights ChainSight Sight Sights Sight Sight
-      see_primary see_unary_expression see_arguments see_branches see_chain see_conditional see_expressions
-      see_next see_operand
+  abbrev attributes_unary : Bare Unary-F → Attributes Unary-F
+  attributes_unary = map-Unary Primary Unary Arguments Branches Chain Conditional Expressions
+      NextExpression Operand
+      Typing Typing Typings BranchTypings ChainTyping Typing Typings Typing OperandTyping
+      typed_primary typed_unary_expression typed_arguments typed_branches typed_chain typed_conditional
+      typed_expressions
+      typed_next typed_operand
 
   abbrev bare_arguments : Pieces Arguments-F → Bare Arguments-F
   bare_arguments = map-Arguments OfPrimary OfUnary OfArguments OfBranches OfChain OfConditional
@@ -133,12 +149,13 @@ module _ (p : Parts) (owned : List VarId) where
       Primary Unary Arguments Branches Chain Conditional Expressions NextExpression Operand
       (λ e. e.0) (λ e. e.0) (λ e. e.0) (λ e. e.0) (λ e. e.0) (λ e. e.0) (λ e. e.0) (λ e. e.0) (λ e. e.0)
 
-  abbrev seen_arguments : Bare Arguments-F → Seens Arguments-F
-  seen_arguments = map-Arguments Primary Unary Arguments Branches Chain Conditional Expressions
+  abbrev attributes_arguments : Bare Arguments-F → Attributes Arguments-F
+  attributes_arguments = map-Arguments Primary Unary Arguments Branches Chain Conditional Expressions
       NextExpression Operand
-      Sight Sight Sights BranchSights ChainSight Sight Sights Sight Sight
-      see_primary see_unary_expression see_arguments see_branches see_chain see_conditional see_expressions
-      see_next see_operand
+      Typing Typing Typings BranchTypings ChainTyping Typing Typings Typing OperandTyping
+      typed_primary typed_unary_expression typed_arguments typed_branches typed_chain typed_conditional
+      typed_expressions
+      typed_next typed_operand
 
   abbrev bare_branches : Pieces Branches-F → Bare Branches-F
   bare_branches = map-Branches OfPrimary OfUnary OfArguments OfBranches OfChain OfConditional OfExpressions
@@ -146,12 +163,14 @@ module _ (p : Parts) (owned : List VarId) where
       Primary Unary Arguments Branches Chain Conditional Expressions NextExpression Operand
       (λ e. e.0) (λ e. e.0) (λ e. e.0) (λ e. e.0) (λ e. e.0) (λ e. e.0) (λ e. e.0) (λ e. e.0) (λ e. e.0)
 
-  abbrev seen_branches : Bare Branches-F → Seens Branches-F
-  seen_branches = map-Branches Primary Unary Arguments Branches Chain Conditional Expressions NextExpression
+  abbrev attributes_branches : Bare Branches-F → Attributes Branches-F
+  attributes_branches = map-Branches Primary Unary Arguments Branches Chain Conditional Expressions
+      NextExpression
       Operand
-      Sight Sight Sights BranchSights ChainSight Sight Sights Sight Sight
-      see_primary see_unary_expression see_arguments see_branches see_chain see_conditional see_expressions
-      see_next see_operand
+      Typing Typing Typings BranchTypings ChainTyping Typing Typings Typing OperandTyping
+      typed_primary typed_unary_expression typed_arguments typed_branches typed_chain typed_conditional
+      typed_expressions
+      typed_next typed_operand
 
   abbrev bare_chain : Pieces Chain-F → Bare Chain-F
   bare_chain = map-Chain OfPrimary OfUnary OfArguments OfBranches OfChain OfConditional OfExpressions OfNext
@@ -159,11 +178,13 @@ module _ (p : Parts) (owned : List VarId) where
       Primary Unary Arguments Branches Chain Conditional Expressions NextExpression Operand
       (λ e. e.0) (λ e. e.0) (λ e. e.0) (λ e. e.0) (λ e. e.0) (λ e. e.0) (λ e. e.0) (λ e. e.0) (λ e. e.0)
 
-  abbrev seen_chain : Bare Chain-F → Seens Chain-F
-  seen_chain = map-Chain Primary Unary Arguments Branches Chain Conditional Expressions NextExpression Operand
-      Sight Sight Sights BranchSights ChainSight Sight Sights Sight Sight
-      see_primary see_unary_expression see_arguments see_branches see_chain see_conditional see_expressions
-      see_next see_operand
+  abbrev attributes_chain : Bare Chain-F → Attributes Chain-F
+  attributes_chain = map-Chain Primary Unary Arguments Branches Chain Conditional Expressions
+      NextExpression Operand
+      Typing Typing Typings BranchTypings ChainTyping Typing Typings Typing OperandTyping
+      typed_primary typed_unary_expression typed_arguments typed_branches typed_chain typed_conditional
+      typed_expressions
+      typed_next typed_operand
 
   abbrev bare_conditional : Pieces Conditional-F → Bare Conditional-F
   bare_conditional = map-Conditional OfPrimary OfUnary OfArguments OfBranches OfChain OfConditional
@@ -171,12 +192,13 @@ module _ (p : Parts) (owned : List VarId) where
       Primary Unary Arguments Branches Chain Conditional Expressions NextExpression Operand
       (λ e. e.0) (λ e. e.0) (λ e. e.0) (λ e. e.0) (λ e. e.0) (λ e. e.0) (λ e. e.0) (λ e. e.0) (λ e. e.0)
 
-  abbrev seen_conditional : Bare Conditional-F → Seens Conditional-F
-  seen_conditional = map-Conditional Primary Unary Arguments Branches Chain Conditional Expressions
+  abbrev attributes_conditional : Bare Conditional-F → Attributes Conditional-F
+  attributes_conditional = map-Conditional Primary Unary Arguments Branches Chain Conditional Expressions
       NextExpression Operand
-      Sight Sight Sights BranchSights ChainSight Sight Sights Sight Sight
-      see_primary see_unary_expression see_arguments see_branches see_chain see_conditional see_expressions
-      see_next see_operand
+      Typing Typing Typings BranchTypings ChainTyping Typing Typings Typing OperandTyping
+      typed_primary typed_unary_expression typed_arguments typed_branches typed_chain typed_conditional
+      typed_expressions
+      typed_next typed_operand
 
   abbrev bare_expressions : Pieces Expressions-F → Bare Expressions-F
   bare_expressions = map-Expressions OfPrimary OfUnary OfArguments OfBranches OfChain OfConditional
@@ -184,12 +206,13 @@ module _ (p : Parts) (owned : List VarId) where
       Primary Unary Arguments Branches Chain Conditional Expressions NextExpression Operand
       (λ e. e.0) (λ e. e.0) (λ e. e.0) (λ e. e.0) (λ e. e.0) (λ e. e.0) (λ e. e.0) (λ e. e.0) (λ e. e.0)
 
-  abbrev seen_expressions : Bare Expressions-F → Seens Expressions-F
-  seen_expressions = map-Expressions Primary Unary Arguments Branches Chain Conditional Expressions
+  abbrev attributes_expressions : Bare Expressions-F → Attributes Expressions-F
+  attributes_expressions = map-Expressions Primary Unary Arguments Branches Chain Conditional Expressions
       NextExpression Operand
-      Sight Sight Sights BranchSights ChainSight Sight Sights Sight Sight
-      see_primary see_unary_expression see_arguments see_branches see_chain see_conditional see_expressions
-      see_next see_operand
+      Typing Typing Typings BranchTypings ChainTyping Typing Typings Typing OperandTyping
+      typed_primary typed_unary_expression typed_arguments typed_branches typed_chain typed_conditional
+      typed_expressions
+      typed_next typed_operand
 
   abbrev bare_next : Pieces NextExpression-F → Bare NextExpression-F
   bare_next = map-NextExpression OfPrimary OfUnary OfArguments OfBranches OfChain OfConditional
@@ -197,12 +220,13 @@ module _ (p : Parts) (owned : List VarId) where
       Primary Unary Arguments Branches Chain Conditional Expressions NextExpression Operand
       (λ e. e.0) (λ e. e.0) (λ e. e.0) (λ e. e.0) (λ e. e.0) (λ e. e.0) (λ e. e.0) (λ e. e.0) (λ e. e.0)
 
-  abbrev seen_next : Bare NextExpression-F → Seens NextExpression-F
-  seen_next = map-NextExpression Primary Unary Arguments Branches Chain Conditional Expressions
+  abbrev attributes_next : Bare NextExpression-F → Attributes NextExpression-F
+  attributes_next = map-NextExpression Primary Unary Arguments Branches Chain Conditional Expressions
       NextExpression Operand
-      Sight Sight Sights BranchSights ChainSight Sight Sights Sight Sight
-      see_primary see_unary_expression see_arguments see_branches see_chain see_conditional see_expressions
-      see_next see_operand
+      Typing Typing Typings BranchTypings ChainTyping Typing Typings Typing OperandTyping
+      typed_primary typed_unary_expression typed_arguments typed_branches typed_chain typed_conditional
+      typed_expressions
+      typed_next typed_operand
 
   abbrev bare_operand : Pieces Operand-F → Bare Operand-F
   bare_operand = map-Operand OfPrimary OfUnary OfArguments OfBranches OfChain OfConditional OfExpressions
@@ -210,20 +234,23 @@ module _ (p : Parts) (owned : List VarId) where
       Primary Unary Arguments Branches Chain Conditional Expressions NextExpression Operand
       (λ e. e.0) (λ e. e.0) (λ e. e.0) (λ e. e.0) (λ e. e.0) (λ e. e.0) (λ e. e.0) (λ e. e.0) (λ e. e.0)
 
-  abbrev seen_operand : Bare Operand-F → Seens Operand-F
-  seen_operand = map-Operand Primary Unary Arguments Branches Chain Conditional Expressions NextExpression
+  abbrev attributes_operand : Bare Operand-F → Attributes Operand-F
+  attributes_operand = map-Operand Primary Unary Arguments Branches Chain Conditional Expressions
+      NextExpression
       Operand
-      Sight Sight Sights BranchSights ChainSight Sight Sights Sight Sight
-      see_primary see_unary_expression see_arguments see_branches see_chain see_conditional see_expressions
-      see_next see_operand
+      Typing Typing Typings BranchTypings ChainTyping Typing Typings Typing OperandTyping
+      typed_primary typed_unary_expression typed_arguments typed_branches typed_chain typed_conditional
+      typed_expressions
+      typed_next typed_operand
 
-  constant_form : (before : ℕ) (at : At) (k : TokenKind) → IsSeen p owned before (see_constant_kind at k)
+  constant_form : (before : ℕ) (at : At) (k : TokenKind) →
+      IsWellTyped p owned before (typed_constant_kind at k)
   constant_form before at (kind.Constant t z) =
-      constant_seen p owned before at t (converted t z) (is_in_from t (converted t z)
+      constant_typed p owned before at t (converted t z) (is_in_from t (converted t z)
       (converted_in_range t z))
-  constant_form before at k = constant_seen p owned before at I32 (pos 0) refl
+  constant_form before at k = constant_typed p owned before at I32 (pos 0) refl
 
-  inside : (at : At) (s : Sight) → IsSight p owned s → IsSight p owned (parenthesized at s)
+  inside : (at : At) (s : Typing) → IsWellTyping p owned s → IsWellTyping p owned (parenthesized at s)
   inside at s h = record {
     by = λ scope sound before. let e = h.by scope sound before in record {
       named = λ name is. let b = e.named name is in
@@ -232,110 +259,165 @@ module _ (p : Parts) (owned : List VarId) where
     };
   }
 
-  primary_form : (y : Pieces Primary-F) → IsSight p owned (primary_step (seen_primary (bare_primary y)))
-  primary_form (Primary-F.Name name) = record {
-    by = λ scope sound before. name_seen p owned before name.now.at (name_of name.now)
-        (meaning_of scope (name_of name.now)) (meaning_is p owned scope sound (name_of name.now));
+  token_form : (at : At) (k : TokenKind) → IsWellTyping p owned (typed_token_kind at k)
+  token_form at (kind.Name name) = record {
+    by = λ scope sound before. name_typed p owned before at name
+        (meaning_of scope name) (meaning_is p owned scope sound name);
   }
+  token_form at (kind.Keyword k) = record {
+    by = λ scope sound before. constant_form before at
+        (kind.Keyword k);
+  }
+  token_form at (kind.Constant t z) = record {
+    by = λ scope sound before. constant_form before at
+        (kind.Constant t z);
+  }
+  token_form at kind.Quoted = record { by = λ scope sound before. constant_form before at kind.Quoted }
+  token_form at (kind.Punct q) = record { by = λ scope sound before. constant_form before at (kind.Punct q) }
+
+  primary_form : (y : Pieces Primary-F) →
+      IsWellTyping p owned (primary_step (attributes_primary (bare_primary y)))
+  primary_form (Primary-F.Name name) = token_form name.now.at name.now.kind
   primary_form (Primary-F.Element name opener index closer) = record {
-    by = λ scope sound before. element_seen p owned before name.now.at (meaning_of scope (name_of name.now))
-        (see_conditional index.value.0 scope before) (meaning_is p owned scope sound (name_of name.now))
+    by = λ scope sound before. element_typed p owned before name.now.at (meaning_of scope (name_of name.now))
+        (typed_conditional index.value.0 scope before) (meaning_is p owned scope sound (name_of name.now))
         (index.value.1.by scope sound before);
   }
   primary_form (Primary-F.Call name opener arguments closer) = record {
-    by = λ scope sound before. called_seen p owned scope sound name.now.at (name_of name.now)
-        (see_arguments arguments.0) arguments.1 before;
+    by = λ scope sound before. called_typed p owned scope sound name.now.at (name_of name.now)
+        (typed_arguments arguments.0) arguments.1 before;
   }
-  primary_form (Primary-F.Constant constant) = record {
-    by = λ scope sound before. constant_form before constant.now.at constant.now.kind;
-  }
+  primary_form (Primary-F.Constant constant) = token_form constant.now.at constant.now.kind
   primary_form (Primary-F.Parenthesized opener e closer) = inside opener.now.at
-      (see_conditional e.value.0) e.value.1
+      (typed_conditional e.value.0) e.value.1
 
-  unary_form : (y : Pieces Unary-F) → IsSight p owned (unary_step (seen_unary (bare_unary y)))
+  unary_form : (y : Pieces Unary-F) → IsWellTyping p owned (unary_step (attributes_unary (bare_unary y)))
   unary_form (Unary-F.Prefix operator operand) = record {
-    by = λ scope sound before. unary_seen p owned before operator.now.at (unary_operator
+    by = λ scope sound before. unary_typed p owned before operator.now.at (unary_operator
         (punct_of operator.now))
-        (see_unary_expression operand.value.0 scope before) (operand.value.1.by scope sound before);
+        (typed_unary_expression operand.value.0 scope before) (operand.value.1.by scope sound before);
   }
   unary_form (Unary-F.Cast opener name closer operand) = record {
-    by = λ scope sound before. cast_seen p owned before opener.now.at (type_named name)
-        (see_unary_expression operand.value.0 scope before) (operand.value.1.by scope sound before);
+    by = λ scope sound before. cast_typed p owned before opener.now.at (type_named name)
+        (typed_unary_expression operand.value.0 scope before) (operand.value.1.by scope sound before);
   }
   unary_form (Unary-F.Primary e) = e.1
 
-  maybe : (o : Option OfExpressions) → AreSights p owned (unwrap_or
-      (former-Arguments-values.map Expressions Sights see_expressions
+  maybe : (o : Option OfExpressions) → AreWellTypings p owned (unwrap_or
+      (former-Arguments-values.map Expressions Typings typed_expressions
       (former-Arguments-values.map OfExpressions Expressions (λ e. e.0) o)) [])
   maybe None = tt
   maybe (Some es) = es.1
 
-  rest_form : (o : Option (Box OfChain Global)) → IsChain (chain_rest
-      (former-Chain-rest.map Chain ChainSight see_chain (former-Chain-rest.map OfChain Chain (λ e. e.0) o)))
-  rest_form None = record { by = λ scope sound before left h. h }
-  rest_form (Some c) = record { by = c.value.1.by }
+  -- CHAINS
 
-  arguments_form : (y : Pieces Arguments-F) → AreSights p owned (arguments_step (seen_arguments
+  rest_form : (o : Option (Box OfChain Global)) → AreChains (rest_of_chain
+      (former-Chain-rest.map Chain ChainTyping typed_chain (former-Chain-rest.map OfChain Chain (λ e. e.0)
+      o)))
+  rest_form None = tt
+  rest_form (Some c) = (c.value.1, tt)
+
+  all_chains : (cs ds : List ChainTyping) → AreChains cs → AreChains ds → AreChains (cs ++ ds)
+  all_chains [] ds h k = k
+  all_chains (c ∷ cs) ds h k = (h.0, all_chains cs ds h.1 k)
+
+  tighter_chains : (level : ℕ) (cs : List ChainTyping) → AreChains cs → AreChains (tighter level cs)
+  tighter_chains level [] h = tt
+  tighter_chains level (c ∷ cs) h = from (nat_lt c.level level) where
+    from : (b : Bool) → AreChains (cond b (c ∷ tighter level cs) [])
+    from true = (h.0, tighter_chains level cs h.1)
+    from false = tt
+
+  looser_chains : (level : ℕ) (cs : List ChainTyping) → AreChains cs → AreChains (from_looser level cs)
+  looser_chains level [] h = tt
+  looser_chains level (c ∷ cs) h = from (nat_lt c.level level) where
+    from : (b : Bool) → AreChains (cond b (from_looser level cs) (c ∷ cs))
+    from true = looser_chains level cs h.1
+    from false = h
+
+  over_chains : (scope : Scope) → IsScope p owned scope → (before : ℕ) (left : Typed) →
+      IsWellTyped p owned before left
+      → (cs : List ChainTyping) → AreChains cs →
+      IsWellTyped p owned before (after_chains scope before left cs)
+  over_chains scope sound before left h [] k = h
+  over_chains scope sound before left h (c ∷ cs) k =
+      over_chains scope sound before (c.over scope before left) (k.0.by scope sound before left h) cs k.1
+
+  operand_whole : (o : OperandTyping) → IsOperand o → IsWellTyping p owned (whole_operand o)
+  operand_whole o h = record {
+    by = λ scope sound before. over_chains scope sound before (o.first scope before)
+        (h.0.by scope sound before) o.chains h.1;
+  }
+
+  chain_whole : (level : ℕ) (op : Operator) (first : Typing) (cs : List ChainTyping) →
+      IsWellTyping p owned first
+      → AreChains cs → IsChain (chain_of level op first cs)
+  chain_whole level op first cs h k = record {
+    by = λ scope sound before left is.
+        let o : OperandTyping = record { first = first; chains = tighter level cs } in
+        let e = whole_operand o scope (before + left.calls) in
+        over_chains scope sound before (typed_binary op left e)
+        (binary_typed p owned before left e is
+        ((operand_whole o (h, tighter_chains level cs k)).by scope sound (before + left.calls)) op)
+        (from_looser level cs) (looser_chains level cs k);
+  }
+
+  arguments_form : (y : Pieces Arguments-F) → AreWellTypings p owned (arguments_step (attributes_arguments
       (bare_arguments y)))
   arguments_form y = maybe y.values
 
-  branches_form : (y : Pieces Branches-F) → AreBranches (branches_step (seen_branches (bare_branches y)))
+  branches_form : (y : Pieces Branches-F) →
+      AreBranches (branches_step (attributes_branches (bare_branches y)))
   branches_form y = (y.holds.value.1, y.fails.value.1)
 
-  chain_form : (y : Pieces Chain-F) → IsChain (chain_step (seen_chain (bare_chain y)))
-  chain_form y = let rest = rest_form y.rest in record {
-    by = λ scope sound before left h.
-        let e = see_operand y.operand.0 scope (before + left.calls) in
-        let op = binary_operator (punct_of y.operator.now) in
-        rest.by scope sound before (see_binary op left e)
-        (binary_seen p owned before left e h (y.operand.1.by scope sound (before + left.calls)) op);
-  }
+  chain_form : (y : Pieces Chain-F) → IsChain (chain_step (attributes_chain (bare_chain y)))
+  chain_form y = let o = typed_operand y.operand.0 in
+      let rest = rest_of_chain (former-Chain-rest.map Chain ChainTyping typed_chain
+      (former-Chain-rest.map OfChain Chain (λ e. e.0) y.rest)) in
+      chain_whole y.level (binary_operator (punct_of y.operator.now)) o.first (o.chains ++ rest)
+      y.operand.1.0 (all_chains o.chains rest y.operand.1.1 (rest_form y.rest))
 
-  select_form : (test : Sight) (b : BranchSights) → IsSight p owned test → AreBranches b
-      → IsSight p owned (select_sight test b.0 b.1)
+  select_form : (test : Typing) (b : BranchTypings) → IsWellTyping p owned test → AreBranches b
+      → IsWellTyping p owned (select_typing test b.0 b.1)
   select_form test b h k = record {
     by = λ scope sound before.
         let w = test scope before in
         let x = b.0 scope (before + w.calls) in
         let y = b.1 scope (before + w.calls + x.calls) in
-        select_seen p owned before w x y (h.by scope sound before) (k.0.by scope sound (before + w.calls))
+        select_typed p owned before w x y (h.by scope sound before) (k.0.by scope sound (before + w.calls))
         (k.1.by scope sound (before + w.calls + x.calls));
   }
 
-  with_branches_form : (test : Sight) → IsSight p owned test → (o : Option OfBranches)
-      → IsSight p owned (with_branches test
-      (former-Conditional-branches.map Branches BranchSights see_branches
+  with_branches_form : (test : Typing) → IsWellTyping p owned test → (o : Option OfBranches)
+      → IsWellTyping p owned (with_branches test
+      (former-Conditional-branches.map Branches BranchTypings typed_branches
       (former-Conditional-branches.map OfBranches Branches (λ e. e.0) o)))
   with_branches_form test h None = h
-  with_branches_form test h (Some b) = select_form test (see_branches b.0) h b.1
+  with_branches_form test h (Some b) = select_form test (typed_branches b.0) h b.1
 
   conditional_form : (y : Pieces Conditional-F)
-      → IsSight p owned (conditional_step (seen_conditional (bare_conditional y)))
-  conditional_form y = with_branches_form (see_operand y.test.0) y.test.1 y.branches
+      → IsWellTyping p owned (conditional_step (attributes_conditional (bare_conditional y)))
+  conditional_form y = with_branches_form (whole_operand (typed_operand y.test.0))
+      (operand_whole (typed_operand y.test.0) y.test.1) y.branches
 
-  row : (es : List OfNext) → AreSights p owned (map see_next (map (λ e. e.0) es))
+  row : (es : List OfNext) → AreWellTypings p owned (map typed_next (map (λ e. e.0) es))
   row [] = tt
   row (e ∷ es) = (e.1, row es)
 
   expressions_form : (y : Pieces Expressions-F)
-      → AreSights p owned (expressions_step (seen_expressions (bare_expressions y)))
+      → AreWellTypings p owned (expressions_step (attributes_expressions (bare_expressions y)))
   expressions_form y = (y.first.value.1, row y.rest.items)
 
-  next_form : (y : Pieces NextExpression-F) → IsSight p owned (next_expression_step (seen_next (bare_next y)))
+  next_form : (y : Pieces NextExpression-F) →
+      IsWellTyping p owned (next_expression_step (attributes_next (bare_next y)))
   next_form y = y.expression.1
 
-  chains : (scope : Scope) → IsScope p owned scope → (before : ℕ) (left : Seen) → IsSeen p owned before left
-      → (cs : List OfChain) → IsSeen p owned before (after_chains scope before left (map see_chain (map
-      (λ e. e.0) cs)))
-  chains scope sound before left h [] = h
-  chains scope sound before left h (c ∷ cs) =
-      chains scope sound before (see_chain c.0 scope before left) (c.1.by scope sound before left h) cs
+  row_of_chains : (cs : List OfChain) → AreChains (map typed_chain (map (λ e. e.0) cs))
+  row_of_chains [] = tt
+  row_of_chains (c ∷ cs) = (c.1, row_of_chains cs)
 
-  operand_form : (y : Pieces Operand-F) → IsSight p owned (operand_step (seen_operand (bare_operand y)))
-  operand_form y = record {
-    by = λ scope sound before. chains scope sound before (see_unary_expression y.first.0 scope before)
-        (y.first.1.by scope sound before) y.chains.items;
-  }
+  operand_form : (y : Pieces Operand-F) → IsOperand (operand_step (attributes_operand (bare_operand y)))
+  operand_form y = (y.first.1, row_of_chains y.chains.items)
 
   -- it holds of a tree where it holds of what its form makes of the parts
   by_form : {A F S : Type 0} (holds : S → Type 0) (see : A → S) (roll : F → A) (step : F → S)
@@ -343,121 +425,141 @@ module _ (p : Parts) (owned : List VarId) where
   by_form holds see roll step rolls z x is h = subst (λ y. holds (see (roll y))) is (subst holds (sym
       (rolls z)) h)
 
-  primary_layer : (x : Bare Primary-F) (y : Pieces Primary-F) → bare_primary y ≡ x → IsSight p owned
-      (see_primary (roll-Primary x))
-  unfolding see_conditional see_operand see_chain see_unary_expression see_primary see_arguments see_next
-  primary_layer x y is = by_form (IsSight p owned) see_primary roll-Primary (λ z. primary_step
-      (seen_primary z))
-      (fold-roll-Primary Sight Sight Sights BranchSights ChainSight Sight Sights Sight Sight primary_step
+  primary_layer : (x : Bare Primary-F) (y : Pieces Primary-F) → bare_primary y ≡ x → IsWellTyping p owned
+      (typed_primary (roll-Primary x))
+  unfolding typed_conditional typed_operand typed_chain typed_unary_expression typed_primary
+      typed_arguments typed_next
+  primary_layer x y is = by_form (IsWellTyping p owned) typed_primary roll-Primary (λ z. primary_step
+      (attributes_primary z))
+      (fold-roll-Primary Typing Typing Typings BranchTypings ChainTyping Typing Typings Typing
+      OperandTyping primary_step
       unary_step
       arguments_step branches_step chain_step conditional_step expressions_step next_expression_step
       operand_step) (bare_primary y) x is (primary_form y)
 
-  unary_layer : (x : Bare Unary-F) (y : Pieces Unary-F) → bare_unary y ≡ x → IsSight p owned
-      (see_unary_expression (roll-Unary x))
-  unfolding see_conditional see_operand see_chain see_unary_expression see_primary see_arguments see_next
-  unary_layer x y is = by_form (IsSight p owned) see_unary_expression roll-Unary (λ z. unary_step
-      (seen_unary z))
-      (fold-roll-Unary Sight Sight Sights BranchSights ChainSight Sight Sights Sight Sight primary_step
+  unary_layer : (x : Bare Unary-F) (y : Pieces Unary-F) → bare_unary y ≡ x → IsWellTyping p owned
+      (typed_unary_expression (roll-Unary x))
+  unfolding typed_conditional typed_operand typed_chain typed_unary_expression typed_primary
+      typed_arguments typed_next
+  unary_layer x y is = by_form (IsWellTyping p owned) typed_unary_expression roll-Unary (λ z. unary_step
+      (attributes_unary z))
+      (fold-roll-Unary Typing Typing Typings BranchTypings ChainTyping Typing Typings Typing OperandTyping
+      primary_step
       unary_step
       arguments_step branches_step chain_step conditional_step expressions_step next_expression_step
       operand_step) (bare_unary y) x is (unary_form y)
 
   arguments_layer : (x : Bare Arguments-F) (y : Pieces Arguments-F) → bare_arguments y ≡ x
-      → AreSights p owned (see_arguments (roll-Arguments x))
-  unfolding see_conditional see_operand see_chain see_unary_expression see_primary see_arguments see_next
-  arguments_layer x y is = by_form (AreSights p owned) see_arguments roll-Arguments (λ z. arguments_step
-      (seen_arguments z))
-      (fold-roll-Arguments Sight Sight Sights BranchSights ChainSight Sight Sights Sight Sight primary_step
+      → AreWellTypings p owned (typed_arguments (roll-Arguments x))
+  unfolding typed_conditional typed_operand typed_chain typed_unary_expression typed_primary
+      typed_arguments typed_next
+  arguments_layer x y is = by_form (AreWellTypings p owned) typed_arguments roll-Arguments (λ z.
+      arguments_step
+      (attributes_arguments z))
+      (fold-roll-Arguments Typing Typing Typings BranchTypings ChainTyping Typing Typings Typing
+      OperandTyping primary_step
       unary_step
       arguments_step branches_step chain_step conditional_step expressions_step next_expression_step
       operand_step) (bare_arguments y) x is (arguments_form y)
 
   branches_layer : (x : Bare Branches-F) (y : Pieces Branches-F) → bare_branches y ≡ x → AreBranches
-      (see_branches (roll-Branches x))
-  unfolding see_conditional see_operand see_chain see_unary_expression see_primary see_arguments see_next
-  branches_layer x y is = by_form AreBranches see_branches roll-Branches (λ z. branches_step
-      (seen_branches z))
-      (fold-roll-Branches Sight Sight Sights BranchSights ChainSight Sight Sights Sight Sight primary_step
+      (typed_branches (roll-Branches x))
+  unfolding typed_conditional typed_operand typed_chain typed_unary_expression typed_primary
+      typed_arguments typed_next
+  branches_layer x y is = by_form AreBranches typed_branches roll-Branches (λ z. branches_step
+      (attributes_branches z))
+      (fold-roll-Branches Typing Typing Typings BranchTypings ChainTyping Typing Typings Typing
+      OperandTyping primary_step
       unary_step
       arguments_step branches_step chain_step conditional_step expressions_step next_expression_step
       operand_step) (bare_branches y) x is (branches_form y)
 
-  chain_layer : (x : Bare Chain-F) (y : Pieces Chain-F) → bare_chain y ≡ x → IsChain (see_chain
+  chain_layer : (x : Bare Chain-F) (y : Pieces Chain-F) → bare_chain y ≡ x → IsChain (typed_chain
       (roll-Chain x))
-  unfolding see_conditional see_operand see_chain see_unary_expression see_primary see_arguments see_next
-  chain_layer x y is = by_form IsChain see_chain roll-Chain (λ z. chain_step (seen_chain z))
-      (fold-roll-Chain Sight Sight Sights BranchSights ChainSight Sight Sights Sight Sight primary_step
+  unfolding typed_conditional typed_operand typed_chain typed_unary_expression typed_primary
+      typed_arguments typed_next
+  chain_layer x y is = by_form IsChain typed_chain roll-Chain (λ z. chain_step (attributes_chain z))
+      (fold-roll-Chain Typing Typing Typings BranchTypings ChainTyping Typing Typings Typing OperandTyping
+      primary_step
       unary_step
       arguments_step branches_step chain_step conditional_step expressions_step next_expression_step
       operand_step) (bare_chain y) x is (chain_form y)
 
   conditional_layer : (x : Bare Conditional-F) (y : Pieces Conditional-F) → bare_conditional y ≡ x
-      → IsSight p owned (see_conditional (roll-Conditional x))
-  unfolding see_conditional see_operand see_chain see_unary_expression see_primary see_arguments see_next
-  conditional_layer x y is = by_form (IsSight p owned) see_conditional roll-Conditional
-      (λ z. conditional_step (seen_conditional z))
-      (fold-roll-Conditional Sight Sight Sights BranchSights ChainSight Sight Sights Sight Sight
+      → IsWellTyping p owned (typed_conditional (roll-Conditional x))
+  unfolding typed_conditional typed_operand typed_chain typed_unary_expression typed_primary
+      typed_arguments typed_next
+  conditional_layer x y is = by_form (IsWellTyping p owned) typed_conditional roll-Conditional
+      (λ z. conditional_step (attributes_conditional z))
+      (fold-roll-Conditional Typing Typing Typings BranchTypings ChainTyping Typing Typings Typing
+      OperandTyping
       primary_step unary_step
       arguments_step branches_step chain_step conditional_step expressions_step next_expression_step
       operand_step) (bare_conditional y) x is (conditional_form y)
 
   expressions_layer : (x : Bare Expressions-F) (y : Pieces Expressions-F) → bare_expressions y ≡ x
-      → AreSights p owned (see_expressions (roll-Expressions x))
-  unfolding see_conditional see_operand see_chain see_unary_expression see_primary see_arguments see_next
-  expressions_layer x y is = by_form (AreSights p owned) see_expressions roll-Expressions
-      (λ z. expressions_step (seen_expressions z))
-      (fold-roll-Expressions Sight Sight Sights BranchSights ChainSight Sight Sights Sight Sight
+      → AreWellTypings p owned (typed_expressions (roll-Expressions x))
+  unfolding typed_conditional typed_operand typed_chain typed_unary_expression typed_primary
+      typed_arguments typed_next
+  expressions_layer x y is = by_form (AreWellTypings p owned) typed_expressions roll-Expressions
+      (λ z. expressions_step (attributes_expressions z))
+      (fold-roll-Expressions Typing Typing Typings BranchTypings ChainTyping Typing Typings Typing
+      OperandTyping
       primary_step unary_step
       arguments_step branches_step chain_step conditional_step expressions_step next_expression_step
       operand_step) (bare_expressions y) x is (expressions_form y)
 
-  next_layer : (x : Bare NextExpression-F) (y : Pieces NextExpression-F) → bare_next y ≡ x → IsSight p owned
-      (see_next (roll-NextExpression x))
-  unfolding see_conditional see_operand see_chain see_unary_expression see_primary see_arguments see_next
-  next_layer x y is = by_form (IsSight p owned) see_next roll-NextExpression (λ z. next_expression_step
-      (seen_next z))
-      (fold-roll-NextExpression Sight Sight Sights BranchSights ChainSight Sight Sights Sight Sight
+  next_layer : (x : Bare NextExpression-F) (y : Pieces NextExpression-F) → bare_next y ≡ x →
+      IsWellTyping p owned
+      (typed_next (roll-NextExpression x))
+  unfolding typed_conditional typed_operand typed_chain typed_unary_expression typed_primary
+      typed_arguments typed_next
+  next_layer x y is = by_form (IsWellTyping p owned) typed_next roll-NextExpression (λ z. next_expression_step
+      (attributes_next z))
+      (fold-roll-NextExpression Typing Typing Typings BranchTypings ChainTyping Typing Typings Typing
+      OperandTyping
       primary_step unary_step
       arguments_step branches_step chain_step conditional_step expressions_step next_expression_step
       operand_step) (bare_next y) x is (next_form y)
 
-  operand_layer : (x : Bare Operand-F) (y : Pieces Operand-F) → bare_operand y ≡ x → IsSight p owned
-      (see_operand (roll-Operand x))
-  unfolding see_conditional see_operand see_chain see_unary_expression see_primary see_arguments see_next
-  operand_layer x y is = by_form (IsSight p owned) see_operand roll-Operand (λ z. operand_step
-      (seen_operand z))
-      (fold-roll-Operand Sight Sight Sights BranchSights ChainSight Sight Sights Sight Sight primary_step
+  operand_layer : (x : Bare Operand-F) (y : Pieces Operand-F) → bare_operand y ≡ x → IsOperand
+      (typed_operand (roll-Operand x))
+  unfolding typed_conditional typed_operand typed_chain typed_unary_expression typed_primary
+      typed_arguments typed_next
+  operand_layer x y is = by_form IsOperand typed_operand roll-Operand (λ z. operand_step
+      (attributes_operand z))
+      (fold-roll-Operand Typing Typing Typings BranchTypings ChainTyping Typing Typings Typing
+      OperandTyping primary_step
       unary_step
       arguments_step branches_step chain_step conditional_step expressions_step next_expression_step
       operand_step) (bare_operand y) x is (operand_form y)
 
-  pub conditional_sight : (x : Conditional) → IsSight p owned (see_conditional x)
-  conditional_sight = ind-Conditional
-      (λ x. IsSight p owned (see_primary x)) (λ x. IsSight p owned (see_unary_expression x))
-      (λ x. AreSights p owned (see_arguments x)) (λ x. AreBranches (see_branches x))
-      (λ x. IsChain (see_chain x)) (λ x. IsSight p owned (see_conditional x))
-      (λ x. AreSights p owned (see_expressions x)) (λ x. IsSight p owned (see_next x))
-      (λ x. IsSight p owned (see_operand x))
+  pub conditional_typing : (x : Conditional) → IsWellTyping p owned (typed_conditional x)
+  conditional_typing = ind-Conditional
+      (λ x. IsWellTyping p owned (typed_primary x)) (λ x. IsWellTyping p owned (typed_unary_expression x))
+      (λ x. AreWellTypings p owned (typed_arguments x)) (λ x. AreBranches (typed_branches x))
+      (λ x. IsChain (typed_chain x)) (λ x. IsWellTyping p owned (typed_conditional x))
+      (λ x. AreWellTypings p owned (typed_expressions x)) (λ x. IsWellTyping p owned (typed_next x))
+      (λ x. IsOperand (typed_operand x))
       primary_layer unary_layer arguments_layer branches_layer chain_layer conditional_layer expressions_layer
       next_layer operand_layer
 
-  pub next_sight : (x : NextExpression) → IsSight p owned (see_next x)
-  next_sight = ind-NextExpression
-      (λ x. IsSight p owned (see_primary x)) (λ x. IsSight p owned (see_unary_expression x))
-      (λ x. AreSights p owned (see_arguments x)) (λ x. AreBranches (see_branches x))
-      (λ x. IsChain (see_chain x)) (λ x. IsSight p owned (see_conditional x))
-      (λ x. AreSights p owned (see_expressions x)) (λ x. IsSight p owned (see_next x))
-      (λ x. IsSight p owned (see_operand x))
+  pub next_typing : (x : NextExpression) → IsWellTyping p owned (typed_next x)
+  next_typing = ind-NextExpression
+      (λ x. IsWellTyping p owned (typed_primary x)) (λ x. IsWellTyping p owned (typed_unary_expression x))
+      (λ x. AreWellTypings p owned (typed_arguments x)) (λ x. AreBranches (typed_branches x))
+      (λ x. IsChain (typed_chain x)) (λ x. IsWellTyping p owned (typed_conditional x))
+      (λ x. AreWellTypings p owned (typed_expressions x)) (λ x. IsWellTyping p owned (typed_next x))
+      (λ x. IsOperand (typed_operand x))
       primary_layer unary_layer arguments_layer branches_layer chain_layer conditional_layer expressions_layer
       next_layer operand_layer
 
-  pub arguments_sight : (x : Arguments) → AreSights p owned (see_arguments x)
-  arguments_sight = ind-Arguments
-      (λ x. IsSight p owned (see_primary x)) (λ x. IsSight p owned (see_unary_expression x))
-      (λ x. AreSights p owned (see_arguments x)) (λ x. AreBranches (see_branches x))
-      (λ x. IsChain (see_chain x)) (λ x. IsSight p owned (see_conditional x))
-      (λ x. AreSights p owned (see_expressions x)) (λ x. IsSight p owned (see_next x))
-      (λ x. IsSight p owned (see_operand x))
+  pub arguments_typing : (x : Arguments) → AreWellTypings p owned (typed_arguments x)
+  arguments_typing = ind-Arguments
+      (λ x. IsWellTyping p owned (typed_primary x)) (λ x. IsWellTyping p owned (typed_unary_expression x))
+      (λ x. AreWellTypings p owned (typed_arguments x)) (λ x. AreBranches (typed_branches x))
+      (λ x. IsChain (typed_chain x)) (λ x. IsWellTyping p owned (typed_conditional x))
+      (λ x. AreWellTypings p owned (typed_expressions x)) (λ x. IsWellTyping p owned (typed_next x))
+      (λ x. IsOperand (typed_operand x))
       primary_layer unary_layer arguments_layer branches_layer chain_layer conditional_layer expressions_layer
       next_layer operand_layer

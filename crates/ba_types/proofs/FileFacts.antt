@@ -16,7 +16,7 @@ use Rattle.ba_parse.specs.declared.tree.statements.FunctionEnd.TheVariants as en
 use Rattle.ba_tree.specs.Facts.{StmtFacts, around, leaf_facts, has_variable, holds, shape_at, is_own_shape, is_function, body_facts, no_function, is_global_initialiser}
 use Rattle.ba_tree.specs.declared.tree.Parts.{Parts}
 use Rattle.ba_types.specs.Declarations.{Added, nothing_added, Before, behind, add_declarators}
-use Rattle.ba_types.specs.Files.{FileAdded, params_of, vars_of, vars_from, signature_of_form, signature_of, definitions_of, with_signature, signatures_from, add_form, add_external, add_externals, with_functions}
+use Rattle.ba_types.specs.Files.{FileAdded, params_of, vars_of, vars_from, signature_of_form, signature_of, definitions_of, with_signature, signatures_from, add_external_form, add_external, add_externals, with_functions}
 use Rattle.ba_types.specs.Names.{Scope, knowing, definition_in, is_main_name, main_name, type_named}
 use Rattle.ba_types.specs.Trees.{FunctionTree, StmtTree}
 use Rattle.ba_types.specs.declared.scopes.Entry.{Entry}
@@ -251,11 +251,12 @@ module _ (p : Parts) where
 
   form_is : (d : ℕ) (t : Option CType) (f : ExternalForm) (file : Scope) (earlier : List Signature)
       (n : Before)
-      → IsFileScope p file → (add_form t f (signature_of_form d t f) file earlier n).added.faults ≡ []
-      → StandsIn d n (add_form t f (signature_of_form d t f) file earlier n)
+      → IsFileScope p file →
+      (add_external_form t f (signature_of_form d t f) file earlier n).added.faults ≡ []
+      → StandsIn d n (add_external_form t f (signature_of_form d t f) file earlier n)
       → ((s : Signature) → signature_of_form d t f ≡ Some s → s.is_definition ≡ true
       → is_main_name s.name ≡ (s.function.0 == p.main.0))
-      → IsFile d n (add_form t f (signature_of_form d t f) file earlier n)
+      → IsFile d n (add_external_form t f (signature_of_form d t f) file earlier n)
   form_is d t (form.Variables declarators semicolon) file earlier n file_scope none stands main =
       variables_are t declarators file earlier d n file_scope stands none
   form_is d t (form.Function name opener params closer (end.Prototype semicolon)) file earlier n file_scope

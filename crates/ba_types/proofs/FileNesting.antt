@@ -17,7 +17,7 @@ use Rattle.ba_tree.specs.declared.tree.Parts as program
 use Rattle.ba_types.specs.Declarations.{Before, behind, in_order}
 use Rattle.ba_types.specs.Names.{Scope, knowing, type_named, name_of, is_main_name}
 use Rattle.ba_types.specs.Statements.{parts_of_block}
-use Rattle.ba_types.specs.Files.{params_of, signature_of_form, signature_of, definitions_of, with_signature, function_scope, add_params, add_form, add_external, add_externals, file_scope, no_parts, file_of, program_of, main_of, typed_of}
+use Rattle.ba_types.specs.Files.{params_of, signature_of_form, signature_of, definitions_of, with_signature, function_scope, add_params, add_external_form, add_external, add_externals, file_scope, no_parts, file_of, program_of, main_of, typed_of}
 use Rattle.ba_types.specs.Trees.{FunctionTree, ProgramTree, stmts_of}
 use Rattle.ba_types.specs.declared.scopes.Signature.{Signature}
 use Rattle.ba_types.proofs.DepthFacts.{deepest, is_shallow}
@@ -45,7 +45,7 @@ module _ (p : program.Parts) (f : Function) where
   form_shallow : (d : ℕ) (t : Option CType) (x : ExternalForm) (file : Scope) (earlier : List Signature)
       (n : Before)
       → nat_le (form_of_nesting x) 100 ≡ true
-      → are_shallow (add_form t x (signature_of_form d t x) file earlier n).functions ≡ true
+      → are_shallow (add_external_form t x (signature_of_form d t x) file earlier n).functions ≡ true
   form_shallow d t (form.Variables declarators semicolon) file earlier n h = refl
   form_shallow d t (form.Function name opener params closer (end.Prototype semicolon)) file earlier n h = refl
   form_shallow d t (form.Function name opener params closer (end.Body b)) file earlier n h =

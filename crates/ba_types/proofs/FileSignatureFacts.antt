@@ -21,7 +21,7 @@ use Rattle.ba_tree.specs.declared.tree.Parts.{Parts}
 use Rattle.ba_types.specs.Declarations.{Before, behind, in_order}
 use Rattle.ba_types.specs.Statements.{parts_of_block}
 use Rattle.ba_types.specs.Faults.{twice_faults, limit_faults, function_limit}
-use Rattle.ba_types.specs.Files.{params_of, type_of_param, signature_of_form, signature_of, definitions_of, with_signature, signatures_from, count_functions, signature_faults, vars_of, add_form, add_external, add_externals, function_scope, function_tree, add_params, body_parts, says_params, is_definition}
+use Rattle.ba_types.specs.Files.{params_of, type_of_param, signature_of_form, signature_of, definitions_of, with_signature, signatures_from, count_functions, signature_faults, vars_of, add_external_form, add_external, add_externals, function_scope, function_tree, add_params, body_parts, says_params, is_definition}
 use Rattle.ba_types.specs.Names.{Scope, knowing, name_of, same_name, is_declared_here, is_declared_in, definition_in, is_main_name, main_name, type_named}
 use Rattle.ba_types.specs.Trees.{FunctionTree, tree_of_function}
 use Rattle.ba_types.specs.declared.fault.Cause.TheVariants.{Twice}
@@ -147,7 +147,7 @@ one_step file earlier s at none = record {
 
 form_step : (d : ℕ) (t : Option CType) (f : ExternalForm) (file : Scope) (earlier : List Signature)
     (n : Before)
-    → (add_form t f (signature_of_form d t f) file earlier n).added.faults ≡ []
+    → (add_external_form t f (signature_of_form d t f) file earlier n).added.faults ≡ []
     → count_functions earlier ≤ 100
     → IsStep earlier (signature_of_form d t f)
 form_step d t (form.Variables declarators semicolon) file earlier n none few = no_step earlier few
@@ -264,9 +264,10 @@ module _ (p : Parts) where
 
   form_declared : (d : ℕ) (t : Option CType) (f : ExternalForm) (file : Scope) (earlier : List Signature)
       (n : Before)
-      → (add_form t f (signature_of_form d t f) file earlier n).added.faults ≡ []
-      → HasAt p.variables n.variables (add_form t f (signature_of_form d t f) file earlier n).added.variables
-      → HasAt trees d (add_form t f (signature_of_form d t f) file earlier n).functions
+      → (add_external_form t f (signature_of_form d t f) file earlier n).added.faults ≡ []
+      → HasAt p.variables n.variables (add_external_form t f (signature_of_form d t f) file earlier
+      n).added.variables
+      → HasAt trees d (add_external_form t f (signature_of_form d t f) file earlier n).functions
       → (ss : List Signature) → AreDefinitions Declares ss
       → AreDefinitions Declares (with_signature (signature_of_form d t f) ss)
   form_declared d t (form.Variables declarators semicolon) file earlier n none variables functions ss rest =
@@ -298,7 +299,7 @@ module _ (p : Parts) where
 
   pub form_count : (d : ℕ) (t : Option CType) (f : ExternalForm) (file : Scope) (earlier : List Signature)
       (n : Before)
-      → length (add_form t f (signature_of_form d t f) file earlier n).functions ≡ definitions_of
+      → length (add_external_form t f (signature_of_form d t f) file earlier n).functions ≡ definitions_of
       (signature_of_form d t f)
   form_count d t (form.Variables declarators semicolon) file earlier n = refl
   form_count d t (form.Function name opener params closer (end.Prototype semicolon)) file earlier n = refl

@@ -17,7 +17,7 @@ use Rattle.ba_tree.specs.declared.tree.Stmt.{Stmt}
 use Rattle.ba_types.specs.Adding.{State, at_place, before_of, behind_part, extended, no_work, state}
 use Rattle.ba_types.specs.Declarations.{Before, add_declarators, behind, nothing_added}
 use Rattle.ba_types.specs.Faults.{IsFirst}
-use Rattle.ba_types.specs.Files.{FileAdded, FirstFault, add_external, add_externals, add_form, definitions_of, faults_of, file_of, file_scope, main_of, program_of, signature_of, typed_of, vars_of, with_functions, with_signature}
+use Rattle.ba_types.specs.Files.{FileAdded, FirstFault, add_external, add_externals, add_external_form, definitions_of, faults_of, file_of, file_scope, main_of, program_of, signature_of, typed_of, vars_of, with_functions, with_signature}
 use Rattle.ba_types.specs.Filing.{CheckedParts, FileState, IsTyped, behind_externals, error_of, file_state, tree_of_parts, with_part}
 use Rattle.ba_types.specs.Judging.{after, nothing_found}
 use Rattle.ba_types.specs.Names.{Scope, knowing, type_named}
@@ -109,11 +109,12 @@ all-externals xs earlier s t none is = is ∙ ap (λ ss. behind_externals 0 xs s
 pub filed-as : (x : External) (f : ExternalForm) (o p : Option Signature) (earlier : List Signature)
     (s t : FileState)
     → x.form ≡ f → o ≡ p
-    → t ≡ with_part s (add_form (type_named x.name) f p s.state.scope earlier (before_of s.state.work))
+    → t ≡ with_part s (add_external_form (type_named x.name) f p s.state.scope earlier (before_of
+    s.state.work))
     → t ≡ with_part s (add_external x o s.state.scope earlier (before_of s.state.work))
 filed-as x f o p earlier s t is says added =
     let from : ExternalForm → Option Signature → FileState = λ f o.
-    with_part s (add_form (type_named x.name) f o s.state.scope earlier (before_of s.state.work)) in
+    with_part s (add_external_form (type_named x.name) f o s.state.scope earlier (before_of s.state.work)) in
     added ∙ ap (from f) (sym says) ∙ ap (λ f. from f o) (sym is)
 
 pub variables-filed : (x : External) (o : Option Signature) (earlier : List Signature)
@@ -126,7 +127,7 @@ unfolding behind_part
 variables-filed x o earlier s0 s1 w0 w1 i0 i1 fs t ds semicolon is types added =
     let s : FileState = file_state s0 w0 i0 fs in
     let from : Option CType → FileState = λ t.
-    with_part s (add_form t (form.Variables ds semicolon) o s0 earlier (before_of w0)) in
+    with_part s (add_external_form t (form.Variables ds semicolon) o s0 earlier (before_of w0)) in
     let here : file_state s1 w1 i1 fs ≡ from t
     = λ i. record { state = added i; functions = sym (append-nil (map tree_of_function fs.items)) i } in
     filed-as x (form.Variables ds semicolon) o o earlier s (file_state s1 w1 i1 fs) is refl

@@ -9,7 +9,7 @@ use Rattle.ba_numbers.specs.declared.ids.CallId.{CallId}
 use Rattle.ba_numbers.specs.declared.ids.VarId.{VarId}
 use Rattle.ba_numbers.specs.declared.numbers.CType.{CType}
 use Rattle.ba_tree.specs.Facts.{ExprFacts, operator_facts, with_variable, with_call, has_variable, greatest, are_sound}
-use Rattle.ba_types.specs.Expressions.{Seen}
+use Rattle.ba_types.specs.Expressions.{Typed}
 
 -- LISTS
 
@@ -48,21 +48,21 @@ pub record Fits (owned : List VarId) (before count height : ℕ) (constant : Boo
   pub plain : constant ≡ true → (x.variables ≡ []) × (x.calls ≡ [])
 
 -- expressions one after the other
-abbrev pub AreFit : List VarId → ℕ → List Seen → List ExprFacts → Type 0
+abbrev pub AreFit : List VarId → ℕ → List Typed → List ExprFacts → Type 0
 AreFit owned before [] [] = Unit {0}
 AreFit owned before [] (x ∷ xs) = ⊥
 AreFit owned before (e ∷ es) [] = ⊥
 AreFit owned before (e ∷ es) (x ∷ xs) =
     Fits owned before e.calls e.height e.is_constant x × AreFit owned (before + e.calls) es xs
 
-abbrev pub calls_of : List Seen → ℕ
-calls_of = sum_by (λ (e : Seen). e.calls)
+abbrev pub calls_of : List Typed → ℕ
+calls_of = sum_by (λ (e : Typed). e.calls)
 
-abbrev heights_of : List Seen → List ℕ
-heights_of = map (λ (e : Seen). e.height)
+abbrev heights_of : List Typed → List ℕ
+heights_of = map (λ (e : Typed). e.height)
 
-abbrev are_constant : List Seen → Bool
-are_constant = list_all (λ (e : Seen). e.is_constant)
+abbrev are_constant : List Typed → Bool
+are_constant = list_all (λ (e : Typed). e.is_constant)
 
 abbrev variables_in : List ExprFacts → List VarId
 variables_in = flat_map (λ (x : ExprFacts). x.variables)
@@ -71,7 +71,7 @@ abbrev calls_in : List ExprFacts → List CallId
 calls_in = flat_map (λ (x : ExprFacts). x.calls)
 
 module _ (owned : List VarId) where
-  all_sound : (before : ℕ) (es : List Seen) (xs : List ExprFacts) → AreFit owned before es xs → are_sound xs
+  all_sound : (before : ℕ) (es : List Typed) (xs : List ExprFacts) → AreFit owned before es xs → are_sound xs
       ≡ true
   all_sound before [] [] h = refl
   all_sound before [] (x ∷ xs) h = absurd h
@@ -79,7 +79,7 @@ module _ (owned : List VarId) where
   all_sound before (e ∷ es) (x ∷ xs) h = and_from x.is_sound (are_sound xs) h.0.sound (all_sound
       (before + e.calls) es xs h.1)
 
-  all_low : (before : ℕ) (es : List Seen) (xs : List ExprFacts) → AreFit owned before es xs
+  all_low : (before : ℕ) (es : List Typed) (xs : List ExprFacts) → AreFit owned before es xs
       → greatest (map (λ (x : ExprFacts). x.height) xs) ≤ greatest (heights_of es)
   all_low before [] [] h = omega arith
   all_low before [] (x ∷ xs) h = absurd h
@@ -87,7 +87,7 @@ module _ (owned : List VarId) where
   all_low before (e ∷ es) (x ∷ xs) h =
       let first = h.0.low in let rest = all_low (before + e.calls) es xs h.1 in omega (arith, first, rest)
 
-  all_named : (before : ℕ) (es : List Seen) (xs : List ExprFacts) → AreFit owned before es xs
+  all_named : (before : ℕ) (es : List Typed) (xs : List ExprFacts) → AreFit owned before es xs
       → list_all (has_variable owned) (variables_in xs) ≡ true
   all_named before [] [] h = refl
   all_named before [] (x ∷ xs) h = absurd h
@@ -96,7 +96,7 @@ module _ (owned : List VarId) where
       ∙ and_from (list_all (has_variable owned) x.variables) (list_all (has_variable owned) (variables_in xs))
       h.0.names (all_named (before + e.calls) es xs h.1)
 
-  all_numbered : (before : ℕ) (es : List Seen) (xs : List ExprFacts) → AreFit owned before es xs
+  all_numbered : (before : ℕ) (es : List Typed) (xs : List ExprFacts) → AreFit owned before es xs
       → call_numbers (calls_in xs) ≡ range_with_len (before + 1) (calls_of es)
   all_numbered before [] [] h = refl
   all_numbered before [] (x ∷ xs) h = absurd h
@@ -108,9 +108,9 @@ module _ (owned : List VarId) where
       ∙ ap (λ ns. range_with_len (before + 1) e.calls ++ ns)
       (all_numbered (before + e.calls) es xs h.1 ∙ ap (λ k. range_with_len k (calls_of es)) place)
       ∙ range-append (before + 1) e.calls (calls_of es)
-      ∙ ap (λ n. range_with_len (before + 1) n) (sym (sum_by-cons (λ (e : Seen). e.calls) e es))
+      ∙ ap (λ n. range_with_len (before + 1) n) (sym (sum_by-cons (λ (e : Typed). e.calls) e es))
 
-  all_plain : (before : ℕ) (es : List Seen) (xs : List ExprFacts) → AreFit owned before es xs
+  all_plain : (before : ℕ) (es : List Typed) (xs : List ExprFacts) → AreFit owned before es xs
       → are_constant es ≡ true → (variables_in xs ≡ []) × (calls_in xs ≡ [])
   all_plain before [] [] h all = (refl, refl)
   all_plain before [] (x ∷ xs) h all = absurd h
@@ -122,7 +122,7 @@ module _ (owned : List VarId) where
       (ap (λ vs. vs ++ variables_in xs) first.0 ∙ rest.0, ap (λ cs. cs ++ calls_in xs) first.1 ∙ rest.1)
 
   -- an operator over operands that fit, whose constraint is met
-  pub operator_fits : (before : ℕ) (es : List Seen) (xs : List ExprFacts) (t : CType) (meets : Bool)
+  pub operator_fits : (before : ℕ) (es : List Typed) (xs : List ExprFacts) (t : CType) (meets : Bool)
       → AreFit owned before es xs → meets ≡ true
       → Fits owned before (calls_of es) (1 + greatest (heights_of es)) (are_constant es)
       (operator_facts t xs meets)

@@ -22,8 +22,8 @@ use Rattle.ba_parse.specs.declared.tree.statements.Simples.{Simples}
 use Rattle.ba_tree.specs.Facts.{StmtFacts, around, as_loop, are_simple}
 use Rattle.ba_tree.specs.declared.tree.Function.{Function}
 use Rattle.ba_tree.specs.declared.tree.Parts.{Parts}
-use Rattle.ba_types.specs.Declarations.{Added, ◌and◌, Before, behind, Part, ◌then◌, in_order, next_stmt, add_declarator, add_length, add_variable, add_declare, add_optional_initialiser, init_tree, SeenLength, see_array_length, count_of_values, shape_of, faults_added}
-use Rattle.ba_types.specs.Expressions.{Seen, Sight, see_conditional}
+use Rattle.ba_types.specs.Declarations.{Added, ◌and◌, Before, behind, Part, ◌then◌, in_order, next_stmt, add_declarator, add_length, add_variable, add_declare, add_optional_initialiser, init_tree, TypedLength, typed_array_length, count_of_values, shape_of, faults_added}
+use Rattle.ba_types.specs.Expressions.{Typed, Typing, typed_conditional}
 use Rattle.ba_types.specs.Faults.{void_faults}
 use Rattle.ba_types.specs.Names.{Scope, knowing, looping, type_named, name_of}
 use Rattle.ba_types.specs.declared.scopes.Signature.{Signature}
@@ -32,15 +32,15 @@ use Rattle.ba_numbers.specs.declared.ids.StmtId.{StmtId}
 use Rattle.ba_numbers.specs.declared.numbers.CType.TheVariants.{I32}
 use Rattle.ba_numbers.specs.declared.numbers.BinOp.{BinOp}
 use Rattle.ba_parse.specs.declared.tree.statements.Target.{Target}
-use Rattle.ba_types.specs.Statements.{add_assignment, assign_tree, see_target, index_sight, one, add_simple, add_test, one_of, for_scope, add_first, add_step, for_test_or, for_test, add_for}
+use Rattle.ba_types.specs.Statements.{add_assignment, assign_tree, typed_target, index_typing, one, add_simple, add_test, one_of, for_scope, add_first, add_step, for_test_or, for_test, add_for}
 use Rattle.ba_types.specs.Trees.{ExprTree, StmtTree, stmts_of}
 use Rattle.ba_types.specs.Trees as tree
 use Rattle.ba_types.proofs.AdditionFacts.{Stands, stands_left, stands_right, InScope, in_knowing, in_looping, IsPiece, IsFew, few-and, IsPart, part_nothing, IsCounted, counted-and, all_facts_of}
 use Rattle.ba_types.proofs.DeclarationFacts.{declarators_part}
-use Rattle.ba_types.proofs.ExpressionFacts.{conditional_sight}
+use Rattle.ba_types.proofs.ExpressionFacts.{conditional_typing}
 use Rattle.ba_types.proofs.FittingFacts.{nil_left, nil_right}
-use Rattle.ba_types.proofs.PrimaryFacts.{IsSight}
-use Rattle.ba_types.proofs.SimpleFacts.{simples_part, none_counted, one_sight}
+use Rattle.ba_types.proofs.PrimaryFacts.{IsWellTyping}
+use Rattle.ba_types.proofs.SimpleFacts.{simples_part, none_counted, one_typing}
 use Rattle.ba_types.proofs.StatementTreeFacts.{stmt_facts_of, stmts_facts_of, stmts_facts-map, condition_facts}
 use Rattle.ba_types.proofs.SequenceFacts.{AreStmts, stmts-append, loosen, told_first, around_are, loop_are}
 use Rattle.ba_types.proofs.ControlFacts.{behind-and, IsStatement, one_are, in_inner, counted_enclosing, piece_enclosing, condition_leaf, recount, condition_are, condition_few}
@@ -73,16 +73,16 @@ module _ (p : Parts) (f : Function) where
   declare_simple true v = refl
   declare_simple false v = refl
 
-  init_simple : (stmt : StmtId) (v : VarId) (t : CType) (b : Bool) (es : List Seen)
+  init_simple : (stmt : StmtId) (v : VarId) (t : CType) (b : Bool) (es : List Typed)
       → are_simple (all_facts_of p f (init_tree stmt v t b es ∷ [])) ≡ true
   init_simple stmt v t true es = refl
   init_simple stmt v t false es = refl
 
-  length_simple : (at : At) (l : Option SeenLength) → HasSimple (add_length at l)
+  length_simple : (at : At) (l : Option TypedLength) → HasSimple (add_length at l)
   length_simple at None = record { by = λ scope n. refl }
   length_simple at (Some l) = record { by = λ scope n. refl }
 
-  initialiser_simple : (at : At) (v : VarId) (t : CType) (l : Option SeenLength) (o : Option Initialiser)
+  initialiser_simple : (at : At) (v : VarId) (t : CType) (l : Option TypedLength) (o : Option Initialiser)
       → HasSimple (add_optional_initialiser at v t l o)
   initialiser_simple at v t l None = record { by = λ scope n. refl }
   initialiser_simple at v t l (Some init) = record { by = λ scope n. init_simple _ v t (is_some l) _ }
@@ -94,7 +94,7 @@ module _ (p : Parts) (f : Function) where
         let at = d.name.now.at in
         let v : VarId = record { 0 = n.variables } in
         let s = unwrap_or t I32 in
-        let l = see_array_length at (count_of_values d.initialiser) scope n.calls d.length in
+        let l = typed_array_length at (count_of_values d.initialiser) scope n.calls d.length in
         let void_part : Part = (λ scope n. faults_added (void_faults t at)) in
         let initialised = simple_then (add_optional_initialiser at v s l d.initialiser) void_part
         (initialiser_simple at v s l d.initialiser) (record { by = λ scope n. refl }) in
@@ -118,21 +118,21 @@ module _ (p : Parts) (f : Function) where
 
   -- assignments, steps and calls
 
-  assign_simple : (stmt : StmtId) (v : VarId) (e : ExprTree) (o : Option Seen)
+  assign_simple : (stmt : StmtId) (v : VarId) (e : ExprTree) (o : Option Typed)
       → are_simple (all_facts_of p f (assign_tree stmt v e o ∷ [])) ≡ true
   assign_simple stmt v e None = refl
   assign_simple stmt v e (Some index) = refl
 
-  assignment_simple : (at : At) (target : Target) (op : Option BinOp) (sight : Sight)
-      → HasSimple (add_assignment at target op sight)
-  assignment_simple at target op sight = record {
+  assignment_simple : (at : At) (target : Target) (op : Option BinOp) (typing : Typing)
+      → HasSimple (add_assignment at target op typing)
+  assignment_simple at target op typing = record {
     by = λ scope n. assign_simple _ _ _
-        (see_target target.name.now.at (name_of target.name.now) (index_sight target.index) scope
+        (typed_target target.name.now.at (name_of target.name.now) (index_typing target.index) scope
         n.calls).index;
   }
 
   pub simple_simple : (s : Simple) → HasSimple (add_simple s)
-  simple_simple (form.Assign target operator value) = assignment_simple _ target _ (see_conditional value)
+  simple_simple (form.Assign target operator value) = assignment_simple _ target _ (typed_conditional value)
   simple_simple (form.Step target operator) = assignment_simple _ target _ (one operator.now.at)
   simple_simple (form.PrefixStep operator target) = assignment_simple _ target _ (one operator.now.at)
   simple_simple (form.Call name opener arguments closer) = record { by = λ scope n. refl }
@@ -165,9 +165,9 @@ module _ (p : Parts) (owned : List VarId) (f : Function) where
   step_part None = part_nothing p owned f true
   step_part (Some s) = simples_part p owned f true s
 
-  test_sight : (at : At) (o : Option Conditional) → IsSight p owned (for_test_or at o)
-  test_sight at None = one_sight p owned f true at
-  test_sight at (Some e) = conditional_sight p owned e
+  test_typing : (at : At) (o : Option Conditional) → IsWellTyping p owned (for_test_or at o)
+  test_typing at None = one_typing p owned f true at
+  test_typing at (Some e) = conditional_typing p owned e
 
   head_scope : (first : ForFirst) (scope : Scope) → InScope p owned f true scope
       → InScope p owned f true (for_scope first scope)
@@ -191,7 +191,7 @@ module _ (p : Parts) (owned : List VarId) (f : Function) where
     abbrev inside : Scope
     inside = knowing front.entries scope
 
-    abbrev w : Seen
+    abbrev w : Typed
     w = for_test head inside (behind n front).calls
 
     abbrev c : Added
@@ -308,7 +308,7 @@ module _ (p : Parts) (owned : List VarId) (f : Function) where
           (are_simple fronts && are_simple steps)
           (and_from _ _ ((first_simple p f head.first).by scope n) ((step_simple p f head.step).by inside
           (behind n (front and c))))
-          ((test_sight head.second_semicolon.now.at head.test).by inside in_inside.sound
+          ((test_typing head.second_semicolon.now.at head.test).by inside in_inside.sound
           (behind n front).calls)
           (stands_left p owned f true (behind n front) c (s and a) behind_front).1
 

@@ -21,8 +21,8 @@ use Rattle.ba_tree.specs.declared.tree.Function.{Function}
 use Rattle.ba_tree.specs.declared.tree.Parts.{Parts}
 use Rattle.ba_tree.specs.declared.tree.StmtKind.{StmtKind}
 use Rattle.ba_tree.specs.declared.tree.StmtKind.TheVariants as kind
-use Rattle.ba_types.specs.Declarations.{Added, ◌and◌, Before, behind, Part, ◌then◌, in_order, next_stmt, add_length, add_variable, add_declare, add_optional_initialiser, add_declarator, add_declarators, init_tree, has_braces, values_of, see_each, limit_of, exceeds, whole_faults, initial_faults, SeenLength}
-use Rattle.ba_types.specs.Expressions.{Seen, see_conditional, tree_as}
+use Rattle.ba_types.specs.Declarations.{Added, ◌and◌, Before, behind, Part, ◌then◌, in_order, next_stmt, add_length, add_variable, add_declare, add_optional_initialiser, add_declarator, add_declarators, init_tree, has_braces, values_of, typed_each, written_count, exceeds, whole_faults, initial_faults, TypedLength}
+use Rattle.ba_types.specs.Expressions.{Typed, typed_conditional, tree_as}
 use Rattle.ba_types.specs.Faults.{fault_if, limit_faults, statement_limit}
 use Rattle.ba_types.specs.Names.{Scope, knowing, name_of}
 use Rattle.ba_types.specs.Trees.{StmtTree}
@@ -30,9 +30,9 @@ use Rattle.ba_types.specs.Trees as tree
 use Rattle.ba_types.specs.declared.fault.Cause.TheVariants.{WrongKind, WrongCount}
 use Rattle.ba_types.specs.declared.scopes.Signature.{Signature}
 use Rattle.ba_types.proofs.AdditionFacts.{Stands, stands_left, stands_right, InScope, in_knowing, HasPiece, all_facts_of}
-use Rattle.ba_types.proofs.DeclarationFacts.{value_sights, declarator_part, number, base, len, declared, void_part, behind_variable, behind_length, target, initialiser_has, length_has, variable_has, declare_has}
+use Rattle.ba_types.proofs.DeclarationFacts.{value_typings, declarator_part, number, base, len, declared, void_part, behind_variable, behind_length, target, initialiser_has, length_has, variable_has, declare_has}
 use Rattle.ba_types.proofs.FittingFacts.{operator_fits, nil_left, nil_right}
-use Rattle.ba_types.proofs.LeafFacts.{AreSeen, AreWhole, all_initial, each_seen, each_fit}
+use Rattle.ba_types.proofs.LeafFacts.{AreWellTyped, AreWhole, all_initial, each_typed, each_fit}
 use Rattle.ba_types.proofs.PrimaryFacts.{not_so}
 use Rattle.ba_types.proofs.StatementTreeFacts.{stmt_facts_of}
 use Rattle.ba_types.proofs.TreeFacts.{facts_of}
@@ -52,8 +52,8 @@ one_init globals v ns xs meets is_global no_names no_calls = and_from _ _ (and_f
     (ap (λ (vs : List VarId). length (v ∷ vs) == 1) no_names)) (ap
     (λ (cs : List CallId). length cs == 0) no_calls)
 
-initial_constant : (at : At) (is_global : Bool) (es : List Seen) → is_global ≡ true
-    → flat_map (initial_faults at is_global) es ≡ [] → list_all (λ (e : Seen). e.is_constant) es ≡ true
+initial_constant : (at : At) (is_global : Bool) (es : List Typed) → is_global ≡ true
+    → flat_map (initial_faults at is_global) es ≡ [] → list_all (λ (e : Typed). e.is_constant) es ≡ true
 initial_constant at is_global [] is h = refl
 initial_constant at is_global (e ∷ es) is h =
     let own = initial_faults at is_global e in
@@ -93,7 +93,7 @@ module _ (p : Parts) (globals : List VarId) (f : Function) where
         (behind n a) (stands_right p globals f false n a b stands) (nil_right a.faults b.faults none));
   }
 
-  length_inits : (at : At) (l : Option SeenLength) → HasInits (add_length at l)
+  length_inits : (at : At) (l : Option TypedLength) → HasInits (add_length at l)
   length_inits at None = record { by = λ scope in_scope n stands none. refl }
   length_inits at (Some l) = record { by = λ scope in_scope n stands none. refl }
 
@@ -107,50 +107,52 @@ module _ (p : Parts) (globals : List VarId) (f : Function) where
   -- INITIALISERS
 
   -- converted constants name nothing
-  converted_plain : (t : CType) (before : ℕ) (es : List Seen) → AreSeen p globals before es → AreClean es
-      → list_all (λ (e : Seen). e.is_constant) es ≡ true
+  converted_plain : (t : CType) (before : ℕ) (es : List Typed) → AreWellTyped p globals before es →
+      AreClean es
+      → list_all (λ (e : Typed). e.is_constant) es ≡ true
       → (flat_map (λ (x : ExprFacts). x.variables) (map (facts_of p) (map (tree_as t) es)) ≡ [])
       × (flat_map (λ (x : ExprFacts). x.calls) (map (facts_of p) (map (tree_as t) es)) ≡ [])
-  converted_plain t before es seen none constant =
+  converted_plain t before es expression none constant =
       (operator_fits globals before es (map (facts_of p) (map (tree_as t) es)) I32 true
-      (each_fit p globals (tree_as t) (λ e before h. (as_typed p globals e t h).fits) before es seen none)
+      (each_fit p globals (tree_as t) (λ e before h. (as_typed p globals e t h).fits) before es expression
+      none)
       refl).plain
       constant
 
-  init_inits : (n : Before) (v : VarId) (t : CType) (l : Option SeenLength) (init : Initialiser)
+  init_inits : (n : Before) (v : VarId) (t : CType) (l : Option TypedLength) (init : Initialiser)
       (scope : Scope)
       → InScope p globals f false scope → has_variable globals v ≡ true
       → (cond (is_some l) (not (has_braces init)) (has_braces init)) ≡ false
-      → AreWhole (see_each scope n.calls (values_of init))
-      → list_all (λ (e : Seen). e.is_constant) (see_each scope n.calls (values_of init)) ≡ true
+      → AreWhole (typed_each scope n.calls (values_of init))
+      → list_all (λ (e : Typed). e.is_constant) (typed_each scope n.calls (values_of init)) ≡ true
       → list_all (is_init globals) (all_facts_of p f
-      (init_tree (next_stmt n) v t (is_some l) (see_each scope n.calls (values_of init)) ∷ [])) ≡ true
+      (init_tree (next_stmt n) v t (is_some l) (typed_each scope n.calls (values_of init)) ∷ [])) ≡ true
   init_inits n v t None (initialiser.Expression assign e) scope in_scope is_global braces whole constant =
-      let x = facts_of p (tree_as t (see_conditional e scope n.calls)) in
-      let plain = converted_plain t n.calls (see_conditional e scope n.calls ∷ [])
-      (each_seen p globals scope in_scope.sound n.calls (see_conditional e ∷ [])
-      (value_sights p globals f false (initialiser.Expression assign e))) whole.are_clean constant in
+      let x = facts_of p (tree_as t (typed_conditional e scope n.calls)) in
+      let plain = converted_plain t n.calls (typed_conditional e scope n.calls ∷ [])
+      (each_typed p globals scope in_scope.sound n.calls (typed_conditional e ∷ [])
+      (value_typings p globals f false (initialiser.Expression assign e))) whole.are_clean constant in
       and_from _ _ (one_init globals v (numbered (next_stmt n) kind.Initialiser) (x ∷ [])
       (is_value p v && fits_type (type_at p v) x) is_global plain.0 plain.1) refl
   init_inits n v t None (initialiser.Braced assign b) scope in_scope is_global braces whole constant = cc
   init_inits n v t (Some l) init scope in_scope is_global braces whole constant =
-      let es = see_each scope n.calls (values_of init) in
+      let es = typed_each scope n.calls (values_of init) in
       let xs = map (facts_of p) (map (tree_as t) es) in
-      let plain = converted_plain t n.calls es (each_seen p globals scope in_scope.sound n.calls
+      let plain = converted_plain t n.calls es (each_typed p globals scope in_scope.sound n.calls
       (values_of init)
-      (value_sights p globals f false init)) whole.are_clean constant in
+      (value_typings p globals f false init)) whole.are_clean constant in
       and_from _ _ (one_init globals v (numbered (next_stmt n) kind.Initialiser) xs
       (holds is_own_array (shape_at p v) && fits_array p v xs) is_global plain.0 plain.1) refl
 
-  initialiser_inits : (at : At) (v : VarId) (t : CType) (l : Option SeenLength) (o : Option Initialiser)
+  initialiser_inits : (at : At) (v : VarId) (t : CType) (l : Option TypedLength) (o : Option Initialiser)
       → has_variable globals v ≡ true → HasInits (add_optional_initialiser at v t l o)
   initialiser_inits at v t l None is_global = record { by = λ scope in_scope n stands none. refl }
   initialiser_inits at v t l (Some init) is_global = record {
     by = λ scope in_scope n stands none.
-        let es = see_each scope n.calls (values_of init) in
+        let es = typed_each scope n.calls (values_of init) in
         let limit = limit_faults statement_limit (n.statements + 1) at in
         let braces = fault_if (cond (is_some l) (not (has_braces init)) (has_braces init)) WrongKind at in
-        let count = fault_if (exceeds (limit_of l) (length es)) WrongCount at in
+        let count = fault_if (exceeds (written_count l) (length es)) WrongCount at in
         let values = flat_map (initial_faults at (scope.depth == 0)) es in
         let own = nil_right limit (braces ++ count ++ values) none in
         let values_none = nil_right (braces ++ count) values own in
@@ -172,7 +174,7 @@ module _ (p : Parts) (globals : List VarId) (f : Function) where
     abbrev var : VarId
     var = number p globals f false functions t d scope n
 
-    abbrev l : Option SeenLength
+    abbrev l : Option TypedLength
     l = len p globals f false functions t d scope n
 
     abbrev last : Part

@@ -12,8 +12,8 @@ use Rattle.ba_parse.specs.declared.tree.expressions.NextExpression.{NextExpressi
 use Rattle.ba_tree.specs.declared.tree.Expr.{Expr}
 use Rattle.ba_tree.specs.declared.tree.Stmt as code
 use Rattle.ba_types.specs.Adding.{Keeping, Kept, first_of, keep_each, keep_one}
-use Rattle.ba_types.specs.Declarations.{calls_in, first_tree, init_tree, see_each, whole_faults}
-use Rattle.ba_types.specs.Expressions.{Seen, Sight, see_conditional, see_next, tree_as}
+use Rattle.ba_types.specs.Declarations.{calls_in, first_tree, init_tree, typed_each, whole_faults}
+use Rattle.ba_types.specs.Expressions.{Typed, Typing, typed_conditional, typed_next, tree_as}
 use Rattle.ba_types.specs.Faults.{limit_faults, height_limit}
 use Rattle.ba_types.specs.Judging.{Stands, after, with_faults}
 use Rattle.ba_types.specs.Names.{Scope}
@@ -27,29 +27,29 @@ use Rattle.ba_types.proofs.StmtForms.{tree-Init, tree-InitArray}
 use Rattle.ba_types.proofs.Tallies.{faults-before}
 use Rattle.ba_types.proofs.Walks.{next_item, none_left}
 
-pub whole-is : (at : At) (j : Judged) (s : Seen) (old mid new : Tally) → Stands j s old mid
+pub whole-is : (at : At) (j : Judged) (s : Typed) (old mid new : Tally) → Stands j s old mid
     → new ≡ with_faults mid (limit_faults height_limit j.height at) → new ≡ after old s.calls (whole_faults
     at s)
 whole-is at j s old mid new stands more =
-    subst (λ h. new ≡ after old s.calls (limit_faults height_limit h at ++ s.faults)) (ap (λ (e : Seen).
+    subst (λ h. new ≡ after old s.calls (limit_faults height_limit h at ++ s.faults)) (ap (λ (e : Typed).
     e.height) stands.0)
     (faults-before old mid new s.calls s.faults (limit_faults height_limit j.height at) stands.1 more)
 
 -- THE STATEMENT OF AN INITIALISER
 
-pub init-all : (stmt : StmtId) (v : VarId) (t : CType) (exprs : Vec Expr) (b : Bool) (es : List Seen) → b ≡
+pub init-all : (stmt : StmtId) (v : VarId) (t : CType) (exprs : Vec Expr) (b : Bool) (es : List Typed) → b ≡
     true
     → map tree_of_expr exprs.items ≡ map (tree_as t) es
     → tree_of_stmt (code.InitArray stmt v exprs) ≡ init_tree stmt v t b es
 init-all stmt v t exprs b es array trees = tree-InitArray stmt v exprs ∙ ap (tree.init_array stmt v) trees
     ∙ ap (λ b. init_tree stmt v t b es) (sym array)
 
-first-as : (t : CType) (es : List Seen) → first_of (map (tree_as t) es) ≡ first_tree t es
+first-as : (t : CType) (es : List Typed) → first_of (map (tree_as t) es) ≡ first_tree t es
 first-as t [] = refl
 first-as t (e ∷ es) = refl
 
 pub init-one : (stmt : StmtId) (v : VarId) (t : CType) (expr : Expr) (trees : List ExprTree) (b : Bool) (es
-    : List Seen)
+    : List Typed)
     → b ≡ false → tree_of_expr expr ≡ first_of trees → trees ≡ map (tree_as t) es
     → tree_of_stmt (code.Init stmt v expr) ≡ init_tree stmt v t b es
 init-one stmt v t expr trees b es single first is = tree-Init stmt v expr
@@ -58,22 +58,22 @@ init-one stmt v t expr trees b es single first is = tree-Init stmt v expr
 
 -- VALUES ONE AFTER THE OTHER
 
-sum-more : (e : Seen) (es : List Seen) → e.calls + calls_in es ≡ calls_in (e ∷ es)
-sum-more e es = sym (sum_by-cons (λ (e : Seen). e.calls) e es)
+sum-more : (e : Typed) (es : List Typed) → e.calls + calls_in es ≡ calls_in (e ∷ es)
+sum-more e es = sym (sum_by-cons (λ (e : Typed). e.calls) e es)
 
-pub kept-is : (how : Keeping) (scope : Scope) (sights : List Sight) (k : Kept)
-    → keep_each how scope sights k ≡ record {
-      trees = k.trees ++ map how.tree (see_each scope k.tally.calls sights);
-      tally = after k.tally (calls_in (see_each scope k.tally.calls sights))
-          (flat_map how.faults (see_each scope k.tally.calls sights));
+pub kept-is : (how : Keeping) (scope : Scope) (typings : List Typing) (k : Kept)
+    → keep_each how scope typings k ≡ record {
+      trees = k.trees ++ map how.tree (typed_each scope k.tally.calls typings);
+      tally = after k.tally (calls_in (typed_each scope k.tally.calls typings))
+          (flat_map how.faults (typed_each scope k.tally.calls typings));
     }
 kept-is how scope [] k = ap (λ ts. record { trees = ts; tally = k.tally }) (sym (append-nil k.trees))
     ∙ ap (λ t. record { trees = k.trees ++ []; tally = t }) (after-nothing k.tally)
-kept-is how scope (sight ∷ sights) k =
-    let e = sight scope k.tally.calls in let es = see_each scope (k.tally.calls + e.calls) sights in
+kept-is how scope (typing ∷ typings) k =
+    let e = typing scope k.tally.calls in let es = typed_each scope (k.tally.calls + e.calls) typings in
     let faults = how.faults e ++ flat_map how.faults es in let trees = k.trees ++ (how.tree e ∷ map
     how.tree es) in
-    kept-is how scope sights (keep_one how e k)
+    kept-is how scope typings (keep_one how e k)
     ∙ ap (λ ts. record {
       trees = ts;
       tally = after (after k.tally e.calls (how.faults e)) (calls_in es)
@@ -88,21 +88,21 @@ kept-is how scope (sight ∷ sights) k =
 -- one more of a list, from a place
 pub next-value : (how : Keeping) (scope : Scope) (xs : List NextExpression) (i : ℕ) (x : NextExpression)
     (old new whole : Kept)
-    → i < length xs → x ≡ get_or xs i x → keep_each how scope (map see_next (drop i xs)) old ≡ whole
-    → new ≡ keep_one how (see_conditional (out-NextExpression x).expression scope old.tally.calls) old
-    → keep_each how scope (map see_next (drop (i + 1) xs)) new ≡ whole
+    → i < length xs → x ≡ get_or xs i x → keep_each how scope (map typed_next (drop i xs)) old ≡ whole
+    → new ≡ keep_one how (typed_conditional (out-NextExpression x).expression scope old.tally.calls) old
+    → keep_each how scope (map typed_next (drop (i + 1) xs)) new ≡ whole
 next-value how scope xs i x old new whole within is rest one =
-    ap (keep_each how scope (map see_next (drop (i + 1) xs))) one
-    ∙ ap (λ (s : Sight). keep_each how scope (map see_next (drop (i + 1) xs)) (keep_one how (s scope
+    ap (keep_each how scope (map typed_next (drop (i + 1) xs))) one
+    ∙ ap (λ (s : Typing). keep_each how scope (map typed_next (drop (i + 1) xs)) (keep_one how (s scope
     old.tally.calls) old))
     (sym (next-is x))
-    ∙ ap (λ ys. keep_each how scope (map see_next ys) old) (sym (next_item xs i x within is)) ∙ rest
+    ∙ ap (λ ys. keep_each how scope (map typed_next ys) old) (sym (next_item xs i x within is)) ∙ rest
 
 pub no-value : (how : Keeping) (scope : Scope) (xs : List NextExpression) (i : ℕ) (k whole : Kept) → length
     xs ≤ i
-    → keep_each how scope (map see_next (drop i xs)) k ≡ whole → k ≡ whole
+    → keep_each how scope (map typed_next (drop i xs)) k ≡ whole → k ≡ whole
 no-value how scope xs i k whole all rest =
-    ap (λ ys. keep_each how scope (map see_next ys) k) (sym (none_left xs i all)) ∙ rest
+    ap (λ ys. keep_each how scope (map typed_next ys) k) (sym (none_left xs i all)) ∙ rest
 
 pub un-not : (a b : Bool) → not a ≡ b → a ≡ not b
 un-not true b e = ap not e

@@ -11,17 +11,17 @@ use Rattle.ba_tree.specs.declared.tree.Parts.{Parts}
 use Rattle.ba_tree.specs.declared.tree.StmtInfo.{StmtInfo}
 use Rattle.ba_tree.specs.declared.tree.StmtKind.{StmtKind}
 use Rattle.ba_tree.specs.declared.tree.StmtKind.TheVariants as kind
-use Rattle.ba_types.specs.Declarations.{Before, next_stmt, whole_faults, initial_faults, see_each}
-use Rattle.ba_types.specs.Expressions.{Seen, Sight}
+use Rattle.ba_types.specs.Declarations.{Before, next_stmt, whole_faults, initial_faults, typed_each}
+use Rattle.ba_types.specs.Expressions.{Typed, Typing}
 use Rattle.ba_types.specs.Faults.{limit_faults, height_limit}
 use Rattle.ba_types.specs.Names.{Scope}
 use Rattle.ba_types.specs.Trees.{ExprTree}
 use Rattle.ba_types.specs.declared.fault.Cause.TheVariants.{Limit}
 use Rattle.ba_types.proofs.TreeFacts.{facts_of}
 use Rattle.ba_types.proofs.FittingFacts.{calls_of, Fits, AreFit, operator_fits, nil_left, nil_right, call_numbers}
-use Rattle.ba_types.proofs.OperatorFacts.{IsTyped, IsSeen, AreClean}
+use Rattle.ba_types.proofs.OperatorFacts.{IsTyped, IsWellTyped, AreClean}
 use Rattle.ba_types.proofs.ScopeFacts.{IsScope}
-use Rattle.ba_types.proofs.PrimaryFacts.{AreSights, not_so}
+use Rattle.ba_types.proofs.PrimaryFacts.{AreWellTypings, not_so}
 use Rattle.ba_types.proofs.SequenceFacts.{AreStmts, each_none, each_is}
 
 -- WHAT STANDS AT A PLACE of a list
@@ -46,34 +46,34 @@ pub within : (limit number : ℕ) (at : At) → limit_faults limit number at ≡
 within limit number at h = ltb-false limit number (not_so (nat_lt limit number) Limit at h)
 
 -- expressions within the limit on heights
-abbrev pub AreLow : List Seen → Type 0
+abbrev pub AreLow : List Typed → Type 0
 AreLow [] = Unit {0}
 AreLow (e ∷ es) = (e.height ≤ 100) × AreLow es
 
 -- whole expressions without a fault
-pub record AreWhole (es : List Seen) : Type 0 where
+pub record AreWhole (es : List Typed) : Type 0 where
   pub are_clean : AreClean es
   pub are_low : AreLow es
 
-pub one_whole : (at : At) (e : Seen) → whole_faults at e ≡ [] → AreWhole (e ∷ [])
+pub one_whole : (at : At) (e : Typed) → whole_faults at e ≡ [] → AreWhole (e ∷ [])
 one_whole at e h = let limit = limit_faults height_limit e.height at in record {
   are_clean = (nil_right limit e.faults h, tt);
   are_low = (within height_limit e.height at (nil_left limit e.faults h), tt);
 }
 
-pub and_whole : (e : Seen) (es : List Seen) → AreWhole (e ∷ []) → AreWhole es → AreWhole (e ∷ es)
+pub and_whole : (e : Typed) (es : List Typed) → AreWhole (e ∷ []) → AreWhole es → AreWhole (e ∷ es)
 and_whole e es h k = record {
   are_clean = (h.are_clean.0, k.are_clean);
   are_low = (h.are_low.0, k.are_low);
 }
 
-pub all_whole : (at : At) (es : List Seen) → flat_map (whole_faults at) es ≡ [] → AreWhole es
+pub all_whole : (at : At) (es : List Typed) → flat_map (whole_faults at) es ≡ [] → AreWhole es
 all_whole at [] h = record { are_clean = tt; are_low = tt }
 all_whole at (e ∷ es) h = let rest = flat_map (whole_faults at) es in
     and_whole e es (one_whole at e (nil_left (whole_faults at e) rest h))
     (all_whole at es (nil_right (whole_faults at e) rest h))
 
-pub all_initial : (at : At) (is_global : Bool) (es : List Seen) → flat_map (initial_faults at is_global) es
+pub all_initial : (at : At) (is_global : Bool) (es : List Typed) → flat_map (initial_faults at is_global) es
     ≡ []
     → AreWhole es
 all_initial at is_global [] h = record { are_clean = tt; are_low = tt }
@@ -105,29 +105,29 @@ module _ (p : Parts) (owned : List VarId) where
 
   -- EXPRESSIONS ONE AFTER THE OTHER
 
-  abbrev pub AreSeen : ℕ → List Seen → Type 0
-  AreSeen before [] = Unit {0}
-  AreSeen before (e ∷ es) = IsSeen p owned before e × AreSeen (before + e.calls) es
+  abbrev pub AreWellTyped : ℕ → List Typed → Type 0
+  AreWellTyped before [] = Unit {0}
+  AreWellTyped before (e ∷ es) = IsWellTyped p owned before e × AreWellTyped (before + e.calls) es
 
-  pub each_seen : (scope : Scope) → IsScope p owned scope → (before : ℕ) (sights : List Sight)
-      → AreSights p owned sights → AreSeen before (see_each scope before sights)
-  each_seen scope sound before [] h = tt
-  each_seen scope sound before (s ∷ ss) h = (
+  pub each_typed : (scope : Scope) → IsScope p owned scope → (before : ℕ) (typings : List Typing)
+      → AreWellTypings p owned typings → AreWellTyped before (typed_each scope before typings)
+  each_typed scope sound before [] h = tt
+  each_typed scope sound before (s ∷ ss) h = (
     h.0.by scope sound before,
-    each_seen scope sound (before + (s scope before).calls) ss h.1,
+    each_typed scope sound (before + (s scope before).calls) ss h.1,
   )
 
   -- typed in some way that keeps what fits
-  pub each_fit : (typed : Seen → ExprTree)
-      → ((e : Seen) (before : ℕ) → IsTyped p owned before e.calls e.height e.is_constant e.t e.tree
+  pub each_fit : (typed : Typed → ExprTree)
+      → ((e : Typed) (before : ℕ) → IsTyped p owned before e.calls e.height e.is_constant e.t e.tree
       → Fits owned before e.calls e.height e.is_constant (facts_of p (typed e)))
-      → (before : ℕ) (es : List Seen) → AreSeen before es → AreClean es
+      → (before : ℕ) (es : List Typed) → AreWellTyped before es → AreClean es
       → AreFit owned before es (map (facts_of p) (map typed es))
   each_fit typed keeps before [] h none = tt
   each_fit typed keeps before (e ∷ es) h none =
       (keeps e before (h.0.right none.0), each_fit typed keeps (before + e.calls) es h.1 none.1)
 
-  whole_facts : (before : ℕ) (es : List Seen) (xs : List ExprFacts) → AreFit owned before es xs → AreLow es
+  whole_facts : (before : ℕ) (es : List Typed) (xs : List ExprFacts) → AreFit owned before es xs → AreLow es
       → list_all is_whole xs ≡ true
   whole_facts before [] [] h low = refl
   whole_facts before [] (x ∷ xs) h low = absurd h
@@ -142,7 +142,7 @@ module _ (p : Parts) (owned : List VarId) where
   -- LEAVES
 
   -- a numbered statement of whole expressions
-  pub leaf_are : {in_loop : Bool} (n : Before) (k : StmtKind) (es : List Seen) (xs : List ExprFacts)
+  pub leaf_are : {in_loop : Bool} (n : Before) (k : StmtKind) (es : List Typed) (xs : List ExprFacts)
       (meets : Bool)
       → AreFit owned n.calls es xs → AreLow es → meets ≡ true → has_kind p (next_stmt n, k) ≡ true
       → AreStmts p owned n.statements 1 n.calls (calls_of es) in_loop
@@ -185,7 +185,7 @@ module _ (p : Parts) (owned : List VarId) where
   }
 
   -- a call as a statement, in front of the calls in its arguments
-  pub calling_are : {in_loop : Bool} (n : Before) (es : List Seen) (xs : List ExprFacts) (meets : Bool)
+  pub calling_are : {in_loop : Bool} (n : Before) (es : List Typed) (xs : List ExprFacts) (meets : Bool)
       (c : CallId)
       → c.0 ≡ n.calls + 1
       → AreFit owned (n.calls + 1) es xs → AreLow es → meets ≡ true → has_kind p (next_stmt n, kind.Call)

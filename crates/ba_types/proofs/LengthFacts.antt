@@ -11,14 +11,14 @@ use Rattle.ba_parse.specs.declared.tree.expressions.Conditional.{Conditional}
 use Rattle.ba_tree.specs.Facts.{is_array_length}
 use Rattle.ba_tree.specs.declared.tree.Parts.{Parts}
 use Rattle.ba_tree.specs.declared.tree.Shape.TheVariants.{Array}
-use Rattle.ba_types.specs.Declarations.{is_length, length_in_range, written_length, SeenLength, see_written, see_counted, see_length, see_array_length, shape_of, limit_of, exceeds, Before, length_faults}
-use Rattle.ba_types.specs.Expressions.{Seen, see_conditional}
+use Rattle.ba_types.specs.Declarations.{is_length, length_in_range, written_length, TypedLength, typed_written_length, typed_counted_length, typed_length, typed_array_length, shape_of, written_count, exceeds, Before, length_faults}
+use Rattle.ba_types.specs.Expressions.{Typed, typed_conditional}
 use Rattle.ba_types.specs.Faults.{limit_faults, height_limit}
 use Rattle.ba_types.specs.Names.{Scope}
-use Rattle.ba_types.proofs.ExpressionFacts.{conditional_sight}
+use Rattle.ba_types.proofs.ExpressionFacts.{conditional_typing}
 use Rattle.ba_types.proofs.FittingFacts.{nil_right}
 use Rattle.ba_types.proofs.ScopeFacts.{IsScope}
-use Rattle.ba_types.proofs.OperatorFacts.{IsSeen}
+use Rattle.ba_types.proofs.OperatorFacts.{IsWellTyped}
 
 -- LENGTHS of arrays
 
@@ -34,7 +34,7 @@ range_of (Some z) = from (is_length z) (in_range z) where
   from true h = h refl
   from false h = refl
 
-written_range : (e : Seen) → is_array_length (Array (unwrap_or (written_length e) 1)) ≡ true
+written_range : (e : Typed) → is_array_length (Array (unwrap_or (written_length e) 1)) ≡ true
 written_range e = from e.is_constant (range_of e.value) where
   from : (b : Bool) → is_array_length (Array (unwrap_or (length_in_range e.value) 1)) ≡ true
       → is_array_length (Array (unwrap_or (cond b (length_in_range e.value) None) 1)) ≡ true
@@ -43,13 +43,13 @@ written_range e = from e.is_constant (range_of e.value) where
 
 -- the length of an array is in its range
 pub shape_range : (at : At) (values : Option ℕ) (scope : Scope) (calls : ℕ) (o : Option ArrayLength)
-    → is_array_length (shape_of (see_array_length at values scope calls o)) ≡ true
+    → is_array_length (shape_of (typed_array_length at values scope calls o)) ≡ true
 shape_range at values scope calls None = refl
 shape_range at values scope calls (Some l) = from l.length where
-  from : (o : Option Conditional) → is_array_length (shape_of (Some (see_length at values o scope calls)))
+  from : (o : Option Conditional) → is_array_length (shape_of (Some (typed_length at values o scope calls)))
       ≡ true
   from None = range_of (option_map pos values)
-  from (Some e) = written_range (see_conditional e scope calls)
+  from (Some e) = written_range (typed_conditional e scope calls)
 
 -- a length without a fault is there
 pub good_count : (n : Before) (at : At) (o : Option ℕ) → length_faults n at o ≡ [] → is_some o ≡ true
@@ -65,9 +65,9 @@ range_empty a zero h = refl
 range_empty a (suc n) h = cc
 
 -- a good length has no calls, and room for these values
-pub record IsLength (values : Option ℕ) (l : SeenLength) : Type 0 where
+pub record IsLength (values : Option ℕ) (l : TypedLength) : Type 0 where
   pub no_calls : l.faults ≡ [] → is_some l.count ≡ true → l.calls ≡ 0
-  pub room : (k : ℕ) → values ≡ Some k → is_some l.count ≡ true → exceeds (limit_of (Some l)) k ≡ false
+  pub room : (k : ℕ) → values ≡ Some k → is_some l.count ≡ true → exceeds (written_count (Some l)) k ≡ false
       → k ≤ unwrap_or l.count 1
 
 room_in : (o : Option ℕ) (k : ℕ) → is_some o ≡ true → exceeds o k ≡ false → k ≤ unwrap_or o 1
@@ -80,7 +80,8 @@ counted_room true k some = omega arith
 counted_room false k some = cc
 
 module _ (p : Parts) (owned : List VarId) where
-  constant_calls : (before : ℕ) (e : Seen) → IsSeen p owned before e → e.faults ≡ [] → e.is_constant ≡ true
+  constant_calls : (before : ℕ) (e : Typed) → IsWellTyped p owned before e → e.faults ≡ [] →
+      e.is_constant ≡ true
       → e.calls ≡ 0
   constant_calls before e h none is =
       let x = (h.right none).fits in
@@ -92,8 +93,8 @@ module _ (p : Parts) (owned : List VarId) where
   some_constant true o h = refl
   some_constant false o h = cc
 
-  written_is : (at : At) (values : Option ℕ) (before : ℕ) (e : Seen) → IsSeen p owned before e
-      → IsLength values (see_written at e)
+  written_is : (at : At) (values : Option ℕ) (before : ℕ) (e : Typed) → IsWellTyped p owned before e
+      → IsLength values (typed_written_length at e)
   written_is at values before e h = record {
     no_calls = λ none some. constant_calls before e h (nil_right
         (limit_faults height_limit e.height at) e.faults none)
@@ -101,7 +102,7 @@ module _ (p : Parts) (owned : List VarId) where
     room = λ k is some fits. room_in (written_length e) k some fits;
   }
 
-  counted_is : (values : Option ℕ) → IsLength values (see_counted values)
+  counted_is : (values : Option ℕ) → IsLength values (typed_counted_length values)
   counted_is None = record {
     no_calls = λ none some. refl;
     room = λ k is some fits. cc;
@@ -114,17 +115,18 @@ module _ (p : Parts) (owned : List VarId) where
 
   length_is : (scope : Scope) → IsScope p owned scope → (at : At) (values : Option ℕ) (calls : ℕ)
       (o : Option Conditional)
-      → IsLength values (see_length at values o scope calls)
+      → IsLength values (typed_length at values o scope calls)
   length_is scope sound at values calls None = counted_is values
-  length_is scope sound at values calls (Some e) = written_is at values calls (see_conditional e scope calls)
-      ((conditional_sight p owned e).by scope sound calls)
+  length_is scope sound at values calls (Some e) = written_is at values calls (typed_conditional e scope
+      calls)
+      ((conditional_typing p owned e).by scope sound calls)
 
   -- of an array, if it is one
-  abbrev pub IsLengthOf : Option ℕ → Option SeenLength → Type 0
+  abbrev pub IsLengthOf : Option ℕ → Option TypedLength → Type 0
   IsLengthOf values None = Unit {0}
   IsLengthOf values (Some l) = IsLength values l
 
   pub array_length_is : (scope : Scope) → IsScope p owned scope → (at : At) (values : Option ℕ) (calls : ℕ)
-      (o : Option ArrayLength) → IsLengthOf values (see_array_length at values scope calls o)
+      (o : Option ArrayLength) → IsLengthOf values (typed_array_length at values scope calls o)
   array_length_is scope sound at values calls None = tt
   array_length_is scope sound at values calls (Some l) = length_is scope sound at values calls l.length

@@ -59,3 +59,9 @@ pub mod SignatureSteps
 pub mod ParameterSteps
 pub mod FunctionSteps
 pub mod FileSteps
+pub mod Rows
+pub mod ExpressionRows
+pub mod DeclarationRows
+pub mod StatementRows
+pub mod FileRows
+pub mod Programs

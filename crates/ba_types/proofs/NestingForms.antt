@@ -17,12 +17,15 @@ use Rattle.ba_tree.specs.Facts.{greatest}
 use Rattle.ba_tree.specs.declared.tree.Function.{Function}
 use Rattle.ba_tree.specs.declared.tree.Parts as program
 use Rattle.ba_types.specs.Declarations.{Before, behind, Part, ◌and◌, in_order}
-use Rattle.ba_types.specs.Expressions.{Sight}
-use Rattle.ba_types.specs.Names.{Scope, knowing, inner, looping, type_named}
+use Rattle.ba_types.specs.Expressions.{Typing}
+use Rattle.ba_types.specs.Names.{Scope, jump_of, knowing, inner, looping, type_named}
 use Rattle.ba_types.specs.Statements as statements
-use Rattle.ba_types.specs.Statements.{Parts, add_simple, add_return, one_of, optional_sight, item_step, form_step, block_step, controlled_step, do_step, else_step, for_step, statement_step, add_item, add_statement, parts_of_block, add_first, add_step, add_test, for_scope, for_test, test_of}
+use Rattle.ba_types.specs.Statements.{PartList, add_simple, add_jump, add_jump_with, one_of, optional_typing, item_step, form_step, block_step, controlled_step, do_step, else_step, for_step, statement_step, add_item, add_statement, parts_of_block, add_first, add_step, add_test, for_scope, for_test, test_of}
 use Rattle.ba_types.proofs.ForFacts.{declarators_simple, simple_simple, first_simple, step_simple}
 use Rattle.ba_types.proofs.ParsedStatements.{add_controlled, add_do, add_else, add_for}
+use Rattle.ba_lex.specs.declared.token.Token.{Token}
+use Rattle.ba_types.specs.declared.names.Jump.{Jump}
+use Rattle.ba_types.specs.declared.names.Jump.TheVariants as jump
 use Rattle.ba_types.proofs.NestingFacts.{deep, one_deep, IsNested, IsStatement, AreNested, nested_then, all_flat, flat, leaf_statement, item_depth, form_depth, block_depth, controlled_depth, do_depth, else_depth, for_depth, statement_depth, item_nesting, form_nesting, block_nesting, controlled_nesting, do_nesting, else_nesting, for_nesting, statement_nesting}
 
 module _ (p : program.Parts) (f : Function) where
@@ -32,7 +35,7 @@ module _ (p : program.Parts) (f : Function) where
   OfItem = (x : BlockItem) × IsNested (item_nesting x) (add_item x)
 
   abbrev OfForm : Type 0
-  OfForm = (x : StatementForm) × IsStatement (form_nesting x) (statements.add_form x)
+  OfForm = (x : StatementForm) × IsStatement (form_nesting x) (statements.add_statement_form x)
 
   abbrev OfBlock : Type 0
   OfBlock = (x : Block) × AreNested (block_nesting x) (parts_of_block x)
@@ -59,7 +62,7 @@ module _ (p : program.Parts) (f : Function) where
   Pieces F = F OfItem OfForm OfBlock OfControlled OfDo OfElse OfFor OfStatement
 
   abbrev Addeds : (Type 0 → Type 0 → Type 0 → Type 0 → Type 0 → Type 0 → Type 0 → Type 0 → Type 0) → Type 0
-  Addeds F = F Part Part Parts Part Part Part Part Part
+  Addeds F = F Part Part PartList Part Part Part Part Part
 
   abbrev Depths : (Type 0 → Type 0 → Type 0 → Type 0 → Type 0 → Type 0 → Type 0 → Type 0 → Type 0) → Type 0
   Depths F = F ℕ ℕ ℕ ℕ ℕ ℕ ℕ ℕ
@@ -71,7 +74,8 @@ module _ (p : program.Parts) (f : Function) where
 
   abbrev added_item : Bare BlockItem-F → Addeds BlockItem-F
   added_item = map-BlockItem BlockItem StatementForm Block Controlled DoWhile Else For Statement
-      Part Part Parts Part Part Part Part Part add_item statements.add_form parts_of_block add_controlled
+      Part Part PartList Part Part Part Part Part add_item statements.add_statement_form parts_of_block
+      add_controlled
       add_do add_else add_for add_statement
 
   abbrev deep_item : Bare BlockItem-F → Depths BlockItem-F
@@ -86,7 +90,8 @@ module _ (p : program.Parts) (f : Function) where
 
   abbrev added_form : Bare StatementForm-F → Addeds StatementForm-F
   added_form = map-StatementForm BlockItem StatementForm Block Controlled DoWhile Else For Statement
-      Part Part Parts Part Part Part Part Part add_item statements.add_form parts_of_block add_controlled
+      Part Part PartList Part Part Part Part Part add_item statements.add_statement_form parts_of_block
+      add_controlled
       add_do add_else add_for add_statement
 
   abbrev deep_form : Bare StatementForm-F → Depths StatementForm-F
@@ -101,7 +106,8 @@ module _ (p : program.Parts) (f : Function) where
 
   abbrev added_block : Bare Block-F → Addeds Block-F
   added_block = map-Block BlockItem StatementForm Block Controlled DoWhile Else For Statement
-      Part Part Parts Part Part Part Part Part add_item statements.add_form parts_of_block add_controlled
+      Part Part PartList Part Part Part Part Part add_item statements.add_statement_form parts_of_block
+      add_controlled
       add_do add_else add_for add_statement
 
   abbrev deep_block : Bare Block-F → Depths Block-F
@@ -116,7 +122,8 @@ module _ (p : program.Parts) (f : Function) where
 
   abbrev added_controlled : Bare Controlled-F → Addeds Controlled-F
   added_controlled = map-Controlled BlockItem StatementForm Block Controlled DoWhile Else For Statement
-      Part Part Parts Part Part Part Part Part add_item statements.add_form parts_of_block add_controlled
+      Part Part PartList Part Part Part Part Part add_item statements.add_statement_form parts_of_block
+      add_controlled
       add_do add_else add_for add_statement
 
   abbrev deep_controlled : Bare Controlled-F → Depths Controlled-F
@@ -131,7 +138,8 @@ module _ (p : program.Parts) (f : Function) where
 
   abbrev added_do : Bare DoWhile-F → Addeds DoWhile-F
   added_do = map-DoWhile BlockItem StatementForm Block Controlled DoWhile Else For Statement
-      Part Part Parts Part Part Part Part Part add_item statements.add_form parts_of_block add_controlled
+      Part Part PartList Part Part Part Part Part add_item statements.add_statement_form parts_of_block
+      add_controlled
       add_do add_else add_for add_statement
 
   abbrev deep_do : Bare DoWhile-F → Depths DoWhile-F
@@ -146,7 +154,8 @@ module _ (p : program.Parts) (f : Function) where
 
   abbrev added_else : Bare Else-F → Addeds Else-F
   added_else = map-Else BlockItem StatementForm Block Controlled DoWhile Else For Statement
-      Part Part Parts Part Part Part Part Part add_item statements.add_form parts_of_block add_controlled
+      Part Part PartList Part Part Part Part Part add_item statements.add_statement_form parts_of_block
+      add_controlled
       add_do add_else add_for add_statement
 
   abbrev deep_else : Bare Else-F → Depths Else-F
@@ -161,7 +170,8 @@ module _ (p : program.Parts) (f : Function) where
 
   abbrev added_for : Bare For-F → Addeds For-F
   added_for = map-For BlockItem StatementForm Block Controlled DoWhile Else For Statement
-      Part Part Parts Part Part Part Part Part add_item statements.add_form parts_of_block add_controlled
+      Part Part PartList Part Part Part Part Part add_item statements.add_statement_form parts_of_block
+      add_controlled
       add_do add_else add_for add_statement
 
   abbrev deep_for : Bare For-F → Depths For-F
@@ -176,7 +186,8 @@ module _ (p : program.Parts) (f : Function) where
 
   abbrev added_statement : Bare Statement-F → Addeds Statement-F
   added_statement = map-Statement BlockItem StatementForm Block Controlled DoWhile Else For Statement
-      Part Part Parts Part Part Part Part Part add_item statements.add_form parts_of_block add_controlled
+      Part Part PartList Part Part Part Part Part add_item statements.add_statement_form parts_of_block
+      add_controlled
       add_do add_else add_for add_statement
 
   abbrev deep_statement : Bare Statement-F → Depths Statement-F
@@ -184,9 +195,14 @@ module _ (p : program.Parts) (f : Function) where
       ℕ ℕ ℕ ℕ ℕ ℕ ℕ ℕ item_nesting form_nesting block_nesting controlled_nesting do_nesting else_nesting
       for_nesting statement_nesting
 
-  return_flat : (at : At) (o : Option Sight) → IsNested 1 (add_return at o)
-  return_flat at None = record { by = λ scope n. omega arith }
-  return_flat at (Some s) = record { by = λ scope n. omega arith }
+  jump_flat : (at : At) (j : Jump) → IsNested 1 (add_jump at j)
+  jump_flat at jump.Break = record { by = λ scope n. omega arith }
+  jump_flat at jump.Continue = record { by = λ scope n. omega arith }
+  jump_flat at jump.Return = record { by = λ scope n. omega arith }
+
+  jump_with_flat : (keyword : Token) (o : Option Typing) → IsNested 1 (add_jump_with keyword o)
+  jump_with_flat keyword None = jump_flat keyword.at (jump_of keyword)
+  jump_with_flat keyword (Some s) = record { by = λ scope n. omega arith }
 
   row : (ss : List OfItem)
       → AreNested (greatest (map item_nesting (map (λ e. e.0) ss))) (map add_item (map (λ e. e.0) ss))
@@ -251,13 +267,11 @@ module _ (p : program.Parts) (f : Function) where
   }
   form_form (StatementForm-F.DoWhile d) = d.1
   form_form (StatementForm-F.For s) = s.1
-  form_form (StatementForm-F.Break keyword semicolon) = leaf_statement p f _
-      (record { by = λ scope n. omega arith })
-  form_form (StatementForm-F.Continue keyword semicolon) = leaf_statement p f _
-      (record { by = λ scope n. omega arith })
-  form_form (StatementForm-F.Return keyword value semicolon) = leaf_statement p f _
-      (return_flat keyword.now.at
-      (optional_sight value))
+  form_form (StatementForm-F.Break keyword semicolon) = leaf_statement p f _ (jump_with_flat keyword.now None)
+  form_form (StatementForm-F.Continue keyword semicolon) = leaf_statement p f _ (jump_with_flat keyword.now
+      None)
+  form_form (StatementForm-F.Return keyword value semicolon) =
+      leaf_statement p f _ (jump_with_flat keyword.now (optional_typing value))
   form_form (StatementForm-F.Assert keyword condition semicolon) = leaf_statement p f _
       (record { by = λ scope n. omega arith })
   form_form (StatementForm-F.Printf keyword opener printed closer semicolon) =
@@ -326,104 +340,106 @@ module _ (p : program.Parts) (f : Function) where
 
   item_layer : (x : Bare BlockItem-F) (y : Pieces BlockItem-F) → bare_item y ≡ x
       → IsNested (item_nesting (roll-BlockItem x)) (add_item (roll-BlockItem x))
-  unfolding add_item statements.add_form add_statement parts_of_block item_nesting form_nesting
+  unfolding add_item statements.add_statement_form add_statement parts_of_block item_nesting form_nesting
       block_nesting controlled_nesting do_nesting else_nesting for_nesting statement_nesting
   item_layer x y is = by_form IsNested item_nesting add_item roll-BlockItem
       (λ z. item_depth (deep_item z)) (λ z. item_step (added_item z))
       (fold-roll-BlockItem ℕ ℕ ℕ ℕ ℕ ℕ ℕ ℕ item_depth form_depth block_depth controlled_depth do_depth
       else_depth for_depth statement_depth)
-      (fold-roll-BlockItem Part Part Parts Part Part Part Part Part item_step form_step block_step
+      (fold-roll-BlockItem Part Part PartList Part Part Part Part Part item_step form_step block_step
       controlled_step do_step else_step for_step statement_step)
       (bare_item y) x is (item_form y)
 
   form_layer : (x : Bare StatementForm-F) (y : Pieces StatementForm-F) → bare_form y ≡ x
-      → IsStatement (form_nesting (roll-StatementForm x)) (statements.add_form (roll-StatementForm x))
-  unfolding add_item statements.add_form add_statement parts_of_block item_nesting form_nesting
+      → IsStatement (form_nesting (roll-StatementForm x)) (statements.add_statement_form
+      (roll-StatementForm x))
+  unfolding add_item statements.add_statement_form add_statement parts_of_block item_nesting form_nesting
       block_nesting controlled_nesting do_nesting else_nesting for_nesting statement_nesting
-  form_layer x y is = by_form IsStatement form_nesting statements.add_form roll-StatementForm
+  form_layer x y is = by_form IsStatement form_nesting statements.add_statement_form roll-StatementForm
       (λ z. form_depth (deep_form z)) (λ z. form_step (added_form z))
       (fold-roll-StatementForm ℕ ℕ ℕ ℕ ℕ ℕ ℕ ℕ item_depth form_depth block_depth controlled_depth do_depth
       else_depth for_depth statement_depth)
-      (fold-roll-StatementForm Part Part Parts Part Part Part Part Part item_step form_step block_step
+      (fold-roll-StatementForm Part Part PartList Part Part Part Part Part item_step form_step block_step
       controlled_step do_step else_step for_step statement_step)
       (bare_form y) x is (form_form y)
 
   block_layer : (x : Bare Block-F) (y : Pieces Block-F) → bare_block y ≡ x
       → AreNested (block_nesting (roll-Block x)) (parts_of_block (roll-Block x))
-  unfolding add_item statements.add_form add_statement parts_of_block item_nesting form_nesting
+  unfolding add_item statements.add_statement_form add_statement parts_of_block item_nesting form_nesting
       block_nesting controlled_nesting do_nesting else_nesting for_nesting statement_nesting
   block_layer x y is = by_form AreNested block_nesting parts_of_block roll-Block
       (λ z. block_depth (deep_block z)) (λ z. block_step (added_block z))
       (fold-roll-Block ℕ ℕ ℕ ℕ ℕ ℕ ℕ ℕ item_depth form_depth block_depth controlled_depth do_depth
       else_depth for_depth statement_depth)
-      (fold-roll-Block Part Part Parts Part Part Part Part Part item_step form_step block_step
+      (fold-roll-Block Part Part PartList Part Part Part Part Part item_step form_step block_step
       controlled_step do_step else_step for_step statement_step)
       (bare_block y) x is (block_form y)
 
   controlled_layer : (x : Bare Controlled-F) (y : Pieces Controlled-F) → bare_controlled y ≡ x
       → IsStatement (controlled_nesting (roll-Controlled x)) (add_controlled (roll-Controlled x))
-  unfolding add_item statements.add_form add_statement parts_of_block item_nesting form_nesting
+  unfolding add_item statements.add_statement_form add_statement parts_of_block item_nesting form_nesting
       block_nesting controlled_nesting do_nesting else_nesting for_nesting statement_nesting
   controlled_layer x y is = by_form IsStatement controlled_nesting add_controlled roll-Controlled
       (λ z. controlled_depth (deep_controlled z)) (λ z. controlled_step (added_controlled z))
       (fold-roll-Controlled ℕ ℕ ℕ ℕ ℕ ℕ ℕ ℕ item_depth form_depth block_depth controlled_depth do_depth
       else_depth for_depth statement_depth)
-      (fold-roll-Controlled Part Part Parts Part Part Part Part Part item_step form_step block_step
+      (fold-roll-Controlled Part Part PartList Part Part Part Part Part item_step form_step block_step
       controlled_step do_step else_step for_step statement_step)
       (bare_controlled y) x is (controlled_form y)
 
   do_layer : (x : Bare DoWhile-F) (y : Pieces DoWhile-F) → bare_do y ≡ x
       → IsStatement (do_nesting (roll-DoWhile x)) (add_do (roll-DoWhile x))
-  unfolding add_item statements.add_form add_statement parts_of_block item_nesting form_nesting
+  unfolding add_item statements.add_statement_form add_statement parts_of_block item_nesting form_nesting
       block_nesting controlled_nesting do_nesting else_nesting for_nesting statement_nesting
   do_layer x y is = by_form IsStatement do_nesting add_do roll-DoWhile
       (λ z. do_depth (deep_do z)) (λ z. do_step (added_do z))
       (fold-roll-DoWhile ℕ ℕ ℕ ℕ ℕ ℕ ℕ ℕ item_depth form_depth block_depth controlled_depth do_depth
       else_depth for_depth statement_depth)
-      (fold-roll-DoWhile Part Part Parts Part Part Part Part Part item_step form_step block_step
+      (fold-roll-DoWhile Part Part PartList Part Part Part Part Part item_step form_step block_step
       controlled_step do_step else_step for_step statement_step)
       (bare_do y) x is (do_form y)
 
   else_layer : (x : Bare Else-F) (y : Pieces Else-F) → bare_else y ≡ x
       → IsStatement (else_nesting (roll-Else x)) (add_else (roll-Else x))
-  unfolding add_item statements.add_form add_statement parts_of_block item_nesting form_nesting
+  unfolding add_item statements.add_statement_form add_statement parts_of_block item_nesting form_nesting
       block_nesting controlled_nesting do_nesting else_nesting for_nesting statement_nesting
   else_layer x y is = by_form IsStatement else_nesting add_else roll-Else
       (λ z. else_depth (deep_else z)) (λ z. else_step (added_else z))
       (fold-roll-Else ℕ ℕ ℕ ℕ ℕ ℕ ℕ ℕ item_depth form_depth block_depth controlled_depth do_depth else_depth
       for_depth statement_depth)
-      (fold-roll-Else Part Part Parts Part Part Part Part Part item_step form_step block_step
+      (fold-roll-Else Part Part PartList Part Part Part Part Part item_step form_step block_step
       controlled_step do_step else_step for_step statement_step)
       (bare_else y) x is (else_form y)
 
   for_layer : (x : Bare For-F) (y : Pieces For-F) → bare_for y ≡ x
       → IsStatement (for_nesting (roll-For x)) (add_for (roll-For x))
-  unfolding add_item statements.add_form add_statement parts_of_block item_nesting form_nesting
+  unfolding add_item statements.add_statement_form add_statement parts_of_block item_nesting form_nesting
       block_nesting controlled_nesting do_nesting else_nesting for_nesting statement_nesting
   for_layer x y is = by_form IsStatement for_nesting add_for roll-For
       (λ z. for_depth (deep_for z)) (λ z. for_step (added_for z))
       (fold-roll-For ℕ ℕ ℕ ℕ ℕ ℕ ℕ ℕ item_depth form_depth block_depth controlled_depth do_depth else_depth
       for_depth statement_depth)
-      (fold-roll-For Part Part Parts Part Part Part Part Part item_step form_step block_step controlled_step
+      (fold-roll-For Part Part PartList Part Part Part Part Part item_step form_step block_step
+      controlled_step
       do_step else_step for_step statement_step)
       (bare_for y) x is (for_form y)
 
   statement_layer : (x : Bare Statement-F) (y : Pieces Statement-F) → bare_statement y ≡ x
       → IsStatement (statement_nesting (roll-Statement x)) (add_statement (roll-Statement x))
-  unfolding add_item statements.add_form add_statement parts_of_block item_nesting form_nesting
+  unfolding add_item statements.add_statement_form add_statement parts_of_block item_nesting form_nesting
       block_nesting controlled_nesting do_nesting else_nesting for_nesting statement_nesting
   statement_layer x y is = by_form IsStatement statement_nesting add_statement roll-Statement
       (λ z. statement_depth (deep_statement z)) (λ z. statement_step (added_statement z))
       (fold-roll-Statement ℕ ℕ ℕ ℕ ℕ ℕ ℕ ℕ item_depth form_depth block_depth controlled_depth do_depth
       else_depth for_depth statement_depth)
-      (fold-roll-Statement Part Part Parts Part Part Part Part Part item_step form_step block_step
+      (fold-roll-Statement Part Part PartList Part Part Part Part Part item_step form_step block_step
       controlled_step do_step else_step for_step statement_step)
       (bare_statement y) x is (statement_form y)
 
   blocks_nested : (b : Block) → AreNested (block_nesting b) (parts_of_block b)
   blocks_nested = ind-Block
       (λ x. IsNested (item_nesting x) (add_item x))
-      (λ x. IsStatement (form_nesting x) (statements.add_form x))
+      (λ x. IsStatement (form_nesting x) (statements.add_statement_form x))
       (λ x. AreNested (block_nesting x) (parts_of_block x))
       (λ x. IsStatement (controlled_nesting x) (add_controlled x))
       (λ x. IsStatement (do_nesting x) (add_do x))

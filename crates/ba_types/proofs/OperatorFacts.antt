@@ -12,7 +12,7 @@ use Rattle.ba_numbers.specs.declared.numbers.CType.TheVariants.{I8, U8, I16, U16
 use Rattle.ba_numbers.specs.declared.numbers.UnOp.{UnOp}
 use Rattle.ba_tree.specs.Facts.{is_promoted, same_type, shifts, fits_right, type_of_binary, type_of_unary}
 use Rattle.ba_tree.specs.declared.tree.Parts.{Parts}
-use Rattle.ba_types.specs.Expressions.{Seen, promoted, usual, is_u32, tree_as, working_type, right_type, see_unary, see_cast, see_value, see_binary, see_select, see_constant}
+use Rattle.ba_types.specs.Expressions.{Typed, promoted, usual, is_u32, tree_as, working_type, right_type, typed_unary, typed_cast, typed_value, typed_binary, typed_select, typed_constant}
 use Rattle.ba_types.specs.declared.names.Operator.{Operator}
 use Rattle.ba_types.specs.declared.names.Operator.TheVariants as operator
 use Rattle.ba_types.specs.Trees.{ExprTree}
@@ -74,29 +74,29 @@ pub record IsTyped (p : Parts) (owned : List VarId) (before count height : ℕ) 
   pub typed : (facts_of p e).t ≡ t
 
 -- an array argument may be a name, which has no call
-pub record IsBare (e : Seen) : Type 0 where
+pub record IsBare (e : Typed) : Type 0 where
   pub calls : e.calls ≡ 0
   pub height : 1 ≤ e.height
   pub changes : e.is_constant ≡ false
 
 -- what is said of an expression behind so many calls
-pub record IsSeen (p : Parts) (owned : List VarId) (before : ℕ) (e : Seen) : Type 0 where
+pub record IsWellTyped (p : Parts) (owned : List VarId) (before : ℕ) (e : Typed) : Type 0 where
   pub named : (name : List ℕ) → e.name ≡ Some name → IsBare e
   pub right : e.faults ≡ [] → IsTyped p owned before e.calls e.height e.is_constant e.t e.tree
 
 -- expressions without a fault
-abbrev pub AreClean : List Seen → Type 0
+abbrev pub AreClean : List Typed → Type 0
 AreClean [] = Unit {0}
 AreClean (e ∷ es) = (e.faults ≡ []) × AreClean es
 
-pub clean : (es : List Seen) → flat_map (λ (e : Seen). e.faults) es ≡ [] → AreClean es
+pub clean : (es : List Typed) → flat_map (λ (e : Typed). e.faults) es ≡ [] → AreClean es
 clean [] h = tt
-clean (e ∷ es) h = let rest = flat_map (λ (e : Seen). e.faults) es in
+clean (e ∷ es) h = let rest = flat_map (λ (e : Typed). e.faults) es in
     (nil_left e.faults rest h, clean es (nil_right e.faults rest h))
 
 module _ (p : Parts) (owned : List VarId) where
   -- a conversion to this type
-  pub as_typed : {before count height : ℕ} {constant : Bool} (e : Seen) (t : CType)
+  pub as_typed : {before count height : ℕ} {constant : Bool} (e : Typed) (t : CType)
       → IsTyped p owned before count height constant e.t e.tree
       → IsTyped p owned before count height constant t (tree_as t e)
   as_typed {before} {count} {height} {constant} e t h =
@@ -115,7 +115,7 @@ module _ (p : Parts) (owned : List VarId) where
           typed = refl;
         }
 
-  no_name : {e : Seen} (name : List ℕ) → None ≡ Some name → IsBare e
+  no_name : {e : Typed} (name : List ℕ) → None ≡ Some name → IsBare e
   no_name name h = cc
 
   module _ (before : ℕ) where
@@ -135,13 +135,13 @@ module _ (p : Parts) (owned : List VarId) where
       typed = h.typed;
     }
 
-    pub unary_seen : (at : At) (op : Option UnOp) (a : Seen) → IsSeen p owned before a
-        → IsSeen p owned before (see_unary at op a)
-    unary_seen at None a h = record {
+    pub unary_typed : (at : At) (op : Option UnOp) (a : Typed) → IsWellTyped p owned before a
+        → IsWellTyped p owned before (typed_unary at op a)
+    unary_typed at None a h = record {
       named = no_name;
       right = λ none. wrapped (as_typed a (promoted a.t) (h.right (clean (a ∷ []) none).0));
     }
-    unary_seen at (Some op) a h = record {
+    unary_typed at (Some op) a h = record {
       named = no_name;
       right = λ none. let x = as_typed a (promoted a.t) (h.right (clean (a ∷ []) none).0) in record {
         fits = operator_fits owned before (a ∷ []) (facts_of p (tree_as (promoted a.t) a) ∷ [])
@@ -151,17 +151,18 @@ module _ (p : Parts) (owned : List VarId) where
       };
     }
 
-    pub cast_seen : (at : At) (t : Option CType) (a : Seen) → IsSeen p owned before a
-        → IsSeen p owned before (see_cast at t a)
-    cast_seen at None a h = record { named = no_name; right = λ wrong. cc }
-    cast_seen at (Some t) a h = record {
+    pub cast_typed : (at : At) (t : Option CType) (a : Typed) → IsWellTyped p owned before a
+        → IsWellTyped p owned before (typed_cast at t a)
+    cast_typed at None a h = record { named = no_name; right = λ wrong. cc }
+    cast_typed at (Some t) a h = record {
       named = no_name;
       right = λ none. wrapped (as_typed a t (h.right (clean (a ∷ []) none).0));
     }
 
-    module _ (a b : Seen) (left : IsSeen p owned before a) (right : IsSeen p owned (before + a.calls) b) where
-      pub value_seen : (op : BinOp) → IsSeen p owned before (see_value op a b)
-      value_seen op = let t = working_type op a.t b.t in let s = right_type op a.t b.t in record {
+    module _ (a b : Typed) (left : IsWellTyped p owned before a) (right : IsWellTyped p owned (before +
+        a.calls) b) where
+      pub value_typed : (op : BinOp) → IsWellTyped p owned before (typed_value op a b)
+      value_typed op = let t = working_type op a.t b.t in let s = right_type op a.t b.t in record {
         named = no_name;
         right = λ none. let each = clean (a ∷ b ∷ []) none in
             let x = as_typed a t (left.right each.0) in
@@ -175,9 +176,9 @@ module _ (p : Parts) (owned : List VarId) where
             };
       }
 
-      pub binary_seen : (op : Operator) → IsSeen p owned before (see_binary op a b)
-      binary_seen (operator.Value op) = value_seen op
-      binary_seen operator.AndAlso = record {
+      pub binary_typed : (op : Operator) → IsWellTyped p owned before (typed_binary op a b)
+      binary_typed (operator.Value op) = value_typed op
+      binary_typed operator.AndAlso = record {
         named = no_name;
         right = λ none. let each = clean (a ∷ b ∷ []) none in
             let x = as_typed a (promoted a.t) (left.right each.0) in
@@ -188,7 +189,7 @@ module _ (p : Parts) (owned : List VarId) where
               typed = refl;
             };
       }
-      binary_seen operator.OrElse = record {
+      binary_typed operator.OrElse = record {
         named = no_name;
         right = λ none. let each = clean (a ∷ b ∷ []) none in
             let x = as_typed a (promoted a.t) (left.right each.0) in
@@ -200,9 +201,11 @@ module _ (p : Parts) (owned : List VarId) where
             };
       }
 
-    pub select_seen : (when a b : Seen) → IsSeen p owned before when → IsSeen p owned (before + when.calls) a
-        → IsSeen p owned (before + when.calls + a.calls) b → IsSeen p owned before (see_select when a b)
-    select_seen when a b test holds fails = let t = usual a.t b.t in record {
+    pub select_typed : (when a b : Typed) → IsWellTyped p owned before when →
+        IsWellTyped p owned (before + when.calls) a
+        → IsWellTyped p owned (before + when.calls + a.calls) b →
+        IsWellTyped p owned before (typed_select when a b)
+    select_typed when a b test holds fails = let t = usual a.t b.t in record {
       named = no_name;
       right = λ none. let each = clean (when ∷ a ∷ b ∷ []) none in
           let w = test.right each.0 in
@@ -217,9 +220,9 @@ module _ (p : Parts) (owned : List VarId) where
           };
     }
 
-    pub constant_seen : (at : At) (t : CType) (z : ℤ) → is_in t z ≡ true
-        → IsSeen p owned before (see_constant at t z)
-    constant_seen at t z within = record {
+    pub constant_typed : (at : At) (t : CType) (z : ℤ) → is_in t z ≡ true
+        → IsWellTyped p owned before (typed_constant at t z)
+    constant_typed at t z within = record {
       named = no_name;
       right = λ none. record {
         fits = operator_fits owned before [] [] t (is_in t z) tt within;

@@ -15,7 +15,7 @@ use Rattle.ba_tree.specs.Facts.{holds, shape_at, is_parameter_shape, own_element
 use Rattle.ba_tree.specs.declared.tree.Function.{Function}
 use Rattle.ba_tree.specs.declared.tree.Parts.{Parts}
 use Rattle.ba_tree.specs.declared.tree.Variable.{Variable}
-use Rattle.ba_types.specs.Declarations.{Added, nothing_added, ◌and◌, Before, behind, Part, faults_added, add_length, add_variable, SeenLength}
+use Rattle.ba_types.specs.Declarations.{Added, nothing_added, ◌and◌, Before, behind, Part, faults_added, add_length, add_variable, TypedLength}
 use Rattle.ba_types.specs.Faults.{void_faults, limit_faults, parameter_limit}
 use Rattle.ba_types.specs.Files.{vars_of, add_param, add_params, declare_param, param_length, param_shape, place_of_param, name_of_param, check_length, bad_length_faults}
 use Rattle.ba_types.specs.Names.{Scope, knowing, type_named}
@@ -31,7 +31,7 @@ use Rattle.ba_types.proofs.SequenceFacts.{AreStmts, stmts_none}
 -- PIECES
 
 module _ (p : Parts) (owned : List VarId) (f : Function) (inside : Bool) where
-  check_piece : {in_loop : Bool} (n : Before) (at : At) (l : SeenLength)
+  check_piece : {in_loop : Bool} (n : Before) (at : At) (l : TypedLength)
       → (l.faults ≡ [] → is_some l.count ≡ true → l.calls ≡ 0) → bad_length_faults at l.count ++ l.faults ≡ []
       → IsPiece p owned f inside in_loop n (record nothing_added {
         calls = l.calls;
@@ -53,13 +53,13 @@ module _ (p : Parts) (owned : List VarId) (f : Function) (inside : Bool) where
           few = record { variables = few.variables; statements = few.statements; elements = few.elements };
         }
 
-  check_at : (values : Option ℕ) (at : At) (l : Option SeenLength) → IsLengthOf p owned values l →
+  check_at : (values : Option ℕ) (at : At) (l : Option TypedLength) → IsLengthOf p owned values l →
       (scope : Scope) (n : Before)
       → PieceAt p owned f inside (check_length at l) scope n
   check_at values at None h scope n stands none = piece_none p owned f inside n []
   check_at values at (Some l) h scope n stands none = check_piece n at l h.no_calls none
 
-  declared_piece : (defined : Bool) (at : At) (name : List ℕ) (v : Variable) (l : Option SeenLength)
+  declared_piece : (defined : Bool) (at : At) (name : List ℕ) (v : Variable) (l : Option TypedLength)
       → IsLengthOf p owned None l → HasPiece p owned f inside (declare_param defined at name v l)
   declared_piece false at name v l h = record { by = λ scope in_scope. check_at None at l h scope }
   declared_piece true at name v l h = piece_then p owned f inside (add_length at l)
@@ -102,7 +102,7 @@ module _ (p : Parts) (owned : List VarId) (f : Function) (inside : Bool) where
 
 -- SHAPES
 
-param_shape_is : (is_main : Bool) (o : Option ArrayLength) (l : Option SeenLength)
+param_shape_is : (is_main : Bool) (o : Option ArrayLength) (l : Option TypedLength)
     → is_parameter_shape is_main (param_shape is_main o l) ≡ true
 param_shape_is is_main None l = refl
 param_shape_is false (Some length) l = refl
@@ -117,7 +117,7 @@ shaped-and : (is_main : Bool) (es fs : List Entry) → AreShaped is_main es → 
 shaped-and is_main es fs h k =
     list_all-append (λ (e : Entry). is_parameter_shape is_main e.variable.shape) es fs ∙ and_from _ _ h k
 
-no_entries : (at : At) (l : Option SeenLength) (scope : Scope) (n : Before) →
+no_entries : (at : At) (l : Option TypedLength) (scope : Scope) (n : Before) →
     (add_length at l scope n).entries ≡ []
 no_entries at None scope n = refl
 no_entries at (Some l) scope n = refl

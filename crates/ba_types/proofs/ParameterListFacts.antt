@@ -13,7 +13,7 @@ use Rattle.ba_parse.specs.declared.tree.declarations.Parameter.{Parameter}
 use Rattle.ba_tree.specs.Facts.{holds, is_value_shape, is_passed_shape, own_elements, is_array_length, is_own_length}
 use Rattle.ba_tree.specs.declared.tree.Parts.{Parts}
 use Rattle.ba_tree.specs.declared.tree.Variable.{Variable}
-use Rattle.ba_types.specs.Declarations.{Added, nothing_added, ◌and◌, Before, behind, faults_added, add_length, SeenLength, see_length, length_faults}
+use Rattle.ba_types.specs.Declarations.{Added, nothing_added, ◌and◌, Before, behind, faults_added, add_length, TypedLength, typed_length, length_faults}
 use Rattle.ba_types.specs.Faults.{void_faults, limit_faults, parameter_limit}
 use Rattle.ba_types.specs.Files.{vars_of, type_of_param, add_param, add_params, declare_param, param_length, param_shape, place_of_param, name_of_param, check_length}
 use Rattle.ba_types.specs.Names.{Scope, knowing, type_named}
@@ -28,17 +28,17 @@ use Rattle.ba_types.proofs.ParameterFacts.{IsSized, sized-and, sized_none}
 
 -- NO STATEMENTS, and of a prototype nothing at all
 
-length_statements : (at : At) (l : Option SeenLength) (scope : Scope) (n : Before) →
+length_statements : (at : At) (l : Option TypedLength) (scope : Scope) (n : Before) →
     (add_length at l scope n).statements ≡ []
 length_statements at None scope n = refl
 length_statements at (Some l) scope n = refl
 
-check_statements : (at : At) (l : Option SeenLength) (scope : Scope) (n : Before) →
+check_statements : (at : At) (l : Option TypedLength) (scope : Scope) (n : Before) →
     (check_length at l scope n).statements ≡ []
 check_statements at None scope n = refl
 check_statements at (Some l) scope n = refl
 
-declared_statements : (defined : Bool) (at : At) (name : List ℕ) (v : Variable) (l : Option SeenLength)
+declared_statements : (defined : Bool) (at : At) (name : List ℕ) (v : Variable) (l : Option TypedLength)
     (scope : Scope)
     (n : Before) → (declare_param defined at name v l scope n).statements ≡ []
 declared_statements false at name v l scope n = check_statements at l scope n
@@ -61,17 +61,17 @@ params_statements is_main defined function_at number (q ∷ qs) scope n =
     ap (λ ss. (ss ++ []) ++ b.statements) (declared_statements defined at (name_of_param q.name) w l scope n)
     ∙ params_statements is_main defined function_at (number + 1) qs (knowing a.entries scope) (behind n a)
 
-length_stmts : (at : At) (l : Option SeenLength) (scope : Scope) (n : Before) →
+length_stmts : (at : At) (l : Option TypedLength) (scope : Scope) (n : Before) →
     (add_length at l scope n).stmts ≡ []
 length_stmts at None scope n = refl
 length_stmts at (Some l) scope n = refl
 
-check_stmts : (at : At) (l : Option SeenLength) (scope : Scope) (n : Before) →
+check_stmts : (at : At) (l : Option TypedLength) (scope : Scope) (n : Before) →
     (check_length at l scope n).stmts ≡ []
 check_stmts at None scope n = refl
 check_stmts at (Some l) scope n = refl
 
-declared_stmts : (defined : Bool) (at : At) (name : List ℕ) (v : Variable) (l : Option SeenLength)
+declared_stmts : (defined : Bool) (at : At) (name : List ℕ) (v : Variable) (l : Option TypedLength)
     (scope : Scope)
     (n : Before) → (declare_param defined at name v l scope n).stmts ≡ []
 declared_stmts false at name v l scope n = check_stmts at l scope n
@@ -100,7 +100,7 @@ pub record IsBare (a : Added) : Type 0 where
   pub no_entries : a.entries ≡ []
   pub no_elements : a.elements ≡ 0
 
-check_bare : (at : At) (l : Option SeenLength) (scope : Scope) (n : Before) → IsBare
+check_bare : (at : At) (l : Option TypedLength) (scope : Scope) (n : Before) → IsBare
     (check_length at l scope n)
 check_bare at None scope n = record { no_variables = refl; no_entries = refl; no_elements = refl }
 check_bare at (Some l) scope n = record { no_variables = refl; no_entries = refl; no_elements = refl }
@@ -141,7 +141,7 @@ param_elements false at None scope n none = refl
 param_elements false at (Some o) scope n none = refl
 param_elements true at None scope n none = refl
 param_elements true at (Some o) scope n none =
-    let l = see_length at None o.length scope n.calls in
+    let l = typed_length at None o.length scope n.calls in
     same_count l.count (good_count n at l.count (nil_left (length_faults n at l.count) l.faults none))
 
 param_range : (is_main : Bool) (at : At) (o : Option ArrayLength) (scope : Scope) (calls : ℕ)
@@ -151,7 +151,7 @@ param_range false at (Some o) scope calls = refl
 param_range true at None scope calls = refl
 param_range true at (Some o) scope calls = shape_range at None scope calls (Some o)
 
-no_variables : (at : At) (l : Option SeenLength) (scope : Scope) (n : Before) →
+no_variables : (at : At) (l : Option TypedLength) (scope : Scope) (n : Before) →
     (add_length at l scope n).variables ≡ []
 no_variables at None scope n = refl
 no_variables at (Some l) scope n = refl

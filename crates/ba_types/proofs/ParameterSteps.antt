@@ -8,7 +8,7 @@ use Rattle.ba_parse.specs.declared.tree.declarations.NextParameter.{NextParamete
 use Rattle.ba_parse.specs.declared.tree.declarations.Parameter.{Parameter}
 use Rattle.ba_tree.specs.declared.tree.Shape.{Shape}
 use Rattle.ba_types.specs.Adding.{AddsLength, IsLength, State, at_place, before_of, behind_part, with_added, with_judged}
-use Rattle.ba_types.specs.Declarations.{Part, SeenLength, add_length, add_variable, faults_added, nothing_added}
+use Rattle.ba_types.specs.Declarations.{Part, TypedLength, add_length, add_variable, faults_added, nothing_added}
 use Rattle.ba_types.specs.Faults.{fault_if, limit_faults, parameter_limit, void_faults}
 use Rattle.ba_types.specs.Files.{add_param, add_params, bad_length_faults, check_length, name_of_param, param_length, param_shape, place_of_param}
 use Rattle.ba_types.specs.Filing.{declaring_param, is_bad, next_params}
@@ -42,7 +42,7 @@ bad-faults : (at : At) (count : Option ℕ)
 bad-faults at None = refl
 bad-faults at (Some n) = refl
 
-pub checked-is : (at : At) (s : Option SeenLength) (l : Option Length) (scope : Scope) (w : Work)
+pub checked-is : (at : At) (s : Option TypedLength) (l : Option Length) (scope : Scope) (w : Work)
     (t u : Tally)
     (stmts : List StmtTree) → IsLength s w.tally t l → u ≡ with_faults t (fault_if (is_bad l) BadLength at)
     → at_place scope (record w { tally = u }) stmts ≡ behind_part (check_length at s) (at_place scope w stmts)
@@ -78,11 +78,11 @@ module _ (is_main : Bool) (at : At) (t : Option CType) (p : Parameter) where
       → at_place s1 w2 stmts ≡ behind_part (declaring_param is_main true at t p) (at_place s0 w0 stmts)
   unfolding behind_part
   own-is s0 s1 w0 w1 w2 stmts l name x k adds names types shapes declares =
-      let seen = param_length is_main at p.length s0 w0.tally.calls in
+      let expression = param_length is_main at p.length s0 w0.tally.calls in
       let start = at_place s0 w1 stmts in
       let called = name_of_param p.name in let type = unwrap_or t I32 in
-      and-then (add_length at seen) (variable called type (param_shape is_main p.length seen))
-      (at_place s0 w0 stmts) start (at_place s1 w2 stmts) (length-part at seen s0 w0 w1 stmts adds.1)
+      and-then (add_length at expression) (variable called type (param_shape is_main p.length expression))
+      (at_place s0 w0 stmts) start (at_place s1 w2 stmts) (length-part at expression s0 w0 w1 stmts adds.1)
       (declares ∙ ap (λ (n : List ℕ). behind_part (variable n x k) start) names
       ∙ ap (λ (x : CType). behind_part (variable called x k) start) types
       ∙ ap (λ (k : Shape). behind_part (variable called type k) start) shapes)

@@ -9,8 +9,8 @@ use Rattle.ba_tree.specs.declared.tree.Expr.{Expr}
 use Rattle.ba_tree.specs.declared.tree.Stmt as code
 use Rattle.ba_tree.specs.declared.tree.StmtKind.TheVariants as kind
 use Rattle.ba_types.specs.Adding.{Kept, Numbers, at_place, before_of, behind_part, keep_each, keep_one, kept, printing}
-use Rattle.ba_types.specs.Declarations.{calls_in, next_stmt, see_each, whole_faults}
-use Rattle.ba_types.specs.Expressions.{Seen, Sight}
+use Rattle.ba_types.specs.Declarations.{calls_in, next_stmt, typed_each, whole_faults}
+use Rattle.ba_types.specs.Expressions.{Typed, Typing}
 use Rattle.ba_types.specs.Judging.{Judges, after}
 use Rattle.ba_types.specs.Names.{Scope}
 use Rattle.ba_types.specs.Statements.{add_printf}
@@ -24,27 +24,28 @@ use Rattle.ba_types.proofs.KeptValues.{kept-is}
 use Rattle.ba_types.proofs.StmtForms.{tree-Print}
 
 -- a value that is printed
-pub printed-is : (at : At) (s : Seen) (j : Judged) (old new : Tally) (olds news : List Expr) → Judges j s
+pub printed-is : (at : At) (s : Typed) (j : Judged) (old new : Tally) (olds news : List Expr) → Judges j s
     → new ≡ after old s.calls (whole_faults at s) → news ≡ olds ++ j.expr ∷ []
     → record { trees = map tree_of_expr news; tally = new }
     ≡ keep_one (printing at) s (record { trees = map tree_of_expr olds; tally = old })
 printed-is at s j old new olds news judges counted pushed =
     ap (λ xs. record { trees = xs; tally = new }) (ap (map tree_of_expr) pushed ∙ map-append tree_of_expr olds
     (j.expr ∷ [])
-    ∙ ap (λ x. map tree_of_expr olds ++ x ∷ []) (ap (λ (e : Seen). e.tree) judges))
+    ∙ ap (λ x. map tree_of_expr olds ++ x ∷ []) (ap (λ (e : Typed). e.tree) judges))
     ∙ ap (λ t. record { trees = map tree_of_expr olds ++ s.tree ∷ []; tally = t }) counted
 
-pub printf-is : (at : At) (sights : List Sight) (scope : Scope) (w u : Work) (values : Vec Expr) (new : Tally)
+pub printf-is : (at : At) (typings : List Typing) (scope : Scope) (w u : Work) (values : Vec Expr) (new :
+    Tally)
     (stmt : StmtId) (olds news : List StmtTree)
-    → kept new values ≡ keep_each (printing at) scope sights (record { trees = []; tally = w.tally })
+    → kept new values ≡ keep_each (printing at) scope typings (record { trees = []; tally = w.tally })
     → Numbers at kind.Call stmt (record w { tally = new }) u
     → news ≡ olds ++ tree_of_stmt (code.Print stmt values) ∷ []
-    → at_place scope u news ≡ behind_part (add_printf at sights) (at_place scope w olds)
-printf-is at sights scope w u values new stmt olds news is counted pushed =
-    let es = see_each scope w.tally.calls sights in let n = next_stmt (before_of w) in
-    let whole = is ∙ kept-is (printing at) scope sights (record { trees = []; tally = w.tally }) in
-    numbered-is (add_printf at sights) scope w (record w { tally = new }) u olds news at kind.Call
-    (tree.print n (map (λ (e : Seen). e.tree) es)) (calls_in es) (flat_map (whole_faults at) es) refl
+    → at_place scope u news ≡ behind_part (add_printf at typings) (at_place scope w olds)
+printf-is at typings scope w u values new stmt olds news is counted pushed =
+    let es = typed_each scope w.tally.calls typings in let n = next_stmt (before_of w) in
+    let whole = is ∙ kept-is (printing at) scope typings (record { trees = []; tally = w.tally }) in
+    numbered-is (add_printf at typings) scope w (record w { tally = new }) u olds news at kind.Call
+    (tree.print n (map (λ (e : Typed). e.tree) es)) (calls_in es) (flat_map (whole_faults at) es) refl
     (ap (λ t. record w { tally = t }) (ap (λ (k : Kept). k.tally) whole)) counted.1
     (pushed ∙ ap (λ x. olds ++ x ∷ []) (tree-Print stmt values
     ∙ ap (λ n. tree.print n (map tree_of_expr values.items)) counted.0

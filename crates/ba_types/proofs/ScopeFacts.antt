@@ -5,15 +5,14 @@ use Rattle.std.proofs.lemmas.Bool.{and_parts}
 use Rattle.std.proofs.lemmas.Option.{get_or_from_slice_get, cond_some}
 use Rattle.ba_numbers.specs.declared.ids.VarId.{VarId}
 use Rattle.ba_numbers.specs.declared.numbers.CType.{CType}
-use Rattle.ba_tree.specs.Facts.{has_variable, holds, shape_at, type_at, is_value, is_array, is_value_shape, is_passed_shape, same_type}
-use Rattle.ba_tree.specs.Facts as facts
+use Rattle.ba_tree.specs.Facts.{has_variable, holds, shape_at, type_at, is_value, is_array, is_value_shape, is_array_shape, is_passed_shape, same_type}
 use Rattle.ba_tree.specs.declared.tree.Function.{Function}
 use Rattle.ba_tree.specs.declared.tree.Parts.{Parts}
 use Rattle.ba_tree.specs.declared.tree.Shape.{Shape}
 use Rattle.ba_tree.specs.declared.tree.Shape.TheVariants.{Value, Array, Passed}
 use Rattle.ba_tree.specs.declared.tree.Variable.{Variable}
 use Rattle.ba_types.specs.Expressions.{array_given, named_array}
-use Rattle.ba_types.specs.Names.{Scope, meaning_of, meaning_or, function_or_unknown, is_declared_in, last_entry, definition_in, is_main_name, is_array_shape, is_array_entry, same_name}
+use Rattle.ba_types.specs.Names.{Scope, meaning_of, meaning_or, function_or_unknown, is_declared_in, last_entry, definition_in, is_main_name, is_array_entry, same_name}
 use Rattle.ba_types.specs.declared.scopes.Meaning.{Meaning}
 use Rattle.ba_types.specs.declared.scopes.Meaning.TheVariants as meaning
 use Rattle.ba_types.specs.declared.scopes.Entry.{Entry}
@@ -113,16 +112,11 @@ module _ (p : Parts) (owned : List VarId) where
     value_from (Array n) k = cc
     value_from Passed k = cc
 
-    array_from : (s : Shape) → is_array_shape s ≡ true → facts.is_array_shape s ≡ true
-    array_from Value k = cc
-    array_from (Array n) k = refl
-    array_from Passed k = refl
-
     pub value_is : is_array_entry e ≡ false → is_value p e.var ≡ true
     value_is k = ap (holds is_value_shape) shape_is ∙ value_from e.variable.shape k
 
     pub array_is : is_array_entry e ≡ true → is_array p e.var ≡ true
-    array_is k = ap (holds facts.is_array_shape) shape_is ∙ array_from e.variable.shape k
+    array_is k = ap (holds is_array_shape) shape_is ∙ k
 
   -- an array that is given for a parameter of this element type
   pub record IsGiven (v : VarId) (t : CType) : Type 0 where

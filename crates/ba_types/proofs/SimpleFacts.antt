@@ -21,23 +21,26 @@ use Rattle.ba_tree.specs.declared.tree.StmtKind.TheVariants as kind
 use Rattle.ba_tree.specs.declared.tree.Variable.{Variable}
 use Rattle.ba_types.specs.Declarations.{Added, Before, behind, Part, in_order, faults_added, next_stmt, whole_faults}
 use Rattle.ba_types.specs.Declarations as add
-use Rattle.ba_types.specs.Expressions.{Seen, Sight, see_conditional, see_arguments, see_call, trees_of_args, seen_args, tree_as}
+use Rattle.ba_types.specs.Expressions.{Typed, Typing, typed_conditional, typed_arguments, typed_call, trees_of_args, expressions_of_args, tree_as}
 use Rattle.ba_types.specs.Faults.{fault_if, limit_faults, statement_limit}
-use Rattle.ba_types.specs.Names.{Scope, name_of}
-use Rattle.ba_types.specs.Statements.{index_sight, add_assignment, one, add_call, operator_at, add_simple, add_simples, unnumbered, add_return, add_assert, add_printf, add_jump}
+use Rattle.ba_types.specs.Names.{Scope, jump_of, name_of}
+use Rattle.ba_types.specs.Statements.{index_typing, add_assignment, one, add_call, operator_at, add_simple, add_simples, unnumbered, add_return, add_return_none, add_assert, add_printf, add_loop_jump, add_jump, add_jump_with}
 use Rattle.ba_types.specs.Trees.{ExprTree, ArgTree, StmtTree}
 use Rattle.ba_types.specs.Trees as tree
 use Rattle.ba_types.specs.declared.fault.Cause.TheVariants.{WrongKind, BreakOutside}
 use Rattle.ba_types.specs.declared.fault.Fault.{Fault}
 use Rattle.ba_types.proofs.AdditionFacts.{InScope, IsPiece, few_none, PieceAt, IsPart, IsCounted, AreParts, parts_in_order, all_facts_of}
-use Rattle.ba_types.proofs.ExpressionFacts.{conditional_sight, arguments_sight}
+use Rattle.ba_types.proofs.ExpressionFacts.{conditional_typing, arguments_typing}
 use Rattle.ba_types.proofs.FittingFacts.{calls_of, nil_left, nil_right}
-use Rattle.ba_types.proofs.LeafFacts.{one_whole, all_whole, kind_is, each_seen, each_fit, leaf_are, bare_are, jump_are, calling_are}
-use Rattle.ba_types.proofs.PrimaryFacts.{IsSight, AreSights, not_so, call_is}
+use Rattle.ba_types.proofs.LeafFacts.{one_whole, all_whole, kind_is, each_typed, each_fit, leaf_are, bare_are, jump_are, calling_are}
+use Rattle.ba_types.proofs.PrimaryFacts.{IsWellTyping, AreWellTypings, not_so, call_is}
 use Rattle.ba_types.proofs.StatementTreeFacts.{stmt_facts_of}
 use Rattle.ba_types.proofs.SequenceFacts.{AreStmts}
 use Rattle.ba_types.proofs.TreeFacts.{facts_of, arg_facts_of}
-use Rattle.ba_types.proofs.OperatorFacts.{as_typed, constant_seen, same_type-of, AreClean}
+use Rattle.ba_types.proofs.OperatorFacts.{as_typed, constant_typed, same_type-of, AreClean}
+use Rattle.ba_lex.specs.declared.token.Token.{Token}
+use Rattle.ba_types.specs.declared.names.Jump.{Jump}
+use Rattle.ba_types.specs.declared.names.Jump.TheVariants as jump
 use Rattle.ba_types.proofs.AssignmentFacts.{assigned, AreOptional, numbered_piece, counted_calls}
 
 module _ (p : Parts) (owned : List VarId) (f : Function) (inside : Bool) where
@@ -51,41 +54,42 @@ module _ (p : Parts) (owned : List VarId) (f : Function) (inside : Bool) where
 
   -- ASSIGNMENTS AND STEPS
 
-  pub one_sight : (at : At) → IsSight p owned (one at)
-  one_sight at = record { by = λ scope sound before. constant_seen p owned before at I32 (pos 1) refl }
+  pub one_typing : (at : At) → IsWellTyping p owned (one at)
+  one_typing at = record { by = λ scope sound before. constant_typed p owned before at I32 (pos 1) refl }
 
-  index_is : (o : Option Index) → AreOptional p owned f inside (index_sight o)
+  index_is : (o : Option Index) → AreOptional p owned f inside (index_typing o)
   index_is None = tt
-  index_is (Some i) = conditional_sight p owned i.value.value
+  index_is (Some i) = conditional_typing p owned i.value.value
 
-  assignment_part : (at : At) (target : Target) (op : Option BinOp) (sight : Sight) → IsSight p owned sight
-      → IsPart p owned f inside (add_assignment at target op sight)
-  assignment_part at target op sight h = record {
+  assignment_part : (at : At) (target : Target) (op : Option BinOp) (typing : Typing) →
+      IsWellTyping p owned typing
+      → IsPart p owned f inside (add_assignment at target op typing)
+  assignment_part at target op typing h = record {
     piece = record {
       by = λ scope in_scope n. assigned p owned f inside at target.name.now.at
-          (name_of target.name.now) op sight h scope
-          in_scope n (index_sight target.index) (index_is target.index);
+          (name_of target.name.now) op typing h scope
+          in_scope n (index_typing target.index) (index_is target.index);
     };
     counted = λ scope n none. none_counted _ refl refl;
   }
 
   -- CALLS
 
-  clean_faults : (es : List Seen) → AreClean es → flat_map (λ (e : Seen). e.faults) es ≡ []
+  clean_faults : (es : List Typed) → AreClean es → flat_map (λ (e : Typed). e.faults) es ≡ []
   clean_faults [] h = refl
-  clean_faults (e ∷ es) h = ap (λ fs. fs ++ flat_map (λ (e : Seen). e.faults) es) h.0 ∙ clean_faults es h.1
+  clean_faults (e ∷ es) h = ap (λ fs. fs ++ flat_map (λ (e : Typed). e.faults) es) h.0 ∙ clean_faults es h.1
 
-  call_at : (at : At) (name : List ℕ) (sights : List Sight) → AreSights p owned sights
+  call_at : (at : At) (name : List ℕ) (typings : List Typing) → AreWellTypings p owned typings
       → (scope : Scope) → InScope p owned f inside scope → (n : Before)
-      → PieceAt p owned f inside (add_call at name sights) scope n
-  call_at at name sights are scope in_scope n stands none =
-      let c = see_call false at name sights scope n.calls in
-      let es = seen_args c.args in
+      → PieceAt p owned f inside (add_call at name typings) scope n
+  call_at at name typings are scope in_scope n stands none =
+      let c = typed_call false at name typings scope n.calls in
+      let es = expressions_of_args c.args in
       let limit = limit_faults statement_limit (n.statements + 1) at in
       let in_args = flat_map (whole_faults at) es in
       let own = nil_right limit (c.faults ++ in_args) none in
       let whole = all_whole at es (nil_right c.faults in_args own) in
-      let h = call_is p owned scope in_scope.sound false at sights are n.calls name
+      let h = call_is p owned scope in_scope.sound false at typings are n.calls name
       (nil_left c.faults in_args own)
       (clean_faults es whole.are_clean) in
       numbered_piece p owned f inside n at kind.Call (tree.call_stmt (next_stmt n) c.call c.function
@@ -97,22 +101,22 @@ module _ (p : Parts) (owned : List VarId) (f : Function) (inside : Bool) where
       (kind_is p owned n at kind.Call stands.1))
       none
 
-  call_part : (at : At) (name : List ℕ) (sights : List Sight) → AreSights p owned sights
-      → IsPart p owned f inside (add_call at name sights)
-  call_part at name sights are = record {
-    piece = record { by = call_at at name sights are };
+  call_part : (at : At) (name : List ℕ) (typings : List Typing) → AreWellTypings p owned typings
+      → IsPart p owned f inside (add_call at name typings)
+  call_part at name typings are = record {
+    piece = record { by = call_at at name typings are };
     counted = λ scope n none. none_counted _ refl refl;
   }
 
   pub simple_part : (s : Simple) → IsPart p owned f inside (add_simple s)
   simple_part (form.Assign target operator value) = assignment_part target.name.now.at target
-      (operator_at operator.now) (see_conditional value) (conditional_sight p owned value)
+      (operator_at operator.now) (typed_conditional value) (conditional_typing p owned value)
   simple_part (form.Step target operator) = assignment_part target.name.now.at target
-      (operator_at operator.now) (one operator.now.at) (one_sight operator.now.at)
+      (operator_at operator.now) (one operator.now.at) (one_typing operator.now.at)
   simple_part (form.PrefixStep operator target) = assignment_part operator.now.at target
-      (operator_at operator.now) (one operator.now.at) (one_sight operator.now.at)
+      (operator_at operator.now) (one operator.now.at) (one_typing operator.now.at)
   simple_part (form.Call name opener arguments closer) = call_part name.now.at (name_of name.now)
-      (see_arguments arguments) (arguments_sight p owned arguments)
+      (typed_arguments arguments) (arguments_typing p owned arguments)
 
   simple_parts : (ss : List ListedSimple)
       → AreParts p owned f inside (map (λ (l : ListedSimple). add_simple l.simple) ss)
@@ -126,17 +130,17 @@ module _ (p : Parts) (owned : List VarId) (f : Function) (inside : Bool) where
 
   -- STATEMENTS WITH ONE EXPRESSION OR SOME
 
-  return_meets : (r : Option CType) (e : Seen) (x : ExprFacts) → not (is_some r) ≡ false → x.t
+  return_meets : (r : Option CType) (e : Typed) (x : ExprFacts) → not (is_some r) ≡ false → x.t
       ≡ unwrap_or r I32
       → holds (λ t. fits_type t x) r ≡ true
   return_meets None e x some is = cc
   return_meets (Some t) e x some is = same_type-of is
 
-  return_at : (at : At) (sight : Sight) → IsSight p owned sight
+  return_at : (at : At) (typing : Typing) → IsWellTyping p owned typing
       → (scope : Scope) → InScope p owned f inside scope → (n : Before)
-      → PieceAt p owned f inside (add_return at (Some sight)) scope n
-  return_at at sight is scope in_scope n stands none =
-      let e = sight scope n.calls in
+      → PieceAt p owned f inside (add_return at typing) scope n
+  return_at at typing is scope in_scope n stands none =
+      let e = typing scope n.calls in
       let limit = limit_faults statement_limit (n.statements + 1) at in
       let void_fault = fault_if (not (is_some scope.result)) WrongKind at in
       let own = nil_right limit (void_fault ++ whole_faults at e) none in
@@ -167,25 +171,27 @@ module _ (p : Parts) (owned : List VarId) (f : Function) (inside : Bool) where
     few = record { variables = few.variables; statements = few.statements; elements = few.elements };
   }
 
-  pub return_part : (at : At) (o : Option Sight) → AreOptional p owned f inside o
-      → IsPart p owned f inside (add_return at o)
-  return_part at None h = record {
+  return_part : (at : At) (typing : Typing) → IsWellTyping p owned typing
+      → IsPart p owned f inside (add_return at typing)
+  return_part at typing h = record {
+    piece = record { by = return_at at typing h };
+    counted = λ scope n none. none_counted _ refl refl;
+  }
+
+  return_none_part : IsPart p owned f inside add_return_none
+  return_none_part = record {
     piece = record {
       by = λ scope in_scope n stands none. bare_piece n tree.return_none []
           (bare_are p owned true refl);
     };
     counted = λ scope n none. none_counted _ refl refl;
   }
-  return_part at (Some sight) h = record {
-    piece = record { by = return_at at sight h };
-    counted = λ scope n none. none_counted _ refl refl;
-  }
 
-  assert_at : (at : At) (sight : Sight) → IsSight p owned sight
+  assert_at : (at : At) (typing : Typing) → IsWellTyping p owned typing
       → (scope : Scope) → InScope p owned f inside scope → (n : Before)
-      → PieceAt p owned f inside (add_assert at sight) scope n
-  assert_at at sight is scope in_scope n stands none =
-      let e = sight scope n.calls in
+      → PieceAt p owned f inside (add_assert at typing) scope n
+  assert_at at typing is scope in_scope n stands none =
+      let e = typing scope n.calls in
       let limit = limit_faults statement_limit (n.statements + 1) at in
       let whole = one_whole at e (nil_right limit (whole_faults at e) none) in
       let x = (is.by scope in_scope.sound n.calls).right whole.are_clean.0 in
@@ -197,33 +203,34 @@ module _ (p : Parts) (owned : List VarId) (f : Function) (inside : Bool) where
       (kind_is p owned n at kind.Assert stands.1)))
       none
 
-  pub assert_part : (at : At) (sight : Sight) → IsSight p owned sight → IsPart p owned f inside
-      (add_assert at sight)
-  assert_part at sight h = record {
-    piece = record { by = assert_at at sight h };
+  pub assert_part : (at : At) (typing : Typing) → IsWellTyping p owned typing → IsPart p owned f inside
+      (add_assert at typing)
+  assert_part at typing h = record {
+    piece = record { by = assert_at at typing h };
     counted = λ scope n none. none_counted _ refl refl;
   }
 
-  printf_at : (at : At) (sights : List Sight) → AreSights p owned sights
+  printf_at : (at : At) (typings : List Typing) → AreWellTypings p owned typings
       → (scope : Scope) → InScope p owned f inside scope → (n : Before)
-      → PieceAt p owned f inside (add_printf at sights) scope n
-  printf_at at sights are scope in_scope n stands none =
-      let es = add.see_each scope n.calls sights in
+      → PieceAt p owned f inside (add_printf at typings) scope n
+  printf_at at typings are scope in_scope n stands none =
+      let es = add.typed_each scope n.calls typings in
       let limit = limit_faults statement_limit (n.statements + 1) at in
       let whole = all_whole at es (nil_right limit (flat_map (whole_faults at) es) none) in
       numbered_piece p owned f inside n at kind.Call (tree.print (next_stmt n) (map
-      (λ (e : Seen). e.tree) es)) (calls_of es)
+      (λ (e : Typed). e.tree) es)) (calls_of es)
       (flat_map (whole_faults at) es)
-      (leaf_are p owned n kind.Call es (map (facts_of p) (map (λ (e : Seen). e.tree) es)) true
-      (each_fit p owned (λ (e : Seen). e.tree) (λ e before h. h.fits) n.calls es
-      (each_seen p owned scope in_scope.sound n.calls sights are) whole.are_clean) whole.are_low refl
+      (leaf_are p owned n kind.Call es (map (facts_of p) (map (λ (e : Typed). e.tree) es)) true
+      (each_fit p owned (λ (e : Typed). e.tree) (λ e before h. h.fits) n.calls es
+      (each_typed p owned scope in_scope.sound n.calls typings are) whole.are_clean) whole.are_low refl
       (kind_is p owned n at kind.Call stands.1))
       none
 
-  pub printf_part : (at : At) (sights : List Sight) → AreSights p owned sights → IsPart p owned f inside
-      (add_printf at sights)
-  printf_part at sights are = record {
-    piece = record { by = printf_at at sights are };
+  pub printf_part : (at : At) (typings : List Typing) → AreWellTypings p owned typings →
+      IsPart p owned f inside
+      (add_printf at typings)
+  printf_part at typings are = record {
+    piece = record { by = printf_at at typings are };
     counted = λ scope n none. none_counted _ refl refl;
   }
 
@@ -231,9 +238,9 @@ module _ (p : Parts) (owned : List VarId) (f : Function) (inside : Bool) where
   abbrev jump_facts : StmtFacts
   jump_facts = record (leaf_facts [] [] true) { leaves_loop = true }
 
-  pub jump_part : (at : At) (typed : StmtTree) → stmt_facts_of p f typed ≡ jump_facts
-      → IsPart p owned f inside (add_jump at typed)
-  jump_part at typed is = record {
+  loop_jump_part : (at : At) (typed : StmtTree) → stmt_facts_of p f typed ≡ jump_facts
+      → IsPart p owned f inside (add_loop_jump at typed)
+  loop_jump_part at typed is = record {
     piece = record {
       by = λ scope in_scope n stands none. bare_piece n typed _
           (subst (λ x. AreStmts p owned n.statements 0 n.calls 0 scope.in_loop (x ∷ [])) (sym is)
@@ -243,3 +250,13 @@ module _ (p : Parts) (owned : List VarId) (f : Function) (inside : Bool) where
     };
     counted = λ scope n none. none_counted _ refl refl;
   }
+
+  jump_part : (at : At) (j : Jump) → IsPart p owned f inside (add_jump at j)
+  jump_part at jump.Break = loop_jump_part at tree.break_loop refl
+  jump_part at jump.Continue = loop_jump_part at tree.continue_loop refl
+  jump_part at jump.Return = return_none_part
+
+  pub jump_with_part : (keyword : Token) (o : Option Typing) → AreOptional p owned f inside o
+      → IsPart p owned f inside (add_jump_with keyword o)
+  jump_with_part keyword None h = jump_part keyword.at (jump_of keyword)
+  jump_with_part keyword (Some typing) h = return_part keyword.at typing h

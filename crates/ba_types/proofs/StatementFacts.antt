@@ -22,19 +22,22 @@ use Rattle.ba_parse.specs.declared.tree.statements.BlockItem.TheFolds.{map-Block
 use Rattle.ba_tree.specs.declared.tree.Function.{Function}
 use Rattle.ba_tree.specs.declared.tree.Parts as program
 use Rattle.ba_types.specs.Declarations.{Before, Part, nothing}
-use Rattle.ba_types.specs.Expressions.{Sight, see_next}
-use Rattle.ba_types.specs.Names.{Scope, type_named}
-use Rattle.ba_types.specs.Statements.{Parts, add_simple, add_return, optional_sight, printed_sights, test_of, item_step, form_step, block_step, controlled_step, do_step, else_step, for_step, statement_step, add_item, add_form, add_statement, parts_of_block}
+use Rattle.ba_types.specs.Expressions.{Typing, typed_next}
+use Rattle.ba_types.specs.Names.{Scope, jump_of, type_named}
+use Rattle.ba_types.specs.Statements.{PartList, add_simple, add_jump, add_jump_with, optional_typing, printed_typings, test_of, item_step, form_step, block_step, controlled_step, do_step, else_step, for_step, statement_step, add_item, add_statement_form, add_statement, parts_of_block}
 use Rattle.ba_types.specs.Trees as tree
 use Rattle.ba_types.proofs.AdditionFacts.{IsPart, part_nothing, AreParts}
 use Rattle.ba_types.proofs.AssignmentFacts.{AreOptional}
 use Rattle.ba_types.proofs.ControlFacts.{IsStatement, block_part, if_part, while_part, do_part}
 use Rattle.ba_types.proofs.DeclarationFacts.{declarators_part}
-use Rattle.ba_types.proofs.ExpressionFacts.{conditional_sight, next_sight}
+use Rattle.ba_types.proofs.ExpressionFacts.{conditional_typing, next_typing}
 use Rattle.ba_types.proofs.ForFacts.{for_part}
 use Rattle.ba_types.proofs.ParsedStatements.{add_controlled, add_do, add_else, add_for}
-use Rattle.ba_types.proofs.PrimaryFacts.{IsSight, AreSights}
-use Rattle.ba_types.proofs.SimpleFacts.{simple_part, return_part, assert_part, printf_part, jump_part}
+use Rattle.ba_types.proofs.PrimaryFacts.{IsWellTyping, AreWellTypings}
+use Rattle.ba_lex.specs.declared.token.Token.{Token}
+use Rattle.ba_types.specs.declared.names.Jump.{Jump}
+use Rattle.ba_types.specs.declared.names.Jump.TheVariants as jump
+use Rattle.ba_types.proofs.SimpleFacts.{simple_part, assert_part, printf_part, jump_with_part}
 
 module _ (p : program.Parts) (owned : List VarId) (f : Function) where
   -- parts of a tree of which it holds
@@ -45,7 +48,7 @@ module _ (p : program.Parts) (owned : List VarId) (f : Function) where
   OfItem = Of (IsPart p owned f true) add_item
 
   abbrev OfForm : Type 0
-  OfForm = Of (IsStatement p owned f) add_form
+  OfForm = Of (IsStatement p owned f) add_statement_form
 
   abbrev OfBlock : Type 0
   OfBlock = Of (AreParts p owned f true) parts_of_block
@@ -72,7 +75,7 @@ module _ (p : program.Parts) (owned : List VarId) (f : Function) where
   Pieces F = F OfItem OfForm OfBlock OfControlled OfDo OfElse OfFor OfStatement
 
   abbrev Addeds : (Type 0 → Type 0 → Type 0 → Type 0 → Type 0 → Type 0 → Type 0 → Type 0 → Type 0) → Type 0
-  Addeds F = F Part Part Parts Part Part Part Part Part
+  Addeds F = F Part Part PartList Part Part Part Part Part
 
   abbrev bare_item : Pieces BlockItem-F → Bare BlockItem-F
   bare_item = map-BlockItem OfItem OfForm OfBlock OfControlled OfDo OfElse OfFor OfStatement
@@ -81,7 +84,8 @@ module _ (p : program.Parts) (owned : List VarId) (f : Function) where
 
   abbrev added_item : Bare BlockItem-F → Addeds BlockItem-F
   added_item = map-BlockItem BlockItem StatementForm Block Controlled DoWhile Else For Statement
-      Part Part Parts Part Part Part Part Part add_item add_form parts_of_block add_controlled add_do
+      Part Part PartList Part Part Part Part Part add_item add_statement_form parts_of_block add_controlled
+      add_do
       add_else add_for add_statement
 
   abbrev bare_form : Pieces StatementForm-F → Bare StatementForm-F
@@ -91,7 +95,8 @@ module _ (p : program.Parts) (owned : List VarId) (f : Function) where
 
   abbrev added_form : Bare StatementForm-F → Addeds StatementForm-F
   added_form = map-StatementForm BlockItem StatementForm Block Controlled DoWhile Else For Statement
-      Part Part Parts Part Part Part Part Part add_item add_form parts_of_block add_controlled add_do
+      Part Part PartList Part Part Part Part Part add_item add_statement_form parts_of_block add_controlled
+      add_do
       add_else add_for add_statement
 
   abbrev bare_block : Pieces Block-F → Bare Block-F
@@ -101,7 +106,8 @@ module _ (p : program.Parts) (owned : List VarId) (f : Function) where
 
   abbrev added_block : Bare Block-F → Addeds Block-F
   added_block = map-Block BlockItem StatementForm Block Controlled DoWhile Else For Statement
-      Part Part Parts Part Part Part Part Part add_item add_form parts_of_block add_controlled add_do
+      Part Part PartList Part Part Part Part Part add_item add_statement_form parts_of_block add_controlled
+      add_do
       add_else add_for add_statement
 
   abbrev bare_controlled : Pieces Controlled-F → Bare Controlled-F
@@ -111,7 +117,8 @@ module _ (p : program.Parts) (owned : List VarId) (f : Function) where
 
   abbrev added_controlled : Bare Controlled-F → Addeds Controlled-F
   added_controlled = map-Controlled BlockItem StatementForm Block Controlled DoWhile Else For Statement
-      Part Part Parts Part Part Part Part Part add_item add_form parts_of_block add_controlled add_do
+      Part Part PartList Part Part Part Part Part add_item add_statement_form parts_of_block add_controlled
+      add_do
       add_else add_for add_statement
 
   abbrev bare_do : Pieces DoWhile-F → Bare DoWhile-F
@@ -121,7 +128,8 @@ module _ (p : program.Parts) (owned : List VarId) (f : Function) where
 
   abbrev added_do : Bare DoWhile-F → Addeds DoWhile-F
   added_do = map-DoWhile BlockItem StatementForm Block Controlled DoWhile Else For Statement
-      Part Part Parts Part Part Part Part Part add_item add_form parts_of_block add_controlled add_do
+      Part Part PartList Part Part Part Part Part add_item add_statement_form parts_of_block add_controlled
+      add_do
       add_else add_for add_statement
 
   abbrev bare_else : Pieces Else-F → Bare Else-F
@@ -131,7 +139,8 @@ module _ (p : program.Parts) (owned : List VarId) (f : Function) where
 
   abbrev added_else : Bare Else-F → Addeds Else-F
   added_else = map-Else BlockItem StatementForm Block Controlled DoWhile Else For Statement
-      Part Part Parts Part Part Part Part Part add_item add_form parts_of_block add_controlled add_do
+      Part Part PartList Part Part Part Part Part add_item add_statement_form parts_of_block add_controlled
+      add_do
       add_else add_for add_statement
 
   abbrev bare_for : Pieces For-F → Bare For-F
@@ -141,7 +150,8 @@ module _ (p : program.Parts) (owned : List VarId) (f : Function) where
 
   abbrev added_for : Bare For-F → Addeds For-F
   added_for = map-For BlockItem StatementForm Block Controlled DoWhile Else For Statement
-      Part Part Parts Part Part Part Part Part add_item add_form parts_of_block add_controlled add_do
+      Part Part PartList Part Part Part Part Part add_item add_statement_form parts_of_block add_controlled
+      add_do
       add_else add_for add_statement
 
   abbrev bare_statement : Pieces Statement-F → Bare Statement-F
@@ -151,21 +161,22 @@ module _ (p : program.Parts) (owned : List VarId) (f : Function) where
 
   abbrev added_statement : Bare Statement-F → Addeds Statement-F
   added_statement = map-Statement BlockItem StatementForm Block Controlled DoWhile Else For Statement
-      Part Part Parts Part Part Part Part Part add_item add_form parts_of_block add_controlled add_do
+      Part Part PartList Part Part Part Part Part add_item add_statement_form parts_of_block add_controlled
+      add_do
       add_else add_for add_statement
 
   -- EXPRESSIONS in statements
 
-  test_sight : (c : Condition) → IsSight p owned (test_of c)
-  test_sight c = conditional_sight p owned c.test.value
+  test_typing : (c : Condition) → IsWellTyping p owned (test_of c)
+  test_typing c = conditional_typing p owned c.test.value
 
-  value_sight : (o : Option Conditional) → AreOptional p owned f true (optional_sight o)
-  value_sight None = tt
-  value_sight (Some e) = conditional_sight p owned e
+  value_typing : (o : Option Conditional) → AreOptional p owned f true (optional_typing o)
+  value_typing None = tt
+  value_typing (Some e) = conditional_typing p owned e
 
-  next_sights : (es : List NextExpression) → AreSights p owned (map see_next es)
-  next_sights [] = tt
-  next_sights (e ∷ es) = (next_sight p owned e, next_sights es)
+  next_typings : (es : List NextExpression) → AreWellTypings p owned (map typed_next es)
+  next_typings [] = tt
+  next_typings (e ∷ es) = (next_typing p owned e, next_typings es)
 
   -- THE FORMS
 
@@ -184,43 +195,45 @@ module _ (p : program.Parts) (owned : List VarId) (f : Function) where
     from (simple.PrefixStep operator target) scope n = omega arith
     from (simple.Call name opener arguments closer) scope n = omega arith
 
-  return_statement : (at : At) (o : Option Sight) → AreOptional p owned f true o → IsStatement p owned f
-      (add_return at o)
-  return_statement at o h = record { fits = return_part p owned f true at o h; single = from o } where
-    from : (o : Option Sight) (scope : Scope) (n : Before) → length (add_return at o scope n).stmts ≤ 1
-    from None scope n = omega arith
-    from (Some sight) scope n = omega arith
+  single_jump : (at : At) (j : Jump) (scope : Scope) (n : Before) → length (add_jump at j scope n).stmts ≤ 1
+  single_jump at jump.Break scope n = omega arith
+  single_jump at jump.Continue scope n = omega arith
+  single_jump at jump.Return scope n = omega arith
+
+  jump_statement : (keyword : Token) (o : Option Typing) → AreOptional p owned f true o →
+      IsStatement p owned f
+      (add_jump_with keyword o)
+  jump_statement keyword o h = record { fits = jump_with_part p owned f true keyword o h; single = from o }
+    where
+      from : (o : Option Typing) (scope : Scope) (n : Before) →
+          length (add_jump_with keyword o scope n).stmts ≤ 1
+      from None scope n = single_jump keyword.at (jump_of keyword) scope n
+      from (Some typing) scope n = omega arith
 
   form_form : (y : Pieces StatementForm-F) → IsStatement p owned f (form_step (added_form (bare_form y)))
   form_form (StatementForm-F.Block items) = block_part p owned f (parts_of_block items.0) items.1
   form_form (StatementForm-F.Empty semicolon) = empty_statement
   form_form (StatementForm-F.Simple simple semicolon) = simple_statement simple
   form_form (StatementForm-F.If keyword condition holds None) =
-      if_part p owned f (test_of condition) (test_sight condition) (add_controlled holds.0) holds.1 None tt
+      if_part p owned f (test_of condition) (test_typing condition) (add_controlled holds.0) holds.1 None tt
   form_form (StatementForm-F.If keyword condition holds (Some fails)) =
-      if_part p owned f (test_of condition) (test_sight condition) (add_controlled holds.0) holds.1
+      if_part p owned f (test_of condition) (test_typing condition) (add_controlled holds.0) holds.1
       (Some (add_else fails.0)) fails.1
   form_form (StatementForm-F.While keyword condition body) =
-      while_part p owned f (test_of condition) (test_sight condition) (add_controlled body.0) body.1
+      while_part p owned f (test_of condition) (test_typing condition) (add_controlled body.0) body.1
   form_form (StatementForm-F.DoWhile d) = d.1
   form_form (StatementForm-F.For s) = s.1
-  form_form (StatementForm-F.Break keyword semicolon) = record {
-    fits = jump_part p owned f true keyword.now.at tree.break_loop refl;
-    single = λ scope n. omega arith;
-  }
-  form_form (StatementForm-F.Continue keyword semicolon) = record {
-    fits = jump_part p owned f true keyword.now.at tree.continue_loop refl;
-    single = λ scope n. omega arith;
-  }
+  form_form (StatementForm-F.Break keyword semicolon) = jump_statement keyword.now None tt
+  form_form (StatementForm-F.Continue keyword semicolon) = jump_statement keyword.now None tt
   form_form (StatementForm-F.Return keyword value semicolon) =
-      return_statement keyword.now.at (optional_sight value) (value_sight value)
+      jump_statement keyword.now (optional_typing value) (value_typing value)
   form_form (StatementForm-F.Assert keyword condition semicolon) = record {
-    fits = assert_part p owned f true keyword.now.at (test_of condition) (test_sight condition);
+    fits = assert_part p owned f true keyword.now.at (test_of condition) (test_typing condition);
     single = λ scope n. omega arith;
   }
   form_form (StatementForm-F.Printf keyword opener printed closer semicolon) = record {
-    fits = printf_part p owned f true keyword.now.at (printed_sights printed)
-        (next_sights printed.values.items);
+    fits = printf_part p owned f true keyword.now.at (printed_typings printed)
+        (next_typings printed.values.items);
     single = λ scope n. omega arith;
   }
 
@@ -236,7 +249,7 @@ module _ (p : program.Parts) (owned : List VarId) (f : Function) where
   controlled_form y = y.statement.value.1
 
   do_form : (y : Pieces DoWhile-F) → IsStatement p owned f (do_step (added_do (bare_do y)))
-  do_form y = do_part p owned f (test_of y.condition) (test_sight y.condition)
+  do_form y = do_part p owned f (test_of y.condition) (test_typing y.condition)
       (add_controlled y.body.0) y.body.1
 
   else_form : (y : Pieces Else-F) → IsStatement p owned f (else_step (added_else (bare_else y)))
@@ -257,73 +270,76 @@ module _ (p : program.Parts) (owned : List VarId) (f : Function) where
 
   item_layer : (x : Bare BlockItem-F) (y : Pieces BlockItem-F) → bare_item y ≡ x → IsPart p owned f true
       (add_item (roll-BlockItem x))
-  unfolding add_item add_form add_statement parts_of_block
+  unfolding add_item add_statement_form add_statement parts_of_block
   item_layer x y is = by_form (IsPart p owned f true) add_item roll-BlockItem (λ z. item_step (added_item z))
-      (fold-roll-BlockItem Part Part Parts Part Part Part Part Part item_step form_step block_step
+      (fold-roll-BlockItem Part Part PartList Part Part Part Part Part item_step form_step block_step
       controlled_step
       do_step else_step for_step statement_step) (bare_item y) x is (item_form y)
 
   form_layer : (x : Bare StatementForm-F) (y : Pieces StatementForm-F) → bare_form y ≡ x
-      → IsStatement p owned f (add_form (roll-StatementForm x))
-  unfolding add_item add_form add_statement parts_of_block
-  form_layer x y is = by_form (IsStatement p owned f) add_form roll-StatementForm (λ z. form_step
+      → IsStatement p owned f (add_statement_form (roll-StatementForm x))
+  unfolding add_item add_statement_form add_statement parts_of_block
+  form_layer x y is = by_form (IsStatement p owned f) add_statement_form roll-StatementForm (λ z. form_step
       (added_form z))
-      (fold-roll-StatementForm Part Part Parts Part Part Part Part Part item_step form_step block_step
+      (fold-roll-StatementForm Part Part PartList Part Part Part Part Part item_step form_step block_step
       controlled_step
       do_step else_step for_step statement_step) (bare_form y) x is (form_form y)
 
   block_layer : (x : Bare Block-F) (y : Pieces Block-F) → bare_block y ≡ x → AreParts p owned f true
       (parts_of_block (roll-Block x))
-  unfolding add_item add_form add_statement parts_of_block
+  unfolding add_item add_statement_form add_statement parts_of_block
   block_layer x y is = by_form (AreParts p owned f true) parts_of_block roll-Block (λ z. block_step
       (added_block z))
-      (fold-roll-Block Part Part Parts Part Part Part Part Part item_step form_step block_step controlled_step
+      (fold-roll-Block Part Part PartList Part Part Part Part Part item_step form_step block_step
+      controlled_step
       do_step else_step for_step statement_step) (bare_block y) x is (block_form y)
 
   controlled_layer : (x : Bare Controlled-F) (y : Pieces Controlled-F) → bare_controlled y ≡ x
       → IsStatement p owned f (add_controlled (roll-Controlled x))
-  unfolding add_item add_form add_statement parts_of_block
+  unfolding add_item add_statement_form add_statement parts_of_block
   controlled_layer x y is = by_form (IsStatement p owned f) add_controlled roll-Controlled
       (λ z. controlled_step (added_controlled z))
-      (fold-roll-Controlled Part Part Parts Part Part Part Part Part item_step form_step block_step
+      (fold-roll-Controlled Part Part PartList Part Part Part Part Part item_step form_step block_step
       controlled_step
       do_step else_step for_step statement_step) (bare_controlled y) x is (controlled_form y)
 
   do_layer : (x : Bare DoWhile-F) (y : Pieces DoWhile-F) → bare_do y ≡ x → IsStatement p owned f (add_do
       (roll-DoWhile x))
-  unfolding add_item add_form add_statement parts_of_block
+  unfolding add_item add_statement_form add_statement parts_of_block
   do_layer x y is = by_form (IsStatement p owned f) add_do roll-DoWhile (λ z. do_step (added_do z))
-      (fold-roll-DoWhile Part Part Parts Part Part Part Part Part item_step form_step block_step
+      (fold-roll-DoWhile Part Part PartList Part Part Part Part Part item_step form_step block_step
       controlled_step
       do_step else_step for_step statement_step) (bare_do y) x is (do_form y)
 
   else_layer : (x : Bare Else-F) (y : Pieces Else-F) → bare_else y ≡ x → IsStatement p owned f (add_else
       (roll-Else x))
-  unfolding add_item add_form add_statement parts_of_block
+  unfolding add_item add_statement_form add_statement parts_of_block
   else_layer x y is = by_form (IsStatement p owned f) add_else roll-Else (λ z. else_step (added_else z))
-      (fold-roll-Else Part Part Parts Part Part Part Part Part item_step form_step block_step controlled_step
+      (fold-roll-Else Part Part PartList Part Part Part Part Part item_step form_step block_step
+      controlled_step
       do_step else_step for_step statement_step) (bare_else y) x is (else_form y)
 
   for_layer : (x : Bare For-F) (y : Pieces For-F) → bare_for y ≡ x → IsStatement p owned f (add_for
       (roll-For x))
-  unfolding add_item add_form add_statement parts_of_block
+  unfolding add_item add_statement_form add_statement parts_of_block
   for_layer x y is = by_form (IsStatement p owned f) add_for roll-For (λ z. for_step (added_for z))
-      (fold-roll-For Part Part Parts Part Part Part Part Part item_step form_step block_step controlled_step
+      (fold-roll-For Part Part PartList Part Part Part Part Part item_step form_step block_step
+      controlled_step
       do_step else_step for_step statement_step) (bare_for y) x is (for_form y)
 
   statement_layer : (x : Bare Statement-F) (y : Pieces Statement-F) → bare_statement y ≡ x
       → IsStatement p owned f (add_statement (roll-Statement x))
-  unfolding add_item add_form add_statement parts_of_block
+  unfolding add_item add_statement_form add_statement parts_of_block
   statement_layer x y is = by_form (IsStatement p owned f) add_statement roll-Statement (λ z. statement_step
       (added_statement z))
-      (fold-roll-Statement Part Part Parts Part Part Part Part Part item_step form_step block_step
+      (fold-roll-Statement Part Part PartList Part Part Part Part Part item_step form_step block_step
       controlled_step
       do_step else_step for_step statement_step) (bare_statement y) x is (statement_form y)
 
   pub block_parts : (b : Block) → AreParts p owned f true (parts_of_block b)
   block_parts = ind-Block
       (λ x. IsPart p owned f true (add_item x))
-      (λ x. IsStatement p owned f (add_form x))
+      (λ x. IsStatement p owned f (add_statement_form x))
       (λ x. AreParts p owned f true (parts_of_block x))
       (λ x. IsStatement p owned f (add_controlled x))
       (λ x. IsStatement p owned f (add_do x))

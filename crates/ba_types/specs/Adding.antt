@@ -12,12 +12,12 @@ use Rattle.ba_tree.specs.declared.tree.Expr.{Expr}
 use Rattle.ba_tree.specs.declared.tree.Stmt.{Stmt}
 use Rattle.ba_tree.specs.declared.tree.StmtKind.{StmtKind}
 use Rattle.ba_tree.specs.declared.tree.Variable.{Variable}
-use Rattle.ba_types.specs.Declarations.{Added, Before, Part, SeenLength, add_length, initial_faults, next_stmt, whole_faults}
-use Rattle.ba_types.specs.Expressions.{Seen, Sight, no_tree, promoted, tree_as}
+use Rattle.ba_types.specs.Declarations.{Added, Before, Part, TypedLength, add_length, initial_faults, next_stmt, whole_faults}
+use Rattle.ba_types.specs.Expressions.{Typed, Typing, placeholder, promoted, tree_as}
 use Rattle.ba_types.specs.Faults.{fault, limit_faults, statement_limit, variable_limit, element_limit, height_limit}
 use Rattle.ba_types.specs.Judging.{Judges, after, nothing_found, with_faults}
 use Rattle.ba_types.specs.Names.{Scope, knowing, name_of}
-use Rattle.ba_types.specs.Statements.{SeenTarget, add_test, assigned_tree, index_faults, index_sight, kind_of_target, see_target}
+use Rattle.ba_types.specs.Statements.{TypedTarget, add_test, assigned_tree, index_faults, index_typing, kind_of_target, typed_target}
 use Rattle.ba_types.specs.Trees.{ExprTree, StmtTree, tree_of_expr, tree_of_stmt}
 use Rattle.ba_types.specs.declared.assignments.JudgedTarget.{JudgedTarget}
 use Rattle.ba_types.specs.declared.control.Test.{Test}
@@ -101,7 +101,7 @@ abbrev pub with_judged : Work → ℕ → List Fault → Work
 with_judged w calls faults = record w { tally = after w.tally calls faults }
 
 -- the answer is the judgement of a whole expression whose statement stands at this position
-abbrev pub GivesWhole : {E : Type 0} → At → Seen → Tally → Tally → Result Judged E → Type 0
+abbrev pub GivesWhole : {E : Type 0} → At → Typed → Tally → Tally → Result Judged E → Type 0
 GivesWhole at s old new (Ok j) = Judges j s × (new ≡ after old s.calls (whole_faults at s))
 GivesWhole at s old new (Err e) = Unit {0}
 
@@ -115,15 +115,15 @@ kept tally exprs = record { trees = map tree_of_expr exprs.items; tally = tally 
 
 -- how an expression is kept: its tree, and the faults
 pub record Keeping : Type 0 where
-  pub tree : Seen → ExprTree
-  pub faults : Seen → List Fault
+  pub tree : Typed → ExprTree
+  pub faults : Typed → List Fault
 
-abbrev pub keep_one : Keeping → Seen → Kept → Kept
+abbrev pub keep_one : Keeping → Typed → Kept → Kept
 keep_one how e k = record { trees = k.trees ++ how.tree e ∷ []; tally = after k.tally e.calls (how.faults e) }
 
-abbrev pub keep_each : Keeping → Scope → List Sight → Kept → Kept
+abbrev pub keep_each : Keeping → Scope → List Typing → Kept → Kept
 keep_each how scope [] k = k
-keep_each how scope (sight ∷ sights) k = keep_each how scope sights (keep_one how (sight scope k.tally.calls) k)
+keep_each how scope (typing ∷ typings) k = keep_each how scope typings (keep_one how (typing scope k.tally.calls) k)
 
 -- as values of an initialiser
 abbrev pub initialising : At → CType → Bool → Keeping
@@ -134,20 +134,20 @@ abbrev pub printing : At → Keeping
 printing at = record { tree = λ e. e.tree; faults = whole_faults at }
 
 -- THE LENGTH OF AN ARRAY, without the calls and the faults in it
-abbrev pub plain_length : Option SeenLength → Option Length
+abbrev pub plain_length : Option TypedLength → Option Length
 plain_length None = None
 plain_length (Some l) = Some (record { count = l.count; is_written = l.is_written })
 
-abbrev pub calls_of_length : Option SeenLength → ℕ
+abbrev pub calls_of_length : Option TypedLength → ℕ
 calls_of_length None = 0
 calls_of_length (Some l) = l.calls
 
-abbrev pub faults_of_length : Option SeenLength → List Fault
+abbrev pub faults_of_length : Option TypedLength → List Fault
 faults_of_length None = []
 faults_of_length (Some l) = l.faults
 
 -- the answer is the length, and its expression was judged
-abbrev pub IsLength : Option SeenLength → Tally → Tally → Option Length → Type 0
+abbrev pub IsLength : Option TypedLength → Tally → Tally → Option Length → Type 0
 IsLength s old new l = (l ≡ plain_length s) × (new ≡ after old (calls_of_length s) (faults_of_length s))
 
 -- a length is counted, a bad one as none
@@ -156,44 +156,44 @@ with_count w at None = record w { tally = with_faults w.tally (fault BadLength a
 with_count w at (Some count) = with_elements w count at
 
 -- the answer is the length, and the part that it adds was added
-abbrev pub AddsLength : At → Option SeenLength → Scope → Work → Work → Option Length → Type 0
+abbrev pub AddsLength : At → Option TypedLength → Scope → Work → Work → Option Length → Type 0
 AddsLength at s scope old new l =
     (l ≡ plain_length s) × (new ≡ with_added old (add_length at s scope (before_of old)))
 
 -- the first of these trees
 abbrev pub first_of : List ExprTree → ExprTree
-first_of [] = no_tree
+first_of [] = placeholder
 first_of (e ∷ es) = e
 
 -- A CONDITION as a statement: its number, its tree, and what it adds
 
-abbrev pub GivesTest : Seen → Scope → Work → Work → Test → Type 0
+abbrev pub GivesTest : Typed → Scope → Work → Work → Test → Type 0
 GivesTest s scope old new t = (t.stmt ≡ next_stmt (before_of old)) × (tree_of_expr t.when ≡ s.tree)
     × (new ≡ with_added old (add_test s.first s scope (before_of old)))
 
 -- WHAT IS ASSIGNED TO
 
 -- what there is to say of it in a scope, behind so many calls
-abbrev pub seen_target : Target → Scope → ℕ → SeenTarget
-seen_target target = see_target target.name.now.at (name_of target.name.now) (index_sight target.index)
+abbrev pub typed_target_of : Target → Scope → ℕ → TypedTarget
+typed_target_of target = typed_target target.name.now.at (name_of target.name.now) (index_typing target.index)
 
 -- the tree of an index, which is promoted
-abbrev pub index_tree : Seen → ExprTree
+abbrev pub index_tree : Typed → ExprTree
 index_tree index = tree_as (promoted index.t) index
 
 -- the code's judgement is what there is to say of it
-pub record JudgesTarget (j : JudgedTarget) (s : SeenTarget) : Type 0 where
+pub record JudgesTarget (j : JudgedTarget) (s : TypedTarget) : Type 0 where
   pub var : j.var ≡ s.var
-  pub t : j.t ≡ s.seen.t
+  pub t : j.t ≡ s.expression.t
   pub index : option_map tree_of_expr j.index ≡ option_map index_tree s.index
 
 -- it is, and the tally has risen by the calls and the faults
-abbrev pub GivesTarget : At → At → Option BinOp → SeenTarget → Tally → Tally → JudgedTarget → Type 0
+abbrev pub GivesTarget : At → At → Option BinOp → TypedTarget → Tally → Tally → JudgedTarget → Type 0
 GivesTarget at name_at op s old new j = JudgesTarget j s
-    × (new ≡ after old s.seen.calls (s.seen.faults ++ index_faults at name_at (is_some op) s.index))
+    × (new ≡ after old s.expression.calls (s.expression.faults ++ index_faults at name_at (is_some op) s.index))
 
 -- the statement that assigns an expression was numbered and put behind those, and the expression's height was looked at
-abbrev pub Assigns : At → SeenTarget → Seen → Work → Work → List StmtTree → List StmtTree → Type 0
+abbrev pub Assigns : At → TypedTarget → Typed → Work → Work → List StmtTree → List StmtTree → Type 0
 Assigns at s e old new olds news =
     (new ≡ with_number (record old { tally = with_faults old.tally (limit_faults height_limit e.height at) })
     at (kind_of_target s.index))

@@ -6,7 +6,7 @@ use Rattle.ba_parse.specs.declared.tree.statements.ForHead.{ForHead}
 use Rattle.ba_tree.specs.declared.tree.Stmt.{Stmt}
 use Rattle.ba_types.specs.Adding.{before_of, with_added}
 use Rattle.ba_types.specs.Declarations.{Added, ◌and◌, Part, behind, next_stmt}
-use Rattle.ba_types.specs.Expressions.{Sight}
+use Rattle.ba_types.specs.Expressions.{Typing}
 use Rattle.ba_types.specs.Names.{Scope, knowing}
 use Rattle.ba_types.specs.Statements.{add_first, add_step, add_test, for_scope, for_test, one_of}
 use Rattle.ba_types.specs.Trees.{tree_of_expr, tree_of_stmt}
@@ -19,7 +19,7 @@ abbrev pub GivesBody : Added → Work → Work → Stmt → Type 0
 GivesBody a old new s = (tree_of_stmt s ≡ one_of a.stmts) × (new ≡ with_added old a)
 
 -- a condition and the statement that it controls
-abbrev pub GivesGuarded : Sight → Part → Scope → Work → Work → Guarded → Type 0
+abbrev pub GivesGuarded : Typing → Part → Scope → Work → Work → Guarded → Type 0
 GivesGuarded test holds scope old new g =
     let n = before_of old in
     let w = test scope n.calls in

@@ -21,7 +21,7 @@ use Rattle.ba_tree.specs.declared.tree.StmtInfo.{StmtInfo}
 use Rattle.ba_tree.specs.declared.tree.StmtKind.{StmtKind}
 use Rattle.ba_tree.specs.declared.tree.StmtKind.TheVariants as kind
 use Rattle.ba_tree.specs.declared.tree.Variable.{Variable}
-use Rattle.ba_types.specs.Expressions.{Seen, Sight, see_conditional, see_next, tree_as, no_tree}
+use Rattle.ba_types.specs.Expressions.{Typed, Typing, typed_conditional, typed_next, tree_as, placeholder}
 use Rattle.ba_types.specs.Faults.{fault, fault_if, void_faults, twice_faults, limit_faults, statement_limit, variable_limit, element_limit, height_limit}
 use Rattle.ba_types.specs.Names.{Scope, knowing, is_declared_here, is_declared_in, name_of}
 use Rattle.ba_types.specs.Trees.{ExprTree, StmtTree}
@@ -107,7 +107,7 @@ numbered n at k typed calls faults = record nothing_added {
 }
 
 -- the whole of an expression: its faults, and its height at this position
-abbrev pub whole_faults : At → Seen → List Fault
+abbrev pub whole_faults : At → Typed → List Fault
 whole_faults at e = limit_faults height_limit e.height at ++ e.faults
 
 -- VARIABLES
@@ -135,16 +135,16 @@ length_in_range None = None
 length_in_range (Some z) = cond (is_length z) (Some (unsigned_abs z)) None
 
 -- a written length, None where it is not constant, traps or is out of range
-abbrev pub written_length : Seen → Option ℕ
+abbrev pub written_length : Typed → Option ℕ
 written_length e = cond e.is_constant (length_in_range e.value) None
 
 -- THE VALUES OF AN INITIALISER (C90 6.5.7)
 
-abbrev pub braced_values : Braced → List Sight
-braced_values b = see_conditional b.first ∷ map see_next b.rest.items
+abbrev pub braced_values : Braced → List Typing
+braced_values b = typed_conditional b.first ∷ map typed_next b.rest.items
 
-abbrev pub values_of : Initialiser → List Sight
-values_of (initialiser.Expression assign e) = see_conditional e ∷ []
+abbrev pub values_of : Initialiser → List Typing
+values_of (initialiser.Expression assign e) = typed_conditional e ∷ []
 values_of (initialiser.Braced assign b) = braced_values b
 
 abbrev pub has_braces : Initialiser → Bool
@@ -152,56 +152,56 @@ has_braces (initialiser.Expression assign e) = false
 has_braces (initialiser.Braced assign b) = true
 
 -- expressions one after the other
-abbrev pub see_each : Scope → ℕ → List Sight → List Seen
-see_each scope calls [] = []
-see_each scope calls (sight ∷ sights) = let e = sight scope calls in e ∷ see_each scope (calls + e.calls) sights
+abbrev pub typed_each : Scope → ℕ → List Typing → List Typed
+typed_each scope calls [] = []
+typed_each scope calls (typing ∷ typings) = let e = typing scope calls in e ∷ typed_each scope (calls + e.calls) typings
 
-abbrev pub calls_in : List Seen → ℕ
-calls_in = sum_by (λ (e : Seen). e.calls)
+abbrev pub calls_in : List Typed → ℕ
+calls_in = sum_by (λ (e : Typed). e.calls)
 
 -- a value of an initialiser; a global's is constant
-abbrev pub initial_faults : At → Bool → Seen → List Fault
+abbrev pub initial_faults : At → Bool → Typed → List Fault
 initial_faults at is_global e = whole_faults at e ++ fault_if (is_global && not e.is_constant) WrongKind at
 
-abbrev pub first_tree : CType → List Seen → ExprTree
-first_tree t [] = no_tree
+abbrev pub first_tree : CType → List Typed → ExprTree
+first_tree t [] = placeholder
 first_tree t (e ∷ es) = tree_as t e
 
 -- of an array all values, of a variable its one
-abbrev pub init_tree : StmtId → VarId → CType → Bool → List Seen → StmtTree
+abbrev pub init_tree : StmtId → VarId → CType → Bool → List Typed → StmtTree
 init_tree stmt v t true es = tree.init_array stmt v (map (tree_as t) es)
 init_tree stmt v t false es = tree.init stmt v (first_tree t es)
 
 -- DECLARATORS (C90 6.5.4)
 
 -- the length of an array: how many elements, None where it is bad; whether it is written; and what its expression adds
-pub record SeenLength : Type 0 where
+pub record TypedLength : Type 0 where
   pub count : Option ℕ
   pub is_written : Bool
   pub calls : ℕ
   pub faults : List Fault
 
-abbrev pub see_written : At → Seen → SeenLength
-see_written at e = record { count = written_length e; is_written = true; calls = e.calls; faults = whole_faults at e }
+abbrev pub typed_written_length : At → Typed → TypedLength
+typed_written_length at e = record { count = written_length e; is_written = true; calls = e.calls; faults = whole_faults at e }
 
-abbrev pub see_counted : Option ℕ → SeenLength
-see_counted values = record { count = length_in_range (option_map pos values); is_written = false; calls = 0; faults = [] }
+abbrev pub typed_counted_length : Option ℕ → TypedLength
+typed_counted_length values = record { count = length_in_range (option_map pos values); is_written = false; calls = 0; faults = [] }
 
 -- of an array at this position with so many initialisers, if it has any
-abbrev pub see_length : At → Option ℕ → Option Conditional → Scope → ℕ → SeenLength
-see_length at values None scope calls = see_counted values
-see_length at values (Some e) scope calls = see_written at (see_conditional e scope calls)
+abbrev pub typed_length : At → Option ℕ → Option Conditional → Scope → ℕ → TypedLength
+typed_length at values None scope calls = typed_counted_length values
+typed_length at values (Some e) scope calls = typed_written_length at (typed_conditional e scope calls)
 
-abbrev pub see_array_length : At → Option ℕ → Scope → ℕ → Option ArrayLength → Option SeenLength
-see_array_length at values scope calls None = None
-see_array_length at values scope calls (Some l) = Some (see_length at values l.length scope calls)
+abbrev pub typed_array_length : At → Option ℕ → Scope → ℕ → Option ArrayLength → Option TypedLength
+typed_array_length at values scope calls None = None
+typed_array_length at values scope calls (Some l) = Some (typed_length at values l.length scope calls)
 
 -- a bad length adds no elements, and the array counts as one of 1
 abbrev pub length_faults : Before → At → Option ℕ → List Fault
 length_faults n at None = fault BadLength at
 length_faults n at (Some count) = limit_faults element_limit (n.elements + count) at
 
-abbrev pub add_length : At → Option SeenLength → Part
+abbrev pub add_length : At → Option TypedLength → Part
 add_length at None scope n = nothing_added
 add_length at (Some l) scope n = record nothing_added {
   calls = l.calls;
@@ -209,28 +209,28 @@ add_length at (Some l) scope n = record nothing_added {
   faults = length_faults n at l.count ++ l.faults;
 }
 
-abbrev pub shape_of : Option SeenLength → Shape
+abbrev pub shape_of : Option TypedLength → Shape
 shape_of None = Value
 shape_of (Some l) = Array (unwrap_or l.count 1)
 
 -- the length that an initialiser may not exceed: a good one that is written
-abbrev pub limit_of : Option SeenLength → Option ℕ
-limit_of None = None
-limit_of (Some l) = cond l.is_written l.count None
+abbrev pub written_count : Option TypedLength → Option ℕ
+written_count None = None
+written_count (Some l) = cond l.is_written l.count None
 
 abbrev pub exceeds : Option ℕ → ℕ → Bool
 exceeds None count = false
 exceeds (Some most) count = nat_lt most count
 
 -- Braces stand for an array and for nothing else, and have no more values than the array elements.
-abbrev pub add_initialiser : At → VarId → CType → Option SeenLength → Initialiser → Part
-add_initialiser at v t l init scope n = let es = see_each scope n.calls (values_of init) in
+abbrev pub add_initialiser : At → VarId → CType → Option TypedLength → Initialiser → Part
+add_initialiser at v t l init scope n = let es = typed_each scope n.calls (values_of init) in
     numbered n at kind.Initialiser (init_tree (next_stmt n) v t (is_some l) es) (calls_in es)
     (fault_if (cond (is_some l) (not (has_braces init)) (has_braces init)) WrongKind at
-    ++ fault_if (exceeds (limit_of l) (length es)) WrongCount at
+    ++ fault_if (exceeds (written_count l) (length es)) WrongCount at
     ++ flat_map (initial_faults at (scope.depth == 0)) es)
 
-abbrev pub add_optional_initialiser : At → VarId → CType → Option SeenLength → Option Initialiser → Part
+abbrev pub add_optional_initialiser : At → VarId → CType → Option TypedLength → Option Initialiser → Part
 add_optional_initialiser at v t l None = nothing
 add_optional_initialiser at v t l (Some init) = add_initialiser at v t l init
 
@@ -247,7 +247,7 @@ add_declarator functions t d scope n =
     let at = d.name.now.at in
     let v : VarId = record { 0 = n.variables } in
     let s = unwrap_or t I32 in
-    let l = see_array_length at (count_of_values d.initialiser) scope n.calls d.length in
+    let l = typed_array_length at (count_of_values d.initialiser) scope n.calls d.length in
     (add_length at l
     then add_variable functions at (name_of d.name.now) (record { t = s; shape = shape_of l })
     then add_declare v

@@ -27,7 +27,7 @@ use Rattle.ba_tree.specs.declared.tree.Program.{Program}
 use Rattle.ba_tree.specs.declared.tree.Shape.{Shape}
 use Rattle.ba_tree.specs.declared.tree.Shape.TheVariants.{Value, Passed}
 use Rattle.ba_tree.specs.declared.tree.Variable.{Variable}
-use Rattle.ba_types.specs.Declarations.{Added, nothing_added, ◌and◌, Before, behind, Part, ◌then◌, nothing, in_order, faults_added, add_variable, add_length, add_declarators, SeenLength, see_array_length, shape_of}
+use Rattle.ba_types.specs.Declarations.{Added, nothing_added, ◌and◌, Before, behind, Part, ◌then◌, nothing, in_order, faults_added, add_variable, add_length, add_declarators, TypedLength, typed_array_length, shape_of}
 use Rattle.ba_types.specs.Faults.{fault, fault_if, void_faults, twice_faults, limit_faults, function_limit, parameter_limit, IsFirst}
 use Rattle.ba_types.specs.Names.{Scope, inner, knowing, name_of, words_of, type_named, is_main_name, main_name, is_declared_here, is_declared_in, definition_in, same_name}
 use Rattle.ba_types.specs.Statements.{parts_of_block}
@@ -174,12 +174,12 @@ abbrev pub place_of_param : At → Parameter → At
 place_of_param other p = place_of_name (first_at (words_of p.type_name) other) p.name
 
 -- only the lengths of main's array parameters are looked at
-abbrev pub param_length : Bool → At → Option ArrayLength → Scope → ℕ → Option SeenLength
+abbrev pub param_length : Bool → At → Option ArrayLength → Scope → ℕ → Option TypedLength
 param_length false at length scope calls = None
-param_length true at length scope calls = see_array_length at None scope calls length
+param_length true at length scope calls = typed_array_length at None scope calls length
 
 -- main's arrays are its own; an array parameter of another function names the array that is passed
-abbrev pub param_shape : Bool → Option ArrayLength → Option SeenLength → Shape
+abbrev pub param_shape : Bool → Option ArrayLength → Option TypedLength → Shape
 param_shape is_main None l = Value
 param_shape true (Some length) l = shape_of l
 param_shape false (Some length) l = Passed
@@ -189,12 +189,12 @@ abbrev pub bad_length_faults : At → Option ℕ → List Fault
 bad_length_faults at None = fault BadLength at
 bad_length_faults at (Some count) = []
 
-abbrev pub check_length : At → Option SeenLength → Part
+abbrev pub check_length : At → Option TypedLength → Part
 check_length at None scope n = nothing_added
 check_length at (Some l) scope n = record nothing_added { calls = l.calls; faults = bad_length_faults at l.count ++ l.faults }
 
 -- the parameters of a definition are variables; those of a prototype are looked at alone
-abbrev pub declare_param : Bool → At → List ℕ → Variable → Option SeenLength → Part
+abbrev pub declare_param : Bool → At → List ℕ → Variable → Option TypedLength → Part
 declare_param false at name v l = check_length at l
 declare_param true at name v l = add_length at l then add_variable [] at name v
 
@@ -253,15 +253,15 @@ add_function at s ps e file earlier n =
       functions = cond s.is_definition (function_tree n s.result params body ∷ []) [];
     }
 
-abbrev pub add_form : Option CType → ExternalForm → Option Signature → Scope → List Signature → Before → FileAdded
-add_form t (form.Variables declarators semicolon) s file earlier n =
+abbrev pub add_external_form : Option CType → ExternalForm → Option Signature → Scope → List Signature → Before → FileAdded
+add_external_form t (form.Variables declarators semicolon) s file earlier n =
     record { added = add_declarators earlier t declarators file n; functions = [] }
-add_form t (form.Function name opener params closer e) None file earlier n = record { added = nothing_added; functions = [] }
-add_form t (form.Function name opener params closer e) (Some s) file earlier n =
+add_external_form t (form.Function name opener params closer e) None file earlier n = record { added = nothing_added; functions = [] }
+add_external_form t (form.Function name opener params closer e) (Some s) file earlier n =
     add_function name.now.at s (params_of params) e file earlier n
 
 abbrev pub add_external : External → Option Signature → Scope → List Signature → Before → FileAdded
-add_external x s = add_form (type_named x.name) x.form s
+add_external x s = add_external_form (type_named x.name) x.form s
 
 abbrev pub with_functions : FileAdded → FileAdded → FileAdded
 with_functions a b = record { added = a.added and b.added; functions = a.functions ++ b.functions }

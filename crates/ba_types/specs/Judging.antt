@@ -1,10 +1,13 @@
 -- How what the code finds out about a program stands to what the definitions say of it.
 
-use Rattle.std.specs.Prelude.{◌≡◌, ℕ, ◌+◌, ◌-◌, Bool, false, cond, take, Option, None, Some, Result, Ok, Err, List, [], ◌∷◌, ◌++◌, map, flat_map}
+use Rattle.std.specs.Prelude.{◌≡◌, ℕ, ◌+◌, ◌-◌, Bool, true, false, ◌&&◌, nat_lt, nat_le, cond, take, Option, None, Some, Result, Ok, Err, List, [], ◌∷◌, ◌++◌, map, flat_map}
+use Rattle.std.specs.Global.{Box}
 use Rattle.std.specs.List.{list_all}
+use Rattle.ba_parse.specs.declared.tree.expressions.Chain.{Chain, out-Chain}
+use Rattle.ba_parse.specs.declared.tree.expressions.Operand.{out-Operand}
 use Rattle.ba_tree.specs.Facts.{greatest}
 use Rattle.ba_types.specs.Declarations.{whole_faults, calls_in}
-use Rattle.ba_types.specs.Expressions.{Seen, SeenArg, SeenCall, seen_args, trees_of_args}
+use Rattle.ba_types.specs.Expressions.{Typed, TypedArg, TypedCall, expressions_of_args, trees_of_args}
 use Rattle.ba_types.specs.Faults.{comes_before}
 use Rattle.ba_types.specs.Names.{Scope}
 use Rattle.ba_types.specs.Trees.{tree_of_arg, tree_of_expr}
@@ -55,8 +58,8 @@ left_for count scope = record scope { known = take count scope.known; depth = sc
 -- EXPRESSIONS
 
 -- what the code keeps of an expression, with the number of calls and the faults in it
-abbrev pub seen_of : Judged → ℕ → List Fault → Seen
-seen_of j calls faults = record {
+abbrev pub typed_from : Judged → ℕ → List Fault → Typed
+typed_from j calls faults = record {
   first = j.first;
   name = j.name;
   height = j.height;
@@ -69,66 +72,78 @@ seen_of j calls faults = record {
 }
 
 -- the greatest height of these, and whether all are constant
-abbrev pub greatest_height : List Seen → ℕ
-greatest_height es = greatest (map (λ (e : Seen). e.height) es)
+abbrev pub greatest_height : List Typed → ℕ
+greatest_height es = greatest (map (λ (e : Typed). e.height) es)
 
-abbrev pub are_constant : List Seen → Bool
-are_constant = list_all (λ (e : Seen). e.is_constant)
+abbrev pub are_constant : List Typed → Bool
+are_constant = list_all (λ (e : Typed). e.is_constant)
 
 -- what an operator has from these operands
-pub record AreOperands (o : Operands) (es : List Seen) : Type 0 where
+pub record AreOperands (o : Operands) (es : List Typed) : Type 0 where
   pub tallest : o.tallest ≡ greatest_height es
   pub constant : o.are_constant ≡ are_constant es
 
 -- the code's judgement is what there is to say of the expression
-abbrev pub Judges : Judged → Seen → Type 0
-Judges j s = seen_of j s.calls s.faults ≡ s
+abbrev pub Judges : Judged → Typed → Type 0
+Judges j s = typed_from j s.calls s.faults ≡ s
 
 -- it is, and the tally has risen by the calls and the faults
-abbrev pub Stands : Judged → Seen → Tally → Tally → Type 0
+abbrev pub Stands : Judged → Typed → Tally → Tally → Type 0
 Stands j s old new = Judges j s × (new ≡ after old s.calls s.faults)
 
 -- The answer is such a judgement. For want of memory nothing is said.
-abbrev pub Gives : {E : Type 0} → Seen → Tally → Tally → Result Judged E → Type 0
+abbrev pub Gives : {E : Type 0} → Typed → Tally → Tally → Result Judged E → Type 0
 Gives s old new (Ok j) = Stands j s old new
 Gives s old new (Err e) = Unit {0}
+
+-- CHAINS OF OPERATORS
+
+abbrev pub goes_on : ℕ → Option (Box Chain) → Bool
+goes_on level None = true
+goes_on level (Some rest) = nat_le level (out-Chain rest.value).level
+
+-- the operators in a chain's operand bind tighter than its own, and its rest does not
+abbrev pub is_left_to_right : Chain → Bool
+is_left_to_right c = let chain = out-Chain c in
+    list_all (λ inner. nat_lt (out-Chain inner).level chain.level) (out-Operand chain.operand).chains.items
+    && goes_on chain.level chain.rest
 
 -- CALLS
 
 -- the code's judgement of arguments is what there is to say of them
-pub record AreArgs (j : JudgedArgs) (es : List SeenArg) : Type 0 where
+pub record AreArgs (j : JudgedArgs) (es : List TypedArg) : Type 0 where
   pub given : map tree_of_arg j.given.items ≡ trees_of_args es
-  pub tallest : j.tallest ≡ greatest_height (seen_args es)
+  pub tallest : j.tallest ≡ greatest_height (expressions_of_args es)
 
 -- the faults of an argument: of a call as a statement, also its height
-abbrev pub faults_of_arg : CallUse → Seen → List Fault
+abbrev pub faults_of_arg : CallUse → Typed → List Fault
 faults_of_arg call e = cond call.as_value e.faults (whole_faults call.at e)
 
-abbrev pub faults_of_args : CallUse → List SeenArg → List Fault
-faults_of_args call es = flat_map (faults_of_arg call) (seen_args es)
+abbrev pub faults_of_args : CallUse → List TypedArg → List Fault
+faults_of_args call es = flat_map (faults_of_arg call) (expressions_of_args es)
 
-abbrev pub calls_of_args : List SeenArg → ℕ
-calls_of_args es = calls_in (seen_args es)
+abbrev pub calls_of_args : List TypedArg → ℕ
+calls_of_args es = calls_in (expressions_of_args es)
 
 -- the answer is such a judgement, and the tally has risen by the calls and the faults
-abbrev pub GivesArg : {E : Type 0} → CallUse → SeenArg → Tally → Tally → Result JudgedArg E → Type 0
-GivesArg call e old new (Ok j) = (tree_of_arg j.given ≡ e.given) × (j.height ≡ e.seen.height)
-    × (new ≡ after old e.seen.calls (faults_of_arg call e.seen))
+abbrev pub GivesArg : {E : Type 0} → CallUse → TypedArg → Tally → Tally → Result JudgedArg E → Type 0
+GivesArg call e old new (Ok j) = (tree_of_arg j.given ≡ e.given) × (j.height ≡ e.expression.height)
+    × (new ≡ after old e.expression.calls (faults_of_arg call e.expression))
 GivesArg call e old new (Err error) = Unit {0}
 
-abbrev pub GivesArgs : {E : Type 0} → CallUse → List SeenArg → Tally → Tally → Result JudgedArgs E → Type 0
+abbrev pub GivesArgs : {E : Type 0} → CallUse → List TypedArg → Tally → Tally → Result JudgedArgs E → Type 0
 GivesArgs call es old new (Ok j) = AreArgs j es × (new ≡ after old (calls_of_args es) (faults_of_args call es))
 GivesArgs call es old new (Err e) = Unit {0}
 
 -- the code's judgement is what there is to say of the call
-pub record JudgesCall (j : JudgedCall) (c : SeenCall) : Type 0 where
+pub record JudgesCall (j : JudgedCall) (c : TypedCall) : Type 0 where
   pub call : j.call ≡ c.call
   pub function : j.function ≡ c.function
   pub result : j.result ≡ c.result
   pub args : map tree_of_arg j.args.items ≡ trees_of_args c.args
-  pub height : j.height ≡ greatest_height (seen_args c.args)
+  pub height : j.height ≡ greatest_height (expressions_of_args c.args)
 
-abbrev pub GivesCall : {E : Type 0} → CallUse → SeenCall → Tally → Tally → Result JudgedCall E → Type 0
+abbrev pub GivesCall : {E : Type 0} → CallUse → TypedCall → Tally → Tally → Result JudgedCall E → Type 0
 GivesCall call c old new (Ok j) =
     JudgesCall j c × (new ≡ after old (1 + calls_of_args c.args) (c.faults ++ faults_of_args call c.args))
 GivesCall call c old new (Err e) = Unit {0}

@@ -10,4 +10,5 @@ pub mod Adding
 pub mod Controlling
 pub mod Marks
 pub mod Filing
+pub mod Spelling
 pub mod Storage

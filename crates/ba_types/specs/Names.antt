@@ -19,8 +19,9 @@ use Rattle.ba_numbers.specs.declared.numbers.UnOp.{UnOp}
 use Rattle.ba_numbers.specs.declared.numbers.UnOp.TheVariants.{Neg, Flip, IsZero}
 use Rattle.ba_parse.specs.Classes.{class_of, word}
 use Rattle.ba_parse.specs.declared.tree.expressions.TypeName.{TypeName}
-use Rattle.ba_tree.specs.declared.tree.Shape.{Shape}
-use Rattle.ba_tree.specs.declared.tree.Shape.TheVariants.{Value, Array, Passed}
+use Rattle.ba_tree.specs.Facts.{is_array_shape}
+use Rattle.ba_types.specs.declared.names.Jump.{Jump}
+use Rattle.ba_types.specs.declared.names.Jump.TheVariants as jump
 use Rattle.ba_types.specs.declared.names.Operator.{Operator}
 use Rattle.ba_types.specs.declared.names.Operator.TheVariants as operator
 use Rattle.ba_types.specs.declared.names.Operator.TheVariants.{AndAlso, OrElse}
@@ -109,6 +110,16 @@ changing_operator (Some punct.Increment) = Some Add
 changing_operator (Some punct.Decrement) = Some Sub
 changing_operator _ = None
 
+-- JUMPS without a value, by their keyword (C90 6.6.6)
+
+abbrev pub jump_of_kind : TokenKind → Jump
+jump_of_kind (kind.Keyword keyword.Break) = jump.Break
+jump_of_kind (kind.Keyword keyword.Continue) = jump.Continue
+jump_of_kind _ = jump.Return
+
+abbrev pub jump_of : Token → Jump
+jump_of token = jump_of_kind token.kind
+
 -- SCOPES (C90 6.1.2.1)
 
 abbrev pub same_name : List ℕ → List ℕ → Bool
@@ -170,11 +181,6 @@ meaning_of scope name =
 -- a name is declared in the innermost scope
 abbrev pub is_declared_here : Scope → List ℕ → Bool
 is_declared_here scope name = list_any (λ (e : Entry). same_name e.name name && (e.depth == scope.depth)) scope.known
-
-abbrev pub is_array_shape : Shape → Bool
-is_array_shape Value = false
-is_array_shape (Array n) = true
-is_array_shape Passed = true
 
 abbrev pub is_array_entry : Entry → Bool
 is_array_entry e = is_array_shape e.variable.shape

@@ -1,7 +1,6 @@
 -- The typed tree in the standard's terms: the same as the tree of the Rust types, without what vectors keep of their own.
 
-use Rattle.std.specs.Prelude.{ℤ, Option, None, Some, List, [], ◌∷◌, map}
-use Rattle.std.specs.Global.{Box}
+use Rattle.std.specs.Prelude.{ℤ, Option, None, Some, option_map, List, [], ◌∷◌, map}
 use Rattle.ba_numbers.specs.declared.ids.CallId.{CallId}
 use Rattle.ba_numbers.specs.declared.ids.FnId.{FnId}
 use Rattle.ba_numbers.specs.declared.ids.StmtId.{StmtId}
@@ -103,9 +102,9 @@ abbrev pub stmts_of : List StmtTree → StmtTrees
 stmts_of [] = no_stmts
 stmts_of (s ∷ ss) = stmt_then s (stmts_of ss)
 
-abbrev pub if_tree : StmtId → ExprTree → StmtTree → Option (Box StmtTree) → StmtTree
+abbrev pub if_tree : StmtId → ExprTree → StmtTree → Option StmtTree → StmtTree
 if_tree stmt when a None = if_then stmt when a
-if_tree stmt when a (Some b) = if_else stmt when a b.value
+if_tree stmt when a (Some b) = if_else stmt when a b
 
 abbrev pub stmt_tree_step : Stmt-F StmtTree → StmtTree
 stmt_tree_step (Stmt-F.Block body) = block (stmts_of body.items)
@@ -114,7 +113,7 @@ stmt_tree_step (Stmt-F.Init stmt v e) = init stmt v (tree_of_expr e)
 stmt_tree_step (Stmt-F.InitArray stmt v es) = init_array stmt v (map tree_of_expr es.items)
 stmt_tree_step (Stmt-F.Assign stmt v e) = assign stmt v (tree_of_expr e)
 stmt_tree_step (Stmt-F.Store stmt v index e) = store stmt v (tree_of_expr index) (tree_of_expr e)
-stmt_tree_step (Stmt-F.If stmt when a b) = if_tree stmt (tree_of_expr when) a.value b
+stmt_tree_step (Stmt-F.If stmt when a b) = if_tree stmt (tree_of_expr when) a.value (option_map (λ b. b.value) b)
 stmt_tree_step (Stmt-F.While stmt when body) = while_loop stmt (tree_of_expr when) body.value
 stmt_tree_step (Stmt-F.DoWhile stmt when body) = do_while stmt (tree_of_expr when) body.value
 stmt_tree_step (Stmt-F.For stmt first when step body) =

@@ -1,7 +1,7 @@
 //! Arguments of calls (C90 6.3.2.2).
 
 ghost use Rattle.std.specs.Prelude.{◌≡◌, [], ◌∷◌, ◌++◌, List, IfOk, OnOk};
-ghost use Rattle.ba_types.specs.Expressions.{Seen, SeenArg, array_arg, named_array, see_arg, value_arg};
+ghost use Rattle.ba_types.specs.Expressions.{Typed, TypedArg, array_arg, named_array, typed_arg, value_arg};
 ghost use Rattle.ba_types.specs.Judging.{AreArgs, Judges, Stands, after};
 ghost use Rattle.ba_types.specs.Trees.{tree_of_arg};
 ghost use Rattle.ba_types.specs.declared.tally.Tally.{Tally};
@@ -43,8 +43,8 @@ impl JudgedArgs {
 
     /// One argument more. The one error is want of memory.
     pub(crate) fn push(&mut self, arg: JudgedArg) -> Result<(), AllocError>
-        ensures { OnOk result ((es : List SeenArg) (e : SeenArg) → AreArgs self.old es →
-            tree_of_arg arg.given ≡ e.given → arg.height ≡ e.seen.height →
+        ensures { OnOk result ((es : List TypedArg) (e : TypedArg) → AreArgs self.old es →
+            tree_of_arg arg.given ≡ e.given → arg.height ≡ e.expression.height →
             AreArgs self.new (es ++ e ∷ [])) }
     {
         self.tallest = self.tallest.max(arg.height);
@@ -65,11 +65,11 @@ pub(crate) fn give<'a>(
     j: Judged<'a>,
     tally: &mut Tally,
 ) -> Result<Arg, AllocError>
-    ensures tree { IfOk result (λ arg. (s : Seen) → Judges j.entry s →
-        tree_of_arg arg ≡ (see_arg scope.now param s).given) }
-    ensures faults { OnOk result ((base : Tally) (s : Seen) → before ≡ base.least →
+    ensures tree { IfOk result (λ arg. (s : Typed) → Judges j.entry s →
+        tree_of_arg arg ≡ (typed_arg scope.now param s).given) }
+    ensures faults { OnOk result ((base : Tally) (s : Typed) → before ≡ base.least →
         Stands j.entry s base tally.old →
-        tally.new ≡ after base s.calls (see_arg scope.now param s).seen.faults) }
+        tally.new ≡ after base s.calls (typed_arg scope.now param s).expression.faults) }
 {
     match param {
         None => value_arg(alloc, None, j),
@@ -86,7 +86,7 @@ pub(crate) fn give<'a>(
 
 /// An expression as a value, converted to the parameter's type.
 fn value_arg<'a>(alloc: Global, t: Option<CType>, j: Judged<'a>) -> Result<Arg, AllocError>
-    ensures { IfOk result (λ arg. (s : Seen) → Judges j.entry s →
+    ensures { IfOk result (λ arg. (s : Typed) → Judges j.entry s →
         tree_of_arg arg ≡ (value_arg t s).given) }
 {
     let t = t.unwrap_or(j.t);
@@ -101,10 +101,10 @@ fn array_arg<'a>(
     j: Judged<'a>,
     tally: &mut Tally,
 ) -> Arg
-    ensures tree { (s : Seen) → Judges j.entry s → tree_of_arg result ≡ (array_arg array s).given }
-    ensures faults { (base : Tally) (s : Seen) → before ≡ base.least →
+    ensures tree { (s : Typed) → Judges j.entry s → tree_of_arg result ≡ (array_arg array s).given }
+    ensures faults { (base : Tally) (s : Typed) → before ≡ base.least →
         Stands j.entry s base tally.old →
-        tally.new ≡ after base s.calls (array_arg array s).seen.faults }
+        tally.new ≡ after base s.calls (array_arg array s).expression.faults }
 {
     match array {
         None => {

@@ -1,12 +1,12 @@
 //! Assignments, steps and calls as statements (C90 6.3.16, 6.3.2.4, 6.3.3.1, 6.3.2.2).
 
 ghost use Rattle.std.specs.Prelude.{◌≡◌, ◌&&◌, ◌++◌, None, Some, is_some, map, nat_lt, IfOk, OnOk};
-ghost use Rattle.ba_types.specs.Adding.{Assigns, GivesTarget, JudgesTarget, behind_part, seen_target, state};
-ghost use Rattle.ba_types.specs.Expressions.{Seen, see_arguments, see_conditional, tree_as};
+ghost use Rattle.ba_types.specs.Adding.{Assigns, GivesTarget, JudgesTarget, behind_part, typed_target_of, state};
+ghost use Rattle.ba_types.specs.Expressions.{Typed, typed_arguments, typed_conditional, tree_as};
 ghost use Rattle.ba_types.specs.Faults.{fault_if, height_limit, limit_faults};
 ghost use Rattle.ba_types.specs.Judging.{Judges, with_faults};
 ghost use Rattle.ba_types.specs.Names.{name_of};
-ghost use Rattle.ba_types.specs.Statements.{SeenTarget, add_assignment, add_call, add_simple, add_simples, assigned_tree, changed, kind_of_target, one, operator_at, see_target, var_of};
+ghost use Rattle.ba_types.specs.Statements.{TypedTarget, add_assignment, add_call, add_simple, add_simples, assigned_tree, changed, kind_of_target, one, operator_at, typed_target, var_of};
 ghost use Rattle.ba_types.specs.Trees.{tree_of_expr, tree_of_stmt};
 ghost use Rattle.ba_types.specs.declared.fault.Cause.TheVariants.{CallInIndex};
 
@@ -57,7 +57,7 @@ fn var_of(meaning: &Meaning) -> VarId
 /// A variable as what is assigned to.
 fn variable_target<'a>(scope: &Scope<'a>, name: &Token<'a>, tally: &mut Tally) -> JudgedTarget
     ensures { GivesTarget name.now.at name.now.at None
-        (see_target name.now.at (name_of name.now) None scope.now tally.old.calls)
+        (typed_target name.now.at (name_of name.now) None scope.now tally.old.calls)
         tally.old tally.new result }
 {
     let meaning = scope.meaning_of(&name_of(name));
@@ -98,7 +98,7 @@ fn element_target<'a>(
     tally: &mut Tally,
 ) -> Result<JudgedTarget, AllocError>
     ensures { IfOk result (λ j. GivesTarget at name.now.at op
-        (see_target name.now.at (name_of name.now) (Some (see_conditional index.now)) scope.now
+        (typed_target name.now.at (name_of name.now) (Some (typed_conditional index.now)) scope.now
         tally.old.calls) tally.old tally.new j) }
 {
     let meaning = scope.meaning_of(&name_of(name));
@@ -128,7 +128,7 @@ fn target_of<'a>(
     tally: &mut Tally,
 ) -> Result<JudgedTarget, AllocError>
     ensures { IfOk result (λ j. GivesTarget at target.now.name.now.at op
-        (seen_target target.now scope.now tally.old.calls) tally.old tally.new j) }
+        (typed_target_of target.now scope.now tally.old.calls) tally.old tally.new j) }
 {
     match &target.index {
         None => Ok(variable_target(scope, target.name, tally)),
@@ -146,7 +146,7 @@ fn target_value<'a>(
     target: &Target<'a>,
     mut tally: Tally,
 ) -> Result<Judged<'a>, AllocError>
-    ensures { IfOk result (λ j. Judges j (seen_target target.now scope.now tally.calls).seen) }
+    ensures { IfOk result (λ j. Judges j (typed_target_of target.now scope.now tally.calls).expression) }
 {
     let name = name_of(target.name);
     let meaning = scope.meaning_of(&name);
@@ -170,8 +170,8 @@ fn changed<'a>(
     before: Tally,
     value: Judged<'a>,
 ) -> Result<Judged<'a>, AllocError>
-    ensures { IfOk result (λ j. (e : Seen) → Judges value.entry e →
-        Judges j (changed op (seen_target target.now scope.now before.calls).seen e)) }
+    ensures { IfOk result (λ j. (e : Typed) → Judges value.entry e →
+        Judges j (changed op (typed_target_of target.now scope.now before.calls).expression e)) }
 {
     match op {
         None => Ok(value),
@@ -184,7 +184,7 @@ fn changed<'a>(
 
 /// The kind of a statement that assigns to this.
 fn kind_of_target(target: &JudgedTarget) -> StmtKind
-    ensures { (s : SeenTarget) → JudgesTarget target.now s → result ≡ kind_of_target s.index }
+    ensures { (s : TypedTarget) → JudgesTarget target.now s → result ≡ kind_of_target s.index }
 {
     match &target.index {
         None => StmtKind::Assignment,
@@ -194,8 +194,8 @@ fn kind_of_target(target: &JudgedTarget) -> StmtKind
 
 /// The statement of this number that assigns a value to this.
 fn assigned_stmt(stmt: StmtId, target: JudgedTarget, value: Expr) -> Stmt
-    ensures { (s : SeenTarget) (e : Seen) → JudgesTarget target s →
-        tree_of_expr value ≡ tree_as s.seen.t e → tree_of_stmt result ≡ assigned_tree stmt s e }
+    ensures { (s : TypedTarget) (e : Typed) → JudgesTarget target s →
+        tree_of_expr value ≡ tree_as s.expression.t e → tree_of_stmt result ≡ assigned_tree stmt s e }
 {
     let JudgedTarget { var, t: _, index } = target;
     match index {
@@ -220,7 +220,7 @@ fn put_assignment<'a>(
     work: &mut Work,
     stmts: &mut Vec<Stmt>,
 ) -> Result<(), AllocError>
-    ensures { OnOk result ((s : SeenTarget) (e : Seen) → JudgesTarget target s → Judges whole.entry e →
+    ensures { OnOk result ((s : TypedTarget) (e : Typed) → JudgesTarget target s → Judges whole.entry e →
         Assigns at s e work.old work.new
         (map tree_of_stmt stmts.old.items) (map tree_of_stmt stmts.new.items)) }
 {
@@ -245,7 +245,7 @@ fn add_assign<'a>(
 ) -> Result<(), AllocError>
     ensures { OnOk result (state scope.now work.new stmts.new
         ≡ behind_part (add_assignment target.now.name.now.at target.now (operator_at operator.now)
-        (see_conditional value.now)) (state scope.now work.old stmts.old)) }
+        (typed_conditional value.now)) (state scope.now work.old stmts.old)) }
 {
     let at = target.name.at;
     let op = operator_at(operator);
@@ -292,7 +292,7 @@ fn add_call<'a>(
     stmts: &mut Vec<Stmt>,
 ) -> Result<(), AllocError>
     ensures { OnOk result (state scope.now work.new stmts.new
-        ≡ behind_part (add_call name.now.at (name_of name.now) (see_arguments arguments.now))
+        ≡ behind_part (add_call name.now.at (name_of name.now) (typed_arguments arguments.now))
         (state scope.now work.old stmts.old)) }
 {
     let j = call(alloc, scope, false, name, arguments, &mut work.tally)?;

@@ -3,7 +3,7 @@
 ghost use Rattle.std.specs.Prelude.{◌≡◌, ◌∷◌, ◌++◌, [], map, IfOk, OnOk};
 ghost use Rattle.ba_types.specs.Adding.{GivesTest, behind_part, state};
 ghost use Rattle.ba_types.specs.Controlling.{GivesHead};
-ghost use Rattle.ba_types.specs.Expressions.{see_conditional};
+ghost use Rattle.ba_types.specs.Expressions.{typed_conditional};
 ghost use Rattle.ba_types.specs.Names.{Scope};
 ghost use Rattle.ba_types.specs.Statements.{add_first, add_step, for_scope, for_test, one, one_of, test_of};
 ghost use Rattle.ba_types.specs.Trees.{block, do_while, for_loop, if_else, if_then, no_stmts, stmts_of, tree_of_expr, tree_of_stmt, while_loop};
@@ -14,6 +14,7 @@ use crate::expressions::conditional;
 use crate::judged;
 use crate::names::type_named;
 use crate::scopes::{Functions, Scope};
+use crate::tally::HEIGHT_LIMIT;
 use crate::work::{Work, put};
 use ba_numbers::ids::{At, StmtId};
 use ba_numbers::numbers::CType;
@@ -53,11 +54,11 @@ fn add_test<'a>(
     scope: &Scope<'a>,
     work: &mut Work,
 ) -> Result<Test, AllocError>
-    ensures { IfOk result (λ t. GivesTest (see_conditional c.now scope.now work.old.tally.calls) scope.now
+    ensures { IfOk result (λ t. GivesTest (typed_conditional c.now scope.now work.old.tally.calls) scope.now
         work.old work.new t) }
 {
     let j = conditional(alloc, scope, c, &mut work.tally)?;
-    work.tally.add_limit(100, j.height, j.first);
+    work.tally.add_limit(HEIGHT_LIMIT, j.height, j.first);
     let stmt = work.number(j.first, StmtKind::Condition)?;
     Ok(Test { stmt, when: j.expr })
 }
@@ -83,7 +84,7 @@ fn add_absent_test(at: At, work: &mut Work) -> Result<Test, AllocError>
         GivesTest (one at scope work.old.tally.calls) scope work.old work.new t) }
 {
     let j = judged::constant(at, CType::I32, 1)?;
-    work.tally.add_limit(100, j.height, j.first);
+    work.tally.add_limit(HEIGHT_LIMIT, j.height, j.first);
     let stmt = work.number(j.first, StmtKind::Condition)?;
     Ok(Test { stmt, when: j.expr })
 }

@@ -2,18 +2,18 @@
 
 ghost use Rattle.std.specs.Prelude.{◌≡◌, ◌==◌, ◌&&◌, not, ◌∷◌, [], List, Option, None, Some, false, cond, pos, option_map, is_some, length, map, unsigned_abs, IfOk, OnOk, MatchOption};
 ghost use Rattle.ba_types.specs.Adding.{AddsLength, GivesWhole, IsLength, at_place, behind_part, first_of, initialising, keep_each, keep_one, kept, plain_length, state, with_count};
-ghost use Rattle.ba_types.specs.Declarations.{SeenLength, add_declarator, add_declarators, add_declare, add_initialiser, add_optional_initialiser, add_variable, braced_values, count_of_values, exceeds, has_braces, init_tree, is_declared, is_length, length_in_range, limit_of, see_array_length, shape_of, values_of, written_length};
-ghost use Rattle.ba_types.specs.Expressions.{Seen, see_conditional, tree_as};
+ghost use Rattle.ba_types.specs.Declarations.{TypedLength, add_declarator, add_declarators, add_declare, add_initialiser, add_optional_initialiser, add_variable, braced_values, count_of_values, exceeds, has_braces, init_tree, is_declared, is_length, length_in_range, written_count, typed_array_length, shape_of, values_of, written_length};
+ghost use Rattle.ba_types.specs.Expressions.{Typed, typed_conditional, tree_as};
 ghost use Rattle.ba_types.specs.Judging.{Judges};
 ghost use Rattle.ba_types.specs.Trees.{StmtTree, tree_of_expr, tree_of_stmt};
 ghost use Rattle.ba_types.specs.declared.work.Work.{Work};
 
 use crate::expressions::conditional;
 use crate::fault::Cause;
-use crate::judged::{Judged, no_tree};
+use crate::judged::{Judged, placeholder};
 use crate::names::name_of;
 use crate::scopes::{Entry, Functions, Scope};
-use crate::tally::Tally;
+use crate::tally::{HEIGHT_LIMIT, Tally};
 use crate::work::{Work, put};
 use ba_lex::token::Text;
 use ba_numbers::ids::{At, StmtId, VarId};
@@ -49,10 +49,10 @@ pub(crate) fn whole<'a>(
     c: &Conditional<'a>,
     tally: &mut Tally,
 ) -> Result<Judged<'a>, AllocError>
-    ensures { GivesWhole at (see_conditional c.now scope.now tally.old.calls) tally.old tally.new result }
+    ensures { GivesWhole at (typed_conditional c.now scope.now tally.old.calls) tally.old tally.new result }
 {
     let j = conditional(alloc, scope, c, tally)?;
-    tally.add_limit(100, j.height, at);
+    tally.add_limit(HEIGHT_LIMIT, j.height, at);
     Ok(j)
 }
 
@@ -80,7 +80,7 @@ fn counted_length(values: Option<usize>) -> Option<u32>
 
 /// A written length, `None` where it is not constant, traps or is out of range.
 fn written_length(j: &Judged) -> Option<u32>
-    ensures { (s : Seen) → Judges j.now s → result ≡ written_length s }
+    ensures { (s : Typed) → Judges j.now s → result ≡ written_length s }
 {
     if !j.is_constant {
         return None;
@@ -102,7 +102,7 @@ pub(crate) fn array_length<'a>(
     scope: &Scope<'a>,
     tally: &mut Tally,
 ) -> Result<Option<Length>, AllocError>
-    ensures { IfOk result (λ l. IsLength (see_array_length at values scope.now tally.old.calls length.now)
+    ensures { IfOk result (λ l. IsLength (typed_array_length at values scope.now tally.old.calls length.now)
         tally.old tally.new l) }
 {
     let Some(array) = length else {
@@ -149,11 +149,11 @@ pub(crate) fn add_length<'a>(
     scope: &Scope<'a>,
     work: &mut Work,
 ) -> Result<Option<Length>, AllocError>
-    ensures { IfOk result (λ l. AddsLength at (see_array_length at values scope.now work.old.tally.calls length.now)
+    ensures { IfOk result (λ l. AddsLength at (typed_array_length at values scope.now work.old.tally.calls length.now)
         scope.now work.old work.new l) }
 {
-    let seen = array_length(alloc, at, values, length, scope, &mut work.tally)?;
-    match seen {
+    let found = array_length(alloc, at, values, length, scope, &mut work.tally)?;
+    match found {
         None => Ok(None),
         Some(length) => {
             add_count(at, length.count, work)?;
@@ -164,7 +164,7 @@ pub(crate) fn add_length<'a>(
 
 /// What a variable with this length, if it is an array, holds; a bad length counts as 1.
 pub(crate) fn shape_of(length: Option<Length>) -> Shape
-    ensures { (l : Option SeenLength) → length ≡ plain_length l → result ≡ shape_of l }
+    ensures { (l : Option TypedLength) → length ≡ plain_length l → result ≡ shape_of l }
 {
     match length {
         None => Shape::Value,
@@ -235,7 +235,7 @@ fn add_value<'a>(
     values: &mut Vec<Expr>,
 ) -> Result<(), AllocError>
     ensures { OnOk result (kept tally.new values.new
-        ≡ keep_one (initialising d.at d.t (scope.now.depth == 0)) (see_conditional c.now scope.now tally.old.calls)
+        ≡ keep_one (initialising d.at d.t (scope.now.depth == 0)) (typed_conditional c.now scope.now tally.old.calls)
         (kept tally.old values.old)) }
 {
     let j = whole(alloc, scope, d.at, c, tally)?;
@@ -330,7 +330,7 @@ fn number_of(values: &Vec<Expr>) -> usize
 
 /// Whether an array of a good written length has fewer elements than so many values.
 fn has_too_many(length: Option<Length>, count: usize) -> bool
-    ensures { (l : Option SeenLength) → length ≡ plain_length l → result ≡ exceeds (limit_of l) count }
+    ensures { (l : Option TypedLength) → length ≡ plain_length l → result ≡ exceeds (written_count l) count }
 {
     match length {
         Some(
@@ -345,7 +345,7 @@ fn has_too_many(length: Option<Length>, count: usize) -> bool
 
 /// The initialiser of a variable as a statement: of an array all values, of a variable its one.
 fn init_stmt(stmt: StmtId, d: Declared, values: Vec<Expr>) -> Stmt
-    ensures { (es : List Seen) → map tree_of_expr values.items ≡ map (tree_as d.t) es
+    ensures { (es : List Typed) → map tree_of_expr values.items ≡ map (tree_as d.t) es
         → tree_of_stmt result ≡ init_tree stmt d.var d.t (is_some d.length) es }
 {
     if d.length.is_some() {
@@ -369,7 +369,7 @@ fn first_value(mut values: Vec<Expr>) -> Expr
 {
     values.truncate(1);
     match values.pop() {
-        None => no_tree(),
+        None => placeholder(),
         Some(value) => value,
     }
 }
@@ -385,7 +385,7 @@ fn add_initialiser<'a>(
     work: &mut Work,
     stmts: &mut Vec<Stmt>,
 ) -> Result<(), AllocError>
-    ensures { OnOk result ((l : Option SeenLength) → d.length ≡ plain_length l → state scope.now work.new stmts.new
+    ensures { OnOk result ((l : Option TypedLength) → d.length ≡ plain_length l → state scope.now work.new stmts.new
         ≡ behind_part (add_initialiser d.at d.var d.t l init.now) (state scope.now work.old stmts.old)) }
 {
     let values = initial_values(alloc, d, init, scope, &mut work.tally)?;
@@ -406,7 +406,7 @@ fn add_optional_initialiser<'a>(
     work: &mut Work,
     stmts: &mut Vec<Stmt>,
 ) -> Result<(), AllocError>
-    ensures { OnOk result ((l : Option SeenLength) → d.length ≡ plain_length l → state scope.now work.new stmts.new
+    ensures { OnOk result ((l : Option TypedLength) → d.length ≡ plain_length l → state scope.now work.new stmts.new
         ≡ behind_part (add_optional_initialiser d.at d.var d.t l init.now) (state scope.now work.old stmts.old)) }
 {
     match init {

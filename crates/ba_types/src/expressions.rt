@@ -1,8 +1,10 @@
 //! The types, the values and the faults of expressions (C90 6.3).
 
-ghost use Rattle.std.specs.Prelude.{◌≡◌, length, option_map, IfOk};
-ghost use Rattle.ba_types.specs.Expressions.{Seen, called, params_of, see_arg, see_args, see_arguments, see_call, see_chain, see_conditional, see_constant_kind, see_element, see_name, see_operand, see_primary, see_unary_expression};
-ghost use Rattle.ba_types.specs.Judging.{Gives, GivesArg, GivesArgs, GivesCall, Judges, Stands};
+ghost use Rattle.std.specs.Prelude.{◌≡◌, nat_lt, length, option_map, IfOk};
+ghost use Rattle.std.specs.List.{list_all};
+ghost use Rattle.ba_parse.specs.declared.tree.expressions.Chain.{out-Chain};
+ghost use Rattle.ba_types.specs.Expressions.{Typed, called, params_of_called, typed_arg, typed_args, typed_arguments, typed_call, typed_chain, typed_conditional, typed_constant_kind, typed_element, typed_name, typed_operand, typed_primary, typed_token, typed_unary_expression, whole_operand};
+ghost use Rattle.ba_types.specs.Judging.{Gives, GivesArg, GivesArgs, GivesCall, Judges, Stands, goes_on, is_left_to_right};
 ghost use Rattle.ba_types.specs.Names.{meaning_of, name_of};
 ghost use Rattle.ba_types.specs.declared.tally.Tally.{Tally};
 
@@ -32,7 +34,7 @@ pub(crate) fn conditional<'a>(
     c: &Conditional<'a>,
     tally: &mut Tally,
 ) -> Result<Judged<'a>, AllocError>
-    ensures { Gives (see_conditional c.now scope.now tally.old.calls) tally.old tally.new result }
+    ensures { Gives (typed_conditional c.now scope.now tally.old.calls) tally.old tally.new result }
 {
     let test = operand(alloc, scope, &c.test, tally)?;
     match &c.branches {
@@ -53,7 +55,8 @@ fn operand<'a>(
     o: &Operand<'a>,
     tally: &mut Tally,
 ) -> Result<Judged<'a>, AllocError>
-    ensures { Gives (see_operand o.now scope.now tally.old.calls) tally.old tally.new result }
+    ensures { Gives (whole_operand (typed_operand o.now) scope.now tally.old.calls)
+        tally.old tally.new result }
 {
     let mut left = unary(alloc, scope, &o.first, tally)?;
     for c in &o.chains {
@@ -62,7 +65,36 @@ fn operand<'a>(
     Ok(left)
 }
 
+/// Whether the operators of these chains bind tighter than those of a level.
+fn bind_tighter(level: u32, chains: &[Chain]) -> bool
+    ensures { result ≡ list_all (λ chain. nat_lt (out-Chain chain).level level) chains.now }
+{
+    chains.iter().all(|chain| chain.level < level)
+}
+
+/// Whether the rest of a chain, if it has one, binds no tighter than a level.
+fn goes_on(level: u32, rest: &Option<Box<Chain>>) -> bool
+    ensures { result ≡ goes_on level rest.now }
+{
+    match rest {
+        None => true,
+        Some(rest) => level <= rest.level,
+    }
+}
+
+/// Whether the operators in a chain's operand bind tighter than its own, and those of its rest do not: whether its value is that of its
+/// operator over the whole operand, and then of the rest.
+fn is_left_to_right(c: &Chain) -> bool
+    ensures { result ≡ is_left_to_right c.now }
+{
+    let is_inside = bind_tighter(c.level, c.operand.chains.as_slice());
+    let is_behind = goes_on(c.level, &c.rest);
+    is_inside && is_behind
+}
+
 /// A chain of operators behind its leftmost operand.
+///
+/// The one error is want of memory, which also stands for a chain that no parser makes.
 #[cycle(expression)]
 fn chain<'a>(
     alloc: Global,
@@ -71,9 +103,12 @@ fn chain<'a>(
     left: Judged<'a>,
     tally: &mut Tally,
 ) -> Result<Judged<'a>, AllocError>
-    ensures { (base : Tally) (s : Seen) → Stands left.entry s base tally.old →
-        Gives (see_chain c.now scope.now base.calls s) base tally.new result }
+    ensures { (base : Tally) (s : Typed) → Stands left.entry s base tally.old →
+        Gives ((typed_chain c.now).over scope.now base.calls s) base tally.new result }
 {
+    if !is_left_to_right(c) {
+        return Err(AllocError);
+    }
     let right = operand(alloc, scope, &c.operand, tally)?;
     let operator = binary_operator(punct_of(c.operator));
     let left = judged::binary(alloc, operator, left, right)?;
@@ -91,7 +126,7 @@ fn unary<'a>(
     u: &Unary<'a>,
     tally: &mut Tally,
 ) -> Result<Judged<'a>, AllocError>
-    ensures { Gives (see_unary_expression u.now scope.now tally.old.calls)
+    ensures { Gives (typed_unary_expression u.now scope.now tally.old.calls)
         tally.old tally.new result }
 {
     match u {
@@ -122,10 +157,10 @@ fn primary<'a>(
     p: &Primary<'a>,
     tally: &mut Tally,
 ) -> Result<Judged<'a>, AllocError>
-    ensures { Gives (see_primary p.now scope.now tally.old.calls) tally.old tally.new result }
+    ensures { Gives (typed_primary p.now scope.now tally.old.calls) tally.old tally.new result }
 {
     match p {
-        Primary::Name { name } => named(scope, name, tally),
+        Primary::Name { name } => token_value(scope, name, tally),
         Primary::Element { name, index, .. } => {
             let meaning = scope.meaning_of(&name_of(name));
             add_array_name_faults(&meaning, name.at, tally);
@@ -140,7 +175,7 @@ fn primary<'a>(
             let j = call(alloc, scope, true, name, arguments, tally)?;
             judged::called(name.at, j)
         }
-        Primary::Constant { constant } => constant_of(constant),
+        Primary::Constant { constant } => token_value(scope, constant, tally),
         Primary::Parenthesized {
             open,
             expression,
@@ -159,7 +194,7 @@ fn named<'a>(
     tally: &mut Tally,
 ) -> Result<Judged<'a>, AllocError>
     ensures { Gives
-        (see_name name.now.at (name_of name.now) (meaning_of scope.now (name_of name.now)))
+        (typed_name name.now.at (name_of name.now) (meaning_of scope.now (name_of name.now)))
         tally.old tally.new result }
 {
     let text = name_of(name);
@@ -168,9 +203,23 @@ fn named<'a>(
     judged::name(name.at, text, &meaning)
 }
 
+/// A name or a constant, by the kind of its token.
+fn token_value<'a>(
+    scope: &Scope<'a>,
+    token: &Token<'a>,
+    tally: &mut Tally,
+) -> Result<Judged<'a>, AllocError>
+    ensures { Gives (typed_token token.now scope.now tally.old.calls) tally.old tally.new result }
+{
+    match &token.kind {
+        TokenKind::Name(_) => named(scope, token, tally),
+        _ => constant_of(token),
+    }
+}
+
 /// A constant token.
 fn constant_of<'a>(constant: &Token<'a>) -> Result<Judged<'a>, AllocError>
-    ensures { IfOk result (λ j. Judges j (see_constant_kind constant.now.at constant.now.kind)) }
+    ensures { IfOk result (λ j. Judges j (typed_constant_kind constant.now.at constant.now.kind)) }
 {
     match &constant.kind {
         TokenKind::Constant { t, value } => judged::constant(constant.at, *t, convert(*t, *value)),
@@ -192,7 +241,7 @@ pub(crate) fn call<'a>(
     tally: &mut Tally,
 ) -> Result<JudgedCall, AllocError>
     ensures { GivesCall (record { as_value = as_value; at = name.now.at })
-        (see_call as_value name.now.at (name_of name.now) (see_arguments a.now)
+        (typed_call as_value name.now.at (name_of name.now) (typed_arguments a.now)
         scope.now tally.old.calls) tally.old tally.new result }
 {
     let usage = CallUse {
@@ -216,7 +265,7 @@ pub(crate) fn call<'a>(
 
 /// How many arguments a call has.
 fn count_of(a: &Arguments) -> usize
-    ensures { result ≡ length (see_arguments a.now) }
+    ensures { result ≡ length (typed_arguments a.now) }
 {
     match &a.values {
         None => 0,
@@ -234,8 +283,8 @@ fn arguments<'a>(
     a: &Arguments<'a>,
     tally: &mut Tally,
 ) -> Result<JudgedArgs, AllocError>
-    ensures { GivesArgs usage (see_args scope.now tally.old.calls
-        (params_of (option_map (λ s. s.now) definition.entry)) (see_arguments a.now))
+    ensures { GivesArgs usage (typed_args scope.now tally.old.calls
+        (params_of_called (option_map (λ s. s.now) definition.entry)) (typed_arguments a.now))
         tally.old tally.new result }
 {
     let mut args = JudgedArgs::new(alloc);
@@ -268,7 +317,7 @@ fn argument<'a>(
     tally: &mut Tally,
 ) -> Result<JudgedArg, AllocError>
     ensures { GivesArg usage
-        (see_arg scope.now param (see_conditional c.now scope.now tally.old.calls))
+        (typed_arg scope.now param (typed_conditional c.now scope.now tally.old.calls))
         tally.old tally.new result }
 {
     let before = tally.least;

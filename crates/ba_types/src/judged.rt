@@ -3,7 +3,7 @@
 ghost use Rattle.std.specs.Prelude.{◌≡◌, ◌&&◌, [], ◌∷◌, List, cond, option_map, IfOk};
 ghost use Rattle.ba_numbers.specs.Numbers.{value_of_one};
 ghost use Rattle.ba_tree.specs.Facts.{same_type, type_of_unary};
-ghost use Rattle.ba_types.specs.Expressions.{Seen, SeenCall, array_of, element_type, no_tree, operator_over, see_binary, see_called, see_cast, see_constant, see_element, see_name, see_select, see_unary, see_value, seen_with, tree_as, value_as, variable_tree, variable_type};
+ghost use Rattle.ba_types.specs.Expressions.{Typed, TypedCall, array_of, element_type, placeholder, operator_over, typed_binary, typed_called, typed_cast, typed_constant, typed_element, typed_name, typed_select, typed_unary, typed_value, typed_with, tree_as, value_as, variable_tree, variable_type};
 ghost use Rattle.ba_types.specs.Judging.{AreOperands, Judges, JudgesCall};
 ghost use Rattle.ba_types.specs.Names.{is_array_entry};
 ghost use Rattle.ba_types.specs.Trees.{convert, tree_of_expr, unary};
@@ -66,7 +66,7 @@ impl Operands {
 
     /// One more before these.
     fn behind(self, a: &Judged) -> Operands
-        ensures { (s : Seen) (es : List Seen) → Judges a.now s → AreOperands self es →
+        ensures { (s : Typed) (es : List Typed) → Judges a.now s → AreOperands self es →
             AreOperands result (s ∷ es) }
     {
         Operands {
@@ -88,7 +88,7 @@ impl<'a> Judged<'a> {
     ///
     /// The one error is want of memory.
     pub(crate) fn into_tree(self, alloc: Global, t: CType) -> Result<Expr, AllocError>
-        ensures { IfOk result (λ e. (s : Seen) → Judges self.entry s →
+        ensures { IfOk result (λ e. (s : Typed) → Judges self.entry s →
             tree_of_expr e ≡ tree_as t s) }
     {
         let from = self.t;
@@ -97,7 +97,7 @@ impl<'a> Judged<'a> {
 
     /// The same expression behind an opening parenthesis at this position.
     pub(crate) fn beginning_at(self, at: At) -> Judged<'a>
-        ensures { (s : Seen) → Judges self.entry s → Judges result (record s { first = at }) }
+        ensures { (s : Typed) → Judges self.entry s → Judges result (record s { first = at }) }
     {
         Judged {
             first: at,
@@ -133,7 +133,7 @@ fn over<'a>(
     expr: Expr,
     value: Option<i64>,
 ) -> Result<Judged<'a>, AllocError>
-    ensures { IfOk result (λ j. (es : List Seen) → AreOperands operands es →
+    ensures { IfOk result (λ j. (es : List Typed) → AreOperands operands es →
         Judges j (operator_over first es t (tree_of_expr expr) value)) }
 {
     let Some(height) = operands.tallest.checked_add(1) else {
@@ -159,7 +159,7 @@ pub(crate) fn unary<'a>(
     op: Option<UnOp>,
     a: Judged<'a>,
 ) -> Result<Judged<'a>, AllocError>
-    ensures { IfOk result (λ j. (s : Seen) → Judges a.entry s → Judges j (see_unary first op s)) }
+    ensures { IfOk result (λ j. (s : Typed) → Judges a.entry s → Judges j (typed_unary first op s)) }
 {
     let t = promoted(a.t);
     match op {
@@ -175,7 +175,7 @@ fn converted<'a>(
     t: CType,
     a: Judged<'a>,
 ) -> Result<Judged<'a>, AllocError>
-    ensures { IfOk result (λ j. (s : Seen) → Judges a.entry s →
+    ensures { IfOk result (λ j. (s : Typed) → Judges a.entry s →
         Judges j (operator_over first (s ∷ []) t (tree_as t s) (value_as t s))) }
 {
     let operands = Operands::none().behind(&a);
@@ -192,7 +192,7 @@ fn operation<'a>(
     t: CType,
     a: Judged<'a>,
 ) -> Result<Judged<'a>, AllocError>
-    ensures { IfOk result (λ j. (s : Seen) → Judges a.entry s →
+    ensures { IfOk result (λ j. (s : Typed) → Judges a.entry s →
         Judges j (operator_over first (s ∷ []) (type_of_unary op t) (unary op t (tree_as t s))
         (option_map (value_of_one op t) (value_as t s)))) }
 {
@@ -212,7 +212,7 @@ pub(crate) fn cast<'a>(
     to: Option<CType>,
     a: Judged<'a>,
 ) -> Result<Judged<'a>, AllocError>
-    ensures { IfOk result (λ j. (s : Seen) → Judges a.entry s → Judges j (see_cast first to s)) }
+    ensures { IfOk result (λ j. (s : Typed) → Judges a.entry s → Judges j (typed_cast first to s)) }
 {
     match to {
         None => converted(alloc, first, CType::I32, a),
@@ -229,8 +229,8 @@ pub(crate) fn value<'a>(
     a: Judged<'a>,
     b: Judged<'a>,
 ) -> Result<Judged<'a>, AllocError>
-    ensures { IfOk result (λ j. (s u : Seen) → Judges a.entry s → Judges b.entry u →
-        Judges j (see_value op s u)) }
+    ensures { IfOk result (λ j. (s u : Typed) → Judges a.entry s → Judges b.entry u →
+        Judges j (typed_value op s u)) }
 {
     let t = working_type(op, a.t, b.t);
     let right_t = right_type(op, a.t, b.t);
@@ -252,8 +252,8 @@ pub(crate) fn binary<'a>(
     a: Judged<'a>,
     b: Judged<'a>,
 ) -> Result<Judged<'a>, AllocError>
-    ensures { IfOk result (λ j. (s u : Seen) → Judges a.entry s → Judges b.entry u →
-        Judges j (see_binary operator s u)) }
+    ensures { IfOk result (λ j. (s u : Typed) → Judges a.entry s → Judges b.entry u →
+        Judges j (typed_binary operator s u)) }
 {
     match operator {
         Operator::Value(op) => value(alloc, op, a, b),
@@ -264,8 +264,8 @@ pub(crate) fn binary<'a>(
 
 /// `&&` over its operands (C90 6.3.13).
 fn and_also<'a>(alloc: Global, a: Judged<'a>, b: Judged<'a>) -> Result<Judged<'a>, AllocError>
-    ensures { IfOk result (λ j. (s u : Seen) → Judges a.entry s → Judges b.entry u →
-        Judges j (see_binary AndAlso s u)) }
+    ensures { IfOk result (λ j. (s u : Typed) → Judges a.entry s → Judges b.entry u →
+        Judges j (typed_binary AndAlso s u)) }
 {
     let value = values::and_also(a.value, b.value);
     let operands = Operands::none().behind(&b).behind(&a);
@@ -280,8 +280,8 @@ fn and_also<'a>(alloc: Global, a: Judged<'a>, b: Judged<'a>) -> Result<Judged<'a
 
 /// `||` over its operands (C90 6.3.14).
 fn or_else<'a>(alloc: Global, a: Judged<'a>, b: Judged<'a>) -> Result<Judged<'a>, AllocError>
-    ensures { IfOk result (λ j. (s u : Seen) → Judges a.entry s → Judges b.entry u →
-        Judges j (see_binary OrElse s u)) }
+    ensures { IfOk result (λ j. (s u : Typed) → Judges a.entry s → Judges b.entry u →
+        Judges j (typed_binary OrElse s u)) }
 {
     let value = values::or_else(a.value, b.value);
     let operands = Operands::none().behind(&b).behind(&a);
@@ -303,8 +303,8 @@ pub(crate) fn select<'a>(
     a: Judged<'a>,
     b: Judged<'a>,
 ) -> Result<Judged<'a>, AllocError>
-    ensures { IfOk result (λ j. (s u v : Seen) → Judges when.entry s → Judges a.entry u →
-        Judges b.entry v → Judges j (see_select s u v)) }
+    ensures { IfOk result (λ j. (s u v : Typed) → Judges when.entry s → Judges a.entry u →
+        Judges b.entry v → Judges j (typed_select s u v)) }
 {
     let t = usual(a.t, b.t);
     let value = values::select(when.value, value_as(t, a.value), value_as(t, b.value));
@@ -320,7 +320,7 @@ pub(crate) fn select<'a>(
 ///
 /// The one error is want of memory, which never comes.
 pub(crate) fn constant<'a>(at: At, t: CType, value: i64) -> Result<Judged<'a>, AllocError>
-    ensures { IfOk result (λ j. Judges j (see_constant at t value)) }
+    ensures { IfOk result (λ j. Judges j (typed_constant at t value)) }
 {
     over(
         at,
@@ -333,8 +333,8 @@ pub(crate) fn constant<'a>(at: At, t: CType, value: i64) -> Result<Judged<'a>, A
 
 /// The same expression as what stands behind a name: it is not constant.
 fn named<'a>(j: Judged<'a>, name: Option<Text<'a>>) -> Judged<'a>
-    ensures { (s : Seen) (faults : List Fault) → Judges j.entry s →
-        Judges result (seen_with s name.entry faults) }
+    ensures { (s : Typed) (faults : List Fault) → Judges j.entry s →
+        Judges result (typed_with s name.entry faults) }
 {
     Judged {
         first: j.first,
@@ -355,7 +355,7 @@ pub(crate) fn name<'a>(
     name: Text<'a>,
     meaning: &Meaning<'a>,
 ) -> Result<Judged<'a>, AllocError>
-    ensures { IfOk result (λ j. Judges j (see_name at name.entry meaning.now)) }
+    ensures { IfOk result (λ j. Judges j (typed_name at name.entry meaning.now)) }
 {
     let expr = variable_tree(meaning);
     let j = over(at, Operands::none(), variable_type(meaning), expr, None)?;
@@ -369,18 +369,18 @@ fn variable_tree(meaning: &Meaning) -> Expr
     match meaning {
         Meaning::Variable(entry) => {
             if is_array(entry) {
-                no_tree()
+                placeholder()
             } else {
                 Expr::Var { var: entry.var }
             }
         }
-        Meaning::Unknown | Meaning::Function => no_tree(),
+        Meaning::Unknown | Meaning::Function => placeholder(),
     }
 }
 
 /// What takes the place of a name that is at fault.
-pub(crate) fn no_tree() -> Expr
-    ensures { tree_of_expr result ≡ no_tree }
+pub(crate) fn placeholder() -> Expr
+    ensures { tree_of_expr result ≡ placeholder }
 {
     Expr::Const {
         t: CType::I32,
@@ -407,8 +407,8 @@ pub(crate) fn element<'a>(
     meaning: &Meaning<'a>,
     index: Judged<'a>,
 ) -> Result<Judged<'a>, AllocError>
-    ensures { IfOk result (λ j. (s : Seen) → Judges index.entry s →
-        Judges j (see_element at meaning.now s)) }
+    ensures { IfOk result (λ j. (s : Typed) → Judges index.entry s →
+        Judges j (typed_element at meaning.now s)) }
 {
     let operands = Operands::none().behind(&index);
     let t = promoted(index.t);
@@ -442,7 +442,7 @@ pub(crate) fn element_type(meaning: &Meaning) -> CType
 ///
 /// The one error is want of memory, which stands for want of numbers for heights.
 pub(crate) fn called<'a>(at: At, call: JudgedCall) -> Result<Judged<'a>, AllocError>
-    ensures { IfOk result (λ j. (c : SeenCall) → JudgesCall call c → Judges j (see_called at c)) }
+    ensures { IfOk result (λ j. (c : TypedCall) → JudgesCall call c → Judges j (typed_called at c)) }
 {
     let Some(height) = call.height.checked_add(1) else {
         return Err(AllocError);

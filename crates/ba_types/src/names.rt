@@ -2,7 +2,7 @@
 
 ghost use Rattle.std.specs.Prelude.{◌≡◌, is_some, not};
 ghost use Rattle.ba_parse.specs.Classes.{class_of, word};
-ghost use Rattle.ba_types.specs.Names.{binary_operator, by_sign, changing_operator, has_word, name_of, punct_of, type_named, unary_operator, words_of};
+ghost use Rattle.ba_types.specs.Names.{binary_operator, by_sign, changing_operator, has_word, jump_of, name_of, punct_of, type_named, unary_operator, words_of};
 
 use ba_lex::token::{Keyword, Punct, Text, Token, TokenKind};
 use ba_numbers::numbers::{BinOp, CType, UnOp};
@@ -14,6 +14,14 @@ pub enum Operator {
     Value(BinOp),
     AndAlso,
     OrElse,
+}
+
+/// A jump without a value (C90 6.6.6).
+#[derive(Clone, Copy, Debug, PartialEq, Eq)]
+pub enum Jump {
+    Break,
+    Continue,
+    Return,
 }
 
 /// The name that a token is, without bytes where it is none.
@@ -143,5 +151,16 @@ pub(crate) fn changing_operator(punct: Option<Punct>) -> Option<BinOp>
         Some(Punct::CaretAssign) => Some(BinOp::Xor),
         Some(Punct::BarAssign) => Some(BinOp::Or),
         _ => None,
+    }
+}
+
+/// The jump that a keyword alone is (C90 6.6.6).
+pub(crate) fn jump_of(keyword: &Token) -> Jump
+    ensures { result ≡ jump_of keyword.now }
+{
+    match &keyword.kind {
+        TokenKind::Keyword(Keyword::Break) => Jump::Break,
+        TokenKind::Keyword(Keyword::Continue) => Jump::Continue,
+        _ => Jump::Return,
     }
 }

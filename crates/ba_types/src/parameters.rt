@@ -2,7 +2,7 @@
 
 ghost use Rattle.std.specs.Prelude.{◌≡◌, ◌++◌, List, Option, true, IfOk, OnOk};
 ghost use Rattle.ba_types.specs.Adding.{AddsLength, IsLength, at_place, behind_part, plain_length};
-ghost use Rattle.ba_types.specs.Declarations.{SeenLength};
+ghost use Rattle.ba_types.specs.Declarations.{TypedLength};
 ghost use Rattle.ba_types.specs.Faults.{limit_faults, parameter_limit, void_faults};
 ghost use Rattle.ba_types.specs.Files.{add_param, add_params, check_length, first_at, name_of_param, param_length, param_shape, params_of, place_of_param};
 ghost use Rattle.ba_types.specs.Filing.{declaring_param, is_bad, next_params};
@@ -68,7 +68,7 @@ fn name_of_param<'a>(parameter: &Parameter<'a>) -> Text<'a>
 
 /// What a parameter holds, which has this length, if it is one of main's arrays.
 fn param_shape(is_main: bool, written: &Option<ArrayLength>, length: Option<Length>) -> Shape
-    ensures { (l : Option SeenLength) → length ≡ plain_length l →
+    ensures { (l : Option TypedLength) → length ≡ plain_length l →
         result ≡ param_shape is_main written.now l }
 {
     if written.is_none() {
@@ -173,8 +173,8 @@ fn check_length<'a>(
         ≡ behind_part (check_length at (param_length is_main at length.now scope.now
         work.old.tally.calls)) (at_place scope.now work.old stmts)) }
 {
-    let seen = length_of_param(alloc, is_main, at, length, scope, &mut work.tally)?;
-    work.tally.add_if(is_bad(seen), Cause::BadLength, at);
+    let found = length_of_param(alloc, is_main, at, length, scope, &mut work.tally)?;
+    work.tally.add_if(is_bad(found), Cause::BadLength, at);
     Ok(())
 }
 

@@ -4,9 +4,9 @@ ghost use Rattle.std.specs.Prelude.{◌≡◌, [], Some, OnOk, IfOk};
 ghost use Rattle.ba_types.specs.Adding.{before_of, behind_part, keep_each, keep_one, kept, printing, state};
 ghost use Rattle.ba_types.specs.Controlling.{GivesBody, GivesGuarded};
 ghost use Rattle.ba_types.specs.Declarations.{Part, in_order};
-ghost use Rattle.ba_types.specs.Expressions.{Sight, see_conditional};
-ghost use Rattle.ba_types.specs.Names.{looping};
-ghost use Rattle.ba_types.specs.Statements.{add_assert, add_block, add_do, add_for, add_if, add_item, add_jump, add_printf, add_return, add_statement, add_while, optional_sight, parts_of_block, printed_sights, test_of};
+ghost use Rattle.ba_types.specs.Expressions.{Typing, typed_conditional};
+ghost use Rattle.ba_types.specs.Names.{jump_of, looping};
+ghost use Rattle.ba_types.specs.Statements.{add_assert, add_block, add_do, add_for, add_if, add_item, add_jump, add_jump_with, add_loop_jump, add_printf, add_return, add_statement, add_while, optional_typing, parts_of_block, printed_typings, test_of};
 ghost use Rattle.ba_types.specs.Trees.{break_loop, continue_loop};
 ghost use Rattle.ba_types.specs.declared.work.Work.{Work};
 
@@ -16,10 +16,11 @@ use crate::control::{
 };
 use crate::declarations::{add_declarators, whole};
 use crate::fault::Cause;
-use crate::names::type_named;
+use crate::names::{Jump, jump_of, type_named};
 use crate::scopes::{Functions, Scope};
 use crate::tally::Tally;
 use crate::work::{Work, put};
+use ba_lex::token::Token;
 use ba_numbers::ids::At;
 use ba_numbers::numbers::CType;
 use ba_parse::tree::expressions::Conditional;
@@ -29,28 +30,10 @@ use ba_parse::tree::statements::{
 use ba_tree::tree::{Expr, Stmt, StmtKind};
 use std::alloc::{AllocError, Global};
 
-/// `return` (C90 6.6.6.4).
+/// `return` with a value (C90 6.6.6.4).
 ///
 /// The one error is want of memory, which also stands for want of numbers.
 fn add_return<'a>(
-    alloc: Global,
-    at: At,
-    value: &Option<Conditional<'a>>,
-    scope: &Scope<'a>,
-    work: &mut Work,
-    stmts: &mut Vec<Stmt>,
-) -> Result<(), AllocError>
-    ensures { OnOk result (state scope.now work.new stmts.new
-        ≡ behind_part (add_return at (optional_sight value.now)) (state scope.now work.old stmts.old)) }
-{
-    match value {
-        None => put(stmts, Stmt::ReturnNone),
-        Some(c) => add_return_value(alloc, at, c, scope, work, stmts),
-    }
-}
-
-/// `return` with a value.
-fn add_return_value<'a>(
     alloc: Global,
     at: At,
     c: &Conditional<'a>,
@@ -59,7 +42,7 @@ fn add_return_value<'a>(
     stmts: &mut Vec<Stmt>,
 ) -> Result<(), AllocError>
     ensures { OnOk result (state scope.now work.new stmts.new
-        ≡ behind_part (add_return at (Some (see_conditional c.now))) (state scope.now work.old stmts.old)) }
+        ≡ behind_part (add_return at (typed_conditional c.now)) (state scope.now work.old stmts.old)) }
 {
     let j = whole(alloc, scope, at, c, &mut work.tally)?;
     let t = scope.result();
@@ -100,7 +83,7 @@ fn add_printed<'a>(
     values: &mut Vec<Expr>,
 ) -> Result<(), AllocError>
     ensures { OnOk result (kept tally.new values.new
-        ≡ keep_one (printing at) (see_conditional c.now scope.now tally.old.calls)
+        ≡ keep_one (printing at) (typed_conditional c.now scope.now tally.old.calls)
         (kept tally.old values.old)) }
 {
     let j = whole(alloc, scope, at, c, tally)?;
@@ -119,7 +102,7 @@ fn printed_values<'a>(
     tally: &mut Tally,
 ) -> Result<Vec<Expr>, AllocError>
     ensures { IfOk result (λ values. kept tally.new values
-        ≡ keep_each (printing at) scope.now (printed_sights printed.now)
+        ≡ keep_each (printing at) scope.now (printed_typings printed.now)
         (record { trees = []; tally = tally.old })) }
 {
     let mut values = Vec::new(alloc);
@@ -141,7 +124,7 @@ fn add_printf<'a>(
     stmts: &mut Vec<Stmt>,
 ) -> Result<(), AllocError>
     ensures { OnOk result (state scope.now work.new stmts.new
-        ≡ behind_part (add_printf at (printed_sights printed.now)) (state scope.now work.old stmts.old)) }
+        ≡ behind_part (add_printf at (printed_typings printed.now)) (state scope.now work.old stmts.old)) }
 {
     let args = printed_values(alloc, at, printed, scope, &mut work.tally)?;
     let stmt = work.number(at, StmtKind::Call)?;
@@ -158,7 +141,7 @@ fn add_break<'a>(
     stmts: &mut Vec<Stmt>,
 ) -> Result<(), AllocError>
     ensures { OnOk result (state scope.now work.new stmts.new
-        ≡ behind_part (add_jump at break_loop) (state scope.now work.old stmts.old)) }
+        ≡ behind_part (add_loop_jump at break_loop) (state scope.now work.old stmts.old)) }
 {
     let is_outside = !scope.is_in_loop();
     work.tally.add_if(is_outside, Cause::BreakOutside, at);
@@ -175,11 +158,51 @@ fn add_continue<'a>(
     stmts: &mut Vec<Stmt>,
 ) -> Result<(), AllocError>
     ensures { OnOk result (state scope.now work.new stmts.new
-        ≡ behind_part (add_jump at continue_loop) (state scope.now work.old stmts.old)) }
+        ≡ behind_part (add_loop_jump at continue_loop) (state scope.now work.old stmts.old)) }
 {
     let is_outside = !scope.is_in_loop();
     work.tally.add_if(is_outside, Cause::BreakOutside, at);
     put(stmts, Stmt::Continue)
+}
+
+/// A jump without a value, by its keyword (C90 6.6.6).
+///
+/// The one error is want of memory.
+fn add_jump<'a>(
+    keyword: &Token<'a>,
+    scope: &Scope<'a>,
+    work: &mut Work,
+    stmts: &mut Vec<Stmt>,
+) -> Result<(), AllocError>
+    ensures { OnOk result (state scope.now work.new stmts.new
+        ≡ behind_part (add_jump keyword.now.at (jump_of keyword.now)) (state scope.now work.old stmts.old)) }
+{
+    match jump_of(keyword) {
+        Jump::Break => add_break(keyword.at, scope, work, stmts),
+        Jump::Continue => add_continue(keyword.at, scope, work, stmts),
+        Jump::Return => put(stmts, Stmt::ReturnNone),
+    }
+}
+
+/// A jump with a value or without one (C90 6.6.6).
+///
+/// The one error is want of memory, which also stands for want of numbers.
+fn add_jump_with<'a>(
+    alloc: Global,
+    keyword: &Token<'a>,
+    value: &Option<Conditional<'a>>,
+    scope: &Scope<'a>,
+    work: &mut Work,
+    stmts: &mut Vec<Stmt>,
+) -> Result<(), AllocError>
+    ensures { OnOk result (state scope.now work.new stmts.new
+        ≡ behind_part (add_jump_with keyword.now (optional_typing value.now))
+        (state scope.now work.old stmts.old)) }
+{
+    match value {
+        None => add_jump(keyword, scope, work, stmts),
+        Some(c) => add_return(alloc, keyword.at, c, scope, work, stmts),
+    }
 }
 
 /// A statement is typed and put behind those. What is in scope stays as it is.
@@ -231,10 +254,10 @@ pub(crate) fn add_statement<'a>(
             add_do(alloc, &d.condition, &d.body.statement, scope, work, stmts)
         }
         StatementForm::For(f) => add_for(alloc, &f.head, &f.body.statement, scope, work, stmts),
-        StatementForm::Break { keyword, .. } => add_break(keyword.at, scope, work, stmts),
-        StatementForm::Continue { keyword, .. } => add_continue(keyword.at, scope, work, stmts),
+        StatementForm::Break { keyword, .. } => add_jump(keyword, scope, work, stmts),
+        StatementForm::Continue { keyword, .. } => add_jump(keyword, scope, work, stmts),
         StatementForm::Return { keyword, value, .. } => {
-            add_return(alloc, keyword.at, value, scope, work, stmts)
+            add_jump_with(alloc, keyword, value, scope, work, stmts)
         }
         StatementForm::Assert {
             keyword,
@@ -376,7 +399,7 @@ fn add_else<'a>(
     work: &mut Work,
     stmts: &mut Vec<Stmt>,
 ) -> Result<(), AllocError>
-    ensures adds { OnOk result ((test : Sight) (holds : Part) (before : Work) →
+    ensures adds { OnOk result ((test : Typing) (holds : Part) (before : Work) →
         GivesGuarded test holds scope.old before work.old guarded → state scope.new work.new stmts.new
         ≡ behind_part (add_if test holds (Some (add_statement other.now)))
         (state scope.old before stmts.old)) }

@@ -1,7 +1,7 @@
 //! Uses of names: what is at fault with them, and what they stand for (C90 6.3.1, 6.3.2).
 
 ghost use Rattle.std.specs.Prelude.{◌≡◌, ◌==◌, not, cond, is_some, option_map, slice_get, [], length};
-ghost use Rattle.ba_types.specs.Expressions.{array_given, function_of, named_array, params_of, result_of};
+ghost use Rattle.ba_types.specs.Expressions.{array_given, function_of, named_array, params_of_called, result_of};
 ghost use Rattle.ba_types.specs.Faults.{array_name_faults, call_faults, count_of_params, definition_faults, height_limit, limit_faults, value_name_faults};
 ghost use Rattle.ba_types.specs.Judging.{with_faults};
 ghost use Rattle.ba_types.specs.Names.{is_array_entry, is_main_name};
@@ -117,7 +117,7 @@ pub(crate) fn add_height_fault(call: CallUse, height: u32, tally: &mut Tally)
 
 /// The type of the parameter of this number, counted from 0, `None` where the function has no more.
 pub(crate) fn param_of(definition: Option<&Signature>, number: usize) -> Option<ParamType>
-    ensures { result ≡ slice_get (params_of (option_map (λ s. s.now) definition.entry)) number }
+    ensures { result ≡ slice_get (params_of_called (option_map (λ s. s.now) definition.entry)) number }
 {
     match definition {
         None => None,

@@ -10,6 +10,15 @@ use ba_numbers::ids::{At, StmtId, VarId};
 use ba_tree::tree::{Stmt, StmtInfo, StmtKind, Variable};
 use std::alloc::{AllocError, Global};
 
+/// The greatest number of variables.
+const VARIABLE_LIMIT: u32 = 2000;
+
+/// The greatest number of numbered statements.
+const STATEMENT_LIMIT: u32 = 4000;
+
+/// The greatest number of elements of all arrays.
+const ELEMENT_LIMIT: u32 = 1024;
+
 /// The variables and the numbered statements in the order of the text, how many elements the arrays have, and the calls and faults.
 #[derive(Drop)]
 pub struct Work {
@@ -52,7 +61,7 @@ impl Work {
             return Err(AllocError);
         };
         self.variables.push(variable)?;
-        self.tally.add_limit(2000, number, at);
+        self.tally.add_limit(VARIABLE_LIMIT, number, at);
         Ok(VarId(count))
     }
 
@@ -67,7 +76,7 @@ impl Work {
             return Err(AllocError);
         };
         self.statements.push(StmtInfo { at, kind })?;
-        self.tally.add_limit(4000, number, at);
+        self.tally.add_limit(STATEMENT_LIMIT, number, at);
         Ok(StmtId(number))
     }
 
@@ -81,7 +90,7 @@ impl Work {
             return Err(AllocError);
         };
         self.elements = elements;
-        self.tally.add_limit(1024, elements, at);
+        self.tally.add_limit(ELEMENT_LIMIT, elements, at);
         Ok(())
     }
 }

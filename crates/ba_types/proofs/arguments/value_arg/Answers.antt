@@ -1,10 +1,10 @@
 use Rattle.std.proofs.Common.{◌∙◌, ap}
 use Rattle.std.specs.Prelude.{unwrap_or}
-use Rattle.ba_types.specs.Expressions.{Seen, tree_as}
+use Rattle.ba_types.specs.Expressions.{Typed, tree_as}
 use Rattle.ba_types.specs.Trees.{value}
 use Rattle.ba_types.proofs.ArgumentSteps.{arg-Value}
 use Rattle.ba_types.proofs.arguments.value_arg.Goals as goal
 
 pub returns : goal.returns
 returns c s is = arg-Value c.in_ok-expr.expr ∙ ap value (c.in_ok-expr.ensures s is
-    ∙ ap (λ t. tree_as t s) (c.unwrap_or-t.ensures ∙ ap (λ (s : Seen). unwrap_or c.args.t s.t) is))
+    ∙ ap (λ t. tree_as t s) (c.unwrap_or-t.ensures ∙ ap (λ (s : Typed). unwrap_or c.args.t s.t) is))

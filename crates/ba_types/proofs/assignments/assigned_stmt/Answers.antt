@@ -4,8 +4,8 @@ use Rattle.ba_types.proofs.assignments.assigned_stmt.Goals as goal
 
 pub returns-in-None : goal.returns-in-None
 returns-in-None c s e is typed = assign-as c.args.stmt c.args.target.var s.var c.args.value
-    (tree_as s.seen.t e) c.args.target.index s.index is.var typed is.index c.in-None.is
+    (tree_as s.expression.t e) c.args.target.index s.index is.var typed is.index c.in-None.is
 
 pub returns-in-Some : goal.returns-in-Some
 returns-in-Some c s e is typed = store-as c.args.stmt c.args.target.var s.var c.args.value
-    (tree_as s.seen.t e) c.args.target.index s.index c.in-Some.index is.var typed is.index c.in-Some.is
+    (tree_as s.expression.t e) c.args.target.index s.index c.in-Some.index is.var typed is.index c.in-Some.is

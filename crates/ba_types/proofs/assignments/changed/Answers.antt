@@ -1,18 +1,18 @@
 use Rattle.std.proofs.Common.{Option, sym, subst}
 use Rattle.ba_numbers.specs.declared.numbers.BinOp.{BinOp}
-use Rattle.ba_types.specs.Adding.{seen_target}
+use Rattle.ba_types.specs.Adding.{typed_target_of}
 use Rattle.ba_types.specs.Judging.{Judges}
 use Rattle.ba_types.specs.Statements.{changed}
 use Rattle.ba_types.proofs.Judgements.{if-ok}
 use Rattle.ba_types.proofs.assignments.changed.Goals as goal
 
 pub returns-in-None : goal.returns-in-None
-returns-in-None c e is = let place = seen_target c.args.target.now c.args.scope.now c.args.before.calls in
-    subst (λ (o : Option BinOp). Judges c.args.value (changed o place.seen e)) (sym c.in-None.is) is
+returns-in-None c e is = let place = typed_target_of c.args.target.now c.args.scope.now c.args.before.calls in
+    subst (λ (o : Option BinOp). Judges c.args.value (changed o place.expression e)) (sym c.in-None.is) is
 
 pub returns-in_ok-left-in-Some : goal.returns-in_ok-left-in-Some
 returns-in_ok-left-in-Some c =
-    let place = seen_target c.args.target.now c.args.scope.now c.args.before.calls in
+    let place = typed_target_of c.args.target.now c.args.scope.now c.args.before.calls in
     if-ok c.value.result _ _ (λ j made e is.
-    subst (λ (o : Option BinOp). Judges j (changed o place.seen e)) (sym c.in-Some.is)
-    (made place.seen e c.in_ok-left-in-Some.ensures is)) c.value.ensures
+    subst (λ (o : Option BinOp). Judges j (changed o place.expression e)) (sym c.in-Some.is)
+    (made place.expression e c.in_ok-left-in-Some.ensures is)) c.value.ensures

@@ -1,12 +1,12 @@
 use Rattle.std.proofs.Common.{◌∙◌, ap}
-use Rattle.ba_types.specs.Expressions.{see_conditional}
+use Rattle.ba_types.specs.Expressions.{typed_conditional}
 use Rattle.ba_types.specs.Names.{meaning_of, name_of}
 use Rattle.ba_types.proofs.AssignmentSteps.{element-target-is}
 use Rattle.ba_types.proofs.assignments.element_target.Goals as goal
 
 pub returns : goal.returns
 returns c = let scope = c.args.scope.now in let name = c.args.name.now in
-    element-target-is c.args.at name.at (name_of name) c.args.op (see_conditional c.args.index.now) scope
+    element-target-is c.args.at name.at (name_of name) c.args.op (typed_conditional c.args.index.now) scope
     c.args.tally.now c.add_array_name_faults.new.tally c.conditional.new.tally c.add_index_faults.new.tally
     c.array_of.result c.element_type.result c.promoted-t.result c.meaning_of-meaning.result c.in_ok-j.j
     c.in_ok-index.index c.is_changed_by_call-has_call.result

@@ -3,23 +3,24 @@ use Rattle.std.specs.Prelude.{IfOk}
 use Rattle.ba_parse.specs.declared.tree.expressions.Conditional.{Conditional}
 use Rattle.ba_parse.specs.declared.tree.statements.Index.{Index}
 use Rattle.ba_types.specs.Adding.{GivesTarget}
-use Rattle.ba_types.specs.Expressions.{Sight, see_conditional}
+use Rattle.ba_types.specs.Expressions.{Typing, typed_conditional}
 use Rattle.ba_types.specs.Names.{name_of}
-use Rattle.ba_types.specs.Statements.{index_sight, see_target}
+use Rattle.ba_types.specs.Statements.{index_typing, typed_target}
 use Rattle.ba_types.proofs.assignments.target_of.Goals as goal
 
 pub returns-in-None : goal.returns-in-None
 returns-in-None c = let scope = c.args.scope.now in let old = c.args.tally.now in
     let name = c.args.target.now.name.now in
     subst (λ (o : Option Index). GivesTarget c.args.at name.at c.args.op
-    (see_target name.at (name_of name) (index_sight o) scope old.calls) old c.variable_target.new.tally
+    (typed_target name.at (name_of name) (index_typing o) scope old.calls) old c.variable_target.new.tally
     c.variable_target.result)
     (sym c.in-None.is) c.variable_target.ensures
 
 pub returns-in-Some : goal.returns-in-Some
 returns-in-Some c = let scope = c.args.scope.now in let old = c.args.tally.now in
     let name = c.args.target.now.name.now in
-    subst (λ (o : Option Sight). IfOk c.element_target.result (λ j. GivesTarget c.args.at name.at c.args.op
-    (see_target name.at (name_of name) o scope old.calls) old c.element_target.new.tally j))
-    (ap (λ (e : Conditional). Some (see_conditional e)) c.deref.ensures ∙ sym (ap index_sight c.in-Some.is))
+    subst (λ (o : Option Typing). IfOk c.element_target.result (λ j. GivesTarget c.args.at name.at c.args.op
+    (typed_target name.at (name_of name) o scope old.calls) old c.element_target.new.tally j))
+    (ap (λ (e : Conditional). Some (typed_conditional e)) c.deref.ensures ∙ sym (ap index_typing
+    c.in-Some.is))
     c.element_target.ensures

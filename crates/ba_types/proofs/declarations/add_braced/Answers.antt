@@ -2,17 +2,17 @@ use Rattle.std.proofs.Common.{◌==◌, List, map, ◌∙◌, ap}
 use Rattle.ba_parse.specs.declared.tree.expressions.NextExpression.{NextExpression}
 use Rattle.ba_types.specs.Adding.{initialising, keep_each, kept}
 use Rattle.ba_types.specs.Declarations.{braced_values}
-use Rattle.ba_types.specs.Expressions.{see_next}
+use Rattle.ba_types.specs.Expressions.{typed_next}
 use Rattle.ba_types.proofs.KeptValues.{next-value, no-value}
 use Rattle.ba_types.proofs.declarations.add_braced.Goals as goal
 
 pub loop-next-init : goal.loop-next-init
 loop-next-init c = let scope = c.args.scope.now in let how = initialising c.args.d.at c.args.d.t
     (scope.depth == 0) in
-    ap (λ (xs : List NextExpression). keep_each how scope (map see_next xs) (kept c.add_value.new.tally
+    ap (λ (xs : List NextExpression). keep_each how scope (map typed_next xs) (kept c.add_value.new.tally
     c.add_value.new.values))
     c.deref-next-items.ensures.value
-    ∙ ap (keep_each how scope (map see_next c.args.braced.now.rest.items)) c.in_ok-add_value.ensures
+    ∙ ap (keep_each how scope (map typed_next c.args.braced.now.rest.items)) c.in_ok-add_value.ensures
 
 pub loop-next-preserved : goal.loop-next-preserved
 loop-next-preserved c = let scope = c.args.scope.now in let how = initialising c.args.d.at c.args.d.t

@@ -1,6 +1,6 @@
 use Rattle.std.proofs.Common.{◌==◌, Bool, cond, not, map, ◌∙◌, ap}
 use Rattle.std.proofs.lemmas.Result.{on_ok_weaker}
-use Rattle.ba_types.specs.Declarations.{exceeds, has_braces, limit_of, see_each, values_of, init_tree}
+use Rattle.ba_types.specs.Declarations.{exceeds, has_braces, written_count, typed_each, values_of, init_tree}
 use Rattle.ba_types.specs.Faults.{fault_if}
 use Rattle.ba_types.specs.Judging.{with_faults}
 use Rattle.ba_types.specs.Trees.{tree_of_stmt}
@@ -10,7 +10,7 @@ use Rattle.ba_types.proofs.declarations.add_initialiser.Goals as goal
 
 pub returns : goal.returns
 returns c = let w = c.args.work.now in let scope = c.args.scope.now in let d = c.args.d in
-    let es = see_each scope w.tally.calls (values_of c.args.init.now) in
+    let es = typed_each scope w.tally.calls (values_of c.args.init.now) in
     let all = kept-all d.at d.t (scope.depth == 0) scope (values_of c.args.init.now)
     c.in_ok-values.values.items w.tally
     c.initial_values.new.tally c.in_ok-values.ensures in
@@ -22,7 +22,7 @@ returns c = let w = c.args.work.now in let scope = c.args.scope.now in let d = c
     c.args.stmts.now.items) _
     all.1
     (c.add_if.ensures ∙ ap (λ (b : Bool). with_faults c.initial_values.new.tally (fault_if b WrongCount d.at))
-    (c.has_too_many-is_past.ensures l same ∙ ap (exceeds (limit_of l)) (c.number_of.ensures ∙ all.2)))
+    (c.has_too_many-is_past.ensures l same ∙ ap (exceeds (written_count l)) (c.number_of.ensures ∙ all.2)))
     (c.add_if-2.ensures ∙ ap (λ (b : Bool). with_faults c.add_if.new.self (fault_if b WrongKind d.at))
     (c.is_unlike.ensures
     ∙ ap (λ (b : Bool). cond b (not (has_braces c.args.init.now)) (has_braces c.args.init.now)) array))

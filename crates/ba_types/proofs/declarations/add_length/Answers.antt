@@ -1,5 +1,5 @@
 use Rattle.std.proofs.Common.{refl}
-use Rattle.ba_types.specs.Declarations.{see_array_length}
+use Rattle.ba_types.specs.Declarations.{typed_array_length}
 use Rattle.ba_types.proofs.Declaring.{no-length, some-length}
 use Rattle.ba_types.proofs.declarations.add_length.Goals as goal
 
@@ -7,13 +7,13 @@ pub returns-in-None : goal.returns-in-None
 returns-in-None c = let w = c.args.work.now in let scope = c.args.scope.now in let t =
     c.array_length.new.tally in
     no-length c.args.at scope w (record w { tally = t })
-    (see_array_length c.args.at c.args.values scope w.tally.calls c.args.length.now) t c.in_ok-seen.seen
-    c.in_ok-seen.ensures c.in-None.is refl
+    (typed_array_length c.args.at c.args.values scope w.tally.calls c.args.length.now) t c.in_ok-found.found
+    c.in_ok-found.ensures c.in-None.is refl
 
 pub returns-in_ok-add_count-in-Some : goal.returns-in_ok-add_count-in-Some
 returns-in_ok-add_count-in-Some c =
     let w = c.args.work.now in let scope = c.args.scope.now in let t = c.array_length.new.tally in
     some-length c.args.at scope w (record w { tally = t }) c.add_count.new.work
-    (see_array_length c.args.at c.args.values scope w.tally.calls c.args.length.now) t c.in_ok-seen.seen
+    (typed_array_length c.args.at c.args.values scope w.tally.calls c.args.length.now) t c.in_ok-found.found
     c.in-Some.length
-    c.in_ok-seen.ensures c.in-Some.is refl c.in_ok-add_count-in-Some.ensures
+    c.in_ok-found.ensures c.in-Some.is refl c.in_ok-add_count-in-Some.ensures

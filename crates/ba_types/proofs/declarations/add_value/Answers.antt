@@ -1,5 +1,5 @@
 use Rattle.std.proofs.Common.{◌==◌, Bool, ◌∙◌, ap}
-use Rattle.ba_types.specs.Expressions.{see_conditional}
+use Rattle.ba_types.specs.Expressions.{typed_conditional}
 use Rattle.ba_types.specs.Faults.{fault_if}
 use Rattle.ba_types.specs.Judging.{with_faults}
 use Rattle.ba_types.specs.declared.fault.Cause.TheVariants.{WrongKind}
@@ -7,7 +7,7 @@ use Rattle.ba_types.proofs.Declaring.{value-is}
 use Rattle.ba_types.proofs.declarations.add_value.Goals as goal
 
 pub returns : goal.returns
-returns c = let scope = c.args.scope.now in let s = see_conditional c.args.c.now scope
+returns c = let scope = c.args.scope.now in let s = typed_conditional c.args.c.now scope
     c.args.tally.now.calls in
     value-is c.args.d.at c.args.d.t (scope.depth == 0) s c.in_ok-j.j c.args.tally.now c.whole.new.tally
     c.add_if.new.self

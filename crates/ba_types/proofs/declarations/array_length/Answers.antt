@@ -1,4 +1,4 @@
-use Rattle.ba_types.specs.Expressions.{see_conditional}
+use Rattle.ba_types.specs.Expressions.{typed_conditional}
 use Rattle.ba_types.proofs.Declaring.{not-array, not-written, written}
 use Rattle.ba_types.proofs.declarations.array_length.Goals as goal
 
@@ -12,7 +12,7 @@ returns-in-None c = not-written c.args.at c.args.values c.args.length.now c.args
 
 pub returns-in_ok-j-in-Some-length : goal.returns-in_ok-j-in-Some-length
 returns-in_ok-j-in-Some-length c =
-    let s = see_conditional c.in-Some-length.c c.args.scope.now c.args.tally.now.calls in
+    let s = typed_conditional c.in-Some-length.c c.args.scope.now c.args.tally.now.calls in
     written c.args.at c.args.values c.args.length.now c.args.scope.now c.args.tally.now
     c.in-Some.array c.in-Some-length.c c.whole.new.tally c.written_length.result c.in-Some.is
     c.in-Some-length.is

@@ -2,7 +2,7 @@ use Rattle.std.proofs.Common.{◌==◌, List, [], map, ◌∙◌, ap}
 use Rattle.ba_tree.specs.declared.tree.Expr.{Expr}
 use Rattle.ba_types.specs.Adding.{Kept, initialising, keep_each, keep_one, kept}
 use Rattle.ba_types.specs.Declarations.{braced_values}
-use Rattle.ba_types.specs.Expressions.{see_conditional}
+use Rattle.ba_types.specs.Expressions.{typed_conditional}
 use Rattle.ba_types.specs.Trees.{tree_of_expr}
 use Rattle.ba_types.proofs.Declaring.{values-braced, values-expression}
 use Rattle.ba_types.proofs.declarations.initial_values.Goals as goal
@@ -13,7 +13,7 @@ returns-in_ok-add_value-in-Expression c =
     let k : List Expr → Kept = λ xs. record { trees = map tree_of_expr xs; tally = c.args.tally.now } in
     values-expression how scope c.args.init.now (k []) (kept c.add_value.new.tally c.add_value.new.values)
     c.in-Expression.assign c.in-Expression.value c.in-Expression.is (c.in_ok-add_value-in-Expression.ensures
-    ∙ ap (λ (xs : List Expr). keep_one how (see_conditional c.in-Expression.value scope
+    ∙ ap (λ (xs : List Expr). keep_one how (typed_conditional c.in-Expression.value scope
     c.args.tally.now.calls) (k xs))
     c.new-values.ensures.items)
 

@@ -1,9 +1,9 @@
-use Rattle.ba_types.specs.Expressions.{see_conditional}
+use Rattle.ba_types.specs.Expressions.{typed_conditional}
 use Rattle.ba_types.proofs.KeptValues.{whole-is}
 use Rattle.ba_types.proofs.declarations.whole.Goals as goal
 
 pub returns : goal.returns
-returns c = let s = see_conditional c.args.c.now c.args.scope.now c.args.tally.now.calls in (
+returns c = let s = typed_conditional c.args.c.now c.args.scope.now c.args.tally.now.calls in (
   c.in_ok-j.ensures.0,
   whole-is c.args.at c.in_ok-j.j s c.args.tally.now c.conditional.new.tally
       c.add_limit.new.self

@@ -3,8 +3,8 @@ use Rattle.ba_types.proofs.Judgements.{called-is}
 use Rattle.ba_types.proofs.judged.called.Goals as goal
 
 pub returns : goal.returns
-returns c seen is = let higher : c.in-Some.height ≡ 1 + c.args.call.height = omega (
+returns c expression is = let higher : c.in-Some.height ≡ 1 + c.args.call.height = omega (
   arith,
   c.in-Some.ensures,
 ) in
-    called-is c.args.at c.args.call seen c.in-Some.height higher is
+    called-is c.args.at c.args.call expression c.in-Some.height higher is

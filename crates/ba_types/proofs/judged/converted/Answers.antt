@@ -1,5 +1,5 @@
 use Rattle.std.proofs.Common.{[], ◌∷◌, refl, ◌∙◌, ap}
-use Rattle.ba_types.specs.Expressions.{Seen, tree_as, value_as}
+use Rattle.ba_types.specs.Expressions.{Typed, tree_as, value_as}
 use Rattle.ba_types.specs.Trees.{tree_of_expr}
 use Rattle.ba_types.proofs.Judgements.{as-over, if-ok}
 use Rattle.ba_types.proofs.judged.converted.Goals as goal
@@ -8,5 +8,5 @@ pub returns : goal.returns
 returns c = if-ok c.over.result _ _ (λ j over s is.
     as-over j c.args.first (s ∷ []) c.args.t c.args.t (tree_of_expr c.in_ok-expr.expr) (tree_as c.args.t s)
     c.value_as-value.result (value_as c.args.t s) refl (c.in_ok-expr.ensures s is)
-    (c.value_as-value.ensures ∙ ap (λ (s : Seen). value_as c.args.t s) is)
+    (c.value_as-value.ensures ∙ ap (λ (s : Typed). value_as c.args.t s) is)
     (over (s ∷ []) (c.behind-operands.ensures s [] is c.none.ensures))) c.over.ensures

@@ -1,15 +1,15 @@
 use Rattle.std.proofs.Common.{[], ◌∷◌, None, refl, ◌∙◌, ap}
-use Rattle.ba_types.specs.Expressions.{see_element, tree_as}
-use Rattle.ba_types.specs.Judging.{Judges, seen_of}
+use Rattle.ba_types.specs.Expressions.{typed_element, tree_as}
+use Rattle.ba_types.specs.Judging.{Judges, typed_from}
 use Rattle.ba_types.specs.Trees.{tree_of_expr}
 use Rattle.ba_types.specs.Trees as tree
 use Rattle.ba_types.proofs.Judgements.{as-over, element-is, judged}
 use Rattle.ba_types.proofs.judged.element.Goals as goal
 
 pub returns : goal.returns
-returns c s is = judged (λ s. Judges c.named.result (see_element c.args.at c.args.meaning.now s))
+returns c s is = judged (λ s. Judges c.named.result (typed_element c.args.at c.args.meaning.now s))
     c.args.index s is (λ m fs.
-    let s = seen_of c.args.index m fs in
+    let s = typed_from c.args.index m fs in
     element-is c.named.result c.args.at c.args.meaning.now s c.element_type.result c.promoted-t.result
     c.array_of.result
     c.element_type.ensures c.promoted-t.ensures c.array_of.ensures

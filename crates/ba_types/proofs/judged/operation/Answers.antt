@@ -1,7 +1,7 @@
 use Rattle.std.proofs.Common.{[], ◌∷◌, ◌∙◌, ap}
 use Rattle.std.specs.Prelude.{option_map}
 use Rattle.ba_numbers.specs.Numbers.{value_of_one}
-use Rattle.ba_types.specs.Expressions.{Seen, tree_as, value_as}
+use Rattle.ba_types.specs.Expressions.{Typed, tree_as, value_as}
 use Rattle.ba_types.specs.Trees.{tree_of_expr}
 use Rattle.ba_types.specs.Trees as tree
 use Rattle.ba_types.proofs.Judgements.{as-over, if-ok}
@@ -15,6 +15,6 @@ returns c = if-ok c.over.result _ _ (λ j over s is.
     c.type_of_unary.ensures
     (c.in_ok-expr-2.ensures ∙ ap (tree.unary c.args.op c.args.t) (c.in_ok-expr.ensures s is))
     (c.value_of_one-value.ensures
-    ∙ ap (option_map (value_of_one c.args.op c.args.t)) (c.value_as.ensures ∙ ap (λ (s : Seen). value_as
+    ∙ ap (option_map (value_of_one c.args.op c.args.t)) (c.value_as.ensures ∙ ap (λ (s : Typed). value_as
     c.args.t s) is))
     (over (s ∷ []) (c.behind-operands.ensures s [] is c.none.ensures))) c.over.ensures

@@ -1,7 +1,7 @@
 use Rattle.std.proofs.Common.{[], ◌∷◌, refl, ◌∙◌, ap}
 use Rattle.ba_numbers.specs.declared.numbers.CType.TheVariants.{I32}
-use Rattle.ba_types.specs.Expressions.{see_binary, tree_as}
-use Rattle.ba_types.specs.Judging.{Judges, seen_of}
+use Rattle.ba_types.specs.Expressions.{typed_binary, tree_as}
+use Rattle.ba_types.specs.Judging.{Judges, typed_from}
 use Rattle.ba_types.specs.Trees.{tree_of_expr}
 use Rattle.ba_types.specs.Trees as tree
 use Rattle.ba_types.specs.declared.names.Operator.TheVariants.{OrElse}
@@ -10,8 +10,8 @@ use Rattle.ba_types.proofs.judged.or_else.Goals as goal
 
 pub returns : goal.returns
 returns c = if-ok c.over.result _ _ (λ j over s u left right.
-    judged-two (λ s u. Judges j (see_binary OrElse s u)) c.args.a c.args.b s u left right (λ m n fs gs.
-    let s = seen_of c.args.a m fs in let u = seen_of c.args.b n gs in
+    judged-two (λ s u. Judges j (typed_binary OrElse s u)) c.args.a c.args.b s u left right (λ m n fs gs.
+    let s = typed_from c.args.a m fs in let u = typed_from c.args.b n gs in
     let t = c.promoted-left_t.result in let r = c.promoted-right_t.result in
     or_else-is j s u t r c.promoted-left_t.ensures c.promoted-right_t.ensures
     (as-over j s.first (s ∷ u ∷ []) I32 I32 (tree_of_expr c.in_ok-expr.expr)

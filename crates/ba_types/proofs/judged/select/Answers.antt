@@ -1,7 +1,7 @@
 use Rattle.std.proofs.Common.{[], ◌∷◌, cond, refl, ◌∙◌, ap}
 use Rattle.std.specs.Prelude.{option_and_then}
-use Rattle.ba_types.specs.Expressions.{see_select, tree_as, value_as, is_true}
-use Rattle.ba_types.specs.Judging.{Judges, seen_of}
+use Rattle.ba_types.specs.Expressions.{typed_select, tree_as, value_as, is_true}
+use Rattle.ba_types.specs.Judging.{Judges, typed_from}
 use Rattle.ba_types.specs.Trees.{tree_of_expr}
 use Rattle.ba_types.specs.Trees as tree
 use Rattle.ba_types.proofs.Judgements.{as-over, if-ok, judged, judged-two, select-is}
@@ -9,10 +9,11 @@ use Rattle.ba_types.proofs.judged.select.Goals as goal
 
 pub returns : goal.returns
 returns c = if-ok c.over.result _ _ (λ j over w s u first left right.
-    judged (λ w. Judges j (see_select w s u)) c.args.when w first (λ k es.
-    judged-two (λ s u. Judges j (see_select (seen_of c.args.when k es) s u)) c.args.a c.args.b s u left
+    judged (λ w. Judges j (typed_select w s u)) c.args.when w first (λ k es.
+    judged-two (λ s u. Judges j (typed_select (typed_from c.args.when k es) s u)) c.args.a c.args.b s u left
     right (λ m n fs gs.
-    let w = seen_of c.args.when k es in let s = seen_of c.args.a m fs in let u = seen_of c.args.b n gs in
+    let w = typed_from c.args.when k es in let s = typed_from c.args.a m fs in let u = typed_from c.args.b
+    n gs in
     let t = c.usual-t.result in
     select-is j s u w t c.usual-t.ensures
     (as-over j w.first (w ∷ s ∷ u ∷ []) t t (tree_of_expr c.in_ok-expr.expr)

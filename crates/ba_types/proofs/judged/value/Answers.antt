@@ -1,7 +1,7 @@
 use Rattle.std.proofs.Common.{[], ◌∷◌, refl, ◌∙◌, ap}
 use Rattle.ba_numbers.specs.Numbers.{value_of}
-use Rattle.ba_types.specs.Expressions.{see_value, tree_as, value_as, both_then}
-use Rattle.ba_types.specs.Judging.{Judges, seen_of}
+use Rattle.ba_types.specs.Expressions.{typed_value, tree_as, value_as, both_then}
+use Rattle.ba_types.specs.Judging.{Judges, typed_from}
 use Rattle.ba_types.specs.Trees.{tree_of_expr}
 use Rattle.ba_types.specs.Trees as tree
 use Rattle.ba_types.proofs.Judgements.{as-over, if-ok, judged-two, value-is}
@@ -9,8 +9,8 @@ use Rattle.ba_types.proofs.judged.value.Goals as goal
 
 pub returns : goal.returns
 returns c = if-ok c.over.result _ _ (λ j over s u left right.
-    judged-two (λ s u. Judges j (see_value c.args.op s u)) c.args.a c.args.b s u left right (λ m n fs gs.
-    let s = seen_of c.args.a m fs in let u = seen_of c.args.b n gs in
+    judged-two (λ s u. Judges j (typed_value c.args.op s u)) c.args.a c.args.b s u left right (λ m n fs gs.
+    let s = typed_from c.args.a m fs in let u = typed_from c.args.b n gs in
     let t = c.working_type-t.result in let r = c.right_type-right_t.result in
     value-is j s u c.args.op t r c.working_type-t.ensures c.right_type-right_t.ensures
     (as-over j s.first (s ∷ u ∷ []) c.type_of_binary.result _ (tree_of_expr c.in_ok-expr.expr)

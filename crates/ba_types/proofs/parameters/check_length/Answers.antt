@@ -10,5 +10,5 @@ pub returns : goal.returns
 returns c stmts =
     let w = c.args.work.now in let scope = c.args.scope.now in let t = c.length_of_param.new.tally in
     checked-is c.args.at (param_length c.args.is_main c.args.at c.args.length.now scope w.tally.calls)
-    c.in_ok-seen.seen scope w t c.add_if.new.self stmts c.in_ok-seen.ensures
+    c.in_ok-found.found scope w t c.add_if.new.self stmts c.in_ok-found.ensures
     (c.add_if.ensures ∙ ap (λ (b : Bool). with_faults t (fault_if b BadLength c.args.at)) c.is_bad.ensures)

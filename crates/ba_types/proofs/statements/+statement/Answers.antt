@@ -113,23 +113,24 @@ add_statement-returns-in-For-clause-adds t c =
     c.deref-in-For-2.ensures) c.add_for.ensures.adds
 
 pub add_statement-returns-in-Break-clause-adds : goal.add_statement-returns-in-Break-clause-adds
-add_statement-returns-in-Break-clause-adds t c = form-answers c.add_break.result c.args.s.now _ _
+add_statement-returns-in-Break-clause-adds t c = form-answers c.add_jump.result c.args.s.now _ _
     (state c.args.scope.now c.args.work.now c.args.stmts.now)
-    (state c.args.scope.now c.add_break.new.work c.add_break.new.stmts) c.in-Break.is
-    (forms.break-form c.in-Break.keyword c.in-Break.semicolon) c.add_break.ensures
+    (state c.args.scope.now c.add_jump.new.work c.add_jump.new.stmts) c.in-Break.is
+    (forms.break-form c.in-Break.keyword c.in-Break.semicolon) c.add_jump.ensures
 
 pub add_statement-returns-in-Continue-clause-adds : goal.add_statement-returns-in-Continue-clause-adds
-add_statement-returns-in-Continue-clause-adds t c = form-answers c.add_continue.result c.args.s.now _ _
+add_statement-returns-in-Continue-clause-adds t c = form-answers c.add_jump-in-Continue.result c.args.s.now
+    _ _
     (state c.args.scope.now c.args.work.now c.args.stmts.now)
-    (state c.args.scope.now c.add_continue.new.work c.add_continue.new.stmts) c.in-Continue.is
-    (forms.continue-form c.in-Continue.keyword c.in-Continue.semicolon) c.add_continue.ensures
+    (state c.args.scope.now c.add_jump-in-Continue.new.work c.add_jump-in-Continue.new.stmts) c.in-Continue.is
+    (forms.continue-form c.in-Continue.keyword c.in-Continue.semicolon) c.add_jump-in-Continue.ensures
 
 pub add_statement-returns-in-Return-clause-adds : goal.add_statement-returns-in-Return-clause-adds
 add_statement-returns-in-Return-clause-adds t c = let k = c.in-Return in
-    form-answers c.add_return.result c.args.s.now _ _
+    form-answers c.add_jump_with.result c.args.s.now _ _
     (state c.args.scope.now c.args.work.now c.args.stmts.now)
-    (state c.args.scope.now c.add_return.new.work c.add_return.new.stmts) k.is
-    (forms.return-form k.keyword k.value k.semicolon) c.add_return.ensures
+    (state c.args.scope.now c.add_jump_with.new.work c.add_jump_with.new.stmts) k.is
+    (forms.return-form k.keyword k.value k.semicolon) c.add_jump_with.ensures
 
 pub add_statement-returns-in-Assert-clause-adds : goal.add_statement-returns-in-Assert-clause-adds
 add_statement-returns-in-Assert-clause-adds t c = let k = c.in-Assert in

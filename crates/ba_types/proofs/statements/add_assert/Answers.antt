@@ -2,7 +2,7 @@ use Rattle.std.proofs.Common.{◌≡◌, map, subst}
 use Rattle.std.proofs.lemmas.Result.{on_ok_weaker}
 use Rattle.ba_parse.specs.declared.tree.expressions.Conditional.{Conditional}
 use Rattle.ba_types.specs.Declarations.{whole_faults}
-use Rattle.ba_types.specs.Expressions.{see_conditional}
+use Rattle.ba_types.specs.Expressions.{typed_conditional}
 use Rattle.ba_types.specs.Judging.{Judges, after}
 use Rattle.ba_types.specs.Trees.{tree_of_stmt}
 use Rattle.ba_types.proofs.StatementSteps.{assert-is}
@@ -10,11 +10,11 @@ use Rattle.ba_types.proofs.statements.add_assert.Goals as goal
 
 pub returns : goal.returns
 returns c = let w = c.args.work.now in let scope = c.args.scope.now in
-    let seen = λ (e : Conditional). see_conditional e scope w.tally.calls in
-    let judged = subst (λ e. Judges c.in_ok-j.j (seen e)
-    × (c.whole.new.tally ≡ after w.tally (seen e).calls (whole_faults c.args.at (seen e))))
+    let expression = λ (e : Conditional). typed_conditional e scope w.tally.calls in
+    let judged = subst (λ e. Judges c.in_ok-j.j (expression e)
+    × (c.whole.new.tally ≡ after w.tally (expression e).calls (whole_faults c.args.at (expression e))))
     c.deref.ensures c.in_ok-j.ensures in
-    on_ok_weaker c.put.result (λ pushed. assert-is c.args.at (see_conditional
+    on_ok_weaker c.put.result (λ pushed. assert-is c.args.at (typed_conditional
     c.args.condition.now.test.value) scope w
     c.number.new.self c.in_ok-j.j c.whole.new.tally c.in_ok-stmt.stmt (map tree_of_stmt
     c.args.stmts.now.items) _

@@ -2,7 +2,7 @@ use Rattle.std.proofs.Common.{Bool, not, [], ◌∷◌, ◌++◌, map, ◌∙◌
 use Rattle.std.proofs.lemmas.Result.{on_ok_weaker}
 use Rattle.ba_types.specs.Faults.{fault_if}
 use Rattle.ba_types.specs.Judging.{with_faults}
-use Rattle.ba_types.specs.Trees.{StmtTree, tree_of_stmt}
+use Rattle.ba_types.specs.Trees.{tree_of_stmt}
 use Rattle.ba_types.specs.Trees as tree
 use Rattle.ba_types.specs.declared.fault.Cause.TheVariants.{BreakOutside}
 use Rattle.ba_types.proofs.StatementSteps.{jump-is}
@@ -13,6 +13,7 @@ pub returns : goal.returns
 returns c = let w = c.args.work.now in on_ok_weaker c.put.result (λ pushed.
     jump-is c.args.at tree.break_loop c.args.scope.now w _ (map tree_of_stmt c.args.stmts.now.items) _
     (ap (λ t. record w { tally = t }) (c.add_if.ensures
-    ∙ ap (λ (b : Bool). with_faults w.tally (fault_if (not b) BreakOutside c.args.at)) c.is_in_loop-is_outside.ensures)) (pushed ∙ ap (λ x. map tree_of_stmt
-    c.args.stmts.now.items ++ x ∷ []) tree-Break))
+    ∙ ap (λ (b : Bool). with_faults w.tally (fault_if (not b) BreakOutside c.args.at))
+    c.is_in_loop-is_outside.ensures)) (pushed ∙ ap (λ x. map tree_of_stmt c.args.stmts.now.items ++ x ∷ [])
+    tree-Break))
     c.put.ensures

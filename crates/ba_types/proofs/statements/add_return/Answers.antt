@@ -1,23 +1,27 @@
-use Rattle.std.proofs.Common.{Option, [], ◌∷◌, ◌++◌, map, sym, ◌∙◌, ap}
+use Rattle.std.proofs.Common.{sym, Bool, Option, map, not, ◌∙◌, ap}
+use Rattle.std.specs.Option.{is_some}
+use Rattle.std.specs.Prelude.{unwrap_or}
 use Rattle.std.proofs.lemmas.Result.{on_ok_weaker}
-use Rattle.ba_parse.specs.declared.tree.expressions.Conditional.{Conditional}
-use Rattle.ba_types.specs.Adding.{behind_part, state}
-use Rattle.ba_types.specs.Statements.{add_return, optional_sight}
-use Rattle.ba_types.specs.Trees.{StmtTree, tree_of_stmt}
-use Rattle.ba_types.proofs.StatementSteps.{return-none-is}
-use Rattle.ba_types.proofs.StmtForms.{tree-ReturnNone}
+use Rattle.ba_numbers.specs.declared.numbers.CType.{CType}
+use Rattle.ba_numbers.specs.declared.numbers.CType.TheVariants.{I32}
+use Rattle.ba_types.specs.Expressions.{typed_conditional, tree_as}
+use Rattle.ba_types.specs.Faults.{fault_if}
+use Rattle.ba_types.specs.Judging.{with_faults}
+use Rattle.ba_types.specs.Trees.{tree_of_stmt}
+use Rattle.ba_types.specs.declared.fault.Cause.TheVariants.{WrongKind}
+use Rattle.ba_types.proofs.KeptValues.{un-not}
+use Rattle.ba_types.proofs.StatementSteps.{return-is}
 use Rattle.ba_types.proofs.statements.add_return.Goals as goal
 
-pub returns-in-None : goal.returns-in-None
-returns-in-None c = let w = c.args.work.now in let scope = c.args.scope.now in
-    let olds = map tree_of_stmt c.args.stmts.now.items in on_ok_weaker c.put.result (λ pushed.
-    return-none-is scope w c.args.at olds _ (pushed ∙ ap (λ (x : StmtTree). olds ++ x ∷ []) tree-ReturnNone)
-    ∙ ap (λ (v : Option Conditional). behind_part (add_return c.args.at (optional_sight v)) (state scope w
-    c.args.stmts.now))
-    (sym c.in-None.is)) c.put.ensures
-
-pub returns-in-Some : goal.returns-in-Some
-returns-in-Some c = on_ok_weaker c.add_return_value.result (λ added. added
-    ∙ ap (λ (v : Option Conditional). behind_part (add_return c.args.at (optional_sight v))
-    (state c.args.scope.now c.args.work.now c.args.stmts.now)) (sym c.in-Some.is))
-    c.add_return_value.ensures
+pub returns : goal.returns
+returns c = let w = c.args.work.now in let scope = c.args.scope.now in
+    let s = typed_conditional c.args.c.now scope w.tally.calls in on_ok_weaker c.put.result (λ pushed.
+    return-is c.args.at (typed_conditional c.args.c.now) scope w c.number.new.self c.in_ok-value.value
+    c.whole.new.tally
+    c.add_if.new.self c.in_ok-stmt.stmt (map tree_of_stmt c.args.stmts.now.items) _ c.in_ok-j.ensures.1
+    (c.add_if.ensures ∙ ap (λ (b : Bool). with_faults c.whole.new.tally (fault_if b WrongKind c.args.at))
+    (un-not c.is_none.result (is_some c.result-t.result) (sym c.is_none.ensures) ∙ ap (λ (t : Option CType).
+    not (is_some t)) c.result-t.ensures))
+    (c.in_ok-value.ensures s c.in_ok-j.ensures.0 ∙ ap (λ (t : CType). tree_as t s)
+    (c.unwrap_or.ensures ∙ ap (λ (t : Option CType). unwrap_or t I32) c.result-t.ensures))
+    c.in_ok-stmt.ensures pushed) c.put.ensures
