@@ -1,14 +1,7 @@
+pub mod Bodies
 pub mod Mapping
 pub mod Feasible
 pub mod Runs
-pub mod SeenKinds
-pub mod ReadSteps
-pub mod Fronts
-pub mod ItemLaws
-pub mod BodyLaws
-pub mod ParamLaws
-pub mod TextLaws
-pub mod Plain
 pub mod Found
 pub mod LeastSets
 pub mod Located

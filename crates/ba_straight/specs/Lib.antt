@@ -1,7 +1,3 @@
-pub mod Items
+pub mod Forms
 pub mod Terms
 pub mod Sets
-pub mod Seen
-pub mod Spelling
-pub mod Reading
-pub mod Input

@@ -3,14 +3,12 @@
 ghost use Rattle.std.specs.Prelude.{◌≡◌, ◌+◌, ◌<◌, ◌^◌, ◌++◌, ◌∷◌, [], List, ℕ, filter, map, length, IfOk, OnOk};
 ghost use Rattle.ba_tree.specs.declared.run.Bounds.{Bounds};
 ghost use Rattle.ba_tree.specs.declared.tree.Program.{Program};
-ghost use Rattle.ba_tree.specs.Least.{AreLeast, judge_of};
-ghost use Rattle.ba_tree.specs.Run.{is_done, run_of};
-ghost use Rattle.ba_tree.specs.declared.run.Allowed.TheVariants.{Statements};
-ghost use Rattle.ba_straight.specs.Items.{AreNoAsserts, AreNumbered, IsTree};
+ghost use Rattle.ba_tree.specs.Least.{AreLeast, AreWeightsOf, judge_of};
+ghost use Rattle.ba_straight.specs.Forms.{IsFormOf};
 ghost use Rattle.ba_straight.specs.Sets.{AreFirst, feasible_sets, sets_of_weight, sets_with, total};
-ghost use Rattle.ba_straight.specs.Terms.{can_hold, start_terms, terms_with};
+ghost use Rattle.ba_straight.specs.Terms.{can_repair, start_terms, terms_with};
 
-use crate::items::{Item, Straight};
+use crate::forms::{Item, Straight};
 use crate::terms::{Term, can_hold, set_term};
 use ba_items::Items;
 use ba_numbers::ids::VarId;
@@ -24,7 +22,8 @@ fn start_terms(
     variables: usize,
     input: &Input,
 ) -> Result<Vec<Term>, AllocError>
-    ensures { IfOk result (λ terms. terms.items ≡ start_terms params.now variables input.now.values) }
+    ensures { IfOk result (λ terms.
+        terms.items ≡ start_terms params.now variables input.now.values) }
 {
     let mut terms = vec![in alloc; Term::Known(0); variables]?;
     give_input(params, input.values.as_slice(), terms.as_mut_slice());
@@ -54,7 +53,8 @@ struct Trial<'a> {
 
 /// Whether all asserts can hold where the assignments of the set are relaxed.
 fn is_feasible(alloc: Global, trial: &Trial, set: &[u32]) -> Result<bool, AllocError>
-    ensures { IfOk result (λ feasible. feasible ≡ can_hold set.now trial.now.items.now trial.now.terms.now) }
+    ensures { IfOk result (λ feasible.
+        feasible ≡ can_repair trial.now.items.now trial.now.terms.now set.now) }
 {
     let mut terms = Vec::from_slice(alloc, trial.terms)?;
     Ok(can_hold(set, trial.items, terms.as_mut_slice()))
@@ -68,7 +68,7 @@ fn add_if_feasible(
     found: &mut Vec<Items<u32>>,
 ) -> Result<(), AllocError>
     ensures { OnOk result (found.new.items ≡ found.old.items
-        ++ filter (λ set. can_hold set trial.now.items.now trial.now.terms.now) (set.now ∷ [])) }
+        ++ filter (can_repair trial.now.items.now trial.now.terms.now) (set.now ∷ [])) }
 {
     if is_feasible(alloc, trial, set)? {
         found.push(Items::from_slice(alloc, set)?)?;
@@ -91,7 +91,7 @@ fn add_sets(
     requires { number + length entries.now < 2 ^ 32 }
     ensures chosen { OnOk result (chosen.new.items ≡ chosen.old.items) }
     ensures found { OnOk result (found.new.items ≡ found.old.items
-        ++ filter (λ set. can_hold set trial.now.items.now trial.now.terms.now)
+        ++ filter (can_repair trial.now.items.now trial.now.terms.now)
         (map (λ set. chosen.old.items ++ set) (sets_of_weight number entries.now weight))) }
 {
     match entries.split_first() {
@@ -133,7 +133,7 @@ fn add_sets_with(
     requires { number + 1 + length others.now < 2 ^ 32 }
     ensures chosen { OnOk result (chosen.new.items ≡ chosen.old.items) }
     ensures found { OnOk result (found.new.items ≡ found.old.items
-        ++ filter (λ set. can_hold set trial.now.items.now trial.now.terms.now)
+        ++ filter (can_repair trial.now.items.now trial.now.terms.now)
         (map (λ set. chosen.old.items ++ set) (sets_with number own others.now weight))) }
 {
     if weight < own {
@@ -161,8 +161,8 @@ fn sets_at(
     weight: u64,
 ) -> Result<Vec<Items<u32>>, AllocError>
     requires { length entries.now + 1 < 2 ^ 32 }
-    ensures { IfOk result (λ found. found.items
-        ≡ feasible_sets (λ set. can_hold set trial.now.items.now trial.now.terms.now) entries.now weight) }
+    ensures { IfOk result (λ found. found.items ≡ feasible_sets
+        (can_repair trial.now.items.now trial.now.terms.now) entries.now weight) }
 {
     let mut chosen = Vec::new(alloc);
     let mut found = Vec::new(alloc);
@@ -190,7 +190,8 @@ fn first_sets(
     entries: &[Option<u32>],
 ) -> Result<Vec<Items<u32>>, AllocError>
     requires { length entries.now + 1 < 2 ^ 32 }
-    ensures { IfOk result (λ found. AreFirst (λ set. can_hold set trial.now.items.now trial.now.terms.now) entries.now found.items) }
+    ensures { IfOk result (λ found. AreFirst
+        (can_repair trial.now.items.now trial.now.terms.now) entries.now found.items) }
 {
     for weight in 0..total_weight(entries) + 1 {
         let found = sets_at(alloc, trial, entries, weight)?;
@@ -212,30 +213,14 @@ pub fn least_sets(
     input: &Input,
     weights: &Weights,
 ) -> Result<Vec<Items<u32>>, AllocError>
-    requires numbered { AreNumbered 1 straight.now.items }
-    requires assignments { AreNoAsserts straight.now.statements straight.now.items }
-    requires variables { length straight.now.params + length straight.now.locals < 2 ^ 32 }
     requires weighed { length weights.now.of + 1 < 2 ^ 32 }
-    ensures { IfOk result (λ sets. (p : Program) (b : Bounds) → IsTree straight.now p → AreLeast weights.now.of (judge_of p input.now b) sets.items) }
+    ensures { IfOk result (λ sets. (p : Program) (b : Bounds) → IsFormOf straight.now p
+        → AreWeightsOf p weights.now.of → AreLeast weights.now.of (judge_of p input.now b) sets.items) }
 {
-    let variables = straight.params.len() + straight.locals.len();
-    let terms = start_terms(alloc, straight.params.as_slice(), variables, input)?;
+    let terms = start_terms(alloc, straight.params.as_slice(), straight.variables, input)?;
     let trial = Trial {
         items: straight.items.as_slice(),
         terms: terms.as_slice(),
     };
     first_sets(alloc, &trial, weights.of.as_slice())
-}
-
-/// Whether the plain run of a straight-line program on an input is good.
-///
-/// The one error is want of memory.
-pub fn is_good(alloc: Global, straight: &Straight, input: &Input) -> Result<bool, AllocError>
-    requires numbered { AreNumbered 1 straight.now.items }
-    requires variables { length straight.now.params + length straight.now.locals < 2 ^ 32 }
-    ensures { IfOk result (λ good. (p : Program) (b : Bounds) → IsTree straight.now p → good ≡ is_done (run_of p input.now b (Statements []) [])) }
-{
-    let variables = straight.params.len() + straight.locals.len();
-    let mut terms = start_terms(alloc, straight.params.as_slice(), variables, input)?;
-    Ok(can_hold(&[], straight.items.as_slice(), terms.as_mut_slice()))
 }

@@ -1,11 +1,11 @@
 //! Running items on values that may be unknown.
 
-ghost use Rattle.std.specs.Prelude.{◌≡◌, ◌&&◌, ◌∷◌, Bool, List, map};
-ghost use Rattle.ba_straight.specs.declared.items.Item.{Item};
+ghost use Rattle.std.specs.Prelude.{◌≡◌, ◌+◌, ◌&&◌, ◌∷◌, Bool, List, map};
+ghost use Rattle.ba_straight.specs.declared.forms.Item.{Item};
 ghost use Rattle.ba_straight.specs.declared.terms.Term.{Term};
 ghost use Rattle.ba_straight.specs.Terms.{assert_term, can_hold, is_relaxed, settled, term_at, term_of, with_term};
 
-use crate::items::{Item, Operand};
+use crate::forms::{Item, Operand};
 use ba_numbers::ids::{StmtId, VarId};
 
 /// The value of a variable while the values that relaxed assignments take are not settled.
@@ -13,8 +13,8 @@ use ba_numbers::ids::{StmtId, VarId};
 pub enum Term {
     /// This value.
     Known(i64),
-    /// Whatever the relaxed assignment of this number takes.
-    Unknown(StmtId),
+    /// Whatever the relaxed assignment at this place among the items takes.
+    Unknown(usize),
 }
 
 fn term_at(terms: &[Term], var: VarId) -> Term
@@ -47,40 +47,42 @@ fn is_relaxed(set: &[u32], stmt: StmtId) -> bool
     set.iter().any(|number| *number == stmt.0)
 }
 
-fn settled(stmt: StmtId, value: i64, term: Term) -> Term
-    ensures { result ≡ settled stmt value term }
+fn settled(place: usize, value: i64, term: Term) -> Term
+    ensures { result ≡ settled place value term }
 {
     match term {
-        Term::Unknown(unknown) if unknown.0 == stmt.0 => Term::Known(value),
+        Term::Unknown(unknown) if unknown == place => Term::Known(value),
         other => other,
     }
 }
 
 /// Gives an unknown its value, wherever it stands.
-fn settle(terms: &mut [Term], stmt: StmtId, value: i64)
-    ensures { terms.new ≡ map (settled stmt value) terms.old }
+fn settle(terms: &mut [Term], place: usize, value: i64)
+    ensures { terms.new ≡ map (settled place value) terms.old }
 {
     for term in terms.iter_mut() {
-        *term = settled(stmt, value, *term);
+        *term = settled(place, value, *term);
     }
 }
 
 /// Asserts that the term is the number, and answers whether it can be.
 fn assert_term(terms: &mut [Term], term: Term, value: i64) -> bool
-    ensures { (rest : List Term → Bool) → assert_term term value rest terms.old ≡ (result && rest terms.new) }
+    ensures { (rest : List Term → Bool) →
+        assert_term term value rest terms.old ≡ (result && rest terms.new) }
 {
     match term {
         Term::Known(known) => known == value,
-        Term::Unknown(stmt) => {
-            settle(terms, stmt, value);
+        Term::Unknown(place) => {
+            settle(terms, place, value);
             true
         }
     }
 }
 
-/// Runs one item, and answers whether it can hold.
-fn run_item(set: &[u32], terms: &mut [Term], item: Item) -> bool
-    ensures { (rest : List Item) → can_hold set.now (item ∷ rest) terms.old ≡ (result && can_hold set.now rest terms.new) }
+/// Runs the item at this place, and answers whether it can hold.
+fn run_item(set: &[u32], terms: &mut [Term], place: usize, item: Item) -> bool
+    ensures { (rest : List Item) → can_hold set.now place (item ∷ rest) terms.old
+        ≡ (result && can_hold set.now (place + 1) rest terms.new) }
 {
     match item {
         Item::Declare(var) => {
@@ -89,7 +91,7 @@ fn run_item(set: &[u32], terms: &mut [Term], item: Item) -> bool
         }
         Item::Assign { stmt, var, value } => {
             let term = if is_relaxed(set, stmt) {
-                Term::Unknown(stmt)
+                Term::Unknown(place)
             } else {
                 term_of(terms, value)
             };
@@ -105,10 +107,10 @@ fn run_item(set: &[u32], terms: &mut [Term], item: Item) -> bool
 
 /// Whether all asserts can hold where the assignments of the set are relaxed.
 pub(crate) fn can_hold(set: &[u32], items: &[Item], terms: &mut [Term]) -> bool
-    ensures { result ≡ can_hold set.now items.now terms.old }
+    ensures { result ≡ can_hold set.now 0 items.now terms.old }
 {
-    for item in items {
-        if !run_item(set, terms, *item) {
+    for (place, item) in items.iter().enumerate() {
+        if !run_item(set, terms, place, *item) {
             return false;
         }
     }

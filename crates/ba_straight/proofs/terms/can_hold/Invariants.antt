@@ -3,5 +3,6 @@ use Rattle.ba_straight.specs.Terms.{can_hold}
 use Rattle.ba_straight.proofs.terms.can_hold.Given as goal
 
 -- the whole is what is left from here
-abbrev pub invariant-loop-item : goal.invariant-loop-item
-invariant-loop-item l = can_hold l.set l.items l.initial.terms ≡ can_hold l.set (drop l.item-index l.items) l.terms
+abbrev pub invariant-loop-place : goal.invariant-loop-place
+invariant-loop-place l =
+    can_hold l.set 0 l.items l.initial.terms ≡ can_hold l.set l.place (drop l.place l.items) l.terms
