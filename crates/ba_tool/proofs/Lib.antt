@@ -1,6 +1,9 @@
-pub mod Unique
 pub mod Judging
-pub mod Ends
 mod Powers
-mod FileTrees
-mod Refusing
+mod Mapped
+mod Bounded
+mod Ending
+mod Due
+mod Coming
+mod Faulty
+mod Answering

@@ -1,6 +1,7 @@
 pub mod Report
-pub mod Words
-pub mod Texts
-pub mod Refusals
-pub mod Tool
+pub mod Jobs
+pub mod Programs
+pub mod Printed
+pub mod Answers
+pub mod Calls
 pub mod Luby

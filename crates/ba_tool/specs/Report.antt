@@ -32,31 +32,41 @@ kind_word Assert = codes "assert"
 
 -- a statement, counted from 1
 abbrev pub statement_at : List StmtInfo → ℕ → StmtInfo
-statement_at statements n = slice_index_or statements (n - 1) (record { at = record { line = 0; column = 0 }; kind = Assert })
+statement_at statements n = slice_index_or statements (n - 1) (record {
+  at = record {
+    line = 0;
+    column = 0;
+  };
+  kind = Assert;
+})
 
 -- its line of the report, `  L:K KIND | TEXT`, where TEXT is the source line without blanks at both ends
-abbrev pub place_text : At → List ℕ
-place_text place = codes "  " ++ decimal place.line ++ codes ":" ++ decimal place.column
+abbrev pub stmt_place_text : At → List ℕ
+stmt_place_text place = codes "  " ++ decimal place.line ++ codes ":" ++ decimal place.column
 
 abbrev pub source_text : List ℕ → ℕ → List ℕ
 source_text source line = codes " | " ++ trimmed (line_at source line) ++ codes "\n"
 
 abbrev pub info_line : List ℕ → StmtInfo → List ℕ
-info_line source info = place_text info.at ++ codes " " ++ kind_word info.kind ++ source_text source info.at.line
+info_line source info = stmt_place_text info.at ++ codes " " ++ kind_word info.kind ++ source_text source
+    info.at.line
 
 -- a set, which has this number: `set I:` and a line for each of its statements
 abbrev pub set_lines : List ℕ → List StmtInfo → ℕ → List ℕ → List ℕ
-set_lines source statements number set = codes "set " ++ decimal number ++ codes ":\n" ++ flat_map (λ n. info_line source (statement_at statements n)) set
+set_lines source statements number set = codes "set " ++ decimal number ++ codes ":\n" ++ flat_map (λ n.
+    info_line source (statement_at statements n)) set
 
 -- the sets, numbered from this number on
 abbrev pub sets_lines : List ℕ → List StmtInfo → ℕ → List (List ℕ) → List ℕ
 sets_lines source statements number [] = []
-sets_lines source statements number (set ∷ sets) = set_lines source statements number set ++ sets_lines source statements (number + 1) sets
+sets_lines source statements number (set ∷ sets) = set_lines source statements number set ++ sets_lines
+    source statements (number + 1) sets
 
 -- `located: weight W, sets N`, and the sets, numbered from 1
 abbrev pub report_text : List ℕ → List StmtInfo → ℕ → List (List ℕ) → List ℕ
 report_text source statements weight sets =
-    codes "located: weight " ++ decimal weight ++ codes ", sets " ++ decimal (length sets) ++ codes "\n" ++ sets_lines source statements 1 sets
+    codes "located: weight " ++ decimal weight ++ codes ", sets " ++ decimal (length sets) ++ codes "\n" ++
+    sets_lines source statements 1 sets
 
 -- bytes REPORT these sets of statements of the program that this source text spells, and their weight
 abbrev pub Reports : List ℕ → List ℕ → Program → ℕ → List (List ℕ) → Type 0

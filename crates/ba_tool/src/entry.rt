@@ -3,7 +3,7 @@
 ghost use Rattle.std.specs.Prelude.{◌≡◌, map, drop, IfOk, IfErr};
 ghost use Rattle.std.specs.String.{string_bytes};
 ghost use Rattle.std.specs.Process.{exit_status};
-ghost use Rattle.ba_tool.specs.Texts.{number_of};
+ghost use Rattle.ba_tool.specs.Printed.{number_of};
 
 use crate::rules::{Rules, keep, luby, steady};
 use crate::status::Status;
@@ -24,7 +24,8 @@ fn without_name(alloc: Global, words: Vec<String>) -> Result<Vec<String>, AllocE
     words.into_iter().skip(1).collect(alloc)
 }
 
-/// The words that the program is called with, without its own name; none where one of them is no text.
+/// The words that the program is called with, without its own name; none where one of them is no
+/// text.
 ///
 /// The one error is want of memory.
 fn arguments<R: Env + Alloc<A = Global>>(rt: &R) -> Result<Vec<String>, AllocError> {

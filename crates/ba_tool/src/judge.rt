@@ -1,25 +1,33 @@
-//! The verdict on the texts of a program and of its input.
+//! What a job comes to, where its files have these texts.
 
-ghost use Rattle.std.specs.Prelude.{◌≡◌, ◌≤◌, ◌<◌, ◌^◌, length, unwrap_or, IfOk, IsSomeAnd, Ok};
-ghost use Rattle.ba_tree.specs.declared.run.Bounds.{Bounds};
-ghost use Rattle.ba_tree.specs.Least.{weight_at, weight_of};
-ghost use Rattle.ba_lex.specs.Lines.{tokens_of};
-ghost use Rattle.ba_tool.specs.Refusals.{IsFileText, fault_text};
-ghost use Rattle.ba_tool.specs.Tool.{IsVerdict, limit};
-ghost use Rattle.ba_tool.specs.declared.answer.Answer.{Answer};
+ghost use Rattle.std.specs.Prelude.{◌≡◌, ◌≤◌, ◌<◌, ◌^◌, true, Some, length, unwrap_or, IfOk};
+ghost use Rattle.ba_tree.specs.Least.{AreWeightsOf, weight_at, weight_of};
+ghost use Rattle.ba_tree.specs.Run.{are_bounds, plain_run};
+ghost use Rattle.ba_tool.specs.Answers.{Answers, Fails, IsAnswer, RunsTo, input_answer, input_of, weights_of};
+ghost use Rattle.ba_tool.specs.Calls.{limit};
+ghost use Rattle.ba_tool.specs.Report.{statement_at};
+ghost use Rattle.ba_tool.specs.declared.answers.Answer.{Answer};
+ghost use Rattle.ba_tool.specs.declared.jobs.Job.{Job};
+ghost use Rattle.ba_tool.specs.declared.jobs.Task.{Task};
 
-use crate::answer::Answer;
-use crate::fault::{Fault, fault_text, lexical_fault, tree_fault};
-use crate::report::report;
+use crate::answers::{Answer, InputFault};
+use crate::faults::read_program;
+use crate::files::Texts;
+use crate::jobs::{Job, Task};
+use crate::report::{report, statement_at};
+use ba_commands::{WeightsError, read_weights};
+use ba_interp::{InputError, read_input, run};
 use ba_items::Items;
-use ba_lex::token::Token;
-use ba_lex::tokens;
-use ba_parse::parse;
-use ba_straight::input::read_input;
-use ba_straight::program::{program_of, unit_weights};
-use ba_straight::reader::read_straight;
-use ba_straight::sets::{is_good, least_sets};
+use ba_numbers::ids::{At, StmtId};
+use ba_straight::forms::straight_of;
+use ba_straight::sets::least_sets;
+use ba_tree::run::{Allowed, Bounds, Input, Outcome, Weights};
+use ba_tree::tree::Program;
+use ba_unroll::units;
 use std::alloc::{AllocError, Global};
+
+/// How many units a program may have.
+const UNIT_LIMIT: u32 = 20000;
 
 /// The weight of the statement of this number; 0 where it has none.
 fn weight_at(entries: &[Option<u32>], number: u32) -> u32
@@ -44,63 +52,153 @@ fn weight_of(entries: &[Option<u32>], set: &[u32]) -> u64
     weight
 }
 
-/// The refusal of a program for its fault; want of memory where there is none.
-fn refusal(alloc: Global, fault: Option<Fault>) -> Result<Answer, AllocError>
-    ensures { IfOk result (λ answer. IsSomeAnd fault (λ f. answer ≡ Answer.BadProgram (fault_text f))) }
+/// Where a statement begins.
+fn position_of(program: &Program, stmt: StmtId) -> At
+    ensures { result ≡ (statement_at program.now.statements stmt.0).at }
 {
-    let fault = fault.ok_or(AllocError)?;
-    let text = fault_text(alloc, fault)?;
-    Ok(Answer::BadProgram(Items::from_vec(text)))
+    statement_at(program.statements.as_slice(), stmt.0).at
 }
 
-/// The verdict on the program that the source text spells, on the input that the other text writes: refused where
-/// the source has no tokens, or its tokens are no file's; not built where there is no such program or no such
-/// input; else whether the run as written fails, and if so the report of the least sets that could repair it, if
-/// there are any.
+/// The outcome of the run as written.
 ///
 /// The one error is want of memory.
-pub fn judge(alloc: Global, source: &[u8], text: &[u8]) -> Result<Answer, AllocError>
-    requires source { length source.now ≤ limit }
-    requires text { length text.now ≤ limit }
-    ensures { IfOk result (λ answer. (b : Bounds) → IsVerdict source.now text.now b answer) }
+fn plain_run(
+    alloc: Global,
+    program: &Program,
+    input: &Input,
+    bounds: Bounds,
+) -> Result<Outcome, AllocError>
+    requires { are_bounds bounds ≡ true }
+    ensures { IfOk result (λ outcome. plain_run program.now input.now bounds ≡ outcome) }
 {
-    let tokens = match tokens(alloc, source) {
-        Ok(tokens) => tokens,
-        Err(error) => return refusal(alloc, lexical_fault(error)),
-    };
-    if let Err(error) = parse(alloc, tokens.as_slice()) {
-        return refusal(alloc, tree_fault(tokens.as_slice(), error));
-    }
-    judge_tokens(alloc, source, tokens.as_slice(), text)
+    let nothing = Allowed::Statements(Items::new(alloc));
+    run(alloc, program, input, bounds, &nothing, &[])
 }
 
-/// The same where these are the tokens of the source, and a file's.
-fn judge_tokens(
-    alloc: Global,
-    source: &[u8],
-    tokens: &[Token],
-    text: &[u8],
-) -> Result<Answer, AllocError>
-    requires lexed { tokens_of source.now ≡ Ok tokens.now }
-    requires file { IsFileText source.now }
-    ensures { IfOk result (λ answer. (b : Bounds) → IsVerdict source.now text.now b answer) }
+/// The answer for an error of an input.
+///
+/// The one error is want of memory.
+fn input_answer(error: InputError) -> Result<Answer, AllocError>
+    ensures { IfOk result (λ answer. input_answer error ≡ Some answer) }
 {
-    let Some(straight) = read_straight(alloc, tokens)? else {
-        return Ok(Answer::NotBuilt);
-    };
-    let Some(input) = read_input(alloc, text, straight.params.len())? else {
-        return Ok(Answer::NotBuilt);
-    };
-    let program = program_of(alloc, &straight)?;
-    if is_good(alloc, &straight, &input)? {
-        return Ok(Answer::NotFailing);
+    match error {
+        InputError::NotANumber(number) => Ok(Answer::BadInput(InputFault::NotANumber(number))),
+        InputError::OutOfRange(number) => Ok(Answer::BadInput(InputFault::OutOfRange(number))),
+        InputError::WrongCount => Ok(Answer::BadInput(InputFault::WrongCount)),
+        InputError::Memory => Err(AllocError),
     }
-    let weights = unit_weights(alloc, &straight)?;
-    let sets = least_sets(alloc, &straight, &input, &weights)?;
+}
+
+/// What a job comes to, where its files have these texts.
+///
+/// In this order it reads the program, the input and the weights, counts the units, and runs the
+/// program as written. If that run fails and the task is to localise, it looks for the least sets.
+///
+/// The one error is want of memory.
+pub fn judge(alloc: Global, job: &Job, texts: &Texts) -> Result<Answer, AllocError>
+    requires program_short { length texts.now.program ≤ limit }
+    requires input_short { length texts.now.input ≤ limit }
+    requires bounds { are_bounds job.now.bounds ≡ true }
+    ensures { IfOk result (λ answer. IsAnswer job.now texts.now answer) }
+{
+    match read_program(alloc, texts.program.as_slice()) {
+        Ok(program) => judge_program(alloc, job, texts, &program),
+        Err(Some(fault)) => Ok(Answer::BadProgram(fault)),
+        Err(None) => Err(AllocError),
+    }
+}
+
+/// The same where the text of the program spells this one.
+fn judge_program(
+    alloc: Global,
+    job: &Job,
+    texts: &Texts,
+    program: &Program,
+) -> Result<Answer, AllocError>
+    requires input_short { length texts.now.input ≤ limit }
+    requires bounds { are_bounds job.now.bounds ≡ true }
+    ensures { IfOk result (λ answer. Answers job.now texts.now program.now answer) }
+{
+    let input = match read_input(alloc, program, texts.input.as_slice()) {
+        Ok(input) => input,
+        Err(error) => return input_answer(error),
+    };
+    let weights = match read_weights(alloc, program, texts.weights.as_slice()) {
+        Ok(weights) => weights,
+        Err(WeightsError::Line(line)) => return Ok(Answer::BadWeights(line)),
+        Err(WeightsError::Memory) => return Err(AllocError),
+    };
+    if units(program, job.bounds) > UNIT_LIMIT {
+        return Ok(Answer::TooLarge);
+    }
+    let outcome = plain_run(alloc, program, &input, job.bounds)?;
+    judge_run(alloc, job, texts, program, &input, &weights, outcome)
+}
+
+/// The same where its input and weights are these, it isn't too large, and its run as written ends
+/// so.
+fn judge_run(
+    alloc: Global,
+    job: &Job,
+    texts: &Texts,
+    program: &Program,
+    input: &Input,
+    weights: &Weights,
+    outcome: Outcome,
+) -> Result<Answer, AllocError>
+    requires input { input.now ≡ input_of program.now texts.now }
+    requires weights { weights.now.of ≡ weights_of program.now texts.now }
+    requires weighed { AreWeightsOf program.now weights.now.of }
+    requires runs { RunsTo job.now texts.now program.now outcome }
+    ensures { IfOk result (λ answer. Answers job.now texts.now program.now answer) }
+{
+    match outcome {
+        Outcome::Done => Ok(Answer::NotFailing),
+        Outcome::Beyond(stmt) => Ok(Answer::BeyondBound(position_of(program, stmt))),
+        Outcome::AssertFails(stmt) => match job.task {
+            Task::Run => Ok(Answer::AssertFails(position_of(program, stmt))),
+            Task::Localise => locate(alloc, texts, program, input, weights),
+        },
+        Outcome::Trap(stmt) => match job.task {
+            Task::Run => Ok(Answer::Trap(position_of(program, stmt))),
+            Task::Localise => locate(alloc, texts, program, input, weights),
+        },
+        // Nothing may be relaxed, so no choice is missing.
+        Outcome::WrongChoices => Err(AllocError),
+    }
+}
+
+/// What a job that localises comes to where the run as written fails: the report of the least sets,
+/// if there are any; a program that is not of the first form is not built.
+///
+/// The one error is want of memory.
+fn locate(
+    alloc: Global,
+    texts: &Texts,
+    program: &Program,
+    input: &Input,
+    weights: &Weights,
+) -> Result<Answer, AllocError>
+    requires input { input.now ≡ input_of program.now texts.now }
+    requires weights { weights.now.of ≡ weights_of program.now texts.now }
+    requires weighed { AreWeightsOf program.now weights.now.of }
+    ensures { IfOk result (λ answer. (job : Job) → job.task ≡ Task.Localise
+        → Fails job texts.now program.now → Answers job texts.now program.now answer) }
+{
+    let Some(straight) = straight_of(alloc, program)? else {
+        return Ok(Answer::NotBuilt);
+    };
+    let sets = least_sets(alloc, &straight, input, weights)?;
     let Some(first) = sets.first() else {
         return Ok(Answer::NoRepair);
     };
     let weight = weight_of(weights.of.as_slice(), first.as_slice());
-    let bytes = report(alloc, source, &program, weight, sets.as_slice())?;
+    let bytes = report(
+        alloc,
+        texts.program.as_slice(),
+        program,
+        weight,
+        sets.as_slice(),
+    )?;
     Ok(Answer::Located(Items::from_vec(bytes)))
 }

@@ -1,13 +1,14 @@
-//! The top call of the program: the words that it is called with, the verdict on a program and its input, and what is
-//! printed.
+//! The top call of the program: what its words ask for, the answer that its files come to, and what
+//! is printed.
 #![tactic(auto)]
 
-mod answer;
+mod answers;
 pub mod entry;
-mod fault;
+mod faults;
+mod files;
+mod jobs;
 mod judge;
 mod report;
 pub mod rules;
 pub mod status;
 pub mod tool;
-mod words;

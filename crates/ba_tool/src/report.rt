@@ -2,7 +2,7 @@
 
 ghost use Rattle.std.specs.Prelude.{◌≡◌, ◌++◌, ◌+◌, ◌≤◌, take_while, flat_map, length, decimal, IfOk, OnOk};
 ghost use Rattle.ba_bytes.specs.Classes.{is_blank};
-ghost use Rattle.ba_tool.specs.Report.{Reports, info_line, kind_word, line_at, place_text, set_lines, sets_lines, source_text, statement_at, trimmed, trimmed_end};
+ghost use Rattle.ba_tool.specs.Report.{Reports, info_line, kind_word, line_at, stmt_place_text, set_lines, sets_lines, source_text, statement_at, trimmed, trimmed_end};
 
 use ba_bytes::classes::is_blank;
 use ba_items::Items;
@@ -11,7 +11,8 @@ use ba_tree::tree::{Program, StmtInfo, StmtKind};
 use itoa::Buffer;
 use std::alloc::{AllocError, Global};
 
-/// A line of a source text, counted from 1, without its line end; nothing where there is no such line.
+/// A line of a source text, counted from 1, without its line end; nothing where there is no such
+/// line.
 fn line_at(source: &[u8], line: u32) -> &[u8]
     ensures { result.now ≡ line_at source.now line }
 {
@@ -63,7 +64,7 @@ fn kind_word(kind: StmtKind) -> &'static [u8]
 }
 
 /// A statement, counted from 1.
-fn statement_at(statements: &[StmtInfo], number: u32) -> StmtInfo
+pub fn statement_at(statements: &[StmtInfo], number: u32) -> StmtInfo
     ensures { result ≡ statement_at statements.now number }
 {
     let place = number.saturating_sub(1) as usize;
@@ -83,7 +84,7 @@ pub fn push_number(number: u64, text: &mut Vec<u8>) -> Result<(), AllocError>
 
 /// Adds a position.
 fn push_place(at: At, text: &mut Vec<u8>) -> Result<(), AllocError>
-    ensures { OnOk result (text.new.items ≡ text.old.items ++ place_text at) }
+    ensures { OnOk result (text.new.items ≡ text.old.items ++ stmt_place_text at) }
 {
     text.extend_from_slice(b"  ")?;
     push_number(u64::from(at.line), text)?;
@@ -159,9 +160,9 @@ fn push_sets(
     Ok(())
 }
 
-/// The report of these sets of statements of the program that the source text spells, and of their weight: a
-/// line with the weight and the number of sets, and for each set a line and one for each of its statements,
-/// with position, kind and source line.
+/// The report of these sets of statements of the program that the source text spells, and of their
+/// weight: a line with the weight and the number of sets, and for each set a line and one for each
+/// of its statements, with position, kind and source line.
 ///
 /// The one error is want of memory.
 pub fn report(

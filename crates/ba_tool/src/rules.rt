@@ -6,13 +6,13 @@ ghost use Rattle.ba_tool.specs.Luby.{IsLubyTerm};
 /// When the search restarts, and which learnt clauses it keeps. No answer depends on them.
 #[derive(Drop)]
 pub struct Rules<L, G, K> {
-    /// How many conflicts the search has before it restarts, by the number of restarts so far, where restarts
-    /// follow Luby's sequence.
+    /// How many conflicts the search has before it restarts, by the number of restarts so far,
+    /// where restarts follow Luby's sequence.
     pub luby: L,
     /// The same, where they come at a steady pace.
     pub steady: G,
-    /// Whether a learnt clause is kept, by its width and by its age, which is how many clauses were learnt after
-    /// it.
+    /// Whether a learnt clause is kept, by its width and by its age, which is how many clauses were
+    /// learnt after it.
     pub keep: K,
 }
 
@@ -27,8 +27,8 @@ impl<L: Fn(u64) -> u64, G: Fn(u64) -> u64, K: Fn(u64, u64) -> bool> Rules<L, G, 
     }
 }
 
-/// A term of Luby's sequence 1, 1, 2, 1, 1, 2, 4, .., counted from 1 (Luby, Sinclair and Zuckerman, "Optimal
-/// speedup of Las Vegas algorithms").
+/// A term of Luby's sequence 1, 1, 2, 1, 1, 2, 4, .., counted from 1 (Luby, Sinclair and Zuckerman,
+/// "Optimal speedup of Las Vegas algorithms").
 fn luby_term(number: u64) -> u64
     requires from { 1 ≤ number }
     requires to { number < 2 ^ 32 }
@@ -47,7 +47,8 @@ fn luby_term(number: u64) -> u64
     }
 }
 
-/// Restarts by Luby's sequence, in hundreds of conflicts, and from a million restarts on after a hundred each.
+/// Restarts by Luby's sequence, in hundreds of conflicts, and from a million restarts on after a
+/// hundred each.
 pub fn luby(restarts: u64) -> u64
     ensures early { restarts < 1000000 → (term : ℕ) × IsLubyTerm (restarts + 1) term × (result ≡ 100 * term) }
     ensures late { 1000000 ≤ restarts → result ≡ 100 }

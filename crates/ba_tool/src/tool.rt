@@ -1,70 +1,78 @@
 //! The top call of the program.
 
-ghost use Rattle.std.specs.Prelude.{◌≡◌, ◌≢◌, ◌⊎◌, ℕ, ◌+◌, ◌*◌, ◌≤◌, ◌<◌, [], List, length, map, false, true};
+ghost use Rattle.std.specs.Prelude.{◌≡◌, ◌⊎◌, ◌+◌, ◌*◌, ◌≤◌, true, Some, map, IfOk};
 ghost use Rattle.ba_world.specs.Read.{piece_size};
-ghost use Rattle.ba_world.specs.World.{HasWriteFault, OnlyPrints, OnlyReads, Outside, Prints, PrintsPrefix};
-ghost use Rattle.ba_tree.specs.declared.run.Input.{Input};
-ghost use Rattle.ba_tree.specs.declared.tree.Program.{Program};
-ghost use Rattle.ba_tree.specs.Least.{AreLeast, judge_of, unit_weights};
-ghost use Rattle.ba_tree.specs.Run.{runs_well};
-ghost use Rattle.ba_tool.specs.Refusals.{IsFaulty, IsFileText};
-ghost use Rattle.ba_tool.specs.declared.answer.Answer.{Answer};
-ghost use Rattle.ba_tool.specs.declared.fault.Fault.{Fault};
-ghost use Rattle.ba_tool.specs.declared.status.File.{File};
-ghost use Rattle.ba_tool.specs.Texts.{no_repair_text, not_built_text, not_failing_text, too_long_text, unreadable_text};
-ghost use Rattle.ba_tool.specs.Tool.{CannotBeRead, EndsWith, Found, HasNoCase, HasNoJob, IsAnswer, IsCase, IsTooLong, PrintsText, Tells, TellsShort, WritesNoFile, bounds_with, limit, read_answer, seen, status_of, text_of};
+ghost use Rattle.ba_world.specs.World.{HasPrintShortage, HasWriteFault, OnlyPrints, OnlyReads, Prints, PrintsPrefix};
+ghost use Rattle.ba_tool.specs.Calls.{EndsWith, IsDue, IsShown, JobComesTo, RequestComesTo, Says, WritesNoFile, answer_for, call, limit};
+ghost use Rattle.ba_tool.specs.Jobs.{request_of};
+ghost use Rattle.ba_tool.specs.Printed.{status_of, text_of};
+ghost use Rattle.ba_tree.specs.Run.{are_bounds};
+ghost use Rattle.ba_tool.specs.declared.answers.Answer.{Answer};
 
-use crate::answer::Answer;
+use crate::answers::Answer;
+use crate::files::{Unread, read_texts};
+use crate::jobs::{Job, Request, read_request};
 use crate::judge::judge;
 use crate::rules::Rules;
-use crate::status::{File, Status};
-use crate::words::first_words;
-use ba_world::{ReadFileError, World, WorldError, read_whole};
-use std::alloc::Global;
+use crate::status::Status;
+use ba_world::{ReadFileError, World, WorldError};
+use std::alloc::{AllocError, Global};
 
-/// How many bytes a file may have.
-const LIMIT: u64 = 65536;
-
-/// The answer where a file could not be read whole.
-fn read_answer(file: File, error: ReadFileError) -> Answer
-    ensures { result ≡ read_answer file error }
+/// The answer where a file of a job wasn't read.
+///
+/// The one error is want of memory.
+fn unread_answer(unread: Unread) -> Result<Answer, AllocError>
+    ensures { IfOk result (λ answer. answer_for unread.file unread.error ≡ Some answer) }
 {
-    match error {
-        ReadFileError::Failed => Answer::Unreadable(file),
-        ReadFileError::TooLong => Answer::TooLong(file),
-        ReadFileError::Memory => Answer::Memory,
+    match unread.error {
+        ReadFileError::Failed => Ok(Answer::Unreadable(unread.file)),
+        ReadFileError::TooLong => Ok(Answer::TooLong(unread.file)),
+        ReadFileError::Memory => Err(AllocError),
     }
 }
 
-/// What the call comes to: it reads the words, then the files, each of them whole, and then judges.
-fn answer<W: World>(alloc: Global, words: &[&str], world: &mut W) -> Answer
-    ensures answer { IsAnswer (map (λ word. word.now) words.now) (seen (W.outside world.old) (W.outside world.new)) result }
-    ensures bounded { (W.outside world.new).given ≤ (W.outside world.old).given + 2 * (limit + piece_size) }
+/// What a job comes to: its files are read whole, and then their texts are judged.
+///
+/// The one error is want of memory.
+fn job_answer<W: World>(alloc: Global, world: &mut W, job: &Job) -> Result<Answer, AllocError>
+    requires bounds { are_bounds job.now.bounds ≡ true }
+    ensures answer { IfOk result (λ answer.
+        JobComesTo job.now (W.outside world.old) (W.outside world.new) answer) }
+    ensures bounded { (W.outside world.new).given
+        ≤ (W.outside world.old).given + 3 * (limit + piece_size) }
     ensures stays { OnlyReads (W.outside world.old) (W.outside world.new) }
 {
-    let Some(job) = first_words(words) else {
-        return Answer::NotBuilt;
-    };
-    let source = match read_whole(alloc, world, job.program, LIMIT) {
-        Ok(source) => source,
-        Err(error) => return read_answer(File::Program, error),
-    };
-    let text = match read_whole(alloc, world, job.input, LIMIT) {
-        Ok(text) => text,
-        Err(error) => return read_answer(File::Input, error),
-    };
-    match judge(alloc, source.as_slice(), text.as_slice()) {
-        Ok(answer) => answer,
-        Err(_) => Answer::Memory,
+    match read_texts(alloc, world, job) {
+        Ok(texts) => judge(alloc, job, &texts),
+        Err(unread) => unread_answer(unread),
+    }
+}
+
+/// What a call comes to, before it is printed: it reads the words, then the files, and then judges.
+///
+/// The one error is want of memory.
+fn answer<W: World>(alloc: Global, words: &[&str], world: &mut W) -> Result<Answer, AllocError>
+    ensures answer { IfOk result (λ answer.
+        RequestComesTo (request_of (map (λ word. word.now) words.now))
+        (W.outside world.old) (W.outside world.new) answer) }
+    ensures bounded { (W.outside world.new).given
+        ≤ (W.outside world.old).given + 3 * (limit + piece_size) }
+    ensures stays { OnlyReads (W.outside world.old) (W.outside world.new) }
+{
+    match read_request(alloc, words)? {
+        Request::Refused => Ok(Answer::BadWords),
+        Request::NotBuilt => Ok(Answer::NotBuilt),
+        Request::Wanted(job) => job_answer(alloc, world, &job),
     }
 }
 
 /// Prints a text by one call, and answers how the program then ends.
 fn show<W: World>(world: &mut W, text: &[u8], status: Status) -> Status
-    ensures which { (result ≡ status) ⊎ (result ≡ Status.WriteFault) ⊎ (result ≡ Status.Memory) }
-    ensures shown { Prints (W.outside world.old) (W.outside world.new) text.now ⊎ (result ≡ Status.WriteFault) ⊎ (result ≡ Status.Memory) }
+    ensures shown { ((result ≡ status) × Prints (W.outside world.old) (W.outside world.new) text.now)
+        ⊎ ((result ≡ Status.WriteFault) × HasWriteFault (W.outside world.old) (W.outside world.new))
+        ⊎ ((result ≡ Status.Memory)
+        × HasPrintShortage (W.outside world.old) (W.outside world.new)) }
     ensures prefix { PrintsPrefix (W.outside world.old) (W.outside world.new) text.now }
-    ensures cause { (result ≡ status) ⊎ HasWriteFault (W.outside world.old) (W.outside world.new) ⊎ (result ≡ Status.Memory) }
     ensures stays { OnlyPrints (W.outside world.old) (W.outside world.new) }
 {
     match world.print(text) {
@@ -74,33 +82,26 @@ fn show<W: World>(world: &mut W, text: &[u8], status: Status) -> Status
     }
 }
 
-/// Prints the answer's text, and answers how the program then ends. Want of memory has no text.
-fn finish<W: World>(world: &mut W, answer: &Answer) -> Status
-    ensures which { (result ≡ status_of answer.now) ⊎ (result ≡ Status.WriteFault) ⊎ (result ≡ Status.Memory) }
-    ensures shown { Prints (W.outside world.old) (W.outside world.new) (text_of answer.now) ⊎ (result ≡ Status.WriteFault) ⊎ (result ≡ Status.Memory) }
+/// Prints the answer's text, and answers how the program then ends.
+fn finish<W: World>(alloc: Global, world: &mut W, answer: &Answer) -> Status
+    ensures shown { IsShown answer.now (W.outside world.old) (W.outside world.new) result }
     ensures prefix { PrintsPrefix (W.outside world.old) (W.outside world.new) (text_of answer.now) }
-    ensures cause { (result ≡ status_of answer.now) ⊎ HasWriteFault (W.outside world.old) (W.outside world.new) ⊎ (result ≡ Status.Memory) }
     ensures stays { OnlyPrints (W.outside world.old) (W.outside world.new) }
-
-    // What the outside shows of a read still stands after it.
-    ensures later { (words : List (List ℕ)) (before : Outside)
-        → IsAnswer words (seen before (W.outside world.old)) answer.now
-        → IsAnswer words (seen before (W.outside world.new)) answer.now }
 {
-    match answer {
-        Answer::Memory => Status::Memory,
-        _ => show(world, answer.text(), answer.status()),
+    match answer.text(alloc) {
+        Ok(text) => show(world, text.as_slice(), answer.status()),
+        Err(_) => Status::Memory,
     }
 }
 
-/// Reads a program and a failing input, and prints the sets of statements of least weight whose change could
-/// repair that run.
+/// Reads a program and a failing input, and prints the sets of statements of least weight whose
+/// change could repair that run; or runs the program on the input, and prints how it fails.
 ///
-/// The words are `localise`, the name of the program's file, that of the input's file, `--bound`, and a bound
-/// from 1 to 64 on the turns of each entry of a loop. In this order it reads the words, the program's file and
-/// the input's file, each of them whole; it reads the program's tokens and their tree; it looks whether program and
-/// input are of the form that is built; it runs the program as written; and if that run fails it searches. It prints one text, by one call, made whole
-/// before. After a fault of reading it calls nothing of the world but the print of the refusal's text.
+/// In this order it reads the words; the files of the program, of the input and of the weights,
+/// each of them whole; the program, the input and the weights from their texts. It counts the
+/// program's units, runs it as written, and if that run fails and it is to localise, it searches.
+/// It prints one text, by one call, made whole before. After a fault of reading it calls nothing of
+/// the world but the print of the refusal's text.
 ///
 /// Want of memory is the one answer that no clause ties to a cause.
 pub fn tool<W: World, L, G, K>(
@@ -114,93 +115,25 @@ where
     G: Fn(u64) -> u64 + Drop,
     K: Fn(u64, u64) -> bool + Drop,
 
-    // THE HEADLINE. What was printed is the report of exactly the least sets of the program that the program's file spells, on
-    // the input that the input's file writes: all of them, each once and in order, with the weight of each.
-    ensures located { result ≡ Status.Ok → PrintsText (seen (W.outside world.old) (W.outside world.new))
-        (λ text. Found (map (λ word. word.now) words.now) (seen (W.outside world.old) (W.outside world.new)) (Answer.Located text)) }
+    // What the status says of the call: which answer its words and files come to, and that its text
+    // was printed.
+    ensures says { Says (call words.now (W.outside world.old) (W.outside world.new)) result }
 
-    // The run as written meets every assertion.
-    ensures not_failing { result ≡ Status.NotFailing
-        → Found (map (λ word. word.now) words.now) (seen (W.outside world.old) (W.outside world.new)) Answer.NotFailing
-        × Prints (W.outside world.old) (W.outside world.new) not_failing_text }
-
-    // It fails, and the list of least sets is empty.
-    ensures no_repair { result ≡ Status.NoRepair
-        → Found (map (λ word. word.now) words.now) (seen (W.outside world.old) (W.outside world.new)) Answer.NoRepair
-        × Prints (W.outside world.old) (W.outside world.new) no_repair_text }
-
-    // The text of the program has no tokens, or its tokens are no file's: its fault was printed.
-    ensures bad_program { result ≡ Status.BadProgram → PrintsText (seen (W.outside world.old) (W.outside world.new))
-        (λ text. Found (map (λ word. word.now) words.now) (seen (W.outside world.old) (W.outside world.new)) (Answer.BadProgram text)) }
-
-    // The words, or the program and the input, are not of the form.
-    ensures not_built { result ≡ Status.NotBuilt
-        → (HasNoJob (map (λ word. word.now) words.now)
-        ⊎ Found (map (λ word. word.now) words.now) (seen (W.outside world.old) (W.outside world.new)) Answer.NotBuilt)
-        × Prints (W.outside world.old) (W.outside world.new) not_built_text }
-
-    // The file that is named could not be opened, or not be read to its end, since a fault of reading rose or there is no such
-    // file: what was read before, what is left and the count of bytes given are those of a call that stopped at this file.
-    ensures read_fault { result ≡ Status.ReadFault → (which : File)
-        × CannotBeRead (map (λ word. word.now) words.now) (seen (W.outside world.old) (W.outside world.new)) which
-        × Prints (W.outside world.old) (W.outside world.new) (unreadable_text which) }
-
-    // The file that is named is too long.
-    ensures too_long { result ≡ Status.TooLong → (which : File)
-        × IsTooLong (map (λ word. word.now) words.now) (seen (W.outside world.old) (W.outside world.new)) which
-        × Prints (W.outside world.old) (W.outside world.new) (too_long_text which) }
-
-    ensures write_fault { result ≡ Status.WriteFault → HasWriteFault (W.outside world.old) (W.outside world.new) }
-
-    // However the call ends, it printed a prefix of the text of an answer for which there is a cause.
-    ensures prefix { (answer : Answer)
-        × IsAnswer (map (λ word. word.now) words.now) (seen (W.outside world.old) (W.outside world.new)) answer
-        × PrintsPrefix (W.outside world.old) (W.outside world.new) (text_of answer) }
-
-    // The same from the causes: with which status the call ends, where no fault and no want of memory comes.
-    ensures where_no_job { HasNoJob (map (λ word. word.now) words.now)
-        → EndsWith (seen (W.outside world.old) (W.outside world.new)) Status.NotBuilt result }
-    ensures where_bad_program { (source text : List ℕ) (bound : ℕ) (fault : Fault)
-        → TellsShort (map (λ word. word.now) words.now) (seen (W.outside world.old) (W.outside world.new)) source text bound
-        → IsFaulty source fault
-        → EndsWith (seen (W.outside world.old) (W.outside world.new)) Status.BadProgram result }
-    ensures where_no_case { (source text : List ℕ) (bound : ℕ)
-        → TellsShort (map (λ word. word.now) words.now) (seen (W.outside world.old) (W.outside world.new)) source text bound
-        → IsFileText source
-        → HasNoCase source text
-        → EndsWith (seen (W.outside world.old) (W.outside world.new)) Status.NotBuilt result }
-    ensures where_too_long { (source text : List ℕ) (bound : ℕ)
-        → Tells (map (λ word. word.now) words.now) (seen (W.outside world.old) (W.outside world.new)) source text bound
-        → (limit < length source) ⊎ (limit < length text)
-        → EndsWith (seen (W.outside world.old) (W.outside world.new)) Status.TooLong result }
-    ensures where_not_failing { (source text : List ℕ) (bound : ℕ) (p : Program) (i : Input)
-        → TellsShort (map (λ word. word.now) words.now) (seen (W.outside world.old) (W.outside world.new)) source text bound
-        → IsCase source text p i → runs_well p i (bounds_with bound) ≡ true
-        → EndsWith (seen (W.outside world.old) (W.outside world.new)) Status.NotFailing result }
-    ensures where_no_repair { (source text : List ℕ) (bound : ℕ) (p : Program) (i : Input)
-        → TellsShort (map (λ word. word.now) words.now) (seen (W.outside world.old) (W.outside world.new)) source text bound
-        → IsCase source text p i → runs_well p i (bounds_with bound) ≡ false
-        → AreLeast (unit_weights p) (judge_of p i (bounds_with bound)) []
-        → EndsWith (seen (W.outside world.old) (W.outside world.new)) Status.NoRepair result }
-    ensures where_located { (source text : List ℕ) (bound : ℕ) (p : Program) (i : Input) (sets : List (List ℕ))
-        → TellsShort (map (λ word. word.now) words.now) (seen (W.outside world.old) (W.outside world.new)) source text bound
-        → IsCase source text p i → runs_well p i (bounds_with bound) ≡ false
-        → AreLeast (unit_weights p) (judge_of p i (bounds_with bound)) sets → sets ≢ []
-        → EndsWith (seen (W.outside world.old) (W.outside world.new)) Status.Ok result }
-
-    // Where words, program and input are of the form and told, and nothing failed, the call says whether there is something to repair.
-    ensures completes { (source text : List ℕ) (bound : ℕ) (p : Program) (i : Input)
-        → TellsShort (map (λ word. word.now) words.now) (seen (W.outside world.old) (W.outside world.new)) source text bound
-        → IsCase source text p i
-        → EndsWith (seen (W.outside world.old) (W.outside world.new)) Status.Ok result
-        ⊎ EndsWith (seen (W.outside world.old) (W.outside world.new)) Status.NotFailing result
-        ⊎ EndsWith (seen (W.outside world.old) (W.outside world.new)) Status.NoRepair result }
+    // The other way round: with which status the call ends where words and told files have an
+    // answer that is due.
+    ensures where_due { (due : Answer)
+        → IsDue (request_of (map (λ word. word.now) words.now)) (W.outside world.old) due
+        → EndsWith (call words.now (W.outside world.old) (W.outside world.new))
+        (status_of due) result }
 
     // No file is written, and of each that is read come no more bytes than the limit and one piece.
     ensures stays { WritesNoFile (W.outside world.old) (W.outside world.new) }
-    ensures bounded { (W.outside world.new).given ≤ (W.outside world.old).given + 2 * (limit + piece_size) }
+    ensures bounded { (W.outside world.new).given
+        ≤ (W.outside world.old).given + 3 * (limit + piece_size) }
 {
     let _ = rules;
-    let answer = answer(alloc, words, world);
-    finish(world, &answer)
+    match answer(alloc, words, world) {
+        Ok(answer) => finish(alloc, world, &answer),
+        Err(_) => Status::Memory,
+    }
 }

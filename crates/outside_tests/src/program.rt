@@ -10,6 +10,32 @@ use ba_world::{MemoryWorld, World, WorldError};
 use std::alloc::{AllocError, Global};
 use std::test::Fail;
 
+/// A file of this name with this text.
+fn file(alloc: Global, name: &str, text: &str) -> Result<(String, Vec<u8>), AllocError> {
+    Ok((
+        String::from_str(alloc, name)?,
+        Vec::from_slice(alloc, text.as_bytes())?,
+    ))
+}
+
+/// A world that holds a program, an input and weights.
+fn world_with(
+    alloc: Global,
+    program: &str,
+    input: &str,
+    weights: &str,
+    fails: &[u64],
+    piece: usize,
+) -> Result<MemoryWorld, AllocError>
+    requires { 0 < piece }
+{
+    let mut files = Vec::new(alloc);
+    files.push(file(alloc, "p.c", program)?)?;
+    files.push(file(alloc, "in.txt", input)?)?;
+    files.push(file(alloc, "w.txt", weights)?)?;
+    MemoryWorld::new(alloc, files, Vec::from_slice(alloc, fails)?, piece)
+}
+
 /// A world that holds a program and an input.
 fn world_of(
     alloc: Global,
@@ -20,16 +46,7 @@ fn world_of(
 ) -> Result<MemoryWorld, AllocError>
     requires { 0 < piece }
 {
-    let mut files = Vec::new(alloc);
-    files.push((
-        String::from_str(alloc, "p.c")?,
-        Vec::from_slice(alloc, program.as_bytes())?,
-    ))?;
-    files.push((
-        String::from_str(alloc, "in.txt")?,
-        Vec::from_slice(alloc, input.as_bytes())?,
-    ))?;
-    MemoryWorld::new(alloc, files, Vec::from_slice(alloc, fails)?, piece)
+    world_with(alloc, program, input, "", fails, piece)
 }
 
 /// Calls the program over a world, by a bound of 1.
@@ -50,7 +67,52 @@ set 1:
   3:5 assignment | x = a;
 ";
 
+const NOT_FAILING: &str = "not failing\n";
+
 const NOT_BUILT: &str = "refused: not built\n";
+
+const BRANCHES: &str = "int Array[3];
+int main(int index) {
+    int i;
+    if (index != 1)
+        index = 2;
+    else
+        index = index + 2;
+    i = index;
+    assert(i >= 0 && i < 3);
+    return Array[i];
+}
+";
+
+const ENDLESS_LOOP: &str = "int main(int a) {
+    while (a) { }
+    return 0;
+}
+";
+
+const RECURSION: &str = "int f(int n) {
+    if (n == 0)
+        return 0;
+    return f(n - 1);
+}
+int main(int n) {
+    return f(n);
+}
+";
+
+const DIVISION: &str = "int main(int d) {
+    int q;
+    q = 6 / d;
+    assert(q == 2);
+    return 0;
+}
+";
+
+const THREE_LOOPS: &str =
+    "int main(int n) { int i, j, k; for (i = 0; i < n; i++) for (j = 0; j < n; j++) \
+for (k = 0; k < n; k++) ; return 0; }";
+
+const ELEMENTS: &str = "int main(char a[2], unsigned u) { return a[0]; }";
 
 const NO_REPAIR: &str = "no repair\n";
 
@@ -264,8 +326,8 @@ const ROWS: [Row; 19] = [
     Row {
         program: ONE_ASSIGNMENT,
         input: "x",
-        status: Status::NotBuilt,
-        printed: NOT_BUILT,
+        status: Status::BadInput,
+        printed: "refused: input, error 1 at number 1\n",
     },
     Row {
         program: ONE_ASSERT,
@@ -276,14 +338,14 @@ const ROWS: [Row; 19] = [
     Row {
         program: "int main(void) { return 0; }",
         input: "",
-        status: Status::NotBuilt,
-        printed: NOT_BUILT,
+        status: Status::NotFailing,
+        printed: NOT_FAILING,
     },
     Row {
         program: "",
         input: "",
-        status: Status::NotBuilt,
-        printed: NOT_BUILT,
+        status: Status::BadProgram,
+        printed: "refused: program, error 3.5 at end\n",
     },
     // Two statements on the way to one assertion: each of them alone could repair it.
     Row {
@@ -350,14 +412,14 @@ const ROWS: [Row; 19] = [
     Row {
         program: THIRTEEN_PARAMETERS,
         input: "0 0 0 0 0 0 0 0 0 0 0 0 0",
-        status: Status::NotBuilt,
-        printed: NOT_BUILT,
+        status: Status::NotFailing,
+        printed: NOT_FAILING,
     },
     Row {
         program: THIRTEEN_DECLARATIONS,
         input: "",
-        status: Status::NotBuilt,
-        printed: NOT_BUILT,
+        status: Status::NotFailing,
+        printed: NOT_FAILING,
     },
     // Comments, macros and other writings of constants are those of the lexer.
     Row {
@@ -370,8 +432,8 @@ const ROWS: [Row; 19] = [
     Row {
         program: ONE_ASSERT,
         input: "2147483648",
-        status: Status::NotBuilt,
-        printed: NOT_BUILT,
+        status: Status::BadInput,
+        printed: "refused: input, error 2 at number 1\n",
     },
 ];
 
@@ -496,7 +558,16 @@ fn refuses_texts_that_are_no_programs(rt: HostRuntime) -> Result<(), Fail> {
             Status::BadProgram,
             "refused: program, error 2.1 at end\n",
         ),
-        ("int main(int a) { return a; }", Status::NotBuilt, NOT_BUILT),
+        (
+            "int main(void) { int a[2]; a[0] = a; }",
+            Status::BadProgram,
+            "refused: program, error 3.3 at 1:35\n",
+        ),
+        (
+            "int main(int a) { return a; }",
+            Status::NotFailing,
+            NOT_FAILING,
+        ),
     ] {
         let mut world = world_of(alloc, program, "1", &[], 4096)?;
         assert_eq!(rt; localise(alloc, &mut world), status, "{program}");
@@ -504,7 +575,7 @@ fn refuses_texts_that_are_no_programs(rt: HostRuntime) -> Result<(), Fail> {
     }
     let deep = nested(alloc, NINETY_NINE)?;
     let mut world = world_of(alloc, deep.as_str(), "", &[], 4096)?;
-    assert_eq!(rt; localise(alloc, &mut world), Status::NotBuilt);
+    assert_eq!(rt; localise(alloc, &mut world), Status::NotFailing);
     let too_deep = nested(alloc, NINETY_NINE + 1)?;
     let mut world = world_of(alloc, too_deep.as_str(), "", &[], 4096)?;
     assert_eq!(rt; localise(alloc, &mut world), Status::BadProgram);
@@ -580,12 +651,17 @@ fn names_the_file_that_is_absent_or_too_long(rt: HostRuntime) -> Result<(), Fail
     for (program, input, status, printed) in [
         (long, "1", Status::TooLong, too_long_program),
         (ONE_ASSIGNMENT, long, Status::TooLong, too_long_input),
-        (most, "1", Status::NotBuilt, "refused: not built\n"),
+        (
+            most,
+            "1",
+            Status::BadProgram,
+            "refused: program, error 3.5 at end\n",
+        ),
         (
             ONE_ASSIGNMENT,
             most,
-            Status::NotBuilt,
-            "refused: not built\n",
+            Status::BadInput,
+            "refused: input, error 3\n",
         ),
     ] {
         let mut world = world_of(alloc, program, input, &[], 4096)?;
@@ -607,56 +683,326 @@ fn refuses_a_program_that_never_ends(rt: HostRuntime) {
     assert!(rt; world.refused_the_program);
 }
 
+/// Calls the program by these words over a program, an input and weights: how it ends, and what it prints.
+fn call(
+    alloc: Global,
+    words: &[&str],
+    program: &str,
+    input: &str,
+    weights: &str,
+) -> Result<(Status, Vec<u8>), AllocError> {
+    let mut world = world_with(alloc, program, input, weights, &[], 4096)?;
+    let ended = tool(alloc, words, &mut world, Rules::new(luby, steady, keep));
+    Ok((ended, Vec::from_slice(alloc, world.printed())?))
+}
+
+const RUN: &[&str] = &["run", "p.c", "in.txt", "--bound", "5"];
+
+const LOCALISE: &[&str] = &["localise", "p.c", "in.txt", "--bound", "5"];
+
 #[test]
-fn takes_the_words_of_one_form(rt: HostRuntime) -> Result<(), Fail> {
+fn runs_programs(rt: HostRuntime) -> Result<(), Fail> {
+    let deep = ["run", "p.c", "in.txt", "--bound=1", "--depth=17"];
+    let most_turns = ["run", "p.c", "in.txt", "--bound", "64"];
+    let beyond_call = "beyond bound at 4:5\n";
+    let beyond_loop = "beyond bound at 2:12\n";
+    for (words, program, input, status, printed) in [
+        (RUN, BRANCHES, "0", Status::NotFailing, NOT_FAILING),
+        (RUN, DIVISION, "0", Status::Ok, "trap at 3:5\n"),
+        (RUN, DIVISION, "1", Status::Ok, "assertion fails at 4:5\n"),
+        (RUN, DIVISION, "3", Status::NotFailing, NOT_FAILING),
+        (RUN, ENDLESS_LOOP, "1", Status::BeyondBound, beyond_loop),
+        (
+            LOCALISE,
+            ENDLESS_LOOP,
+            "1",
+            Status::BeyondBound,
+            beyond_loop,
+        ),
+        (RUN, RECURSION, "15", Status::BeyondBound, beyond_call),
+        (LOCALISE, RECURSION, "15", Status::BeyondBound, beyond_call),
+        (RUN, RECURSION, "14", Status::NotFailing, NOT_FAILING),
+        (
+            deep.as_slice(),
+            RECURSION,
+            "15",
+            Status::NotFailing,
+            NOT_FAILING,
+        ),
+        (LOCALISE, BRANCHES, "0", Status::NotFailing, NOT_FAILING),
+        (LOCALISE, BRANCHES, "1", Status::NotBuilt, NOT_BUILT),
+        (
+            most_turns.as_slice(),
+            THREE_LOOPS,
+            "1",
+            Status::TooLarge,
+            "refused: too large\n",
+        ),
+        (RUN, THREE_LOOPS, "1", Status::NotFailing, NOT_FAILING),
+    ] {
+        let (ended, text) = call(rt.alloc(), words, program, input, "")?;
+        assert_eq!(rt; ended, status, "{words:?} of {program:?} on {input:?}");
+        assert_eq!(rt;
+            text.as_slice(),
+            printed.as_bytes(),
+            "{words:?} of {program:?}"
+        );
+    }
+    Ok(())
+}
+
+#[test]
+fn refuses_inputs_and_weights(rt: HostRuntime) -> Result<(), Fail> {
+    let no_number = "refused: input, error 1 at number 2\n";
+    let out_of_range = "refused: input, error 2 at number 1\n";
+    let wrong_count = "refused: input, error 3\n";
+    let first_line = "refused: weights, line 1\n";
+    let weight_two = "located: weight 2, sets 1\nset 1:\n  3:5 assignment | x = a;\n";
+    let weighed = [
+        "localise",
+        "p.c",
+        "in.txt",
+        "--weights",
+        "w.txt",
+        "--bound=1",
+    ];
+    let weighed = weighed.as_slice();
+    for (words, program, input, weights, status, printed) in [
+        (RUN, BRANCHES, "1 x", "", Status::BadInput, no_number),
+        (
+            RUN,
+            BRANCHES,
+            "2147483648",
+            "",
+            Status::BadInput,
+            out_of_range,
+        ),
+        (RUN, BRANCHES, "", "", Status::BadInput, wrong_count),
+        (
+            RUN,
+            ELEMENTS,
+            "1 2 -1",
+            "",
+            Status::BadInput,
+            "refused: input, error 2 at number 3\n",
+        ),
+        (
+            RUN,
+            ELEMENTS,
+            "127 -128 4294967295",
+            "",
+            Status::NotFailing,
+            NOT_FAILING,
+        ),
+        (
+            weighed,
+            ONE_ASSIGNMENT,
+            "1",
+            "4 0",
+            Status::BadWeights,
+            first_line,
+        ),
+        (
+            weighed,
+            ONE_ASSIGNMENT,
+            "1",
+            "4 1001",
+            Status::BadWeights,
+            first_line,
+        ),
+        (
+            weighed,
+            ONE_ASSIGNMENT,
+            "1",
+            "4 x\n",
+            Status::BadWeights,
+            first_line,
+        ),
+        (
+            weighed,
+            ONE_ASSIGNMENT,
+            "1",
+            "# the second line for 3\n3 fixed\n03 2\n",
+            Status::BadWeights,
+            "refused: weights, line 3\n",
+        ),
+        // The weights are refused also where the run does not fail, and the input before them.
+        (
+            weighed,
+            ONE_ASSIGNMENT,
+            "2",
+            "4 0",
+            Status::BadWeights,
+            first_line,
+        ),
+        (
+            weighed,
+            ONE_ASSIGNMENT,
+            "",
+            "4 0",
+            Status::BadInput,
+            wrong_count,
+        ),
+        (
+            weighed,
+            ONE_ASSIGNMENT,
+            "1",
+            "3 fixed\n",
+            Status::NoRepair,
+            NO_REPAIR,
+        ),
+        (
+            weighed,
+            ONE_ASSIGNMENT,
+            "1",
+            "# x\n\n\t3 2\r\n",
+            Status::Ok,
+            weight_two,
+        ),
+        (weighed, ONE_ASSIGNMENT, "1", "", Status::Ok, ONE_REPORT),
+        (
+            weighed,
+            TWO_IN_A_ROW,
+            "1",
+            "4 2\n",
+            Status::Ok,
+            "located: weight 1, sets 1\nset 1:\n  5:5 assignment | y = x;\n",
+        ),
+    ] {
+        let (ended, text) = call(rt.alloc(), words, program, input, weights)?;
+        assert_eq!(rt; ended, status, "{program:?} on {input:?} by {weights:?}");
+        assert_eq!(rt;
+            text.as_slice(),
+            printed.as_bytes(),
+            "{program:?} by {weights:?}"
+        );
+    }
+    Ok(())
+}
+
+#[test]
+fn answers_words_before_it_reads(rt: HostRuntime) -> Result<(), Fail> {
     let alloc = rt.alloc();
-    for (words, is_job) in [
+    for (words, status) in [
+        ([].as_slice(), Status::BadWords),
+        (["localise", "p.c", "in.txt"].as_slice(), Status::BadWords),
         (
-            ["localise", "p.c", "in.txt", "--bound", "64"].as_slice(),
-            true,
-        ),
-        (
-            ["localise", "p.c", "in.txt", "--bound", "0000064"].as_slice(),
-            true,
-        ),
-        (
-            ["localise", "p.c", "in.txt", "--bound", "00000064"].as_slice(),
-            false,
+            ["localise", "p.c", "in.txt", "--bound", "0"].as_slice(),
+            Status::BadWords,
         ),
         (
             ["localise", "p.c", "in.txt", "--bound", "65"].as_slice(),
-            false,
+            Status::BadWords,
         ),
         (
-            ["localise", "p.c", "in.txt", "--bound", "0"].as_slice(),
-            false,
+            ["localise", "p.c", "in.txt", "--bound", "00000001"].as_slice(),
+            Status::BadWords,
         ),
         (
-            ["localise", "p.c", "in.txt", "--bound", ""].as_slice(),
-            false,
+            ["localise", "p.c", "in.txt", "--bound", "--runs"].as_slice(),
+            Status::BadWords,
         ),
         (
-            ["localise", "p.c", "in.txt", "--bound", "+1"].as_slice(),
-            false,
+            ["localise", "p.c", "in.txt", "--bound", "3", "--bound", "3"].as_slice(),
+            Status::BadWords,
         ),
         (
-            ["localise", "-p.c", "in.txt", "--bound", "1"].as_slice(),
-            false,
+            ["localise", "-p.c", "in.txt", "--bound", "3"].as_slice(),
+            Status::BadWords,
         ),
-        (["localise", "p.c", "", "--bound", "1"].as_slice(), false),
+        (
+            ["localise", "p.c", "", "--bound", "3"].as_slice(),
+            Status::BadWords,
+        ),
+        (
+            ["run", "p.c", "in.txt", "--bound=3", "--weights=w"].as_slice(),
+            Status::BadWords,
+        ),
+        (["sample", "0"].as_slice(), Status::BadWords),
+        (["sample", "501"].as_slice(), Status::BadWords),
+        (["sample", "500"].as_slice(), Status::NotBuilt),
+        (
+            ["check", "p.c", "in.txt", "c", "--bound=3"].as_slice(),
+            Status::NotBuilt,
+        ),
+        (
+            ["localise", "p.c", "in.txt", "--bound=3", "--runs"].as_slice(),
+            Status::NotBuilt,
+        ),
+        (
+            ["localise", "p.c", "in.txt", "--bound=3", "--sets=9"].as_slice(),
+            Status::NotBuilt,
+        ),
+        (
+            ["localise", "p.c", "in.txt", "--bound=3", "--cert", "c"].as_slice(),
+            Status::NotBuilt,
+        ),
+        (
+            ["localise", "--conflicts", "9", "p.c", "in.txt", "--bound=3"].as_slice(),
+            Status::NotBuilt,
+        ),
+        (
+            ["localise", "p.c", "in.txt", "--bound=3", "--restart=luby"].as_slice(),
+            Status::NotBuilt,
+        ),
+        // These are built, and there is no such file.
         (
             ["localise", "--bound", "1", "p.c", "in.txt"].as_slice(),
-            false,
+            Status::ReadFault,
         ),
-        (["run", "p.c", "in.txt", "--bound", "1"].as_slice(), false),
-        (["localise", "p.c", "in.txt"].as_slice(), false),
-        ([].as_slice(), false),
+        (
+            ["localise", "p.c", "in.txt", "--bound=0000064"].as_slice(),
+            Status::ReadFault,
+        ),
+        (
+            ["run", "--sets", "p.c", "--bound=3"].as_slice(),
+            Status::BadWords,
+        ),
     ] {
-        let mut world = world_of(alloc, ONE_ASSIGNMENT, "1", &[], 4096)?;
+        let mut world = MemoryWorld::new(alloc, Vec::new(alloc), Vec::new(alloc), 1)?;
         let ended = tool(alloc, words, &mut world, Rules::new(luby, steady, keep));
-        let status = if is_job { Status::Ok } else { Status::NotBuilt };
         assert_eq!(rt; ended, status, "of {words:?}");
+        let printed = match status {
+            Status::BadWords => "refused: words\n",
+            Status::NotBuilt => NOT_BUILT,
+            _ => "refused: program cannot be read\n",
+        };
+        assert_eq!(rt; world.printed(), printed.as_bytes(), "of {words:?}");
     }
+    Ok(())
+}
+
+#[test]
+fn reads_the_weights_after_the_input(rt: HostRuntime) -> Result<(), Fail> {
+    let alloc = rt.alloc();
+    let words = [
+        "localise",
+        "p.c",
+        "in.txt",
+        "--weights",
+        "w.txt",
+        "--bound=1",
+    ];
+    // Calls 0 to 2 read the program, 3 to 5 the input, 6 to 8 the weights, and call 9 prints.
+    for (fails, status, printed) in [
+        (10, Status::Ok, ONE_REPORT),
+        (9, Status::WriteFault, "located: weight 1, sets 1\nset"),
+        (5, Status::ReadFault, "refused: input cannot be read\n"),
+        (6, Status::ReadFault, "refused: weights cannot be read\n"),
+        (8, Status::ReadFault, "refused: weights cannot be read\n"),
+    ] {
+        let mut world = world_with(alloc, ONE_ASSIGNMENT, "1", "3 1", &[fails], 4096)?;
+        let ended = tool(alloc, &words, &mut world, Rules::new(luby, steady, keep));
+        assert_eq!(rt; ended, status, "where {fails} fails");
+        assert_eq!(rt; world.printed(), printed.as_bytes(), "where {fails} fails");
+    }
+    let absent = ["localise", "p.c", "in.txt", "--weights=none", "--bound=1"];
+    let (ended, text) = call(alloc, &absent, ONE_ASSIGNMENT, "1", "")?;
+    assert_eq!(rt; ended, Status::ReadFault);
+    assert_eq!(rt;
+        text.as_slice(),
+        b"refused: weights cannot be read\n".as_slice()
+    );
     Ok(())
 }
 

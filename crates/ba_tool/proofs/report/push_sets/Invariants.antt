@@ -6,5 +6,6 @@ use Rattle.ba_tool.proofs.report.push_sets.Given as goal
 abbrev pub invariant-loop-set : goal.invariant-loop-set
 invariant-loop-set l = record {
   counted : l.number ≡ l.set-index + 1;
-  whole : l.text.items ++ sets_lines l.source l.statements l.number (drop l.set-index l.sets) ≡ l.initial.text.items ++ sets_lines l.source l.statements 1 l.sets;
+  whole : l.text.items ++ sets_lines l.source l.statements l.number (drop l.set-index l.sets) ≡
+      l.initial.text.items ++ sets_lines l.source l.statements 1 l.sets;
 }

@@ -10,9 +10,11 @@ loop-half-preserved t c = record {
 }
 
 pub returns-then-number-half-clause-term : goal.returns-then-number-half-clause-term
-returns-then-number-half-clause-term t c = last_term c.args.number c.loop-half.half c.loop-half.invariant.power c.if-number-half.true
+returns-then-number-half-clause-term t c = last_term c.args.number c.loop-half.half
+    c.loop-half.invariant.power c.if-number-half.true
 
 pub returns-else-number-half-clause-term : goal.returns-else-number-half-clause-term
 returns-else-number-half-clause-term t c =
-    again_term c.args.number c.loop-half.half c.luby_term.result c.loop-half.invariant.power c.loop-half.invariant.within c.loop-half-test.false c.if-number-half.false
+    again_term c.args.number c.loop-half.half c.luby_term.result c.loop-half.invariant.power
+    c.loop-half.invariant.within c.loop-half-test.false c.if-number-half.false
     c.luby_term.ensures.term

@@ -1,0 +1,234 @@
+-- A CALL of the program: how its answer comes from the words and the files, and what it leaves of the
+-- outside.
+
+use Rattle.std.specs.Prelude.{◌≡◌, ◌⊎◌, ℕ, ◌≤◌, Option, None, Some, List, [], map, length, nat_lt, cond}
+use denote.Ref.{Bor}
+use Rattle.ba_commands.specs.Modes.{Word}
+use Rattle.ba_numbers.specs.declared.ids.At.{At}
+use Rattle.ba_world.specs.Read.{IsReadWhole, Stopped, StoppedPast}
+use Rattle.ba_world.specs.declared.read.ReadFileError.{ReadFileError}
+use Rattle.ba_world.specs.declared.read.ReadFileError.TheVariants as read
+use Rattle.ba_world.specs.World.{HasPrintShortage, HasReadFault, HasWriteFault, OnlyPrints, OnlyReads, Outside, Prints, PrintsPrefix}
+use Rattle.ba_tool.specs.Answers.{IsAnswer}
+use Rattle.ba_tool.specs.Jobs.{request_of}
+use Rattle.ba_tool.specs.Printed.{status_of, text_of}
+use Rattle.ba_tool.specs.declared.answers.Answer.{Answer}
+use Rattle.ba_tool.specs.declared.answers.Answer.TheVariants as answer
+use Rattle.ba_tool.specs.declared.answers.InputFault.{InputFault}
+use Rattle.ba_tool.specs.declared.faults.Fault.{Fault}
+use Rattle.ba_tool.specs.declared.files.File.{File}
+use Rattle.ba_tool.specs.declared.files.File.TheVariants as file
+use Rattle.ba_tool.specs.declared.files.Texts.{Texts}
+use Rattle.ba_tool.specs.declared.jobs.Job.{Job}
+use Rattle.ba_tool.specs.declared.jobs.Request.{Request}
+use Rattle.ba_tool.specs.declared.jobs.Request.TheVariants as request
+use Rattle.ba_tool.specs.declared.status.Status.{Status}
+use Rattle.ba_tool.specs.declared.status.Status.TheVariants as status
+
+-- a call: its words, and the outside at its start and at its end, as far as the world tells it
+pub record Call : Type 0 where
+  pub words : List Word
+  pub before : Outside
+  pub after : Outside
+
+abbrev pub call : List (Bor Word) → Outside → Outside → Call
+call words before after = record { words = map (λ word. word.now) words; before = before; after = after }
+
+-- THE FILES: the program, the input, and the weights if they are named, in this order
+
+-- how many bytes a file may have
+abbrev pub limit : ℕ
+limit = 65536
+
+-- the file of this name was read whole, and these are its bytes, as far as the world tells them
+pub record IsReadFile (name : Word) (text : List ℕ) (old new : Outside) : Type 0 where
+  pub whole : IsReadWhole name text old new
+  pub short : length text ≤ limit
+  pub only : OnlyReads old new
+
+-- where no weights are named, none are read, and their text is empty
+abbrev pub IsReadIfNamed : Option Word → List ℕ → Outside → Outside → Type 0
+IsReadIfNamed None text old new = (text ≡ []) × (new ≡ old)
+IsReadIfNamed (Some name) text old new = IsReadFile name text old new
+
+-- what was read before a file was opened
+abbrev pub WasReadBefore : File → Job → Outside → Outside → Type 0
+WasReadBefore file.Program j before opened = opened ≡ before
+WasReadBefore file.Input j before opened = (program : List ℕ) × IsReadFile j.program program before opened
+WasReadBefore file.Weights j before opened =
+    (mid : Outside) × (program input : List ℕ)
+    × IsReadFile j.program program before mid × IsReadFile j.input input mid opened
+
+-- all files of a job were read, and have these texts
+pub record AreRead (j : Job) (x : Texts) (before read : Outside) : Type 0 where
+  pub program_read : Outside
+  pub input_read : Outside
+  pub program : IsReadFile j.program x.program before program_read
+  pub input : IsReadFile j.input x.input program_read input_read
+  pub weights : IsReadIfNamed j.weights x.weights input_read read
+
+abbrev pub name_of : File → Job → Option Word
+name_of file.Program j = Some j.program
+name_of file.Input j = Some j.input
+name_of file.Weights j = j.weights
+
+-- A FILE THAT WASN'T READ: its read stopped by a fault or since there is no such file; or with the piece by
+-- which
+-- there were more bytes than the limit
+abbrev pub IsUnread : Word → ReadFileError → Outside → Outside → Type 0
+IsUnread name read.Failed old new = Stopped name limit old new
+IsUnread name read.TooLong old new = StoppedPast name limit old new
+IsUnread name read.Memory old new = Unit {0}
+
+abbrev pub IsUnreadIfNamed : Option Word → ReadFileError → Outside → Outside → Type 0
+IsUnreadIfNamed None error old new = ⊥
+IsUnreadIfNamed (Some name) error old new = IsUnread name error old new
+
+-- the reading of a job's files stopped at this one, for this reason
+pub record StopsAt (which : File) (error : ReadFileError) (j : Job) (before read : Outside) : Type 0 where
+  pub name : Word
+  pub named : name_of which j ≡ Some name
+  pub opened : Outside
+  pub read_before : WasReadBefore which j before opened
+  pub unread : IsUnread name error opened read
+
+-- THE ANSWER of words and files, where reading leads from one moment to a later one
+
+-- a file couldn't be read, or was too long; or all were read, and their texts come to the answer
+abbrev pub JobComesTo : Job → Outside → Outside → Answer → Type 0
+JobComesTo j before after (answer.Unreadable which) = StopsAt which read.Failed j before after
+JobComesTo j before after (answer.TooLong which) = StopsAt which read.TooLong j before after
+JobComesTo j before after a = (x : Texts) × AreRead j x before after × IsAnswer j x a
+
+-- words that are no command, and a command that isn't built, are answered before any file is opened
+abbrev pub RequestComesTo : Request → Outside → Outside → Answer → Type 0
+RequestComesTo request.Refused before after a = (a ≡ answer.BadWords) × (after ≡ before)
+RequestComesTo request.NotBuilt before after a = (a ≡ answer.NotBuilt) × (after ≡ before)
+RequestComesTo (request.Wanted j) before after a = JobComesTo j before after a
+
+-- the answer for a file that wasn't read; none for want of memory
+abbrev pub answer_for : File → ReadFileError → Option Answer
+answer_for which read.Failed = Some (answer.Unreadable which)
+answer_for which read.TooLong = Some (answer.TooLong which)
+answer_for which read.Memory = None
+
+-- A CALL FIRST READS AND THEN PRINTS. It comes to an answer by what it reads, and from then on only prints.
+pub record ComesTo (c : Call) (a : Answer) : Type 0 where
+  pub read : Outside
+  pub comes : RequestComesTo (request_of c.words) c.before read a
+  pub reads : OnlyReads c.before read
+  pub prints : OnlyPrints read c.after
+
+-- it came to this answer, and printed its text
+abbrev pub Answered : Call → Answer → Type 0
+Answered c a = ComesTo c a × Prints c.before c.after (text_of a)
+
+-- it came to an answer, and printed a prefix of its text
+abbrev pub AnsweredInPart : Call → Type 0
+AnsweredInPart c = (a : Answer) × ComesTo c a × PrintsPrefix c.before c.after (text_of a)
+
+-- the text of an answer was printed, and the call ends with its status; or a fault of writing rose in
+-- printing it; or
+-- there was no memory to make it, or to print it
+abbrev pub IsShown : Answer → Outside → Outside → Status → Type 0
+IsShown a before after result =
+    ((result ≡ status_of a) × Prints before after (text_of a))
+    ⊎ ((result ≡ status.WriteFault) × HasWriteFault before after)
+    ⊎ ((result ≡ status.Memory) × ((after ≡ before) ⊎ HasPrintShortage before after))
+
+-- WHAT EACH STATUS SAYS of a call that ends with it
+
+abbrev pub Says : Call → Status → Type 0
+-- the report of exactly the least sets was printed, all of them, each once and in order, with the weight of
+-- each; or
+-- where the run of a program fails that was to be run
+Says c status.Ok = ((report : List ℕ) × Answered c (answer.Located report))
+    ⊎ ((at : At) × Answered c (answer.AssertFails at)) ⊎ ((at : At) × Answered c (answer.Trap at))
+Says c status.NotFailing = Answered c answer.NotFailing
+Says c status.BadWords = Answered c answer.BadWords
+Says c status.BadProgram = (fault : Fault) × Answered c (answer.BadProgram fault)
+Says c status.BadInput = (fault : InputFault) × Answered c (answer.BadInput fault)
+Says c status.TooLarge = Answered c answer.TooLarge
+Says c status.BeyondBound = (at : At) × Answered c (answer.BeyondBound at)
+Says c status.NoRepair = Answered c answer.NoRepair
+Says c status.ReadFault = (which : File) × Answered c (answer.Unreadable which)
+-- a fault of writing rose, and a prefix of the text of an answer was printed
+Says c status.WriteFault = HasWriteFault c.before c.after × AnsweredInPart c
+-- nothing was printed; or the printing found no memory, and a prefix of the text of an answer was printed
+Says c status.Memory =
+    OnlyReads c.before c.after ⊎ (HasPrintShortage c.before c.after × AnsweredInPart c)
+Says c status.TooLong = (which : File) × Answered c (answer.TooLong which)
+Says c status.BadWeights = (line : ℕ) × Answered c (answer.BadWeights line)
+Says c status.NotBuilt = Answered c answer.NotBuilt
+
+-- no file is begun or added to: what is held and kept stays, and no count of faults falls
+pub record WritesNoFile (old new : Outside) : Type 0 where
+  pub held : new.held ≡ old.held
+  pub kept : new.kept ≡ old.kept
+  pub writing : new.writing ≡ old.writing
+  pub is_writing : new.is_writing ≡ old.is_writing
+  pub read_no_fall : old.read_faults ≤ new.read_faults
+  pub write_no_fall : old.write_faults ≤ new.write_faults
+
+-- THE OTHER WAY ROUND, from words and told files to the status
+
+-- the call ends with this status, unless a fault or want of memory comes in its place
+pub data EndsWith (c : Call) (wanted result : Status) : Type 0 where
+  as_wanted : result ≡ wanted → EndsWith c wanted result
+  read_fault : result ≡ status.ReadFault → HasReadFault c.before c.after → EndsWith c wanted result
+  write_fault : result ≡ status.WriteFault → HasWriteFault c.before c.after → EndsWith c wanted result
+  memory : result ≡ status.Memory → EndsWith c wanted result
+
+-- the world tells the file of this name: it has these bytes
+abbrev pub TellsFile : Outside → Word → List ℕ → Type 0
+TellsFile before name text = before.held name ≡ Some (Some text)
+
+abbrev pub TellsIfNamed : Outside → Option Word → List ℕ → Type 0
+TellsIfNamed before None text = text ≡ []
+TellsIfNamed before (Some name) text = TellsFile before name text
+
+-- the world tells all files of a job
+pub record TellsAll (before : Outside) (j : Job) (x : Texts) : Type 0 where
+  pub program : TellsFile before j.program x.program
+  pub input : TellsFile before j.input x.input
+  pub weights : TellsIfNamed before j.weights x.weights
+
+-- the first text that is too long
+abbrev pub first_long : Texts → Option File
+first_long x =
+    cond (nat_lt limit (length x.program)) (Some file.Program)
+    (cond (nat_lt limit (length x.input)) (Some file.Input)
+    (cond (nat_lt limit (length x.weights)) (Some file.Weights) None))
+
+-- the answer that texts come to: that the first long one is too long; else the one answer that holds of them
+abbrev pub IsAnswerAlone : Job → Texts → Option File → Answer → Type 0
+IsAnswerAlone j x (Some which) a = a ≡ answer.TooLong which
+IsAnswerAlone j x None a = (other : Answer) → IsAnswer j x other → other ≡ a
+
+-- the world tells the files before this one, and none of them is too long
+abbrev pub TellsShort : Outside → Word → Type 0
+TellsShort before name = (text : List ℕ) × TellsFile before name text × (length text ≤ limit)
+
+abbrev pub TellsEarlier : File → Outside → Job → Type 0
+TellsEarlier file.Program before j = Unit {0}
+TellsEarlier file.Input before j = TellsShort before j.program
+TellsEarlier file.Weights before j = TellsShort before j.program × TellsShort before j.input
+
+-- it tells that there is no file of this name
+pub record TellsAbsent (which : File) (before : Outside) (j : Job) : Type 0 where
+  pub earlier : TellsEarlier which before j
+  pub name : Word
+  pub named : name_of which j ≡ Some name
+  pub absent : before.held name ≡ Some None
+
+-- the answer that is due to a job, where the world tells all its files, or that one of them is absent
+abbrev pub IsDueToJob : Job → Outside → Answer → Type 0
+IsDueToJob j before a =
+    ((x : Texts) × TellsAll before j x × IsAnswerAlone j x (first_long x) a)
+    ⊎ ((which : File) × TellsAbsent which before j × (a ≡ answer.Unreadable which))
+
+-- THE ANSWER THAT IS DUE to words
+abbrev pub IsDue : Request → Outside → Answer → Type 0
+IsDue request.Refused before a = a ≡ answer.BadWords
+IsDue request.NotBuilt before a = a ≡ answer.NotBuilt
+IsDue (request.Wanted j) before a = IsDueToJob j before a

@@ -1,0 +1,235 @@
+//! What a call of the program comes to, before it is printed.
+
+ghost use Rattle.std.specs.Prelude.{◌≡◌, ◌++◌, codes, decimal, IfOk, OnOk};
+ghost use Rattle.ba_tool.specs.Printed.{at_text, code_of, file_word, input_text, place_text, status_of, text_of};
+ghost use Rattle.ba_tool.specs.declared.answers.Answer.{Answer};
+
+use crate::faults::{Cause, Fault};
+use crate::files::File;
+use crate::report::push_number;
+use crate::status::Status;
+use ba_items::Items;
+use ba_numbers::ids::At;
+use std::alloc::{AllocError, Global};
+
+/// Why a text is no input of a program. Pieces between blanks are counted from 1.
+#[derive(Clone, Copy, Debug, PartialEq, Eq)]
+pub enum InputFault {
+    /// The piece of this number is no number.
+    NotANumber(u32),
+    /// The number at this place is outside the type of its parameter.
+    OutOfRange(u32),
+    /// There are fewer or more numbers than the parameters take.
+    WrongCount,
+}
+
+/// What a call comes to.
+#[derive(Drop)]
+pub enum Answer {
+    /// The least sets were found: their report.
+    Located(Items<u8>),
+    /// The run fails at the assertion that begins here.
+    AssertFails(At),
+    /// The run traps at the statement that begins here.
+    Trap(At),
+    /// The run as written meets every assertion.
+    NotFailing,
+    /// The words are no command.
+    BadWords,
+    /// The text of the program spells none.
+    BadProgram(Fault),
+    /// The text of the input is none for the program.
+    BadInput(InputFault),
+    /// The program is too large.
+    TooLarge,
+    /// The run goes past a bound at the statement that begins here.
+    BeyondBound(At),
+    /// No set of statements could repair the run.
+    NoRepair,
+    /// This file cannot be read.
+    Unreadable(File),
+    /// This file is too long.
+    TooLong(File),
+    /// This line of the weights is the first that is refused.
+    BadWeights(u64),
+    /// The command, or the program, is of a form that isn't built yet.
+    NotBuilt,
+}
+
+impl Answer {
+    /// How the program ends where the answer is printed whole.
+    pub fn status(&self) -> Status
+        ensures { result ≡ status_of self.now }
+    {
+        match self {
+            Answer::Located(_) | Answer::AssertFails(_) | Answer::Trap(_) => Status::Ok,
+            Answer::NotFailing => Status::NotFailing,
+            Answer::BadWords => Status::BadWords,
+            Answer::BadProgram(_) => Status::BadProgram,
+            Answer::BadInput(_) => Status::BadInput,
+            Answer::TooLarge => Status::TooLarge,
+            Answer::BeyondBound(_) => Status::BeyondBound,
+            Answer::NoRepair => Status::NoRepair,
+            Answer::Unreadable(_) => Status::ReadFault,
+            Answer::TooLong(_) => Status::TooLong,
+            Answer::BadWeights(_) => Status::BadWeights,
+            Answer::NotBuilt => Status::NotBuilt,
+        }
+    }
+
+    /// The text that is printed, with its line feed.
+    ///
+    /// The one error is want of memory.
+    pub fn text(&self, alloc: Global) -> Result<Vec<u8>, AllocError>
+        ensures { IfOk result (λ text. text.items ≡ text_of self.now) }
+    {
+        let mut text = Vec::new(alloc);
+        push_answer(self, &mut text)?;
+        Ok(text)
+    }
+}
+
+/// Adds the text of an answer.
+fn push_answer(answer: &Answer, text: &mut Vec<u8>) -> Result<(), AllocError>
+    ensures { OnOk result (text.new.items ≡ text.old.items ++ text_of answer.now) }
+{
+    match answer {
+        Answer::Located(report) => text.extend_from_slice(report.as_slice()),
+        Answer::AssertFails(at) => push_with_place(b"assertion fails at ", *at, text),
+        Answer::Trap(at) => push_with_place(b"trap at ", *at, text),
+        Answer::NotFailing => text.extend_from_slice(b"not failing\n"),
+        Answer::BadWords => text.extend_from_slice(b"refused: words\n"),
+        Answer::BadProgram(fault) => push_fault(*fault, text),
+        Answer::BadInput(fault) => push_input_fault(*fault, text),
+        Answer::TooLarge => text.extend_from_slice(b"refused: too large\n"),
+        Answer::BeyondBound(at) => push_with_place(b"beyond bound at ", *at, text),
+        Answer::NoRepair => text.extend_from_slice(b"no repair\n"),
+        Answer::Unreadable(file) => push_with_file(*file, b" cannot be read\n", text),
+        Answer::TooLong(file) => push_with_file(*file, b" is longer than 65536 bytes\n", text),
+        Answer::BadWeights(line) => push_line(*line, text),
+        Answer::NotBuilt => text.extend_from_slice(b"refused: not built\n"),
+    }
+}
+
+/// Adds a position.
+fn push_at(at: At, text: &mut Vec<u8>) -> Result<(), AllocError>
+    ensures { OnOk result (text.new.items ≡ text.old.items ++ at_text at) }
+{
+    push_number(u64::from(at.line), text)?;
+    text.extend_from_slice(b":")?;
+    push_number(u64::from(at.column), text)
+}
+
+/// Adds these words and a position.
+fn push_with_place(words: &[u8], at: At, text: &mut Vec<u8>) -> Result<(), AllocError>
+    ensures { OnOk result (text.new.items
+        ≡ text.old.items ++ (words.now ++ at_text at ++ codes "\n")) }
+{
+    text.extend_from_slice(words)?;
+    push_at(at, text)?;
+    text.extend_from_slice(b"\n")
+}
+
+/// The word for a file.
+fn file_word(file: File) -> &'static [u8]
+    ensures { result.now ≡ file_word file }
+{
+    match file {
+        File::Program => b"program",
+        File::Input => b"input",
+        File::Weights => b"weights",
+    }
+}
+
+/// Adds the refusal of a file, which ends with these words.
+fn push_with_file(file: File, words: &[u8], text: &mut Vec<u8>) -> Result<(), AllocError>
+    ensures { OnOk result (text.new.items
+        ≡ text.old.items ++ (codes "refused: " ++ file_word file ++ words.now)) }
+{
+    text.extend_from_slice(b"refused: ")?;
+    text.extend_from_slice(file_word(file))?;
+    text.extend_from_slice(words)
+}
+
+/// The stage and the number of a cause.
+fn code_of(cause: Cause) -> &'static [u8]
+    ensures { result.now ≡ code_of cause }
+{
+    match cause {
+        Cause::BadByte => b"1.1",
+        Cause::BadToken => b"1.2",
+        Cause::NotInProfile => b"1.3",
+        Cause::BadDirective => b"1.4",
+        Cause::MacroOrder => b"1.5",
+        Cause::Redefined => b"1.6",
+        Cause::TooMany => b"1.7",
+        Cause::Syntax => b"2.1",
+        Cause::TooDeep => b"2.2",
+        Cause::UnknownName => b"3.1",
+        Cause::Twice => b"3.2",
+        Cause::WrongKind => b"3.3",
+        Cause::WrongCount => b"3.4",
+        Cause::NoMain => b"3.5",
+        Cause::BadLength => b"3.6",
+        Cause::BreakOutside => b"3.7",
+        Cause::CallInIndex => b"3.8",
+        Cause::Limit => b"3.9",
+    }
+}
+
+/// Adds where a fault is.
+fn push_place(at: Option<At>, text: &mut Vec<u8>) -> Result<(), AllocError>
+    ensures { OnOk result (text.new.items ≡ text.old.items ++ place_text at) }
+{
+    match at {
+        Some(at) => push_at(at, text),
+        None => text.extend_from_slice(b"end"),
+    }
+}
+
+/// Adds the refusal of a program for its fault.
+fn push_fault(fault: Fault, text: &mut Vec<u8>) -> Result<(), AllocError>
+    ensures { OnOk result (text.new.items ≡ text.old.items ++ text_of (Answer.BadProgram fault)) }
+{
+    text.extend_from_slice(b"refused: program, error ")?;
+    text.extend_from_slice(code_of(fault.cause))?;
+    text.extend_from_slice(b" at ")?;
+    push_place(fault.at, text)?;
+    text.extend_from_slice(b"\n")
+}
+
+/// Adds these words and a number.
+fn push_numbered(words: &[u8], number: u64, text: &mut Vec<u8>) -> Result<(), AllocError>
+    ensures { OnOk result (text.new.items ≡ text.old.items ++ (words.now ++ decimal number)) }
+{
+    text.extend_from_slice(words)?;
+    push_number(number, text)
+}
+
+/// Adds the error of an input, and the number of the piece where it comes.
+fn push_input_error(fault: InputFault, text: &mut Vec<u8>) -> Result<(), AllocError>
+    ensures { OnOk result (text.new.items ≡ text.old.items ++ input_text fault) }
+{
+    match fault {
+        InputFault::NotANumber(number) => push_numbered(b"1 at number ", u64::from(number), text),
+        InputFault::OutOfRange(number) => push_numbered(b"2 at number ", u64::from(number), text),
+        InputFault::WrongCount => text.extend_from_slice(b"3"),
+    }
+}
+
+/// Adds the refusal of an input for its fault.
+fn push_input_fault(fault: InputFault, text: &mut Vec<u8>) -> Result<(), AllocError>
+    ensures { OnOk result (text.new.items ≡ text.old.items ++ text_of (Answer.BadInput fault)) }
+{
+    text.extend_from_slice(b"refused: input, error ")?;
+    push_input_error(fault, text)?;
+    text.extend_from_slice(b"\n")
+}
+
+/// Adds the refusal of the weights for a line.
+fn push_line(line: u64, text: &mut Vec<u8>) -> Result<(), AllocError>
+    ensures { OnOk result (text.new.items ≡ text.old.items ++ text_of (Answer.BadWeights line)) }
+{
+    push_numbered(b"refused: weights, line ", line, text)?;
+    text.extend_from_slice(b"\n")
+}
