@@ -1,4 +1,5 @@
--- Parts of code that do the same, and keep types, wherever each variable and each array has numbers of its type.
+-- Parts of code that do the same, and keep types, wherever each variable and each array has numbers of its
+-- type.
 use Rattle.std.proofs.Common.{◌≡◌, ℕ, zero, suc, ◌+◌, ℤ, pos, Bool, true, false, cond, Ok, Err, refl, ◌∙◌, ap}
 use Rattle.std.specs.Ordering.{int_eq}
 use Rattle.ba_code.specs.Meaning.{headed_rounds}
@@ -17,7 +18,8 @@ pub record Agrees {A : Type 0} (types : Types) (f h : CodeAct A) : Type 0 where
   pub kept : (s : CodeState) → KeepsTypes types s → KeptAt types (f s)
 
 module _ (types : Types) where
-  pub agrees-itself : {A : Type 0} (f : CodeAct A) → ((s : CodeState) → KeepsTypes types s → KeptAt types (f s))
+  pub agrees-itself : {A : Type 0} (f : CodeAct A) → ((s : CodeState) → KeepsTypes types s →
+      KeptAt types (f s))
       → Agrees types f f
   agrees-itself f kept = record { same = λ s k. refl; kept = kept }
 
@@ -43,11 +45,13 @@ module _ (types : Types) where
   agrees-after f h both Next = both
   agrees-after f h both (Leaves l) = record { same = λ s k. refl; kept = λ s k. k }
 
-  cond-kept : {A : Type 0} (b : Bool) (x y : CodeEnding A) → KeptAt types x → KeptAt types y → KeptAt types (cond b x y)
+  cond-kept : {A : Type 0} (b : Bool) (x y : CodeEnding A) → KeptAt types x → KeptAt types y →
+      KeptAt types (cond b x y)
   cond-kept true x y k l = k
   cond-kept false x y k l = l
 
-  pub agrees-fork : {A : Type 0} (f h f' h' : CodeAct A) (z : CodeState → ℤ) → Agrees types f h → Agrees types f' h'
+  pub agrees-fork : {A : Type 0} (f h f' h' : CodeAct A) (z : CodeState → ℤ) → Agrees types f h →
+      Agrees types f' h'
       → Agrees types (λ s. fork f f' (z s) s) (λ s. fork h h' (z s) s)
   agrees-fork f h f' h' z first second = record {
     same = λ s k. ap (λ e. cond (int_eq (z s) (pos 0)) e (h s)) (second.same s k)
@@ -63,7 +67,8 @@ module _ (types : Types) where
 
   -- LOOPS
 
-  pub agrees-rounds : (head head' turn turn' : ℕ → CodeExecution) (when : ℕ → CodeState → ℤ) (past : CodeExecution)
+  pub agrees-rounds : (head head' turn turn' : ℕ → CodeExecution) (when : ℕ → CodeState →
+      ℤ) (past : CodeExecution)
       → ((k : ℕ) → Agrees types (head k) (head' k)) → ((k : ℕ) → Agrees types (turn k) (turn' k))
       → Agrees types past past → (left k : ℕ)
       → Agrees types (headed_rounds head when turn past left k) (headed_rounds head' when turn' past left k)
@@ -74,12 +79,15 @@ module _ (types : Types) where
       (agrees-fork past past (give Next) (give Next) (when k) pasts agrees-next))
   agrees-rounds head head' turn turn' when past heads turns pasts (suc left) k =
       let again = agrees-rounds head head' turn turn' when past heads turns pasts left (k + 1) in
-      let a_turn : CodeExecution = λ s. then_do (turn k s) (after_part (headed_rounds head when turn past left (k + 1))) in
-      let a_turn' : CodeExecution = λ s. then_do (turn' k s) (after_part (headed_rounds head' when turn' past left (k + 1))) in
+      let a_turn : CodeExecution = λ s. then_do (turn k s) (after_part (headed_rounds head when turn past
+      left (k + 1))) in
+      let a_turn' : CodeExecution = λ s. then_do (turn' k s) (after_part (headed_rounds head' when turn'
+      past left (k + 1))) in
       let turned : Agrees types a_turn a_turn' =
       agrees-then (turn k) (turn' k) (after_part (headed_rounds head when turn past left (k + 1)))
       (after_part (headed_rounds head' when turn' past left (k + 1))) (turns k)
-      (agrees-after (headed_rounds head when turn past left (k + 1)) (headed_rounds head' when turn' past left (k + 1)) again) in
+      (agrees-after (headed_rounds head when turn past left (k + 1)) (headed_rounds head' when turn' past
+      left (k + 1)) again) in
       agrees-then (head k) (head' k) (after_part (λ s. fork a_turn (give Next) (when k s) s))
       (after_part (λ s. fork a_turn' (give Next) (when k s) s)) (heads k)
       (agrees-after (λ s. fork a_turn (give Next) (when k s) s) (λ s. fork a_turn' (give Next) (when k s) s)

@@ -33,12 +33,15 @@ module _ (g : Setting) (n : Node) (turns : List ℕ) (s : CodeState) where
   run-Unary to op t a is = ap (λ n. run_node g n turns s) is
       ∙ ap (λ (f : InTurns). f turns s) (fold-roll-Node InTurns (node_step g) (Node-F.Unary to op t a))
 
-  pub run-Binary : (to : ℕ) (op : BinOp) (t : CType) (a b : Operand) (stmt : StmtId) → n ≡ node.Binary to op t a b stmt
-      → run_node g n turns s ≡ then_do (or_trap_at stmt (g.operators.binary op t (operand_value s a) (operand_value s b)) s)
+  pub run-Binary : (to : ℕ) (op : BinOp) (t : CType) (a b : Operand) (stmt : StmtId) →
+      n ≡ node.Binary to op t a b stmt
+      → run_node g n turns s ≡ then_do (or_trap_at stmt (g.operators.binary op t (operand_value s a)
+      (operand_value s b)) s)
       (set_variable to)
   unfolding run_node node.roll-Node denote.Hole.Carrier.roll
   run-Binary to op t a b stmt is = ap (λ n. run_node g n turns s) is
-      ∙ ap (λ (f : InTurns). f turns s) (fold-roll-Node InTurns (node_step g) (Node-F.Binary to op t a b stmt))
+      ∙ ap (λ (f : InTurns). f turns s) (fold-roll-Node InTurns (node_step g) (Node-F.Binary to op t a b
+      stmt))
 
   pub run-Convert : (to : ℕ) (t : CType) (a : Operand) → n ≡ node.Convert to t a
       → run_node g n turns s ≡ set_variable to (converted t (operand_value s a)) s
@@ -47,20 +50,25 @@ module _ (g : Setting) (n : Node) (turns : List ℕ) (s : CodeState) where
       ∙ ap (λ (f : InTurns). f turns s) (fold-roll-Node InTurns (node_step g) (Node-F.Convert to t a))
 
   pub run-Load : (to array : ℕ) (index : Operand) (stmt : StmtId) → n ≡ node.Load to array index stmt
-      → run_node g n turns s ≡ then_do (or_trap_at stmt (cell_at (s.arrays array) (operand_value s index)) s) (set_variable to)
+      → run_node g n turns s ≡ then_do (or_trap_at stmt (cell_at (s.arrays array) (operand_value s index))
+      s) (set_variable to)
   unfolding run_node node.roll-Node denote.Hole.Carrier.roll
   run-Load to array index stmt is = ap (λ n. run_node g n turns s) is
-      ∙ ap (λ (f : InTurns). f turns s) (fold-roll-Node InTurns (node_step g) (Node-F.Load to array index stmt))
+      ∙ ap (λ (f : InTurns). f turns s) (fold-roll-Node InTurns (node_step g) (Node-F.Load to array index
+      stmt))
 
   pub run-Save : (array : ℕ) (index value : Operand) (stmt : StmtId) → n ≡ node.Save array index value stmt
-      → run_node g n turns s ≡ then_do (or_trap_at stmt (with_cell (s.arrays array) (operand_value s index) (operand_value s value)) s)
+      → run_node g n turns s ≡ then_do (or_trap_at stmt (with_cell (s.arrays array) (operand_value s index)
+      (operand_value s value)) s)
       (set_array array)
   unfolding run_node node.roll-Node denote.Hole.Carrier.roll
   run-Save array index value stmt is = ap (λ n. run_node g n turns s) is
-      ∙ ap (λ (f : InTurns). f turns s) (fold-roll-Node InTurns (node_step g) (Node-F.Save array index value stmt))
+      ∙ ap (λ (f : InTurns). f turns s) (fold-roll-Node InTurns (node_step g) (Node-F.Save array index
+      value stmt))
 
   pub run-Fill : (array : ℕ) (values : Vec Operand) → n ≡ node.Fill array values
-      → run_node g n turns s ≡ set_array array (elements_with (length (s.arrays array)) (map (operand_value s) values.items)) s
+      → run_node g n turns s ≡ set_array array (elements_with (length (s.arrays array)) (map (operand_value
+      s) values.items)) s
   unfolding run_node node.roll-Node denote.Hole.Carrier.roll
   run-Fill array values is = ap (λ n. run_node g n turns s) is
       ∙ ap (λ (f : InTurns). f turns s) (fold-roll-Node InTurns (node_step g) (Node-F.Fill array values))
@@ -73,7 +81,8 @@ module _ (g : Setting) (n : Node) (turns : List ℕ) (s : CodeState) where
       ∙ ap (λ (f : InTurns). f turns s) (fold-roll-Node InTurns (node_step g) (Node-F.Pick place take keep))
 
   pub run-If : (when : Operand) (a b : Vec Node) → n ≡ node.If when a b
-      → run_node g n turns s ≡ fork (run_nodes g a.items turns) (run_nodes g b.items turns) (operand_value s when) s
+      → run_node g n turns s ≡ fork (run_nodes g a.items turns) (run_nodes g b.items turns) (operand_value
+      s when) s
   unfolding run_node run_nodes node.roll-Node denote.Hole.Carrier.roll
   run-If when a b is = ap (λ n. run_node g n turns s) is
       ∙ ap (λ (f : InTurns). f turns s) (fold-roll-Node InTurns (node_step g) (Node-F.If when a b))
@@ -108,7 +117,8 @@ module _ (g : Setting) (n : Node) (turns : List ℕ) (s : CodeState) where
       (body_and_step (run_nodes g body.items) (run_nodes g step.items)) turns s
   unfolding run_node run_nodes node.roll-Node denote.Hole.Carrier.roll
   run-Loop-head head when body step stmt is = ap (λ n. run_node g n turns s) is
-      ∙ ap (λ (f : InTurns). f turns s) (fold-roll-Node InTurns (node_step g) (Node-F.Loop false head when body step stmt))
+      ∙ ap (λ (f : InTurns). f turns s) (fold-roll-Node InTurns (node_step g) (Node-F.Loop false head when
+      body step stmt))
 
   pub run-Loop-tail : (head : Vec Node) (when : Operand) (body step : Vec Node) (stmt : StmtId)
       → n ≡ node.Loop true head when body step stmt
@@ -116,4 +126,5 @@ module _ (g : Setting) (n : Node) (turns : List ℕ) (s : CodeState) where
       (body_and_step (run_nodes g body.items) (run_nodes g step.items)) turns s
   unfolding run_node run_nodes node.roll-Node denote.Hole.Carrier.roll
   run-Loop-tail head when body step stmt is = ap (λ n. run_node g n turns s) is
-      ∙ ap (λ (f : InTurns). f turns s) (fold-roll-Node InTurns (node_step g) (Node-F.Loop true head when body step stmt))
+      ∙ ap (λ (f : InTurns). f turns s) (fold-roll-Node InTurns (node_step g) (Node-F.Loop true head when
+      body step stmt))

@@ -65,7 +65,8 @@ one-in U32 = refl
 
 -- OPERATORS on numbers of their types
 
-pub unary-same : (op : UnOp) (t : CType) (a : ℤ) → is_in t a ≡ true → converting.unary op t a ≡ plain.unary op t a
+pub unary-same : (op : UnOp) (t : CType) (a : ℤ) → is_in t a ≡ true →
+    converting.unary op t a ≡ plain.unary op t a
 unary-same op t a h = ap (value_of_one op t) (converted_own t a (in-test t a h))
 
 right-same : (b : Bool) (t : CType) (z : ℤ) → (b || is_in t z) ≡ true → cond b z (converted t z) ≡ z
@@ -90,7 +91,8 @@ pub converted-in : (t : CType) (z : ℤ) → is_in t (converted t z) ≡ true
 converted-in t z = test-in t (converted t z) (converted_in_range t z)
 
 -- a comparison gives 0 or 1, any other operator a number of its type
-compared-in : (o : Option ℤ) → (o ≡ Some (pos 0)) ⊎ (o ≡ Some (pos 1)) → (z : ℤ) → o ≡ Some z → is_in I32 z ≡ true
+compared-in : (o : Option ℤ) → (o ≡ Some (pos 0)) ⊎ (o ≡ Some (pos 1)) → (z : ℤ) → o ≡ Some z →
+    is_in I32 z ≡ true
 compared-in o (inl e) z is = let same : z ≡ pos 0 = cc in ap (is_in I32) same
 compared-in o (inr e) z is = let same : z ≡ pos 1 = cc in ap (is_in I32) same
 
@@ -98,19 +100,23 @@ plain-in : (t : CType) (o : Option ℤ) → IfSome o (IsIn t) → (z : ℤ) → 
 plain-in t None h z is = absurd (let f : None ≡ Some z = is in cc)
 plain-in t (Some y) h z is = let same : y ≡ z = cc in subst (λ z. is_in t z ≡ true) same (test-in t y h)
 
-binary-by : (op : BinOp) (t : CType) (a b : ℤ) (c : Bool) → compares op ≡ c → (z : ℤ) → value_of op t a b ≡ Some z
+binary-by : (op : BinOp) (t : CType) (a b : ℤ) (c : Bool) → compares op ≡ c → (z : ℤ) →
+    value_of op t a b ≡ Some z
     → is_in (cond c I32 t) z ≡ true
-binary-by op t a b true is z found = compared-in (value_of op t a b) (compared op t a b (is_true (compares op) is)) z found
+binary-by op t a b true is z found = compared-in (value_of op t a b) (compared op t a b (is_true (compares
+    op) is)) z found
 binary-by op t a b false is z found = plain-in t (value_of op t a b) (value_in_range op t a b) z found
 
-pub binary-in : (op : BinOp) (t : CType) (a b z : ℤ) → value_of op t a b ≡ Some z → is_in (type_of_binary op t) z ≡ true
+pub binary-in : (op : BinOp) (t : CType) (a b z : ℤ) → value_of op t a b ≡ Some z →
+    is_in (type_of_binary op t) z ≡ true
 binary-in op t a b z found = binary-by op t a b (compares op) refl z found
 
 -- ELEMENTS
 
 pub all-zero : (t : CType) (n : ℕ) → list_all (is_in t) (replicate n (pos 0)) ≡ true
 all-zero t zero = refl
-all-zero t (suc n) = and_from (is_in t (pos 0)) (list_all (is_in t) (replicate n (pos 0))) (zero-in t) (all-zero t n)
+all-zero t (suc n) = and_from (is_in t (pos 0)) (list_all (is_in t) (replicate n (pos 0))) (zero-in t)
+    (all-zero t n)
 
 all-append : (t : CType) (xs ys : List ℤ) → list_all (is_in t) xs ≡ true → list_all (is_in t) ys ≡ true
     → list_all (is_in t) (xs ++ ys) ≡ true
@@ -119,7 +125,8 @@ all-append t (x ∷ xs) ys h k =
     let both = and_parts (is_in t x) (list_all (is_in t) xs) h in
     and_from (is_in t x) (list_all (is_in t) (xs ++ ys)) both.0 (all-append t xs ys both.1 k)
 
-all-take : (t : CType) (n : ℕ) (xs : List ℤ) → list_all (is_in t) xs ≡ true → list_all (is_in t) (take n xs) ≡ true
+all-take : (t : CType) (n : ℕ) (xs : List ℤ) → list_all (is_in t) xs ≡ true →
+    list_all (is_in t) (take n xs) ≡ true
 all-take t zero xs h = refl
 all-take t (suc n) [] h = refl
 all-take t (suc n) (x ∷ xs) h =
@@ -128,7 +135,8 @@ all-take t (suc n) (x ∷ xs) h =
 
 pub elements-in : (t : CType) (n : ℕ) (zs : List ℤ) → list_all (is_in t) zs ≡ true
     → list_all (is_in t) (elements_with n zs) ≡ true
-elements-in t n zs h = all-take t n (zs ++ replicate n (pos 0)) (all-append t zs (replicate n (pos 0)) h (all-zero t n))
+elements-in t n zs h = all-take t n (zs ++ replicate n (pos 0)) (all-append t zs (replicate n (pos 0)) h
+    (all-zero t n))
 
 pub at-in : (t : CType) (zs : List ℤ) (k : ℕ) → list_all (is_in t) zs ≡ true
     → is_in t (slice_index_or zs k (pos 0)) ≡ true

@@ -46,4 +46,5 @@ module _ (g : Setting) (turns : List ℕ) (s : CodeState) where
       ap (λ parts. in_order parts s)
       (ap (map (in_turns turns)) (map-append (run_node g) ns ms)
       ∙ map-append (in_turns turns) (map (run_node g) ns) (map (run_node g) ms))
-      ∙ in_order-append (map (in_turns turns) (map (run_node g) ns)) (map (in_turns turns) (map (run_node g) ms)) s
+      ∙ in_order-append (map (in_turns turns) (map (run_node g) ns)) (map (in_turns turns) (map (run_node
+      g) ms)) s

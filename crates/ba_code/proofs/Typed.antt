@@ -38,7 +38,8 @@ module _ (types : Types) where
   -- WRITES
 
   -- what a variable can hold
-  held : (o : Option CType) (t u : CType) (z : ℤ) → holds (is_within t) o ≡ true → o ≡ Some u → is_in t z ≡ true
+  held : (o : Option CType) (t u : CType) (z : ℤ) → holds (is_within t) o ≡ true → o ≡ Some u →
+      is_in t z ≡ true
       → is_in u z ≡ true
   held None t u z h is k = absurd (cc)
   held (Some own) t u z h is k =
@@ -54,7 +55,8 @@ module _ (types : Types) where
       ap (λ b. is_in u (cond b z (s.variables m))) (ne_eqb m n other) ∙ k.variables m u is
 
   pub keeps-variable : (s : CodeState) (n : ℕ) (z : ℤ) → KeepsTypes types s
-      → ((u : CType) → slice_get types.vars n ≡ Some u → is_in u z ≡ true) → KeepsTypes types (with_variable n z s)
+      → ((u : CType) → slice_get types.vars n ≡ Some u → is_in u z ≡ true) →
+      KeepsTypes types (with_variable n z s)
   keeps-variable s n z k in_z = record {
     variables = λ m u is. variable-by s n z m u k (in_z u) is (cases_eq m n);
     arrays = k.arrays;
@@ -78,7 +80,8 @@ module _ (types : Types) where
   }
 
   -- choices are no part of it
-  keeps-left : (s : CodeState) (choices : List Choice) → KeepsTypes types s → KeepsTypes types (record s { choices = choices })
+  keeps-left : (s : CodeState) (choices : List Choice) → KeepsTypes types s →
+      KeepsTypes types (record s { choices = choices })
   keeps-left s choices k = record { variables = k.variables; arrays = k.arrays }
 
   -- READS
@@ -103,11 +106,13 @@ module _ (types : Types) where
 
   -- TESTS of what may be there
 
-  holds-at : {A : Type 0} (test : A → Bool) (o : Option A) (a : A) → holds test o ≡ true → o ≡ Some a → test a ≡ true
+  holds-at : {A : Type 0} (test : A → Bool) (o : Option A) (a : A) → holds test o ≡ true → o ≡ Some a →
+      test a ≡ true
   holds-at test None a h is = absurd (cc)
   holds-at test (Some b) a h is = let e : b ≡ a = cc in subst (λ a. test a ≡ true) e h
 
-  right-in : (b : Bool) (t : CType) (o : Operand) (s : CodeState) → (b || has_type types t o) ≡ true → KeepsTypes types s
+  right-in : (b : Bool) (t : CType) (o : Operand) (s : CodeState) → (b || has_type types t o) ≡ true →
+      KeepsTypes types s
       → (b || is_in t (operand_value s o)) ≡ true
   right-in true t o s h k = refl
   right-in false t o s h k = reads-in t o s h k
@@ -144,7 +149,8 @@ module _ (types : Types) where
 
   -- CHOICES
 
-  first-kept : (s : CodeState) (choices : List Choice) → KeepsTypes types s → KeptAt types (first_choice choices s)
+  first-kept : (s : CodeState) (choices : List Choice) → KeepsTypes types s →
+      KeptAt types (first_choice choices s)
   first-kept s [] k = tt
   first-kept s (Keep ∷ choices) k = keeps-left s choices k
   first-kept s (Take zs ∷ choices) k = keeps-left s choices k
@@ -155,7 +161,8 @@ module _ (types : Types) where
 
   -- the values that fit are in range
 
-  fit-one : (b : Bool) (t : CType) (y z : ℤ) → is_in t y ≡ b → cond b (Some y) None ≡ Some z → is_in t z ≡ true
+  fit-one : (b : Bool) (t : CType) (y z : ℤ) → is_in t y ≡ b → cond b (Some y) None ≡ Some z →
+      is_in t z ≡ true
   fit-one true t y z e is = let same : y ≡ z = chosen-cell true y z is in subst (λ z. is_in t z ≡ true) same e
   fit-one false t y z e is = absurd (let f : None ≡ Some z = is in cc)
 
@@ -182,7 +189,8 @@ module _ (types : Types) where
   chosen-pair true p q is = cc
   chosen-pair false p q is = absurd (let f : None ≡ Some q = is in cc)
 
-  fit-pair : (a b : Bool) (t : CType) (i z : ℤ) (q : ℤ × ℤ) → is_in t z ≡ b → cond (a && b) (Some (i, z)) None ≡ Some q
+  fit-pair : (a b : Bool) (t : CType) (i z : ℤ) (q : ℤ × ℤ) → is_in t z ≡ b →
+      cond (a && b) (Some (i, z)) None ≡ Some q
       → is_in t q.1 ≡ true
   fit-pair true true t i z q e is =
       let same : (i, z) ≡ q = chosen-pair true (i, z) q is in subst (λ (q : ℤ × ℤ). is_in t q.1 ≡ true) same e
@@ -202,7 +210,8 @@ module _ (types : Types) where
   fit-lists true false t zs ys e is = absurd (let f : None ≡ Some ys = is in cc)
   fit-lists false b t zs ys e is = absurd (let f : None ≡ Some ys = is in cc)
 
-  fit-cells : (t : CType) (n : ℕ) (zs ys : List ℤ) → all_elements t n zs ≡ Some ys → list_all (is_in t) ys ≡ true
+  fit-cells : (t : CType) (n : ℕ) (zs ys : List ℤ) → all_elements t n zs ≡ Some ys →
+      list_all (is_in t) ys ≡ true
   fit-cells t n zs ys is = fit-lists (length zs == n) (list_all (is_in t) zs) t zs ys refl is
 
   -- what they do
@@ -211,18 +220,22 @@ module _ (types : Types) where
   did-kept None f s k = tt
   did-kept (Some a) f s k = k a refl
 
-  taken-kept : (take : code.Take) (zs : List ℤ) (s : CodeState) → takes_type types take ≡ true → KeepsTypes types s
+  taken-kept : (take : code.Take) (zs : List ℤ) (s : CodeState) → takes_type types take ≡ true →
+      KeepsTypes types s
       → KeptAt types (if_taken (taken types.arrays take zs s) s)
   taken-kept (Value to t) zs s h k = did-kept (one_value t zs) (λ z. with_variable to z s) s
-      (λ z is. keeps-variable s to z k (λ u found. held (slice_get types.vars to) t u z h found (fit-value t zs z is)))
+      (λ z is. keeps-variable s to z k (λ u found. held (slice_get types.vars to) t u z h found (fit-value
+      t zs z is)))
   taken-kept (Truth to) zs s h k = did-kept (one_truth zs) (λ z. with_variable to z s) s
       (λ z is. keeps-variable s to z k (λ u found. fit-truth u zs z is))
-  taken-kept (Cell array) zs s h k = did-kept (one_element (element_type types array) (length (s.arrays array)) zs)
+  taken-kept (Cell array) zs s h k = did-kept (one_element (element_type types array) (length (s.arrays
+      array)) zs)
       (λ (cell : ℤ × ℤ). with_array array (slice_set (s.arrays array) (unsigned_abs cell.0) cell.1) s) s
       (λ cell is. keeps-array s array (slice_set (s.arrays array) (unsigned_abs cell.0) cell.1) k
       (set-in (element_type types array) (s.arrays array) (unsigned_abs cell.0) cell.1
       (fit-cell (element_type types array) (length (s.arrays array)) zs cell is) (k.arrays array)))
-  taken-kept (Cells array) zs s h k = did-kept (all_elements (element_type types array) (length (s.arrays array)) zs)
+  taken-kept (Cells array) zs s h k = did-kept (all_elements (element_type types array) (length (s.arrays
+      array)) zs)
       (λ ys. with_array array (elements_with (length (s.arrays array)) ys) s) s
       (λ ys is. keeps-array s array (elements_with (length (s.arrays array)) ys) k
       (elements-in (element_type types array) (length (s.arrays array)) ys
@@ -230,14 +243,17 @@ module _ (types : Types) where
   taken-kept Nothing zs s h k = did-kept (no_value zs) (λ z. s) s (λ z is. k)
 
   picked-agrees : (take : code.Take) (f h : CodeExecution) → takes_type types take ≡ true → Agrees types f h
-      → (chosen : Option (List ℤ)) → Agrees types (as_picked types.arrays take f chosen) (as_picked types.arrays take h chosen)
+      → (chosen : Option (List ℤ)) →
+      Agrees types (as_picked types.arrays take f chosen) (as_picked types.arrays take h chosen)
   picked-agrees take f h t both None = both
-  picked-agrees take f h t both (Some zs) = agrees-itself types (λ s. if_taken (taken types.arrays take zs s) s)
+  picked-agrees take f h t both (Some zs) = agrees-itself types (λ s. if_taken (taken types.arrays take zs
+      s) s)
       (λ s k. taken-kept take zs s t k)
 
   -- BLOCKS AND LOOPS
 
-  block-agrees : (label : ℕ) (f h : CodeExecution) → Agrees types f h → Agrees types (block label f) (block label h)
+  block-agrees : (label : ℕ) (f h : CodeExecution) → Agrees types f h →
+      Agrees types (block label f) (block label h)
   block-agrees label f h both = agrees-then types f h (λ flow. give (flow_after_block label flow))
       (λ flow. give (flow_after_block label flow)) both
       (λ flow. agrees-itself types (give (flow_after_block label flow)) (λ s k. k))
@@ -264,7 +280,8 @@ module _ (types : Types) where
       → AgreeInTurns (head_loop bound stmt head when turn) (head_loop bound stmt head' when turn')
   unfolding head_loop
   head_loop-agrees bound stmt head head' turn turn' when heads turned turns = agrees-rounds types
-      (λ k. head (k ∷ turns)) (λ k. head' (k ∷ turns)) (λ k. turn (k ∷ turns)) (λ k. turn' (k ∷ turns)) (λ k. when)
+      (λ k. head (k ∷ turns)) (λ k. head' (k ∷ turns)) (λ k. turn (k ∷ turns)) (λ k. turn' (k ∷ turns)) (λ
+      k. when)
       (past_bound stmt) (λ k. heads (k ∷ turns)) (λ k. turned (k ∷ turns)) (past-agrees stmt) bound 1
 
   tail_loop-agrees : (bound : ℕ) (stmt : StmtId) (head head' turn turn' : InTurns) (when : CodeState → ℤ)
@@ -281,10 +298,17 @@ module _ (types : Types) where
 
   module _ (relaxes : List Step → StmtId → Bool) (bound : ℕ) where
     abbrev setting_with : Operators → Setting
-    setting_with operators = record { relaxes = relaxes; turns = bound; arrays = types.arrays; operators = operators }
+    setting_with operators = record {
+      relaxes = relaxes;
+      turns = bound;
+      arrays = types.arrays;
+      operators =
+          operators;
+    }
 
     abbrev AgreesNode : Node → Type 0
-    AgreesNode n = is_typed types n ≡ true → AgreeInTurns (run_node (setting_with plain) n) (run_node (setting_with converting) n)
+    AgreesNode n = is_typed types n ≡ true →
+        AgreeInTurns (run_node (setting_with plain) n) (run_node (setting_with converting) n)
 
     abbrev InnerNode : Type 0
     InnerNode = (n : Node) × AgreesNode n
@@ -300,7 +324,8 @@ module _ (types : Types) where
     typed_in n = typed_step types (map-Node Node Bool (is_typed types) n)
 
     abbrev rows_in : Operators → List InnerNode → InTurns
-    rows_in operators items turns = nodes_in_order turns (map (run_node (setting_with operators)) (map (λ n. n.0) items))
+    rows_in operators items turns = nodes_in_order turns (map (run_node (setting_with operators)) (map (λ
+        n. n.0) items))
 
     abbrev are_typed : List InnerNode → Bool
     are_typed items = all_typed (map (is_typed types) (map (λ n. n.0) items))
@@ -313,7 +338,8 @@ module _ (types : Types) where
     inner-rows [] h turns = agrees-next types
     inner-rows (n ∷ items) h turns =
         let both = and_parts (is_typed types n.0) (are_typed items) h in
-        agrees-then types (run_node (setting_with plain) n.0 turns) (run_node (setting_with converting) n.0 turns)
+        agrees-then types (run_node (setting_with plain) n.0 turns) (run_node (setting_with converting) n.0
+        turns)
         (after_part (rows_in plain items turns))
         (after_part (rows_in converting items turns))
         (n.1 both.0 turns)
@@ -324,50 +350,65 @@ module _ (types : Types) where
 
     node-form : (y : Node-F InnerNode) → typed_in (bare_node y) ≡ true
         → AgreeInTurns (node_in plain (bare_node y)) (node_in converting (bare_node y))
-    node-form (Node-F.Set to from) h turns = agrees-itself types (λ s. set_variable to (operand_value s from) s)
+    node-form (Node-F.Set to from) h turns = agrees-itself types (λ s. set_variable to (operand_value s
+        from) s)
         (λ s k. keeps-variable s to (operand_value s from) k (λ u found. reads-in u from s
         (holds-at (λ t. has_type types t from) (slice_get types.vars to) u h found) k))
     node-form (Node-F.Unary to op t a) h turns =
         let both = and_parts (has_type types t a) (can_hold types to (type_of_unary op t)) h in record {
-          same = λ s k. ap (λ z. set_variable to z s) (unary-same op t (operand_value s a) (reads-in t a s both.0 k));
+          same = λ s k. ap (λ z. set_variable to z s) (unary-same op t (operand_value s a) (reads-in t a s
+              both.0 k));
           kept = λ s k. keeps-variable s to (plain.unary op t (operand_value s a)) k (λ u found.
-              held (slice_get types.vars to) (type_of_unary op t) u (plain.unary op t (operand_value s a)) both.1 found
+              held (slice_get types.vars to) (type_of_unary op t) u (plain.unary op t (operand_value s a))
+              both.1 found
               (unary-in op t (operand_value s a)));
         }
     node-form (Node-F.Binary to op t a b stmt) h turns =
-        let all = and_parts (has_type types t a && (shifts op || has_type types t b)) (can_hold types to (type_of_binary op t)) h in
+        let all = and_parts (has_type types t a && (shifts op || has_type types t b)) (can_hold types to
+        (type_of_binary op t)) h in
         let two = and_parts (has_type types t a) (shifts op || has_type types t b) all.0 in record {
           same = λ s k. ap (λ o. then_do (or_trap_at stmt o s) (set_variable to))
               (binary-same op t (operand_value s a) (operand_value s b) (reads-in t a s two.0 k)
               (right-in (shifts op) t b s two.1 k));
           kept = λ s k. to-kept stmt to (plain.binary op t (operand_value s a) (operand_value s b)) s (λ z is.
-              keeps-variable s to z k (λ u found. held (slice_get types.vars to) (type_of_binary op t) u z all.1 found
+              keeps-variable s to z k (λ u found. held (slice_get types.vars to) (type_of_binary op t) u z
+              all.1 found
               (binary-in op t (operand_value s a) (operand_value s b) z is)));
         }
-    node-form (Node-F.Convert to t a) h turns = agrees-itself types (λ s. set_variable to (converted t (operand_value s a)) s)
+    node-form (Node-F.Convert to t a) h turns = agrees-itself types (λ s. set_variable to (converted t
+        (operand_value s a)) s)
         (λ s k. keeps-variable s to (converted t (operand_value s a)) k (λ u found.
-        held (slice_get types.vars to) t u (converted t (operand_value s a)) h found (converted-in t (operand_value s a))))
+        held (slice_get types.vars to) t u (converted t (operand_value s a)) h found (converted-in t
+        (operand_value s a))))
     node-form (Node-F.Load to array index stmt) h turns = agrees-itself types
-        (λ s. then_do (or_trap_at stmt (cell_at (s.arrays array) (operand_value s index)) s) (set_variable to))
+        (λ s. then_do (or_trap_at stmt (cell_at (s.arrays array) (operand_value s index)) s) (set_variable
+        to))
         (λ s k. to-kept stmt to (cell_at (s.arrays array) (operand_value s index)) s (λ z is.
-        keeps-variable s to z k (λ u found. held (slice_get types.vars to) (element_type types array) u z h found
+        keeps-variable s to z k (λ u found. held (slice_get types.vars to) (element_type types array) u z h
+        found
         (subst (λ z. is_in (element_type types array) z ≡ true)
         (chosen-cell (is_index (length (s.arrays array)) (operand_value s index))
         (slice_index_or (s.arrays array) (unsigned_abs (operand_value s index)) (pos 0)) z is)
-        (at-in (element_type types array) (s.arrays array) (unsigned_abs (operand_value s index)) (k.arrays array))))))
+        (at-in (element_type types array) (s.arrays array) (unsigned_abs (operand_value s index)) (k.arrays
+        array))))))
     node-form (Node-F.Save array index value stmt) h turns = agrees-itself types
-        (λ s. then_do (or_trap_at stmt (with_cell (s.arrays array) (operand_value s index) (operand_value s value)) s)
+        (λ s. then_do (or_trap_at stmt (with_cell (s.arrays array) (operand_value s index) (operand_value s
+        value)) s)
         (set_array array))
-        (λ s k. saved-kept stmt array (with_cell (s.arrays array) (operand_value s index) (operand_value s value)) s
+        (λ s k. saved-kept stmt array (with_cell (s.arrays array) (operand_value s index) (operand_value s
+        value)) s
         (λ zs is. keeps-array s array zs k
         (subst (λ zs. list_all (is_in (element_type types array)) zs ≡ true)
         (chosen-cells (is_index (length (s.arrays array)) (operand_value s index))
         (slice_set (s.arrays array) (unsigned_abs (operand_value s index)) (operand_value s value)) zs is)
-        (set-in (element_type types array) (s.arrays array) (unsigned_abs (operand_value s index)) (operand_value s value)
+        (set-in (element_type types array) (s.arrays array) (unsigned_abs (operand_value s index))
+        (operand_value s value)
         (reads-in (element_type types array) value s h k) (k.arrays array)))))
     node-form (Node-F.Fill array values) h turns = agrees-itself types
-        (λ s. set_array array (elements_with (length (s.arrays array)) (map (operand_value s) values.items)) s)
-        (λ s k. keeps-array s array (elements_with (length (s.arrays array)) (map (operand_value s) values.items)) k
+        (λ s. set_array array (elements_with (length (s.arrays array)) (map (operand_value s)
+        values.items)) s)
+        (λ s k. keeps-array s array (elements_with (length (s.arrays array)) (map (operand_value s)
+        values.items)) k
         (elements-in (element_type types array) (length (s.arrays array)) (map (operand_value s) values.items)
         (all-reads-in (element_type types array) values.items s h k)))
     node-form (Node-F.Pick place take keep) h turns =
@@ -441,21 +482,28 @@ module _ (types : Types) where
         (rows_in plain step.items)
         (rows_in converting step.items)
         (inner-rows body.items two.1) (inner-rows step.items all.1)) turns
-    node-form (Node-F.Assert when stmt) h turns = agrees-itself types (λ s. assert_value stmt (operand_value s when) s)
+    node-form (Node-F.Assert when stmt) h turns = agrees-itself types (λ s. assert_value stmt
+        (operand_value s when) s)
         (λ s k. assert-kept stmt (int_eq (operand_value s when) (pos 0)) s k)
     node-form (Node-F.Beyond stmt) h turns = agrees-itself types (past_bound stmt) (λ s k. tt)
 
     node-layer : (y : Node-F InnerNode) → AgreesNode (roll-Node (bare_node y))
     unfolding run_node is_typed
     node-layer y typed turns =
-        let h : typed_in (bare_node y) ≡ true = sym (fold-roll-Node Bool (typed_step types) (bare_node y)) ∙ typed in
+        let h : typed_in (bare_node y) ≡ true = sym (fold-roll-Node Bool (typed_step types) (bare_node y))
+        ∙ typed in
         let both : Agrees types (node_in plain (bare_node y) turns) (node_in converting (bare_node y) turns) =
         node-form y h turns in
-        let first : run_node (setting_with plain) (roll-Node (bare_node y)) turns ≡ node_in plain (bare_node y) turns =
-        ap (λ (f : InTurns). f turns) (fold-roll-Node InTurns (node_step (setting_with plain)) (bare_node y)) in
-        let second : run_node (setting_with converting) (roll-Node (bare_node y)) turns ≡ node_in converting (bare_node y) turns =
-        ap (λ (f : InTurns). f turns) (fold-roll-Node InTurns (node_step (setting_with converting)) (bare_node y)) in
-        subst (λ f. Agrees types f (run_node (setting_with converting) (roll-Node (bare_node y)) turns)) (sym first)
+        let first : run_node (setting_with plain) (roll-Node (bare_node y)) turns ≡ node_in plain
+        (bare_node y) turns =
+        ap (λ (f : InTurns). f turns) (fold-roll-Node InTurns (node_step (setting_with plain)) (bare_node
+        y)) in
+        let second : run_node (setting_with converting) (roll-Node (bare_node y)) turns ≡ node_in
+        converting (bare_node y) turns =
+        ap (λ (f : InTurns). f turns) (fold-roll-Node InTurns (node_step (setting_with converting))
+        (bare_node y)) in
+        subst (λ f. Agrees types f (run_node (setting_with converting) (roll-Node (bare_node y)) turns))
+        (sym first)
         (subst (Agrees types (node_in plain (bare_node y) turns)) (sym second) both)
 
     agrees-node : (n : Node) → AgreesNode n
@@ -469,7 +517,9 @@ module _ (types : Types) where
     typed-agrees (n ∷ nodes) h turns =
         let both = and_parts (is_typed types n) (all_typed (map (is_typed types) nodes)) h in
         agrees-then types (run_node (setting_with plain) n turns) (run_node (setting_with converting) n turns)
-        (after_part (run_nodes (setting_with plain) nodes turns)) (after_part (run_nodes (setting_with converting) nodes turns))
+        (after_part (run_nodes (setting_with plain) nodes turns)) (after_part (run_nodes (setting_with
+        converting) nodes turns))
         (agrees-node n both.0 turns)
-        (agrees-after types (run_nodes (setting_with plain) nodes turns) (run_nodes (setting_with converting) nodes turns)
+        (agrees-after types (run_nodes (setting_with plain) nodes turns) (run_nodes (setting_with
+        converting) nodes turns)
         (typed-agrees nodes both.1 turns))

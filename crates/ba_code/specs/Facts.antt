@@ -53,7 +53,8 @@ are_inside labels nodes = list_all (λ node. node labels) nodes
 abbrev pub fits_step : Declared → Node-F Inside → Inside
 fits_step d (Node-F.Set to from) labels = is_var d to && is_operand d from
 fits_step d (Node-F.Unary to op t a) labels = is_var d to && is_promoted t && is_operand d a
-fits_step d (Node-F.Binary to op t a b stmt) labels = is_var d to && is_promoted t && is_operand d a && is_operand d b
+fits_step d (Node-F.Binary to op t a b stmt) labels = is_var d to && is_promoted t && is_operand d a &&
+    is_operand d b
 fits_step d (Node-F.Convert to t a) labels = is_var d to && is_operand d a
 fits_step d (Node-F.Load to array index stmt) labels = is_var d to && is_array d array && is_operand d index
 fits_step d (Node-F.Save array index value stmt) labels =

@@ -24,7 +24,8 @@ use Rattle.ba_tree.specs.declared.run.Halt.TheVariants.{AssertFails, Beyond, Wro
 use Rattle.ba_tree.specs.declared.run.Step.{Step}
 use Rattle.ba_tree.specs.declared.run.Step.TheVariants.{Call, Turn}
 
--- What stands still while code runs: which executions of statements may be relaxed, by the path to them, innermost step first; how many
+-- What stands still while code runs: which executions of statements may be relaxed, by the path to them,
+-- innermost step first; how many
 -- turns each entry of a loop may have; the arrays; and how operators take their operands.
 pub record Setting : Type 0 where
   pub relaxes : List Step → StmtId → Bool
@@ -37,7 +38,8 @@ info_at arrays n = slice_index_or arrays n (record { len = 0; t = I32 })
 
 -- PLACES
 
--- a path, innermost step first, with the present turns of the loops around, innermost first, for its turns of number 0
+-- a path, innermost step first, with the present turns of the loops around, innermost first, for its turns
+-- of number 0
 abbrev pub filled : List ℕ → List Step → List Step
 filled turns [] = []
 filled turns (Call c ∷ path) = Call c ∷ filled turns path
@@ -93,13 +95,16 @@ block label body s = then_do (body s) (λ flow. give (flow_after_block label flo
 
 -- LOOPS
 
--- Rounds of a loop: the head of round k, and where the value behind it isn't 0, its turn and then round k + 1. At most `left` more turns
+-- Rounds of a loop: the head of round k, and where the value behind it isn't 0, its turn and then round k +
+-- 1. At most `left` more turns
 -- are there; a value that isn't 0 after them leads to `past`.
-abbrev pub headed_rounds : (ℕ → CodeExecution) → (ℕ → CodeState → ℤ) → (ℕ → CodeExecution) → CodeExecution → ℕ → ℕ → CodeExecution
+abbrev pub headed_rounds : (ℕ → CodeExecution) → (ℕ → CodeState → ℤ) → (ℕ → CodeExecution) →
+    CodeExecution → ℕ → ℕ → CodeExecution
 headed_rounds head when turn past zero k s =
     then_do (head k s) (after_part (λ s. fork past (give Next) (when k s) s))
 headed_rounds head when turn past (suc left) k s = then_do (head k s) (after_part (λ s.
-    fork (λ s. then_do (turn k s) (after_part (headed_rounds head when turn past left (k + 1)))) (give Next) (when k s) s))
+    fork (λ s. then_do (turn k s) (after_part (headed_rounds head when turn past left (k + 1)))) (give
+    Next) (when k s) s))
 
 -- no head comes before the first turn of a `do`
 abbrev pub head_behind : (ℕ → CodeExecution) → ℕ → CodeExecution
@@ -137,7 +142,8 @@ head_loop bound stmt head when turn turns = headed_rounds
 -- one whose head comes behind each turn, in the turn that it ends
 unfoldable pub tail_loop : ℕ → StmtId → InTurns → (CodeState → ℤ) → InTurns → InTurns
 tail_loop bound stmt head when turn turns = headed_rounds
-    (head_behind (λ k. head (k ∷ turns))) (value_behind when) (λ k. turn ((k + 1) ∷ turns)) (past_bound stmt) bound 0
+    (head_behind (λ k. head (k ∷ turns))) (value_behind when) (λ k. turn ((k + 1) ∷ turns)) (past_bound
+    stmt) bound 0
 
 abbrev pub assert_value : StmtId → ℤ → CodeExecution
 assert_value stmt z s = cond (int_eq z (pos 0)) (Err (AssertFails stmt), s) (Ok Next, s)
@@ -146,27 +152,32 @@ abbrev pub node_step : Setting → Node-F InTurns → InTurns
 node_step g (Node-F.Set to from) turns s = set_variable to (operand_value s from) s
 node_step g (Node-F.Unary to op t a) turns s = set_variable to (g.operators.unary op t (operand_value s a)) s
 node_step g (Node-F.Binary to op t a b stmt) turns s =
-    then_do (or_trap_at stmt (g.operators.binary op t (operand_value s a) (operand_value s b)) s) (set_variable to)
+    then_do (or_trap_at stmt (g.operators.binary op t (operand_value s a) (operand_value s b)) s)
+    (set_variable to)
 node_step g (Node-F.Convert to t a) turns s = set_variable to (converted t (operand_value s a)) s
 node_step g (Node-F.Load to array index stmt) turns s =
     then_do (or_trap_at stmt (cell_at (s.arrays array) (operand_value s index)) s) (set_variable to)
 node_step g (Node-F.Save array index value stmt) turns s =
-    then_do (or_trap_at stmt (with_cell (s.arrays array) (operand_value s index) (operand_value s value)) s) (set_array array)
+    then_do (or_trap_at stmt (with_cell (s.arrays array) (operand_value s index) (operand_value s value))
+    s) (set_array array)
 node_step g (Node-F.Fill array values) turns s =
     set_array array (elements_with (length (s.arrays array)) (map (operand_value s) values.items)) s
 node_step g (Node-F.Pick place take keep) turns s =
     then_do (choice_where (g.relaxes (path_in turns place.path) place.stmt) s)
     (as_picked g.arrays take (nodes_in_order turns keep.items))
 node_step g (Node-F.If when if_not_zero if_zero) turns s =
-    fork (nodes_in_order turns if_not_zero.items) (nodes_in_order turns if_zero.items) (operand_value s when) s
+    fork (nodes_in_order turns if_not_zero.items) (nodes_in_order turns if_zero.items) (operand_value s
+    when) s
 node_step g (Node-F.Block label body) turns s = block label (nodes_in_order turns body.items) s
 node_step g (Node-F.Leave label) turns s = (Ok (Leaves label), s)
 node_step g (Node-F.Loop false head when body step stmt) turns s = head_loop g.turns stmt
     (λ turns. nodes_in_order turns head.items) (λ s. operand_value s when)
-    (body_and_step (λ turns. nodes_in_order turns body.items) (λ turns. nodes_in_order turns step.items)) turns s
+    (body_and_step (λ turns. nodes_in_order turns body.items) (λ turns. nodes_in_order turns step.items))
+    turns s
 node_step g (Node-F.Loop true head when body step stmt) turns s = tail_loop g.turns stmt
     (λ turns. nodes_in_order turns head.items) (λ s. operand_value s when)
-    (body_and_step (λ turns. nodes_in_order turns body.items) (λ turns. nodes_in_order turns step.items)) turns s
+    (body_and_step (λ turns. nodes_in_order turns body.items) (λ turns. nodes_in_order turns step.items))
+    turns s
 node_step g (Node-F.Assert when stmt) turns s = assert_value stmt (operand_value s when) s
 node_step g (Node-F.Beyond stmt) turns s = (Err (Beyond stmt), s)
 

@@ -11,7 +11,8 @@ pub record Operators : Type 0 where
   pub unary : UnOp → CType → ℤ → ℤ
   pub binary : BinOp → CType → ℤ → ℤ → Option ℤ
 
--- Converted to the type that the operator works in, but for the count of a shift: so an operator sees the 32 bits of an operand, whatever
+-- Converted to the type that the operator works in, but for the count of a shift: so an operator sees the
+-- 32 bits of an operand, whatever
 -- type this has. It is what three-address code means.
 abbrev pub converting : Operators
 converting = record {

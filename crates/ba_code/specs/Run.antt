@@ -56,11 +56,14 @@ abbrev pub setting_of : Operators → Code → ℕ → (List Step → StmtId →
 setting_of operators code turns relaxes =
     record { relaxes = relaxes; turns = turns; arrays = code.arrays; operators = operators }
 
-unfoldable pub outcome_with : Operators → Code → Input → ℕ → (List Step → StmtId → Bool) → List Choice → Outcome
+unfoldable pub outcome_with : Operators → Code → Input → ℕ → (List Step → StmtId → Bool) → List Choice →
+    Outcome
 outcome_with operators code input turns relaxes choices = outcome_of_end
     (run_nodes (setting_of operators code turns relaxes) code.body [] (start_of_code code input choices))
 
--- The outcome of a run on an input, where each entry of a loop has at most so many turns, where these executions may be relaxed, by the
--- path to a statement with the innermost step first, with these choices. There is exactly one, since it is a function.
+-- The outcome of a run on an input, where each entry of a loop has at most so many turns, where these
+-- executions may be relaxed, by the
+-- path to a statement with the innermost step first, with these choices. There is exactly one, since it is
+-- a function.
 abbrev pub outcome_of_code : Code → Input → ℕ → (List Step → StmtId → Bool) → List Choice → Outcome
 outcome_of_code = outcome_with converting

@@ -10,7 +10,8 @@ use Rattle.ba_tree.specs.State.{is_index}
 use Rattle.ba_tree.specs.declared.run.Flow.TheVariants.{Next}
 use Rattle.ba_tree.specs.declared.run.Halt.TheVariants.{Trap}
 
--- How a run stands: what each variable has and the elements of each array, by their numbers, and the choices that are not used yet.
+-- How a run stands: what each variable has and the elements of each array, by their numbers, and the
+-- choices that are not used yet.
 pub record CodeState : Type 0 where
   pub variables : ℕ → ℤ
   pub arrays : ℕ → List ℤ

@@ -1,4 +1,5 @@
--- Code in which each variable and each array keeps to one type. There an operator finds its operands in the range of its type.
+-- Code in which each variable and each array keeps to one type. There an operator finds its operands in the
+-- range of its type.
 
 use Rattle.std.specs.Prelude.{◌≡◌, ℕ, Bool, true, ◌&&◌, ◌||◌, Some, List, slice_get}
 use Rattle.std.specs.List.{list_all}
@@ -56,7 +57,8 @@ typed_step types (Node-F.Binary to op t a b stmt) =
 typed_step types (Node-F.Convert to t a) = can_hold types to t
 typed_step types (Node-F.Load to array index stmt) = can_hold types to (element_type types array)
 typed_step types (Node-F.Save array index value stmt) = has_type types (element_type types array) value
-typed_step types (Node-F.Fill array values) = list_all (has_type types (element_type types array)) values.items
+typed_step types (Node-F.Fill array values) = list_all (has_type types (element_type types array))
+    values.items
 typed_step types (Node-F.Pick place take keep) = takes_type types take && all_typed keep.items
 typed_step types (Node-F.If when if_not_zero if_zero) = all_typed if_not_zero.items && all_typed if_zero.items
 typed_step types (Node-F.Block label body) = all_typed body.items

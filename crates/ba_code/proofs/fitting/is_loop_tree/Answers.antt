@@ -23,12 +23,14 @@ module _ (code : Code) where
       ∙ ap (λ b. list_all is_array_info code.arrays && b && c)
       (is_b ∙ ap (λ arrays. list_all (is_param (with_arrays arrays)) params) is_arrays
       ∙ ap (list_all (is_param (declared_in code))) is_params)
-      ∙ ap (λ c. list_all is_array_info code.arrays && list_all (is_param (declared_in code)) code.params && c)
+      ∙ ap (λ c. list_all is_array_info code.arrays && list_all (is_param (declared_in code)) code.params
+      && c)
       (is_c ∙ ap (λ arrays. are_inside [] (map (fits_inside (with_arrays arrays)) nodes)) is_arrays
       ∙ ap (λ nodes. are_inside [] (map (fits_inside (declared_in code)) nodes)) is_nodes
       ∙ list_all-map (λ (node : Inside). node []) (fits_inside (declared_in code)) code.body)
 
 pub returns : goal.returns
 returns c = all-fit c.args.code.now c.as_slice-arrays.result.now c.as_slice-2.result.now c.as_slice.result.now
-    c.are_array_infos.result c.are_params.result c.in_ok-body.body c.as_slice-arrays.ensures c.as_slice-2.ensures
+    c.are_array_infos.result c.are_params.result c.in_ok-body.body c.as_slice-arrays.ensures
+    c.as_slice-2.ensures
     c.as_slice.ensures c.are_array_infos.ensures c.are_params.ensures c.in_ok-body.ensures

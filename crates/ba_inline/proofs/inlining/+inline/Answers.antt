@@ -1,0 +1,1054 @@
+use Rattle.std.proofs.Common.{rules, true, false, ◌≡◌, ◌+◌, ◌-◌, ◌*◌, ◌<◌, suc, [], pos, sym, ◌∙◌, ap, subst}
+use Rattle.std.proofs.lemmas.List.{take_all}
+use Rattle.std.specs.List.{list_any}
+use Rattle.ba_code.specs.declared.nodes.Operand.TheVariants.{Const, Var}
+use Rattle.ba_inline.proofs.Arms.{adds-old, argument-array, argument-value, call-made, if-made, init-made, invoke-made, loop-made, makes-high, makes-old, scope-var, store-made, to-low, value-called, value-high}
+use Rattle.ba_inline.proofs.Branches.{adds-then, makes-and, makes-copy, makes-or, makes-select, makes-to, makes-truth}
+use Rattle.ba_inline.proofs.Effects.{makes-call_stmt, makes-print}
+use Rattle.ba_inline.proofs.Falling.{body-below, item-below}
+use Rattle.ba_inline.proofs.Forms.{form-Assign, form-Block, form-CallStmt, form-Declare, form-DoWhile, form-For, form-Init, form-InitArray, form-Print, form-Store, form-While}
+use Rattle.ba_inline.proofs.Homes.{makes-row, row_part}
+use Rattle.ba_inline.proofs.Invoking.{makes-beyond}
+use Rattle.ba_inline.proofs.Joining.{makes-as}
+use Rattle.ba_inline.proofs.Keeping.{grows-same}
+use Rattle.ba_inline.proofs.Relaxing.{makes-given}
+use Rattle.ba_inline.proofs.Results.{if-ok, on-ok}
+use Rattle.ba_inline.proofs.Rows.{arguments-more, arguments-none, stmts-more, stmts-none, values-more, values-none}
+use Rattle.ba_inline.proofs.Scopes.{frame-later, scope-later, scope-of}
+use Rattle.ba_inline.proofs.Statements.{makes-assert, makes-assign, makes-break, makes-condition, makes-continue, makes-no-code, makes-return, makes-return-none}
+use Rattle.ba_inline.proofs.Values.{makes-binary, makes-const, makes-convert, makes-element, makes-unary, makes-variable}
+use Rattle.ba_inline.specs.Adding.{leave_act, pick_act, unary_act}
+use Rattle.ba_inline.specs.Calling.{arg_has_call, has_call}
+use Rattle.ba_inline.specs.Declarations.{with_var}
+use Rattle.ba_inline.specs.Heights.{arg_weight, arg_weights, height, heights, tallest, weight, weights}
+use Rattle.ba_inline.specs.Making.{Adds, Does, GivesTo, Makes, MakesArguments, MakesValue, MakesValues}
+use Rattle.ba_inline.specs.Names.{IsScope}
+use Rattle.ba_inline.specs.Parts.{arguments_part, assign_part, call_stmt_part, context_in_frame, declare_part, given_part, init_array_part, loop_now, loop_part, optional_now, optional_part, print_part, stmt_part, stmts_part, store_part, value_part, values_part}
+use Rattle.ba_inline.specs.Repeating.{parts_of}
+use Rattle.ba_inline.specs.declared.frames.Wanted.TheVariants as wanted
+use Rattle.ba_numbers.specs.declared.numbers.CType.TheVariants.{I32}
+use Rattle.ba_numbers.specs.declared.numbers.UnOp.TheVariants.{IsZero}
+use Rattle.ba_tree.specs.Meaning.{eval, exec_all}
+use Rattle.ba_tree.specs.declared.tree.Variable.{Variable}
+use Rattle.ba_inline.proofs.inlining.+inline.Goals as goal
+
+-- EXPRESSIONS
+
+pub expression-returns-in-Const : goal.expression-returns-in-Const
+expression-returns-in-Const t c = λ scope.
+    let p = c.args.setting.now.program.now in
+    let names = c.args.scope.now in
+    let path = c.args.path.now in
+    let frame = c.args.frame in
+    let low = c.args.declared.now in
+    let old = c.args.out.now.items in
+    let here = c.args.here in
+    let e = c.args.expr.now in
+    makes-const p names path frame here e low old c.in-Const.t c.in-Const.value _ c.in-Const.is (search rules)
+
+pub expression-returns-in-Var : goal.expression-returns-in-Var
+expression-returns-in-Var t c = λ scope.
+    let p = c.args.setting.now.program.now in
+    let names = c.args.scope.now in
+    let path = c.args.path.now in
+    let frame = c.args.frame in
+    let low = c.args.declared.now in
+    let old = c.args.out.now.items in
+    let here = c.args.here in
+    let e = c.args.expr.now in
+    makes-variable p names path frame here e low old c.in-Var.var c.value.result c.in-Var.is
+    c.value.ensures scope.naming
+
+pub expression-returns-in_ok-add_load-in-Element : goal.expression-returns-in_ok-add_load-in-Element
+expression-returns-in_ok-add_load-in-Element t c = λ scope.
+    let p = c.args.setting.now.program.now in
+    let names = c.args.scope.now in
+    let path = c.args.path.now in
+    let frame = c.args.frame in
+    let low = c.args.declared.now in
+    let old = c.args.out.now.items in
+    let here = c.args.here in
+    let e = c.args.expr.now in
+    value-high c.in_ok-to-in-Element.ensures.1
+    (makes-element p names path frame here e c.deref.result.now low c.expression.new.declared old
+    c.expression.new.out.items
+    c.add_load.new.out.items c.in_ok-index-in-Element.index c.in_ok-to-in-Element.to c.variable_of.result.t
+    false scope.naming
+    (c.in_ok-index-in-Element.ensures scope) c.in_ok-to-in-Element.ensures.0 c.in-Element.array
+    c.in_ok-number-in-Element.number c.in-Element.index c.in-Element.is c.deref.ensures
+    c.in_ok-number-in-Element.ensures
+    c.in_ok-add_load-in-Element.ensures)
+
+pub expression-returns-in_ok-add_unary-in-Unary : goal.expression-returns-in_ok-add_unary-in-Unary
+expression-returns-in_ok-add_unary-in-Unary t c = λ scope.
+    let p = c.args.setting.now.program.now in
+    let names = c.args.scope.now in
+    let path = c.args.path.now in
+    let frame = c.args.frame in
+    let low = c.args.declared.now in
+    let old = c.args.out.now.items in
+    let here = c.args.here in
+    let e = c.args.expr.now in
+    value-high c.in_ok-to-in-Unary.ensures.1
+    (makes-unary p names path frame here e c.deref-in-Unary.result.now low
+    c.expression-in-Unary.new.declared old
+    c.expression-in-Unary.new.out.items c.add_unary.new.out.items c.in_ok-a-in-Unary.a c.in_ok-to-in-Unary.to
+    c.type_of_unary.result false scope.naming (c.in_ok-a-in-Unary.ensures scope) c.in_ok-to-in-Unary.ensures.0
+    c.in-Unary.op c.in-Unary.t c.in-Unary.a c.in-Unary.is c.deref-in-Unary.ensures
+    c.in_ok-add_unary-in-Unary.ensures)
+
+pub expression-returns-in_ok-add_convert-in-Convert : goal.expression-returns-in_ok-add_convert-in-Convert
+expression-returns-in_ok-add_convert-in-Convert t c = λ scope.
+    let p = c.args.setting.now.program.now in
+    let names = c.args.scope.now in
+    let path = c.args.path.now in
+    let frame = c.args.frame in
+    let low = c.args.declared.now in
+    let old = c.args.out.now.items in
+    let here = c.args.here in
+    let e = c.args.expr.now in
+    value-high c.in_ok-to-in-Convert.ensures.1
+    (makes-convert p names path frame here e c.deref-in-Convert.result.now low
+    c.expression-in-Convert.new.declared old
+    c.expression-in-Convert.new.out.items c.add_convert.new.out.items c.in_ok-a-in-Convert.a
+    c.in_ok-to-in-Convert.to
+    c.in-Convert.t false scope.naming (c.in_ok-a-in-Convert.ensures scope) c.in_ok-to-in-Convert.ensures.0
+    c.in-Convert.t c.in-Convert.a c.in-Convert.is c.deref-in-Convert.ensures
+    c.in_ok-add_convert-in-Convert.ensures)
+
+pub expression-returns-in_ok-add_binary-in-Binary : goal.expression-returns-in_ok-add_binary-in-Binary
+expression-returns-in_ok-add_binary-in-Binary t c = λ scope.
+    let p = c.args.setting.now.program.now in
+    let names = c.args.scope.now in
+    let path = c.args.path.now in
+    let frame = c.args.frame in
+    let low = c.args.declared.now in
+    let old = c.args.out.now.items in
+    let here = c.args.here in
+    let e = c.args.expr.now in
+    let x = c.deref-in-Binary-2.result.now in
+    let y = c.deref-in-Binary-3.result.now in
+    let mid = c.kept_expression.new.declared in
+    let out = c.kept_expression.new.out.items in
+    let a = c.in_ok-a-in-Binary.a in
+    let first : MakesValue p names path (value_part p frame here x) (has_call x) (has_call y) a low mid old
+    out =
+    subst (λ keep. MakesValue p names path (value_part p frame here x) (has_call x) keep a low mid old out)
+    (c.has_call-keep.ensures ∙ ap has_call (c.deref-in-Binary.ensures ∙ sym c.deref-in-Binary-3.ensures))
+    (c.in_ok-a-in-Binary.ensures scope) in
+    value-high c.in_ok-to-in-Binary.ensures.1
+    (makes-binary p names path frame here e x y low mid c.expression-in-Binary.new.declared old out
+    c.expression-in-Binary.new.out.items c.add_binary.new.out.items a c.in_ok-b-in-Binary.b
+    c.in_ok-to-in-Binary.to
+    c.type_of_binary.result scope.naming first
+    (c.in_ok-b-in-Binary.ensures (scope-later p names low mid first.makes.grows scope))
+    c.in_ok-to-in-Binary.ensures.0 c.in-Binary.op c.in-Binary.t c.in-Binary.a c.in-Binary.b c.in-Binary.is
+    c.deref-in-Binary-2.ensures c.deref-in-Binary-3.ensures c.in_ok-add_binary-in-Binary.ensures)
+
+pub expression-returns-in_ok-add_if-in-AndAlso : goal.expression-returns-in_ok-add_if-in-AndAlso
+expression-returns-in_ok-add_if-in-AndAlso t c = λ scope.
+    let p = c.args.setting.now.program.now in
+    let names = c.args.scope.now in
+    let path = c.args.path.now in
+    let frame = c.args.frame in
+    let low = c.args.declared.now in
+    let old = c.args.out.now.items in
+    let here = c.args.here in
+    let e = c.args.expr.now in
+    let x = c.deref-in-AndAlso.result.now in
+    let y = c.deref-in-AndAlso-2.result.now in
+    let mid = c.expression-in-AndAlso.new.declared in
+    let made : MakesValue p names path (value_part p frame here x) (has_call x) false
+    c.in_ok-a-in-AndAlso.a low mid old
+    c.expression-in-AndAlso.new.out.items = c.in_ok-a-in-AndAlso.ensures scope in
+    let inner : IsScope p names c.variable-in-AndAlso.new.self =
+    scope-var p names low mid c.variable-in-AndAlso.new.self I32 c.in_ok-to-in-AndAlso.ensures.1
+    made.makes.grows scope in
+    makes-and p names path frame here e x y false c.in_ok-a-in-AndAlso.a c.in_ok-to-in-AndAlso.to I32 low mid
+    c.truth_to.new.declared old c.expression-in-AndAlso.new.out.items c.add_if.new.out.items
+    c.truth_to.new.out.items
+    c.add_set.new.out.items scope.naming made c.in_ok-to-in-AndAlso.ensures.0
+    c.in_ok-add_if-in-AndAlso.ensures
+    c.in-AndAlso.a c.in-AndAlso.b c.in-AndAlso.is c.deref-in-AndAlso.ensures c.deref-in-AndAlso-2.ensures
+    (to-low c.in_ok-to-in-AndAlso.ensures.1 (makes-old c.new-yes.ensures.items
+    (c.in_ok-truth_to-in-AndAlso.ensures inner)))
+    (adds-old c.new-no.ensures.items c.in_ok-add_set-in-AndAlso.ensures)
+
+pub expression-returns-in_ok-add_if-in-OrElse : goal.expression-returns-in_ok-add_if-in-OrElse
+expression-returns-in_ok-add_if-in-OrElse t c = λ scope.
+    let p = c.args.setting.now.program.now in
+    let names = c.args.scope.now in
+    let path = c.args.path.now in
+    let frame = c.args.frame in
+    let low = c.args.declared.now in
+    let old = c.args.out.now.items in
+    let here = c.args.here in
+    let e = c.args.expr.now in
+    let x = c.deref-in-OrElse.result.now in
+    let y = c.deref-in-OrElse-2.result.now in
+    let mid = c.expression-in-OrElse.new.declared in
+    let made : MakesValue p names path (value_part p frame here x) (has_call x) false c.in_ok-a-in-OrElse.a
+    low mid old
+    c.expression-in-OrElse.new.out.items = c.in_ok-a-in-OrElse.ensures scope in
+    let inner : IsScope p names c.variable-in-OrElse.new.self =
+    scope-var p names low mid c.variable-in-OrElse.new.self I32 c.in_ok-to-in-OrElse.ensures.1
+    made.makes.grows scope in
+    makes-or p names path frame here e x y false c.in_ok-a-in-OrElse.a c.in_ok-to-in-OrElse.to I32 low mid
+    c.truth_to-in-OrElse.new.declared old c.expression-in-OrElse.new.out.items
+    c.add_if-in-OrElse.new.out.items
+    c.add_set-in-OrElse.new.out.items c.truth_to-in-OrElse.new.out.items scope.naming made
+    c.in_ok-to-in-OrElse.ensures.0
+    c.in_ok-add_if-in-OrElse.ensures c.in-OrElse.a c.in-OrElse.b c.in-OrElse.is c.deref-in-OrElse.ensures
+    c.deref-in-OrElse-2.ensures (adds-old c.new-yes-in-OrElse.ensures.items c.in_ok-add_set-in-OrElse.ensures)
+    (to-low c.in_ok-to-in-OrElse.ensures.1 (makes-old c.new-no-in-OrElse.ensures.items
+    (c.in_ok-truth_to-in-OrElse.ensures inner)))
+
+pub expression-returns-in_ok-add_if-in-Select : goal.expression-returns-in_ok-add_if-in-Select
+expression-returns-in_ok-add_if-in-Select t c = λ scope.
+    let p = c.args.setting.now.program.now in
+    let names = c.args.scope.now in
+    let path = c.args.path.now in
+    let frame = c.args.frame in
+    let low = c.args.declared.now in
+    let old = c.args.out.now.items in
+    let here = c.args.here in
+    let e = c.args.expr.now in
+    let x = c.deref-in-Select.result.now in
+    let y = c.deref-in-Select-2.result.now in
+    let z = c.deref-in-Select-3.result.now in
+    let mid = c.expression-in-Select.new.declared in
+    let ty = c.in-Select.t in
+    let to = c.in_ok-to-in-Select.to in
+    let two = c.expression_to.new.declared in
+    let yeses = c.expression_to.new.out.items in
+    let made : MakesValue p names path (value_part p frame here x) (has_call x) false
+    c.in_ok-when-in-Select.when low mid old
+    c.expression-in-Select.new.out.items = c.in_ok-when-in-Select.ensures scope in
+    let inner : IsScope p names c.variable-in-Select.new.self =
+    scope-var p names low mid c.variable-in-Select.new.self ty c.in_ok-to-in-Select.ensures.1
+    made.makes.grows scope in
+    let first : Makes p names path (value_part p frame here y) (GivesTo names (has_call y) (with_var ty
+    mid) to)
+    (with_var ty mid) two [] yeses =
+    to-low c.in_ok-to-in-Select.ensures.1
+    (makes-old c.new-yes-in-Select.ensures.items (c.in_ok-expression_to-in-Select.ensures inner)) in
+    let later : IsScope p names two = scope-later p names (with_var ty mid) two first.grows
+    (subst (IsScope p names) c.in_ok-to-in-Select.ensures.1 inner) in
+    makes-select p names path frame here e x y false c.in_ok-when-in-Select.when to ty low mid
+    c.expression_to-in-Select.new.declared old c.expression-in-Select.new.out.items
+    c.add_if-in-Select.new.out.items yeses
+    c.expression_to-in-Select.new.out.items scope.naming made c.in_ok-to-in-Select.ensures.0
+    c.in_ok-add_if-in-Select.ensures z two ty c.in-Select.when c.in-Select.a c.in-Select.b c.in-Select.is
+    c.deref-in-Select.ensures c.deref-in-Select-2.ensures c.deref-in-Select-3.ensures first
+    (makes-old c.new-no-in-Select.ensures.items (c.in_ok-expression_to-in-Select-2.ensures later))
+
+pub expression-returns-in-Call : goal.expression-returns-in-Call
+expression-returns-in-Call t c =
+    let p = c.args.setting.now.program.now in
+    let names = c.args.scope.now in
+    let path = c.args.path.now in
+    let frame = c.args.frame in
+    let low = c.args.declared.now in
+    let old = c.args.out.now.items in
+    let here = c.args.here in
+    let e = c.args.expr.now in
+    if-ok c.call_value.result _ _ (λ o made scope.
+    value-called p names path frame here e c.in-Call.call c.in-Call.function c.in-Call.args
+    c.as_slice.result.now o low
+    c.call_value.new.declared old c.call_value.new.out.items c.in-Call.is c.as_slice.ensures.value (made
+    scope))
+    c.call_value.ensures
+
+pub kept_expression-returns-in_ok-add_set-in-Var : goal.kept_expression-returns-in_ok-add_set-in-Var
+kept_expression-returns-in_ok-add_set-in-Var t c = λ scope.
+    let p = c.args.setting.now.program.now in
+    let names = c.args.scope.now in
+    let path = c.args.path.now in
+    let frame = c.args.frame in
+    let low = c.args.declared.now in
+    let old = c.args.out.now.items in
+    let here = c.args.here in
+    let e = c.args.expr.now in
+    let mid = c.expression.new.declared in
+    let yes : true ≡ c.args.keep = search rules in
+    subst (λ keep. MakesValue p names path (value_part p frame here e) (has_call e) keep (Var
+    c.in_ok-to-in-Var.to) low
+    c.variable.new.self old c.add_set.new.out.items) yes
+    (value-high c.in_ok-to-in-Var.ensures.1
+    (makes-copy p names path (λ w back. eval (context_in_frame p frame w) back here e) (has_call e)
+    c.in_ok-operand.operand
+    low mid old c.expression.new.out.items c.add_set.new.out.items (c.in_ok-operand.ensures scope)
+    c.in_ok-to-in-Var.to
+    c.type_of.result scope.naming c.in_ok-to-in-Var.ensures.0 c.in_ok-add_set-in-Var.ensures))
+
+pub expression_to-returns : goal.expression_to-returns
+expression_to-returns t c =
+    let p = c.args.setting.now.program.now in
+    let names = c.args.scope.now in
+    let path = c.args.path.now in
+    let frame = c.args.frame in
+    let low = c.args.declared.now in
+    let old = c.args.out.now.items in
+    let here = c.args.here in
+    let e = c.args.expr.now in
+    on-ok c.add_set.result _ _ (λ added scope.
+    makes-to p names path (λ w back. eval (context_in_frame p frame w) back here e) (has_call e)
+    c.in_ok-operand.operand
+    low c.expression.new.declared old c.expression.new.out.items c.add_set.new.out.items
+    (c.in_ok-operand.ensures scope)
+    c.args.to added) c.add_set.ensures
+
+pub truth_to-returns : goal.truth_to-returns
+truth_to-returns t c =
+    let p = c.args.setting.now.program.now in
+    let names = c.args.scope.now in
+    let path = c.args.path.now in
+    let frame = c.args.frame in
+    let low = c.args.declared.now in
+    let old = c.args.out.now.items in
+    let here = c.args.here in
+    let e = c.args.expr.now in
+    let mid = c.expression.new.declared in
+    let out = c.expression.new.out.items in
+    let between = c.in_ok-between.between in
+    on-ok c.add_unary-2.result _ _ (λ added scope.
+    makes-high c.in_ok-between.ensures.1
+    (makes-truth p names path frame here e c.in_ok-operand.operand low mid old out
+    c.add_unary-2.new.out.items scope.naming
+    (c.in_ok-operand.ensures scope) between c.args.to c.in_ok-between.ensures.0 c.tested_in-t.result I32
+    (adds-then out c.add_unary.new.out.items c.add_unary-2.new.out.items
+    (unary_act between IsZero c.tested_in-t.result c.in_ok-operand.operand) (unary_act c.args.to IsZero I32
+    (Var between))
+    c.in_ok-add_unary.ensures added))) c.add_unary-2.ensures
+
+-- ROWS of values and of arguments
+
+pub expressions-loop-expr-init : goal.expressions-loop-expr-init
+expressions-loop-expr-init t c = λ scope.
+    let p = c.args.setting.now.program.now in
+    let names = c.args.scope.now in
+    let path = c.args.path.now in
+    let frame = c.args.frame in
+    let low = c.args.declared.now in
+    let old = c.args.out.now.items in
+    let here = c.args.here in
+    subst (λ os. MakesValues p names path (values_part p frame here []) false (list_any has_call
+    c.args.exprs.now) os low low
+    old old) (sym c.in_ok-operands.ensures.items)
+    (values-none p names path frame here (list_any has_call c.args.exprs.now) low old)
+
+pub expressions-loop-expr-preserved : goal.expressions-loop-expr-preserved
+expressions-loop-expr-preserved t c = λ scope.
+    let p = c.args.setting.now.program.now in
+    let names = c.args.scope.now in
+    let path = c.args.path.now in
+    let frame = c.args.frame in
+    let low = c.args.declared.now in
+    let old = c.args.out.now.items in
+    let here = c.args.here in
+    let mid = c.loop-expr.declared in
+    let made = c.loop-expr.invariant scope in
+    values-more p names path frame here c.args.exprs.now c.loop-expr.expr-index c.expr-item.result
+    c.any_has_call-keep.result
+    c.loop-expr.operands.items c.push.new.self.items c.in_ok-kept_expression.field-0 low mid
+    c.kept_expression.new.declared
+    old c.loop-expr.out.items c.kept_expression.new.out.items c.loop-expr-test.true c.expr-item.is
+    c.any_has_call-keep.ensures c.in_ok-push.ensures.items made
+    (c.in_ok-kept_expression.ensures (scope-later p names low mid made.makes.grows scope))
+
+pub expressions-returns : goal.expressions-returns
+expressions-returns t c = λ scope.
+    let p = c.args.setting.now.program.now in
+    let names = c.args.scope.now in
+    let path = c.args.path.now in
+    let frame = c.args.frame in
+    let low = c.args.declared.now in
+    let old = c.args.out.now.items in
+    let here = c.args.here in
+    subst (λ es. MakesValues p names path (values_part p frame here es) (list_any has_call es)
+    (list_any has_call c.args.exprs.now) c.loop-expr.operands.items low c.loop-expr.declared old
+    c.loop-expr.out.items)
+    (take_all c.loop-expr.expr-index c.args.exprs.now (search rules)) (c.loop-expr.invariant scope)
+
+pub expressions-kept_expression-requires : goal.expressions-kept_expression-requires
+expressions-kept_expression-requires t c =
+    let h : weight c.expr-item.result < weights c.args.exprs.now =
+    item-below weight c.args.exprs.now c.loop-expr.expr-index c.expr-item.result (search rules) (search
+    rules) in
+    search (rules, h)
+
+pub arguments-loop-arg-init : goal.arguments-loop-arg-init
+arguments-loop-arg-init t c = λ scope.
+    let p = c.args.setting.now.program.now in
+    let names = c.args.scope.now in
+    let path = c.args.path.now in
+    let frame = c.args.frame in
+    let low = c.args.declared.now in
+    let old = c.args.out.now.items in
+    let here = c.args.here in
+    subst (λ gs. MakesArguments p names path (arguments_part p frame here []) false (list_any arg_has_call
+    c.args.args.now) gs
+    low low old old) (sym c.in_ok-given.ensures.items)
+    (arguments-none p names path frame here (list_any arg_has_call c.args.args.now) low old)
+
+pub arguments-loop-arg-preserved : goal.arguments-loop-arg-preserved
+arguments-loop-arg-preserved t c = λ scope.
+    let p = c.args.setting.now.program.now in
+    let names = c.args.scope.now in
+    let path = c.args.path.now in
+    let frame = c.args.frame in
+    let low = c.args.declared.now in
+    let old = c.args.out.now.items in
+    let here = c.args.here in
+    let mid = c.loop-arg.declared in
+    let made = c.loop-arg.invariant scope in
+    arguments-more p names path frame here c.args.args.now c.loop-arg.arg-index c.arg-item.result
+    c.any_arg_has_call-keep.result c.loop-arg.given.items c.push.new.self.items c.in_ok-argument.field-0
+    low mid
+    c.argument.new.declared old c.loop-arg.out.items c.argument.new.out.items c.loop-arg-test.true
+    c.arg-item.is
+    c.any_arg_has_call-keep.ensures c.in_ok-push.ensures.items made
+    (c.in_ok-argument.ensures (scope-later p names low mid made.makes.grows scope))
+
+pub arguments-returns : goal.arguments-returns
+arguments-returns t c = λ scope.
+    let p = c.args.setting.now.program.now in
+    let names = c.args.scope.now in
+    let path = c.args.path.now in
+    let frame = c.args.frame in
+    let low = c.args.declared.now in
+    let old = c.args.out.now.items in
+    let here = c.args.here in
+    subst (λ args. MakesArguments p names path (arguments_part p frame here args) (list_any arg_has_call args)
+    (list_any arg_has_call c.args.args.now) c.loop-arg.given.items low c.loop-arg.declared old
+    c.loop-arg.out.items)
+    (take_all c.loop-arg.arg-index c.args.args.now (search rules)) (c.loop-arg.invariant scope)
+
+pub arguments-argument-requires : goal.arguments-argument-requires
+arguments-argument-requires t c =
+    let h : arg_weight c.arg-item.result < arg_weights c.args.args.now =
+    item-below arg_weight c.args.args.now c.loop-arg.arg-index c.arg-item.result (search rules) (search
+    rules) in
+    search (rules, h)
+
+pub argument-returns-in_ok-value-in-Value : goal.argument-returns-in_ok-value-in-Value
+argument-returns-in_ok-value-in-Value t c = λ scope.
+    let p = c.args.setting.now.program.now in
+    let names = c.args.scope.now in
+    let path = c.args.path.now in
+    let frame = c.args.frame in
+    let low = c.args.declared.now in
+    let old = c.args.out.now.items in
+    let here = c.args.here in
+    argument-value p names path frame here c.args.arg.now c.args.keep c.in-Value.value
+    c.in_ok-value-in-Value.value low
+    c.kept_expression.new.declared old c.kept_expression.new.out.items c.in-Value.is
+    (c.in_ok-value-in-Value.ensures scope)
+
+pub argument-returns-in-Array : goal.argument-returns-in-Array
+argument-returns-in-Array t c = λ scope.
+    let p = c.args.setting.now.program.now in
+    let names = c.args.scope.now in
+    let path = c.args.path.now in
+    let frame = c.args.frame in
+    let low = c.args.declared.now in
+    let old = c.args.out.now.items in
+    let here = c.args.here in
+    argument-array p names path frame here c.args.arg.now c.args.keep c.in-Array.array c.location.result
+    low old
+    c.in-Array.is c.location.ensures
+
+-- CALLS
+
+pub call_value-returns : goal.call_value-returns
+call_value-returns t c =
+    let p = c.args.setting.now.program.now in
+    let names = c.args.scope.now in
+    let path = c.args.path.now in
+    let frame = c.args.frame in
+    let low = c.args.declared.now in
+    let old = c.args.out.now.items in
+    let here = c.args.here in
+    if-ok c.invoke.result _ _ (λ o made scope.
+    call-made p names path frame here c.args.call c.args.function c.args.args.now (list_any arg_has_call
+    c.args.args.now)
+    (list_any arg_has_call c.args.args.now) c.in_ok-given.given.items c.as_slice-2.result.now o low
+    c.arguments.new.declared c.invoke.new.declared old c.arguments.new.out.items c.invoke.new.out.items
+    c.as_slice.result.now (c.as_slice.ensures.value ∙ c.in_ok-inside.ensures) c.as_slice-2.ensures.value scope
+    (c.in_ok-given.ensures scope) made) c.invoke.ensures
+
+pub invoke-returns-then-frame-eq0 : goal.invoke-returns-then-frame-eq0
+invoke-returns-then-frame-eq0 t c = λ scope given.
+    let p = c.args.setting.now.program.now in
+    let names = c.args.scope.now in
+    let path = c.args.path.now in
+    let frame = c.args.frame in
+    let low = c.args.declared.now in
+    let old = c.args.out.now.items in
+    let here = c.args.here in
+    record {
+      settled = tt;
+      makes = makes-beyond p names path frame here c.args.function c.args.given.now low (Const (pos 0)) old
+          c.add_beyond.new.out.items (search rules) c.in_ok-add_beyond.ensures;
+    }
+
+pub invoke-statements-requires : goal.invoke-statements-requires
+invoke-statements-requires t c =
+    let frames : c.args.frame.frames ≡ suc (c.args.frame.frames - 1) = search rules in
+    let h : (c.args.frame.frames - 1) * tallest c.args.setting.now.program.now + (heights
+    c.in-Some.function.now.body + 1)
+    < c.args.frame.frames * tallest c.args.setting.now.program.now =
+    body-below c.args.setting.now.program.now c.in-Some.function.now c.args.function.0 c.args.frame.frames
+    (c.args.frame.frames - 1) frames c.in-Some.ensures.0 c.in-Some.ensures.1 in
+    search (rules, h, c.as_slice.ensures)
+
+pub invoke-returns : goal.invoke-returns
+invoke-returns t c = λ scope given.
+    let p = c.args.setting.now.program.now in
+    let names = c.args.scope.now in
+    let path = c.args.path.now in
+    let frame = c.args.frame in
+    let low = c.args.declared.now in
+    let old = c.args.out.now.items in
+    let here = c.args.here in
+    let frames : frame.frames ≡ suc (frame.frames - 1) = search rules in
+    invoke-made p names c.in_ok-inner.inner path frame here c.args.function (frame.frames - 1)
+    c.in-Some.function.now
+    c.args.given.now low c.begin_frame.new.declared c.variable.new.self c.statements.new.declared old
+    c.begin_frame.new.out.items c.add_set.new.out.items c.add_block.new.out.items c.new-body.result.items
+    c.statements.new.out.items c.in_ok-home.home c.unwrap_or.result c.as_slice.result.now frames
+    c.in-Some.ensures.1
+    c.as_slice.ensures c.new-body.ensures.items c.in_ok-home.ensures.0 c.in_ok-home.ensures.1
+    (c.in_ok-inner.ensures scope given) c.in_ok-add_set.ensures c.in_ok-statements.ensures
+    c.in_ok-add_block.ensures
+
+-- CHOICES
+
+pub given_to-returns : goal.given_to-returns
+given_to-returns t c =
+    let p = c.args.setting.now.program.now in
+    let names = c.args.scope.now in
+    let path = c.args.path.now in
+    let frame = c.args.frame in
+    let low = c.args.declared.now in
+    let old = c.args.out.now.items in
+    let here = c.args.stmt in
+    let e = c.args.expr.now in
+    on-ok c.add_pick.result _ _ (λ added scope.
+    makes-given p names path frame here e (has_call e) c.args.to low c.expression_to.new.declared old
+    c.add_pick.new.out.items
+    c.expression_to.new.out.items (makes-old c.new-keep.ensures.items (c.in_ok-expression_to.ensures
+    scope)) c.args.wanted
+    (subst (λ take. Adds old c.add_pick.new.out.items (pick_act path here take c.expression_to.new.out.items))
+    c.take_of.ensures added)) c.add_pick.ensures
+
+pub condition-returns : goal.condition-returns
+condition-returns t c = λ scope.
+    let p = c.args.setting.now.program.now in
+    let names = c.args.scope.now in
+    let path = c.args.path.now in
+    let frame = c.args.frame in
+    let low = c.args.declared.now in
+    let old = c.args.out.now.items in
+    let here = c.args.stmt in
+    let e = c.args.when.now in
+    let ty = c.type_of.result in
+    makes-condition p names path (given_part p frame here wanted.Truth e) (has_call e) c.in_ok-to.to ty low
+    c.given_to.new.declared old c.given_to.new.out.items scope.naming c.in_ok-to.ensures.0
+    (to-low c.in_ok-to.ensures.1 (c.in_ok-given_to.ensures
+    (scope-var p names low low c.variable.new.self ty c.in_ok-to.ensures.1 (grows-same low) scope)))
+
+pub assign-returns : goal.assign-returns
+assign-returns t c =
+    let p = c.args.setting.now.program.now in
+    let names = c.args.scope.now in
+    let path = c.args.path.now in
+    let frame = c.args.frame in
+    let low = c.args.declared.now in
+    let old = c.args.out.now.items in
+    let here = c.args.stmt in
+    let e = c.args.value.now in
+    on-ok c.given_to.result _ _ (λ made is_frame.
+    makes-assign p names path frame low is_frame.naming here c.args.var e (has_call e) c.in_ok-to.to
+    c.given_to.new.declared old
+    c.given_to.new.out.items c.in_ok-to.ensures
+    (subst (λ (v : Variable). Makes p names path (given_part p frame here (wanted.Value v.t) e)
+    (GivesTo names (has_call e) low c.in_ok-to.to) low c.given_to.new.declared old c.given_to.new.out.items)
+    c.variable_of-t.ensures (made (scope-of p frame.home names low is_frame)))) c.given_to.ensures
+
+pub store-returns : goal.store-returns
+store-returns t c =
+    let p = c.args.setting.now.program.now in
+    let names = c.args.scope.now in
+    let path = c.args.path.now in
+    let frame = c.args.frame in
+    let low = c.args.declared.now in
+    let old = c.args.out.now.items in
+    let here = c.args.stmt in
+    on-ok c.add_pick.result _ _ (λ added is_frame.
+    store-made p names path frame low is_frame here c.args.array c.args.index.now c.args.value.now
+    c.in_ok-number.number
+    c.has_call-settled.result c.in_ok-index.index c.in_ok-value.value c.kept_expression.new.declared
+    c.expression.new.declared old c.add_pick.new.out.items c.new-keep.result.items
+    c.kept_expression.new.out.items
+    c.expression.new.out.items c.add_save.new.out.items c.in_ok-number.ensures c.new-keep.ensures.items
+    c.has_call-settled.ensures c.in_ok-index.ensures c.in_ok-value.ensures c.in_ok-add_save.ensures added)
+    c.add_pick.ensures
+
+pub init_array-returns : goal.init_array-returns
+init_array-returns t c =
+    let p = c.args.setting.now.program.now in
+    let names = c.args.scope.now in
+    let path = c.args.path.now in
+    let frame = c.args.frame in
+    let low = c.args.declared.now in
+    let old = c.args.out.now.items in
+    let here = c.args.stmt in
+    on-ok c.add_pick.result _ _ (λ added is_frame.
+    init-made p names path frame low is_frame here c.args.array c.args.values.now c.in_ok-number.number
+    (list_any has_call c.args.values.now) (list_any has_call c.args.values.now) c.in_ok-values.values.items
+    c.in_ok-filled.filled.items c.expressions.new.declared old c.add_pick.new.out.items
+    c.new-keep.result.items
+    c.expressions.new.out.items c.add_fill.new.out.items c.in_ok-number.ensures c.new-keep.ensures.items
+    c.in_ok-filled.ensures c.in_ok-values.ensures c.in_ok-add_fill.ensures added) c.add_pick.ensures
+
+pub call_statement-returns : goal.call_statement-returns
+call_statement-returns t c =
+    let p = c.args.setting.now.program.now in
+    let names = c.args.scope.now in
+    let path = c.args.path.now in
+    let frame = c.args.frame in
+    let low = c.args.declared.now in
+    let old = c.args.out.now.items in
+    let here = c.args.stmt in
+    on-ok c.add_pick.result _ _ (λ added is_frame.
+    makes-call_stmt p names path frame low c.call_value.new.declared is_frame.naming here old
+    c.add_pick.new.out.items
+    c.call_value.new.out.items c.args.call c.args.function c.args.args.now c.in_ok-call_value.field-0
+    (makes-old c.new-keep.ensures.items
+    (c.in_ok-call_value.ensures (scope-of p frame.home names low is_frame)).makes) added) c.add_pick.ensures
+
+pub print-returns : goal.print-returns
+print-returns t c =
+    let p = c.args.setting.now.program.now in
+    let names = c.args.scope.now in
+    let path = c.args.path.now in
+    let frame = c.args.frame in
+    let low = c.args.declared.now in
+    let old = c.args.out.now.items in
+    let here = c.args.stmt in
+    on-ok c.add_pick.result _ _ (λ added is_frame.
+    makes-print p names path frame low c.expressions.new.declared is_frame.naming here old
+    c.add_pick.new.out.items
+    c.expressions.new.out.items c.args.args.now (list_any has_call c.args.args.now)
+    c.in_ok-expressions.field-0.items
+    (makes-old c.new-keep.ensures.items
+    (c.in_ok-expressions.ensures (scope-of p frame.home names low is_frame)).makes) added) c.add_pick.ensures
+
+-- STATEMENTS
+
+pub statement-returns-in-Block : goal.statement-returns-in-Block
+statement-returns-in-Block t c =
+    let p = c.args.setting.now.program.now in
+    let names = c.args.scope.now in
+    let path = c.args.path.now in
+    let frame = c.args.frame in
+    let low = c.args.declared.now in
+    let old = c.args.out.now.items in
+    let stmt = c.args.stmt.now in
+    on-ok c.statements.result _ _ (λ made is_frame.
+    makes-as p names path (stmt_part p frame stmt) (stmts_part p frame c.as_slice.result.now)
+    (Does names frame.exits frame.home low) low c.statements.new.declared old c.statements.new.out.items
+    (λ w back t s. form-Block p frame stmt w back t s c.in-Block.body c.as_slice.result.now c.in-Block.is
+    c.as_slice.ensures.value) (made is_frame)) c.statements.ensures
+
+pub statement-returns-in-Declare : goal.statement-returns-in-Declare
+statement-returns-in-Declare t c =
+    let p = c.args.setting.now.program.now in
+    let names = c.args.scope.now in
+    let path = c.args.path.now in
+    let frame = c.args.frame in
+    let low = c.args.declared.now in
+    let old = c.args.out.now.items in
+    let stmt = c.args.stmt.now in
+    on-ok c.declare.result _ _ (λ made is_frame.
+    makes-as p names path (stmt_part p frame stmt) (declare_part p c.in-Declare.var)
+    (Does names frame.exits frame.home low) low c.declare.new.declared old c.declare.new.out.items
+    (λ w back t s. form-Declare p frame stmt w back t s c.in-Declare.var c.in-Declare.is) (made frame path
+    is_frame)) c.declare.ensures
+
+pub statement-returns-in-Init : goal.statement-returns-in-Init
+statement-returns-in-Init t c =
+    let p = c.args.setting.now.program.now in
+    let names = c.args.scope.now in
+    let path = c.args.path.now in
+    let frame = c.args.frame in
+    let low = c.args.declared.now in
+    let old = c.args.out.now.items in
+    let stmt = c.args.stmt.now in
+    on-ok c.assign.result _ _ (λ made is_frame.
+    makes-as p names path (stmt_part p frame stmt) (assign_part p frame c.in-Init.stmt c.in-Init.var
+    c.in-Init.value)
+    (Does names frame.exits frame.home low) low c.assign.new.declared old c.assign.new.out.items
+    (λ w back t s. form-Init p frame stmt w back t s c.in-Init.stmt c.in-Init.var c.in-Init.value
+    c.in-Init.is) (made is_frame)) c.assign.ensures
+
+pub statement-returns-in-InitArray : goal.statement-returns-in-InitArray
+statement-returns-in-InitArray t c =
+    let p = c.args.setting.now.program.now in
+    let names = c.args.scope.now in
+    let path = c.args.path.now in
+    let frame = c.args.frame in
+    let low = c.args.declared.now in
+    let old = c.args.out.now.items in
+    let stmt = c.args.stmt.now in
+    on-ok c.init_array.result _ _ (λ made is_frame.
+    makes-as p names path (stmt_part p frame stmt) (init_array_part p frame c.in-InitArray.stmt
+    c.in-InitArray.array c.as_slice-in-InitArray.result.now)
+    (Does names frame.exits frame.home low) low c.init_array.new.declared old c.init_array.new.out.items
+    (λ w back t s. form-InitArray p frame stmt w back t s c.in-InitArray.stmt c.in-InitArray.array
+    c.in-InitArray.values
+    c.as_slice-in-InitArray.result.now c.in-InitArray.is c.as_slice-in-InitArray.ensures.value) (made
+    is_frame)) c.init_array.ensures
+
+pub statement-returns-in-Assign : goal.statement-returns-in-Assign
+statement-returns-in-Assign t c =
+    let p = c.args.setting.now.program.now in
+    let names = c.args.scope.now in
+    let path = c.args.path.now in
+    let frame = c.args.frame in
+    let low = c.args.declared.now in
+    let old = c.args.out.now.items in
+    let stmt = c.args.stmt.now in
+    on-ok c.assign-in-Assign.result _ _ (λ made is_frame.
+    makes-as p names path (stmt_part p frame stmt) (assign_part p frame c.in-Assign.stmt c.in-Assign.var
+    c.in-Assign.value)
+    (Does names frame.exits frame.home low) low c.assign-in-Assign.new.declared old
+    c.assign-in-Assign.new.out.items
+    (λ w back t s. form-Assign p frame stmt w back t s c.in-Assign.stmt c.in-Assign.var c.in-Assign.value
+    c.in-Assign.is) (made is_frame)) c.assign-in-Assign.ensures
+
+pub statement-returns-in-Store : goal.statement-returns-in-Store
+statement-returns-in-Store t c =
+    let p = c.args.setting.now.program.now in
+    let names = c.args.scope.now in
+    let path = c.args.path.now in
+    let frame = c.args.frame in
+    let low = c.args.declared.now in
+    let old = c.args.out.now.items in
+    let stmt = c.args.stmt.now in
+    on-ok c.store.result _ _ (λ made is_frame.
+    makes-as p names path (stmt_part p frame stmt) (store_part p frame c.in-Store.stmt c.in-Store.array
+    c.in-Store.index c.in-Store.value)
+    (Does names frame.exits frame.home low) low c.store.new.declared old c.store.new.out.items
+    (λ w back t s. form-Store p frame stmt w back t s c.in-Store.stmt c.in-Store.array c.in-Store.index
+    c.in-Store.value
+    c.in-Store.is) (made is_frame)) c.store.ensures
+
+pub statement-returns-in_ok-optional-in-If : goal.statement-returns-in_ok-optional-in-If
+statement-returns-in_ok-optional-in-If t c =
+    let p = c.args.setting.now.program.now in
+    let names = c.args.scope.now in
+    let path = c.args.path.now in
+    let frame = c.args.frame in
+    let low = c.args.declared.now in
+    let old = c.args.out.now.items in
+    let stmt = c.args.stmt.now in
+    on-ok c.add_if.result _ _ (λ added is_frame.
+    if-made p names path frame low is_frame stmt c.in-If.stmt c.in-If.when c.in-If.yes c.in-If.no
+    c.deref.result.now
+    c.in_ok-to-in-If.to c.condition.new.declared c.statement.new.declared c.optional.new.declared old
+    c.condition.new.out.items c.add_if.new.out.items c.new-one.result.items c.statement.new.out.items
+    c.new-other.result.items c.optional.new.out.items c.in-If.is c.deref.ensures c.new-one.ensures.items
+    c.new-other.ensures.items c.in_ok-to-in-If.ensures c.in_ok-statement-in-If.ensures
+    c.in_ok-optional-in-If.ensures added)
+    c.add_if.ensures
+
+pub statement-returns-in-While : goal.statement-returns-in-While
+statement-returns-in-While t c =
+    let p = c.args.setting.now.program.now in
+    let names = c.args.scope.now in
+    let path = c.args.path.now in
+    let frame = c.args.frame in
+    let low = c.args.declared.now in
+    let old = c.args.out.now.items in
+    let stmt = c.args.stmt.now in
+    on-ok c.repeat.result _ _ (λ made is_frame.
+    makes-as p names path (stmt_part p frame stmt) (loop_part p frame (record {
+      after = false;
+      stmt =
+          c.in-While.stmt;
+      when = c.in-While.when;
+      body = c.deref-in-While.result.now;
+      step = [];
+    }))
+    (Does names frame.exits frame.home low) low c.repeat.new.declared old c.repeat.new.out.items
+    (λ w back t s. form-While p frame stmt w back t s c.in-While.stmt c.in-While.when c.in-While.body
+    c.deref-in-While.result.now
+    c.in-While.is c.deref-in-While.ensures) (made is_frame)) c.repeat.ensures
+
+pub statement-returns-in-DoWhile : goal.statement-returns-in-DoWhile
+statement-returns-in-DoWhile t c =
+    let p = c.args.setting.now.program.now in
+    let names = c.args.scope.now in
+    let path = c.args.path.now in
+    let frame = c.args.frame in
+    let low = c.args.declared.now in
+    let old = c.args.out.now.items in
+    let stmt = c.args.stmt.now in
+    on-ok c.repeat-in-DoWhile.result _ _ (λ made is_frame.
+    makes-as p names path (stmt_part p frame stmt) (loop_part p frame (record {
+      after = true;
+      stmt =
+          c.in-DoWhile.stmt;
+      when = c.in-DoWhile.when;
+      body = c.deref-in-DoWhile.result.now;
+      step = [];
+    }))
+    (Does names frame.exits frame.home low) low c.repeat-in-DoWhile.new.declared old
+    c.repeat-in-DoWhile.new.out.items
+    (λ w back t s. form-DoWhile p frame stmt w back t s c.in-DoWhile.stmt c.in-DoWhile.when c.in-DoWhile.body
+    c.deref-in-DoWhile.result.now c.in-DoWhile.is c.deref-in-DoWhile.ensures) (made is_frame))
+    c.repeat-in-DoWhile.ensures
+
+pub statement-returns-in_ok-statements-in-For : goal.statement-returns-in_ok-statements-in-For
+statement-returns-in_ok-statements-in-For t c =
+    let p = c.args.setting.now.program.now in
+    let names = c.args.scope.now in
+    let path = c.args.path.now in
+    let frame = c.args.frame in
+    let low = c.args.declared.now in
+    let old = c.args.out.now.items in
+    let stmt = c.args.stmt.now in
+    let first = c.as_slice-in-For.result.now in
+    let steps = c.as_slice-in-For-2.result.now in
+    let inner = c.deref-in-For.result.now in
+    let mid = c.statements-in-For.new.declared in
+    let out = c.statements-in-For.new.out.items in
+    let high = c.repeat-in-For.new.declared in
+    let new = c.repeat-in-For.new.out.items in
+    on-ok c.repeat-in-For.result _ _ (λ more is_frame.
+    let made : Makes p names path (stmts_part p frame first) (Does names frame.exits frame.home low) low
+    mid old out =
+    c.in_ok-statements-in-For.ensures is_frame in
+    makes-as p names path (stmt_part p frame stmt)
+    (row_part (λ w back. exec_all (context_in_frame p frame w) back first)
+    (loop_now p frame (record {
+      after = false;
+      stmt = c.in-For.stmt;
+      when = c.in-For.when;
+      body = inner;
+      step = steps;
+    })))
+    (Does names frame.exits frame.home low) low high old new
+    (λ w back t s. form-For p frame stmt w back t s c.in-For.stmt c.in-For.first c.in-For.when
+    c.in-For.step c.in-For.body
+    first steps inner c.in-For.is c.as_slice-in-For.ensures.value c.as_slice-in-For-2.ensures.value
+    c.deref-in-For.ensures)
+    (makes-row p names path frame.exits frame.home (λ w back. exec_all (context_in_frame p frame w) back
+    first)
+    (loop_now p frame (record {
+      after = false;
+      stmt = c.in-For.stmt;
+      when = c.in-For.when;
+      body = inner;
+      step = steps;
+    }))
+    low mid high old out new made (more (frame-later p frame.home names low mid made.grows is_frame))))
+    c.repeat-in-For.ensures
+
+pub statement-returns-in-Break : goal.statement-returns-in-Break
+statement-returns-in-Break t c =
+    let p = c.args.setting.now.program.now in
+    let names = c.args.scope.now in
+    let path = c.args.path.now in
+    let frame = c.args.frame in
+    let low = c.args.declared.now in
+    let old = c.args.out.now.items in
+    let stmt = c.args.stmt.now in
+    on-ok c.add_leave.result _ _ (λ added is_frame.
+    makes-break p names path frame low is_frame.naming stmt old c.add_leave.new.out.items c.in-Break.is
+    (subst (λ label. Adds old c.add_leave.new.out.items (leave_act label)) c.break_label.ensures added))
+    c.add_leave.ensures
+
+pub statement-returns-in-Continue : goal.statement-returns-in-Continue
+statement-returns-in-Continue t c =
+    let p = c.args.setting.now.program.now in
+    let names = c.args.scope.now in
+    let path = c.args.path.now in
+    let frame = c.args.frame in
+    let low = c.args.declared.now in
+    let old = c.args.out.now.items in
+    let stmt = c.args.stmt.now in
+    on-ok c.add_leave-in-Continue.result _ _ (λ added is_frame.
+    makes-continue p names path frame low is_frame.naming stmt old c.add_leave-in-Continue.new.out.items
+    c.in-Continue.is
+    (subst (λ label. Adds old c.add_leave-in-Continue.new.out.items (leave_act label))
+    c.continue_label.ensures added))
+    c.add_leave-in-Continue.ensures
+
+pub statement-returns-in_ok-given_to-in-Return : goal.statement-returns-in_ok-given_to-in-Return
+statement-returns-in_ok-given_to-in-Return t c =
+    let p = c.args.setting.now.program.now in
+    let names = c.args.scope.now in
+    let path = c.args.path.now in
+    let frame = c.args.frame in
+    let low = c.args.declared.now in
+    let old = c.args.out.now.items in
+    let stmt = c.args.stmt.now in
+    let high = c.given_to.new.declared in
+    let out = c.given_to.new.out.items in
+    let e = c.in-Return.value in
+    on-ok c.add_leave-in-Return.result _ _ (λ added is_frame.
+    makes-return p names path frame low is_frame.naming stmt c.in-Return.stmt e (has_call e) high old out
+    c.add_leave-in-Return.new.out.items c.in-Return.is
+    (subst (λ ty. Makes p names path (given_part p frame c.in-Return.stmt (wanted.Value ty) e)
+    (GivesTo names (has_call e) low frame.home) low high old out) c.unwrap_or-t.ensures
+    (c.in_ok-given_to-in-Return.ensures (scope-of p frame.home names low is_frame))) added)
+    c.add_leave-in-Return.ensures
+
+pub statement-returns-in_ok-add_set-in-ReturnNone : goal.statement-returns-in_ok-add_set-in-ReturnNone
+statement-returns-in_ok-add_set-in-ReturnNone t c =
+    let p = c.args.setting.now.program.now in
+    let names = c.args.scope.now in
+    let path = c.args.path.now in
+    let frame = c.args.frame in
+    let low = c.args.declared.now in
+    let old = c.args.out.now.items in
+    let stmt = c.args.stmt.now in
+    on-ok c.add_leave-in-ReturnNone.result _ _ (λ added is_frame.
+    makes-return-none p names path frame low is_frame.naming stmt old c.add_set.new.out.items
+    c.add_leave-in-ReturnNone.new.out.items c.in-ReturnNone.is c.in_ok-add_set-in-ReturnNone.ensures added)
+    c.add_leave-in-ReturnNone.ensures
+
+pub statement-returns-in-CallStmt : goal.statement-returns-in-CallStmt
+statement-returns-in-CallStmt t c =
+    let p = c.args.setting.now.program.now in
+    let names = c.args.scope.now in
+    let path = c.args.path.now in
+    let frame = c.args.frame in
+    let low = c.args.declared.now in
+    let old = c.args.out.now.items in
+    let stmt = c.args.stmt.now in
+    on-ok c.call_statement.result _ _ (λ made is_frame.
+    makes-as p names path (stmt_part p frame stmt) (call_stmt_part p frame c.in-CallStmt.stmt
+    c.in-CallStmt.call c.in-CallStmt.function
+    c.as_slice-in-CallStmt.result.now)
+    (Does names frame.exits frame.home low) low c.call_statement.new.declared old
+    c.call_statement.new.out.items
+    (λ w back t s. form-CallStmt p frame stmt w back t s c.in-CallStmt.stmt c.in-CallStmt.call
+    c.in-CallStmt.function
+    c.in-CallStmt.args c.as_slice-in-CallStmt.result.now c.in-CallStmt.is
+    c.as_slice-in-CallStmt.ensures.value) (made is_frame)) c.call_statement.ensures
+
+pub statement-returns-in-Print : goal.statement-returns-in-Print
+statement-returns-in-Print t c =
+    let p = c.args.setting.now.program.now in
+    let names = c.args.scope.now in
+    let path = c.args.path.now in
+    let frame = c.args.frame in
+    let low = c.args.declared.now in
+    let old = c.args.out.now.items in
+    let stmt = c.args.stmt.now in
+    on-ok c.print.result _ _ (λ made is_frame.
+    makes-as p names path (stmt_part p frame stmt) (print_part p frame c.in-Print.stmt
+    c.as_slice-in-Print.result.now)
+    (Does names frame.exits frame.home low) low c.print.new.declared old c.print.new.out.items
+    (λ w back t s. form-Print p frame stmt w back t s c.in-Print.stmt c.in-Print.args
+    c.as_slice-in-Print.result.now c.in-Print.is
+    c.as_slice-in-Print.ensures.value) (made is_frame)) c.print.ensures
+
+pub statement-returns-in_ok-value-in-Assert : goal.statement-returns-in_ok-value-in-Assert
+statement-returns-in_ok-value-in-Assert t c =
+    let p = c.args.setting.now.program.now in
+    let names = c.args.scope.now in
+    let path = c.args.path.now in
+    let frame = c.args.frame in
+    let low = c.args.declared.now in
+    let old = c.args.out.now.items in
+    let stmt = c.args.stmt.now in
+    on-ok c.add_assert.result _ _ (λ added is_frame.
+    makes-assert p names path frame low is_frame.naming stmt c.in-Assert.stmt c.in-Assert.when (has_call
+    c.in-Assert.when)
+    false c.in_ok-value-in-Assert.value c.expression.new.declared old c.expression.new.out.items
+    c.add_assert.new.out.items
+    c.in-Assert.is (c.in_ok-value-in-Assert.ensures (scope-of p frame.home names low is_frame)) added)
+    c.add_assert.ensures
+
+pub optional-returns-in-None : goal.optional-returns-in-None
+optional-returns-in-None t c = λ is_frame.
+    let p = c.args.setting.now.program.now in
+    let names = c.args.scope.now in
+    let path = c.args.path.now in
+    let frame = c.args.frame in
+    let low = c.args.declared.now in
+    let old = c.args.out.now.items in
+    makes-no-code p names path frame low is_frame.naming (optional_part p frame c.args.stmt.now) old
+    (λ w back t s. ap (λ o. optional_now p frame o w back s) c.in-None.is)
+
+pub statements-loop-stmt-init : goal.statements-loop-stmt-init
+statements-loop-stmt-init t c = λ is_frame.
+    let p = c.args.setting.now.program.now in
+    let names = c.args.scope.now in
+    let path = c.args.path.now in
+    let frame = c.args.frame in
+    let low = c.args.declared.now in
+    let old = c.args.out.now.items in
+    stmts-none p names path frame low old is_frame.naming
+
+pub statements-loop-stmt-preserved : goal.statements-loop-stmt-preserved
+statements-loop-stmt-preserved t c = λ is_frame.
+    let p = c.args.setting.now.program.now in
+    let names = c.args.scope.now in
+    let path = c.args.path.now in
+    let frame = c.args.frame in
+    let low = c.args.declared.now in
+    let old = c.args.out.now.items in
+    let mid = c.loop-stmt.declared in
+    let made = c.loop-stmt.invariant is_frame in
+    stmts-more p names path frame c.args.body.now c.loop-stmt.stmt-index c.stmt-item.result low mid
+    c.statement.new.declared
+    old c.loop-stmt.out.items c.statement.new.out.items c.loop-stmt-test.true c.stmt-item.is made
+    (c.in_ok-statement.ensures (frame-later p frame.home names low mid made.grows is_frame))
+
+pub statements-returns : goal.statements-returns
+statements-returns t c = λ is_frame.
+    let p = c.args.setting.now.program.now in
+    let names = c.args.scope.now in
+    let path = c.args.path.now in
+    let frame = c.args.frame in
+    let low = c.args.declared.now in
+    let old = c.args.out.now.items in
+    subst (λ body. Makes p names path (stmts_part p frame body) (Does names frame.exits frame.home low) low
+    c.loop-stmt.declared old c.loop-stmt.out.items) (take_all c.loop-stmt.stmt-index c.args.body.now
+    (search rules))
+    (c.loop-stmt.invariant is_frame)
+
+pub statements-statement-requires : goal.statements-statement-requires
+statements-statement-requires t c =
+    let h : height c.stmt-item.result < heights c.args.body.now =
+    item-below height c.args.body.now c.loop-stmt.stmt-index c.stmt-item.result (search rules) (search
+    rules) in
+    search (rules, h)
+
+pub repeat-returns : goal.repeat-returns
+repeat-returns t c =
+    let p = c.args.setting.now.program.now in
+    let names = c.args.scope.now in
+    let path = c.args.path.now in
+    let frame = c.args.frame in
+    let low = c.args.declared.now in
+    let old = c.args.out.now.items in
+    on-ok c.add_block-2.result _ _ (λ added is_frame.
+    loop-made p names path frame low is_frame (parts_of c.args.parts.now) c.in_body.result c.in_step.result
+    c.as_slice.result.now c.as_slice-2.result.now c.as_slice-3.result.now c.in_ok-to.to
+    c.condition.new.declared
+    c.statement.new.declared c.statements.new.declared old c.add_block-2.new.out.items c.new-head.result.items
+    c.condition.new.out.items c.new-body.result.items c.statement.new.out.items c.new-turn.result.items
+    c.add_block.new.out.items c.new-step.result.items c.statements.new.out.items c.new-whole.result.items
+    c.add_loop.new.out.items (c.as_slice.ensures.value ∙ c.in_ok-inside.ensures)
+    (c.as_slice-2.ensures.value ∙ c.in_ok-inside.ensures) (c.as_slice-3.ensures.value ∙
+    c.in_ok-inside.ensures)
+    c.new-head.ensures.items c.new-body.ensures.items c.new-turn.ensures.items c.new-step.ensures.items
+    c.new-whole.ensures.items c.in_body.ensures c.in_step.ensures c.in_ok-to.ensures c.in_ok-statement.ensures
+    c.in_ok-add_block.ensures c.in_ok-statements.ensures c.in_ok-add_loop.ensures added) c.add_block-2.ensures

@@ -1,0 +1,17 @@
+pub mod Outcomes
+pub mod Names
+pub mod Ends
+pub mod Declarations
+pub mod Worlds
+pub mod Keeping
+pub mod Making
+pub mod Adding
+pub mod Parts
+pub mod Binding
+pub mod Invoking
+pub mod Arrays
+pub mod Repeating
+pub mod Calling
+pub mod Heights
+pub mod Starting
+pub mod Translating

@@ -1,0 +1,107 @@
+//! What is known where a program's calls are inlined.
+
+ghost use Rattle.std.specs.Prelude.{◌≡◌};
+ghost use Rattle.ba_inline.specs.Making.{body_exits, break_label, continue_label, turn_exits};
+ghost use Rattle.ba_inline.specs.Parts.{wanted_take};
+
+use ba_code::nodes::{Operand, Take};
+use ba_numbers::numbers::CType;
+use ba_tree::tree::Program;
+use std::alloc::Global;
+
+/// What stands still while a program is inlined.
+#[derive(Clone, Copy)]
+pub struct Setting<'a> {
+    pub alloc: Global,
+    pub program: &'a Program,
+}
+
+/// Which loop around a statement a `break` leaves, if any, and whether there is one with which a `continue` goes on.
+#[derive(Clone, Copy, Debug, PartialEq, Eq)]
+pub struct Exits {
+    pub breaks: bool,
+    pub continues: bool,
+}
+
+/// What is known of the function whose body is inlined: the variable of the code that has its result, the loops around, the type that it
+/// returns, and how many more frames may begin.
+#[derive(Clone, Copy)]
+pub struct Frame {
+    pub home: u32,
+    pub exits: Exits,
+    pub result: Option<CType>,
+    pub frames: u32,
+}
+
+/// What a call gives to a parameter: a value, or the location of an array.
+#[derive(Clone, Copy, Debug, PartialEq, Eq)]
+pub enum Given {
+    Value(Operand),
+    Array(u32),
+}
+
+/// What has to stand in place of an expression: a value of a type, or the value of a condition.
+#[derive(Clone, Copy, Debug, PartialEq, Eq)]
+pub enum Wanted {
+    Value(CType),
+    Truth,
+}
+
+/// The label of the block that a `return` leaves.
+pub const RETURNED: u32 = 0;
+
+/// The label of the block that a `break` leaves.
+pub const BROKEN: u32 = 1;
+
+/// The label of the block that a `continue` leaves.
+pub const CONTINUED: u32 = 2;
+
+/// The label of the block that a `break` leaves here; outside of loops, where no program has one, it is the function's.
+pub fn break_label(exits: Exits) -> u32
+    ensures { result ≡ break_label exits }
+{
+    if exits.breaks { BROKEN } else { RETURNED }
+}
+
+/// The label of the block that a `continue` leaves here; outside of loops, where no program has one, it is the function's.
+pub fn continue_label(exits: Exits) -> u32
+    ensures { result ≡ continue_label exits }
+{
+    if exits.continues { CONTINUED } else { RETURNED }
+}
+
+/// Inside the body of a loop.
+pub fn in_body(frame: Frame) -> Frame
+    ensures { result ≡ record frame { exits = body_exits } }
+{
+    Frame {
+        exits: Exits {
+            breaks: true,
+            continues: true,
+        },
+        ..frame
+    }
+}
+
+/// Inside the step of a loop: a `continue` would go on with the loop around it.
+pub fn in_step(frame: Frame) -> Frame
+    ensures { result ≡ record frame { exits = turn_exits frame.exits } }
+{
+    Frame {
+        exits: Exits {
+            breaks: true,
+            continues: frame.exits.continues,
+        },
+        ..frame
+    }
+}
+
+/// What the values of a choice do that stand in place of an expression.
+pub fn take_of(wanted: Wanted, to: u32) -> Take
+    ensures { result ≡ wanted_take wanted to }
+{
+    match wanted {
+        Wanted::Value(t) => Take::Value { to, t },
+        Wanted::Truth => Take::Truth { to },
+    }
+}

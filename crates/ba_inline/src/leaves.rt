@@ -1,0 +1,94 @@
+//! The parts of the inliner that make no other part.
+
+ghost use Rattle.std.specs.Prelude.{◌≡◌, ◌<◌, ◌++◌, ◌∷◌, [], length, pos, ℕ, replicate, List, IfOk, IfSome, OnOk};
+ghost use Rattle.ba_inline.specs.Arrays.{IsArrayOf};
+ghost use Rattle.ba_inline.specs.Making.{Does, Makes};
+ghost use Rattle.ba_inline.specs.Names.{IsFrame};
+ghost use Rattle.ba_inline.specs.Parts.{declare_part};
+ghost use Rattle.ba_inline.specs.declared.frames.Frame.{Frame};
+ghost use Rattle.ba_tree.specs.declared.run.Step.{Step};
+ghost use Rattle.ba_tree.specs.Run.{function_of};
+
+use crate::binding::zeros;
+use crate::declared::Declared;
+use crate::emit::{add_fill, add_set};
+use crate::expressions::variable_of;
+use crate::frames::Setting;
+use crate::scope::Scope;
+use ba_code::nodes::{Node, Operand};
+use ba_numbers::ids::{FnId, VarId};
+use ba_tree::run::Step;
+use ba_tree::tree::{Function, Program, Shape};
+use std::alloc::{AllocError, Global};
+
+/// A path with one more step inside.
+pub fn extended(alloc: Global, path: &[Step], step: Step) -> Result<Vec<Step>, AllocError>
+    ensures { IfOk result (λ inside. inside.items ≡ path.now ++ step ∷ []) }
+{
+    let mut inside = Vec::from_slice(alloc, path)?;
+    inside.push(step)?;
+    Ok(inside)
+}
+
+/// The function of this number, if there is one. Each function that a program calls is.
+pub fn function_of(program: &Program, function: FnId) -> Option<&Function>
+    ensures { IfSome result (λ found. (function.0 < length program.now.functions)
+        × (function_of program.now function ≡ found.now)) }
+{
+    program.functions.as_slice().get(function.0 as usize)
+}
+
+/// The code's array for an array variable, and how many elements it has. It has elements of the variable's type; in a program it
+/// always does.
+pub fn array_of(
+    setting: &Setting,
+    scope: &Scope,
+    declared: &Declared,
+    array: VarId,
+) -> Result<(u32, u32), AllocError>
+    ensures { IfOk result (λ found. IsArrayOf setting.now.program.now scope.now declared.now array found.0) }
+{
+    let number = scope.array(array)?;
+    match declared.info(number) {
+        Some(info) if info.t == variable_of(setting.program, array).t => Ok((number, info.len)),
+        _ => Err(AllocError),
+    }
+}
+
+/// The values, and constants 0 up to this number.
+pub fn filled_up(values: Vec<Operand>, len: u32) -> Result<Vec<Operand>, AllocError>
+    ensures { IfOk result (λ filled. (count : ℕ)
+        × (filled.items ≡ values.items ++ replicate count (Operand.Const (pos 0)))) }
+{
+    let given = values.len();
+    let mut filled = values;
+    for _ in given..len as usize {
+        filled.push(Operand::Const(0))?;
+    }
+    Ok(filled)
+}
+
+/// The code of a declaration.
+pub fn declare(
+    setting: &Setting,
+    scope: &Scope,
+    declared: &mut Declared,
+    out: &mut Vec<Node>,
+    var: VarId,
+) -> Result<(), AllocError>
+    ensures { OnOk result ((frame : Frame) (path : List Step)
+        → IsFrame setting.now.program.now frame.home scope.now declared.old
+        → Makes setting.now.program.now scope.now path
+        (declare_part setting.now.program.now var)
+        (Does scope.now frame.exits frame.home declared.old)
+        declared.old declared.new out.old.items out.new.items) }
+{
+    match variable_of(setting.program, var).shape {
+        Shape::Value => add_set(out, scope.variable(var)?, Operand::Const(0)),
+        Shape::Array(len) => {
+            let number = scope.array(var)?;
+            add_fill(out, number, zeros(setting.alloc, len)?)
+        }
+        Shape::Passed => Ok(()),
+    }
+}

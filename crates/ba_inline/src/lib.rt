@@ -1,0 +1,17 @@
+//! Inlining: a program without calls that has the outcomes of a program.
+//!
+//! [`inline`] puts the body of its function in place of each call, down to a bound on frames, and makes the order of evaluation explicit.
+#![tactic(auto)]
+
+mod binding;
+mod declared;
+mod emit;
+mod expressions;
+mod frames;
+mod inlining;
+mod leaves;
+mod scope;
+mod starting;
+mod whole;
+
+pub use whole::inline;
