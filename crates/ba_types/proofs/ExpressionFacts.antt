@@ -323,17 +323,17 @@ module _ (p : Parts) (owned : List VarId) where
 
   tighter_chains : (level : ℕ) (cs : List ChainTyping) → AreChains cs → AreChains (tighter level cs)
   tighter_chains level [] h = tt
-  tighter_chains level (c ∷ cs) h = from (nat_lt c.level level) where
-    from : (b : Bool) → AreChains (cond b (c ∷ tighter level cs) [])
-    from true = (h.0, tighter_chains level cs h.1)
-    from false = tt
+  tighter_chains level (c ∷ cs) h = from (nat_lt c.level level) (tighter_chains level cs h.1) where
+    from : (b : Bool) → AreChains (tighter level cs) → AreChains (cond b (c ∷ tighter level cs) [])
+    from true more = (h.0, more)
+    from false more = tt
 
   looser_chains : (level : ℕ) (cs : List ChainTyping) → AreChains cs → AreChains (from_looser level cs)
   looser_chains level [] h = tt
-  looser_chains level (c ∷ cs) h = from (nat_lt c.level level) where
-    from : (b : Bool) → AreChains (cond b (from_looser level cs) (c ∷ cs))
-    from true = looser_chains level cs h.1
-    from false = h
+  looser_chains level (c ∷ cs) h = from (nat_lt c.level level) (looser_chains level cs h.1) where
+    from : (b : Bool) → AreChains (from_looser level cs) → AreChains (cond b (from_looser level cs) (c ∷ cs))
+    from true more = more
+    from false more = h
 
   over_chains : (scope : Scope) → IsScope p owned scope → (before : ℕ) (left : Typed) →
       IsWellTyped p owned before left
