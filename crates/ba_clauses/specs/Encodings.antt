@@ -31,20 +31,22 @@ reading_by variable_of bit =
       negated = bit.negated;
     })
 
--- the models of the formula are the assignments of the free bits under which all required bits are true,
--- and each bit
--- that is read has the value of its reading; different nodes are read by different variables
-pub record IsEncoding (nodes : List Node) (required read : List Bit) (formula : Cnf) (readings : List
-    Reading) : Type 0 where
+-- the readings have the values that the bits have, under assignments of the variables and of the free bits
+abbrev pub AreRead : (ℕ → Bool) → List Node → List Bit → Assignment → List Reading → Type 0
+AreRead free nodes read v readings = map (value_read v) readings ≡ map (truth free nodes) read
+
+-- the models of a formula are the assignments of the free bits under which all required bits are true, and the
+-- bits that are read have the values of their readings; different nodes are read by different variables
+pub record IsEncoding (nodes : List Node) (required read : List Bit) (formula : Cnf)
+    (readings : List Reading) : Type 0 where
   pub variable_of : ℕ → ℕ
   pub read_by : readings ≡ map (reading_by variable_of) read
   pub counted : (bit : Bit) → Contains read bit → 0 < bit.index → 1 ≤ variable_of bit.index
-  pub within : (bit : Bit) → Contains read bit → 0 < bit.index → variable_of bit.index ≤ formula.variables
+  pub within : (bit : Bit) → Contains read bit → 0 < bit.index →
+      variable_of bit.index ≤ formula.variables
   pub apart : (a b : Bit) → Contains read a → Contains read b → 0 < a.index → 0 < b.index →
       variable_of a.index ≡ variable_of b.index → a.index ≡ b.index
   pub has_model : (free : ℕ → Bool) → all_hold free nodes required ≡ true →
-      (v : Assignment) × (all_true v formula.clauses ≡ true) × (map (value_read v) readings ≡ map (truth
-      free nodes) read)
+      (v : Assignment) × (all_true v formula.clauses ≡ true) × AreRead free nodes read v readings
   pub has_values : (v : Assignment) → all_true v formula.clauses ≡ true →
-      (free : ℕ → Bool) × (all_hold free nodes required ≡ true) × (map (value_read v) readings ≡ map (truth
-      free nodes) read)
+      (free : ℕ → Bool) × (all_hold free nodes required ≡ true) × AreRead free nodes read v readings

@@ -52,9 +52,8 @@ with_operand own false positive negative conjunct =
 with_operand own true positive negative conjunct =
     record own { positive = own.positive || negative; negative = own.negative || positive; merged = false }
 
--- an operand's literal and that of its opposite imply these as far as is needed; it is taken into the gate
--- at most
--- where it is an operand of an `and` as it is
+-- an operand's literal and that of its opposite imply these as far as is needed; the operand is merged at most where
+-- it is one of an `and` as it is
 pub record IsServed (uses : List Use) (bit : Bit) (positive negative conjunct : Bool) : Type 0 where
   pub node : 0 < bit.index
   pub among : bit.index ≤ length uses
