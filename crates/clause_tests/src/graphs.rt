@@ -232,6 +232,6 @@ fn all_agree(alloc: Global, count: u64) -> Result<bool, AllocError> {
 fn models_are_the_assignments_under_which_the_required_bits_are_true(
     rt: HostRuntime,
 ) -> Result<(), Fail> {
-    assert!(rt; all_agree(rt.alloc(), 500)?);
+    assert!(rt; all_agree(rt.alloc(), 150)?);
     Ok(())
 }
