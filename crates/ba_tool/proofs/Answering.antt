@@ -1,6 +1,6 @@
 -- Which row of the table of answers holds.
 
-use Rattle.std.proofs.Common.{◌≡◌, ℕ, ℤ, ◌+◌, ◌<◌, ◌≤◌, min, true, List, Some, ap, subst, arith}
+use Rattle.std.proofs.Common.{◌≡◌, ℕ, ℤ, ◌+◌, ◌<◌, ◌≤◌, min, true, List, Some, ap, subst, arith, Option, None}
 use Rattle.ba_interp.specs.Inputs.{Tells}
 use Rattle.ba_interp.specs.declared.input.InputError.{InputError}
 use Rattle.ba_interp.specs.declared.input.InputError.TheVariants as error
@@ -10,11 +10,13 @@ use Rattle.ba_tree.specs.Inputs.{IsInputOf, input_fault}
 use Rattle.ba_tree.specs.declared.run.Input.{Input}
 use Rattle.ba_tree.specs.declared.run.Outcome.{Outcome}
 use Rattle.ba_tree.specs.declared.tree.Program.{Program}
-use Rattle.ba_tool.specs.Answers.{Answers, Fails, IsAnswer, RunsTo, RunsToAt, input_answer, input_of, is_failure}
+use Rattle.ba_tool.specs.Answers.{Answers, Fails, IsAnswer, RunsTo, RunsToAt, input_answer, input_of, is_failure, program_answer}
 use Rattle.ba_types.specs.Spelling.{Spells}
 use Rattle.ba_tool.specs.Report.{statement_at}
+use Rattle.ba_tool.specs.Programs.{TellsFault}
 use Rattle.ba_tool.specs.declared.answers.Answer.{Answer}
 use Rattle.ba_tool.specs.declared.answers.Answer.TheVariants as answer
+use Rattle.ba_tool.specs.declared.faults.Fault.{Fault}
 use Rattle.ba_tool.specs.declared.files.Texts.{Texts}
 use Rattle.ba_tool.specs.declared.jobs.Job.{Job}
 
@@ -38,6 +40,12 @@ answered j x p (answer.Unreadable which) spelled h = (p, spelled, h)
 answered j x p (answer.TooLong which) spelled h = (p, spelled, h)
 answered j x p (answer.BadWeights line) spelled h = (p, spelled, h)
 answered j x p answer.NotBuilt spelled h = (p, spelled, h)
+
+-- the answer for the fault of a program
+pub refused : (j : Job) (x : Texts) (fault : Option Fault) (a : Answer) → TellsFault x.program fault
+    → program_answer fault ≡ Some a → IsAnswer j x a
+refused j x None a told is = let no : ⊥ = cc in absurd no
+refused j x (Some fault) a told is = subst (IsAnswer j x) (in_some is) told
 
 -- the answer for an error of an input
 pub input_answered : (j : Job) (x : Texts) (p : Program) (e : InputError) (a : Answer)

@@ -23,6 +23,7 @@ use Rattle.ba_tool.specs.declared.answers.Answer.{Answer}
 use Rattle.ba_tool.specs.declared.answers.Answer.TheVariants as answer
 use Rattle.ba_tool.specs.declared.answers.InputFault.{InputFault}
 use Rattle.ba_tool.specs.declared.answers.InputFault.TheVariants as fault
+use Rattle.ba_tool.specs.declared.faults.Fault.{Fault}
 use Rattle.ba_tool.specs.declared.files.Texts.{Texts}
 use Rattle.ba_tool.specs.declared.jobs.Job.{Job}
 use Rattle.ba_tool.specs.declared.jobs.Task.TheVariants as task
@@ -44,6 +45,11 @@ abbrev pub text_fault : InputFault → TextFault
 text_fault (fault.NotANumber number) = inputs.NotANumber number
 text_fault (fault.OutOfRange number) = inputs.OutOfRange number
 text_fault fault.WrongCount = inputs.WrongCount
+
+-- the answer for the fault of a program; none for want of memory
+abbrev pub program_answer : Option Fault → Option Answer
+program_answer None = None
+program_answer (Some fault) = Some (answer.BadProgram fault)
 
 -- the answer for an error of an input; none for want of memory
 abbrev pub input_answer : InputError → Option Answer

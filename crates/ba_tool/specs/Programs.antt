@@ -1,4 +1,4 @@
--- WHY A TEXT SPELLS NO PROGRAM; the program that it spells is `Spells` of typing.
+-- WHY A TEXT SPELLS NO PROGRAM; which program it spells, `Spells` of `ba_types` says.
 
 use Rattle.std.specs.Prelude.{◌≡◌, ℕ, Option, None, Some, option_map, Ok, Err, List, [], slice_get}
 use Rattle.ba_numbers.specs.declared.ids.At.{At}
@@ -22,7 +22,7 @@ use Rattle.ba_tool.specs.declared.faults.Cause.{Cause}
 use Rattle.ba_tool.specs.declared.faults.Cause.TheVariants as cause
 use Rattle.ba_tool.specs.declared.faults.Fault.{Fault}
 
--- The first stage that refuses a text, and the first fault of that stage.
+-- The first stage that refuses it, and the first fault of that stage
 
 -- the fault that an error of the tokens is; none for want of memory
 abbrev pub lexical_fault : LexError → Option Fault

@@ -3,7 +3,7 @@
 ghost use Rattle.std.specs.Prelude.{◌≡◌, ◌≤◌, ◌<◌, ◌^◌, true, Some, length, unwrap_or, IfOk};
 ghost use Rattle.ba_tree.specs.Least.{AreWeightsOf, weight_at, weight_of};
 ghost use Rattle.ba_tree.specs.Run.{are_bounds, plain_run};
-ghost use Rattle.ba_tool.specs.Answers.{Answers, Fails, IsAnswer, RunsTo, input_answer, input_of, weights_of};
+ghost use Rattle.ba_tool.specs.Answers.{Answers, Fails, IsAnswer, RunsTo, input_answer, input_of, program_answer, weights_of};
 ghost use Rattle.ba_tool.specs.Calls.{limit};
 ghost use Rattle.ba_tool.specs.Report.{statement_at};
 ghost use Rattle.ba_tool.specs.declared.answers.Answer.{Answer};
@@ -11,7 +11,7 @@ ghost use Rattle.ba_tool.specs.declared.jobs.Job.{Job};
 ghost use Rattle.ba_tool.specs.declared.jobs.Task.{Task};
 
 use crate::answers::{Answer, InputFault};
-use crate::faults::read_program;
+use crate::faults::{Fault, read_program};
 use crate::files::Texts;
 use crate::jobs::{Job, Task};
 use crate::report::{report, statement_at};
@@ -75,6 +75,18 @@ fn plain_run(
     run(alloc, program, input, bounds, &nothing, &[])
 }
 
+/// The answer for the fault of a program.
+///
+/// The one error is want of memory, where there is no fault.
+fn program_answer(fault: Option<Fault>) -> Result<Answer, AllocError>
+    ensures { IfOk result (λ answer. program_answer fault ≡ Some answer) }
+{
+    match fault {
+        Some(fault) => Ok(Answer::BadProgram(fault)),
+        None => Err(AllocError),
+    }
+}
+
 /// The answer for an error of an input.
 ///
 /// The one error is want of memory.
@@ -103,8 +115,7 @@ pub fn judge(alloc: Global, job: &Job, texts: &Texts) -> Result<Answer, AllocErr
 {
     match read_program(alloc, texts.program.as_slice()) {
         Ok(program) => judge_program(alloc, job, texts, &program),
-        Err(Some(fault)) => Ok(Answer::BadProgram(fault)),
-        Err(None) => Err(AllocError),
+        Err(fault) => program_answer(fault),
     }
 }
 
