@@ -5,6 +5,4 @@
 #[cfg(test)]
 mod endless;
 #[cfg(test)]
-mod program;
-#[cfg(test)]
 mod world;
