@@ -101,7 +101,9 @@ impl Arena {
     ///
     /// The one error is want of memory or of room, which is for 2^32 - 1 words. It leaves the arena as it was.
     pub fn add(&mut self, lits: &[Lit], number: u64) -> Result<ClauseRef, AllocError>
-        ensures ok { IfOk result (λ clause. Adds self.old self.new clause (record { lits = lits.now; number = number; first = None; second = None })) }
+        ensures ok { IfOk result (λ clause.
+            Adds self.old self.new clause (record
+            { lits = lits.now; number = number; first = None; second = None })) }
         ensures err { OnErr result (self.new ≡ self.old) }
     {
         let place = self.words.len();

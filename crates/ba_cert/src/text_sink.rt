@@ -1,6 +1,6 @@
 //! A certificate that is written as its steps are made.
 
-ghost use Rattle.std.specs.Prelude.{◌≡◌, ◌++◌, true, false, [], ◌∷◌, None, Some, option_map, All, OnOk, OnErr};
+ghost use Rattle.std.specs.Prelude.{◌≡◌, ◌++◌, ◌&&◌, bytes_eq, true, false, [], ◌∷◌, None, Some, option_map, All, OnOk, OnErr};
 ghost use Rattle.ba_world.specs.World.{HasWriteFault};
 ghost use Rattle.ba_steps.specs.Steps.{IsFormed};
 ghost use Rattle.ba_steps.specs.Sinks.{MayAdd, with_told};
@@ -124,6 +124,7 @@ impl<'a, W: World> TextSink<'a, W> {
     /// takes no memory.
     pub fn new(alloc: Global, world: &'a mut W, name: &'a str) -> TextSink<'a, W>
         requires { is_sound true name.now (W.outside world.old) ≡ true }
+        ensures whole { result.whole ≡ true }
         ensures same_reference { result.world.ghost_name ≡ world.entry.ghost_name }
         ensures same_world { result.world.now ≡ world.old }
         ensures named { result.name.now ≡ name.now }
@@ -139,6 +140,7 @@ impl<'a, W: World> TextSink<'a, W> {
     /// Whether the file has this name and no step was refused, so that it holds the certificate of
     /// the steps in the log and nothing more.
     pub fn is_whole(&self, name: &str) -> bool
+        ensures exactly { result ≡ self.now.whole && bytes_eq self.now.name.now name.now }
         ensures named { result ≡ true → name.now ≡ self.now.name.now }
         ensures whole { result ≡ true → (W.outside self.now.world.now).kept name.now
             ≡ option_map text_of (steps_at name.now (W.outside self.now.world.now)) }

@@ -46,17 +46,21 @@ where
     K: Fn(u64, u64) -> bool + Drop,
     requires restart { IsRestartRule (R.pre search.old.restart) (R.post search.old.restart) }
     requires keep { IsKeepRule (K.pre search.old.keep) (K.post search.old.keep) }
-    requires same { search.old.failure ≡ None → AreLive search.old.clauses (clause_at checked.old.checker.clauses) }
+    requires same { search.old.failure ≡ None
+        → AreLive search.old.clauses (clause_at checked.old.checker.clauses) }
     requires begun { search.old.failure ≡ None → checked.old.checker.ended ≡ false }
     requires awake { search.old.failure ≡ None → checked.old.checker.refused ≡ false }
     requires fresh { search.old.failure ≡ None → checked.old.refusal ≡ None }
     requires none_blocked { search.old.failure ≡ None → checked.old.checker.sets ≡ [] }
-    ensures found { IfOk result (λ found. IsFound (J.accepts checked.old.judge) checked.old.checker checked.new.checker found) }
-    ensures same { OnOk result (AreLive search.new.clauses (clause_at checked.new.checker.clauses)) }
+    ensures found { IfOk result (λ found.
+        IsFound (J.accepts checked.old.judge) checked.old.checker checked.new.checker found) }
+    ensures same { OnOk result (AreLive search.new.clauses
+        (clause_at checked.new.checker.clauses)) }
     ensures steps { OnOk result ((steps : List CertStep)
         × Derives (J.accepts checked.old.judge) checked.old.checker steps checked.new.checker
         × (S.logs checked.new.sink ≡ with_steps steps (S.logs checked.old.sink))) }
-    ensures leaves { Leaves (J.accepts checked.old.judge) checked.old.checker (S.logs checked.old.sink) checked.new.checker (S.logs checked.new.sink) }
+    ensures leaves { Leaves (J.accepts checked.old.judge) checked.old.checker
+        (S.logs checked.old.sink) checked.new.checker (S.logs checked.new.sink) }
     ensures stays_begun { OnOk result (checked.new.checker.ended ≡ false) }
     ensures none_blocked { OnOk result (checked.new.checker.sets ≡ []) }
     ensures stays_fresh { OnOk result ((search.new.failure ≡ None) × (checked.new.refusal ≡ None)) }

@@ -42,14 +42,20 @@ where
     requires ready { IsReady checked.old.checker }
     requires fresh { checked.old.refusal ≡ None }
     requires working { search.old.failure ≡ None }
-    ensures found { IfOk result (λ found. EndsRound (J.accepts checked.old.judge) checked.old.checker checked.new.checker weight.old weight.new found) }
-    ensures same { OnOk result (AreLive search.new.clauses (clause_at checked.new.checker.clauses)) }
-    ensures puts { OnOk result (Puts (J.accepts checked.old.judge) checked.old.checker checked.new.checker (S.logs checked.old.sink) (S.logs checked.new.sink)) }
-    ensures leaves { Leaves (J.accepts checked.old.judge) checked.old.checker (S.logs checked.old.sink) checked.new.checker (S.logs checked.new.sink) }
+    ensures found { IfOk result (λ found.
+        EndsRound (J.accepts checked.old.judge) checked.old.checker checked.new.checker weight.old
+        weight.new found) }
+    ensures same { OnOk result (AreLive search.new.clauses
+        (clause_at checked.new.checker.clauses)) }
+    ensures puts { OnOk result (Puts (J.accepts checked.old.judge) checked.old.checker
+        checked.new.checker (S.logs checked.old.sink) (S.logs checked.new.sink)) }
+    ensures leaves { Leaves (J.accepts checked.old.judge) checked.old.checker
+        (S.logs checked.old.sink) checked.new.checker (S.logs checked.new.sink) }
     ensures stays_fresh { OnOk result ((search.new.failure ≡ None) × (checked.new.refusal ≡ None)) }
     ensures restart_stays { search.new.restart ≡ search.old.restart }
     ensures keep_stays { search.new.keep ≡ search.old.keep }
-    ensures cause { result ≡ Err SearchError.SinkFailed → Rose (S.faults checked.old.sink) (S.faults checked.new.sink) }
+    ensures cause { result ≡ Err SearchError.SinkFailed
+        → Rose (S.faults checked.old.sink) (S.faults checked.new.sink) }
     ensures judge_stays { checked.new.judge ≡ checked.old.judge }
     ensures over_stays { S.over checked.new.sink ≡ S.over checked.old.sink }
     ensures no_fall { S.faults checked.old.sink ≤ S.faults checked.new.sink }
@@ -80,19 +86,26 @@ where
     K: Fn(u64, u64) -> bool + Drop,
     requires restart { IsRestartRule (R.pre search.old.restart) (R.post search.old.restart) }
     requires keep { IsKeepRule (K.pre search.old.keep) (K.post search.old.keep) }
-    requires answer { IsAnswer checked.old.checker (literals_of (heavy weight.old checked.old.checker.softs)) answer }
+    requires answer { IsAnswer checked.old.checker
+        (literals_of (heavy weight.old checked.old.checker.softs)) answer }
     requires same { AreLive search.old.clauses (clause_at checked.old.checker.clauses) }
     requires ready { IsReady checked.old.checker }
     requires fresh { checked.old.refusal ≡ None }
     requires working { search.old.failure ≡ None }
-    ensures found { IfOk result (λ found. EndsRound (J.accepts checked.old.judge) checked.old.checker checked.new.checker weight.old weight.new found) }
-    ensures same { OnOk result (AreLive search.new.clauses (clause_at checked.new.checker.clauses)) }
-    ensures puts { OnOk result (Puts (J.accepts checked.old.judge) checked.old.checker checked.new.checker (S.logs checked.old.sink) (S.logs checked.new.sink)) }
-    ensures leaves { Leaves (J.accepts checked.old.judge) checked.old.checker (S.logs checked.old.sink) checked.new.checker (S.logs checked.new.sink) }
+    ensures found { IfOk result (λ found.
+        EndsRound (J.accepts checked.old.judge) checked.old.checker checked.new.checker weight.old
+        weight.new found) }
+    ensures same { OnOk result (AreLive search.new.clauses
+        (clause_at checked.new.checker.clauses)) }
+    ensures puts { OnOk result (Puts (J.accepts checked.old.judge) checked.old.checker
+        checked.new.checker (S.logs checked.old.sink) (S.logs checked.new.sink)) }
+    ensures leaves { Leaves (J.accepts checked.old.judge) checked.old.checker
+        (S.logs checked.old.sink) checked.new.checker (S.logs checked.new.sink) }
     ensures stays_fresh { OnOk result ((search.new.failure ≡ None) × (checked.new.refusal ≡ None)) }
     ensures restart_stays { search.new.restart ≡ search.old.restart }
     ensures keep_stays { search.new.keep ≡ search.old.keep }
-    ensures cause { result ≡ Err SearchError.SinkFailed → Rose (S.faults checked.old.sink) (S.faults checked.new.sink) }
+    ensures cause { result ≡ Err SearchError.SinkFailed
+        → Rose (S.faults checked.old.sink) (S.faults checked.new.sink) }
     ensures judge_stays { checked.new.judge ≡ checked.old.judge }
     ensures over_stays { S.over checked.new.sink ≡ S.over checked.old.sink }
     ensures no_fall { S.faults checked.old.sink ≤ S.faults checked.new.sink }
@@ -112,9 +125,11 @@ fn take_model<S: Drop, J: RunJudge + Drop>(
     weight: &mut u32,
     model: Model,
 ) -> Option<Found>
-    requires model { IsModel checked.now.checker (literals_of (heavy weight.old checked.now.checker.softs)) model.values }
+    requires model { IsModel checked.now.checker
+        (literals_of (heavy weight.old checked.now.checker.softs)) model.values }
     requires ready { IsReady checked.now.checker }
-    ensures found { IfSome result (IsFound (J.accepts checked.now.judge) checked.now.checker checked.now.checker) }
+    ensures found { IfSome result (IsFound (J.accepts checked.now.judge) checked.now.checker
+        checked.now.checker) }
     ensures less { IfNone result (weight.new < weight.old) }
 {
     let checker = checked.checker();
@@ -144,19 +159,25 @@ where
     K: Fn(u64, u64) -> bool + Drop,
     requires restart { IsRestartRule (R.pre search.old.restart) (R.post search.old.restart) }
     requires keep { IsKeepRule (K.pre search.old.keep) (K.post search.old.keep) }
-    requires core { IsCore checked.old.checker (literals_of checked.old.checker.softs) core.lits core.hints core.back }
+    requires core { IsCore checked.old.checker (literals_of checked.old.checker.softs) core.lits
+        core.hints core.back }
     requires same { AreLive search.old.clauses (clause_at checked.old.checker.clauses) }
     requires ready { IsReady checked.old.checker }
     requires fresh { checked.old.refusal ≡ None }
     requires working { search.old.failure ≡ None }
-    ensures found { IfOk result (λ found. EndsRound (J.accepts checked.old.judge) checked.old.checker checked.new.checker 0 0 found) }
-    ensures same { OnOk result (AreLive search.new.clauses (clause_at checked.new.checker.clauses)) }
-    ensures puts { OnOk result (Puts (J.accepts checked.old.judge) checked.old.checker checked.new.checker (S.logs checked.old.sink) (S.logs checked.new.sink)) }
-    ensures leaves { Leaves (J.accepts checked.old.judge) checked.old.checker (S.logs checked.old.sink) checked.new.checker (S.logs checked.new.sink) }
+    ensures found { IfOk result (λ found.
+        EndsRound (J.accepts checked.old.judge) checked.old.checker checked.new.checker 0 0 found) }
+    ensures same { OnOk result (AreLive search.new.clauses
+        (clause_at checked.new.checker.clauses)) }
+    ensures puts { OnOk result (Puts (J.accepts checked.old.judge) checked.old.checker
+        checked.new.checker (S.logs checked.old.sink) (S.logs checked.new.sink)) }
+    ensures leaves { Leaves (J.accepts checked.old.judge) checked.old.checker
+        (S.logs checked.old.sink) checked.new.checker (S.logs checked.new.sink) }
     ensures stays_fresh { OnOk result ((search.new.failure ≡ None) × (checked.new.refusal ≡ None)) }
     ensures restart_stays { search.new.restart ≡ search.old.restart }
     ensures keep_stays { search.new.keep ≡ search.old.keep }
-    ensures cause { result ≡ Err SearchError.SinkFailed → Rose (S.faults checked.old.sink) (S.faults checked.new.sink) }
+    ensures cause { result ≡ Err SearchError.SinkFailed
+        → Rose (S.faults checked.old.sink) (S.faults checked.new.sink) }
     ensures judge_stays { checked.new.judge ≡ checked.old.judge }
     ensures over_stays { S.over checked.new.sink ≡ S.over checked.old.sink }
     ensures no_fall { S.faults checked.old.sink ≤ S.faults checked.new.sink }
@@ -181,19 +202,25 @@ where
     J: RunJudge + Drop,
     R: Fn(u64) -> u64 + Drop,
     K: Fn(u64, u64) -> bool + Drop,
-    requires core { IsCore checked.old.checker (literals_of checked.old.checker.softs) core.lits core.hints core.back }
+    requires core { IsCore checked.old.checker (literals_of checked.old.checker.softs) core.lits
+        core.hints core.back }
     requires same { AreLive search.old.clauses (clause_at checked.old.checker.clauses) }
     requires ready { IsReady checked.old.checker }
     requires fresh { checked.old.refusal ≡ None }
     requires working { search.old.failure ≡ None }
-    ensures found { IfOk result (λ found. EndsRound (J.accepts checked.old.judge) checked.old.checker checked.new.checker 0 0 found) }
-    ensures same { OnOk result (AreLive search.new.clauses (clause_at checked.new.checker.clauses)) }
-    ensures puts { OnOk result (Puts (J.accepts checked.old.judge) checked.old.checker checked.new.checker (S.logs checked.old.sink) (S.logs checked.new.sink)) }
-    ensures leaves { Leaves (J.accepts checked.old.judge) checked.old.checker (S.logs checked.old.sink) checked.new.checker (S.logs checked.new.sink) }
+    ensures found { IfOk result (λ found.
+        EndsRound (J.accepts checked.old.judge) checked.old.checker checked.new.checker 0 0 found) }
+    ensures same { OnOk result (AreLive search.new.clauses
+        (clause_at checked.new.checker.clauses)) }
+    ensures puts { OnOk result (Puts (J.accepts checked.old.judge) checked.old.checker
+        checked.new.checker (S.logs checked.old.sink) (S.logs checked.new.sink)) }
+    ensures leaves { Leaves (J.accepts checked.old.judge) checked.old.checker
+        (S.logs checked.old.sink) checked.new.checker (S.logs checked.new.sink) }
     ensures stays_fresh { OnOk result ((search.new.failure ≡ None) × (checked.new.refusal ≡ None)) }
     ensures restart_stays { search.new.restart ≡ search.old.restart }
     ensures keep_stays { search.new.keep ≡ search.old.keep }
-    ensures cause { result ≡ Err SearchError.SinkFailed → Rose (S.faults checked.old.sink) (S.faults checked.new.sink) }
+    ensures cause { result ≡ Err SearchError.SinkFailed
+        → Rose (S.faults checked.old.sink) (S.faults checked.new.sink) }
     ensures judge_stays { checked.new.judge ≡ checked.old.judge }
     ensures over_stays { S.over checked.new.sink ≡ S.over checked.old.sink }
     ensures no_fall { S.faults checked.old.sink ≤ S.faults checked.new.sink }
@@ -219,20 +246,26 @@ where
     J: RunJudge + Drop,
     R: Fn(u64) -> u64 + Drop,
     K: Fn(u64, u64) -> bool + Drop,
-    requires core { IsCore checked.old.checker (literals_of checked.old.checker.softs) core.lits core.hints core.back }
+    requires core { IsCore checked.old.checker (literals_of checked.old.checker.softs) core.lits
+        core.hints core.back }
     requires some { 0 < length core.lits }
     requires same { AreLive search.old.clauses (clause_at checked.old.checker.clauses) }
     requires ready { IsReady checked.old.checker }
     requires fresh { checked.old.refusal ≡ None }
     requires working { search.old.failure ≡ None }
-    ensures puts { OnOk result (Puts (J.accepts checked.old.judge) checked.old.checker checked.new.checker (S.logs checked.old.sink) (S.logs checked.new.sink)) }
-    ensures leaves { Leaves (J.accepts checked.old.judge) checked.old.checker (S.logs checked.old.sink) checked.new.checker (S.logs checked.new.sink) }
-    ensures fewer { OnOk result (checked.new.checker.budget - checked.new.checker.conflicts < checked.old.checker.budget - checked.old.checker.conflicts) }
-    ensures same { OnOk result (AreLive search.new.clauses (clause_at checked.new.checker.clauses)) }
+    ensures puts { OnOk result (Puts (J.accepts checked.old.judge) checked.old.checker
+        checked.new.checker (S.logs checked.old.sink) (S.logs checked.new.sink)) }
+    ensures leaves { Leaves (J.accepts checked.old.judge) checked.old.checker
+        (S.logs checked.old.sink) checked.new.checker (S.logs checked.new.sink) }
+    ensures fewer { OnOk result (checked.new.checker.budget - checked.new.checker.conflicts <
+        checked.old.checker.budget - checked.old.checker.conflicts) }
+    ensures same { OnOk result (AreLive search.new.clauses
+        (clause_at checked.new.checker.clauses)) }
     ensures stays_fresh { OnOk result ((search.new.failure ≡ None) × (checked.new.refusal ≡ None)) }
     ensures restart_stays { search.new.restart ≡ search.old.restart }
     ensures keep_stays { search.new.keep ≡ search.old.keep }
-    ensures cause { result ≡ Err SearchError.SinkFailed → Rose (S.faults checked.old.sink) (S.faults checked.new.sink) }
+    ensures cause { result ≡ Err SearchError.SinkFailed
+        → Rose (S.faults checked.old.sink) (S.faults checked.new.sink) }
     ensures judge_stays { checked.new.judge ≡ checked.old.judge }
     ensures over_stays { S.over checked.new.sink ≡ S.over checked.old.sink }
     ensures no_fall { S.faults checked.old.sink ≤ S.faults checked.new.sink }
@@ -266,7 +299,8 @@ fn heavy_literals(alloc: Global, softs: &[(Lit, u32)], weight: u32) -> Result<Ve
 ///
 /// The one error is want of memory.
 fn add_heavy(lits: &mut Vec<Lit>, soft: (Lit, u32), weight: u32) -> Result<(), AllocError>
-    ensures { OnOk result (lits.new.items ≡ lits.old.items ++ literals_of (heavy weight (soft ∷ []))) }
+    ensures { OnOk result (lits.new.items ≡ lits.old.items
+        ++ literals_of (heavy weight (soft ∷ []))) }
 {
     if soft.1 >= weight {
         lits.push(soft.0)?;

@@ -33,19 +33,24 @@ where
     K: Fn(u64, u64) -> bool + Drop,
     requires restart { IsRestartRule (R.pre search.old.restart) (R.post search.old.restart) }
     requires keep { IsKeepRule (K.pre search.old.keep) (K.post search.old.keep) }
-    requires core { IsCore checked.old.checker (literals_of checked.old.checker.softs) core.lits core.hints core.back }
+    requires core { IsCore checked.old.checker (literals_of checked.old.checker.softs) core.lits
+        core.hints core.back }
     requires same { AreLive search.old.clauses (clause_at checked.old.checker.clauses) }
     requires ready { IsReady checked.old.checker }
     requires fresh { checked.old.refusal ≡ None }
     requires working { search.old.failure ≡ None }
     ensures core { IfOk result (λ core. IsTrimmed checked.new.checker core) }
-    ensures same { OnOk result (AreLive search.new.clauses (clause_at checked.new.checker.clauses)) }
-    ensures puts { OnOk result (Puts (J.accepts checked.old.judge) checked.old.checker checked.new.checker (S.logs checked.old.sink) (S.logs checked.new.sink)) }
-    ensures leaves { Leaves (J.accepts checked.old.judge) checked.old.checker (S.logs checked.old.sink) checked.new.checker (S.logs checked.new.sink) }
+    ensures same { OnOk result (AreLive search.new.clauses
+        (clause_at checked.new.checker.clauses)) }
+    ensures puts { OnOk result (Puts (J.accepts checked.old.judge) checked.old.checker
+        checked.new.checker (S.logs checked.old.sink) (S.logs checked.new.sink)) }
+    ensures leaves { Leaves (J.accepts checked.old.judge) checked.old.checker
+        (S.logs checked.old.sink) checked.new.checker (S.logs checked.new.sink) }
     ensures stays_fresh { OnOk result ((search.new.failure ≡ None) × (checked.new.refusal ≡ None)) }
     ensures restart_stays { search.new.restart ≡ search.old.restart }
     ensures keep_stays { search.new.keep ≡ search.old.keep }
-    ensures cause { result ≡ Err SearchError.SinkFailed → Rose (S.faults checked.old.sink) (S.faults checked.new.sink) }
+    ensures cause { result ≡ Err SearchError.SinkFailed
+        → Rose (S.faults checked.old.sink) (S.faults checked.new.sink) }
     ensures judge_stays { checked.new.judge ≡ checked.old.judge }
     ensures over_stays { S.over checked.new.sink ≡ S.over checked.old.sink }
     ensures no_fall { S.faults checked.old.sink ≤ S.faults checked.new.sink }

@@ -10,10 +10,9 @@ use Rattle.ba_tree.specs.declared.run.Allowed.{Allowed}
 use Rattle.ba_tree.specs.declared.run.Input.{Input}
 use Rattle.ba_tree.specs.declared.tree.Program.{Program}
 
--- For every input that fits the parameters of main, every bound on turns, whatever may be relaxed, and for
--- all choices: the tree has the
--- outcome of the program, whose calls are followed through so many frames, where the same executions may be
--- relaxed.
+-- For every input that fits the parameters of main, every bound on turns, whatever may be relaxed, and for all
+-- choices: the tree has the outcome of the program, whose calls are followed through so many frames, where the
+-- same executions may be relaxed.
 abbrev pub HasOutcomes : Program → ℕ → LoopTree → Type 0
 HasOutcomes p frames tree = (input : Input) (turns : ℕ) (allowed : Allowed) (choices : List Choice)
     → fits p input ≡ true

@@ -1,7 +1,7 @@
 -- What a loop of the inliner is made of.
 
 use Rattle.ba_inline.specs.Parts.{LoopParts}
-use Rattle.ba_inline.specs.declared.inlining.Loop.{Loop}
+use Rattle.ba_inline.specs.declared.control.Loop.{Loop}
 
 abbrev pub parts_of : Loop → LoopParts
 parts_of l = record {

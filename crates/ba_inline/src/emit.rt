@@ -119,7 +119,8 @@ pub fn add_pick(
     take: Take,
     keep: Vec<Node>,
 ) -> Result<(), AllocError>
-    ensures { OnOk result (Adds out.old.items out.new.items (pick_act path.now stmt take keep.items)) }
+    ensures { OnOk result (Adds out.old.items out.new.items
+        (pick_act path.now stmt take keep.items)) }
 {
     let place = Place {
         path: Items::from_slice(alloc, path)?,

@@ -46,7 +46,8 @@ pub fn array_of(
     declared: &Declared,
     array: VarId,
 ) -> Result<(u32, u32), AllocError>
-    ensures { IfOk result (λ found. IsArrayOf setting.now.program.now scope.now declared.now array found.0) }
+    ensures { IfOk result (λ found.
+        IsArrayOf setting.now.program.now scope.now declared.now array found.0) }
 {
     let number = scope.array(array)?;
     match declared.info(number) {

@@ -4,13 +4,16 @@
 #![tactic(auto)]
 
 mod binding;
+mod calls;
+mod control;
 mod declared;
 mod emit;
 mod expressions;
 mod frames;
-mod inlining;
 mod leaves;
+mod operands;
 mod scope;
+mod simple;
 mod starting;
 mod whole;
 

@@ -67,7 +67,8 @@ impl Scope {
 
     /// The code's variable for a variable that is in use. Each variable that a program assigns to is.
     pub fn variable(&self, var: VarId) -> Result<u32, AllocError>
-        ensures { IfOk result (λ number. slice_get self.now.values var.0 ≡ Some (Operand.Var number)) }
+        ensures { IfOk result (λ number. slice_get self.now.values var.0
+            ≡ Some (Operand.Var number)) }
     {
         match self.values.get(var.0 as usize) {
             Some(Operand::Var(number)) => Ok(*number),

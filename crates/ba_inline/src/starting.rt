@@ -112,7 +112,8 @@ pub fn params_of(
     declared: &Declared,
     vars: &[VarId],
 ) -> Result<Vec<Param>, AllocError>
-    ensures { IfOk result (λ params. AreParams setting.now.program.now scope.now globals declared.now
+    ensures { IfOk result (λ params.
+        AreParams setting.now.program.now scope.now globals declared.now
         vars.now params.items) }
 {
     let mut params = Vec::with_capacity(setting.alloc, vars.len())?;

@@ -5,10 +5,10 @@ ghost use Rattle.ba_code.specs.Run.{code_of_loops};
 ghost use Rattle.ba_inline.specs.Outcomes.{HasOutcomes};
 ghost use Rattle.ba_inline.specs.Translating.{IsTranslation, IsTyped, code_with};
 
+use crate::control::statements;
 use crate::declared::Declared;
 use crate::emit::add_block;
 use crate::frames::{Exits, Frame, RETURNED, Setting};
-use crate::inlining::statements;
 use crate::leaves::function_of;
 use crate::scope::Scope;
 use crate::starting::{params_of, start_all};

@@ -42,10 +42,12 @@ impl Analyser {
     /// The one error is want of memory.
     pub fn analyse(&mut self, watch: &Watch, conflict: ClauseRef) -> Result<Learnt, AllocError>
         requires live { IsSome (clause_in watch.now.clauses conflict) }
-        requires false_ { is_false (value_of watch.now.trail) (lits_in watch.now.clauses conflict) ≡ true }
+        requires false_ { is_false (value_of watch.now.trail) (lits_in watch.now.clauses conflict)
+            ≡ true }
         requires level { 1 ≤ decided watch.now.reasons }
         ensures clause { IfOk result (λ learnt. IsClause watch.now.variables learnt.lits) }
-        ensures follows { IfOk result (λ learnt. Follows watch.now.clauses learnt.lits learnt.hints) }
+        ensures follows { IfOk result (λ learnt.
+            Follows watch.now.clauses learnt.lits learnt.hints) }
         ensures new { IfOk result (λ learnt. IsNewTo watch.now.clauses learnt.lits) }
         ensures backed { IfOk result (λ learnt. IsBacked watch.now learnt.lits learnt.back) }
         ensures short { IfOk result (λ learnt. IsShort watch.now learnt.lits) }
@@ -76,7 +78,8 @@ impl Analyser {
         requires false_ { value_of watch.now.trail lit ≡ Some false }
         requires reason { IsSome (reason_of watch.now.trail watch.now.reasons lit.variable) }
         ensures clause { IfOk result (λ learnt. IsClause watch.now.variables learnt.lits) }
-        ensures follows { IfOk result (λ learnt. Follows watch.now.clauses learnt.lits learnt.hints) }
+        ensures follows { IfOk result (λ learnt.
+            Follows watch.now.clauses learnt.lits learnt.hints) }
         ensures core { IfOk result (λ learnt. IsCoreOf watch.now lit learnt.lits) }
         ensures back { IfOk result (λ learnt. learnt.back ≡ 0) }
     {
@@ -102,7 +105,8 @@ impl Analyser {
     /// The one error is want of memory.
     pub fn refutation(&mut self, watch: &Watch, conflict: ClauseRef) -> Result<Vec<u64>, AllocError>
         requires live { IsSome (clause_in watch.now.clauses conflict) }
-        requires false_ { is_false (value_of watch.now.trail) (lits_in watch.now.clauses conflict) ≡ true }
+        requires false_ { is_false (value_of watch.now.trail) (lits_in watch.now.clauses conflict)
+            ≡ true }
         requires level { decided watch.now.reasons ≡ 0 }
         ensures { IfOk result (λ hints. Follows watch.now.clauses [] hints.items) }
     {
@@ -120,8 +124,10 @@ fn raised(watch: &Watch, lit: Lit, back: usize) -> usize
     requires within { lit.variable ≤ watch.now.variables }
     requires assigned { place_of watch.now.trail lit.variable < length watch.now.trail }
     ensures grows { back ≤ result }
-    ensures below { level_of_literal watch.now lit < decided watch.now.reasons → level_of_literal watch.now lit ≤ result }
-    ensures one { (result ≡ back) ⊎ ((level_of_literal watch.now lit < decided watch.now.reasons) × (level_of_literal watch.now lit ≡ result)) }
+    ensures below { level_of_literal watch.now lit < decided watch.now.reasons
+        → level_of_literal watch.now lit ≤ result }
+    ensures one { (result ≡ back) ⊎ ((level_of_literal watch.now lit < decided watch.now.reasons)
+        × (level_of_literal watch.now lit ≡ result)) }
 {
     let level = watch.level_of(lit.variable()).unwrap();
     if level < watch.level() {
@@ -134,8 +140,11 @@ fn raised(watch: &Watch, lit: Lit, back: usize) -> usize
 /// The greatest level of a clause's literals below the present one, or 0.
 fn back_of(watch: &Watch, lits: &[Lit]) -> usize
     requires within { All (λ l. l.variable ≤ watch.now.variables) lits.now }
-    requires assigned { All (λ l. place_of watch.now.trail l.variable < length watch.now.trail) lits.now }
-    ensures greatest { (k : ℕ) → k < length lits.now → level_in watch.now lits.now k < decided watch.now.reasons → level_in watch.now lits.now k ≤ result }
+    requires assigned { All (λ l. place_of watch.now.trail l.variable < length watch.now.trail)
+        lits.now }
+    ensures greatest { (k : ℕ) → k < length lits.now
+        → level_in watch.now lits.now k < decided watch.now.reasons
+        → level_in watch.now lits.now k ≤ result }
     ensures met { IsReached watch.now lits.now (length lits.now) result }
 {
     let mut back = 0;
@@ -150,7 +159,8 @@ fn back_of(watch: &Watch, lits: &[Lit]) -> usize
 /// The one error is want of memory.
 pub fn analyse(alloc: Global, watch: &Watch, conflict: ClauseRef) -> Result<Learnt, AllocError>
     requires live { IsSome (clause_in watch.now.clauses conflict) }
-    requires false_ { is_false (value_of watch.now.trail) (lits_in watch.now.clauses conflict) ≡ true }
+    requires false_ { is_false (value_of watch.now.trail) (lits_in watch.now.clauses conflict)
+        ≡ true }
     requires level { 1 ≤ decided watch.now.reasons }
     ensures clause { IfOk result (λ learnt. IsClause watch.now.variables learnt.lits) }
     ensures follows { IfOk result (λ learnt. Follows watch.now.clauses learnt.lits learnt.hints) }
@@ -181,7 +191,8 @@ pub fn core_of(alloc: Global, watch: &Watch, lit: Lit) -> Result<Learnt, AllocEr
 /// The one error is want of memory.
 pub fn refutation(alloc: Global, watch: &Watch, conflict: ClauseRef) -> Result<Vec<u64>, AllocError>
     requires live { IsSome (clause_in watch.now.clauses conflict) }
-    requires false_ { is_false (value_of watch.now.trail) (lits_in watch.now.clauses conflict) ≡ true }
+    requires false_ { is_false (value_of watch.now.trail) (lits_in watch.now.clauses conflict)
+        ≡ true }
     requires level { decided watch.now.reasons ≡ 0 }
     ensures { IfOk result (λ hints. Follows watch.now.clauses [] hints.items) }
 {

@@ -11,27 +11,35 @@ ghost use Rattle.ba_learn.specs.Backjumps.{after_back, IsUnitAt};
 
 /// A clause that is new contains no live clause, where no literal stands twice in that.
 pub fn new_law()
-    ensures { (live : ℕ → Option (List Literal)) (lits : List Literal) → IsNew live lits → (number : ℕ) (c : List Literal) → live number ≡ Some c → AreApart c → IsPartOf c lits → ⊥ }
+    ensures { (live : ℕ → Option (List Literal)) (lits : List Literal) → IsNew live lits
+        → (number : ℕ) (c : List Literal) → live number ≡ Some c → AreApart c → IsPartOf c lits
+        → ⊥ }
 {}
 
 /// After going back to the level of a learnt clause its literal of the level left has no value, and its others are
 /// false; the level is the one gone back to.
 pub fn unit_law()
-    ensures unit { (s : State) (lits : List Literal) (back : ℕ) → KeepsFacts s → (b : IsBacked s lits back) → IsUnitAt (after_back back s).trail lits b.present }
-    ensures level { (s : State) (lits : List Literal) (back : ℕ) → IsBacked s lits back → decided (after_back back s).reasons ≡ back }
+    ensures unit { (s : State) (lits : List Literal) (back : ℕ) → KeepsFacts s
+        → (b : IsBacked s lits back) → IsUnitAt (after_back back s).trail lits b.present }
+    ensures level { (s : State) (lits : List Literal) (back : ℕ) → IsBacked s lits back
+        → decided (after_back back s).reasons ≡ back }
 {}
 
 /// A learnt clause whose level isn't 0 may be added after going back to that level.
 pub fn asserting_law()
-    ensures { (s : State) (lits : List Literal) (back : ℕ) → KeepsFacts s → IsBacked s lits back → 1 ≤ back → IsAsserting (after_back back s) lits }
+    ensures { (s : State) (lits : List Literal) (back : ℕ) → KeepsFacts s → IsBacked s lits back
+        → 1 ≤ back → IsAsserting (after_back back s) lits }
 {}
 
 /// A clause that was added where all but one of its literals are false is a reason for that one.
 pub fn reason_law()
-    ensures { (old new : State) (clause number free : ℕ) (lits : List Literal) → AddsClause old new clause lits number → IsUnitAt old.trail lits free → IsReason (lits_in new.clauses clause) new.trail (lit_at lits free) }
+    ensures { (old new : State) (clause number free : ℕ) (lits : List Literal)
+        → AddsClause old new clause lits number → IsUnitAt old.trail lits free
+        → IsReason (lits_in new.clauses clause) new.trail (lit_at lits free) }
 {}
 
 /// Where no two clauses have the same number, a function has them by number.
 pub fn number_law()
-    ensures { (clauses : List (Option Clause)) → HaveDistinctNumbers clauses → AreLive clauses (by_number clauses) }
+    ensures { (clauses : List (Option Clause)) → HaveDistinctNumbers clauses
+        → AreLive clauses (by_number clauses) }
 {}

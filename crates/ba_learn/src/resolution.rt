@@ -32,7 +32,16 @@ impl Model for Resolution {
 
     ghost Value = { Work };
 
-    ghost view = { λ r. record { marks = r.marks; floor = r.floor; deep = r.deep; pending = r.pending; kept = r.kept.items; resolved = r.resolved.items; waiting = r.waiting.items } };
+    ghost view = { λ r. record {
+      marks = r.marks;
+      floor = r.floor;
+      deep = r.deep;
+      pending =
+          r.pending;
+      kept = r.kept.items;
+      resolved = r.resolved.items;
+      waiting = r.waiting.items;
+    } };
 }
 
 impl Resolution {
@@ -73,8 +82,10 @@ impl Resolution {
         requires counted { 1 ≤ variable }
         requires within { variable ≤ watch.now.variables }
         requires assigned { place_of watch.now.trail variable < length watch.now.trail }
-        ensures kept { result ≡ true → MayKeep watch.now self.now.deep (place_of watch.now.trail variable) }
-        ensures resolved { result ≡ false → MustResolve watch.now self.now.deep (place_of watch.now.trail variable) }
+        ensures kept { result ≡ true → MayKeep watch.now self.now.deep
+            (place_of watch.now.trail variable) }
+        ensures resolved { result ≡ false
+            → MustResolve watch.now self.now.deep (place_of watch.now.trail variable) }
     {
         watch.keeps_facts();
         if self.deep {
@@ -124,7 +135,8 @@ impl Resolution {
     fn meet_all(&mut self, watch: &Watch, clause: ClauseRef) -> Result<(), AllocError>
         requires live { IsSome (clause_in watch.now.clauses clause) }
         requires may { MayMeet watch.now self.old (lits_in watch.now.clauses clause) }
-        ensures { OnOk result (Meets watch.now self.old self.new (lits_in watch.now.clauses clause)) }
+        ensures { OnOk result (Meets watch.now self.old self.new
+            (lits_in watch.now.clauses clause)) }
     {
         watch.keeps_facts();
         let arena = watch.arena();
@@ -143,9 +155,13 @@ impl Resolution {
         deep: bool,
     ) -> Result<(), AllocError>
         requires live { IsSome (clause_in watch.now.clauses clause) }
-        requires may { (high : ℕ) × MayStart watch.now floor high (lits_in watch.now.clauses clause) }
-        ensures work { OnOk result ((high : ℕ) → MayStart watch.now floor high (lits_in watch.now.clauses clause) → IsWork watch.now high self.new) }
-        ensures marked { OnOk result (AreMarked watch.now (is_marked self.new) (lits_in watch.now.clauses clause)) }
+        requires may { (high : ℕ) × MayStart watch.now floor high
+            (lits_in watch.now.clauses clause) }
+        ensures work { OnOk result ((high : ℕ)
+            → MayStart watch.now floor high (lits_in watch.now.clauses clause)
+            → IsWork watch.now high self.new) }
+        ensures marked { OnOk result (AreMarked watch.now (is_marked self.new)
+            (lits_in watch.now.clauses clause)) }
         ensures resolved { OnOk result (self.new.resolved ≡ []) }
         ensures floor { OnOk result (self.new.floor ≡ floor) }
         ensures deep { OnOk result (self.new.deep ≡ deep) }
@@ -217,7 +233,8 @@ impl Resolution {
         requires within { place < length watch.now.trail }
         requires reason { IsSome (get_or watch.now.reasons place None) }
         requires may { MayResolve watch.now self.old place }
-        ensures { OnOk result (Meets watch.now (with_resolved self.old place) self.new (reason_of_place watch.now place)) }
+        ensures { OnOk result (Meets watch.now (with_resolved self.old place) self.new
+            (reason_of_place watch.now place)) }
     {
         watch.keeps_facts();
         let reason = reason_at(watch, place);
@@ -255,7 +272,8 @@ impl Resolution {
     /// Whether each literal of a clause is settled.
     fn are_settled(&self, watch: &Watch, clause: ClauseRef) -> bool
         requires { IsSome (clause_in watch.now.clauses clause) }
-        ensures { IsTrue result ↔ AreSettled watch.now (is_marked self.now) (lits_in watch.now.clauses clause) }
+        ensures { IsTrue result ↔ AreSettled watch.now (is_marked self.now)
+            (lits_in watch.now.clauses clause) }
     {
         watch.keeps_facts();
         let arena = watch.arena();
@@ -310,7 +328,8 @@ impl Resolution {
         ensures work { OnOk result (KeepsWork watch.now self.old self.new) }
         ensures pending { OnOk result (self.new.pending ≡ self.old.pending) }
         ensures all { OnOk result (self.new.waiting ≡ []) }
-        ensures short { OnOk result (self.old.deep ≡ false → IsShortened watch.now self.old → IsShortened watch.now self.new) }
+        ensures short { OnOk result (self.old.deep ≡ false → IsShortened watch.now self.old
+            → IsShortened watch.now self.new) }
     {
         watch.keeps_facts();
         while let Some(place) = self.waiting.pop() {
@@ -336,7 +355,8 @@ impl Resolution {
     ) -> Result<Vec<u64>, AllocError>
         requires live { IsSome (clause_in watch.now.clauses conflict) }
         requires reasons { All (λ p. IsSome (get_or watch.now.reasons p None)) self.now.resolved }
-        ensures { IfOk result (λ hints. hints.items ≡ map (number_at watch.now) self.now.resolved ++ number_in watch.now conflict ∷ []) }
+        ensures { IfOk result (λ hints. hints.items ≡ map (number_at watch.now) self.now.resolved
+            ++ number_in watch.now conflict ∷ []) }
     {
         let mut hints = Vec::new(alloc);
         for place in &self.resolved {
@@ -349,7 +369,8 @@ impl Resolution {
     /// A literal and the negations of those that are kept, by their variables.
     pub fn clause(&self, alloc: Global, watch: &Watch, lead: Lit) -> Result<Vec<Lit>, AllocError>
         requires { All (λ p. p < length watch.now.trail) self.now.kept }
-        ensures { IfOk result (λ lits. SortsLiterals (lead ∷ map (negated_at watch.now) self.now.kept) lits.items) }
+        ensures { IfOk result (λ lits. SortsLiterals (lead
+            ∷ map (negated_at watch.now) self.now.kept) lits.items) }
     {
         let trail = watch.trail();
         let mut lits = Vec::new(alloc);

@@ -49,7 +49,8 @@ pub struct Engine {
 impl Engine {
     /// No variables and no clauses. It takes no memory.
     pub fn new(alloc: Global) -> Engine
-        ensures watch { result.watch ≡ record { variables = 0; clauses = []; trail = []; reasons = []; settled = true } }
+        ensures watch { result.watch ≡ record
+            { variables = 0; clauses = []; trail = []; reasons = []; settled = true } }
         ensures taken { (number : ℕ) → get_or result.numbers.taken number false ≡ false }
         ensures learnt { result.numbers.learnt ≡ [] }
         ensures propagated { result.propagated ≡ 0 }
@@ -70,7 +71,8 @@ impl Engine {
     ///
     /// The one error is want of memory.
     pub fn grow(&mut self, variables: u64) -> Result<(), AllocError>
-        ensures ok { OnOk result (self.new.watch ≡ record self.old.watch { variables = max self.old.watch.variables variables }) }
+        ensures ok { OnOk result (self.new.watch
+            ≡ record self.old.watch { variables = max self.old.watch.variables variables }) }
         ensures numbers { self.new.numbers ≡ self.old.numbers }
         ensures propagated { self.new.propagated ≡ self.old.propagated }
     {
@@ -95,9 +97,11 @@ impl Engine {
     /// The one error is want of memory or of room.
     pub fn add(&mut self, lits: &[Lit], number: u64) -> Result<(), AllocError>
         requires clause { IsClause self.old.watch.variables lits.now }
-        requires level { (decided self.old.watch.reasons ≡ 0) ⊎ IsAsserting self.old.watch lits.now }
+        requires level { (decided self.old.watch.reasons ≡ 0)
+            ⊎ IsAsserting self.old.watch lits.now }
         requires fresh { get_or self.old.numbers.taken number false ≡ false }
-        ensures adds { OnOk result (AddsOne self.old.watch self.new.watch self.old.numbers self.new.numbers number lits.now) }
+        ensures adds { OnOk result (AddsOne self.old.watch self.new.watch self.old.numbers
+            self.new.numbers number lits.now) }
         ensures variables { self.new.watch.variables ≡ self.old.watch.variables }
         ensures learnt { self.new.numbers.learnt ≡ self.old.numbers.learnt }
         ensures since { self.new.since ≡ self.old.since }
@@ -114,9 +118,11 @@ impl Engine {
     ///
     /// The one error is want of memory or of room.
     pub fn take_new(&mut self, checker: &Checker) -> Result<(), SearchError>
-        requires taken { AreTaken self.old.watch.clauses self.old.numbers.taken (clause_at checker.now.clauses) }
+        requires taken { AreTaken self.old.watch.clauses self.old.numbers.taken
+            (clause_at checker.now.clauses) }
         ensures numbered { OnOk result (MarksLive self.new.watch.clauses self.new.numbers.taken) }
-        ensures live { OnOk result (AreLive self.new.watch.clauses (clause_at checker.now.clauses)) }
+        ensures live { OnOk result (AreLive self.new.watch.clauses
+            (clause_at checker.now.clauses)) }
         ensures cause { result ≢ Err SearchError.SinkFailed }
         ensures learnt { self.new.numbers.learnt ≡ self.old.numbers.learnt }
         ensures propagated { self.new.propagated ≡ self.old.propagated }
@@ -131,9 +137,11 @@ impl Engine {
     /// The one error is want of memory or of room.
     fn take_all(&mut self, checker: &Checker) -> Result<(), AllocError>
         requires level { decided self.old.watch.reasons ≡ 0 }
-        requires taken { AreTaken self.old.watch.clauses self.old.numbers.taken (clause_at checker.now.clauses) }
+        requires taken { AreTaken self.old.watch.clauses self.old.numbers.taken
+            (clause_at checker.now.clauses) }
         ensures numbered { OnOk result (MarksLive self.new.watch.clauses self.new.numbers.taken) }
-        ensures live { OnOk result (AreLive self.new.watch.clauses (clause_at checker.now.clauses)) }
+        ensures live { OnOk result (AreLive self.new.watch.clauses
+            (clause_at checker.now.clauses)) }
         ensures level { OnOk result (decided self.new.watch.reasons ≡ 0) }
         ensures variables { self.new.watch.variables ≡ self.old.watch.variables }
         ensures learnt { self.new.numbers.learnt ≡ self.old.numbers.learnt }
@@ -151,11 +159,15 @@ impl Engine {
     /// The one error is want of memory or of room.
     fn take_next(&mut self, checker: &Checker, number: u64) -> Result<(), AllocError>
         requires level { decided self.old.watch.reasons ≡ 0 }
-        requires taken { AreTaken self.old.watch.clauses self.old.numbers.taken (clause_at checker.now.clauses) }
+        requires taken { AreTaken self.old.watch.clauses self.old.numbers.taken
+            (clause_at checker.now.clauses) }
         ensures level { OnOk result (decided self.new.watch.reasons ≡ 0) }
-        ensures taken { OnOk result (AreTaken self.new.watch.clauses self.new.numbers.taken (clause_at checker.now.clauses)) }
-        ensures stays { (k : ℕ) → HasNumber self.old.watch.clauses k → OnOk result (HasNumber self.new.watch.clauses k) }
-        ensures there { (given : List Literal) → clause_at checker.now.clauses number ≡ Some given → OnOk result (HasNumber self.new.watch.clauses number) }
+        ensures taken { OnOk result (AreTaken self.new.watch.clauses self.new.numbers.taken
+            (clause_at checker.now.clauses)) }
+        ensures stays { (k : ℕ) → HasNumber self.old.watch.clauses k
+            → OnOk result (HasNumber self.new.watch.clauses k) }
+        ensures there { (given : List Literal) → clause_at checker.now.clauses number ≡ Some given
+            → OnOk result (HasNumber self.new.watch.clauses number) }
         ensures variables { self.new.watch.variables ≡ self.old.watch.variables }
         ensures learnt { self.new.numbers.learnt ≡ self.old.numbers.learnt }
         ensures since { self.new.since ≡ self.old.since }
@@ -199,17 +211,24 @@ impl Engine {
         requires awake { checked.old.checker.refused ≡ false }
         requires fresh { checked.old.refusal ≡ None }
         requires assumptions { AreAssumptions checked.old.checker.variables assumptions.now }
-        ensures answer { IfOk result (λ answer. IsAnswer checked.new.checker assumptions.now answer) }
-        ensures underway { OnOk result (IsUnderway assumptions.now self.new.watch self.new.numbers checked.new.checker) }
-        ensures puts { OnOk result (Puts (J.accepts checked.old.judge) (K.post keep.now) checked.old.checker checked.new.checker self.old.numbers.learnt self.new.numbers.learnt (S.logs checked.old.sink) (S.logs checked.new.sink)) }
+        ensures answer { IfOk result (λ answer.
+            IsAnswer checked.new.checker assumptions.now answer) }
+        ensures underway { OnOk result (IsUnderway assumptions.now self.new.watch self.new.numbers
+            checked.new.checker) }
+        ensures puts { OnOk result (Puts (J.accepts checked.old.judge) (K.post keep.now)
+            checked.old.checker checked.new.checker self.old.numbers.learnt self.new.numbers.learnt
+            (S.logs checked.old.sink) (S.logs checked.new.sink)) }
         ensures fresh { OnOk result (checked.new.refusal ≡ None) }
-        ensures cause { result ≡ Err SearchError.SinkFailed → Rose (S.faults checked.old.sink) (S.faults checked.new.sink) }
+        ensures cause { result ≡ Err SearchError.SinkFailed
+            → Rose (S.faults checked.old.sink) (S.faults checked.new.sink) }
         ensures judge_stays { checked.new.judge ≡ checked.old.judge }
         ensures over_stays { S.over checked.new.sink ≡ S.over checked.old.sink }
         ensures no_fall { S.faults checked.old.sink ≤ S.faults checked.new.sink }
         ensures same_references { S.references checked.new.sink ≡ S.references checked.old.sink }
         ensures propagated { self.old.propagated ≤ self.new.propagated }
-        ensures leaves { Leaves (J.accepts checked.old.judge) (K.post keep.now) self.old.numbers.learnt checked.old.checker (S.logs checked.old.sink) checked.new.checker (S.logs checked.new.sink) }
+        ensures leaves { Leaves (J.accepts checked.old.judge) (K.post keep.now)
+            self.old.numbers.learnt checked.old.checker (S.logs checked.old.sink)
+            checked.new.checker (S.logs checked.new.sink) }
     {
         if checked.checker().last() >= 1 << 62 {
             return Err(SearchError::Memory);
@@ -239,22 +258,33 @@ impl Engine {
     ) -> Result<Option<Answer>, SearchError>
         requires restart { IsRestartRule (R.pre restart.now) (R.post restart.now) }
         requires keep { IsKeepRule (K.pre keep.now) (K.post keep.now) }
-        requires underway { IsUnderway assumptions.now self.old.watch self.old.numbers checked.old.checker }
+        requires underway { IsUnderway assumptions.now self.old.watch self.old.numbers
+            checked.old.checker }
         requires fresh { checked.old.refusal ≡ None }
         requires assumptions { AreAssumptions checked.old.checker.variables assumptions.now }
-        ensures answer { IfOk result (λ turn. IfSome turn (IsAnswer checked.new.checker assumptions.now)) }
-        ensures less { IfOk result (λ turn. IfNone turn (turns_left checked.new.checker self.new.since self.new.watch < turns_left checked.old.checker self.old.since self.old.watch)) }
-        ensures underway { OnOk result (IsUnderway assumptions.now self.new.watch self.new.numbers checked.new.checker) }
-        ensures variables { OnOk result (checked.new.checker.variables ≡ checked.old.checker.variables) }
-        ensures puts { OnOk result (Puts (J.accepts checked.old.judge) (K.post keep.now) checked.old.checker checked.new.checker self.old.numbers.learnt self.new.numbers.learnt (S.logs checked.old.sink) (S.logs checked.new.sink)) }
+        ensures answer { IfOk result (λ turn.
+            IfSome turn (IsAnswer checked.new.checker assumptions.now)) }
+        ensures less { IfOk result (λ turn.
+            IfNone turn (turns_left checked.new.checker self.new.since self.new.watch < turns_left
+            checked.old.checker self.old.since self.old.watch)) }
+        ensures underway { OnOk result (IsUnderway assumptions.now self.new.watch self.new.numbers
+            checked.new.checker) }
+        ensures variables { OnOk result (checked.new.checker.variables
+            ≡ checked.old.checker.variables) }
+        ensures puts { OnOk result (Puts (J.accepts checked.old.judge) (K.post keep.now)
+            checked.old.checker checked.new.checker self.old.numbers.learnt self.new.numbers.learnt
+            (S.logs checked.old.sink) (S.logs checked.new.sink)) }
         ensures fresh { OnOk result (checked.new.refusal ≡ None) }
-        ensures cause { result ≡ Err SearchError.SinkFailed → Rose (S.faults checked.old.sink) (S.faults checked.new.sink) }
+        ensures cause { result ≡ Err SearchError.SinkFailed
+            → Rose (S.faults checked.old.sink) (S.faults checked.new.sink) }
         ensures judge_stays { checked.new.judge ≡ checked.old.judge }
         ensures over_stays { S.over checked.new.sink ≡ S.over checked.old.sink }
         ensures no_fall { S.faults checked.old.sink ≤ S.faults checked.new.sink }
         ensures same_references { S.references checked.new.sink ≡ S.references checked.old.sink }
         ensures propagated { self.old.propagated ≤ self.new.propagated }
-        ensures leaves { Leaves (J.accepts checked.old.judge) (K.post keep.now) self.old.numbers.learnt checked.old.checker (S.logs checked.old.sink) checked.new.checker (S.logs checked.new.sink) }
+        ensures leaves { Leaves (J.accepts checked.old.judge) (K.post keep.now)
+            self.old.numbers.learnt checked.old.checker (S.logs checked.old.sink)
+            checked.new.checker (S.logs checked.new.sink) }
     {
         let Some(conflict) = self.propagate() else {
             if is_due(restart, self.restarts, self.since) {
@@ -272,11 +302,17 @@ impl Engine {
 
     /// Makes true what unit clauses ask for, and gives a clause that is false.
     fn propagate(&mut self) -> Option<ClauseRef>
-        ensures underway { (assumptions : List Literal) (checker : Checking) → IsUnderway assumptions self.old.watch self.old.numbers checker
+        ensures underway { (assumptions : List Literal) (checker : Checking)
+            → IsUnderway assumptions self.old.watch self.old.numbers checker
             → IsUnderway assumptions self.new.watch self.new.numbers checker }
-        ensures less { (checker : Checking) → turns_left checker self.new.since self.new.watch ≤ turns_left checker self.old.since self.old.watch }
-        ensures none { IfNone result ((self.new.watch.settled ≡ true) × IsComplete self.new.watch.clauses self.new.watch.trail) }
-        ensures some { IfSome result (λ clause. IsSome (clause_in self.new.watch.clauses clause) × (is_false (value_of self.new.watch.trail) (lits_in self.new.watch.clauses clause) ≡ true)) }
+        ensures less { (checker : Checking)
+            → turns_left checker self.new.since self.new.watch ≤ turns_left checker self.old.since
+            self.old.watch }
+        ensures none { IfNone result ((self.new.watch.settled ≡ true)
+            × IsComplete self.new.watch.clauses self.new.watch.trail) }
+        ensures some { IfSome result (λ clause. IsSome (clause_in self.new.watch.clauses clause)
+            × (is_false (value_of self.new.watch.trail) (lits_in self.new.watch.clauses clause)
+            ≡ true)) }
         ensures numbers { self.new.numbers ≡ self.old.numbers }
         ensures propagated { self.old.propagated ≤ self.new.propagated }
     {
@@ -301,9 +337,11 @@ impl Engine {
     ) -> Result<Option<Answer>, AllocError>
         requires underway { IsUnderway assumptions.now self.old.watch self.old.numbers checker.now }
         requires live { IsSome (clause_in self.old.watch.clauses conflict) }
-        requires false_ { is_false (value_of self.old.watch.trail) (lits_in self.old.watch.clauses conflict) ≡ true }
+        requires false_ { is_false (value_of self.old.watch.trail)
+            (lits_in self.old.watch.clauses conflict) ≡ true }
         ensures answer { IfOk result (λ turn. IfSome turn (IsAnswer checker.now assumptions.now)) }
-        ensures left { IfOk result (λ turn. IfNone turn (checker.now.conflicts < checker.now.budget)) }
+        ensures left { IfOk result (λ turn.
+            IfNone turn (checker.now.conflicts < checker.now.budget)) }
         ensures level { IfOk result (λ turn. IfNone turn (1 ≤ decided self.old.watch.reasons)) }
         ensures watch { self.new.watch ≡ self.old.watch }
         ensures numbers { self.new.numbers ≡ self.old.numbers }
@@ -331,24 +369,34 @@ impl Engine {
         checked: &mut Checked<S, J>,
         conflict: ClauseRef,
     ) -> Result<(), SearchError>
-        requires underway { IsUnderway assumptions.now self.old.watch self.old.numbers checked.old.checker }
+        requires underway { IsUnderway assumptions.now self.old.watch self.old.numbers
+            checked.old.checker }
         requires fresh { checked.old.refusal ≡ None }
         requires live { IsSome (clause_in self.old.watch.clauses conflict) }
-        requires false_ { is_false (value_of self.old.watch.trail) (lits_in self.old.watch.clauses conflict) ≡ true }
+        requires false_ { is_false (value_of self.old.watch.trail)
+            (lits_in self.old.watch.clauses conflict) ≡ true }
         requires level { 1 ≤ decided self.old.watch.reasons }
         requires left { checked.old.checker.conflicts < checked.old.checker.budget }
-        ensures less { OnOk result (turns_left checked.new.checker self.new.since self.new.watch < turns_left checked.old.checker self.old.since self.old.watch) }
-        ensures underway { OnOk result (IsUnderway assumptions.now self.new.watch self.new.numbers checked.new.checker) }
-        ensures variables { OnOk result (checked.new.checker.variables ≡ checked.old.checker.variables) }
-        ensures puts { OnOk result (Puts (J.accepts checked.old.judge) nothing checked.old.checker checked.new.checker self.old.numbers.learnt self.new.numbers.learnt (S.logs checked.old.sink) (S.logs checked.new.sink)) }
+        ensures less { OnOk result (turns_left checked.new.checker self.new.since self.new.watch <
+            turns_left checked.old.checker self.old.since self.old.watch) }
+        ensures underway { OnOk result (IsUnderway assumptions.now self.new.watch self.new.numbers
+            checked.new.checker) }
+        ensures variables { OnOk result (checked.new.checker.variables
+            ≡ checked.old.checker.variables) }
+        ensures puts { OnOk result (Puts (J.accepts checked.old.judge) nothing checked.old.checker
+            checked.new.checker self.old.numbers.learnt self.new.numbers.learnt
+            (S.logs checked.old.sink) (S.logs checked.new.sink)) }
         ensures fresh { OnOk result (checked.new.refusal ≡ None) }
-        ensures cause { result ≡ Err SearchError.SinkFailed → Rose (S.faults checked.old.sink) (S.faults checked.new.sink) }
+        ensures cause { result ≡ Err SearchError.SinkFailed
+            → Rose (S.faults checked.old.sink) (S.faults checked.new.sink) }
         ensures judge_stays { checked.new.judge ≡ checked.old.judge }
         ensures over_stays { S.over checked.new.sink ≡ S.over checked.old.sink }
         ensures no_fall { S.faults checked.old.sink ≤ S.faults checked.new.sink }
         ensures same_references { S.references checked.new.sink ≡ S.references checked.old.sink }
         ensures propagated { self.new.propagated ≡ self.old.propagated }
-        ensures leaves { Leaves (J.accepts checked.old.judge) nothing self.old.numbers.learnt checked.old.checker (S.logs checked.old.sink) checked.new.checker (S.logs checked.new.sink) }
+        ensures leaves { Leaves (J.accepts checked.old.judge) nothing self.old.numbers.learnt
+            checked.old.checker (S.logs checked.old.sink) checked.new.checker
+            (S.logs checked.new.sink) }
     {
         self.watch.keeps_facts();
         checked.checker().keeps_facts();
@@ -368,7 +416,8 @@ impl Engine {
         requires clause { IsClause self.old.watch.variables learnt.now.lits }
         requires backed { IsBacked self.old.watch learnt.now.lits learnt.now.back }
         requires fresh { get_or self.old.numbers.taken number false ≡ false }
-        ensures learns { OnOk result (LearnsOne (after_back learnt.now.back self.old.watch) self.new.watch self.old.numbers self.new.numbers number learnt.now.lits) }
+        ensures learns { OnOk result (LearnsOne (after_back learnt.now.back self.old.watch)
+            self.new.watch self.old.numbers self.new.numbers number learnt.now.lits) }
         ensures since { self.new.since ≡ self.old.since }
         ensures propagated { self.new.propagated ≡ self.old.propagated }
     {
@@ -406,8 +455,11 @@ impl Engine {
         requires settled { self.old.watch.settled ≡ true }
         requires complete { IsComplete self.old.watch.clauses self.old.watch.trail }
         ensures answer { IfOk result (λ turn. IfSome turn (IsAnswer checker.now assumptions.now)) }
-        ensures less { IfOk result (λ turn. IfNone turn (turns_left checker.now self.new.since self.new.watch < turns_left checker.now self.old.since self.old.watch)) }
-        ensures underway { OnOk result (IsUnderway assumptions.now self.new.watch self.new.numbers checker.now) }
+        ensures less { IfOk result (λ turn.
+            IfNone turn (turns_left checker.now self.new.since self.new.watch < turns_left
+            checker.now self.old.since self.old.watch)) }
+        ensures underway { OnOk result (IsUnderway assumptions.now self.new.watch self.new.numbers
+            checker.now) }
         ensures numbers { self.new.numbers ≡ self.old.numbers }
         ensures propagated { self.new.propagated ≡ self.old.propagated }
     {
@@ -428,20 +480,29 @@ impl Engine {
     ) -> Result<(), SearchError>
         requires due { 1 ≤ self.old.since }
         requires keep { IsKeepRule (K.pre keep.now) (K.post keep.now) }
-        requires underway { IsUnderway assumptions.now self.old.watch self.old.numbers checked.old.checker }
+        requires underway { IsUnderway assumptions.now self.old.watch self.old.numbers
+            checked.old.checker }
         requires fresh { checked.old.refusal ≡ None }
-        ensures less { OnOk result (turns_left checked.new.checker self.new.since self.new.watch < turns_left checked.old.checker self.old.since self.old.watch) }
-        ensures underway { OnOk result (IsUnderway assumptions.now self.new.watch self.new.numbers checked.new.checker) }
-        ensures variables { OnOk result (checked.new.checker.variables ≡ checked.old.checker.variables) }
-        ensures puts { OnOk result (Puts (J.accepts checked.old.judge) (K.post keep.now) checked.old.checker checked.new.checker self.old.numbers.learnt self.new.numbers.learnt (S.logs checked.old.sink) (S.logs checked.new.sink)) }
+        ensures less { OnOk result (turns_left checked.new.checker self.new.since self.new.watch <
+            turns_left checked.old.checker self.old.since self.old.watch) }
+        ensures underway { OnOk result (IsUnderway assumptions.now self.new.watch self.new.numbers
+            checked.new.checker) }
+        ensures variables { OnOk result (checked.new.checker.variables
+            ≡ checked.old.checker.variables) }
+        ensures puts { OnOk result (Puts (J.accepts checked.old.judge) (K.post keep.now)
+            checked.old.checker checked.new.checker self.old.numbers.learnt self.new.numbers.learnt
+            (S.logs checked.old.sink) (S.logs checked.new.sink)) }
         ensures fresh { OnOk result (checked.new.refusal ≡ None) }
-        ensures cause { result ≡ Err SearchError.SinkFailed → Rose (S.faults checked.old.sink) (S.faults checked.new.sink) }
+        ensures cause { result ≡ Err SearchError.SinkFailed
+            → Rose (S.faults checked.old.sink) (S.faults checked.new.sink) }
         ensures judge_stays { checked.new.judge ≡ checked.old.judge }
         ensures over_stays { S.over checked.new.sink ≡ S.over checked.old.sink }
         ensures no_fall { S.faults checked.old.sink ≤ S.faults checked.new.sink }
         ensures same_references { S.references checked.new.sink ≡ S.references checked.old.sink }
         ensures propagated { self.new.propagated ≡ self.old.propagated }
-        ensures leaves { Leaves (J.accepts checked.old.judge) (K.post keep.now) self.old.numbers.learnt checked.old.checker (S.logs checked.old.sink) checked.new.checker (S.logs checked.new.sink) }
+        ensures leaves { Leaves (J.accepts checked.old.judge) (K.post keep.now)
+            self.old.numbers.learnt checked.old.checker (S.logs checked.old.sink)
+            checked.new.checker (S.logs checked.new.sink) }
     {
         self.go_back(0);
         self.restarts = self.restarts.saturating_add(1);
@@ -461,24 +522,33 @@ impl Engine {
         keep: &K,
     ) -> Result<(), SearchError>
         requires keep { IsKeepRule (K.pre keep.now) (K.post keep.now) }
-        requires underway { IsUnderway assumptions.now self.old.watch self.old.numbers checked.old.checker }
+        requires underway { IsUnderway assumptions.now self.old.watch self.old.numbers
+            checked.old.checker }
         requires learnt { apart_by ≤ checked.old.checker.learnt }
         requires fresh { checked.old.refusal ≡ None }
-        ensures underway { OnOk result (IsUnderway assumptions.now self.new.watch self.new.numbers checked.new.checker) }
+        ensures underway { OnOk result (IsUnderway assumptions.now self.new.watch self.new.numbers
+            checked.new.checker) }
         ensures since { self.new.since ≡ self.old.since }
         ensures room { OnOk result (self.new.watch.variables ≡ self.old.watch.variables) }
-        ensures variables { OnOk result (checked.new.checker.variables ≡ checked.old.checker.variables) }
-        ensures conflicts { OnOk result (checked.new.checker.conflicts ≡ checked.old.checker.conflicts) }
+        ensures variables { OnOk result (checked.new.checker.variables
+            ≡ checked.old.checker.variables) }
+        ensures conflicts { OnOk result (checked.new.checker.conflicts
+            ≡ checked.old.checker.conflicts) }
         ensures budget { OnOk result (checked.new.checker.budget ≡ checked.old.checker.budget) }
-        ensures puts { OnOk result (Puts (J.accepts checked.old.judge) (K.post keep.now) checked.old.checker checked.new.checker self.old.numbers.learnt self.new.numbers.learnt (S.logs checked.old.sink) (S.logs checked.new.sink)) }
+        ensures puts { OnOk result (Puts (J.accepts checked.old.judge) (K.post keep.now)
+            checked.old.checker checked.new.checker self.old.numbers.learnt self.new.numbers.learnt
+            (S.logs checked.old.sink) (S.logs checked.new.sink)) }
         ensures fresh { OnOk result (checked.new.refusal ≡ None) }
-        ensures cause { result ≡ Err SearchError.SinkFailed → Rose (S.faults checked.old.sink) (S.faults checked.new.sink) }
+        ensures cause { result ≡ Err SearchError.SinkFailed
+            → Rose (S.faults checked.old.sink) (S.faults checked.new.sink) }
         ensures judge_stays { checked.new.judge ≡ checked.old.judge }
         ensures over_stays { S.over checked.new.sink ≡ S.over checked.old.sink }
         ensures no_fall { S.faults checked.old.sink ≤ S.faults checked.new.sink }
         ensures same_references { S.references checked.new.sink ≡ S.references checked.old.sink }
         ensures propagated { self.new.propagated ≡ self.old.propagated }
-        ensures leaves { Leaves (J.accepts checked.old.judge) (K.post keep.now) self.old.numbers.learnt checked.old.checker (S.logs checked.old.sink) checked.new.checker (S.logs checked.new.sink) }
+        ensures leaves { Leaves (J.accepts checked.old.judge) (K.post keep.now)
+            self.old.numbers.learnt checked.old.checker (S.logs checked.old.sink)
+            checked.new.checker (S.logs checked.new.sink) }
     {
         let checker = checked.checker();
         let numbers = given_up(
@@ -503,7 +573,8 @@ impl Engine {
     /// The one error is want of memory or of room.
     fn reload(&mut self, checker: &Checker) -> Result<(), AllocError>
         ensures numbered { OnOk result (MarksLive self.new.watch.clauses self.new.numbers.taken) }
-        ensures live { OnOk result (AreLive self.new.watch.clauses (clause_at checker.now.clauses)) }
+        ensures live { OnOk result (AreLive self.new.watch.clauses
+            (clause_at checker.now.clauses)) }
         ensures level { OnOk result (decided self.new.watch.reasons ≡ 0) }
         ensures trail { OnOk result (length self.new.watch.reasons ≡ length self.new.watch.trail) }
         ensures variables { OnOk result (self.new.watch.variables ≡ self.old.watch.variables) }
@@ -525,9 +596,12 @@ impl Engine {
         requires settled { self.old.watch.settled ≡ true }
         requires within { lit.variable ≤ self.old.watch.variables }
         requires free { value_of self.old.watch.trail lit ≡ None }
-        ensures underway { (assumptions : List Literal) (checker : Checking) → IsChoice checker.variables assumptions self.old.watch.trail lit
+        ensures underway { (assumptions : List Literal) (checker : Checking)
+            → IsChoice checker.variables assumptions self.old.watch.trail lit
             → IsUnderway assumptions self.old.watch self.old.numbers checker → IsUnderway assumptions self.new.watch self.new.numbers checker }
-        ensures less { (checker : Checking) → turns_left checker self.new.since self.new.watch < turns_left checker self.old.since self.old.watch }
+        ensures less { (checker : Checking)
+            → turns_left checker self.new.since self.new.watch < turns_left checker self.old.since
+            self.old.watch }
         ensures numbers { self.new.numbers ≡ self.old.numbers }
         ensures propagated { self.new.propagated ≡ self.old.propagated }
     {
@@ -551,8 +625,11 @@ impl Engine {
         requires one { has_literal assumption assumptions.now ≡ true }
         requires untrue { value_of self.old.watch.trail assumption ≢ Some true }
         ensures answer { IfOk result (λ turn. IfSome turn (IsAnswer checker.now assumptions.now)) }
-        ensures less { IfOk result (λ turn. IfNone turn (turns_left checker.now self.new.since self.new.watch < turns_left checker.now self.old.since self.old.watch)) }
-        ensures underway { OnOk result (IsUnderway assumptions.now self.new.watch self.new.numbers checker.now) }
+        ensures less { IfOk result (λ turn.
+            IfNone turn (turns_left checker.now self.new.since self.new.watch < turns_left
+            checker.now self.old.since self.old.watch)) }
+        ensures underway { OnOk result (IsUnderway assumptions.now self.new.watch self.new.numbers
+            checker.now) }
         ensures numbers { self.new.numbers ≡ self.old.numbers }
         ensures propagated { self.new.propagated ≡ self.old.propagated }
     {
@@ -582,8 +659,11 @@ impl Engine {
         requires assumptions { AreAssumptions checker.now.variables assumptions.now }
         requires true_ { AreTrue self.old.watch.trail assumptions.now }
         ensures answer { IfOk result (λ turn. IfSome turn (IsAnswer checker.now assumptions.now)) }
-        ensures less { IfOk result (λ turn. IfNone turn (turns_left checker.now self.new.since self.new.watch < turns_left checker.now self.old.since self.old.watch)) }
-        ensures underway { OnOk result (IsUnderway assumptions.now self.new.watch self.new.numbers checker.now) }
+        ensures less { IfOk result (λ turn.
+            IfNone turn (turns_left checker.now self.new.since self.new.watch < turns_left
+            checker.now self.old.since self.old.watch)) }
+        ensures underway { OnOk result (IsUnderway assumptions.now self.new.watch self.new.numbers
+            checker.now) }
         ensures numbers { self.new.numbers ≡ self.old.numbers }
         ensures propagated { self.new.propagated ≡ self.old.propagated }
     {
@@ -629,7 +709,8 @@ fn is_due<R: Fn(u64) -> u64 + Drop>(restart: &R, restarts: u64, since: u64) -> b
 
 /// The first assumption that isn't true.
 fn first_untrue(watch: &Watch, assumptions: &[Lit]) -> Option<Lit>
-    requires { (k : ℕ) → k < length assumptions.now → (lit_at assumptions.now k).variable ≤ watch.now.variables }
+    requires { (k : ℕ) → k < length assumptions.now
+        → (lit_at assumptions.now k).variable ≤ watch.now.variables }
     ensures one { IfSome result (λ lit. has_literal lit assumptions.now ≡ true) }
     ensures untrue { IfSome result (λ lit. value_of watch.now.trail lit ≢ Some true) }
     ensures none { IfNone result (AreTrue watch.now.trail assumptions.now) }
@@ -655,7 +736,8 @@ fn literal(variable: u64, value: bool) -> Lit
     requires counted { 1 ≤ variable }
     requires below { variable < 2 ^ 62 }
     ensures variable { result.variable ≡ variable }
-    ensures free { (trail : List Literal) → value_of trail (positive variable) ≡ None → value_of trail result ≡ None }
+    ensures free { (trail : List Literal) → value_of trail (positive variable) ≡ None
+        → value_of trail result ≡ None }
 {
     let lit = Lit::positive(variable);
     if value { lit } else { lit.negated() }

@@ -35,7 +35,8 @@ pub fn given_up<K: Fn(u64, u64) -> bool + Drop>(
     ensures numbers { IfOk result (λ numbers. AreNumbers numbers.items) }
     ensures ascends { IfOk result (λ numbers. AreAbove 0 numbers.items) }
     ensures may_go { IfOk result (λ numbers. list_all (may_go checker.now) numbers.items ≡ true) }
-    ensures given_up { IfOk result (λ numbers. All (IsGivenUp (K.post keep.now) checker.now learnt.now) numbers.items) }
+    ensures given_up { IfOk result (λ numbers.
+        All (IsGivenUp (K.post keep.now) checker.now learnt.now) numbers.items) }
     ensures no_reasons { IfOk result (λ numbers. All (IsNoReason watch.now) numbers.items) }
 {
     let reasons = reason_numbers(alloc, watch)?;
@@ -54,7 +55,8 @@ fn gather<K: Fn(u64, u64) -> bool + Drop>(
 ) -> Result<Vec<u64>, AllocError>
     requires keep { IsKeepRule (K.pre keep.now) (K.post keep.now) }
     requires few { length checker.now.clauses < 2 ^ 62 }
-    ensures { IfOk result (λ numbers. AreGivenUp (K.post keep.now) checker.now reasons.now learnt.now numbers.items) }
+    ensures { IfOk result (λ numbers.
+        AreGivenUp (K.post keep.now) checker.now reasons.now learnt.now numbers.items) }
 {
     let mut numbers = Vec::new(alloc);
     let mut last = 0;
@@ -83,8 +85,10 @@ fn is_given_up<K: Fn(u64, u64) -> bool + Drop>(
     requires keep { IsKeepRule (K.pre keep.now) (K.post keep.now) }
     requires within { place < length learnt.now }
     ensures may_go { result ≡ true → may_go checker.now (get_or learnt.now place 0) ≡ true }
-    ensures given_up { result ≡ true → IsGivenUp (K.post keep.now) checker.now learnt.now (get_or learnt.now place 0) }
-    ensures no_reason { result ≡ true → get_or reasons.now (get_or learnt.now place 0) false ≡ false }
+    ensures given_up { result ≡ true
+        → IsGivenUp (K.post keep.now) checker.now learnt.now (get_or learnt.now place 0) }
+    ensures no_reason { result ≡ true → get_or reasons.now (get_or learnt.now place 0) false
+        ≡ false }
 {
     let number = learnt[place];
     if reasons.contains(number as usize) || !checker.is_learnt(number) {

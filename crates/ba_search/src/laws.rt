@@ -10,7 +10,8 @@ ghost use Rattle.ba_search.specs.Searching.{Searches};
 
 /// No clause of at most two literals is learnt twice, whatever the keep rule.
 pub fn learnt_once_law<K: Fn(u64, u64) -> bool + Drop>(keep: &K)
-    ensures { (good : Judge) (s t : State) (learnt all : List ℕ) (before between after : List CertStep)
+    ensures { (good : Judge) (s t : State) (learnt all : List ℕ)
+        (before between after : List CertStep)
         → (lits : List Literal) (first second : List ℕ) → length lits ≤ 2
         → Searches good (K.post keep.now) s learnt (before ++ Learn lits first ∷ (between ++ Learn lits second ∷ after)) t all → ⊥ }
 {

@@ -76,7 +76,8 @@ impl Order {
     pub fn pick(&mut self, watch: &Watch, limit: u64) -> Option<u64>
         requires { limit ≤ watch.now.variables }
         ensures some { IfSome result (λ variable. IsOpen watch.now.trail limit variable) }
-        ensures none { IfNone result ((variable : ℕ) → 1 ≤ variable → variable ≤ limit → is_none (value_of watch.now.trail (positive variable)) ≡ false) }
+        ensures none { IfNone result ((variable : ℕ) → 1 ≤ variable → variable ≤ limit
+            → is_none (value_of watch.now.trail (positive variable)) ≡ false) }
     {
         if let Some(variable) = self.pop_open(watch, limit) {
             return Some(variable);
@@ -269,7 +270,8 @@ fn is_open(watch: &Watch, variable: u64) -> bool
 fn first_open(watch: &Watch, limit: u64) -> Option<u64>
     requires { limit ≤ watch.now.variables }
     ensures some { IfSome result (λ variable. IsOpen watch.now.trail limit variable) }
-    ensures none { IfNone result ((variable : ℕ) → 1 ≤ variable → variable ≤ limit → is_none (value_of watch.now.trail (positive variable)) ≡ false) }
+    ensures none { IfNone result ((variable : ℕ) → 1 ≤ variable → variable ≤ limit
+        → is_none (value_of watch.now.trail (positive variable)) ≡ false) }
 {
     for variable in 1..=limit {
         if is_open(watch, variable) {

@@ -95,9 +95,20 @@ impl<R, K> Model for Search<R, K> {
 
     ghost Value = { Searching R K };
 
-    ghost view = { λ s. record { variables = s.engine.watch.variables; clauses = s.engine.watch.clauses; learnt = s.engine.numbers.learnt; restart = s.restart; keep = s.keep; failure = s.failure; propagated = s.engine.propagated } };
+    ghost view = { λ s. record {
+      variables = s.engine.watch.variables;
+      clauses =
+          s.engine.watch.clauses;
+      learnt = s.engine.numbers.learnt;
+      restart = s.restart;
+      keep =
+          s.keep;
+      failure = s.failure;
+      propagated = s.engine.propagated;
+    } };
 
-    ghost invariant = { λ s. s.failure ≡ None → MarksLive s.engine.watch.clauses s.engine.numbers.taken };
+    ghost invariant = { λ s. s.failure ≡ None
+        → MarksLive s.engine.watch.clauses s.engine.numbers.taken };
 }
 
 impl<R: Fn(u64) -> u64 + Drop, K: Fn(u64, u64) -> bool + Drop> Search<R, K> {
@@ -112,7 +123,8 @@ impl<R: Fn(u64) -> u64 + Drop, K: Fn(u64, u64) -> bool + Drop> Search<R, K> {
     ) -> Result<Search<R, K>, AllocError>
         requires restart { IsRestartRule (R.pre restart) (R.post restart) }
         requires keep { IsKeepRule (K.pre keep) (K.post keep) }
-        ensures clauses { IfOk result (λ search. AreLive search.clauses (clause_at (map (kept Given) formula.now.clauses))) }
+        ensures clauses { IfOk result (λ search.
+            AreLive search.clauses (clause_at (map (kept Given) formula.now.clauses))) }
         ensures variables { IfOk result (λ search. search.variables ≡ formula.now.variables) }
         ensures alone { IfOk result (λ search. HaveDistinctNumbers search.clauses) }
         ensures learnt { IfOk result (λ search. search.learnt ≡ []) }
@@ -141,16 +153,20 @@ impl<R: Fn(u64) -> u64 + Drop, K: Fn(u64, u64) -> bool + Drop> Search<R, K> {
         &mut self,
         checked: &Checked<S, J>,
     ) -> Result<(), SearchError>
-        requires part { self.old.failure ≡ None → ArePart self.old.clauses (clause_at checked.now.checker.clauses) }
-        ensures same { OnOk result (AreLive self.new.clauses (clause_at checked.now.checker.clauses)) }
+        requires part { self.old.failure ≡ None
+            → ArePart self.old.clauses (clause_at checked.now.checker.clauses) }
+        ensures same { OnOk result (AreLive self.new.clauses
+            (clause_at checked.now.checker.clauses)) }
         ensures alone { OnOk result (HaveDistinctNumbers self.new.clauses) }
         ensures fresh { OnOk result (self.old.failure ≡ None) }
         ensures stays_fresh { OnOk result (self.new.failure ≡ None) }
         ensures restart_stays { self.new.restart ≡ self.old.restart }
         ensures keep_stays { self.new.keep ≡ self.old.keep }
         ensures keeps { IfErr result (λ error. self.new.failure ≡ Some error) }
-        ensures again { (error : SearchError) → self.old.failure ≡ Some error → (result ≡ Err error) × (self.new ≡ self.old) }
-        ensures cause { result ≡ Err SearchError.SinkFailed → self.old.failure ≡ Some SearchError.SinkFailed }
+        ensures again { (error : SearchError) → self.old.failure ≡ Some error → (result ≡ Err error)
+            × (self.new ≡ self.old) }
+        ensures cause { result ≡ Err SearchError.SinkFailed → self.old.failure
+            ≡ Some SearchError.SinkFailed }
         ensures learnt { self.new.learnt ≡ self.old.learnt }
         ensures propagated { self.new.propagated ≡ self.old.propagated }
     {
@@ -182,20 +198,27 @@ impl<R: Fn(u64) -> u64 + Drop, K: Fn(u64, u64) -> bool + Drop> Search<R, K> {
     ) -> Result<Answer, SearchError>
         requires restart { IsRestartRule (R.pre self.old.restart) (R.post self.old.restart) }
         requires keep { IsKeepRule (K.pre self.old.keep) (K.post self.old.keep) }
-        requires same { self.old.failure ≡ None → AreLive self.old.clauses (clause_at checked.old.checker.clauses) }
+        requires same { self.old.failure ≡ None
+            → AreLive self.old.clauses (clause_at checked.old.checker.clauses) }
         requires begun { self.old.failure ≡ None → checked.old.checker.ended ≡ false }
         requires awake { self.old.failure ≡ None → checked.old.checker.refused ≡ false }
         requires fresh { self.old.failure ≡ None → checked.old.refusal ≡ None }
-        requires assumptions { self.old.failure ≡ None → AreAssumptions checked.old.checker.variables assumptions.now }
-        ensures answer { IfOk result (λ answer. IsAnswer checked.new.checker assumptions.now answer) }
-        ensures same { OnOk result (AreLive self.new.clauses (clause_at checked.new.checker.clauses)) }
+        requires assumptions { self.old.failure ≡ None
+            → AreAssumptions checked.old.checker.variables assumptions.now }
+        ensures answer { IfOk result (λ answer.
+            IsAnswer checked.new.checker assumptions.now answer) }
+        ensures same { OnOk result (AreLive self.new.clauses
+            (clause_at checked.new.checker.clauses)) }
         ensures alone { OnOk result (HaveDistinctNumbers self.new.clauses) }
         ensures steps { OnOk result ((steps : List CertStep)
             × Searches (J.accepts checked.old.judge) (K.post self.old.keep) checked.old.checker self.old.learnt steps checked.new.checker self.new.learnt
             × (S.logs checked.new.sink ≡ with_steps steps (S.logs checked.old.sink))) }
-        ensures leaves { Leaves (J.accepts checked.old.judge) (K.post self.old.keep) self.old.learnt checked.old.checker (S.logs checked.old.sink) checked.new.checker (S.logs checked.new.sink) }
+        ensures leaves { Leaves (J.accepts checked.old.judge) (K.post self.old.keep) self.old.learnt
+            checked.old.checker (S.logs checked.old.sink) checked.new.checker
+            (S.logs checked.new.sink) }
         ensures fresh { OnOk result (self.old.failure ≡ None) }
-        ensures stays_fresh { OnOk result ((self.new.failure ≡ None) × (checked.new.refusal ≡ None)) }
+        ensures stays_fresh { OnOk result ((self.new.failure ≡ None)
+            × (checked.new.refusal ≡ None)) }
         ensures stays_begun { OnOk result (checked.new.checker.ended ≡ false) }
         ensures awake { OnOk result (checked.new.checker.refused ≡ false) }
         ensures restart_stays { self.new.restart ≡ self.old.restart }

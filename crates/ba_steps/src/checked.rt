@@ -28,13 +28,24 @@ impl<S, J> Model for Checked<S, J> {
 
     ghost Value = { Putting S J };
 
-    ghost view = { λ c. record { checker = c.checker; judge = c.judge; sink = c.sink; refusal = c.refusal } };
+    ghost view = { λ c. record {
+      checker = c.checker;
+      judge = c.judge;
+      sink = c.sink;
+      refusal =
+          c.refusal;
+    } };
 }
 
 impl<S: Drop, J: Drop> Checked<S, J> {
     /// Puts the three together. It takes no memory.
     pub fn new(checker: Checker, judge: J, sink: S) -> Checked<S, J>
-        ensures { result ≡ record { checker = checker; judge = judge; sink = sink; refusal = None } }
+        ensures { result ≡ record {
+          checker = checker;
+          judge = judge;
+          sink = sink;
+          refusal = None;
+        } }
     {
         Checked {
             checker,
@@ -74,13 +85,18 @@ impl<S: StepSink, J: RunJudge> Checked<S, J> {
         ensures fresh { OnOk result (self.old.refusal ≡ None) }
         ensures taken { OnOk result (self.new.checker ≡ after self.old.checker step.now) }
         ensures awake { OnOk result (self.new.checker.refused ≡ false) }
-        ensures taken_too { self.old.refusal ≡ None → result ≡ Err SinkError.Failed → self.new.checker ≡ after self.old.checker step.now }
-        ensures taken_or_asleep { self.old.refusal ≡ None → OnErr result (IsTakenOrAsleep self.old.checker step.now self.new.checker) }
-        ensures told { OnOk result (S.logs self.new.sink ≡ with_step step.now (S.logs self.old.sink)) }
+        ensures taken_too { self.old.refusal ≡ None → result ≡ Err SinkError.Failed
+            → self.new.checker ≡ after self.old.checker step.now }
+        ensures taken_or_asleep { self.old.refusal ≡ None
+            → OnErr result (IsTakenOrAsleep self.old.checker step.now self.new.checker) }
+        ensures told { OnOk result (S.logs self.new.sink
+            ≡ with_step step.now (S.logs self.old.sink)) }
         ensures still_fresh { OnOk result (self.new.refusal ≡ None) }
-        ensures refused { OnErr result (MayAddStep step.now (S.logs self.old.sink) (S.logs self.new.sink)) }
+        ensures refused { OnErr result (MayAddStep step.now (S.logs self.old.sink)
+            (S.logs self.new.sink)) }
         ensures keeps { IfErr result (λ error. self.new.refusal ≡ Some error) }
-        ensures again { (error : SinkError) → self.old.refusal ≡ Some error → (result ≡ Err error) × (self.new ≡ self.old) }
+        ensures again { (error : SinkError) → self.old.refusal ≡ Some error → (result ≡ Err error)
+            × (self.new ≡ self.old) }
         ensures over_stays { S.over self.new.sink ≡ S.over self.old.sink }
         ensures cause { result ≡ Err SinkError.Failed
             → (self.old.refusal ≡ Some SinkError.Failed) ⊎ Rose (S.faults self.old.sink) (S.faults self.new.sink) }
@@ -98,17 +114,23 @@ impl<S: StepSink, J: RunJudge> Checked<S, J> {
     /// Puts a step through the checker and hands it to the sink.
     fn hand_on(&mut self, step: &CertStep) -> Result<(), SinkError>
         requires formed { IsFormed step.now }
-        requires allowed { self.old.checker.refused ≡ false → error_of (J.accepts self.old.judge) self.old.checker step.now ≡ None }
+        requires allowed { self.old.checker.refused ≡ false
+            → error_of (J.accepts self.old.judge) self.old.checker step.now ≡ None }
         ensures judge_stays { self.new.judge ≡ self.old.judge }
         ensures refusal_stays { self.new.refusal ≡ self.old.refusal }
         ensures taken { OnOk result (self.new.checker ≡ after self.old.checker step.now) }
         ensures awake { OnOk result (self.new.checker.refused ≡ false) }
-        ensures taken_too { result ≡ Err SinkError.Failed → self.new.checker ≡ after self.old.checker step.now }
-        ensures taken_or_asleep { OnErr result (IsTakenOrAsleep self.old.checker step.now self.new.checker) }
-        ensures told { OnOk result (S.logs self.new.sink ≡ with_step step.now (S.logs self.old.sink)) }
-        ensures refused { OnErr result (MayAddStep step.now (S.logs self.old.sink) (S.logs self.new.sink)) }
+        ensures taken_too { result ≡ Err SinkError.Failed → self.new.checker
+            ≡ after self.old.checker step.now }
+        ensures taken_or_asleep { OnErr result
+            (IsTakenOrAsleep self.old.checker step.now self.new.checker) }
+        ensures told { OnOk result (S.logs self.new.sink
+            ≡ with_step step.now (S.logs self.old.sink)) }
+        ensures refused { OnErr result (MayAddStep step.now (S.logs self.old.sink)
+            (S.logs self.new.sink)) }
         ensures over_stays { S.over self.new.sink ≡ S.over self.old.sink }
-        ensures cause { result ≡ Err SinkError.Failed → Rose (S.faults self.old.sink) (S.faults self.new.sink) }
+        ensures cause { result ≡ Err SinkError.Failed
+            → Rose (S.faults self.old.sink) (S.faults self.new.sink) }
         ensures no_fall { S.faults self.old.sink ≤ S.faults self.new.sink }
         ensures same_references { S.references self.new.sink ≡ S.references self.old.sink }
     {
@@ -122,7 +144,8 @@ impl<S: StepSink, J: RunJudge> Checked<S, J> {
 /// Puts a step that is allowed through the checker. False where there was no memory.
 fn advance<J: RunJudge>(checker: &mut Checker, step: &CertStep, judge: &J) -> bool
     requires formed { IsFormed step.now }
-    requires allowed { checker.old.refused ≡ false → error_of (J.accepts judge.now) checker.old step.now ≡ None }
+    requires allowed { checker.old.refused ≡ false
+        → error_of (J.accepts judge.now) checker.old step.now ≡ None }
     ensures taken { result ≡ true → checker.new ≡ after checker.old step.now }
     ensures awake { result ≡ true → checker.new.refused ≡ false }
     ensures asleep { result ≡ false → checker.new.refused ≡ true }

@@ -87,7 +87,8 @@ impl Checker {
         sets: u32,
     ) -> Result<Checker, AllocError>
         requires selectors { AreSelectors formula.now.variables softs.now }
-        ensures { IfOk result (λ checker. checker ≡ first_state formula.now softs.now conflicts sets) }
+        ensures { IfOk result (λ checker. checker
+            ≡ first_state formula.now softs.now conflicts sets) }
     {
         let variables = formula.variables();
         let mut falses = LiteralSet::new(alloc);
@@ -195,7 +196,8 @@ impl Checker {
     /// The live clause of a number; None exactly where there is none.
     pub fn clause(&self, number: u64) -> Option<&[Lit]>
         ensures clause { option_copied result ≡ clause_at self.now.clauses number }
-        ensures formed { self.now.refused ≡ false → IfSome result (λ lits. IsClause self.now.variables lits.now) }
+        ensures formed { self.now.refused ≡ false
+            → IfSome result (λ lits. IsClause self.now.variables lits.now) }
     {
         self.clauses.clause(number)
     }
@@ -226,7 +228,8 @@ impl Checker {
     fn attempt<J: RunJudge>(&mut self, step: &CertStep, judge: &J) -> Result<(), StepError>
         requires formed { IsFormed step.now }
         requires awake { self.old.refused ≡ false }
-        ensures { Does self.old self.new (error_before_end (J.accepts judge.now) self.old step.now) (after self.old step.now) result }
+        ensures { Does self.old self.new (error_before_end (J.accepts judge.now) self.old step.now)
+            (after self.old step.now) result }
     {
         match step {
             CertStep::Learn { lits, hints } => self.learn(lits.as_slice(), hints.as_slice()),
@@ -246,7 +249,8 @@ impl Checker {
     /// Takes a Learn step.
     fn learn(&mut self, lits: &[Lit], hints: &[u64]) -> Result<(), StepError>
         requires { AreFormedLits lits.now }
-        ensures { Does self.old self.new (learn_error self.old lits.now hints.now) (after_learn self.old lits.now) result }
+        ensures { Does self.old self.new (learn_error self.old lits.now hints.now)
+            (after_learn self.old lits.now) result }
     {
         self.learn_error(lits, hints)?;
         self.clauses.add(lits, Origin::Learnt)?;
@@ -279,7 +283,8 @@ impl Checker {
     fn core(&mut self, lits: &[Lit], hints: &[u64]) -> Result<(), StepError>
         requires formed { AreFormedLits lits.now }
         requires awake { self.old.refused ≡ false }
-        ensures { Does self.old self.new (core_error self.old lits.now hints.now) (after_core self.old lits.now) result }
+        ensures { Does self.old self.new (core_error self.old lits.now hints.now)
+            (after_core self.old lits.now) result }
     {
         self.core_error(lits, hints)?;
         self.split(lits)?;
@@ -346,7 +351,8 @@ impl Checker {
 
     /// Takes a Delete step.
     fn delete(&mut self, numbers: &[u64]) -> Result<(), StepError>
-        ensures { Does self.old self.new (delete_error self.old numbers.now) (after_delete self.old numbers.now) result }
+        ensures { Does self.old self.new (delete_error self.old numbers.now)
+            (after_delete self.old numbers.now) result }
     {
         if !self.clauses.may_all_go(numbers) {
             return Err(StepError::DeadClause);
@@ -438,7 +444,8 @@ impl Checker {
 
     /// Takes an EndNoRepair step.
     fn end_no_repair(&mut self, hints: &[u64]) -> Result<(), StepError>
-        ensures { Does self.old self.new (no_repair_error self.old hints.now) (record self.old { ended = true }) result }
+        ensures { Does self.old self.new (no_repair_error self.old hints.now)
+            (record self.old { ended = true }) result }
     {
         if !self.sets.is_empty() {
             return Err(StepError::WrongCount);
@@ -473,7 +480,8 @@ impl Checker {
 
     /// Takes an EndSpent step.
     fn end_spent(&mut self) -> Result<(), StepError>
-        ensures { Does self.old self.new (spent_error self.old) (record self.old { ended = true }) result }
+        ensures { Does self.old self.new (spent_error self.old) (record self.old { ended = true })
+            result }
     {
         if !self.is_spent() {
             return Err(StepError::WrongCount);

@@ -89,7 +89,8 @@ impl Clauses {
 
     /// Whether each of these numbers is that of a live clause made by a Learn step, of at least three literals.
     pub fn may_all_go(&self, numbers: &[u64]) -> bool
-        ensures { result ≡ list_all (λ (n : ℕ). is_learnt_at self.now n && ltb 2 (width_at self.now n)) numbers.now }
+        ensures { result ≡ list_all (λ (n : ℕ). is_learnt_at self.now n
+            && ltb 2 (width_at self.now n)) numbers.now }
     {
         numbers.iter().all(|number| self.may_go(*number))
     }

@@ -45,7 +45,8 @@ impl Model for Index {
 
     ghost view = { λ i. all_keys i.nodes.items };
 
-    ghost invariant = { λ i. AreLinks (firsts (all_keys i.nodes.items)) i.heads.items (links i.nodes.items) };
+    ghost invariant = { λ i. AreLinks (firsts (all_keys i.nodes.items)) i.heads.items
+        (links i.nodes.items) };
 }
 
 impl Index {
@@ -152,7 +153,8 @@ fn unpacked(node: Node) -> Keys
 
 /// The node of keys. The one error is want of room.
 fn packed(keys: Keys, earlier: u32) -> Result<Node, AllocError>
-    ensures { IfOk result (λ node. (keys_of node ≡ keys) × (node.earlier ≡ earlier) × (keys.key < 2 ^ 32 - 1)) }
+    ensures { IfOk result (λ node. (keys_of node ≡ keys) × (node.earlier ≡ earlier)
+        × (keys.key < 2 ^ 32 - 1)) }
 {
     let most = u32::MAX as usize;
     if keys.key >= most || keys.second >= most || keys.third >= most {
@@ -168,9 +170,11 @@ fn packed(keys: Keys, earlier: u32) -> Result<Node, AllocError>
 
 /// Links the clauses anew, those that are no longer live under 1.
 fn link_all(nodes: &mut Vec<Node>, heads: &mut Vec<u32>, counts: &mut Vec<u32>, store: &Store)
-    requires links { AreLinks (firsts (all_keys nodes.old.items)) heads.old.items (links nodes.old.items) }
+    requires links { AreLinks (firsts (all_keys nodes.old.items)) heads.old.items
+        (links nodes.old.items) }
     requires listed { AreListed (all_keys nodes.old.items) store.now }
-    ensures links { AreLinks (firsts (all_keys nodes.new.items)) heads.new.items (links nodes.new.items) }
+    ensures links { AreLinks (firsts (all_keys nodes.new.items)) heads.new.items
+        (links nodes.new.items) }
     ensures listed { AreListed (all_keys nodes.new.items) store.now }
 {
     let count = nodes.len();

@@ -13,12 +13,14 @@ ghost use Rattle.ba_steps.specs.declared.step.CertStep.{CertStep};
 
 /// A clause that follows by hints holds wherever the live clauses do.
 pub fn implied_law()
-    ensures { (live : ℕ → Option (List Literal)) (v : Assignment) → ((number : ℕ) (c : List Literal) → live number ≡ Some c → any_true v c ≡ true)
+    ensures { (live : ℕ → Option (List Literal)) (v : Assignment)
+        → ((number : ℕ) (c : List Literal) → live number ≡ Some c → any_true v c ≡ true)
         → (clause : List Literal) (hints : List ℕ) → FollowsByHints live clause hints → any_true v clause ≡ true }
 {}
 
 /// The facts hold of every state that allowed steps lead to, whatever the judge says.
 pub fn facts_law()
-    ensures { (good : Judge) (formula : Cnf) (softs : List Soft) (conflicts sets : ℕ) → IsStart formula softs → (steps : List CertStep) → All IsFormed steps → (s : State)
+    ensures { (good : Judge) (formula : Cnf) (softs : List Soft) (conflicts sets : ℕ)
+        → IsStart formula softs → (steps : List CertStep) → All IsFormed steps → (s : State)
         → after_all good (first_state formula softs conflicts sets) steps ≡ Some s → Holds good formula softs (splits_of (first_state formula softs conflicts sets) steps) s }
 {}

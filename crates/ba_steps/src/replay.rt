@@ -48,7 +48,8 @@ pub fn look_at(falses: &LiteralSet, lits: &[Lit]) -> Look
 /// Looks at the clauses of the hints one after the other, where the members of the set are false, and takes the free
 /// literal of each unit clause as true. Ok where the last one is false.
 pub fn replay(clauses: &Clauses, falses: &mut LiteralSet, hints: &[u64]) -> Result<(), StepError>
-    ensures { Finds result (error_of_replay (replay_of (clause_at clauses.now) falses.old hints.now)) }
+    ensures { Finds result (error_of_replay
+        (replay_of (clause_at clauses.now) falses.old hints.now)) }
 {
     for (place, hint) in hints.iter().enumerate() {
         let lits = match clauses.clause(*hint) {

@@ -71,8 +71,10 @@ pub trait StepSink {
 
     /// Steps over this formula and these soft literals follow. A refusal may leave them told.
     fn begin(&mut self, formula: &Formula, softs: &[(Lit, u32)]) -> Result<(), SinkError>
-        ensures told { OnOk result (over self.new ≡ with_told (basis formula.now softs.now) (over self.old)) }
-        ensures refused { OnErr result (MayAdd (basis formula.now softs.now) (over self.old) (over self.new)) }
+        ensures told { OnOk result (over self.new
+            ≡ with_told (basis formula.now softs.now) (over self.old)) }
+        ensures refused { OnErr result (MayAdd (basis formula.now softs.now) (over self.old)
+            (over self.new)) }
         ensures logs_stay { logs self.new ≡ logs self.old }
         ensures cause { result ≡ Err SinkError.Failed → Rose (faults self.old) (faults self.new) }
         ensures no_fall { faults self.old ≤ faults self.new }
@@ -168,7 +170,8 @@ impl StepSink for ListSink {
     ghost references = { λ _. [] };
 
     fn begin(&mut self, formula: &Formula, softs: &[(Lit, u32)]) -> Result<(), SinkError>
-        ensures kept { OnOk result (self.new ≡ record self.old { over = self.old.over ++ basis formula.now softs.now ∷ [] }) }
+        ensures kept { OnOk result (self.new
+            ≡ record self.old { over = self.old.over ++ basis formula.now softs.now ∷ [] }) }
         ensures unchanged { OnErr result (self.new ≡ self.old) }
         ensures never { result ≢ Err SinkError.Failed }
     {
@@ -179,7 +182,8 @@ impl StepSink for ListSink {
     }
 
     fn take(&mut self, step: &CertStep) -> Result<(), SinkError>
-        ensures kept { OnOk result (self.new ≡ record self.old { steps = self.old.steps ++ step.now ∷ [] }) }
+        ensures kept { OnOk result (self.new
+            ≡ record self.old { steps = self.old.steps ++ step.now ∷ [] }) }
         ensures unchanged { OnErr result (self.new ≡ self.old) }
         ensures never { result ≢ Err SinkError.Failed }
     {
@@ -206,14 +210,20 @@ impl<'a, A: StepSink, D: StepSink> StepSink for Both<'a, A, D> {
     ghost references = { λ s. s.second.ghost_name ∷ (A.references s.first ++ D.references s.second.now) };
 
     fn begin(&mut self, formula: &Formula, softs: &[(Lit, u32)]) -> Result<(), SinkError>
-        ensures first { OnOk result (A.over self.new.first ≡ with_told (basis formula.now softs.now) (A.over self.old.first)) }
-        ensures second { OnOk result (D.over self.new.second.now ≡ with_told (basis formula.now softs.now) (D.over self.old.second.now)) }
-        ensures refused { OnErr result (MayAdd (basis formula.now softs.now) (D.over self.old.second.now) (D.over self.new.second.now)) }
-        ensures logs_stay { A.logs self.new.first ++ D.logs self.new.second.now ≡ A.logs self.old.first ++ D.logs self.old.second.now }
+        ensures first { OnOk result (A.over self.new.first
+            ≡ with_told (basis formula.now softs.now) (A.over self.old.first)) }
+        ensures second { OnOk result (D.over self.new.second.now
+            ≡ with_told (basis formula.now softs.now) (D.over self.old.second.now)) }
+        ensures refused { OnErr result (MayAdd (basis formula.now softs.now)
+            (D.over self.old.second.now) (D.over self.new.second.now)) }
+        ensures logs_stay { A.logs self.new.first ++ D.logs self.new.second.now
+            ≡ A.logs self.old.first ++ D.logs self.old.second.now }
         ensures cause { result ≡ Err SinkError.Failed
             → Rose (A.faults self.old.first + D.faults self.old.second.now) (A.faults self.new.first + D.faults self.new.second.now) }
-        ensures no_fall { A.faults self.old.first + D.faults self.old.second.now ≤ A.faults self.new.first + D.faults self.new.second.now }
-        ensures same_references { self.new.second.ghost_name ∷ (A.references self.new.first ++ D.references self.new.second.now)
+        ensures no_fall { A.faults self.old.first + D.faults self.old.second.now ≤ A.faults
+            self.new.first + D.faults self.new.second.now }
+        ensures same_references { self.new.second.ghost_name
+            ∷ (A.references self.new.first ++ D.references self.new.second.now)
             ≡ self.old.second.ghost_name ∷ (A.references self.old.first ++ D.references self.old.second.now) }
     {
         self.first.begin(formula, softs)?;

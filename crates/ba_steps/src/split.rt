@@ -66,7 +66,8 @@ fn some_of(d: u64, lits: &[Lit]) -> Lit
 fn add_ors(clauses: &mut Clauses, d: u64, lits: &[Lit]) -> Result<(), AllocError>
     requires counted { 1 ≤ d }
     requires below { d + length lits.now < 2 ^ 62 }
-    ensures { OnOk result (clauses.new ≡ clauses.old ++ map (kept origins.Split) (or_clauses d lits.now)) }
+    ensures { OnOk result (clauses.new ≡ clauses.old
+        ++ map (kept origins.Split) (or_clauses d lits.now)) }
 {
     for place in 1..lits.len() {
         let fresh = d + place as u64 - 1;
@@ -83,7 +84,8 @@ fn add_ands(clauses: &mut Clauses, d: u64, e: u64, lits: &[Lit]) -> Result<(), A
     requires or_below { d + length lits.now < 2 ^ 62 }
     requires counted { 1 ≤ e }
     requires below { e + length lits.now < 2 ^ 62 }
-    ensures { OnOk result (clauses.new ≡ clauses.old ++ map (kept origins.Split) (and_clauses d e lits.now)) }
+    ensures { OnOk result (clauses.new ≡ clauses.old
+        ++ map (kept origins.Split) (and_clauses d e lits.now)) }
 {
     for place in 1..lits.len() {
         let step = place as u64 - 1;
@@ -98,7 +100,8 @@ pub fn add_split(clauses: &mut Clauses, first: u64, lits: &[Lit]) -> Result<(), 
     requires counted { 1 ≤ first }
     requires some { 0 < length lits.now }
     requires below { first + (length lits.now + length lits.now) < 2 ^ 62 }
-    ensures { OnOk result (clauses.new ≡ clauses.old ++ map (kept origins.Split) (split_clauses first lits.now)) }
+    ensures { OnOk result (clauses.new ≡ clauses.old
+        ++ map (kept origins.Split) (split_clauses first lits.now)) }
 {
     let later = lits.len() as u64 - 1;
     add_ors(clauses, first, &lits[1..])?;

@@ -43,7 +43,8 @@ impl Model for Store {
 
     ghost view = { λ c. entries c.lits.items 0 c.ends.items c.origins.items };
 
-    ghost invariant = { λ c. IsCut (length c.lits.items) 0 c.ends.items × (length c.origins.items ≡ length c.ends.items) };
+    ghost invariant = { λ c. IsCut (length c.lits.items) 0 c.ends.items
+        × (length c.origins.items ≡ length c.ends.items) };
 }
 
 impl Store {
@@ -183,7 +184,8 @@ fn is_live(origin: Origin) -> bool
 fn part<'a>(lits: &'a [Lit], ends: &[usize], place: usize) -> &'a [Lit]
     requires cut { IsCut (length lits.now) 0 ends.now }
     requires within { place < length ends.now }
-    ensures { result.now ≡ slice_range lits.now (start_of 0 ends.now place) (slice_index ends.now place) }
+    ensures { result.now ≡ slice_range lits.now (start_of 0 ends.now place)
+        (slice_index ends.now place) }
 {
     between(lits, start(ends, place), ends[place])
 }

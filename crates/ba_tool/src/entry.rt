@@ -40,7 +40,8 @@ fn arguments<R: Env + Alloc<A = Global>>(rt: &R) -> Result<Vec<String>, AllocErr
 ///
 /// The one error is want of memory.
 fn texts(alloc: Global, words: &[String]) -> Result<Vec<&str>, AllocError>
-    ensures { IfOk result (λ texts. map (λ text. text.now) texts.items ≡ map string_bytes words.now) }
+    ensures { IfOk result (λ texts. map (λ text. text.now) texts.items
+        ≡ map string_bytes words.now) }
 {
     let mut texts = Vec::new(alloc);
     for word in words {

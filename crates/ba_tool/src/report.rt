@@ -135,7 +135,8 @@ fn push_set(
     set: &[u32],
     text: &mut Vec<u8>,
 ) -> Result<(), AllocError>
-    ensures { OnOk result (text.new.items ≡ text.old.items ++ set_lines source.now statements.now number set.now) }
+    ensures { OnOk result (text.new.items ≡ text.old.items
+        ++ set_lines source.now statements.now number set.now) }
 {
     text.extend_from_slice(b"set ")?;
     push_number(number, text)?;
@@ -150,7 +151,8 @@ fn push_sets(
     sets: &[Items<u32>],
     text: &mut Vec<u8>,
 ) -> Result<(), AllocError>
-    ensures { OnOk result (text.new.items ≡ text.old.items ++ sets_lines source.now statements.now 1 sets.now) }
+    ensures { OnOk result (text.new.items ≡ text.old.items
+        ++ sets_lines source.now statements.now 1 sets.now) }
 {
     let mut number = 1;
     for set in sets {

@@ -50,7 +50,8 @@ fn luby_term(number: u64) -> u64
 /// Restarts by Luby's sequence, in hundreds of conflicts, and from a million restarts on after a
 /// hundred each.
 pub fn luby(restarts: u64) -> u64
-    ensures early { restarts < 1000000 → (term : ℕ) × IsLubyTerm (restarts + 1) term × (result ≡ 100 * term) }
+    ensures early { restarts < 1000000 → (term : ℕ) × IsLubyTerm (restarts + 1) term
+        × (result ≡ 100 * term) }
     ensures late { 1000000 ≤ restarts → result ≡ 100 }
     ensures positive { 1 ≤ result }
 {

@@ -68,7 +68,8 @@ fn answer<W: World>(alloc: Global, words: &[&str], world: &mut W) -> Result<Answ
 
 /// Prints a text by one call, and answers how the program then ends.
 fn show<W: World>(world: &mut W, text: &[u8], status: Status) -> Status
-    ensures shown { ((result ≡ status) × Prints (W.outside world.old) (W.outside world.new) text.now)
+    ensures shown { ((result ≡ status)
+        × Prints (W.outside world.old) (W.outside world.new) text.now)
         ⊎ ((result ≡ Status.WriteFault) × HasWriteFault (W.outside world.old) (W.outside world.new))
         ⊎ ((result ≡ Status.Memory)
         × HasPrintShortage (W.outside world.old) (W.outside world.new)) }

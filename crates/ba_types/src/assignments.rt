@@ -146,7 +146,8 @@ fn target_value<'a>(
     target: &Target<'a>,
     mut tally: Tally,
 ) -> Result<Judged<'a>, AllocError>
-    ensures { IfOk result (λ j. Judges j (typed_target_of target.now scope.now tally.calls).expression) }
+    ensures { IfOk result (λ j. Judges j
+        (typed_target_of target.now scope.now tally.calls).expression) }
 {
     let name = name_of(target.name);
     let meaning = scope.meaning_of(&name);
@@ -220,7 +221,8 @@ fn put_assignment<'a>(
     work: &mut Work,
     stmts: &mut Vec<Stmt>,
 ) -> Result<(), AllocError>
-    ensures { OnOk result ((s : TypedTarget) (e : Typed) → JudgesTarget target s → Judges whole.entry e →
+    ensures { OnOk result ((s : TypedTarget) (e : Typed) → JudgesTarget target s
+        → Judges whole.entry e →
         Assigns at s e work.old work.new
         (map tree_of_stmt stmts.old.items) (map tree_of_stmt stmts.new.items)) }
 {

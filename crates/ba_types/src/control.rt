@@ -54,7 +54,8 @@ fn add_test<'a>(
     scope: &Scope<'a>,
     work: &mut Work,
 ) -> Result<Test, AllocError>
-    ensures { IfOk result (λ t. GivesTest (typed_conditional c.now scope.now work.old.tally.calls) scope.now
+    ensures { IfOk result (λ t. GivesTest (typed_conditional c.now scope.now work.old.tally.calls)
+        scope.now
         work.old work.new t) }
 {
     let j = conditional(alloc, scope, c, &mut work.tally)?;
@@ -70,7 +71,8 @@ pub(crate) fn add_condition<'a>(
     scope: &Scope<'a>,
     work: &mut Work,
 ) -> Result<Test, AllocError>
-    ensures { IfOk result (λ t. GivesTest (test_of condition.now scope.now work.old.tally.calls) scope.now
+    ensures { IfOk result (λ t. GivesTest (test_of condition.now scope.now work.old.tally.calls)
+        scope.now
         work.old work.new t) }
 {
     add_test(alloc, &condition.test, scope, work)
@@ -98,7 +100,8 @@ fn for_test<'a>(
     scope: &Scope<'a>,
     work: &mut Work,
 ) -> Result<Test, AllocError>
-    ensures { IfOk result (λ t. GivesTest (for_test head.now scope.now work.old.tally.calls) scope.now
+    ensures { IfOk result (λ t. GivesTest (for_test head.now scope.now work.old.tally.calls)
+        scope.now
         work.old work.new t) }
 {
     match &head.test {

@@ -49,7 +49,8 @@ pub(crate) fn whole<'a>(
     c: &Conditional<'a>,
     tally: &mut Tally,
 ) -> Result<Judged<'a>, AllocError>
-    ensures { GivesWhole at (typed_conditional c.now scope.now tally.old.calls) tally.old tally.new result }
+    ensures { GivesWhole at (typed_conditional c.now scope.now tally.old.calls) tally.old tally.new
+        result }
 {
     let j = conditional(alloc, scope, c, tally)?;
     tally.add_limit(HEIGHT_LIMIT, j.height, at);
@@ -102,7 +103,8 @@ pub(crate) fn array_length<'a>(
     scope: &Scope<'a>,
     tally: &mut Tally,
 ) -> Result<Option<Length>, AllocError>
-    ensures { IfOk result (λ l. IsLength (typed_array_length at values scope.now tally.old.calls length.now)
+    ensures { IfOk result (λ l. IsLength
+        (typed_array_length at values scope.now tally.old.calls length.now)
         tally.old tally.new l) }
 {
     let Some(array) = length else {
@@ -149,7 +151,8 @@ pub(crate) fn add_length<'a>(
     scope: &Scope<'a>,
     work: &mut Work,
 ) -> Result<Option<Length>, AllocError>
-    ensures { IfOk result (λ l. AddsLength at (typed_array_length at values scope.now work.old.tally.calls length.now)
+    ensures { IfOk result (λ l. AddsLength at
+        (typed_array_length at values scope.now work.old.tally.calls length.now)
         scope.now work.old work.new l) }
 {
     let found = array_length(alloc, at, values, length, scope, &mut work.tally)?;
@@ -312,7 +315,8 @@ fn is_unlike(length: Option<Length>, init: &Initialiser) -> bool
 
 /// How many values an initialiser has, if there is one.
 fn count_of_values(init: &Option<Initialiser>) -> Option<usize>
-    ensures { MatchOption result (is_some init.now ≡ false) (λ count. Some count ≡ count_of_values init.now) }
+    ensures { MatchOption result (is_some init.now ≡ false) (λ count. Some count
+        ≡ count_of_values init.now) }
 {
     match init {
         None => None,
@@ -330,7 +334,8 @@ fn number_of(values: &Vec<Expr>) -> usize
 
 /// Whether an array of a good written length has fewer elements than so many values.
 fn has_too_many(length: Option<Length>, count: usize) -> bool
-    ensures { (l : Option TypedLength) → length ≡ plain_length l → result ≡ exceeds (written_count l) count }
+    ensures { (l : Option TypedLength) → length ≡ plain_length l → result
+        ≡ exceeds (written_count l) count }
 {
     match length {
         Some(
@@ -385,7 +390,8 @@ fn add_initialiser<'a>(
     work: &mut Work,
     stmts: &mut Vec<Stmt>,
 ) -> Result<(), AllocError>
-    ensures { OnOk result ((l : Option TypedLength) → d.length ≡ plain_length l → state scope.now work.new stmts.new
+    ensures { OnOk result ((l : Option TypedLength) → d.length ≡ plain_length l
+        → state scope.now work.new stmts.new
         ≡ behind_part (add_initialiser d.at d.var d.t l init.now) (state scope.now work.old stmts.old)) }
 {
     let values = initial_values(alloc, d, init, scope, &mut work.tally)?;
@@ -406,7 +412,8 @@ fn add_optional_initialiser<'a>(
     work: &mut Work,
     stmts: &mut Vec<Stmt>,
 ) -> Result<(), AllocError>
-    ensures { OnOk result ((l : Option TypedLength) → d.length ≡ plain_length l → state scope.now work.new stmts.new
+    ensures { OnOk result ((l : Option TypedLength) → d.length ≡ plain_length l
+        → state scope.now work.new stmts.new
         ≡ behind_part (add_optional_initialiser d.at d.var d.t l init.now) (state scope.now work.old stmts.old)) }
 {
     match init {

@@ -159,7 +159,8 @@ pub(crate) fn unary<'a>(
     op: Option<UnOp>,
     a: Judged<'a>,
 ) -> Result<Judged<'a>, AllocError>
-    ensures { IfOk result (λ j. (s : Typed) → Judges a.entry s → Judges j (typed_unary first op s)) }
+    ensures { IfOk result (λ j. (s : Typed) → Judges a.entry s
+        → Judges j (typed_unary first op s)) }
 {
     let t = promoted(a.t);
     match op {
@@ -442,7 +443,8 @@ pub(crate) fn element_type(meaning: &Meaning) -> CType
 ///
 /// The one error is want of memory, which stands for want of numbers for heights.
 pub(crate) fn called<'a>(at: At, call: JudgedCall) -> Result<Judged<'a>, AllocError>
-    ensures { IfOk result (λ j. (c : TypedCall) → JudgesCall call c → Judges j (typed_called at c)) }
+    ensures { IfOk result (λ j. (c : TypedCall) → JudgesCall call c
+        → Judges j (typed_called at c)) }
 {
     let Some(height) = call.height.checked_add(1) else {
         return Err(AllocError);

@@ -21,7 +21,8 @@ pub fn one_typing()
 
 /// No list of tokens is that of two programs, and no text spells two. They are compared without what vectors keep of their own.
 pub fn one_program()
-    ensures tokens { (tokens : List Token) (p q : Program) → AreTokensOf tokens p → AreTokensOf tokens q
+    ensures tokens { (tokens : List Token) (p q : Program) → AreTokensOf tokens p
+        → AreTokensOf tokens q
         → tree_of p ≡ tree_of q }
     ensures text { (text : List ℕ) (p q : Program) → Spells text p → Spells text q
         → tree_of p ≡ tree_of q }

@@ -343,7 +343,8 @@ fn add_controlled<'a>(
     scope: &mut Scope<'a>,
     work: &mut Work,
 ) -> Result<Stmt, AllocError>
-    ensures gives { IfOk result (λ s. GivesBody (add_statement body.now scope.old (before_of work.old))
+    ensures gives { IfOk result (λ s.
+        GivesBody (add_statement body.now scope.old (before_of work.old))
         work.old work.new s) }
     ensures scope { OnOk result (scope.new ≡ scope.old) }
 {
@@ -380,7 +381,8 @@ fn add_guarded<'a>(
     scope: &mut Scope<'a>,
     work: &mut Work,
 ) -> Result<Guarded, AllocError>
-    ensures gives { IfOk result (λ g. GivesGuarded (test_of condition.now) (add_statement holds.now) scope.old
+    ensures gives { IfOk result (λ g.
+        GivesGuarded (test_of condition.now) (add_statement holds.now) scope.old
         work.old work.new g) }
     ensures scope { OnOk result (scope.new ≡ scope.old) }
 {

@@ -117,7 +117,8 @@ pub(crate) fn add_height_fault(call: CallUse, height: u32, tally: &mut Tally)
 
 /// The type of the parameter of this number, counted from 0, `None` where the function has no more.
 pub(crate) fn param_of(definition: Option<&Signature>, number: usize) -> Option<ParamType>
-    ensures { result ≡ slice_get (params_of_called (option_map (λ s. s.now) definition.entry)) number }
+    ensures { result ≡ slice_get (params_of_called (option_map (λ s. s.now) definition.entry))
+        number }
 {
     match definition {
         None => None,

@@ -25,10 +25,13 @@ pub fn rank(trail: &Trail, lit: Lit) -> usize
 /// The place of a literal of the greatest rank, with one place left out.
 pub fn latest(trail: &Trail, lits: &[Lit], skip: usize) -> usize
     requires two { 2 ≤ length lits.now }
-    requires range { (k : ℕ) → k < length lits.now → (lit_at lits.now k).variable ≤ trail.now.variables }
+    requires range { (k : ℕ) → k < length lits.now
+        → (lit_at lits.now k).variable ≤ trail.now.variables }
     ensures within { result < length lits.now }
     ensures other { result ≢ skip }
-    ensures latest { (k : ℕ) → k < length lits.now → k ≢ skip → rank_of trail.now.lits (lit_at lits.now k) ≤ rank_of trail.now.lits (lit_at lits.now result) }
+    ensures latest { (k : ℕ) → k < length lits.now → k ≢ skip
+        → rank_of trail.now.lits (lit_at lits.now k) ≤ rank_of trail.now.lits
+        (lit_at lits.now result) }
 {
     let mut best = if skip == 0 { 1 } else { 0 };
     for place in 0..lits.len() {
@@ -43,10 +46,13 @@ pub fn latest(trail: &Trail, lits: &[Lit], skip: usize) -> usize
 fn later(trail: &Trail, lits: &[Lit], a: usize, b: usize) -> usize
     requires a_within { a < length lits.now }
     requires b_within { b < length lits.now }
-    requires range { (k : ℕ) → k < length lits.now → (lit_at lits.now k).variable ≤ trail.now.variables }
+    requires range { (k : ℕ) → k < length lits.now
+        → (lit_at lits.now k).variable ≤ trail.now.variables }
     ensures one { IsOneOf result a b }
-    ensures a { rank_of trail.now.lits (lit_at lits.now a) ≤ rank_of trail.now.lits (lit_at lits.now result) }
-    ensures b { rank_of trail.now.lits (lit_at lits.now b) ≤ rank_of trail.now.lits (lit_at lits.now result) }
+    ensures a { rank_of trail.now.lits (lit_at lits.now a) ≤ rank_of trail.now.lits
+        (lit_at lits.now result) }
+    ensures b { rank_of trail.now.lits (lit_at lits.now b) ≤ rank_of trail.now.lits
+        (lit_at lits.now result) }
 {
     if rank(trail, lits[a]) < rank(trail, lits[b]) {
         b

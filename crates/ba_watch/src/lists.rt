@@ -64,7 +64,9 @@ impl Lists {
         ensures swept { self.new.swept ≡ index }
         ensures arena { self.new.arena ≡ self.old.arena }
         ensures heads { length self.new.heads.items ≡ length self.old.heads.items }
-        ensures pending { (clause : ℕ) → occurrences clause (pending_of self.new.arena self.new.swept self.new.pending) ≡ watch_count self.new.arena index clause }
+        ensures pending { (clause : ℕ) → occurrences clause
+            (pending_of self.new.arena self.new.swept self.new.pending)
+            ≡ watch_count self.new.arena index clause }
     {
         self.pending = self.heads[index];
         self.heads[index] = None;
@@ -96,7 +98,8 @@ impl Lists {
         ensures swept { self.new.swept ≡ self.old.swept }
         ensures heads { length self.new.heads.items ≡ length self.old.heads.items }
         ensures arena { SamePlain self.old.arena self.new.arena }
-        ensures pending { pending_of self.old.arena self.old.swept self.old.pending ≡ clause ∷ pending_of self.new.arena self.new.swept self.new.pending }
+        ensures pending { pending_of self.old.arena self.old.swept self.old.pending ≡ clause
+            ∷ pending_of self.new.arena self.new.swept self.new.pending }
     {
         let next = self.arena.link(clause, place);
         let head = self.heads[self.swept];
@@ -112,11 +115,13 @@ impl Lists {
         requires watched { index_at (lits_at self.old.arena clause) place ≡ self.old.swept }
         requires unwatched { 2 ≤ other }
         requires other { other < length (lits_at self.old.arena clause) }
-        requires within { index_at (lits_at self.old.arena clause) other < length self.old.heads.items }
+        requires within { index_at (lits_at self.old.arena clause) other < length
+            self.old.heads.items }
         ensures swept { self.new.swept ≡ self.old.swept }
         ensures heads { length self.new.heads.items ≡ length self.old.heads.items }
         ensures arena { ReordersOne clause place other self.old.arena self.new.arena }
-        ensures pending { pending_of self.old.arena self.old.swept self.old.pending ≡ clause ∷ pending_of self.new.arena self.new.swept self.new.pending }
+        ensures pending { pending_of self.old.arena self.old.swept self.old.pending ≡ clause
+            ∷ pending_of self.new.arena self.new.swept self.new.pending }
     {
         let next = self.arena.link(clause, place);
         let index = self.arena.lit(clause, other).index();
@@ -133,7 +138,8 @@ impl Lists {
         requires short { length lits.now < 2 }
         ensures pending { self.new.pending ≡ None }
         ensures heads { length self.new.heads.items ≡ length self.old.heads.items }
-        ensures ok { IfOk result (λ clause. AddsPlain self.old.arena self.new.arena clause lits.now number) }
+        ensures ok { IfOk result (λ clause.
+            AddsPlain self.old.arena self.new.arena clause lits.now number) }
         ensures err { OnErr result (self.new.arena ≡ self.old.arena) }
     {
         self.arena.add(lits, number)
@@ -151,10 +157,13 @@ impl Lists {
         requires order { first < second }
         requires places { second < length lits.now }
         requires apart { AreApart lits.now }
-        requires within { (k : ℕ) → k < length lits.now → index_at lits.now k < length self.old.heads.items }
+        requires within { (k : ℕ) → k < length lits.now
+            → index_at lits.now k < length self.old.heads.items }
         ensures pending { self.new.pending ≡ None }
         ensures heads { length self.new.heads.items ≡ length self.old.heads.items }
-        ensures ok { IfOk result (λ clause. AddsPlain self.old.arena self.new.arena clause (swap (swap lits.now 0 first) 1 second) number) }
+        ensures ok { IfOk result (λ clause.
+            AddsPlain self.old.arena self.new.arena clause (swap (swap lits.now 0 first) 1 second)
+            number) }
         ensures err { OnErr result (self.new.arena ≡ self.old.arena) }
     {
         let clause = self.arena.add(lits, number)?;

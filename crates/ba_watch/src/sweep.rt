@@ -16,8 +16,10 @@ use ba_arena::{Arena, ClauseRef};
 fn find_free(arena: &Arena, trail: &Trail, clause: ClauseRef) -> Option<usize>
     requires live { IsLive arena.now clause }
     requires range { InRange arena.now trail.now.variables }
-    ensures some { IfSome result (λ k. (2 ≤ k) × (k < length (lits_at arena.now clause)) × (value_of trail.now.lits (lit_at (lits_at arena.now clause) k) ≢ Some false)) }
-    ensures none { IfNone result ((k : ℕ) → 2 ≤ k → k < length (lits_at arena.now clause) → value_of trail.now.lits (lit_at (lits_at arena.now clause) k) ≡ Some false) }
+    ensures some { IfSome result (λ k. (2 ≤ k) × (k < length (lits_at arena.now clause))
+        × (value_of trail.now.lits (lit_at (lits_at arena.now clause) k) ≢ Some false)) }
+    ensures none { IfNone result ((k : ℕ) → 2 ≤ k → k < length (lits_at arena.now clause)
+        → value_of trail.now.lits (lit_at (lits_at arena.now clause) k) ≡ Some false) }
 {
     for place in 2..arena.len(clause) {
         match trail.value(arena.lit(clause, place)) {
@@ -47,8 +49,11 @@ fn visit(lists: &mut Lists, trail: &mut Trail, clause: ClauseRef) -> bool
     requires within { lists.old.swept < length lists.old.heads.items }
     ensures swept { lists.new.swept ≡ lists.old.swept }
     ensures heads { length lists.new.heads.items ≡ length lists.old.heads.items }
-    ensures pending { pending_of lists.old.arena lists.old.swept lists.old.pending ≡ clause ∷ pending_of lists.new.arena lists.new.swept lists.new.pending }
-    ensures visits { (rest : List ℕ) → Visits lists.old.arena lists.new.arena trail.old trail.new lists.old.swept (clause ∷ rest) rest clause result }
+    ensures pending { pending_of lists.old.arena lists.old.swept lists.old.pending ≡ clause
+        ∷ pending_of lists.new.arena lists.new.swept lists.new.pending }
+    ensures visits { (rest : List ℕ)
+        → Visits lists.old.arena lists.new.arena trail.old trail.new lists.old.swept (clause
+        ∷ rest) rest clause result }
 {
     let place = lists.watched_place(clause);
     let other = lists.arena.lit(clause, 1 - place);
@@ -82,8 +87,11 @@ fn step(
     requires within { lists.old.swept < length lists.old.heads.items }
     ensures swept { lists.new.swept ≡ lists.old.swept }
     ensures heads { length lists.new.heads.items ≡ length lists.old.heads.items }
-    ensures pending { pending_of lists.old.arena lists.old.swept lists.old.pending ≡ clause ∷ pending_of lists.new.arena lists.new.swept lists.new.pending }
-    ensures underway { (start : Clauses) (t : Assignments) (rest : List ℕ) → IsUnderway start lists.old.arena t trail.old lists.old.swept (clause ∷ rest) conflict → IsUnderway start lists.new.arena t trail.new lists.old.swept rest result }
+    ensures pending { pending_of lists.old.arena lists.old.swept lists.old.pending ≡ clause
+        ∷ pending_of lists.new.arena lists.new.swept lists.new.pending }
+    ensures underway { (start : Clauses) (t : Assignments) (rest : List ℕ)
+        → IsUnderway start lists.old.arena t trail.old lists.old.swept (clause ∷ rest) conflict
+        → IsUnderway start lists.new.arena t trail.new lists.old.swept rest result }
 {
     if conflict.is_some() {
         let place = lists.watched_place(clause);
@@ -99,13 +107,16 @@ fn step(
 
 /// Sweeps the list that was taken, and gives a clause that is false if there is one.
 pub fn sweep(lists: &mut Lists, trail: &mut Trail) -> Option<ClauseRef>
-    requires taken { (clause : ℕ) → occurrences clause (pending_of lists.old.arena lists.old.swept lists.old.pending) ≡ watch_count lists.old.arena lists.old.swept clause }
+    requires taken { (clause : ℕ) → occurrences clause
+        (pending_of lists.old.arena lists.old.swept lists.old.pending)
+        ≡ watch_count lists.old.arena lists.old.swept clause }
     requires range { InRange lists.old.arena trail.old.variables }
     requires room { 2 * trail.old.variables + 2 ≤ length lists.old.heads.items }
     requires within { lists.old.swept < length lists.old.heads.items }
     ensures pending { lists.new.pending ≡ None }
     ensures heads { length lists.new.heads.items ≡ length lists.old.heads.items }
-    ensures underway { IsUnderway lists.old.arena lists.new.arena trail.old trail.new lists.old.swept [] result }
+    ensures underway { IsUnderway lists.old.arena lists.new.arena trail.old trail.new
+        lists.old.swept [] result }
 {
     let mut conflict = None;
     while let Some(clause) = lists.pending {
@@ -117,15 +128,19 @@ pub fn sweep(lists: &mut Lists, trail: &mut Trail) -> Option<ClauseRef>
 /// Sweeps the lists of the literals that became false, from a place of the trail on, until a clause is false:
 /// it is given, and the place is that of the literal whose list was swept. Otherwise the place is the trail's end.
 pub fn settle(lists: &mut Lists, trail: &mut Trail, head: &mut usize) -> Option<ClauseRef>
-    requires facts { AreFacts (lits_at lists.old.arena) trail.old.variables trail.old.lits trail.old.reasons head.old }
+    requires facts { AreFacts (lits_at lists.old.arena) trail.old.variables trail.old.lits
+        trail.old.reasons head.old }
     requires idle { lists.old.pending ≡ None }
-    requires room { 0 < trail.old.variables → 2 * trail.old.variables + 2 ≤ length lists.old.heads.items }
-    ensures facts { AreFacts (lits_at lists.new.arena) trail.new.variables trail.new.lits trail.new.reasons head.new }
+    requires room { 0 < trail.old.variables
+        → 2 * trail.old.variables + 2 ≤ length lists.old.heads.items }
+    ensures facts { AreFacts (lits_at lists.new.arena) trail.new.variables trail.new.lits
+        trail.new.reasons head.new }
     ensures idle { lists.new.pending ≡ None }
     ensures heads { length lists.new.heads.items ≡ length lists.old.heads.items }
     ensures settles { Settles lists.old.arena lists.new.arena trail.old trail.new }
     ensures none { IfNone result (head.new ≡ length trail.new.lits) }
-    ensures some { IfSome result (λ clause. IsLive lists.new.arena clause × (is_false (value_of trail.new.lits) (lits_at lists.new.arena clause) ≡ true)) }
+    ensures some { IfSome result (λ clause. IsLive lists.new.arena clause
+        × (is_false (value_of trail.new.lits) (lits_at lists.new.arena clause) ≡ true)) }
 {
     while *head < trail.len() {
         let lit = trail.lit(*head).negated();

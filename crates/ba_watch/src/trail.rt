@@ -29,9 +29,15 @@ impl Model for Trail {
 
     ghost Value = { Assignments };
 
-    ghost view = { λ t. record { variables = t.variables; lits = take t.assigned t.lits.items; reasons = take t.assigned t.reasons.items } };
+    ghost view = { λ t. record {
+      variables = t.variables;
+      lits = take t.assigned t.lits.items;
+      reasons = take t.assigned t.reasons.items;
+    } };
 
-    ghost invariant = { λ t. (t.variables < 2 ^ 62) × Holds t.variables t.lits.items t.reasons.items t.levels.items t.assigned t.level t.values.items t.places.items };
+    ghost invariant = { λ t. (t.variables < 2 ^ 62)
+        × Holds t.variables t.lits.items t.reasons.items t.levels.items t.assigned t.level
+        t.values.items t.places.items };
 }
 
 impl Trail {
@@ -150,7 +156,11 @@ impl Trail {
     pub fn push(&mut self, lit: Lit, reason: Option<ClauseRef>)
         requires within { lit.variable ≤ self.old.variables }
         requires free { value_of self.old.lits lit ≡ None }
-        ensures pushed { self.new ≡ record self.old { lits = self.old.lits ++ lit ∷ []; reasons = self.old.reasons ++ reason ∷ [] } }
+        ensures pushed { self.new ≡ record self.old {
+          lits = self.old.lits ++ lit
+              ∷ [];
+          reasons = self.old.reasons ++ reason ∷ [];
+        } }
         ensures trail { IsTrail self.new.variables self.new.lits self.new.reasons }
         ensures lengths { length self.old.reasons ≡ length self.old.lits }
     {
@@ -168,7 +178,11 @@ impl Trail {
     /// Takes the last literal off the trail.
     fn pop(&mut self)
         requires { 0 < length self.old.lits }
-        ensures { self.new ≡ record self.old { lits = take (length self.old.lits - 1) self.old.lits; reasons = take (length self.old.lits - 1) self.old.reasons } }
+        ensures { self.new ≡ record self.old {
+          lits = take (length self.old.lits - 1) self.old.lits;
+          reasons = take
+              (length self.old.lits - 1) self.old.reasons;
+        } }
     {
         let place = self.assigned - 1;
         let index = self.lits[place].variable() as usize - 1;
@@ -179,7 +193,11 @@ impl Trail {
 
     /// Takes the literals of the levels above one off the trail.
     pub fn back_to(&mut self, level: usize)
-        ensures { self.new ≡ record self.old { lits = take (kept level self.old.reasons) self.old.lits; reasons = take (kept level self.old.reasons) self.old.reasons } }
+        ensures { self.new ≡ record self.old {
+          lits = take (kept level self.old.reasons) self.old.lits;
+          reasons = take
+              (kept level self.old.reasons) self.old.reasons;
+        } }
     {
         while self.level() > level {
             self.pop();
@@ -188,7 +206,8 @@ impl Trail {
 
     /// Makes room for the assignment of variables up to a number.
     pub fn grow(&mut self, variables: u64) -> Result<(), AllocError>
-        ensures ok { OnOk result (self.new ≡ record self.old { variables = max self.old.variables variables }) }
+        ensures ok { OnOk result (self.new
+            ≡ record self.old { variables = max self.old.variables variables }) }
         ensures err { OnErr result (self.new ≡ self.old) }
     {
         if variables <= self.variables {

@@ -44,7 +44,8 @@ pub fn assign_units(
     ensures units { AreUnits arena.now trail.new.lits trail.new.reasons waiting.new.items }
     ensures raised { 0 < decided trail.new.reasons → waiting.new.items ≡ [] }
     ensures none { IfNone result (waiting.new.items ≡ []) }
-    ensures some { IfSome result (λ clause. IsLive arena.now clause × (is_false (value_of trail.new.lits) (lits_at arena.now clause) ≡ true)) }
+    ensures some { IfSome result (λ clause. IsLive arena.now clause
+        × (is_false (value_of trail.new.lits) (lits_at arena.now clause) ≡ true)) }
 {
     while !waiting.is_empty() {
         let clause = waiting[waiting.len() - 1];

@@ -37,15 +37,29 @@ impl Model for Watch {
 
     ghost Value = { State };
 
-    ghost view = { λ w. record { variables = w.trail.variables; clauses = map plain w.lists.arena; trail = w.trail.lits; reasons = w.trail.reasons; settled = w.settled } };
+    ghost view = { λ w. record {
+      variables = w.trail.variables;
+      clauses = map plain w.lists.arena;
+      trail = w.trail.lits;
+      reasons = w.trail.reasons;
+      settled = w.settled;
+    } };
 
-    ghost invariant = { λ w. IsSound w.lists.arena (length w.lists.heads.items) w.lists.pending w.trail.variables w.trail.lits w.trail.reasons w.head w.waiting.items w.settled };
+    ghost invariant = { λ w. IsSound w.lists.arena (length w.lists.heads.items) w.lists.pending
+        w.trail.variables w.trail.lits w.trail.reasons w.head w.waiting.items w.settled };
 }
 
 impl Watch {
     /// No variables, no clauses and an empty trail, settled. It takes no memory.
     pub fn new(alloc: Global) -> Watch
-        ensures { result ≡ record { variables = 0; clauses = []; trail = []; reasons = []; settled = true } }
+        ensures { result ≡ record {
+          variables = 0;
+          clauses = [];
+          trail = [];
+          reasons = [];
+          settled =
+              true;
+        } }
     {
         Watch {
             lists: Lists::new(alloc),
@@ -61,7 +75,8 @@ impl Watch {
     /// The one error is want of memory or of room, which is for less than 2^62 variables. It leaves the watch as it
     /// was.
     pub fn grow(&mut self, variables: u64) -> Result<(), AllocError>
-        ensures ok { OnOk result (self.new ≡ record self.old { variables = max self.old.variables variables }) }
+        ensures ok { OnOk result (self.new
+            ≡ record self.old { variables = max self.old.variables variables }) }
         ensures err { OnErr result (self.new ≡ self.old) }
     {
         if variables >= 1 << 62 {
@@ -154,7 +169,12 @@ impl Watch {
         requires settled { self.old.settled ≡ true }
         requires within { lit.variable ≤ self.old.variables }
         requires free { value_of self.old.trail lit ≡ None }
-        ensures { self.new ≡ record self.old { trail = self.old.trail ++ lit ∷ []; reasons = self.old.reasons ++ None ∷ []; settled = false } }
+        ensures { self.new ≡ record self.old {
+          trail = self.old.trail ++ lit
+              ∷ [];
+          reasons = self.old.reasons ++ None ∷ [];
+          settled = false;
+        } }
     {
         self.trail.push(lit, None);
         self.settled = false;
@@ -165,7 +185,12 @@ impl Watch {
         requires within { lit.variable ≤ self.old.variables }
         requires free { value_of self.old.trail lit ≡ None }
         requires reason { IsReason (lits_in self.old.clauses reason) self.old.trail lit }
-        ensures { self.new ≡ record self.old { trail = self.old.trail ++ lit ∷ []; reasons = self.old.reasons ++ Some reason ∷ []; settled = false } }
+        ensures { self.new ≡ record self.old {
+          trail = self.old.trail ++ lit
+              ∷ [];
+          reasons = self.old.reasons ++ Some reason ∷ [];
+          settled = false;
+        } }
     {
         self.trail.push(lit, Some(reason));
         self.settled = false;
@@ -175,8 +200,11 @@ impl Watch {
     /// clause is false or unit at its end. It takes no memory.
     pub fn propagate(&mut self) -> Option<ClauseRef>
         ensures extends { Extends self.old self.new }
-        ensures none { IfNone result ((self.new.settled ≡ true) × IsComplete self.new.clauses self.new.trail) }
-        ensures some { IfSome result (λ clause. (self.new.settled ≡ false) × IsSome (clause_in self.new.clauses clause) × (is_false (value_of self.new.trail) (lits_in self.new.clauses clause) ≡ true)) }
+        ensures none { IfNone result ((self.new.settled ≡ true)
+            × IsComplete self.new.clauses self.new.trail) }
+        ensures some { IfSome result (λ clause. (self.new.settled ≡ false)
+            × IsSome (clause_in self.new.clauses clause)
+            × (is_false (value_of self.new.trail) (lits_in self.new.clauses clause) ≡ true)) }
     {
         self.settled = false;
         let lists = &self.lists;
@@ -194,7 +222,13 @@ impl Watch {
     /// Takes the literals of the levels above one off the trail.
     pub fn back_to(&mut self, level: usize)
         requires { level ≤ decided self.old.reasons }
-        ensures { self.new ≡ record self.old { trail = take (kept level self.old.reasons) self.old.trail; reasons = take (kept level self.old.reasons) self.old.reasons; settled = if ltb level (decided self.old.reasons) then true else self.old.settled } }
+        ensures { self.new ≡ record self.old {
+          trail = take (kept level self.old.reasons) self.old.trail;
+          reasons = take
+              (kept level self.old.reasons) self.old.reasons;
+          settled = if ltb level
+              (decided self.old.reasons) then true else self.old.settled;
+        } }
     {
         if level < self.trail.level() {
             self.trail.back_to(level);

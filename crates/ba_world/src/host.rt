@@ -177,7 +177,8 @@ fn counted<T>(outcome: io::Result<T>, faults: &mut u64) -> Result<T, WorldError>
 
 /// Writes all of the bytes, or fails when it has written some prefix of them.
 fn write_whole<W: Write>(writer: &mut W, bytes: &[u8]) -> io::Result<()>
-    ensures whole { OnOk result (Appends (W.contents writer.old) (W.contents writer.new) bytes.now) }
+    ensures whole { OnOk result (Appends (W.contents writer.old) (W.contents writer.new)
+        bytes.now) }
     ensures prefix { AppendsPrefix (W.contents writer.old) (W.contents writer.new) bytes.now }
 {
     let mut rest = bytes;

@@ -65,7 +65,8 @@ impl MemoryFile {
     }
 
     fn append(&mut self, bytes: &[u8]) -> Result<(), AllocError>
-        ensures ok { OnOk result (self.new ≡ record self.old { bytes = self.old.bytes ++ bytes.now }) }
+        ensures ok { OnOk result (self.new
+            ≡ record self.old { bytes = self.old.bytes ++ bytes.now }) }
         ensures err { OnErr result (self.new ≡ self.old) }
     {
         self.bytes.extend_from_slice(bytes)
@@ -127,7 +128,8 @@ fn append_to(files: &mut Vec<MemoryFile>, place: usize, bytes: &[u8]) -> Result<
     ensures ok { OnOk result (files.new.items
         ≡ added_to (Some (name_at files.old.items place)) bytes.now files.old.items) }
     ensures err { OnErr result (files.new.items ≡ files.old.items) }
-    ensures names_stay { (other : ℕ) → name_at files.new.items other ≡ name_at files.old.items other }
+    ensures names_stay { (other : ℕ) → name_at files.new.items other
+        ≡ name_at files.old.items other }
     ensures differ { NamesDiffer files.new.items }
     ensures len { length files.new.items ≡ length files.old.items }
 {
@@ -222,7 +224,8 @@ impl MemoryWorld {
         fails: Vec<u64>,
         piece: usize,
     ) -> Result<MemoryWorld, AllocError>
-        requires names { AllPairs (λ one other. string_bytes one.0 ≢ string_bytes other.0) files.items }
+        requires names { AllPairs (λ one other. string_bytes one.0
+            ≢ string_bytes other.0) files.items }
         requires piece { 0 < piece }
         ensures { IfOk result (λ world. world ≡ new_memory
             (map (λ file. held_file (string_bytes file.0) file.1.items) files.items)
@@ -305,8 +308,10 @@ impl World for MemoryWorld {
     }
 
     fn begin_file(&mut self, name: &str) -> Result<(), WorldError>
-        ensures exactly { result ≢ Err WorldError.Memory → (result, self.new) ≡ after_begin name.now self.old }
-        ensures memory { result ≡ Err WorldError.Memory → self.new ≡ record (called self.old) { writing = None } }
+        ensures exactly { result ≢ Err WorldError.Memory → (result, self.new)
+            ≡ after_begin name.now self.old }
+        ensures memory { result ≡ Err WorldError.Memory → self.new
+            ≡ record (called self.old) { writing = None } }
         ensures no_fall { self.old.write_faults ≤ self.new.write_faults }
     {
         self.writing = None;
@@ -320,7 +325,8 @@ impl World for MemoryWorld {
 
     fn add(&mut self, bytes: &[u8]) -> Result<(), WorldError>
         requires { IsSome self.old.writing }
-        ensures exactly { result ≢ Err WorldError.Memory → (result, self.new) ≡ after_add bytes.now self.old }
+        ensures exactly { result ≢ Err WorldError.Memory → (result, self.new)
+            ≡ after_add bytes.now self.old }
         ensures memory { result ≡ Err WorldError.Memory → self.new ≡ called self.old }
         ensures no_fall { self.old.write_faults ≤ self.new.write_faults }
     {
@@ -338,7 +344,8 @@ impl World for MemoryWorld {
     }
 
     fn print(&mut self, bytes: &[u8]) -> Result<(), WorldError>
-        ensures exactly { result ≢ Err WorldError.Memory → (result, self.new) ≡ after_print bytes.now self.old }
+        ensures exactly { result ≢ Err WorldError.Memory → (result, self.new)
+            ≡ after_print bytes.now self.old }
         ensures memory { result ≡ Err WorldError.Memory → self.new ≡ print_short self.old }
         ensures no_fall { self.old.write_faults ≤ self.new.write_faults }
         ensures no_fewer { self.old.print_shortages ≤ self.new.print_shortages }

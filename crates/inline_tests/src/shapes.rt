@@ -35,7 +35,7 @@ fn write_node(shape: &mut String, node: &Node) -> Result<(), AllocError> {
             write_nodes(shape, body.as_slice())?;
             shape.push_str(")")
         }
-        Node::Leave { label } => write_label(shape, "L", *label),
+        Node::Leave { label } => write_label(shape, "^", *label),
         Node::Loop {
             head,
             body,
@@ -123,14 +123,14 @@ const OWN: &str = "1 2  0  0  1  0  1 0  3 decl 0 inits 1 0 2 5 e 0 0 assert 2 =
 #[test]
 fn nodes_stand_for_programs_as_worked_out(rt: HostRuntime) -> Result<(), Fail> {
     for (program, frames, expected) in [
-        (GLOBAL, 16, "B0(sp(sB0(p(s)p(s)L0)s)bap(s)L0)"),
-        (GLOBAL, 1, "B0(sp(xs)bap(s)L0)"),
-        (KEPT, 16, "B0(sp(ssB0(p(s)p(s)L0)bs)p(s)L0)"),
-        (INITIALISER, 1, "B0(p(bs)p(s)L0)"),
+        (GLOBAL, 16, "B0(sp(sB0(p(s)p(s)^0)s)bap(s)^0)"),
+        (GLOBAL, 1, "B0(sp(xs)bap(s)^0)"),
+        (KEPT, 16, "B0(sp(ssB0(p(s)p(s)^0)bs)p(s)^0)"),
+        (INITIALISER, 1, "B0(p(bs)p(s)^0)"),
         (
             SUM,
             1,
-            "B0(ssp(cs)p(cs)B1(o(p(bs)|B2(p(bs))|p(cbs)))cbap(s)L0)",
+            "B0(ssp(cs)p(cs)B1(o(p(bs)|B2(p(bs))|p(cbs)))cbap(s)^0)",
         ),
         (
             ARRAYS,
@@ -138,7 +138,7 @@ fn nodes_stand_for_programs_as_worked_out(rt: HostRuntime) -> Result<(), Fail> {
             "B0(fp(sfsB0(fp(s)i(p(bsfsB0(fp(s)i(p(bx)|)lbap(S)))|)lbap(S)))lba)",
         ),
         (VALUES, 1, "B0(succbbap(cs)cbi(i(s|buu)uu|s)ai(s|bs)bap(b))"),
-        (JUMPS, 1, "B0(sp(s)B1(o(p(bs)|B2(p(bs)i(L1|)L2)|p(bs)))ba)"),
+        (JUMPS, 1, "B0(sp(s)B1(o(p(bs)|B2(p(bs)i(^1|)^2)|p(bs)))ba)"),
         (BEHIND, 1, "B0(sB1(o(p(s)|B2(p(bs))|))ba)"),
         (OWN, 1, "B0(fp(lf)lba)"),
     ] {

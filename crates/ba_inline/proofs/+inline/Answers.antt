@@ -30,12 +30,12 @@ use Rattle.ba_numbers.specs.declared.numbers.CType.TheVariants.{I32}
 use Rattle.ba_numbers.specs.declared.numbers.UnOp.TheVariants.{IsZero}
 use Rattle.ba_tree.specs.Meaning.{eval, exec_all}
 use Rattle.ba_tree.specs.declared.tree.Variable.{Variable}
-use Rattle.ba_inline.proofs.inlining.+inline.Goals as goal
+use Rattle.ba_inline.proofs.+inline.Goals as goal
 
 -- EXPRESSIONS
 
-pub expression-returns-in-Const : goal.expression-returns-in-Const
-expression-returns-in-Const t c = λ scope.
+pub operands::expression-returns-in-Const : goal.operands::expression-returns-in-Const
+operands::expression-returns-in-Const t c = λ scope.
     let p = c.args.setting.now.program.now in
     let names = c.args.scope.now in
     let path = c.args.path.now in
@@ -46,8 +46,8 @@ expression-returns-in-Const t c = λ scope.
     let e = c.args.expr.now in
     makes-const p names path frame here e low old c.in-Const.t c.in-Const.value _ c.in-Const.is (search rules)
 
-pub expression-returns-in-Var : goal.expression-returns-in-Var
-expression-returns-in-Var t c = λ scope.
+pub operands::expression-returns-in-Var : goal.operands::expression-returns-in-Var
+operands::expression-returns-in-Var t c = λ scope.
     let p = c.args.setting.now.program.now in
     let names = c.args.scope.now in
     let path = c.args.path.now in
@@ -59,8 +59,8 @@ expression-returns-in-Var t c = λ scope.
     makes-variable p names path frame here e low old c.in-Var.var c.value.result c.in-Var.is
     c.value.ensures scope.naming
 
-pub expression-returns-in_ok-add_load-in-Element : goal.expression-returns-in_ok-add_load-in-Element
-expression-returns-in_ok-add_load-in-Element t c = λ scope.
+pub operands::expression-returns-in_ok-add_load-in-Element : goal.operands::expression-returns-in_ok-add_load-in-Element
+operands::expression-returns-in_ok-add_load-in-Element t c = λ scope.
     let p = c.args.setting.now.program.now in
     let names = c.args.scope.now in
     let path = c.args.path.now in
@@ -79,8 +79,8 @@ expression-returns-in_ok-add_load-in-Element t c = λ scope.
     c.in_ok-number-in-Element.ensures
     c.in_ok-add_load-in-Element.ensures)
 
-pub expression-returns-in_ok-add_unary-in-Unary : goal.expression-returns-in_ok-add_unary-in-Unary
-expression-returns-in_ok-add_unary-in-Unary t c = λ scope.
+pub operands::expression-returns-in_ok-add_unary-in-Unary : goal.operands::expression-returns-in_ok-add_unary-in-Unary
+operands::expression-returns-in_ok-add_unary-in-Unary t c = λ scope.
     let p = c.args.setting.now.program.now in
     let names = c.args.scope.now in
     let path = c.args.path.now in
@@ -97,8 +97,8 @@ expression-returns-in_ok-add_unary-in-Unary t c = λ scope.
     c.in-Unary.op c.in-Unary.t c.in-Unary.a c.in-Unary.is c.deref-in-Unary.ensures
     c.in_ok-add_unary-in-Unary.ensures)
 
-pub expression-returns-in_ok-add_convert-in-Convert : goal.expression-returns-in_ok-add_convert-in-Convert
-expression-returns-in_ok-add_convert-in-Convert t c = λ scope.
+pub operands::expression-returns-in_ok-add_convert-in-Convert : goal.operands::expression-returns-in_ok-add_convert-in-Convert
+operands::expression-returns-in_ok-add_convert-in-Convert t c = λ scope.
     let p = c.args.setting.now.program.now in
     let names = c.args.scope.now in
     let path = c.args.path.now in
@@ -116,8 +116,8 @@ expression-returns-in_ok-add_convert-in-Convert t c = λ scope.
     c.in-Convert.t c.in-Convert.a c.in-Convert.is c.deref-in-Convert.ensures
     c.in_ok-add_convert-in-Convert.ensures)
 
-pub expression-returns-in_ok-add_binary-in-Binary : goal.expression-returns-in_ok-add_binary-in-Binary
-expression-returns-in_ok-add_binary-in-Binary t c = λ scope.
+pub operands::expression-returns-in_ok-add_binary-in-Binary : goal.operands::expression-returns-in_ok-add_binary-in-Binary
+operands::expression-returns-in_ok-add_binary-in-Binary t c = λ scope.
     let p = c.args.setting.now.program.now in
     let names = c.args.scope.now in
     let path = c.args.path.now in
@@ -145,8 +145,8 @@ expression-returns-in_ok-add_binary-in-Binary t c = λ scope.
     c.in_ok-to-in-Binary.ensures.0 c.in-Binary.op c.in-Binary.t c.in-Binary.a c.in-Binary.b c.in-Binary.is
     c.deref-in-Binary-2.ensures c.deref-in-Binary-3.ensures c.in_ok-add_binary-in-Binary.ensures)
 
-pub expression-returns-in_ok-add_if-in-AndAlso : goal.expression-returns-in_ok-add_if-in-AndAlso
-expression-returns-in_ok-add_if-in-AndAlso t c = λ scope.
+pub operands::expression-returns-in_ok-add_if-in-AndAlso : goal.operands::expression-returns-in_ok-add_if-in-AndAlso
+operands::expression-returns-in_ok-add_if-in-AndAlso t c = λ scope.
     let p = c.args.setting.now.program.now in
     let names = c.args.scope.now in
     let path = c.args.path.now in
@@ -174,8 +174,8 @@ expression-returns-in_ok-add_if-in-AndAlso t c = λ scope.
     (c.in_ok-truth_to-in-AndAlso.ensures inner)))
     (adds-old c.new-no.ensures.items c.in_ok-add_set-in-AndAlso.ensures)
 
-pub expression-returns-in_ok-add_if-in-OrElse : goal.expression-returns-in_ok-add_if-in-OrElse
-expression-returns-in_ok-add_if-in-OrElse t c = λ scope.
+pub operands::expression-returns-in_ok-add_if-in-OrElse : goal.operands::expression-returns-in_ok-add_if-in-OrElse
+operands::expression-returns-in_ok-add_if-in-OrElse t c = λ scope.
     let p = c.args.setting.now.program.now in
     let names = c.args.scope.now in
     let path = c.args.path.now in
@@ -203,8 +203,8 @@ expression-returns-in_ok-add_if-in-OrElse t c = λ scope.
     (to-low c.in_ok-to-in-OrElse.ensures.1 (makes-old c.new-no-in-OrElse.ensures.items
     (c.in_ok-truth_to-in-OrElse.ensures inner)))
 
-pub expression-returns-in_ok-add_if-in-Select : goal.expression-returns-in_ok-add_if-in-Select
-expression-returns-in_ok-add_if-in-Select t c = λ scope.
+pub operands::expression-returns-in_ok-add_if-in-Select : goal.operands::expression-returns-in_ok-add_if-in-Select
+operands::expression-returns-in_ok-add_if-in-Select t c = λ scope.
     let p = c.args.setting.now.program.now in
     let names = c.args.scope.now in
     let path = c.args.path.now in
@@ -242,8 +242,8 @@ expression-returns-in_ok-add_if-in-Select t c = λ scope.
     c.deref-in-Select.ensures c.deref-in-Select-2.ensures c.deref-in-Select-3.ensures first
     (makes-old c.new-no-in-Select.ensures.items (c.in_ok-expression_to-in-Select-2.ensures later))
 
-pub expression-returns-in-Call : goal.expression-returns-in-Call
-expression-returns-in-Call t c =
+pub operands::expression-returns-in-Call : goal.operands::expression-returns-in-Call
+operands::expression-returns-in-Call t c =
     let p = c.args.setting.now.program.now in
     let names = c.args.scope.now in
     let path = c.args.path.now in
@@ -259,8 +259,8 @@ expression-returns-in-Call t c =
     scope))
     c.call_value.ensures
 
-pub kept_expression-returns-in_ok-add_set-in-Var : goal.kept_expression-returns-in_ok-add_set-in-Var
-kept_expression-returns-in_ok-add_set-in-Var t c = λ scope.
+pub operands::kept_expression-returns-in_ok-add_set-in-Var : goal.operands::kept_expression-returns-in_ok-add_set-in-Var
+operands::kept_expression-returns-in_ok-add_set-in-Var t c = λ scope.
     let p = c.args.setting.now.program.now in
     let names = c.args.scope.now in
     let path = c.args.path.now in
@@ -281,8 +281,8 @@ kept_expression-returns-in_ok-add_set-in-Var t c = λ scope.
     c.in_ok-to-in-Var.to
     c.type_of.result scope.naming c.in_ok-to-in-Var.ensures.0 c.in_ok-add_set-in-Var.ensures))
 
-pub expression_to-returns : goal.expression_to-returns
-expression_to-returns t c =
+pub operands::expression_to-returns : goal.operands::expression_to-returns
+operands::expression_to-returns t c =
     let p = c.args.setting.now.program.now in
     let names = c.args.scope.now in
     let path = c.args.path.now in
@@ -298,8 +298,8 @@ expression_to-returns t c =
     (c.in_ok-operand.ensures scope)
     c.args.to added) c.add_set.ensures
 
-pub truth_to-returns : goal.truth_to-returns
-truth_to-returns t c =
+pub operands::truth_to-returns : goal.operands::truth_to-returns
+operands::truth_to-returns t c =
     let p = c.args.setting.now.program.now in
     let names = c.args.scope.now in
     let path = c.args.path.now in
@@ -323,8 +323,8 @@ truth_to-returns t c =
 
 -- ROWS of values and of arguments
 
-pub expressions-loop-expr-init : goal.expressions-loop-expr-init
-expressions-loop-expr-init t c = λ scope.
+pub operands::expressions-loop-expr-init : goal.operands::expressions-loop-expr-init
+operands::expressions-loop-expr-init t c = λ scope.
     let p = c.args.setting.now.program.now in
     let names = c.args.scope.now in
     let path = c.args.path.now in
@@ -337,8 +337,8 @@ expressions-loop-expr-init t c = λ scope.
     old old) (sym c.in_ok-operands.ensures.items)
     (values-none p names path frame here (list_any has_call c.args.exprs.now) low old)
 
-pub expressions-loop-expr-preserved : goal.expressions-loop-expr-preserved
-expressions-loop-expr-preserved t c = λ scope.
+pub operands::expressions-loop-expr-preserved : goal.operands::expressions-loop-expr-preserved
+operands::expressions-loop-expr-preserved t c = λ scope.
     let p = c.args.setting.now.program.now in
     let names = c.args.scope.now in
     let path = c.args.path.now in
@@ -356,8 +356,8 @@ expressions-loop-expr-preserved t c = λ scope.
     c.any_has_call-keep.ensures c.in_ok-push.ensures.items made
     (c.in_ok-kept_expression.ensures (scope-later p names low mid made.makes.grows scope))
 
-pub expressions-returns : goal.expressions-returns
-expressions-returns t c = λ scope.
+pub operands::expressions-returns : goal.operands::expressions-returns
+operands::expressions-returns t c = λ scope.
     let p = c.args.setting.now.program.now in
     let names = c.args.scope.now in
     let path = c.args.path.now in
@@ -370,15 +370,15 @@ expressions-returns t c = λ scope.
     c.loop-expr.out.items)
     (take_all c.loop-expr.expr-index c.args.exprs.now (search rules)) (c.loop-expr.invariant scope)
 
-pub expressions-kept_expression-requires : goal.expressions-kept_expression-requires
-expressions-kept_expression-requires t c =
+pub operands::expressions-kept_expression-requires : goal.operands::expressions-kept_expression-requires
+operands::expressions-kept_expression-requires t c =
     let h : weight c.expr-item.result < weights c.args.exprs.now =
     item-below weight c.args.exprs.now c.loop-expr.expr-index c.expr-item.result (search rules) (search
     rules) in
     search (rules, h)
 
-pub arguments-loop-arg-init : goal.arguments-loop-arg-init
-arguments-loop-arg-init t c = λ scope.
+pub calls::arguments-loop-arg-init : goal.calls::arguments-loop-arg-init
+calls::arguments-loop-arg-init t c = λ scope.
     let p = c.args.setting.now.program.now in
     let names = c.args.scope.now in
     let path = c.args.path.now in
@@ -391,8 +391,8 @@ arguments-loop-arg-init t c = λ scope.
     low low old old) (sym c.in_ok-given.ensures.items)
     (arguments-none p names path frame here (list_any arg_has_call c.args.args.now) low old)
 
-pub arguments-loop-arg-preserved : goal.arguments-loop-arg-preserved
-arguments-loop-arg-preserved t c = λ scope.
+pub calls::arguments-loop-arg-preserved : goal.calls::arguments-loop-arg-preserved
+calls::arguments-loop-arg-preserved t c = λ scope.
     let p = c.args.setting.now.program.now in
     let names = c.args.scope.now in
     let path = c.args.path.now in
@@ -410,8 +410,8 @@ arguments-loop-arg-preserved t c = λ scope.
     c.any_arg_has_call-keep.ensures c.in_ok-push.ensures.items made
     (c.in_ok-argument.ensures (scope-later p names low mid made.makes.grows scope))
 
-pub arguments-returns : goal.arguments-returns
-arguments-returns t c = λ scope.
+pub calls::arguments-returns : goal.calls::arguments-returns
+calls::arguments-returns t c = λ scope.
     let p = c.args.setting.now.program.now in
     let names = c.args.scope.now in
     let path = c.args.path.now in
@@ -424,15 +424,15 @@ arguments-returns t c = λ scope.
     c.loop-arg.out.items)
     (take_all c.loop-arg.arg-index c.args.args.now (search rules)) (c.loop-arg.invariant scope)
 
-pub arguments-argument-requires : goal.arguments-argument-requires
-arguments-argument-requires t c =
+pub calls::arguments-argument-requires : goal.calls::arguments-argument-requires
+calls::arguments-argument-requires t c =
     let h : arg_weight c.arg-item.result < arg_weights c.args.args.now =
     item-below arg_weight c.args.args.now c.loop-arg.arg-index c.arg-item.result (search rules) (search
     rules) in
     search (rules, h)
 
-pub argument-returns-in_ok-value-in-Value : goal.argument-returns-in_ok-value-in-Value
-argument-returns-in_ok-value-in-Value t c = λ scope.
+pub calls::argument-returns-in_ok-value-in-Value : goal.calls::argument-returns-in_ok-value-in-Value
+calls::argument-returns-in_ok-value-in-Value t c = λ scope.
     let p = c.args.setting.now.program.now in
     let names = c.args.scope.now in
     let path = c.args.path.now in
@@ -445,8 +445,8 @@ argument-returns-in_ok-value-in-Value t c = λ scope.
     c.kept_expression.new.declared old c.kept_expression.new.out.items c.in-Value.is
     (c.in_ok-value-in-Value.ensures scope)
 
-pub argument-returns-in-Array : goal.argument-returns-in-Array
-argument-returns-in-Array t c = λ scope.
+pub calls::argument-returns-in-Array : goal.calls::argument-returns-in-Array
+calls::argument-returns-in-Array t c = λ scope.
     let p = c.args.setting.now.program.now in
     let names = c.args.scope.now in
     let path = c.args.path.now in
@@ -460,8 +460,8 @@ argument-returns-in-Array t c = λ scope.
 
 -- CALLS
 
-pub call_value-returns : goal.call_value-returns
-call_value-returns t c =
+pub calls::call_value-returns : goal.calls::call_value-returns
+calls::call_value-returns t c =
     let p = c.args.setting.now.program.now in
     let names = c.args.scope.now in
     let path = c.args.path.now in
@@ -477,8 +477,8 @@ call_value-returns t c =
     c.as_slice.result.now (c.as_slice.ensures.value ∙ c.in_ok-inside.ensures) c.as_slice-2.ensures.value scope
     (c.in_ok-given.ensures scope) made) c.invoke.ensures
 
-pub invoke-returns-then-frame-eq0 : goal.invoke-returns-then-frame-eq0
-invoke-returns-then-frame-eq0 t c = λ scope given.
+pub calls::invoke-returns-then-frame-eq0 : goal.calls::invoke-returns-then-frame-eq0
+calls::invoke-returns-then-frame-eq0 t c = λ scope given.
     let p = c.args.setting.now.program.now in
     let names = c.args.scope.now in
     let path = c.args.path.now in
@@ -492,8 +492,8 @@ invoke-returns-then-frame-eq0 t c = λ scope given.
           c.add_beyond.new.out.items (search rules) c.in_ok-add_beyond.ensures;
     }
 
-pub invoke-statements-requires : goal.invoke-statements-requires
-invoke-statements-requires t c =
+pub calls::invoke-statements-requires : goal.calls::invoke-statements-requires
+calls::invoke-statements-requires t c =
     let frames : c.args.frame.frames ≡ suc (c.args.frame.frames - 1) = search rules in
     let h : (c.args.frame.frames - 1) * tallest c.args.setting.now.program.now + (heights
     c.in-Some.function.now.body + 1)
@@ -502,8 +502,8 @@ invoke-statements-requires t c =
     (c.args.frame.frames - 1) frames c.in-Some.ensures.0 c.in-Some.ensures.1 in
     search (rules, h, c.as_slice.ensures)
 
-pub invoke-returns : goal.invoke-returns
-invoke-returns t c = λ scope given.
+pub calls::invoke-returns : goal.calls::invoke-returns
+calls::invoke-returns t c = λ scope given.
     let p = c.args.setting.now.program.now in
     let names = c.args.scope.now in
     let path = c.args.path.now in
@@ -524,8 +524,8 @@ invoke-returns t c = λ scope given.
 
 -- CHOICES
 
-pub given_to-returns : goal.given_to-returns
-given_to-returns t c =
+pub calls::given_to-returns : goal.calls::given_to-returns
+calls::given_to-returns t c =
     let p = c.args.setting.now.program.now in
     let names = c.args.scope.now in
     let path = c.args.path.now in
@@ -542,8 +542,8 @@ given_to-returns t c =
     (subst (λ take. Adds old c.add_pick.new.out.items (pick_act path here take c.expression_to.new.out.items))
     c.take_of.ensures added)) c.add_pick.ensures
 
-pub condition-returns : goal.condition-returns
-condition-returns t c = λ scope.
+pub operands::condition-returns : goal.operands::condition-returns
+operands::condition-returns t c = λ scope.
     let p = c.args.setting.now.program.now in
     let names = c.args.scope.now in
     let path = c.args.path.now in
@@ -558,8 +558,8 @@ condition-returns t c = λ scope.
     (to-low c.in_ok-to.ensures.1 (c.in_ok-given_to.ensures
     (scope-var p names low low c.variable.new.self ty c.in_ok-to.ensures.1 (grows-same low) scope)))
 
-pub assign-returns : goal.assign-returns
-assign-returns t c =
+pub simple::assign-returns : goal.simple::assign-returns
+simple::assign-returns t c =
     let p = c.args.setting.now.program.now in
     let names = c.args.scope.now in
     let path = c.args.path.now in
@@ -576,8 +576,8 @@ assign-returns t c =
     (GivesTo names (has_call e) low c.in_ok-to.to) low c.given_to.new.declared old c.given_to.new.out.items)
     c.variable_of-t.ensures (made (scope-of p frame.home names low is_frame)))) c.given_to.ensures
 
-pub store-returns : goal.store-returns
-store-returns t c =
+pub simple::store-returns : goal.simple::store-returns
+simple::store-returns t c =
     let p = c.args.setting.now.program.now in
     let names = c.args.scope.now in
     let path = c.args.path.now in
@@ -595,8 +595,8 @@ store-returns t c =
     c.has_call-settled.ensures c.in_ok-index.ensures c.in_ok-value.ensures c.in_ok-add_save.ensures added)
     c.add_pick.ensures
 
-pub init_array-returns : goal.init_array-returns
-init_array-returns t c =
+pub simple::init_array-returns : goal.simple::init_array-returns
+simple::init_array-returns t c =
     let p = c.args.setting.now.program.now in
     let names = c.args.scope.now in
     let path = c.args.path.now in
@@ -612,8 +612,8 @@ init_array-returns t c =
     c.expressions.new.out.items c.add_fill.new.out.items c.in_ok-number.ensures c.new-keep.ensures.items
     c.in_ok-filled.ensures c.in_ok-values.ensures c.in_ok-add_fill.ensures added) c.add_pick.ensures
 
-pub call_statement-returns : goal.call_statement-returns
-call_statement-returns t c =
+pub calls::call_statement-returns : goal.calls::call_statement-returns
+calls::call_statement-returns t c =
     let p = c.args.setting.now.program.now in
     let names = c.args.scope.now in
     let path = c.args.path.now in
@@ -628,8 +628,8 @@ call_statement-returns t c =
     (makes-old c.new-keep.ensures.items
     (c.in_ok-call_value.ensures (scope-of p frame.home names low is_frame)).makes) added) c.add_pick.ensures
 
-pub print-returns : goal.print-returns
-print-returns t c =
+pub simple::print-returns : goal.simple::print-returns
+simple::print-returns t c =
     let p = c.args.setting.now.program.now in
     let names = c.args.scope.now in
     let path = c.args.path.now in
@@ -647,8 +647,8 @@ print-returns t c =
 
 -- STATEMENTS
 
-pub statement-returns-in-Block : goal.statement-returns-in-Block
-statement-returns-in-Block t c =
+pub control::statement-returns-in-Block : goal.control::statement-returns-in-Block
+control::statement-returns-in-Block t c =
     let p = c.args.setting.now.program.now in
     let names = c.args.scope.now in
     let path = c.args.path.now in
@@ -662,8 +662,8 @@ statement-returns-in-Block t c =
     (λ w back t s. form-Block p frame stmt w back t s c.in-Block.body c.as_slice.result.now c.in-Block.is
     c.as_slice.ensures.value) (made is_frame)) c.statements.ensures
 
-pub statement-returns-in-Declare : goal.statement-returns-in-Declare
-statement-returns-in-Declare t c =
+pub control::statement-returns-in-Declare : goal.control::statement-returns-in-Declare
+control::statement-returns-in-Declare t c =
     let p = c.args.setting.now.program.now in
     let names = c.args.scope.now in
     let path = c.args.path.now in
@@ -677,8 +677,8 @@ statement-returns-in-Declare t c =
     (λ w back t s. form-Declare p frame stmt w back t s c.in-Declare.var c.in-Declare.is) (made frame path
     is_frame)) c.declare.ensures
 
-pub statement-returns-in-Init : goal.statement-returns-in-Init
-statement-returns-in-Init t c =
+pub control::statement-returns-in-Init : goal.control::statement-returns-in-Init
+control::statement-returns-in-Init t c =
     let p = c.args.setting.now.program.now in
     let names = c.args.scope.now in
     let path = c.args.path.now in
@@ -693,8 +693,8 @@ statement-returns-in-Init t c =
     (λ w back t s. form-Init p frame stmt w back t s c.in-Init.stmt c.in-Init.var c.in-Init.value
     c.in-Init.is) (made is_frame)) c.assign.ensures
 
-pub statement-returns-in-InitArray : goal.statement-returns-in-InitArray
-statement-returns-in-InitArray t c =
+pub control::statement-returns-in-InitArray : goal.control::statement-returns-in-InitArray
+control::statement-returns-in-InitArray t c =
     let p = c.args.setting.now.program.now in
     let names = c.args.scope.now in
     let path = c.args.path.now in
@@ -711,8 +711,8 @@ statement-returns-in-InitArray t c =
     c.as_slice-in-InitArray.result.now c.in-InitArray.is c.as_slice-in-InitArray.ensures.value) (made
     is_frame)) c.init_array.ensures
 
-pub statement-returns-in-Assign : goal.statement-returns-in-Assign
-statement-returns-in-Assign t c =
+pub control::statement-returns-in-Assign : goal.control::statement-returns-in-Assign
+control::statement-returns-in-Assign t c =
     let p = c.args.setting.now.program.now in
     let names = c.args.scope.now in
     let path = c.args.path.now in
@@ -728,8 +728,8 @@ statement-returns-in-Assign t c =
     (λ w back t s. form-Assign p frame stmt w back t s c.in-Assign.stmt c.in-Assign.var c.in-Assign.value
     c.in-Assign.is) (made is_frame)) c.assign-in-Assign.ensures
 
-pub statement-returns-in-Store : goal.statement-returns-in-Store
-statement-returns-in-Store t c =
+pub control::statement-returns-in-Store : goal.control::statement-returns-in-Store
+control::statement-returns-in-Store t c =
     let p = c.args.setting.now.program.now in
     let names = c.args.scope.now in
     let path = c.args.path.now in
@@ -745,8 +745,8 @@ statement-returns-in-Store t c =
     c.in-Store.value
     c.in-Store.is) (made is_frame)) c.store.ensures
 
-pub statement-returns-in_ok-optional-in-If : goal.statement-returns-in_ok-optional-in-If
-statement-returns-in_ok-optional-in-If t c =
+pub control::statement-returns-in_ok-optional-in-If : goal.control::statement-returns-in_ok-optional-in-If
+control::statement-returns-in_ok-optional-in-If t c =
     let p = c.args.setting.now.program.now in
     let names = c.args.scope.now in
     let path = c.args.path.now in
@@ -764,8 +764,8 @@ statement-returns-in_ok-optional-in-If t c =
     c.in_ok-optional-in-If.ensures added)
     c.add_if.ensures
 
-pub statement-returns-in-While : goal.statement-returns-in-While
-statement-returns-in-While t c =
+pub control::statement-returns-in-While : goal.control::statement-returns-in-While
+control::statement-returns-in-While t c =
     let p = c.args.setting.now.program.now in
     let names = c.args.scope.now in
     let path = c.args.path.now in
@@ -787,8 +787,8 @@ statement-returns-in-While t c =
     c.deref-in-While.result.now
     c.in-While.is c.deref-in-While.ensures) (made is_frame)) c.repeat.ensures
 
-pub statement-returns-in-DoWhile : goal.statement-returns-in-DoWhile
-statement-returns-in-DoWhile t c =
+pub control::statement-returns-in-DoWhile : goal.control::statement-returns-in-DoWhile
+control::statement-returns-in-DoWhile t c =
     let p = c.args.setting.now.program.now in
     let names = c.args.scope.now in
     let path = c.args.path.now in
@@ -811,8 +811,8 @@ statement-returns-in-DoWhile t c =
     c.deref-in-DoWhile.result.now c.in-DoWhile.is c.deref-in-DoWhile.ensures) (made is_frame))
     c.repeat-in-DoWhile.ensures
 
-pub statement-returns-in_ok-statements-in-For : goal.statement-returns-in_ok-statements-in-For
-statement-returns-in_ok-statements-in-For t c =
+pub control::statement-returns-in_ok-statements-in-For : goal.control::statement-returns-in_ok-statements-in-For
+control::statement-returns-in_ok-statements-in-For t c =
     let p = c.args.setting.now.program.now in
     let names = c.args.scope.now in
     let path = c.args.path.now in
@@ -857,8 +857,8 @@ statement-returns-in_ok-statements-in-For t c =
     low mid high old out new made (more (frame-later p frame.home names low mid made.grows is_frame))))
     c.repeat-in-For.ensures
 
-pub statement-returns-in-Break : goal.statement-returns-in-Break
-statement-returns-in-Break t c =
+pub control::statement-returns-in-Break : goal.control::statement-returns-in-Break
+control::statement-returns-in-Break t c =
     let p = c.args.setting.now.program.now in
     let names = c.args.scope.now in
     let path = c.args.path.now in
@@ -871,8 +871,8 @@ statement-returns-in-Break t c =
     (subst (λ label. Adds old c.add_leave.new.out.items (leave_act label)) c.break_label.ensures added))
     c.add_leave.ensures
 
-pub statement-returns-in-Continue : goal.statement-returns-in-Continue
-statement-returns-in-Continue t c =
+pub control::statement-returns-in-Continue : goal.control::statement-returns-in-Continue
+control::statement-returns-in-Continue t c =
     let p = c.args.setting.now.program.now in
     let names = c.args.scope.now in
     let path = c.args.path.now in
@@ -887,8 +887,8 @@ statement-returns-in-Continue t c =
     c.continue_label.ensures added))
     c.add_leave-in-Continue.ensures
 
-pub statement-returns-in_ok-given_to-in-Return : goal.statement-returns-in_ok-given_to-in-Return
-statement-returns-in_ok-given_to-in-Return t c =
+pub control::statement-returns-in_ok-given_to-in-Return : goal.control::statement-returns-in_ok-given_to-in-Return
+control::statement-returns-in_ok-given_to-in-Return t c =
     let p = c.args.setting.now.program.now in
     let names = c.args.scope.now in
     let path = c.args.path.now in
@@ -907,8 +907,8 @@ statement-returns-in_ok-given_to-in-Return t c =
     (c.in_ok-given_to-in-Return.ensures (scope-of p frame.home names low is_frame))) added)
     c.add_leave-in-Return.ensures
 
-pub statement-returns-in_ok-add_set-in-ReturnNone : goal.statement-returns-in_ok-add_set-in-ReturnNone
-statement-returns-in_ok-add_set-in-ReturnNone t c =
+pub control::statement-returns-in_ok-add_set-in-ReturnNone : goal.control::statement-returns-in_ok-add_set-in-ReturnNone
+control::statement-returns-in_ok-add_set-in-ReturnNone t c =
     let p = c.args.setting.now.program.now in
     let names = c.args.scope.now in
     let path = c.args.path.now in
@@ -921,8 +921,8 @@ statement-returns-in_ok-add_set-in-ReturnNone t c =
     c.add_leave-in-ReturnNone.new.out.items c.in-ReturnNone.is c.in_ok-add_set-in-ReturnNone.ensures added)
     c.add_leave-in-ReturnNone.ensures
 
-pub statement-returns-in-CallStmt : goal.statement-returns-in-CallStmt
-statement-returns-in-CallStmt t c =
+pub control::statement-returns-in-CallStmt : goal.control::statement-returns-in-CallStmt
+control::statement-returns-in-CallStmt t c =
     let p = c.args.setting.now.program.now in
     let names = c.args.scope.now in
     let path = c.args.path.now in
@@ -941,8 +941,8 @@ statement-returns-in-CallStmt t c =
     c.in-CallStmt.args c.as_slice-in-CallStmt.result.now c.in-CallStmt.is
     c.as_slice-in-CallStmt.ensures.value) (made is_frame)) c.call_statement.ensures
 
-pub statement-returns-in-Print : goal.statement-returns-in-Print
-statement-returns-in-Print t c =
+pub control::statement-returns-in-Print : goal.control::statement-returns-in-Print
+control::statement-returns-in-Print t c =
     let p = c.args.setting.now.program.now in
     let names = c.args.scope.now in
     let path = c.args.path.now in
@@ -958,8 +958,8 @@ statement-returns-in-Print t c =
     c.as_slice-in-Print.result.now c.in-Print.is
     c.as_slice-in-Print.ensures.value) (made is_frame)) c.print.ensures
 
-pub statement-returns-in_ok-value-in-Assert : goal.statement-returns-in_ok-value-in-Assert
-statement-returns-in_ok-value-in-Assert t c =
+pub control::statement-returns-in_ok-value-in-Assert : goal.control::statement-returns-in_ok-value-in-Assert
+control::statement-returns-in_ok-value-in-Assert t c =
     let p = c.args.setting.now.program.now in
     let names = c.args.scope.now in
     let path = c.args.path.now in
@@ -975,8 +975,8 @@ statement-returns-in_ok-value-in-Assert t c =
     c.in-Assert.is (c.in_ok-value-in-Assert.ensures (scope-of p frame.home names low is_frame)) added)
     c.add_assert.ensures
 
-pub optional-returns-in-None : goal.optional-returns-in-None
-optional-returns-in-None t c = λ is_frame.
+pub control::optional-returns-in-None : goal.control::optional-returns-in-None
+control::optional-returns-in-None t c = λ is_frame.
     let p = c.args.setting.now.program.now in
     let names = c.args.scope.now in
     let path = c.args.path.now in
@@ -986,8 +986,8 @@ optional-returns-in-None t c = λ is_frame.
     makes-no-code p names path frame low is_frame.naming (optional_part p frame c.args.stmt.now) old
     (λ w back t s. ap (λ o. optional_now p frame o w back s) c.in-None.is)
 
-pub statements-loop-stmt-init : goal.statements-loop-stmt-init
-statements-loop-stmt-init t c = λ is_frame.
+pub control::statements-loop-stmt-init : goal.control::statements-loop-stmt-init
+control::statements-loop-stmt-init t c = λ is_frame.
     let p = c.args.setting.now.program.now in
     let names = c.args.scope.now in
     let path = c.args.path.now in
@@ -996,8 +996,8 @@ statements-loop-stmt-init t c = λ is_frame.
     let old = c.args.out.now.items in
     stmts-none p names path frame low old is_frame.naming
 
-pub statements-loop-stmt-preserved : goal.statements-loop-stmt-preserved
-statements-loop-stmt-preserved t c = λ is_frame.
+pub control::statements-loop-stmt-preserved : goal.control::statements-loop-stmt-preserved
+control::statements-loop-stmt-preserved t c = λ is_frame.
     let p = c.args.setting.now.program.now in
     let names = c.args.scope.now in
     let path = c.args.path.now in
@@ -1011,8 +1011,8 @@ statements-loop-stmt-preserved t c = λ is_frame.
     old c.loop-stmt.out.items c.statement.new.out.items c.loop-stmt-test.true c.stmt-item.is made
     (c.in_ok-statement.ensures (frame-later p frame.home names low mid made.grows is_frame))
 
-pub statements-returns : goal.statements-returns
-statements-returns t c = λ is_frame.
+pub control::statements-returns : goal.control::statements-returns
+control::statements-returns t c = λ is_frame.
     let p = c.args.setting.now.program.now in
     let names = c.args.scope.now in
     let path = c.args.path.now in
@@ -1024,15 +1024,15 @@ statements-returns t c = λ is_frame.
     (search rules))
     (c.loop-stmt.invariant is_frame)
 
-pub statements-statement-requires : goal.statements-statement-requires
-statements-statement-requires t c =
+pub control::statements-statement-requires : goal.control::statements-statement-requires
+control::statements-statement-requires t c =
     let h : height c.stmt-item.result < heights c.args.body.now =
     item-below height c.args.body.now c.loop-stmt.stmt-index c.stmt-item.result (search rules) (search
     rules) in
     search (rules, h)
 
-pub repeat-returns : goal.repeat-returns
-repeat-returns t c =
+pub control::repeat-returns : goal.control::repeat-returns
+control::repeat-returns t c =
     let p = c.args.setting.now.program.now in
     let names = c.args.scope.now in
     let path = c.args.path.now in

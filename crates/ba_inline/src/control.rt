@@ -1,0 +1,302 @@
+//! The code of statements in a row, of conditions' branches and of loops.
+
+ghost use Rattle.std.specs.Prelude.{false, true, OnOk};
+ghost use Rattle.ba_inline.specs.Making.{Does, Makes};
+ghost use Rattle.ba_inline.specs.Names.{IsFrame};
+ghost use Rattle.ba_inline.specs.Parts.{loop_part, optional_part, stmt_part, stmts_part};
+ghost use Rattle.ba_inline.specs.Repeating.{parts_of};
+
+use crate::calls::{call_statement, given_to};
+use crate::declared::Declared;
+use crate::emit::{add_assert, add_block, add_if, add_leave, add_loop, add_set};
+use crate::frames::{
+    BROKEN, CONTINUED, Frame, RETURNED, Setting, Wanted, break_label, continue_label, in_body,
+    in_step,
+};
+use crate::leaves::{declare, extended};
+use crate::operands::{condition, expression};
+use crate::scope::Scope;
+use crate::simple::{assign, init_array, print, store};
+use ba_code::nodes::{Node, Operand};
+use ba_numbers::ids::StmtId;
+use ba_numbers::numbers::CType;
+use ba_tree::run::Step;
+use ba_tree::tree::{Expr, Stmt};
+use std::alloc::AllocError;
+
+/// The code of a statement.
+#[cycle(inline)]
+fn statement(
+    setting: &Setting,
+    scope: &Scope,
+    frame: Frame,
+    path: &[Step],
+    declared: &mut Declared,
+    out: &mut Vec<Node>,
+    stmt: &Stmt,
+) -> Result<(), AllocError>
+    ensures { OnOk result (IsFrame setting.now.program.now frame.home scope.now declared.old
+        → Makes setting.now.program.now scope.now path.now
+        (stmt_part setting.now.program.now frame stmt.now)
+        (Does scope.now frame.exits frame.home declared.old)
+        declared.old declared.new out.old.items out.new.items) }
+{
+    match stmt {
+        Stmt::Block { body } => {
+            statements(setting, scope, frame, path, declared, out, body.as_slice())
+        }
+        Stmt::Declare { var } => declare(setting, scope, declared, out, *var),
+        Stmt::Init { stmt, var, value } => assign(
+            setting, scope, frame, path, *stmt, declared, out, *var, value,
+        ),
+        Stmt::InitArray {
+            stmt,
+            array,
+            values,
+        } => init_array(
+            setting,
+            scope,
+            frame,
+            path,
+            *stmt,
+            declared,
+            out,
+            *array,
+            values.as_slice(),
+        ),
+        Stmt::Assign { stmt, var, value } => assign(
+            setting, scope, frame, path, *stmt, declared, out, *var, value,
+        ),
+        Stmt::Store {
+            stmt,
+            array,
+            index,
+            value,
+        } => store(
+            setting, scope, frame, path, *stmt, declared, out, *array, index, value,
+        ),
+        Stmt::If {
+            stmt,
+            when,
+            yes,
+            no,
+        } => {
+            let to = condition(setting, scope, frame, path, *stmt, declared, out, when)?;
+            let mut one = Vec::new(setting.alloc);
+            statement(setting, scope, frame, path, declared, &mut one, yes)?;
+            let mut other = Vec::new(setting.alloc);
+            optional(setting, scope, frame, path, declared, &mut other, no)?;
+            add_if(out, Operand::Var(to), one, other)
+        }
+        Stmt::While { stmt, when, body } => {
+            let parts = Loop {
+                after: false,
+                stmt: *stmt,
+                when,
+                body,
+                step: &[],
+            };
+            repeat(setting, scope, frame, path, declared, out, &parts)
+        }
+        Stmt::DoWhile { stmt, when, body } => {
+            let parts = Loop {
+                after: true,
+                stmt: *stmt,
+                when,
+                body,
+                step: &[],
+            };
+            repeat(setting, scope, frame, path, declared, out, &parts)
+        }
+        Stmt::For {
+            stmt,
+            first,
+            when,
+            step,
+            body,
+        } => {
+            statements(setting, scope, frame, path, declared, out, first.as_slice())?;
+            let parts = Loop {
+                after: false,
+                stmt: *stmt,
+                when,
+                body,
+                step: step.as_slice(),
+            };
+            repeat(setting, scope, frame, path, declared, out, &parts)
+        }
+        Stmt::Break => add_leave(out, break_label(frame.exits)),
+        Stmt::Continue => add_leave(out, continue_label(frame.exits)),
+        Stmt::Return { stmt, value } => {
+            let t = frame.result.unwrap_or(CType::I32);
+            given_to(
+                setting,
+                scope,
+                frame,
+                path,
+                *stmt,
+                Wanted::Value(t),
+                frame.home,
+                declared,
+                out,
+                value,
+            )?;
+            add_leave(out, RETURNED)
+        }
+        Stmt::ReturnNone => {
+            add_set(out, frame.home, Operand::Const(0))?;
+            add_leave(out, RETURNED)
+        }
+        Stmt::CallStmt {
+            stmt,
+            call,
+            function,
+            args,
+        } => call_statement(
+            setting,
+            scope,
+            frame,
+            path,
+            *stmt,
+            declared,
+            out,
+            *call,
+            *function,
+            args.as_slice(),
+        ),
+        Stmt::Print { stmt, args } => print(
+            setting,
+            scope,
+            frame,
+            path,
+            *stmt,
+            declared,
+            out,
+            args.as_slice(),
+        ),
+        Stmt::Assert { stmt, when } => {
+            let value = expression(setting, scope, frame, path, *stmt, declared, out, when)?;
+            add_assert(out, value, *stmt)
+        }
+    }
+}
+
+/// The code of the statement behind an `else`, if there is one.
+#[cycle(inline)]
+fn optional(
+    setting: &Setting,
+    scope: &Scope,
+    frame: Frame,
+    path: &[Step],
+    declared: &mut Declared,
+    out: &mut Vec<Node>,
+    stmt: &Option<Box<Stmt>>,
+) -> Result<(), AllocError>
+    ensures { OnOk result (IsFrame setting.now.program.now frame.home scope.now declared.old
+        → Makes setting.now.program.now scope.now path.now
+        (optional_part setting.now.program.now frame stmt.now)
+        (Does scope.now frame.exits frame.home declared.old)
+        declared.old declared.new out.old.items out.new.items) }
+{
+    match stmt {
+        Some(stmt) => statement(setting, scope, frame, path, declared, out, stmt),
+        None => Ok(()),
+    }
+}
+
+/// The code of statements in a row.
+#[cycle(inline)]
+pub fn statements(
+    setting: &Setting,
+    scope: &Scope,
+    frame: Frame,
+    path: &[Step],
+    declared: &mut Declared,
+    out: &mut Vec<Node>,
+    body: &[Stmt],
+) -> Result<(), AllocError>
+    ensures { OnOk result (IsFrame setting.now.program.now frame.home scope.now declared.old
+        → Makes setting.now.program.now scope.now path.now
+        (stmts_part setting.now.program.now frame body.now)
+        (Does scope.now frame.exits frame.home declared.old)
+        declared.old declared.new out.old.items out.new.items) }
+{
+    for stmt in body {
+        statement(setting, scope, frame, path, declared, out, stmt)?;
+    }
+    Ok(())
+}
+
+/// What a loop is made of: its condition, its body, the step of a `for`, and whether the condition comes behind the body.
+#[derive(Clone, Copy)]
+struct Loop<'a> {
+    after: bool,
+    stmt: StmtId,
+    when: &'a Expr,
+    body: &'a Stmt,
+    step: &'a [Stmt],
+}
+
+/// The code of a loop.
+#[cycle(inline)]
+fn repeat(
+    setting: &Setting,
+    scope: &Scope,
+    frame: Frame,
+    path: &[Step],
+    declared: &mut Declared,
+    out: &mut Vec<Node>,
+    parts: &Loop,
+) -> Result<(), AllocError>
+    ensures { OnOk result (IsFrame setting.now.program.now frame.home scope.now declared.old
+        → Makes setting.now.program.now scope.now path.now
+        (loop_part setting.now.program.now frame (parts_of parts.now))
+        (Does scope.now frame.exits frame.home declared.old)
+        declared.old declared.new out.old.items out.new.items) }
+{
+    let inside = extended(setting.alloc, path, Step::Turn(parts.stmt, 0))?;
+    let mut head = Vec::new(setting.alloc);
+    let to = condition(
+        setting,
+        scope,
+        frame,
+        inside.as_slice(),
+        parts.stmt,
+        declared,
+        &mut head,
+        parts.when,
+    )?;
+    let mut body = Vec::new(setting.alloc);
+    statement(
+        setting,
+        scope,
+        in_body(frame),
+        inside.as_slice(),
+        declared,
+        &mut body,
+        parts.body,
+    )?;
+    let mut turn = Vec::new(setting.alloc);
+    add_block(&mut turn, CONTINUED, body)?;
+    let mut step = Vec::new(setting.alloc);
+    statements(
+        setting,
+        scope,
+        in_step(frame),
+        inside.as_slice(),
+        declared,
+        &mut step,
+        parts.step,
+    )?;
+    let mut whole = Vec::new(setting.alloc);
+    add_loop(
+        &mut whole,
+        parts.after,
+        head,
+        Operand::Var(to),
+        turn,
+        step,
+        parts.stmt,
+    )?;
+    add_block(out, BROKEN, whole)
+}
