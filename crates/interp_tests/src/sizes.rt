@@ -1,13 +1,13 @@
 //! Programs with their units within some bounds, which were counted by hand.
 
-use crate::examples::{
-    ARGUMENTS, ARRAYS, BEHIND, DIVISION, ENDLESS, GLOBAL, INITIALISER, JUMPS, OWN, P1, P2, P3, P5,
-    STORE, TURNS, VALUES,
-};
 use ba_tree::run::Bounds;
 use ba_unroll::units;
 use std::alloc::Global;
 use std::test::Fail;
+use test_programs::examples::{
+    ARGUMENTS, ARRAYS, BEHIND, DIVISION, ENDLESS, GLOBAL, INITIALISER, JUMPS, OWN, P1, P2, P3, P5,
+    STORE, TURNS, VALUES,
+};
 use test_programs::reader::{Fault, Reader};
 
 /// The units of a program that is written as words.
