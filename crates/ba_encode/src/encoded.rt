@@ -1,0 +1,95 @@
+//! Formulas with their groups, and how choices are read from their models.
+
+ghost use Rattle.std.specs.Prelude.{◌≡◌, ◌^◌, ◌<◌, IsTrue, length, slice_index};
+ghost use Rattle.ba_encode.specs.Readings.{are_readable};
+
+use ba_clauses::Reading;
+use ba_items::Items;
+use ba_lits::{Formula, Lit};
+use ba_numbers::ids::StmtId;
+
+/// A group: its written number, the statement that it belongs to, its weight, and its selector, which is true where
+/// the group runs as written.
+#[derive(Clone, Copy, Debug, PartialEq, Eq)]
+pub struct Group {
+    pub number: u32,
+    pub statement: StmtId,
+    pub weight: u32,
+    pub selector: Lit,
+}
+
+/// How the choice of an execution is read from a model, where its group is given up: whether it takes place, whether
+/// it is as written, and else the values, each by 32 bits and whether these are read as signed.
+#[derive(Drop)]
+pub struct PlaceReading {
+    pub selector: Lit,
+    pub guard: Reading,
+    pub keep: Reading,
+    pub values: Items<ValueReading>,
+}
+
+/// How a value is read from a model: its bits, the lowest first, which are those of a number of `I32` or of `U32`.
+#[derive(Drop)]
+pub struct ValueReading {
+    pub signed: bool,
+    pub bits: Items<Reading>,
+}
+
+/// A formula whose models are the good runs in which groups may be relaxed, with its groups, and the readings of the
+/// executions that stand in groups, all by variables of the formula. There are fewer than 2^32 groups.
+#[derive(Drop)]
+pub struct Encoded {
+    pub(crate) formula: Formula,
+    pub(crate) groups: Items<Group>,
+    pub(crate) places: Items<PlaceReading>,
+    pub ghost few: { length groups < 2 ^ 32 },
+    pub ghost readable: { IsTrue (are_readable formula.variables places) },
+}
+
+impl Encoded {
+    /// The formula.
+    pub fn formula(&self) -> &Formula
+        ensures { result.now ≡ self.now.formula }
+    {
+        &self.formula
+    }
+
+    /// How many groups there are. They count from 0 here.
+    pub fn groups(&self) -> u32
+        ensures { result ≡ length self.now.groups }
+    {
+        self.groups.len() as u32
+    }
+
+    /// The selector of a group: it is true where the group runs as written.
+    pub fn selector(&self, group: u32) -> Lit
+        requires { group < length self.now.groups }
+        ensures { result ≡ (slice_index self.now.groups group).selector }
+    {
+        self.groups.as_slice()[group as usize].selector
+    }
+
+    /// The weight of a group.
+    pub fn weight(&self, group: u32) -> u32
+        requires { group < length self.now.groups }
+        ensures { result ≡ (slice_index self.now.groups group).weight }
+    {
+        self.groups.as_slice()[group as usize].weight
+    }
+
+    /// The statement of a group.
+    pub fn statement(&self, group: u32) -> StmtId
+        requires { group < length self.now.groups }
+        ensures { result ≡ (slice_index self.now.groups group).statement }
+    {
+        self.groups.as_slice()[group as usize].statement
+    }
+
+    /// The written number of a group, from 1 on: that of its statement, or its position in the list of places.
+    pub fn number(&self, group: u32) -> u32
+        requires { group < length self.now.groups }
+        ensures { result ≡ (slice_index self.now.groups group).number }
+    {
+        self.groups.as_slice()[group as usize].number
+    }
+}

@@ -1,0 +1,98 @@
+//! Groups of executions.
+
+ghost use Rattle.std.specs.Prelude.{◌≡◌, map, IfOk};
+ghost use Rattle.ba_encode.specs.Groups.{group_at, groups_of, is_place};
+
+use ba_items::Items;
+use ba_numbers::ids::StmtId;
+use ba_tree::run::{Place, Weights};
+use std::alloc::{AllocError, Global};
+
+/// What is relaxed together: all executions of a statement that has a weight, or a single execution.
+#[derive(Drop)]
+pub enum Grouping {
+    ByStatement(Weights),
+    ByPlace(Items<Place>),
+}
+
+/// A group without its selector: its written number, from 1 on, the statement that it belongs to, and its weight.
+#[derive(Clone, Copy, Debug, PartialEq, Eq)]
+pub(crate) struct Numbered {
+    pub(crate) number: u32,
+    pub(crate) statement: StmtId,
+    pub(crate) weight: u32,
+}
+
+/// The groups in the order of their numbers: the statements that have a weight, under their own numbers, or the
+/// places, which count from 1 and weigh 1 each.
+///
+/// The one error is want of memory.
+pub(crate) fn groups_of(alloc: Global, grouping: &Grouping) -> Result<Vec<Numbered>, AllocError>
+    ensures { IfOk result (λ groups. groups.items ≡ groups_of grouping.now) }
+{
+    match grouping {
+        Grouping::ByStatement(weights) => statement_groups(alloc, weights.of.as_slice()),
+        Grouping::ByPlace(places) => place_groups(alloc, places.as_slice()),
+    }
+}
+
+/// The statements that have a weight.
+fn statement_groups(alloc: Global, weights: &[Option<u32>]) -> Result<Vec<Numbered>, AllocError> {
+    let mut groups = Vec::new(alloc);
+    for i in 0..weights.len() {
+        let number = next_number(i)?;
+        if let Some(weight) = weights[i] {
+            groups.push(Numbered {
+                number,
+                statement: StmtId(number),
+                weight,
+            })?;
+        }
+    }
+    Ok(groups)
+}
+
+/// The places.
+fn place_groups(alloc: Global, places: &[Place]) -> Result<Vec<Numbered>, AllocError> {
+    let mut groups = Vec::new(alloc);
+    for i in 0..places.len() {
+        groups.push(Numbered {
+            number: next_number(i)?,
+            statement: places[i].stmt,
+            weight: 1,
+        })?;
+    }
+    Ok(groups)
+}
+
+/// The number that counts from 1, where there is one.
+fn next_number(index: usize) -> Result<u32, AllocError>
+    ensures { IfOk result (λ number. number ≡ index + 1) }
+{
+    if index >= u32::MAX as usize {
+        return Err(AllocError);
+    }
+    Ok(index as u32 + 1)
+}
+
+/// The group of an execution, by its position among the groups, if it stands in one.
+pub(crate) fn group_at(grouping: &Grouping, groups: &[Numbered], place: &Place) -> Option<usize>
+    ensures { result ≡ group_at grouping.now groups.now place.now }
+{
+    match grouping {
+        Grouping::ByStatement(_) => groups
+            .iter()
+            .position(|group| group.statement == place.stmt),
+        Grouping::ByPlace(places) => places
+            .as_slice()
+            .iter()
+            .position(|other| is_same_place(other, place)),
+    }
+}
+
+/// Whether two places are the same.
+fn is_same_place(a: &Place, b: &Place) -> bool
+    ensures { result ≡ is_place a.now b.now }
+{
+    a.stmt == b.stmt && a.path.as_slice() == b.path.as_slice()
+}

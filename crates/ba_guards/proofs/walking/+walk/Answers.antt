@@ -1,0 +1,301 @@
+use Rattle.std.proofs.Common.{◌≡◌, ◌<◌, ℕ, zero, suc, true, false, sym, ◌∙◌, ap, subst, List, [], ◌∷◌, ◌++◌, ◌==◌, ◌&&◌, length, take, get_or, arith}
+use Rattle.std.proofs.lemmas.List.{take_all, take_more}
+use Rattle.std.specs.List.{list_all}
+use Rattle.ba_code.specs.Facts.{Declared, is_array, is_operand}
+use Rattle.ba_code.specs.Meaning.{choice_where, info_at}
+use Rattle.ba_code.specs.declared.nodes.Node.{Node}
+use Rattle.ba_code_laws.proofs.Equations.{trace-Assert, trace-Beyond, trace-Binary, trace-Block, trace-Convert, trace-If, trace-Leave, trace-Fill, trace-Load, trace-Pick, trace-Save, trace-Set, trace-Unary}
+use Rattle.ba_code_laws.specs.Tracing.{at_place, is_relaxed, trace_node, trace_nodes, traced_picked, untraced}
+use Rattle.ba_guards.proofs.Choosing.{pick-arm}
+use Rattle.ba_guards.proofs.Fitting.{body-fit, first-fit, fit-Assert, fit-Binary, fit-Convert, fit-Fill, fit-Load, fit-Save, fit-Set, fit-Unary, keep-fit, rest-fit, sides-fit, unrolled-Loop}
+use Rattle.ba_guards.proofs.Going.{means-as, traced_of}
+use Rattle.ba_guards.proofs.Scopes.{leave-means, scoped}
+use Rattle.ba_guards.proofs.Walks.{block-arm, fork_part, if-arm, never-means, nodes-more, nodes-none, one-arm, sides-arm}
+use Rattle.ba_guards.specs.Making.{AreFit, IsFit, Means}
+use Rattle.ba_guards.specs.Parts.{assert_part, beyond_part, binary_part, convert_part, declared, fill_part, leave_part, load_part, save_part, set_part, unary_part}
+use Rattle.ba_tree.specs.Acts.{then_do}
+use Rattle.ba_guards.proofs.walking.+walk.Goals as goal
+
+pub guard_node-returns-in_ok-set-in-Set : goal.guard_node-returns-in_ok-set-in-Set
+guard_node-returns-in_ok-set-in-Set t c = λ vars infos fits fit.
+    let d = declared vars c.args.arrays.now in
+    let n = c.args.node.now in
+    let h = sym (fit-Set d n fit.labels c.in-Set.to c.in-Set.from c.in-Set.is) ∙ fit.fit in
+    means-as d (λ f r. set_part c.in-Set.to c.in-Set.from) (λ f r. trace_node r d.arrays n) c.args.b.now _
+    (c.in_ok-set-in-Set.ensures d fits h)
+    (λ f r cs. sym (trace-Set r d.arrays n (traced_of f c.args.b.now cs) c.in-Set.to c.in-Set.from
+    c.in-Set.is))
+
+pub guard_node-returns-in_ok-unary-in-Unary : goal.guard_node-returns-in_ok-unary-in-Unary
+guard_node-returns-in_ok-unary-in-Unary t c = λ vars infos fits fit.
+    let d = declared vars c.args.arrays.now in
+    let n = c.args.node.now in
+    let h = sym (fit-Unary d n fit.labels c.in-Unary.to c.in-Unary.op c.in-Unary.t c.in-Unary.a
+    c.in-Unary.is) ∙ fit.fit in
+    means-as d (λ f r. unary_part c.in-Unary.to c.in-Unary.op c.in-Unary.t c.in-Unary.a) (λ f r. trace_node
+    r d.arrays n) c.args.b.now _
+    (c.in_ok-unary-in-Unary.ensures d fits h)
+    (λ f r cs. sym (trace-Unary r d.arrays n (traced_of f c.args.b.now cs) c.in-Unary.to c.in-Unary.op
+    c.in-Unary.t c.in-Unary.a c.in-Unary.is))
+
+pub guard_node-returns-in_ok-convert-in-Convert : goal.guard_node-returns-in_ok-convert-in-Convert
+guard_node-returns-in_ok-convert-in-Convert t c = λ vars infos fits fit.
+    let d = declared vars c.args.arrays.now in
+    let n = c.args.node.now in
+    let h = sym (fit-Convert d n fit.labels c.in-Convert.to c.in-Convert.t c.in-Convert.a c.in-Convert.is)
+    ∙ fit.fit in
+    means-as d (λ f r. convert_part c.in-Convert.to c.in-Convert.t c.in-Convert.a) (λ f r. trace_node r
+    d.arrays n) c.args.b.now _
+    (c.in_ok-convert-in-Convert.ensures d fits h)
+    (λ f r cs. sym (trace-Convert r d.arrays n (traced_of f c.args.b.now cs) c.in-Convert.to c.in-Convert.t
+    c.in-Convert.a c.in-Convert.is))
+
+pub guard_node-returns-in_ok-load-in-Load : goal.guard_node-returns-in_ok-load-in-Load
+guard_node-returns-in_ok-load-in-Load t c = λ vars infos fits fit.
+    let d = declared vars c.args.arrays.now in
+    let n = c.args.node.now in
+    let h = sym (fit-Load d n fit.labels c.in-Load.to c.in-Load.array c.in-Load.index c.in-Load.stmt
+    c.in-Load.is) ∙ fit.fit in
+    means-as d (λ f r. load_part c.in-Load.to c.in-Load.array c.in-Load.index c.in-Load.stmt) (λ f r.
+    trace_node r d.arrays n) c.args.b.now _
+    (c.in_ok-load-in-Load.ensures vars infos fits h)
+    (λ f r cs. sym (trace-Load r d.arrays n (traced_of f c.args.b.now cs) c.in-Load.to c.in-Load.array
+    c.in-Load.index c.in-Load.stmt c.in-Load.is))
+
+pub guard_node-returns-in_ok-save-in-Save : goal.guard_node-returns-in_ok-save-in-Save
+guard_node-returns-in_ok-save-in-Save t c = λ vars infos fits fit.
+    let d = declared vars c.args.arrays.now in
+    let n = c.args.node.now in
+    let h = sym (fit-Save d n fit.labels c.in-Save.array c.in-Save.index c.in-Save.value c.in-Save.stmt
+    c.in-Save.is) ∙ fit.fit in
+    means-as d (λ f r. save_part c.in-Save.array c.in-Save.index c.in-Save.value c.in-Save.stmt) (λ f r.
+    trace_node r d.arrays n) c.args.b.now _
+    (c.in_ok-save-in-Save.ensures vars infos fits h)
+    (λ f r cs. sym (trace-Save r d.arrays n (traced_of f c.args.b.now cs) c.in-Save.array c.in-Save.index
+    c.in-Save.value c.in-Save.stmt c.in-Save.is))
+
+pub guard_node-returns-in_ok-assert_nonzero-in-Assert : goal.guard_node-returns-in_ok-assert_nonzero-in-Assert
+guard_node-returns-in_ok-assert_nonzero-in-Assert t c = λ vars infos fits fit.
+    let d = declared vars c.args.arrays.now in
+    let n = c.args.node.now in
+    let h = sym (fit-Assert d n fit.labels c.in-Assert.when c.in-Assert.stmt c.in-Assert.is) ∙ fit.fit in
+    means-as d (λ f r. assert_part c.in-Assert.when c.in-Assert.stmt) (λ f r. trace_node r d.arrays n)
+    c.args.b.now _
+    (c.in_ok-assert_nonzero-in-Assert.ensures d fits h)
+    (λ f r cs. sym (trace-Assert r d.arrays n (traced_of f c.args.b.now cs) c.in-Assert.when
+    c.in-Assert.stmt c.in-Assert.is))
+
+pub guard_node-returns-in_ok-binary-in-Binary : goal.guard_node-returns-in_ok-binary-in-Binary
+guard_node-returns-in_ok-binary-in-Binary t c = λ vars infos fits fit.
+    let d = declared vars c.args.arrays.now in
+    let n = c.args.node.now in
+    let h = sym (fit-Binary d n fit.labels c.in-Binary.to c.in-Binary.op c.in-Binary.t c.in-Binary.a
+    c.in-Binary.right c.in-Binary.stmt c.in-Binary.is) ∙ fit.fit in
+    means-as d (λ f r. binary_part c.in-Binary.to c.in-Binary.op c.in-Binary.t c.in-Binary.a
+    c.in-Binary.right c.in-Binary.stmt) (λ f r. trace_node r d.arrays n) c.args.b.now _
+    (c.in_ok-binary-in-Binary.ensures d fits h)
+    (λ f r cs. sym (trace-Binary r d.arrays n (traced_of f c.args.b.now cs) c.in-Binary.to c.in-Binary.op
+    c.in-Binary.t c.in-Binary.a c.in-Binary.right c.in-Binary.stmt c.in-Binary.is))
+
+pub guard_node-returns-in_ok-beyond-in-Beyond : goal.guard_node-returns-in_ok-beyond-in-Beyond
+guard_node-returns-in_ok-beyond-in-Beyond t c = λ vars infos fits fit.
+    let d = declared vars c.args.arrays.now in
+    let n = c.args.node.now in
+    means-as d (λ f r. beyond_part c.in-Beyond.stmt) (λ f r. trace_node r d.arrays n) c.args.b.now _
+    (c.in_ok-beyond-in-Beyond.ensures d fits)
+    (λ f r cs. sym (trace-Beyond r d.arrays n (traced_of f c.args.b.now cs) c.in-Beyond.stmt c.in-Beyond.is))
+
+pub guard_node-returns-in_ok-leave-in-Leave : goal.guard_node-returns-in_ok-leave-in-Leave
+guard_node-returns-in_ok-leave-in-Leave t c = λ vars infos fits fit.
+    let d = declared vars c.args.arrays.now in
+    let n = c.args.node.now in
+    means-as d (λ f r. leave_part c.in-Leave.label) (λ f r. trace_node r d.arrays n) c.args.b.now _
+    (leave-means d c.in-Leave.label c.args.b.now _ fits (c.in_ok-leave-in-Leave.ensures d fits))
+    (λ f r cs. sym (trace-Leave r d.arrays n (traced_of f c.args.b.now cs) c.in-Leave.label c.in-Leave.is))
+
+pub guard_node-returns-in-Loop : goal.guard_node-returns-in-Loop
+guard_node-returns-in-Loop t c = λ vars infos fits fit.
+    let n = c.args.node.now in
+    let no_loop : false ≡ true = sym (unrolled-Loop n c.in-Loop.after c.in-Loop.head c.in-Loop.when
+    c.in-Loop.body c.in-Loop.step
+    c.in-Loop.stmt c.in-Loop.is) ∙ fit.unrolled in absurd (cc)
+
+-- the sides of a branch, and the body of a block
+
+fit-nth : (d : Declared) (ns : List Node) (i : ℕ) (x : Node) → AreFit d ns → i < length ns →
+    x ≡ get_or ns i x → IsFit d x
+fit-nth d [] i x fit below is = absurd (omega (arith, below))
+fit-nth d (n ∷ ns) zero x fit below is = subst (IsFit d) (sym is) (first-fit d n ns fit)
+fit-nth d (n ∷ ns) (suc i) x fit below is = fit-nth d ns i x (rest-fit d n ns fit) (omega (arith, below)) is
+
+pub guard_nodes-loop-node-init : goal.guard_nodes-loop-node-init
+guard_nodes-loop-node-init t c = λ vars infos fits fit. nodes-none (declared vars c.args.arrays.now)
+    c.args.b.now fits
+
+pub guard_nodes-loop-node-preserved : goal.guard_nodes-loop-node-preserved
+guard_nodes-loop-node-preserved t c = λ vars infos fits fit.
+    let d = declared vars c.args.arrays.now in
+    let i = c.loop-node.node-index in
+    let ns = c.args.nodes.now in
+    let n = c.node-item.result in
+    let before = c.loop-node.invariant vars infos fits fit in
+    let one = c.in_ok-guard_node.ensures vars infos before.fits (fit-nth d ns i n fit c.loop-node-test.true
+    c.node-item.is) in
+    subst (λ ns. Means d (λ f r. trace_nodes r d.arrays ns) c.args.b.now c.guard_node.new.b)
+    (sym (take_more ns i n c.loop-node-test.true ∙ ap (λ y. take i ns ++ y ∷ []) (sym c.node-item.is)))
+    (nodes-more d (take i ns) n c.args.b.now c.loop-node.b c.guard_node.new.b before one)
+
+pub guard_nodes-returns : goal.guard_nodes-returns
+guard_nodes-returns t c = λ vars infos fits fit.
+    let d = declared vars c.args.arrays.now in
+    subst (λ ns. Means d (λ f r. trace_nodes r d.arrays ns) c.args.b.now c.loop-node.b)
+    (take_all c.loop-node.node-index c.args.nodes.now (omega arith)) (c.loop-node.invariant vars infos fits
+    fit)
+
+pub guard_node-returns-in_ok-join-in-If : goal.guard_node-returns-in_ok-join-in-If
+guard_node-returns-in_ok-join-in-If t c = λ vars infos fits fit.
+    let d = declared vars c.args.arrays.now in
+    let n = c.args.node.now in
+    let yes = c.in-If.yes.items in
+    let no = c.in-If.no.items in
+    let parts = sides-fit d n c.in-If.when c.in-If.yes c.in-If.no c.in-If.is fit in
+    means-as d (λ f r. fork_part c.in-If.when (trace_nodes r d.arrays yes) (trace_nodes r d.arrays no)) (λ
+    f r. trace_node r d.arrays n)
+    c.args.b.now _
+    (if-arm d c.args.b.now c.operand.new.self _ c.in_ok-which-in-If.which c.in-If.when (λ r. trace_nodes r
+    d.arrays yes)
+    (λ r. trace_nodes r d.arrays no) fits parts.0 c.in_ok-which-in-If.ensures.same
+    c.in_ok-which-in-If.ensures.word
+    (λ fits1 below. sides-arm d c.in_ok-which-in-If.which c.operand.new.self c.open-in-If.new.self
+    c.guard_nodes-in-If.new.b c.switch-in-If.new.self
+    c.guard_nodes-in-If-2.new.b _ (λ f r. trace_nodes r d.arrays yes) (λ f r. trace_nodes r d.arrays no)
+    c.in_ok-fork-in-If.fork
+    c.in_ok-sides-in-If.sides fits1 below c.in_ok-fork-in-If.ensures.fork c.in_ok-fork-in-If.ensures.opens
+    (λ fits2. subst (λ ns. Means d (λ f r. trace_nodes r d.arrays ns) c.open-in-If.new.self
+    c.guard_nodes-in-If.new.b) c.as_slice-in-If.ensures.value
+    (c.in_ok-guard_nodes-in-If-3.ensures vars infos fits2 (subst (AreFit d) (sym
+    c.as_slice-in-If.ensures.value) parts.1)))
+    c.in_ok-sides-in-If.ensures.sides c.in_ok-sides-in-If.ensures.switches
+    (λ fits4. subst (λ ns. Means d (λ f r. trace_nodes r d.arrays ns) c.switch-in-If.new.self
+    c.guard_nodes-in-If-2.new.b)
+    c.as_slice-in-If-2.ensures.value
+    (c.in_ok-guard_nodes-in-If-4.ensures vars infos fits4 (subst (AreFit d) (sym
+    c.as_slice-in-If-2.ensures.value) parts.2)))
+    c.in_ok-join-in-If.ensures))
+    (λ f r cs. sym (trace-If r d.arrays n (traced_of f c.args.b.now cs) c.in-If.when c.in-If.yes c.in-If.no
+    c.in-If.is))
+
+pub guard_node-returns-in_ok-end_block-in-Block : goal.guard_node-returns-in_ok-end_block-in-Block
+guard_node-returns-in_ok-end_block-in-Block t c = λ vars infos fits fit.
+    let d = declared vars c.args.arrays.now in
+    let n = c.args.node.now in
+    let body = c.in-Block.body.items in
+    means-as d (λ f r. scoped c.in-Block.label (trace_nodes r d.arrays body)) (λ f r. trace_node r d.arrays
+    n) c.args.b.now _
+    (block-arm d c.in-Block.label c.args.b.now c.begin_block.new.self c.guard_nodes-in-Block.new.b _ (λ f
+    r. trace_nodes r d.arrays body) fits
+    c.in_ok-begin_block-in-Block.ensures
+    (λ fits1. subst (λ ns. Means d (λ f r. trace_nodes r d.arrays ns) c.begin_block.new.self
+    c.guard_nodes-in-Block.new.b)
+    c.as_slice-in-Block.ensures.value
+    (c.in_ok-guard_nodes-in-Block.ensures vars infos fits1 (subst (AreFit d) (sym
+    c.as_slice-in-Block.ensures.value)
+    (body-fit d n c.in-Block.label c.in-Block.body c.in-Block.is fit))))
+    c.in_ok-end_block-in-Block.ensures)
+    (λ f r cs. sym (trace-Block r d.arrays n (traced_of f c.args.b.now cs) c.in-Block.label c.in-Block.body
+    c.in-Block.is))
+
+pub guard_node-returns-in_ok-fill-in-Fill : goal.guard_node-returns-in_ok-fill-in-Fill
+guard_node-returns-in_ok-fill-in-Fill t c = λ vars infos fits fit.
+    let d = declared vars c.args.arrays.now in
+    let n = c.args.node.now in
+    let a = c.in-Fill.array in
+    let h = sym (fit-Fill d n fit.labels a c.in-Fill.values c.in-Fill.is) ∙ fit.fit in
+    means-as d (λ f r. fill_part a c.in-Fill.values.items) (λ f r. trace_node r d.arrays n) c.args.b.now _
+    (subst (λ os. Means d (λ f r. fill_part a os) c.args.b.now c.fill.new.b) c.as_slice.ensures.value
+    (c.in_ok-fill-in-Fill.ensures d fits
+    (ap (λ os. is_array d a && list_all (is_operand d) os && (length os == (info_at d.arrays a).len))
+    c.as_slice.ensures.value ∙ h)))
+    (λ f r cs. sym (trace-Fill r d.arrays n (traced_of f c.args.b.now cs) a c.in-Fill.values c.in-Fill.is))
+
+pub guard_node-returns-in_ok-join-in-Pick : goal.guard_node-returns-in_ok-join-in-Pick
+guard_node-returns-in_ok-join-in-Pick t c = λ vars infos fits fit.
+    let d = declared vars c.args.arrays.now in
+    let n = c.args.node.now in
+    let b = c.args.b.now in
+    let place = c.in-Pick.place in
+    let take = c.in-Pick.take in
+    let keep = c.in-Pick.keep.items in
+    let parts = keep-fit d n place take c.in-Pick.keep c.in-Pick.is fit in
+    let offer = c.in_ok-offer-in-Pick.offer in
+    means-as d (λ f r s. then_do (untraced (choice_where (is_relaxed r place)) (at_place place s))
+    (traced_picked d.arrays take (trace_nodes r d.arrays keep))) (λ f r. trace_node r d.arrays n) b _
+    (pick-arm d b c.add_place.new.self c.open.new.self c.guard_nodes.new.b c.switch.new.self
+    c.take_values.new.b _ place take
+    c.offered.new.words offer.keep offer.values (λ r. trace_nodes r d.arrays keep)
+    c.in_ok-fork-in-Pick.fork c.in_ok-sides-in-Pick.sides fits
+    (c.in_ok-offer-in-Pick.ensures vars infos fits.words parts.0) c.in_ok-add_place-in-Pick.ensures
+    c.in_ok-fork-in-Pick.ensures.fork c.in_ok-fork-in-Pick.ensures.opens
+    (λ fits2. subst (λ ns. Means d (λ f r. trace_nodes r d.arrays ns) c.open.new.self c.guard_nodes.new.b)
+    c.as_slice-in-Pick.ensures.value
+    (c.in_ok-guard_nodes-in-Pick.ensures vars infos fits2 (subst (AreFit d) (sym
+    c.as_slice-in-Pick.ensures.value) parts.1)))
+    c.in_ok-sides-in-Pick.ensures.sides c.in_ok-sides-in-Pick.ensures.switches
+    (λ fits4 sides second names right. c.in_ok-take_values-in-Pick.ensures vars infos fits4 parts.0 sides
+    second names right)
+    c.in_ok-join-in-Pick.ensures)
+    (λ f r cs. sym (trace-Pick r d.arrays n (traced_of f b cs) place take c.in-Pick.keep c.in-Pick.is))
+
+-- where the run never comes, and where a condition is a constant
+
+pub guard_node-returns-then-is_zero : goal.guard_node-returns-then-is_zero
+guard_node-returns-then-is_zero t c = λ vars infos fits fit.
+    never-means (declared vars c.args.arrays.now) (λ f r. trace_node r c.args.arrays.now c.args.node.now)
+    c.args.b.now fits
+    (c.is_zero.ensures c.if-is_zero.true)
+
+pub guard_node-returns-then-is_met : goal.guard_node-returns-then-is_met
+guard_node-returns-then-is_met t c = λ vars infos fits fit.
+    let d = declared vars c.args.arrays.now in
+    let n = c.args.node.now in
+    let yes = c.in-If.yes.items in
+    let no = c.in-If.no.items in
+    let parts = sides-fit d n c.in-If.when c.in-If.yes c.in-If.no c.in-If.is fit in
+    means-as d (λ f r. fork_part c.in-If.when (trace_nodes r d.arrays yes) (trace_nodes r d.arrays no)) (λ
+    f r. trace_node r d.arrays n)
+    c.args.b.now _
+    (one-arm d c.args.b.now c.operand.new.self _ c.in_ok-which-in-If.which true c.in-If.when (λ r.
+    trace_nodes r d.arrays yes)
+    (λ r. trace_nodes r d.arrays no) fits parts.0 c.in_ok-which-in-If.ensures.same
+    c.in_ok-which-in-If.ensures.word
+    (c.is_met.ensures c.if-is_met.true)
+    (λ fits1. subst (λ ns. Means d (λ f r. trace_nodes r d.arrays ns) c.operand.new.self
+    c.guard_nodes-then-is_met.new.b)
+    c.as_slice-then-is_met.ensures.value
+    (c.in_ok-guard_nodes-in-If.ensures vars infos fits1 (subst (AreFit d) (sym
+    c.as_slice-then-is_met.ensures.value) parts.1))))
+    (λ f r cs. sym (trace-If r d.arrays n (traced_of f c.args.b.now cs) c.in-If.when c.in-If.yes c.in-If.no
+    c.in-If.is))
+
+pub guard_node-returns-then-is_zero-2 : goal.guard_node-returns-then-is_zero-2
+guard_node-returns-then-is_zero-2 t c = λ vars infos fits fit.
+    let d = declared vars c.args.arrays.now in
+    let n = c.args.node.now in
+    let yes = c.in-If.yes.items in
+    let no = c.in-If.no.items in
+    let parts = sides-fit d n c.in-If.when c.in-If.yes c.in-If.no c.in-If.is fit in
+    means-as d (λ f r. fork_part c.in-If.when (trace_nodes r d.arrays yes) (trace_nodes r d.arrays no)) (λ
+    f r. trace_node r d.arrays n)
+    c.args.b.now _
+    (one-arm d c.args.b.now c.operand.new.self _ c.in_ok-which-in-If.which false c.in-If.when (λ r.
+    trace_nodes r d.arrays yes)
+    (λ r. trace_nodes r d.arrays no) fits parts.0 c.in_ok-which-in-If.ensures.same
+    c.in_ok-which-in-If.ensures.word
+    (c.is_zero-in-If.ensures c.if-is_zero-2.true)
+    (λ fits1. subst (λ ns. Means d (λ f r. trace_nodes r d.arrays ns) c.operand.new.self
+    c.guard_nodes-then-is_zero-2.new.b)
+    c.as_slice-then-is_zero-2.ensures.value
+    (c.in_ok-guard_nodes-in-If-2.ensures vars infos fits1 (subst (AreFit d) (sym
+    c.as_slice-then-is_zero-2.ensures.value) parts.2))))
+    (λ f r cs. sym (trace-If r d.arrays n (traced_of f c.args.b.now cs) c.in-If.when c.in-If.yes c.in-If.no
+    c.in-If.is))

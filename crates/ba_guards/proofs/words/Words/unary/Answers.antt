@@ -1,0 +1,41 @@
+use Rattle.std.proofs.Common.{SFits, w64, to_z-of_z, subst, rules, ◌≡◌, ◌<◌, ℕ, true, refl, ◌∙◌, ap, List, length, arith}
+use Rattle.std.proofs.lemmas.Bool.{and_from}
+use Rattle.ba_code.specs.Operators.{converting}
+use Rattle.ba_guards.proofs.Emitting.{emits-push, name-test}
+use Rattle.ba_guards.proofs.Folding.{unary-folded}
+use Rattle.ba_guards.specs.Making.{Emits, word_in}
+use Rattle.ba_numbers.specs.Numbers.{converted, value_of_one}
+use Rattle.ba_tree.specs.Facts.{is_promoted}
+use Rattle.ba_wordlist.proofs.Lengths.{length-lengths}
+use Rattle.ba_wordlist.specs.Facts.{are_words, is_name, is_word_value, lengths_of}
+use Rattle.ba_wordlist.specs.declared.words.WordOp.TheVariants.{Unary}
+use Rattle.ba_wordlist.specs.declared.words.WordOp.{WordOp}
+use Rattle.ba_guards.proofs.words.Words.unary.Goals as goal
+
+-- a name by the lengths so far
+name : (ws : List WordOp) (w : ℕ) → w < length ws → is_name (length (lengths_of ws)) w ≡ true
+name ws w below = name-test (length (lengths_of ws)) w (omega (arith, below, length-lengths ws))
+
+pub returns-in_ok-word-in-Some : goal.returns-in_ok-word-in-Some
+returns-in_ok-word-in-Some c = λ fit promoted below.
+    let fits : SFits w64 c.in-Some.value = search rules in
+    let fits_converted : SFits w64 c.convert.result = search rules in
+    let fits_value : SFits w64 c.apply_one.result = search rules in
+    unary-folded c.args.self.now _ c.in_ok-word-in-Some.word c.args.a c.args.op c.args.t
+    c.in-Some.value c.convert.result c.apply_one.result fit c.in-Some.ensures
+    (c.convert.ensures.value ∙ ap (converted c.args.t) (to_z-of_z fits))
+    (c.apply_one.ensures.value ∙ ap (value_of_one c.args.op c.args.t) (to_z-of_z fits_converted))
+    c.apply_one.ensures.in_range
+    (subst (λ v. are_words c.args.self.now ≡ true → is_word_value v ≡ true
+    → Emits c.args.self.now c.constant.new.self c.in_ok-word-in-Some.word (λ f. v)) (to_z-of_z fits_value)
+    c.in_ok-word-in-Some.ensures)
+
+pub returns-in_ok-word-in-None : goal.returns-in_ok-word-in-None
+returns-in_ok-word-in-None c = λ fit promoted below. emits-push c.args.self.now _ c.in_ok-word-in-None.word
+    (Unary c.args.op c.args.t c.args.a)
+    (λ f. converting.unary c.args.op c.args.t (word_in c.args.self.now c.args.a f))
+    c.in_ok-word-in-None.ensures.name
+    c.in_ok-word-in-None.ensures.words fit
+    (and_from (is_promoted c.args.t) (is_name (length (lengths_of c.args.self.now)) c.args.a) promoted
+    (name c.args.self.now c.args.a below))
+    (λ f. refl)

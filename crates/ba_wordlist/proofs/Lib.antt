@@ -1,0 +1,3 @@
+pub mod Values
+pub mod Lengths
+pub mod Choices

@@ -1,0 +1,87 @@
+//! Words, requirements, and the words of places.
+
+ghost use Rattle.std.specs.Prelude.{IsTrue};
+ghost use Rattle.ba_wordlist.specs.Facts.{is_word_list};
+
+use ba_items::Items;
+use ba_numbers::numbers::{BinOp, CType, UnOp};
+use ba_tree::run::Place;
+
+/// An entry of a word list: a word of 32 bits, or the state of an array at some moment of the run, as a list of such words. It names
+/// earlier entries by their numbers, which count from 0. Where a word is wanted and an array is named, its first element is meant.
+#[derive(Drop)]
+pub enum WordOp {
+    /// A number in the range of `I32` or of `U32`.
+    Const(i64),
+    /// Any number in the range of `I32`.
+    Free,
+    /// 0 or 1.
+    Flag,
+    /// A unary operator that works in the type `t`, which is `I32` or `U32` (C90 6.3.3.3).
+    Unary {
+        op: UnOp,
+        t: CType,
+        a: u32,
+    },
+    /// A binary operator that works in the type `t`, which is `I32` or `U32` (C90 6.3.5 to 6.3.12).
+    Binary {
+        op: BinOp,
+        t: CType,
+        a: u32,
+        b: u32,
+    },
+    /// A conversion to the type `t` (C90 6.2.1).
+    Convert {
+        t: CType,
+        a: u32,
+    },
+    /// The word `yes` where `which` is not 0, and else `no`.
+    Select {
+        which: u32,
+        yes: u32,
+        no: u32,
+    },
+    /// The element of the array at the index.
+    Read {
+        array: u32,
+        index: u32,
+    },
+    /// An array of so many elements, from 1 to 256, that are all 0.
+    Zeros(u32),
+    /// The array with these values for its elements, one for each, where `when` is not 0, and else as it was.
+    Fill {
+        of: u32,
+        values: Items<u32>,
+        when: u32,
+    },
+    /// The array with the value for its element at the index, where `when` is not 0 and the index is in the array, and else as it was.
+    Write {
+        of: u32,
+        index: u32,
+        value: u32,
+        when: u32,
+    },
+}
+
+/// The words of an execution of a statement that may be relaxed: it takes place where `guard` is not 0. It goes as written where `keep`
+/// is not 0, and else the values of its choice are those of the words `values`.
+#[derive(Drop)]
+pub struct PlaceWords {
+    pub place: Place,
+    pub guard: u32,
+    pub keep: u32,
+    pub values: Items<u32>,
+}
+
+/// A list of words, with the words that are to be other than 0 and the words of the places that a run may come to, in the order in
+/// which it does.
+///
+/// Each entry names earlier ones, operators work in `I32` or `U32`, a constant is in the range of one of these, an array has 1 to 256
+/// elements and a `Fill` one value for each. A value of a choice is no `Select`, element or array, so that its entry shows its type.
+#[derive(Drop)]
+pub struct WordList {
+    pub words: Items<WordOp>,
+    pub require: Items<u32>,
+    pub places: Items<PlaceWords>,
+    pub ghost fit: { IsTrue (is_word_list words require places) },
+}

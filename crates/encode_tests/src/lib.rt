@@ -1,0 +1,7 @@
+//! Tests of the bits of word lists, and of their formulas.
+#![tactic(auto)]
+
+#[cfg(test)]
+mod bits;
+#[cfg(test)]
+mod formulas;

@@ -1,0 +1,337 @@
+//! Programs, inputs, bounds and choices, where each execution of a statement may be relaxed, and whether the run is good, as worked out by
+//! hand.
+
+use crate::assignments::{Random, spelling};
+use crate::lists::{holds, list_of, spelled};
+use crate::values::Values;
+use ba_choices::Choice;
+use ba_interp::run;
+use ba_items::Items;
+use ba_numbers::ids::StmtId;
+use ba_numbers::numbers::CType;
+use ba_tree::run::{Allowed, Bounds, Input, Outcome};
+use ba_tree::tree::{Program, StmtKind};
+use ba_wordlist::words::{WordList, WordOp};
+use std::alloc::{AllocError, Global};
+use std::process::Abort;
+use std::test::Fail;
+use test_programs::reader::{Fault, Reader};
+
+/// A program with an input, bounds, its list, and all statements that may be relaxed.
+#[derive(Drop)]
+struct Case {
+    program: Program,
+    input: Input,
+    turns: u32,
+    list: WordList,
+    allowed: Allowed,
+}
+
+impl Case {
+    /// The case of a program and an input that are written as words.
+    fn new(alloc: Global, program: &str, input: &str, turns: u32) -> Result<Case, Fault> {
+        let program = Reader::new(alloc, program.as_bytes()).program()?;
+        let input = Reader::new(alloc, input.as_bytes()).input()?;
+        let bounds = Bounds { turns, frames: 4 };
+        match list_of(alloc, &program, &input, bounds)? {
+            Some(list) => Ok(Case {
+                allowed: everything(alloc, &program)?,
+                program,
+                input,
+                turns,
+                list,
+            }),
+            None => Err(Fault::Word),
+        }
+    }
+
+    /// Whether the run with these choices is good.
+    fn is_good(&self, alloc: Global, choices: &[Choice]) -> Result<bool, Fault> {
+        if self.turns < 1 || 64 < self.turns {
+            return Err(Fault::Word);
+        }
+        let bounds = Bounds {
+            turns: self.turns,
+            frames: 4,
+        };
+        let outcome = run(
+            alloc,
+            &self.program,
+            &self.input,
+            bounds,
+            &self.allowed,
+            choices,
+        )?;
+        Ok(outcome == Outcome::Done)
+    }
+
+    /// Whether an assignment that spells these choices holds.
+    fn is_spelled(&self, alloc: Global, choices: &[Choice]) -> Result<bool, Fault> {
+        match spelling(alloc, &self.list, choices)? {
+            Some(free) => {
+                let values = Values::of(alloc, self.list.words.as_slice(), free.as_slice())?;
+                let others = spelled(alloc, &values, &self.list)?;
+                Ok(holds(&values, &self.list) && are_same(choices, others.as_slice()))
+            }
+            None => Ok(false),
+        }
+    }
+}
+
+/// All statements but the asserts.
+fn everything(alloc: Global, program: &Program) -> Result<Allowed, AllocError> {
+    let mut stmts = Items::new(alloc);
+    let mut number = 0;
+    for statement in program.statements.as_slice() {
+        number += 1;
+        if statement.kind != StmtKind::Assert {
+            stmts.push(StmtId(number))?;
+        }
+    }
+    Ok(Allowed::Statements(stmts))
+}
+
+fn are_same(choices: &[Choice], others: &[Choice]) -> bool {
+    choices.len() == others.len()
+        && choices
+            .iter()
+            .zip(others.iter())
+            .all(|(a, b)| is_same(a, b))
+}
+
+fn is_same(choice: &Choice, other: &Choice) -> bool {
+    match (choice, other) {
+        (Choice::Keep, Choice::Keep) => true,
+        (Choice::Take(values), Choice::Take(others)) => values.as_slice() == others.as_slice(),
+        _ => false,
+    }
+}
+
+/// Five lines: a variable that gets the input, and an assert.
+const FIVE_LINES: &str = "2 i i  0  0  1  1 0  1 1  3 decl 1 = 1 1 v 0 assert 2 == v 1 2  2 = !";
+
+/// The same with a `short`.
+const SHORT: &str = "2 i s  0  0  1  1 0  1 1  3 decl 1 = 1 1 s v 0 assert 2 == i v 1 v 0  2 = !";
+
+/// A sum in a `for`.
+const SUM: &str = "3 u u u  0  0  1  1 0  2 1 2  6 decl 1 decl 2 = 1 1 u 0
+    for 3 1 = 2 2 u 1 u< v 2 v 0 1 = 4 2 u+ v 2 u 1 = 5 1 u+ v 1 v 2
+    assert 6 u== v 1 u 6 return 7 0  7 = = ? = = ! r";
+
+/// An input, the bound on turns, choices, and whether the run with them is good.
+type Run = (&'static str, u32, &'static str, bool);
+
+/// Programs with runs as worked out by hand.
+const EXAMPLES: [(&str, &[Run]); 13] = [
+    // Five lines: a variable that gets the input, and an assert.
+    (
+        FIVE_LINES,
+        &[
+            ("1 1 ;", 1, "1 k", false),
+            ("1 2 ;", 1, "1 k", true),
+            ("1 1 ;", 1, "1 t 1 2", true),
+            ("1 1 ;", 1, "0", false),
+            ("1 2 ;", 1, "2 k k", false),
+        ],
+    ),
+    // The same with a `short`.
+    (
+        SHORT,
+        &[
+            ("1 40000 ;", 1, "1 k", false),
+            ("1 40000 ;", 1, "1 t 1 40000", false),
+            ("1 -5 ;", 1, "1 t 1 -5", true),
+        ],
+    ),
+    // A sum in a `for`.
+    (
+        SUM,
+        &[
+            ("1 3 ;", 3, "10 k k k k k k k k k k", false),
+            ("1 4 ;", 3, "13 k k k k k k k k k k k k k", true),
+            ("1 3 ;", 3, "13 k k k k k k k k t 1 1 k k k k", true),
+            ("1 5 ;", 3, "13 k k k k k k k k k k k k k", false),
+            ("1 5 ;", 3, "13 k k k k k k k k k k k t 1 0 k", true),
+        ],
+    ),
+    // A store, whose index is the input.
+    (
+        "2 i 2  0  0  1  1 0  1 1  4 decl 1 []= 1 1 v 0 1 assert 2 == e 1 0 1 return 3 0  3 [ ! r",
+        &[
+            ("1 2 ;", 1, "2 k k", false),
+            ("1 2 ;", 1, "2 t 2 0 1 k", true),
+            ("1 2 ;", 1, "2 t 2 1 1 k", false),
+            ("1 2 ;", 1, "2 t 2 2 1 k", false),
+            ("1 0 ;", 1, "2 k t 1 9", true),
+            ("1 -1 ;", 1, "2 k k", false),
+        ],
+    ),
+    // A division by the input.
+    (
+        "2 i i  0  0  1  1 0  1 1  4 decl 1 = 1 1 / 6 v 0 assert 2 == v 1 2 return 3 0  3 = ! r",
+        &[
+            ("1 0 ;", 1, "2 k k", false),
+            ("1 0 ;", 1, "2 t 1 2 k", true),
+            ("1 3 ;", 1, "2 k k", true),
+        ],
+    ),
+    // A call that changes a global.
+    (
+        "2 i i  1 0  0  2  0  0  2 = 1 0 1 return 2 0
+    0  1 1  4 decl 1 = 3 1 call 1 0 0 assert 4 == v 0 0 return 5 v 1  5 = r = ! r",
+        &[
+            ("0", 1, "4 k k k k", false),
+            ("0", 1, "4 k t 1 0 k k", true),
+            ("0", 1, "2 t 1 7 k", true),
+        ],
+    ),
+    // A function that returns from inside a branch.
+    (
+        "3 i i i  0  0  2  1 0  0  2 if 1 v 0 return 2 1 return 3 2
+    1 1  1 2  4 decl 2 = 4 2 call 1 0 1 x v 1 assert 5 == v 2 1 return 6 0  6 ? r r = ! r",
+        &[
+            ("1 5 ;", 1, "4 k k k k", true),
+            ("1 0 ;", 1, "4 k k k k", false),
+            ("1 0 ;", 1, "4 k t 1 1 k k", true),
+            ("1 0 ;", 1, "4 k k t 1 1 k", true),
+        ],
+    ),
+    // A store in a branch.
+    (
+        "2 i 2  0  0  1  1 0  1 1  3 decl 1 if 1 v 0 []= 2 1 0 1
+    assert 3 == e 1 0 1  3 ? [ !",
+        &[
+            ("1 1 ;", 1, "2 k k", true),
+            ("1 0 ;", 1, "1 k", false),
+            ("1 0 ;", 1, "2 t 1 1 k", true),
+            ("1 1 ;", 1, "1 t 1 0", false),
+            ("1 1 ;", 1, "2 k t 2 1 1", false),
+            ("1 0 ;", 1, "2 k k", false),
+        ],
+    ),
+    // An array's initialiser that reads its array.
+    (
+        "1 2  0  0  1  0  1 0  3 decl 0 inits 1 0 2 5 e 0 0 assert 2 == e 0 1 0  2 i !",
+        &[
+            ("0", 1, "1 k", true),
+            ("0", 1, "1 t 2 4 0", true),
+            ("0", 1, "1 t 2 4 1", false),
+            ("0", 1, "1 t 1 4", false),
+        ],
+    ),
+    // `break` and `continue`.
+    (
+        "1 i  0  0  1  0  1 0  3 decl 0 for 2 1 = 1 0 0 < v 0 5 1 = 3 0 + v 0 1
+    { 2 if 4 == v 0 3 break continue assert 5 == v 0 3  5 = ? = ? !",
+        &[
+            ("0", 4, "12 k k k k k k k k k k k k", true),
+            ("0", 3, "12 k k k k k k k k k k k k", false),
+            ("0", 4, "6 k k k k k t 1 1", false),
+        ],
+    ),
+    // A `do` whose condition is the input.
+    (
+        "2 i i  0  0  1  1 0  1 1  3 decl 1 do 2 v 0 = 1 1 + v 1 1 assert 3 == v 1 1  3 = ? !",
+        &[
+            ("1 0 ;", 1, "2 k k", true),
+            ("1 1 ;", 1, "2 k k", false),
+            ("1 1 ;", 1, "2 k t 1 0", true),
+        ],
+    ),
+    // A comparison as unsigned, a short variable, the operators that evaluate one side.
+    (
+        "2 i s  0  0  1  1 0  1 1  6 decl 1 assert 1 == u< u neg 1 u 1 0 = 2 1 s v 0
+    assert 3 && == i v 1 v 0 || 1 / 1 0 assert 4 == ? v 0 7 / 1 0 7 print 5 1 / 1 v 0  5 ! = ! ! c",
+        &[
+            ("1 5 ;", 1, "2 k k", true),
+            ("1 0 ;", 1, "2 k k", false),
+            ("1 5 ;", 1, "2 t 1 6 k", false),
+            ("1 5 ;", 1, "2 t 1 40000 k", false),
+        ],
+    ),
+    // A function that calls itself with its own array, and writes to the one that it was given.
+    (
+        "4 p i 2 2  0  0  2  2 0 1  1 2
+    4 decl 2 if 1 v 1 calls 2 1 0 2 a 2 x - v 1 1 assert 3 == e 2 0 v 1 []= 4 0 0 1
+    0  1 3  3 decl 3 calls 5 2 0 2 a 3 x 1 assert 6 == e 3 0 1  6 ? c ! [ c !",
+        &[("0", 1, "6 k k k k k k", true), ("0", 1, "1 t 0", false)],
+    ),
+];
+
+/// How many assignments are tried at each run.
+const TRIES: u32 = 10;
+
+/// An assignment that spells the choices holds exactly where the run is good; and so do others with the choices that they spell.
+fn expect_runs(
+    rt: &impl Abort,
+    alloc: Global,
+    random: &mut Random,
+    program: &str,
+    runs: &[Run],
+) -> Result<(), Fault> {
+    for (input, turns, choices, good) in runs {
+        let case = Case::new(alloc, program, input, *turns)?;
+        let choices = Reader::new(alloc, choices.as_bytes()).choices()?;
+        assert_eq!(rt; case.is_good(alloc, choices.as_slice())?, *good);
+        assert_eq!(rt; case.is_spelled(alloc, choices.as_slice())?, *good);
+        for _ in 0..TRIES {
+            expect_run(rt, alloc, &case, random.assignment(alloc, &case.list)?)?;
+        }
+    }
+    Ok(())
+}
+
+fn expect_run(rt: &impl Abort, alloc: Global, case: &Case, free: Vec<i64>) -> Result<(), Fault> {
+    let values = Values::of(alloc, case.list.words.as_slice(), free.as_slice())?;
+    let choices = spelled(alloc, &values, &case.list)?;
+    let good = case.is_good(alloc, choices.as_slice())?;
+    assert_eq!(rt; holds(&values, &case.list), good);
+    Ok(())
+}
+
+#[test]
+fn lists_hold_exactly_where_runs_are_good(rt: HostRuntime) -> Result<(), Fail> {
+    let mut random = Random::new(1);
+    for (program, runs) in EXAMPLES {
+        expect_runs(&rt, rt.alloc(), &mut random, program, runs)?;
+    }
+    Ok(())
+}
+
+/// How many places of the list stand at a statement.
+fn places_at(list: &WordList, stmt: u32) -> usize {
+    let mut count = 0usize;
+    for place in list.places.as_slice() {
+        if place.place.stmt == StmtId(stmt) {
+            count = count.saturating_add(1);
+        }
+    }
+    count
+}
+
+#[test]
+fn lists_are_as_worked_out(rt: HostRuntime) -> Result<(), Fail> {
+    let alloc = rt.alloc();
+    let case = Case::new(alloc, FIVE_LINES, "1 1 ;", 1)?;
+    assert!(rt;
+        matches!(case.list.places.as_slice(), [only] if only.place.path.is_empty() && only.values.len() == 1)
+    );
+    let case = Case::new(alloc, SHORT, "1 40000 ;", 1)?;
+    assert!(rt;
+        matches!(
+            first_value(&case.list),
+            Some(WordOp::Convert { t: CType::I16, .. })
+        )
+    );
+    let case = Case::new(alloc, SUM, "1 3 ;", 3)?;
+    assert_eq!(rt; places_at(&case.list, 3), 4);
+    assert_eq!(rt; places_at(&case.list, 5), 3);
+    Ok(())
+}
+
+/// The entry of the first value of the first place.
+fn first_value(list: &WordList) -> Option<&WordOp> {
+    let place = list.places.as_slice().first()?;
+    let word = place.values.as_slice().first()?;
+    list.words.as_slice().get(*word as usize)
+}

@@ -1,0 +1,11 @@
+//! Tests by examples: lists of words, read by a plain evaluator, beside the runs of programs.
+#![tactic(auto)]
+
+#[cfg(test)]
+mod assignments;
+#[cfg(test)]
+mod examples;
+#[cfg(test)]
+mod lists;
+#[cfg(test)]
+mod values;

@@ -1,0 +1,82 @@
+//! The lists of words of programs, and the choices that they spell.
+
+ghost use Rattle.std.specs.Prelude.{◌≡◌};
+ghost use Rattle.std.specs.List.{list_all};
+ghost use Rattle.ba_wordlist.specs.Facts.{is_word_value};
+
+use crate::values::Values;
+use ba_choices::{Choice, Values as Taken};
+use ba_guards::guard;
+use ba_inline::inline;
+use ba_items::Items;
+use ba_loops::unroll;
+use ba_numbers::numbers::CType;
+use ba_tree::run::{Bounds, Input};
+use ba_tree::tree::Program;
+use ba_wordlist::words::{PlaceWords, WordList};
+use std::alloc::{AllocError, Global};
+
+/// The list of a program and an input, or none where a number of the input has more than 32 bits.
+pub fn list_of(
+    alloc: Global,
+    program: &Program,
+    input: &Input,
+    bounds: Bounds,
+) -> Result<Option<WordList>, AllocError> {
+    if !are_words(input.values.as_slice()) {
+        return Ok(None);
+    }
+    let loops = inline(alloc, program, bounds.frames)?;
+    let tree = unroll(alloc, &loops, bounds.turns)?;
+    Ok(Some(guard(alloc, &tree, input)?))
+}
+
+fn are_words(values: &[Items<i64>]) -> bool
+    ensures { result ≡ list_all (list_all is_word_value) values.now }
+{
+    values.iter().all(|list| all_words(list.as_slice()))
+}
+
+fn all_words(values: &[i64]) -> bool
+    ensures { result ≡ list_all is_word_value values.now }
+{
+    values.iter().all(|value| is_word(*value))
+}
+
+fn is_word(value: i64) -> bool
+    ensures { result ≡ is_word_value value }
+{
+    CType::I32.contains(value) || CType::U32.contains(value)
+}
+
+/// Whether all requirements hold.
+pub fn holds(values: &Values, list: &WordList) -> bool {
+    for word in list.require.as_slice() {
+        if values.at(*word) == 0 {
+            return false;
+        }
+    }
+    true
+}
+
+/// The choices at the places whose guard isn't 0.
+pub fn spelled(alloc: Global, values: &Values, list: &WordList) -> Result<Vec<Choice>, AllocError> {
+    let mut choices = Vec::new(alloc);
+    for place in list.places.as_slice() {
+        if values.at(place.guard) != 0 {
+            choices.push(choice_at(alloc, values, place)?)?;
+        }
+    }
+    Ok(choices)
+}
+
+fn choice_at(alloc: Global, values: &Values, place: &PlaceWords) -> Result<Choice, AllocError> {
+    if values.at(place.keep) != 0 {
+        return Ok(Choice::Keep);
+    }
+    let mut taken = Taken::new(alloc);
+    for word in place.values.as_slice() {
+        taken.push(values.at(*word))?;
+    }
+    Ok(Choice::Take(taken))
+}
