@@ -1,5 +1,5 @@
 -- Where a run begins.
-use Rattle.std.proofs.Common.{rules, ◌≡◌, ℕ, zero, suc, ◌+◌, ◌<◌, ◌≤◌, ◌==◌, ℤ, pos, Bool, true, ◌&&◌, cond, Some, Ok, List, [], ◌∷◌, ◌++◌, map, length, get_or, slice_get, replicate, take, refl, sym, ◌∙◌, ap, subst, arith, append_assoc, append-nil, length-append}
+use Rattle.std.proofs.Common.{rules, ◌≡◌, ℕ, zero, suc, ◌+◌, ◌<◌, ◌≤◌, ◌==◌, ℤ, pos, true, ◌&&◌, cond, Some, Ok, List, [], ◌∷◌, ◌++◌, map, length, get_or, slice_get, replicate, take, refl, sym, ◌∙◌, ap, subst, arith, append_assoc, append-nil, length-append}
 use Rattle.std.proofs.lemmas.Bool.{and_from, and_parts, eq-eqb}
 use Rattle.std.proofs.lemmas.List.{get_or-replicate, length-map, length-replicate, length-take-le, map-append, take_more}
 use Rattle.std.proofs.lemmas.List.Folds.{list_all-append, list_all-map}
@@ -18,7 +18,7 @@ use Rattle.ba_code.specs.declared.trees.Code.{Code}
 use Rattle.ba_code_laws.specs.Tracing.{TracedExecution, everywhere, untraced}
 use Rattle.ba_guards.proofs.Filling.{elements-all}
 use Rattle.ba_guards.proofs.Going.{ended-some, means-as, traced_of}
-use Rattle.ba_guards.proofs.Growing.{array-long, extensional, names-more, same-grown, to_name}
+use Rattle.ba_guards.proofs.Growing.{array-long, extensional, names-more, same-grown, to_name, all-at}
 use Rattle.ba_guards.proofs.Stores.{array-below}
 use Rattle.ba_guards.specs.Continuing.{continued, ended, labels_of}
 use Rattle.ba_guards.specs.Making.{AreFit, EmitsArray, Fits, Means, elements_in, fits_exit}
@@ -101,14 +101,6 @@ zeros-more old mid new versions infos w info all one =
           ∙ all.has f)
           ∙ sym (map-append zeros_of infos (info ∷ []));
     }
-
--- what holds of each holds at a number
-pub all-at : {X : Type 0} (p : X → Bool) (xs : List X) (i : ℕ) (x : X) → list_all p xs ≡ true → i < length xs
-    → p (get_or xs i x) ≡ true
-all-at p [] i x all below = absurd (omega (arith, below))
-all-at p (y ∷ ys) zero x all below = (and_parts (p y) (list_all p ys) all).0
-all-at p (y ∷ ys) (suc i) x all below = all-at p ys i x (and_parts (p y) (list_all p ys) all).1 (omega
-    (arith, below))
 
 pub next-zeros : (old mid new : List WordOp) (versions more : List ℕ) (infos : List ArrayInfo) (i : ℕ) (x :
     ArrayInfo) (w : ℕ)

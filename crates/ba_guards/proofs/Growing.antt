@@ -1,5 +1,5 @@
 -- What was made keeps its meaning as words are added.
-use Rattle.std.proofs.Common.{rules, ◌≡◌, ℕ, zero, suc, ◌+◌, ◌<◌, ◌≤◌, ◌==◌, ℤ, pos, true, not, ◌&&◌, cond, Option, Some, None, List, [], ◌∷◌, ◌++◌, map, length, get_or, slice_get, refl, sym, ◌∙◌, ap, subst, arith}
+use Rattle.std.proofs.Common.{Bool, rules, ◌≡◌, ℕ, zero, suc, ◌+◌, ◌<◌, ◌≤◌, ◌==◌, ℤ, pos, true, not, ◌&&◌, cond, Option, Some, None, List, [], ◌∷◌, ◌++◌, map, length, get_or, slice_get, refl, sym, ◌∙◌, ap, subst, arith}
 use Rattle.std.proofs.lemmas.Bool.{and_from, and_parts}
 use Rattle.std.proofs.lemmas.List.{get_or_append_left, length-append}
 use Rattle.std.proofs.lemmas.Option.{slice_get_within, slice_get-get_or, get_or_from_slice_get}
@@ -24,6 +24,14 @@ use Rattle.ba_wordlist.specs.declared.words.WordOp.TheVariants.{Const}
 
 pub extensional : {A B : Type 0} {f g : A → B} → ((x : A) → f x ≡ g x) → f ≡ g
 extensional h = λ i x. h x i
+
+-- what holds of each holds at a number
+pub all-at : {X : Type 0} (p : X → Bool) (xs : List X) (i : ℕ) (x : X) → list_all p xs ≡ true
+    → i < length xs → p (get_or xs i x) ≡ true
+all-at p [] i x all below = absurd (omega (arith, below))
+all-at p (y ∷ ys) zero x all below = (and_parts (p y) (list_all p ys) all).0
+all-at p (y ∷ ys) (suc i) x all below =
+    all-at p ys i x (and_parts (p y) (list_all p ys) all).1 (omega (arith, below))
 
 -- NAMES
 

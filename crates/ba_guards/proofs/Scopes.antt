@@ -489,8 +489,8 @@ module _ (d : Declared) (label : ℕ) (b0 b1 : Builder) (fits : Fits d b0) (l : 
   left-taken f on =
       set-left (values_of f b1.words) 0 b0.exits at new_exit within (mid-fits.apart f on)
       (new-on f ∙ ap (λ b. b || is_nonzero (value_at (values_of f b1.words) l.exit.live)) on)
-      ∙ ap (λ n. left n (variables_at (values_of f b1.words) l.new_vars)) (let h : 0 + at ≡ at = omega
-      arith in h)
+      ∙ ap (λ n. left n (variables_at (values_of f b1.words) l.new_vars))
+      (let h : 0 + at ≡ at = omega arith in h)
       ∙ ap (left at) (new-taken f on)
 
   left-kept-here : (f : Assignment) → was_on f ≡ false →

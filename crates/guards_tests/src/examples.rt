@@ -68,22 +68,34 @@ impl Case {
     /// Whether an assignment that spells these choices holds.
     fn is_spelled(&self, alloc: Global, choices: &[Choice]) -> Result<bool, Fault> {
         match spelling(alloc, &self.list, choices)? {
-            Some(free) => {
-                let values = Values::of(alloc, self.list.words.as_slice(), free.as_slice())?;
-                let others = spelled(alloc, &values, &self.list)?;
-                Ok(holds(&values, &self.list) && are_same(choices, others.as_slice()))
-            }
+            Some(free) => self.holds_with(alloc, free.as_slice(), choices),
             None => Ok(false),
         }
+    }
+
+    /// Whether an assignment holds and spells these choices.
+    fn holds_with(&self, alloc: Global, free: &[i64], choices: &[Choice]) -> Result<bool, Fault> {
+        let values = Values::of(alloc, self.list.words.as_slice(), free)?;
+        let others = spelled(alloc, &values, &self.list)?;
+        Ok(holds(&values, &self.list) && are_same(choices, others.as_slice()))
+    }
+
+    /// Whether some assignment holds exactly where the run with the choices that it spells is good.
+    fn is_told(&self, alloc: Global, random: &mut Random) -> Result<bool, Fault> {
+        let free = random.assignment(alloc, &self.list)?;
+        let values = Values::of(alloc, self.list.words.as_slice(), free.as_slice())?;
+        let choices = spelled(alloc, &values, &self.list)?;
+        let good = self.is_good(alloc, choices.as_slice())?;
+        Ok(holds(&values, &self.list) == good)
     }
 }
 
 /// All statements but the asserts.
 fn everything(alloc: Global, program: &Program) -> Result<Allowed, AllocError> {
     let mut stmts = Items::new(alloc);
-    let mut number = 0;
+    let mut number = 0u32;
     for statement in program.statements.as_slice() {
-        number += 1;
+        number = number.saturating_add(1);
         if statement.kind != StmtKind::Assert {
             stmts.push(StmtId(number))?;
         }
@@ -262,6 +274,35 @@ const EXAMPLES: [(&str, &[Run]); 13] = [
 const TRIES: u32 = 10;
 
 /// An assignment that spells the choices holds exactly where the run is good; and so do others with the choices that they spell.
+fn expect_case(
+    rt: &impl Abort,
+    alloc: Global,
+    random: &mut Random,
+    case: &Case,
+    choices: &[Choice],
+    good: bool,
+) -> Result<(), Fault> {
+    assert_eq!(rt; case.is_good(alloc, choices)?, good);
+    assert_eq!(rt; case.is_spelled(alloc, choices)?, good);
+    for _ in 0..TRIES {
+        assert!(rt; case.is_told(alloc, random)?);
+    }
+    Ok(())
+}
+
+fn expect_run(
+    rt: &impl Abort,
+    alloc: Global,
+    random: &mut Random,
+    program: &str,
+    run: &Run,
+) -> Result<(), Fault> {
+    let (input, turns, choices, good) = *run;
+    let choices = Reader::new(alloc, choices.as_bytes()).choices()?;
+    let case = Case::new(alloc, program, input, turns)?;
+    expect_case(rt, alloc, random, &case, choices.as_slice(), good)
+}
+
 fn expect_runs(
     rt: &impl Abort,
     alloc: Global,
@@ -269,23 +310,9 @@ fn expect_runs(
     program: &str,
     runs: &[Run],
 ) -> Result<(), Fault> {
-    for (input, turns, choices, good) in runs {
-        let case = Case::new(alloc, program, input, *turns)?;
-        let choices = Reader::new(alloc, choices.as_bytes()).choices()?;
-        assert_eq!(rt; case.is_good(alloc, choices.as_slice())?, *good);
-        assert_eq!(rt; case.is_spelled(alloc, choices.as_slice())?, *good);
-        for _ in 0..TRIES {
-            expect_run(rt, alloc, &case, random.assignment(alloc, &case.list)?)?;
-        }
+    for run in runs {
+        expect_run(rt, alloc, random, program, run)?;
     }
-    Ok(())
-}
-
-fn expect_run(rt: &impl Abort, alloc: Global, case: &Case, free: Vec<i64>) -> Result<(), Fault> {
-    let values = Values::of(alloc, case.list.words.as_slice(), free.as_slice())?;
-    let choices = spelled(alloc, &values, &case.list)?;
-    let good = case.is_good(alloc, choices.as_slice())?;
-    assert_eq!(rt; holds(&values, &case.list), good);
     Ok(())
 }
 
@@ -296,6 +323,45 @@ fn lists_hold_exactly_where_runs_are_good(rt: HostRuntime) -> Result<(), Fail> {
         expect_runs(&rt, rt.alloc(), &mut random, program, runs)?;
     }
     Ok(())
+}
+
+/// Whether the list of the five lines has one place, with an empty path, and one value.
+fn five_lines_have_one_place(alloc: Global) -> Result<bool, Fault> {
+    let case = Case::new(alloc, FIVE_LINES, "1 1 ;", 1)?;
+    Ok(has_one_place(&case.list))
+}
+
+fn has_one_place(list: &WordList) -> bool {
+    match list.places.as_slice() {
+        [only] => only.place.path.is_empty() && only.values.len() == 1,
+        _ => false,
+    }
+}
+
+/// Whether the value of a `short` is a conversion to it.
+fn a_short_is_converted(alloc: Global) -> Result<bool, Fault> {
+    let case = Case::new(alloc, SHORT, "1 40000 ;", 1)?;
+    Ok(is_converted(&case.list))
+}
+
+fn is_converted(list: &WordList) -> bool {
+    match first_value(list) {
+        Some(WordOp::Convert { t, .. }) => *t == CType::I16,
+        _ => false,
+    }
+}
+
+/// The entry of the first value of the first place.
+fn first_value(list: &WordList) -> Option<&WordOp> {
+    let place = list.places.as_slice().first()?;
+    let word = place.values.as_slice().first()?;
+    list.words.as_slice().get(*word as usize)
+}
+
+/// How many places the condition and the body of the sum have within three turns.
+fn places_of_sum(alloc: Global) -> Result<(usize, usize), Fault> {
+    let case = Case::new(alloc, SUM, "1 3 ;", 3)?;
+    Ok((places_at(&case.list, 3), places_at(&case.list, 5)))
 }
 
 /// How many places of the list stand at a statement.
@@ -311,27 +377,8 @@ fn places_at(list: &WordList, stmt: u32) -> usize {
 
 #[test]
 fn lists_are_as_worked_out(rt: HostRuntime) -> Result<(), Fail> {
-    let alloc = rt.alloc();
-    let case = Case::new(alloc, FIVE_LINES, "1 1 ;", 1)?;
-    assert!(rt;
-        matches!(case.list.places.as_slice(), [only] if only.place.path.is_empty() && only.values.len() == 1)
-    );
-    let case = Case::new(alloc, SHORT, "1 40000 ;", 1)?;
-    assert!(rt;
-        matches!(
-            first_value(&case.list),
-            Some(WordOp::Convert { t: CType::I16, .. })
-        )
-    );
-    let case = Case::new(alloc, SUM, "1 3 ;", 3)?;
-    assert_eq!(rt; places_at(&case.list, 3), 4);
-    assert_eq!(rt; places_at(&case.list, 5), 3);
+    assert_eq!(rt; five_lines_have_one_place(rt.alloc()), Ok(true));
+    assert_eq!(rt; a_short_is_converted(rt.alloc()), Ok(true));
+    assert_eq!(rt; places_of_sum(rt.alloc()), Ok((4, 3)));
     Ok(())
-}
-
-/// The entry of the first value of the first place.
-fn first_value(list: &WordList) -> Option<&WordOp> {
-    let place = list.places.as_slice().first()?;
-    let word = place.values.as_slice().first()?;
-    list.words.as_slice().get(*word as usize)
 }

@@ -1,5 +1,5 @@
-use Rattle.std.proofs.Common.{◌≡◌, ◌<◌, ◌+◌, ℕ, zero, suc, Bool, true, sym, subst, List, [], ◌∷◌, ◌++◌, length, take, get_or, arith}
-use Rattle.std.proofs.lemmas.Bool.{and_parts}
+use Rattle.ba_guards.proofs.Growing.{all-at}
+use Rattle.std.proofs.Common.{◌≡◌, ◌<◌, ◌+◌, ℕ, true, sym, subst, List, [], ◌∷◌, ◌++◌, length, take, get_or, arith}
 use Rattle.std.proofs.lemmas.List.{take_all, take_more}
 use Rattle.std.specs.List.{list_all}
 use Rattle.ba_code.specs.Facts.{Declared, is_operand}
@@ -9,13 +9,6 @@ use Rattle.ba_guards.specs.Making.{Emits, Fits, ReadsAll, operand_at}
 use Rattle.ba_guards.specs.declared.builder.Builder.{Builder}
 use Rattle.ba_wordlist.specs.Meaning.{values_of}
 use Rattle.ba_guards.proofs.steps.operands.Goals as goal
-
-all-at : {X : Type 0} (p : X → Bool) (xs : List X) (i : ℕ) (x : X) → list_all p xs ≡ true →
-    i < length xs → p (get_or xs i x) ≡ true
-all-at p [] i x all below = absurd (omega (arith, below))
-all-at p (y ∷ ys) zero x all below = (and_parts (p y) (list_all p ys) all).0
-all-at p (y ∷ ys) (suc i) x all below = all-at p ys i x (and_parts (p y) (list_all p ys) all).1 (omega
-    (arith, below))
 
 next-read : (d : Declared) (old mid new : Builder) (words more : List ℕ) (vs : List Operand) (i : ℕ) (z :
     Operand) (w : ℕ) → Fits d old
