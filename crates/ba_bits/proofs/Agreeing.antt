@@ -1,12 +1,12 @@
 -- Bits depend on the free bits of their nodes alone.
-use Rattle.std.proofs.Common.{◌≡◌, ℕ, zero, suc, ◌+◌, ◌<◌, ◌≤◌, Bool, true, false, List, length, map, get_or, Some, slice_get, refl, sym, ◌∙◌, ap, subst, arith, inl, inr, if◌then◌else◌, ◌&&◌}
+use Rattle.std.proofs.Common.{◌≡◌, ℕ, zero, suc, ◌+◌, ◌<◌, ◌≤◌, Bool, false, List, length, get_or, Some, slice_get, refl, sym, ◌∙◌, ap, subst, arith, inl, inr, if◌then◌else◌, ◌&&◌}
 use Rattle.std.proofs.lemmas.Bool.{cases_lt}
 use Rattle.std.proofs.lemmas.Option.{slice_get-get_or}
 use Rattle.ba_bits.specs.Bits.{AgreeBelow}
 use Rattle.ba_nodes.specs.declared.Bit.{Bit}
 use Rattle.ba_nodes.specs.declared.Node.{Node}
 use Rattle.ba_nodes.specs.declared.Node.TheVariants.{Free, And, Xor, Mux, Majority}
-use Rattle.ba_nodes.specs.Gates.{AreOrdered, IsBitOf, MayStandAt, bool_majority, bool_xor, node_bit, node_truth, truth}
+use Rattle.ba_nodes.specs.Gates.{AreOrdered, IsBitOf, MayStandAt, bool_majority, bool_xor, node_truth, truth}
 use Rattle.ba_nodes.proofs.Truths.{truth-constant, truth-node}
 
 pub agree-less : (m n : ℕ) (free other : ℕ → Bool) → m ≤ n → AgreeBelow n free other → AgreeBelow m free other
@@ -52,7 +52,8 @@ module _ (nodes : List Node) (free other : ℕ → Bool) (ordered : AreOrdered n
 
   by-plain : (bit : Bit) → truth free nodes (plain bit) ≡ truth other nodes (plain bit)
       → truth free nodes bit ≡ truth other nodes bit
-  by-plain bit same = truth-plain free nodes bit ∙ ap (bool_xor bit.negated) same ∙ sym (truth-plain other nodes bit)
+  by-plain bit same = truth-plain free nodes bit ∙ ap (bool_xor bit.negated) same
+      ∙ sym (truth-plain other nodes bit)
 
   at-zero : (index : ℕ) → index ≡ 0 → truth free nodes (record { index = index; negated = false })
       ≡ truth other nodes (record { index = index; negated = false })
@@ -65,7 +66,8 @@ module _ (nodes : List Node) (free other : ℕ → Bool) (ordered : AreOrdered n
       ≡ truth other nodes (record { index = index; negated = false })
   at-node k index is below same =
       let node : Node = get_or nodes k (Free 0) in
-      let found : slice_get nodes k ≡ Some (get_or nodes k (Free 0)) = slice_get-get_or nodes k (Free 0) below in
+      let found : slice_get nodes k
+      ≡ Some (get_or nodes k (Free 0)) = slice_get-get_or nodes k (Free 0) below in
       subst (λ n. truth free nodes (record { index = n; negated = false })
       ≡ truth other nodes (record { index = n; negated = false })) (sym is)
       (truth-node free nodes k node ordered found

@@ -1,5 +1,5 @@
 -- The circuits of operators beside the meaning of word lists.
-use Rattle.std.proofs.Common.{◌≡◌, ℕ, ◌+◌, ◌-◌, ◌*◌, ◌%◌, ◌^◌, ◌<◌, ◌≤◌, nat_lt, Bool, true, false, not, cond, Option, None, Some, Result, Ok, Err, IfOk, if◌then◌else◌, List, [], ◌∷◌, set, length, refl, sym, ◌∙◌, ap, subst, arith, ℤ, pos, negsuc}
+use Rattle.std.proofs.Common.{◌≡◌, ℕ, ◌+◌, ◌*◌, ◌^◌, ◌<◌, nat_lt, Bool, true, false, not, cond, Some, Result, Ok, Err, IfOk, if◌then◌else◌, List, [], ◌∷◌, set, length, refl, sym, ◌∙◌, ap, subst, arith, ℤ, pos, negsuc}
 use Rattle.std.specs.Prelude.{int_lt, int_le, nat_le}
 use Rattle.std.proofs.lemmas.Int.{ints}
 use Rattle.std.proofs.lemmas.List.{length-set}
@@ -7,22 +7,21 @@ use Rattle.std.proofs.lemmas.Bool.Decides.{nat_tests}
 use Rattle.std.specs.declared.alloc.AllocError.{AllocError}
 use Rattle.std.specs.Ordering.{int_eq}
 use Rattle.ba_bits.specs.Bits.{HasLowBits, value_in}
-use Rattle.ba_bits.proofs.Low.{low-pos, low-truth, nonzero-pos}
+use Rattle.ba_bits.proofs.Low.{low-pos, low-truth}
 use Rattle.ba_code.specs.Operators.{converting}
 use Rattle.ba_nodes.specs.declared.Bit.{Bit}
 use Rattle.ba_nodes.specs.declared.Node.{Node}
-use Rattle.ba_nodes.specs.Gates.{HasValue, IsBitOf, truth}
+use Rattle.ba_nodes.specs.Gates.{IsBitOf, truth}
 use Rattle.ba_numbers.specs.declared.numbers.BinOp.{BinOp}
 use Rattle.ba_numbers.specs.declared.numbers.BinOp.TheVariants.{Lt, Le, Gt, Ge, Eq, Ne}
 use Rattle.ba_numbers.specs.declared.numbers.CType.{CType}
 use Rattle.ba_numbers.specs.declared.numbers.CType.TheVariants.{I8, U8, I16, U16, I32, U32}
-use Rattle.ba_numbers.specs.declared.numbers.UnOp.TheVariants.{IsZero}
 use Rattle.ba_numbers.specs.declared.numbers.UnOp.{UnOp}
 use Rattle.ba_numbers.specs.Numbers.{low_word, value_of, value_of_one, truth as number_of_truth}
 use Rattle.ba_numbers.proofs.Conversions.{truth_converted}
 use Rattle.ba_tree.specs.Facts.{is_promoted, shifts}
-use Rattle.ba_wordlist.specs.Meaning.{binary_value, is_nonzero, value_at_zero, value_or}
-use Rattle.ba_words.specs.Words.{AreBitsOf, HasNumber, IsComparison, IsShift, IsValueOf, IsValueOfOne, digit, number_of, word_type}
+use Rattle.ba_wordlist.specs.Meaning.{binary_value, value_at_zero, value_or}
+use Rattle.ba_words.specs.Words.{AreBitsOf, HasNumber, IsShift, IsValueOf, IsValueOfOne, digit, number_of, word_type}
 use Rattle.ba_words.proofs.Circuits.{number_small}
 use Rattle.ba_words.proofs.Places.{are_bits-set}
 use Rattle.ba_words.proofs.Values.{low_word-read, read, read_unsigned}
@@ -34,7 +33,8 @@ pub both_ok : {A : Type 0} (result : Result A AllocError) (P Q R : A → Type 0)
 both_ok (Ok x) P Q R step first second = step x first second
 both_ok (Err error) P Q R step first second = tt
 
-pub number-same : (nodes : List Node) (word : List Bit) (number other : (ℕ → Bool) → ℕ) → HasNumber nodes word number
+pub number-same : (nodes : List Node) (word : List Bit) (number other : (ℕ → Bool) → ℕ)
+    → HasNumber nodes word number
     → ((free : ℕ → Bool) → number free ≡ other free) → HasNumber nodes word other
 number-same nodes word number other has same = record {
   long = has.long;
@@ -139,7 +139,8 @@ module _ (old : List Node) (a b : List Bit) (op known : BinOp) (t : CType) (sign
   given-value new word number plain has found = as-given new word (record {
     long = has.long;
     are_bits = has.are_bits;
-    holds = λ free. value-low known signed (number_of free old a) (number_of free old b) (number_of free new word)
+    holds = λ free. value-low known signed (number_of free old a) (number_of free old b)
+        (number_of free new word)
         (number_small free new word has.long) plain (found free);
   })
 
@@ -149,23 +150,28 @@ module _ (old : List Node) (a b : List Bit) (op known : BinOp) (t : CType) (sign
   given-shift new word number shift long has found = as-given new word (record {
     long = has.long;
     are_bits = has.are_bits;
-    holds = λ free. shift-low known signed (number_of free old a) (number_of free old b) (number_of free new word)
+    holds = λ free. shift-low known signed (number_of free old a) (number_of free old b)
+        (number_of free new word)
         (number_small free new word has.long) (number_small free old b long) shift (found free);
   })
 
   -- a quotient or a remainder, whose number is known also for a divisor of 0
   pub given-number : (new : List Node) (word : List Bit) (number : (ℕ → Bool) → ℕ)
-      → ((free : ℕ → Bool) → number free < 2 ^ 32 → number free ≡ low_word (value known (word_type signed) free))
+      → ((free : ℕ → Bool) → number free < 2 ^ 32
+      → number free ≡ low_word (value known (word_type signed) free))
       → HasNumber new word number → HasLowBits new word (value op t)
   given-number new word number same has = as-given new word (number-same new word number _ has
       (λ free. same free (subst (λ n. n < 2 ^ 32) (has.holds free) (number_small free new word has.long))))
 
   pub given-truth : (new : List Node) (word : List Bit) (x : (ℕ → Bool) → Bool) → shifts known ≡ false
       → HasNumber new word (λ free. digit (x free))
-      → ((free : ℕ → Bool) → value_of known (word_type signed) (read signed (number_of free old a)) (read signed (number_of free old b)) ≡ Some (number_of_truth (x free)))
+      → ((free : ℕ → Bool) → value_of known (word_type signed) (read signed (number_of free old a))
+      (read signed (number_of free old b)) ≡ Some (number_of_truth (x free)))
       → HasLowBits new word (value op t)
-  given-truth new word x plain has found = as-given new word (number-same new word (λ free. digit (x free)) _ has
-      (λ free. truth-low known signed (number_of free old a) (number_of free old b) (x free) plain (found free)))
+  given-truth new word x plain has found =
+      as-given new word (number-same new word (λ free. digit (x free)) _ has
+      (λ free. truth-low known signed (number_of free old a) (number_of free old b) (x free) plain
+      (found free)))
 
 -- VALUES OF UNARY OPERATORS
 
@@ -187,11 +193,13 @@ typed_of U8 h = absurd (cc)
 typed_of I16 h = absurd (cc)
 typed_of U16 h = absurd (cc)
 
-module _ (old : List Node) (a : List Bit) (op known : UnOp) (t : CType) (is : op ≡ known) (promoted : is_promoted t ≡ true) where
+module _ (old : List Node) (a : List Bit) (op known : UnOp) (t : CType) (is : op
+    ≡ known) (promoted : is_promoted t ≡ true) where
   abbrev one-value : UnOp → CType → (ℕ → Bool) → ℤ
   one-value op t free = converting.unary op t (value_in free old a)
 
-  one-given : (new : List Node) (word : List Bit) → HasLowBits new word (one-value known (word_type (signed_of t)))
+  one-given : (new : List Node) (word : List Bit)
+      → HasLowBits new word (one-value known (word_type (signed_of t)))
       → HasLowBits new word (one-value op t)
   one-given new word has = subst (λ o. HasLowBits new word (one-value o t)) (sym is)
       (subst (λ u. HasLowBits new word (one-value known u)) (typed_of t promoted) has)
@@ -207,7 +215,9 @@ module _ (old : List Node) (a : List Bit) (op known : UnOp) (t : CType) (is : op
 
   pub given-test : (new : List Node) (word : List Bit) (x : (ℕ → Bool) → Bool)
       → HasNumber new word (λ free. digit (x free))
-      → ((signed : Bool) (free : ℕ → Bool) → value_of_one known (word_type signed) (read signed (number_of free old a)) ≡ number_of_truth (x free))
+      → ((signed : Bool) (free : ℕ → Bool)
+      → value_of_one known (word_type signed) (read signed (number_of free old a))
+      ≡ number_of_truth (x free))
       → HasLowBits new word (one-value op t)
   given-test new word x has found = one-given new word (number-same new word (λ free. digit (x free)) _ has
       (λ free. sym (low-truth (x free)) ∙ ap low_word (sym (found (signed_of t) free))))
@@ -224,14 +234,16 @@ truth-number free nodes (b ∷ bs) bit long zero =
     only-first (digit (truth free nodes b)) (number_of free nodes bs) (digit (truth free nodes bit)) zero
 
 pub truth-word : (nodes : List Node) (word : List Bit) (bit : Bit) → IsBitOf nodes bit
-    → HasNumber nodes word (λ free. 0) → HasNumber nodes (set word 0 bit) (λ free. digit (truth free nodes bit))
+    → HasNumber nodes word (λ free. 0)
+    → HasNumber nodes (set word 0 bit) (λ free. digit (truth free nodes bit))
 truth-word nodes word bit named has = record {
   long = length-set word 0 bit ∙ has.long;
   are_bits = are_bits-set nodes word 0 bit has.are_bits named;
   holds = λ free. truth-number free nodes word bit has.long (has.holds free);
 }
 
-low-choice : (b : Bool) (y z : ℕ) → y < 2 ^ 32 → z < 2 ^ 32 → (if b then y else z) ≡ low_word (cond b (pos y) (pos z))
+low-choice : (b : Bool) (y z : ℕ) → y < 2 ^ 32 → z < 2 ^ 32
+    → (if b then y else z) ≡ low_word (cond b (pos y) (pos z))
 low-choice true y z y_small z_small = sym (low-pos y y_small)
 low-choice false y z y_small z_small = sym (low-pos z z_small)
 

@@ -5,3 +5,8 @@ pub mod Agreeing
 pub mod Spelling
 pub mod Laws
 pub mod Spelled
+pub mod Same
+pub mod Needed
+pub mod Elements
+pub mod EntryWords
+pub mod Growing

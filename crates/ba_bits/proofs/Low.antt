@@ -1,16 +1,16 @@
 -- The 32 low bits of numbers of C, and what depends on them alone.
-use Rattle.std.proofs.Common.{◌≡◌, ℕ, ◌+◌, ◌-◌, ◌*◌, ◌^◌, ◌<◌, ◌≤◌, nat_lt, Bool, true, false, not, cond, refl, sym, ◌∙◌, ap, subst, arith, ℤ, pos, negsuc, neg_ℤ, ◌+ℤ◌, ◌-ℤ◌, ◌*ℤ◌, ◌≤ℤ◌, unsigned_abs}
+use Rattle.std.proofs.Common.{◌≡◌, ℕ, ◌^◌, ◌<◌, nat_lt, Bool, true, false, not, refl, sym, ◌∙◌, ap, arith, ℤ, pos, negsuc, neg_ℤ, ◌+ℤ◌, ◌-ℤ◌, ◌*ℤ◌, ◌≤ℤ◌, unsigned_abs}
 use Rattle.std.specs.Int.{int_rem_euclid}
 use Rattle.std.specs.Ordering.{int_eq}
 use Rattle.std.proofs.lemmas.Int.{ints}
 use Rattle.std.proofs.lemmas.Bool.Decides.{nat_tests, Decides-int_eq}
 use Rattle.ba_numbers.specs.declared.numbers.CType.{CType}
 use Rattle.ba_numbers.specs.declared.numbers.CType.TheVariants.{I8, U8, I16, U16, I32, U32}
-use Rattle.ba_numbers.specs.Numbers.{IsCongruent, IsIn, converted, low_word, truth as number_of_truth}
-use Rattle.ba_numbers.proofs.Conversions.{converted_in_range, converted_congruent, converted_only, converted_own}
+use Rattle.ba_numbers.specs.Numbers.{IsCongruent, converted, low_word, truth as number_of_truth}
+use Rattle.ba_numbers.proofs.Conversions.{converted_in_range, converted_congruent, converted_only}
 use Rattle.ba_wordlist.specs.Meaning.{is_nonzero}
 use Rattle.ba_words.specs.Words.{digit, word_type}
-use Rattle.ba_words.proofs.Values.{low_word-read, read, read_unsigned}
+use Rattle.ba_words.proofs.Values.{low_word-read, read_unsigned}
 
 own-abs : (z : ℤ) → pos 0 ≤ℤ z → pos (unsigned_abs z) ≡ z
 own-abs (pos n) h = refl
@@ -39,7 +39,11 @@ congruent-low y z e =
     let a = converted_congruent U32 y in
     let b = converted_congruent U32 z in
     let same : converted U32 y ≡ converted U32 z = sym (pos-low y) ∙ ap pos e ∙ pos-low z in
-    record { turns = b.turns -ℤ a.turns; apart = between (converted U32 y) y z a.turns b.turns a.apart (same ∙ b.apart) }
+    record {
+      turns = b.turns -ℤ a.turns;
+      apart = between (converted U32 y) y z a.turns b.turns a.apart (same
+          ∙ b.apart);
+    }
 
 of-bytes : (u y z k j : ℤ) → u ≡ y +ℤ k *ℤ pos 0x100 → y ≡ z +ℤ j *ℤ pos 0x100000000
     → u ≡ z +ℤ (k +ℤ j *ℤ pos 0x1000000) *ℤ pos 0x100
@@ -60,14 +64,16 @@ by-bytes t y z a b = record {
   apart = of-bytes (converted t y) y z a.turns b.turns a.apart b.apart;
 }
 
-by-halves : (t : CType) (y z : ℤ) (a : IsCongruent 0x10000 (converted t y) y) (b : IsCongruent 0x100000000 y z)
+by-halves : (t : CType) (y z : ℤ) (a : IsCongruent 0x10000 (converted t y) y)
+    (b : IsCongruent 0x100000000 y z)
     → IsCongruent 0x10000 (converted t y) z
 by-halves t y z a b = record {
   turns = a.turns +ℤ b.turns *ℤ pos 0x10000;
   apart = of-halves (converted t y) y z a.turns b.turns a.apart b.apart;
 }
 
-by-words : (t : CType) (y z : ℤ) (a : IsCongruent 0x100000000 (converted t y) y) (b : IsCongruent 0x100000000 y z)
+by-words : (t : CType) (y z : ℤ) (a : IsCongruent 0x100000000 (converted t y) y)
+    (b : IsCongruent 0x100000000 y z)
     → IsCongruent 0x100000000 (converted t y) z
 by-words t y z a b = record {
   turns = a.turns +ℤ b.turns;
@@ -128,8 +134,16 @@ only-zero : (n : ℕ) (u z k : ℤ) → pos n ≡ u → u ≡ z +ℤ k *ℤ pos 
 only-zero n u z k e f low high zero = omega (arith, ints)
 
 -- of a number in the range of I32 or of U32
-pub nonzero-low : (z : ℤ) → neg_ℤ (pos 0x80000000) ≤ℤ z → z ≤ℤ pos 0xffffffff → is_nonzero z ≡ nat_lt 0 (low_word z)
+pub nonzero-low : (z : ℤ) → neg_ℤ (pos 0x80000000) ≤ℤ z → z ≤ℤ pos 0xffffffff
+    → is_nonzero z ≡ nat_lt 0 (low_word z)
 nonzero-low z low high =
     let a = converted_congruent U32 z in
     nonzero-test z (low_word z) (λ e. ap low_word e ∙ low-pos 0 (omega arith))
     (only-zero (low_word z) (converted U32 z) z a.turns (pos-low z) a.apart low high)
+
+some-digit : (b : Bool) → nat_lt 0 (digit b) ≡ b
+some-digit true = refl
+some-digit false = refl
+
+pub nonzero-digit : (n : ℕ) (b : Bool) → n ≡ digit b → is_nonzero (pos n) ≡ b
+nonzero-digit n b is = nonzero-pos n ∙ ap (nat_lt 0) is ∙ some-digit b

@@ -1,5 +1,5 @@
 -- Quotients and remainders beside the meaning of word lists, for a divisor of 0 too.
-use Rattle.std.proofs.Common.{◌≡◌, ℕ, ◌+◌, ◌-◌, ◌*◌, ◌%◌, ◌^◌, ◌<◌, ◌≤◌, nat_lt, Bool, true, false, cond, Option, None, Some, refl, sym, ◌∙◌, ap, arith, ℤ, pos, negsuc}
+use Rattle.std.proofs.Common.{◌≡◌, ℕ, ◌-◌, ◌%◌, ◌^◌, ◌<◌, ◌≤◌, nat_lt, Bool, true, false, cond, Option, None, Some, refl, sym, ◌∙◌, ap, arith, ℤ, pos, negsuc}
 use Rattle.std.specs.Prelude.{int_lt, nat_le}
 use Rattle.std.specs.Ordering.{int_eq}
 use Rattle.std.specs.Prelude.{int_div, int_rem}
@@ -9,7 +9,7 @@ use Rattle.ba_bits.proofs.Low.{low-pos}
 use Rattle.ba_nodes.specs.Gates.{bool_xor}
 use Rattle.ba_numbers.specs.declared.numbers.BinOp.TheVariants.{Div, Rem}
 use Rattle.ba_numbers.specs.declared.numbers.CType.{CType}
-use Rattle.ba_numbers.specs.declared.numbers.CType.TheVariants.{I32, U32}
+use Rattle.ba_numbers.specs.declared.numbers.CType.TheVariants.{I32}
 use Rattle.ba_numbers.specs.Numbers.{converted_value, low_word, value_of}
 use Rattle.ba_wordlist.specs.Meaning.{binary_value, value_at_zero, value_or}
 use Rattle.ba_words.specs.Words.{word_type}
@@ -20,7 +20,8 @@ use Rattle.ba_muldiv.proofs.Values.{div_value, rem_value}
 -- WHERE THERE IS NO VALUE the divisor is 0
 
 module _ (t : CType) (signed : Bool) (n : ℕ) (plain : ℤ) (small : n < 2 ^ 32) where
-  pub divisor-zero : (b : Bool) → int_eq (read signed n) (pos 0) ≡ b → converted_value t (cond b None (Some plain)) ≡ None
+  pub divisor-zero : (b : Bool) → int_eq (read signed n) (pos 0) ≡ b
+      → converted_value t (cond b None (Some plain)) ≡ None
       → n ≡ 0
   divisor-zero true is none = sym (low_word-read signed n small)
       ∙ ap low_word ((Decides-int_eq (read signed n) (pos 0)).0 is) ∙ low-pos 0 (omega arith)
@@ -29,13 +30,15 @@ module _ (t : CType) (signed : Bool) (n : ℕ) (plain : ℤ) (small : n < 2 ^ 32
 no-quotient : (signed : Bool) (m n : ℕ) → n < 2 ^ 32
     → value_of Div (word_type signed) (read signed m) (read signed n) ≡ None → n ≡ 0
 unfolding value_of
-no-quotient signed m n small none = divisor-zero (word_type signed) signed n (int_div (read signed m) (read signed n)) small
+no-quotient signed m n small none = divisor-zero (word_type signed) signed n
+    (int_div (read signed m) (read signed n)) small
     (int_eq (read signed n) (pos 0)) refl none
 
 no-remainder : (signed : Bool) (m n : ℕ) → n < 2 ^ 32
     → value_of Rem (word_type signed) (read signed m) (read signed n) ≡ None → n ≡ 0
 unfolding value_of
-no-remainder signed m n small none = divisor-zero (word_type signed) signed n (int_rem (read signed m) (read signed n)) small
+no-remainder signed m n small none = divisor-zero (word_type signed) signed n
+    (int_rem (read signed m) (read signed n)) small
     (int_eq (read signed n) (pos 0)) refl none
 
 -- A DIVISOR OF 0
@@ -85,14 +88,17 @@ module _ (signed : Bool) (m n : ℕ) (m_small : m < 2 ^ 32) (n_small : n < 2 ^ 3
   other-remainder o = low_word (value_or o (value_at_zero Rem (word_type signed) (pos m)))
 
   by-quotient : quotient_of signed m n < 2 ^ 32 → (o : Option ℤ)
-      → value_of Div (word_type signed) (read signed m) (read signed n) ≡ o → quotient_of signed m n ≡ other-quotient o
+      → value_of Div (word_type signed) (read signed m) (read signed n) ≡ o
+      → quotient_of signed m n ≡ other-quotient o
   by-quotient small (Some v) is = sym (low_word-read signed (quotient_of signed m n) small)
       ∙ ap low_word (div_value signed m n m_small n_small v is)
-  by-quotient small None is = ap (quotient_of signed m) (no-quotient signed m n n_small is) ∙ quotient-zero signed m m_small
+  by-quotient small None is = ap (quotient_of signed m) (no-quotient signed m n n_small is)
+      ∙ quotient-zero signed m m_small
 
   pub quotient-low : quotient_of signed m n < 2 ^ 32
       → quotient_of signed m n ≡ low_word (binary_value Div (word_type signed) (pos m) (pos n))
-  quotient-low small = by-quotient small (value_of Div (word_type signed) (read signed m) (read signed n)) refl
+  quotient-low small = by-quotient small (value_of Div (word_type signed) (read signed m) (read signed n))
+      refl
 
   by-remainder : remainder_of signed m n < 2 ^ 32 → (o : Option ℤ)
       → value_of Rem (word_type signed) (read signed m) (read signed n) ≡ o
@@ -104,4 +110,5 @@ module _ (signed : Bool) (m n : ℕ) (m_small : m < 2 ^ 32) (n_small : n < 2 ^ 3
 
   pub remainder-low : remainder_of signed m n < 2 ^ 32
       → remainder_of signed m n ≡ low_word (binary_value Rem (word_type signed) (pos m) (pos n))
-  remainder-low small = by-remainder small (value_of Rem (word_type signed) (read signed m) (read signed n)) refl
+  remainder-low small = by-remainder small (value_of Rem (word_type signed) (read signed m) (read signed n))
+      refl

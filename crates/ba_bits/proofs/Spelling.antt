@@ -1,19 +1,19 @@
 -- Words whose digits are written one after another.
-use Rattle.std.proofs.Common.{◌≡◌, ℕ, zero, suc, ◌+◌, ◌-◌, ◌*◌, ◌/◌, ◌%◌, ◌^◌, ◌<◌, ◌≤◌, ◌==◌, Bool, true, false, List, length, map, set, take, get_or, replicate, refl, sym, ◌∙◌, ap, subst, arith, inl, inr, ◌⊎◌, cond}
+use Rattle.std.proofs.Common.{◌≡◌, ℕ, zero, suc, ◌+◌, ◌*◌, ◌/◌, ◌%◌, ◌^◌, ◌<◌, ◌≤◌, ◌==◌, Bool, true, false, List, length, map, set, take, replicate, refl, sym, ◌∙◌, ap, subst, arith, cond}
 use Rattle.std.proofs.Math.Arith.{mod-mul}
 use Rattle.std.proofs.Math.Nat.{mul_assoc, mul_comm}
-use Rattle.std.proofs.lemmas.Bool.{cases_eq, eqb-true}
+use Rattle.std.proofs.lemmas.Bool.{eqb-true}
 use Rattle.std.proofs.lemmas.Bool.Decides.{nat_tests}
 use Rattle.std.proofs.lemmas.List.{get_or-map, length-map, length-set, same_lists}
 use Rattle.std.proofs.lemmas.Nat.{pow_pos}
 use Rattle.ba_bits.proofs.Agreeing.{agree-then, truth-agree}
 use Rattle.ba_bits.specs.Bits.{AgreeBelow}
-use Rattle.ba_bits.specs.Leaves.{CanSpell, Spelling}
+use Rattle.ba_bits.specs.Leaves.{CanSpell}
 use Rattle.ba_nodes.specs.declared.Bit.{Bit}
 use Rattle.ba_nodes.specs.declared.Node.{Node}
 use Rattle.ba_nodes.specs.Gates.{AreOrdered, Extends, HasValue, IsBitOf, constant_bit, truth}
 use Rattle.ba_nodes.proofs.Truths.{Extends-through, Extends_refl}
-use Rattle.ba_words.specs.Words.{AreBitsOf, HasNumber, bit_at, digit, low_number, number_of, spelled}
+use Rattle.ba_words.specs.Words.{AreBitsOf, HasNumber, bit_at, digit, low_number, spelled}
 use Rattle.ba_words.proofs.Digits.{twice}
 use Rattle.ba_words.proofs.Values.{spread}
 use Rattle.ba_words.proofs.Places.{are_bits-extends, are_bits-set, low_number-all, low_number-extends, low_number-set_more}
@@ -25,7 +25,8 @@ pub record DigitsSoFar (word : List Bit) (i rest number : ℕ) : Type 0 where
   pub are_bits : (nodes : List Node) → AreBitsOf nodes word
   pub sum : (nodes : List Node) (free : ℕ → Bool) → low_number free nodes word i + 2 ^ i * rest ≡ number
 
-replicate-bits : (nodes : List Node) (n : ℕ) (bit : Bit) → IsBitOf nodes bit → AreBitsOf nodes (replicate n bit)
+replicate-bits : (nodes : List Node) (n : ℕ) (bit : Bit) → IsBitOf nodes bit
+    → AreBitsOf nodes (replicate n bit)
 replicate-bits nodes zero bit named place = omega arith
 replicate-bits nodes (suc n) bit named zero = named
 replicate-bits nodes (suc n) bit named (suc place) = replicate-bits nodes n bit named place
@@ -51,7 +52,8 @@ combined low pd dp pr rp twice_p twice_h a b c e = omega arith
 
 regroup : (p low d h rest : ℕ) → rest ≡ 2 * h + d → (low + p * d) + (2 * p) * h ≡ low + p * rest
 regroup p low d h rest is = combined low (p * d) (d * p) (p * rest) (rest * p) (2 * p * h) (2 * h * p)
-    (mul_comm p d) (mul_comm p rest) (mul_assoc 2 p h ∙ ap (λ n. 2 * n) (mul_comm p h) ∙ sym (mul_assoc 2 h p))
+    (mul_comm p d) (mul_comm p rest) (mul_assoc 2 p h ∙ ap (λ n. 2 * n) (mul_comm p h)
+    ∙ sym (mul_assoc 2 h p))
     (spread (2 * h) d rest p (sym is))
 
 next-sum : (p q low d h rest number : ℕ) → q ≡ 2 * p → rest ≡ 2 * h + d → low + p * rest ≡ number
@@ -70,9 +72,11 @@ digits-more word i rest number bit small so has = record {
   are_bits = λ nodes. are_bits-set nodes word i bit (so.are_bits nodes) (has nodes).is_bit;
   sum = λ nodes free.
       let within : i < length word = omega (arith, so.long) in
-      let written = low_number-set_more free nodes word i bit within ∙ ap (λ b. low_number free nodes word i + 2 ^ i * digit b) ((has nodes).holds free) in
+      let written = low_number-set_more free nodes word i bit within
+      ∙ ap (λ b. low_number free nodes word i + 2 ^ i * digit b) ((has nodes).holds free) in
       ap (λ n. n + 2 ^ (i + 1) * (rest / 2)) written
-      ∙ next-sum (2 ^ i) (2 ^ (i + 1)) (low_number free nodes word i) (digit (rest % 2 == 1)) (rest / 2) rest number
+      ∙ next-sum (2 ^ i) (2 ^ (i + 1)) (low_number free nodes word i) (digit (rest % 2 == 1)) (rest / 2)
+      rest number
       (power-more i) (parity rest (rest % 2 == 1) refl) (so.sum nodes free);
 }
 
@@ -94,7 +98,8 @@ digits-all nodes word i rest number all few small so = record {
 
 -- FREE BITS: the low places can have any number
 
-pub record LowSpelling (old nodes : List Node) (word : List Bit) (i : ℕ) (start : ℕ → Bool) (number : ℕ) : Type 0 where
+pub record LowSpelling (old nodes : List Node) (word : List Bit) (i : ℕ) (start : ℕ
+    → Bool) (number : ℕ) : Type 0 where
   pub free : ℕ → Bool
   pub agrees : AgreeBelow (length old) start free
   pub spells : low_number free nodes word i ≡ number % 2 ^ i
@@ -105,13 +110,13 @@ pub record FreeSoFar (old nodes : List Node) (word : List Bit) (i : ℕ) : Type 
   pub are_bits : AreBitsOf nodes word
   pub can : (start : ℕ → Bool) (number : ℕ) → LowSpelling old nodes word i start number
 
-abbrev with_bit : (ℕ → Bool) → ℕ → Bool → ℕ → Bool
+abbrev pub with_bit : (ℕ → Bool) → ℕ → Bool → ℕ → Bool
 with_bit free n b k = cond (k == n) b (free k)
 
-with-here : (free : ℕ → Bool) (n : ℕ) (b : Bool) → with_bit free n b n ≡ b
+pub with-here : (free : ℕ → Bool) (n : ℕ) (b : Bool) → with_bit free n b n ≡ b
 with-here free n b = let e : (n == n) ≡ true = grind (arith, nat_tests) in ap (λ t. cond t b (free n)) e
 
-with-below : (free : ℕ → Bool) (n : ℕ) (b : Bool) → AgreeBelow n free (with_bit free n b)
+pub with-below : (free : ℕ → Bool) (n : ℕ) (b : Bool) → AgreeBelow n free (with_bit free n b)
 with-below free n b k below =
     let e : (k == n) ≡ false = grind (arith, nat_tests) in sym (ap (λ t. cond t b (free k)) e)
 
@@ -131,7 +136,7 @@ next-digit n i =
       turned a p d = grind arith
 
 -- the number of a word's low places stays where its bits' free bits do
-low-agree : (nodes : List Node) (free other : ℕ → Bool) (word : List Bit) (i : ℕ) → AreOrdered nodes
+pub low-agree : (nodes : List Node) (free other : ℕ → Bool) (word : List Bit) (i : ℕ) → AreOrdered nodes
     → AgreeBelow (length nodes) free other → AreBitsOf nodes word
     → low_number free nodes word i ≡ low_number other nodes word i
 low-agree nodes free other word i ordered agree bits =
@@ -144,8 +149,10 @@ low-agree nodes free other word i ordered agree bits =
     ∙ truth-agree nodes free other ordered agree (bit_at word k) (bits k)
     ∙ sym (get_or-map (truth other nodes) word k (constant_bit false) d inside)))
 
-module _ (old nodes new : List Node) (word : List Bit) (i : ℕ) (bit : Bit) (small : i < 32) (ordered : AreOrdered nodes)
-    (extends : Extends nodes new) (has : HasValue new bit (λ free. free (length nodes))) (so : FreeSoFar old nodes word i)
+module _ (old nodes new : List Node) (word : List Bit) (i : ℕ) (bit : Bit) (small : i < 32)
+    (ordered : AreOrdered nodes)
+    (extends : Extends nodes new) (has : HasValue new bit (λ free. free (length nodes)))
+    (so : FreeSoFar old nodes word i)
     (start : ℕ → Bool) (number : ℕ) where
   abbrev before : LowSpelling old nodes word i start number
   before = so.can start number
@@ -192,7 +199,8 @@ free-more old nodes new word i bit small ordered extends has so = record {
 nothing-yet : (number : ℕ) → 0 ≡ number % 2 ^ 0
 nothing-yet number = omega arith
 
-pub free-start : (nodes : List Node) (bit : Bit) → IsBitOf nodes bit → FreeSoFar nodes nodes (replicate 32 bit) 0
+pub free-start : (nodes : List Node) (bit : Bit) → IsBitOf nodes bit
+    → FreeSoFar nodes nodes (replicate 32 bit) 0
 free-start nodes bit named = record {
   extends = Extends_refl nodes;
   long = refl;

@@ -35,6 +35,14 @@ numbers_in free nodes words = map (number_of free nodes) words
 abbrev pub values_in : (ℕ → Bool) → List Node → List (List Bit) → List ℤ
 values_in free nodes words = map (value_in free nodes) words
 
+-- the words have the 32 low bits of these numbers of C under each assignment of the free bits
+abbrev pub HaveLowBits : List Node → List (List Bit) → ((ℕ → Bool) → List ℤ) → Type 0
+HaveLowBits nodes words values = (free : ℕ → Bool) → numbers_in free nodes words ≡ map low_word (values free)
+
+-- what the first words of these entries spell
+abbrev pub firsts_in : (ℕ → Bool) → List Node → List (List (List Bit)) → List ℕ → List ℤ
+firsts_in free nodes entries ws = map (λ w. value_in free nodes (word_at entries w)) ws
+
 -- what the bits of all entries spell
 abbrev pub elements_in : (ℕ → Bool) → List Node → List (List (List Bit)) → List (List ℤ)
 elements_in free nodes entries = map (values_in free nodes) entries
@@ -63,7 +71,8 @@ abbrev pub AgreeBelow : ℕ → (ℕ → Bool) → (ℕ → Bool) → Type 0
 AgreeBelow n free other = (k : ℕ) → k < n → free k ≡ other k
 
 -- whatever the bits before were, they can be so that an entry has the bits of this number
-pub record Taking (old : List Node) (op : WordOp) (new : List Node) (words : List (List Bit)) (start : ℕ → Bool) (z : ℤ) : Type 0 where
+pub record Taking (old : List Node) (op : WordOp) (new : List Node) (words : List (List Bit))
+    (start : ℕ → Bool) (z : ℤ) : Type 0 where
   pub free : ℕ → Bool
   pub agrees : AgreeBelow (length old) start free
   pub takes : IsTaken free new op z words
@@ -76,7 +85,8 @@ abbrev pub is_needed : List Bool → ℕ → Bool
 is_needed needed w = slice_index_or needed w false
 
 -- each needed free word and flag has the bits of its number
-abbrev pub AreTaken : (ℕ → Bool) → List Node → List WordOp → List Bool → Assignment → List (List (List Bit)) → Type 0
+abbrev pub AreTaken : (ℕ → Bool) → List Node → List WordOp → List Bool → Assignment → List (List (List Bit))
+    → Type 0
 AreTaken free nodes ops needed f entries = (w : ℕ) (op : WordOp) → slice_get ops w ≡ Some op
     → is_needed needed w ≡ true → IsTaken free nodes op (f w) (words_at entries w)
 

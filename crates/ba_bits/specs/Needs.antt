@@ -1,10 +1,10 @@
 -- Which entries of a word list are needed.
 
-use Rattle.std.specs.Prelude.{◌≡◌, ℕ, Bool, true, List, [], ◌∷◌, ◌++◌, Some, slice_get}
+use Rattle.std.specs.Prelude.{◌≡◌, ℕ, Bool, true, List, [], ◌∷◌, Some, slice_get, slice_set}
 use Rattle.std.specs.List.{list_all}
 use Rattle.ba_bits.specs.Bits.{is_needed}
 use Rattle.ba_wordlist.specs.declared.words.WordOp.{WordOp}
-use Rattle.ba_wordlist.specs.declared.words.WordOp.TheVariants.{Const, Free, Flag, Unary, Binary, Convert, Select, Read, Zeros, Fill, Write}
+use Rattle.ba_wordlist.specs.declared.words.WordOp.TheVariants.{Unary, Binary, Convert, Select, Read, Fill, Write}
 
 -- the entries that an entry names
 abbrev pub names_of : WordOp → List ℕ
@@ -19,6 +19,11 @@ names_of _ = []
 
 abbrev pub are_needed : List Bool → List ℕ → Bool
 are_needed needed ws = list_all (is_needed needed) ws
+
+-- the marks, with those of these entries set
+abbrev pub marked : List Bool → List ℕ → List Bool
+marked needed [] = needed
+marked needed (w ∷ ws) = marked (slice_set needed w true) ws
 
 -- what a needed entry names is needed
 abbrev pub AreClosed : List WordOp → List Bool → Type 0

@@ -1,6 +1,6 @@
 //! Words without operands: constants, free words, and single bits as words.
 
-ghost use Rattle.std.specs.Prelude.{◌≡◌, ℕ, Bool, not, List, length, IfOk};
+ghost use Rattle.std.specs.Prelude.{◌≡◌, not, List, length, IfOk};
 ghost use Rattle.ba_bits.specs.Bits.{HasLowBits};
 ghost use Rattle.ba_nodes.specs.Gates.{Extends, IsBitOf, truth};
 ghost use Rattle.ba_nodes.specs.declared.Node.{Node};
@@ -33,7 +33,8 @@ pub(crate) fn constant_word(number: u32) -> Word
 
 /// The word that is 1 where the bit is true, and else 0. It takes no memory.
 pub(crate) fn truth_word(bit: Bit) -> Word
-    ensures { (nodes : List Node) → IsBitOf nodes bit → HasNumber nodes result (λ free. digit (truth free nodes bit)) }
+    ensures { (nodes : List Node) → IsBitOf nodes bit
+        → HasNumber nodes result (λ free. digit (truth free nodes bit)) }
 {
     let mut word = constant_word(0);
     word[0] = bit;
@@ -42,7 +43,8 @@ pub(crate) fn truth_word(bit: Bit) -> Word
 
 /// The word that is 0 where the bit is true, and else 1. It takes no memory.
 pub(crate) fn negated_word(bit: Bit) -> Word
-    ensures { (nodes : List Node) → IsBitOf nodes bit → HasNumber nodes result (λ free. digit (not (truth free nodes bit))) }
+    ensures { (nodes : List Node) → IsBitOf nodes bit
+        → HasNumber nodes result (λ free. digit (not (truth free nodes bit))) }
 {
     truth_word(Nodes::not(bit))
 }

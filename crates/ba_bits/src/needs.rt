@@ -1,7 +1,8 @@
 //! Which entries of a word list are needed.
 
-ghost use Rattle.std.specs.Prelude.{◌≡◌, true, length, IfOk};
-ghost use Rattle.ba_bits.specs.Needs.{AreClosed, are_needed};
+ghost use Rattle.std.specs.Prelude.{◌≡◌, ◌<◌, true, length, cond, IfOk};
+ghost use Rattle.ba_bits.specs.Bits.{is_needed};
+ghost use Rattle.ba_bits.specs.Needs.{AreClosed, are_needed, marked, names_of};
 ghost use Rattle.ba_wordlist.specs.Facts.{are_names, are_words};
 
 use ba_wordlist::words::WordOp;
@@ -26,15 +27,28 @@ pub fn needed_entries(
     mark_all(needed.as_mut_slice(), roots);
     for i in 0..words.len() {
         let number = words.len() - 1 - i;
-        if needed[number] {
-            mark_names(needed.as_mut_slice(), &words[number]);
-        }
+        mark_from(needed.as_mut_slice(), number, &words[number]);
     }
     Ok(needed)
 }
 
+/// Marks the entries that the entry of this number names, if it is marked.
+fn mark_from(needed: &mut [bool], number: usize, op: &WordOp)
+    requires number { number < length needed.old }
+    requires names { are_names (length needed.old) (names_of op.now) ≡ true }
+    ensures { needed.new
+        ≡ cond (is_needed needed.old number) (marked needed.old (names_of op.now)) needed.old }
+{
+    if needed[number] {
+        mark_names(needed, op);
+    }
+}
+
 /// Marks the entries that an entry names.
-fn mark_names(needed: &mut [bool], op: &WordOp) {
+fn mark_names(needed: &mut [bool], op: &WordOp)
+    requires { are_names (length needed.old) (names_of op.now) ≡ true }
+    ensures { needed.new ≡ marked needed.old (names_of op.now) }
+{
     match op {
         WordOp::Const(_) | WordOp::Free | WordOp::Flag | WordOp::Zeros(_) => {}
         WordOp::Unary { a, .. } | WordOp::Convert { a, .. } => mark_all(needed, &[*a]),
@@ -55,7 +69,10 @@ fn mark_names(needed: &mut [bool], op: &WordOp) {
 }
 
 /// Marks entries.
-fn mark_all(needed: &mut [bool], numbers: &[u32]) {
+fn mark_all(needed: &mut [bool], numbers: &[u32])
+    requires { are_names (length needed.old) numbers.now ≡ true }
+    ensures { needed.new ≡ marked needed.old numbers.now }
+{
     for number in numbers {
         needed[*number as usize] = true;
     }

@@ -1,9 +1,9 @@
 //! The operators of word lists, on single words.
 
-ghost use Rattle.std.specs.Prelude.{◌≡◌, ℕ, Bool, true, not, List, length, IfOk, cond};
+ghost use Rattle.std.specs.Prelude.{◌≡◌, true, IfOk, cond};
 ghost use Rattle.ba_bits.specs.Bits.{HasLowBits, value_in};
 ghost use Rattle.ba_code.specs.Operators.{converting};
-ghost use Rattle.ba_nodes.specs.Gates.{Extends, HasValue, IsBitOf};
+ghost use Rattle.ba_nodes.specs.Gates.{Extends, HasValue};
 ghost use Rattle.ba_numbers.specs.Numbers.{converted};
 ghost use Rattle.ba_tree.specs.Facts.{is_promoted};
 ghost use Rattle.ba_wordlist.specs.Meaning.{binary_value, is_nonzero};
@@ -110,7 +110,8 @@ pub(crate) fn convert(nodes: &Nodes, t: CType, a: &Word) -> Word
 /// Whether a word is other than 0.
 pub(crate) fn is_set(nodes: &mut Nodes, a: &Word) -> Result<Bit, AllocError>
     requires { AreBitsOf nodes.old a.now }
-    ensures value { IfOk result (λ bit. HasValue nodes.new bit (λ free. is_nonzero (value_in free nodes.old a.now))) }
+    ensures value { IfOk result (λ bit. HasValue nodes.new bit (λ free.
+        is_nonzero (value_in free nodes.old a.now))) }
     ensures extends { Extends nodes.old nodes.new }
 {
     nonzero(nodes, a)
@@ -127,7 +128,8 @@ pub(crate) fn choose(
     requires first { AreBitsOf nodes.old yes.now }
     requires second { AreBitsOf nodes.old no.now }
     ensures value { IfOk result (λ word. HasLowBits nodes.new word (λ free.
-        cond (is_nonzero (value_in free nodes.old which.now)) (value_in free nodes.old yes.now) (value_in free nodes.old no.now))) }
+        cond (is_nonzero (value_in free nodes.old which.now))
+        (value_in free nodes.old yes.now) (value_in free nodes.old no.now))) }
     ensures extends { Extends nodes.old nodes.new }
 {
     let bit = is_set(nodes, which)?;

@@ -1,7 +1,6 @@
 -- Formulas whose models are the good runs of a word list in which groups of executions may be relaxed.
 
-use Rattle.std.specs.Prelude.{◌≡◌, ℕ, ◌≤◌, Bool, true, false, not, ◌&&◌, List, [], ◌∷◌, map, length, Contains, slice_get, Some, slice_index_or}
-use Rattle.std.specs.List.{list_all}
+use Rattle.std.specs.Prelude.{◌≡◌, ℕ, ◌≤◌, Bool, true, false, not, List, map, Contains}
 use Rattle.ba_code_laws.specs.Tracing.{Relaxes}
 use Rattle.ba_encode.specs.Groups.{groups_of, numbered, relaxes_in}
 use Rattle.ba_encode.specs.Readings.{choices_read}
@@ -13,13 +12,10 @@ use Rattle.ba_lits.specs.Formulas.{Cnf}
 use Rattle.ba_lits.specs.Satisfaction.{Assignment, all_true, lit_true}
 use Rattle.ba_wordlist.specs.Meaning as words
 use Rattle.ba_wordlist.specs.Meaning.{are_kept, chosen, holds, visits_of}
-use Rattle.ba_wordlist.specs.declared.words.PlaceWords.{PlaceWords}
 use Rattle.ba_wordlist.specs.declared.words.WordList.{WordList}
-use Rattle.ba_wordlist.specs.declared.words.WordOp.{WordOp}
-use Rattle.ba_wordlist.specs.declared.words.WordOp.TheVariants.{Const, Free, Flag, Unary, Binary, Convert}
 
--- A good run in which these executions may be relaxed: an assignment of the list's words under which all requirements
--- are met and each other execution is kept as written.
+-- A good run in which these executions may be relaxed: an assignment of the list's words under which all
+-- requirements are met and each other execution is kept as written.
 pub record GoodRun (relaxes : Relaxes) (list : WordList) : Type 0 where
   pub by : words.Assignment
   pub met : holds by list ≡ true
@@ -27,7 +23,8 @@ pub record GoodRun (relaxes : Relaxes) (list : WordList) : Type 0 where
 
 -- the groups whose selectors are false are those of a set
 abbrev pub AreGivenUp : Assignment → List Group → (ℕ → Bool) → Type 0
-AreGivenUp v groups set = (group : Group) → Contains groups group → lit_true v group.selector ≡ not (set group.number)
+AreGivenUp v groups set = (group : Group) → Contains groups group
+    → lit_true v group.selector ≡ not (set group.number)
 
 -- a model under which exactly the groups of a set are given up
 pub record HasModelFor (formula : Cnf) (groups : List Group) (set : ℕ → Bool) : Type 0 where
@@ -36,7 +33,8 @@ pub record HasModelFor (formula : Cnf) (groups : List Group) (set : ℕ → Bool
   pub given_up : AreGivenUp assignment groups set
 
 -- a good run, whose choices are these
-pub record HasChoices (relaxes : Relaxes) (list : WordList) (encoded : Encoded) (v : Assignment) : Type 0 where
+pub record HasChoices (relaxes : Relaxes) (list : WordList) (encoded : Encoded) (v : Assignment)
+    : Type 0 where
   pub run : GoodRun relaxes list
   pub choices : choices_read v encoded.places ≡ chosen relaxes (visits_of run.by list)
 
@@ -51,8 +49,8 @@ pub record AreSelectors (formula : Cnf) (groups : List Group) : Type 0 where
   pub apart : (a b : Group) → Contains groups a → Contains groups b
       → a.selector.variable ≡ b.selector.variable → a.number ≡ b.number
 
--- The formula has a model under which exactly the groups of a set are given up where, and only where, some good run
--- relaxes those of the set alone; and its choices are read from the model.
+-- The formula has a model under which exactly the groups of a set are given up where, and only where, some
+-- good run relaxes those of the set alone; and the choices of such a run are read from each such model.
 pub record IsEncodingOf (list : WordList) (grouping : Grouping) (encoded : Encoded) : Type 0 where
   pub groups_are : map without_selector encoded.groups ≡ groups_of grouping
   pub selectors : AreSelectors encoded.formula encoded.groups
@@ -60,21 +58,3 @@ pub record IsEncodingOf (list : WordList) (grouping : Grouping) (encoded : Encod
       → HasModelFor encoded.formula encoded.groups set
   pub has_run : (set : ℕ → Bool) (v : Assignment) → all_true v encoded.formula.clauses ≡ true
       → AreGivenUp v encoded.groups set → HasChoices (relaxes_in grouping set) list encoded v
-
--- THE TYPES OF VALUES: a word that is no Select, Read or array has the values of one type
-
-abbrev pub has_type : WordOp → Bool
-has_type (Const z) = true
-has_type Free = true
-has_type Flag = true
-has_type (Unary op t a) = true
-has_type (Binary op t a b) = true
-has_type (Convert t a) = true
-has_type _ = false
-
--- each value of a place is of one type
-abbrev pub is_typed : List WordOp → ℕ → Bool
-is_typed ops w = has_type (slice_index_or ops w Free)
-
-abbrev pub are_typed : List WordOp → List PlaceWords → Bool
-are_typed ops places = list_all (λ (p : PlaceWords). list_all (is_typed ops) p.values) places

@@ -1,6 +1,6 @@
 -- Groups of executions that are relaxed together, and what is relaxed where some of them are.
 
-use Rattle.std.specs.Prelude.{ℕ, ◌+◌, ◌==◌, Bool, true, false, not, ◌&&◌, ◌||◌, Option, None, Some, is_some, List, [], ◌∷◌, position}
+use Rattle.std.specs.Prelude.{ℕ, ◌+◌, ◌==◌, Bool, true, false, not, ◌&&◌, ◌||◌, Option, None, Some, is_some, List, [], ◌∷◌, position, map}
 use Rattle.std.specs.List.{list_any}
 use Rattle.ba_code_laws.specs.Tracing.{Relaxes}
 use Rattle.ba_encode.specs.declared.grouping.Grouping.{Grouping}
@@ -10,7 +10,7 @@ use Rattle.ba_numbers.specs.declared.ids.StmtId.{StmtId}
 use Rattle.ba_tree.specs.Choices.{is_there, same_path}
 use Rattle.ba_tree.specs.Least.{stmt_of, weight_at}
 use Rattle.ba_tree.specs.declared.run.Place.{Place}
-use Rattle.ba_tree.specs.declared.run.Step.{Step}
+use Rattle.ba_wordlist.specs.declared.words.PlaceWords.{PlaceWords}
 
 abbrev pub numbered : ℕ → StmtId → ℕ → Numbered
 numbered number stmt weight = record { number = number; statement = stmt; weight = weight }
@@ -22,7 +22,8 @@ with_weight number (Some weight) groups = numbered number (stmt_of number) weigh
 -- the statements that have a weight, by ascending numbers, where the first entry is that of the number
 abbrev pub statements_from : ℕ → List (Option ℕ) → List Numbered
 statements_from number [] = []
-statements_from number (weight ∷ weights) = with_weight number weight (statements_from (number + 1) weights)
+statements_from number (weight ∷ weights) =
+    with_weight number weight (statements_from (number + 1) weights)
 
 -- the places, which weigh 1 each
 abbrev pub places_from : ℕ → List Place → List Numbered
@@ -56,6 +57,13 @@ abbrev pub group_at : Grouping → List Numbered → Place → Option ℕ
 group_at (ByStatement weights) groups place =
     position (λ (group : Numbered). group.statement.0 == place.stmt.0) groups
 group_at (ByPlace places) groups place = position (λ other. is_place other place) places
+
+abbrev pub group_of : Grouping → List Numbered → PlaceWords → Option ℕ
+group_of grouping groups p = group_at grouping groups p.place
+
+-- the groups of executions
+abbrev pub groups_along : Grouping → List Numbered → List PlaceWords → List (Option ℕ)
+groups_along grouping groups places = map (group_of grouping groups) places
 
 abbrev pub are_different : List Place → Bool
 are_different [] = true

@@ -1,6 +1,6 @@
 //! Formulas with their groups, and how choices are read from their models.
 
-ghost use Rattle.std.specs.Prelude.{◌≡◌, ◌^◌, ◌<◌, IsTrue, length, slice_index};
+ghost use Rattle.std.specs.Prelude.{◌≡◌, ◌^◌, ◌<◌, IfSome, IsTrue, length, slice_get};
 ghost use Rattle.ba_encode.specs.Readings.{are_readable};
 
 use ba_clauses::Reading;
@@ -18,17 +18,18 @@ pub struct Group {
     pub selector: Lit,
 }
 
-/// How the choice of an execution is read from a model, where its group is given up: whether it takes place, whether
-/// it is as written, and else the values, each by 32 bits and whether these are read as signed.
+/// How the choice of an execution that stands in a group is read from a model: the group's selector, whether it takes
+/// place, whether it is as written, and else the values.
 #[derive(Drop)]
 pub struct PlaceReading {
-    pub selector: Lit,
+    pub selector: Reading,
     pub guard: Reading,
     pub keep: Reading,
     pub values: Items<ValueReading>,
 }
 
-/// How a value is read from a model: its bits, the lowest first, which are those of a number of `I32` or of `U32`.
+/// How a value is read from a model: its 32 bits, the lowest first, and whether these are those of a number of `I32`
+/// or of `U32`.
 #[derive(Drop)]
 pub struct ValueReading {
     pub signed: bool,
@@ -64,7 +65,7 @@ impl Encoded {
     /// The selector of a group: it is true where the group runs as written.
     pub fn selector(&self, group: u32) -> Lit
         requires { group < length self.now.groups }
-        ensures { result ≡ (slice_index self.now.groups group).selector }
+        ensures { IfSome (slice_get self.now.groups group) (λ g. result ≡ g.selector) }
     {
         self.groups.as_slice()[group as usize].selector
     }
@@ -72,7 +73,7 @@ impl Encoded {
     /// The weight of a group.
     pub fn weight(&self, group: u32) -> u32
         requires { group < length self.now.groups }
-        ensures { result ≡ (slice_index self.now.groups group).weight }
+        ensures { IfSome (slice_get self.now.groups group) (λ g. result ≡ g.weight) }
     {
         self.groups.as_slice()[group as usize].weight
     }
@@ -80,7 +81,7 @@ impl Encoded {
     /// The statement of a group.
     pub fn statement(&self, group: u32) -> StmtId
         requires { group < length self.now.groups }
-        ensures { result ≡ (slice_index self.now.groups group).statement }
+        ensures { IfSome (slice_get self.now.groups group) (λ g. result ≡ g.statement) }
     {
         self.groups.as_slice()[group as usize].statement
     }
@@ -88,7 +89,7 @@ impl Encoded {
     /// The written number of a group, from 1 on: that of its statement, or its position in the list of places.
     pub fn number(&self, group: u32) -> u32
         requires { group < length self.now.groups }
-        ensures { result ≡ (slice_index self.now.groups group).number }
+        ensures { IfSome (slice_get self.now.groups group) (λ g. result ≡ g.number) }
     {
         self.groups.as_slice()[group as usize].number
     }

@@ -9,9 +9,15 @@ mod choices;
 mod encoded;
 mod formulas;
 mod grouping;
+mod places;
+mod reading;
+mod required;
 mod roots;
+mod selectors;
+mod softs;
 
 pub use choices::choices_of;
-pub use encoded::{Encoded, Group, PlaceReading};
+pub use encoded::{Encoded, Group, PlaceReading, ValueReading};
 pub use formulas::encode;
 pub use grouping::Grouping;
+pub use softs::softs_of;

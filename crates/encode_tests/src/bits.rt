@@ -1,5 +1,6 @@
 //! Lists of constants, whose bits are constants: the values are those that C gives.
 
+use crate::lists::{are_names, are_words};
 use ba_bits::{Cells, bits_of, needed_entries};
 use ba_items::Items;
 use ba_nodes::Nodes;
@@ -29,6 +30,7 @@ fn last_of(
     alloc: Global,
     words: Vec<WordOp>,
 ) -> Result<Vec<Option<u32>>, AllocError> {
+    assert!(rt; are_words(alloc, words.as_slice())?);
     let mut nodes = Nodes::new(alloc);
     let mut needed = Vec::new(alloc);
     needed.resize(words.len(), true)?;
@@ -163,7 +165,10 @@ fn what_nothing_names_is_not_needed(rt: HostRuntime) -> Result<(), Fail> {
         no: 0,
     })?;
     words.push(WordOp::Convert { t: CType::U8, a: 2 })?;
-    let needed = needed_entries(alloc, words.as_slice(), [4].as_slice())?;
+    let roots = [4];
+    assert!(rt; are_words(alloc, words.as_slice())?);
+    assert!(rt; are_names(words.len(), roots.as_slice()));
+    let needed = needed_entries(alloc, words.as_slice(), roots.as_slice())?;
     assert_eq!(rt;
         needed.as_slice(),
         [true, false, true, false, true].as_slice()

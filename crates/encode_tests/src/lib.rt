@@ -5,3 +5,5 @@
 mod bits;
 #[cfg(test)]
 mod formulas;
+#[cfg(test)]
+mod lists;

@@ -1,4 +1,4 @@
-use Rattle.std.proofs.Common.{rules, ap, arith, ◌∙◌, pos, unsigned_abs, w64, FitsSigned}
+use Rattle.std.proofs.Common.{rules, ap, ◌∙◌, pos, unsigned_abs, w64, FitsSigned}
 use Rattle.std.specs.Int.{int_rem_euclid}
 use Rattle.std.proofs.lemmas.Int.{to_z-of_z}
 use Rattle.ba_bits.proofs.Computing.{number-same}

@@ -1,4 +1,3 @@
-use Rattle.std.proofs.Common.{cond, if◌then◌else◌}
 use Rattle.ba_bits.proofs.Computing.{chosen-number, number-same}
 use Rattle.ba_nodes.specs.Gates.{truth}
 use Rattle.ba_wordlist.specs.Meaning.{is_nonzero}
@@ -18,7 +17,10 @@ returns-clause-value c =
     (number_of free c.is_set.new.nodes c.args.yes.now) (number_of free c.is_set.new.nodes c.args.no.now)
     (number_of free c.args.nodes.now c.args.yes.now) (number_of free c.args.nodes.now c.args.no.now)
     (c.in_ok-bit.ensures.value.holds free)
-    (number_of-extends free c.args.nodes.now c.is_set.new.nodes c.args.yes.now c.is_set.ensures.extends c.requires.first)
-    (number_of-extends free c.args.nodes.now c.is_set.new.nodes c.args.no.now c.is_set.ensures.extends c.requires.second)
-    (number_small free c.args.nodes.now c.args.yes.now c.told-yes) (number_small free c.args.nodes.now c.args.no.now c.told-no)))
+    (number_of-extends free c.args.nodes.now c.is_set.new.nodes c.args.yes.now c.is_set.ensures.extends
+    c.requires.first)
+    (number_of-extends free c.args.nodes.now c.is_set.new.nodes c.args.no.now c.is_set.ensures.extends
+    c.requires.second)
+    (number_small free c.args.nodes.now c.args.yes.now c.told-yes)
+    (number_small free c.args.nodes.now c.args.no.now c.told-no)))
     c.select.ensures.number

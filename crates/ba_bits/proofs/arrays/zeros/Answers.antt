@@ -1,0 +1,19 @@
+use Rattle.std.proofs.Common.{◌≡◌, replicate, subst, sym, ap, ◌∙◌}
+use Rattle.ba_bits.proofs.Elements.{all-equal, cells-replicate, numbers-replicate}
+use Rattle.ba_bits.specs.Bits.{numbers_in}
+use Rattle.ba_cells.specs.Cells.{AreCellsOf}
+use Rattle.ba_bits.proofs.arrays.zeros.Goals as goal
+
+equal-words : (c : goal.After-from_vec) → c.from_vec.result ≡ replicate c.args.count c.constant_word.result
+equal-words c = c.from_vec.ensures ∙ c.in_ok-resize.ensures.items
+    ∙ all-equal c.args.count c.new-words.result.len c.new-words.result.items c.constant_word.result
+    c.new-words.ensures.items c.new-words.ensures.len
+
+pub returns-clause-cells : goal.returns-clause-cells
+returns-clause-cells c nodes = subst (λ words. AreCellsOf nodes words) (sym (equal-words c))
+    (cells-replicate nodes c.args.count c.constant_word.result (c.constant_word.ensures nodes).are_bits)
+
+pub returns-clause-numbers : goal.returns-clause-numbers
+returns-clause-numbers c nodes free = ap (numbers_in free nodes) (equal-words c)
+    ∙ numbers-replicate free nodes c.args.count c.constant_word.result 0
+    ((c.constant_word.ensures nodes).holds free)

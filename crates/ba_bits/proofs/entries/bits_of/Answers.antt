@@ -1,0 +1,43 @@
+use Rattle.std.proofs.Common.{[], ◌+◌, take, subst, sym}
+use Rattle.ba_bits.proofs.Growing.{entries-none, entries-step, fits-step}
+use Rattle.ba_bits.specs.Bits.{AreEntries}
+use Rattle.ba_nodes.proofs.Truths.{Extends-through, Extends_refl}
+use Rattle.ba_bits.proofs.entries.bits_of.Goals as goal
+
+pub loop-i-init : goal.loop-i-init
+loop-i-init c = record {
+  extends = Extends_refl c.args.nodes.now;
+  are_entries = subst (λ entries. AreEntries c.args.nodes.now [] c.args.needed.now c.args.nodes.now entries)
+      (sym c.new-entries.ensures.items) (entries-none c.args.nodes.now c.args.needed.now);
+}
+
+pub next_entry-requires-clause-fits : goal.next_entry-requires-clause-fits
+next_entry-requires-clause-fits c =
+    fits-step c.args.nodes.now c.loop-i.nodes c.args.words.now c.loop-i.i c.index-words-i.result
+    c.args.needed.now
+    c.loop-i.entries.items c.as_slice-in-loop-i.result.now c.loop-i-test.true c.index-words-i.is
+    c.requires.words
+    c.loop-i.invariant.are_entries c.as_slice-in-loop-i.ensures.value
+
+pub loop-i-preserved : goal.loop-i-preserved
+loop-i-preserved c = record {
+  extends = Extends-through c.args.nodes.now c.loop-i.nodes c.next_entry.new.nodes
+      c.loop-i.invariant.extends c.next_entry.ensures.extends;
+  are_entries = subst (λ entries. AreEntries c.args.nodes.now
+      (take (c.loop-i.i + 1) c.args.words.now) c.args.needed.now c.next_entry.new.nodes entries)
+      (sym c.in_ok-push.ensures.items)
+      (entries-step c.args.nodes.now c.loop-i.nodes c.next_entry.new.nodes c.args.words.now c.loop-i.i
+      c.index-words-i.result
+      c.args.needed.now c.loop-i.entries.items c.as_slice-in-loop-i.result.now c.in_ok-cells.cells
+      c.loop-i-test.true
+      c.index-words-i.is c.loop-i.invariant.extends c.as_slice.ensures.ordered c.requires.words
+      c.loop-i.invariant.are_entries
+      c.as_slice-in-loop-i.ensures.value
+      record {
+        extends = c.next_entry.ensures.extends;
+        are_cells = c.in_ok-cells.ensures.cells;
+        long = c.in_ok-cells.ensures.length;
+        spell = c.in_ok-cells.ensures.spell;
+        can = c.in_ok-cells.ensures.take;
+      });
+}

@@ -1,0 +1,12 @@
+pub mod Typed
+pub mod Relaxed
+pub mod Spots
+pub mod Held
+pub mod Parting
+pub mod Models
+pub mod Choosing
+pub mod Meant
+pub mod Naming
+pub mod Making
+pub mod Faithful
+pub mod Gaps

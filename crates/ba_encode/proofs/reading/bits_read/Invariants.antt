@@ -1,0 +1,7 @@
+use Rattle.std.proofs.Common.{◌≡◌, ◌++◌, take}
+use Rattle.std.specs.List.{flat_map}
+use Rattle.ba_encode.specs.Parts.{bits_of}
+use Rattle.ba_encode.proofs.reading.bits_read.Given as goal
+
+abbrev pub invariant-loop-place : goal.invariant-loop-place
+invariant-loop-place l = l.read.items ≡ l.selectors ++ flat_map bits_of (take l.place-index l.places)

@@ -1,0 +1,6 @@
+use Rattle.std.proofs.Common.{◌≡◌, map, take}
+use Rattle.ba_encode.specs.Groups.{group_of}
+use Rattle.ba_encode.proofs.roots.groups_of_places.Given as goal
+
+abbrev pub invariant-loop-place : goal.invariant-loop-place
+invariant-loop-place l = l.found.items ≡ map (group_of l.grouping l.groups) (take l.place-index l.places)

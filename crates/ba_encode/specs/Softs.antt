@@ -1,0 +1,18 @@
+-- The soft literals of groups.
+
+use Rattle.std.specs.Prelude.{ℕ, ◌+◌, ◌-◌, List, [], ◌∷◌, ◌++◌, replicate}
+use Rattle.ba_encode.specs.declared.encoded.Group.{Group}
+use Rattle.ba_lits.specs.Satisfaction.{Soft}
+
+abbrev pub soft_of : Group → Soft
+soft_of group = (group.selector, group.weight)
+
+-- Entry n - 1 is the selector of the group that has the written number n, with its weight, and an entry of weight 0 where
+-- there is none; the groups stand by ascending numbers, and the first entry is that of a number.
+abbrev pub softs_from : ℕ → List Group → List Soft
+softs_from number [] = []
+softs_from number (group ∷ groups) =
+    replicate (group.number - number) (group.selector, 0) ++ soft_of group ∷ softs_from (group.number + 1) groups
+
+abbrev pub softs_of : List Group → List Soft
+softs_of groups = softs_from 1 groups

@@ -1,0 +1,4 @@
+pub mod Spreading
+pub mod Members
+pub mod Relaxing
+pub mod Composing
