@@ -1,0 +1,167 @@
+-- Each End step is allowed where the search ends, and says what was found.
+
+use Rattle.std.proofs.Common.{◌≡◌, ℕ, suc, zero, ◌+◌, ◌-◌, ◌^◌, ◌<◌, ◌≤◌, ◌==◌, Bool, true, false, not, ltb, eqb, nat_eq, Option, None, Some, List, [], ◌∷◌, length, map, refl, sym, ap, ◌∙◌, subst, arith}
+use Rattle.std.proofs.lemmas.Bool.{or_from, le-ltb}
+use Rattle.std.proofs.lemmas.Bool.Decides.{nat_tests}
+use Rattle.std.specs.Cmp.Lexicographic.{pointwise}
+use Rattle.std.specs.List.{list_any, IsDistinct}
+use Rattle.ba_cores.specs.Rounds.{literals_of}
+use Rattle.ba_derivations.specs.Derivations.{sets_of, verdict_of}
+use Rattle.ba_derivations.specs.Derivations as derived
+use Rattle.ba_derivations.specs.declared.verdict.FoundSet.{FoundSet}
+use Rattle.ba_derivations.specs.declared.verdict.Verdict.{Verdict}
+use Rattle.ba_derivations.specs.declared.verdict.Verdict.TheVariants.{Located, NoRepair, TooMany, Spent}
+use Rattle.ba_enum.specs.Enumerating.{HaveSame, Fits, Ends}
+use Rattle.ba_enum.specs.Leading.{IsReady}
+use Rattle.ba_enum.specs.Turning.{IsLast}
+use Rattle.ba_lits.specs.Hints.{Replay, Refutes, FollowsByHints, replay}
+use Rattle.ba_lits.specs.Literals.{Literal, negate, lit_at}
+use Rattle.ba_lits.proofs.ClauseLaws.{IsClause-more}
+use Rattle.ba_search.specs.Answers.{IsCore}
+use Rattle.ba_steps.specs.Judging.{Judge, error_if, lacks_variable, is_spent, lacks_soft, error_of_replay, are_too_many, error_of, after}
+use Rattle.ba_steps.specs.Splits.{is_soft}
+use Rattle.ba_steps.specs.States.{State, clause_at}
+use Rattle.ba_steps.specs.Sinks.{Logs, with_step}
+use Rattle.ba_steps.specs.Steps.{AreNumbers, IsFormed}
+use Rattle.ba_steps.specs.declared.step.CertStep.TheVariants.{EndLocated, EndNoRepair, EndTooMany, EndSpent}
+use Rattle.ba_steps.specs.declared.step.StepError.TheVariants.{AfterEnd, Memory, BadVariable, NotSofts, WrongCount}
+use Rattle.ba_tree.specs.Least.{AreInOrder}
+
+sets_long : (found : List FoundSet) → length (sets_of found) ≡ length found
+sets_long [] = refl
+sets_long (b ∷ bs) = ap suc (sets_long bs)
+
+left : (m n : ℕ) → m < n → eqb m n ≡ false
+left m n lt = grind (arith, nat_tests)
+
+-- THE LAST CORE
+pub last_formed : (s : State) (found : List FoundSet) (lits : List Literal) (hints : List ℕ) (back : ℕ) →
+    IsLast s found lits hints back → s.variables < 2 ^ 62 → IsFormed (EndLocated lits hints)
+last_formed s found lits hints back last few =
+    (IsClause-more s.variables (2 ^ 62 - 1) lits (omega (arith, few)) last.core.clause, last.core.numbers)
+
+none_of : (p : Literal → Bool) (xs : List Literal) → ((k : ℕ) → k < length xs → p (lit_at xs k) ≡ false) →
+    list_any p xs ≡ false
+none_of p [] each = refl
+none_of p (x ∷ xs) each =
+    or_from (p x) (list_any p xs) (each 0 (omega arith))
+    (none_of p xs (λ k lt. each (suc k) (omega (arith, lt))))
+
+no_error : (refused ended none spent lacks others : Bool) (r : Replay) → refused ≡ false → ended ≡ false →
+    none ≡ false → spent ≡ false → lacks ≡ false → others ≡ false → r ≡ Refutes →
+    error_if refused Memory (error_if ended AfterEnd (error_if none WrongCount (error_if spent WrongCount (error_if lacks BadVariable (error_if others NotSofts (error_of_replay r)))))) ≡ None
+no_error refused ended none spent lacks others r e f g h i j k = rw (e, f, g, h, i, j, k) refl
+
+pub last_allowed : (good : Judge) (s : State) (found : List FoundSet) (lits : List Literal) (hints : List ℕ) (back : ℕ) →
+    IsLast s found lits hints back → s.sets ≡ sets_of found → IsReady s →
+    error_of good s (EndLocated lits hints) ≡ None
+last_allowed good s found lits hints back last sets ready =
+    no_error s.refused s.ended (not (ltb 0 (length s.sets))) (is_spent s) (lacks_variable s lits) (lacks_soft s.softs lits) (replay (clause_at s.clauses) lits hints)
+    ready.awake ready.begun
+    (some (length s.sets) (length found) (ap (λ (ss : List (List ℕ)). length ss) sets ∙ sets_long found) last.some)
+    (left s.conflicts s.budget last.core.left)
+    (none_of (λ (l : Literal). ltb s.variables l.variable) lits
+    (λ k lt. le-ltb s.variables (lit_at lits k).variable (last.core.clause.within k lt)))
+    (none_of (λ (l : Literal). not (is_soft s.softs (negate l))) lits (λ k lt. ap not (last.core.negates k lt)))
+    last.core.follows
+  where
+    some : (m n : ℕ) → m ≡ n → 0 < n → not (ltb 0 m) ≡ false
+    some m n e lt = grind (arith, nat_tests)
+
+pub last_ends : (good : Judge) (s t : State) (found sets : List FoundSet) (lits : List Literal) (hints : List ℕ)
+    (back weight : ℕ) (l m : Logs) →
+    IsLast s found lits hints back → s.sets ≡ sets_of found → IsReady s → weight ≡ s.bound →
+    HaveSame sets found → AreInOrder (sets_of sets) → length sets ≡ length found →
+    t ≡ after s (EndLocated lits hints) → m ≡ with_step (EndLocated lits hints) l →
+    Ends good s found l (Located weight sets) t m
+last_ends good s t found sets lits hints back weight l m last are ready is same order count taken told = record {
+  last = EndLocated lits hints;
+  said = derived.Located s.bound s.sets;
+  allowed = last_allowed good s found lits hints back last are ready;
+  says = refl;
+  fits = (
+    ap (λ w. derived.Located w s.sets) (sym is) ∙ ap (λ (ss : List (List ℕ)). derived.Located weight ss) are,
+    same,
+    order,
+    let few = last.few in omega (arith, few, count),
+  );
+  taken = taken;
+  told = told;
+}
+
+-- TOO MANY
+count_error : (refused ended right : Bool) → refused ≡ false → ended ≡ false → right ≡ true →
+    error_if refused Memory (error_if ended AfterEnd (error_if (not right) WrongCount None)) ≡ None
+count_error refused ended right e f g = rw (e, f, g) refl
+
+equal : (m n : ℕ) → m ≡ n → (m == n) ≡ true
+equal m n e = grind (arith, nat_tests)
+
+pub many_allowed : (good : Judge) (s : State) (found : List FoundSet) → length found ≡ s.most_sets + 1 →
+    s.sets ≡ sets_of found → IsReady s → error_of good s EndTooMany ≡ None
+many_allowed good s found many are ready =
+    count_error s.refused s.ended (are_too_many s) ready.awake ready.begun
+    (equal (length s.sets) (s.most_sets + 1) (ap (λ (ss : List (List ℕ)). length ss) are ∙ (sets_long found ∙ many)))
+
+pub many_ends : (good : Judge) (s t : State) (found : List FoundSet) (weight : ℕ) (l m : Logs) →
+    length found ≡ s.most_sets + 1 → s.sets ≡ sets_of found → IsReady s → weight ≡ s.bound →
+    t ≡ after s EndTooMany → m ≡ with_step EndTooMany l →
+    Ends good s found l (TooMany weight found) t m
+many_ends good s t found weight l m many are ready is taken told = record {
+  last = EndTooMany;
+  said = derived.TooMany s.bound s.sets;
+  allowed = many_allowed good s found many are ready;
+  says = refl;
+  fits = (
+    ap (λ w. derived.TooMany w s.sets) (sym is) ∙ ap (λ (ss : List (List ℕ)). derived.TooMany weight ss) are,
+    refl,
+  );
+  taken = taken;
+  told = told;
+}
+
+-- SPENT
+pub spent_allowed : (good : Judge) (s : State) → s.conflicts ≡ s.budget → IsReady s → error_of good s EndSpent ≡ None
+spent_allowed good s spent ready =
+    count_error s.refused s.ended (is_spent s) ready.awake ready.begun (equal s.conflicts s.budget spent)
+
+pub spent_ends : (good : Judge) (s t : State) (found : List FoundSet) (l m : Logs) → s.conflicts ≡ s.budget → IsReady s →
+    t ≡ after s EndSpent → m ≡ with_step EndSpent l → Ends good s found l Spent t m
+spent_ends good s t found l m spent ready taken told = record {
+  last = EndSpent;
+  said = derived.Spent;
+  allowed = spent_allowed good s spent ready;
+  says = refl;
+  fits = refl;
+  taken = taken;
+  told = told;
+}
+
+-- NO MODEL
+model_error : (refused ended some spent : Bool) (r : Replay) → refused ≡ false → ended ≡ false → some ≡ false →
+    spent ≡ false → r ≡ Refutes →
+    error_if refused Memory (error_if ended AfterEnd (error_if some WrongCount (error_if spent WrongCount (error_of_replay r)))) ≡ None
+model_error refused ended some spent r e f g h i = rw (e, f, g, h, i) refl
+
+pub none_allowed : (good : Judge) (s : State) (found : List FoundSet) (hints : List ℕ) →
+    FollowsByHints (clause_at s.clauses) [] hints → s.conflicts < s.budget → found ≡ [] → s.sets ≡ sets_of found →
+    IsReady s → error_of good s (EndNoRepair hints) ≡ None
+none_allowed good s found hints follows more none are ready =
+    model_error s.refused s.ended (ltb 0 (length s.sets)) (is_spent s) (replay (clause_at s.clauses) [] hints)
+    ready.awake ready.begun
+    (ap (λ (ss : List (List ℕ)). ltb 0 (length ss)) are ∙ ap (λ (fs : List FoundSet). ltb 0 (length (sets_of fs))) none)
+    (left s.conflicts s.budget more) follows
+
+pub none_ends : (good : Judge) (s t : State) (found : List FoundSet) (hints : List ℕ) (l m : Logs) →
+    FollowsByHints (clause_at s.clauses) [] hints → s.conflicts < s.budget → found ≡ [] → s.sets ≡ sets_of found →
+    IsReady s → t ≡ after s (EndNoRepair hints) → m ≡ with_step (EndNoRepair hints) l →
+    Ends good s found l NoRepair t m
+none_ends good s t found hints l m follows more none are ready taken told = record {
+  last = EndNoRepair hints;
+  said = derived.NoRepair;
+  allowed = none_allowed good s found hints follows more none are ready;
+  says = refl;
+  fits = refl;
+  taken = taken;
+  told = told;
+}

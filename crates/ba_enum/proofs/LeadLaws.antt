@@ -1,0 +1,218 @@
+-- Steps put end to end, and what they leave as it was.
+
+use Rattle.std.proofs.Common.{◌≡◌, ℕ, ◌+◌, ◌≤◌, Bool, Option, None, Some, List, [], ◌∷◌, ◌++◌, All, length, refl, sym, ap, ◌∙◌, arith, subst}
+use Rattle.std.proofs.lemmas.List.{append-nil}
+use Rattle.std.proofs.lemmas.List.Elements.{All-nil, All-cons, All-append, All-map}
+use Rattle.std.proofs.lemmas.Option.{same_Some}
+use Rattle.ba_lits.specs.Literals.{Literal}
+use Rattle.ba_lits.specs.Satisfaction.{Soft}
+use Rattle.ba_lits.specs.Formulas.{Cnf}
+use Rattle.ba_steps.specs.States.{State, first_state}
+use Rattle.ba_steps.specs.Judging.{Judge, error_of, after, after_all, next_if}
+use Rattle.ba_steps.specs.Facts.{IsStart, Holds, splits_of}
+use Rattle.ba_steps.specs.Sinks.{Logs, with_step, MayAddStep}
+use Rattle.ba_steps.specs.Puts.{IsTakenOrAsleep, with_steps, leaves_all, leaves_last}
+use Rattle.ba_steps.specs.Steps.{IsFormed}
+use Rattle.ba_steps.specs.declared.step.CertStep.{CertStep}
+use Rattle.ba_steps.specs.declared.step.CertStep.TheVariants.{Learn, Core, Delete, Block, EndLocated, EndNoRepair, EndTooMany, EndSpent}
+use Rattle.ba_steps.specs.declared.step.StepError.{StepError}
+use Rattle.ba_steps.proofs.FactLaws.{facts_hold}
+use Rattle.ba_steps.proofs.PutLaws.{logs_then, leaves_weaker, leaves_after}
+use Rattle.ba_derivations.specs.Derivations.{blocked_by, sets_of, with_block}
+use Rattle.ba_derivations.specs.Encodings.{HasModelFor}
+use Rattle.ba_derivations.specs.declared.verdict.FoundSet.{FoundSet}
+use Rattle.ba_derivations.proofs.StepLaws.{step_allowed, limits_stay, sets_gathered, blocked_append}
+use Rattle.ba_enum.specs.Leading.{IsNewIn, AreNew, Leads, IsReached, Puts, Leaves}
+
+next_allowed : (o : Option StepError) (next : Option State) (t : State) → o ≡ None → next ≡ Some t →
+    next_if o next ≡ Some t
+next_allowed None next t none is = is
+next_allowed (Some e) next t none is = absurd (cc none)
+
+-- one after the other
+pub after_append : (good : Judge) (xs ys : List CertStep) (a b c : State) → after_all good a xs ≡ Some b →
+    after_all good b ys ≡ Some c → after_all good a (xs ++ ys) ≡ Some c
+after_append good [] ys a b c first second =
+    let e : b ≡ a = sym (same_Some a b first) in
+    let P : State → Type 0 = λ s. after_all good s ys ≡ Some c in
+    subst P e second
+after_append good (x ∷ xs) ys a b c first second =
+    let parts = step_allowed (error_of good a x) (after_all good (after a x) xs) b first in
+    next_allowed (error_of good a x) (after_all good (after a x) (xs ++ ys)) c parts.0 (after_append good xs ys (after a x) b c parts.1 second)
+
+pub one_after : (good : Judge) (s t : State) (step : CertStep) → error_of good s step ≡ None → t ≡ after s step →
+    after_all good s (step ∷ []) ≡ Some t
+one_after good s t step allowed taken =
+    next_allowed (error_of good s step) (Some (after s step)) t allowed (ap Some (sym taken))
+
+pub news_append : (good : Judge) (xs ys : List CertStep) (a b : State) → after_all good a xs ≡ Some b →
+    AreNew a xs → AreNew b ys → AreNew a (xs ++ ys)
+news_append good [] ys a b is first second =
+    let e : b ≡ a = sym (same_Some a b is) in
+    let P : State → Type 0 = λ s. AreNew s ys in
+    subst P e second
+news_append good (x ∷ xs) ys a b is first second =
+    let parts = step_allowed (error_of good a x) (after_all good (after a x) xs) b is in
+    (first.0, news_append good xs ys (after a x) b parts.1 first.1 second)
+
+sets_append : (xs ys : List FoundSet) → sets_of (xs ++ ys) ≡ sets_of xs ++ sets_of ys
+sets_append [] ys = refl
+sets_append (x ∷ xs) ys = ap (λ zs. x.groups ∷ zs) (sets_append xs ys)
+
+pub leads_none : (good : Judge) (formula : Cnf) (softs : List Soft) (s : State) → Leads good formula softs s [] s []
+leads_none good formula softs s = record {
+  formed = All-nil IsFormed;
+  reaches = refl;
+  news = tt;
+  blocks = refl;
+  models = All-nil (HasModelFor formula softs);
+}
+
+pub leads_append : {good : Judge} {formula : Cnf} {softs : List Soft} {a b : State} {xs : List CertStep}
+    {found : List FoundSet} → Leads good formula softs a xs b found →
+    (c : State) (ys : List CertStep) (more : List FoundSet) → Leads good formula softs b ys c more →
+    Leads good formula softs a (xs ++ ys) c (found ++ more)
+leads_append {good} {formula} {softs} {a} {b} {xs} {found} first c ys more second = record {
+  formed = All-append IsFormed xs ys first.formed second.formed;
+  reaches = after_append good xs ys a b c first.reaches second.reaches;
+  news = news_append good xs ys a b first.reaches first.news second.news;
+  blocks = blocked_append xs ys ∙ (ap (λ zs. zs ++ blocked_by ys) first.blocks ∙ ap (λ zs. found ++ zs) second.blocks);
+  models = let P : List (List ℕ) → Type 0 = All (HasModelFor formula softs) in
+      subst P (sym (sets_append found more))
+      (All-append (HasModelFor formula softs) (sets_of found) (sets_of more) first.models second.models);
+}
+
+-- WHAT IS REACHED
+pub reached_start : (good : Judge) (formula : Cnf) (softs : List Soft) (s : State) (conflicts sets : ℕ) →
+    IsStart formula softs → s ≡ first_state formula softs conflicts sets → IsReached good formula softs s []
+reached_start good formula softs s conflicts sets start same =
+    let P : State → Type 0 = λ t. IsReached good formula softs t [] in
+    subst P (sym same) (record {
+      start = start;
+      conflicts = conflicts;
+      most_sets = sets;
+      steps = [];
+      leads = leads_none good formula softs (first_state formula softs conflicts sets);
+    })
+
+pub reached_on : {good : Judge} {formula : Cnf} {softs : List Soft} {a : State} {found : List FoundSet} →
+    IsReached good formula softs a found → (b : State) (xs : List CertStep) (more : List FoundSet) →
+    Leads good formula softs a xs b more → IsReached good formula softs b (found ++ more)
+reached_on r b xs more leads = record {
+  start = r.start;
+  conflicts = r.conflicts;
+  most_sets = r.most_sets;
+  steps = r.steps ++ xs;
+  leads = leads_append r.leads b xs more leads;
+}
+
+pub reached_facts : (good : Judge) (formula : Cnf) (softs : List Soft) (s : State) (found : List FoundSet)
+    (r : IsReached good formula softs s found) →
+    Holds good formula softs (splits_of (first_state formula softs r.conflicts r.most_sets) r.steps) s
+reached_facts good formula softs s found r =
+    facts_hold good formula softs r.conflicts r.most_sets r.start r.steps r.leads.formed s r.leads.reaches
+
+-- the blocked sets are those found
+pub reached_sets : {good : Judge} {formula : Cnf} {softs : List Soft} {s : State} {found : List FoundSet} →
+    IsReached good formula softs s found → s.sets ≡ sets_of found
+reached_sets {good} {formula} {softs} {s} r =
+    sets_gathered good (first_state formula softs r.conflicts r.most_sets) r.steps s r.leads.reaches
+    ∙ ap sets_of r.leads.blocks
+
+-- the groups stay
+step_groups : (s : State) (step : CertStep) → (after s step).groups ≡ s.groups
+step_groups s (Learn lits hints) = refl
+step_groups s (Core lits hints) = refl
+step_groups s (Delete clauses) = refl
+step_groups s (Block groups run) = refl
+step_groups s (EndLocated lits hints) = refl
+step_groups s (EndNoRepair hints) = refl
+step_groups s EndTooMany = refl
+step_groups s EndSpent = refl
+
+groups_stay : (good : Judge) (a : State) (xs : List CertStep) (b : State) → after_all good a xs ≡ Some b →
+    b.groups ≡ a.groups
+groups_stay good a [] b is = sym (ap (λ (s : State). s.groups) (same_Some a b is))
+groups_stay good a (x ∷ xs) b is =
+    let parts = step_allowed (error_of good a x) (after_all good (after a x) xs) b is in
+    groups_stay good (after a x) xs b parts.1 ∙ step_groups a x
+
+pub reached_groups : {good : Judge} {formula : Cnf} {softs : List Soft} {s : State} {found : List FoundSet} →
+    IsReached good formula softs s found → s.groups ≡ softs
+reached_groups {good} {formula} {softs} {s} r =
+    groups_stay good (first_state formula softs r.conflicts r.most_sets) r.steps s r.leads.reaches
+
+-- no variable goes
+step_wider : (s : State) (step : CertStep) → s.variables ≤ (after s step).variables
+step_wider s (Learn lits hints) = omega arith
+step_wider s (Core lits hints) = omega arith
+step_wider s (Delete clauses) = omega arith
+step_wider s (Block groups run) = omega arith
+step_wider s (EndLocated lits hints) = omega arith
+step_wider s (EndNoRepair hints) = omega arith
+step_wider s EndTooMany = omega arith
+step_wider s EndSpent = omega arith
+
+wider : (good : Judge) (a : State) (xs : List CertStep) (b : State) → after_all good a xs ≡ Some b →
+    a.variables ≤ b.variables
+wider good a [] b is = let same = ap (λ (s : State). s.variables) (same_Some a b is) in omega (arith, same)
+wider good a (x ∷ xs) b is =
+    let parts = step_allowed (error_of good a x) (after_all good (after a x) xs) b is in
+    let one = step_wider a x in
+    let rest = wider good (after a x) xs b parts.1 in
+    omega (arith, one, rest)
+
+pub reached_wide : {good : Judge} {formula : Cnf} {softs : List Soft} {s : State} {found : List FoundSet} →
+    IsReached good formula softs s found → formula.variables ≤ s.variables
+reached_wide {good} {formula} {softs} {s} r =
+    wider good (first_state formula softs r.conflicts r.most_sets) r.steps s r.leads.reaches
+
+-- STEPS THAT WERE PUT
+pub puts_none : (good : Judge) (formula : Cnf) (softs : List Soft) (s : State) (logs : Logs) →
+    Puts good formula softs s s [] logs logs
+puts_none good formula softs s logs = record { steps = []; leads = leads_none good formula softs s; logs = refl }
+
+pub puts_on : (good : Judge) (formula : Cnf) (softs : List Soft) (a b c : State) (found more : List FoundSet)
+    (l m n : Logs) →
+    Puts good formula softs a b found l m → Puts good formula softs b c more m n →
+    Puts good formula softs a c (found ++ more) l n
+puts_on good formula softs a b c found more l m n p q = record {
+  steps = p.steps ++ q.steps;
+  leads = leads_append p.leads c q.steps more q.leads;
+  logs = logs_then p.steps q.steps l m n p.logs q.logs;
+}
+
+-- the same with a judge that is the same
+pub puts_as : (good same : Judge) (formula : Cnf) (softs : List Soft) (a b : State) (found : List FoundSet)
+    (l m : Logs) → good ≡ same →
+    Puts good formula softs a b found l m → Puts same formula softs a b found l m
+puts_as good same formula softs a b found l m is p =
+    let P : Judge → Type 0 = λ g. Puts g formula softs a b found l m in subst P is p
+
+pub puts_most : (good : Judge) (formula : Cnf) (softs : List Soft) (a b : State) (found : List FoundSet) (l m : Logs) →
+    Puts good formula softs a b found l m → b.most_sets ≡ a.most_sets
+puts_most good formula softs a b found l m p = (limits_stay good a p.steps b p.leads.reaches).most_sets
+
+-- WHAT IS LEFT
+pub leaves_none : (good : Judge) (s : State) (logs : Logs) → Leaves good s logs s logs
+leaves_none good s logs = leaves_all [] refl refl
+
+pub leaves_put : (good : Judge) (formula : Cnf) (softs : List Soft) (a b : State) (found : List FoundSet) (l m : Logs) →
+    Puts good formula softs a b found l m → Leaves good a l b m
+leaves_put good formula softs a b found l m p = leaves_all p.steps p.leads.reaches p.logs
+
+pub leaves_one : (good : Judge) (s t : State) (step : CertStep) (l m : Logs) → error_of good s step ≡ None →
+    t ≡ after s step → m ≡ with_step step l → Leaves good s l t m
+leaves_one good s t step l m allowed taken told = leaves_all (step ∷ []) (one_after good s t step allowed taken) told
+
+pub leaves_tried : (good : Judge) (s t : State) (step : CertStep) (l m : Logs) → error_of good s step ≡ None →
+    IsTakenOrAsleep s step t → MayAddStep step l m → Leaves good s l t m
+leaves_tried good s t step l m allowed taken told =
+    leaves_last [] step s refl (one_after good s (after s step) step allowed refl) taken told
+
+pub leaves_on : (good same : Judge) (formula : Cnf) (softs : List Soft) (a b c : State) (found : List FoundSet)
+    (l m n : Logs) → same ≡ good →
+    Puts good formula softs a b found l m → Leaves same b m c n → Leaves good a l c n
+leaves_on good same formula softs a b c found l m n is p left =
+    let P : Judge → Type 0 = λ g. Leaves g b m c n in
+    leaves_after p.steps c l m n p.logs (λ steps t d. after_append good p.steps steps a b t p.leads.reaches d) (subst P is left)

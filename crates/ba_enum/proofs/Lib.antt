@@ -1,0 +1,11 @@
+pub mod LeadLaws
+pub mod GroupLaws
+pub mod NextLaws
+pub mod RangeLaws
+pub mod BlockLaws
+pub mod EndLaws
+pub mod VerdictLaws
+pub mod OrderLaws
+pub mod SearchLaws
+pub mod TurnLaws
+pub mod EndingLaws

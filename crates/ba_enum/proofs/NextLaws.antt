@@ -1,0 +1,94 @@
+-- The next model.
+
+use Rattle.std.proofs.Common.{◌≡◌, ℕ, suc, zero, ◌+◌, ◌<◌, ◌≤◌, Bool, true, false, cond, Some, List, [], ◌∷◌, length, get_or, All, refl, sym, ap, ◌∙◌, subst, arith}
+use Rattle.std.proofs.lemmas.Bool.{and_from}
+use Rattle.std.proofs.lemmas.List.Elements.{All-head, All-tail}
+use Rattle.ba_lits.specs.Literals.{Literal}
+use Rattle.ba_lits.specs.Satisfaction.{Assignment, lit_true, any_true, all_true, assignment_of, Soft, cost}
+use Rattle.ba_lits.specs.Formulas.{Cnf}
+use Rattle.ba_lits.proofs.Satisfied.{cost-agree}
+use Rattle.ba_steps.specs.States.{Kept, State, clause_at, present, first_state}
+use Rattle.ba_steps.specs.Judging.{Judge}
+use Rattle.ba_steps.specs.Facts.{IsLive, Holds, splits_of}
+use Rattle.ba_steps.specs.Blocks.{block_clauses}
+use Rattle.ba_steps.proofs.FactLaws.{among-below}
+use Rattle.ba_search.specs.Answers.{IsModel}
+use Rattle.ba_cores.specs.Rounds.{literals_of}
+use Rattle.ba_cores.specs.Findings.{IsLeast}
+use Rattle.ba_derivations.specs.declared.verdict.FoundSet.{FoundSet}
+use Rattle.ba_enum.specs.Leading.{IsReached, IsNext}
+use Rattle.ba_enum.proofs.LeadLaws.{reached_facts}
+
+-- clauses hold where each does
+all_of_each : (v : Assignment) (cs : List (List Literal)) →
+    ((k : ℕ) → k < length cs → any_true v (get_or cs k []) ≡ true) → all_true v cs ≡ true
+all_of_each v [] each = refl
+all_of_each v (c ∷ cs) each =
+    and_from (any_true v c) (all_true v cs) (each 0 (omega arith))
+    (all_of_each v cs (λ k lt. each (suc k) (omega (arith, lt))))
+
+all_of_live : (v : Assignment) (kept : List Kept) →
+    ((number : ℕ) (c : List Literal) → clause_at kept number ≡ Some c → any_true v c ≡ true) →
+    (cs : List (List Literal)) → All (IsLive kept) cs → all_true v cs ≡ true
+all_of_live v kept holds [] all = refl
+all_of_live v kept holds (c ∷ cs) all =
+    let (number, is) = All-head (IsLive kept) c cs all in
+    and_from (any_true v c) (all_true v cs) (holds number c is)
+    (all_of_live v kept holds cs (All-tail (IsLive kept) c cs all))
+
+-- soft literals that are all true cost nothing
+cost_of_true : (v : Assignment) (softs : List Soft) → All (λ l. lit_true v l ≡ true) (literals_of softs) →
+    cost v softs ≡ 0
+cost_of_true v [] all = refl
+cost_of_true v (s ∷ ss) all =
+    let first : lit_true v s.0 ≡ true = All-head (λ l. lit_true v l ≡ true) s.0 (literals_of ss) all in
+    let rest : cost v ss ≡ 0 = cost_of_true v ss (All-tail (λ l. lit_true v l ≡ true) s.0 (literals_of ss) all) in
+    ap (λ b. cond b 0 s.1 + cost v ss) first ∙ (omega (arith, rest))
+
+-- from the facts: a model of all live clauses and present soft literals costs the bound
+next_of_facts : (good : Judge) (formula : Cnf) (softs : List Soft) (splits : List (List Literal)) (s : State)
+    (values : List Bool) →
+    Holds good formula softs splits s → IsModel s (literals_of s.softs) values → IsNext formula softs s values
+next_of_facts good formula softs splits s values h m = record {
+  all = m.all;
+  satisfies = given;
+  unblocked = unblocked;
+  costs = costs;
+}
+  where
+    v : Assignment
+    v = assignment_of values
+
+    given : all_true v formula.clauses ≡ true
+    given = all_of_each v formula.clauses (λ k lt. m.clauses (k + 1) (get_or formula.clauses k []) (h.given_live k lt))
+
+    unblocked : all_true v (block_clauses softs s.sets) ≡ true
+    unblocked = all_of_live v s.clauses m.clauses (block_clauses softs s.sets) h.sets_live
+
+    splits_true : all_true v splits ≡ true
+    splits_true = all_of_live v s.clauses m.clauses splits h.splits_live
+
+    costs : cost v (present softs) ≡ s.bound
+    costs =
+        let (z, same, split, lives, is) = h.extends v given unblocked in
+        let agree : cost v s.softs ≡ cost z s.softs = cost-agree (s.variables + 1) v z s.softs (h.alone v z same splits_true split) (among-below s.variables s.softs h.among) in
+        let none : cost v s.softs ≡ 0 = cost_of_true v s.softs m.assumed in
+        omega (arith, is, agree, none)
+
+pub next_of_model : (good : Judge) (formula : Cnf) (softs : List Soft) (s : State) (found : List FoundSet)
+    (values : List Bool) →
+    IsReached good formula softs s found → IsModel s (literals_of s.softs) values → IsNext formula softs s values
+next_of_model good formula softs s found values r m =
+    next_of_facts good formula softs (splits_of (first_state formula softs r.conflicts r.most_sets) r.steps) s values
+    (reached_facts good formula softs s found r) m
+
+-- the first one
+pub next_of_least : (formula : Cnf) (softs : List Soft) (s : State) (weight : ℕ) (values : List Bool) →
+    weight ≡ s.bound → length values ≡ s.variables → IsLeast formula softs weight values → s.sets ≡ [] →
+    IsNext formula softs s values
+next_of_least formula softs s weight values is all least none = record {
+  all = all;
+  satisfies = least.satisfies;
+  unblocked = ap (λ sets. all_true (assignment_of values) (block_clauses softs sets)) none;
+  costs = least.costs ∙ is;
+}

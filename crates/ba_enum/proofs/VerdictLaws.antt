@@ -1,0 +1,143 @@
+-- The steps that lead to the end and the End step say the verdict.
+
+use Rattle.std.proofs.Common.{◌≡◌, ℕ, ◌≤◌, true, false, ltb, None, Some, List, [], ◌∷◌, ◌++◌, All, length, refl, sym, ap, ◌∙◌, subst, arith}
+use Rattle.std.proofs.lemmas.Bool.Decides.{nat_tests}
+use Rattle.std.proofs.lemmas.List.{append-nil}
+use Rattle.ba_derivations.specs.Derivations.{Problem, Derives, start_of, verdict_of, blocked_by, sets_of}
+use Rattle.ba_derivations.specs.Derivations as derived
+use Rattle.ba_derivations.specs.Encodings.{HasModelFor}
+use Rattle.ba_derivations.specs.declared.verdict.FoundSet.{FoundSet}
+use Rattle.ba_derivations.specs.declared.verdict.Verdict.{Verdict}
+use Rattle.ba_derivations.specs.declared.verdict.Verdict.TheVariants.{Located, NoRepair, TooMany, Spent}
+use Rattle.ba_derivations.proofs.StepLaws.{before_end, blocked_append, limits_stay}
+use Rattle.ba_enum.specs.Enumerating.{HaveSame, Says, Enumerates, Fits, Ends, Finishes}
+use Rattle.ba_enum.specs.Leading.{IsNewIn, AreNew, Leads, IsReached, Puts}
+use Rattle.ba_enum.proofs.LeadLaws.{after_append, one_after, news_append, reached_facts}
+use Rattle.ba_lits.specs.Formulas.{Cnf}
+use Rattle.ba_lits.specs.Satisfaction.{Assignment, all_true, Soft}
+use Rattle.ba_steps.specs.Judging.{Judge, error_if, is_spent, hint_error, error_of, after, after_all}
+use Rattle.ba_steps.specs.Blocks.{block_clauses}
+use Rattle.ba_steps.specs.Facts.{IsStart}
+use Rattle.ba_steps.specs.Puts.{with_steps}
+use Rattle.ba_steps.specs.Sinks.{Logs, with_step}
+use Rattle.ba_steps.specs.States.{State}
+use Rattle.ba_steps.specs.declared.step.CertStep.{CertStep}
+use Rattle.ba_steps.specs.declared.step.CertStep.TheVariants.{Learn, Core, Delete, Block, EndLocated, EndNoRepair, EndTooMany, EndSpent}
+use Rattle.ba_steps.specs.declared.step.StepError.TheVariants.{WrongCount}
+use Rattle.ba_steps.proofs.FactLaws.{no_error, follows_true}
+use Rattle.ba_steps.proofs.PutLaws.{logs_then}
+
+-- an End step blocks nothing, and learns nothing
+ends_block : (s : State) (last : CertStep) (said : derived.Verdict) → verdict_of s last ≡ Some said →
+    blocked_by (last ∷ []) ≡ []
+ends_block s (Learn lits hints) said is = absurd (cc is)
+ends_block s (Core lits hints) said is = absurd (cc is)
+ends_block s (Delete clauses) said is = absurd (cc is)
+ends_block s (Block groups run) said is = absurd (cc is)
+ends_block s (EndLocated lits hints) said is = refl
+ends_block s (EndNoRepair hints) said is = refl
+ends_block s EndTooMany said is = refl
+ends_block s EndSpent said is = refl
+
+ends_new : (s : State) (last : CertStep) (said : derived.Verdict) → verdict_of s last ≡ Some said → IsNewIn s last
+ends_new s (Learn lits hints) said is = absurd (cc is)
+ends_new s (Core lits hints) said is = tt
+ends_new s (Delete clauses) said is = tt
+ends_new s (Block groups run) said is = tt
+ends_new s (EndLocated lits hints) said is = tt
+ends_new s (EndNoRepair hints) said is = tt
+ends_new s EndTooMany said is = tt
+ends_new s EndSpent said is = tt
+
+-- WHERE THERE IS NO REPAIR there is no model
+none_blocked : (sets : List (List ℕ)) → ltb 0 (length sets) ≡ false → sets ≡ []
+none_blocked [] none = refl
+none_blocked (x ∷ xs) none = absurd (grind (arith, nat_tests))
+
+no_model : (good : Judge) (formula : Cnf) (softs : List Soft) (s : State) (found : List FoundSet) →
+    IsReached good formula softs s found → (last : CertStep) → error_of good s last ≡ None →
+    verdict_of s last ≡ Some derived.NoRepair → (v : Assignment) → all_true v formula.clauses ≡ true → ⊥
+no_model good formula softs s found reached (Learn lits hints) allowed says v holds = cc says
+no_model good formula softs s found reached (Core lits hints) allowed says v holds = cc says
+no_model good formula softs s found reached (Delete clauses) allowed says v holds = cc says
+no_model good formula softs s found reached (Block groups run) allowed says v holds = cc says
+no_model good formula softs s found reached (EndLocated lits hints) allowed says v holds = cc says
+no_model good formula softs s found reached (EndNoRepair hints) allowed says v holds =
+    let rest = error_if (is_spent s) WrongCount (hint_error s [] hints) in
+    let first = no_error (ltb 0 (length s.sets)) WrongCount rest (before_end good s (EndNoRepair hints) allowed) in
+    let second = no_error (is_spent s) WrongCount (hint_error s [] hints) first.1 in
+    let none : all_true v (block_clauses softs s.sets) ≡ true =
+    ap (λ (sets : List (List ℕ)). all_true v (block_clauses softs sets)) (none_blocked s.sets first.0) in
+    let (z, same, split, lives, is) = (reached_facts good formula softs s found reached).extends v holds none in
+    let e : false ≡ true = follows_true s z [] hints second.1 lives in
+    cc e
+no_model good formula softs s found reached EndTooMany allowed says v holds = cc says
+no_model good formula softs s found reached EndSpent allowed says v holds = cc says
+
+says_of : (p : Problem) (s : State) (found : List FoundSet) (steps : List CertStep) (verdict : Verdict) (said : derived.Verdict) →
+    Derives p steps said → Fits s found verdict said → s.most_sets ≡ p.most_sets → blocked_by steps ≡ found →
+    (said ≡ derived.NoRepair → (v : Assignment) → all_true v p.formula.clauses ≡ true → ⊥) → Says p steps verdict
+says_of p s found steps (Located weight sets) said derives fits most blocked none = (
+  let P : derived.Verdict → Type 0 = λ v. Derives p steps v in
+      subst P (fits.0 ∙ ap (λ (fs : List FoundSet). derived.Located weight (sets_of fs)) (sym blocked)) derives,
+  let P : List FoundSet → Type 0 = λ fs. HaveSame sets fs in subst P (sym blocked) fits.1,
+  fits.2,
+  let P : ℕ → Type 0 = λ n. length sets ≤ n in subst P most fits.3,
+)
+says_of p s found steps NoRepair said derives fits most blocked none =
+    (let P : derived.Verdict → Type 0 = λ v. Derives p steps v in subst P fits derives, none fits)
+says_of p s found steps (TooMany weight sets) said derives fits most blocked none = (
+  let P : derived.Verdict → Type 0 = λ v. Derives p steps v in subst P fits.0 derives,
+  fits.1 ∙ sym blocked,
+)
+says_of p s found steps Spent said derives fits most blocked none =
+    let P : derived.Verdict → Type 0 = λ v. Derives p steps v in subst P fits derives
+
+-- from the start: sets are blocked, and an End step is put
+pub enumerates : (p : Problem) (start s t : State) (found : List FoundSet) (k l m : Logs) (verdict : Verdict) →
+    IsStart p.formula p.softs → start ≡ start_of p → Puts p.good p.formula p.softs start s found k l →
+    Ends p.good s found l verdict t m → Enumerates p k verdict t m
+enumerates p start s t found k l m verdict clauses same puts ends =
+    let P : State → Type 0 = λ u. Puts p.good p.formula p.softs u s found k l in from_start (subst P same puts)
+  where
+    from_start : Puts p.good p.formula p.softs (start_of p) s found k l → Enumerates p k verdict t m
+    from_start q = record {
+      steps = q.steps ++ ends.last ∷ [];
+      logs = logs_then q.steps (ends.last ∷ []) k l m q.logs ends.told;
+      reaches = after_append p.good q.steps (ends.last ∷ []) (start_of p) s t q.leads.reaches
+          (one_after p.good s t ends.last ends.allowed ends.taken);
+      news = news_append p.good q.steps (ends.last ∷ []) (start_of p) s q.leads.reaches q.leads.news
+          (ends_new s ends.last ends.said ends.says, tt);
+      models = let P : List FoundSet → Type 0 = λ fs. All (HasModelFor p.formula p.softs) (sets_of fs) in
+          subst P (sym blocked) q.leads.models;
+      says = says_of p s found (q.steps ++ ends.last ∷ []) verdict ends.said derives ends.fits
+          ((limits_stay p.good (start_of p) q.steps s q.leads.reaches).most_sets) blocked
+          (λ said v. no_model p.good p.formula p.softs s found reached ends.last ends.allowed (ends.says ∙ ap Some said) v);
+    }
+      where
+        reached : IsReached p.good p.formula p.softs s found
+        reached = record {
+          start = clauses;
+          conflicts = p.conflicts;
+          most_sets = p.most_sets;
+          steps = q.steps;
+          leads = q.leads;
+        }
+
+        blocked : blocked_by (q.steps ++ ends.last ∷ []) ≡ found
+        blocked =
+            blocked_append q.steps (ends.last ∷ [])
+            ∙ (ap (λ fs. blocked_by q.steps ++ fs) (ends_block s ends.last ends.said ends.says)
+            ∙ (append-nil (blocked_by q.steps) ∙ q.leads.blocks))
+
+        derives : Derives p (q.steps ++ ends.last ∷ []) ends.said
+        derives = record {
+          front = q.steps;
+          last = ends.last;
+          steps_are = refl;
+          formed = q.leads.formed;
+          state = s;
+          leads = q.leads.reaches;
+          ends = ends.allowed;
+          says = ends.says;
+        }

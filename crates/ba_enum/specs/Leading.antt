@@ -1,0 +1,89 @@
+-- Steps that lead from one state of a checker to another, and the sets that they block.
+
+use Rattle.std.specs.Prelude.{◌≡◌, ℕ, Bool, true, false, Some, List, [], ◌∷◌, ◌++◌, length, All}
+use Rattle.ba_derivations.specs.Derivations.{blocked_by, sets_of}
+use Rattle.ba_derivations.specs.Encodings.{HasModelFor}
+use Rattle.ba_derivations.specs.declared.verdict.FoundSet.{FoundSet}
+use Rattle.ba_learn.specs.Live.{IsNew}
+use Rattle.ba_lits.specs.Formulas.{Cnf}
+use Rattle.ba_lits.specs.Satisfaction.{all_true, assignment_of, Soft, cost}
+use Rattle.ba_steps.specs.Blocks.{block_clauses}
+use Rattle.ba_steps.specs.Facts.{IsStart}
+use Rattle.ba_steps.specs.Judging.{Judge, after, after_all, after_block}
+use Rattle.ba_steps.specs.Puts.{PutsSteps, LeavesSteps}
+use Rattle.ba_steps.specs.Sinks.{Logs}
+use Rattle.ba_steps.specs.States.{State, clause_at, first_state, present}
+use Rattle.ba_steps.specs.Steps.{IsFormed}
+use Rattle.ba_steps.specs.declared.step.CertStep.{CertStep}
+use Rattle.ba_steps.specs.declared.step.CertStep.TheVariants.{Learn, Core, Delete, Block, EndLocated, EndNoRepair, EndTooMany, EndSpent}
+
+-- the clause of a Learn step is new to propagation for the clauses that are live in the state
+abbrev pub IsNewIn : State → CertStep → Type 0
+IsNewIn s (Learn lits hints) = IsNew (clause_at s.clauses) lits
+IsNewIn s (Core lits hints) = Unit {0}
+IsNewIn s (Delete clauses) = Unit {0}
+IsNewIn s (Block groups run) = Unit {0}
+IsNewIn s (EndLocated lits hints) = Unit {0}
+IsNewIn s (EndNoRepair hints) = Unit {0}
+IsNewIn s EndTooMany = Unit {0}
+IsNewIn s EndSpent = Unit {0}
+
+-- each learnt clause is new to propagation where it is learnt
+abbrev pub AreNew : State → List CertStep → Type 0
+AreNew s [] = Unit {0}
+AreNew s (step ∷ steps) = IsNewIn s step × AreNew (after s step) steps
+
+-- each step is allowed in turn, has the form that its text asks for, and learns what is new; the blocked sets are these, each
+-- that of a model of the formula
+pub record Leads (good : Judge) (formula : Cnf) (softs : List Soft) (old : State) (steps : List CertStep) (new : State)
+    (found : List FoundSet) : Type 0 where
+  pub formed : All IsFormed steps
+  pub reaches : after_all good old steps ≡ Some new
+  pub news : AreNew old steps
+  pub blocks : blocked_by steps ≡ found
+  pub models : All (HasModelFor formula softs) (sets_of found)
+
+-- the state is reached from the start, and these sets were blocked on the way
+pub record IsReached (good : Judge) (formula : Cnf) (softs : List Soft) (s : State) (found : List FoundSet) : Type 0 where
+  pub start : IsStart formula softs
+  pub conflicts : ℕ
+  pub most_sets : ℕ
+  pub steps : List CertStep
+  pub leads : Leads good formula softs (first_state formula softs conflicts most_sets) steps s found
+
+-- such steps were put
+abbrev pub Puts : Judge → Cnf → List Soft → State → State → List FoundSet → Logs → Logs → Type 0
+Puts good formula softs old new found old_logs new_logs =
+    PutsSteps (λ steps. Leads good formula softs old steps new found) old_logs new_logs
+
+-- what allowed steps leave, also after an error
+abbrev pub Leaves : Judge → State → Logs → State → Logs → Type 0
+Leaves good old old_logs new new_logs =
+    LeavesSteps (λ steps s. after_all good old steps ≡ Some s) old_logs new new_logs
+
+-- values of all variables that satisfy the formula and the clauses of all blocked sets, and cost the bound
+pub record IsNext (formula : Cnf) (softs : List Soft) (s : State) (values : List Bool) : Type 0 where
+  pub all : length values ≡ s.variables
+  pub satisfies : all_true (assignment_of values) formula.clauses ≡ true
+  pub unblocked : all_true (assignment_of values) (block_clauses softs s.sets) ≡ true
+  pub costs : cost (assignment_of values) (present softs) ≡ s.bound
+
+-- a checker that takes Block steps and End steps
+pub record IsReady (s : State) : Type 0 where
+  pub begun : s.ended ≡ false
+  pub awake : s.refused ≡ false
+
+-- a set was blocked, and added to those found
+pub record Blocks (good : Judge) (formula : Cnf) (softs : List Soft) (old new : State) (old_found new_found : List FoundSet)
+    (old_logs new_logs : Logs) : Type 0 where
+  pub set : FoundSet
+  pub puts : Puts good formula softs old new (set ∷ []) old_logs new_logs
+  pub taken : new ≡ after_block old set.groups
+  pub found : new_found ≡ old_found ++ set ∷ []
+
+-- sets were blocked, and added to those found
+pub record Adds (good : Judge) (formula : Cnf) (softs : List Soft) (old new : State) (old_found new_found : List FoundSet)
+    (old_logs new_logs : Logs) : Type 0 where
+  pub more : List FoundSet
+  pub puts : Puts good formula softs old new more old_logs new_logs
+  pub found : new_found ≡ old_found ++ more

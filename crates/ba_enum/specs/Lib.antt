@@ -1,0 +1,4 @@
+pub mod Problems
+pub mod Leading
+pub mod Enumerating
+pub mod Turning

@@ -1,0 +1,29 @@
+-- The problem that a formula with groups poses to the search, and what its models must give.
+
+use Rattle.std.specs.Prelude.{◌≡◌, ◌≢◌, ℕ, true, []}
+use Rattle.ba_derivations.specs.Derivations.{Problem}
+use Rattle.ba_derivations.specs.Encodings.{false_groups}
+use Rattle.ba_encode.specs.Readings.{choices_read}
+use Rattle.ba_encode.specs.declared.encoded.Encoded.{Encoded}
+use Rattle.ba_encode.specs.Softs.{softs_of}
+use Rattle.ba_lits.specs.Satisfaction.{Assignment, all_true}
+use Rattle.ba_steps.specs.Judging.{Judge}
+use Rattle.ba_steps.specs.States.{State}
+
+-- the problem, with as many conflicts as the checker counts, and as many sets as it allows
+abbrev pub problem_in : Encoded → Judge → State → Problem
+problem_in encoded good s = record {
+  formula = encoded.formula;
+  softs = softs_of encoded.groups;
+  good = good;
+  conflicts = s.budget;
+  most_sets = s.most_sets;
+}
+
+-- for each model of the formula some selector is false, and the choices that are read from it are good for the groups
+-- whose selectors are false
+pub record IsReadable (encoded : Encoded) (good : Judge) : Type 0 where
+  pub some : (v : Assignment) → all_true v encoded.formula.clauses ≡ true →
+      false_groups v (softs_of encoded.groups) ≢ []
+  pub good_run : (v : Assignment) → all_true v encoded.formula.clauses ≡ true →
+      good (false_groups v (softs_of encoded.groups)) (choices_read v encoded.places) ≡ true

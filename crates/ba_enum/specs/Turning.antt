@@ -1,0 +1,45 @@
+-- The turns of the search for all least sets.
+
+use Rattle.std.specs.Prelude.{◌≡◌, ℕ, ◌+◌, ◌<◌, ◌≤◌, List, [], ◌∷◌, ◌++◌, length}
+use Rattle.ba_choices.specs.declared.Choice.{Choice}
+use Rattle.ba_cores.specs.Rounds.{literals_of}
+use Rattle.ba_derivations.specs.declared.verdict.FoundSet.{FoundSet}
+use Rattle.ba_enum.specs.Leading.{IsNext}
+use Rattle.ba_enum.specs.declared.endings.End.{End}
+use Rattle.ba_enum.specs.declared.endings.End.TheVariants.{NoModel, TooMany, NoMore, Spent}
+use Rattle.ba_enum.specs.declared.turns.Next.{Next}
+use Rattle.ba_enum.specs.declared.turns.Next.TheVariants as nexts
+use Rattle.ba_lits.specs.Formulas.{Cnf}
+use Rattle.ba_lits.specs.Hints.{FollowsByHints}
+use Rattle.ba_lits.specs.Literals.{Literal}
+use Rattle.ba_lits.specs.Satisfaction.{Soft}
+use Rattle.ba_search.specs.Answers.{IsCore}
+use Rattle.ba_search.specs.declared.search.Answer.{Answer}
+use Rattle.ba_search.specs.declared.search.Answer.TheVariants as answers
+use Rattle.ba_steps.specs.States.{State, clause_at}
+use Rattle.ba_steps.specs.Steps.{AreNumbers}
+
+-- the clause of a core after which no further set is of least weight
+pub record IsLast (s : State) (found : List FoundSet) (lits : List Literal) (hints : List ℕ) (back : ℕ) : Type 0 where
+  pub core : IsCore s (literals_of s.softs) lits hints back
+  pub some : 0 < length found
+  pub few : length found ≤ s.most_sets
+
+-- why the search ends in a state in which these sets are found
+abbrev pub IsEnd : State → List FoundSet → End → Type 0
+IsEnd s found (NoModel hints) =
+    FollowsByHints (clause_at s.clauses) [] hints × AreNumbers hints × (s.conflicts < s.budget) × (found ≡ [])
+IsEnd s found TooMany = length found ≡ s.most_sets + 1
+IsEnd s found (NoMore core) = IsLast s found core.lits core.hints core.back
+IsEnd s found Spent = s.conflicts ≡ s.budget
+
+-- what the answer of a search comes to
+abbrev pub next_of : Answer → Next
+next_of (answers.Model m) = nexts.Model m
+next_of (answers.Core core) = nexts.End (NoMore core)
+next_of answers.Spent = nexts.End Spent
+
+-- what a turn comes to: a model of a further set, of which no more are found than may be listed, or the end
+abbrev pub Comes : Cnf → List Soft → State → List FoundSet → Next → Type 0
+Comes formula softs s found (nexts.Model m) = IsNext formula softs s m.values × (length found ≤ s.most_sets)
+Comes formula softs s found (nexts.End end) = IsEnd s found end

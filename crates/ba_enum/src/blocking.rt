@@ -1,0 +1,126 @@
+//! Blocking the set of a model.
+
+ghost use Rattle.std.specs.Prelude.{◌≡◌, ◌+◌, ◌<◌, ◌≤◌, true, None, length, IfOk, OnOk, Err};
+ghost use Rattle.std.specs.List.{list_all};
+ghost use Rattle.ba_derivations.specs.Encodings.{is_false_group, false_groups};
+ghost use Rattle.ba_encode.specs.Readings.{choices_read, is_in_range};
+ghost use Rattle.ba_enum.specs.Leading.{IsNext, IsReached, IsReady, Blocks, Leaves};
+ghost use Rattle.ba_enum.specs.Problems.{IsReadable};
+ghost use Rattle.ba_encode.specs.Softs.{softs_of};
+ghost use Rattle.ba_lits.specs.Satisfaction.{assignment_of};
+ghost use Rattle.ba_search.specs.declared.search.SearchError.{SearchError};
+ghost use Rattle.ba_steps.specs.Facts.{AreAmong};
+ghost use Rattle.ba_steps.specs.Sinks.{Rose};
+ghost use Rattle.ba_steps.specs.States.{present};
+
+use crate::putting::put;
+use crate::task::Task;
+use ba_derivations::FoundSet;
+use ba_encode::choices_of;
+use ba_items::{Items, TryClone};
+use ba_lits::{Lit, Model};
+use ba_search::SearchError;
+use ba_steps::{CertStep, Checked, RunJudge, StepSink};
+use std::alloc::{AllocError, Global};
+
+/// Blocks the set of a model, with the run that is read from it, and adds it to those found.
+///
+/// `SinkFailed` comes only where the sink's faults rose; `Memory` for want of memory.
+pub fn block<S, J>(
+    alloc: Global,
+    task: &Task,
+    model: &Model,
+    checked: &mut Checked<S, J>,
+    found: &mut Items<FoundSet>,
+) -> Result<(), SearchError>
+where
+    S: StepSink + Drop,
+    J: RunJudge + Drop,
+    requires readable { IsReadable task.now.encoded.now (J.accepts checked.old.judge) }
+    requires reached { IsReached (J.accepts checked.old.judge) task.now.encoded.now.formula
+        (softs_of task.now.encoded.now.groups) checked.old.checker found.old }
+    requires next { IsNext task.now.encoded.now.formula (softs_of task.now.encoded.now.groups)
+        checked.old.checker model.now.values }
+    requires ready { IsReady checked.old.checker }
+    requires fresh { checked.old.refusal ≡ None }
+    ensures blocks { OnOk result (Blocks (J.accepts checked.old.judge)
+        task.now.encoded.now.formula (softs_of task.now.encoded.now.groups) checked.old.checker
+        checked.new.checker found.old found.new (S.logs checked.old.sink) (S.logs checked.new.sink)) }
+    ensures leaves { Leaves (J.accepts checked.old.judge) checked.old.checker
+        (S.logs checked.old.sink) checked.new.checker (S.logs checked.new.sink) }
+    ensures stays_fresh { OnOk result (checked.new.refusal ≡ None) }
+    ensures cause { result ≡ Err SearchError.SinkFailed
+        → Rose (S.faults checked.old.sink) (S.faults checked.new.sink) }
+    ensures judge_stays { checked.new.judge ≡ checked.old.judge }
+    ensures over_stays { S.over checked.new.sink ≡ S.over checked.old.sink }
+    ensures no_fall { S.faults checked.old.sink ≤ S.faults checked.new.sink }
+    ensures same_references { S.references checked.new.sink ≡ S.references checked.old.sink }
+{
+    let set = found_set(alloc, task, model)?;
+    let step = CertStep::Block {
+        groups: Items::from_slice(alloc, set.groups.as_slice())?,
+        run: set.run.try_clone(alloc)?,
+    };
+    put(checked, &step)?;
+    found.push(set)?;
+    Ok(())
+}
+
+/// The set of a model, with its run.
+///
+/// The one error is want of memory.
+fn found_set(alloc: Global, task: &Task, model: &Model) -> Result<FoundSet, AllocError>
+    requires long { task.now.encoded.now.formula.variables ≤ length model.now.values }
+    requires softs { AreAmong task.now.encoded.now.formula.variables
+        (present (softs_of task.now.encoded.now.groups)) }
+    ensures groups { IfOk result (λ set. set.groups
+        ≡ false_groups (assignment_of model.now.values) (softs_of task.now.encoded.now.groups)) }
+    ensures run { IfOk result (λ set. set.run
+        ≡ choices_read (assignment_of model.now.values) task.now.encoded.now.places) }
+    ensures in_range { IfOk result (λ set. list_all is_in_range set.run ≡ true) }
+{
+    Ok(FoundSet {
+        groups: false_groups(alloc, task.softs.as_slice(), model)?,
+        run: choices_of(alloc, task.encoded, model)?,
+    })
+}
+
+/// The numbers of the groups whose selectors are false in a model, in ascending order.
+///
+/// The one error is want of memory, which a number beyond those of groups counts as.
+fn false_groups(
+    alloc: Global,
+    softs: &[(Lit, u32)],
+    model: &Model,
+) -> Result<Items<u32>, AllocError>
+    requires { AreAmong (length model.now.values) (present softs.now) }
+    ensures { IfOk result (λ groups. groups ≡ false_groups (assignment_of model.now.values) softs.now) }
+{
+    let mut groups = Items::new(alloc);
+    for (place, soft) in softs.iter().enumerate() {
+        if is_false_group(model, *soft) {
+            groups.push(number_of(place)?)?;
+        }
+    }
+    Ok(groups)
+}
+
+/// The number of the group of an entry.
+///
+/// The one error is that it is none.
+fn number_of(place: usize) -> Result<u32, AllocError>
+    ensures { IfOk result (λ number. number ≡ place + 1) }
+{
+    if place < u32::MAX as usize {
+        return Ok(place as u32 + 1);
+    }
+    Err(AllocError)
+}
+
+/// Whether an entry stands for a group whose selector is false in a model.
+fn is_false_group(model: &Model, soft: (Lit, u32)) -> bool
+    requires { 0 < soft.1 → soft.0.variable ≤ length model.now.values }
+    ensures { result ≡ is_false_group (assignment_of model.now.values) soft }
+{
+    soft.1 > 0 && model.value(soft.0.variable()) == soft.0.is_negated()
+}

@@ -1,0 +1,43 @@
+//! Putting a step.
+
+ghost use Rattle.std.specs.Prelude.{◌≡◌, ◌≤◌, false, None, OnOk, OnErr, Err};
+ghost use Rattle.ba_search.specs.declared.search.SearchError.{SearchError};
+ghost use Rattle.ba_steps.specs.Judging.{error_of, after};
+ghost use Rattle.ba_steps.specs.Puts.{IsTakenOrAsleep};
+ghost use Rattle.ba_steps.specs.Sinks.{MayAddStep, Rose, with_step};
+ghost use Rattle.ba_steps.specs.Steps.{IsFormed};
+
+use ba_search::SearchError;
+use ba_steps::{CertStep, Checked, RunJudge, StepSink};
+
+/// Puts an allowed step.
+///
+/// `SinkFailed` comes only where the sink's faults rose; `Memory` for want of memory.
+pub fn put<S, J>(checked: &mut Checked<S, J>, step: &CertStep) -> Result<(), SearchError>
+where
+    S: StepSink + Drop,
+    J: RunJudge + Drop,
+    requires formed { IsFormed step.now }
+    requires allowed { error_of (J.accepts checked.old.judge) checked.old.checker step.now ≡ None }
+    requires fresh { checked.old.refusal ≡ None }
+    ensures taken { OnOk result (checked.new.checker ≡ after checked.old.checker step.now) }
+    ensures told { OnOk result (S.logs checked.new.sink
+        ≡ with_step step.now (S.logs checked.old.sink)) }
+    ensures awake { OnOk result (checked.new.checker.refused ≡ false) }
+    ensures stays_fresh { OnOk result (checked.new.refusal ≡ None) }
+    ensures taken_or_asleep { OnErr result
+        (IsTakenOrAsleep checked.old.checker step.now checked.new.checker) }
+    ensures refused { OnErr result
+        (MayAddStep step.now (S.logs checked.old.sink) (S.logs checked.new.sink)) }
+    ensures cause { result ≡ Err SearchError.SinkFailed
+        → Rose (S.faults checked.old.sink) (S.faults checked.new.sink) }
+    ensures judge_stays { checked.new.judge ≡ checked.old.judge }
+    ensures over_stays { S.over checked.new.sink ≡ S.over checked.old.sink }
+    ensures no_fall { S.faults checked.old.sink ≤ S.faults checked.new.sink }
+    ensures same_references { S.references checked.new.sink ≡ S.references checked.old.sink }
+{
+    if let Err(refusal) = checked.put(step) {
+        return Err(SearchError::from(refusal));
+    }
+    Ok(())
+}

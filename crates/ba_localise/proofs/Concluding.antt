@@ -1,0 +1,108 @@
+-- What steps over a faithful encoding derive holds of the program.
+use Rattle.std.proofs.Common.{◌≡◌, ℕ, suc, zero, ◌<◌, List, [], ◌∷◌, length, All, refl, ◌∙◌, ap, subst, arith}
+use Rattle.std.specs.Prelude.{Contains, get_or}
+use Rattle.ba_derivations.proofs.VerdictLaws.{good_runs, located, no_repair, ordered, spent, too_many}
+use Rattle.ba_derivations.specs.Derivations as derived
+use Rattle.ba_derivations.specs.Derivations.{AreAllLeast, Derives, HaveSameSets, IsGood, Problem, blocked_by, sets_of}
+use Rattle.ba_derivations.specs.Encodings.{IsFaithful}
+use Rattle.ba_derivations.specs.declared.verdict.FoundSet.{FoundSet}
+use Rattle.ba_derivations.specs.declared.verdict.Verdict.{Verdict}
+use Rattle.ba_derivations.specs.declared.verdict.Verdict.TheVariants.{Located, NoRepair, TooMany, Spent}
+use Rattle.ba_enum.specs.Enumerating.{HaveSame, Says}
+use Rattle.ba_localise.specs.Verdicts.{AreLocated, IsVerdict}
+use Rattle.ba_steps.specs.declared.step.CertStep.{CertStep}
+use Rattle.ba_tree.specs.Least.{Judge, WeightList, judge_of}
+use Rattle.ba_tree.specs.declared.run.Bounds.{Bounds}
+use Rattle.ba_tree.specs.declared.run.Input.{Input}
+use Rattle.ba_tree.specs.declared.tree.Program.{Program}
+
+-- LISTS with the same sets and runs
+
+-- a set that is found stands there with a run
+record HasRun (bs : List FoundSet) (set : List ℕ) : Type 0 where
+  found : FoundSet
+  among : Contains bs found
+  is : found.groups ≡ set
+
+next-run : (b : FoundSet) (bs : List FoundSet) (set : List ℕ) → HasRun bs set → HasRun (b ∷ bs) set
+next-run b bs set has = record {
+  found = has.found;
+  among = (suc has.among.0, omega (arith, has.among.1), has.among.2);
+  is = has.is;
+}
+
+has-run : (bs : List FoundSet) (set : List ℕ) → Contains (sets_of bs) set → HasRun bs set
+has-run [] set (k, few, is) = absurd (omega (arith, few))
+has-run (b ∷ bs) set (zero, few, is) = record { found = b; among = (0, omega arith, refl); is = is }
+has-run (b ∷ bs) set (suc k, few, is) = next-run b bs set (has-run bs set (k, omega (arith, few), is))
+
+run-has : (bs : List FoundSet) (b : FoundSet) → Contains bs b → Contains (sets_of bs) b.groups
+run-has [] b (k, few, is) = absurd (omega (arith, few))
+run-has (c ∷ bs) b (zero, few, is) = (0, omega arith, ap (λ (x : FoundSet). x.groups) is)
+run-has (c ∷ bs) b (suc k, few, is) =
+    let rest = run-has bs b (k, omega (arith, few), is) in (suc rest.0, omega (arith, rest.1), rest.2)
+
+same-sets : (xs ys : List FoundSet) → HaveSame xs ys → HaveSameSets (sets_of xs) (sets_of ys)
+same-sets xs ys same set = (forth, back) where
+  forth : Contains (sets_of xs) set → Contains (sets_of ys) set
+  forth at = let has = has-run xs set at in
+      subst (Contains (sets_of ys)) has.is (run-has ys has.found ((same has.found).0 has.among))
+
+  back : Contains (sets_of ys) set → Contains (sets_of xs) set
+  back at = let has = has-run ys set at in
+      subst (Contains (sets_of xs)) has.is (run-has xs has.found ((same has.found).1 has.among))
+
+same-runs : (good : Judge) (xs ys : List FoundSet) → HaveSame xs ys → All (IsGood good) ys → All (IsGood good) xs
+same-runs good xs ys same runs k d few =
+    let x : FoundSet = get_or xs k d in
+    let at = (same x).0 (k, few, get-same xs k d few) in
+    subst (IsGood good) at.2 (runs at.0 x at.1)
+  where
+    get-same : (zs : List FoundSet) (i : ℕ) (e : FoundSet) → i < length zs → get_or zs i (get_or zs i e) ≡ get_or zs i e
+    get-same [] i e less = absurd (omega (arith, less))
+    get-same (z ∷ zs) zero e less = refl
+    get-same (z ∷ zs) (suc i) e less = get-same zs i e (omega (arith, less))
+
+-- WHAT IS DERIVED holds
+module _ (weights : WeightList) (p : Problem) (faithful : IsFaithful p.formula p.softs weights p.good)
+    (steps : List CertStep) where
+  all-located : (weight : ℕ) (sets : List FoundSet) → Says p steps (Located weight sets)
+      → AreLocated weights p.good p.most_sets weight sets
+  all-located weight sets says =
+      let all : AreAllLeast weights p.good weight (sets_of (blocked_by steps)) =
+      located weights p steps weight (sets_of (blocked_by steps)) (faithful, says.0) in
+      let same : HaveSameSets (sets_of sets) (sets_of (blocked_by steps)) = same-sets sets (blocked_by steps) says.1 in
+      record {
+        least = ordered weights p.good weight (sets_of (blocked_by steps)) (sets_of sets) all same says.2;
+        some = λ none. all.some (no-sets (sets_of (blocked_by steps)) (λ set at.
+            absurd (nothing set (subst (λ bs. Contains (sets_of bs) set) none ((same set).1 at)))));
+        each_weighs = λ set at. all.each_weighs set ((same set).0 at);
+        runs = same-runs p.good sets (blocked_by steps) says.1
+            (good_runs p steps (derived.Located weight (sets_of (blocked_by steps))) says.0);
+        few = says.3;
+      }
+    where
+      nothing : (set : List ℕ) → Contains [] set → ⊥
+      nothing set (k, few, is) = omega (arith, few)
+
+      no-sets : (sets : List (List ℕ)) → ((set : List ℕ) → Contains sets set → ⊥) → sets ≡ []
+      no-sets [] none = refl
+      no-sets (set ∷ rest) none = absurd (none set (0, omega arith, refl))
+
+  pub concluded : (verdict : Verdict) → Says p steps verdict → IsVerdict weights p.good p.conflicts p.most_sets verdict
+  concluded (Located weight sets) says = all-located weight sets says
+  concluded NoRepair says = no_repair weights p steps (faithful, says.0)
+  concluded (TooMany weight sets) says = too_many weights p steps weight (sets_of sets) (faithful, says.0)
+  concluded Spent says = record {
+    problem = p;
+    faithful = faithful;
+    same_judge = refl;
+    steps = steps;
+    derives = says;
+    count = spent p steps says;
+  }
+
+-- THE JUDGE
+pub same-judge : (p q : Program) (i k : Input) (b d : Bounds) → p ≡ q → i ≡ k → b ≡ d → judge_of p i b ≡ judge_of q k d
+same-judge p q i k b d is_p is_i is_b =
+    ap (λ p. judge_of p i b) is_p ∙ ap (λ i. judge_of q i b) is_i ∙ ap (judge_of q k) is_b
