@@ -4,7 +4,7 @@ use ba_interp::run;
 use ba_tree::run::{Bounds, Outcome};
 use std::alloc::Global;
 use std::test::Fail;
-use test_programs::examples::EXAMPLES;
+use test_programs::examples::{EXAMPLES, Example};
 use test_programs::reader::{Fault, Reader};
 
 /// The outcome of a run that is written as words.
@@ -34,11 +34,17 @@ fn outcome(
     )?)
 }
 
+/// Whether a run ends as it was worked out.
+fn ends(alloc: Global, example: &Example) -> Result<bool, Fault> {
+    let (program, input, turns, frames, allowed, choices, expected) = *example;
+    let found = outcome(alloc, program, input, turns, frames, allowed, choices)?;
+    Ok(found == expected)
+}
+
 #[test]
 fn examples_end_as_worked_out(rt: HostRuntime) -> Result<(), Fail> {
-    for (program, input, turns, frames, allowed, choices, expected) in EXAMPLES {
-        let ended = outcome(rt.alloc(), program, input, turns, frames, allowed, choices);
-        assert_eq!(rt; ended, Ok(expected));
+    for example in EXAMPLES.as_slice() {
+        assert_eq!(rt; ends(rt.alloc(), example), Ok(true));
     }
     Ok(())
 }

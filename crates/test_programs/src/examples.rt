@@ -109,7 +109,7 @@ pub const HANDED: &str = "3 p p 2  0  0  3  1 0  0  2 []= 1 0 1 7 return 2 e 0 1
     0  1 2  3 decl 2 assert 4 == call 2 1 1 a 2 7 assert 5 == e 2 1 7  5 [ r r ! !";
 
 /// Runs of these programs, with each way to end.
-pub const EXAMPLES: [Example; 76] = [
+pub static EXAMPLES: [Example; 76] = [
     (AGAIN, "0", 2, 16, ";", "0", DONE),
     (AGAIN, "0", 1, 16, ";", "0", Outcome::Beyond(StmtId(2))),
     (
