@@ -10,3 +10,4 @@ pub mod Naming
 pub mod Making
 pub mod Faithful
 pub mod Gaps
+pub mod Wider

@@ -1,6 +1,6 @@
 //! The choices of a run, as a model of its formula has them.
 
-ghost use Rattle.std.specs.Prelude.{◌≡◌, ◌++◌, true, length, map, IfOk, OnOk};
+ghost use Rattle.std.specs.Prelude.{◌≡◌, ◌≤◌, ◌++◌, true, length, map, IfOk, OnOk};
 ghost use Rattle.std.specs.List.{list_all};
 ghost use Rattle.ba_encode.specs.Readings.{choices_at, choices_read, choice_read, is_relaxed_in, number_read, of_model, is_in_range, is_readable, is_readable_place, is_readable_value, is_counted};
 ghost use Rattle.ba_clauses.specs.Encodings.{value_read};
@@ -25,7 +25,7 @@ pub fn choices_of(
     encoded: &Encoded,
     model: &Model,
 ) -> Result<Items<Choice>, AllocError>
-    requires { length model.now.values ≡ encoded.now.formula.variables }
+    requires { encoded.now.formula.variables ≤ length model.now.values }
     ensures choices { IfOk result (λ choices.
         choices ≡ choices_read (of_model model.now) encoded.now.places) }
     ensures in_range { IfOk result (λ choices. list_all is_in_range choices ≡ true) }

@@ -19,10 +19,10 @@ pub enum Grouping {
 
 /// A group without its selector: its written number, from 1 on, the statement that it belongs to, and its weight.
 #[derive(Clone, Copy, Debug, PartialEq, Eq)]
-pub(crate) struct Numbered {
-    pub(crate) number: u32,
-    pub(crate) statement: StmtId,
-    pub(crate) weight: u32,
+pub struct Numbered {
+    pub number: u32,
+    pub statement: StmtId,
+    pub weight: u32,
 }
 
 /// The groups in the order of their numbers: the statements that have a weight, under their own numbers, or the

@@ -19,5 +19,5 @@ mod softs;
 pub use choices::choices_of;
 pub use encoded::{Encoded, Group, PlaceReading, ValueReading};
 pub use formulas::encode;
-pub use grouping::Grouping;
+pub use grouping::{Grouping, Numbered};
 pub use softs::softs_of;

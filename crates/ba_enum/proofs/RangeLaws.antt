@@ -7,7 +7,8 @@ use Rattle.std.proofs.lemmas.List.Elements.{All-nil, All-cons}
 use Rattle.std.specs.List.{list_all}
 use Rattle.ba_choices.specs.declared.Choice.{Choice}
 use Rattle.ba_choices.specs.declared.Choice.TheVariants.{Keep, Take}
-use Rattle.ba_encode.specs.Readings.{is_in_range, is_word_value}
+use Rattle.ba_encode.specs.Readings.{is_in_range}
+use Rattle.ba_wordlist.specs.Facts.{is_word_value}
 use Rattle.ba_numbers.specs.Numbers.{is_in}
 use Rattle.ba_numbers.specs.declared.numbers.CType.TheVariants.{I32, U32}
 use Rattle.ba_steps.specs.Steps.{IsValue, IsFormedChoice}
