@@ -6,7 +6,7 @@ ghost use Rattle.std.specs.Prelude.{◌≢◌, ℕ, List, Contains};
 ghost use Rattle.ba_choices.specs.declared.Choice.{Choice};
 ghost use Rattle.ba_laws.specs.Visits.{HasVisits};
 ghost use Rattle.ba_tree.specs.Least.{IsFeasible, judge_of};
-ghost use Rattle.ba_tree.specs.Run.{run_of};
+ghost use Rattle.ba_tree.specs.Run.{plain_run, run_of};
 ghost use Rattle.ba_tree.specs.declared.run.Allowed.{Allowed};
 ghost use Rattle.ba_tree.specs.declared.run.Bounds.{Bounds};
 ghost use Rattle.ba_tree.specs.declared.run.Input.{Input};
@@ -30,4 +30,9 @@ pub fn more_statements_stay_feasible()
 pub fn keep_choices_can_be_left_out()
     ensures { (p : Program) (i : Input) (b : Bounds) (allowed : Allowed) (choices : List Choice)
         → run_of p i b allowed choices ≢ WrongChoices → HasVisits p i b allowed choices }
+{}
+
+/// A run as written makes no choices, so it doesn't end by wrong ones.
+pub fn plain_runs_make_no_choices()
+    ensures { (p : Program) (i : Input) (b : Bounds) → plain_run p i b ≢ WrongChoices }
 {}
