@@ -8,7 +8,7 @@ use Rattle.ba_world.specs.World.{HasReadFault, OnlyPrints, OnlyReads, Outside, R
 use Rattle.ba_world.specs.declared.read.ReadFileError.TheVariants as read
 use Rattle.ba_world.proofs.WholeReads.{only_reads_none, only_reads_on, past_longer, rose_since}
 use Rattle.ba_tool.specs.Answers.{IsAnswer}
-use Rattle.ba_tool.specs.Calls.{AreRead, Call, EndsWith, IsAnswerAlone, IsDue, IsDueToJob, IsReadFile, IsReadIfNamed, IsShown, JobComesTo, RequestComesTo, StopsAt, TellsAbsent, TellsAll, TellsFile, TellsIfNamed, TellsShort, WasReadBefore, as_wanted, first_long, limit, memory, name_of, read_fault, write_fault}
+use Rattle.ba_tool.specs.Calls.{AreRead, Call, EndsWith, TextsComeTo, IsDue, IsDueToJob, IsReadFile, IsReadIfNamed, IsShown, JobComesTo, RequestComesTo, StopsAt, TellsAbsent, TellsAll, TellsFile, TellsIfNamed, TellsShort, WasReadBefore, as_wanted, first_long, limit, memory, name_of, read_fault, write_fault}
 use Rattle.ba_tool.specs.Printed.{status_of}
 use Rattle.ba_tool.specs.declared.answers.Answer.{Answer}
 use Rattle.ba_tool.specs.declared.answers.Answer.TheVariants as answer
@@ -22,6 +22,7 @@ use Rattle.ba_tool.specs.declared.status.Status.{Status}
 use Rattle.ba_tool.specs.declared.status.Status.TheVariants as status
 use Rattle.ba_tool.specs.Jobs.{request_of}
 use Rattle.ba_tool.proofs.Ending.{Shows, write_fault_since}
+use Rattle.ba_tool.proofs.OneAnswer.{one_answer}
 
 -- WHAT IS TOLD OF A FILE is still told after reading
 
@@ -202,11 +203,11 @@ module _ (c : Call) (due : Answer) (result : Status) where
   as_due a same is = as_wanted (is ∙ ap status_of same)
 
 -- an answer that came of texts is the one that is due
-alone : (j : Job) (x y : Texts) (due a : Answer) → AreTold j x y → IsAnswerAlone j x (first_long x) due
+as_told : (j : Job) (x y : Texts) (due a : Answer) → AreTold j x y → TextsComeTo j x (first_long x) due
     → IsAnswer j y a → a ≡ due
-alone j x y due a told is holds =
-    let only : IsAnswerAlone j x None due = subst (λ long. IsAnswerAlone j x long due) told.none_long is in
-    only a (subst (λ x. IsAnswer j x a) told.same holds)
+as_told j x y due a told is holds =
+    let of_texts : TextsComeTo j x None due = subst (λ long. TextsComeTo j x long due) told.none_long is in
+    one_answer j x a due (subst (λ x. IsAnswer j x a) told.same holds) of_texts
 
 -- of a job
 fault_later : (c : Call) (opened mid : Outside) → OnlyReads c.before opened → OnlyReads c.before mid
@@ -227,7 +228,7 @@ unreadable_ends c j x due result which mid tells reads prints stops is =
     (fault_read stops.name (told_text which x) stops.opened mid told stops.unread))
 
 too_long_is : (c : Call) (j : Job) (x : Texts) (due : Answer) (which : File) (mid : Outside)
-    → TellsAll c.before j x → IsAnswerAlone j x (first_long x) due → StopsAt which read.TooLong j c.before mid
+    → TellsAll c.before j x → TextsComeTo j x (first_long x) due → StopsAt which read.TooLong j c.before mid
     → answer.TooLong which ≡ due
 too_long_is c j x due which mid tells is stops =
     let before = read_only j which c.before stops.opened stops.read_before in
@@ -235,10 +236,10 @@ too_long_is c j x due which mid tells is stops =
     (file_told which j x c.before stops.name tells stops.named) in
     let long = long_read stops.name (told_text which x) stops.opened mid told stops.unread in
     let first = long_at which j x c.before stops.opened mid stops.name tells stops.read_before long in
-    sym (subst (λ long. IsAnswerAlone j x long due) first is)
+    sym (subst (λ long. TextsComeTo j x long due) first is)
 
 job_ends : (c : Call) (j : Job) (x : Texts) (due a : Answer) (result : Status) (mid : Outside)
-    → TellsAll c.before j x → IsAnswerAlone j x (first_long x) due → OnlyReads c.before mid →
+    → TellsAll c.before j x → TextsComeTo j x (first_long x) due → OnlyReads c.before mid →
     OnlyPrints mid c.after
     → JobComesTo j c.before mid a → result ≡ status_of a → EndsWith c (status_of due) result
 job_ends c j x due (answer.Unreadable which) result mid tells is reads prints comes e =
@@ -246,34 +247,34 @@ job_ends c j x due (answer.Unreadable which) result mid tells is reads prints co
 job_ends c j x due (answer.TooLong which) result mid tells is reads prints comes e =
     as_due c due result (answer.TooLong which) (too_long_is c j x due which mid tells is comes) e
 job_ends c j x due (answer.Located report) result mid tells is reads prints (y, r, holds) e =
-    as_due c due result (answer.Located report) (alone j x y due _ (all_read j x y c.before mid tells r) is
+    as_due c due result (answer.Located report) (as_told j x y due _ (all_read j x y c.before mid tells r) is
     holds) e
 job_ends c j x due (answer.AssertFails at) result mid tells is reads prints (y, r, holds) e =
-    as_due c due result (answer.AssertFails at) (alone j x y due _ (all_read j x y c.before mid tells r) is
+    as_due c due result (answer.AssertFails at) (as_told j x y due _ (all_read j x y c.before mid tells r) is
     holds) e
 job_ends c j x due (answer.Trap at) result mid tells is reads prints (y, r, holds) e =
-    as_due c due result (answer.Trap at) (alone j x y due _ (all_read j x y c.before mid tells r) is holds) e
+    as_due c due result (answer.Trap at) (as_told j x y due _ (all_read j x y c.before mid tells r) is holds) e
 job_ends c j x due answer.NotFailing result mid tells is reads prints (y, r, holds) e =
-    as_due c due result answer.NotFailing (alone j x y due _ (all_read j x y c.before mid tells r) is holds) e
+    as_due c due result answer.NotFailing (as_told j x y due _ (all_read j x y c.before mid tells r) is holds) e
 job_ends c j x due answer.BadWords result mid tells is reads prints (y, r, (p, s, none)) e = absurd none
 job_ends c j x due (answer.BadProgram fault) result mid tells is reads prints (y, r, holds) e =
-    as_due c due result (answer.BadProgram fault) (alone j x y due _ (all_read j x y c.before mid tells r)
+    as_due c due result (answer.BadProgram fault) (as_told j x y due _ (all_read j x y c.before mid tells r)
     is holds) e
 job_ends c j x due (answer.BadInput fault) result mid tells is reads prints (y, r, holds) e =
-    as_due c due result (answer.BadInput fault) (alone j x y due _ (all_read j x y c.before mid tells r) is
+    as_due c due result (answer.BadInput fault) (as_told j x y due _ (all_read j x y c.before mid tells r) is
     holds) e
 job_ends c j x due answer.TooLarge result mid tells is reads prints (y, r, holds) e =
-    as_due c due result answer.TooLarge (alone j x y due _ (all_read j x y c.before mid tells r) is holds) e
+    as_due c due result answer.TooLarge (as_told j x y due _ (all_read j x y c.before mid tells r) is holds) e
 job_ends c j x due (answer.BeyondBound at) result mid tells is reads prints (y, r, holds) e =
-    as_due c due result (answer.BeyondBound at) (alone j x y due _ (all_read j x y c.before mid tells r) is
+    as_due c due result (answer.BeyondBound at) (as_told j x y due _ (all_read j x y c.before mid tells r) is
     holds) e
 job_ends c j x due answer.NoRepair result mid tells is reads prints (y, r, holds) e =
-    as_due c due result answer.NoRepair (alone j x y due _ (all_read j x y c.before mid tells r) is holds) e
+    as_due c due result answer.NoRepair (as_told j x y due _ (all_read j x y c.before mid tells r) is holds) e
 job_ends c j x due (answer.BadWeights line) result mid tells is reads prints (y, r, holds) e =
-    as_due c due result (answer.BadWeights line) (alone j x y due _ (all_read j x y c.before mid tells r)
+    as_due c due result (answer.BadWeights line) (as_told j x y due _ (all_read j x y c.before mid tells r)
     is holds) e
 job_ends c j x due answer.NotBuilt result mid tells is reads prints (y, r, holds) e =
-    as_due c due result answer.NotBuilt (alone j x y due _ (all_read j x y c.before mid tells r) is holds) e
+    as_due c due result answer.NotBuilt (as_told j x y due _ (all_read j x y c.before mid tells r) is holds) e
 
 -- A FILE THAT IS ABSENT
 

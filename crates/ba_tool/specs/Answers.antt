@@ -108,11 +108,13 @@ Answers j x p (answer.BeyondBound at) = RunsToAt j x p outcome.Beyond at
 Answers j x p (answer.AssertFails at) = (j.task ≡ task.Run) × RunsToAt j x p outcome.AssertFails at
 Answers j x p (answer.Trap at) = (j.task ≡ task.Run) × RunsToAt j x p outcome.Trap at
 Answers j x p answer.NotBuilt = (j.task ≡ task.Localise) × Fails j x p × (IsStraight p → ⊥)
-Answers j x p answer.NoRepair = (j.task ≡ task.Localise) × Fails j x p × AreLeastSets j x p []
-Answers j x p (answer.Located bytes) = (j.task ≡ task.Localise) × Fails j x p × Locates j x p bytes
+Answers j x p answer.NoRepair = (j.task ≡ task.Localise) × Fails j x p × IsStraight p × AreLeastSets j x p []
+Answers j x p (answer.Located bytes) =
+    (j.task ≡ task.Localise) × Fails j x p × IsStraight p × Locates j x p bytes
 Answers j x p _ = ⊥
 
--- THE ROWS: the text of the program spells none; or it spells one, and a row for it holds
+-- THE ROWS: the text of the program spells none; or it spells one, and a row for it holds. No texts have two
+-- answers (`one_answer`).
 abbrev pub IsAnswer : Job → Texts → Answer → Type 0
 IsAnswer j x (answer.BadProgram fault) = IsFault x.program fault
 IsAnswer j x a = (p : Program) × Spells x.program p × Answers j x p a

@@ -200,10 +200,10 @@ first_long x =
     (cond (nat_lt limit (length x.input)) (Some file.Input)
     (cond (nat_lt limit (length x.weights)) (Some file.Weights) None))
 
--- the answer that texts come to: that the first long one is too long; else the one answer that holds of them
-abbrev pub IsAnswerAlone : Job → Texts → Option File → Answer → Type 0
-IsAnswerAlone j x (Some which) a = a ≡ answer.TooLong which
-IsAnswerAlone j x None a = (other : Answer) → IsAnswer j x other → other ≡ a
+-- the answer that texts come to: that the first long one is too long; else the one that holds of them
+abbrev pub TextsComeTo : Job → Texts → Option File → Answer → Type 0
+TextsComeTo j x (Some which) a = a ≡ answer.TooLong which
+TextsComeTo j x None a = IsAnswer j x a
 
 -- the world tells the files before this one, and none of them is too long
 abbrev pub TellsShort : Outside → Word → Type 0
@@ -224,7 +224,7 @@ pub record TellsAbsent (which : File) (before : Outside) (j : Job) : Type 0 wher
 -- the answer that is due to a job, where the world tells all its files, or that one of them is absent
 abbrev pub IsDueToJob : Job → Outside → Answer → Type 0
 IsDueToJob j before a =
-    ((x : Texts) × TellsAll before j x × IsAnswerAlone j x (first_long x) a)
+    ((x : Texts) × TellsAll before j x × TextsComeTo j x (first_long x) a)
     ⊎ ((which : File) × TellsAbsent which before j × (a ≡ answer.Unreadable which))
 
 -- THE ANSWER THAT IS DUE to words

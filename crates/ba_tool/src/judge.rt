@@ -175,7 +175,7 @@ fn judge_run(
             Task::Localise => locate(alloc, texts, program, input, weights),
         },
         // Nothing may be relaxed, so no choice is missing.
-        Outcome::WrongChoices => Err(AllocError),
+        Outcome::WrongChoices => unreachable!(),
     }
 }
 

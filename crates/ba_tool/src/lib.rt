@@ -8,6 +8,7 @@ mod faults;
 mod files;
 mod jobs;
 mod judge;
+pub mod laws;
 mod report;
 pub mod rules;
 pub mod status;

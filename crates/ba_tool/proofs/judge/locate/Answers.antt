@@ -25,6 +25,7 @@ returns c = λ job is fails.
     (c.in-Some-first.ensures.value ∙ ap (λ sets. slice_get sets 0) c.deref.ensures.value) in (
       is,
       fails,
+      form.form,
       locates job c.args.texts.now c.args.program.now c.in_ok-sets.sets.items c.in-Some-first.first.now
           c.from_vec.result c.weight_of-weight.result
           (least_sets_are job c.args.texts.now c.args.program.now c.args.input.now c.args.weights.now.of
