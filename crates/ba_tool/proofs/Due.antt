@@ -253,9 +253,11 @@ job_ends c j x due (answer.AssertFails at) result mid tells is reads prints (y, 
     as_due c due result (answer.AssertFails at) (as_told j x y due _ (all_read j x y c.before mid tells r) is
     holds) e
 job_ends c j x due (answer.Trap at) result mid tells is reads prints (y, r, holds) e =
-    as_due c due result (answer.Trap at) (as_told j x y due _ (all_read j x y c.before mid tells r) is holds) e
+    as_due c due result (answer.Trap at) (as_told j x y due _ (all_read j x y c.before mid tells r) is
+    holds) e
 job_ends c j x due answer.NotFailing result mid tells is reads prints (y, r, holds) e =
-    as_due c due result answer.NotFailing (as_told j x y due _ (all_read j x y c.before mid tells r) is holds) e
+    as_due c due result answer.NotFailing (as_told j x y due _ (all_read j x y c.before mid tells r) is
+    holds) e
 job_ends c j x due answer.BadWords result mid tells is reads prints (y, r, (p, s, none)) e = absurd none
 job_ends c j x due (answer.BadProgram fault) result mid tells is reads prints (y, r, holds) e =
     as_due c due result (answer.BadProgram fault) (as_told j x y due _ (all_read j x y c.before mid tells r)

@@ -1,6 +1,6 @@
 -- Why a text is refused, from the errors of its tokens, of their tree and of typing.
 
-use Rattle.std.proofs.Common.{◌≡◌, ℕ, List, [], Option, None, Some, Result, Ok, Err, refl}
+use Rattle.std.proofs.Common.{◌≡◌, ℕ, List, Ok, Err, refl}
 use Rattle.ba_lex.specs.Lines.{tokens_of, Fails}
 use Rattle.ba_lex.specs.declared.error.LexError.{LexError}
 use Rattle.ba_lex.specs.declared.error.LexError.TheVariants as lexical

@@ -60,7 +60,8 @@ record IsLater (source : List ℕ) (fault : Fault) : Type 0 where
   pub says : Says tokens verdict
   pub is : IsFaultBy tokens verdict fault
 
-staged : (source : List ℕ) (fault : Fault) → IsFault source fault → IsLexical source fault ⊎ IsLater source fault
+staged : (source : List ℕ) (fault : Fault) → IsFault source fault
+    → IsLexical source fault ⊎ IsLater source fault
 staged source fault (no_tokens error refused told) =
     inl (record { error = error; refused = refused; told = told })
 staged source fault (no_file tokens number lexed says is) =
@@ -114,7 +115,8 @@ tree_fault_same tree other fault second same (first f is_first is) (first g is_o
 tree_fault_same tree other fault second same (first f is_first is) (none empty untyped are) =
     absurd (none_first f (faults_of tree.externals.items) (same_faults tree other same ∙ empty) is_first)
 tree_fault_same tree other fault second same (none empty untyped is) (first g is_other are) =
-    absurd (none_first g (faults_of other.externals.items) (sym (same_faults tree other same) ∙ empty) is_other)
+    absurd (none_first g (faults_of other.externals.items) (sym (same_faults tree other same) ∙ empty)
+    is_other)
 tree_fault_same tree other fault second same (none empty untyped is) (none e u are) = is ∙ sym are
 
 by_same : (tokens : List Token) (verdict : Verdict) (fault second : Fault) → IsFaultBy tokens verdict fault
@@ -167,7 +169,8 @@ module _ (source : List ℕ) where
       → tokens_of source ≡ Ok tokens → IsParsed tokens (file_marks tree) → Spells source p
       → IsFaultOf tree fault → ⊥
   tree_spelled p tree tokens fault lexed is_parsed spells (first f is_first is) =
-      none_first f (faults_of tree.externals.items) (clean source tokens tree p lexed is_parsed spells) is_first
+      none_first f (faults_of tree.externals.items) (clean source tokens tree p lexed is_parsed spells)
+      is_first
   tree_spelled p tree tokens fault lexed is_parsed spells (none empty untyped is) =
       let both = sym untyped ∙ has_program source tokens tree p lexed is_parsed spells in cc
 
@@ -180,13 +183,13 @@ module _ (source : List ℕ) where
   by_spelled p tokens (syntax_at k) fault lexed says spells it = no_syntax (parsed_only tokens (syntax_at k)
       (file_marks spells.are.tree) says (subst (λ tokens. IsParsed tokens (file_marks spells.are.tree))
       (tokens_same source spells.tokens tokens spells.lexed lexed) spells.are.parsed)) where
-    no_syntax : {n : ℕ} {marks : List Mark} → syntax_at n ≡ parsed marks → ⊥
-    no_syntax e = cc
+        no_syntax : {n : ℕ} {marks : List Mark} → syntax_at n ≡ parsed marks → ⊥
+        no_syntax e = cc
   by_spelled p tokens (deep_at k) fault lexed says spells it = no_deep (parsed_only tokens (deep_at k)
       (file_marks spells.are.tree) says (subst (λ tokens. IsParsed tokens (file_marks spells.are.tree))
       (tokens_same source spells.tokens tokens spells.lexed lexed) spells.are.parsed)) where
-    no_deep : {n : ℕ} {marks : List Mark} → deep_at n ≡ parsed marks → ⊥
-    no_deep e = cc
+        no_deep : {n : ℕ} {marks : List Mark} → deep_at n ≡ parsed marks → ⊥
+        no_deep e = cc
 
   stage_spelled : (p : Program) (fault : Fault) → Spells source p
       → IsLexical source fault ⊎ IsLater source fault → ⊥

@@ -61,7 +61,8 @@ module _ (j : Job) (x : Texts) (p q : Program) (same : tree_of p ≡ tree_of q) 
       (subst (λ (values : List (List ℤ)).
       AreLeast (weights_of p x) (judge_of q (record { values = values }) j.bounds) sets)
       (equal.input_numbers x.input)
-      (subst (λ (good : Judge). AreLeast (weights_of p x) good sets) (equal.judges (input_of p x) j.bounds) least))
+      (subst (λ (good : Judge). AreLeast (weights_of p x) good sets)
+      (equal.judges (input_of p x) j.bounds) least))
 
   locates_too : (bytes : List ℕ) → Locates j x p bytes → Locates j x q bytes
   locates_too bytes it = record {

@@ -1,8 +1,9 @@
-//! That the law can be called.
+//! That the laws can be called.
 
-use crate::same_meaning;
+use crate::{one_meaning, same_meaning};
 
 #[test]
-fn law_returns(_rt: HostRuntime) {
+fn laws_return(_rt: HostRuntime) {
     same_meaning();
+    one_meaning();
 }
