@@ -1,12 +1,13 @@
 //! Formulas with their groups, and how choices are read from their models.
 
-ghost use Rattle.std.specs.Prelude.{◌≡◌, ◌^◌, ◌<◌, IfSome, IsTrue, length, slice_get};
+ghost use Rattle.std.specs.Prelude.{◌≡◌, ◌^◌, ◌<◌, IfSome, IsTrue, [], length, slice_get};
 ghost use Rattle.ba_encode.specs.Readings.{are_readable};
 
 use ba_clauses::Reading;
 use ba_items::Items;
 use ba_lits::{Formula, Lit};
 use ba_numbers::ids::StmtId;
+use std::alloc::Global;
 
 /// A group: its written number, the statement that it belongs to, its weight, and its selector, which is true where
 /// the group runs as written.
@@ -48,6 +49,20 @@ pub struct Encoded {
 }
 
 impl Encoded {
+    /// A formula with groups, where no execution stands in one: its runs have no choices.
+    pub fn without_places(alloc: Global, formula: Formula, groups: Items<Group>) -> Encoded
+        requires { length groups < 2 ^ 32 }
+        ensures formula { result.formula ≡ formula }
+        ensures groups { result.groups ≡ groups }
+        ensures places { result.places ≡ [] }
+    {
+        Encoded {
+            formula,
+            groups,
+            places: Items::new(alloc),
+        }
+    }
+
     /// The formula.
     pub fn formula(&self) -> &Formula
         ensures { result.now ≡ self.now.formula }

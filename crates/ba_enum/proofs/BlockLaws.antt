@@ -1,31 +1,27 @@
 -- Blocking the set of a model is an allowed step.
 
-use Rattle.std.proofs.Common.{◌≡◌, ℕ, ◌+◌, ◌<◌, ◌≤◌, ◌==◌, Bool, true, false, not, ◌&&◌, ◌||◌, Option, None, Some, List, [], ◌∷◌, ◌++◌, All, length, refl, sym, ap, ◌∙◌, subst, arith, cond}
-use Rattle.std.proofs.lemmas.Bool.{and_parts}
+use Rattle.std.proofs.Common.{◌≡◌, ℕ, ◌<◌, ◌≤◌, ◌==◌, Bool, true, false, not, None, List, [], ◌∷◌, ◌++◌, length, refl, sym, ap, ◌∙◌, subst, arith}
 use Rattle.std.proofs.lemmas.Bool.Decides.{nat_tests}
 use Rattle.std.proofs.lemmas.List.Elements.{All-nil, All-cons}
 use Rattle.std.specs.List.{list_all}
 use Rattle.ba_choices.specs.declared.Choice.{Choice}
-use Rattle.ba_derivations.specs.Derivations.{sets_of}
 use Rattle.ba_derivations.specs.Encodings.{HasModelFor, false_groups}
 use Rattle.ba_derivations.specs.declared.verdict.FoundSet.{FoundSet}
 use Rattle.ba_derivations.proofs.GroupLaws.{cost_is}
 use Rattle.ba_encode.specs.Readings.{choices_read, is_in_range}
 use Rattle.ba_encode.specs.declared.encoded.Encoded.{Encoded}
-use Rattle.ba_enum.specs.Leading.{IsReached, IsNext, IsReady, Leads, Puts}
+use Rattle.ba_enum.specs.Leading.{IsReached, IsNext, IsReady, Puts}
 use Rattle.ba_enum.specs.Problems.{IsReadable}
 use Rattle.ba_encode.specs.Softs.{softs_of}
 use Rattle.ba_enum.proofs.GroupLaws.{groups_ascend, some_groups, groups_exist, not_among}
 use Rattle.ba_enum.proofs.LeadLaws.{reached_groups, reached_wide, one_after}
 use Rattle.ba_enum.proofs.RangeLaws.{formed_choices}
-use Rattle.ba_lits.specs.Formulas.{Cnf}
-use Rattle.ba_lits.specs.Satisfaction.{Assignment, Soft, assignment_of, cost}
+use Rattle.ba_lits.specs.Satisfaction.{Assignment, Soft, assignment_of}
 use Rattle.ba_steps.specs.Blocks.{lacks_group, is_among, set_weight}
-use Rattle.ba_steps.specs.Judging.{Judge, error_if, error_of, after, after_block}
+use Rattle.ba_steps.specs.Judging.{Judge, error_if, error_of, after}
 use Rattle.ba_steps.specs.Sinks.{Logs, with_step}
-use Rattle.ba_steps.specs.States.{State, present}
+use Rattle.ba_steps.specs.States.{State}
 use Rattle.ba_steps.specs.Steps.{AreAbove, IsFormed}
-use Rattle.ba_steps.specs.declared.step.CertStep.{CertStep}
 use Rattle.ba_steps.specs.declared.step.CertStep.TheVariants.{Block}
 use Rattle.ba_steps.specs.declared.step.StepError.TheVariants.{AfterEnd, Memory, BadVariable, SetTwice, WrongWeight, RunNotGood}
 

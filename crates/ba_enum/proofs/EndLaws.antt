@@ -1,28 +1,24 @@
 -- Each End step is allowed where the search ends, and says what was found.
 
-use Rattle.std.proofs.Common.{◌≡◌, ℕ, suc, zero, ◌+◌, ◌-◌, ◌^◌, ◌<◌, ◌≤◌, ◌==◌, Bool, true, false, not, ltb, eqb, nat_eq, Option, None, Some, List, [], ◌∷◌, length, map, refl, sym, ap, ◌∙◌, subst, arith}
+use Rattle.std.proofs.Common.{◌≡◌, ℕ, suc, ◌+◌, ◌-◌, ◌^◌, ◌<◌, ◌==◌, Bool, true, false, not, ltb, eqb, None, List, [], ◌∷◌, length, refl, sym, ap, ◌∙◌, arith}
 use Rattle.std.proofs.lemmas.Bool.{or_from, le-ltb}
 use Rattle.std.proofs.lemmas.Bool.Decides.{nat_tests}
-use Rattle.std.specs.Cmp.Lexicographic.{pointwise}
-use Rattle.std.specs.List.{list_any, IsDistinct}
-use Rattle.ba_cores.specs.Rounds.{literals_of}
+use Rattle.std.specs.List.{list_any}
 use Rattle.ba_derivations.specs.Derivations.{sets_of, verdict_of}
 use Rattle.ba_derivations.specs.Derivations as derived
 use Rattle.ba_derivations.specs.declared.verdict.FoundSet.{FoundSet}
-use Rattle.ba_derivations.specs.declared.verdict.Verdict.{Verdict}
 use Rattle.ba_derivations.specs.declared.verdict.Verdict.TheVariants.{Located, NoRepair, TooMany, Spent}
-use Rattle.ba_enum.specs.Enumerating.{HaveSame, Fits, Ends}
+use Rattle.ba_enum.specs.Enumerating.{HaveSame, Ends}
 use Rattle.ba_enum.specs.Leading.{IsReady}
 use Rattle.ba_enum.specs.Turning.{IsLast}
 use Rattle.ba_lits.specs.Hints.{Replay, Refutes, FollowsByHints, replay}
 use Rattle.ba_lits.specs.Literals.{Literal, negate, lit_at}
 use Rattle.ba_lits.proofs.ClauseLaws.{IsClause-more}
-use Rattle.ba_search.specs.Answers.{IsCore}
 use Rattle.ba_steps.specs.Judging.{Judge, error_if, lacks_variable, is_spent, lacks_soft, error_of_replay, are_too_many, error_of, after}
 use Rattle.ba_steps.specs.Splits.{is_soft}
 use Rattle.ba_steps.specs.States.{State, clause_at}
 use Rattle.ba_steps.specs.Sinks.{Logs, with_step}
-use Rattle.ba_steps.specs.Steps.{AreNumbers, IsFormed}
+use Rattle.ba_steps.specs.Steps.{IsFormed}
 use Rattle.ba_steps.specs.declared.step.CertStep.TheVariants.{EndLocated, EndNoRepair, EndTooMany, EndSpent}
 use Rattle.ba_steps.specs.declared.step.StepError.TheVariants.{AfterEnd, Memory, BadVariable, NotSofts, WrongCount}
 use Rattle.ba_tree.specs.Least.{AreInOrder}

@@ -1,28 +1,26 @@
 -- Steps put end to end, and what they leave as it was.
 
-use Rattle.std.proofs.Common.{◌≡◌, ℕ, ◌+◌, ◌≤◌, Bool, Option, None, Some, List, [], ◌∷◌, ◌++◌, All, length, refl, sym, ap, ◌∙◌, arith, subst}
-use Rattle.std.proofs.lemmas.List.{append-nil}
-use Rattle.std.proofs.lemmas.List.Elements.{All-nil, All-cons, All-append, All-map}
+use Rattle.std.proofs.Common.{◌≡◌, ℕ, ◌≤◌, Option, None, Some, List, [], ◌∷◌, ◌++◌, All, refl, sym, ap, ◌∙◌, arith, subst}
+use Rattle.std.proofs.lemmas.List.Elements.{All-nil, All-append}
 use Rattle.std.proofs.lemmas.Option.{same_Some}
-use Rattle.ba_lits.specs.Literals.{Literal}
 use Rattle.ba_lits.specs.Satisfaction.{Soft}
 use Rattle.ba_lits.specs.Formulas.{Cnf}
 use Rattle.ba_steps.specs.States.{State, first_state}
 use Rattle.ba_steps.specs.Judging.{Judge, error_of, after, after_all, next_if}
 use Rattle.ba_steps.specs.Facts.{IsStart, Holds, splits_of}
 use Rattle.ba_steps.specs.Sinks.{Logs, with_step, MayAddStep}
-use Rattle.ba_steps.specs.Puts.{IsTakenOrAsleep, with_steps, leaves_all, leaves_last}
+use Rattle.ba_steps.specs.Puts.{IsTakenOrAsleep, leaves_all, leaves_last}
 use Rattle.ba_steps.specs.Steps.{IsFormed}
 use Rattle.ba_steps.specs.declared.step.CertStep.{CertStep}
 use Rattle.ba_steps.specs.declared.step.CertStep.TheVariants.{Learn, Core, Delete, Block, EndLocated, EndNoRepair, EndTooMany, EndSpent}
 use Rattle.ba_steps.specs.declared.step.StepError.{StepError}
 use Rattle.ba_steps.proofs.FactLaws.{facts_hold}
-use Rattle.ba_steps.proofs.PutLaws.{logs_then, leaves_weaker, leaves_after}
-use Rattle.ba_derivations.specs.Derivations.{blocked_by, sets_of, with_block}
+use Rattle.ba_steps.proofs.PutLaws.{logs_then, leaves_after}
+use Rattle.ba_derivations.specs.Derivations.{blocked_by, sets_of}
 use Rattle.ba_derivations.specs.Encodings.{HasModelFor}
 use Rattle.ba_derivations.specs.declared.verdict.FoundSet.{FoundSet}
 use Rattle.ba_derivations.proofs.StepLaws.{step_allowed, limits_stay, sets_gathered, blocked_append}
-use Rattle.ba_enum.specs.Leading.{IsNewIn, AreNew, Leads, IsReached, Puts, Leaves}
+use Rattle.ba_enum.specs.Leading.{AreNew, Leads, IsReached, Puts, Leaves}
 
 next_allowed : (o : Option StepError) (next : Option State) (t : State) → o ≡ None → next ≡ Some t →
     next_if o next ≡ Some t

@@ -1,6 +1,6 @@
 -- The choices that are read from a model have the form that a step's text asks for.
 
-use Rattle.std.proofs.Common.{◌≡◌, ◌-◌, ◌^◌, Bool, true, ◌&&◌, ℤ, pos, negsuc, neg_ℤ, ◌≤ℤ◌, List, [], ◌∷◌, All, ◌⊎◌, inl, inr, arith}
+use Rattle.std.proofs.Common.{◌≡◌, true, ℤ, List, [], ◌∷◌, All, inl, inr, arith}
 use Rattle.std.proofs.lemmas.Bool.{and_parts, or_cases}
 use Rattle.std.proofs.lemmas.Int.{ints}
 use Rattle.std.proofs.lemmas.List.Elements.{All-nil, All-cons}

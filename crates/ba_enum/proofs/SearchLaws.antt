@@ -1,6 +1,6 @@
 -- The steps that the search for the least cost and each search under assumptions put.
 
-use Rattle.std.proofs.Common.{◌≡◌, ℕ, List, [], ◌∷◌, refl}
+use Rattle.std.proofs.Common.{◌≡◌, ℕ, List, [], refl}
 use Rattle.std.proofs.lemmas.List.Elements.{All-nil}
 use Rattle.ba_cores.specs.Derivations as cores
 use Rattle.ba_cores.specs.Derivations.{derives_none, derives_learn, derives_delete, derives_core}

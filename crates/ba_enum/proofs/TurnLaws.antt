@@ -1,12 +1,12 @@
 -- What a turn comes to.
 
-use Rattle.std.proofs.Common.{◌≡◌, ℕ, suc, zero, ◌+◌, ◌<◌, ◌≤◌, Bool, false, Option, None, Some, List, [], ◌∷◌, ◌++◌, length, refl, sym, ap, ◌∙◌, subst, arith}
+use Rattle.std.proofs.Common.{◌≡◌, ◌+◌, ◌<◌, ◌≤◌, Option, List, [], ◌∷◌, ◌++◌, length, refl, sym, ap, ◌∙◌, subst, arith}
 use Rattle.std.proofs.lemmas.List.{append-nil, append_assoc}
 use Rattle.ba_cores.specs.Rounds.{literals_of}
 use Rattle.ba_cores.proofs.CoreLaws.{softs_assumed}
 use Rattle.ba_derivations.specs.declared.verdict.FoundSet.{FoundSet}
 use Rattle.ba_enum.specs.Leading.{IsReached, IsReady, Puts, Blocks, Adds, Leaves}
-use Rattle.ba_enum.specs.Turning.{IsLast, IsEnd, next_of, Comes}
+use Rattle.ba_enum.specs.Turning.{next_of, Comes}
 use Rattle.ba_enum.proofs.LeadLaws.{reached_on, reached_facts, puts_none, puts_on, puts_as, leaves_put, leaves_on}
 use Rattle.ba_enum.proofs.NextLaws.{next_of_model}
 use Rattle.ba_learn.specs.Live.{IsSame, AreLive}
@@ -19,8 +19,7 @@ use Rattle.ba_search.specs.declared.search.Answer.{Answer}
 use Rattle.ba_search.specs.declared.search.Answer.TheVariants.{Model, Core, Spent}
 use Rattle.ba_search.proofs.TakenLaws.{clause_at-more, number_le}
 use Rattle.ba_steps.specs.Blocks.{block_clause}
-use Rattle.ba_steps.specs.Facts.{splits_of}
-use Rattle.ba_steps.specs.Judging.{Judge, after_block}
+use Rattle.ba_steps.specs.Judging.{Judge}
 use Rattle.ba_steps.specs.Sinks.{Logs}
 use Rattle.ba_steps.specs.States.{kept, State, clause_at}
 use Rattle.ba_steps.specs.declared.store.Origin.TheVariants as origins

@@ -10,16 +10,15 @@ use Rattle.ba_derivations.specs.declared.verdict.FoundSet.{FoundSet}
 use Rattle.ba_derivations.specs.declared.verdict.Verdict.{Verdict}
 use Rattle.ba_derivations.specs.declared.verdict.Verdict.TheVariants.{Located, NoRepair, TooMany, Spent}
 use Rattle.ba_derivations.proofs.StepLaws.{before_end, blocked_append, limits_stay}
-use Rattle.ba_enum.specs.Enumerating.{HaveSame, Says, Enumerates, Fits, Ends, Finishes}
-use Rattle.ba_enum.specs.Leading.{IsNewIn, AreNew, Leads, IsReached, Puts}
+use Rattle.ba_enum.specs.Enumerating.{HaveSame, Says, Enumerates, Fits, Ends}
+use Rattle.ba_enum.specs.Leading.{IsNewIn, IsReached, Puts}
 use Rattle.ba_enum.proofs.LeadLaws.{after_append, one_after, news_append, reached_facts}
 use Rattle.ba_lits.specs.Formulas.{Cnf}
 use Rattle.ba_lits.specs.Satisfaction.{Assignment, all_true, Soft}
-use Rattle.ba_steps.specs.Judging.{Judge, error_if, is_spent, hint_error, error_of, after, after_all}
+use Rattle.ba_steps.specs.Judging.{Judge, error_if, is_spent, hint_error, error_of}
 use Rattle.ba_steps.specs.Blocks.{block_clauses}
 use Rattle.ba_steps.specs.Facts.{IsStart}
-use Rattle.ba_steps.specs.Puts.{with_steps}
-use Rattle.ba_steps.specs.Sinks.{Logs, with_step}
+use Rattle.ba_steps.specs.Sinks.{Logs}
 use Rattle.ba_steps.specs.States.{State}
 use Rattle.ba_steps.specs.declared.step.CertStep.{CertStep}
 use Rattle.ba_steps.specs.declared.step.CertStep.TheVariants.{Learn, Core, Delete, Block, EndLocated, EndNoRepair, EndTooMany, EndSpent}

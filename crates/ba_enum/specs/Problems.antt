@@ -1,6 +1,6 @@
 -- The problem that a formula with groups poses to the search, and what its models must give.
 
-use Rattle.std.specs.Prelude.{◌≡◌, ◌≢◌, ℕ, true, []}
+use Rattle.std.specs.Prelude.{◌≡◌, ◌≢◌, true, []}
 use Rattle.ba_derivations.specs.Derivations.{Problem}
 use Rattle.ba_derivations.specs.Encodings.{false_groups}
 use Rattle.ba_encode.specs.Readings.{choices_read}

@@ -1,6 +1,6 @@
 use Rattle.std.proofs.Common.{◌∙◌}
 use Rattle.ba_steps.specs.declared.step.CertStep.TheVariants.{Block}
-use Rattle.ba_enum.proofs.BlockLaws.{IsRead, read_same, found_same, long_enough, block_formed, block_allowed, block_puts}
+use Rattle.ba_enum.proofs.BlockLaws.{read_same, found_same, long_enough, block_formed, block_allowed, block_puts}
 use Rattle.ba_enum.proofs.LeadLaws.{leaves_none, leaves_one, leaves_tried}
 use Rattle.ba_enum.proofs.blocking.block.Goals as goal
 

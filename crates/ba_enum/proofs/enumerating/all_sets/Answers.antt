@@ -1,9 +1,9 @@
-use Rattle.std.proofs.Common.{◌≡◌, [], ap, sym, subst, ◌∙◌}
+use Rattle.std.proofs.Common.{[], ap, sym, subst, ◌∙◌}
 use Rattle.std.proofs.lemmas.Result.{IfOk-weaker}
 use Rattle.ba_encode.specs.declared.encoded.Encoded.{Encoded}
 use Rattle.ba_enum.specs.Enumerating.{Finishes}
-use Rattle.ba_enum.specs.Leading.{IsReached, IsNext, Puts}
-use Rattle.ba_enum.specs.Problems.{IsReadable, problem_in}
+use Rattle.ba_enum.specs.Leading.{IsReached, IsNext}
+use Rattle.ba_enum.specs.Problems.{problem_in}
 use Rattle.ba_encode.specs.Softs.{softs_of}
 use Rattle.ba_enum.proofs.EndingLaws.{none_differ, enumerates_on, enumerates_end, was_working, least_reached, least_next}
 use Rattle.ba_enum.proofs.LeadLaws.{puts_most, leaves_on}

@@ -1,4 +1,4 @@
-use Rattle.std.proofs.Common.{◌≡◌, List, arith, sym, ap, subst, ◌∙◌}
+use Rattle.std.proofs.Common.{arith, sym, ap, subst, ◌∙◌}
 use Rattle.ba_cores.specs.Rounds.{literals_of}
 use Rattle.ba_cores.proofs.DerivesLaws.{puts_softs}
 use Rattle.ba_encode.specs.Softs.{softs_of}
