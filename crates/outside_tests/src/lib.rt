@@ -5,4 +5,6 @@
 #[cfg(test)]
 mod endless;
 #[cfg(test)]
+mod program;
+#[cfg(test)]
 mod world;
