@@ -27,6 +27,8 @@ judged j x before after (answer.BadInput fault) r h = (x, r, h)
 judged j x before after answer.TooLarge r h = (x, r, h)
 judged j x before after (answer.BeyondBound at) r h = (x, r, h)
 judged j x before after answer.NoRepair r h = (x, r, h)
+judged j x before after (answer.TooManySets weight most) r h = (x, r, h)
+judged j x before after (answer.BudgetSpent conflicts) r h = (x, r, h)
 judged j x before after (answer.BadWeights line) r h = (x, r, h)
 judged j x before after answer.NotBuilt r h = (x, r, h)
 

@@ -7,8 +7,8 @@ use Rattle.ba_world.specs.Read.{Stopped, StoppedPast}
 use Rattle.ba_world.specs.World.{HasReadFault, OnlyPrints, OnlyReads, Outside, Rose}
 use Rattle.ba_world.specs.declared.read.ReadFileError.TheVariants as read
 use Rattle.ba_world.proofs.WholeReads.{only_reads_none, only_reads_on, past_longer, rose_since}
-use Rattle.ba_tool.specs.Answers.{IsAnswer}
-use Rattle.ba_tool.specs.Calls.{AreRead, Call, EndsWith, TextsComeTo, IsDue, IsDueToJob, IsReadFile, IsReadIfNamed, IsShown, JobComesTo, RequestComesTo, StopsAt, TellsAbsent, TellsAll, TellsFile, TellsIfNamed, TellsShort, WasReadBefore, as_wanted, first_long, limit, memory, name_of, read_fault, write_fault}
+use Rattle.ba_tool.specs.Answers.{Agree, IsAnswer, IsOfSearch, are_one, first_spent, second_spent}
+use Rattle.ba_tool.specs.Calls.{AreRead, Call, EndsWith, TextsComeTo, IsDue, IsDueToJob, IsEndFor, IsEndOfSearch, IsReadFile, IsReadIfNamed, IsShown, JobComesTo, RequestComesTo, StopsAt, TellsAbsent, TellsAll, TellsFailing, TellsFile, TellsIfNamed, TellsShort, WasReadBefore, as_wanted, first_long, limit, located, memory, name_of, no_repair, read_fault, spent, too_many, write_fault}
 use Rattle.ba_tool.specs.Printed.{status_of}
 use Rattle.ba_tool.specs.declared.answers.Answer.{Answer}
 use Rattle.ba_tool.specs.declared.answers.Answer.TheVariants as answer
@@ -22,7 +22,7 @@ use Rattle.ba_tool.specs.declared.status.Status.{Status}
 use Rattle.ba_tool.specs.declared.status.Status.TheVariants as status
 use Rattle.ba_tool.specs.Jobs.{request_of}
 use Rattle.ba_tool.proofs.Ending.{Shows, write_fault_since}
-use Rattle.ba_tool.proofs.OneAnswer.{one_answer}
+use Rattle.ba_tool.proofs.OneAnswer.{is_of_search, one_answer}
 
 -- WHAT IS TOLD OF A FILE is still told after reading
 
@@ -190,24 +190,81 @@ all_read j x y before after tells r =
 
 -- THE END of a call
 
--- with the status of its answer, or a fault or want of memory in its place
-module _ (c : Call) (due : Answer) (result : Status) where
+-- an answer ends a call to which it is due
+own_end : (a : Answer) → IsEndFor a (status_of a)
+own_end (answer.Located report) = inl refl
+own_end (answer.AssertFails at) = refl
+own_end (answer.Trap at) = refl
+own_end answer.NotFailing = refl
+own_end answer.BadWords = refl
+own_end (answer.BadProgram fault) = refl
+own_end (answer.BadInput fault) = refl
+own_end answer.TooLarge = refl
+own_end (answer.BeyondBound at) = refl
+own_end answer.NoRepair = inl refl
+own_end (answer.TooManySets weight most) = inl refl
+own_end (answer.BudgetSpent conflicts) = spent
+own_end (answer.Unreadable which) = refl
+own_end (answer.TooLong which) = refl
+own_end (answer.BadWeights line) = refl
+own_end answer.NotBuilt = refl
+
+-- to a search it may be that its conflicts are spent
+may_spend : (due : Answer) → IsOfSearch due → IsEndFor due status.BudgetSpent
+may_spend (answer.Located report) of = inr refl
+may_spend (answer.AssertFails at) of = absurd of
+may_spend (answer.Trap at) of = absurd of
+may_spend answer.NotFailing of = absurd of
+may_spend answer.BadWords of = absurd of
+may_spend (answer.BadProgram fault) of = absurd of
+may_spend (answer.BadInput fault) of = absurd of
+may_spend answer.TooLarge of = absurd of
+may_spend (answer.BeyondBound at) of = absurd of
+may_spend answer.NoRepair of = inr refl
+may_spend (answer.TooManySets weight most) of = inr refl
+may_spend (answer.BudgetSpent conflicts) of = spent
+may_spend (answer.Unreadable which) of = absurd of
+may_spend (answer.TooLong which) of = absurd of
+may_spend (answer.BadWeights line) of = absurd of
+may_spend answer.NotBuilt of = absurd of
+
+ends_search : (a : Answer) → IsOfSearch a → IsEndOfSearch (status_of a)
+ends_search (answer.Located report) of = located
+ends_search (answer.AssertFails at) of = absurd of
+ends_search (answer.Trap at) of = absurd of
+ends_search answer.NotFailing of = absurd of
+ends_search answer.BadWords of = absurd of
+ends_search (answer.BadProgram fault) of = absurd of
+ends_search (answer.BadInput fault) of = absurd of
+ends_search answer.TooLarge of = absurd of
+ends_search (answer.BeyondBound at) of = absurd of
+ends_search answer.NoRepair of = no_repair
+ends_search (answer.TooManySets weight most) of = too_many
+ends_search (answer.BudgetSpent conflicts) of = spent
+ends_search (answer.Unreadable which) of = absurd of
+ends_search (answer.TooLong which) of = absurd of
+ends_search (answer.BadWeights line) of = absurd of
+ends_search answer.NotBuilt of = absurd of
+
+-- an answer that agrees with the one that is due ends the call
+agree_ends : (a due : Answer) → Agree a due → IsEndFor due (status_of a)
+agree_ends a due (are_one e) = subst (λ due. IsEndFor due (status_of a)) e (own_end a)
+agree_ends a due (first_spent conflicts e of) =
+    subst (λ a. IsEndFor due (status_of a)) (sym e) (may_spend due of)
+agree_ends a due (second_spent conflicts e of) =
+    subst (λ due. IsEndFor due (status_of a)) (sym e) (ends_search a of)
+
+-- with one of the statuses that are wanted, or a fault or want of memory in its place
+module _ (c : Call) (wanted : Status → Type 0) (result : Status) where
   shown_ends : (a : Answer) (mid : Outside) → OnlyReads c.before mid → IsShown a mid c.after result
-      → (result ≡ status_of a → EndsWith c (status_of due) result) → EndsWith c (status_of due) result
+      → (result ≡ status_of a → EndsWith c wanted result) → EndsWith c wanted result
   shown_ends a mid reads (inl whole) ends = ends whole.0
   shown_ends a mid reads (inr (inl fault)) ends =
       write_fault fault.0 (write_fault_since c.before mid c.after reads fault.1)
   shown_ends a mid reads (inr (inr short)) ends = memory short.0
 
-  as_due : (a : Answer) → a ≡ due → result ≡ status_of a → EndsWith c (status_of due) result
-  as_due a same is = as_wanted (is ∙ ap status_of same)
-
--- an answer that came of texts is the one that is due
-as_told : (j : Job) (x y : Texts) (due a : Answer) → AreTold j x y → TextsComeTo j x (first_long x) due
-    → IsAnswer j y a → a ≡ due
-as_told j x y due a told is holds =
-    let of_texts : TextsComeTo j x None due = subst (λ long. TextsComeTo j x long due) told.none_long is in
-    one_answer j x a due (subst (λ x. IsAnswer j x a) told.same holds) of_texts
+  ends_as : (other : Status) → wanted other → result ≡ other → EndsWith c wanted result
+  ends_as other holds is = as_wanted (subst wanted (sym is) holds)
 
 -- of a job
 fault_later : (c : Call) (opened mid : Outside) → OnlyReads c.before opened → OnlyReads c.before mid
@@ -216,67 +273,67 @@ fault_later c opened mid before reads prints rose =
     subst (λ n. Rose c.before.read_faults n) (sym prints.read_faults)
     (rose_since c.before.read_faults opened.read_faults mid.read_faults before.no_fall rose)
 
-unreadable_ends : (c : Call) (j : Job) (x : Texts) (due : Answer) (result : Status) (which : File) (mid :
-    Outside)
-    → TellsAll c.before j x → OnlyReads c.before mid → OnlyPrints mid c.after
-    → StopsAt which read.Failed j c.before mid → result ≡ status.ReadFault → EndsWith c (status_of due) result
-unreadable_ends c j x due result which mid tells reads prints stops is =
-    let before = read_only j which c.before stops.opened stops.read_before in
-    let told = told_still c.before stops.opened stops.name (told_text which x) before
-    (file_told which j x c.before stops.name tells stops.named) in
-    read_fault is (fault_later c stops.opened mid before reads prints
-    (fault_read stops.name (told_text which x) stops.opened mid told stops.unread))
+module _ (c : Call) (wanted : Status → Type 0) (result : Status) (j : Job) (x : Texts) (mid : Outside)
+    (tells : TellsAll c.before j x) (reads : OnlyReads c.before mid) (prints : OnlyPrints mid c.after) where
+  unreadable_ends : (which : File) → StopsAt which read.Failed j c.before mid → result ≡ status.ReadFault
+      → EndsWith c wanted result
+  unreadable_ends which stops is =
+      let before = read_only j which c.before stops.opened stops.read_before in
+      let told = told_still c.before stops.opened stops.name (told_text which x) before
+      (file_told which j x c.before stops.name tells stops.named) in
+      read_fault is (fault_later c stops.opened mid before reads prints
+      (fault_read stops.name (told_text which x) stops.opened mid told stops.unread))
 
-too_long_is : (c : Call) (j : Job) (x : Texts) (due : Answer) (which : File) (mid : Outside)
-    → TellsAll c.before j x → TextsComeTo j x (first_long x) due → StopsAt which read.TooLong j c.before mid
-    → answer.TooLong which ≡ due
-too_long_is c j x due which mid tells is stops =
-    let before = read_only j which c.before stops.opened stops.read_before in
-    let told = told_still c.before stops.opened stops.name (told_text which x) before
-    (file_told which j x c.before stops.name tells stops.named) in
-    let long = long_read stops.name (told_text which x) stops.opened mid told stops.unread in
-    let first = long_at which j x c.before stops.opened mid stops.name tells stops.read_before long in
-    sym (subst (λ long. TextsComeTo j x long due) first is)
+  long_is_first : (which : File) → StopsAt which read.TooLong j c.before mid → first_long x ≡ Some which
+  long_is_first which stops =
+      let before = read_only j which c.before stops.opened stops.read_before in
+      let told = told_still c.before stops.opened stops.name (told_text which x) before
+      (file_told which j x c.before stops.name tells stops.named) in
+      let long = long_read stops.name (told_text which x) stops.opened mid told stops.unread in
+      long_at which j x c.before stops.opened mid stops.name tells stops.read_before long
 
-job_ends : (c : Call) (j : Job) (x : Texts) (due a : Answer) (result : Status) (mid : Outside)
-    → TellsAll c.before j x → TextsComeTo j x (first_long x) due → OnlyReads c.before mid →
-    OnlyPrints mid c.after
-    → JobComesTo j c.before mid a → result ≡ status_of a → EndsWith c (status_of due) result
-job_ends c j x due (answer.Unreadable which) result mid tells is reads prints comes e =
-    unreadable_ends c j x due result which mid tells reads prints comes e
-job_ends c j x due (answer.TooLong which) result mid tells is reads prints comes e =
-    as_due c due result (answer.TooLong which) (too_long_is c j x due which mid tells is comes) e
-job_ends c j x due (answer.Located report) result mid tells is reads prints (y, r, holds) e =
-    as_due c due result (answer.Located report) (as_told j x y due _ (all_read j x y c.before mid tells r) is
-    holds) e
-job_ends c j x due (answer.AssertFails at) result mid tells is reads prints (y, r, holds) e =
-    as_due c due result (answer.AssertFails at) (as_told j x y due _ (all_read j x y c.before mid tells r) is
-    holds) e
-job_ends c j x due (answer.Trap at) result mid tells is reads prints (y, r, holds) e =
-    as_due c due result (answer.Trap at) (as_told j x y due _ (all_read j x y c.before mid tells r) is
-    holds) e
-job_ends c j x due answer.NotFailing result mid tells is reads prints (y, r, holds) e =
-    as_due c due result answer.NotFailing (as_told j x y due _ (all_read j x y c.before mid tells r) is
-    holds) e
-job_ends c j x due answer.BadWords result mid tells is reads prints (y, r, (p, s, none)) e = absurd none
-job_ends c j x due (answer.BadProgram fault) result mid tells is reads prints (y, r, holds) e =
-    as_due c due result (answer.BadProgram fault) (as_told j x y due _ (all_read j x y c.before mid tells r)
-    is holds) e
-job_ends c j x due (answer.BadInput fault) result mid tells is reads prints (y, r, holds) e =
-    as_due c due result (answer.BadInput fault) (as_told j x y due _ (all_read j x y c.before mid tells r) is
-    holds) e
-job_ends c j x due answer.TooLarge result mid tells is reads prints (y, r, holds) e =
-    as_due c due result answer.TooLarge (as_told j x y due _ (all_read j x y c.before mid tells r) is holds) e
-job_ends c j x due (answer.BeyondBound at) result mid tells is reads prints (y, r, holds) e =
-    as_due c due result (answer.BeyondBound at) (as_told j x y due _ (all_read j x y c.before mid tells r) is
-    holds) e
-job_ends c j x due answer.NoRepair result mid tells is reads prints (y, r, holds) e =
-    as_due c due result answer.NoRepair (as_told j x y due _ (all_read j x y c.before mid tells r) is holds) e
-job_ends c j x due (answer.BadWeights line) result mid tells is reads prints (y, r, holds) e =
-    as_due c due result (answer.BadWeights line) (as_told j x y due _ (all_read j x y c.before mid tells r)
-    is holds) e
-job_ends c j x due answer.NotBuilt result mid tells is reads prints (y, r, holds) e =
-    as_due c due result answer.NotBuilt (as_told j x y due _ (all_read j x y c.before mid tells r) is holds) e
+  -- where a status is wanted for each long text, and for each answer that texts come to which aren't long
+  module _ (long : (which : File) → first_long x ≡ Some which → wanted status.TooLong)
+      (short : (a : Answer) → first_long x ≡ None → IsAnswer j x a → wanted (status_of a)) where
+    as_read : (a : Answer) (y : Texts) → AreRead j y c.before mid → IsAnswer j y a → result ≡ status_of a
+        → EndsWith c wanted result
+    as_read a y r holds e =
+        let told = all_read j x y c.before mid tells r in
+        ends_as c wanted result (status_of a)
+        (short a told.none_long (subst (λ x. IsAnswer j x a) told.same holds)) e
+
+    job_ends : (a : Answer) → JobComesTo j c.before mid a → result ≡ status_of a → EndsWith c wanted result
+    job_ends (answer.Unreadable which) comes e = unreadable_ends which comes e
+    job_ends (answer.TooLong which) comes e =
+        ends_as c wanted result status.TooLong (long which (long_is_first which comes)) e
+    job_ends (answer.Located report) (y, r, holds) e =
+        as_read (answer.Located report) y r holds e
+    job_ends (answer.AssertFails at) (y, r, holds) e =
+        as_read (answer.AssertFails at) y r holds e
+    job_ends (answer.Trap at) (y, r, holds) e =
+        as_read (answer.Trap at) y r holds e
+    job_ends answer.NotFailing (y, r, holds) e =
+        as_read answer.NotFailing y r holds e
+    job_ends answer.BadWords (y, r, holds) e =
+        as_read answer.BadWords y r holds e
+    job_ends (answer.BadProgram fault) (y, r, holds) e =
+        as_read (answer.BadProgram fault) y r holds e
+    job_ends (answer.BadInput fault) (y, r, holds) e =
+        as_read (answer.BadInput fault) y r holds e
+    job_ends answer.TooLarge (y, r, holds) e =
+        as_read answer.TooLarge y r holds e
+    job_ends (answer.BeyondBound at) (y, r, holds) e =
+        as_read (answer.BeyondBound at) y r holds e
+    job_ends answer.NoRepair (y, r, holds) e =
+        as_read answer.NoRepair y r holds e
+    job_ends (answer.TooManySets weight most) (y, r, holds) e =
+        as_read (answer.TooManySets weight most) y r holds e
+    job_ends (answer.BudgetSpent conflicts) (y, r, holds) e =
+        as_read (answer.BudgetSpent conflicts) y r holds e
+    job_ends (answer.BadWeights line) (y, r, holds) e =
+        as_read (answer.BadWeights line) y r holds e
+    job_ends answer.NotBuilt (y, r, holds) e =
+        as_read answer.NotBuilt y r holds e
 
 -- A FILE THAT IS ABSENT
 
@@ -386,7 +443,7 @@ absent_not_long c which other j mid t s = by (stands which other j c.before s.op
 module _ (c : Call) (which : File) (j : Job) (result : Status) (mid : Outside) where
   absent_ends : (a : Answer) → TellsAbsent which c.before j → OnlyReads c.before mid → OnlyPrints mid c.after
       → JobComesTo j c.before mid a → result ≡ status_of a
-      → EndsWith c status.ReadFault result
+      → EndsWith c (IsEndFor (answer.Unreadable which)) result
   absent_ends (answer.Unreadable other) t reads prints comes e = as_wanted e
   absent_ends (answer.TooLong other) t reads prints comes e = absurd (absent_not_long c which other j mid t
       comes)
@@ -406,32 +463,78 @@ module _ (c : Call) (which : File) (j : Job) (result : Status) (mid : Outside) w
   absent_ends (answer.BeyondBound at) t reads prints (y, r, holds) e = absurd (absent_all which j y
       c.before mid t r)
   absent_ends answer.NoRepair t reads prints (y, r, holds) e = absurd (absent_all which j y c.before mid t r)
+  absent_ends (answer.TooManySets weight most) t reads prints (y, r, holds) e = absurd (absent_all which j y
+      c.before mid t r)
+  absent_ends (answer.BudgetSpent conflicts) t reads prints (y, r, holds) e = absurd (absent_all which j y
+      c.before mid t r)
   absent_ends (answer.BadWeights line) t reads prints (y, r, holds) e = absurd (absent_all which j y
       c.before mid t r)
   absent_ends answer.NotBuilt t reads prints (y, r, holds) e = absurd (absent_all which j y c.before mid t r)
 
+-- of a job to which an answer is due
+told_long : (j : Job) (x : Texts) (due : Answer) (which : File) → TextsComeTo j x (first_long x) due
+    → first_long x ≡ Some which → IsEndFor due status.TooLong
+told_long j x due which is first =
+    let due_is : due ≡ answer.TooLong which = subst (λ long. TextsComeTo j x long due) first is in
+    subst (λ due. IsEndFor due status.TooLong) (sym due_is) refl
+
+told_short : (j : Job) (x : Texts) (due a : Answer) → TextsComeTo j x (first_long x) due
+    → first_long x ≡ None → IsAnswer j x a → IsEndFor due (status_of a)
+told_short j x due a is none holds =
+    let due_holds : IsAnswer j x due = subst (λ long. TextsComeTo j x long due) none is in
+    agree_ends a due (one_answer j x a due holds due_holds)
+
 due_ends : (c : Call) (j : Job) (due a : Answer) (result : Status) (mid : Outside)
     → IsDueToJob j c.before due → OnlyReads c.before mid → OnlyPrints mid c.after
-    → JobComesTo j c.before mid a → result ≡ status_of a → EndsWith c (status_of due) result
+    → JobComesTo j c.before mid a → result ≡ status_of a → EndsWith c (IsEndFor due) result
 due_ends c j due a result mid (inl (x, tells, is)) reads prints comes e =
-    job_ends c j x due a result mid tells is reads prints comes e
+    job_ends c (IsEndFor due) result j x mid tells reads prints
+    (λ which first. told_long j x due which is first)
+    (λ a none holds. told_short j x due a is none holds) a comes e
 due_ends c j due a result mid (inr (which, absent, is)) reads prints comes e =
-    subst (λ due. EndsWith c (status_of due) result) (sym is)
+    subst (λ due. EndsWith c (IsEndFor due) result) (sym is)
     (absent_ends c which j result mid a absent reads prints comes e)
+
+at_once : (c : Call) (due a first : Answer) (result : Status) → a ≡ first → due ≡ first
+    → result ≡ status_of a → EndsWith c (IsEndFor due) result
+at_once c due a first result is are e = ends_as c (IsEndFor due) result (status_of a)
+    (subst (λ due. IsEndFor due (status_of a)) (is ∙ sym are) (own_end a)) e
 
 request_ends : (c : Call) (r : Request) (due a : Answer) (result : Status) (mid : Outside)
     → IsDue r c.before due → OnlyReads c.before mid → OnlyPrints mid c.after
-    → RequestComesTo r c.before mid a → result ≡ status_of a → EndsWith c (status_of due) result
-request_ends c request.Refused due a result mid is reads prints comes e = as_due c due result a (comes.0 ∙
-    sym is) e
-request_ends c request.NotBuilt due a result mid is reads prints comes e = as_due c due result a (comes.0 ∙
-    sym is) e
+    → RequestComesTo r c.before mid a → result ≡ status_of a → EndsWith c (IsEndFor due) result
+request_ends c request.Refused due a result mid is reads prints comes e =
+    at_once c due a answer.BadWords result comes.0 is e
+request_ends c request.NotBuilt due a result mid is reads prints comes e =
+    at_once c due a answer.NotBuilt result comes.0 is e
 request_ends c (request.Wanted j) due a result mid is reads prints comes e =
     due_ends c j due a result mid is reads prints comes e
 
 pub shows_due : (c : Call) (a due : Answer) (result : Status) → Shows c a result →
     IsDue (request_of c.words) c.before due
-    → EndsWith c (status_of due) result
+    → EndsWith c (IsEndFor due) result
 shows_due c a due result s is =
-    shown_ends c due result a s.read s.reads s.shown
+    shown_ends c (IsEndFor due) result a s.read s.reads s.shown
     (λ e. request_ends c (request_of c.words) due a result s.read is s.reads s.prints s.comes e)
+
+-- A SEARCH comes to an end
+
+not_both : (which : File) (long : Option File) → long ≡ None → long ≡ Some which → ⊥
+not_both which long none some = cc
+
+failing_ends : (c : Call) (r : Request) (a : Answer) (result : Status) (mid : Outside)
+    → TellsFailing r c.before → OnlyReads c.before mid → OnlyPrints mid c.after
+    → RequestComesTo r c.before mid a → result ≡ status_of a → EndsWith c IsEndOfSearch result
+failing_ends c r a result mid f reads prints comes e =
+    let job_comes : JobComesTo f.job c.before mid a =
+    subst (λ r. RequestComesTo r c.before mid a) f.wanted comes in
+    job_ends c IsEndOfSearch result f.job f.texts mid f.told reads prints
+    (λ which first. absurd (not_both which (first_long f.texts) f.short first))
+    (λ a none holds. ends_search a (is_of_search f.job f.texts f.program f.spelled f.searches a holds))
+    a job_comes e
+
+pub shows_end : (c : Call) (a : Answer) (result : Status) → Shows c a result
+    → TellsFailing (request_of c.words) c.before → EndsWith c IsEndOfSearch result
+shows_end c a result s f =
+    shown_ends c IsEndOfSearch result a s.read s.reads s.shown
+    (λ e. failing_ends c (request_of c.words) a result s.read f s.reads s.prints s.comes e)

@@ -1,10 +1,9 @@
-pub mod Judging
 mod Powers
 mod Mapped
 mod Bounded
 mod Ending
+mod Counting
 mod Stages
-mod Straights
 mod Rows
 mod OneAnswer
 mod Due

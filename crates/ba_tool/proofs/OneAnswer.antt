@@ -1,4 +1,4 @@
--- Texts come to one answer.
+-- The answers of texts agree.
 use Rattle.std.proofs.Common.{◌≡◌, ◌⊎◌, inl, inr, ℕ, None, Some, Ok, Err, List, [], refl, sym, ◌∙◌, ap, subst, arith}
 use Rattle.std.specs.Prelude.{Contains}
 use Rattle.ba_lex.specs.Lines.{tokens_of}
@@ -17,7 +17,7 @@ use Rattle.ba_types.specs.declared.fault.Fault.{Fault as TypeFault}
 use Rattle.ba_types.proofs.FileRows.{same_faults}
 use Rattle.ba_types.proofs.Least.{connected}
 use Rattle.ba_types.proofs.Programs.{clean, has_program, one_of_text}
-use Rattle.ba_tool.specs.Answers.{Answers, IsAnswer}
+use Rattle.ba_tool.specs.Answers.{Agree, Answers, IsAnswer, IsOfSearch, Searches, are_one}
 use Rattle.ba_tool.specs.Programs.{IsFault, ill_typed, lexical_fault, no_file, no_main, no_tokens, place_at, too_deep, typing_fault}
 use Rattle.ba_tool.specs.declared.answers.Answer.{Answer}
 use Rattle.ba_tool.specs.declared.answers.Answer.TheVariants as answer
@@ -25,7 +25,7 @@ use Rattle.ba_tool.specs.declared.faults.Cause.TheVariants as cause
 use Rattle.ba_tool.specs.declared.faults.Fault.{Fault}
 use Rattle.ba_tool.specs.declared.files.Texts.{Texts}
 use Rattle.ba_tool.specs.declared.jobs.Job.{Job}
-use Rattle.ba_tool.proofs.Rows.{same_row}
+use Rattle.ba_tool.proofs.Rows.{same_row, searched_too}
 
 -- A FAULT OF A TEXT, by the stage that it is of
 
@@ -60,8 +60,7 @@ record IsLater (source : List ℕ) (fault : Fault) : Type 0 where
   pub says : Says tokens verdict
   pub is : IsFaultBy tokens verdict fault
 
-staged : (source : List ℕ) (fault : Fault) → IsFault source fault
-    → IsLexical source fault ⊎ IsLater source fault
+staged : (source : List ℕ) (fault : Fault) → IsFault source fault → IsLexical source fault ⊎ IsLater source fault
 staged source fault (no_tokens error refused told) =
     inl (record { error = error; refused = refused; told = told })
 staged source fault (no_file tokens number lexed says is) =
@@ -115,8 +114,7 @@ tree_fault_same tree other fault second same (first f is_first is) (first g is_o
 tree_fault_same tree other fault second same (first f is_first is) (none empty untyped are) =
     absurd (none_first f (faults_of tree.externals.items) (same_faults tree other same ∙ empty) is_first)
 tree_fault_same tree other fault second same (none empty untyped is) (first g is_other are) =
-    absurd (none_first g (faults_of other.externals.items) (sym (same_faults tree other same) ∙ empty)
-    is_other)
+    absurd (none_first g (faults_of other.externals.items) (sym (same_faults tree other same) ∙ empty) is_other)
 tree_fault_same tree other fault second same (none empty untyped is) (none e u are) = is ∙ sym are
 
 by_same : (tokens : List Token) (verdict : Verdict) (fault second : Fault) → IsFaultBy tokens verdict fault
@@ -169,8 +167,7 @@ module _ (source : List ℕ) where
       → tokens_of source ≡ Ok tokens → IsParsed tokens (file_marks tree) → Spells source p
       → IsFaultOf tree fault → ⊥
   tree_spelled p tree tokens fault lexed is_parsed spells (first f is_first is) =
-      none_first f (faults_of tree.externals.items) (clean source tokens tree p lexed is_parsed spells)
-      is_first
+      none_first f (faults_of tree.externals.items) (clean source tokens tree p lexed is_parsed spells) is_first
   tree_spelled p tree tokens fault lexed is_parsed spells (none empty untyped is) =
       let both = sym untyped ∙ has_program source tokens tree p lexed is_parsed spells in cc
 
@@ -201,7 +198,7 @@ module _ (source : List ℕ) where
   no_fault : (p : Program) (fault : Fault) → Spells source p → IsFault source fault → ⊥
   no_fault p fault spells it = stage_spelled p fault spells (staged source fault it)
 
--- TEXTS HAVE ONE ANSWER
+-- THE ANSWERS OF TEXTS AGREE
 
 module _ (j : Job) (x : Texts) where
   record IsSpelled (a : Answer) : Type 0 where
@@ -218,15 +215,26 @@ module _ (j : Job) (x : Texts) where
   sorted (answer.BadProgram fault) of = inr (record { fault = fault; is = refl; of = of })
   sorted _ (p, spells, row) = inl (record { p = p; spells = spells; row = row })
 
-  sorted_same : (a b : Answer) → IsSpelled a ⊎ IsRefused a → IsSpelled b ⊎ IsRefused b → a ≡ b
+  sorted_same : (a b : Answer) → IsSpelled a ⊎ IsRefused a → IsSpelled b ⊎ IsRefused b → Agree a b
   sorted_same a b (inl one) (inl other) = same_row j x one.p other.p
       (one_of_text x.program one.p other.p one.spells other.spells) a b one.row other.row
   sorted_same a b (inl one) (inr other) =
       absurd (no_fault x.program one.p other.fault one.spells other.of)
   sorted_same a b (inr one) (inl other) =
       absurd (no_fault x.program other.p one.fault other.spells one.of)
-  sorted_same a b (inr one) (inr other) = one.is
-      ∙ ap answer.BadProgram (one_fault x.program one.fault other.fault one.of other.of) ∙ sym other.is
+  sorted_same a b (inr one) (inr other) = are_one (one.is
+      ∙ ap answer.BadProgram (one_fault x.program one.fault other.fault one.of other.of) ∙ sym other.is)
 
-  pub one_answer : (a b : Answer) → IsAnswer j x a → IsAnswer j x b → a ≡ b
+  pub one_answer : (a b : Answer) → IsAnswer j x a → IsAnswer j x b → Agree a b
   one_answer a b one other = sorted_same a b (sorted a one) (sorted b other)
+
+  -- where the program of a text fails that is to be localised, the answer is of a search
+  sorted_searched : (p : Program) → Spells x.program p → Searches j x p → (a : Answer)
+      → IsSpelled a ⊎ IsRefused a → IsOfSearch a
+  sorted_searched p spells searches a (inl it) =
+      searched_too j x p it.p (one_of_text x.program p it.p spells it.spells) searches a it.row
+  sorted_searched p spells searches a (inr it) = absurd (no_fault x.program p it.fault spells it.of)
+
+  pub is_of_search : (p : Program) → Spells x.program p → Searches j x p → (a : Answer) → IsAnswer j x a
+      → IsOfSearch a
+  is_of_search p spells searches a holds = sorted_searched p spells searches a (sorted a holds)

@@ -3,6 +3,8 @@ use Rattle.std.proofs.Common.{◌≡◌, ℕ, ℤ, ◌<◌, ◌≤◌, List, [],
 use Rattle.std.specs.Prelude.{Contains}
 use Rattle.ba_commands.specs.Lines.{lines_of}
 use Rattle.ba_commands.specs.Weights.{said_of, statement_weight}
+use Rattle.ba_derivations.specs.Derivations.{AreTooMany}
+use Rattle.ba_localise.specs.Verdicts.{IsSpent}
 use Rattle.ba_numbers.specs.declared.ids.At.{At}
 use Rattle.ba_numbers.specs.declared.ids.StmtId.{StmtId}
 use Rattle.ba_tree.specs.Least.{AreLeast, Judge, WeightList, judge_of, weight_of}
@@ -15,14 +17,13 @@ use Rattle.ba_tree.specs.declared.tree.StmtInfo.{StmtInfo}
 use Rattle.ba_types.specs.Trees.{tree_of}
 use Rattle.ba_tree_laws.specs.Equivalent.{AreEquivalent}
 use Rattle.ba_tree_laws.proofs.Equivalence.{equivalent}
-use Rattle.ba_tool.specs.Answers.{AreAccepted, AreLeastSets, Answers, Fails, Locates, RunsTo, RunsToAt, input_of, unit_limit, weights_of}
+use Rattle.ba_tool.specs.Answers.{Agree, AreAccepted, AreLeastSets, Answers, Fails, HasTooMany, IsOfSearch, Locates, RunsTo, RunsToAt, Searches, Spends, input_of, judge_in, unit_limit, weights_of}
 use Rattle.ba_tool.specs.Report.{report_text, statement_at}
 use Rattle.ba_tool.specs.declared.answers.Answer.{Answer}
 use Rattle.ba_tool.specs.declared.answers.Answer.TheVariants as answer
 use Rattle.ba_tool.specs.declared.files.Texts.{Texts}
 use Rattle.ba_tool.specs.declared.jobs.Job.{Job}
-use Rattle.ba_tool.proofs.Stages.{one_row}
-use Rattle.ba_tool.proofs.Straights.{straight_too}
+use Rattle.ba_tool.proofs.Stages.{one_row, searched}
 
 module _ (j : Job) (x : Texts) (p q : Program) (same : tree_of p ≡ tree_of q) where
   equal : AreEquivalent p q
@@ -50,19 +51,35 @@ module _ (j : Job) (x : Texts) (p q : Program) (same : tree_of p ≡ tree_of q) 
   fails_too : Fails j x p → Fails j x q
   fails_too (end, runs, fails) = (end, runs_too end runs, fails)
 
+  searches_too : Searches j x p → Searches j x q
+  searches_too (is, fails) = (is, fails_too fails)
+
   weights_too : weights_of p x ≡ weights_of q x
   weights_too = λ i. map
       (λ (info : StmtInfo). statement_weight info.kind (said_of (lines_of x.weights) info.at.line))
       (equal.statements i)
 
-  least_too : (sets : List (List ℕ)) → AreLeastSets j x p sets → AreLeastSets j x q sets
-  least_too sets least = subst (λ (weights : WeightList).
-      AreLeast weights (judge_of q (input_of q x) j.bounds) sets) weights_too
+  verdict_too : (Holds : WeightList → Judge → Type 0) → Holds (weights_of p x) (judge_in j x p)
+      → Holds (weights_of q x) (judge_in j x q)
+  verdict_too Holds holds = subst (λ (weights : WeightList). Holds weights (judge_in j x q)) weights_too
       (subst (λ (values : List (List ℤ)).
-      AreLeast (weights_of p x) (judge_of q (record { values = values }) j.bounds) sets)
+      Holds (weights_of p x) (judge_of q (record { values = values }) j.bounds))
       (equal.input_numbers x.input)
-      (subst (λ (good : Judge). AreLeast (weights_of p x) good sets)
-      (equal.judges (input_of p x) j.bounds) least))
+      (subst (λ (good : Judge). Holds (weights_of p x) good) (equal.judges (input_of p x) j.bounds) holds))
+
+  least_too : (sets : List (List ℕ)) → AreLeastSets j x p sets → AreLeastSets j x q sets
+  least_too sets least = verdict_too (λ weights good. AreLeast weights good sets) least
+
+  many_too : (weight most : ℕ) → HasTooMany j x p weight most → HasTooMany j x q weight most
+  many_too weight most it = record {
+    found = it.found;
+    too_many = verdict_too (λ weights good. AreTooMany weights good weight most it.found) it.too_many;
+    limit = it.limit;
+  }
+
+  spends_too : (conflicts : ℕ) → Spends j x p conflicts → Spends j x q conflicts
+  spends_too conflicts (spent, all) =
+      (verdict_too (λ weights good. IsSpent weights good conflicts) spent, all)
 
   locates_too : (bytes : List ℕ) → Locates j x p bytes → Locates j x q bytes
   locates_too bytes it = record {
@@ -72,6 +89,7 @@ module _ (j : Job) (x : Texts) (p q : Program) (same : tree_of p ≡ tree_of q) 
     some = it.some;
     each_weighs = subst (λ (weights : WeightList). (set : List ℕ) → Contains it.sets set
         → weight_of weights set ≡ it.weight) weights_too it.each_weighs;
+    few = it.few;
     reported = it.reported ∙ ap (λ infos. report_text x.program infos it.weight it.sets) equal.statements;
   }
 
@@ -84,16 +102,20 @@ module _ (j : Job) (x : Texts) (p q : Program) (same : tree_of p ≡ tree_of q) 
   row_too (answer.BeyondBound at) runs = runs_at_too outcome.Beyond at runs
   row_too (answer.AssertFails at) (is, runs) = (is, runs_at_too outcome.AssertFails at runs)
   row_too (answer.Trap at) (is, runs) = (is, runs_at_too outcome.Trap at runs)
-  row_too answer.NotBuilt (is, fails, crooked) =
-      (is, fails_too fails, λ straight. crooked (straight_too q p (sym same) straight))
-  row_too answer.NoRepair (is, fails, straight, least) =
-      (is, fails_too fails, straight_too p q same straight, least_too [] least)
-  row_too (answer.Located bytes) (is, fails, straight, it) =
-      (is, fails_too fails, straight_too p q same straight, locates_too bytes it)
+  row_too answer.NoRepair (searches, least) = (searches_too searches, least_too [] least)
+  row_too (answer.Located bytes) (searches, it) = (searches_too searches, locates_too bytes it)
+  row_too (answer.TooManySets weight most) (searches, it) =
+      (searches_too searches, many_too weight most it)
+  row_too (answer.BudgetSpent conflicts) (searches, it) = (searches_too searches, spends_too conflicts it)
+  row_too answer.NotBuilt none = absurd none
   row_too answer.BadWords none = absurd none
   row_too (answer.BadProgram fault) none = absurd none
   row_too (answer.Unreadable which) none = absurd none
   row_too (answer.TooLong which) none = absurd none
 
-  pub same_row : (a b : Answer) → Answers j x p a → Answers j x q b → a ≡ b
+  pub same_row : (a b : Answer) → Answers j x p a → Answers j x q b → Agree a b
   same_row a b row other = one_row j x q a b (row_too a row) other
+
+  -- where a program fails that is to be localised, the answer of its text is of a search
+  pub searched_too : Searches j x p → (a : Answer) → Answers j x q a → IsOfSearch a
+  searched_too searches a row = searched j x q (searches_too searches) a row

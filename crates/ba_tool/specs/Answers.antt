@@ -1,15 +1,17 @@
 -- WHAT A JOB COMES TO, where its files have these texts: a row for each answer. It says nothing of a world.
 
-use Rattle.std.specs.Prelude.{◌≡◌, ◌≢◌, ℕ, ◌<◌, ◌≤◌, Bool, true, false, Option, None, Some, List, [], Contains}
+use Rattle.std.specs.Prelude.{◌≡◌, ◌≢◌, ℕ, ◌<◌, ◌≤◌, Bool, true, false, Option, None, Some, List, [], Contains, length}
 use Rattle.ba_commands.specs.Weights.{bad_line, weights_in}
 use Rattle.ba_interp.specs.declared.input.InputError.{InputError}
 use Rattle.ba_interp.specs.declared.input.InputError.TheVariants as error
 use Rattle.ba_numbers.specs.declared.ids.At.{At}
 use Rattle.ba_numbers.specs.declared.ids.StmtId.{StmtId}
-use Rattle.ba_straight.specs.Forms.{IsStraight}
+use Rattle.ba_derivations.specs.Derivations.{AreTooMany}
+use Rattle.ba_derivations.specs.declared.verdict.Verdict.{Verdict}
+use Rattle.ba_localise.specs.Verdicts.{IsSpent, IsVerdict}
 use Rattle.ba_tree.specs.Inputs.{InputFault as TextFault, input_fault, input_values}
 use Rattle.ba_tree.specs.Inputs as inputs
-use Rattle.ba_tree.specs.Least.{AreLeast, WeightList, judge_of, weight_of}
+use Rattle.ba_tree.specs.Least.{AreLeast, Judge, WeightList, judge_of, weight_of}
 use Rattle.ba_tree.specs.Run.{plain_run}
 use Rattle.ba_tree.specs.Units.{units_of}
 use Rattle.ba_tree.specs.declared.run.Input.{Input}
@@ -31,6 +33,13 @@ use Rattle.ba_tool.specs.declared.jobs.Task.TheVariants as task
 -- how many units a program may have
 abbrev pub unit_limit : ℕ
 unit_limit = 20000
+
+-- how many conflicts a search may have, and how many sets it may list
+abbrev pub conflict_limit : ℕ
+conflict_limit = 200000
+
+abbrev pub set_limit : ℕ
+set_limit = 1000
 
 -- THE INPUT that a text writes for a program, and THE WEIGHTS that one gives its statements
 
@@ -84,19 +93,44 @@ is_failure _ = false
 abbrev pub Fails : Job → Texts → Program → Type 0
 Fails j x p = (end : Outcome) × RunsTo j x p end × (is_failure end ≡ true)
 
+-- which choices make a good run on the input where a set of statements is relaxed
+abbrev pub judge_in : Job → Texts → Program → Judge
+judge_in j x p = judge_of p (input_of p x) j.bounds
+
 -- THE LEAST SETS: those whose change could repair the run
 abbrev pub AreLeastSets : Job → Texts → Program → List (List ℕ) → Type 0
-AreLeastSets j x p = AreLeast (weights_of p x) (judge_of p (input_of p x) j.bounds)
+AreLeastSets j x p = AreLeast (weights_of p x) (judge_in j x p)
 
--- bytes report all least sets, each once and in order, of which there are some, with the weight of each of
--- them
+-- bytes report all least sets, each once and in order, of which there are some, and no more than may be
+-- listed, with the weight of each of them
 pub record Locates (j : Job) (x : Texts) (p : Program) (bytes : List ℕ) : Type 0 where
   pub weight : ℕ
   pub sets : List (List ℕ)
   pub least : AreLeastSets j x p sets
   pub some : sets ≢ []
   pub each_weighs : (set : List ℕ) → Contains sets set → weight_of (weights_of p x) set ≡ weight
+  pub few : length sets ≤ set_limit
   pub reported : bytes ≡ report_text x.program p.statements weight sets
+
+-- there are more least sets than may be listed, each of this weight
+pub record HasTooMany (j : Job) (x : Texts) (p : Program) (weight most : ℕ) : Type 0 where
+  pub found : List (List ℕ)
+  pub too_many : AreTooMany (weights_of p x) (judge_in j x p) weight most found
+  pub limit : most ≡ set_limit
+
+-- steps over a faithful encoding of its runs hold as many conflicts as a search may have, and derive that
+-- these are spent
+abbrev pub Spends : Job → Texts → Program → ℕ → Type 0
+Spends j x p conflicts =
+    IsSpent (weights_of p x) (judge_in j x p) conflicts × (conflicts ≡ conflict_limit)
+
+-- a program that fails is to be localised
+abbrev pub Searches : Job → Texts → Program → Type 0
+Searches j x p = (j.task ≡ task.Localise) × Fails j x p
+
+-- what a search for them comes to
+abbrev pub IsVerdictIn : Job → Texts → Program → Verdict → Type 0
+IsVerdictIn j x p = IsVerdict (weights_of p x) (judge_in j x p) conflict_limit set_limit
 
 -- THE ROWS for a program that the text spells
 abbrev pub Answers : Job → Texts → Program → Answer → Type 0
@@ -107,14 +141,28 @@ Answers j x p answer.NotFailing = RunsTo j x p outcome.Done
 Answers j x p (answer.BeyondBound at) = RunsToAt j x p outcome.Beyond at
 Answers j x p (answer.AssertFails at) = (j.task ≡ task.Run) × RunsToAt j x p outcome.AssertFails at
 Answers j x p (answer.Trap at) = (j.task ≡ task.Run) × RunsToAt j x p outcome.Trap at
-Answers j x p answer.NotBuilt = (j.task ≡ task.Localise) × Fails j x p × (IsStraight p → ⊥)
-Answers j x p answer.NoRepair = (j.task ≡ task.Localise) × Fails j x p × IsStraight p × AreLeastSets j x p []
-Answers j x p (answer.Located bytes) =
-    (j.task ≡ task.Localise) × Fails j x p × IsStraight p × Locates j x p bytes
+Answers j x p answer.NoRepair = Searches j x p × AreLeastSets j x p []
+Answers j x p (answer.Located bytes) = Searches j x p × Locates j x p bytes
+Answers j x p (answer.TooManySets weight most) = Searches j x p × HasTooMany j x p weight most
+Answers j x p (answer.BudgetSpent conflicts) = Searches j x p × Spends j x p conflicts
 Answers j x p _ = ⊥
 
--- THE ROWS: the text of the program spells none; or it spells one, and a row for it holds. No texts have two
--- answers (`one_answer`).
+-- THE ROWS: the text of the program spells none; or it spells one, and a row for it holds. The answers of the
+-- same texts agree (`one_answer`).
 abbrev pub IsAnswer : Job → Texts → Answer → Type 0
 IsAnswer j x (answer.BadProgram fault) = IsFault x.program fault
 IsAnswer j x a = (p : Program) × Spells x.program p × Answers j x p a
+
+-- the answers of a search
+abbrev pub IsOfSearch : Answer → Type 0
+IsOfSearch (answer.Located bytes) = Unit {0}
+IsOfSearch answer.NoRepair = Unit {0}
+IsOfSearch (answer.TooManySets weight most) = Unit {0}
+IsOfSearch (answer.BudgetSpent conflicts) = Unit {0}
+IsOfSearch _ = ⊥
+
+-- TWO ANSWERS AGREE: they are one, or both are of a search and one of them is that its conflicts are spent
+pub data Agree (a b : Answer) : Type 0 where
+  are_one : a ≡ b → Agree a b
+  first_spent : (conflicts : ℕ) → a ≡ answer.BudgetSpent conflicts → IsOfSearch b → Agree a b
+  second_spent : (conflicts : ℕ) → b ≡ answer.BudgetSpent conflicts → IsOfSearch a → Agree a b

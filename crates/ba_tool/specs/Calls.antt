@@ -9,7 +9,9 @@ use Rattle.ba_world.specs.Read.{IsReadWhole, Stopped, StoppedPast}
 use Rattle.ba_world.specs.declared.read.ReadFileError.{ReadFileError}
 use Rattle.ba_world.specs.declared.read.ReadFileError.TheVariants as read
 use Rattle.ba_world.specs.World.{HasPrintShortage, HasReadFault, HasWriteFault, OnlyPrints, OnlyReads, Outside, Prints, PrintsPrefix}
-use Rattle.ba_tool.specs.Answers.{IsAnswer}
+use Rattle.ba_tree.specs.declared.tree.Program.{Program}
+use Rattle.ba_types.specs.Spelling.{Spells}
+use Rattle.ba_tool.specs.Answers.{IsAnswer, Searches}
 use Rattle.ba_tool.specs.Jobs.{request_of}
 use Rattle.ba_tool.specs.Printed.{status_of, text_of}
 use Rattle.ba_tool.specs.declared.answers.Answer.{Answer}
@@ -151,6 +153,10 @@ Says c status.BadInput = (fault : InputFault) × Answered c (answer.BadInput fau
 Says c status.TooLarge = Answered c answer.TooLarge
 Says c status.BeyondBound = (at : At) × Answered c (answer.BeyondBound at)
 Says c status.NoRepair = Answered c answer.NoRepair
+-- there are more least sets than may be listed, and this is their weight
+Says c status.TooManySets = (weight most : ℕ) × Answered c (answer.TooManySets weight most)
+-- the conflicts of a search were spent
+Says c status.BudgetSpent = (conflicts : ℕ) × Answered c (answer.BudgetSpent conflicts)
 Says c status.ReadFault = (which : File) × Answered c (answer.Unreadable which)
 -- a fault of writing rose, and a prefix of the text of an answer was printed
 Says c status.WriteFault = HasWriteFault c.before c.after × AnsweredInPart c
@@ -172,12 +178,30 @@ pub record WritesNoFile (old new : Outside) : Type 0 where
 
 -- THE OTHER WAY ROUND, from words and told files to the status
 
--- the call ends with this status, unless a fault or want of memory comes in its place
-pub data EndsWith (c : Call) (wanted result : Status) : Type 0 where
-  as_wanted : result ≡ wanted → EndsWith c wanted result
+-- the call ends with one of these statuses, unless a fault or want of memory comes in its place
+pub data EndsWith (c : Call) (wanted : Status → Type 0) (result : Status) : Type 0 where
+  as_wanted : wanted result → EndsWith c wanted result
   read_fault : result ≡ status.ReadFault → HasReadFault c.before c.after → EndsWith c wanted result
   write_fault : result ≡ status.WriteFault → HasWriteFault c.before c.after → EndsWith c wanted result
   memory : result ≡ status.Memory → EndsWith c wanted result
+
+-- a search ends with the report of the least sets, with that there are none, or more than may be listed; or
+-- with that its conflicts are spent
+pub data IsEndOfSearch : Status → Type 0 where
+  located : IsEndOfSearch status.Ok
+  no_repair : IsEndOfSearch status.NoRepair
+  too_many : IsEndOfSearch status.TooManySets
+  spent : IsEndOfSearch status.BudgetSpent
+
+-- How a call ends to which an answer is due: with the answer's status. A search may end with that its
+-- conflicts are spent in its place; and where this is due, it may also end otherwise.
+abbrev pub IsEndFor : Answer → Status → Type 0
+IsEndFor (answer.Located bytes) result = (result ≡ status.Ok) ⊎ (result ≡ status.BudgetSpent)
+IsEndFor answer.NoRepair result = (result ≡ status.NoRepair) ⊎ (result ≡ status.BudgetSpent)
+IsEndFor (answer.TooManySets weight most) result =
+    (result ≡ status.TooManySets) ⊎ (result ≡ status.BudgetSpent)
+IsEndFor (answer.BudgetSpent conflicts) result = IsEndOfSearch result
+IsEndFor due result = result ≡ status_of due
 
 -- the world tells the file of this name: it has these bytes
 abbrev pub TellsFile : Outside → Word → List ℕ → Type 0
@@ -232,3 +256,15 @@ abbrev pub IsDue : Request → Outside → Answer → Type 0
 IsDue request.Refused before a = a ≡ answer.BadWords
 IsDue request.NotBuilt before a = a ≡ answer.NotBuilt
 IsDue (request.Wanted j) before a = IsDueToJob j before a
+
+-- words ask for the least sets of a program, and the world tells all files: none is too long, the program's
+-- text spells it, and its run fails
+pub record TellsFailing (asked : Request) (before : Outside) : Type 0 where
+  pub job : Job
+  pub wanted : asked ≡ request.Wanted job
+  pub texts : Texts
+  pub told : TellsAll before job texts
+  pub short : first_long texts ≡ None
+  pub program : Program
+  pub spelled : Spells texts.program program
+  pub searches : Searches job texts program

@@ -46,13 +46,22 @@ pub enum Answer {
     BeyondBound(At),
     /// No set of statements could repair the run.
     NoRepair,
+    /// There are more least sets than may be listed.
+    TooManySets {
+        /// The weight of each.
+        weight: u64,
+        /// How many sets may be listed.
+        most: u32,
+    },
+    /// The search spent so many conflicts before it found out the least sets.
+    BudgetSpent(u64),
     /// This file cannot be read.
     Unreadable(File),
     /// This file is too long.
     TooLong(File),
     /// This line of the weights is the first that is refused.
     BadWeights(u64),
-    /// The command, or the program, is of a form that isn't built yet.
+    /// The command is of a form that isn't built yet.
     NotBuilt,
 }
 
@@ -70,6 +79,8 @@ impl Answer {
             Answer::TooLarge => Status::TooLarge,
             Answer::BeyondBound(_) => Status::BeyondBound,
             Answer::NoRepair => Status::NoRepair,
+            Answer::TooManySets { .. } => Status::TooManySets,
+            Answer::BudgetSpent(_) => Status::BudgetSpent,
             Answer::Unreadable(_) => Status::ReadFault,
             Answer::TooLong(_) => Status::TooLong,
             Answer::BadWeights(_) => Status::BadWeights,
@@ -104,6 +115,8 @@ fn push_answer(answer: &Answer, text: &mut Vec<u8>) -> Result<(), AllocError>
         Answer::TooLarge => text.extend_from_slice(b"refused: too large\n"),
         Answer::BeyondBound(at) => push_with_place(b"beyond bound at ", *at, text),
         Answer::NoRepair => text.extend_from_slice(b"no repair\n"),
+        Answer::TooManySets { weight, most } => push_too_many(*weight, *most, text),
+        Answer::BudgetSpent(conflicts) => push_spent(*conflicts, text),
         Answer::Unreadable(file) => push_with_file(*file, b" cannot be read\n", text),
         Answer::TooLong(file) => push_with_file(*file, b" is longer than 65536 bytes\n", text),
         Answer::BadWeights(line) => push_line(*line, text),
@@ -232,4 +245,56 @@ fn push_line(line: u64, text: &mut Vec<u8>) -> Result<(), AllocError>
 {
     push_numbered(b"refused: weights, line ", line, text)?;
     text.extend_from_slice(b"\n")
+}
+
+/// Adds a number between these words.
+fn push_between(
+    before: &[u8],
+    number: u64,
+    after: &[u8],
+    text: &mut Vec<u8>,
+) -> Result<(), AllocError>
+    ensures { OnOk result (text.new.items
+        ≡ text.old.items ++ (before.now ++ decimal number ++ after.now)) }
+{
+    push_numbered(before, number, text)?;
+    text.extend_from_slice(after)
+}
+
+/// Adds two numbers, each behind these words, and a line feed.
+fn push_two(
+    before_first: &[u8],
+    first: u64,
+    before_second: &[u8],
+    second: u64,
+    text: &mut Vec<u8>,
+) -> Result<(), AllocError>
+    ensures { OnOk result (text.new.items ≡ text.old.items ++ (before_first.now
+        ++ decimal first ++ before_second.now ++ decimal second ++ codes "\n")) }
+{
+    push_numbered(before_first, first, text)?;
+    push_numbered(before_second, second, text)?;
+    text.extend_from_slice(b"\n")
+}
+
+/// Adds that there are more sets of this weight than may be listed.
+fn push_too_many(weight: u64, most: u32, text: &mut Vec<u8>) -> Result<(), AllocError>
+    ensures { OnOk result (text.new.items
+        ≡ text.old.items ++ text_of (Answer.TooManySets weight most)) }
+{
+    push_two(
+        b"too many sets: weight ",
+        weight,
+        b", more than ",
+        u64::from(most),
+        text,
+    )
+}
+
+/// Adds that so many conflicts are spent.
+fn push_spent(conflicts: u64, text: &mut Vec<u8>) -> Result<(), AllocError>
+    ensures { OnOk result (text.new.items
+        ≡ text.old.items ++ text_of (Answer.BudgetSpent conflicts)) }
+{
+    push_between(b"budget spent: ", conflicts, b" conflicts\n", text)
 }

@@ -1,26 +1,26 @@
 //! What a job comes to, where its files have these texts.
 
-ghost use Rattle.std.specs.Prelude.{◌≡◌, ◌≤◌, ◌<◌, ◌^◌, true, Some, length, unwrap_or, IfOk};
-ghost use Rattle.ba_tree.specs.Least.{AreWeightsOf, weight_at, weight_of};
-ghost use Rattle.ba_tree.specs.Run.{are_bounds, plain_run};
-ghost use Rattle.ba_tool.specs.Answers.{Answers, Fails, IsAnswer, RunsTo, input_answer, input_of, program_answer, weights_of};
+ghost use Rattle.std.specs.Prelude.{◌≡◌, ◌≤◌, true, Some, length, IfOk};
+ghost use Rattle.ba_tree.specs.Least.{AreWeightsOf};
+ghost use Rattle.ba_tree.specs.Run.{are_bounds, fits, plain_run};
+ghost use Rattle.ba_tool.specs.Answers.{Answers, IsAnswer, IsVerdictIn, RunsTo, Searches, input_answer, input_of, program_answer, weights_of};
 ghost use Rattle.ba_tool.specs.Calls.{limit};
 ghost use Rattle.ba_tool.specs.Report.{statement_at};
 ghost use Rattle.ba_tool.specs.declared.answers.Answer.{Answer};
 ghost use Rattle.ba_tool.specs.declared.jobs.Job.{Job};
-ghost use Rattle.ba_tool.specs.declared.jobs.Task.{Task};
 
 use crate::answers::{Answer, InputFault};
 use crate::faults::{Fault, read_program};
 use crate::files::Texts;
 use crate::jobs::{Job, Task};
 use crate::report::{report, statement_at};
+use crate::rules::{keep, luby};
 use ba_commands::{WeightsError, read_weights};
+use ba_derivations::Verdict;
 use ba_interp::{InputError, read_input, run};
 use ba_items::Items;
+use ba_localise::localise;
 use ba_numbers::ids::{At, StmtId};
-use ba_straight::forms::straight_of;
-use ba_straight::sets::least_sets;
 use ba_tree::run::{Allowed, Bounds, Input, Outcome, Weights};
 use ba_tree::tree::Program;
 use ba_unroll::units;
@@ -29,28 +29,11 @@ use std::alloc::{AllocError, Global};
 /// How many units a program may have.
 const UNIT_LIMIT: u32 = 20000;
 
-/// The weight of the statement of this number; 0 where it has none.
-fn weight_at(entries: &[Option<u32>], number: u32) -> u32
-    ensures { result ≡ unwrap_or (weight_at entries.now number) 0 }
-{
-    if number == 0 {
-        return 0;
-    }
-    let place = (number - 1) as usize;
-    entries.get(place).copied().flatten().unwrap_or(0)
-}
+/// How many conflicts a search may have.
+const CONFLICT_LIMIT: u64 = 200000;
 
-/// The weight of a set of statements: the sum of its members' weights.
-fn weight_of(entries: &[Option<u32>], set: &[u32]) -> u64
-    requires { length set.now < 2 ^ 32 }
-    ensures { result ≡ weight_of entries.now set.now }
-{
-    let mut weight = 0;
-    for number in set {
-        weight += u64::from(weight_at(entries, *number));
-    }
-    weight
-}
+/// How many sets may be listed.
+const SET_LIMIT: u32 = 1000;
 
 /// Where a statement begins.
 fn position_of(program: &Program, stmt: StmtId) -> At
@@ -158,6 +141,8 @@ fn judge_run(
     outcome: Outcome,
 ) -> Result<Answer, AllocError>
     requires input { input.now ≡ input_of program.now texts.now }
+    requires fits { fits program.now input.now ≡ true }
+    requires bounds { are_bounds job.now.bounds ≡ true }
     requires weights { weights.now.of ≡ weights_of program.now texts.now }
     requires weighed { AreWeightsOf program.now weights.now.of }
     requires runs { RunsTo job.now texts.now program.now outcome }
@@ -168,48 +153,75 @@ fn judge_run(
         Outcome::Beyond(stmt) => Ok(Answer::BeyondBound(position_of(program, stmt))),
         Outcome::AssertFails(stmt) => match job.task {
             Task::Run => Ok(Answer::AssertFails(position_of(program, stmt))),
-            Task::Localise => locate(alloc, texts, program, input, weights),
+            Task::Localise => locate(alloc, job, texts, program, input, weights),
         },
         Outcome::Trap(stmt) => match job.task {
             Task::Run => Ok(Answer::Trap(position_of(program, stmt))),
-            Task::Localise => locate(alloc, texts, program, input, weights),
+            Task::Localise => locate(alloc, job, texts, program, input, weights),
         },
         // Nothing may be relaxed, so no choice is missing.
         Outcome::WrongChoices => unreachable!(),
     }
 }
 
-/// What a job that localises comes to where the run as written fails: the report of the least sets,
-/// if there are any; a program that is not of the first form is not built.
+/// What a job that localises comes to where the run as written fails: what a search for the least
+/// sets finds.
 ///
 /// The one error is want of memory.
 fn locate(
     alloc: Global,
+    job: &Job,
     texts: &Texts,
     program: &Program,
     input: &Input,
     weights: &Weights,
 ) -> Result<Answer, AllocError>
     requires input { input.now ≡ input_of program.now texts.now }
+    requires fits { fits program.now input.now ≡ true }
+    requires bounds { are_bounds job.now.bounds ≡ true }
     requires weights { weights.now.of ≡ weights_of program.now texts.now }
     requires weighed { AreWeightsOf program.now weights.now.of }
-    ensures { IfOk result (λ answer. (job : Job) → job.task ≡ Task.Localise
-        → Fails job texts.now program.now → Answers job texts.now program.now answer) }
+    requires searches { Searches job.now texts.now program.now }
+    ensures { IfOk result (λ answer. Answers job.now texts.now program.now answer) }
 {
-    let Some(straight) = straight_of(alloc, program)? else {
-        return Ok(Answer::NotBuilt);
-    };
-    let sets = least_sets(alloc, &straight, input, weights)?;
-    let Some(first) = sets.first() else {
-        return Ok(Answer::NoRepair);
-    };
-    let weight = weight_of(weights.of.as_slice(), first.as_slice());
-    let bytes = report(
+    let verdict = localise(
         alloc,
-        texts.program.as_slice(),
         program,
-        weight,
-        sets.as_slice(),
+        input,
+        job.bounds,
+        weights,
+        CONFLICT_LIMIT,
+        SET_LIMIT,
+        luby,
+        keep,
     )?;
-    Ok(Answer::Located(Items::from_vec(bytes)))
+    verdict_answer(alloc, texts, program, verdict)
+}
+
+/// The answer for the verdict of a search.
+///
+/// The one error is want of memory.
+fn verdict_answer(
+    alloc: Global,
+    texts: &Texts,
+    program: &Program,
+    verdict: Verdict,
+) -> Result<Answer, AllocError>
+    ensures { IfOk result (λ answer. (job : Job) → Searches job texts.now program.now
+        → IsVerdictIn job texts.now program.now verdict
+        → Answers job texts.now program.now answer) }
+{
+    match verdict {
+        Verdict::Located { weight, sets } => {
+            let source = texts.program.as_slice();
+            let bytes = report(alloc, source, program, weight, sets.as_slice())?;
+            Ok(Answer::Located(Items::from_vec(bytes)))
+        }
+        Verdict::NoRepair => Ok(Answer::NoRepair),
+        Verdict::TooMany { weight, .. } => Ok(Answer::TooManySets {
+            weight,
+            most: SET_LIMIT,
+        }),
+        Verdict::Spent => Ok(Answer::BudgetSpent(CONFLICT_LIMIT)),
+    }
 }

@@ -2,10 +2,11 @@
 
 ghost use Rattle.std.specs.Prelude.{◌≡◌, ◌++◌, ◌+◌, ◌≤◌, take_while, flat_map, length, decimal, IfOk, OnOk};
 ghost use Rattle.ba_bytes.specs.Classes.{is_blank};
+ghost use Rattle.ba_derivations.specs.Derivations.{sets_of};
 ghost use Rattle.ba_tool.specs.Report.{Reports, info_line, kind_word, line_at, stmt_place_text, set_lines, sets_lines, source_text, statement_at, trimmed, trimmed_end};
 
 use ba_bytes::classes::is_blank;
-use ba_items::Items;
+use ba_derivations::FoundSet;
 use ba_numbers::ids::At;
 use ba_tree::tree::{Program, StmtInfo, StmtKind};
 use itoa::Buffer;
@@ -148,15 +149,15 @@ fn push_set(
 fn push_sets(
     source: &[u8],
     statements: &[StmtInfo],
-    sets: &[Items<u32>],
+    sets: &[FoundSet],
     text: &mut Vec<u8>,
 ) -> Result<(), AllocError>
     ensures { OnOk result (text.new.items ≡ text.old.items
-        ++ sets_lines source.now statements.now 1 sets.now) }
+        ++ sets_lines source.now statements.now 1 (sets_of sets.now)) }
 {
     let mut number = 1;
     for set in sets {
-        push_set(source, statements, number, set.as_slice(), text)?;
+        push_set(source, statements, number, set.groups.as_slice(), text)?;
         number += 1;
     }
     Ok(())
@@ -172,9 +173,10 @@ pub fn report(
     source: &[u8],
     program: &Program,
     weight: u64,
-    sets: &[Items<u32>],
+    sets: &[FoundSet],
 ) -> Result<Vec<u8>, AllocError>
-    ensures { IfOk result (λ bytes. Reports bytes.items source.now program.now weight sets.now) }
+    ensures { IfOk result (λ bytes.
+        Reports bytes.items source.now program.now weight (sets_of sets.now)) }
 {
     let mut text = Vec::from_slice(alloc, b"located: weight ")?;
     push_number(weight, &mut text)?;

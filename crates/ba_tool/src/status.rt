@@ -23,6 +23,10 @@ pub enum Status {
     BeyondBound = 6,
     /// No set of statements could repair the run.
     NoRepair = 7,
+    /// There are more least sets than may be listed.
+    TooManySets = 8,
+    /// The search spent its conflicts before it found out the least sets.
+    BudgetSpent = 9,
     /// A file could not be read.
     ReadFault = 11,
     /// A text could not be printed whole.
@@ -33,7 +37,7 @@ pub enum Status {
     TooLong = 14,
     /// A line of the weights is refused.
     BadWeights = 15,
-    /// The command, or the program, is of a form that is not built yet.
+    /// The command is of a form that is not built yet.
     NotBuilt = 16,
 }
 

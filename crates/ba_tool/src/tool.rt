@@ -3,9 +3,9 @@
 ghost use Rattle.std.specs.Prelude.{◌≡◌, ◌⊎◌, ◌+◌, ◌*◌, ◌≤◌, true, Some, map, IfOk};
 ghost use Rattle.ba_world.specs.Read.{piece_size};
 ghost use Rattle.ba_world.specs.World.{HasPrintShortage, HasWriteFault, OnlyPrints, OnlyReads, Prints, PrintsPrefix};
-ghost use Rattle.ba_tool.specs.Calls.{EndsWith, IsDue, IsShown, JobComesTo, RequestComesTo, Says, WritesNoFile, answer_for, call, limit};
+ghost use Rattle.ba_tool.specs.Calls.{EndsWith, IsDue, IsEndFor, IsEndOfSearch, IsShown, JobComesTo, RequestComesTo, Says, TellsFailing, WritesNoFile, answer_for, call, limit};
 ghost use Rattle.ba_tool.specs.Jobs.{request_of};
-ghost use Rattle.ba_tool.specs.Printed.{status_of, text_of};
+ghost use Rattle.ba_tool.specs.Printed.{text_of};
 ghost use Rattle.ba_tree.specs.Run.{are_bounds};
 ghost use Rattle.ba_tool.specs.declared.answers.Answer.{Answer};
 
@@ -125,7 +125,13 @@ where
     ensures where_due { (due : Answer)
         → IsDue (request_of (map (λ word. word.now) words.now)) (W.outside world.old) due
         → EndsWith (call words.now (W.outside world.old) (W.outside world.new))
-        (status_of due) result }
+        (IsEndFor due) result }
+
+    // A search for the least sets of a program that fails comes to an end.
+    ensures where_failing { TellsFailing (request_of (map (λ word. word.now) words.now))
+        (W.outside world.old)
+        → EndsWith (call words.now (W.outside world.old) (W.outside world.new))
+        IsEndOfSearch result }
 
     // No file is written, and of each that is read come no more bytes than the limit and one piece.
     ensures stays { WritesNoFile (W.outside world.old) (W.outside world.new) }
