@@ -128,7 +128,7 @@ Spends j x p conflicts =
 abbrev pub Searches : Job → Texts → Program → Type 0
 Searches j x p = (j.task ≡ task.Localise) × Fails j x p
 
--- what a search for them comes to
+-- what a search for the least sets comes to
 abbrev pub IsVerdictIn : Job → Texts → Program → Verdict → Type 0
 IsVerdictIn j x p = IsVerdict (weights_of p x) (judge_in j x p) conflict_limit set_limit
 

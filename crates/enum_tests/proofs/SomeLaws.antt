@@ -84,7 +84,6 @@ some_clause n m some same = grind (arith, nat_tests)
 pub readable_of : (encoded : Encoded) → encoded.places ≡ [] →
     ((v : Assignment) → all_true v encoded.formula.clauses ≡ true → false_groups v (softs_of encoded.groups) ≢ []) →
     IsReadable encoded is_empty_run
-unfolding choices_read
 readable_of encoded none some = record {
   some = some;
   good_run = λ v holds. ap (λ (ps : List PlaceReading). length (choices_read v ps) == 0) none;

@@ -399,7 +399,7 @@ const ROWS: [Row; 19] = [
         status: Status::Ok,
         printed: PAIR_OF_TEN_REPORT,
     },
-    // Twelve statements are of the form, and one more of each is not.
+    // Asserts alone can't be repaired; a run that meets every assertion need not be.
     Row {
         program: TWELVE_ASSERTS,
         input: "1",
@@ -409,8 +409,8 @@ const ROWS: [Row; 19] = [
     Row {
         program: THIRTEEN_ASSERTS,
         input: "1",
-        status: Status::NotBuilt,
-        printed: NOT_BUILT,
+        status: Status::NoRepair,
+        printed: NO_REPAIR,
     },
     Row {
         program: THIRTEEN_PARAMETERS,
@@ -699,6 +699,16 @@ fn call(
     Ok((ended, Vec::from_slice(alloc, world.printed())?))
 }
 
+/// Each of three statements alone could repair it.
+const BRANCHES_REPORT: &str = "located: weight 1, sets 3
+set 1:
+  4:9 condition | if (index != 1)
+set 2:
+  7:9 assignment | index = index + 2;
+set 3:
+  8:5 assignment | i = index;
+";
+
 const RUN: &[&str] = &["run", "p.c", "in.txt", "--bound", "5"];
 
 const LOCALISE: &[&str] = &["localise", "p.c", "in.txt", "--bound", "5"];
@@ -733,7 +743,7 @@ fn runs_programs(rt: HostRuntime) -> Result<(), Fail> {
             NOT_FAILING,
         ),
         (LOCALISE, BRANCHES, "0", Status::NotFailing, NOT_FAILING),
-        (LOCALISE, BRANCHES, "1", Status::NotBuilt, NOT_BUILT),
+        (LOCALISE, BRANCHES, "1", Status::Ok, BRANCHES_REPORT),
         (
             most_turns.as_slice(),
             THREE_LOOPS,
