@@ -21,7 +21,7 @@ pub record AreLocated (weights : WeightList) (good : Judge) (most weight : ℕ) 
   pub runs : All (IsGood good) sets
   pub few : length sets ≤ most
 
--- steps over a faithful encoding hold exactly so many conflicts, and derive that these are spent
+-- some steps over a faithful encoding hold exactly so many conflicts, and derive that these are spent; which steps a search put isn't said
 pub record IsSpent (weights : WeightList) (good : Judge) (conflicts : ℕ) : Type 0 where
   pub problem : Problem
   pub faithful : IsFaithful problem.formula problem.softs weights good

@@ -19,10 +19,10 @@ use ba_tree::tree::Program;
 use std::alloc::{AllocError, Global};
 
 /// The least sets of statements whose change could repair a run that is not good as written, each with the choices of such a run: all of
-/// them, in order, where they are at most `sets`; else one more than that; or that there is none; or that so many conflicts were spent
-/// before it was found out.
+/// them, in order, where they are at most `sets`; else one more than that; or that there is none; or that the conflicts are spent, where
+/// the search had so many before it found that out. Of these it is promised that some allowed steps over a faithful encoding have them.
 ///
-/// The search restarts and keeps learnt clauses by these rules, on which no answer depends. The one error is want of memory.
+/// The search restarts and keeps learnt clauses by these rules; what is promised holds for all of them. The one error is want of memory.
 pub fn localise<R, K>(
     alloc: Global,
     program: &Program,

@@ -155,7 +155,7 @@ Says c status.BeyondBound = (at : At) × Answered c (answer.BeyondBound at)
 Says c status.NoRepair = Answered c answer.NoRepair
 -- there are more least sets than may be listed, and this is their weight
 Says c status.TooManySets = (weight most : ℕ) × Answered c (answer.TooManySets weight most)
--- the conflicts of a search were spent
+-- some steps over a faithful encoding spend the conflicts that a search may have
 Says c status.BudgetSpent = (conflicts : ℕ) × Answered c (answer.BudgetSpent conflicts)
 Says c status.ReadFault = (which : File) × Answered c (answer.Unreadable which)
 -- a fault of writing rose, and a prefix of the text of an answer was printed

@@ -1,9 +1,9 @@
-//! The rules of the search, which its caller chooses.
+//! Rules of a search. Those of the caller are not used yet: the search goes by the ones of this file.
 
 ghost use Rattle.std.specs.Prelude.{◌≡◌, ◌↔◌, ◌⊎◌, ℕ, ◌+◌, ◌*◌, ◌≤◌, ◌<◌, ◌^◌, IsTrue};
 ghost use Rattle.ba_tool.specs.Luby.{IsLubyTerm};
 
-/// When the search restarts, and which learnt clauses it keeps. No answer depends on them.
+/// When a search restarts, and which learnt clauses it keeps.
 #[derive(Drop)]
 pub struct Rules<L, G, K> {
     /// How many conflicts the search has before it restarts, by the number of restarts so far,

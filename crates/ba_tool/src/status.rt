@@ -25,7 +25,8 @@ pub enum Status {
     NoRepair = 7,
     /// There are more least sets than may be listed.
     TooManySets = 8,
-    /// The search spent its conflicts before it found out the least sets.
+    /// The search spent its conflicts before it found out the least sets. Promised is that some allowed
+    /// steps over a faithful encoding have so many.
     BudgetSpent = 9,
     /// A file could not be read.
     ReadFault = 11,
