@@ -27,7 +27,8 @@ pub fn read_cell(nodes: &mut Nodes, cells: &[Word], index: &Word) -> Result<Word
     requires cells { AreCellsOf nodes.old cells.now }
     requires index { AreBitsOf nodes.old index.now }
     ensures bits { IfOk result (AreBitsOf nodes.new) }
-    ensures value { IfOk result (IsCellAt (λ free. number_of free nodes.old index.now) nodes.old cells.now nodes.new) }
+    ensures value { IfOk result (IsCellAt (λ free. number_of free nodes.old index.now) nodes.old
+        cells.now nodes.new) }
     ensures read { IfOk result (IsCellRead 8 nodes.old cells.now index.now nodes.new) }
     ensures extends { Extends nodes.old nodes.new }
     ensures count { gates_in nodes.new ≤ gates_in nodes.old + 96 * length cells.now }
@@ -51,7 +52,8 @@ pub fn write_cell(
     requires index { AreBitsOf nodes.old index.now }
     requires value { AreBitsOf nodes.old value.now }
     requires when { IsBitOf nodes.old when }
-    ensures cells { IfOk result (λ written. (length written.items ≡ length cells.now) × AreCellsOf nodes.new written.items) }
+    ensures cells { IfOk result (λ written. (length written.items ≡ length cells.now)
+        × AreCellsOf nodes.new written.items) }
     ensures value { IfOk result (λ written.
         AreWritten (λ free. truth free nodes.old when) (λ free. number_of free nodes.old index.now) nodes.old cells.now value.now nodes.new written.items) }
     ensures extends { Extends nodes.old nodes.new }
@@ -67,7 +69,9 @@ pub fn write_cell(
 /// Whether a bit of the index above those that tell the cells apart is true.
 fn is_beyond(nodes: &mut Nodes, index: &Word) -> Result<Bit, AllocError>
     requires { AreBitsOf nodes.old index.now }
-    ensures value { IfOk result (λ bit. HasValue nodes.new bit (λ free. nat_lt (low_number free nodes.old index.now 8) (number_of free nodes.old index.now))) }
+    ensures value { IfOk result (λ bit.
+        HasValue nodes.new bit (λ free.
+        nat_lt (low_number free nodes.old index.now 8) (number_of free nodes.old index.now))) }
     ensures extends { Extends nodes.old nodes.new }
     ensures count { gates_in nodes.new ≤ gates_in nodes.old + 24 }
 {
@@ -96,7 +100,9 @@ fn scatter(
     requires index { AreBitsOf nodes.old index.now }
     requires value { AreBitsOf nodes.old value.now }
     requires hit { IsBitOf nodes.old hit }
-    ensures written { OnOk result (Adds (λ free. truth free nodes.old hit) (λ free. low_number free nodes.old index.now bits) nodes.old cells.now value.now nodes.new written.old.items written.new.items) }
+    ensures written { OnOk result (Adds (λ free. truth free nodes.old hit)
+        (λ free. low_number free nodes.old index.now bits) nodes.old cells.now value.now nodes.new
+        written.old.items written.new.items) }
     ensures extends { Extends nodes.old nodes.new }
     ensures count { gates_in nodes.new ≤ gates_in nodes.old + (96 + bits) * length cells.now }
 {

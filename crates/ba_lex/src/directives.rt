@@ -132,7 +132,8 @@ fn is_same<'a>(
     old: &[TokenKind<'a>],
     body: &[Token<'a>],
 ) -> Result<bool, AllocError>
-    ensures { IfOk result (λ same. same ≡ pointwise same_kind old.now (body_from macros.now body.now)) }
+    ensures { IfOk result (λ same. same
+        ≡ pointwise same_kind old.now (body_from macros.now body.now)) }
 {
     if is_longer(macros, body, old.len()) {
         return Ok(false);
@@ -163,7 +164,8 @@ fn with_macro<'a>(
     name: &[u8],
     body: &[Token<'a>],
 ) -> Result<Macros<'a>, LexError>
-    ensures { Gives (λ m. m) result (with_macro macros.entry at name.now body.now (body_of macros.entry name.now)) }
+    ensures { Gives (λ m. m) result
+        (with_macro macros.entry at name.now body.now (body_of macros.entry name.now)) }
 {
     if let Some(old) = macros.body(name) {
         if !is_same(alloc, &macros, old.as_slice(), body)? {

@@ -24,8 +24,10 @@ pub fn pieces_stand_side_by_side()
 
 /// A word and a number are as long as they can be: the byte after one, where there is one, could not go on.
 pub fn words_and_numbers_are_longest()
-    ensures word { (bytes : List ℕ) → is_word_byte (slice_index bytes (prefix_len is_word_byte bytes)) ≡ false }
-    ensures number { (bytes : List ℕ) → is_number_byte (slice_index bytes (prefix_len is_number_byte bytes)) ≡ false }
+    ensures word { (bytes : List ℕ)
+        → is_word_byte (slice_index bytes (prefix_len is_word_byte bytes)) ≡ false }
+    ensures number { (bytes : List ℕ)
+        → is_number_byte (slice_index bytes (prefix_len is_number_byte bytes)) ≡ false }
 {}
 
 /// The first error stands, whatever follows it.

@@ -74,9 +74,11 @@ fn text_line<'a>(
     line: &[Piece<'a>],
 ) -> Result<(), LexError>
     requires { length out.old.items ≤ MAX_TOKENS }
-    ensures ok { OnOk result ((reading_so_far macros.now out.old.items line.now ≡ only_tokens out.new.items)
+    ensures ok { OnOk result ((reading_so_far macros.now out.old.items line.now
+        ≡ only_tokens out.new.items)
         × (length out.new.items ≤ MAX_TOKENS)) }
-    ensures err { IfErr result (λ e. Fails e (answer (reading_so_far macros.now out.old.items line.now))) }
+    ensures err { IfErr result (λ e.
+        Fails e (answer (reading_so_far macros.now out.old.items line.now))) }
 {
     for piece in line {
         if let Some(fault) = fault_of(piece) {
@@ -134,7 +136,8 @@ fn begins_directive(line: &[Piece]) -> bool
 /// How many pieces the first line has before its end.
 pub fn line_length(pieces: &[Piece]) -> usize
     requires { 0 < length pieces.now }
-    ensures lines { lines_of pieces.now ≡ take result pieces.now ∷ lines_of (drop (result + 1) pieces.now) }
+    ensures lines { lines_of pieces.now ≡ take result pieces.now
+        ∷ lines_of (drop (result + 1) pieces.now) }
     ensures within { result ≤ length pieces.now }
 {
     for (i, piece) in pieces.iter().enumerate() {

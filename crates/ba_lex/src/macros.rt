@@ -30,7 +30,8 @@ impl<'a> Model for Macros<'a> {
 
     ghost view = { λ macros. table_of macros.bodies.entries };
 
-    ghost invariant = { λ macros. AreMentioned macros.mentioned.keys (table_of macros.bodies.entries) };
+    ghost invariant = { λ macros. AreMentioned macros.mentioned.keys
+        (table_of macros.bodies.entries) };
 }
 
 impl<'a> Macros<'a> {
@@ -75,7 +76,8 @@ impl<'a> Macros<'a> {
         tokens: &[Token<'a>],
     ) -> Result<Macros<'a>, AllocError>
         requires { body_of self name.now ≡ None }
-        ensures { IfOk result (λ table. table ≡ self.entry ++ (name.now, body_from self.entry tokens.now) ∷ []) }
+        ensures { IfOk result (λ table. table ≡ self.entry
+            ++ (name.now, body_from self.entry tokens.now) ∷ []) }
     {
         let body = body_from(alloc, &self, tokens)?;
         let Macros {

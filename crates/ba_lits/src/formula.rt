@@ -26,7 +26,8 @@ impl Model for Formula {
 
     ghost view = { λ formula. record { variables = formula.variables; clauses = formula.clauses } };
 
-    ghost invariant = { λ formula. (formula.variables < 2 ^ 62) × All (IsClause formula.variables) formula.clauses };
+    ghost invariant = { λ formula. (formula.variables < 2 ^ 62)
+        × All (IsClause formula.variables) formula.clauses };
 }
 
 impl Formula {
@@ -45,7 +46,8 @@ impl Formula {
     ///
     /// The one error is want of room: there are fewer than 2^62 variables. It leaves the formula as it was.
     pub fn fresh(&mut self) -> Result<u64, AllocError>
-        ensures ok { IfOk result (λ variable. (variable ≡ self.old.variables + 1) × (self.new ≡ record self.old { variables = variable })) }
+        ensures ok { IfOk result (λ variable. (variable ≡ self.old.variables + 1)
+            × (self.new ≡ record self.old { variables = variable })) }
         ensures err { OnErr result (self.new ≡ self.old) }
     {
         if self.variables + 1 == 1 << 62 {
@@ -60,7 +62,8 @@ impl Formula {
     /// The one error is want of memory, which leaves the formula as it was.
     pub fn push(&mut self, clause: &[Lit]) -> Result<(), AllocError>
         requires { IsClause self.old.variables clause.now }
-        ensures ok { OnOk result (self.new ≡ record self.old { clauses = self.old.clauses ++ clause.now ∷ [] }) }
+        ensures ok { OnOk result (self.new
+            ≡ record self.old { clauses = self.old.clauses ++ clause.now ∷ [] }) }
         ensures err { OnErr result (self.new ≡ self.old) }
     {
         self.clauses.push(Items::from_slice(self.alloc, clause)?)

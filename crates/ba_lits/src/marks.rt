@@ -21,7 +21,8 @@ impl Model for Marks {
 
     ghost view = { λ m. map (λ stamp. stamp == m.stamp) m.stamps.items };
 
-    ghost invariant = { λ m. (1 ≤ m.stamp) × ((place : ℕ) → get_or m.stamps.items place 0 ≤ m.stamp) };
+    ghost invariant = { λ m. (1 ≤ m.stamp)
+        × ((place : ℕ) → get_or m.stamps.items place 0 ≤ m.stamp) };
 }
 
 impl Marks {
@@ -77,7 +78,8 @@ impl Marks {
     /// The one error is want of memory, which leaves the members as they were.
     pub fn insert(&mut self, place: usize) -> Result<(), AllocError>
         requires { place < 2 ^ 63 }
-        ensures ok { OnOk result ((p : ℕ) → get_or self.new p false ≡ ((p == place) || get_or self.old p false)) }
+        ensures ok { OnOk result ((p : ℕ) → get_or self.new p false
+            ≡ ((p == place) || get_or self.old p false)) }
         ensures err { OnErr result ((p : ℕ) → get_or self.new p false ≡ get_or self.old p false) }
     {
         self.grow(place + 1)?;

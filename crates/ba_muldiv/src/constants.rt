@@ -39,7 +39,8 @@ pub(crate) fn constant_of(word: &Word) -> Option<u32>
 /// The word of these digits.
 pub(crate) fn constant_word(digits: &[bool; 32]) -> Word
     ensures bits { (nodes : List Node) → AreBitsOf nodes result }
-    ensures number { (nodes : List Node) (free : ℕ → Bool) → number_of free nodes result ≡ spelled digits.now }
+    ensures number { (nodes : List Node) (free : ℕ → Bool) → number_of free nodes result
+        ≡ spelled digits.now }
     ensures long { length result ≡ 32 }
 {
     let mut word = [Nodes::constant(false); 32];

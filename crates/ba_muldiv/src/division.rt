@@ -19,8 +19,11 @@ use std::alloc::AllocError;
 pub fn div(nodes: &mut Nodes, a: &Word, b: &Word, signed: bool) -> Result<Word, AllocError>
     requires first { AreBitsOf nodes.old a.now }
     requires second { AreBitsOf nodes.old b.now }
-    ensures number { IfOk result (λ word. HasNumber nodes.new word (λ free. quotient_of signed (number_of free nodes.old a.now) (number_of free nodes.old b.now))) }
-    ensures value { IfOk result (λ word. IsValueWhereDefined BinOp.Div signed nodes.old a.now b.now nodes.new word) }
+    ensures number { IfOk result (λ word.
+        HasNumber nodes.new word (λ free.
+        quotient_of signed (number_of free nodes.old a.now) (number_of free nodes.old b.now))) }
+    ensures value { IfOk result (λ word.
+        IsValueWhereDefined BinOp.Div signed nodes.old a.now b.now nodes.new word) }
     ensures extends { Extends nodes.old nodes.new }
     ensures count { gates_in nodes.new ≤ gates_in nodes.old + 14500 }
 {
@@ -39,7 +42,9 @@ fn quotient_by_magnitudes(
 ) -> Result<Word, AllocError>
     requires first { AreBitsOf nodes.old a.now }
     requires second { AreBitsOf nodes.old b.now }
-    ensures number { IfOk result (λ word. HasNumber nodes.new word (λ free. quotient_of signed (number_of free nodes.old a.now) (number_of free nodes.old b.now))) }
+    ensures number { IfOk result (λ word.
+        HasNumber nodes.new word (λ free.
+        quotient_of signed (number_of free nodes.old a.now) (number_of free nodes.old b.now))) }
     ensures extends { Extends nodes.old nodes.new }
     ensures count { gates_in nodes.new ≤ gates_in nodes.old + 14500 }
 {
@@ -57,8 +62,11 @@ fn quotient_by_magnitudes(
 pub fn rem(nodes: &mut Nodes, a: &Word, b: &Word, signed: bool) -> Result<Word, AllocError>
     requires first { AreBitsOf nodes.old a.now }
     requires second { AreBitsOf nodes.old b.now }
-    ensures number { IfOk result (λ word. HasNumber nodes.new word (λ free. remainder_of signed (number_of free nodes.old a.now) (number_of free nodes.old b.now))) }
-    ensures value { IfOk result (λ word. IsValueWhereDefined BinOp.Rem signed nodes.old a.now b.now nodes.new word) }
+    ensures number { IfOk result (λ word.
+        HasNumber nodes.new word (λ free.
+        remainder_of signed (number_of free nodes.old a.now) (number_of free nodes.old b.now))) }
+    ensures value { IfOk result (λ word.
+        IsValueWhereDefined BinOp.Rem signed nodes.old a.now b.now nodes.new word) }
     ensures extends { Extends nodes.old nodes.new }
     ensures count { gates_in nodes.new ≤ gates_in nodes.old + 14500 }
 {
@@ -77,7 +85,9 @@ fn remainder_by_magnitudes(
 ) -> Result<Word, AllocError>
     requires first { AreBitsOf nodes.old a.now }
     requires second { AreBitsOf nodes.old b.now }
-    ensures number { IfOk result (λ word. HasNumber nodes.new word (λ free. remainder_of signed (number_of free nodes.old a.now) (number_of free nodes.old b.now))) }
+    ensures number { IfOk result (λ word.
+        HasNumber nodes.new word (λ free.
+        remainder_of signed (number_of free nodes.old a.now) (number_of free nodes.old b.now))) }
     ensures extends { Extends nodes.old nodes.new }
     ensures count { gates_in nodes.new ≤ gates_in nodes.old + 14500 }
 {
@@ -93,7 +103,9 @@ fn remainder_by_magnitudes(
 fn negated_where(nodes: &mut Nodes, negative: Bit, a: &Word) -> Result<Word, AllocError>
     requires first { IsBitOf nodes.old negative }
     requires second { AreBitsOf nodes.old a.now }
-    ensures number { IfOk result (λ word. HasNumber nodes.new word (λ free. negated_where (truth free nodes.old negative) (number_of free nodes.old a.now))) }
+    ensures number { IfOk result (λ word.
+        HasNumber nodes.new word (λ free.
+        negated_where (truth free nodes.old negative) (number_of free nodes.old a.now))) }
     ensures extends { Extends nodes.old nodes.new }
     ensures count { gates_in nodes.new ≤ gates_in nodes.old + 63 }
 {
@@ -111,7 +123,10 @@ fn negated_where(nodes: &mut Nodes, negative: Bit, a: &Word) -> Result<Word, All
 fn long_quotient(nodes: &mut Nodes, dividend: &Word, divisor: &Word) -> Result<Word, AllocError>
     requires first { AreBitsOf nodes.old dividend.now }
     requires second { AreBitsOf nodes.old divisor.now }
-    ensures number { IfOk result (λ word. HasNumber nodes.new word (λ free. long_quotient 32 (number_of free nodes.old dividend.now) (number_of free nodes.old divisor.now))) }
+    ensures number { IfOk result (λ word.
+        HasNumber nodes.new word (λ free.
+        long_quotient 32 (number_of free nodes.old dividend.now)
+        (number_of free nodes.old divisor.now))) }
     ensures extends { Extends nodes.old nodes.new }
     ensures count { gates_in nodes.new ≤ gates_in nodes.old + 162 * 32 }
 {
@@ -125,7 +140,9 @@ fn long_quotient(nodes: &mut Nodes, dividend: &Word, divisor: &Word) -> Result<W
 fn long_remainder(nodes: &mut Nodes, dividend: &Word, divisor: &Word) -> Result<Word, AllocError>
     requires first { AreBitsOf nodes.old dividend.now }
     requires second { AreBitsOf nodes.old divisor.now }
-    ensures number { IfOk result (λ word. HasNumber nodes.new word (λ free. number_of free nodes.old dividend.now % number_of free nodes.old divisor.now)) }
+    ensures number { IfOk result (λ word.
+        HasNumber nodes.new word (λ free.
+        number_of free nodes.old dividend.now % number_of free nodes.old divisor.now)) }
     ensures extends { Extends nodes.old nodes.new }
     ensures count { gates_in nodes.new ≤ gates_in nodes.old + 162 * 32 }
 {
@@ -143,8 +160,13 @@ fn upper_steps(
 ) -> Result<(Word, Word), AllocError>
     requires first { AreBitsOf nodes.old dividend.now }
     requires second { AreBitsOf nodes.old divisor.now }
-    ensures quotient { IfOk result (λ r. HasNumber nodes.new r.0 (λ free. long_quotient 31 (high_number free nodes.old dividend.now 1) (number_of free nodes.old divisor.now))) }
-    ensures rest { IfOk result (λ r. HasNumber nodes.new r.1 (λ free. high_number free nodes.old dividend.now 1 % number_of free nodes.old divisor.now)) }
+    ensures quotient { IfOk result (λ r.
+        HasNumber nodes.new r.0 (λ free.
+        long_quotient 31 (high_number free nodes.old dividend.now 1)
+        (number_of free nodes.old divisor.now))) }
+    ensures rest { IfOk result (λ r.
+        HasNumber nodes.new r.1 (λ free.
+        high_number free nodes.old dividend.now 1 % number_of free nodes.old divisor.now)) }
     ensures extends { Extends nodes.old nodes.new }
     ensures count { gates_in nodes.new ≤ gates_in nodes.old + 162 * 31 }
 {
@@ -177,8 +199,11 @@ fn step(
     requires small { (free : ℕ → Bool) → number_of free nodes.old rest.now < 2 ^ width }
     requires known { known ≤ 32 }
     requires narrow { (free : ℕ → Bool) → number_of free nodes.old divisor.now < 2 ^ known }
-    requires twice { known < 32 → (free : ℕ → Bool) → number_of free nodes.old rest.now < 2 * number_of free nodes.old divisor.now }
-    ensures fits { IfOk result (λ r. HasValue nodes.new r.0 (λ free. nat_le (number_of free nodes.old divisor.now) (number_of free nodes.old rest.now))) }
+    requires twice { known < 32 → (free : ℕ → Bool)
+        → number_of free nodes.old rest.now < 2 * number_of free nodes.old divisor.now }
+    ensures fits { IfOk result (λ r.
+        HasValue nodes.new r.0 (λ free.
+        nat_le (number_of free nodes.old divisor.now) (number_of free nodes.old rest.now))) }
     ensures left { IfOk result (λ r. HasNumber nodes.new r.1 (λ free.
         if nat_le (number_of free nodes.old divisor.now) (number_of free nodes.old rest.now)
         then number_of free nodes.old rest.now - number_of free nodes.old divisor.now
@@ -204,8 +229,10 @@ fn step(
 /// How many places the word takes, where its highest one is a constant, and else 32.
 fn known_width(word: &Word) -> usize
     ensures few { result ≤ 32 }
-    ensures narrow { (nodes : List Node) (free : ℕ → Bool) → number_of free nodes word.now < 2 ^ result }
-    ensures some { result < 32 → (nodes : List Node) (free : ℕ → Bool) → 0 < number_of free nodes word.now }
+    ensures narrow { (nodes : List Node) (free : ℕ → Bool)
+        → number_of free nodes word.now < 2 ^ result }
+    ensures some { result < 32 → (nodes : List Node) (free : ℕ → Bool)
+        → 0 < number_of free nodes word.now }
 {
     for i in 0..32 {
         let bit = word[31 - i];
@@ -257,7 +284,8 @@ fn is_surely_wider(word: &Word, width: usize) -> bool
 fn is_wider(nodes: &mut Nodes, word: &Word, width: usize) -> Result<Bit, AllocError>
     requires first { AreBitsOf nodes.old word.now }
     requires width { width ≤ 32 }
-    ensures value { IfOk result (λ bit. HasValue nodes.new bit (λ free. nat_le (2 ^ width) (number_of free nodes.old word.now))) }
+    ensures value { IfOk result (λ bit.
+        HasValue nodes.new bit (λ free. nat_le (2 ^ width) (number_of free nodes.old word.now))) }
     ensures extends { Extends nodes.old nodes.new }
     ensures count { gates_in nodes.new ≤ gates_in nodes.old + 32 }
 {
@@ -270,8 +298,10 @@ fn is_wider(nodes: &mut Nodes, word: &Word, width: usize) -> Result<Bit, AllocEr
 
 /// The word moved up by one place, with the bit as its lowest.
 fn brought_down(word: &Word, bit: Bit) -> Word
-    ensures bits { (nodes : List Node) → AreBitsOf nodes word.now → IsBitOf nodes bit → AreBitsOf nodes result }
-    ensures number { (nodes : List Node) (free : ℕ → Bool) → number_of free nodes result ≡ (2 * number_of free nodes word.now + digit (truth free nodes bit)) % 2 ^ 32 }
+    ensures bits { (nodes : List Node) → AreBitsOf nodes word.now → IsBitOf nodes bit
+        → AreBitsOf nodes result }
+    ensures number { (nodes : List Node) (free : ℕ → Bool) → number_of free nodes result
+        ≡ (2 * number_of free nodes word.now + digit (truth free nodes bit)) % 2 ^ 32 }
     ensures long { length result ≡ 32 }
 {
     let mut down = moved_up(word, 1);

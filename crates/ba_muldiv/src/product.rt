@@ -17,8 +17,11 @@ use std::alloc::AllocError;
 pub fn mul(nodes: &mut Nodes, a: &Word, b: &Word) -> Result<Word, AllocError>
     requires first { AreBitsOf nodes.old a.now }
     requires second { AreBitsOf nodes.old b.now }
-    ensures number { IfOk result (λ word. HasNumber nodes.new word (λ free. (number_of free nodes.old a.now * number_of free nodes.old b.now) % 2 ^ 32)) }
-    ensures value { IfOk result (λ word. (signed : Bool) → IsValueOf BinOp.Mul signed nodes.old a.now b.now nodes.new word) }
+    ensures number { IfOk result (λ word.
+        HasNumber nodes.new word (λ free.
+        (number_of free nodes.old a.now * number_of free nodes.old b.now) % 2 ^ 32)) }
+    ensures value { IfOk result (λ word. (signed : Bool)
+        → IsValueOf BinOp.Mul signed nodes.old a.now b.now nodes.new word) }
     ensures extends { Extends nodes.old nodes.new }
     ensures count { gates_in nodes.new ≤ gates_in nodes.old + 5000 }
 {
@@ -33,7 +36,9 @@ pub fn mul(nodes: &mut Nodes, a: &Word, b: &Word) -> Result<Word, AllocError>
 fn times(nodes: &mut Nodes, a: &Word, factor: &Word) -> Result<Word, AllocError>
     requires first { AreBitsOf nodes.old a.now }
     requires second { AreBitsOf nodes.old factor.now }
-    ensures number { IfOk result (λ word. HasNumber nodes.new word (λ free. (number_of free nodes.old a.now * number_of free nodes.old factor.now) % 2 ^ 32)) }
+    ensures number { IfOk result (λ word.
+        HasNumber nodes.new word (λ free.
+        (number_of free nodes.old a.now * number_of free nodes.old factor.now) % 2 ^ 32)) }
     ensures extends { Extends nodes.old nodes.new }
     ensures count { gates_in nodes.new ≤ gates_in nodes.old + 5000 }
 {

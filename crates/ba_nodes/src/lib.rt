@@ -57,7 +57,8 @@ impl Model for Nodes {
 
     ghost view = { λ n. n.nodes.keys };
 
-    ghost invariant = { λ n. AreOrdered n.nodes.keys × (length n.nodes.keys < 2 ^ 32) × (n.gates ≡ gates_in n.nodes.keys) };
+    ghost invariant = { λ n. AreOrdered n.nodes.keys × (length n.nodes.keys < 2 ^ 32)
+        × (n.gates ≡ gates_in n.nodes.keys) };
 }
 
 impl Nodes {
@@ -86,7 +87,8 @@ impl Nodes {
     #[tactic(auto, using(crate::proofs::Constants::opposites))]
     pub fn not(a: Bit) -> Bit
         ensures bit { result ≡ opposite a }
-        ensures value { (nodes : List Node) (free : ℕ → Bool) → truth free nodes result ≡ not (truth free nodes a) }
+        ensures value { (nodes : List Node) (free : ℕ → Bool) → truth free nodes result
+            ≡ not (truth free nodes a) }
     {
         Bit {
             index: a.index,
@@ -117,7 +119,8 @@ impl Nodes {
     /// The one error is want of memory, which leaves the nodes as they were.
     pub fn free(&mut self) -> Result<Bit, AllocError>
         ensures bit { IfOk result (λ bit. bit ≡ node_bit (length self.old)) }
-        ensures value { IfOk result (λ bit. HasValue self.new bit (λ free. free (length self.old))) }
+        ensures value { IfOk result (λ bit.
+            HasValue self.new bit (λ free. free (length self.old))) }
         ensures extends { Extends self.old self.new }
         ensures count { gates_in self.new ≡ gates_in self.old }
         ensures err { OnErr result (self.new ≡ self.old) }
@@ -133,8 +136,10 @@ impl Nodes {
     pub fn and(&mut self, a: Bit, b: Bit) -> Result<Bit, AllocError>
         requires first { IsBitOf self.old a }
         requires second { IsBitOf self.old b }
-        ensures value { IfOk result (λ bit. HasValue self.new bit (λ free. truth free self.old a && truth free self.old b)) }
-        ensures again { (bit : Bit) → IsMade self.old a b bit → (result ≡ Ok bit) × (self.new ≡ self.old) }
+        ensures value { IfOk result (λ bit. HasValue self.new bit (λ free. truth free self.old a
+            && truth free self.old b)) }
+        ensures again { (bit : Bit) → IsMade self.old a b bit → (result ≡ Ok bit)
+            × (self.new ≡ self.old) }
         ensures made { IfOk result (IsMade self.new a b) }
         ensures extends { Extends self.old self.new }
         ensures count { gates_in self.new ≤ gates_in self.old + 1 }
@@ -152,7 +157,8 @@ impl Nodes {
     pub fn or(&mut self, a: Bit, b: Bit) -> Result<Bit, AllocError>
         requires first { IsBitOf self.old a }
         requires second { IsBitOf self.old b }
-        ensures value { IfOk result (λ bit. HasValue self.new bit (λ free. truth free self.old a || truth free self.old b)) }
+        ensures value { IfOk result (λ bit. HasValue self.new bit (λ free. truth free self.old a
+            || truth free self.old b)) }
         ensures extends { Extends self.old self.new }
         ensures count { gates_in self.new ≤ gates_in self.old + 1 }
         ensures err { OnErr result (self.new ≡ self.old) }
@@ -167,7 +173,9 @@ impl Nodes {
     pub fn xor(&mut self, a: Bit, b: Bit) -> Result<Bit, AllocError>
         requires first { IsBitOf self.old a }
         requires second { IsBitOf self.old b }
-        ensures value { IfOk result (λ bit. HasValue self.new bit (λ free. bool_xor (truth free self.old a) (truth free self.old b))) }
+        ensures value { IfOk result (λ bit.
+            HasValue self.new bit (λ free. bool_xor (truth free self.old a)
+            (truth free self.old b))) }
         ensures extends { Extends self.old self.new }
         ensures count { gates_in self.new ≤ gates_in self.old + 1 }
         ensures err { OnErr result (self.new ≡ self.old) }
@@ -192,7 +200,9 @@ impl Nodes {
         requires chooser { IsBitOf self.old which }
         requires first { IsBitOf self.old yes }
         requires second { IsBitOf self.old no }
-        ensures value { IfOk result (λ bit. HasValue self.new bit (λ free. if truth free self.old which then truth free self.old yes else truth free self.old no)) }
+        ensures value { IfOk result (λ bit.
+            HasValue self.new bit (λ free. if truth free self.old which then truth free self.old yes
+            else truth free self.old no)) }
         ensures extends { Extends self.old self.new }
         ensures count { gates_in self.new ≤ gates_in self.old + 1 }
         ensures err { OnErr result (self.new ≡ self.old) }
@@ -212,7 +222,9 @@ impl Nodes {
         requires first { IsBitOf self.old a }
         requires second { IsBitOf self.old b }
         requires third { IsBitOf self.old c }
-        ensures value { IfOk result (λ bit. HasValue self.new bit (λ free. bool_majority (truth free self.old a) (truth free self.old b) (truth free self.old c))) }
+        ensures value { IfOk result (λ bit.
+            HasValue self.new bit (λ free. bool_majority (truth free self.old a)
+            (truth free self.old b) (truth free self.old c))) }
         ensures extends { Extends self.old self.new }
         ensures count { gates_in self.new ≤ gates_in self.old + 1 }
         ensures err { OnErr result (self.new ≡ self.old) }
@@ -229,7 +241,9 @@ impl Nodes {
         requires second { IsBitOf self.old b }
         requires third { IsBitOf self.old c }
         requires order { a.index ≤ b.index }
-        ensures value { IfOk result (λ bit. HasValue self.new bit (λ free. bool_majority (truth free self.old a) (truth free self.old b) (truth free self.old c))) }
+        ensures value { IfOk result (λ bit.
+            HasValue self.new bit (λ free. bool_majority (truth free self.old a)
+            (truth free self.old b) (truth free self.old c))) }
         ensures extends { Extends self.old self.new }
         ensures count { gates_in self.new ≤ gates_in self.old + 1 }
         ensures err { OnErr result (self.new ≡ self.old) }
@@ -250,7 +264,9 @@ impl Nodes {
         requires third { IsBitOf self.old c }
         requires lower { a.index ≤ b.index }
         requires upper { b.index ≤ c.index }
-        ensures value { IfOk result (λ bit. HasValue self.new bit (λ free. bool_majority (truth free self.old a) (truth free self.old b) (truth free self.old c))) }
+        ensures value { IfOk result (λ bit.
+            HasValue self.new bit (λ free. bool_majority (truth free self.old a)
+            (truth free self.old b) (truth free self.old c))) }
         ensures extends { Extends self.old self.new }
         ensures count { gates_in self.new ≤ gates_in self.old + 1 }
         ensures err { OnErr result (self.new ≡ self.old) }
@@ -278,7 +294,9 @@ impl Nodes {
     fn settled(&mut self, a: Bit, b: Bit, one_is_enough: bool) -> Result<Bit, AllocError>
         requires first { IsBitOf self.old a }
         requires second { IsBitOf self.old b }
-        ensures value { IfOk result (λ bit. HasValue self.new bit (λ free. bool_majority one_is_enough (truth free self.old a) (truth free self.old b))) }
+        ensures value { IfOk result (λ bit.
+            HasValue self.new bit (λ free. bool_majority one_is_enough (truth free self.old a)
+            (truth free self.old b))) }
         ensures extends { Extends self.old self.new }
         ensures count { gates_in self.new ≤ gates_in self.old + 1 }
         ensures err { OnErr result (self.new ≡ self.old) }
@@ -298,7 +316,9 @@ impl Nodes {
         requires some { 0 < which.index }
         requires first_apart { which.index ≢ yes.index }
         requires second_apart { which.index ≢ no.index }
-        ensures value { IfOk result (λ bit. HasValue self.new bit (λ free. if truth free self.old which then truth free self.old yes else truth free self.old no)) }
+        ensures value { IfOk result (λ bit.
+            HasValue self.new bit (λ free. if truth free self.old which then truth free self.old yes
+            else truth free self.old no)) }
         ensures extends { Extends self.old self.new }
         ensures count { gates_in self.new ≤ gates_in self.old + 1 }
         ensures err { OnErr result (self.new ≡ self.old) }
@@ -325,7 +345,9 @@ impl Nodes {
         requires first { IsBitOf self.old yes }
         requires second { IsBitOf self.old no }
         requires same { yes.index ≡ no.index }
-        ensures value { IfOk result (λ bit. HasValue self.new bit (λ free. if truth free self.old which then truth free self.old yes else truth free self.old no)) }
+        ensures value { IfOk result (λ bit.
+            HasValue self.new bit (λ free. if truth free self.old which then truth free self.old yes
+            else truth free self.old no)) }
         ensures extends { Extends self.old self.new }
         ensures count { gates_in self.new ≤ gates_in self.old + 1 }
         ensures err { OnErr result (self.new ≡ self.old) }
@@ -340,7 +362,9 @@ impl Nodes {
     fn unless(&mut self, which: Bit, value: bool, other: Bit) -> Result<Bit, AllocError>
         requires first { IsBitOf self.old which }
         requires second { IsBitOf self.old other }
-        ensures value { IfOk result (λ bit. HasValue self.new bit (λ free. if truth free self.old which then value else truth free self.old other)) }
+        ensures value { IfOk result (λ bit.
+            HasValue self.new bit (λ free. if truth free self.old which then value else truth free
+            self.old other)) }
         ensures extends { Extends self.old self.new }
         ensures count { gates_in self.new ≤ gates_in self.old + 1 }
         ensures err { OnErr result (self.new ≡ self.old) }
@@ -360,7 +384,9 @@ impl Nodes {
         requires first_apart { which.index ≢ yes.index }
         requires second_apart { which.index ≢ no.index }
         requires third_apart { yes.index ≢ no.index }
-        ensures value { IfOk result (λ bit. HasValue self.new bit (λ free. if truth free self.old which then truth free self.old yes else truth free self.old no)) }
+        ensures value { IfOk result (λ bit.
+            HasValue self.new bit (λ free. if truth free self.old which then truth free self.old yes
+            else truth free self.old no)) }
         ensures extends { Extends self.old self.new }
         ensures count { gates_in self.new ≤ gates_in self.old + 1 }
         ensures err { OnErr result (self.new ≡ self.old) }
@@ -375,7 +401,9 @@ impl Nodes {
         requires first { (0 < a.index) × IsBitOf self.old a }
         requires second { (0 < b.index) × IsBitOf self.old b }
         requires apart { a.index ≢ b.index }
-        ensures value { IfOk result (λ bit. HasValue self.new bit (λ free. bool_xor (truth free self.old a) (truth free self.old b))) }
+        ensures value { IfOk result (λ bit.
+            HasValue self.new bit (λ free. bool_xor (truth free self.old a)
+            (truth free self.old b))) }
         ensures extends { Extends self.old self.new }
         ensures count { gates_in self.new ≤ gates_in self.old + 1 }
         ensures err { OnErr result (self.new ≡ self.old) }
@@ -392,9 +420,12 @@ impl Nodes {
         requires first { IsBitOf self.old a }
         requires second { IsBitOf self.old b }
         requires needed { IsNone (folded a b) }
-        ensures value { IfOk result (λ bit. HasValue self.new bit (λ free. truth free self.old a && truth free self.old b)) }
-        ensures again { (number : ℕ) → IsGateOf self.old number a b → (result ≡ Ok (node_bit number)) × (self.new ≡ self.old) }
-        ensures made { IfOk result (λ bit. (number : ℕ) × (bit ≡ node_bit number) × IsGateOf self.new number a b) }
+        ensures value { IfOk result (λ bit. HasValue self.new bit (λ free. truth free self.old a
+            && truth free self.old b)) }
+        ensures again { (number : ℕ) → IsGateOf self.old number a b
+            → (result ≡ Ok (node_bit number)) × (self.new ≡ self.old) }
+        ensures made { IfOk result (λ bit. (number : ℕ) × (bit ≡ node_bit number)
+            × IsGateOf self.new number a b) }
         ensures extends { Extends self.old self.new }
         ensures count { gates_in self.new ≤ gates_in self.old + 1 }
         ensures err { OnErr result (self.new ≡ self.old) }
@@ -411,9 +442,12 @@ impl Nodes {
         requires { MayStandAt (length self.old) node }
         ensures ordered { AreOrdered self.new }
         ensures puts { OnOk result (Puts self.old node self.new) }
-        ensures value { IfOk result (λ bit. HasValue self.new bit (λ free. node_truth free self.old node)) }
-        ensures again { (number : ℕ) → slice_get self.old number ≡ Some node → (result ≡ Ok (node_bit number)) × (self.new ≡ self.old) }
-        ensures made { IfOk result (λ bit. (number : ℕ) × (bit ≡ node_bit number) × (slice_get self.new number ≡ Some node)) }
+        ensures value { IfOk result (λ bit.
+            HasValue self.new bit (λ free. node_truth free self.old node)) }
+        ensures again { (number : ℕ) → slice_get self.old number ≡ Some node
+            → (result ≡ Ok (node_bit number)) × (self.new ≡ self.old) }
+        ensures made { IfOk result (λ bit. (number : ℕ) × (bit ≡ node_bit number)
+            × (slice_get self.new number ≡ Some node)) }
         ensures extends { Extends self.old self.new }
         ensures count { gates_in self.new ≤ gates_in self.old + (if is_gate node then 1 else 0) }
         ensures err { OnErr result (self.new ≡ self.old) }
@@ -462,15 +496,19 @@ pub fn node_law()
 /// Law: what was added behind what was added is added, and an `and` that was made is found among later nodes, and
 /// with its bits in the other order.
 pub fn extension_law()
-    ensures through { (old middle new : List Node) → Extends old middle → Extends middle new → Extends old new }
-    ensures made_stays { (old new : List Node) (a b bit : Bit) → Extends old new → IsMade old a b bit → IsMade new a b bit }
-    ensures made_turned { (nodes : List Node) (a b bit : Bit) → IsMade nodes a b bit → IsMade nodes b a bit }
+    ensures through { (old middle new : List Node) → Extends old middle → Extends middle new
+        → Extends old new }
+    ensures made_stays { (old new : List Node) (a b bit : Bit) → Extends old new
+        → IsMade old a b bit → IsMade new a b bit }
+    ensures made_turned { (nodes : List Node) (a b bit : Bit) → IsMade nodes a b bit
+        → IsMade nodes b a bit }
 {}
 
 /// The bit, negated where `negated` is true.
 fn negated_if(bit: Bit, negated: bool) -> Bit
     ensures index { result.index ≡ bit.index }
-    ensures value { (nodes : List Node) (free : ℕ → Bool) → truth free nodes result ≡ bool_xor negated (truth free nodes bit) }
+    ensures value { (nodes : List Node) (free : ℕ → Bool) → truth free nodes result
+        ≡ bool_xor negated (truth free nodes bit) }
 {
     if negated { Nodes::not(bit) } else { bit }
 }
@@ -480,7 +518,8 @@ fn given(bit: Bit, which: Bit) -> Bit
     requires { 0 < which.index }
     ensures apart { which.index ≢ result.index }
     ensures bits { (nodes : List Node) → IsBitOf nodes bit → IsBitOf nodes result }
-    ensures value { (nodes : List Node) (free : ℕ → Bool) → truth free nodes which ≡ true → truth free nodes result ≡ truth free nodes bit }
+    ensures value { (nodes : List Node) (free : ℕ → Bool) → truth free nodes which ≡ true
+        → truth free nodes result ≡ truth free nodes bit }
 {
     if bit.index == which.index {
         Nodes::constant(bit.negated == which.negated)
@@ -516,7 +555,8 @@ fn folded(a: Bit, b: Bit) -> Option<Bit>
 /// The number of the node, which is put behind the others where it is not among them.
 fn put(nodes: &mut IndexSet<Node>, node: Node) -> Result<usize, AllocError>
     requires { length nodes.old.keys < 2 ^ 32 }
-    ensures ok { IfOk result (λ number. (slice_get nodes.new.keys number ≡ Some node) × Puts nodes.old.keys node nodes.new.keys) }
+    ensures ok { IfOk result (λ number. (slice_get nodes.new.keys number ≡ Some node)
+        × Puts nodes.old.keys node nodes.new.keys) }
     ensures small { length nodes.new.keys < 2 ^ 32 }
     ensures err { OnErr result ((nodes.new.keys ≡ nodes.old.keys) × IsAbsent nodes.old.keys node) }
 {

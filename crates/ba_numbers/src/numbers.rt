@@ -109,9 +109,11 @@ pub fn apply_one(op: UnOp, t: CType, a: i64) -> i64
 /// to the type's width. So a number of the range is its own conversion.
 pub fn conversion_law()
     ensures in_range { (t : CType) (number : ℤ) → IsIn t (converted t number) }
-    ensures congruent { (t : CType) (number : ℤ) → IsCongruent (2 ^ width_of t) (converted t number) number }
+    ensures congruent { (t : CType) (number : ℤ)
+        → IsCongruent (2 ^ width_of t) (converted t number) number }
     ensures own { (t : CType) (number : ℤ) → IsIn t number → converted t number ≡ number }
-    ensures only { (t : CType) (other number : ℤ) → IsIn t other → IsCongruent (2 ^ width_of t) other number → other ≡ converted t number }
+    ensures only { (t : CType) (other number : ℤ) → IsIn t other
+        → IsCongruent (2 ^ width_of t) other number → other ≡ converted t number }
 {}
 
 /// Law: the value of an operator is in the range of the type that it works in. A comparison and the test

@@ -40,7 +40,8 @@ pub fn maybe_expression<'a>(
     reader: &mut Reader<'a>,
     levels: u32,
 ) -> Result<Option<Conditional<'a>>, Stop>
-    ensures { Told (λ e. optional (option_map conditional_marks e)) result (maybe_expression (levels_left levels) reader.old) reader.new }
+    ensures { Told (λ e. optional (option_map conditional_marks e)) result
+        (maybe_expression (levels_left levels) reader.old) reader.new }
 {
     if !reader.next_is(TokenSet::OperandStart) {
         return Ok(None);
@@ -54,7 +55,8 @@ fn maybe_length<'a>(
     reader: &mut Reader<'a>,
     levels: u32,
 ) -> Result<Option<ArrayLength<'a>>, Stop>
-    ensures { Told (λ l. optional (option_map array_length_marks l)) result (maybe_length (levels_left levels) reader.old) reader.new }
+    ensures { Told (λ l. optional (option_map array_length_marks l)) result
+        (maybe_length (levels_left levels) reader.old) reader.new }
 {
     if !reader.next_is(TokenSet::Punct(Punct::OpenBracket)) {
         return Ok(None);
@@ -75,7 +77,8 @@ fn inner_length<'a>(
     reader: &mut Reader<'a>,
     levels: u32,
 ) -> Result<Option<Conditional<'a>>, Stop>
-    ensures { Told (λ e. optional (option_map conditional_marks e)) result (levels_left levels in_length reader.old) reader.new }
+    ensures { Told (λ e. optional (option_map conditional_marks e)) result
+        (levels_left levels in_length reader.old) reader.new }
 {
     if levels == 0 {
         return no_length(reader);
@@ -85,7 +88,8 @@ fn inner_length<'a>(
 
 /// The length where no level is left: none, or refused.
 fn no_length<'a>(reader: &Reader<'a>) -> Result<Option<Conditional<'a>>, Stop>
-    ensures { Told (λ e. optional (option_map conditional_marks e)) result (shallow in_length reader.now) reader.now }
+    ensures { Told (λ e. optional (option_map conditional_marks e)) result
+        (shallow in_length reader.now) reader.now }
 {
     if reader.next_is(TokenSet::OperandStart) {
         return Err(Stop::TooDeep);
@@ -111,7 +115,8 @@ fn braced<'a>(alloc: Global, reader: &mut Reader<'a>, levels: u32) -> Result<Bra
 }
 
 fn maybe_comma<'a>(reader: &mut Reader<'a>) -> Result<Option<&'a Token<'a>>, Stop>
-    ensures { Told optional_leaf result (read_maybe (mark punct.Comma) (read_sign punct.Comma) reader.old) reader.new }
+    ensures { Told optional_leaf result
+        (read_maybe (mark punct.Comma) (read_sign punct.Comma) reader.old) reader.new }
 {
     if !reader.next_is(COMMA) {
         return Ok(None);
@@ -126,7 +131,9 @@ fn next_values<'a>(
     reader: &mut Reader<'a>,
     levels: u32,
 ) -> Result<Vec<NextExpression<'a>>, Stop>
-    ensures { Told (λ v. joined (map next_expression_marks v.items)) result (read_many is_next_value (read_sign punct.Comma ▹ read_expression (levels_left levels)) reader.old) reader.new }
+    ensures { Told (λ v. joined (map next_expression_marks v.items)) result
+        (read_many is_next_value (read_sign punct.Comma ▹ read_expression (levels_left levels))
+        reader.old) reader.new }
 {
     let mut rest = Vec::new(alloc);
     let most = reader.rest().len();
@@ -144,7 +151,9 @@ fn maybe_initialiser<'a>(
     reader: &mut Reader<'a>,
     levels: u32,
 ) -> Result<Option<Initialiser<'a>>, Stop>
-    ensures { Told (λ i. optional (option_map initialiser_marks i)) result (read_maybe (mark punct.Assign) (read_initialiser (levels_left levels)) reader.old) reader.new }
+    ensures { Told (λ i. optional (option_map initialiser_marks i)) result
+        (read_maybe (mark punct.Assign) (read_initialiser (levels_left levels)) reader.old)
+        reader.new }
 {
     if !reader.next_is(TokenSet::Punct(Punct::Assign)) {
         return Ok(None);
@@ -158,7 +167,8 @@ fn initialiser<'a>(
     reader: &mut Reader<'a>,
     levels: u32,
 ) -> Result<Initialiser<'a>, Stop>
-    ensures { Told initialiser_marks result (read_initialiser (levels_left levels) reader.old) reader.new }
+    ensures { Told initialiser_marks result (read_initialiser (levels_left levels) reader.old)
+        reader.new }
 {
     let assign = reader.take(TokenSet::Punct(Punct::Assign))?;
     if reader.next_is(TokenSet::Punct(Punct::OpenBrace)) {
@@ -175,7 +185,8 @@ fn declarator<'a>(
     reader: &mut Reader<'a>,
     levels: u32,
 ) -> Result<Declarator<'a>, Stop>
-    ensures { Told declarator_marks result (read_declarator (levels_left levels) reader.old) reader.new }
+    ensures { Told declarator_marks result (read_declarator (levels_left levels) reader.old)
+        reader.new }
 {
     let name = reader.take(TokenSet::Name)?;
     let length = maybe_length(alloc, reader, levels)?;
@@ -192,7 +203,8 @@ fn next_declarator<'a>(
     reader: &mut Reader<'a>,
     levels: u32,
 ) -> Result<ListedDeclarator<'a>, Stop>
-    ensures { Told listed_declarator_marks result ((read_sign punct.Comma ▹ read_declarator (levels_left levels)) reader.old) reader.new }
+    ensures { Told listed_declarator_marks result
+        ((read_sign punct.Comma ▹ read_declarator (levels_left levels)) reader.old) reader.new }
 {
     let comma = reader.take(COMMA)?;
     let next = declarator(alloc, reader, levels)?;
@@ -207,7 +219,9 @@ fn next_declarators<'a>(
     reader: &mut Reader<'a>,
     levels: u32,
 ) -> Result<Vec<ListedDeclarator<'a>>, Stop>
-    ensures { Told (λ v. joined (map listed_declarator_marks v.items)) result (read_many (next_is (mark punct.Comma)) (read_sign punct.Comma ▹ read_declarator (levels_left levels)) reader.old) reader.new }
+    ensures { Told (λ v. joined (map listed_declarator_marks v.items)) result
+        (read_many (next_is (mark punct.Comma))
+        (read_sign punct.Comma ▹ read_declarator (levels_left levels)) reader.old) reader.new }
 {
     let mut rest = Vec::new(alloc);
     let most = reader.rest().len();
@@ -230,7 +244,8 @@ pub fn declarators<'a>(
     reader: &mut Reader<'a>,
     levels: u32,
 ) -> Result<Declarators<'a>, Stop>
-    ensures { Told declarators_marks result (read_declarators (levels_left levels) reader.old) reader.new }
+    ensures { Told declarators_marks result (read_declarators (levels_left levels) reader.old)
+        reader.new }
 {
     let first = declarator(alloc, reader, levels)?;
     let mut all = next_declarators(alloc, reader, levels)?;
@@ -240,7 +255,9 @@ pub fn declarators<'a>(
 
 #[tactic(auto, using(crate::proofs::Repeats::each_front))]
 fn put_first<'a>(all: &mut Vec<ListedDeclarator<'a>>, first: Declarator<'a>) -> Result<(), Stop>
-    ensures { MatchResult result (λ _. joined (map listed_declarator_marks all.new.items) ≡ declarator_marks first.entry ++ joined (map listed_declarator_marks all.old.items)) (λ stop. stop ≡ Memory) }
+    ensures { MatchResult result (λ _. joined (map listed_declarator_marks all.new.items)
+        ≡ declarator_marks first.entry ++ joined (map listed_declarator_marks all.old.items))
+        (λ stop. stop ≡ Memory) }
 {
     all.insert(
         0,
@@ -262,7 +279,8 @@ pub fn declaration<'a>(
     reader: &mut Reader<'a>,
     levels: u32,
 ) -> Result<Declaration<'a>, Stop>
-    ensures { Told declaration_marks result (read_declaration (levels_left levels) reader.old) reader.new }
+    ensures { Told declaration_marks result (read_declaration (levels_left levels) reader.old)
+        reader.new }
 {
     let name = type_name(alloc, reader, false)?;
     let all = declarators(alloc, reader, levels)?;
@@ -275,7 +293,9 @@ pub fn declaration<'a>(
 }
 
 fn maybe_name<'a>(reader: &mut Reader<'a>) -> Result<Option<&'a Token<'a>>, Stop>
-    ensures { Told name_marks result (read_either (next_is (only class.Name)) read_name (read_node no_name read_nothing) reader.old) reader.new }
+    ensures { Told name_marks result
+        (read_either (next_is (only class.Name)) read_name (read_node no_name read_nothing)
+        reader.old) reader.new }
 {
     if !reader.next_is(TokenSet::Name) {
         return Ok(None);
@@ -285,7 +305,8 @@ fn maybe_name<'a>(reader: &mut Reader<'a>) -> Result<Option<&'a Token<'a>>, Stop
 }
 
 fn parameter<'a>(alloc: Global, reader: &mut Reader<'a>, levels: u32) -> Result<Parameter<'a>, Stop>
-    ensures { Told parameter_marks result (read_parameter (levels_left levels) reader.old) reader.new }
+    ensures { Told parameter_marks result (read_parameter (levels_left levels) reader.old)
+        reader.new }
 {
     let words = type_name(alloc, reader, false)?;
     let name = maybe_name(reader)?;
@@ -302,7 +323,8 @@ fn next_parameter<'a>(
     reader: &mut Reader<'a>,
     levels: u32,
 ) -> Result<NextParameter<'a>, Stop>
-    ensures { Told next_parameter_marks result ((read_sign punct.Comma ▹ read_parameter (levels_left levels)) reader.old) reader.new }
+    ensures { Told next_parameter_marks result
+        ((read_sign punct.Comma ▹ read_parameter (levels_left levels)) reader.old) reader.new }
 {
     let comma = reader.take(COMMA)?;
     let next = parameter(alloc, reader, levels)?;
@@ -317,7 +339,9 @@ fn next_parameters<'a>(
     reader: &mut Reader<'a>,
     levels: u32,
 ) -> Result<Vec<NextParameter<'a>>, Stop>
-    ensures { Told (λ v. joined (map next_parameter_marks v.items)) result (read_many (next_is (mark punct.Comma)) (read_sign punct.Comma ▹ read_parameter (levels_left levels)) reader.old) reader.new }
+    ensures { Told (λ v. joined (map next_parameter_marks v.items)) result
+        (read_many (next_is (mark punct.Comma))
+        (read_sign punct.Comma ▹ read_parameter (levels_left levels)) reader.old) reader.new }
 {
     let mut rest = Vec::new(alloc);
     let most = reader.rest().len();
@@ -335,7 +359,8 @@ fn parameter_list<'a>(
     reader: &mut Reader<'a>,
     levels: u32,
 ) -> Result<ParameterList<'a>, Stop>
-    ensures { Told parameter_list_marks result (read_listed (read_parameter (levels_left levels)) reader.old) reader.new }
+    ensures { Told parameter_list_marks result
+        (read_listed (read_parameter (levels_left levels)) reader.old) reader.new }
 {
     let first = parameter(alloc, reader, levels)?;
     let rest = next_parameters(alloc, reader, levels)?;
@@ -347,7 +372,8 @@ fn parameters<'a>(
     reader: &mut Reader<'a>,
     levels: u32,
 ) -> Result<Parameters<'a>, Stop>
-    ensures { Told parameters_marks result (read_parameters (levels_left levels) reader.old) reader.new }
+    ensures { Told parameters_marks result (read_parameters (levels_left levels) reader.old)
+        reader.new }
 {
     if !reader.next_is(DECLARATION_WORD) {
         return Ok(Parameters { list: None });
@@ -366,7 +392,8 @@ pub fn inner_parameters<'a>(
     reader: &mut Reader<'a>,
     levels: u32,
 ) -> Result<Parameters<'a>, Stop>
-    ensures { Told parameters_marks result (levels_left levels in_parameters reader.old) reader.new }
+    ensures { Told parameters_marks result (levels_left levels in_parameters reader.old)
+        reader.new }
 {
     if levels == 0 {
         return no_parameters(reader);

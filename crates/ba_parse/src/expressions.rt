@@ -42,7 +42,8 @@ pub fn conditional<'a>(
     reader: &mut Reader<'a>,
     levels: u32,
 ) -> Result<Conditional<'a>, Stop>
-    ensures { Told conditional_marks result (read_expression (levels_left levels) reader.old) reader.new }
+    ensures { Told conditional_marks result (read_expression (levels_left levels) reader.old)
+        reader.new }
 {
     let test = operand(alloc, reader, levels, LOOSEST)?;
     let branches = maybe_branches(alloc, reader, levels)?;
@@ -55,7 +56,9 @@ fn maybe_branches<'a>(
     reader: &mut Reader<'a>,
     levels: u32,
 ) -> Result<Option<Branches<'a>>, Stop>
-    ensures { Told (λ b. optional (option_map branches_marks b)) result (read_maybe (mark punct.Question) (read_branches (levels_left levels)) reader.old) reader.new }
+    ensures { Told (λ b. optional (option_map branches_marks b)) result
+        (read_maybe (mark punct.Question) (read_branches (levels_left levels)) reader.old)
+        reader.new }
 {
     if !reader.next_is(TokenSet::Punct(Punct::Question)) {
         return Ok(None);
@@ -79,7 +82,8 @@ pub fn inner_expression<'a>(
     reader: &mut Reader<'a>,
     levels: u32,
 ) -> Result<Box<Conditional<'a>>, Stop>
-    ensures { Told (λ e. conditional_marks e.value) result (levels_left levels in_expression reader.old) reader.new }
+    ensures { Told (λ e. conditional_marks e.value) result
+        (levels_left levels in_expression reader.old) reader.new }
 {
     if levels == 0 {
         return Err(refusal(reader, TokenSet::OperandStart));
@@ -106,7 +110,8 @@ fn operand<'a>(
     levels: u32,
     loosest: u32,
 ) -> Result<Operand<'a>, Stop>
-    ensures { Told operand_marks result (read_operand (levels_left levels) loosest reader.old) reader.new }
+    ensures { Told operand_marks result (read_operand (levels_left levels) loosest reader.old)
+        reader.new }
 {
     let first = unary(alloc, reader, levels)?;
     let mut chains = Vec::new(alloc);
@@ -119,7 +124,9 @@ fn operand<'a>(
 
 #[tactic(auto, using(crate::proofs::Repeats::each_push))]
 fn push_some<'a>(chains: &mut Vec<Chain<'a>>, added: Option<Chain<'a>>) -> Result<(), Stop>
-    ensures { MatchResult result (λ _. joined (map chain_marks chains.new.items) ≡ joined (map chain_marks chains.old.items) ++ optional (option_map chain_marks added.entry)) (λ stop. stop ≡ Memory) }
+    ensures { MatchResult result (λ _. joined (map chain_marks chains.new.items)
+        ≡ joined (map chain_marks chains.old.items)
+        ++ optional (option_map chain_marks added.entry)) (λ stop. stop ≡ Memory) }
 {
     if let Some(chain) = added {
         chains.push(chain)?;
@@ -135,7 +142,9 @@ fn maybe_chain<'a>(
     level: u32,
 ) -> Result<Option<Chain<'a>>, Stop>
     requires { 0 < level }
-    ensures { Told (λ c. optional (option_map chain_marks c)) result (read_maybe (operator level) (read_chain (levels_left levels) level) reader.old) reader.new }
+    ensures { Told (λ c. optional (option_map chain_marks c)) result
+        (read_maybe (operator level) (read_chain (levels_left levels) level) reader.old)
+        reader.new }
 {
     if !reader.next_is(TokenSet::Operator(level)) {
         return Ok(None);
@@ -159,7 +168,8 @@ fn chained<'a>(
     level: u32,
 ) -> Result<(Operand<'a>, Option<Box<Chain<'a>>>), Stop>
     requires { 0 < level }
-    ensures { Told (λ p. operand_marks p.0 ++ optional (option_map (λ c. chain_marks c.value) p.1)) result (levels_left levels (in_chained level) reader.old) reader.new }
+    ensures { Told (λ p. operand_marks p.0 ++ optional (option_map (λ c. chain_marks c.value) p.1))
+        result (levels_left levels (in_chained level) reader.old) reader.new }
 {
     if levels == 0 {
         return Err(refusal(reader, TokenSet::OperandStart));
@@ -187,7 +197,9 @@ fn unary<'a>(alloc: Global, reader: &mut Reader<'a>, levels: u32) -> Result<Unar
 
 #[cycle(expression)]
 fn prefixed<'a>(alloc: Global, reader: &mut Reader<'a>, levels: u32) -> Result<Unary<'a>, Stop>
-    ensures { Told unary_marks result (read_node unary (read_token prefix_sign ▹ deeper_in (levels_left levels) in_unary) reader.old) reader.new }
+    ensures { Told unary_marks result
+        (read_node unary (read_token prefix_sign ▹ deeper_in (levels_left levels) in_unary)
+        reader.old) reader.new }
 {
     let operator = reader.take(TokenSet::PrefixSign)?;
     let operand = inner_unary(alloc, reader, levels)?;
@@ -196,7 +208,9 @@ fn prefixed<'a>(alloc: Global, reader: &mut Reader<'a>, levels: u32) -> Result<U
 
 #[cycle(expression)]
 fn cast<'a>(alloc: Global, reader: &mut Reader<'a>, levels: u32) -> Result<Unary<'a>, Stop>
-    ensures { Told unary_marks result (read_node unary (read_parenthesized (levels_left levels) in_cast ▹ deeper_in (levels_left levels) in_unary) reader.old) reader.new }
+    ensures { Told unary_marks result
+        (read_node unary (read_parenthesized (levels_left levels) in_cast ▹ deeper_in
+        (levels_left levels) in_unary) reader.old) reader.new }
 {
     let open = reader.take(OPEN)?;
     let name = inner_type_name(alloc, reader, levels)?;
@@ -216,7 +230,8 @@ fn inner_unary<'a>(
     reader: &mut Reader<'a>,
     levels: u32,
 ) -> Result<Box<Unary<'a>>, Stop>
-    ensures { Told (λ u. unary_marks u.value) result (levels_left levels in_unary reader.old) reader.new }
+    ensures { Told (λ u. unary_marks u.value) result (levels_left levels in_unary reader.old)
+        reader.new }
 {
     if levels == 0 {
         return Err(refusal(reader, TokenSet::OperandStart));
@@ -258,7 +273,9 @@ fn parenthesized<'a>(
     reader: &mut Reader<'a>,
     levels: u32,
 ) -> Result<Primary<'a>, Stop>
-    ensures { Told primary_marks result (read_node primary (read_parenthesized (levels_left levels) in_expression) reader.old) reader.new }
+    ensures { Told primary_marks result
+        (read_node primary (read_parenthesized (levels_left levels) in_expression) reader.old)
+        reader.new }
 {
     let open = reader.take(OPEN)?;
     let expression = inner_expression(alloc, reader, levels)?;
@@ -273,7 +290,8 @@ fn parenthesized<'a>(
 /// A name, an element of an array or a call.
 #[cycle(expression)]
 fn named<'a>(alloc: Global, reader: &mut Reader<'a>, levels: u32) -> Result<Primary<'a>, Stop>
-    ensures { Told primary_marks result (read_node primary (read_name ▹ after_name (levels_left levels)) reader.old) reader.new }
+    ensures { Told primary_marks result
+        (read_node primary (read_name ▹ after_name (levels_left levels)) reader.old) reader.new }
 {
     let name = reader.take(TokenSet::Name)?;
     if reader.next_is(TokenSet::Punct(Punct::OpenBracket)) {
@@ -327,7 +345,8 @@ fn no_arguments<'a>(reader: &Reader<'a>) -> Result<Arguments<'a>, Stop>
 
 #[cycle(expression)]
 fn arguments<'a>(alloc: Global, reader: &mut Reader<'a>, levels: u32) -> Result<Arguments<'a>, Stop>
-    ensures { Told arguments_marks result (read_arguments (levels_left levels) reader.old) reader.new }
+    ensures { Told arguments_marks result (read_arguments (levels_left levels) reader.old)
+        reader.new }
 {
     if !reader.next_is(TokenSet::OperandStart) {
         return Ok(Arguments { values: None });
@@ -345,7 +364,8 @@ fn expressions<'a>(
     reader: &mut Reader<'a>,
     levels: u32,
 ) -> Result<Expressions<'a>, Stop>
-    ensures { Told expressions_marks result (read_listed (read_expression (levels_left levels)) reader.old) reader.new }
+    ensures { Told expressions_marks result
+        (read_listed (read_expression (levels_left levels)) reader.old) reader.new }
 {
     let first = conditional(alloc, reader, levels)?;
     let first = Box::new(alloc, first)?;
@@ -360,7 +380,9 @@ pub fn next_expressions<'a>(
     reader: &mut Reader<'a>,
     levels: u32,
 ) -> Result<Vec<NextExpression<'a>>, Stop>
-    ensures { Told (λ v. joined (map next_expression_marks v.items)) result (read_many (next_is (mark punct.Comma)) (read_sign punct.Comma ▹ read_expression (levels_left levels)) reader.old) reader.new }
+    ensures { Told (λ v. joined (map next_expression_marks v.items)) result
+        (read_many (next_is (mark punct.Comma))
+        (read_sign punct.Comma ▹ read_expression (levels_left levels)) reader.old) reader.new }
 {
     let mut rest = Vec::new(alloc);
     let most = reader.rest().len();
@@ -380,7 +402,8 @@ pub fn next_expression<'a>(
     reader: &mut Reader<'a>,
     levels: u32,
 ) -> Result<NextExpression<'a>, Stop>
-    ensures { Told next_expression_marks result ((read_sign punct.Comma ▹ read_expression (levels_left levels)) reader.old) reader.new }
+    ensures { Told next_expression_marks result
+        ((read_sign punct.Comma ▹ read_expression (levels_left levels)) reader.old) reader.new }
 {
     let comma = reader.take(TokenSet::Punct(Punct::Comma))?;
     let expression = conditional(alloc, reader, levels)?;

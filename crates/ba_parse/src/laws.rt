@@ -9,13 +9,17 @@ ghost use Rattle.ba_parse.specs.Files.{IsFile, Verdict, Says, Said};
 
 /// No list of tokens is that of two files, and two trees of one file are the same written out.
 pub fn one_tree()
-    ensures written { (tokens : List Token) (tree other : List Mark) → IsFile tokens tree → IsFile tokens other → tree ≡ other }
-    ensures trees { (tokens : List Token) (tree other : RawProgram) → IsFile tokens (file_marks tree) → IsFile tokens (file_marks other) → file_marks tree ≡ file_marks other }
+    ensures written { (tokens : List Token) (tree other : List Mark) → IsFile tokens tree
+        → IsFile tokens other → tree ≡ other }
+    ensures trees { (tokens : List Token) (tree other : RawProgram)
+        → IsFile tokens (file_marks tree) → IsFile tokens (file_marks other) → file_marks tree
+        ≡ file_marks other }
 {}
 
 /// Of each list of tokens the grammar says one thing: it is a file's, with its tree; or it has its one syntax
 /// error; or it has its one token that is too deep.
 pub fn one_verdict()
     ensures some { (tokens : List Token) → Said tokens }
-    ensures one { (tokens : List Token) (verdict other : Verdict) → Says tokens verdict → Says tokens other → verdict ≡ other }
+    ensures one { (tokens : List Token) (verdict other : Verdict) → Says tokens verdict
+        → Says tokens other → verdict ≡ other }
 {}

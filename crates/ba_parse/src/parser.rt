@@ -52,14 +52,16 @@ const EXTERNAL_WORD: TokenSet = TokenSet::DeclarationWord { with_static: true };
 /// - [`ParseError::Memory`]: want of memory.
 pub fn parse<'a>(alloc: Global, tokens: &'a [Token<'a>]) -> Result<RawProgram<'a>, ParseError>
     ensures told { IsTold tokens.now (written result) }
-    ensures only { (verdict : Verdict) → Says tokens.now verdict → (written result ≡ result_of verdict) ⊎ (result ≡ Err Memory) }
+    ensures only { (verdict : Verdict) → Says tokens.now verdict
+        → (written result ≡ result_of verdict) ⊎ (result ≡ Err Memory) }
 {
     whole_file(alloc, tokens)
 }
 
 /// The tree of a file, or where its reading stops.
 fn whole_file<'a>(alloc: Global, tokens: &'a [Token<'a>]) -> Result<RawProgram<'a>, ParseError>
-    ensures { (result ≡ Err Memory) ⊎ (written result ≡ outcome_of tokens.now (read_file (levels_left 100) tokens.now)) }
+    ensures { (result ≡ Err Memory)
+        ⊎ (written result ≡ outcome_of tokens.now (read_file (levels_left 100) tokens.now)) }
 {
     let mut reader = Reader::new(tokens);
     match externals(alloc, &mut reader, MAX_LEVEL) {
@@ -77,7 +79,8 @@ fn file_of<'a>(
     rest: &[Token],
 ) -> Result<RawProgram<'a>, ParseError>
     requires { has_accepted_levels (node_of file (joined (map external_marks all.items))) ≡ true }
-    ensures { written result ≡ outcome_of tokens.now (done (node_of file (joined (map external_marks all.entry.items))) rest.now) }
+    ensures { written result ≡ outcome_of tokens.now
+        (done (node_of file (joined (map external_marks all.entry.items))) rest.now) }
 {
     match rest.split_first() {
         Some(_) => Err(ParseError::Syntax(place_of(tokens, rest))),
@@ -97,7 +100,9 @@ fn externals<'a>(
     reader: &mut Reader<'a>,
     levels: u32,
 ) -> Result<Vec<External<'a>>, Stop>
-    ensures { Told (λ v. joined (map external_marks v.items)) result (read_many (next_is (declaration_word true)) (read_external (levels_left levels)) reader.old) reader.new }
+    ensures { Told (λ v. joined (map external_marks v.items)) result
+        (read_many (next_is (declaration_word true)) (read_external (levels_left levels))
+        reader.old) reader.new }
 {
     let mut all = Vec::new(alloc);
     let most = reader.rest().len();
@@ -111,7 +116,8 @@ fn externals<'a>(
 }
 
 fn external<'a>(alloc: Global, reader: &mut Reader<'a>, levels: u32) -> Result<External<'a>, Stop>
-    ensures { Told external_marks result (read_external (levels_left levels) reader.old) reader.new }
+    ensures { Told external_marks result (read_external (levels_left levels) reader.old)
+        reader.new }
 {
     let name = type_name(alloc, reader, true)?;
     let form = if reader.next_are(TokenSet::Name, OPEN) {
@@ -127,7 +133,8 @@ fn variables<'a>(
     reader: &mut Reader<'a>,
     levels: u32,
 ) -> Result<ExternalForm<'a>, Stop>
-    ensures { Told external_form_marks result ((read_declarators (levels_left levels) ▹ read_semicolon) reader.old) reader.new }
+    ensures { Told external_form_marks result
+        ((read_declarators (levels_left levels) ▹ read_semicolon) reader.old) reader.new }
 {
     let all = declarators(alloc, reader, levels)?;
     let semicolon = reader.take(SEMICOLON)?;
@@ -142,7 +149,8 @@ fn function<'a>(
     reader: &mut Reader<'a>,
     levels: u32,
 ) -> Result<ExternalForm<'a>, Stop>
-    ensures { Told external_form_marks result (read_function_tail (levels_left levels) reader.old) reader.new }
+    ensures { Told external_form_marks result (read_function_tail (levels_left levels) reader.old)
+        reader.new }
 {
     let name = reader.take(TokenSet::Name)?;
     let open = reader.take(OPEN)?;
@@ -185,7 +193,8 @@ fn function_end<'a>(
     levels: u32,
     with_block: bool,
 ) -> Result<FunctionEnd<'a>, Stop>
-    ensures { Told end_marks result (read_function_end (levels_left levels) with_block reader.old) reader.new }
+    ensures { Told end_marks result (read_function_end (levels_left levels) with_block reader.old)
+        reader.new }
 {
     if with_block && reader.next_is(TokenSet::Punct(Punct::OpenBrace)) {
         let body = block(alloc, reader, levels)?;

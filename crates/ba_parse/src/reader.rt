@@ -108,7 +108,8 @@ impl<'a> Reader<'a> {
 
     /// The next token, which has to be in the set.
     pub fn take(&mut self, set: TokenSet) -> Result<&'a Token<'a>, Stop>
-        ensures { Told (λ token. leaf token.now ∷ []) result (read_token (classes set) self.old) self.new }
+        ensures { Told (λ token. leaf token.now ∷ []) result (read_token (classes set) self.old)
+            self.new }
     {
         match self.rest {
             [token, rest @ ..] if set.contains(class_of(token)) => {

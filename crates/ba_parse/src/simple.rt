@@ -48,7 +48,9 @@ fn maybe_index<'a>(
     reader: &mut Reader<'a>,
     levels: u32,
 ) -> Result<Option<Index<'a>>, Stop>
-    ensures { Told (λ i. optional (option_map index_marks i)) result (read_maybe (mark punct.OpenBracket) (read_bracketed (levels_left levels) in_expression) reader.old) reader.new }
+    ensures { Told (λ i. optional (option_map index_marks i)) result
+        (read_maybe (mark punct.OpenBracket) (read_bracketed (levels_left levels) in_expression)
+        reader.old) reader.new }
 {
     if !reader.next_is(TokenSet::Punct(Punct::OpenBracket)) {
         return Ok(None);
@@ -77,7 +79,9 @@ pub fn simple<'a>(alloc: Global, reader: &mut Reader<'a>, levels: u32) -> Result
 }
 
 fn prefix_step<'a>(alloc: Global, reader: &mut Reader<'a>, levels: u32) -> Result<Simple<'a>, Stop>
-    ensures { Told simple_marks result (read_node simple (read_token step_sign ▹ read_target (levels_left levels)) reader.old) reader.new }
+    ensures { Told simple_marks result
+        (read_node simple (read_token step_sign ▹ read_target (levels_left levels)) reader.old)
+        reader.new }
 {
     let operator = reader.take(TokenSet::StepSign)?;
     let stepped = target(alloc, reader, levels)?;
@@ -88,7 +92,9 @@ fn prefix_step<'a>(alloc: Global, reader: &mut Reader<'a>, levels: u32) -> Resul
 }
 
 fn called<'a>(alloc: Global, reader: &mut Reader<'a>, levels: u32) -> Result<Simple<'a>, Stop>
-    ensures { Told simple_marks result (read_node simple (read_name ▹ read_parenthesized (levels_left levels) in_arguments) reader.old) reader.new }
+    ensures { Told simple_marks result
+        (read_node simple (read_name ▹ read_parenthesized (levels_left levels) in_arguments)
+        reader.old) reader.new }
 {
     let name = reader.take(TokenSet::Name)?;
     let open = reader.take(OPEN)?;
@@ -103,7 +109,10 @@ fn called<'a>(alloc: Global, reader: &mut Reader<'a>, levels: u32) -> Result<Sim
 }
 
 fn assigned<'a>(alloc: Global, reader: &mut Reader<'a>, levels: u32) -> Result<Simple<'a>, Stop>
-    ensures { Told simple_marks result (read_node simple (read_target (levels_left levels) ▹ read_either (next_is step_sign) (read_token step_sign) (read_token assign_sign ▹ read_expression (levels_left levels))) reader.old) reader.new }
+    ensures { Told simple_marks result
+        (read_node simple (read_target (levels_left levels) ▹ read_either (next_is step_sign)
+        (read_token step_sign) (read_token assign_sign ▹ read_expression (levels_left levels)))
+        reader.old) reader.new }
 {
     let place = target(alloc, reader, levels)?;
     if reader.next_is(TokenSet::StepSign) {
@@ -128,7 +137,8 @@ fn next_simple<'a>(
     reader: &mut Reader<'a>,
     levels: u32,
 ) -> Result<ListedSimple<'a>, Stop>
-    ensures { Told listed_simple_marks result ((read_sign punct.Comma ▹ read_simple (levels_left levels)) reader.old) reader.new }
+    ensures { Told listed_simple_marks result
+        ((read_sign punct.Comma ▹ read_simple (levels_left levels)) reader.old) reader.new }
 {
     let comma = reader.take(COMMA)?;
     let next = simple(alloc, reader, levels)?;
@@ -143,7 +153,9 @@ fn next_simples<'a>(
     reader: &mut Reader<'a>,
     levels: u32,
 ) -> Result<Vec<ListedSimple<'a>>, Stop>
-    ensures { Told (λ v. joined (map listed_simple_marks v.items)) result (read_many (next_is (mark punct.Comma)) (read_sign punct.Comma ▹ read_simple (levels_left levels)) reader.old) reader.new }
+    ensures { Told (λ v. joined (map listed_simple_marks v.items)) result
+        (read_many (next_is (mark punct.Comma))
+        (read_sign punct.Comma ▹ read_simple (levels_left levels)) reader.old) reader.new }
 {
     let mut rest = Vec::new(alloc);
     let most = reader.rest().len();
@@ -167,7 +179,9 @@ fn simples<'a>(alloc: Global, reader: &mut Reader<'a>, levels: u32) -> Result<Si
 
 #[tactic(auto, using(crate::proofs::Repeats::each_front))]
 fn put_first<'a>(all: &mut Vec<ListedSimple<'a>>, first: Simple<'a>) -> Result<(), Stop>
-    ensures { MatchResult result (λ _. joined (map listed_simple_marks all.new.items) ≡ simple_marks first.entry ++ joined (map listed_simple_marks all.old.items)) (λ stop. stop ≡ Memory) }
+    ensures { MatchResult result (λ _. joined (map listed_simple_marks all.new.items)
+        ≡ simple_marks first.entry ++ joined (map listed_simple_marks all.old.items)) (λ stop. stop
+        ≡ Memory) }
 {
     all.insert(
         0,
@@ -184,7 +198,8 @@ fn maybe_simples<'a>(
     reader: &mut Reader<'a>,
     levels: u32,
 ) -> Result<Option<Simples<'a>>, Stop>
-    ensures { Told (λ s. optional (option_map simples_marks s)) result (read_maybe simple_start (read_simples (levels_left levels)) reader.old) reader.new }
+    ensures { Told (λ s. optional (option_map simples_marks s)) result
+        (read_maybe simple_start (read_simples (levels_left levels)) reader.old) reader.new }
 {
     if !reader.next_is(TokenSet::SimpleStart) {
         return Ok(None);
@@ -203,7 +218,8 @@ pub fn condition<'a>(
     reader: &mut Reader<'a>,
     levels: u32,
 ) -> Result<Condition<'a>, Stop>
-    ensures { Told condition_marks result (read_condition (levels_left levels) reader.old) reader.new }
+    ensures { Told condition_marks result (read_condition (levels_left levels) reader.old)
+        reader.new }
 {
     let open = reader.take(OPEN)?;
     let test = inner_expression(alloc, reader, levels)?;
@@ -212,7 +228,8 @@ pub fn condition<'a>(
 }
 
 fn for_first<'a>(alloc: Global, reader: &mut Reader<'a>, levels: u32) -> Result<ForFirst<'a>, Stop>
-    ensures { Told for_first_marks result (read_for_first (levels_left levels) reader.old) reader.new }
+    ensures { Told for_first_marks result (read_for_first (levels_left levels) reader.old)
+        reader.new }
 {
     if reader.next_is(TokenSet::DeclarationWord { with_static: false }) {
         let name = type_name(alloc, reader, false)?;
@@ -227,7 +244,8 @@ fn for_first<'a>(alloc: Global, reader: &mut Reader<'a>, levels: u32) -> Result<
 }
 
 fn for_head<'a>(alloc: Global, reader: &mut Reader<'a>, levels: u32) -> Result<ForHead<'a>, Stop>
-    ensures { Told for_head_marks result (read_for_head (levels_left levels) reader.old) reader.new }
+    ensures { Told for_head_marks result (read_for_head (levels_left levels) reader.old)
+        reader.new }
 {
     let first = for_first(alloc, reader, levels)?;
     let first_semicolon = reader.take(SEMICOLON)?;
@@ -262,7 +280,9 @@ pub fn inner_for_head<'a>(
 }
 
 fn next_strings<'a>(alloc: Global, reader: &mut Reader<'a>) -> Result<Vec<&'a Token<'a>>, Stop>
-    ensures { Told (λ v. map (λ t. leaf t.now) v.items) result (read_many (next_is (only class.Quoted)) (read_token (only class.Quoted)) reader.old) reader.new }
+    ensures { Told (λ v. map (λ t. leaf t.now) v.items) result
+        (read_many (next_is (only class.Quoted)) (read_token (only class.Quoted)) reader.old)
+        reader.new }
 {
     let mut rest = Vec::new(alloc);
     let most = reader.rest().len();

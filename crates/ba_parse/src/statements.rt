@@ -52,7 +52,8 @@ fn inner_items<'a>(
     reader: &mut Reader<'a>,
     levels: u32,
 ) -> Result<Vec<BlockItem<'a>>, Stop>
-    ensures { Told (λ v. joined (map item_marks v.items)) result (levels_left levels in_block reader.old) reader.new }
+    ensures { Told (λ v. joined (map item_marks v.items)) result
+        (levels_left levels in_block reader.old) reader.new }
 {
     if levels == 0 {
         return no_items(alloc, reader);
@@ -62,7 +63,8 @@ fn inner_items<'a>(
 
 /// The items where no level is left: none, or refused.
 fn no_items<'a>(alloc: Global, reader: &Reader<'a>) -> Result<Vec<BlockItem<'a>>, Stop>
-    ensures { Told (λ v. joined (map item_marks v.items)) result (shallow in_block reader.now) reader.now }
+    ensures { Told (λ v. joined (map item_marks v.items)) result (shallow in_block reader.now)
+        reader.now }
 {
     if reader.next_is(TokenSet::ItemStart) {
         return Err(Stop::TooDeep);
@@ -76,7 +78,8 @@ fn items<'a>(
     reader: &mut Reader<'a>,
     levels: u32,
 ) -> Result<Vec<BlockItem<'a>>, Stop>
-    ensures { Told (λ v. joined (map item_marks v.items)) result (read_many (next_is item_start) (read_item (levels_left levels)) reader.old) reader.new }
+    ensures { Told (λ v. joined (map item_marks v.items)) result
+        (read_many (next_is item_start) (read_item (levels_left levels)) reader.old) reader.new }
 {
     let mut all = Vec::new(alloc);
     let most = reader.rest().len();
@@ -110,7 +113,8 @@ fn controlled<'a>(
     reader: &mut Reader<'a>,
     levels: u32,
 ) -> Result<Controlled<'a>, Stop>
-    ensures { Told controlled_marks result (deeper_in (levels_left levels) in_statement reader.old) reader.new }
+    ensures { Told controlled_marks result (deeper_in (levels_left levels) in_statement reader.old)
+        reader.new }
 {
     if levels == 0 {
         return Err(refusal(reader, TokenSet::StatementStart));
@@ -120,7 +124,8 @@ fn controlled<'a>(
 }
 
 fn controlled_by_another<'a>(alloc: Global, body: Statement<'a>) -> Result<Controlled<'a>, Stop>
-    ensures { MatchResult result (λ c. controlled_marks c ≡ one_deeper (statement_marks body.entry)) (λ stop. stop ≡ Memory) }
+    ensures { MatchResult result (λ c. controlled_marks c ≡ one_deeper (statement_marks body.entry))
+        (λ stop. stop ≡ Memory) }
 {
     let statement = Box::new(alloc, body)?;
     Ok(Controlled { statement })
@@ -128,7 +133,8 @@ fn controlled_by_another<'a>(alloc: Global, body: Statement<'a>) -> Result<Contr
 
 #[cycle(statement)]
 fn statement<'a>(alloc: Global, reader: &mut Reader<'a>, levels: u32) -> Result<Statement<'a>, Stop>
-    ensures { Told statement_marks result (read_statement (levels_left levels) reader.old) reader.new }
+    ensures { Told statement_marks result (read_statement (levels_left levels) reader.old)
+        reader.new }
 {
     let form = statement_form(alloc, reader, levels)?;
     Ok(Statement { form })
@@ -140,7 +146,8 @@ fn statement_form<'a>(
     reader: &mut Reader<'a>,
     levels: u32,
 ) -> Result<StatementForm<'a>, Stop>
-    ensures { Told form_marks result (read_statement_form (levels_left levels) reader.old) reader.new }
+    ensures { Told form_marks result (read_statement_form (levels_left levels) reader.old)
+        reader.new }
 {
     if reader.next_is(TokenSet::Punct(Punct::OpenBrace)) {
         let block = block(alloc, reader, levels)?;
@@ -160,7 +167,8 @@ fn simple_statement<'a>(
     reader: &mut Reader<'a>,
     levels: u32,
 ) -> Result<StatementForm<'a>, Stop>
-    ensures { Told form_marks result ((read_simple (levels_left levels) ▹ read_semicolon) reader.old) reader.new }
+    ensures { Told form_marks result
+        ((read_simple (levels_left levels) ▹ read_semicolon) reader.old) reader.new }
 {
     let done = simple(alloc, reader, levels)?;
     let semicolon = reader.take(SEMICOLON)?;
@@ -176,7 +184,8 @@ fn keyword_statement<'a>(
     reader: &mut Reader<'a>,
     levels: u32,
 ) -> Result<StatementForm<'a>, Stop>
-    ensures { Told form_marks result (read_keyword_statement (levels_left levels) reader.old) reader.new }
+    ensures { Told form_marks result (read_keyword_statement (levels_left levels) reader.old)
+        reader.new }
 {
     if reader.next_is(TokenSet::Keyword(Keyword::If)) {
         if_statement(alloc, reader, levels)
@@ -217,7 +226,8 @@ fn maybe_else<'a>(
     reader: &mut Reader<'a>,
     levels: u32,
 ) -> Result<Option<Else<'a>>, Stop>
-    ensures { Told (λ e. or_no_else (option_map else_marks e)) result (read_else (levels_left levels) reader.old) reader.new }
+    ensures { Told (λ e. or_no_else (option_map else_marks e)) result
+        (read_else (levels_left levels) reader.old) reader.new }
 {
     if !reader.next_is(TokenSet::Keyword(Keyword::Else)) {
         return Ok(None);
@@ -275,7 +285,8 @@ fn boxed_head<'a>(
     reader: &mut Reader<'a>,
     levels: u32,
 ) -> Result<Box<ForHead<'a>>, Stop>
-    ensures { Told (λ h. for_head_marks h.value) result (levels_left levels in_for reader.old) reader.new }
+    ensures { Told (λ h. for_head_marks h.value) result (levels_left levels in_for reader.old)
+        reader.new }
 {
     let head = inner_for_head(alloc, reader, levels)?;
     Ok(Box::new(alloc, head)?)
@@ -331,7 +342,8 @@ fn keyword_alone<'a>(
     reader: &mut Reader<'a>,
     kind: Keyword,
 ) -> Result<(&'a Token<'a>, &'a Token<'a>), Stop>
-    ensures { Told (λ p. leaf p.0.now ∷ leaf p.1.now ∷ []) result ((read_key kind ▹ read_semicolon) reader.old) reader.new }
+    ensures { Told (λ p. leaf p.0.now ∷ leaf p.1.now
+        ∷ []) result ((read_key kind ▹ read_semicolon) reader.old) reader.new }
 {
     let keyword = reader.take(TokenSet::Keyword(kind))?;
     let semicolon = reader.take(SEMICOLON)?;
@@ -343,7 +355,9 @@ fn return_statement<'a>(
     reader: &mut Reader<'a>,
     levels: u32,
 ) -> Result<StatementForm<'a>, Stop>
-    ensures { Told form_marks result ((read_key keyword.Return ▹ maybe_expression (levels_left levels) ▹ read_semicolon) reader.old) reader.new }
+    ensures { Told form_marks result
+        ((read_key keyword.Return ▹ maybe_expression (levels_left levels) ▹ read_semicolon)
+        reader.old) reader.new }
 {
     let keyword = reader.take(TokenSet::Keyword(Keyword::Return))?;
     let value = maybe_expression(alloc, reader, levels)?;
@@ -360,7 +374,9 @@ fn assert_statement<'a>(
     reader: &mut Reader<'a>,
     levels: u32,
 ) -> Result<StatementForm<'a>, Stop>
-    ensures { Told form_marks result ((read_key keyword.Assert ▹ read_condition (levels_left levels) ▹ read_semicolon) reader.old) reader.new }
+    ensures { Told form_marks result
+        ((read_key keyword.Assert ▹ read_condition (levels_left levels) ▹ read_semicolon)
+        reader.old) reader.new }
 {
     let keyword = reader.take(TokenSet::Keyword(Keyword::Assert))?;
     let test = condition(alloc, reader, levels)?;

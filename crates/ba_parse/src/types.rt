@@ -48,7 +48,8 @@ fn next_word<'a>(
     before: &[TokenClass],
     with_static: bool,
 ) -> Result<&'a Token<'a>, Stop>
-    ensures { Told (λ token. leaf token.now ∷ []) result (next_word with_static before.now reader.old) reader.new }
+    ensures { Told (λ token. leaf token.now
+        ∷ []) result (next_word with_static before.now reader.old) reader.new }
 {
     if !agrees_with(before, reader.rest()) {
         return Err(Stop::Syntax);

@@ -19,8 +19,11 @@ use std::alloc::AllocError;
 pub fn bit_and(nodes: &mut Nodes, a: &Word, b: &Word) -> Result<Word, AllocError>
     requires first { AreBitsOf nodes.old a.now }
     requires second { AreBitsOf nodes.old b.now }
-    ensures number { IfOk result (λ word. HasNumber nodes.new word (λ free. bit_and (number_of free nodes.old a.now) (number_of free nodes.old b.now))) }
-    ensures value { IfOk result (λ word. (signed : Bool) → IsValueOf BinOp.And signed nodes.old a.now b.now nodes.new word) }
+    ensures number { IfOk result (λ word.
+        HasNumber nodes.new word (λ free.
+        bit_and (number_of free nodes.old a.now) (number_of free nodes.old b.now))) }
+    ensures value { IfOk result (λ word. (signed : Bool)
+        → IsValueOf BinOp.And signed nodes.old a.now b.now nodes.new word) }
     ensures extends { Extends nodes.old nodes.new }
     ensures count { gates_in nodes.new ≤ gates_in nodes.old + 32 }
 {
@@ -35,8 +38,11 @@ pub fn bit_and(nodes: &mut Nodes, a: &Word, b: &Word) -> Result<Word, AllocError
 pub fn bit_or(nodes: &mut Nodes, a: &Word, b: &Word) -> Result<Word, AllocError>
     requires first { AreBitsOf nodes.old a.now }
     requires second { AreBitsOf nodes.old b.now }
-    ensures number { IfOk result (λ word. HasNumber nodes.new word (λ free. bit_or (number_of free nodes.old a.now) (number_of free nodes.old b.now))) }
-    ensures value { IfOk result (λ word. (signed : Bool) → IsValueOf BinOp.Or signed nodes.old a.now b.now nodes.new word) }
+    ensures number { IfOk result (λ word.
+        HasNumber nodes.new word (λ free.
+        bit_or (number_of free nodes.old a.now) (number_of free nodes.old b.now))) }
+    ensures value { IfOk result (λ word. (signed : Bool)
+        → IsValueOf BinOp.Or signed nodes.old a.now b.now nodes.new word) }
     ensures extends { Extends nodes.old nodes.new }
     ensures count { gates_in nodes.new ≤ gates_in nodes.old + 32 }
 {
@@ -51,8 +57,11 @@ pub fn bit_or(nodes: &mut Nodes, a: &Word, b: &Word) -> Result<Word, AllocError>
 pub fn bit_xor(nodes: &mut Nodes, a: &Word, b: &Word) -> Result<Word, AllocError>
     requires first { AreBitsOf nodes.old a.now }
     requires second { AreBitsOf nodes.old b.now }
-    ensures number { IfOk result (λ word. HasNumber nodes.new word (λ free. bit_xor (number_of free nodes.old a.now) (number_of free nodes.old b.now))) }
-    ensures value { IfOk result (λ word. (signed : Bool) → IsValueOf BinOp.Xor signed nodes.old a.now b.now nodes.new word) }
+    ensures number { IfOk result (λ word.
+        HasNumber nodes.new word (λ free.
+        bit_xor (number_of free nodes.old a.now) (number_of free nodes.old b.now))) }
+    ensures value { IfOk result (λ word. (signed : Bool)
+        → IsValueOf BinOp.Xor signed nodes.old a.now b.now nodes.new word) }
     ensures extends { Extends nodes.old nodes.new }
     ensures count { gates_in nodes.new ≤ gates_in nodes.old + 32 }
 {
@@ -68,7 +77,10 @@ pub fn select(nodes: &mut Nodes, which: Bit, yes: &Word, no: &Word) -> Result<Wo
     requires chooser { IsBitOf nodes.old which }
     requires first { AreBitsOf nodes.old yes.now }
     requires second { AreBitsOf nodes.old no.now }
-    ensures number { IfOk result (λ word. HasNumber nodes.new word (λ free. if truth free nodes.old which then number_of free nodes.old yes.now else number_of free nodes.old no.now)) }
+    ensures number { IfOk result (λ word.
+        HasNumber nodes.new word (λ free.
+        if truth free nodes.old which then number_of free nodes.old yes.now else number_of free
+        nodes.old no.now)) }
     ensures extends { Extends nodes.old nodes.new }
     ensures count { gates_in nodes.new ≤ gates_in nodes.old + 32 }
 {
@@ -82,8 +94,10 @@ pub fn select(nodes: &mut Nodes, which: Bit, yes: &Word, no: &Word) -> Result<Wo
 /// The complement of each bit (C90 6.3.3.3). It takes no memory.
 pub fn flip(a: &Word) -> Word
     ensures bits { (nodes : List Node) → AreBitsOf nodes a.now → AreBitsOf nodes result }
-    ensures number { (nodes : List Node) (free : ℕ → Bool) → number_of free nodes result + number_of free nodes a.now + 1 ≡ 2 ^ 32 }
-    ensures value { (nodes : List Node) (signed : Bool) → IsValueOfOne UnOp.Flip signed nodes a.now nodes result }
+    ensures number { (nodes : List Node) (free : ℕ → Bool)
+        → number_of free nodes result + number_of free nodes a.now + 1 ≡ 2 ^ 32 }
+    ensures value { (nodes : List Node) (signed : Bool)
+        → IsValueOfOne UnOp.Flip signed nodes a.now nodes result }
     ensures long { length result ≡ 32 }
 {
     let mut word = *a;

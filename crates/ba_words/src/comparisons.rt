@@ -21,8 +21,11 @@ pub fn less(nodes: &mut Nodes, a: &Word, b: &Word, signed: bool) -> Result<Bit, 
     requires first { AreBitsOf nodes.old a.now }
     requires second { AreBitsOf nodes.old b.now }
     ensures bit { IfOk result (IsBitOf nodes.new) }
-    ensures value { IfOk result (λ bit. IsComparison BinOp.Lt signed nodes.old a.now b.now nodes.new bit) }
-    ensures below { IfOk result (λ bit. signed ≡ false → HasValue nodes.new bit (λ free. nat_lt (number_of free nodes.old a.now) (number_of free nodes.old b.now))) }
+    ensures value { IfOk result (λ bit.
+        IsComparison BinOp.Lt signed nodes.old a.now b.now nodes.new bit) }
+    ensures below { IfOk result (λ bit. signed ≡ false
+        → HasValue nodes.new bit (λ free.
+        nat_lt (number_of free nodes.old a.now) (number_of free nodes.old b.now))) }
     ensures extends { Extends nodes.old nodes.new }
     ensures count { gates_in nodes.new ≤ gates_in nodes.old + 32 }
 {
@@ -38,7 +41,9 @@ pub fn less(nodes: &mut Nodes, a: &Word, b: &Word, signed: bool) -> Result<Bit, 
 fn low_less(nodes: &mut Nodes, a: &Word, b: &Word) -> Result<Bit, AllocError>
     requires first { AreBitsOf nodes.old a.now }
     requires second { AreBitsOf nodes.old b.now }
-    ensures value { IfOk result (λ bit. HasValue nodes.new bit (λ free. nat_lt (low_number free nodes.old a.now 31) (low_number free nodes.old b.now 31))) }
+    ensures value { IfOk result (λ bit.
+        HasValue nodes.new bit (λ free.
+        nat_lt (low_number free nodes.old a.now 31) (low_number free nodes.old b.now 31))) }
     ensures extends { Extends nodes.old nodes.new }
     ensures count { gates_in nodes.new ≤ gates_in nodes.old + 31 }
 {
@@ -56,7 +61,10 @@ fn borrow(nodes: &mut Nodes, a: Bit, b: Bit, below: Bit) -> Result<Bit, AllocErr
     requires first { IsBitOf nodes.old a }
     requires second { IsBitOf nodes.old b }
     requires third { IsBitOf nodes.old below }
-    ensures value { IfOk result (λ bit. HasValue nodes.new bit (λ free. (not (truth free nodes.old a) && truth free nodes.old b) || (not (truth free nodes.old a && not (truth free nodes.old b)) && truth free nodes.old below))) }
+    ensures value { IfOk result (λ bit.
+        HasValue nodes.new bit (λ free. (not (truth free nodes.old a) && truth free nodes.old b)
+        || (not (truth free nodes.old a && not (truth free nodes.old b))
+        && truth free nodes.old below))) }
     ensures extends { Extends nodes.old nodes.new }
     ensures count { gates_in nodes.new ≤ gates_in nodes.old + 1 }
 {
@@ -67,8 +75,11 @@ fn borrow(nodes: &mut Nodes, a: Bit, b: Bit, below: Bit) -> Result<Bit, AllocErr
 pub fn equal(nodes: &mut Nodes, a: &Word, b: &Word) -> Result<Bit, AllocError>
     requires first { AreBitsOf nodes.old a.now }
     requires second { AreBitsOf nodes.old b.now }
-    ensures same { IfOk result (λ bit. HasValue nodes.new bit (λ free. number_of free nodes.old a.now == number_of free nodes.old b.now)) }
-    ensures value { IfOk result (λ bit. (signed : Bool) → IsComparison BinOp.Eq signed nodes.old a.now b.now nodes.new bit) }
+    ensures same { IfOk result (λ bit.
+        HasValue nodes.new bit (λ free.
+        number_of free nodes.old a.now == number_of free nodes.old b.now)) }
+    ensures value { IfOk result (λ bit. (signed : Bool)
+        → IsComparison BinOp.Eq signed nodes.old a.now b.now nodes.new bit) }
     ensures extends { Extends nodes.old nodes.new }
     ensures count { gates_in nodes.new ≤ gates_in nodes.old + 63 }
 {
@@ -84,7 +95,8 @@ fn also_equal(nodes: &mut Nodes, same: Bit, a: Bit, b: Bit) -> Result<Bit, Alloc
     requires first { IsBitOf nodes.old same }
     requires second { IsBitOf nodes.old a }
     requires third { IsBitOf nodes.old b }
-    ensures value { IfOk result (λ bit. HasValue nodes.new bit (λ free. truth free nodes.old same && not (bool_xor (truth free nodes.old a) (truth free nodes.old b)))) }
+    ensures value { IfOk result (λ bit. HasValue nodes.new bit (λ free. truth free nodes.old same
+        && not (bool_xor (truth free nodes.old a) (truth free nodes.old b)))) }
     ensures extends { Extends nodes.old nodes.new }
     ensures count { gates_in nodes.new ≤ gates_in nodes.old + 2 }
 {
@@ -95,8 +107,10 @@ fn also_equal(nodes: &mut Nodes, same: Bit, a: Bit, b: Bit) -> Result<Bit, Alloc
 /// Whether some bit of the word is true, by at most 31 gates.
 pub fn nonzero(nodes: &mut Nodes, a: &Word) -> Result<Bit, AllocError>
     requires { AreBitsOf nodes.old a.now }
-    ensures some { IfOk result (λ bit. HasValue nodes.new bit (λ free. nat_lt 0 (number_of free nodes.old a.now))) }
-    ensures value { IfOk result (λ bit. (signed : Bool) → IsTest signed nodes.old a.now nodes.new bit) }
+    ensures some { IfOk result (λ bit.
+        HasValue nodes.new bit (λ free. nat_lt 0 (number_of free nodes.old a.now))) }
+    ensures value { IfOk result (λ bit. (signed : Bool)
+        → IsTest signed nodes.old a.now nodes.new bit) }
     ensures extends { Extends nodes.old nodes.new }
     ensures count { gates_in nodes.new ≤ gates_in nodes.old + 31 }
 {

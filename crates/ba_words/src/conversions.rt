@@ -19,8 +19,11 @@ use ba_numbers::numbers::CType;
 /// no memory.
 pub fn convert_word(t: CType, a: &Word) -> Word
     ensures bits { (nodes : List Node) → AreBitsOf nodes a.now → AreBitsOf nodes result }
-    ensures number { (nodes : List Node) (free : ℕ → Bool) → number_of free nodes result ≡ low_word (converted t (pos (number_of free nodes a.now))) }
-    ensures value { (nodes : List Node) (source target : Bool) (free : ℕ → Bool) → converted (word_type target) (converted t (word_value source free nodes a.now)) ≡ word_value target free nodes result }
+    ensures number { (nodes : List Node) (free : ℕ → Bool) → number_of free nodes result
+        ≡ low_word (converted t (pos (number_of free nodes a.now))) }
+    ensures value { (nodes : List Node) (source target : Bool) (free : ℕ → Bool)
+        → converted (word_type target) (converted t (word_value source free nodes a.now))
+        ≡ word_value target free nodes result }
     ensures long { length result ≡ 32 }
 {
     match t {
@@ -36,8 +39,10 @@ pub fn convert_word(t: CType, a: &Word) -> Word
 /// The low `width` bits, and `fill` above them. It takes no memory.
 pub fn extended(word: &Word, width: usize, fill: Bit) -> Word
     ensures long { length result ≡ 32 }
-    ensures bits { (nodes : List Node) → AreBitsOf nodes word.now → IsBitOf nodes fill → AreBitsOf nodes result }
-    ensures places { (place : ℕ) → place < 32 → bit_at result place ≡ (if nat_lt place width then bit_at word.now place else fill) }
+    ensures bits { (nodes : List Node) → AreBitsOf nodes word.now → IsBitOf nodes fill
+        → AreBitsOf nodes result }
+    ensures places { (place : ℕ) → place < 32 → bit_at result place
+        ≡ (if nat_lt place width then bit_at word.now place else fill) }
 {
     let mut wide = *word;
     for i in 0..32 {

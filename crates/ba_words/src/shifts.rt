@@ -20,8 +20,12 @@ use std::alloc::AllocError;
 pub fn shl(nodes: &mut Nodes, a: &Word, count: &Word) -> Result<Word, AllocError>
     requires first { AreBitsOf nodes.old a.now }
     requires second { AreBitsOf nodes.old count.now }
-    ensures number { IfOk result (λ word. HasNumber nodes.new word (λ free. (number_of free nodes.old a.now * 2 ^ (number_of free nodes.old count.now % 32)) % 2 ^ 32)) }
-    ensures value { IfOk result (λ word. (signed counted : Bool) → IsShift BinOp.Shl signed counted nodes.old a.now count.now nodes.new word) }
+    ensures number { IfOk result (λ word.
+        HasNumber nodes.new word (λ free.
+        (number_of free nodes.old a.now * 2 ^ (number_of free nodes.old count.now % 32)) % 2 ^
+        32)) }
+    ensures value { IfOk result (λ word. (signed counted : Bool)
+        → IsShift BinOp.Shl signed counted nodes.old a.now count.now nodes.new word) }
     ensures extends { Extends nodes.old nodes.new }
     ensures count { gates_in nodes.new ≤ gates_in nodes.old + 160 }
 {
@@ -38,8 +42,11 @@ pub fn shl(nodes: &mut Nodes, a: &Word, count: &Word) -> Result<Word, AllocError
 pub fn shr(nodes: &mut Nodes, a: &Word, count: &Word, signed: bool) -> Result<Word, AllocError>
     requires first { AreBitsOf nodes.old a.now }
     requires second { AreBitsOf nodes.old count.now }
-    ensures number { IfOk result (λ word. HasNumber nodes.new word (λ free. shifted_down (number_of free nodes.old a.now) (signed && truth free nodes.old (bit_at a.now 31)) (number_of free nodes.old count.now % 32))) }
-    ensures value { IfOk result (λ word. (counted : Bool) → IsShift BinOp.Shr signed counted nodes.old a.now count.now nodes.new word) }
+    ensures number { IfOk result (λ word.
+        HasNumber nodes.new word (λ free. shifted_down (number_of free nodes.old a.now) (signed
+        && truth free nodes.old (bit_at a.now 31)) (number_of free nodes.old count.now % 32))) }
+    ensures value { IfOk result (λ word. (counted : Bool)
+        → IsShift BinOp.Shr signed counted nodes.old a.now count.now nodes.new word) }
     ensures extends { Extends nodes.old nodes.new }
     ensures count { gates_in nodes.new ≤ gates_in nodes.old + 160 }
 {
@@ -55,7 +62,8 @@ pub fn shr(nodes: &mut Nodes, a: &Word, count: &Word, signed: bool) -> Result<Wo
 /// The bit that says whether the word is negative: its highest, or false for an unsigned word. It takes no memory.
 pub fn sign_of(a: &Word, signed: bool) -> Bit
     ensures bit { result ≡ (if signed then bit_at a.now 31 else constant_bit false) }
-    ensures value { (nodes : List Node) (free : ℕ → Bool) → truth free nodes result ≡ (signed && truth free nodes (bit_at a.now 31)) }
+    ensures value { (nodes : List Node) (free : ℕ → Bool) → truth free nodes result
+        ≡ (signed && truth free nodes (bit_at a.now 31)) }
 {
     if signed {
         a[31]
@@ -68,7 +76,8 @@ pub fn sign_of(a: &Word, signed: bool) -> Bit
 pub fn moved_up(word: &Word, by: usize) -> Word
     ensures long { length result ≡ 32 }
     ensures bits { (nodes : List Node) → AreBitsOf nodes word.now → AreBitsOf nodes result }
-    ensures places { (place : ℕ) → place < 32 → bit_at result place ≡ (if nat_lt place by then constant_bit false else bit_at word.now (place - by)) }
+    ensures places { (place : ℕ) → place < 32 → bit_at result place
+        ≡ (if nat_lt place by then constant_bit false else bit_at word.now (place - by)) }
 {
     let mut moved = *word;
     for i in 0..32 {
@@ -85,8 +94,10 @@ pub fn moved_up(word: &Word, by: usize) -> Word
 fn moved_down(word: &Word, by: usize, fill: Bit) -> Word
     requires { by ≤ 32 }
     ensures long { length result ≡ 32 }
-    ensures bits { (nodes : List Node) → AreBitsOf nodes word.now → IsBitOf nodes fill → AreBitsOf nodes result }
-    ensures places { (place : ℕ) → place < 32 → bit_at result place ≡ (if nat_lt place (32 - by) then bit_at word.now (place + by) else fill) }
+    ensures bits { (nodes : List Node) → AreBitsOf nodes word.now → IsBitOf nodes fill
+        → AreBitsOf nodes result }
+    ensures places { (place : ℕ) → place < 32 → bit_at result place
+        ≡ (if nat_lt place (32 - by) then bit_at word.now (place + by) else fill) }
 {
     let mut moved = *word;
     for i in 0..32 {

@@ -19,8 +19,11 @@ use std::alloc::AllocError;
 pub fn add(nodes: &mut Nodes, a: &Word, b: &Word) -> Result<Word, AllocError>
     requires first { AreBitsOf nodes.old a.now }
     requires second { AreBitsOf nodes.old b.now }
-    ensures number { IfOk result (λ word. HasNumber nodes.new word (λ free. (number_of free nodes.old a.now + number_of free nodes.old b.now) % 2 ^ 32)) }
-    ensures value { IfOk result (λ word. (signed : Bool) → IsValueOf BinOp.Add signed nodes.old a.now b.now nodes.new word) }
+    ensures number { IfOk result (λ word.
+        HasNumber nodes.new word (λ free.
+        (number_of free nodes.old a.now + number_of free nodes.old b.now) % 2 ^ 32)) }
+    ensures value { IfOk result (λ word. (signed : Bool)
+        → IsValueOf BinOp.Add signed nodes.old a.now b.now nodes.new word) }
     ensures extends { Extends nodes.old nodes.new }
     ensures count { gates_in nodes.new ≤ gates_in nodes.old + 96 }
 {
@@ -31,8 +34,11 @@ pub fn add(nodes: &mut Nodes, a: &Word, b: &Word) -> Result<Word, AllocError>
 pub fn sub(nodes: &mut Nodes, a: &Word, b: &Word) -> Result<Word, AllocError>
     requires first { AreBitsOf nodes.old a.now }
     requires second { AreBitsOf nodes.old b.now }
-    ensures number { IfOk result (λ word. HasNumber nodes.new word (λ free. (number_of free nodes.old a.now + (2 ^ 32 - number_of free nodes.old b.now)) % 2 ^ 32)) }
-    ensures value { IfOk result (λ word. (signed : Bool) → IsValueOf BinOp.Sub signed nodes.old a.now b.now nodes.new word) }
+    ensures number { IfOk result (λ word.
+        HasNumber nodes.new word (λ free.
+        (number_of free nodes.old a.now + (2 ^ 32 - number_of free nodes.old b.now)) % 2 ^ 32)) }
+    ensures value { IfOk result (λ word. (signed : Bool)
+        → IsValueOf BinOp.Sub signed nodes.old a.now b.now nodes.new word) }
     ensures extends { Extends nodes.old nodes.new }
     ensures count { gates_in nodes.new ≤ gates_in nodes.old + 96 }
 {
@@ -43,8 +49,10 @@ pub fn sub(nodes: &mut Nodes, a: &Word, b: &Word) -> Result<Word, AllocError>
 /// The word with the opposite sign, modulo 2^32 (C90 6.3.3.3), by at most 96 gates.
 pub fn neg(nodes: &mut Nodes, a: &Word) -> Result<Word, AllocError>
     requires { AreBitsOf nodes.old a.now }
-    ensures number { IfOk result (λ word. HasNumber nodes.new word (λ free. (2 ^ 32 - number_of free nodes.old a.now) % 2 ^ 32)) }
-    ensures value { IfOk result (λ word. (signed : Bool) → IsValueOfOne UnOp.Neg signed nodes.old a.now nodes.new word) }
+    ensures number { IfOk result (λ word.
+        HasNumber nodes.new word (λ free. (2 ^ 32 - number_of free nodes.old a.now) % 2 ^ 32)) }
+    ensures value { IfOk result (λ word. (signed : Bool)
+        → IsValueOfOne UnOp.Neg signed nodes.old a.now nodes.new word) }
     ensures extends { Extends nodes.old nodes.new }
     ensures count { gates_in nodes.new ≤ gates_in nodes.old + 96 }
 {
@@ -63,7 +71,8 @@ pub fn add_with_carry(
     requires first { AreBitsOf nodes.old a.now }
     requires second { AreBitsOf nodes.old b.now }
     requires third { IsBitOf nodes.old carry }
-    ensures bits { IfOk result (λ r. (length r.0 ≡ 32) × AreBitsOf nodes.new r.0 × IsBitOf nodes.new r.1) }
+    ensures bits { IfOk result (λ r. (length r.0 ≡ 32) × AreBitsOf nodes.new r.0
+        × IsBitOf nodes.new r.1) }
     ensures sum { IfOk result (λ r. (free : ℕ → Bool) →
         number_of free nodes.new r.0 + 2 ^ 32 * digit (truth free nodes.new r.1)
         ≡ number_of free nodes.old a.now + number_of free nodes.old b.now + digit (truth free nodes.old carry)) }
@@ -81,7 +90,10 @@ fn sum(nodes: &mut Nodes, a: &Word, b: &Word, carry: Bit) -> Result<Word, AllocE
     requires first { AreBitsOf nodes.old a.now }
     requires second { AreBitsOf nodes.old b.now }
     requires third { IsBitOf nodes.old carry }
-    ensures number { IfOk result (λ word. HasNumber nodes.new word (λ free. (number_of free nodes.old a.now + number_of free nodes.old b.now + digit (truth free nodes.old carry)) % 2 ^ 32)) }
+    ensures number { IfOk result (λ word.
+        HasNumber nodes.new word (λ free.
+        (number_of free nodes.old a.now + number_of free nodes.old b.now + digit
+        (truth free nodes.old carry)) % 2 ^ 32)) }
     ensures extends { Extends nodes.old nodes.new }
     ensures count { gates_in nodes.new ≤ gates_in nodes.old + 96 }
 {
@@ -95,7 +107,10 @@ fn sum_bit(nodes: &mut Nodes, a: Bit, b: Bit, carry: Bit) -> Result<Bit, AllocEr
     requires first { IsBitOf nodes.old a }
     requires second { IsBitOf nodes.old b }
     requires third { IsBitOf nodes.old carry }
-    ensures sum { IfOk result (λ bit. HasValue nodes.new bit (λ free. bool_xor (bool_xor (truth free nodes.old a) (truth free nodes.old b)) (truth free nodes.old carry))) }
+    ensures sum { IfOk result (λ bit.
+        HasValue nodes.new bit (λ free.
+        bool_xor (bool_xor (truth free nodes.old a) (truth free nodes.old b))
+        (truth free nodes.old carry))) }
     ensures extends { Extends nodes.old nodes.new }
     ensures count { gates_in nodes.new ≤ gates_in nodes.old + 2 }
 {
@@ -128,8 +143,14 @@ fn full_adder(nodes: &mut Nodes, a: Bit, b: Bit, carry: Bit) -> Result<(Bit, Bit
     requires first { IsBitOf nodes.old a }
     requires second { IsBitOf nodes.old b }
     requires third { IsBitOf nodes.old carry }
-    ensures sum { IfOk result (λ r. HasValue nodes.new r.0 (λ free. bool_xor (bool_xor (truth free nodes.old a) (truth free nodes.old b)) (truth free nodes.old carry))) }
-    ensures carry { IfOk result (λ r. HasValue nodes.new r.1 (λ free. (truth free nodes.old a && truth free nodes.old b) || (bool_xor (truth free nodes.old a) (truth free nodes.old b) && truth free nodes.old carry))) }
+    ensures sum { IfOk result (λ r.
+        HasValue nodes.new r.0 (λ free.
+        bool_xor (bool_xor (truth free nodes.old a) (truth free nodes.old b))
+        (truth free nodes.old carry))) }
+    ensures carry { IfOk result (λ r.
+        HasValue nodes.new r.1 (λ free. (truth free nodes.old a && truth free nodes.old b)
+        || (bool_xor (truth free nodes.old a) (truth free nodes.old b)
+        && truth free nodes.old carry))) }
     ensures extends { Extends nodes.old nodes.new }
     ensures count { gates_in nodes.new ≤ gates_in nodes.old + 3 }
 {

@@ -368,5 +368,6 @@ pub enum FunctionEnd<'a> {
 #[derive(Drop)]
 pub struct RawProgram<'a> {
     pub externals: Vec<External<'a>>,
-    pub ghost accepted: { IsTrue (has_accepted_levels (node_of file (joined (map external_marks externals.items)))) },
+    pub ghost accepted: { IsTrue (has_accepted_levels
+        (node_of file (joined (map external_marks externals.items)))) },
 }
