@@ -112,7 +112,7 @@ fresh_fits : (lits : List Literal) (number : ℕ) → AreIndexed lits → (k : �
 fresh_fits lits number indexed zero s e =
     let is : Some (fresh lits number) ≡ Some s = sym (first_is lits number) ∙ e in
     let fits : Fits (fresh lits number) =
-    record { lits = indexed; first = λ next e. absurd (cc e); second = λ next e. absurd (cc e) } in
+    record { lits = indexed } in
     subst Fits (cc is) fits
 fresh_fits lits number indexed (suc k) s e =
     let is : None ≡ Some s = sym (none_after lits number k) ∙ e in

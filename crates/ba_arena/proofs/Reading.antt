@@ -1,9 +1,8 @@
 -- What is read at a place where a clause begins.
 
-use Rattle.std.proofs.Common.{◌≡◌, ℕ, suc, zero, ◌+◌, ◌-◌, ◌<◌, ◌≤◌, Option, None, Some, IsSome, List, [], ◌∷◌, length, ◌^◌, get_or, take, drop, refl, sym, ap, subst, ◌∙◌, arith, length-drop}
+use Rattle.std.proofs.Common.{◌≡◌, ℕ, suc, zero, ◌+◌, ◌<◌, ◌≤◌, Option, None, Some, IsSome, List, [], ◌∷◌, length, ◌^◌, get_or, take, drop, refl, sym, ap, subst, ◌∙◌, arith, length-drop}
 use Rattle.std.proofs.lemmas.List.{get_or-map, get_or-take, get_or-drop, length-map, length-take}
 use Rattle.std.proofs.lemmas.Grind.{get_or_default_zero}
-use Rattle.std.proofs.lemmas.Bool.Decides.{nat_tests}
 use Rattle.ba_lits.specs.Literals.{literal_at, index_of, index_of-literal_at, lit_at, no_literal}
 use Rattle.ba_arena.specs.Clauses.{Stored, clause_at, lits_at, lits_of, number_at, number_of, link_at, link_of, IsLive}
 use Rattle.ba_arena.specs.Words.{clauses_of, stored_in, lacking, link_of_word, Fits, AreWords}
@@ -81,23 +80,12 @@ number_read ws i x h read =
     let x_is : x ≡ get_or ws (i + 1) 0 = read ∙ get_or_default_zero ws (i + 1) x (omega (arith, h.room)) in
     x_is ∙ (sym (word ws i 0 (i + 1) (omega arith)) ∙ sym (ap number_of h.is))
 
--- a word that is a link within the range
-word_le : (w : ℕ) → ((next : ℕ) → link_of_word w ≡ Some next → next < 2 ^ 32) → w ≤ 2 ^ 32
-word_le zero fits = omega arith
-word_le (suc w) fits = omega (arith, fits (suc w - 1) (grind (arith, nat_tests)))
-
 pub link_word : (ws : List ℕ) (i which x : ℕ) → IsHere ws i → which ≤ 1 → x ≡ get_or ws (i + 2 + which) x
     → x ≡ get_or (drop (suc i) ws) (suc which) 0
 link_word ws i which x h le read =
     let x_is : x ≡ get_or ws (i + 2 + which) 0 =
     read ∙ get_or_default_zero ws (i + 2 + which) x (omega (arith, h.room, le)) in
     x_is ∙ sym (word ws i (suc which) (i + 2 + which) (omega arith))
-
-pub link_fits : (ws : List ℕ) (i which x : ℕ) → IsHere ws i → which ≤ 1 → x ≡ get_or ws (i + 2 + which) x
-    → x ≤ 2 ^ 32
-link_fits ws i zero x h le read = rw (link_word ws i zero x h le read) (word_le _ h.fits.first)
-link_fits ws i (suc zero) x h le read = rw (link_word ws i (suc zero) x h le read) (word_le _ h.fits.second)
-link_fits ws i (suc (suc which)) x h le read = absurd (omega (arith, le))
 
 pub link_read : (ws : List ℕ) (i which x : ℕ) → IsHere ws i → which ≤ 1 → x ≡ get_or ws (i + 2 + which) x
     → link_of_word x ≡ link_at (clauses_of 0 ws) i which

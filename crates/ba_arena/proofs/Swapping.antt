@@ -46,8 +46,6 @@ put-fits k v s t low high fits e =
     let of : Fits (record s { lits = set s.lits k (literal_at v) }) = record {
       lits = indexed-set s.lits k (literal_at v) (omega (arith, low, index_of-literal_at v))
           (omega (arith, high, index_of-literal_at v)) fits.lits;
-      first = fits.first;
-      second = fits.second;
     } in
     subst Fits (sym is) of
 

@@ -1,6 +1,6 @@
 -- A word changed within a clause.
 
-use Rattle.std.proofs.Common.{◌≡◌, ℕ, suc, zero, ◌+◌, ◌-◌, ◌^◌, ◌<◌, ◌≤◌, Option, None, Some, IsSome, is_some, List, [], ◌∷◌, length, get_or, set, drop, map, refl, sym, ap, subst, ◌∙◌, arith, length-drop}
+use Rattle.std.proofs.Common.{◌≡◌, ℕ, suc, zero, ◌+◌, ◌<◌, ◌≤◌, Option, None, Some, IsSome, is_some, List, [], ◌∷◌, length, get_or, set, drop, map, refl, sym, ap, subst, ◌∙◌, arith, length-drop}
 use Rattle.std.proofs.lemmas.List.{take-set-le}
 use Rattle.std.proofs.lemmas.Bool.Decides.{nat_tests}
 use Rattle.ba_lits.specs.Literals.{literal_at}
@@ -105,16 +105,6 @@ words-written ws i j q v words h e within fits = record {
 }
 
 -- a link
-word_fits : (v : ℕ) → v ≤ 2 ^ 32 → (next : ℕ) → link_of_word v ≡ Some next → next < 2 ^ 32
-word_fits zero le next e = absurd (cc e)
-word_fits (suc v) le next e =
-    let is : Some (suc v - 1) ≡ Some next = sym (some v) ∙ e in
-    let same : suc v - 1 ≡ next = cc is in
-    omega (arith, le, same)
-  where
-    some : (v : ℕ) → link_of_word (suc v) ≡ Some (suc v - 1)
-    some v = grind (arith, nat_tests)
-
 linked-word : (count which v : ℕ) (rest : List ℕ) (next : Option ℕ) → which ≤ 1 → 3 + count ≤ length rest
     → link_of_word v ≡ next
     → Some (stored_in count (set rest (suc which) v)) ≡ linked which next (Some (stored_in count rest))
@@ -128,19 +118,17 @@ linked-word count (suc zero) v (n ∷ a ∷ []) next le long e = absurd (omega (
 linked-word count (suc zero) v (n ∷ a ∷ b ∷ codes) next le long e = rw e refl
 linked-word count (suc (suc which)) v rest next le long e = absurd (omega (arith, le))
 
-linked-fits : (count which v : ℕ) (rest : List ℕ) → which ≤ 1 → 3 + count ≤ length rest → v ≤ 2 ^ 32
+linked-fits : (count which v : ℕ) (rest : List ℕ) → which ≤ 1 → 3 + count ≤ length rest
     → Fits (stored_in count rest) → Fits (stored_in count (set rest (suc which) v))
-linked-fits count zero v [] le long small fits = absurd (omega (arith, long))
-linked-fits count zero v (n ∷ []) le long small fits = absurd (omega (arith, long))
-linked-fits count zero v (n ∷ a ∷ []) le long small fits = absurd (omega (arith, long))
-linked-fits count zero v (n ∷ a ∷ b ∷ codes) le long small fits =
-    record { lits = fits.lits; first = word_fits v small; second = fits.second }
-linked-fits count (suc zero) v [] le long small fits = absurd (omega (arith, long))
-linked-fits count (suc zero) v (n ∷ []) le long small fits = absurd (omega (arith, long))
-linked-fits count (suc zero) v (n ∷ a ∷ []) le long small fits = absurd (omega (arith, long))
-linked-fits count (suc zero) v (n ∷ a ∷ b ∷ codes) le long small fits =
-    record { lits = fits.lits; first = fits.first; second = word_fits v small }
-linked-fits count (suc (suc which)) v rest le long small fits = absurd (omega (arith, le))
+linked-fits count zero v [] le long fits = absurd (omega (arith, long))
+linked-fits count zero v (n ∷ []) le long fits = absurd (omega (arith, long))
+linked-fits count zero v (n ∷ a ∷ []) le long fits = absurd (omega (arith, long))
+linked-fits count zero v (n ∷ a ∷ b ∷ codes) le long fits = record { lits = fits.lits }
+linked-fits count (suc zero) v [] le long fits = absurd (omega (arith, long))
+linked-fits count (suc zero) v (n ∷ []) le long fits = absurd (omega (arith, long))
+linked-fits count (suc zero) v (n ∷ a ∷ []) le long fits = absurd (omega (arith, long))
+linked-fits count (suc zero) v (n ∷ a ∷ b ∷ codes) le long fits = record { lits = fits.lits }
+linked-fits count (suc (suc which)) v rest le long fits = absurd (omega (arith, le))
 
 pub set_link-is : (ws : List ℕ) (i which v : ℕ) (next : Option ℕ) → IsHere ws i → which ≤ 1
     → link_of_word v ≡ next
@@ -151,11 +139,11 @@ set_link-is ws i which v next h le e =
     (linked-word _ which v (drop (suc i) ws) next le (rest_long ws i h) e
     ∙ sym (ap (linked which next) h.is))
 
-pub set_link-words : (ws : List ℕ) (i which v : ℕ) → AreWords ws → IsHere ws i → which ≤ 1 → v ≤ 2 ^ 32
+pub set_link-words : (ws : List ℕ) (i which v : ℕ) → AreWords ws → IsHere ws i → which ≤ 1
     → AreWords (set ws (i + 2 + which) v)
-set_link-words ws i which v words h le small =
+set_link-words ws i which v words h le =
     words-written ws i (suc which) (i + 2 + which) v words h (omega arith) (omega (arith, le))
-    (linked-fits _ which v (drop (suc i) ws) le (rest_long ws i h) small h.fits)
+    (linked-fits _ which v (drop (suc i) ws) le (rest_long ws i h) h.fits)
 
 pub link-word : (v : ℕ) (next : Option ℕ) → v ≡ word_of_link next → link_of_word v ≡ next
 link-word v None e = rw e refl

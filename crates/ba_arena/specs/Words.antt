@@ -44,11 +44,9 @@ abbrev pub AreIndexed : List Literal → Type 0
 AreIndexed lits =
     (k : ℕ) → k < length lits → (2 ≤ index_of (lit_at lits k)) × (index_of (lit_at lits k) < 2 ^ 63)
 
--- a clause whose literals and links are in the ranges of their types
+-- a clause whose literals are in the range of their type
 pub record Fits (s : Stored) : Type 0 where
   pub lits : AreIndexed s.lits
-  pub first : (next : ℕ) → s.first ≡ Some next → next < 2 ^ 32
-  pub second : (next : ℕ) → s.second ≡ Some next → next < 2 ^ 32
 
 -- the words of whole clauses that fit
 pub record AreWords (words : List ℕ) : Type 0 where

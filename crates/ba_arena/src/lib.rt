@@ -9,7 +9,7 @@
 #![tactic(auto)]
 
 ghost use Rattle.std.specs.Prelude.{◌≡◌, ◌+◌, ◌^◌, ◌<◌, ◌≤◌, [], ◌++◌, None, length, take, IfOk, OnOk, OnErr};
-ghost use Rattle.ba_lits.specs.Literals.{lit_at};
+ghost use Rattle.ba_lits.specs.Literals.{lit_at, index_of};
 ghost use Rattle.ba_arena.specs.Clauses.{IsLive, lits_at, number_at, link_at, changed, swapped, linked, Adds};
 ghost use Rattle.ba_arena.specs.Words.{words_of, word_of_link, link_of_word, AreIndexed};
 
@@ -34,38 +34,36 @@ pub struct ClauseRef {
 }
 
 impl Model for ClauseRef {
-    ghost use Rattle.std.specs.Prelude.{ℕ, ◌<◌};
+    ghost use Rattle.std.specs.Prelude.{ℕ, ◌-◌, ◌<◌, ◌^◌};
 
     ghost Value = { ℕ };
 
     ghost view = { λ clause. clause.index };
+
+    ghost invariant = { λ clause. clause.index < 2 ^ 32 - 1 };
 
     ghost inverse = { λ index. record { index = index } };
 }
 
 impl ClauseRef {
     /// The word for a link.
-    fn to_word(link: Option<ClauseRef>) -> u64
-        ensures word { result ≡ word_of_link link }
-        ensures fits { result ≤ 2 ^ 32 }
+    fn to_word(link: Option<ClauseRef>) -> u32
+        ensures { result ≡ word_of_link link }
     {
         match link {
             None => 0,
-            Some(clause) => clause.index as u64 + 1,
+            Some(clause) => clause.index + 1,
         }
     }
 
     /// The link that a word stands for.
-    fn from_word(word: u64) -> Option<ClauseRef>
-        requires { word ≤ 2 ^ 32 }
+    fn from_word(word: u32) -> Option<ClauseRef>
         ensures { result ≡ link_of_word word }
     {
         if word == 0 {
             None
         } else {
-            Some(ClauseRef {
-                index: (word - 1) as u32,
-            })
+            Some(ClauseRef { index: word - 1 })
         }
     }
 }
@@ -73,7 +71,7 @@ impl ClauseRef {
 /// Clauses by their references.
 #[derive(Drop)]
 pub struct Arena {
-    words: Vec<u64>,
+    words: Vec<u32>,
 }
 
 impl Model for Arena {
@@ -99,7 +97,8 @@ impl Arena {
 
     /// Adds a clause without links and gives its reference.
     ///
-    /// The one error is want of memory or of room, which is for 2^32 - 1 words. It leaves the arena as it was.
+    /// The one error is want of memory or of room, which is for 2^32 - 1 words, and for numbers and indices of literals
+    /// below 2^32. It leaves the arena as it was.
     pub fn add(&mut self, lits: &[Lit], number: u64) -> Result<ClauseRef, AllocError>
         ensures ok { IfOk result (λ clause.
             Adds self.old self.new clause (record
@@ -107,7 +106,7 @@ impl Arena {
         ensures err { OnErr result (self.new ≡ self.old) }
     {
         let place = self.words.len();
-        if place + LITS + lits.len() > u32::MAX as usize {
+        if place + LITS + lits.len() > u32::MAX as usize || number > u32::MAX as u64 {
             return Err(AllocError);
         }
         if let Err(error) = append(&mut self.words, lits, number) {
@@ -140,7 +139,7 @@ impl Arena {
         requires { IsLive self.now clause }
         ensures { result ≡ number_at self.now clause }
     {
-        self.words[clause.index as usize + NUMBER]
+        self.words[clause.index as usize + NUMBER] as u64
     }
 
     /// The link of a clause's first literal (0) or second literal (1): None exactly where none is set.
@@ -173,14 +172,31 @@ impl Arena {
 }
 
 /// Appends the words of a clause.
-fn append(words: &mut Vec<u64>, lits: &[Lit], number: u64) -> Result<(), AllocError>
+fn append(words: &mut Vec<u32>, lits: &[Lit], number: u64) -> Result<(), AllocError>
+    requires few { length lits.now < 2 ^ 32 }
+    requires small { number < 2 ^ 32 }
     ensures begins { take (length words.old.items) words.new.items ≡ words.old.items }
     ensures ok { OnOk result (words.new.items ≡ words.old.items ++ words_of lits.now number) }
     ensures indexed { OnOk result (AreIndexed lits.now) }
 {
-    words.extend_from_slice([lits.len() as u64, number, 0, 0].as_slice())?;
+    words.extend_from_slice([lits.len() as u32, number as u32, 0, 0].as_slice())?;
     for lit in lits {
-        words.push(lit.index() as u64)?;
+        words.push(word_of(*lit)?)?;
     }
     Ok(())
+}
+
+/// The word of a literal.
+///
+/// The one error is want of room, which is for indices below 2^32.
+fn word_of(lit: Lit) -> Result<u32, AllocError>
+    ensures word { IfOk result (λ word. word ≡ index_of lit) }
+    ensures counted { IfOk result (λ word. 2 ≤ word) }
+    ensures below { IfOk result (λ word. word < 2 ^ 63) }
+{
+    let index = lit.index();
+    if index > u32::MAX as usize {
+        return Err(AllocError);
+    }
+    Ok(index as u32)
 }

@@ -1,5 +1,4 @@
 pub mod DerivesLaws
 pub mod LeastLaws
 pub mod CoreLaws
-pub mod TrimLaws
 pub mod HeavyLaws

@@ -1,14 +1,12 @@
 -- The rounds of the search for the least cost.
 
-use Rattle.std.specs.Prelude.{◌≡◌, ℕ, ◌+◌, ◌-◌, ◌<◌, not, ltb, false, Option, None, Some, List, [], map, filter, reverse}
-use Rattle.ba_lits.specs.Literals.{Literal, negate}
+use Rattle.std.specs.Prelude.{◌≡◌, ℕ, ◌+◌, ◌-◌, ◌<◌, not, ltb, false, Option, None, Some, List, [], map, filter}
+use Rattle.ba_lits.specs.Literals.{Literal}
 use Rattle.ba_lits.specs.Satisfaction.{Soft}
 use Rattle.ba_steps.specs.States.{State}
 use Rattle.ba_steps.specs.Judging.{Judge}
 use Rattle.ba_steps.specs.Sinks.{Logs}
 use Rattle.ba_steps.specs.Puts.{PutsSteps}
-use Rattle.ba_learn.specs.declared.learnt.Learnt.{Learnt}
-use Rattle.ba_search.specs.Answers.{IsCore}
 use Rattle.ba_cores.specs.Derivations.{Derives}
 use Rattle.ba_cores.specs.Findings.{IsFound}
 use Rattle.ba_cores.specs.declared.costs.Found.{Found}
@@ -20,10 +18,6 @@ literals_of softs = map (λ (s : Soft). s.0) softs
 -- the soft literals of at least a weight
 abbrev pub heavy : ℕ → List Soft → List Soft
 heavy weight softs = filter (λ (s : Soft). not (ltb s.1 weight)) softs
-
--- the negations of literals, the last first
-abbrev pub negations_of : List Literal → List Literal
-negations_of lits = reverse (map negate lits)
 
 -- a checker that takes Core steps
 pub record IsReady (s : State) : Type 0 where
@@ -40,8 +34,3 @@ Puts good old new old_logs new_logs = PutsSteps (λ steps. Derives good old step
 abbrev pub EndsRound : Judge → State → State → ℕ → ℕ → Option Found → Type 0
 EndsRound good old new before next (Some found) = IsFound good old new found
 EndsRound good old new before next None = (new.budget - new.conflicts) + next < (old.budget - old.conflicts) + before
-
--- a core under the present soft literals; none, and the conflicts are spent
-abbrev pub IsTrimmed : State → Option Learnt → Type 0
-IsTrimmed s (Some core) = IsCore s (literals_of s.softs) core.lits core.hints core.back
-IsTrimmed s None = s.conflicts ≡ s.budget

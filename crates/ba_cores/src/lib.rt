@@ -8,6 +8,5 @@
 
 mod costs;
 mod rounds;
-mod trimming;
 
 pub use costs::{Found, least};

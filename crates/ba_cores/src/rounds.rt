@@ -13,7 +13,6 @@ ghost use Rattle.ba_cores.specs.Findings.{IsFound};
 ghost use Rattle.ba_cores.specs.Rounds.{literals_of, heavy, IsReady, Puts, EndsRound};
 
 use crate::costs::Found;
-use crate::trimming::trim;
 use ba_learn::Learnt;
 use ba_lits::{Lit, Model};
 use ba_search::{Answer, Search, SearchError};
@@ -65,7 +64,7 @@ where
         return Err(SearchError::Memory);
     };
     let answer = search.solve(assumptions.as_slice(), checked)?;
-    take_answer(alloc, search, checked, weight, answer)
+    take_answer(search, checked, weight, answer)
 }
 
 /// Takes what a search under the soft literals of at least a weight answers: a model, which is of least cost where there
@@ -73,7 +72,6 @@ where
 ///
 /// `SinkFailed` comes only where the sink's faults rose; `Memory` for want of memory.
 fn take_answer<S, J, R, K>(
-    alloc: Global,
     search: &mut Search<R, K>,
     checked: &mut Checked<S, J>,
     weight: &mut u32,
@@ -113,7 +111,7 @@ where
 {
     match answer {
         Answer::Model(model) => Ok(take_model(checked, weight, model)),
-        Answer::Core(core) => take_core(alloc, search, checked, core),
+        Answer::Core(core) => take_core(search, checked, core),
         Answer::Spent => Ok(Some(Found::Spent)),
     }
 }
@@ -143,56 +141,10 @@ fn take_model<S: Drop, J: RunJudge + Drop>(
     })
 }
 
-/// Takes a core: it is shortened, and then says that there is no model or is put as a step.
+/// Takes a core: without a literal it says that there is no model, else it is put as a step.
 ///
 /// `SinkFailed` comes only where the sink's faults rose; `Memory` for want of memory.
 fn take_core<S, J, R, K>(
-    alloc: Global,
-    search: &mut Search<R, K>,
-    checked: &mut Checked<S, J>,
-    core: Learnt,
-) -> Result<Option<Found>, SearchError>
-where
-    S: StepSink + Drop,
-    J: RunJudge + Drop,
-    R: Fn(u64) -> u64 + Drop,
-    K: Fn(u64, u64) -> bool + Drop,
-    requires restart { IsRestartRule (R.pre search.old.restart) (R.post search.old.restart) }
-    requires keep { IsKeepRule (K.pre search.old.keep) (K.post search.old.keep) }
-    requires core { IsCore checked.old.checker (literals_of checked.old.checker.softs) core.lits
-        core.hints core.back }
-    requires same { AreLive search.old.clauses (clause_at checked.old.checker.clauses) }
-    requires ready { IsReady checked.old.checker }
-    requires fresh { checked.old.refusal ≡ None }
-    requires working { search.old.failure ≡ None }
-    ensures found { IfOk result (λ found.
-        EndsRound (J.accepts checked.old.judge) checked.old.checker checked.new.checker 0 0 found) }
-    ensures same { OnOk result (AreLive search.new.clauses
-        (clause_at checked.new.checker.clauses)) }
-    ensures puts { OnOk result (Puts (J.accepts checked.old.judge) checked.old.checker
-        checked.new.checker (S.logs checked.old.sink) (S.logs checked.new.sink)) }
-    ensures leaves { Leaves (J.accepts checked.old.judge) checked.old.checker
-        (S.logs checked.old.sink) checked.new.checker (S.logs checked.new.sink) }
-    ensures stays_fresh { OnOk result ((search.new.failure ≡ None) × (checked.new.refusal ≡ None)) }
-    ensures restart_stays { search.new.restart ≡ search.old.restart }
-    ensures keep_stays { search.new.keep ≡ search.old.keep }
-    ensures cause { result ≡ Err SearchError.SinkFailed
-        → Rose (S.faults checked.old.sink) (S.faults checked.new.sink) }
-    ensures judge_stays { checked.new.judge ≡ checked.old.judge }
-    ensures over_stays { S.over checked.new.sink ≡ S.over checked.old.sink }
-    ensures no_fall { S.faults checked.old.sink ≤ S.faults checked.new.sink }
-    ensures same_references { S.references checked.new.sink ≡ S.references checked.old.sink }
-{
-    match trim(alloc, search, checked, core)? {
-        Some(core) => settle(search, checked, core),
-        None => Ok(Some(Found::Spent)),
-    }
-}
-
-/// Settles a core: without a literal it says that there is no model, else it is put as a step.
-///
-/// `SinkFailed` comes only where the sink's faults rose; `Memory` for want of memory.
-fn settle<S, J, R, K>(
     search: &mut Search<R, K>,
     checked: &mut Checked<S, J>,
     core: Learnt,

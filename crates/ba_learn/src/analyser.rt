@@ -21,6 +21,8 @@ use std::alloc::{AllocError, Global};
 pub struct Analyser {
     alloc: Global,
     resolution: Resolution,
+    /// How many places the last analysis resolved above level 0.
+    above: usize,
 }
 
 impl Analyser {
@@ -29,6 +31,7 @@ impl Analyser {
         Analyser {
             alloc,
             resolution: Resolution::new(alloc),
+            above: 0,
         }
     }
 
@@ -57,6 +60,7 @@ impl Analyser {
         resolution.start(watch, conflict, level_start(watch), false)?;
         let place = resolution.walk(watch)?;
         resolution.shorten(watch)?;
+        self.above = resolution.resolved().len();
         resolution.close(watch)?;
         resolution.sort();
         let lits = resolution.clause(self.alloc, watch, watch.trail()[place].negated())?;
@@ -67,6 +71,14 @@ impl Analyser {
             hints: Items::from_vec(hints),
             back,
         })
+    }
+
+    /// The places on the trail of the literals above level 0 that the last call of `analyse` resolved, in ascending
+    /// order, for measures of how active a variable is.
+    pub fn resolved(&self) -> &[usize] {
+        let resolved = self.resolution.resolved();
+        let below = resolved.len().saturating_sub(self.above);
+        resolved.split_at(below).1
     }
 
     /// A clause that negates a false literal and decided literals alone: those because of which the literal is false.

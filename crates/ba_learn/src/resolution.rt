@@ -346,6 +346,13 @@ impl Resolution {
         self.resolved.sort_unstable();
     }
 
+    /// The places that were resolved.
+    pub fn resolved(&self) -> &[usize]
+        ensures { result.now ≡ self.now.resolved }
+    {
+        self.resolved.as_slice()
+    }
+
     /// The numbers of the reasons of the resolved places, and then that of a clause.
     pub fn hints(
         &self,

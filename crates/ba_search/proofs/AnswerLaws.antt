@@ -79,6 +79,17 @@ front_true T a p l are has =
     let k = literal_found l a has in
     ap (λ (ys : List Literal). value_of ys l) (sym (take-append-drop p T)) ∙ value_of-more (take p T) (drop p T) l true (ap (value_of (take p T)) (sym k.2) ∙ are k.0 k.1)
 
+-- where a literal that is no assumption was decided, all assumptions are true
+pub chosen_true : (a : List Literal) (s : Watching) (numbers : Numbering) (c : State) (p : ℕ) (l : Literal) →
+    IsUnderway a s numbers c → p < length s.trail → get_or s.reasons p None ≡ None → l ≡ lit_at s.trail p →
+    has_literal l a ≡ false → AreTrue s.trail a
+chosen_true a s numbers c p l u within decided is none =
+    let front : AreTrue (take p s.trail) a = ⊎_elim
+    (λ has. absurd (cc (sym has ∙ (ap (λ (x : Literal). has_literal x a) (sym is) ∙ none))))
+    (λ are. are)
+    (u.choices p within decided).given in
+    λ k k_in. front_true s.trail a p (lit_at a k) front (has_literal-at a k k_in)
+
 -- a core
 module _ (a : List Literal) (s : Watching) (numbers : Numbering) (c : State) (facts : KeepsFacts s) (u : IsUnderway a s numbers c) (are : AreAssumptions c.variables a) (l : Literal) (one : has_literal l a ≡ true) (false_ : value_of s.trail l ≡ Some false) where
   not_all : (p : ℕ) → AreTrue (take p s.trail) a → ⊥

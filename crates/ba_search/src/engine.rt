@@ -42,6 +42,8 @@ pub struct Engine {
     order: Order,
     restarts: u64,
     since: u64,
+    /// A place of the trail where the first literal that is no assumption may have been decided.
+    chosen: usize,
     /// How many literals were assigned by propagation.
     pub propagated: u64,
 }
@@ -63,6 +65,7 @@ impl Engine {
             order: Order::new(alloc),
             restarts: 0,
             since: 0,
+            chosen: 0,
             propagated: 0,
         }
     }
@@ -401,7 +404,7 @@ impl Engine {
         self.watch.keeps_facts();
         checked.checker().keeps_facts();
         let learnt = self.analyser.analyse(&self.watch, conflict)?;
-        self.reward(checked.checker(), learnt.hints.as_slice());
+        self.reward(learnt.lits.as_slice());
         let step = step_of(self.alloc, &learnt)?;
         checked.put(&step)?;
         self.back_jump(&learnt, checked.checker().last())?;
@@ -427,18 +430,16 @@ impl Engine {
         self.numbers.learn(number)
     }
 
-    /// Raises the activities of the variables of the clauses of these numbers.
-    fn reward(&mut self, checker: &Checker, numbers: &[u64])
+    /// Raises the activities of the variables of a learnt clause, and of those above level 0 that were resolved for it.
+    fn reward(&mut self, lits: &[Lit])
         ensures watch { self.new.watch ≡ self.old.watch }
         ensures numbers { self.new.numbers ≡ self.old.numbers }
         ensures since { self.new.since ≡ self.old.since }
         ensures propagated { self.new.propagated ≡ self.old.propagated }
     {
-        for number in numbers {
-            if let Some(lits) = checker.clause(*number) {
-                self.order.reward(lits);
-            }
-        }
+        self.order.reward(lits);
+        self.order
+            .reward_at(self.watch.trail(), self.analyser.resolved());
         self.order.age();
     }
 
@@ -464,10 +465,31 @@ impl Engine {
         ensures propagated { self.new.propagated ≡ self.old.propagated }
     {
         checker.keeps_facts();
+        if self.has_chosen(assumptions) {
+            return self.choose(assumptions, checker);
+        }
         match first_untrue(&self.watch, assumptions) {
             Some(assumption) => self.assume(assumptions, checker, assumption),
-            None => self.choose(assumptions, checker),
+            None => {
+                self.chosen = self.watch.trail().len();
+                self.choose(assumptions, checker)
+            }
         }
+    }
+
+    /// Whether a literal that is no assumption was decided at the noted place. All assumptions are true then.
+    fn has_chosen(&self, assumptions: &[Lit]) -> bool
+        ensures { result ≡ true → (checker : Checking)
+            → IsUnderway assumptions.now self.now.watch self.now.numbers checker
+            → AreTrue self.now.watch.trail assumptions.now }
+    {
+        let trail = self.watch.trail();
+        let reasons = self.watch.reasons();
+        let place = self.chosen;
+        if place >= trail.len() || place >= reasons.len() {
+            return false;
+        }
+        reasons[place].is_none() && !is_among(trail[place], assumptions)
     }
 
     /// Takes all decisions back, and deletes the clauses that the keep rule gives up once enough were learnt since the
@@ -507,7 +529,7 @@ impl Engine {
         self.go_back(0);
         self.restarts = self.restarts.saturating_add(1);
         self.since = 0;
-        if may_forget(checked.checker()) {
+        if may_forget(self.numbers.learnt(), checked.checker()) {
             self.forget(assumptions, checked, keep)
         } else {
             Ok(())
@@ -721,6 +743,18 @@ fn first_untrue(watch: &Watch, assumptions: &[Lit]) -> Option<Lit>
         }
     }
     None
+}
+
+/// Whether a literal is among others.
+fn is_among(lit: Lit, lits: &[Lit]) -> bool
+    ensures { result ≡ has_literal lit lits.now }
+{
+    for other in lits {
+        if other.index() == lit.index() {
+            return true;
+        }
+    }
+    false
 }
 
 /// Whether a literal is true.

@@ -13,11 +13,11 @@ use ba_steps::{APART_BY, Checker};
 use ba_watch::Watch;
 use std::alloc::{AllocError, Global};
 
-/// Whether so many clauses were learnt since the last deletion that another may come.
-pub fn may_forget(checker: &Checker) -> bool
+/// Whether so many clauses were learnt since the last deletion that another may come, and some are no longer young.
+pub fn may_forget(learnt: &[u64], checker: &Checker) -> bool
     ensures { result ≡ true → apart_by ≤ checker.now.learnt }
 {
-    checker.learnt() >= APART_BY
+    checker.learnt() >= APART_BY && learnt.len() > youth(learnt, checker)
 }
 
 /// The numbers of the learnt clauses that the keep rule gives up and that are no reasons, in their order.
@@ -98,7 +98,16 @@ fn is_given_up<K: Fn(u64, u64) -> bool + Drop>(
         return false;
     };
     let later = learnt.len() - 1 - place;
+    if later < youth(learnt, checker) {
+        return false;
+    }
     !keep(lits.len() as u64, later as u64)
+}
+
+/// How many learnt clauses are kept because of their age alone, whatever the keep rule says: half as many as were not
+/// learnt (N. Een, N. Sorensson, An Extensible SAT-solver, on a limit in proportion to the formula).
+fn youth(learnt: &[u64], checker: &Checker) -> usize {
+    (checker.last() as usize).saturating_sub(learnt.len()) / 2
 }
 
 /// The marked numbers of the clauses because of which literals of the trail are true.

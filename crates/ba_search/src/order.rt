@@ -155,6 +155,15 @@ impl Order {
         }
     }
 
+    /// Raises the activities of the variables of the literals at these places of a trail.
+    pub fn reward_at(&mut self, trail: &[Lit], places: &[usize]) {
+        for place in places {
+            if let Some(lit) = trail.get(*place) {
+                self.raise(lit.variable());
+            }
+        }
+    }
+
     /// Raises the activity of a variable.
     fn raise(&mut self, variable: u64) {
         let reward = self.reward;

@@ -25,7 +25,8 @@ fn are_formed(lits: &[Lit]) -> bool
 
 /// Whether numbers are those of a formed Delete step.
 fn are_ascending(numbers: &[u64]) -> bool
-    ensures { result ≡ true → AreNumbers numbers.now × AreAbove 0 numbers.now × (0 < length numbers.now) }
+    ensures { result ≡ true → AreNumbers numbers.now × AreAbove 0 numbers.now
+        × (0 < length numbers.now) }
 {
     if numbers.is_empty() || !are_above(numbers) {
         return false;
@@ -49,7 +50,8 @@ fn are_above(numbers: &[u64]) -> bool
 
 /// Whether groups and a run are those of a formed Block step.
 fn is_set(groups: &[u32], run: &[Choice]) -> bool
-    ensures { result ≡ true → AreAbove 0 groups.now × (0 < length groups.now) × All IsFormedChoice run.now }
+    ensures { result ≡ true → AreAbove 0 groups.now × (0 < length groups.now)
+        × All IsFormedChoice run.now }
 {
     if groups.is_empty() || !are_groups(groups) {
         return false;

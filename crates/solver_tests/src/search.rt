@@ -109,7 +109,7 @@ fn small_formulas_end_as_they_must(rt: HostRuntime) -> Result<(), Fail> {
 
 #[test]
 fn clauses_are_deleted_after_a_thousand_conflicts(rt: HostRuntime) -> Result<(), Fail> {
-    for (count, deletes) in [(5, false), (8, true)] {
+    for (count, deletes) in [(5, false), (7, true)] {
         let formula = pigeons(rt.alloc(), count, count - 1)?;
         let (end, _, gone) = ends(&rt, rt.alloc(), &formula, &[], 100_000)?;
         assert_eq!(rt;

@@ -89,7 +89,8 @@ fn both_sinks_take_what_the_first_takes(rt: HostRuntime) -> Result<(), Fail> {
 
 /// A checker over no variables whose conflicts are spent.
 fn spent(alloc: Global) -> Result<Checker, AllocError>
-    ensures { IfOk result (λ checker. checker ≡ first_state (record { variables = 0; clauses = [] }) [] 0 1) }
+    ensures { IfOk result (λ checker. checker
+        ≡ first_state (record { variables = 0; clauses = [] }) [] 0 1) }
 {
     Checker::new(alloc, &Formula::new(alloc), &[], 0, 1)
 }

@@ -13,6 +13,11 @@ returns-in_err-push-clause-begins c =
     (front c.args.words.now.items _ _ _ c.loop-lit.words.items
     c.in_ok-extend_from_slice.ensures.items c.loop-lit.invariant.words)
 
+pub returns-in_err-word_of-clause-begins : goal.returns-in_err-word_of-clause-begins
+returns-in_err-word_of-clause-begins c =
+    front c.args.words.now.items _ _ _ c.loop-lit.words.items
+    c.in_ok-extend_from_slice.ensures.items c.loop-lit.invariant.words
+
 pub returns-clause-begins : goal.returns-clause-begins
 returns-clause-begins c =
     front c.args.words.now.items _ _ _ c.loop-lit.words.items

@@ -1,5 +1,5 @@
 use Rattle.std.proofs.Common.{◌∙◌, arith}
-use Rattle.ba_arena.proofs.Reading.{here, link_fits, link_read}
+use Rattle.ba_arena.proofs.Reading.{here, link_read}
 use Rattle.ba_arena.proofs.Arena.link.Goals as goal
 
 pub index-requires : goal.index-requires
@@ -7,12 +7,6 @@ index-requires c =
     let h = here c.self.inside.words.items c.clause.inside.index c.self.invariant
     (rw (c.self.view_is, c.clause.view_is) c.requires.live) in
     omega (arith, c.self.inside.words.ok.0, h.room, c.requires.which)
-
-pub from_word-requires : goal.from_word-requires
-from_word-requires c =
-    let h = here c.self.inside.words.items c.clause.inside.index c.self.invariant
-    (rw (c.self.view_is, c.clause.view_is) c.requires.live) in
-    link_fits _ _ c.args.which _ h c.requires.which c.index.ensures
 
 pub returns : goal.returns
 returns c =

@@ -13,7 +13,7 @@ pub invariant_of-self : goal.invariant_of-self
 invariant_of-self c =
     let h = here c.self.inside.words.items c.clause.inside.index c.self.invariant
     (rw (c.self.view_is, c.clause.view_is) c.requires.live) in
-    set_link-words _ _ c.args.which c.to_word.result c.self.invariant h c.requires.which c.to_word.ensures.fits
+    set_link-words _ _ c.args.which c.to_word.result c.self.invariant h c.requires.which
 
 pub returns : goal.returns
 returns c =
@@ -21,4 +21,4 @@ returns c =
     (rw (c.self.view_is, c.clause.view_is) c.requires.live) in
     rw (← c.self.view_is, ← c.clause.view_is)
     (set_link-is _ _ c.args.which c.to_word.result c.args.next h c.requires.which
-    (link-word _ _ c.to_word.ensures.word))
+    (link-word _ _ c.to_word.ensures))

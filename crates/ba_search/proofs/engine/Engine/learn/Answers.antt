@@ -74,7 +74,7 @@ returns-clause-underway g c =
     c.args.self.now.numbers c.reward.new.self.numbers c.back_jump.new.self.numbers
     c.last.result c.args.checked.now.checker c.put.new.self.checker c.in_ok-learnt.learnt.lits
     c.in_ok-learnt.learnt.back c.reward.ensures.watch c.reward.ensures.numbers c.in_ok-back_jump.ensures.learns
-    (c.last.ensures ∙ ap (λ (x : State). length x.clauses) c.checker-3.ensures)
+    (c.last.ensures ∙ ap (λ (x : State). length x.clauses) c.checker-2.ensures)
     (step_taken c.args.checked.now.checker c.put.new.self.checker c.in_ok-learnt.learnt.lits
     c.in_ok-learnt.learnt.hints c.in_ok-step.step c.in_ok-step.ensures c.in_ok-put.ensures.taken)
     c.requires.underway
@@ -94,7 +94,7 @@ returns-clause-puts g c =
     (c.in_ok-back_jump.ensures.learns.learnt
     ∙ (ap (λ (n : Numbering). n.learnt ++ c.last.result ∷ []) c.reward.ensures.numbers
     ∙ ap (λ (m : ℕ). c.args.self.now.numbers.learnt ++ m ∷ [])
-    (c.last.ensures ∙ ap (λ (x : State). length x.clauses) c.checker-3.ensures)))
+    (c.last.ensures ∙ ap (λ (x : State). length x.clauses) c.checker-2.ensures)))
     c.in_ok-put.ensures.told
 
 pub returns-clause-leaves : goal.returns-clause-leaves
@@ -127,7 +127,7 @@ back_jump-requires-clause-fresh g c =
     subst (λ (n : Numbering). get_or n.taken c.last.result false ≡ false) (sym c.reward.ensures.numbers)
     (unmarked_next c.args.self.now.watch.clauses c.args.self.now.numbers.taken k.clauses c.last.result
     c.requires.underway.numbered c.requires.underway.live
-    (c.last.ensures ∙ (ap (λ (x : State). length x.clauses) c.checker-3.ensures
+    (c.last.ensures ∙ (ap (λ (x : State). length x.clauses) c.checker-2.ensures
     ∙ (ap (λ (x : State). length x.clauses)
     (step_taken k c.put.new.self.checker c.in_ok-learnt.learnt.lits c.in_ok-learnt.learnt.hints c.in_ok-step.step
     c.in_ok-step.ensures c.in_ok-put.ensures.taken)
