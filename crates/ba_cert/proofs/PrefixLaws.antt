@@ -1,13 +1,16 @@
 -- A file that holds the first bytes of a certificate.
 
-use Rattle.std.proofs.Common.{◌≡◌, ℕ, zero, suc, ◌+◌, ◌<◌, Option, None, Some, option_map, List, [], ◌∷◌, ◌++◌, length, take, drop, get_or, flat_map, IfSome, refl, sym, ap, ◌∙◌, subst, append_assoc, append-nil, ◌≤◌, arith}
+use Rattle.std.proofs.Common.{◌≡◌, ℕ, zero, suc, ◌+◌, ◌<◌, Option, None, Some, option_map, List, [], ◌∷◌, ◌++◌, length, take, drop, get_or, flat_map, All, true, IfSome, refl, sym, ap, ◌∙◌, subst, append_assoc, append-nil, ◌≤◌, arith}
 use Rattle.std.proofs.lemmas.Grind.{flat_map-append}
+use Rattle.std.proofs.lemmas.List.Elements.{All-push, All-weaker}
 use Rattle.std.proofs.lemmas.List.{take_all, take_more, take-append-drop}
 use Rattle.ba_steps.specs.declared.step.CertStep.{CertStep}
-use Rattle.ba_world.specs.World.{AppendsPrefix}
-use Rattle.ba_cert.specs.Text.{line_of, with_feed, head_line, text_of}
-use Rattle.ba_cert.specs.Writing.{IsPrefix}
+use Rattle.ba_steps.specs.Steps.{IsFormed}
+use Rattle.ba_world.specs.World.{AppendsPrefix, Outside}
+use Rattle.ba_cert.specs.Text.{HasLine, line_of, with_feed, head_line, text_of}
+use Rattle.ba_cert.specs.Writing.{BeginsText, HoldsBeginning, IsPrefix, is_sound, is_written}
 use Rattle.ba_cert.proofs.CertificateLaws.{text-push}
+use Rattle.ba_cert.proofs.SinkLaws.{sound-is, text-sound}
 
 -- the first bytes of a text are the first of a longer one
 pub front-of : (count : ℕ) (a b : List ℕ) → IsPrefix (take count a) (a ++ b)
@@ -86,3 +89,47 @@ whole-prefix (Some bytes) steps i all held = (
   held ∙ ap text_of (take_all i steps all)
       ∙ sym (take_all (length (text_of steps)) (text_of steps) (omega arith)),
 )
+
+-- A FILE HOLDS THE FIRST BYTES OF A CERTIFICATE
+
+are-formed : (steps : List CertStep) → All HasLine steps → All IsFormed steps
+are-formed steps all = All-weaker HasLine IsFormed (λ step h. h.0) steps all
+
+pub text-begins : (steps : List CertStep) → All HasLine steps → BeginsText (text_of steps)
+text-begins steps all = (
+  steps,
+  are-formed steps all,
+  (length (text_of steps), sym (take_all (length (text_of steps)) (text_of steps) (omega arith))),
+)
+
+-- a whole file does
+pub sound-begins : (name : List ℕ) (o : Outside) → is_sound true name o ≡ true → HoldsBeginning name o
+sound-begins name o sound = ∣ by (o.kept name) (sym (sound-is true name o) ∙ sound) ∣₁ where
+  by : (kept : Option (List ℕ)) → is_written true name o.is_writing o.writing kept ≡ true →
+      IfSome kept BeginsText
+  by None e = tt
+  by (Some bytes) e =
+      let t = text-sound name o.is_writing o.writing bytes e in
+      subst BeginsText (sym t.text) (text-begins t.steps t.formed)
+
+-- and so does one with some bytes of a line more
+pub line-begins : (step : CertStep) → HasLine step → (name : List ℕ) (o new : Outside) → is_sound true name o ≡ true →
+    AppendsPrefix (o.kept name) (new.kept name) (with_feed (line_of step)) → HoldsBeginning name new
+line-begins step h name o new sound prefix = ∣ by (o.kept name) (sym (sound-is true name o) ∙ sound) prefix ∣₁ where
+  by : (kept : Option (List ℕ)) → is_written true name o.is_writing o.writing kept ≡ true →
+      AppendsPrefix kept (new.kept name) (with_feed (line_of step)) → IfSome (new.kept name) BeginsText
+  by None e added = subst (λ k. IfSome k BeginsText) (sym added.1) tt
+  by (Some bytes) e added =
+      let t = text-sound name o.is_writing o.writing bytes e in
+      let front = front-behind (text_of t.steps) (with_feed (line_of step)) [] added.0 in
+      let whole : text_of t.steps ++ (with_feed (line_of step) ++ []) ≡ text_of (t.steps ++ step ∷ []) =
+      ap (λ line. text_of t.steps ++ line) (append-nil (with_feed (line_of step)))
+      ∙ sym (text-push t.steps step) in
+      subst (λ k. IfSome k BeginsText) (sym added.1) (
+        t.steps ++ step ∷ [],
+        are-formed (t.steps ++ step ∷ []) (All-push HasLine t.steps step t.formed h),
+        (
+          front.0,
+          ap (λ b. b ++ take added.0 (with_feed (line_of step))) t.text ∙ front.1 ∙ ap (take front.0) whole,
+        ),
+      )

@@ -129,9 +129,9 @@ stays-self name old = record {
       { no_fall = omega arith; printed = refl; is_reading = refl; read_faults = refl; print_shortages = refl; given = refl };
 }
 
-pub stays-then : (name : List ℕ) (a b c : Outside) → OnlyWritesTo name a b → OnlyWritesTo name b c →
+pub stays_then : (name : List ℕ) (a b c : Outside) → OnlyWritesTo name a b → OnlyWritesTo name b c →
     OnlyWritesTo name a c
-stays-then name a b c first second = record {
+stays_then name a b c first second = record {
   kept = λ other apart. second.kept other apart ∙ first.kept other apart;
   stays = record {
     no_fall = let x = first.stays.no_fall in let y = second.stays.no_fall in omega (arith, x, y);
@@ -155,7 +155,7 @@ pub record IsText (bytes : List ℕ) : Type 0 where
   pub text : bytes ≡ text_of steps
   pub formed : All HasLine steps
 
-text-sound : (name : List ℕ) (is_writing : Bool) (writing : Option (List ℕ)) (bytes : List ℕ) →
+pub text-sound : (name : List ℕ) (is_writing : Bool) (writing : Option (List ℕ)) (bytes : List ℕ) →
     is_written true name is_writing writing (Some bytes) ≡ true → IsText bytes
 text-sound name is_writing writing bytes e =
     let parts = and_parts is_writing (is_named name writing && is_some (steps_from true bytes)) e in

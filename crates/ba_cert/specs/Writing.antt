@@ -1,13 +1,15 @@
 -- A certificate that is written to a file of a world, which may tell what it keeps under the file's name.
 
-use Rattle.std.specs.Prelude.{◌≡◌, ℕ, Bool, true, false, ◌&&◌, is_some, Option, None, Some, option_and_then, List, take, bytes_eq, IfSome}
+use Rattle.std.specs.Prelude.{◌≡◌, ℕ, Bool, true, false, ◌&&◌, is_some, Option, None, Some, option_and_then, List, take, bytes_eq, All, IfSome}
 use Rattle.ba_steps.specs.declared.sink.SinkError.{SinkError}
 use Rattle.ba_steps.specs.declared.sink.SinkError.TheVariants as sink
 use Rattle.ba_steps.specs.declared.step.CertStep.{CertStep}
+use Rattle.ba_steps.specs.Steps.{IsFormed}
 use Rattle.ba_world.specs.World.{Appends, AppendsPrefix, OnlyWrites, Outside, StaysBut}
 use Rattle.ba_world.specs.declared.world.WorldError.{WorldError}
 use Rattle.ba_world.specs.declared.world.WorldError.TheVariants as world
 use Rattle.ba_cert.specs.Certificates.{steps_from}
+use Rattle.ba_cert.specs.Text.{text_of}
 
 -- each fault by its name
 abbrev pub sink_error : WorldError → SinkError
@@ -40,6 +42,13 @@ IsPrefix bytes text = (count : ℕ) × (bytes ≡ take count text)
 abbrev pub HoldsPrefix : List ℕ → List ℕ → Outside → Type 0
 HoldsPrefix name text outside = IfSome (outside.kept name) (λ bytes. IsPrefix bytes text)
 
+-- these are the first bytes of some certificate; and those that the file of this name holds are, where it is told
+abbrev pub BeginsText : List ℕ → Type 0
+BeginsText bytes = (steps : List CertStep) × All IsFormed steps × IsPrefix bytes (text_of steps)
+
+abbrev pub HoldsBeginning : List ℕ → Outside → Type 0
+HoldsBeginning name outside = ∥ IfSome (outside.kept name) BeginsText ∥₁
+
 -- the file being written has this name; the second also where its name isn't told
 abbrev pub is_named : List ℕ → Option (List ℕ) → Bool
 is_named name None = false
@@ -63,3 +72,19 @@ is_sound whole name outside = is_written whole name outside.is_writing outside.w
 pub record OnlyWritesTo (name : List ℕ) (old new : Outside) : Type 0 where
   pub kept : StaysBut name old.kept new.kept
   pub stays : OnlyWrites old new
+
+-- an outside of which nothing is told
+abbrev pub nothing_told : Outside
+nothing_told = record {
+  held = λ _. None;
+  left = None;
+  kept = λ _. None;
+  writing = None;
+  printed = None;
+  is_reading = false;
+  is_writing = false;
+  read_faults = 0;
+  write_faults = 0;
+  print_shortages = 0;
+  given = 0;
+}

@@ -16,5 +16,5 @@ mod writer;
 
 pub use error::CertError;
 pub use reader::read_line;
-pub use text_sink::{TextSink, begin_text, write_text};
+pub use text_sink::{CertSink, Start, TextSink, begin_text, write_text};
 pub use writer::{head_text, step_text};

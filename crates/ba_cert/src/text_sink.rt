@@ -1,17 +1,18 @@
 //! A certificate that is written as its steps are made.
 
-ghost use Rattle.std.specs.Prelude.{◌≡◌, ◌++◌, ◌&&◌, bytes_eq, true, false, [], ◌∷◌, None, Some, option_map, All, OnOk, OnErr};
-ghost use Rattle.ba_world.specs.World.{HasWriteFault};
+ghost use Rattle.std.specs.Prelude.{◌≡◌, ◌≤◌, ◌++◌, ◌+◌, ◌&&◌, bytes_eq, ℕ, List, true, false, [], ◌∷◌, None, Some, option_map, All, OnOk, OnErr};
+ghost use Rattle.ba_world.specs.World.{HasWriteFault, Outside};
 ghost use Rattle.ba_steps.specs.Steps.{IsFormed};
 ghost use Rattle.ba_steps.specs.Sinks.{MayAdd, with_told};
 ghost use Rattle.ba_cert.specs.Text.{line_of, text_of, with_feed};
-ghost use Rattle.ba_cert.specs.Writing.{AppendsPrefixTo, AppendsTo, Holds, HoldsPrefix, OnlyWritesTo, is_sound, sink_error, steps_at};
+ghost use Rattle.ba_cert.specs.Writing.{AppendsPrefixTo, AppendsTo, Holds, HoldsBeginning, HoldsPrefix, OnlyWritesTo, is_sound, nothing_told, sink_error, steps_at};
 
 use crate::writer::{groups_have_32_bits, head_text, step_text};
 use ba_lits::{Formula, Lit};
 use ba_steps::{CertStep, SinkError, StepSink};
 use ba_world::{World, WorldError};
 use std::alloc::Global;
+use std::marker::{Brand, PhantomData};
 
 fn sink_error(error: WorldError) -> SinkError
     ensures { result ≡ sink_error error }
@@ -66,6 +67,7 @@ fn add_line<W: World>(
         ≡ with_told step.now (steps_at name.now (W.outside world.old))) }
     ensures refused { OnErr result (MayAdd step.now
         (steps_at name.now (W.outside world.old)) (steps_at name.now (W.outside world.new))) }
+    ensures begins { HoldsBeginning name.now (W.outside world.new) }
     ensures cause { result ≡ Err SinkError.Failed
         → HasWriteFault (W.outside world.old) (W.outside world.new) }
     ensures stays { OnlyWritesTo name.now (W.outside world.old) (W.outside world.new) }
@@ -103,27 +105,55 @@ pub fn write_text<W: World>(
     Ok(())
 }
 
+/// The name of a file that is written, and the outside and the faults of the sink that steps are handed
+/// on to, before the file was begun. The proof of a call at [`Brand`] says which they are.
+pub trait Start {
+    // The name.
+    ghost name: { List ℕ };
+
+    // The outside before.
+    ghost outside: { Outside };
+
+    // The faults of the sink before.
+    ghost faults: { ℕ };
+}
+
+impl Start for Brand {
+    ghost name = { [] };
+
+    ghost outside = { nothing_told };
+
+    ghost faults = { 0 };
+}
+
 /// A sink that writes each step as a line of a certificate, into a file of a world.
 ///
 /// Its log is the list of steps of the whole lines that the world keeps under the file's name,
 /// where it tells them. Its faults are the world's faults of writing, and it tells no formulas. After
 /// a refusal the file may end inside a line, so every further step is refused with `Memory`, and the
-/// world isn't called.
+/// world isn't called. Since the start `S` only the file of this name was written, and it holds the first
+/// bytes of a certificate.
 #[derive(Drop)]
-pub struct TextSink<'a, W: World> {
+pub struct TextSink<'a, W: World, S: Start> {
     alloc: Global,
     world: &'a mut W,
     name: &'a str,
     /// No step was refused.
     whole: bool,
+    start: PhantomData<S>,
     ghost sound: { is_sound whole name.now (W.outside world.now) ≡ true },
+    ghost named: { name.now ≡ S.name },
+    ghost stays: { OnlyWritesTo name.now S.outside (W.outside world.now) },
+    ghost begins: { HoldsBeginning name.now (W.outside world.now) },
 }
 
-impl<'a, W: World> TextSink<'a, W> {
+impl<'a, W: World, S: Start> TextSink<'a, W, S> {
     /// A sink over a file that [`begin_text`] has begun, in a world that is still the same. It
     /// takes no memory.
-    pub fn new(alloc: Global, world: &'a mut W, name: &'a str) -> TextSink<'a, W>
-        requires { is_sound true name.now (W.outside world.old) ≡ true }
+    pub fn new(alloc: Global, world: &'a mut W, name: &'a str) -> TextSink<'a, W, S>
+        requires sound { is_sound true name.now (W.outside world.old) ≡ true }
+        requires named { name.now ≡ S.name }
+        requires stays { OnlyWritesTo name.now S.outside (W.outside world.old) }
         ensures whole { result.whole ≡ true }
         ensures same_reference { result.world.ghost_name ≡ world.entry.ghost_name }
         ensures same_world { result.world.now ≡ world.old }
@@ -134,6 +164,7 @@ impl<'a, W: World> TextSink<'a, W> {
             world,
             name,
             whole: true,
+            start: PhantomData,
         }
     }
 
@@ -149,7 +180,7 @@ impl<'a, W: World> TextSink<'a, W> {
     }
 }
 
-impl<'a, W: World> StepSink for TextSink<'a, W> {
+impl<'a, W: World, S: Start> StepSink for TextSink<'a, W, S> {
     ghost over = { λ _. None };
 
     ghost logs = { λ sink. steps_at sink.name.now (W.outside sink.world.now) ∷ [] };
@@ -162,6 +193,7 @@ impl<'a, W: World> StepSink for TextSink<'a, W> {
         Ok(())
     }
 
+    #[tactic(auto, using(crate::proofs::SinkLaws::stays_then))]
     fn take(&mut self, step: &CertStep) -> Result<(), SinkError> {
         if !self.whole {
             return Err(SinkError::Memory);
@@ -170,5 +202,35 @@ impl<'a, W: World> StepSink for TextSink<'a, W> {
         add_line(self.alloc, &mut *self.world, self.name, step)?;
         self.whole = true;
         Ok(())
+    }
+}
+
+/// A sink that hands each step to a [`TextSink`], and then to another sink, which alone takes the
+/// formulas, and whose faults are no fewer than at the start `S`.
+#[derive(Drop)]
+pub struct CertSink<'a, 'b, W: World, S: Start, D: StepSink> {
+    pub text: TextSink<'a, W, S>,
+    pub next: &'b mut D,
+    ghost no_fall: { S.faults ≤ D.faults next.now },
+}
+
+impl<'a, 'b, W: World, S: Start, D: StepSink> StepSink for CertSink<'a, 'b, W, S, D> {
+    ghost over = { λ sink. D.over sink.next.now };
+
+    ghost logs = { λ sink. steps_at sink.text.name.now (W.outside sink.text.world.now)
+        ∷ D.logs sink.next.now };
+
+    ghost faults = { λ sink. (W.outside sink.text.world.now).write_faults + D.faults sink.next.now };
+
+    ghost references = { λ sink. sink.text.world.ghost_name ∷ sink.next.ghost_name
+        ∷ D.references sink.next.now };
+
+    fn begin(&mut self, formula: &Formula, softs: &[(Lit, u32)]) -> Result<(), SinkError> {
+        self.next.begin(formula, softs)
+    }
+
+    fn take(&mut self, step: &CertStep) -> Result<(), SinkError> {
+        self.text.take(step)?;
+        self.next.take(step)
     }
 }

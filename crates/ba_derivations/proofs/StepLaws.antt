@@ -1,11 +1,12 @@
 -- What stays, and what is counted, along allowed steps.
 use Rattle.std.proofs.Common.{◌≡◌, ◌+◌, Bool, true, false, not, Option, None, Some, List, [], ◌∷◌, ◌++◌, All, refl, sym, ap, ◌∙◌, arith, ◌==◌}
 use Rattle.std.proofs.lemmas.List.{append_assoc, append-nil}
-use Rattle.std.proofs.lemmas.List.Elements.{All-nil, All-cons}
+use Rattle.std.proofs.lemmas.List.Elements.{All-nil, All-cons, All-head, All-tail}
 use Rattle.std.proofs.lemmas.Option.{same_Some}
 use Rattle.ba_steps.specs.Blocks.{lacks_group, is_among, set_weight}
 use Rattle.ba_steps.specs.Judging.{Judge, error_if, error_of, error_before_end, after, after_all, next_if}
 use Rattle.ba_steps.specs.States.{State}
+use Rattle.ba_steps.specs.Steps.{IsFormed}
 use Rattle.ba_steps.specs.declared.step.CertStep.{CertStep}
 use Rattle.ba_steps.specs.declared.step.CertStep.TheVariants.{Learn, Core, Delete, Block, EndLocated, EndNoRepair, EndTooMany, EndSpent}
 use Rattle.ba_steps.specs.declared.step.StepError.{StepError}
@@ -13,6 +14,13 @@ use Rattle.ba_steps.specs.declared.step.StepError.TheVariants.{AfterEnd, BadVari
 use Rattle.ba_steps.proofs.FactLaws.{no_error}
 use Rattle.ba_derivations.specs.declared.verdict.FoundSet.{FoundSet}
 use Rattle.ba_derivations.specs.Derivations.{IsGood, blocked_by, conflict_of, conflicts_in, sets_of, with_block}
+
+-- the first steps of formed ones are formed
+pub front_formed : (front rest : List CertStep) → All IsFormed (front ++ rest) → All IsFormed front
+front_formed [] rest all = All-nil IsFormed
+front_formed (step ∷ steps) rest all =
+    All-cons IsFormed step steps (All-head IsFormed step (steps ++ rest) all)
+    (front_formed steps rest (All-tail IsFormed step (steps ++ rest) all))
 
 -- an allowed step and the rest
 pub step_allowed : (o : Option StepError) (next : Option State) (t : State) → next_if o next ≡ Some t →

@@ -1,6 +1,8 @@
 -- What a derived verdict says over a faithful encoding.
 use Rattle.std.proofs.Common.{◌≡◌, ◌≢◌, ℕ, suc, ◌+◌, ◌<◌, ◌≤◌, ◌==◌, Bool, true, false, not, ◌&&◌, ◌||◌, cond, ltb, eqb, None, Some, List, [], ◌∷◌, ◌++◌, map, length, All, refl, sym, ap, ◌∙◌, subst, arith}
-use Rattle.std.specs.Prelude.{Contains}
+use Rattle.std.specs.Cmp.Lexicographic.{pointwise}
+use Rattle.std.specs.List.{IsDistinct}
+use Rattle.std.specs.Prelude.{Contains, nat_eq, ◌↔◌}
 use Rattle.std.proofs.lemmas.Bool.{or_parts}
 use Rattle.std.proofs.lemmas.Bool.Decides.{nat_tests}
 use Rattle.std.proofs.lemmas.List.{append-nil}
@@ -11,20 +13,21 @@ use Rattle.ba_lits.specs.Literals.{Literal, index_of, negate}
 use Rattle.ba_lits.specs.Satisfaction.{Assignment, Soft, all_true, any_true, cost, lit_true}
 use Rattle.ba_lits.proofs.Members.{same_literal}
 use Rattle.ba_steps.specs.Blocks.{block_clause, block_clauses, set_weight}
-use Rattle.ba_steps.specs.Facts.{Holds, IsBlocked, all_lits, splits_of}
+use Rattle.ba_steps.specs.Facts.{Holds, IsBlocked, IsStart, all_lits, splits_of}
 use Rattle.ba_steps.specs.Judging.{error_if, error_of, hint_error, is_spent, lacks_soft, lacks_variable, are_too_many}
 use Rattle.ba_steps.specs.Splits.{is_soft}
 use Rattle.ba_steps.specs.States.{State}
+use Rattle.ba_steps.specs.Steps.{IsFormed}
 use Rattle.ba_steps.specs.declared.step.CertStep.{CertStep}
 use Rattle.ba_steps.specs.declared.step.CertStep.TheVariants.{Learn, Core, Delete, Block, EndLocated, EndNoRepair, EndTooMany, EndSpent}
 use Rattle.ba_steps.specs.declared.step.StepError.TheVariants.{BadVariable, NotSofts, WrongCount}
 use Rattle.ba_steps.proofs.FactLaws.{facts_hold, follows_true, no_error}
 use Rattle.ba_tree.specs.Least.{Judge, WeightList, AreInOrder, AreLeast, IsFeasible, IsLeastSet, IsRelaxableSet, weight_of}
 use Rattle.ba_tree.proofs.Members.{here, there, contains_has}
-use Rattle.ba_derivations.specs.Derivations.{AreAllLeast, AreTooMany, Derives, DerivesOver, HaveSameSets, IsGood, Located, NoRepair, Problem, Spent, TooMany, Verdict, blocked_by, conflicts_in, sets_of, start_of, verdict_of}
-use Rattle.ba_derivations.specs.Encodings.{IsFaithful, false_groups}
+use Rattle.ba_derivations.specs.Derivations.{AreAllLeast, AreTooMany, AreTooManyModelSets, Derives, DerivesOver, HaveSameSets, IsGood, IsLeastModelSet, Located, NoRepair, Problem, Spent, TooMany, Verdict, blocked_by, conflicts_in, sets_of, start_of, verdict_of}
+use Rattle.ba_derivations.specs.Encodings.{HasModelFor, IsFaithful, false_groups}
 use Rattle.ba_derivations.proofs.GroupLaws.{compare, cost_is, falsified, negate_false, relaxable, weight_same}
-use Rattle.ba_derivations.proofs.StepLaws.{before_end, blocked_append, conflicts_append, conflicts_counted, limits_stay, runs_good, sets_gathered}
+use Rattle.ba_derivations.proofs.StepLaws.{before_end, blocked_append, conflicts_append, conflicts_counted, front_formed, limits_stay, runs_good, sets_gathered}
 
 -- A CLAUSE THAT NEGATES SOFT LITERALS costs at least 1 where it is true
 false_soft : (v : Assignment) (softs : List Soft) (l : Literal) → All (λ (s : Soft). 1 ≤ s.1) softs →
@@ -63,9 +66,8 @@ costs_some v softs (l ∷ ls) weighty negates holds =
     by_case rest true e some soft = false_soft v softs (negate l) weighty soft (negate_false v l e)
     by_case rest false e some soft = rest some
 
--- A FEASIBLE SET in a state: it is blocked, and so weighs the bound; it is heavier; or some assignment
--- satisfies all clauses, and it
--- weighs the bound and the cost of that assignment
+-- A SET WITH A MODEL in a state: it is blocked, and so weighs the bound; it is heavier; or some assignment
+-- satisfies all clauses, and it weighs the bound and the cost of that assignment
 pub data Stands (s : State) (set : List ℕ) (weight : ℕ) : Type 0 where
   is_blocked : Contains s.sets set → weight ≡ s.bound → Stands s set weight
   is_heavier : s.bound < weight → Stands s set weight
@@ -96,31 +98,20 @@ one_falsified v softs (set ∷ sets) e =
         }
     by_case later false e rest = record { set = set; there = here set sets; is_false = e }
 
-module _ (good : Judge) (formula : Cnf) (softs : List Soft) (weights : WeightList) (splits : List (List
-    Literal)) (s : State)
-    (faithful : IsFaithful formula softs weights good) (facts : Holds good formula softs splits s) where
-  blocked_at : (set : List ℕ) → Contains s.sets set → IsBlocked good softs s.bound set
+-- WHAT HAS A MODEL
+module _ (good : Judge) (formula : Cnf) (softs : List Soft) (splits : List (List Literal)) (s : State)
+    (facts : Holds good formula softs splits s) where
+  pub blocked_at : (set : List ℕ) → Contains s.sets set → IsBlocked good softs s.bound set
   blocked_at set found = All-contains (IsBlocked good softs s.bound) s.sets set facts.sets_good found
-
-  pub blocked_weighs : (set : List ℕ) → Contains s.sets set → weight_of weights set ≡ s.bound
-  blocked_weighs set found = weight_same weights softs faithful.weighs set ∙ (blocked_at set found).weight
-
-  pub blocked_relaxable : (set : List ℕ) → Contains s.sets set → IsRelaxableSet weights set
-  blocked_relaxable set found =
-      let b = blocked_at set found in relaxable weights softs faithful.weighs set b.ascends b.exist
-
-  pub blocked_feasible : (set : List ℕ) → Contains s.sets set → IsFeasible good set
-  blocked_feasible set found = let b = blocked_at set found in record { choices = b.run; is_good = b.is_good }
 
   -- the set of a model whose blocked sets' clauses hold or not
   of_model : (v : Assignment) (set : List ℕ) → all_true v formula.clauses ≡ true →
       false_groups v softs ≡ set →
-      (t : Bool) → all_true v (block_clauses softs s.sets) ≡ t → Stands s set (weight_of weights set)
+      (t : Bool) → all_true v (block_clauses softs s.sets) ≡ t → Stands s set (set_weight softs set)
   of_model v set satisfies groups_are true e =
       let (z, same, split, lives, costs) = facts.extends v satisfies e in
-      is_free z lives (weight_same weights softs faithful.weighs set
-      ∙ (ap (set_weight softs) (sym groups_are) ∙ (cost_is v softs ∙ costs)))
-  of_model v set satisfies groups_are false e = by_case (ltb s.bound (weight_of weights set)) refl
+      is_free z lives (ap (set_weight softs) (sym groups_are) ∙ (cost_is v softs ∙ costs))
+  of_model v set satisfies groups_are false e = by_case (ltb s.bound (set_weight softs set)) refl
     where
       f : IsFalsified v softs s.sets
       f = one_falsified v softs s.sets e
@@ -128,8 +119,8 @@ module _ (good : Judge) (formula : Cnf) (softs : List Soft) (weights : WeightLis
       b : IsBlocked good softs s.bound f.set
       b = blocked_at f.set f.there
 
-      weight_is : weight_of weights set ≡ set_weight softs (false_groups v softs)
-      weight_is = weight_same weights softs faithful.weighs set ∙ ap (set_weight softs) (sym groups_are)
+      weight_is : set_weight softs set ≡ set_weight softs (false_groups v softs)
+      weight_is = ap (set_weight softs) (sym groups_are)
 
       more : (m n : ℕ) → ltb m n ≡ true → m < n
       more m n h = grind (arith, nat_tests)
@@ -137,30 +128,67 @@ module _ (good : Judge) (formula : Cnf) (softs : List Soft) (weights : WeightLis
       no_more : (m n : ℕ) → ltb m n ≡ false → n ≤ m
       no_more m n h = grind (arith, nat_tests)
 
-      by_case : (t : Bool) → ltb s.bound (weight_of weights set) ≡ t → Stands s set (weight_of weights set)
-      by_case true h = is_heavier (more s.bound (weight_of weights set) h)
+      by_case : (t : Bool) → ltb s.bound (set_weight softs set) ≡ t → Stands s set (set_weight softs set)
+      by_case true h = is_heavier (more s.bound (set_weight softs set) h)
       by_case false h =
           let (within, same) = compare v softs f.set b.ascends (falsified v softs f.set b.exist f.is_false) in
-          let most : weight_of weights set ≤ s.bound = no_more s.bound (weight_of weights set) h in
+          let most : set_weight softs set ≤ s.bound = no_more s.bound (set_weight softs set) h in
           let own : set_weight softs f.set ≡ s.bound = b.weight in
           let is : f.set ≡ set = same (omega (arith, most, own, weight_is)) ∙ groups_are in
           is_blocked (subst (λ x. Contains s.sets x) is f.there) (omega (arith, within, most, own, weight_is))
 
-  pub stands : (set : List ℕ) → IsRelaxableSet weights set → IsFeasible good set →
-      Stands s set (weight_of weights set)
-  stands set is_set feasible =
-      let model = (faithful.models set is_set).1 feasible in
+  pub modelled : (set : List ℕ) → HasModelFor formula softs set → Stands s set (set_weight softs set)
+  modelled set model =
       of_model model.assignment set model.is_model.satisfies model.is_model.groups_are
       (all_true model.assignment (block_clauses softs s.sets)) refl
 
-  -- so no feasible set weighs less than the bound
-  pub at_least : (set : List ℕ) → IsRelaxableSet weights set → IsFeasible good set →
-      s.bound ≤ weight_of weights set
-  at_least set is_set feasible = elim (stands set is_set feasible) [
+  -- so no set with a model weighs less than the bound
+  pub model_weighs : (set : List ℕ) → HasModelFor formula softs set → s.bound ≤ set_weight softs set
+  model_weighs set model = elim (modelled set model) [
     | is_blocked found weight ↦ omega (arith, weight)
     | is_heavier more ↦ omega (arith, more)
     | is_free z lives weight ↦ omega (arith, weight)
   ]
+
+  -- where a clause of negated soft literals follows, every other set with a model weighs more
+  pub model_blocked : (lits : List Literal) (hints : List ℕ) → lacks_soft s.softs lits ≡ false →
+      hint_error s lits hints ≡ None → (set : List ℕ) → HasModelFor formula softs set →
+      set_weight softs set ≤ s.bound → Contains s.sets set
+  model_blocked lits hints negates follows set model most = elim (modelled set model) [
+    | is_blocked found weight ↦ found
+    | is_heavier more ↦ absurd (omega (arith, more, most))
+    | is_free z lives weight ↦
+        let some = costs_some z s.softs lits facts.weighty negates (follows_true s z lits hints follows
+        lives) in
+        absurd (omega (arith, weight, most, some))
+  ]
+
+-- WHAT IS FEASIBLE, over a faithful encoding
+module _ (good : Judge) (formula : Cnf) (softs : List Soft) (weights : WeightList) (splits : List (List
+    Literal)) (s : State)
+    (faithful : IsFaithful formula softs weights good) (facts : Holds good formula softs splits s) where
+  pub blocked_weighs : (set : List ℕ) → Contains s.sets set → weight_of weights set ≡ s.bound
+  blocked_weighs set found =
+      weight_same weights softs faithful.weighs set
+      ∙ (blocked_at good formula softs splits s facts set found).weight
+
+  pub blocked_relaxable : (set : List ℕ) → Contains s.sets set → IsRelaxableSet weights set
+  blocked_relaxable set found =
+      let b = blocked_at good formula softs splits s facts set found in
+      relaxable weights softs faithful.weighs set b.ascends b.exist
+
+  pub blocked_feasible : (set : List ℕ) → Contains s.sets set → IsFeasible good set
+  blocked_feasible set found =
+      let b = blocked_at good formula softs splits s facts set found in
+      record { choices = b.run; is_good = b.is_good }
+
+  -- no feasible set weighs less than the bound
+  pub at_least : (set : List ℕ) → IsRelaxableSet weights set → IsFeasible good set →
+      s.bound ≤ weight_of weights set
+  at_least set is_set feasible =
+      let same = weight_same weights softs faithful.weighs set in
+      let bound = model_weighs good formula softs splits s facts set ((faithful.models set is_set).1 feasible) in
+      omega (arith, same, bound)
 
   pub blocked_least : (set : List ℕ) → Contains s.sets set → IsLeastSet weights good set
   blocked_least set found = record {
@@ -176,22 +204,26 @@ module _ (good : Judge) (formula : Cnf) (softs : List Soft) (weights : WeightLis
   pub all_blocked : (lits : List Literal) (hints : List ℕ) → lacks_soft s.softs lits ≡ false →
       hint_error s lits hints ≡ None → (set : List ℕ) → IsRelaxableSet weights set → IsFeasible good set →
       weight_of weights set ≤ s.bound → Contains s.sets set
-  all_blocked lits hints negates follows set is_set feasible most = elim (stands set is_set feasible) [
-    | is_blocked found weight ↦ found
-    | is_heavier more ↦ absurd (omega (arith, more, most))
-    | is_free z lives weight ↦
-        let some = costs_some z s.softs lits facts.weighty negates (follows_true s z lits hints follows
-        lives) in
-        absurd (omega (arith, weight, most, some))
-  ]
+  all_blocked lits hints negates follows set is_set feasible most =
+      let same = weight_same weights softs faithful.weighs set in
+      model_blocked good formula softs splits s facts lits hints negates follows set
+      ((faithful.models set is_set).1 feasible) (omega (arith, same, most))
+
+-- a faithful encoding is a start
+pub starts : {formula : Cnf} {softs : List Soft} {weights : WeightList} {good : Judge} →
+    IsFaithful formula softs weights good → IsStart formula softs
+starts faithful = record {
+  clauses = faithful.clauses;
+  softs_among = faithful.selectors.among;
+  softs_differ = faithful.selectors.differ;
+}
 
 -- THE FACTS of the state before the end
-facts_of : (p : Problem) (weights : WeightList) (steps : List CertStep) (verdict : Verdict) →
-    IsFaithful p.formula p.softs weights p.good → (d : Derives p steps verdict) →
-    Holds p.good p.formula p.softs (splits_of (start_of p) d.front) d.state
-facts_of p weights steps verdict faithful d =
-    facts_hold p.good p.formula p.softs p.conflicts p.most_sets faithful.start d.front d.formed d.state
-    d.leads
+facts_of : (p : Problem) (steps : List CertStep) (verdict : Verdict) → IsStart p.formula p.softs →
+    (d : Derives p steps verdict) → Holds p.good p.formula p.softs (splits_of (start_of p) d.front) d.state
+facts_of p steps verdict start d =
+    facts_hold p.good p.formula p.softs p.conflicts p.most_sets start d.front
+    (front_formed d.front (d.last ∷ []) (subst (All IsFormed) d.steps_are d.formed)) d.state d.leads
 
 -- what an End step says tells which it is
 record EndsLocated (good : Judge) (s : State) (weight : ℕ) (found : List (List ℕ)) : Type 0 where
@@ -261,7 +293,7 @@ located_of p weights steps weight found faithful d =
     e = ends_located p.good d.state d.last weight found d.ends d.says
 
     facts : Holds p.good p.formula p.softs (splits_of (start_of p) d.front) d.state
-    facts = facts_of p weights steps (Located weight found) faithful d
+    facts = facts_of p steps (Located weight found) (starts faithful) d
 
     first : HasFirst d.state.sets
     first = first_of d.state.sets e.some
@@ -350,7 +382,7 @@ no_repair_of p weights steps faithful d = record {
     e = ends_without p.good d.state d.last d.ends d.says
 
     facts : Holds p.good p.formula p.softs (splits_of (start_of p) d.front) d.state
-    facts = facts_of p weights steps NoRepair faithful d
+    facts = facts_of p steps NoRepair (starts faithful) d
 
     never : (set : List ℕ) → IsRelaxableSet weights set → IsFeasible p.good set → ⊥
     never set is_set feasible =
@@ -402,7 +434,7 @@ too_many_of p weights steps weight found faithful d =
     e = ends_too_many p.good d.state d.last weight found d.ends d.says
 
     facts : Holds p.good p.formula p.softs (splits_of (start_of p) d.front) d.state
-    facts = facts_of p weights steps (TooMany weight found) faithful d
+    facts = facts_of p steps (TooMany weight found) (starts faithful) d
 
     most : d.state.most_sets ≡ p.most_sets
     most = (limits_stay p.good (start_of p) d.front d.state d.leads).most_sets
@@ -418,6 +450,55 @@ too_many_of p weights steps weight found faithful d =
       differ = facts.sets_differ;
       count = e.count ∙ ap (λ n. n + 1) most;
     }
+
+-- THE SETS OF MODELS, whatever the judge says
+module _ (p : Problem) (steps : List CertStep) (weight : ℕ) (found : List (List ℕ))
+    (start : IsStart p.formula p.softs) (models : All (HasModelFor p.formula p.softs) found) where
+  -- in the state before the end
+  found_least : (splits : List (List Literal)) (s : State) → Holds p.good p.formula p.softs splits s →
+      s.bound ≡ weight → s.sets ≡ found → (set : List ℕ) → Contains found set →
+      IsLeastModelSet p.formula p.softs weight set
+  found_least splits s facts weight_is found_is set has = record {
+    model = All-contains (HasModelFor p.formula p.softs) found set models has;
+    weighs = (blocked_at p.good p.formula p.softs splits s facts set
+        (subst (λ sets. Contains sets set) (sym found_is) has)).weight ∙ weight_is;
+    least = λ other model.
+        let bound = model_weighs p.good p.formula p.softs splits s facts other model in
+        omega (arith, bound, weight_is);
+  }
+
+  pub located_models : Derives p steps (Located weight found) → (set : List ℕ) →
+      Contains found set ↔ IsLeastModelSet p.formula p.softs weight set
+  located_models d set = (
+    found_least (splits_of (start_of p) d.front) d.state facts e.weight_is e.found_is set,
+    λ least.
+        let same = least.weighs in
+        let weight_is = e.weight_is in
+        subst (λ sets. Contains sets set) e.found_is
+        (model_blocked p.good p.formula p.softs (splits_of (start_of p) d.front) d.state facts e.lits e.hints
+        e.negates e.follows set least.model (omega (arith, same, weight_is))),
+  )
+    where
+      e : EndsLocated p.good d.state weight found
+      e = ends_located p.good d.state d.last weight found d.ends d.says
+
+      facts : Holds p.good p.formula p.softs (splits_of (start_of p) d.front) d.state
+      facts = facts_of p steps (Located weight found) start d
+
+  pub too_many_models : Derives p steps (TooMany weight found) →
+      AreTooManyModelSets p.formula p.softs weight p.most_sets found
+  too_many_models d = record {
+    each = found_least (splits_of (start_of p) d.front) d.state facts e.weight_is e.found_is;
+    differ = subst (IsDistinct (pointwise nat_eq)) e.found_is facts.sets_differ;
+    count = ap (λ (sets : List (List ℕ)). length sets) (sym e.found_is)
+        ∙ (e.count ∙ ap (λ n. n + 1) (limits_stay p.good (start_of p) d.front d.state d.leads).most_sets);
+  }
+    where
+      e : EndsTooMany d.state weight found
+      e = ends_too_many p.good d.state d.last weight found d.ends d.says
+
+      facts : Holds p.good p.formula p.softs (splits_of (start_of p) d.front) d.state
+      facts = facts_of p steps (TooMany weight found) start d
 
 -- BLOCKED SETS of a whole derivation
 end_blocks : (s : State) (last : CertStep) (verdict : Verdict) → verdict_of s last ≡ Some verdict →

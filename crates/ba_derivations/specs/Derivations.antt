@@ -1,17 +1,18 @@
 -- What a list of steps derives.
 
-use Rattle.std.specs.Prelude.{◌≡◌, ◌≢◌, ℕ, nat_eq, ◌+◌, true, Option, None, Some, List, [], ◌∷◌, ◌++◌, length, map, All, Contains, ◌↔◌}
+use Rattle.std.specs.Prelude.{◌≡◌, ◌≢◌, ℕ, nat_eq, ◌+◌, ◌≤◌, true, Option, None, Some, List, [], ◌∷◌, ◌++◌, length, map, All, Contains, ◌↔◌}
 use Rattle.std.specs.Cmp.Lexicographic.{pointwise}
 use Rattle.std.specs.List.{IsDistinct}
 use Rattle.ba_lits.specs.Formulas.{Cnf}
 use Rattle.ba_lits.specs.Satisfaction.{Soft}
+use Rattle.ba_steps.specs.Blocks.{set_weight}
 use Rattle.ba_steps.specs.Judging.{Judge, after_all, error_of}
 use Rattle.ba_steps.specs.States.{State, first_state}
 use Rattle.ba_steps.specs.Steps.{IsFormed}
 use Rattle.ba_steps.specs.declared.step.CertStep.{CertStep}
 use Rattle.ba_steps.specs.declared.step.CertStep.TheVariants.{Learn, Core, Delete, Block, EndLocated, EndNoRepair, EndTooMany, EndSpent}
 use Rattle.ba_derivations.specs.declared.verdict.FoundSet.{FoundSet}
-use Rattle.ba_derivations.specs.Encodings.{IsFaithful}
+use Rattle.ba_derivations.specs.Encodings.{HasModelFor, IsFaithful}
 use Rattle.ba_tree.specs.Least.{WeightList, IsLeastSet, weight_of}
 
 -- THE VERDICTS: exactly these sets are least, and this is their weight; there is none; these are least, and
@@ -46,12 +47,12 @@ abbrev pub start_of : Problem → State
 start_of p = first_state p.formula p.softs p.conflicts p.most_sets
 
 -- Steps DERIVE a verdict on a problem: from the first state on each is allowed in turn, and the last one,
--- which alone is an End step, says it.
+-- which alone is an End step, says it. Each has the form that its text asks for.
 pub record Derives (p : Problem) (steps : List CertStep) (verdict : Verdict) : Type 0 where
   pub front : List CertStep
   pub last : CertStep
   pub steps_are : steps ≡ front ++ last ∷ []
-  pub formed : All IsFormed front
+  pub formed : All IsFormed steps
   pub state : State
   pub leads : after_all p.good (start_of p) front ≡ Some state
   pub ends : error_of p.good state last ≡ None
@@ -113,6 +114,20 @@ pub record AreTooMany (weights : WeightList) (good : Judge) (weight most : ℕ) 
     Type 0 where
   pub each : (set : List ℕ) → Contains found set → IsLeastSet weights good set
   pub each_weighs : (set : List ℕ) → Contains found set → weight_of weights set ≡ weight
+  pub differ : IsDistinct (pointwise nat_eq) found
+  pub count : length found ≡ most + 1
+
+-- over the models of a formula alone: a set of groups has a model, and this weight, and no set that has a model
+-- weighs less
+pub record IsLeastModelSet (formula : Cnf) (softs : List Soft) (weight : ℕ) (set : List ℕ) : Type 0 where
+  pub model : HasModelFor formula softs set
+  pub weighs : set_weight softs set ≡ weight
+  pub least : (other : List ℕ) → HasModelFor formula softs other → weight ≤ set_weight softs other
+
+-- these sets are such, differ, and are one more than may be listed
+pub record AreTooManyModelSets (formula : Cnf) (softs : List Soft) (weight most : ℕ) (found : List (List ℕ)) :
+    Type 0 where
+  pub each : (set : List ℕ) → Contains found set → IsLeastModelSet formula softs weight set
   pub differ : IsDistinct (pointwise nat_eq) found
   pub count : length found ≡ most + 1
 

@@ -1,10 +1,11 @@
 -- Formulas whose models are the sets that could repair a run.
 
-use Rattle.std.specs.Prelude.{◌≡◌, ℕ, suc, ◌==◌, ◌↔◌, Bool, true, not, ◌&&◌, cond, ltb, Option, None, Some, List, [], ◌∷◌}
+use Rattle.std.specs.Prelude.{◌≡◌, ℕ, suc, ◌==◌, ◌↔◌, Bool, true, not, ◌&&◌, cond, ltb, Option, None, Some, List, [], ◌∷◌, All}
 use Rattle.ba_lits.specs.Formulas.{Cnf}
+use Rattle.ba_lits.specs.Literals.{IsClause}
 use Rattle.ba_lits.specs.Satisfaction.{Assignment, Soft, all_true, lit_true}
 use Rattle.ba_steps.specs.Blocks as groups
-use Rattle.ba_steps.specs.Facts.{IsStart}
+use Rattle.ba_steps.specs.Facts.{AreSelectors}
 use Rattle.ba_tree.specs.Least.{Judge, WeightList, IsFeasible, IsRelaxableSet, weight_at}
 
 -- THE SET OF AN ASSIGNMENT. Entry n - 1 of a list of soft literals is the selector of group n, with its
@@ -38,11 +39,13 @@ pub record HasModelFor (formula : Cnf) (softs : List Soft) (set : List ℕ) : Ty
 abbrev pub weight_if : ℕ → Option ℕ
 weight_if w = cond (w == 0) None (Some w)
 
--- A formula and its soft literals encode a judge FAITHFULLY: the groups are the relaxable statements (or
--- places) with their weights, and the formula has a model under which exactly the groups of a set are false
--- where, and only where, some run is good for that set.
+-- A formula and its soft literals encode a judge FAITHFULLY: its clauses are clauses over its variables, the
+-- soft literals are selectors, positive literals of different variables; the groups are the relaxable statements
+-- with their weights; and the formula has a model under which exactly the groups of a set are false where, and
+-- only where, some run is good for that set.
 pub record IsFaithful (formula : Cnf) (softs : List Soft) (weights : WeightList) (good : Judge) : Type 0 where
-  pub start : IsStart formula softs
+  pub clauses : All (IsClause formula.variables) formula.clauses
+  pub selectors : AreSelectors formula.variables softs
   pub weighs : (n : ℕ) → weight_at weights n ≡ weight_if (groups.weight_at softs n)
   pub models : (set : List ℕ) → IsRelaxableSet weights set →
       HasModelFor formula softs set ↔ IsFeasible good set

@@ -1,10 +1,13 @@
 //! Laws of derivations, each the clause of a function that does nothing.
 
-ghost use Rattle.std.specs.Prelude.{◌≡◌, ℕ, List, [], All};
+ghost use Rattle.std.specs.Prelude.{◌≡◌, ℕ, List, [], All, Contains, ◌↔◌};
 ghost use Rattle.ba_derivations.specs.Derivations.{AreAllLeast, AreTooMany, Derives, DerivesOver};
+ghost use Rattle.ba_derivations.specs.Derivations.{AreTooManyModelSets, IsLeastModelSet};
 ghost use Rattle.ba_derivations.specs.Derivations.{HaveSameSets, IsGood, Problem, Verdict};
 ghost use Rattle.ba_derivations.specs.Derivations.{Located, NoRepair, Spent, TooMany};
 ghost use Rattle.ba_derivations.specs.Derivations.{blocked_by, conflicts_in, sets_of};
+ghost use Rattle.ba_derivations.specs.Encodings.{HasModelFor};
+ghost use Rattle.ba_steps.specs.Facts.{IsStart};
 ghost use Rattle.ba_steps.specs.declared.step.CertStep.{CertStep};
 ghost use Rattle.ba_tree.specs.Least.{AreInOrder, AreLeast, Judge, WeightList};
 
@@ -37,6 +40,20 @@ pub fn too_many_law()
         (weight : ℕ) (found : List (List ℕ))
         → DerivesOver weights p steps (TooMany weight found)
         → AreTooMany weights p.good weight p.most_sets found }
+{}
+
+/// Where each set that is found is that of a model, as a search finds them that reads its sets from
+/// models, nothing need be known of the judge: the sets of `Located` are exactly those of models of
+/// least weight, and those of `TooMany` are such, differ, and are one more than may be listed.
+pub fn models_law()
+    ensures located { (p : Problem) (steps : List CertStep) (weight : ℕ) (found : List (List ℕ))
+        → IsStart p.formula p.softs → All (HasModelFor p.formula p.softs) found
+        → Derives p steps (Located weight found)
+        → (set : List ℕ) → Contains found set ↔ IsLeastModelSet p.formula p.softs weight set }
+    ensures too_many { (p : Problem) (steps : List CertStep) (weight : ℕ) (found : List (List ℕ))
+        → IsStart p.formula p.softs → All (HasModelFor p.formula p.softs) found
+        → Derives p steps (TooMany weight found)
+        → AreTooManyModelSets p.formula p.softs weight p.most_sets found }
 {}
 
 /// The sets of a verdict are those that the steps block, in their order.

@@ -7,7 +7,7 @@ use Rattle.std.specs.List.{list_any}
 use Rattle.ba_derivations.specs.Derivations.{sets_of, verdict_of}
 use Rattle.ba_derivations.specs.Derivations as derived
 use Rattle.ba_derivations.specs.declared.verdict.FoundSet.{FoundSet}
-use Rattle.ba_derivations.specs.declared.verdict.Verdict.TheVariants.{Located, NoRepair, TooMany, Spent}
+use Rattle.ba_derivations.specs.declared.verdict.Verdict.TheVariants.{Located}
 use Rattle.ba_enum.specs.Enumerating.{HaveSame, Ends}
 use Rattle.ba_enum.specs.Leading.{IsReady}
 use Rattle.ba_enum.specs.Turning.{IsLast}
@@ -68,11 +68,12 @@ pub last_ends : (good : Judge) (s t : State) (found sets : List FoundSet) (lits 
     (back weight : ℕ) (l m : Logs) →
     IsLast s found lits hints back → s.sets ≡ sets_of found → IsReady s → weight ≡ s.bound →
     HaveSame sets found → AreInOrder (sets_of sets) → length sets ≡ length found →
-    t ≡ after s (EndLocated lits hints) → m ≡ with_step (EndLocated lits hints) l →
+    IsFormed (EndLocated lits hints) → t ≡ after s (EndLocated lits hints) → m ≡ with_step (EndLocated lits hints) l →
     Ends good s found l (Located weight sets) t m
-last_ends good s t found sets lits hints back weight l m last are ready is same order count taken told = record {
+last_ends good s t found sets lits hints back weight l m last are ready is same order count formed taken told = record {
   last = EndLocated lits hints;
   said = derived.Located s.bound s.sets;
+  formed = formed;
   allowed = last_allowed good s found lits hints back last are ready;
   says = refl;
   fits = (
@@ -99,39 +100,10 @@ many_allowed good s found many are ready =
     count_error s.refused s.ended (are_too_many s) ready.awake ready.begun
     (equal (length s.sets) (s.most_sets + 1) (ap (λ (ss : List (List ℕ)). length ss) are ∙ (sets_long found ∙ many)))
 
-pub many_ends : (good : Judge) (s t : State) (found : List FoundSet) (weight : ℕ) (l m : Logs) →
-    length found ≡ s.most_sets + 1 → s.sets ≡ sets_of found → IsReady s → weight ≡ s.bound →
-    t ≡ after s EndTooMany → m ≡ with_step EndTooMany l →
-    Ends good s found l (TooMany weight found) t m
-many_ends good s t found weight l m many are ready is taken told = record {
-  last = EndTooMany;
-  said = derived.TooMany s.bound s.sets;
-  allowed = many_allowed good s found many are ready;
-  says = refl;
-  fits = (
-    ap (λ w. derived.TooMany w s.sets) (sym is) ∙ ap (λ (ss : List (List ℕ)). derived.TooMany weight ss) are,
-    refl,
-  );
-  taken = taken;
-  told = told;
-}
-
 -- SPENT
 pub spent_allowed : (good : Judge) (s : State) → s.conflicts ≡ s.budget → IsReady s → error_of good s EndSpent ≡ None
 spent_allowed good s spent ready =
     count_error s.refused s.ended (is_spent s) ready.awake ready.begun (equal s.conflicts s.budget spent)
-
-pub spent_ends : (good : Judge) (s t : State) (found : List FoundSet) (l m : Logs) → s.conflicts ≡ s.budget → IsReady s →
-    t ≡ after s EndSpent → m ≡ with_step EndSpent l → Ends good s found l Spent t m
-spent_ends good s t found l m spent ready taken told = record {
-  last = EndSpent;
-  said = derived.Spent;
-  allowed = spent_allowed good s spent ready;
-  says = refl;
-  fits = refl;
-  taken = taken;
-  told = told;
-}
 
 -- NO MODEL
 model_error : (refused ended some spent : Bool) (r : Replay) → refused ≡ false → ended ≡ false → some ≡ false →
@@ -147,17 +119,3 @@ none_allowed good s found hints follows more none are ready =
     ready.awake ready.begun
     (ap (λ (ss : List (List ℕ)). ltb 0 (length ss)) are ∙ ap (λ (fs : List FoundSet). ltb 0 (length (sets_of fs))) none)
     (left s.conflicts s.budget more) follows
-
-pub none_ends : (good : Judge) (s t : State) (found : List FoundSet) (hints : List ℕ) (l m : Logs) →
-    FollowsByHints (clause_at s.clauses) [] hints → s.conflicts < s.budget → found ≡ [] → s.sets ≡ sets_of found →
-    IsReady s → t ≡ after s (EndNoRepair hints) → m ≡ with_step (EndNoRepair hints) l →
-    Ends good s found l NoRepair t m
-none_ends good s t found hints l m follows more none are ready taken told = record {
-  last = EndNoRepair hints;
-  said = derived.NoRepair;
-  allowed = none_allowed good s found hints follows more none are ready;
-  says = refl;
-  fits = refl;
-  taken = taken;
-  told = told;
-}

@@ -14,7 +14,7 @@ use Rattle.ba_derivations.specs.declared.verdict.Verdict.{Verdict}
 use Rattle.ba_enum.specs.Enumerating.{Enumerates, Ends, Finishes}
 use Rattle.ba_encode.specs.declared.encoded.Encoded.{Encoded}
 use Rattle.ba_enum.specs.Leading.{IsReached, IsNext, Puts, Adds}
-use Rattle.ba_enum.specs.Problems.{problem_in}
+use Rattle.ba_enum.specs.Problems.{IsFresh, problem_in}
 use Rattle.ba_encode.specs.Softs.{softs_of}
 use Rattle.ba_enum.proofs.LeadLaws.{reached_start, reached_on, reached_facts, reached_sets, puts_on}
 use Rattle.ba_enum.proofs.NextLaws.{next_of_least}
@@ -22,11 +22,13 @@ use Rattle.ba_enum.proofs.VerdictLaws.{enumerates}
 use Rattle.ba_lits.specs.Formulas.{Cnf}
 use Rattle.ba_lits.specs.Satisfaction.{Soft}
 use Rattle.ba_lits.specs.declared.assignment.Model.{Model}
+use Rattle.ba_search.specs.Searching.{Searching}
 use Rattle.ba_search.specs.declared.search.SearchError.{SearchError}
 use Rattle.ba_steps.specs.Facts.{IsStart}
 use Rattle.ba_steps.specs.Judging.{Judge}
+use Rattle.ba_steps.specs.Puts.{Putting}
 use Rattle.ba_steps.specs.Sinks.{Logs}
-use Rattle.ba_steps.specs.States.{State}
+use Rattle.ba_steps.specs.States.{State, first_state}
 use Rattle.ba_steps.specs.Steps.{IsFormed}
 
 -- the found sets differ
@@ -75,6 +77,17 @@ enumerates_end p same start s u found k l n verdict clauses is first puts none e
     let P : Judge → Type 0 = λ j. Ends j s found l verdict u n in
     let Q : List FoundSet → Type 0 = λ fs. Puts p.good p.formula p.softs start s fs k l in
     enumerates p start s u found k l n verdict clauses first (subst Q (sym none) puts) (subst P is ends)
+
+-- THE START
+module _ {R K S J : Type 0} {encoded : Encoded} {sets : ℕ} {search : Searching R K} {checked : Putting S J}
+    (fresh : IsFresh encoded sets search checked) where
+  pub fresh_sets : checked.checker.most_sets ≡ sets
+  fresh_sets = ap (λ (s : State). s.most_sets) fresh.starts
+
+  pub fresh_start : (good : Judge) → checked.checker ≡ start_of (problem_in encoded good checked.checker)
+  fresh_start good =
+      fresh.starts
+      ∙ ap (first_state encoded.formula (softs_of encoded.groups) checked.checker.budget) (sym fresh_sets)
 
 -- THE SEARCH FOR THE LEAST COST
 pub was_working : {X : Type 0} (failure : Option SearchError) (result : Result X SearchError) (x : X) → result ≡ Ok x →

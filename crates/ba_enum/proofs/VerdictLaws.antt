@@ -3,6 +3,7 @@
 use Rattle.std.proofs.Common.{◌≡◌, ℕ, ◌≤◌, true, false, ltb, None, Some, List, [], ◌∷◌, ◌++◌, All, length, refl, sym, ap, ◌∙◌, subst, arith}
 use Rattle.std.proofs.lemmas.Bool.Decides.{nat_tests}
 use Rattle.std.proofs.lemmas.List.{append-nil}
+use Rattle.std.proofs.lemmas.List.Elements.{All-push}
 use Rattle.ba_derivations.specs.Derivations.{Problem, Derives, start_of, verdict_of, blocked_by, sets_of}
 use Rattle.ba_derivations.specs.Derivations as derived
 use Rattle.ba_derivations.specs.Encodings.{HasModelFor}
@@ -20,6 +21,7 @@ use Rattle.ba_steps.specs.Blocks.{block_clauses}
 use Rattle.ba_steps.specs.Facts.{IsStart}
 use Rattle.ba_steps.specs.Sinks.{Logs}
 use Rattle.ba_steps.specs.States.{State}
+use Rattle.ba_steps.specs.Steps.{IsFormed}
 use Rattle.ba_steps.specs.declared.step.CertStep.{CertStep}
 use Rattle.ba_steps.specs.declared.step.CertStep.TheVariants.{Learn, Core, Delete, Block, EndLocated, EndNoRepair, EndTooMany, EndSpent}
 use Rattle.ba_steps.specs.declared.step.StepError.TheVariants.{WrongCount}
@@ -134,7 +136,7 @@ enumerates p start s t found k l m verdict clauses same puts ends =
           front = q.steps;
           last = ends.last;
           steps_are = refl;
-          formed = q.leads.formed;
+          formed = All-push IsFormed q.steps ends.last q.leads.formed ends.formed;
           state = s;
           leads = q.leads.reaches;
           ends = ends.allowed;

@@ -14,6 +14,7 @@ use Rattle.ba_steps.specs.Judging.{Judge, error_of, after, after_all}
 use Rattle.ba_steps.specs.Puts.{with_steps}
 use Rattle.ba_steps.specs.Sinks.{Logs, with_step}
 use Rattle.ba_steps.specs.States.{State}
+use Rattle.ba_steps.specs.Steps.{IsFormed}
 use Rattle.ba_steps.specs.declared.step.CertStep.{CertStep}
 use Rattle.ba_tree.specs.Least.{AreInOrder}
 
@@ -55,11 +56,12 @@ Fits s found NoRepair said = said ≡ derived.NoRepair
 Fits s found (TooMany weight sets) said = (said ≡ derived.TooMany weight (sets_of sets)) × (sets ≡ found)
 Fits s found Spent said = said ≡ derived.Spent
 
--- an allowed End step was put, which says the verdict
+-- an allowed End step was put, which has the form that its text asks for and says the verdict
 pub record Ends (good : Judge) (s : State) (found : List FoundSet) (old_logs : Logs) (verdict : Verdict) (new : State)
     (new_logs : Logs) : Type 0 where
   pub last : CertStep
   pub said : derived.Verdict
+  pub formed : IsFormed last
   pub allowed : error_of good s last ≡ None
   pub says : verdict_of s last ≡ Some said
   pub fits : Fits s found verdict said

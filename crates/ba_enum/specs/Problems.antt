@@ -1,14 +1,17 @@
 -- The problem that a formula with groups poses to the search, and what its models must give.
 
-use Rattle.std.specs.Prelude.{◌≡◌, ◌≢◌, true, []}
+use Rattle.std.specs.Prelude.{◌≡◌, ◌≢◌, ℕ, true, None, []}
 use Rattle.ba_derivations.specs.Derivations.{Problem}
 use Rattle.ba_derivations.specs.Encodings.{false_groups}
 use Rattle.ba_encode.specs.Readings.{choices_read}
 use Rattle.ba_encode.specs.declared.encoded.Encoded.{Encoded}
 use Rattle.ba_encode.specs.Softs.{softs_of}
+use Rattle.ba_learn.specs.Live.{AreLive}
 use Rattle.ba_lits.specs.Satisfaction.{Assignment, all_true}
+use Rattle.ba_search.specs.Searching.{Searching}
 use Rattle.ba_steps.specs.Judging.{Judge}
-use Rattle.ba_steps.specs.States.{State}
+use Rattle.ba_steps.specs.Puts.{Putting}
+use Rattle.ba_steps.specs.States.{State, clause_at, first_state}
 
 -- the problem, with as many conflicts as the checker counts, and as many sets as it allows
 abbrev pub problem_in : Encoded → Judge → State → Problem
@@ -19,6 +22,14 @@ problem_in encoded good s = record {
   conflicts = s.budget;
   most_sets = s.most_sets;
 }
+
+-- a search and a checker at the start: the search has the live clauses of the checker, which is in the first state, over the
+-- formula with the soft literals of its groups, lists at most so many sets, and has had no step refused
+pub record IsFresh {R K S J : Type 0} (encoded : Encoded) (sets : ℕ) (search : Searching R K) (checked : Putting S J) :
+    Type 0 where
+  pub same : AreLive search.clauses (clause_at checked.checker.clauses)
+  pub starts : checked.checker ≡ first_state encoded.formula (softs_of encoded.groups) checked.checker.budget sets
+  pub accepted : checked.refusal ≡ None
 
 -- for each model of the formula some selector is false, and the choices that are read from it are good for the groups
 -- whose selectors are false

@@ -2,10 +2,9 @@
 
 ghost use Rattle.std.specs.Prelude.{◌≡◌, ◌≤◌, ◌⊎◌, ◌∷◌, ◌++◌, [], None, Some, length, map, IfOk, OnOk, Err};
 ghost use Rattle.ba_cores.specs.Rounds.{literals_of};
-ghost use Rattle.ba_derivations.specs.Derivations.{start_of};
 ghost use Rattle.ba_enum.specs.Enumerating.{Enumerates, Finishes};
 ghost use Rattle.ba_enum.specs.Leading.{IsNext, IsReady, IsReached, Leaves};
-ghost use Rattle.ba_enum.specs.Problems.{IsReadable, problem_in};
+ghost use Rattle.ba_enum.specs.Problems.{IsFresh, IsReadable, problem_in};
 ghost use Rattle.ba_encode.specs.Softs.{softs_of};
 ghost use Rattle.ba_learn.specs.Live.{AreLive};
 ghost use Rattle.ba_lits.specs.Satisfaction.{Soft};
@@ -27,12 +26,11 @@ use ba_search::{Search, SearchError};
 use ba_steps::{Checked, RunJudge, StepSink};
 use std::alloc::{AllocError, Global};
 
-/// All sets of groups that have a good run and are of least weight, each with such a run, where they are at most `sets`;
-/// else one more than that. The set of a model is that of the groups whose selectors are false, and its run is read from the
-/// model. The End step of the verdict is put.
+/// All sets of models of least weight, each with a good run, where they are at most `sets`; else one more than that. The set
+/// of a model is that of the groups whose selectors are false, and its run is read from the model. Over a formula that encodes
+/// faithfully which runs are good these are the least sets. The End step of the verdict is put.
 ///
-/// The checker is at its start, with the formula and the soft literals of its groups. The time that a set takes does not grow
-/// with the sets found, but for one look at each in the checker.
+/// The checker is at its start, with the formula and the soft literals of its groups.
 ///
 /// `SinkFailed` comes only where the sink's faults rose, or the search answered it before; `Memory` for want of memory.
 /// Steps that were put before an error stay put.
@@ -50,12 +48,8 @@ where
     K: Fn(u64, u64) -> bool + Drop,
     requires restart { IsRestartRule (R.pre search.old.restart) (R.post search.old.restart) }
     requires keep { IsKeepRule (K.pre search.old.keep) (K.post search.old.keep) }
-    requires same { search.old.failure ≡ None
-        → AreLive search.old.clauses (clause_at checked.old.checker.clauses) }
-    requires fresh { search.old.failure ≡ None → checked.old.refusal ≡ None }
-    requires started { search.old.failure ≡ None → checked.old.checker
-        ≡ start_of (problem_in encoded.now (J.accepts checked.old.judge) checked.old.checker) }
-    requires listed { search.old.failure ≡ None → checked.old.checker.most_sets ≡ sets }
+    requires fresh { search.old.failure ≡ None
+        → IsFresh encoded.now sets search.old checked.old }
     requires clauses { IsStart encoded.now.formula (softs_of encoded.now.groups) }
     requires readable { IsReadable encoded.now (J.accepts checked.old.judge) }
     ensures verdict { IfOk result (λ verdict. Enumerates

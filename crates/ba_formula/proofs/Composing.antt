@@ -126,17 +126,15 @@ module _ (p : Program) (input : Input) (b : Bounds) (weights : Weights) (fit : f
       }
 
   pub composed : IsFormulaOf p input b weights.of encoded
-  composed =
-      let selectors = are-selectors weights.of encoded.groups encodes.groups_are are_weights.in_range
-      encoded.formula encodes.selectors in
-      record {
-        faithful = record {
-          start = record { clauses = clauses; softs_among = selectors.among; softs_differ = selectors.differ };
-          weighs = weighs weights.of encoded.groups encodes.groups_are are_weights.in_range;
-          models = λ set relaxable. (model-feasible set relaxable, feasible-model set relaxable);
-        };
-        selectors = selectors;
-        runs = λ v satisfies. spelled-good (false_groups v (softs_of encoded.groups)) v
-            (false-relaxable weights.of encoded.groups encodes.groups_are are_weights.in_range v) satisfies refl;
-        some = λ fails v satisfies none. fails (none-false v satisfies none);
-      }
+  composed = record {
+    faithful = record {
+      clauses = clauses;
+      selectors = are-selectors weights.of encoded.groups encodes.groups_are are_weights.in_range encoded.formula
+          encodes.selectors;
+      weighs = weighs weights.of encoded.groups encodes.groups_are are_weights.in_range;
+      models = λ set relaxable. (model-feasible set relaxable, feasible-model set relaxable);
+    };
+    runs = λ v satisfies. spelled-good (false_groups v (softs_of encoded.groups)) v
+        (false-relaxable weights.of encoded.groups encodes.groups_are are_weights.in_range v) satisfies refl;
+    some = λ fails v satisfies none. fails (none-false v satisfies none);
+  }

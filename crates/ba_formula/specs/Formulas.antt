@@ -6,7 +6,6 @@ use Rattle.ba_encode.specs.Readings.{choices_read}
 use Rattle.ba_encode.specs.Softs.{softs_of}
 use Rattle.ba_encode.specs.declared.encoded.Encoded.{Encoded}
 use Rattle.ba_lits.specs.Satisfaction.{Assignment, all_true}
-use Rattle.ba_steps.specs.Facts.{AreSelectors}
 use Rattle.ba_tree.specs.Least.{WeightList, judge_of}
 use Rattle.ba_tree.specs.Run.{plain_run}
 use Rattle.ba_tree.specs.declared.run.Bounds.{Bounds}
@@ -14,13 +13,11 @@ use Rattle.ba_tree.specs.declared.run.Input.{Input}
 use Rattle.ba_tree.specs.declared.run.Outcome.TheVariants.{Done}
 use Rattle.ba_tree.specs.declared.tree.Program.{Program}
 
--- The formula encodes the runs of the program faithfully, by selectors of the statements with their weights, and each of its models
--- spells the choices of a run that is good where the statements are relaxed whose selectors are false. Where the run as written isn't
--- good there are some.
+-- The formula encodes the runs of the program faithfully, and each of its models spells the choices of a run that is good where the
+-- statements are relaxed whose selectors are false. Where the run as written isn't good there are some.
 pub record IsFormulaOf (p : Program) (input : Input) (bounds : Bounds) (weights : WeightList) (encoded : Encoded) :
     Type 0 where
   pub faithful : IsFaithful encoded.formula (softs_of encoded.groups) weights (judge_of p input bounds)
-  pub selectors : AreSelectors encoded.formula.variables (softs_of encoded.groups)
   pub runs : (v : Assignment) → all_true v encoded.formula.clauses ≡ true
       → judge_of p input bounds (false_groups v (softs_of encoded.groups)) (choices_read v encoded.places) ≡ true
   pub some : plain_run p input bounds ≢ Done → (v : Assignment) → all_true v encoded.formula.clauses ≡ true

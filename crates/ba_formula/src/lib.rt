@@ -1,4 +1,4 @@
-//! From a program and a failing input to the formula whose models are its good runs.
+//! From a program and an input to the formula whose models are its good runs.
 //!
 //! The program is freed of calls and loops, its run becomes a list of guarded words, and the words become clauses. That each model is a
 //! good run, and each good run a model, follows from what the four steps promise.

@@ -40,6 +40,7 @@ pub fn formula_of(
         of: Items::from_slice(alloc, weights.of.as_slice())?,
     });
     let encoded = encode(alloc, &words, &grouping)?;
+    // That the formula's clauses are clauses over its variables is promised by this call.
     let _ = encoded.formula().variables();
     Ok(encoded)
 }

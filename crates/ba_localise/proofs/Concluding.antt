@@ -1,15 +1,19 @@
 -- What steps over a faithful encoding derive holds of the program.
-use Rattle.std.proofs.Common.{◌≡◌, ℕ, suc, zero, ◌<◌, List, [], ◌∷◌, length, All, refl, ◌∙◌, ap, subst, arith}
+use Rattle.std.proofs.Common.{◌≡◌, ℕ, suc, zero, ◌+◌, ◌<◌, ◌≤◌, inl, inr, List, [], ◌∷◌, length, All, refl, sym, ◌∙◌, ap, subst, arith}
 use Rattle.std.specs.Prelude.{Contains, get_or}
 use Rattle.ba_derivations.proofs.VerdictLaws.{good_runs, located, no_repair, ordered, spent, too_many}
 use Rattle.ba_derivations.specs.Derivations as derived
-use Rattle.ba_derivations.specs.Derivations.{AreAllLeast, Derives, HaveSameSets, IsGood, Problem, blocked_by, sets_of}
+use Rattle.ba_derivations.specs.Derivations.{AreAllLeast, HaveSameSets, IsGood, Problem, blocked_by, sets_of}
 use Rattle.ba_derivations.specs.Encodings.{IsFaithful}
 use Rattle.ba_derivations.specs.declared.verdict.FoundSet.{FoundSet}
 use Rattle.ba_derivations.specs.declared.verdict.Verdict.{Verdict}
 use Rattle.ba_derivations.specs.declared.verdict.Verdict.TheVariants.{Located, NoRepair, TooMany, Spent}
-use Rattle.ba_enum.specs.Enumerating.{HaveSame, Says}
-use Rattle.ba_localise.specs.Verdicts.{AreLocated, IsVerdict}
+use Rattle.ba_enum.specs.Enumerating.{Enumerates, HaveSame, Says}
+use Rattle.ba_localise.specs.Verdicts.{AreLocated, Finds, IsVerdict, Told, problem_of}
+use Rattle.ba_steps.specs.Puts.{with_steps}
+use Rattle.ba_steps.specs.Sinks.{Rose, with_told}
+use Rattle.ba_steps.specs.States.{State, first_state}
+use Rattle.ba_steps.specs.declared.sink.Basis.{Basis}
 use Rattle.ba_steps.specs.declared.step.CertStep.{CertStep}
 use Rattle.ba_tree.specs.Least.{Judge, WeightList, judge_of}
 use Rattle.ba_tree.specs.declared.run.Bounds.{Bounds}
@@ -63,6 +67,10 @@ same-runs good xs ys same runs k d few =
     get-same (z ∷ zs) zero e less = refl
     get-same (z ∷ zs) (suc i) e less = get-same zs i e (omega (arith, less))
 
+-- the problem that a formula with its soft literals poses
+abbrev problem : Basis → Judge → ℕ → ℕ → Problem
+problem begun = problem_of (record { begun = begun; steps = [] })
+
 -- WHAT IS DERIVED holds
 module _ (weights : WeightList) (p : Problem) (faithful : IsFaithful p.formula p.softs weights p.good)
     (steps : List CertStep) where
@@ -89,18 +97,55 @@ module _ (weights : WeightList) (p : Problem) (faithful : IsFaithful p.formula p
       no-sets [] none = refl
       no-sets (set ∷ rest) none = absurd (none set (0, omega arith, refl))
 
-  pub concluded : (verdict : Verdict) → Says p steps verdict → IsVerdict weights p.good p.conflicts p.most_sets verdict
+  pub concluded : (verdict : Verdict) → Says p steps verdict
+      → IsVerdict weights p.good p.conflicts p.most_sets steps verdict
   concluded (Located weight sets) says = all-located weight sets says
   concluded NoRepair says = no_repair weights p steps (faithful, says.0)
-  concluded (TooMany weight sets) says = too_many weights p steps weight (sets_of sets) (faithful, says.0)
-  concluded Spent says = record {
-    problem = p;
-    faithful = faithful;
-    same_judge = refl;
-    steps = steps;
-    derives = says;
-    count = spent p steps says;
-  }
+  concluded (TooMany weight sets) says = (
+    too_many weights p steps weight (sets_of sets) (faithful, says.0),
+    let runs : All (IsGood p.good) (blocked_by steps) =
+        good_runs p steps (derived.TooMany weight (sets_of sets)) says.0 in
+        subst (λ (bs : List FoundSet). All (IsGood p.good) bs) (sym says.1) runs,
+  )
+  concluded Spent says = spent p steps says
+
+-- WHAT WAS HANDED ON shows the verdict
+pub finds : (weights : WeightList) (good same : Judge) (begun : Basis) (s last : State) (conflicts most : ℕ)
+    (old mid new : Told) (verdict : Verdict) → IsFaithful begun.formula begun.softs weights good → same ≡ good
+    → s ≡ first_state begun.formula begun.softs conflicts most → mid.over ≡ with_told begun old.over
+    → mid.logs ≡ old.logs → new.over ≡ mid.over
+    → Enumerates (problem begun same s.budget s.most_sets) mid.logs verdict last new.logs
+    → Finds weights good conflicts most old new verdict
+finds weights good same begun s last conflicts most old mid new verdict faithful judges starts begins stay over has =
+    let p : Problem = problem begun good conflicts most in
+    let is : problem begun same s.budget s.most_sets ≡ p =
+    ap (λ (g : Judge). problem begun g s.budget s.most_sets) judges
+    ∙ (ap (λ (n : ℕ). problem begun good n s.most_sets) (ap (λ (t : State). t.budget) starts)
+    ∙ ap (problem begun good conflicts) (ap (λ (t : State). t.most_sets) starts)) in
+    let put : Enumerates p mid.logs verdict last new.logs =
+    subst (λ (q : Problem). Enumerates q mid.logs verdict last new.logs) is has in
+    record {
+      derivation = record { begun = begun; steps = put.steps };
+      hands = record { over = over ∙ begins; logs = put.logs ∙ ap (with_steps put.steps) stay };
+      shows = record {
+        faithful = faithful;
+        news = put.news;
+        says = put.says;
+        is_verdict = concluded weights p faithful put.steps verdict put.says;
+      };
+    }
+
+-- A COUNT that rose beside one of no faults
+pub rose-second : (a b c d : ℕ) → a ≡ c → b ≡ d → Rose (0 + a) (0 + b) → Rose c d
+rose-second a b c d first second rose =
+    let zero-a : 0 + a ≡ c = omega (arith, first) in
+    let zero-b : 0 + b ≡ d = omega (arith, second) in
+    subst (λ n. Rose n d) zero-a (subst (Rose (0 + a)) zero-b rose)
+
+-- and one that rose later
+pub rose-after : (a b c : ℕ) → a ≤ b → Rose b c → Rose a c
+rose-after a b c le (inl lt) = inl (omega (arith, le, lt))
+rose-after a b c le (inr end) = inr end
 
 -- THE JUDGE
 pub same-judge : (p q : Program) (i k : Input) (b d : Bounds) → p ≡ q → i ≡ k → b ≡ d → judge_of p i b ≡ judge_of q k d

@@ -1,17 +1,47 @@
--- What a search for the least sets of a program comes to.
+-- What a search for the least sets of a program comes to, and what it hands to a sink of steps.
 
-use Rattle.std.specs.Prelude.{◌≡◌, ◌≢◌, ℕ, ◌≤◌, List, [], All, Contains, length}
-use Rattle.ba_derivations.specs.Derivations as derived
-use Rattle.ba_derivations.specs.Derivations.{AreTooMany, Derives, IsGood, Problem, conflicts_in, sets_of}
+use Rattle.std.specs.Prelude.{◌≡◌, ◌≢◌, ℕ, ◌≤◌, Option, List, [], All, Contains, length}
+use Rattle.ba_derivations.specs.Derivations.{AreTooMany, IsGood, Problem, conflicts_in, sets_of, start_of}
 use Rattle.ba_derivations.specs.Encodings.{IsFaithful}
 use Rattle.ba_derivations.specs.declared.verdict.FoundSet.{FoundSet}
 use Rattle.ba_derivations.specs.declared.verdict.Verdict.{Verdict}
 use Rattle.ba_derivations.specs.declared.verdict.Verdict.TheVariants.{Located, NoRepair, TooMany, Spent}
+use Rattle.ba_enum.specs.Enumerating.{Says}
+use Rattle.ba_enum.specs.Leading.{AreNew}
+use Rattle.ba_steps.specs.Puts.{with_steps}
+use Rattle.ba_steps.specs.Sinks.{Logs, with_told}
+use Rattle.ba_steps.specs.declared.sink.Basis.{Basis}
 use Rattle.ba_steps.specs.declared.step.CertStep.{CertStep}
-use Rattle.ba_tree.specs.Least.{AreLeast, Judge, WeightList, judge_of, weight_of}
-use Rattle.ba_tree.specs.declared.run.Bounds.{Bounds}
-use Rattle.ba_tree.specs.declared.run.Input.{Input}
-use Rattle.ba_tree.specs.declared.tree.Program.{Program}
+use Rattle.ba_tree.specs.Least.{AreLeast, Judge, WeightList, weight_of}
+
+-- WHAT A SINK OF STEPS TELLS at one moment: its formulas, its logs, and how often what it writes to has failed
+pub record Told : Type 0 where
+  pub over : Option (List Basis)
+  pub logs : Logs
+  pub faults : ℕ
+
+abbrev pub told : {D : Type 0} → (D → Option (List Basis)) → (D → Logs) → (D → ℕ) → D → Told
+told over logs faults sink = record { over = over sink; logs = logs sink; faults = faults sink }
+
+-- A DERIVATION: a formula with its soft literals, and steps over it
+pub record Derivation : Type 0 where
+  pub begun : Basis
+  pub steps : List CertStep
+
+-- it was handed to a sink: the formula was begun, and each log has the steps more
+pub record Hands (d : Derivation) (old new : Told) : Type 0 where
+  pub over : new.over ≡ with_told d.begun old.over
+  pub logs : new.logs ≡ with_steps d.steps old.logs
+
+-- the problem that it is about, where runs are good as a judge says, and so many conflicts and sets are allowed
+abbrev pub problem_of : Derivation → Judge → ℕ → ℕ → Problem
+problem_of d good conflicts most = record {
+  formula = d.begun.formula;
+  softs = d.begun.softs;
+  good = good;
+  conflicts = conflicts;
+  most_sets = most;
+}
 
 -- these are all least sets, each once and in order, of this weight, with good runs, and no more than may be listed
 pub record AreLocated (weights : WeightList) (good : Judge) (most weight : ℕ) (sets : List FoundSet) : Type 0 where
@@ -21,22 +51,27 @@ pub record AreLocated (weights : WeightList) (good : Judge) (most weight : ℕ) 
   pub runs : All (IsGood good) sets
   pub few : length sets ≤ most
 
--- some steps over a faithful encoding hold exactly so many conflicts, and derive that these are spent; which steps a search put isn't said
-pub record IsSpent (weights : WeightList) (good : Judge) (conflicts : ℕ) : Type 0 where
-  pub problem : Problem
-  pub faithful : IsFaithful problem.formula problem.softs weights good
-  pub same_judge : problem.good ≡ good
-  pub steps : List CertStep
-  pub derives : Derives problem steps derived.Spent
-  pub count : conflicts_in steps ≡ conflicts
+-- A VERDICT IS TRUE of which runs are good, where it is derived by these steps: all least sets; that no set is least; one more
+-- least sets than may be listed, with good runs; or that the steps hold exactly as many conflicts as are allowed
+abbrev pub IsVerdict : WeightList → Judge → ℕ → ℕ → List CertStep → Verdict → Type 0
+IsVerdict weights good conflicts most steps (Located weight sets) = AreLocated weights good most weight sets
+IsVerdict weights good conflicts most steps NoRepair = AreLeast weights good []
+IsVerdict weights good conflicts most steps (TooMany weight sets) =
+    AreTooMany weights good weight most (sets_of sets) × All (IsGood good) sets
+IsVerdict weights good conflicts most steps Spent = conflicts_in steps ≡ conflicts
 
--- a verdict where runs are good as a judge says, and so many conflicts and sets are allowed
-abbrev pub IsVerdict : WeightList → Judge → ℕ → ℕ → Verdict → Type 0
-IsVerdict weights good conflicts most (Located weight sets) = AreLocated weights good most weight sets
-IsVerdict weights good conflicts most NoRepair = AreLeast weights good []
-IsVerdict weights good conflicts most (TooMany weight sets) = AreTooMany weights good weight most (sets_of sets)
-IsVerdict weights good conflicts most Spent = IsSpent weights good conflicts
+-- A DERIVATION SHOWS A VERDICT: its formula encodes faithfully which runs are good, each clause that its steps learn is new to
+-- propagation where it is learnt, and the steps say the verdict, which is true
+pub record Shows (weights : WeightList) (good : Judge) (conflicts most : ℕ) (d : Derivation) (verdict : Verdict) :
+    Type 0 where
+  pub faithful : IsFaithful d.begun.formula d.begun.softs weights good
+  pub news : AreNew (start_of (problem_of d good conflicts most)) d.steps
+  pub says : Says (problem_of d good conflicts most) d.steps verdict
+  pub is_verdict : IsVerdict weights good conflicts most d.steps verdict
 
--- a verdict on a program with an input, within bounds
-abbrev pub IsVerdictOn : Program → Input → Bounds → WeightList → ℕ → ℕ → Verdict → Type 0
-IsVerdictOn p input bounds weights conflicts most = IsVerdict weights (judge_of p input bounds) conflicts most
+-- A SEARCH FINDS A VERDICT: a derivation that shows it was handed to its sink
+pub record Finds (weights : WeightList) (good : Judge) (conflicts most : ℕ) (old new : Told) (verdict : Verdict) :
+    Type 0 where
+  pub derivation : Derivation
+  pub hands : Hands derivation old new
+  pub shows : Shows weights good conflicts most derivation verdict

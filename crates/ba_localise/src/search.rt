@@ -1,29 +1,41 @@
 //! The search for the least sets of a program.
 
-ghost use Rattle.std.specs.Prelude.{◌≡◌, ◌≢◌, true, IfOk};
-ghost use Rattle.ba_localise.specs.Verdicts.{IsVerdictOn};
+ghost use Rattle.std.specs.Prelude.{◌≡◌, ◌≢◌, ◌≤◌, true, None, Err, IfOk};
+ghost use Rattle.ba_encode.specs.Softs.{softs_of};
+ghost use Rattle.ba_enum.specs.Enumerating.{Enumerates};
+ghost use Rattle.ba_enum.specs.Problems.{IsReadable, problem_in};
+ghost use Rattle.ba_learn.specs.Live.{AreLive};
+ghost use Rattle.ba_localise.specs.Verdicts.{Finds, told};
 ghost use Rattle.ba_search.specs.Rules.{IsKeepRule, IsRestartRule};
-ghost use Rattle.ba_tree.specs.Least.{AreWeightsOf};
+ghost use Rattle.ba_search.specs.declared.search.SearchError.{SearchError};
+ghost use Rattle.ba_steps.specs.Facts.{IsStart};
+ghost use Rattle.ba_steps.specs.Sinks.{Rose};
+ghost use Rattle.ba_steps.specs.States.{clause_at, first_state};
+ghost use Rattle.ba_tree.specs.Least.{AreWeightsOf, judge_of};
 ghost use Rattle.ba_tree.specs.Run.{are_bounds, fits, plain_run};
 ghost use Rattle.ba_tree.specs.declared.run.Outcome.{Outcome};
 
 use ba_derivations::Verdict;
-use ba_encode::softs_of;
+use ba_encode::{Encoded, softs_of};
 use ba_enum::all_sets;
 use ba_formula::formula_of;
 use ba_judge::ProgramJudge;
-use ba_search::Search;
-use ba_steps::{Checked, Checker, NoSink};
+use ba_search::{Search, SearchError};
+use ba_steps::{Both, Checked, Checker, NoSink, RunJudge, StepSink};
 use ba_tree::run::{Bounds, Input, Weights};
 use ba_tree::tree::Program;
-use std::alloc::{AllocError, Global};
+use std::alloc::Global;
 
 /// The least sets of statements whose change could repair a run that is not good as written, each with the choices of such a run: all of
-/// them, in order, where they are at most `sets`; else one more than that; or that there is none; or that the conflicts are spent, where
-/// the search had so many before it found that out. Of these it is promised that some allowed steps over a faithful encoding have them.
+/// them, in order, where they are at most `sets`; else one more than that; or that there is none; or that the conflicts are spent.
 ///
-/// The search restarts and keeps learnt clauses by these rules; what is promised holds for all of them. The one error is want of memory.
-pub fn localise<R, K>(
+/// A derivation of the answer is handed to `steps`: the formula of the program, which encodes faithfully which runs are good, and
+/// then each step of the search, which holds as many conflicts as are allowed where they are spent. The checker allows each step
+/// before it is handed on, and judges each set's run by the interpreter.
+///
+/// The search restarts and keeps learnt clauses by these rules; what is promised holds for all of them. `SinkFailed` comes only where
+/// the faults of `steps` rose; `Memory` for want of memory. Steps that were handed on before an error stay there.
+pub fn localise<D, R, K>(
     alloc: Global,
     program: &Program,
     input: &Input,
@@ -33,8 +45,10 @@ pub fn localise<R, K>(
     sets: u32,
     restart: R,
     keep: K,
-) -> Result<Verdict, AllocError>
+    steps: &mut D,
+) -> Result<Verdict, SearchError>
 where
+    D: StepSink + Drop,
     R: Fn(u64) -> u64 + Drop,
     K: Fn(u64, u64) -> bool + Drop,
     requires fits { fits program.now input.now ≡ true }
@@ -43,17 +57,65 @@ where
     requires failing { plain_run program.now input.now bounds ≢ Outcome.Done }
     requires restart { IsRestartRule (R.pre restart) (R.post restart) }
     requires keep { IsKeepRule (K.pre keep) (K.post keep) }
-    ensures { IfOk result (IsVerdictOn program.now input.now bounds weights.now.of conflicts sets) }
+    ensures finds { IfOk result (λ verdict. Finds weights.now.of
+        (judge_of program.now input.now bounds) conflicts sets
+        (told D.over D.logs D.faults steps.old) (told D.over D.logs D.faults steps.new) verdict) }
+    ensures cause { result ≡ Err SearchError.SinkFailed
+        → Rose (D.faults steps.old) (D.faults steps.new) }
+    ensures no_fall { D.faults steps.old ≤ D.faults steps.new }
+    ensures same_references { D.references steps.new ≡ D.references steps.old }
 {
     let encoded = formula_of(alloc, program, input, bounds, weights)?;
     let softs = softs_of(alloc, &encoded)?;
     let checker = Checker::new(alloc, encoded.formula(), softs.as_slice(), conflicts, sets)?;
-    let judge = ProgramJudge::new(alloc, program, input, bounds);
-    let mut checked = Checked::new(checker, judge, NoSink);
     let mut search = Search::new(alloc, encoded.formula(), restart, keep)?;
-    match all_sets(alloc, &encoded, sets, &mut search, &mut checked) {
-        Ok(verdict) => Ok(verdict),
-        // A sink that drops what it takes never fails.
-        Err(_) => Err(AllocError),
-    }
+    steps.begin(encoded.formula(), softs.as_slice())?;
+    let judge = ProgramJudge::new(alloc, program, input, bounds);
+    let (answer, _) = all_sets_into(alloc, &encoded, sets, &mut search, checker, judge, steps);
+    answer
+}
+
+/// All least sets, by steps that go through the checker to the sink. Gives the checker back.
+///
+/// `SinkFailed` comes only where the sink's faults rose; `Memory` for want of memory.
+fn all_sets_into<D, J, R, K>(
+    alloc: Global,
+    encoded: &Encoded,
+    sets: u32,
+    search: &mut Search<R, K>,
+    checker: Checker,
+    judge: J,
+    steps: &mut D,
+) -> (Result<Verdict, SearchError>, Checker)
+where
+    D: StepSink + Drop,
+    J: RunJudge + Drop,
+    R: Fn(u64) -> u64 + Drop,
+    K: Fn(u64, u64) -> bool + Drop,
+    requires restart { IsRestartRule (R.pre search.old.restart) (R.post search.old.restart) }
+    requires keep { IsKeepRule (K.pre search.old.keep) (K.post search.old.keep) }
+    requires working { search.old.failure ≡ None }
+    requires same { AreLive search.old.clauses (clause_at checker.clauses) }
+    requires starts { checker ≡ first_state encoded.now.formula (softs_of encoded.now.groups)
+        checker.budget sets }
+    requires clauses { IsStart encoded.now.formula (softs_of encoded.now.groups) }
+    requires readable { IsReadable encoded.now (J.accepts judge) }
+    ensures verdict { IfOk result.0 (λ verdict.
+        Enumerates (problem_in encoded.now (J.accepts judge) checker)
+        (D.logs steps.old) verdict result.1 (D.logs steps.new)) }
+    ensures over_stays { D.over steps.new ≡ D.over steps.old }
+    ensures cause { result.0 ≡ Err SearchError.SinkFailed
+        → Rose (D.faults steps.old) (D.faults steps.new) }
+    ensures no_fall { D.faults steps.old ≤ D.faults steps.new }
+    ensures same_references { D.references steps.new ≡ D.references steps.old }
+{
+    let sink = Both {
+        first: NoSink,
+        second: steps,
+    };
+    let mut checked = Checked::new(checker, judge, sink);
+    let answer = all_sets(alloc, encoded, sets, search, &mut checked);
+    // The sink is taken back out, so that it's known what it has become.
+    let (checker, Both { second: _steps, .. }) = checked.finish();
+    (answer, checker)
 }

@@ -1,14 +1,15 @@
 //! Certificates in a world of files, with and without faults.
 
-ghost use Rattle.std.specs.Prelude.{All, IfOk};
+ghost use Rattle.std.specs.Prelude.{◌≡◌, All, IfOk, codes};
 ghost use Rattle.ba_steps.specs.Steps.{IsFormed};
 
-use ba_cert::{CertError, TextSink, begin_text, read_line, write_text};
+use ba_cert::{CertError, CertSink, Start, TextSink, begin_text, read_line, write_text};
 use ba_items::Items;
 use ba_lits::Formula;
-use ba_steps::{CertStep, SinkError, StepSink};
+use ba_steps::{CertStep, ListSink, SinkError, StepSink};
 use ba_world::{MemoryWorld, World};
 use std::alloc::{AllocError, Global};
+use std::marker::Brand;
 use std::process::Abort;
 use std::test::Fail;
 
@@ -17,14 +18,45 @@ fn world_of(alloc: Global, fails: &[u64]) -> Result<MemoryWorld, AllocError> {
     MemoryWorld::new(alloc, Vec::new(alloc), Vec::from_slice(alloc, fails)?, 1)
 }
 
-/// Hands the step of a line to a sink.
-fn put<S: StepSink>(
+/// What a sink answered to the last of some steps, and whether its file was whole then.
+#[derive(Drop)]
+struct Written {
+    last: Result<(), SinkError>,
+    whole: bool,
+}
+
+/// Begins a certificate in the file `c` and hands the steps of these lines to a sink that writes
+/// them, and then to `next`.
+fn write_from<S: Start, W: World, D: StepSink + Drop>(
     alloc: Global,
-    sink: &mut S,
-    line: &str,
-) -> Result<Result<(), SinkError>, CertError> {
-    let step = read_line(alloc, line.as_bytes())?;
-    Ok(sink.take(&step))
+    world: &mut W,
+    lines: &[&[u8]],
+    next: &mut D,
+) -> Result<Written, Fail>
+    requires named { S.name ≡ codes "c" }
+    requires start { W.outside world.old ≡ S.outside }
+    requires faults { D.faults next.old ≡ S.faults }
+{
+    begin_text(world, "c")?;
+    let text: TextSink<W, S> = TextSink::new(alloc, world, "c");
+    let mut sink = CertSink { text, next };
+    sink.begin(&Formula::new(alloc), &[])?;
+    let mut last = Ok(());
+    for line in lines {
+        last = sink.take(&read_line(alloc, line)?);
+    }
+    let whole = sink.text.is_whole("c") && !sink.text.is_whole("another");
+    Ok(Written { last, whole })
+}
+
+/// The same from this moment of the world on.
+fn write<W: World, D: StepSink + Drop>(
+    alloc: Global,
+    world: &mut W,
+    lines: &[&[u8]],
+    next: &mut D,
+) -> Result<Written, Fail> {
+    write_from::<Brand, W, D>(alloc, world, lines, next)
 }
 
 fn holds(rt: &impl Abort, world: &MemoryWorld, name: &str, text: &str) -> Result<(), Fail> {
@@ -36,28 +68,37 @@ fn holds(rt: &impl Abort, world: &MemoryWorld, name: &str, text: &str) -> Result
 fn steps_are_written_as_they_are_made(rt: HostRuntime) -> Result<(), Fail> {
     let alloc = rt.alloc();
     let mut world = world_of(alloc, &[])?;
-    begin_text(&mut world, "c")?;
-    let mut sink = TextSink::new(alloc, &mut world, "c");
-    sink.begin(&Formula::new(alloc), &[])?;
-    assert_eq!(rt; put(alloc, &mut sink, "c -1 -2 0 1 0")?, Ok(()));
-    assert_eq!(rt; put(alloc, &mut sink, "e b")?, Ok(()));
-    assert!(rt; sink.is_whole("c"));
-    assert!(rt; !sink.is_whole("d"));
-    holds(&rt, &world, "c", "bugassist 1\nc -1 -2 0 1 0\ne b\n")
+    let mut next = ListSink::new(alloc);
+    let lines = [b"c -1 -2 0 1 0".as_slice(), b"e b".as_slice()];
+    let written = write(alloc, &mut world, &lines, &mut next)?;
+    assert_eq!(rt; written.last, Ok(()));
+    assert!(rt; written.whole);
+    holds(&rt, &world, "c", "bugassist 1\nc -1 -2 0 1 0\ne b\n")?;
+    assert_eq!(rt; next.steps().len(), 2);
+    assert_eq!(rt; next.over().len(), 1);
+    Ok(())
 }
 
 #[test]
 fn a_refused_sink_refuses_from_then_on(rt: HostRuntime) -> Result<(), Fail> {
     let alloc = rt.alloc();
-    // Call 0 begins the file, 1 adds the head line, 2 and 3 the steps; the fault comes after half of `e l 0 0` and its line feed.
-    let mut world = world_of(alloc, &[3])?;
-    begin_text(&mut world, "c")?;
-    let mut sink = TextSink::new(alloc, &mut world, "c");
-    assert_eq!(rt; put(alloc, &mut sink, "l 1 0 0")?, Ok(()));
-    assert_eq!(rt; put(alloc, &mut sink, "e l 0 0")?, Err(SinkError::Failed));
-    assert_eq!(rt; put(alloc, &mut sink, "l 1 0 0")?, Err(SinkError::Memory));
-    assert!(rt; !sink.is_whole("c"));
-    holds(&rt, &world, "c", "bugassist 1\nl 1 0 0\ne l ")
+    let learn = b"l 1 0 0".as_slice();
+    let end = b"e l 0 0".as_slice();
+    // Call 0 begins the file, 1 adds the head line, 2 and 3 the steps; the fault comes after half
+    // of `e l 0 0` and its line feed.
+    for (lines, last) in [
+        ([learn, end].as_slice(), SinkError::Failed),
+        ([learn, end, learn].as_slice(), SinkError::Memory),
+    ] {
+        let mut world = world_of(alloc, &[3])?;
+        let mut next = ListSink::new(alloc);
+        let written = write(alloc, &mut world, lines, &mut next)?;
+        assert_eq!(rt; written.last, Err(last));
+        assert!(rt; !written.whole);
+        holds(&rt, &world, "c", "bugassist 1\nl 1 0 0\ne l ")?;
+        assert_eq!(rt; next.steps().len(), 1);
+    }
+    Ok(())
 }
 
 #[test]

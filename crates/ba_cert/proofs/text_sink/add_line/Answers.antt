@@ -1,7 +1,7 @@
 use Rattle.std.proofs.Common.{◌≡◌, true, false, sym, ◌∙◌}
 use Rattle.ba_cert.specs.Text.{HasLine, line_of, with_feed}
 use Rattle.ba_cert.proofs.SinkLaws.{followed-sound, writes-sound, others-stay, appended, prefixed, sound-is, sound-same, sound-still, added-sound, added-told, partly-sound, partly-may}
-use Rattle.ba_cert.proofs.PrefixLaws.{no-bytes}
+use Rattle.ba_cert.proofs.PrefixLaws.{line-begins, no-bytes, sound-begins}
 use Rattle.ba_cert.proofs.text_sink.add_line.Goals as goal
 
 pub returns-in_err-line-clause-still : goal.returns-in_err-line-clause-still
@@ -155,3 +155,35 @@ returns-clause-prefix g c =
     let follows = followed-sound true name old.is_writing old.writing (old.kept name) sound in
     prefixed name old.writing old.kept new.kept c.as_slice.result.now line follows is
     c.add.ensures.prefix c.add.ensures.others.kept
+
+pub returns-in_err-line-clause-begins : goal.returns-in_err-line-clause-begins
+returns-in_err-line-clause-begins g c =
+    sound-begins c.args.name.now (g.W.World.outside c.args.world.now) c.requires.sound
+
+pub returns-in-Err-clause-begins : goal.returns-in-Err-clause-begins
+returns-in-Err-clause-begins g c =
+    let line = with_feed (line_of c.args.step.now) in
+    let name = c.args.name.now in
+    let old = g.W.World.outside c.args.world.now in
+    let new = g.W.World.outside c.add.new.self in
+    let h : HasLine c.args.step.now = (c.requires.formed, c.groups_have_32_bits.ensures) in
+    let is : c.as_slice.result.now ≡ line = c.as_slice.ensures.value ∙ c.in_ok-line.ensures in
+    let sound = sym (sound-is true name old) ∙ c.requires.sound in
+    let follows = followed-sound true name old.is_writing old.writing (old.kept name) sound in
+    line-begins c.args.step.now h name old new c.requires.sound
+    (prefixed name old.writing old.kept new.kept c.as_slice.result.now line follows is
+    c.add.ensures.prefix c.add.ensures.others.kept)
+
+pub returns-clause-begins : goal.returns-clause-begins
+returns-clause-begins g c =
+    let line = with_feed (line_of c.args.step.now) in
+    let name = c.args.name.now in
+    let old = g.W.World.outside c.args.world.now in
+    let new = g.W.World.outside c.add.new.self in
+    let h : HasLine c.args.step.now = (c.requires.formed, c.groups_have_32_bits.ensures) in
+    let is : c.as_slice.result.now ≡ line = c.as_slice.ensures.value ∙ c.in_ok-line.ensures in
+    let sound = sym (sound-is true name old) ∙ c.requires.sound in
+    let follows = followed-sound true name old.is_writing old.writing (old.kept name) sound in
+    line-begins c.args.step.now h name old new c.requires.sound
+    (prefixed name old.writing old.kept new.kept c.as_slice.result.now line follows is
+    c.add.ensures.prefix c.add.ensures.others.kept)

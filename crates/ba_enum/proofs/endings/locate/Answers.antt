@@ -1,5 +1,7 @@
+use Rattle.std.proofs.Common.{◌^◌, ◌<◌, subst}
+use Rattle.ba_steps.specs.States.{State}
 use Rattle.ba_steps.specs.declared.step.CertStep.TheVariants.{EndLocated}
-use Rattle.ba_enum.proofs.EndLaws.{last_allowed, last_ends}
+use Rattle.ba_enum.proofs.EndLaws.{last_allowed, last_ends, last_formed}
 use Rattle.ba_enum.proofs.LeadLaws.{leaves_none, leaves_one, leaves_tried}
 use Rattle.ba_enum.proofs.endings.locate.Goals as goal
 
@@ -25,9 +27,12 @@ pub returns-clause-ends : goal.returns-clause-ends
 returns-clause-ends g c =
     let old = c.args.checked.now in
     let new = c.put.new.checked in
+    let few : old.checker.variables < 2 ^ 62 =
+    subst (λ (s : State). s.variables < 2 ^ 62) c.checker.ensures c.keeps_facts.ensures.few in
     last_ends (g.J.RunJudge.accepts old.judge) old.checker new.checker c.args.found c.in_ok-sets.sets c.args.core.lits c.args.core.hints c.args.core.back c.args.weight
     (g.S.StepSink.logs old.sink) (g.S.StepSink.logs new.sink)
     c.requires.core c.requires.sets c.requires.ready c.requires.weight c.in_ok-sets.ensures.same c.in_ok-sets.ensures.order c.in_ok-sets.ensures.count
+    (last_formed old.checker c.args.found c.args.core.lits c.args.core.hints c.args.core.back c.requires.core few)
     c.in_ok-put.ensures.taken c.in_ok-put.ensures.told
 
 pub returns-clause-leaves : goal.returns-clause-leaves

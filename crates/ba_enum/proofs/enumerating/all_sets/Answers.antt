@@ -5,7 +5,7 @@ use Rattle.ba_enum.specs.Enumerating.{Finishes}
 use Rattle.ba_enum.specs.Leading.{IsReached, IsNext}
 use Rattle.ba_enum.specs.Problems.{problem_in}
 use Rattle.ba_encode.specs.Softs.{softs_of}
-use Rattle.ba_enum.proofs.EndingLaws.{none_differ, enumerates_on, enumerates_end, was_working, least_reached, least_next}
+use Rattle.ba_enum.proofs.EndingLaws.{none_differ, fresh_sets, fresh_start, enumerates_on, enumerates_end, was_working, least_reached, least_next}
 use Rattle.ba_enum.proofs.LeadLaws.{puts_most, leaves_on}
 use Rattle.ba_enum.proofs.SearchLaws.{puts_derived, leaves_derived}
 use Rattle.ba_enum.proofs.enumerating.all_sets.Goals as goal
@@ -32,7 +32,7 @@ returns-in-NoModel-clause-verdict g c =
     IfOk-weaker c.finish.result _ _
     (λ verdict ends. enumerates_end (problem_in encoded good old.checker) (g.J.RunJudge.accepts mid.judge) old.checker mid.checker c.finish.new.checked.checker c.new.result
     (g.S.StepSink.logs old.sink) (g.S.StepSink.logs mid.sink) (g.S.StepSink.logs c.finish.new.checked.sink) verdict
-    c.requires.clauses (ap g.J.RunJudge.accepts c.least.ensures.judge_stays) (c.requires.started working) puts c.new.ensures ends)
+    c.requires.clauses (ap g.J.RunJudge.accepts c.least.ensures.judge_stays) (fresh_start (c.requires.fresh working) good) puts c.new.ensures ends)
     c.finish.ensures.ends
 
 pub returns-in-NoModel-clause-leaves : goal.returns-in-NoModel-clause-leaves
@@ -56,7 +56,7 @@ returns-in-Spent-clause-verdict g c =
     IfOk-weaker c.finish-in-Spent.result _ _
     (λ verdict ends. enumerates_end (problem_in encoded good old.checker) (g.J.RunJudge.accepts mid.judge) old.checker mid.checker c.finish-in-Spent.new.checked.checker c.new-in-Spent.result
     (g.S.StepSink.logs old.sink) (g.S.StepSink.logs mid.sink) (g.S.StepSink.logs c.finish-in-Spent.new.checked.sink) verdict
-    c.requires.clauses (ap g.J.RunJudge.accepts c.least.ensures.judge_stays) (c.requires.started working) puts c.new-in-Spent.ensures ends)
+    c.requires.clauses (ap g.J.RunJudge.accepts c.least.ensures.judge_stays) (fresh_start (c.requires.fresh working) good) puts c.new-in-Spent.ensures ends)
     c.finish-in-Spent.ensures.ends
 
 pub returns-in-Spent-clause-leaves : goal.returns-in-Spent-clause-leaves
@@ -85,7 +85,7 @@ enumerate-requires-clause-reached g c =
     let puts = puts_derived good encoded.formula (softs_of encoded.groups) old.checker mid.checker (g.S.StepSink.logs old.sink) (g.S.StepSink.logs mid.sink) c.in_ok-hints.ensures.steps in
     subst (λ (e : Encoded). IsReached same e.formula (softs_of e.groups) mid.checker []) (sym c.in_ok-task-in-Least.ensures.encoded)
     (least_reached good same encoded old.checker mid.checker (g.S.StepSink.logs old.sink) (g.S.StepSink.logs mid.sink)
-    (ap g.J.RunJudge.accepts c.least.ensures.judge_stays) c.requires.clauses (c.requires.started working) puts)
+    (ap g.J.RunJudge.accepts c.least.ensures.judge_stays) c.requires.clauses (fresh_start (c.requires.fresh working) good) puts)
 
 pub enumerate-requires-clause-next : goal.enumerate-requires-clause-next
 enumerate-requires-clause-next g c =
@@ -96,7 +96,7 @@ enumerate-requires-clause-next g c =
     let working = was_working c.args.search.now.failure c.least.result c.in_ok-hints.field-0 c.in_ok-hints.was (λ e is. (c.least.ensures.again e is).0) in
     subst (λ (e : Encoded). IsNext e.formula (softs_of e.groups) mid.checker c.in-Least.model.values) (sym c.in_ok-task-in-Least.ensures.encoded)
     (least_next good encoded old.checker mid.checker c.in_ok-hints.field-0 c.in-Least.weight c.in-Least.model
-    c.requires.clauses (c.requires.started working) c.in-Least.is c.in_ok-hints.ensures.found c.in_ok-hints.ensures.none_blocked)
+    c.requires.clauses (fresh_start (c.requires.fresh working) good) c.in-Least.is c.in_ok-hints.ensures.found c.in_ok-hints.ensures.none_blocked)
 
 pub enumerate-requires-clause-listed : goal.enumerate-requires-clause-listed
 enumerate-requires-clause-listed g c =
@@ -107,7 +107,7 @@ enumerate-requires-clause-listed g c =
     let working = was_working c.args.search.now.failure c.least.result c.in_ok-hints.field-0 c.in_ok-hints.was (λ e is. (c.least.ensures.again e is).0) in
     let puts = puts_derived good encoded.formula (softs_of encoded.groups) old.checker mid.checker (g.S.StepSink.logs old.sink) (g.S.StepSink.logs mid.sink) c.in_ok-hints.ensures.steps in
     puts_most good encoded.formula (softs_of encoded.groups) old.checker mid.checker _ (g.S.StepSink.logs old.sink) (g.S.StepSink.logs mid.sink) puts
-    ∙ (c.requires.listed working ∙ sym c.in_ok-task-in-Least.ensures.sets)
+    ∙ (fresh_sets (c.requires.fresh working) ∙ sym c.in_ok-task-in-Least.ensures.sets)
 
 pub returns-in_ok-task-in-Least-clause-verdict : goal.returns-in_ok-task-in-Least-clause-verdict
 returns-in_ok-task-in-Least-clause-verdict g c =
@@ -122,7 +122,7 @@ returns-in_ok-task-in-Least-clause-verdict g c =
     IfOk-weaker c.enumerate.result _ _
     (λ verdict finishes. enumerates_on (problem_in encoded good old.checker) same old.checker mid.checker last.checker
     (g.S.StepSink.logs old.sink) (g.S.StepSink.logs mid.sink) (g.S.StepSink.logs last.sink) verdict
-    c.requires.clauses (ap g.J.RunJudge.accepts c.least.ensures.judge_stays) (c.requires.started working) puts
+    c.requires.clauses (ap g.J.RunJudge.accepts c.least.ensures.judge_stays) (fresh_start (c.requires.fresh working) good) puts
     (subst (λ (e : Encoded). Finishes same e.formula (softs_of e.groups) mid.checker (g.S.StepSink.logs mid.sink) verdict last.checker (g.S.StepSink.logs last.sink)) c.in_ok-task-in-Least.ensures.encoded finishes))
     c.enumerate.ensures.finishes
 

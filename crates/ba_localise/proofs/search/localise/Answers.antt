@@ -1,50 +1,65 @@
-use Rattle.std.proofs.Common.{◌≡◌, sym, ◌∙◌, ap, subst}
-use Rattle.ba_derivations.specs.Encodings.{IsFaithful}
+use Rattle.std.proofs.Common.{◌≡◌, List, sym, ◌∙◌, ap, subst}
+use Rattle.std.proofs.lemmas.Result.{IfOk-weaker}
 use Rattle.ba_encode.specs.Softs.{softs_of}
-use Rattle.ba_enum.specs.Problems.{IsReadable, problem_in}
-use Rattle.ba_localise.proofs.Concluding.{concluded, same-judge}
-use Rattle.ba_localise.specs.Verdicts.{IsVerdict}
+use Rattle.ba_enum.specs.Problems.{IsReadable}
+use Rattle.ba_lits.specs.Formulas.{Cnf}
+use Rattle.ba_lits.specs.Satisfaction.{Soft}
+use Rattle.ba_localise.proofs.Concluding.{finds, rose-after, same-judge}
+use Rattle.ba_localise.specs.Verdicts.{told}
+use Rattle.ba_steps.specs.Sinks.{basis, with_told}
+use Rattle.ba_steps.specs.States.{first_state}
 use Rattle.ba_tree.specs.Least.{judge_of}
 use Rattle.ba_localise.proofs.search.localise.Goals as goal
 
-pub all_sets-requires-clause-readable : goal.all_sets-requires-clause-readable
-all_sets-requires-clause-readable g c =
+pub all_sets_into-answer-requires-clause-readable : goal.all_sets_into-answer-requires-clause-readable
+all_sets_into-answer-requires-clause-readable g c =
     let p = c.args.program.now in
     let i = c.args.input.now in
     let b = c.args.bounds in
-    let j = c.new-checked.result.judge in
-    let told = c.new-judge.ensures in
-    let is = ap (λ x. x.judge) c.new-checked.ensures in
+    let j = c.new-judge.result in
     let same : judge_of p i b ≡ judge_of j.program.now j.input.now j.bounds =
     same-judge p j.program.now i j.input.now b j.bounds
-    (sym (ap (λ y. y.program.now) is ∙ told.program)) (sym (ap (λ y. y.input.now) is ∙ told.input))
-    (sym (ap (λ y. y.bounds) is ∙ told.bounds)) in
+    (sym c.new-judge.ensures.program) (sym c.new-judge.ensures.input) (sym c.new-judge.ensures.bounds) in
     let made = c.in_ok-encoded.ensures in
     subst (IsReadable c.in_ok-encoded.encoded) same
     (record { some = made.some c.requires.failing; good_run = made.runs })
 
-pub returns-in-Ok : goal.returns-in-Ok
-returns-in-Ok g c =
+pub returns-clause-finds : goal.returns-clause-finds
+returns-clause-finds g c =
     let p = c.args.program.now in
     let i = c.args.input.now in
     let b = c.args.bounds in
     let w = c.args.weights.now.of in
-    let j = c.new-checked.result.judge in
-    let told = c.new-judge.ensures in
-    let is = ap (λ x. x.judge) c.new-checked.ensures in
-    let same : judge_of p i b ≡ judge_of j.program.now j.input.now j.bounds =
-    same-judge p j.program.now i j.input.now b j.bounds
-    (sym (ap (λ y. y.program.now) is ∙ told.program)) (sym (ap (λ y. y.input.now) is ∙ told.input))
-    (sym (ap (λ y. y.bounds) is ∙ told.bounds)) in
+    let conflicts = c.args.conflicts in
+    let most = c.args.sets in
+    let j = c.new-judge.result in
     let encoded = c.in_ok-encoded.encoded in
-    let made = c.in_ok-encoded.ensures in
-    let good = judge_of j.program.now j.input.now j.bounds in
-    let state = c.new-checked.result.checker in
-    let started = ap (λ x. x.checker) c.new-checked.ensures ∙ c.in_ok-checker.ensures in
-    let faithful : IsFaithful encoded.formula (softs_of encoded.groups) w good =
-    subst (IsFaithful encoded.formula (softs_of encoded.groups) w) same made.faithful in
-    let has = c.in-Ok.ensures.verdict in
-    subst (λ g'. IsVerdict w g' c.args.conflicts c.args.sets c.in-Ok.verdict) (sym same)
-    (subst (λ n. IsVerdict w good n c.args.sets c.in-Ok.verdict) (ap (λ s. s.budget) started)
-    (subst (λ m. IsVerdict w good state.budget m c.in-Ok.verdict) (ap (λ s. s.most_sets) started)
-    (concluded w (problem_in encoded good state) faithful has.steps c.in-Ok.verdict has.says)))
+    let formula = encoded.formula in
+    let softs = softs_of encoded.groups in
+    let same : judge_of j.program.now j.input.now j.bounds ≡ judge_of p i b =
+    same-judge j.program.now p j.input.now i j.bounds b
+    c.new-judge.ensures.program c.new-judge.ensures.input c.new-judge.ensures.bounds in
+    let starts : c.in_ok-checker.checker ≡ first_state formula softs conflicts most =
+    c.in_ok-checker.ensures
+    ∙ (ap (λ (f : Cnf). first_state f c.as_slice.result.now conflicts most) c.formula.ensures
+    ∙ ap (λ (ss : List Soft). first_state formula ss conflicts most)
+    (c.as_slice.ensures.value ∙ c.in_ok-softs.ensures)) in
+    let before = g.D.StepSink.over c.args.steps.now in
+    let begins : g.D.StepSink.over c.begin.new.self ≡ with_told (basis formula softs) before =
+    c.in_ok-begin.ensures.told
+    ∙ (ap (λ (f : Cnf). with_told (basis f c.as_slice-2.result.now) before) c.formula-3.ensures
+    ∙ ap (λ (ss : List Soft). with_told (basis formula ss) before)
+    (c.as_slice-2.ensures.value ∙ c.in_ok-softs.ensures)) in
+    let has = c.all_sets_into-answer.ensures in
+    IfOk-weaker c.all_sets_into-answer.result.0 _ _
+    (λ verdict enumerates. finds w (judge_of p i b) (judge_of j.program.now j.input.now j.bounds)
+    (basis formula softs) c.in_ok-checker.checker c.all_sets_into-answer.result.1 conflicts most
+    (told g.D.StepSink.over g.D.StepSink.logs g.D.StepSink.faults c.args.steps.now)
+    (told g.D.StepSink.over g.D.StepSink.logs g.D.StepSink.faults c.begin.new.self)
+    (told g.D.StepSink.over g.D.StepSink.logs g.D.StepSink.faults c.all_sets_into-answer.new.steps) verdict
+    c.in_ok-encoded.ensures.faithful same starts begins c.in_ok-begin.ensures.logs_stay has.over_stays enumerates)
+    has.verdict
+
+pub returns-clause-cause : goal.returns-clause-cause
+returns-clause-cause g c = λ is.
+    rose-after _ _ _ c.in_ok-begin.ensures.no_fall (c.all_sets_into-answer.ensures.cause is)

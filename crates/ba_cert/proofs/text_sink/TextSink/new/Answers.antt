@@ -1,0 +1,10 @@
+use Rattle.ba_cert.proofs.PrefixLaws.{sound-begins}
+use Rattle.ba_cert.proofs.text_sink.TextSink.new.Goals as goal
+
+pub invariant_of-result : goal.invariant_of-result
+invariant_of-result g c = record {
+  sound = c.requires.sound;
+  named = c.requires.named;
+  stays = c.requires.stays;
+  begins = sound-begins c.args.name.now (g.W.World.outside c.args.world.now) c.requires.sound;
+}

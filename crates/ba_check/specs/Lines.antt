@@ -1,0 +1,33 @@
+-- The whole lines of a text, each of which a line feed ends, and what stands behind the last line feed.
+
+use Rattle.std.specs.Prelude.{◌≡◌, ℕ, false, List, [], ◌∷◌, ◌++◌, All}
+use Rattle.std.specs.List.{slice_split}
+use Rattle.ba_bytes.specs.Classes.{is_line_end}
+
+-- all parts but the last, and the last
+abbrev pub all_but_last : List (List ℕ) → List (List ℕ)
+all_but_last [] = []
+all_but_last (part ∷ []) = []
+all_but_last (part ∷ other ∷ parts) = part ∷ all_but_last (other ∷ parts)
+
+abbrev pub last_of : List (List ℕ) → List ℕ
+last_of [] = []
+last_of (part ∷ []) = part
+last_of (part ∷ other ∷ parts) = last_of (other ∷ parts)
+
+-- the whole lines, without their line feeds
+unfoldable pub lines_in : List ℕ → List (List ℕ)
+lines_in text = all_but_last (slice_split is_line_end text)
+
+-- what stands behind the last line feed
+unfoldable pub rest_in : List ℕ → List ℕ
+rest_in text = last_of (slice_split is_line_end text)
+
+-- no byte is a line feed
+abbrev pub HasNoFeed : List ℕ → Type 0
+HasNoFeed bytes = All (λ b. is_line_end b ≡ false) bytes
+
+-- bytes are cut at their first line feed
+pub record IsCut (bytes line behind : List ℕ) : Type 0 where
+  pub bytes_are : bytes ≡ line ++ 10 ∷ behind
+  pub plain : HasNoFeed line

@@ -1,0 +1,78 @@
+-- What a reader of a certificate keeps.
+
+use Rattle.std.specs.Prelude.{◌≡◌, ℕ, Option, None, Some, option_map, Result, Ok, Err, List}
+use Rattle.ba_cert.specs.declared.error.CertError.{CertError}
+use Rattle.ba_cert.specs.declared.error.CertError.TheVariants as unread
+use Rattle.ba_check.specs.Findings.{Course, Goes, Stops, bad_line, course_of, first_refused}
+use Rattle.ba_check.specs.Lines.{rest_in}
+use Rattle.ba_check.specs.declared.confirmed.Ending.{Ending}
+use Rattle.ba_check.specs.declared.confirmed.Ending.TheVariants as ending
+use Rattle.ba_check.specs.declared.error.CheckError.{CheckError}
+use Rattle.ba_check.specs.declared.error.CheckError.TheVariants.{Line, Memory}
+use Rattle.ba_check.specs.declared.judged.Judged.{Judged}
+use Rattle.ba_derivations.specs.Derivations.{Problem, Verdict, Located, NoRepair, TooMany, Spent}
+use Rattle.ba_steps.specs.Judging.{Judge}
+use Rattle.ba_steps.specs.Numbers.{number_of}
+use Rattle.ba_steps.specs.States.{State}
+use Rattle.ba_steps.specs.declared.step.StepError.{StepError}
+
+-- the verdict of an End step, in the state before it or after it
+abbrev pub verdict_at : State → Ending → Verdict
+verdict_at s ending.Located = Located s.bound s.sets
+verdict_at s ending.NoRepair = NoRepair
+verdict_at s ending.TooMany = TooMany s.bound s.sets
+verdict_at s ending.Spent = Spent
+
+-- what came of the lines so far, where none was refused
+abbrev pub course_kept : Judged → Course
+course_kept judged = Goes judged.lines judged.checker (option_map (verdict_at judged.checker) judged.ending)
+
+-- what a step's error makes of its line
+abbrev pub error_with : ℕ → Option ℕ → CheckError
+error_with line None = Memory
+error_with line (Some code) = Line line code
+
+abbrev pub error_at : ℕ → StepError → CheckError
+error_at line error = error_with line (number_of error)
+
+-- what an error of reading a line makes of it
+abbrev pub unread_at : ℕ → CertError → CheckError
+unread_at line unread.BadLine = Line line bad_line
+unread_at line unread.Memory = Memory
+
+-- what is kept after a line, or the line is refused
+abbrev pub Keeps : Result Unit CheckError → Judged → Course → Type 0
+Keeps (Ok _) new course = course ≡ course_kept new
+Keeps (Err (Line line code)) new course = course ≡ Stops line code
+Keeps (Err Memory) new course = Unit {0}
+
+-- what is kept after a piece of a text, or one of its lines is refused
+abbrev pub KeepsWith : Result Unit CheckError → Judged → List ℕ → Course → List ℕ → Type 0
+KeepsWith (Ok _) new rest course wanted = (course ≡ course_kept new) × (rest ≡ wanted)
+KeepsWith (Err (Line line code)) new rest course wanted = course ≡ Stops line code
+KeepsWith (Err Memory) new rest course wanted = Unit {0}
+
+-- THE STATE OF A READER: which runs are good, what came of the whole lines so far, what stands behind the
+-- last of them, and the error that it answers from then on
+pub record Confirming : Type 0 where
+  pub good : Judge
+  pub course : Course
+  pub rest : List ℕ
+  pub refusal : Option CheckError
+
+-- it has read a text, on a problem: while no line is refused it keeps what came of the lines, and the last
+-- unfinished line; else the first line that is refused
+abbrev pub Follows : Problem → List ℕ → Course → List ℕ → Option CheckError → Type 0
+Follows p text course rest None = (course ≡ course_of p text) × (rest ≡ rest_in text) × (first_refused p
+    text ≡ None)
+Follows p text course rest (Some (Line line code)) = first_refused p text ≡ Some (line, code)
+Follows p text course rest (Some Memory) = Unit {0}
+
+pub record HasRead (p : Problem) (text : List ℕ) (reader : Confirming) : Type 0 where
+  pub same_judge : reader.good ≡ p.good
+  pub follows : Follows p text reader.course reader.rest reader.refusal
+
+-- the answer of a reader that has this error, or none
+abbrev pub answer_by : Option CheckError → Result Unit CheckError
+answer_by None = Ok tt
+answer_by (Some error) = Err error

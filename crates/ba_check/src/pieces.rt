@@ -1,0 +1,124 @@
+//! A certificate that comes in pieces.
+
+ghost use Rattle.std.specs.Prelude.{◌≡◌, ◌++◌, ℕ, List, [], Some, Err, true, IfOk};
+ghost use Rattle.ba_check.specs.Answers.{IsTrueOf, Tells, TellsRefusal, problem_of};
+ghost use Rattle.ba_check.specs.Findings.{finding_of, first_refused};
+ghost use Rattle.ba_check.specs.Readers.{seen};
+ghost use Rattle.ba_check.specs.Readings.{HasRead, answer_by};
+ghost use Rattle.ba_check.specs.declared.error.CheckError.{CheckError};
+ghost use Rattle.ba_derivations.specs.Derivations.{Problem};
+ghost use Rattle.ba_derivations.specs.Encodings.{IsFaithful};
+ghost use Rattle.ba_encode.specs.Softs.{softs_of};
+ghost use Rattle.ba_steps.specs.Facts.{AreSelectors};
+ghost use Rattle.ba_tree.specs.Least.{WeightList};
+ghost use Rattle.ba_tree.specs.Run.{are_bounds};
+
+use crate::confirmed::Confirmed;
+use crate::error::CheckError;
+use crate::judged::Judged;
+use crate::reading::Reading;
+use crate::settings::Settings;
+use ba_encode::{Encoded, softs_of};
+use ba_judge::ProgramJudge;
+use ba_steps::Checker;
+use ba_tree::run::Input;
+use ba_tree::tree::Program;
+use std::alloc::{AllocError, Global};
+
+/// A reader that takes a certificate in pieces and judges each line once its line feed is there. It
+/// keeps of the text only what stands behind the last line feed. An error is answered from then on.
+#[derive(Drop)]
+pub struct Confirm<'a> {
+    judge: ProgramJudge<'a>,
+    reading: Reading,
+    refusal: Option<CheckError>,
+}
+
+impl<'a> Confirm<'a> {
+    /// A reader that has read nothing, over an encoding of the program's run.
+    ///
+    /// The one error is want of memory.
+    pub fn new(
+        alloc: Global,
+        program: &'a Program,
+        input: &'a Input,
+        settings: Settings,
+        encoded: &Encoded,
+    ) -> Result<Confirm<'a>, AllocError>
+        requires bounds { are_bounds settings.bounds ≡ true }
+        requires selectors { AreSelectors encoded.now.formula.variables
+            (softs_of encoded.now.groups) }
+        ensures { IfOk result
+            (λ confirm. HasRead (problem_of program.now input.now settings encoded.now) []
+            (seen confirm)) }
+    {
+        let softs = softs_of(alloc, encoded)?;
+        let checker = Checker::new(
+            alloc,
+            encoded.formula(),
+            softs.as_slice(),
+            settings.conflicts,
+            settings.sets,
+        )?;
+        Ok(Confirm {
+            judge: ProgramJudge::new(alloc, program, input, settings.bounds),
+            reading: Reading {
+                judged: Judged::new(alloc, checker),
+                rest: Vec::new(alloc),
+            },
+            refusal: None,
+        })
+    }
+
+    /// Takes the next bytes of the text.
+    ///
+    /// `Line` comes exactly where a whole line of the bytes so far is refused, with the first such line.
+    /// The other error is want of memory. After an error nothing changes any more, and the answer stays
+    /// the same.
+    pub fn feed(&mut self, piece: &[u8]) -> Result<(), CheckError>
+        ensures reads { (p : Problem) (text : List ℕ) → HasRead p text (seen self.old)
+            → HasRead p (text ++ piece.now) (seen self.new) }
+        ensures refuses { (p : Problem) (text : List ℕ) → HasRead p text (seen self.old)
+            → TellsRefusal result (first_refused p (text ++ piece.now)) }
+        ensures again { (error : CheckError) → self.old.refusal ≡ Some error
+            → (result ≡ Err error) × (seen self.new ≡ seen self.old) }
+        ensures stays { result ≡ answer_by self.new.refusal }
+    {
+        if let Some(refusal) = self.refusal {
+            return Err(refusal);
+        }
+        let answer = self.reading.take(&self.judge, piece);
+        self.refusal = refusal_of(&answer);
+        answer
+    }
+
+    /// What the text says that was read.
+    ///
+    /// `Line` comes exactly where the text is no certificate of the problem: with the first whole line
+    /// that is refused, or, where none is, with the line after the whole ones and the code 21. The other
+    /// error is want of memory.
+    pub fn finish(self) -> Result<Confirmed, CheckError>
+        ensures exactly { (p : Problem) (text : List ℕ) → HasRead p text (seen self.entry)
+            → Tells result (finding_of p text) }
+        ensures again { (error : CheckError) → self.entry.refusal ≡ Some error
+            → result ≡ Err error }
+        ensures truly { (weights : WeightList) (p : Problem) (text : List ℕ)
+            → HasRead p text (seen self.entry) → IsFaithful p.formula p.softs weights p.good
+            → IfOk result (IsTrueOf weights p text) }
+    {
+        if let Some(refusal) = self.refusal {
+            return Err(refusal);
+        }
+        self.reading.judged.finish(self.reading.rest.as_slice())
+    }
+}
+
+/// The error that an answer is.
+fn refusal_of(answer: &Result<(), CheckError>) -> Option<CheckError>
+    ensures { answer.now ≡ answer_by result }
+{
+    match answer {
+        Ok(()) => None,
+        Err(error) => Some(*error),
+    }
+}

@@ -1,0 +1,48 @@
+//! A certificate that is there as a whole.
+
+ghost use Rattle.std.specs.Prelude.{◌≡◌, true, IfOk};
+ghost use Rattle.ba_check.specs.Answers.{IsTrueOf, Tells, problem_of};
+ghost use Rattle.ba_check.specs.Findings.{finding_of};
+ghost use Rattle.ba_derivations.specs.Encodings.{IsFaithful};
+ghost use Rattle.ba_encode.specs.Softs.{softs_of};
+ghost use Rattle.ba_steps.specs.Facts.{AreSelectors};
+ghost use Rattle.ba_tree.specs.Least.{WeightList, judge_of};
+ghost use Rattle.ba_tree.specs.Run.{are_bounds};
+
+use crate::confirmed::Confirmed;
+use crate::error::CheckError;
+use crate::pieces::Confirm;
+use crate::settings::Settings;
+use ba_encode::Encoded;
+use ba_tree::run::Input;
+use ba_tree::tree::Program;
+use std::alloc::Global;
+
+/// What a text says, as a certificate on the problem of a program's run over an encoding of it. Where
+/// the encoding is faithful, what is said is true, wherever the text comes from.
+///
+/// `Line` comes exactly where the text is no certificate of the problem, with the first line that is
+/// refused and its code. The other error is want of memory.
+pub fn confirm(
+    alloc: Global,
+    program: &Program,
+    input: &Input,
+    settings: Settings,
+    encoded: &Encoded,
+    text: &[u8],
+) -> Result<Confirmed, CheckError>
+    requires bounds { are_bounds settings.bounds ≡ true }
+    requires selectors { AreSelectors encoded.now.formula.variables
+        (softs_of encoded.now.groups) }
+    ensures exactly { Tells result
+        (finding_of (problem_of program.now input.now settings encoded.now) text.now) }
+    ensures truly { (weights : WeightList)
+        → IsFaithful encoded.now.formula (softs_of encoded.now.groups) weights
+        (judge_of program.now input.now settings.bounds)
+        → IfOk result (IsTrueOf weights
+        (problem_of program.now input.now settings encoded.now) text.now) }
+{
+    let mut confirm = Confirm::new(alloc, program, input, settings, encoded)?;
+    confirm.feed(text)?;
+    confirm.finish()
+}

@@ -1,0 +1,455 @@
+//! Certificates beside what they say, and damaged ones beside the first line that is refused, worked out by hand from the table of steps.
+
+use crate::problems::{Problem, array_example, feed_all, judge, settings};
+use ba_check::{CheckError, Confirmed};
+use ba_items::Items;
+use ba_numbers::ids::StmtId;
+use std::alloc::Global;
+use std::process::Abort;
+use std::test::Fail;
+use test_programs::reader::Fault;
+
+/// What a text says, or the line at which it is refused and the code.
+#[derive(Clone, Copy, Debug, PartialEq, Eq)]
+enum Answer {
+    /// The array example's sets, of weight 1.
+    Located,
+    NoRepair,
+    /// More sets of weight 1 than may be listed.
+    TooMany,
+    Spent,
+    Refused(u64, u8),
+    /// Another answer.
+    Other,
+}
+
+use Answer::{Located, NoRepair, Refused, Spent, TooMany};
+
+/// Some of the three statements is given up that can repair the array example.
+const SOME: &[&[i64]] = &[&[-1, -3, -4]];
+
+/// No assignment is a model.
+const NONE: &[&[i64]] = &[&[1], &[-1]];
+
+/// The head line.
+const HEAD: &str = "bugassist 1\n";
+
+/// The array example behind the head line: its core, the three sets, each with a run, and that there is no further set.
+const WHOLE: &str = "c -1 -3 -4 0 1 0
+s 1 0 t 1
+s 3 0 t 2
+s 4 0 t 2
+e l 0 12 13 14 2 0
+";
+
+fn are_example_sets(sets: &[Items<StmtId>]) -> bool {
+    match sets {
+        [first, second, third] => {
+            first.as_slice() == [StmtId(1)].as_slice()
+                && second.as_slice() == [StmtId(3)].as_slice()
+                && third.as_slice() == [StmtId(4)].as_slice()
+        }
+        _ => false,
+    }
+}
+
+fn answer_of(told: &Result<Confirmed, CheckError>) -> Answer {
+    match told {
+        Ok(Confirmed::Located { weight: 1, sets }) if are_example_sets(sets.as_slice()) => Located,
+        Ok(Confirmed::NoRepair) => NoRepair,
+        Ok(Confirmed::TooMany { weight: 1 }) => TooMany,
+        Ok(Confirmed::Spent) => Spent,
+        Err(CheckError::Line { line, code }) => Refused(*line, *code),
+        _ => Answer::Other,
+    }
+}
+
+/// The line that is refused, whatever the code.
+fn refused_line(told: &Result<Confirmed, CheckError>) -> Option<u64> {
+    match told {
+        Err(CheckError::Line { line, .. }) => Some(*line),
+        _ => None,
+    }
+}
+
+/// What is shown, the text behind the head line, how many conflicts and sets there may be, and the answer.
+type Row = (&'static str, &'static str, u64, u32, Answer);
+
+/// A text behind the head line.
+fn behind_head(alloc: Global, body: &str) -> Result<Vec<u8>, Fault> {
+    let mut text = Vec::new(alloc);
+    text.extend_from_slice(HEAD.as_bytes())?;
+    text.extend_from_slice(body.as_bytes())?;
+    Ok(text)
+}
+
+/// Whether a text is answered so as a whole, and in pieces of 1, 7 and 4,096 bytes.
+fn are_answered(
+    alloc: Global,
+    problem: &Problem,
+    text: &[u8],
+    conflicts: u64,
+    sets: u32,
+    answer: Answer,
+) -> Result<bool, Fault> {
+    for size in [None, Some(1), Some(7), Some(4096)] {
+        let told = judge(alloc, problem, settings(conflicts, sets), text, size)?;
+        if answer_of(&told) != answer {
+            return Ok(false);
+        }
+    }
+    Ok(true)
+}
+
+/// The first row that is answered otherwise.
+fn first_wrong(
+    alloc: Global,
+    clauses: &[&[i64]],
+    rows: &[Row],
+) -> Result<Option<&'static str>, Fault> {
+    let problem = array_example(alloc, clauses)?;
+    for row in rows {
+        let (shown, body, conflicts, sets, answer) = row;
+        let text = behind_head(alloc, body)?;
+        if !are_answered(alloc, &problem, text.as_slice(), *conflicts, *sets, *answer)? {
+            return Ok(Some(*shown));
+        }
+    }
+    Ok(None)
+}
+
+const ROWS: [Row; 35] = [
+    ("all sets", WHOLE, 5, 9, Located),
+    (
+        "more than two sets",
+        "c -1 -3 -4 0 1 0\ns 1 0 t 1\ns 3 0 t 2\ns 4 0 t 2\ne m\n",
+        5,
+        2,
+        TooMany,
+    ),
+    ("one conflict", "c -1 -3 -4 0 1 0\ne b\n", 1, 9, Spent),
+    ("no conflict", "e b\n", 0, 9, Spent),
+    (
+        "a hint names no clause",
+        "c -1 -3 -4 0 9 0\n",
+        5,
+        9,
+        Refused(2, 1),
+    ),
+    (
+        "a false clause before the last hint",
+        "c -1 -3 -4 0 1 1 0\n",
+        5,
+        9,
+        Refused(2, 2),
+    ),
+    (
+        "a clause with two literals left",
+        "c -1 0 1 0\n",
+        5,
+        9,
+        Refused(2, 2),
+    ),
+    (
+        "hints end without a false clause",
+        "e n 0\n",
+        5,
+        9,
+        Refused(2, 3),
+    ),
+    (
+        "a core of a literal that is no soft one's",
+        "c 1 0 1 0\n",
+        5,
+        9,
+        Refused(2, 4),
+    ),
+    (
+        "a clause of the formula is deleted",
+        "d 1 0\n",
+        5,
+        9,
+        Refused(2, 5),
+    ),
+    (
+        "a run that fails",
+        "c -1 -3 -4 0 1 0\ns 1 0 k\n",
+        5,
+        9,
+        Refused(3, 6),
+    ),
+    (
+        "a run with choices of another set",
+        "c -1 -3 -4 0 1 0\ns 3 0 t 1 t 1\n",
+        5,
+        9,
+        Refused(3, 6),
+    ),
+    (
+        "a set twice",
+        "c -1 -3 -4 0 1 0\ns 1 0 t 1\ns 1 0 t 1\n",
+        5,
+        9,
+        Refused(4, 7),
+    ),
+    (
+        "a set that weighs more than the bound",
+        "s 3 0 t 2\n",
+        5,
+        9,
+        Refused(2, 8),
+    ),
+    (
+        "a step after the end",
+        "c -1 -3 -4 0 1 0\ns 1 0 t 1\ns 3 0 t 2\ns 4 0 t 2\ne l 0 12 13 14 2 0\ne b\n",
+        5,
+        9,
+        Refused(7, 9),
+    ),
+    (
+        "a clause that is there",
+        "l -1 -3 -4 0 1 0\n",
+        5,
+        9,
+        Refused(2, 10),
+    ),
+    (
+        "too soon for a deletion",
+        "c -1 -3 -4 0 1 0\nl -3 -4 -6 0 7 3 0\nd 12 0\n",
+        5,
+        9,
+        Refused(4, 11),
+    ),
+    (
+        "a core after a set",
+        "c -1 -3 -4 0 1 0\ns 1 0 t 1\nc -2 0 1 0\n",
+        5,
+        9,
+        Refused(4, 12),
+    ),
+    (
+        "conflicts that are not spent",
+        "e b\n",
+        5,
+        9,
+        Refused(2, 13),
+    ),
+    ("no set of too many", "e m\n", 5, 9, Refused(2, 13)),
+    ("no set of all", "e l 0 1 0\n", 5, 9, Refused(2, 13)),
+    (
+        "as many sets as may be listed",
+        "c -1 -3 -4 0 1 0\ns 1 0 t 1\ns 3 0 t 2\ns 4 0 t 2\ne m\n",
+        5,
+        3,
+        Refused(6, 13),
+    ),
+    (
+        "a clause after the last conflict",
+        "c -1 -3 -4 0 1 0\nl -3 -4 -6 0 7 3 0\n",
+        1,
+        9,
+        Refused(3, 13),
+    ),
+    ("an assert in a set", "s 5 0 k\n", 5, 9, Refused(2, 14)),
+    (
+        "a variable that is not there",
+        "l 5 0 1 0\n",
+        5,
+        9,
+        Refused(2, 14),
+    ),
+    ("a leading zero", "l 01 0 1 0\n", 5, 9, Refused(2, 20)),
+    ("no step", "x\n", 5, 9, Refused(2, 20)),
+    ("an empty line", "\n", 0, 9, Refused(2, 20)),
+    ("a space at the end", "e b \n", 0, 9, Refused(2, 20)),
+    ("two spaces", "e  b\n", 0, 9, Refused(2, 20)),
+    ("a carriage return", "e b\r\n", 0, 9, Refused(2, 20)),
+    ("no step after the end", "e b\nx\n", 0, 9, Refused(3, 20)),
+    (
+        "the head line again",
+        "bugassist 1\ne b\n",
+        0,
+        9,
+        Refused(2, 20),
+    ),
+    ("bytes after the end", "e b\ne", 0, 9, Refused(3, 21)),
+    ("the last line feed is missing", "e b", 0, 9, Refused(2, 21)),
+];
+
+#[test]
+fn certificates_are_answered_by_the_table(rt: HostRuntime) -> Result<(), Fail> {
+    let wrong = first_wrong(rt.alloc(), SOME, &ROWS)?;
+    assert_eq!(rt; wrong, None);
+    Ok(())
+}
+
+const WITHOUT_MODEL: [Row; 2] = [
+    ("no model", "e n 1 2 0\n", 1, 9, NoRepair),
+    (
+        "the conflicts are spent",
+        "e n 1 2 0\n",
+        0,
+        9,
+        Refused(2, 13),
+    ),
+];
+
+#[test]
+fn no_model_is_no_repair(rt: HostRuntime) -> Result<(), Fail> {
+    let wrong = first_wrong(rt.alloc(), NONE, &WITHOUT_MODEL)?;
+    assert_eq!(rt; wrong, None);
+    Ok(())
+}
+
+/// Whether texts without a right head line are answered so.
+fn are_headless(alloc: Global) -> Result<bool, Fault> {
+    let problem = array_example(alloc, SOME)?;
+    let texts: [(&str, Answer); 6] = [
+        ("", Refused(1, 21)),
+        ("bugassist 1", Refused(1, 21)),
+        ("bugassist 1\n", Refused(2, 21)),
+        ("bugassist 2\n", Refused(1, 20)),
+        ("bugassist 1 \ne b\n", Refused(1, 20)),
+        ("\n", Refused(1, 20)),
+    ];
+    for (text, answer) in texts {
+        if !are_answered(alloc, &problem, text.as_bytes(), 0, 9, answer)? {
+            return Ok(false);
+        }
+    }
+    Ok(true)
+}
+
+#[test]
+fn the_head_line_is_the_first(rt: HostRuntime) -> Result<(), Fail> {
+    let are_right = are_headless(rt.alloc())?;
+    assert!(rt; are_right);
+    Ok(())
+}
+
+/// The number of the line in which what follows these bytes stands.
+fn line_behind(bytes: &[u8]) -> u64 {
+    let mut line: u64 = 1;
+    for byte in bytes {
+        if *byte == b'\n' {
+            line = line.saturating_add(1);
+        }
+    }
+    line
+}
+
+/// Whether each part of the example's certificate that is cut off ends too early, in its last line.
+fn end_too_early(alloc: Global) -> Result<bool, Fault> {
+    let problem = array_example(alloc, SOME)?;
+    let text = behind_head(alloc, WHOLE)?;
+    for count in 0..text.len() {
+        let front = &text.as_slice()[..count];
+        let answer = Refused(line_behind(front), 21);
+        if !are_answered(alloc, &problem, front, 5, 9, answer)? {
+            return Ok(false);
+        }
+    }
+    Ok(true)
+}
+
+#[test]
+fn a_certificate_that_is_cut_off_ends_too_early(rt: HostRuntime) -> Result<(), Fail> {
+    let are_right = end_too_early(rt.alloc())?;
+    assert!(rt; are_right);
+    Ok(())
+}
+
+/// Whether the example's certificate is refused where one of its bytes is a `9` in its place, in the line of that byte.
+fn are_refused_in_their_lines(alloc: Global) -> Result<bool, Fault> {
+    let problem = array_example(alloc, SOME)?;
+    let mut text = behind_head(alloc, WHOLE)?;
+    for place in 0..text.len() {
+        let byte = text[place];
+        text[place] = b'9';
+        let told = judge(alloc, &problem, settings(5, 9), text.as_slice(), None)?;
+        if refused_line(&told) != Some(line_behind(&text.as_slice()[..place])) {
+            return Ok(false);
+        }
+        text[place] = byte;
+    }
+    Ok(true)
+}
+
+#[test]
+fn a_byte_that_is_changed_is_refused_in_its_line(rt: HostRuntime) -> Result<(), Fail> {
+    let are_right = are_refused_in_their_lines(rt.alloc())?;
+    assert!(rt; are_right);
+    Ok(())
+}
+
+/// What each piece is answered, and in the end the text.
+type Pieces = (&'static [(&'static str, Option<(u64, u8)>)], Answer);
+
+/// Whether the pieces are answered so, one after the other.
+fn are_fed(alloc: Global, pieces: &Pieces) -> Result<bool, Fault> {
+    let problem = array_example(alloc, SOME)?;
+    let mut refusals = Vec::new(alloc);
+    let mut texts = Vec::new(alloc);
+    let mut expected = Vec::new(alloc);
+    for (text, refusal) in pieces.0 {
+        texts.push(*text)?;
+        expected.push(refusal.map(|(line, code)| CheckError::Line { line, code }))?;
+    }
+    let told = feed_all(
+        alloc,
+        &problem,
+        settings(5, 9),
+        texts.as_slice(),
+        &mut refusals,
+    )?;
+    Ok(answer_of(&told) == pieces.1 && refusals.as_slice() == expected.as_slice())
+}
+
+const FED: [Pieces; 4] = [
+    (&[("bugassist 1", None), ("\n", None)], Refused(2, 21)),
+    (
+        &[
+            ("bugassist 1\n", None),
+            ("e b\n", Some((2, 13))),
+            ("", Some((2, 13))),
+            ("e n 0\n", Some((2, 13))),
+        ],
+        Refused(2, 13),
+    ),
+    (
+        &[
+            ("bugassist 1\nx", None),
+            ("", None),
+            ("\ny\n", Some((2, 20))),
+        ],
+        Refused(2, 20),
+    ),
+    (
+        &[
+            (
+                "bugassist 1\nc -1 -3 -4 0 1 0\ns 1 0 t 1\ns 3 0 t 2\ns 4 0 t 2\ne l 0 12",
+                None,
+            ),
+            (" 13 14 2 0", None),
+            ("\n", None),
+        ],
+        Located,
+    ),
+];
+
+/// The first of these that is answered otherwise.
+fn first_misfed(alloc: Global) -> Result<Option<usize>, Fault> {
+    for (place, pieces) in FED.iter().enumerate() {
+        if !are_fed(alloc, pieces)? {
+            return Ok(Some(place));
+        }
+    }
+    Ok(None)
+}
+
+#[test]
+fn pieces_are_answered_one_after_the_other(rt: HostRuntime) -> Result<(), Fail> {
+    let wrong = first_misfed(rt.alloc())?;
+    assert_eq!(rt; wrong, None);
+    Ok(())
+}

@@ -1,0 +1,8 @@
+//! What no clause of the judging of certificates says: that calls succeed with ample memory, and that the definitions mean
+//! what they should.
+#![tactic(auto)]
+
+#[cfg(test)]
+mod certificates;
+#[cfg(test)]
+mod problems;
