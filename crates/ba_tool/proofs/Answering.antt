@@ -1,60 +1,133 @@
 -- Which row of the table of answers holds.
 
-use Rattle.std.proofs.Common.{◌≡◌, ℕ, ℤ, ◌+◌, ◌<◌, ◌≤◌, min, true, List, Some, ap, subst, arith, Option, None}
-use Rattle.ba_interp.specs.Inputs.{Tells}
+use Rattle.std.proofs.Common.{◌≡◌, ◌∙◌, ℕ, ℤ, ◌+◌, ◌<◌, ◌≤◌, min, true, List, Some, ap, refl, sym, subst, arith, Option, None}
+use Rattle.ba_commands.specs.Weights.{bad_line, weights_in}
+use Rattle.ba_derivations.specs.declared.verdict.Verdict.{Verdict}
+use Rattle.ba_derivations.specs.declared.verdict.Verdict.TheVariants.{Located, NoRepair, TooMany, Spent}
+use Rattle.ba_interp.specs.Inputs.{Tells as TellsError}
 use Rattle.ba_interp.specs.declared.input.InputError.{InputError}
 use Rattle.ba_interp.specs.declared.input.InputError.TheVariants as error
+use Rattle.ba_localise.specs.Verdicts.{Derivation}
 use Rattle.ba_numbers.specs.declared.ids.At.{At}
 use Rattle.ba_numbers.specs.declared.ids.StmtId.{StmtId}
 use Rattle.ba_tree.specs.Inputs.{IsInputOf, input_fault}
+use Rattle.ba_tree.specs.Least.{AreWeightsOf}
+use Rattle.ba_tree.specs.Run.{fits, plain_run}
+use Rattle.ba_tree.specs.Units.{units_of}
 use Rattle.ba_tree.specs.declared.run.Input.{Input}
 use Rattle.ba_tree.specs.declared.run.Outcome.{Outcome}
+use Rattle.ba_tree.specs.declared.run.Outcome.TheVariants as outcome
+use Rattle.ba_tree.specs.declared.run.Weights.{Weights}
 use Rattle.ba_tree.specs.declared.tree.Program.{Program}
-use Rattle.ba_tool.specs.Answers.{Answers, Fails, IsAnswer, RunsTo, RunsToAt, input_answer, input_of, is_failure, program_answer}
+use Rattle.ba_tool.specs.Answers.{Answers, AnswersAtOnce, AreAccepted, Fails, IsAnswer, IsOfSearch, RunsTo, RunsToAt, Tells, input_answer, input_of, is_failure, position_of, program_answer}
+use Rattle.ba_tool.specs.Cases.{IsCaseOf, IsJudged}
 use Rattle.ba_types.specs.Spelling.{Spells}
-use Rattle.ba_tool.specs.Report.{statement_at}
 use Rattle.ba_tool.specs.Programs.{TellsFault}
 use Rattle.ba_tool.specs.declared.answers.Answer.{Answer}
 use Rattle.ba_tool.specs.declared.answers.Answer.TheVariants as answer
 use Rattle.ba_tool.specs.declared.faults.Fault.{Fault}
+use Rattle.ba_tool.specs.declared.files.File.{File}
 use Rattle.ba_tool.specs.declared.files.Texts.{Texts}
 use Rattle.ba_tool.specs.declared.jobs.Job.{Job}
+use Rattle.ba_tool.specs.declared.jobs.Task.TheVariants as task
+use Rattle.ba_tool.specs.declared.judge.Case.{Case}
 
 in_some : {a b : Answer} → Some a ≡ Some b → a ≡ b
 in_some e = cc
 
+-- an answer that tells a verdict is of a search
+pub tells_of_search : (j : Job) (source : List ℕ) (p : Program) (v : Verdict) (a : Answer) →
+    Tells j source p v a
+    → IsOfSearch a
+tells_of_search j source p (Located weight sets) a is = subst IsOfSearch (sym is) tt
+tells_of_search j source p NoRepair a is = subst IsOfSearch (sym is) tt
+tells_of_search j source p (TooMany weight sets) a is = subst IsOfSearch (sym is) tt
+tells_of_search j source p Spent a is = subst IsOfSearch (sym is) tt
+
+-- an answer of the table says nothing of files that aren't read
+abbrev pub IsOfTexts : Answer → Type 0
+IsOfTexts (answer.Unreadable which) = ⊥
+IsOfTexts (answer.TooLong which) = ⊥
+IsOfTexts a = Unit {0}
+
+of_texts : (a : Answer) → IsOfSearch a → IsOfTexts a
+of_texts (answer.Located report) of = tt
+of_texts answer.NoRepair of = tt
+of_texts (answer.TooManySets weight most) of = tt
+of_texts (answer.BudgetSpent conflicts) of = tt
+of_texts (answer.Unreadable which) of = of
+of_texts (answer.TooLong which) of = of
+of_texts (answer.AssertFails at) of = tt
+of_texts (answer.Trap at) of = tt
+of_texts answer.NotFailing of = tt
+of_texts answer.BadWords of = tt
+of_texts (answer.BadProgram fault) of = tt
+of_texts (answer.BadInput fault) of = tt
+of_texts answer.TooLarge of = tt
+of_texts (answer.BeyondBound at) of = tt
+of_texts (answer.BadWeights line) of = tt
+of_texts answer.NotBuilt of = tt
+
+at_once_of_texts : (j : Job) (x : Texts) (p : Program) (a : Answer) → AnswersAtOnce j x p a → IsOfTexts a
+at_once_of_texts j x p (answer.Unreadable which) row = row
+at_once_of_texts j x p (answer.TooLong which) row = row
+at_once_of_texts j x p (answer.Located report) row = tt
+at_once_of_texts j x p answer.NoRepair row = tt
+at_once_of_texts j x p (answer.TooManySets weight most) row = tt
+at_once_of_texts j x p (answer.BudgetSpent conflicts) row = tt
+at_once_of_texts j x p (answer.AssertFails at) row = tt
+at_once_of_texts j x p (answer.Trap at) row = tt
+at_once_of_texts j x p answer.NotFailing row = tt
+at_once_of_texts j x p answer.BadWords row = tt
+at_once_of_texts j x p (answer.BadProgram fault) row = tt
+at_once_of_texts j x p (answer.BadInput fault) row = tt
+at_once_of_texts j x p answer.TooLarge row = tt
+at_once_of_texts j x p (answer.BeyondBound at) row = tt
+at_once_of_texts j x p (answer.BadWeights line) row = tt
+at_once_of_texts j x p answer.NotBuilt row = tt
+
+pub answers_read : (j : Job) (x : Texts) (p : Program) (handed : Option Derivation) (a : Answer) →
+    Answers j x p handed a → IsOfTexts a
+answers_read j x p None a row = at_once_of_texts j x p a row
+answers_read j x p (Some d) a row = of_texts a (tells_of_search j x.program p row.verdict a row.tells)
+
 -- an answer for the program that is spelled
-pub answered : (j : Job) (x : Texts) (p : Program) (a : Answer) → Spells x.program p → Answers j x p a →
-    IsAnswer j x a
-answered j x p (answer.BadProgram fault) spelled none = absurd none
-answered j x p (answer.Located report) spelled h = (p, spelled, h)
-answered j x p (answer.AssertFails at) spelled h = (p, spelled, h)
-answered j x p (answer.Trap at) spelled h = (p, spelled, h)
-answered j x p answer.NotFailing spelled h = (p, spelled, h)
-answered j x p answer.BadWords spelled h = (p, spelled, h)
-answered j x p (answer.BadInput fault) spelled h = (p, spelled, h)
-answered j x p answer.TooLarge spelled h = (p, spelled, h)
-answered j x p (answer.BeyondBound at) spelled h = (p, spelled, h)
-answered j x p answer.NoRepair spelled h = (p, spelled, h)
-answered j x p (answer.TooManySets weight most) spelled h = (p, spelled, h)
-answered j x p (answer.BudgetSpent conflicts) spelled h = (p, spelled, h)
-answered j x p (answer.Unreadable which) spelled h = (p, spelled, h)
-answered j x p (answer.TooLong which) spelled h = (p, spelled, h)
-answered j x p (answer.BadWeights line) spelled h = (p, spelled, h)
-answered j x p answer.NotBuilt spelled h = (p, spelled, h)
+pub answered : (j : Job) (x : Texts) (p : Program) (handed : Option Derivation) (a : Answer) →
+    Spells x.program p →
+    Answers j x p handed a → IsAnswer j x handed a
+answered j x p handed (answer.BadProgram fault) spelled row = absurd (unfaulty handed row) where
+  unfaulty : (h : Option Derivation) → Answers j x p h (answer.BadProgram fault) → ⊥
+  unfaulty None row = row
+  unfaulty (Some d) row =
+      tells_of_search j x.program p row.verdict (answer.BadProgram fault) row.tells
+answered j x p handed (answer.Located report) spelled h = (p, spelled, h)
+answered j x p handed (answer.AssertFails at) spelled h = (p, spelled, h)
+answered j x p handed (answer.Trap at) spelled h = (p, spelled, h)
+answered j x p handed answer.NotFailing spelled h = (p, spelled, h)
+answered j x p handed answer.BadWords spelled h = (p, spelled, h)
+answered j x p handed (answer.BadInput fault) spelled h = (p, spelled, h)
+answered j x p handed answer.TooLarge spelled h = (p, spelled, h)
+answered j x p handed (answer.BeyondBound at) spelled h = (p, spelled, h)
+answered j x p handed answer.NoRepair spelled h = (p, spelled, h)
+answered j x p handed (answer.TooManySets weight most) spelled h = (p, spelled, h)
+answered j x p handed (answer.BudgetSpent conflicts) spelled h = (p, spelled, h)
+answered j x p handed (answer.Unreadable which) spelled h = (p, spelled, h)
+answered j x p handed (answer.TooLong which) spelled h = (p, spelled, h)
+answered j x p handed (answer.BadWeights line) spelled h = (p, spelled, h)
+answered j x p handed answer.NotBuilt spelled h = (p, spelled, h)
 
 -- the answer for the fault of a program
 pub refused : (j : Job) (x : Texts) (fault : Option Fault) (a : Answer) → TellsFault x.program fault
-    → program_answer fault ≡ Some a → IsAnswer j x a
+    → program_answer fault ≡ Some a → IsAnswer j x None a
 refused j x None a told is = let no : ⊥ = cc in absurd no
-refused j x (Some fault) a told is = subst (IsAnswer j x) (in_some is) told
+refused j x (Some fault) a told is = subst (IsAnswer j x None) (in_some is) (told, refl)
 
 -- the answer for an error of an input
 pub input_answered : (j : Job) (x : Texts) (p : Program) (e : InputError) (a : Answer)
-    → Tells e (input_fault p x.input) → input_answer e ≡ Some a → Answers j x p a
-input_answered j x p (error.NotANumber number) a told is = subst (Answers j x p) (in_some is) told
-input_answered j x p (error.OutOfRange number) a told is = subst (Answers j x p) (in_some is) told
-input_answered j x p error.WrongCount a told is = subst (Answers j x p) (in_some is) told
+    → TellsError e (input_fault p x.input) → input_answer e ≡ Some a → AnswersAtOnce j x p a
+input_answered j x p (error.NotANumber number) a told is = subst (AnswersAtOnce j x p) (in_some is) told
+input_answered j x p (error.OutOfRange number) a told is = subst (AnswersAtOnce j x p) (in_some is) told
+input_answered j x p error.WrongCount a told is = subst (AnswersAtOnce j x p) (in_some is) told
 input_answered j x p error.Memory a told is = let no : ⊥ = cc in absurd no
 
 -- the input that a text writes is the one of the definition
@@ -68,16 +141,77 @@ too_many n counted limit is more = omega arith
 pub few_enough : (n counted limit : ℕ) → counted ≡ min n (limit + 1) → counted ≤ limit → n ≤ limit
 few_enough n counted limit is few = omega arith
 
+-- WHAT TEXTS COME TO, from what reading them answers, where the texts that were read are these
+
+module _ (j : Job) (x : Texts) (p : Program) (spells : Spells x.program p) where
+  pub judged_input : (e : InputError) (a : Answer) (text : List ℕ) → text ≡ x.input →
+      TellsError e (input_fault p text) → input_answer e ≡ Some a → IsAnswer j x None a
+  judged_input e a text same told is = answered j x p None a spells
+      (input_answered j x p e a (subst (λ text. TellsError e (input_fault p text)) same told) is)
+
+  module _ (i : Input) (text weights : List ℕ) (same : text ≡ x.input) (alike : weights ≡ x.weights)
+      (is : IsInputOf p text i) where
+    no_fault : input_fault p x.input ≡ None
+    no_fault = ap (input_fault p) (sym same) ∙ is.no_fault
+
+    pub judged_line : (line : ℕ) → bad_line weights ≡ Some line → IsAnswer j x None (answer.BadWeights line)
+    judged_line line bad = (p, spells, (no_fault, ap bad_line (sym alike) ∙ bad))
+
+    accepted : bad_line weights ≡ None → AreAccepted x p
+    accepted good = record { input = no_fault; weights = ap bad_line (sym alike) ∙ good }
+
+    pub judged_large : (counted : ℕ) → bad_line weights ≡ None → counted ≡ min (units_of p j.bounds) 20001 →
+        20000 < counted → IsAnswer j x None answer.TooLarge
+    judged_large counted good is more =
+        (p, spells, (accepted good, too_many (units_of p j.bounds) counted 20000 is more))
+
+    written : i ≡ input_of p x
+    written = input_is p x i (subst (λ text. IsInputOf p text i) same is)
+
+    pub case_is : (w : Weights) → fits p i ≡ true → w.of ≡ weights_in p weights → AreWeightsOf p w.of →
+        IsCaseOf x (record { program = p; input = i; weights = w })
+    case_is w fit value kept = record {
+      spells = spells;
+      input = written;
+      fits = fit;
+      weights = value ∙ ap (weights_in p) alike;
+      weighed = kept;
+    }
+
+    pub case_runs : (counted : ℕ) (end : Outcome) → bad_line weights ≡ None →
+        counted ≡ min (units_of p j.bounds) 20001 → counted ≤ 20000 → plain_run p i j.bounds ≡ end →
+        RunsTo j x p end
+    case_runs counted end good is few ends = record {
+      accepted = accepted good;
+      small = few_enough (units_of p j.bounds) counted 20000 is few;
+      ends = ap (λ i. plain_run p i j.bounds) (sym written) ∙ ends;
+    }
+
 -- a run that ends so
-pub runs_as : (j : Job) (x : Texts) (p : Program) (end other : Outcome) → RunsTo j x p end → end ≡ other
+runs_as : (j : Job) (x : Texts) (p : Program) (end other : Outcome) → RunsTo j x p end → end ≡ other
     → RunsTo j x p other
 runs_as j x p end other runs is = subst (RunsTo j x p) is runs
 
-pub ends_at : (j : Job) (x : Texts) (p : Program) (end : Outcome) (ends : StmtId →
-    Outcome) (stmt : StmtId) (at : At)
-    → RunsTo j x p end → end ≡ ends stmt → at ≡ (statement_at p.statements stmt.0).at → RunsToAt j x p ends at
-ends_at j x p end ends stmt at runs is place = (stmt, runs_as j x p end (ends stmt) runs is, place)
+module _ (j : Job) (x : Texts) (c : Case) (is : IsCaseOf x c) (end : Outcome) (runs : RunsTo j x c.program
+    end) where
+  pub judged_done : end ≡ outcome.Done → IsAnswer j x None answer.NotFailing
+  judged_done e = (c.program, is.spells, runs_as j x c.program end outcome.Done runs e)
 
-pub fails_as : (j : Job) (x : Texts) (p : Program) (end other : Outcome) → RunsTo j x p end → end ≡ other
-    → is_failure other ≡ true → Fails j x p
-fails_as j x p end other runs is failure = (other, runs_as j x p end other runs is, failure)
+  pub judged_beyond : (stmt : StmtId) (at : At) → end ≡ outcome.Beyond stmt →
+      position_of c.program stmt ≡ Some at → IsAnswer j x None (answer.BeyondBound at)
+  judged_beyond stmt at e place =
+      (c.program, is.spells, (stmt, runs_as j x c.program end (outcome.Beyond stmt) runs e, place))
+
+  pub judged_assert : (stmt : StmtId) (at : At) → j.task ≡ task.Run → end ≡ outcome.AssertFails stmt →
+      position_of c.program stmt ≡ Some at → IsAnswer j x None (answer.AssertFails at)
+  judged_assert stmt at t e place =
+      (c.program, is.spells, (t, (stmt, runs_as j x c.program end (outcome.AssertFails stmt) runs e, place)))
+
+  pub judged_trap : (stmt : StmtId) (at : At) → j.task ≡ task.Run → end ≡ outcome.Trap stmt →
+      position_of c.program stmt ≡ Some at → IsAnswer j x None (answer.Trap at)
+  judged_trap stmt at t e place =
+      (c.program, is.spells, (t, (stmt, runs_as j x c.program end (outcome.Trap stmt) runs e, place)))
+
+  pub judged_failing : (other : Outcome) → j.task ≡ task.Localise → end ≡ other → is_failure other ≡ true →
+      IsCaseOf x c × (j.task ≡ task.Localise) × Fails j x c.program
+  judged_failing other t e failure = (is, t, (other, runs_as j x c.program end other runs e, failure))

@@ -150,22 +150,19 @@ command_within (word ∷ words) =
 
 -- JOBS
 
-wanted_within : (o : Option Command) (searches : Bool) (j : Job) → IfWithin o
-    → request_by o searches ≡ request.Wanted j → AreWithin j.bounds
-wanted_within None searches j within is = absurd (let no : ⊥ = cc in no)
-wanted_within (Some (command.Localise program input bounds weights conflicts sets cert runs steady)) false
-    j within is =
-    let same : bounds ≡ j.bounds = cc in ap are_bounds (sym same) ∙ within
-wanted_within (Some (command.Localise program input bounds weights conflicts sets cert runs steady)) true j
+wanted_within : (o : Option Command) (j : Job) → IfWithin o → request_by o ≡ request.Wanted j →
+    AreWithin j.bounds
+wanted_within None j within is = absurd (let no : ⊥ = cc in no)
+wanted_within (Some (command.Localise program input bounds weights conflicts sets cert runs steady)) j
     within is =
-    absurd (let no : ⊥ = cc in no)
-wanted_within (Some (command.Check program input cert bounds weights conflicts sets)) searches j within is =
-    absurd (let no : ⊥ = cc in no)
-wanted_within (Some (command.Run program input bounds)) searches j within is =
     let same : bounds ≡ j.bounds = cc in ap are_bounds (sym same) ∙ within
-wanted_within (Some (command.Sample additions)) searches j within is = absurd (let no : ⊥ = cc in no)
+wanted_within (Some (command.Check program input cert bounds weights conflicts sets)) j within is =
+    absurd (let no : ⊥ = cc in no)
+wanted_within (Some (command.Run program input bounds)) j within is =
+    let same : bounds ≡ j.bounds = cc in ap are_bounds (sym same) ∙ within
+wanted_within (Some (command.Sample additions)) j within is = absurd (let no : ⊥ = cc in no)
 
 -- the bounds of a job are within their limits
 pub job_bounds : (words : List Word) (j : Job) → request_of words ≡ request.Wanted j →
     are_bounds j.bounds ≡ true
-job_bounds words j is = wanted_within (command_of words) _ j (command_within words) is
+job_bounds words j is = wanted_within (command_of words) j (command_within words) is

@@ -1,14 +1,14 @@
 -- The answer that is due to words and told files is the one that the call comes to, unless a fault rose.
 
-use Rattle.std.proofs.Common.{◌≡◌, ◌⊎◌, inl, inr, ℕ, ◌<◌, ◌≤◌, Bool, true, false, cond, nat_lt, List, length, Option, None, Some, IfSome, IsSomeAnd, refl, sym, ap, subst, ◌∙◌, arith}
-use Rattle.std.proofs.lemmas.Bool.Decides.{nat_tests}
+use Rattle.std.proofs.Common.{◌≡◌, ◌⊎◌, inl, inr, ℕ, ◌<◌, ◌≤◌, List, length, Option, None, Some, IfSome, IsSomeAnd, refl, sym, ap, subst, ◌∙◌, arith}
 use Rattle.ba_commands.specs.Modes.{Word}
+use Rattle.ba_localise.specs.Verdicts.{Derivation}
 use Rattle.ba_world.specs.Read.{Stopped, StoppedPast}
 use Rattle.ba_world.specs.World.{HasReadFault, OnlyPrints, OnlyReads, Outside, Rose}
 use Rattle.ba_world.specs.declared.read.ReadFileError.TheVariants as read
 use Rattle.ba_world.proofs.WholeReads.{only_reads_none, only_reads_on, past_longer, rose_since}
-use Rattle.ba_tool.specs.Answers.{Agree, IsAnswer, IsOfSearch, are_one, first_spent, second_spent}
-use Rattle.ba_tool.specs.Calls.{AreRead, Call, EndsWith, TextsComeTo, IsDue, IsDueToJob, IsEndFor, IsEndOfSearch, IsReadFile, IsReadIfNamed, IsShown, JobComesTo, RequestComesTo, StopsAt, TellsAbsent, TellsAll, TellsFailing, TellsFile, TellsIfNamed, TellsShort, WasReadBefore, as_wanted, first_long, limit, located, memory, name_of, no_repair, read_fault, spent, too_many, write_fault}
+use Rattle.ba_tool.specs.Answers.{Agree, IsAnswer, IsOfSearch, are_one, first_spent, runs_differ, second_spent}
+use Rattle.ba_tool.specs.Calls.{AreRead, Call, EndsWith, HasFault, IsDue, IsDueToJob, IsEndFor, IsEndOfSearch, IsReadFile, IsReadIfNamed, IsShown, JobComesTo, RequestComesTo, StopsAt, TellsAbsent, TellsAll, TellsEarlier, TellsFailing, TellsFile, TellsIfNamed, TellsLong, TellsShort, TellsText, WasReadBefore, absent, as_wanted, limit, located, long, memory, name_of, no_repair, of_texts, read_fault, spent, too_many, write_fault}
 use Rattle.ba_tool.specs.Printed.{status_of}
 use Rattle.ba_tool.specs.declared.answers.Answer.{Answer}
 use Rattle.ba_tool.specs.declared.answers.Answer.TheVariants as answer
@@ -21,7 +21,7 @@ use Rattle.ba_tool.specs.declared.jobs.Request.TheVariants as request
 use Rattle.ba_tool.specs.declared.status.Status.{Status}
 use Rattle.ba_tool.specs.declared.status.Status.TheVariants as status
 use Rattle.ba_tool.specs.Jobs.{request_of}
-use Rattle.ba_tool.proofs.Ending.{Shows, write_fault_since}
+use Rattle.ba_tool.proofs.Ending.{Ends, fault_since, reads_stay}
 use Rattle.ba_tool.proofs.OneAnswer.{is_of_search, one_answer}
 
 -- WHAT IS TOLD OF A FILE is still told after reading
@@ -46,7 +46,7 @@ text_read name told text old new is f = same_text (old.held name) told text is f
 short_read : (name : Word) (told text : List ℕ) (old new : Outside) → TellsFile old name told
     → IsReadFile name text old new → length told ≤ limit
 short_read name told text old new is f =
-    let e = ap length (text_read name told text old new is f) in let h = f.short in omega arith
+    let e = ap length (text_read name told text old new is f) in let h = f.short in omega (arith, e, h)
 
 -- a told file whose read stopped past the limit is longer than it
 long_read : (name : Word) (told : List ℕ) (old new : Outside) → TellsFile old name told
@@ -63,7 +63,7 @@ fault_read name told old new is (inr reading) = reading.cause
 fault_read name told old new is (inl opening) = by opening.cause where
   by : HasReadFault old new ⊎ (old.held name ≡ Some None) → HasReadFault old new
   by (inl rose) = rose
-  by (inr absent) = let no : ⊥ = cc (is, absent) in absurd no
+  by (inr gone) = let no : ⊥ = cc (is, gone) in absurd no
 
 -- ALL FILES of a job
 
@@ -86,94 +86,47 @@ told_text file.Input x = x.input
 told_text file.Weights x = x.weights
 
 named_told : (before : Outside) (named : Option Word) (name : Word) (text : List ℕ) → named ≡ Some name
-    → TellsIfNamed before named text → TellsFile before name text
+    → TellsIfNamed before named text → TellsText before name text
 named_told before None name text is told = let no : ⊥ = cc in absurd no
 named_told before (Some other) name text is told =
-    let same : other ≡ name = cc in subst (λ name. TellsFile before name text) same told
+    let same : other ≡ name = cc in subst (λ name. TellsText before name text) same told
 
 file_told : (which : File) (j : Job) (x : Texts) (before : Outside) (name : Word) → TellsAll before j x
-    → name_of which j ≡ Some name → TellsFile before name (told_text which x)
+    → name_of which j ≡ Some name → TellsText before name (told_text which x)
 unfolding told_text
 file_told file.Program j x before name tells is =
-    let same : j.program ≡ name = cc in subst (λ name. TellsFile before name x.program) same tells.program
+    let same : j.program ≡ name = cc in subst (λ name. TellsText before name x.program) same tells.program
 file_told file.Input j x before name tells is =
-    let same : j.input ≡ name = cc in subst (λ name. TellsFile before name x.input) same tells.input
+    let same : j.input ≡ name = cc in subst (λ name. TellsText before name x.input) same tells.input
 file_told file.Weights j x before name tells is = named_told before j.weights name x.weights is tells.weights
 
--- WHICH TEXT IS LONG
-
-long_test : (n : ℕ) → limit < n → nat_lt limit n ≡ true
-long_test n h = grind (arith, nat_tests, h)
-
-short_test : (n : ℕ) → n ≤ limit → nat_lt limit n ≡ false
-short_test n h = grind (arith, nat_tests, h)
-
--- the first long text by the three tests
-abbrev long_by : Bool → Bool → Bool → Option File
-long_by p i w = cond p (Some file.Program) (cond i (Some file.Input) (cond w (Some file.Weights) None))
-
-long_is : (x : Texts) (p i w : Bool) → nat_lt limit (length x.program) ≡ p → nat_lt limit (length x.input) ≡ i
-    → nat_lt limit (length x.weights) ≡ w → first_long x ≡ long_by p i w
-long_is x p i w one two three =
-    ap (λ p. long_by p (nat_lt limit (length x.input)) (nat_lt limit (length x.weights))) one
-    ∙ ap (λ i. long_by p i (nat_lt limit (length x.weights))) two ∙ ap (λ w. long_by p i w) three
-
--- where a file was too long, it is the first that is
-long_at : (which : File) (j : Job) (x : Texts) (before opened after : Outside) (name : Word) →
-    TellsAll before j x
-    → WasReadBefore which j before opened → limit < length (told_text which x) → first_long x ≡ Some which
-unfolding told_text
-long_at file.Program j x before opened after name tells earlier long =
-    long_is x true _ _ (long_test (length x.program) long) refl refl
-long_at file.Input j x before opened after name tells (program, f) long =
-    long_is x false true _ (short_test (length x.program) (short_read j.program x.program program before
-    opened tells.program f))
-    (long_test (length x.input) long) refl
-long_at file.Weights j x before opened after name tells (mid, program, input, f, g) long =
-    long_is x false false true
-    (short_test (length x.program) (short_read j.program x.program program before mid tells.program f))
-    (short_test (length x.input) (short_read j.input x.input input mid opened
-    (told_still before mid j.input x.input f.only tells.input) g))
-    (long_test (length x.weights) long)
-
--- where all files were read, their texts are those that are told, and none is long
+-- where all files were read, their texts are those that are told
 
 weights_text : (named : Option Word) (told text : List ℕ) (old new : Outside) → TellsIfNamed old named told
     → IsReadIfNamed named text old new → text ≡ told
 weights_text None told text old new is (empty, same) = empty ∙ sym is
-weights_text (Some name) told text old new is f = text_read name told text old new is f
+weights_text (Some name) told text old new is f = text_read name told text old new is.told f
 
-weights_short : (named : Option Word) (told text : List ℕ) (old new : Outside) → TellsIfNamed old named told
-    → IsReadIfNamed named text old new → length told ≤ limit
-weights_short None told text old new is read = let e = ap length is in omega arith
-weights_short (Some name) told text old new is f = short_read name told text old new is f
+text_still : (before opened : Outside) (name : Word) (text : List ℕ) → OnlyReads before opened
+    → TellsText before name text → TellsText opened name text
+text_still before opened name text reads t =
+    record { told = told_still before opened name text reads t.told; short = t.short }
 
 weights_still : (named : Option Word) (before opened : Outside) (text : List ℕ) → OnlyReads before opened
     → TellsIfNamed before named text → TellsIfNamed opened named text
 weights_still None before opened text reads told = told
-weights_still (Some name) before opened text reads told = told_still before opened name text reads told
-
-pub record AreTold (j : Job) (x y : Texts) : Type 0 where
-  pub same : y ≡ x
-  pub none_long : first_long x ≡ None
+weights_still (Some name) before opened text reads told = text_still before opened name text reads told
 
 all_read : (j : Job) (x y : Texts) (before after : Outside) → TellsAll before j x → AreRead j y before after
-    → AreTold j x y
+    → y ≡ x
 all_read j x y before after tells r =
-    let input = told_still before r.program_read j.input x.input r.program.only tells.input in
+    let input = told_still before r.program_read j.input x.input r.program.only tells.input.told in
     let later = only_reads_on before r.program_read r.input_read r.program.only r.input.only in
     let weights = weights_still j.weights before r.input_read x.weights later tells.weights in
-    let one = text_read j.program x.program y.program before r.program_read tells.program r.program in
-    let two = text_read j.input x.input y.input r.program_read r.input_read input r.input in
-    let three = weights_text j.weights x.weights y.weights r.input_read after weights r.weights in
-    record {
-      same = texts_same y x one two three;
-      none_long = long_is x false false false
-          (short_test _ (short_read j.program x.program y.program before r.program_read tells.program
-          r.program))
-          (short_test _ (short_read j.input x.input y.input r.program_read r.input_read input r.input))
-          (short_test _ (weights_short j.weights x.weights y.weights r.input_read after weights r.weights));
-    }
+    texts_same y x (text_read j.program x.program y.program before r.program_read tells.program.told
+    r.program)
+    (text_read j.input x.input y.input r.program_read r.input_read input r.input)
+    (weights_text j.weights x.weights y.weights r.input_read after weights r.weights)
   where
     texts_same : (y x : Texts) → y.program ≡ x.program → y.input ≡ x.input → y.weights ≡ x.weights → y ≡ x
     texts_same y x one two three =
@@ -247,253 +200,336 @@ ends_search (answer.BadWeights line) of = absurd of
 ends_search answer.NotBuilt of = absurd of
 
 -- an answer that agrees with the one that is due ends the call
-agree_ends : (a due : Answer) → Agree a due → IsEndFor due (status_of a)
-agree_ends a due (are_one e) = subst (λ due. IsEndFor due (status_of a)) e (own_end a)
-agree_ends a due (first_spent conflicts e of) =
+agree_ends : (j : Job) (a due : Answer) → Agree j a due → IsEndFor due (status_of a)
+agree_ends j a due (are_one e) = subst (λ due. IsEndFor due (status_of a)) e (own_end a)
+agree_ends j a due (first_spent conflicts e of) =
     subst (λ a. IsEndFor due (status_of a)) (sym e) (may_spend due of)
-agree_ends a due (second_spent conflicts e of) =
+agree_ends j a due (second_spent conflicts e of) =
     subst (λ due. IsEndFor due (status_of a)) (sym e) (ends_search a of)
+agree_ends j a due (runs_differ bytes others is are shown) =
+    subst (λ a. IsEndFor due (status_of a)) (sym is)
+    (subst (λ due. IsEndFor due status.Ok) (sym are) (inl refl))
 
 -- with one of the statuses that are wanted, or a fault or want of memory in its place
 module _ (c : Call) (wanted : Status → Type 0) (result : Status) where
-  shown_ends : (a : Answer) (mid : Outside) → OnlyReads c.before mid → IsShown a mid c.after result
-      → (result ≡ status_of a → EndsWith c wanted result) → EndsWith c wanted result
-  shown_ends a mid reads (inl whole) ends = ends whole.0
-  shown_ends a mid reads (inr (inl fault)) ends =
-      write_fault fault.0 (write_fault_since c.before mid c.after reads fault.1)
-  shown_ends a mid reads (inr (inr short)) ends = memory short.0
+  shown_ends : (a : Answer) (s : Ends c a result) → (result ≡ status_of a → EndsWith c wanted result)
+      → EndsWith c wanted result
+  shown_ends a s ends = by s.shown where
+    by : IsShown a s.written c.after result → EndsWith c wanted result
+    by (inl whole) = ends whole.0
+    by (inr (inl fault)) = write_fault fault.0 (fault_since c a result s fault.1)
+    by (inr (inr short)) = memory short.0
 
   ends_as : (other : Status) → wanted other → result ≡ other → EndsWith c wanted result
   ends_as other holds is = as_wanted (subst wanted (sym is) holds)
 
--- of a job
-fault_later : (c : Call) (opened mid : Outside) → OnlyReads c.before opened → OnlyReads c.before mid
-    → OnlyPrints mid c.after → HasReadFault opened mid → HasReadFault c.before c.after
-fault_later c opened mid before reads prints rose =
-    subst (λ n. Rose c.before.read_faults n) (sym prints.read_faults)
+-- a fault of reading that rose in reading
+fault_later : (c : Call) (opened mid : Outside) → OnlyReads c.before opened →
+    c.after.read_faults ≡ mid.read_faults → HasReadFault opened mid → HasReadFault c.before c.after
+fault_later c opened mid before same rose =
+    subst (λ n. Rose c.before.read_faults n) (sym same)
     (rose_since c.before.read_faults opened.read_faults mid.read_faults before.no_fall rose)
 
+-- A JOB WHOSE FILES ARE ALL TOLD
+
 module _ (c : Call) (wanted : Status → Type 0) (result : Status) (j : Job) (x : Texts) (mid : Outside)
-    (tells : TellsAll c.before j x) (reads : OnlyReads c.before mid) (prints : OnlyPrints mid c.after) where
+    (tells : TellsAll c.before j x) (same : c.after.read_faults ≡ mid.read_faults) where
+  told_when : (which : File) (opened : Outside) (name : Word) → WasReadBefore which j c.before opened →
+      name_of which j ≡ Some name → TellsText opened name (told_text which x)
+  told_when which opened name earlier named = text_still c.before opened name (told_text which x)
+      (read_only j which c.before opened earlier) (file_told which j x c.before name tells named)
+
   unreadable_ends : (which : File) → StopsAt which read.Failed j c.before mid → result ≡ status.ReadFault
       → EndsWith c wanted result
   unreadable_ends which stops is =
-      let before = read_only j which c.before stops.opened stops.read_before in
-      let told = told_still c.before stops.opened stops.name (told_text which x) before
-      (file_told which j x c.before stops.name tells stops.named) in
-      read_fault is (fault_later c stops.opened mid before reads prints
-      (fault_read stops.name (told_text which x) stops.opened mid told stops.unread))
+      let told = told_when which stops.opened stops.name stops.read_before stops.named in
+      read_fault is (fault_later c stops.opened mid
+      (read_only j which c.before stops.opened stops.read_before) same
+      (fault_read stops.name (told_text which x) stops.opened mid told.told stops.unread))
 
-  long_is_first : (which : File) → StopsAt which read.TooLong j c.before mid → first_long x ≡ Some which
-  long_is_first which stops =
-      let before = read_only j which c.before stops.opened stops.read_before in
-      let told = told_still c.before stops.opened stops.name (told_text which x) before
-      (file_told which j x c.before stops.name tells stops.named) in
-      let long = long_read stops.name (told_text which x) stops.opened mid told stops.unread in
-      long_at which j x c.before stops.opened mid stops.name tells stops.read_before long
+  none_long : (which : File) → StopsAt which read.TooLong j c.before mid → ⊥
+  none_long which stops =
+      let told = told_when which stops.opened stops.name stops.read_before stops.named in
+      let over = long_read stops.name (told_text which x) stops.opened mid told.told stops.unread in
+      let short = told.short in omega (arith, over, short)
 
-  -- where a status is wanted for each long text, and for each answer that texts come to which aren't long
-  module _ (long : (which : File) → first_long x ≡ Some which → wanted status.TooLong)
-      (short : (a : Answer) → first_long x ≡ None → IsAnswer j x a → wanted (status_of a)) where
-    as_read : (a : Answer) (y : Texts) → AreRead j y c.before mid → IsAnswer j y a → result ≡ status_of a
-        → EndsWith c wanted result
-    as_read a y r holds e =
-        let told = all_read j x y c.before mid tells r in
-        ends_as c wanted result (status_of a)
-        (short a told.none_long (subst (λ x. IsAnswer j x a) told.same holds)) e
+  -- where a status is wanted for each answer that the texts come to
+  module _ (wants : (handed : Option Derivation) (a : Answer) → IsAnswer j x handed a →
+      wanted (status_of a)) where
+    as_read : (handed : Option Derivation) (a : Answer) (y : Texts) → AreRead j y c.before mid →
+        IsAnswer j y handed a → result ≡ status_of a → EndsWith c wanted result
+    as_read handed a y r holds e = ends_as c wanted result (status_of a)
+        (wants handed a (subst (λ x. IsAnswer j x handed a) (all_read j x y c.before mid tells r) holds)) e
 
-    job_ends : (a : Answer) → JobComesTo j c.before mid a → result ≡ status_of a → EndsWith c wanted result
-    job_ends (answer.Unreadable which) comes e = unreadable_ends which comes e
-    job_ends (answer.TooLong which) comes e =
-        ends_as c wanted result status.TooLong (long which (long_is_first which comes)) e
-    job_ends (answer.Located report) (y, r, holds) e =
-        as_read (answer.Located report) y r holds e
-    job_ends (answer.AssertFails at) (y, r, holds) e =
-        as_read (answer.AssertFails at) y r holds e
-    job_ends (answer.Trap at) (y, r, holds) e =
-        as_read (answer.Trap at) y r holds e
-    job_ends answer.NotFailing (y, r, holds) e =
-        as_read answer.NotFailing y r holds e
-    job_ends answer.BadWords (y, r, holds) e =
-        as_read answer.BadWords y r holds e
-    job_ends (answer.BadProgram fault) (y, r, holds) e =
-        as_read (answer.BadProgram fault) y r holds e
-    job_ends (answer.BadInput fault) (y, r, holds) e =
-        as_read (answer.BadInput fault) y r holds e
-    job_ends answer.TooLarge (y, r, holds) e =
-        as_read answer.TooLarge y r holds e
-    job_ends (answer.BeyondBound at) (y, r, holds) e =
-        as_read (answer.BeyondBound at) y r holds e
-    job_ends answer.NoRepair (y, r, holds) e =
-        as_read answer.NoRepair y r holds e
-    job_ends (answer.TooManySets weight most) (y, r, holds) e =
-        as_read (answer.TooManySets weight most) y r holds e
-    job_ends (answer.BudgetSpent conflicts) (y, r, holds) e =
-        as_read (answer.BudgetSpent conflicts) y r holds e
-    job_ends (answer.BadWeights line) (y, r, holds) e =
-        as_read (answer.BadWeights line) y r holds e
-    job_ends answer.NotBuilt (y, r, holds) e =
-        as_read answer.NotBuilt y r holds e
+    job_ends : (handed : Option Derivation) (a : Answer) → JobComesTo j c.before mid handed a →
+        result ≡ status_of a → EndsWith c wanted result
+    job_ends handed (answer.Unreadable which) (stops, none) e = unreadable_ends which stops e
+    job_ends handed (answer.TooLong which) (stops, none) e = absurd (none_long which stops)
+    job_ends handed (answer.Located report) (y, r, holds) e =
+        as_read handed (answer.Located report) y r holds e
+    job_ends handed (answer.AssertFails at) (y, r, holds) e =
+        as_read handed (answer.AssertFails at) y r holds e
+    job_ends handed (answer.Trap at) (y, r, holds) e =
+        as_read handed (answer.Trap at) y r holds e
+    job_ends handed answer.NotFailing (y, r, holds) e =
+        as_read handed answer.NotFailing y r holds e
+    job_ends handed answer.BadWords (y, r, holds) e =
+        as_read handed answer.BadWords y r holds e
+    job_ends handed (answer.BadProgram fault) (y, r, holds) e =
+        as_read handed (answer.BadProgram fault) y r holds e
+    job_ends handed (answer.BadInput fault) (y, r, holds) e =
+        as_read handed (answer.BadInput fault) y r holds e
+    job_ends handed answer.TooLarge (y, r, holds) e =
+        as_read handed answer.TooLarge y r holds e
+    job_ends handed (answer.BeyondBound at) (y, r, holds) e =
+        as_read handed (answer.BeyondBound at) y r holds e
+    job_ends handed answer.NoRepair (y, r, holds) e =
+        as_read handed answer.NoRepair y r holds e
+    job_ends handed (answer.TooManySets weight most) (y, r, holds) e =
+        as_read handed (answer.TooManySets weight most) y r holds e
+    job_ends handed (answer.BudgetSpent conflicts) (y, r, holds) e =
+        as_read handed (answer.BudgetSpent conflicts) y r holds e
+    job_ends handed (answer.BadWeights line) (y, r, holds) e =
+        as_read handed (answer.BadWeights line) y r holds e
+    job_ends handed answer.NotBuilt (y, r, holds) e =
+        as_read handed answer.NotBuilt y r holds e
 
--- A FILE THAT IS ABSENT
+-- A FILE THAT CAN'T BE READ WHOLE, before which others are told
 
--- it is still told as absent after reading; it wasn't read, and wasn't too long
+-- nothing that is read from here on is a whole file of this name
+abbrev IsNeverRead : Outside → Word → Type 0
+IsNeverRead before name = (opened after : Outside) (text : List ℕ) → OnlyReads before opened
+    → IsReadFile name text opened after → ⊥
+
+record Blocks (which : File) (before : Outside) (j : Job) : Type 0 where
+  pub earlier : TellsEarlier which before j
+  pub name : Word
+  pub named : name_of which j ≡ Some name
+  pub never : IsNeverRead before name
+
+-- one that is absent
 absent_still : (before opened : Outside) (name : Word) → OnlyReads before opened →
     before.held name ≡ Some None
     → opened.held name ≡ Some None
-absent_still before opened name reads absent =
-    ap (λ (held : Word → Option (Option (List ℕ))). held name) reads.held ∙ absent
+absent_still before opened name reads gone =
+    ap (λ (held : Word → Option (Option (List ℕ))). held name) reads.held ∙ gone
 
 absent_unread : (name : Word) (text : List ℕ) (old new : Outside) → old.held name ≡ Some None
     → IsReadFile name text old new → ⊥
-absent_unread name text old new absent f =
+absent_unread name text old new gone f =
     let k : IfSome (Some None) (λ file. file ≡ Some text) =
-    subst (λ (held : Option (Option (List ℕ))). IfSome held (λ file. file ≡ Some text)) absent
+    subst (λ (held : Option (Option (List ℕ))). IfSome held (λ file. file ≡ Some text)) gone
     f.whole.bytes_are in
     let no : None ≡ Some text = k in cc
 
 absent_short : (name : Word) (old new : Outside) → old.held name ≡ Some None →
     StoppedPast name limit old new → ⊥
-absent_short name old new absent past =
+absent_short name old new gone past =
     subst (λ (held : Option (Option (List ℕ))). IfSome held (λ file. IsSomeAnd file (λ all. limit < length
     all)))
-    absent (past_longer name limit old new past)
+    gone (past_longer name limit old new past)
 
-absent_named : (name : Word) (named : Option Word) (text : List ℕ) (old new : Outside) → named ≡ Some name
-    → old.held name ≡ Some None → IsReadIfNamed named text old new → ⊥
-absent_named name None text old new is absent read = let no : ⊥ = cc in no
-absent_named name (Some other) text old new is absent f =
-    let same : name ≡ other = cc in
-    absent_unread other text old new (subst (λ n. old.held n ≡ Some None) same absent) f
+absent_blocks : (which : File) (before : Outside) (j : Job) → TellsAbsent which before j →
+    Blocks which before j
+absent_blocks which before j t = record {
+  earlier = t.earlier;
+  name = t.name;
+  named = t.named;
+  never = λ opened after text reads f. absent_unread t.name text opened after
+      (absent_still before opened t.name reads t.absent) f;
+}
 
-absent_at : (before : Outside) (name other : Word) → Some other ≡ Some name → before.held name ≡ Some None
-    → before.held other ≡ Some None
-absent_at before name other is absent = let same : name ≡ other = cc in
-    subst (λ n. before.held n ≡ Some None) same absent
+-- and one that is too long
+long_blocks : (which : File) (before : Outside) (j : Job) → TellsLong which before j → Blocks which before j
+long_blocks which before j t = record {
+  earlier = t.earlier;
+  name = t.name;
+  named = t.named;
+  never = λ opened after text reads f.
+      let short = short_read t.name t.text text opened after
+      (told_still before opened t.name t.text reads t.told) f in
+      let over = t.long in omega (arith, short, over);
+}
+
+never_at : (before : Outside) (name other : Word) → Some other ≡ Some name → IsNeverRead before name
+    → IsNeverRead before other
+never_at before name other is never = let same : name ≡ other = cc in subst (IsNeverRead before) same never
+
+never_named : (before opened : Outside) (name : Word) (named : Option Word) (text : List ℕ) (after : Outside)
+    → named ≡ Some name → OnlyReads before opened → IsNeverRead before name
+    → IsReadIfNamed named text opened after → ⊥
+never_named before opened name None text after is reads never r = let no : ⊥ = cc in no
+never_named before opened name (Some other) text after is reads never f =
+    never_at before name other is never opened after text reads f
 
 -- so not all files were read
-absent_all : (which : File) (j : Job) (y : Texts) (before after : Outside) → TellsAbsent which before j
+blocks_all : (which : File) (j : Job) (y : Texts) (before after : Outside) → Blocks which before j
     → AreRead j y before after → ⊥
-absent_all file.Program j y before after t r =
-    absent_unread j.program y.program before r.program_read (absent_at before t.name j.program t.named
-    t.absent) r.program
-absent_all file.Input j y before after t r =
-    absent_unread j.input y.input r.program_read r.input_read
-    (absent_still before r.program_read j.input r.program.only (absent_at before t.name j.input t.named
-    t.absent)) r.input
-absent_all file.Weights j y before after t r =
-    let later = only_reads_on before r.program_read r.input_read r.program.only r.input.only in
-    absent_named t.name j.weights y.weights r.input_read after t.named
-    (absent_still before r.input_read t.name later t.absent) r.weights
+blocks_all file.Program j y before after b r = never_at before b.name j.program b.named b.never
+    before r.program_read y.program (only_reads_none before) r.program
+blocks_all file.Input j y before after b r = never_at before b.name j.input b.named b.never
+    r.program_read r.input_read y.input r.program.only r.input
+blocks_all file.Weights j y before after b r =
+    never_named before r.input_read b.name j.weights y.weights after b.named
+    (only_reads_on before r.program_read r.input_read r.program.only r.input.only) b.never r.weights
 
--- where one file is absent and the reading stopped at another, that one comes before it, and is told and
--- short
+-- where the reading stopped at another file, that one comes before it, and is told and short
 data Stands (which other : File) (j : Job) (before opened : Outside) : Type 0 where
   there : which ≡ other → Stands which other j before opened
-  earlier : (name : Word) → name_of other j ≡ Some name → TellsShort opened name →
+  ahead : (name : Word) → name_of other j ≡ Some name → TellsShort opened name →
       Stands which other j before opened
 
 short_still : (before opened : Outside) (name : Word) → OnlyReads before opened → TellsShort before name
     → TellsShort opened name
-short_still before opened name reads (text, told, short) = (
-  text,
-  told_still before opened name text reads
-      told,
-  short,
-)
+short_still before opened name reads (text, told) = (text, text_still before opened name text reads told)
 
-stands : (which other : File) (j : Job) (before opened : Outside) → TellsAbsent which before j
+stands : (which other : File) (j : Job) (before opened : Outside) → Blocks which before j
     → WasReadBefore other j before opened → Stands which other j before opened
-stands file.Program file.Program j before opened t read = there refl
-stands file.Program file.Input j before opened t (program, f) =
-    absurd (absent_unread j.program program before opened (absent_at before t.name j.program t.named
-    t.absent) f)
-stands file.Program file.Weights j before opened t (mid, program, input, f, g) =
-    absurd (absent_unread j.program program before mid (absent_at before t.name j.program t.named t.absent) f)
-stands file.Input file.Program j before opened t same =
-    earlier j.program refl (subst (λ o. TellsShort o j.program) (sym same) t.earlier)
-stands file.Input file.Input j before opened t read = there refl
-stands file.Input file.Weights j before opened t (mid, program, input, f, g) =
-    absurd (absent_unread j.input input mid opened
-    (absent_still before mid j.input f.only (absent_at before t.name j.input t.named t.absent)) g)
-stands file.Weights file.Program j before opened t same =
-    earlier j.program refl (subst (λ o. TellsShort o j.program) (sym same) t.earlier.0)
-stands file.Weights file.Input j before opened t (program, f) =
-    earlier j.input refl (short_still before opened j.input f.only t.earlier.1)
-stands file.Weights file.Weights j before opened t read = there refl
+stands file.Program file.Program j before opened b read = there refl
+stands file.Program file.Input j before opened b (program, f) = absurd
+    (never_at before b.name j.program b.named b.never before opened program (only_reads_none before) f)
+stands file.Program file.Weights j before opened b (mid, program, input, f, g) = absurd
+    (never_at before b.name j.program b.named b.never before mid program (only_reads_none before) f)
+stands file.Input file.Program j before opened b same =
+    ahead j.program refl (subst (λ o. TellsShort o j.program) (sym same) b.earlier)
+stands file.Input file.Input j before opened b read = there refl
+stands file.Input file.Weights j before opened b (mid, program, input, f, g) = absurd
+    (never_at before b.name j.input b.named b.never mid opened input f.only g)
+stands file.Weights file.Program j before opened b same =
+    ahead j.program refl (subst (λ o. TellsShort o j.program) (sym same) b.earlier.0)
+stands file.Weights file.Input j before opened b (program, f) =
+    ahead j.input refl (short_still before opened j.input f.only b.earlier.1)
+stands file.Weights file.Weights j before opened b read = there refl
 
 name_same : (a b : Word) (named : Option Word) → named ≡ Some a → named ≡ Some b → a ≡ b
 name_same a b named one two = let same : Some a ≡ Some b = sym one ∙ two in cc
 
+-- the file at which the reading stopped, if it comes before
+text_ahead : (other : File) (j : Job) (opened : Outside) (name stopped : Word) → name_of other j ≡ Some name
+    → name_of other j ≡ Some stopped → TellsShort opened name → TellsShort opened stopped
+text_ahead other j opened name stopped named is told =
+    subst (TellsShort opened) (name_same name stopped _ named is) told
+
 absent_not_long : (c : Call) (which other : File) (j : Job) (mid : Outside) → TellsAbsent which c.before j
     → StopsAt other read.TooLong j c.before mid → ⊥
-absent_not_long c which other j mid t s = by (stands which other j c.before s.opened t s.read_before) where
-  by : Stands which other j c.before s.opened → ⊥
-  by (there same) =
-      let named : name_of other j ≡ Some t.name = subst (λ w. name_of w j ≡ Some t.name) same t.named in
-      let before = read_only j other c.before s.opened s.read_before in
-      let here : c.before.held s.name ≡ Some None =
-      subst (λ n. c.before.held n ≡ Some None) (name_same t.name s.name _ named s.named) t.absent in
-      absent_short s.name s.opened mid (absent_still c.before s.opened s.name before here) s.unread
-  by (earlier name named (text, told, short)) =
-      let here : TellsFile s.opened s.name text =
-      subst (λ n. TellsFile s.opened n text) (name_same name s.name _ named s.named) told in
-      let long = long_read s.name text s.opened mid here s.unread in omega arith
+absent_not_long c which other j mid t s =
+    by (stands which other j c.before s.opened (absent_blocks which c.before j t) s.read_before)
+  where
+    by : Stands which other j c.before s.opened → ⊥
+    by (there same) =
+        let named : name_of other j ≡ Some t.name = subst (λ w. name_of w j ≡ Some t.name) same t.named in
+        let before = read_only j other c.before s.opened s.read_before in
+        let here : c.before.held s.name ≡ Some None =
+        subst (λ n. c.before.held n ≡ Some None) (name_same t.name s.name _ named s.named) t.absent in
+        absent_short s.name s.opened mid (absent_still c.before s.opened s.name before here) s.unread
+    by (ahead name named told) =
+        let here = text_ahead other j s.opened name s.name named s.named told in
+        let over = long_read s.name here.0 s.opened mid here.1.told s.unread in
+        let short = here.1.short in omega (arith, over, short)
 
-module _ (c : Call) (which : File) (j : Job) (result : Status) (mid : Outside) where
-  absent_ends : (a : Answer) → TellsAbsent which c.before j → OnlyReads c.before mid → OnlyPrints mid c.after
-      → JobComesTo j c.before mid a → result ≡ status_of a
-      → EndsWith c (IsEndFor (answer.Unreadable which)) result
-  absent_ends (answer.Unreadable other) t reads prints comes e = as_wanted e
-  absent_ends (answer.TooLong other) t reads prints comes e = absurd (absent_not_long c which other j mid t
-      comes)
-  absent_ends (answer.Located report) t reads prints (y, r, holds) e = absurd (absent_all which j y
-      c.before mid t r)
-  absent_ends (answer.AssertFails at) t reads prints (y, r, holds) e = absurd (absent_all which j y
-      c.before mid t r)
-  absent_ends (answer.Trap at) t reads prints (y, r, holds) e = absurd (absent_all which j y c.before mid t r)
-  absent_ends answer.NotFailing t reads prints (y, r, holds) e = absurd (absent_all which j y c.before mid
-      t r)
-  absent_ends answer.BadWords t reads prints (y, r, holds) e = absurd (absent_all which j y c.before mid t r)
-  absent_ends (answer.BadProgram fault) t reads prints (y, r, holds) e = absurd (absent_all which j y
-      c.before mid t r)
-  absent_ends (answer.BadInput fault) t reads prints (y, r, holds) e = absurd (absent_all which j y
-      c.before mid t r)
-  absent_ends answer.TooLarge t reads prints (y, r, holds) e = absurd (absent_all which j y c.before mid t r)
-  absent_ends (answer.BeyondBound at) t reads prints (y, r, holds) e = absurd (absent_all which j y
-      c.before mid t r)
-  absent_ends answer.NoRepair t reads prints (y, r, holds) e = absurd (absent_all which j y c.before mid t r)
-  absent_ends (answer.TooManySets weight most) t reads prints (y, r, holds) e = absurd (absent_all which j y
-      c.before mid t r)
-  absent_ends (answer.BudgetSpent conflicts) t reads prints (y, r, holds) e = absurd (absent_all which j y
-      c.before mid t r)
-  absent_ends (answer.BadWeights line) t reads prints (y, r, holds) e = absurd (absent_all which j y
-      c.before mid t r)
-  absent_ends answer.NotBuilt t reads prints (y, r, holds) e = absurd (absent_all which j y c.before mid t r)
+long_faults : (c : Call) (which other : File) (j : Job) (mid : Outside) → TellsLong which c.before j
+    → (s : StopsAt other read.Failed j c.before mid) → HasReadFault s.opened mid
+long_faults c which other j mid t s =
+    by (stands which other j c.before s.opened (long_blocks which c.before j t) s.read_before)
+  where
+    by : Stands which other j c.before s.opened → HasReadFault s.opened mid
+    by (there same) =
+        let named : name_of other j ≡ Some t.name = subst (λ w. name_of w j ≡ Some t.name) same t.named in
+        let before = read_only j other c.before s.opened s.read_before in
+        let here : TellsFile c.before s.name t.text =
+        subst (λ n. TellsFile c.before n t.text) (name_same t.name s.name _ named s.named) t.told in
+        fault_read s.name t.text s.opened mid (told_still c.before s.opened s.name t.text before here)
+        s.unread
+    by (ahead name named told) =
+        let here = text_ahead other j s.opened name s.name named s.named told in
+        fault_read s.name here.0 s.opened mid here.1.told s.unread
 
--- of a job to which an answer is due
-told_long : (j : Job) (x : Texts) (due : Answer) (which : File) → TextsComeTo j x (first_long x) due
-    → first_long x ≡ Some which → IsEndFor due status.TooLong
-told_long j x due which is first =
-    let due_is : due ≡ answer.TooLong which = subst (λ long. TextsComeTo j x long due) first is in
-    subst (λ due. IsEndFor due status.TooLong) (sym due_is) refl
+module _ (c : Call) (which : File) (j : Job) (result : Status) (mid : Outside) (handed : Option Derivation)
+  where
+    absent_ends : (a : Answer) → TellsAbsent which c.before j → JobComesTo j c.before mid handed a
+        → result ≡ status_of a → EndsWith c (IsEndFor (answer.Unreadable which)) result
+    absent_ends (answer.Unreadable other) t comes e = as_wanted e
+    absent_ends (answer.TooLong other) t (stops, none) e = absurd (absent_not_long c which other j mid t stops)
+    absent_ends (answer.Located report) t (y, r, holds) e =
+        absurd (blocks_all which j y c.before mid (absent_blocks which c.before j t) r)
+    absent_ends (answer.AssertFails at) t (y, r, holds) e =
+        absurd (blocks_all which j y c.before mid (absent_blocks which c.before j t) r)
+    absent_ends (answer.Trap at) t (y, r, holds) e =
+        absurd (blocks_all which j y c.before mid (absent_blocks which c.before j t) r)
+    absent_ends answer.NotFailing t (y, r, holds) e =
+        absurd (blocks_all which j y c.before mid (absent_blocks which c.before j t) r)
+    absent_ends answer.BadWords t (y, r, holds) e =
+        absurd (blocks_all which j y c.before mid (absent_blocks which c.before j t) r)
+    absent_ends (answer.BadProgram fault) t (y, r, holds) e =
+        absurd (blocks_all which j y c.before mid (absent_blocks which c.before j t) r)
+    absent_ends (answer.BadInput fault) t (y, r, holds) e =
+        absurd (blocks_all which j y c.before mid (absent_blocks which c.before j t) r)
+    absent_ends answer.TooLarge t (y, r, holds) e =
+        absurd (blocks_all which j y c.before mid (absent_blocks which c.before j t) r)
+    absent_ends (answer.BeyondBound at) t (y, r, holds) e =
+        absurd (blocks_all which j y c.before mid (absent_blocks which c.before j t) r)
+    absent_ends answer.NoRepair t (y, r, holds) e =
+        absurd (blocks_all which j y c.before mid (absent_blocks which c.before j t) r)
+    absent_ends (answer.TooManySets weight most) t (y, r, holds) e =
+        absurd (blocks_all which j y c.before mid (absent_blocks which c.before j t) r)
+    absent_ends (answer.BudgetSpent conflicts) t (y, r, holds) e =
+        absurd (blocks_all which j y c.before mid (absent_blocks which c.before j t) r)
+    absent_ends (answer.BadWeights line) t (y, r, holds) e =
+        absurd (blocks_all which j y c.before mid (absent_blocks which c.before j t) r)
+    absent_ends answer.NotBuilt t (y, r, holds) e =
+        absurd (blocks_all which j y c.before mid (absent_blocks which c.before j t) r)
 
-told_short : (j : Job) (x : Texts) (due a : Answer) → TextsComeTo j x (first_long x) due
-    → first_long x ≡ None → IsAnswer j x a → IsEndFor due (status_of a)
-told_short j x due a is none holds =
-    let due_holds : IsAnswer j x due = subst (λ long. TextsComeTo j x long due) none is in
-    agree_ends a due (one_answer j x a due holds due_holds)
+    long_ends : (a : Answer) → TellsLong which c.before j → c.after.read_faults ≡ mid.read_faults
+        → JobComesTo j c.before mid handed a → result ≡ status_of a
+        → EndsWith c (IsEndFor (answer.TooLong which)) result
+    long_ends (answer.TooLong other) t same comes e = as_wanted e
+    long_ends (answer.Unreadable other) t same (stops, none) e = read_fault e
+        (fault_later c stops.opened mid (read_only j other c.before stops.opened stops.read_before) same
+        (long_faults c which other j mid t stops))
+    long_ends (answer.Located report) t same (y, r, holds) e =
+        absurd (blocks_all which j y c.before mid (long_blocks which c.before j t) r)
+    long_ends (answer.AssertFails at) t same (y, r, holds) e =
+        absurd (blocks_all which j y c.before mid (long_blocks which c.before j t) r)
+    long_ends (answer.Trap at) t same (y, r, holds) e =
+        absurd (blocks_all which j y c.before mid (long_blocks which c.before j t) r)
+    long_ends answer.NotFailing t same (y, r, holds) e =
+        absurd (blocks_all which j y c.before mid (long_blocks which c.before j t) r)
+    long_ends answer.BadWords t same (y, r, holds) e =
+        absurd (blocks_all which j y c.before mid (long_blocks which c.before j t) r)
+    long_ends (answer.BadProgram fault) t same (y, r, holds) e =
+        absurd (blocks_all which j y c.before mid (long_blocks which c.before j t) r)
+    long_ends (answer.BadInput fault) t same (y, r, holds) e =
+        absurd (blocks_all which j y c.before mid (long_blocks which c.before j t) r)
+    long_ends answer.TooLarge t same (y, r, holds) e =
+        absurd (blocks_all which j y c.before mid (long_blocks which c.before j t) r)
+    long_ends (answer.BeyondBound at) t same (y, r, holds) e =
+        absurd (blocks_all which j y c.before mid (long_blocks which c.before j t) r)
+    long_ends answer.NoRepair t same (y, r, holds) e =
+        absurd (blocks_all which j y c.before mid (long_blocks which c.before j t) r)
+    long_ends (answer.TooManySets weight most) t same (y, r, holds) e =
+        absurd (blocks_all which j y c.before mid (long_blocks which c.before j t) r)
+    long_ends (answer.BudgetSpent conflicts) t same (y, r, holds) e =
+        absurd (blocks_all which j y c.before mid (long_blocks which c.before j t) r)
+    long_ends (answer.BadWeights line) t same (y, r, holds) e =
+        absurd (blocks_all which j y c.before mid (long_blocks which c.before j t) r)
+    long_ends answer.NotBuilt t same (y, r, holds) e =
+        absurd (blocks_all which j y c.before mid (long_blocks which c.before j t) r)
 
-due_ends : (c : Call) (j : Job) (due a : Answer) (result : Status) (mid : Outside)
-    → IsDueToJob j c.before due → OnlyReads c.before mid → OnlyPrints mid c.after
-    → JobComesTo j c.before mid a → result ≡ status_of a → EndsWith c (IsEndFor due) result
-due_ends c j due a result mid (inl (x, tells, is)) reads prints comes e =
-    job_ends c (IsEndFor due) result j x mid tells reads prints
-    (λ which first. told_long j x due which is first)
-    (λ a none holds. told_short j x due a is none holds) a comes e
-due_ends c j due a result mid (inr (which, absent, is)) reads prints comes e =
+-- A CALL to which an answer is due
+
+due_ends : (c : Call) (j : Job) (due a : Answer) (result : Status) (mid : Outside) (handed : Option
+    Derivation)
+    → IsDueToJob j c.before due → c.after.read_faults ≡ mid.read_faults
+    → JobComesTo j c.before mid handed a → result ≡ status_of a → EndsWith c (IsEndFor due) result
+due_ends c j due a result mid handed (of_texts x other tells is) same comes e =
+    job_ends c (IsEndFor due) result j x mid tells same
+    (λ h b holds. agree_ends j b due (one_answer j x h other b due holds is)) handed a comes e
+due_ends c j due a result mid handed (absent which t is) same comes e =
     subst (λ due. EndsWith c (IsEndFor due) result) (sym is)
-    (absent_ends c which j result mid a absent reads prints comes e)
+    (absent_ends c which j result mid handed a t comes e)
+due_ends c j due a result mid handed (long which t is) same comes e =
+    subst (λ due. EndsWith c (IsEndFor due) result) (sym is)
+    (long_ends c which j result mid handed a t same comes e)
 
 at_once : (c : Call) (due a first : Answer) (result : Status) → a ≡ first → due ≡ first
     → result ≡ status_of a → EndsWith c (IsEndFor due) result
@@ -501,40 +537,48 @@ at_once c due a first result is are e = ends_as c (IsEndFor due) result (status_
     (subst (λ due. IsEndFor due (status_of a)) (is ∙ sym are) (own_end a)) e
 
 request_ends : (c : Call) (r : Request) (due a : Answer) (result : Status) (mid : Outside)
-    → IsDue r c.before due → OnlyReads c.before mid → OnlyPrints mid c.after
-    → RequestComesTo r c.before mid a → result ≡ status_of a → EndsWith c (IsEndFor due) result
-request_ends c request.Refused due a result mid is reads prints comes e =
+    (handed : Option Derivation) → IsDue r c.before due → c.after.read_faults ≡ mid.read_faults
+    → RequestComesTo r c.before mid handed a → result ≡ status_of a → EndsWith c (IsEndFor due) result
+request_ends c request.Refused due a result mid handed is same comes e =
     at_once c due a answer.BadWords result comes.0 is e
-request_ends c request.NotBuilt due a result mid is reads prints comes e =
+request_ends c request.NotBuilt due a result mid handed is same comes e =
     at_once c due a answer.NotBuilt result comes.0 is e
-request_ends c (request.Wanted j) due a result mid is reads prints comes e =
-    due_ends c j due a result mid is reads prints comes e
+request_ends c (request.Wanted j) due a result mid handed is same comes e =
+    due_ends c j due a result mid handed is same comes e
 
-pub shows_due : (c : Call) (a due : Answer) (result : Status) → Shows c a result →
+-- the faults of reading are those of the reading
+read_faults_stay : (c : Call) (a : Answer) (result : Status) (s : Ends c a result) →
+    c.after.read_faults ≡ s.comes.read.read_faults
+read_faults_stay c a result s = s.prints.read_faults
+    ∙ reads_stay (request_of c.words) c.before s.written c.told_before c.told_after a s.comes
+
+pub ends_due : (c : Call) (a due : Answer) (result : Status) → Ends c a result →
     IsDue (request_of c.words) c.before due
     → EndsWith c (IsEndFor due) result
-shows_due c a due result s is =
-    shown_ends c (IsEndFor due) result a s.read s.reads s.shown
-    (λ e. request_ends c (request_of c.words) due a result s.read is s.reads s.prints s.comes e)
+ends_due c a due result s is =
+    shown_ends c (IsEndFor due) result a s
+    (λ e. request_ends c (request_of c.words) due a result s.comes.read s.comes.handed is
+    (read_faults_stay c a result s) s.comes.comes e)
 
 -- A SEARCH comes to an end
 
-not_both : (which : File) (long : Option File) → long ≡ None → long ≡ Some which → ⊥
-not_both which long none some = cc
-
 failing_ends : (c : Call) (r : Request) (a : Answer) (result : Status) (mid : Outside)
-    → TellsFailing r c.before → OnlyReads c.before mid → OnlyPrints mid c.after
-    → RequestComesTo r c.before mid a → result ≡ status_of a → EndsWith c IsEndOfSearch result
-failing_ends c r a result mid f reads prints comes e =
-    let job_comes : JobComesTo f.job c.before mid a =
-    subst (λ r. RequestComesTo r c.before mid a) f.wanted comes in
-    job_ends c IsEndOfSearch result f.job f.texts mid f.told reads prints
-    (λ which first. absurd (not_both which (first_long f.texts) f.short first))
-    (λ a none holds. ends_search a (is_of_search f.job f.texts f.program f.spelled f.searches a holds))
-    a job_comes e
+    (handed : Option Derivation) → TellsFailing r c.before → c.after.read_faults ≡ mid.read_faults
+    → RequestComesTo r c.before mid handed a → result ≡ status_of a → EndsWith c IsEndOfSearch result
+failing_ends c r a result mid handed f same comes e =
+    let job_comes : JobComesTo f.job c.before mid handed a =
+    subst (λ r. RequestComesTo r c.before mid handed a) f.wanted comes in
+    job_ends c IsEndOfSearch result f.job f.texts mid f.told same
+    (λ h b holds. ends_search b (is_of_search f.job f.texts f.program f.spelled f.searches h b holds))
+    handed a job_comes e
 
-pub shows_end : (c : Call) (a : Answer) (result : Status) → Shows c a result
+pub ends_failing : (c : Call) (a : Answer) (result : Status) → Ends c a result
     → TellsFailing (request_of c.words) c.before → EndsWith c IsEndOfSearch result
-shows_end c a result s f =
-    shown_ends c IsEndOfSearch result a s.read s.reads s.shown
-    (λ e. failing_ends c (request_of c.words) a result s.read f s.reads s.prints s.comes e)
+ends_failing c a result s f =
+    shown_ends c IsEndOfSearch result a s
+    (λ e. failing_ends c (request_of c.words) a result s.comes.read s.comes.handed f
+    (read_faults_stay c a result s) s.comes.comes e)
+
+-- a call that stops on the way
+pub stops_with : (c : Call) (wanted : Status → Type 0) → HasFault c → EndsWith c wanted status.WriteFault
+stops_with c wanted fault = write_fault refl fault

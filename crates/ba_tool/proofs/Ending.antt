@@ -1,14 +1,31 @@
 -- How a call ends, by the answer that it comes to.
 
-use Rattle.std.proofs.Common.{inl, inr, ℕ, ◌≤◌, List, ◌++◌, take, option_map, sym, ap, subst, ◌∙◌, arith}
-use Rattle.ba_world.specs.World.{HasPrintShortage, HasWriteFault, OnlyPrints, OnlyReads, Outside, Prints, PrintsPrefix}
+use Rattle.std.proofs.Common.{◌≡◌, ◌⊎◌, inl, inr, ℕ, ◌+◌, ◌<◌, ◌≤◌, Option, None, Some, List, ◌++◌, length, take, option_map, All, IfSome, refl, sym, ap, subst, ◌∙◌, arith}
+use Rattle.std.proofs.lemmas.List.{take_all}
+use Rattle.ba_cert.specs.Text.{text_of as certificate_of}
+use Rattle.ba_cert.specs.Writing.{BeginsText, HoldsBeginning, OnlyWritesTo}
+use Rattle.ba_commands.specs.Modes.{Word}
+use Rattle.ba_derivations.specs.declared.verdict.Verdict.{Verdict}
+use Rattle.ba_derivations.specs.declared.verdict.Verdict.TheVariants as verdict
+use Rattle.ba_localise.specs.Verdicts.{Derivation, Shows, Told}
+use Rattle.ba_steps.specs.Steps.{IsFormed}
+use Rattle.ba_steps.specs.declared.step.CertStep.{CertStep}
+use Rattle.ba_world.specs.World.{HasPrintShortage, HasWriteFault, OnlyPrints, OnlyReads, OnlyWrites, Outside, Prints, PrintsPrefix, Rose}
 use Rattle.ba_world.proofs.WholeReads.{rose_since}
-use Rattle.ba_tool.specs.Calls.{Answered, AnsweredInPart, Call, ComesTo, IsShown, RequestComesTo, Says, WritesNoFile}
-use Rattle.ba_tool.specs.Jobs.{request_of}
+use Rattle.ba_tool.specs.Answers.{Answers, IsAnswer}
+use Rattle.ba_tool.specs.Calls.{Answered, AnsweredInPart, Begins, Call, Certifies, Comes, ComesTo, HasFault, IsShown, JobComesTo, MayBegin, RequestComesTo, Says, Stops, Unanswered, WritesNoFile, WritesOnly}
+use Rattle.ba_tool.specs.Jobs.{cert_of, request_of}
 use Rattle.ba_tool.specs.Printed.{status_of, text_of}
 use Rattle.ba_tool.specs.declared.answers.Answer.{Answer}
 use Rattle.ba_tool.specs.declared.answers.Answer.TheVariants as answer
+use Rattle.ba_tool.specs.declared.files.Texts.{Texts}
+use Rattle.ba_tool.specs.declared.jobs.Job.{Job}
+use Rattle.ba_tool.specs.declared.jobs.Request.{Request}
+use Rattle.ba_tool.specs.declared.jobs.Request.TheVariants as request
 use Rattle.ba_tool.specs.declared.status.Status.{Status}
+use Rattle.ba_tool.specs.declared.status.Status.TheVariants as status
+use Rattle.ba_tree.specs.Least.{Judge, WeightList}
+use Rattle.ba_tree.specs.declared.tree.Program.{Program}
 
 -- what the status of an answer says, by the answer
 said : (c : Call) (a : Answer) → Answered c a → Says c (status_of a)
@@ -29,77 +46,277 @@ said c (answer.TooLong which) h = (which, h)
 said c (answer.BadWeights line) h = (line, h)
 said c answer.NotBuilt h = h
 
--- nothing was printed in reading
-prints_since : (before read after : Outside) (text : List ℕ) → OnlyReads before read → Prints read after text
+-- THE STEPS THAT ARE HANDED ON are formed
+
+shows_formed : (weights : WeightList) (good : Judge) (conflicts most : ℕ) (d : Derivation) (v : Verdict) →
+    Shows weights good conflicts most d v → All IsFormed d.steps
+shows_formed weights good conflicts most d (verdict.Located weight sets) shows = shows.says.0.formed
+shows_formed weights good conflicts most d verdict.NoRepair shows = shows.says.0.formed
+shows_formed weights good conflicts most d (verdict.TooMany weight sets) shows = shows.says.0.formed
+shows_formed weights good conflicts most d verdict.Spent shows = shows.says.formed
+
+abbrev AreFormed : Option Derivation → Type 0
+AreFormed handed = IfSome handed (λ d. All IsFormed d.steps)
+
+row_formed : (j : Job) (x : Texts) (p : Program) (handed : Option Derivation) (a : Answer) →
+    Answers j x p handed a → AreFormed handed
+row_formed j x p None a row = tt
+row_formed j x p (Some d) a row = shows_formed _ _ j.conflicts j.sets d row.verdict row.shows
+
+answer_formed : (j : Job) (x : Texts) (handed : Option Derivation) (a : Answer) → IsAnswer j x handed a →
+    AreFormed handed
+answer_formed j x handed (answer.BadProgram fault) (of, none) = subst AreFormed (sym none) tt
+answer_formed j x handed (answer.Located report) (p, s, row) = row_formed j x p handed (answer.Located
+    report) row
+answer_formed j x handed (answer.AssertFails at) (p, s, row) = row_formed j x p handed (answer.AssertFails
+    at) row
+answer_formed j x handed (answer.Trap at) (p, s, row) = row_formed j x p handed (answer.Trap at) row
+answer_formed j x handed answer.NotFailing (p, s, row) = row_formed j x p handed answer.NotFailing row
+answer_formed j x handed answer.BadWords (p, s, row) = row_formed j x p handed answer.BadWords row
+answer_formed j x handed (answer.BadInput fault) (p, s, row) = row_formed j x p handed (answer.BadInput
+    fault) row
+answer_formed j x handed answer.TooLarge (p, s, row) = row_formed j x p handed answer.TooLarge row
+answer_formed j x handed (answer.BeyondBound at) (p, s, row) = row_formed j x p handed (answer.BeyondBound
+    at) row
+answer_formed j x handed answer.NoRepair (p, s, row) = row_formed j x p handed answer.NoRepair row
+answer_formed j x handed (answer.TooManySets weight most) (p, s, row) = row_formed j x p handed
+    (answer.TooManySets weight most) row
+answer_formed j x handed (answer.BudgetSpent conflicts) (p, s, row) = row_formed j x p handed
+    (answer.BudgetSpent conflicts) row
+answer_formed j x handed (answer.Unreadable which) (p, s, row) = row_formed j x p handed (answer.Unreadable
+    which) row
+answer_formed j x handed (answer.TooLong which) (p, s, row) = row_formed j x p handed (answer.TooLong
+    which) row
+answer_formed j x handed (answer.BadWeights line) (p, s, row) = row_formed j x p handed (answer.BadWeights
+    line) row
+answer_formed j x handed answer.NotBuilt (p, s, row) = row_formed j x p handed answer.NotBuilt row
+
+none_formed : (handed : Option Derivation) → handed ≡ None → AreFormed handed
+none_formed handed none = subst AreFormed (sym none) tt
+
+job_formed : (j : Job) (before read : Outside) (handed : Option Derivation) (a : Answer) →
+    JobComesTo j before read handed a → AreFormed handed
+job_formed j before read handed (answer.Unreadable which) (stops, none) = none_formed handed none
+job_formed j before read handed (answer.TooLong which) (stops, none) = none_formed handed none
+job_formed j before read handed (answer.BadProgram fault) (x, r, is) = answer_formed j x handed
+    (answer.BadProgram fault) is
+job_formed j before read handed (answer.Located report) (x, r, is) = answer_formed j x handed
+    (answer.Located report) is
+job_formed j before read handed (answer.AssertFails at) (x, r, is) = answer_formed j x handed
+    (answer.AssertFails at) is
+job_formed j before read handed (answer.Trap at) (x, r, is) = answer_formed j x handed (answer.Trap at) is
+job_formed j before read handed answer.NotFailing (x, r, is) = answer_formed j x handed answer.NotFailing is
+job_formed j before read handed answer.BadWords (x, r, is) = answer_formed j x handed answer.BadWords is
+job_formed j before read handed (answer.BadInput fault) (x, r, is) = answer_formed j x handed
+    (answer.BadInput fault) is
+job_formed j before read handed answer.TooLarge (x, r, is) = answer_formed j x handed answer.TooLarge is
+job_formed j before read handed (answer.BeyondBound at) (x, r, is) = answer_formed j x handed
+    (answer.BeyondBound at) is
+job_formed j before read handed answer.NoRepair (x, r, is) = answer_formed j x handed answer.NoRepair is
+job_formed j before read handed (answer.TooManySets weight most) (x, r, is) = answer_formed j x handed
+    (answer.TooManySets weight most) is
+job_formed j before read handed (answer.BudgetSpent conflicts) (x, r, is) = answer_formed j x handed
+    (answer.BudgetSpent conflicts) is
+job_formed j before read handed (answer.BadWeights line) (x, r, is) = answer_formed j x handed
+    (answer.BadWeights line) is
+job_formed j before read handed answer.NotBuilt (x, r, is) = answer_formed j x handed answer.NotBuilt is
+
+formed_of : (r : Request) (before read : Outside) (handed : Option Derivation) (a : Answer) →
+    RequestComesTo r before read handed a → AreFormed handed
+formed_of request.Refused before read handed a (is, once) = none_formed handed once.unsearched
+formed_of request.NotBuilt before read handed a (is, once) = none_formed handed once.unsearched
+formed_of (request.Wanted j) before read handed a comes = job_formed j before read handed a comes
+
+-- WHAT IS WRITTEN before anything is printed
+
+-- a whole certificate begins with its first bytes
+whole_begins : (steps : List CertStep) (kept : Option (List ℕ)) → All IsFormed steps →
+    IfSome kept (λ bytes. bytes ≡ certificate_of steps) → IfSome kept BeginsText
+whole_begins steps None formed held = tt
+whole_begins steps (Some bytes) formed held = (
+  steps,
+  formed,
+  (length bytes, sym (take_all (length bytes) bytes (omega arith)) ∙ ap (take (length bytes)) held),
+)
+
+may_begin : (name : Option Word) (handed : Option Derivation) (old new : Outside) → AreFormed handed →
+    Certifies name handed old new → MayBegin name old new
+may_begin None handed old new formed same = same
+may_begin (Some name) None old new formed same = inl same
+may_begin (Some name) (Some d) old new formed writes = inr (record {
+  only = writes.only;
+  beginning = λ still. ∣ whole_begins d.steps (new.kept name) formed writes.holds ∣₁;
+})
+
+pub comes_stops : (r : Request) (before after : Outside) (t u : Told) (a : Answer) →
+    Comes r before after t u a
+    → Stops r before after
+comes_stops r before after t u a c = record {
+  read = c.read;
+  reads = c.reads;
+  may = may_begin (cert_of r) c.handed c.read after (formed_of r before c.read c.handed a c.comes)
+      c.certifies;
+}
+
+writes_none : (o : Outside) → OnlyWrites o o
+writes_none o = record {
+  no_fall = omega arith;
+  printed = refl;
+  is_reading = refl;
+  read_faults = refl;
+  print_shortages = refl;
+  given = refl;
+}
+
+pub only_writes : (name : Option Word) (old new : Outside) → MayBegin name old new → OnlyWrites old new
+only_writes None old new same = subst (OnlyWrites old) (sym same) (writes_none old)
+only_writes (Some name) old new (inl same) = subst (OnlyWrites old) (sym same) (writes_none old)
+only_writes (Some name) old new (inr begins) = begins.only.stays
+
+-- the faults of reading stay
+pub reads_stay : (r : Request) (before after : Outside) (t u : Told) (a : Answer) (c : Comes r before after
+    t u a) →
+    after.read_faults ≡ c.read.read_faults
+reads_stay r before after t u a c = (only_writes (cert_of r) c.read after
+    (may_begin (cert_of r) c.handed c.read after (formed_of r before c.read c.handed a c.comes)
+    c.certifies)).read_faults
+
+-- nothing was printed, no fault of reading rose, and no print found no memory
+pub record IsUnprinted (before after : Outside) : Type 0 where
+  pub printed : after.printed ≡ before.printed
+  pub write_no_fall : before.write_faults ≤ after.write_faults
+  pub shortages : after.print_shortages ≡ before.print_shortages
+
+pub unprinted : (r : Request) (before after : Outside) → Stops r before after → IsUnprinted before after
+unprinted r before after s =
+    let w = only_writes (cert_of r) s.read after s.may in record {
+      printed = w.printed ∙ s.reads.printed;
+      write_no_fall = let e = s.reads.write_faults in let h = w.no_fall in omega (arith, e, h);
+      shortages = w.print_shortages ∙ s.reads.print_shortages;
+    }
+
+prints_since : (before mid after : Outside) (text : List ℕ) → IsUnprinted before mid → Prints mid after text
     → Prints before after text
-prints_since before read after text reads prints = prints ∙ ap (option_map (λ bytes. bytes ++ text))
-    reads.printed
+prints_since before mid after text u prints = prints ∙ ap (option_map (λ bytes. bytes ++ text)) u.printed
 
-part_since : (before read after : Outside) (text : List ℕ) → OnlyReads before read →
-    PrintsPrefix read after text
-    → PrintsPrefix before after text
-part_since before read after text reads (count, prints) =
-    (count, prints_since before read after (take count text) reads prints)
+part_since : (before mid after : Outside) (text : List ℕ) → IsUnprinted before mid →
+    PrintsPrefix mid after text → PrintsPrefix before after text
+part_since before mid after text u (count, prints) =
+    (count, prints_since before mid after (take count text) u prints)
 
--- and no fault of writing rose
-pub write_fault_since : (before read after : Outside) → OnlyReads before read → HasWriteFault read after
-    → HasWriteFault before after
-write_fault_since before read after reads rose =
-    let same : before.write_faults ≤ read.write_faults = let e = reads.write_faults in omega arith in
-    rose_since before.write_faults read.write_faults after.write_faults same rose
-
--- and no print found no memory
-shortage_since : (before read after : Outside) → OnlyReads before read → HasPrintShortage read after
+shortage_since : (before mid after : Outside) → IsUnprinted before mid → HasPrintShortage mid after
     → HasPrintShortage before after
-shortage_since before read after reads rose =
-    let same : before.print_shortages ≤ read.print_shortages = let e = reads.print_shortages in omega arith in
-    rose_since before.print_shortages read.print_shortages after.print_shortages same rose
+shortage_since before mid after u rose =
+    let same : before.print_shortages ≤ mid.print_shortages = let e = u.shortages in omega (arith, e) in
+    rose_since before.print_shortages mid.print_shortages after.print_shortages same rose
 
--- a call that comes to an answer, and shows it
-pub record Shows (c : Call) (a : Answer) (result : Status) : Type 0 where
-  pub read : Outside
-  pub comes : RequestComesTo (request_of c.words) c.before read a
-  pub reads : OnlyReads c.before read
-  pub prints : OnlyPrints read c.after
-  pub shown : IsShown a read c.after result
-  pub prefix : PrintsPrefix read c.after (text_of a)
+-- a fault of the world is one of the world and the sink
+pub rose_with : (a b c d e : ℕ) → a ≤ b → d ≤ e → Rose b c → Rose (a + d) (c + e)
+rose_with a b c d e le up (inl more) = inl (omega (arith, le, up, more))
+rose_with a b c d e le up (inr far) = inr (omega (arith, far))
 
-came : (c : Call) (a : Answer) (result : Status) → Shows c a result → ComesTo c a
-came c a result s = record { read = s.read; comes = s.comes; reads = s.reads; prints = s.prints }
+-- and so is one of the sink
+pub rose_beside : (a b d e : ℕ) → a ≤ b → Rose d e → Rose (a + d) (b + e)
+rose_beside a b d e le (inl more) = inl (omega (arith, le, more))
+rose_beside a b d e le (inr far) = inr (omega (arith, far))
 
-in_part : (c : Call) (a : Answer) (result : Status) → Shows c a result → AnsweredInPart c
-in_part c a result s = (a, came c a result s, part_since c.before s.read c.after (text_of a) s.reads s.prefix)
+-- and one that rose later
+pub rose_later : (a b c d e : ℕ) → a ≤ b → Rose (b + d) (c + e) → Rose (a + d) (c + e)
+rose_later a b c d e le (inl more) = inl (omega (arith, le, more))
+rose_later a b c d e le (inr far) = inr far
 
-pub shows_says : (c : Call) (a : Answer) (result : Status) → Shows c a result → Says c result
-shows_says c a result s = by s.shown where
-  by : IsShown a s.read c.after result → Says c result
-  by (inl whole) = subst (Says c) (sym whole.0)
-      (said c a (came c a result s, prints_since c.before s.read c.after (text_of a) s.reads whole.1))
-  by (inr (inl fault)) = subst (Says c) (sym fault.0)
-      (write_fault_since c.before s.read c.after s.reads fault.1, in_part c a result s)
-  by (inr (inr (is, inl same))) = subst (Says c) (sym is) (inl (subst (OnlyReads c.before) (sym same)
-      s.reads))
-  by (inr (inr (is, inr short))) = subst (Says c) (sym is)
-      (inr (shortage_since c.before s.read c.after s.reads short, in_part c a result s))
+-- A CALL THAT COMES TO AN ANSWER, and shows it
+pub record Ends (c : Call) (a : Answer) (result : Status) : Type 0 where
+  pub written : Outside
+  pub comes : Comes (request_of c.words) c.before written c.told_before c.told_after a
+  pub prints : OnlyPrints written c.after
+  pub shown : IsShown a written c.after result
+  pub prefix : PrintsPrefix written c.after (text_of a)
+  pub no_fall : c.told_before.faults ≤ c.told_after.faults
 
--- no file was written, in reading and in printing
-pub reads_write_none : (before read : Outside) → OnlyReads before read → WritesNoFile before read
-reads_write_none before read reads = record {
-  held = reads.held;
-  kept = reads.kept;
-  writing = reads.writing;
-  is_writing = reads.is_writing;
-  read_no_fall = reads.no_fall;
-  write_no_fall = let e = reads.write_faults in omega arith;
+module _ (c : Call) (a : Answer) (result : Status) (s : Ends c a result) where
+  came : ComesTo c a
+  came = record { written = s.written; comes = s.comes; prints = s.prints }
+
+  stopped : Stops (request_of c.words) c.before s.written
+  stopped = comes_stops (request_of c.words) c.before s.written c.told_before c.told_after a s.comes
+
+  still : IsUnprinted c.before s.written
+  still = unprinted (request_of c.words) c.before s.written stopped
+
+  in_part : AnsweredInPart c
+  in_part = (a, came, part_since c.before s.written c.after (text_of a) still s.prefix)
+
+  pub fault_since : HasWriteFault s.written c.after → HasFault c
+  fault_since rose = rose_with c.before.write_faults s.written.write_faults c.after.write_faults
+      c.told_before.faults c.told_after.faults still.write_no_fall s.no_fall rose
+
+  pub ends_says : Says c result
+  ends_says = by s.shown where
+    by : IsShown a s.written c.after result → Says c result
+    by (inl whole) = subst (Says c) (sym whole.0)
+        (said c a (came, prints_since c.before s.written c.after (text_of a) still whole.1))
+    by (inr (inl fault)) = subst (Says c) (sym fault.0) (fault_since fault.1, inl in_part)
+    by (inr (inr (is, inl same))) = subst (Says c) (sym is)
+        (inl (subst (Stops (request_of c.words) c.before) (sym same) stopped))
+    by (inr (inr (is, inr short))) = subst (Says c) (sym is)
+        (inr (shortage_since c.before s.written c.after still short, in_part))
+
+-- NO FILE IS WRITTEN but the certificate
+
+may_write : (name : Option Word) (before read mid after : Outside) → OnlyReads before read →
+    MayBegin name read mid
+    → OnlyPrints mid after → WritesOnly name before after
+may_write None before read mid after reads same prints =
+    let print : OnlyPrints read after = subst (λ o. OnlyPrints o after) same prints in record {
+      held = print.held ∙ reads.held;
+      kept = print.kept ∙ reads.kept;
+      writing = print.writing ∙ reads.writing;
+      is_writing = print.is_writing ∙ reads.is_writing;
+      read_no_fall = let e = print.read_faults in let h = reads.no_fall in omega (arith, e, h);
+      write_no_fall = let e = reads.write_faults in let h = print.no_fall in omega (arith, e, h);
+    }
+may_write (Some name) before read mid after reads (inl same) prints =
+    let print : OnlyPrints read after = subst (λ o. OnlyPrints o after) same prints in record {
+      kept = λ other apart. ap (λ (kept : Word → Option (List ℕ)). kept other) (print.kept ∙ reads.kept);
+      read_no_fall = let e = print.read_faults in let h = reads.no_fall in omega (arith, e, h);
+      write_no_fall = let e = reads.write_faults in let h = print.no_fall in omega (arith, e, h);
+    }
+may_write (Some name) before read mid after reads (inr begins) prints =
+    let w = begins.only.stays in record {
+      kept = λ other apart. ap (λ (kept : Word → Option (List ℕ)). kept other) prints.kept
+          ∙ begins.only.kept other apart ∙ ap (λ (kept : Word → Option (List ℕ)). kept other) reads.kept;
+      read_no_fall = let e = prints.read_faults in let f = w.read_faults in let h = reads.no_fall in
+          omega (arith, e, f, h);
+      write_no_fall = let e = reads.write_faults in let f = w.no_fall in let h = prints.no_fall in
+          omega (arith, e, f, h);
+    }
+
+pub stops_write : (r : Request) (before mid after : Outside) → Stops r before mid → OnlyPrints mid after
+    → WritesOnly (cert_of r) before after
+stops_write r before mid after s prints =
+    may_write (cert_of r) before s.read mid after s.reads s.may prints
+
+prints_none : (o : Outside) → OnlyPrints o o
+prints_none o = record {
+  no_fall = omega arith;
+  no_fewer = omega arith;
+  held = refl;
+  left = refl;
+  kept = refl;
+  writing = refl;
+  is_reading = refl;
+  is_writing = refl;
+  read_faults = refl;
+  given = refl;
 }
 
-pub prints_write_none : (before read after : Outside) → OnlyReads before read → OnlyPrints read after
-    → WritesNoFile before after
-prints_write_none before read after reads prints = record {
-  held = prints.held ∙ reads.held;
-  kept = prints.kept ∙ reads.kept;
-  writing = prints.writing ∙ reads.writing;
-  is_writing = prints.is_writing ∙ reads.is_writing;
-  read_no_fall = let e = prints.read_faults in let h = reads.no_fall in omega arith;
-  write_no_fall = let e = reads.write_faults in let h = prints.no_fall in omega arith;
-}
+pub stops_unprinted : (r : Request) (before after : Outside) → Stops r before after
+    → WritesOnly (cert_of r) before after
+stops_unprinted r before after s = stops_write r before after after s (prints_none after)
+
+pub comes_write : (r : Request) (before mid after : Outside) (t u : Told) (a : Answer) →
+    Comes r before mid t u a
+    → OnlyPrints mid after → WritesOnly (cert_of r) before after
+comes_write r before mid after t u a c prints =
+    stops_write r before mid after (comes_stops r before mid t u a c) prints

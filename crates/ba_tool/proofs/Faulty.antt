@@ -44,7 +44,8 @@ pub type_tells : (source : List ℕ) (tree : RawProgram) (error : TypeError) →
     → Checked tree.externals.items (Err error) → TellsFault source (type_fault error)
 type_tells source tree (type.UnknownName at) is first =
     ill_typed tree (record { at = at; cause = typing.UnknownName }) is first refl
-type_tells source tree (type.Twice at) is first = ill_typed tree (record { at = at; cause = typing.Twice }) is first refl
+type_tells source tree (type.Twice at) is first = ill_typed tree (record { at = at; cause = typing.Twice })
+    is first refl
 type_tells source tree (type.WrongKind at) is first =
     ill_typed tree (record { at = at; cause = typing.WrongKind }) is first refl
 type_tells source tree (type.WrongCount at) is first =
@@ -56,7 +57,8 @@ type_tells source tree (type.BreakOutside at) is first =
     ill_typed tree (record { at = at; cause = typing.BreakOutside }) is first refl
 type_tells source tree (type.CallInIndex at) is first =
     ill_typed tree (record { at = at; cause = typing.CallInIndex }) is first refl
-type_tells source tree (type.Limit at) is first = ill_typed tree (record { at = at; cause = typing.Limit }) is first refl
+type_tells source tree (type.Limit at) is first = ill_typed tree (record { at = at; cause = typing.Limit })
+    is first refl
 type_tells source tree type.Memory is first = tt
 
 pub spells : (source : List ℕ) (tree : RawProgram) (p : Program) → IsTreeOf source tree

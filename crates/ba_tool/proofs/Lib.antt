@@ -1,8 +1,8 @@
 mod Powers
-mod Mapped
 mod Bounded
 mod Ending
 mod Counting
+mod Reports
 mod Stages
 mod Rows
 mod OneAnswer
@@ -10,3 +10,4 @@ mod Due
 mod Coming
 mod Faulty
 mod Answering
+mod Searching

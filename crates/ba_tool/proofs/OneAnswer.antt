@@ -1,9 +1,10 @@
 -- The answers of texts agree.
-use Rattle.std.proofs.Common.{◌≡◌, ◌⊎◌, inl, inr, ℕ, None, Some, Ok, Err, List, [], refl, sym, ◌∙◌, ap, subst, arith}
+use Rattle.std.proofs.Common.{◌≡◌, ◌⊎◌, inl, inr, ℕ, Option, None, Some, Ok, Err, List, [], refl, sym, ◌∙◌, ap, subst, arith}
 use Rattle.std.specs.Prelude.{Contains}
 use Rattle.ba_lex.specs.Lines.{tokens_of}
 use Rattle.ba_lex.specs.declared.error.LexError.{LexError}
 use Rattle.ba_lex.specs.declared.token.Token.{Token}
+use Rattle.ba_localise.specs.Verdicts.{Derivation}
 use Rattle.ba_parse.specs.FileMarks.{file_marks}
 use Rattle.ba_parse.specs.Files.{IsParsed, Says, Verdict, deep_at, parsed, syntax_at}
 use Rattle.ba_parse.specs.Marks.{Mark}
@@ -60,7 +61,8 @@ record IsLater (source : List ℕ) (fault : Fault) : Type 0 where
   pub says : Says tokens verdict
   pub is : IsFaultBy tokens verdict fault
 
-staged : (source : List ℕ) (fault : Fault) → IsFault source fault → IsLexical source fault ⊎ IsLater source fault
+staged : (source : List ℕ) (fault : Fault) → IsFault source fault →
+    IsLexical source fault ⊎ IsLater source fault
 staged source fault (no_tokens error refused told) =
     inl (record { error = error; refused = refused; told = told })
 staged source fault (no_file tokens number lexed says is) =
@@ -114,7 +116,8 @@ tree_fault_same tree other fault second same (first f is_first is) (first g is_o
 tree_fault_same tree other fault second same (first f is_first is) (none empty untyped are) =
     absurd (none_first f (faults_of tree.externals.items) (same_faults tree other same ∙ empty) is_first)
 tree_fault_same tree other fault second same (none empty untyped is) (first g is_other are) =
-    absurd (none_first g (faults_of other.externals.items) (sym (same_faults tree other same) ∙ empty) is_other)
+    absurd (none_first g (faults_of other.externals.items) (sym (same_faults tree other same) ∙ empty)
+    is_other)
 tree_fault_same tree other fault second same (none empty untyped is) (none e u are) = is ∙ sym are
 
 by_same : (tokens : List Token) (verdict : Verdict) (fault second : Fault) → IsFaultBy tokens verdict fault
@@ -167,7 +170,8 @@ module _ (source : List ℕ) where
       → tokens_of source ≡ Ok tokens → IsParsed tokens (file_marks tree) → Spells source p
       → IsFaultOf tree fault → ⊥
   tree_spelled p tree tokens fault lexed is_parsed spells (first f is_first is) =
-      none_first f (faults_of tree.externals.items) (clean source tokens tree p lexed is_parsed spells) is_first
+      none_first f (faults_of tree.externals.items) (clean source tokens tree p lexed is_parsed spells)
+      is_first
   tree_spelled p tree tokens fault lexed is_parsed spells (none empty untyped is) =
       let both = sym untyped ∙ has_program source tokens tree p lexed is_parsed spells in cc
 
@@ -201,40 +205,63 @@ module _ (source : List ℕ) where
 -- THE ANSWERS OF TEXTS AGREE
 
 module _ (j : Job) (x : Texts) where
-  record IsSpelled (a : Answer) : Type 0 where
+  record IsSpelled (handed : Option Derivation) (a : Answer) : Type 0 where
     pub p : Program
     pub spells : Spells x.program p
-    pub row : Answers j x p a
+    pub row : Answers j x p handed a
 
   record IsRefused (a : Answer) : Type 0 where
     pub fault : Fault
     pub is : a ≡ answer.BadProgram fault
     pub of : IsFault x.program fault
 
-  sorted : (a : Answer) → IsAnswer j x a → IsSpelled a ⊎ IsRefused a
-  sorted (answer.BadProgram fault) of = inr (record { fault = fault; is = refl; of = of })
-  sorted _ (p, spells, row) = inl (record { p = p; spells = spells; row = row })
+  spelled_as : (handed : Option Derivation) (a : Answer) →
+      (p : Program) × Spells x.program p × Answers j x p handed a → IsSpelled handed a ⊎ IsRefused a
+  spelled_as handed a (p, spells, row) = inl (record { p = p; spells = spells; row = row })
 
-  sorted_same : (a b : Answer) → IsSpelled a ⊎ IsRefused a → IsSpelled b ⊎ IsRefused b → Agree a b
-  sorted_same a b (inl one) (inl other) = same_row j x one.p other.p
-      (one_of_text x.program one.p other.p one.spells other.spells) a b one.row other.row
-  sorted_same a b (inl one) (inr other) =
+  sorted : (handed : Option Derivation) (a : Answer) → IsAnswer j x handed a →
+      IsSpelled handed a ⊎ IsRefused a
+  sorted handed (answer.BadProgram fault) (of, unhanded) = inr (record { fault = fault; is = refl; of = of })
+  sorted handed (answer.Located report) h = spelled_as handed (answer.Located report) h
+  sorted handed (answer.AssertFails at) h = spelled_as handed (answer.AssertFails at) h
+  sorted handed (answer.Trap at) h = spelled_as handed (answer.Trap at) h
+  sorted handed answer.NotFailing h = spelled_as handed answer.NotFailing h
+  sorted handed answer.BadWords h = spelled_as handed answer.BadWords h
+  sorted handed (answer.BadInput fault) h = spelled_as handed (answer.BadInput fault) h
+  sorted handed answer.TooLarge h = spelled_as handed answer.TooLarge h
+  sorted handed (answer.BeyondBound at) h = spelled_as handed (answer.BeyondBound at) h
+  sorted handed answer.NoRepair h = spelled_as handed answer.NoRepair h
+  sorted handed (answer.TooManySets weight most) h = spelled_as handed (answer.TooManySets weight most) h
+  sorted handed (answer.BudgetSpent conflicts) h = spelled_as handed (answer.BudgetSpent conflicts) h
+  sorted handed (answer.Unreadable which) h = spelled_as handed (answer.Unreadable which) h
+  sorted handed (answer.TooLong which) h = spelled_as handed (answer.TooLong which) h
+  sorted handed (answer.BadWeights line) h = spelled_as handed (answer.BadWeights line) h
+  sorted handed answer.NotBuilt h = spelled_as handed answer.NotBuilt h
+
+  sorted_same : (h k : Option Derivation) (a b : Answer) → IsSpelled h a ⊎ IsRefused a →
+      IsSpelled k b ⊎ IsRefused b
+      → Agree j a b
+  sorted_same h k a b (inl one) (inl other) = same_row j x one.p other.p
+      (one_of_text x.program one.p other.p one.spells other.spells) h k a b one.row other.row
+  sorted_same h k a b (inl one) (inr other) =
       absurd (no_fault x.program one.p other.fault one.spells other.of)
-  sorted_same a b (inr one) (inl other) =
+  sorted_same h k a b (inr one) (inl other) =
       absurd (no_fault x.program other.p one.fault other.spells one.of)
-  sorted_same a b (inr one) (inr other) = are_one (one.is
+  sorted_same h k a b (inr one) (inr other) = are_one (one.is
       ∙ ap answer.BadProgram (one_fault x.program one.fault other.fault one.of other.of) ∙ sym other.is)
 
-  pub one_answer : (a b : Answer) → IsAnswer j x a → IsAnswer j x b → Agree a b
-  one_answer a b one other = sorted_same a b (sorted a one) (sorted b other)
+  pub one_answer : (h k : Option Derivation) (a b : Answer) → IsAnswer j x h a → IsAnswer j x k b →
+      Agree j a b
+  one_answer h k a b one other = sorted_same h k a b (sorted h a one) (sorted k b other)
 
   -- where the program of a text fails that is to be localised, the answer is of a search
-  sorted_searched : (p : Program) → Spells x.program p → Searches j x p → (a : Answer)
-      → IsSpelled a ⊎ IsRefused a → IsOfSearch a
-  sorted_searched p spells searches a (inl it) =
-      searched_too j x p it.p (one_of_text x.program p it.p spells it.spells) searches a it.row
-  sorted_searched p spells searches a (inr it) = absurd (no_fault x.program p it.fault spells it.of)
+  sorted_searched : (p : Program) → Spells x.program p → Searches j x p → (h : Option Derivation) (a : Answer)
+      → IsSpelled h a ⊎ IsRefused a → IsOfSearch a
+  sorted_searched p spells searches h a (inl it) =
+      searched_too j x p it.p (one_of_text x.program p it.p spells it.spells) searches h a it.row
+  sorted_searched p spells searches h a (inr it) = absurd (no_fault x.program p it.fault spells it.of)
 
-  pub is_of_search : (p : Program) → Spells x.program p → Searches j x p → (a : Answer) → IsAnswer j x a
-      → IsOfSearch a
-  is_of_search p spells searches a holds = sorted_searched p spells searches a (sorted a holds)
+  pub is_of_search : (p : Program) → Spells x.program p → Searches j x p →
+      (h : Option Derivation) (a : Answer)
+      → IsAnswer j x h a → IsOfSearch a
+  is_of_search p spells searches h a holds = sorted_searched p spells searches h a (sorted h a holds)

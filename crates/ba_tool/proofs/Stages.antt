@@ -1,21 +1,27 @@
 -- The answers of a job with a program agree: it stops at one stage, which the row of each answer tells.
 use Rattle.std.proofs.Common.{◌≡◌, ◌≢◌, ℕ, ◌<◌, ◌≤◌, Bool, true, false, Option, None, Some, List, [], ◌∷◌, refl, sym, ◌∙◌, ap, subst, arith}
 use Rattle.std.proofs.lemmas.Bool.Decides.{nat_tests}
+use Rattle.std.proofs.lemmas.List.{length-map}
+use Rattle.std.proofs.lemmas.Option.{same_Some}
 use Rattle.std.specs.Prelude.{Contains, length, nat_lt, ◌+◌}
 use Rattle.ba_commands.specs.Weights.{bad_line}
 use Rattle.ba_numbers.specs.declared.ids.StmtId.{StmtId}
 use Rattle.ba_numbers.specs.declared.ids.At.{At}
-use Rattle.ba_derivations.specs.Derivations.{AreTooMany}
+use Rattle.ba_derivations.specs.Derivations.{AreTooMany, sets_of}
+use Rattle.ba_derivations.specs.declared.verdict.FoundSet.{FoundSet}
+use Rattle.ba_derivations.specs.declared.verdict.Verdict.{Verdict}
+use Rattle.ba_derivations.specs.declared.verdict.Verdict.TheVariants.{Located, NoRepair, TooMany, Spent}
+use Rattle.ba_localise.specs.Verdicts.{AreLocated, Derivation, IsVerdict}
+use Rattle.ba_report.specs.Report.{report_text}
 use Rattle.ba_tree.specs.Inputs.{InputFault as TextFault, input_fault}
 use Rattle.ba_tree.specs.Run.{plain_run}
 use Rattle.ba_tree.specs.Units.{units_of}
-use Rattle.ba_tree.specs.Least.{IsLeastSet, judge_of, weight_of}
+use Rattle.ba_tree.specs.Least.{AreLeast, IsLeastSet, weight_of}
 use Rattle.ba_tree.specs.declared.run.Outcome.{Outcome}
 use Rattle.ba_tree.specs.declared.run.Outcome.TheVariants as outcome
 use Rattle.ba_tree.specs.declared.tree.Program.{Program}
 use Rattle.ba_tree.proofs.Sets.{AreLeast-unique}
-use Rattle.ba_tool.specs.Answers.{Agree, AreAccepted, AreLeastSets, Answers, Fails, HasTooMany, IsOfSearch, Locates, RunsTo, Searches, are_one, first_spent, input_of, is_failure, judge_in, second_spent, text_fault, unit_limit, weights_of}
-use Rattle.ba_tool.specs.Report.{report_text, statement_at}
+use Rattle.ba_tool.specs.Answers.{Agree, AreAccepted, Answers, AnswersAtOnce, AnswersBy, Fails, IsOfSearch, RunsTo, Searches, Tells, are_one, first_spent, input_of, is_failure, judge_in, position_of, runs_differ, second_spent, text_fault, unit_limit, weights_of}
 use Rattle.ba_tool.specs.declared.answers.Answer.{Answer}
 use Rattle.ba_tool.specs.declared.answers.Answer.TheVariants as answer
 use Rattle.ba_tool.specs.declared.answers.InputFault.{InputFault}
@@ -24,7 +30,9 @@ use Rattle.ba_tool.specs.declared.files.Texts.{Texts}
 use Rattle.ba_tool.specs.declared.jobs.Job.{Job}
 use Rattle.ba_tool.specs.declared.jobs.Task.{Task}
 use Rattle.ba_tool.specs.declared.jobs.Task.TheVariants as task
+use Rattle.ba_tool.proofs.Answering.{tells_of_search}
 use Rattle.ba_tool.proofs.Counting.{distinct_short}
+use Rattle.ba_tool.proofs.Reports.{report_same}
 
 -- STAGES: where a job stops
 
@@ -80,25 +88,19 @@ module _ (j : Job) (x : Texts) (p : Program) where
   -- THE ANSWER of a stage
 
   -- what is found where a failing run is to be repaired
-  data IsFound (a : Answer) : Type 0 where
-    no_repair : AreLeastSets j x p [] → a ≡ answer.NoRepair → IsFound a
-    located : (bytes : List ℕ) → Locates j x p bytes → a ≡ answer.Located bytes → IsFound a
-    too_many : (weight most : ℕ) → HasTooMany j x p weight most → a ≡ answer.TooManySets weight most
-        → IsFound a
-    spent : (conflicts : ℕ) → a ≡ answer.BudgetSpent conflicts → IsFound a
+  abbrev IsFound : Answer → Type 0
+  IsFound a = (d : Derivation) × AnswersBy j x p d a
 
   found_searched : (a : Answer) → IsFound a → IsOfSearch a
-  found_searched a (no_repair least is) = subst IsOfSearch (sym is) tt
-  found_searched a (located bytes locates is) = subst IsOfSearch (sym is) tt
-  found_searched a (too_many weight most many is) = subst IsOfSearch (sym is) tt
-  found_searched a (spent conflicts is) = subst IsOfSearch (sym is) tt
+  found_searched a (d, by) = tells_of_search j x.program p by.verdict a by.tells
 
-  abbrev IsShownBy : Task → Answer → Answer → Type 0
-  IsShownBy task.Run shown a = a ≡ shown
-  IsShownBy task.Localise shown a = IsFound a
+  -- what is shown at a statement
+  abbrev IsShownAt : (At → Answer) → StmtId → Answer → Type 0
+  IsShownAt shown stmt a = (at : At) × (position_of p stmt ≡ Some at) × (a ≡ shown at)
 
-  abbrev place_of : StmtId → At
-  place_of stmt = (statement_at p.statements stmt.0).at
+  abbrev IsShownBy : Task → (At → Answer) → StmtId → Answer → Type 0
+  IsShownBy task.Run shown stmt a = IsShownAt shown stmt a
+  IsShownBy task.Localise shown stmt a = IsFound a
 
   record IsFaultOf (fault : TextFault) (a : Answer) : Type 0 where
     pub of : InputFault
@@ -110,17 +112,17 @@ module _ (j : Job) (x : Texts) (p : Program) where
   Fits (at_weights line) a = a ≡ answer.BadWeights line
   Fits at_units a = a ≡ answer.TooLarge
   Fits (at_end outcome.Done) a = a ≡ answer.NotFailing
-  Fits (at_end (outcome.Beyond stmt)) a = a ≡ answer.BeyondBound (place_of stmt)
-  Fits (at_end (outcome.AssertFails stmt)) a = IsShownBy j.task (answer.AssertFails (place_of stmt)) a
-  Fits (at_end (outcome.Trap stmt)) a = IsShownBy j.task (answer.Trap (place_of stmt)) a
+  Fits (at_end (outcome.Beyond stmt)) a = IsShownAt answer.BeyondBound stmt a
+  Fits (at_end (outcome.AssertFails stmt)) a = IsShownBy j.task answer.AssertFails stmt a
+  Fits (at_end (outcome.Trap stmt)) a = IsShownBy j.task answer.Trap stmt a
   Fits (at_end outcome.WrongChoices) a = ⊥
 
   found_fits : (end : Outcome) (a : Answer) → j.task ≡ task.Localise → is_failure end ≡ true → IsFound a
       → Fits (at_end end) a
   found_fits (outcome.AssertFails stmt) a is fails found =
-      subst (λ t. IsShownBy t (answer.AssertFails (place_of stmt)) a) (sym is) found
+      subst (λ t. IsShownBy t answer.AssertFails stmt a) (sym is) found
   found_fits (outcome.Trap stmt) a is fails found =
-      subst (λ t. IsShownBy t (answer.Trap (place_of stmt)) a) (sym is) found
+      subst (λ t. IsShownBy t answer.Trap stmt a) (sym is) found
   found_fits outcome.Done a is fails found = absurd (let no : ⊥ = cc in no)
   found_fits (outcome.Beyond stmt) a is fails found = absurd (let no : ⊥ = cc in no)
   found_fits outcome.WrongChoices a is fails found = absurd (let no : ⊥ = cc in no)
@@ -129,55 +131,55 @@ module _ (j : Job) (x : Texts) (p : Program) where
   found a is (end, runs, fails) it =
       subst (λ s. Fits s a) (sym (by_end end runs)) (found_fits end a is fails it)
 
-  fits : (a : Answer) → Answers j x p a → Fits stage a
-  fits (answer.BadInput f) is = subst (λ s. Fits s (answer.BadInput f)) (sym (by_input (text_fault f) is))
-      (record { of = f; is = refl; told = refl })
-  fits (answer.BadWeights line) (none, is) =
+  fits_at_once : (a : Answer) → AnswersAtOnce j x p a → Fits stage a
+  fits_at_once (answer.BadInput f) is = subst (λ s. Fits s (answer.BadInput f))
+      (sym (by_input (text_fault f) is)) (record { of = f; is = refl; told = refl })
+  fits_at_once (answer.BadWeights line) (none, is) =
       subst (λ s. Fits s (answer.BadWeights line)) (sym (by_line (Some line) none is)) refl
-  fits answer.TooLarge (accepted, large) =
+  fits_at_once answer.TooLarge (accepted, large) =
       subst (λ s. Fits s answer.TooLarge) (sym (by_units accepted large)) refl
-  fits answer.NotFailing runs = subst (λ s. Fits s answer.NotFailing) (sym (by_end outcome.Done runs)) refl
-  fits (answer.BeyondBound at) (stmt, runs, is) =
-      subst (λ s. Fits s (answer.BeyondBound at)) (sym (by_end (outcome.Beyond stmt) runs))
-      (ap answer.BeyondBound is)
-  fits (answer.AssertFails at) (task_is, (stmt, runs, is)) =
+  fits_at_once answer.NotFailing runs =
+      subst (λ s. Fits s answer.NotFailing) (sym (by_end outcome.Done runs)) refl
+  fits_at_once (answer.BeyondBound at) (stmt, runs, is) =
+      subst (λ s. Fits s (answer.BeyondBound at)) (sym (by_end (outcome.Beyond stmt) runs)) (at, is, refl)
+  fits_at_once (answer.AssertFails at) (task_is, (stmt, runs, is)) =
       subst (λ s. Fits s (answer.AssertFails at)) (sym (by_end (outcome.AssertFails stmt) runs))
-      (subst (λ t. IsShownBy t (answer.AssertFails (place_of stmt)) (answer.AssertFails at)) (sym task_is)
-      (ap answer.AssertFails is))
-  fits (answer.Trap at) (task_is, (stmt, runs, is)) =
+      (subst (λ t. IsShownBy t answer.AssertFails stmt (answer.AssertFails at)) (sym task_is) (at, is, refl))
+  fits_at_once (answer.Trap at) (task_is, (stmt, runs, is)) =
       subst (λ s. Fits s (answer.Trap at)) (sym (by_end (outcome.Trap stmt) runs))
-      (subst (λ t. IsShownBy t (answer.Trap (place_of stmt)) (answer.Trap at)) (sym task_is)
-      (ap answer.Trap is))
-  fits answer.NoRepair ((is, fails), least) = found answer.NoRepair is fails (no_repair least refl)
-  fits (answer.Located bytes) ((is, fails), locates) =
-      found (answer.Located bytes) is fails (located bytes locates refl)
-  fits (answer.TooManySets weight most) ((is, fails), many) =
-      found (answer.TooManySets weight most) is fails (too_many weight most many refl)
-  fits (answer.BudgetSpent conflicts) ((is, fails), it) =
-      found (answer.BudgetSpent conflicts) is fails (spent conflicts refl)
-  fits answer.NotBuilt none = absurd none
-  fits answer.BadWords none = absurd none
-  fits (answer.BadProgram f) none = absurd none
-  fits (answer.Unreadable which) none = absurd none
-  fits (answer.TooLong which) none = absurd none
+      (subst (λ t. IsShownBy t answer.Trap stmt (answer.Trap at)) (sym task_is) (at, is, refl))
+  fits_at_once answer.NoRepair none = absurd none
+  fits_at_once (answer.Located bytes) none = absurd none
+  fits_at_once (answer.TooManySets weight most) none = absurd none
+  fits_at_once (answer.BudgetSpent conflicts) none = absurd none
+  fits_at_once answer.NotBuilt none = absurd none
+  fits_at_once answer.BadWords none = absurd none
+  fits_at_once (answer.BadProgram f) none = absurd none
+  fits_at_once (answer.Unreadable which) none = absurd none
+  fits_at_once (answer.TooLong which) none = absurd none
+
+  fits : (handed : Option Derivation) (a : Answer) → Answers j x p handed a → Fits stage a
+  fits None a row = fits_at_once a row
+  fits (Some d) a row = found a row.searches.0 row.searches.1 (d, row)
 
   -- a failing run that is to be repaired has what is found
-  shown_found : (t : Task) (shown a : Answer) → t ≡ task.Localise → IsShownBy t shown a → IsFound a
-  shown_found task.Localise shown a is it = it
-  shown_found task.Run shown a is it = absurd (let no : ⊥ = cc in no)
+  shown_found : (t : Task) (shown : At → Answer) (stmt : StmtId) (a : Answer) → t ≡ task.Localise →
+      IsShownBy t shown stmt a → IsFound a
+  shown_found task.Localise shown stmt a is it = it
+  shown_found task.Run shown stmt a is it = absurd (let no : ⊥ = cc in no)
 
   found_at : (end : Outcome) (a : Answer) → j.task ≡ task.Localise → is_failure end ≡ true
       → Fits (at_end end) a → IsFound a
-  found_at (outcome.AssertFails stmt) a is fails it =
-      shown_found j.task (answer.AssertFails (place_of stmt)) a is it
-  found_at (outcome.Trap stmt) a is fails it = shown_found j.task (answer.Trap (place_of stmt)) a is it
+  found_at (outcome.AssertFails stmt) a is fails it = shown_found j.task answer.AssertFails stmt a is it
+  found_at (outcome.Trap stmt) a is fails it = shown_found j.task answer.Trap stmt a is it
   found_at outcome.Done a is fails it = absurd (let no : ⊥ = cc in no)
   found_at (outcome.Beyond stmt) a is fails it = absurd (let no : ⊥ = cc in no)
   found_at outcome.WrongChoices a is fails it = absurd it
 
-  pub searched : Searches j x p → (a : Answer) → Answers j x p a → IsOfSearch a
-  searched (is, (end, runs, fails)) a row =
-      found_searched a (found_at end a is fails (subst (λ s. Fits s a) (by_end end runs) (fits a row)))
+  pub searched : Searches j x p → (handed : Option Derivation) (a : Answer) → Answers j x p handed a →
+      IsOfSearch a
+  searched (is, (end, runs, fails)) handed a row = found_searched a
+      (found_at end a is fails (subst (λ s. Fits s a) (by_end end runs) (fits handed a row)))
 
   -- THE ANSWERS OF EACH STAGE AGREE
 
@@ -187,45 +189,79 @@ module _ (j : Job) (x : Texts) (p : Program) where
   one_fault fault.WrongCount fault.WrongCount is = refl
   one_fault _ _ is = absurd (let no : ⊥ = cc in no)
 
+  -- two verdicts that are true agree
+
+  abbrev IsTrue : Derivation → Verdict → Type 0
+  IsTrue d v = IsVerdict (weights_of p x) (judge_in j x p) j.conflicts j.sets d.steps v
+
+  abbrev AreAll : ℕ → List FoundSet → Type 0
+  AreAll weight sets = AreLocated (weights_of p x) (judge_in j x p) j.sets weight sets
+
+  abbrev AreMany : ℕ → List FoundSet → Type 0
+  AreMany weight sets = AreTooMany (weights_of p x) (judge_in j x p) weight j.sets (sets_of sets)
+
   -- a list of sets of which there are some has a first one
-  weighs : (sets : List (List ℕ)) (one other : ℕ) → sets ≢ []
-      → ((set : List ℕ) → Contains sets set → weight_of (weights_of p x) set ≡ one)
-      → ((set : List ℕ) → Contains sets set → weight_of (weights_of p x) set ≡ other) → one ≡ other
+  weighs : (sets : List FoundSet) (one other : ℕ) → sets ≢ []
+      → ((set : List ℕ) → Contains (sets_of sets) set → weight_of (weights_of p x) set ≡ one)
+      → ((set : List ℕ) → Contains (sets_of sets) set → weight_of (weights_of p x) set ≡ other) → one ≡ other
   weighs [] one other some first second = absurd (some refl)
-  weighs (set ∷ sets) one other some first second = sym (first set (0, omega arith, refl))
-      ∙ second set (0, omega arith, refl)
+  weighs (set ∷ sets) one other some first second = sym (first set.groups (0, omega arith, refl))
+      ∙ second set.groups (0, omega arith, refl)
 
-  one_report : (bytes others : List ℕ) → Locates j x p bytes → Locates j x p others → bytes ≡ others
-  one_report bytes others one other =
-      let sets : one.sets ≡ other.sets = AreLeast-unique (weights_of p x) (judge_of p (input_of p x) j.bounds)
-      one.sets other.sets one.least other.least in
-      let weight : one.weight ≡ other.weight = weighs one.sets one.weight other.weight one.some
-      one.each_weighs (subst (λ sets. (set : List ℕ) → Contains sets set
-      → weight_of (weights_of p x) set ≡ other.weight) (sym sets) other.each_weighs) in
-      one.reported ∙ ap (λ weight. report_text x.program p.statements weight one.sets) weight
-      ∙ ap (report_text x.program p.statements other.weight) sets ∙ sym other.reported
+  all_same : (weight more : ℕ) (sets others : List FoundSet) → AreAll weight sets → AreAll more others →
+      sets_of sets ≡ sets_of others
+  all_same weight more sets others one other = AreLeast-unique (weights_of p x) (judge_in j x p)
+      (sets_of sets) (sets_of others) one.least other.least
 
-  some_or_none : (bytes : List ℕ) → AreLeastSets j x p [] → Locates j x p bytes → ⊥
-  some_or_none bytes none some = some.some (AreLeast-unique (weights_of p x)
-      (judge_of p (input_of p x) j.bounds) some.sets [] some.least none)
+  all_weigh : (weight more : ℕ) (sets others : List FoundSet) → AreAll weight sets → AreAll more others →
+      weight ≡ more
+  all_weigh weight more sets others one other = weighs sets weight more one.some one.each_weighs
+      (subst (λ sets. (set : List ℕ) → Contains sets set → weight_of (weights_of p x) set ≡ more)
+      (sym (all_same weight more sets others one other)) other.each_weighs)
+
+  -- reports of all least sets are one, but for their runs where these are shown
+  all_agree : (weight more : ℕ) (sets others : List FoundSet) (a b : Answer) → AreAll weight sets
+      → AreAll more others → a ≡ answer.Located (report_text x.program p j.runs weight sets)
+      → b ≡ answer.Located (report_text x.program p j.runs more others) → Agree j a b
+  all_agree weight more sets others a b one other is are = by j.runs refl where
+    by : (runs : Bool) → j.runs ≡ runs → Agree j a b
+    by true shown = runs_differ (report_text x.program p j.runs weight sets)
+        (report_text x.program p j.runs more others) is are shown
+    by false plain = are_one (is
+        ∙ ap answer.Located (ap (λ runs. report_text x.program p runs weight sets) plain
+        ∙ ap (λ weight. report_text x.program p false weight sets) (all_weigh weight more sets others one
+        other)
+        ∙ report_same x.program p more sets others (all_same weight more sets others one other)
+        ∙ ap (λ runs. report_text x.program p runs more others) (sym plain))
+        ∙ sym are)
+
+  no_sets : (sets : List FoundSet) → sets_of sets ≡ [] → sets ≡ []
+  no_sets [] e = refl
+  no_sets (set ∷ sets) e = absurd (let no : ⊥ = cc in no)
+
+  some_or_none : (weight : ℕ) (sets : List FoundSet) → AreAll weight sets →
+      AreLeast (weights_of p x) (judge_in j x p) [] → ⊥
+  some_or_none weight sets all none = all.some (no_sets sets
+      (AreLeast-unique (weights_of p x) (judge_in j x p) (sets_of sets) [] all.least none))
 
   -- more sets than may be listed are some, and aren't all of a list of no more
-  many_or_none : (weight most : ℕ) → AreLeastSets j x p [] → HasTooMany j x p weight most → ⊥
-  many_or_none weight most none many = by many.found many.too_many.each many.too_many.count where
+  many_or_none : (weight : ℕ) (sets : List FoundSet) → AreMany weight sets →
+      AreLeast (weights_of p x) (judge_in j x p) [] → ⊥
+  many_or_none weight sets many none = by (sets_of sets) many.each many.count where
     by : (found : List (List ℕ))
         → ((set : List ℕ) → Contains found set → IsLeastSet (weights_of p x) (judge_in j x p) set)
-        → length found ≡ most + 1 → ⊥
-    by [] each count = omega arith
+        → length found ≡ j.sets + 1 → ⊥
+    by [] each count = omega (arith, count)
     by (set ∷ sets) each count = let has : Contains [] set =
-        (none.exactly set).1 (each set (0, omega arith, refl)) in omega arith
+        (none.exactly set).1 (each set (0, omega arith, refl)) in omega (arith, has.1)
 
-  many_or_few : (bytes : List ℕ) (weight most : ℕ) → Locates j x p bytes → HasTooMany j x p weight most → ⊥
-  many_or_few bytes weight most some many =
-      let short : length many.found ≤ length some.sets = distinct_short many.found some.sets
-      many.too_many.differ (λ set has. (some.least.exactly set).1 (many.too_many.each set has)) in
-      let count = many.too_many.count in
-      let limit = many.limit in
-      let few = some.few in omega arith
+  many_or_few : (weight more : ℕ) (sets others : List FoundSet) → AreAll weight sets → AreMany more others → ⊥
+  many_or_few weight more sets others all many =
+      let short : length (sets_of others) ≤ length (sets_of sets) = distinct_short (sets_of others)
+      (sets_of sets) many.differ (λ set has. (all.least.exactly set).1 (many.each set has)) in
+      let count = many.count in
+      let few = all.few in
+      let same = length-map sets (λ (b : FoundSet). b.groups) in omega (arith, short, count, few, same)
 
   -- two least sets weigh the same
   same_weight : (set other : List ℕ) → IsLeastSet (weights_of p x) (judge_in j x p) set
@@ -252,52 +288,58 @@ module _ (j : Job) (x : Texts) (p : Program) where
   weight_same weight other most found (set ∷ sets) one two = many_weight weight other most found set one
       (two.each set (0, omega arith, refl)) (two.each_weighs set (0, omega arith, refl))
 
-  many_same : (weight most other more : ℕ) → HasTooMany j x p weight most → HasTooMany j x p other more
-      → answer.TooManySets weight most ≡ answer.TooManySets other more
-  many_same weight most other more one two =
-      let limit : more ≡ most = two.limit ∙ sym one.limit in
-      let weighs = weight_same weight other most one.found two.found one.too_many
-      (subst (λ most. AreTooMany (weights_of p x) (judge_in j x p) other most two.found) limit
-      two.too_many) in
-      ap (λ weight. answer.TooManySets weight most) weighs ∙ ap (answer.TooManySets other) (sym limit)
+  verdicts_agree : (d e : Derivation) (v w : Verdict) (a b : Answer) → IsTrue d v → IsTrue e w →
+      Tells j x.program p v a → Tells j x.program p w b → Agree j a b
+  verdicts_agree d e Spent w a b one other is are =
+      first_spent j.conflicts is (tells_of_search j x.program p w b are)
+  verdicts_agree d e v Spent a b one other is are =
+      second_spent j.conflicts are (tells_of_search j x.program p v a is)
+  verdicts_agree d e NoRepair NoRepair a b one other is are = are_one (is ∙ sym are)
+  verdicts_agree d e NoRepair (Located weight sets) a b one other is are =
+      absurd (some_or_none weight sets other one)
+  verdicts_agree d e NoRepair (TooMany weight sets) a b one other is are =
+      absurd (many_or_none weight sets other.0 one)
+  verdicts_agree d e (Located weight sets) NoRepair a b one other is are =
+      absurd (some_or_none weight sets one other)
+  verdicts_agree d e (Located weight sets) (Located more others) a b one other is are =
+      all_agree weight more sets others a b one other is are
+  verdicts_agree d e (Located weight sets) (TooMany more others) a b one other is are =
+      absurd (many_or_few weight more sets others one other.0)
+  verdicts_agree d e (TooMany weight sets) NoRepair a b one other is are =
+      absurd (many_or_none weight sets one.0 other)
+  verdicts_agree d e (TooMany weight sets) (Located more others) a b one other is are =
+      absurd (many_or_few more weight others sets other one.0)
+  verdicts_agree d e (TooMany weight sets) (TooMany more others) a b one other is are = are_one (is
+      ∙ ap (λ weight. answer.TooManySets weight j.sets)
+      (weight_same weight more j.sets (sets_of sets) (sets_of others) one.0 other.0) ∙ sym are)
 
-  one_found : (a b : Answer) → IsFound a → IsFound b → Agree a b
-  one_found a b (spent conflicts is) other = first_spent conflicts is (found_searched b other)
-  one_found a b one (spent conflicts are) = second_spent conflicts are (found_searched a one)
-  one_found a b (no_repair least is) (no_repair others are) = are_one (is ∙ sym are)
-  one_found a b (no_repair least is) (located bytes locates are) =
-      absurd (some_or_none bytes least locates)
-  one_found a b (no_repair least is) (too_many weight most many are) =
-      absurd (many_or_none weight most least many)
-  one_found a b (located bytes locates is) (no_repair least are) =
-      absurd (some_or_none bytes least locates)
-  one_found a b (located bytes locates is) (located others other are) =
-      are_one (is ∙ ap answer.Located (one_report bytes others locates other) ∙ sym are)
-  one_found a b (located bytes locates is) (too_many weight most many are) =
-      absurd (many_or_few bytes weight most locates many)
-  one_found a b (too_many weight most many is) (no_repair least are) =
-      absurd (many_or_none weight most least many)
-  one_found a b (too_many weight most many is) (located bytes locates are) =
-      absurd (many_or_few bytes weight most locates many)
-  one_found a b (too_many weight most many is) (too_many other more others are) =
-      are_one (is ∙ many_same weight most other more many others ∙ sym are)
+  one_found : (a b : Answer) → IsFound a → IsFound b → Agree j a b
+  one_found a b (d, one) (e, other) = verdicts_agree d e one.verdict other.verdict a b
+      one.shows.is_verdict other.shows.is_verdict one.tells other.tells
 
-  one_shown : (t : Task) (shown a b : Answer) → IsShownBy t shown a → IsShownBy t shown b → Agree a b
-  one_shown task.Run shown a b is are = are_one (is ∙ sym are)
-  one_shown task.Localise shown a b one other = one_found a b one other
+  one_at : (shown : At → Answer) (stmt : StmtId) (a b : Answer) → IsShownAt shown stmt a →
+      IsShownAt shown stmt b
+      → Agree j a b
+  one_at shown stmt a b (at, place, is) (other, there, are) = are_one (is
+      ∙ ap shown (same_Some at other (sym place ∙ there)) ∙ sym are)
 
-  one_fits : (s : Stage) (a b : Answer) → Fits s a → Fits s b → Agree a b
+  one_shown : (t : Task) (shown : At → Answer) (stmt : StmtId) (a b : Answer) → IsShownBy t shown stmt a
+      → IsShownBy t shown stmt b → Agree j a b
+  one_shown task.Run shown stmt a b one other = one_at shown stmt a b one other
+  one_shown task.Localise shown stmt a b one other = one_found a b one other
+
+  one_fits : (s : Stage) (a b : Answer) → Fits s a → Fits s b → Agree j a b
   one_fits (at_input f) a b one other = are_one
       (one.is ∙ ap answer.BadInput (one_fault one.of other.of (sym one.told ∙ other.told)) ∙ sym other.is)
   one_fits (at_weights line) a b is are = are_one (is ∙ sym are)
   one_fits at_units a b is are = are_one (is ∙ sym are)
   one_fits (at_end outcome.Done) a b is are = are_one (is ∙ sym are)
-  one_fits (at_end (outcome.Beyond stmt)) a b is are = are_one (is ∙ sym are)
+  one_fits (at_end (outcome.Beyond stmt)) a b one other = one_at answer.BeyondBound stmt a b one other
   one_fits (at_end (outcome.AssertFails stmt)) a b one other =
-      one_shown j.task (answer.AssertFails (place_of stmt)) a b one other
-  one_fits (at_end (outcome.Trap stmt)) a b one other =
-      one_shown j.task (answer.Trap (place_of stmt)) a b one other
+      one_shown j.task answer.AssertFails stmt a b one other
+  one_fits (at_end (outcome.Trap stmt)) a b one other = one_shown j.task answer.Trap stmt a b one other
   one_fits (at_end outcome.WrongChoices) a b one other = absurd one
 
-  pub one_row : (a b : Answer) → Answers j x p a → Answers j x p b → Agree a b
-  one_row a b row other = one_fits stage a b (fits a row) (fits b other)
+  pub one_row : (one other : Option Derivation) (a b : Answer) → Answers j x p one a → Answers j x p other b
+      → Agree j a b
+  one_row one other a b row second = one_fits stage a b (fits one a row) (fits other b second)

@@ -1,7 +1,6 @@
 -- WHAT THE WORDS of a call ask for, as far as it is built.
 
-use Rattle.std.specs.Prelude.{Bool, true, false, ◌==◌, Option, None, Some, List, [], ◌∷◌, codes, bytes_eq}
-use Rattle.std.specs.List.{before_first, list_any}
+use Rattle.std.specs.Prelude.{false, Option, None, Some, List}
 use Rattle.ba_commands.specs.Commands.{command_of}
 use Rattle.ba_commands.specs.Modes.{Word}
 use Rattle.ba_commands.specs.declared.commands.Command.{Command}
@@ -10,42 +9,45 @@ use Rattle.ba_tool.specs.declared.jobs.Request.{Request}
 use Rattle.ba_tool.specs.declared.jobs.Request.TheVariants as request
 use Rattle.ba_tool.specs.declared.jobs.Task.TheVariants as task
 
--- the options that need the search, which isn't built
-abbrev pub search_options : List Word
-search_options =
-    codes "--cert" ∷ codes "--conflicts" ∷ codes "--restart" ∷ codes "--runs" ∷ codes "--sets" ∷ []
-
--- a word that is one of these options, alone or with `=` and a value behind it
-abbrev pub asks_for_search : Word → Bool
-asks_for_search word =
-    list_any (λ option. bytes_eq option (before_first (λ b. b == 61) word)) search_options
-
--- what is asked for by the command that words are, and by whether one of them asks for the search
-abbrev pub request_by : Option Command → Bool → Request
-request_by None searches = request.Refused
-request_by (Some (command.Localise program input bounds weights conflicts sets cert runs steady)) false =
+-- what a command asks for, if words are one; a run is no search, so it has no conflicts, sets and certificate
+abbrev pub request_by : Option Command → Request
+request_by None = request.Refused
+request_by (Some (command.Localise program input bounds weights conflicts sets cert runs steady)) =
     request.Wanted (record {
       task = task.Localise;
       program = program;
       input = input;
       weights = weights;
       bounds = bounds;
+      conflicts = conflicts;
+      sets = sets;
+      cert = cert;
+      runs = runs;
+      steady = steady;
     })
-request_by (Some (command.Localise program input bounds weights conflicts sets cert runs steady)) true =
-    request.NotBuilt
-request_by (Some (command.Run program input bounds)) searches =
+request_by (Some (command.Run program input bounds)) =
     request.Wanted (record {
       task = task.Run;
       program = program;
       input = input;
       weights = None;
       bounds = bounds;
+      conflicts = 0;
+      sets = 0;
+      cert = None;
+      runs = false;
+      steady = false;
     })
-request_by (Some (command.Check program input cert bounds weights conflicts sets)) searches = request.NotBuilt
-request_by (Some (command.Sample additions)) searches = request.NotBuilt
+request_by (Some (command.Check program input cert bounds weights conflicts sets)) = request.NotBuilt
+request_by (Some (command.Sample additions)) = request.NotBuilt
 
 -- WHAT IS ASKED FOR: the words are refused exactly where they are no command; of the commands, the modes
--- `check` and
--- `sample` and the options that need the search aren't built; each other command is a job
+-- `check` and `sample` aren't built; each other command is a job
 abbrev pub request_of : List Word → Request
-request_of words = request_by (command_of words) (list_any asks_for_search words)
+request_of words = request_by (command_of words)
+
+-- the name of the certificate, where one is asked for
+abbrev pub cert_of : Request → Option Word
+cert_of request.Refused = None
+cert_of request.NotBuilt = None
+cert_of (request.Wanted j) = j.cert

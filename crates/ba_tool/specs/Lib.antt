@@ -1,7 +1,7 @@
-pub mod Report
 pub mod Jobs
 pub mod Programs
 pub mod Printed
 pub mod Answers
+pub mod Cases
 pub mod Calls
 pub mod Luby

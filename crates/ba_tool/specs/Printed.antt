@@ -102,8 +102,8 @@ text_of (answer.Trap at) = codes "trap at " ++ at_text at ++ codes "\n"
 text_of answer.NotFailing = codes "not failing\n"
 text_of answer.BadWords = codes "refused: words\n"
 text_of (answer.BadProgram fault) =
-    codes "refused: program, error " ++ code_of fault.cause ++ codes " at " ++ place_text fault.at ++ codes
-    "\n"
+    codes "refused: program, error " ++ code_of fault.cause ++ codes " at " ++ place_text fault.at
+    ++ codes "\n"
 text_of (answer.BadInput fault) = codes "refused: input, error " ++ input_text fault ++ codes "\n"
 text_of answer.TooLarge = codes "refused: too large\n"
 text_of (answer.BeyondBound at) = codes "beyond bound at " ++ at_text at ++ codes "\n"

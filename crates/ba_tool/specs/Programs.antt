@@ -41,16 +41,10 @@ place_at tokens number = option_map (λ (t : Token). t.at) (slice_get tokens num
 
 -- the fault that an error of the tree of these tokens is; none for want of memory
 abbrev pub tree_fault : List Token → ParseError → Option Fault
-tree_fault tokens (syntactic.Syntax number) = Some (record {
-  cause = cause.Syntax;
-  at = place_at tokens
-      number;
-})
-tree_fault tokens (syntactic.TooDeep number) = Some (record {
-  cause = cause.TooDeep;
-  at = place_at tokens
-      number;
-})
+tree_fault tokens (syntactic.Syntax number) =
+    Some (record { cause = cause.Syntax; at = place_at tokens number })
+tree_fault tokens (syntactic.TooDeep number) =
+    Some (record { cause = cause.TooDeep; at = place_at tokens number })
 tree_fault tokens syntactic.Memory = None
 
 -- the fault that a fault of typing is, and that an error of typing is; none for want of memory

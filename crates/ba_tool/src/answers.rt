@@ -6,10 +6,10 @@ ghost use Rattle.ba_tool.specs.declared.answers.Answer.{Answer};
 
 use crate::faults::{Cause, Fault};
 use crate::files::File;
-use crate::report::push_number;
 use crate::status::Status;
 use ba_items::Items;
 use ba_numbers::ids::At;
+use ba_text::push_number;
 use std::alloc::{AllocError, Global};
 
 /// Why a text is no input of a program. Pieces between blanks are counted from 1.

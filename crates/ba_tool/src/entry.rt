@@ -8,6 +8,7 @@ ghost use Rattle.ba_tool.specs.Printed.{number_of};
 use crate::rules::{Rules, keep, luby, steady};
 use crate::status::Status;
 use crate::tool::tool;
+use ba_steps::NoSink;
 use ba_world::{HostWorld, RuntimeFiles};
 use std::alloc::{AllocError, Global};
 use std::env;
@@ -50,7 +51,7 @@ fn texts(alloc: Global, words: &[String]) -> Result<Vec<&str>, AllocError>
     Ok(texts)
 }
 
-/// Calls the program over real files and standard output.
+/// Calls the program over real files and standard output. That it does is shown by tests alone.
 ///
 /// The one error is want of memory.
 pub fn run<R: Env + Alloc<A = Global> + Files + Print>(rt: &R) -> Result<Status, AllocError> {
@@ -59,7 +60,7 @@ pub fn run<R: Env + Alloc<A = Global> + Files + Print>(rt: &R) -> Result<Status,
     let words = texts(alloc, arguments.as_slice())?;
     let mut world = HostWorld::new(RuntimeFiles(rt), io::writer(rt));
     let rules = Rules::new(luby, steady, keep);
-    Ok(tool(alloc, words.as_slice(), &mut world, rules))
+    Ok(tool(alloc, words.as_slice(), &mut world, &mut NoSink, rules))
 }
 
 /// The code that the process ends with: the status's number.

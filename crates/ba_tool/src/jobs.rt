@@ -1,8 +1,7 @@
 //! What the words of a call ask for, as far as it is built.
 
-ghost use Rattle.std.specs.Prelude.{◌≡◌, ◌==◌, Some, map, bytes_eq, IfOk};
-ghost use Rattle.std.specs.List.{before_first, list_any};
-ghost use Rattle.ba_tool.specs.Jobs.{asks_for_search, request_by, request_of, search_options};
+ghost use Rattle.std.specs.Prelude.{◌≡◌, Some, map, IfOk};
+ghost use Rattle.ba_tool.specs.Jobs.{request_by, request_of};
 
 use ba_commands::{Command, Text, WordsError, read_words};
 use ba_tree::run::Bounds;
@@ -17,7 +16,7 @@ pub enum Task {
     Run,
 }
 
-/// What the words ask for: a task, the names of its files, and how far a run may go.
+/// What the words ask for: a task, the names of its files, and how far a run and a search may go.
 #[derive(Debug, Drop)]
 pub struct Job<'a> {
     pub task: Task,
@@ -28,6 +27,16 @@ pub struct Job<'a> {
     /// The file of the weights, if there is one.
     pub weights: Option<Text<'a>>,
     pub bounds: Bounds,
+    /// How many conflicts a search may have.
+    pub conflicts: u64,
+    /// How many sets may be listed.
+    pub sets: u32,
+    /// The file that the certificate is written to, if there is one.
+    pub cert: Option<Text<'a>>,
+    /// Whether a run is shown for each set.
+    pub runs: bool,
+    /// Whether the search restarts steadily, and not by Luby's sequence.
+    pub steady: bool,
 }
 
 /// What words come to, before any file is read.
@@ -41,49 +50,9 @@ pub enum Request<'a> {
     Wanted(Job<'a>),
 }
 
-static SEARCH_OPTIONS: [&str; 5] = ["--cert", "--conflicts", "--restart", "--runs", "--sets"];
-
-/// The options that need the search.
-fn search_options() -> &'static [&'static str]
-    ensures { map (λ option. option.now) result.now ≡ search_options }
-{
-    SEARCH_OPTIONS.as_slice()
-}
-
-/// Whether a word is one of these options.
-fn stands(options: &[&str], word: &str) -> bool
-    ensures { result ≡ list_any (λ option. bytes_eq option.now word.now) options.now }
-{
-    options.iter().any(|option| *option == word)
-}
-
-/// What stands before the first `=` of a word; the whole word where it has none.
-fn before_equals(word: &str) -> &str
-    ensures { result.now ≡ before_first (λ b. b == 61) word.now }
-{
-    match word.split_once('=') {
-        Some((name, _value)) => name,
-        None => word,
-    }
-}
-
-/// Whether a word is an option that needs the search, alone or with `=` and a value behind it.
-fn asks_for_search(word: &str) -> bool
-    ensures { result ≡ asks_for_search word.now }
-{
-    stands(search_options(), before_equals(word))
-}
-
-/// Whether one of the words asks for the search.
-fn any_asks_for_search(words: &[&str]) -> bool
-    ensures { result ≡ list_any (λ word. asks_for_search word.now) words.now }
-{
-    words.iter().any(|word| asks_for_search(word))
-}
-
-/// What a command asks for, where `searches` says whether one of its words asks for the search.
-fn request_by<'a>(command: Command<'a>, searches: bool) -> Request<'a>
-    ensures { result ≡ request_by (Some command.entry) searches }
+/// What a command asks for. A run is no search, so it has no conflicts, sets and certificate.
+fn request_by(command: Command) -> Request
+    ensures { result ≡ request_by (Some command.entry) }
 {
     match command {
         Command::Localise {
@@ -91,13 +60,22 @@ fn request_by<'a>(command: Command<'a>, searches: bool) -> Request<'a>
             input,
             bounds,
             weights,
-            ..
-        } if !searches => Request::Wanted(Job {
+            conflicts,
+            sets,
+            cert,
+            runs,
+            steady,
+        } => Request::Wanted(Job {
             task: Task::Localise,
             program,
             input,
             weights,
             bounds,
+            conflicts,
+            sets,
+            cert,
+            runs,
+            steady,
         }),
         Command::Run {
             program,
@@ -109,8 +87,13 @@ fn request_by<'a>(command: Command<'a>, searches: bool) -> Request<'a>
             input,
             weights: None,
             bounds,
+            conflicts: 0,
+            sets: 0,
+            cert: None,
+            runs: false,
+            steady: false,
         }),
-        _ => Request::NotBuilt,
+        Command::Check { .. } | Command::Sample { .. } => Request::NotBuilt,
     }
 }
 
@@ -125,5 +108,5 @@ pub fn read_request<'a>(alloc: Global, words: &'a [&str]) -> Result<Request<'a>,
         Err(WordsError::Bad) => return Ok(Request::Refused),
         Err(WordsError::Memory) => return Err(AllocError),
     };
-    Ok(request_by(command, any_asks_for_search(words)))
+    Ok(request_by(command))
 }

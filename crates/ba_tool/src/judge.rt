@@ -1,45 +1,68 @@
-//! What a job comes to, where its files have these texts.
+//! What a job comes to before any search, where its files have these texts.
 
-ghost use Rattle.std.specs.Prelude.{◌≡◌, ◌≤◌, true, Some, length, IfOk};
-ghost use Rattle.ba_tree.specs.Least.{AreWeightsOf};
-ghost use Rattle.ba_tree.specs.Run.{are_bounds, fits, plain_run};
-ghost use Rattle.ba_tool.specs.Answers.{Answers, IsAnswer, IsVerdictIn, RunsTo, Searches, input_answer, input_of, program_answer, weights_of};
+ghost use Rattle.std.specs.Prelude.{◌≡◌, ◌≢◌, ◌≤◌, true, Some, length, IfOk};
+ghost use Rattle.ba_tree.specs.Choices.{info_of};
+ghost use Rattle.ba_tree.specs.Run.{are_bounds, plain_run};
+ghost use Rattle.ba_types.specs.Spelling.{Spells};
+ghost use Rattle.ba_tool.specs.Answers.{RunsTo, input_answer, position_of, program_answer};
 ghost use Rattle.ba_tool.specs.Calls.{limit};
-ghost use Rattle.ba_tool.specs.Report.{statement_at};
+ghost use Rattle.ba_tool.specs.Cases.{IsCaseOf, IsJudged};
 ghost use Rattle.ba_tool.specs.declared.answers.Answer.{Answer};
-ghost use Rattle.ba_tool.specs.declared.jobs.Job.{Job};
+ghost use Rattle.ba_tool.specs.declared.files.Texts.{Texts};
+ghost use Rattle.ba_tree.specs.declared.run.Outcome.{Outcome};
 
 use crate::answers::{Answer, InputFault};
 use crate::faults::{Fault, read_program};
 use crate::files::Texts;
 use crate::jobs::{Job, Task};
-use crate::report::{report, statement_at};
-use crate::rules::{keep, luby};
 use ba_commands::{WeightsError, read_weights};
-use ba_derivations::Verdict;
 use ba_interp::{InputError, read_input, run};
 use ba_items::Items;
-use ba_localise::localise;
 use ba_numbers::ids::{At, StmtId};
 use ba_tree::run::{Allowed, Bounds, Input, Outcome, Weights};
-use ba_tree::tree::Program;
+use ba_tree::tree::{Program, StmtInfo};
 use ba_unroll::units;
 use std::alloc::{AllocError, Global};
 
 /// How many units a program may have.
 const UNIT_LIMIT: u32 = 20000;
 
-/// How many conflicts a search may have.
-const CONFLICT_LIMIT: u64 = 200000;
+/// A program with an input, and the weights of its statements.
+#[derive(Drop)]
+pub struct Case {
+    pub program: Program,
+    pub input: Input,
+    pub weights: Weights,
+}
 
-/// How many sets may be listed.
-const SET_LIMIT: u32 = 1000;
+/// What a job comes to before any search.
+#[derive(Drop)]
+pub enum Judged {
+    /// To this answer.
+    Answered(Answer),
+    /// The run of this case fails, and its least sets are to be searched for.
+    Fails(Case),
+}
+
+/// What the program says of a statement.
+fn info_of(program: &Program, stmt: StmtId) -> Option<StmtInfo>
+    ensures { result ≡ info_of program.now stmt }
+{
+    let place = stmt.0.checked_sub(1)?;
+    program.statements.as_slice().get(place as usize).copied()
+}
 
 /// Where a statement begins.
-fn position_of(program: &Program, stmt: StmtId) -> At
-    ensures { result ≡ (statement_at program.now.statements stmt.0).at }
+///
+/// The one error is want of memory, which is answered for a statement that the program doesn't
+/// have.
+fn position_of(program: &Program, stmt: StmtId) -> Result<At, AllocError>
+    ensures { IfOk result (λ at. position_of program.now stmt ≡ Some at) }
 {
-    statement_at(program.statements.as_slice(), stmt.0).at
+    match info_of(program, stmt) {
+        Some(info) => Ok(info.at),
+        None => Err(AllocError),
+    }
 }
 
 /// The outcome of the run as written.
@@ -84,21 +107,21 @@ fn input_answer(error: InputError) -> Result<Answer, AllocError>
     }
 }
 
-/// What a job comes to, where its files have these texts.
+/// What a job comes to before any search, where its files have these texts.
 ///
 /// In this order it reads the program, the input and the weights, counts the units, and runs the
-/// program as written. If that run fails and the task is to localise, it looks for the least sets.
+/// program as written.
 ///
 /// The one error is want of memory.
-pub fn judge(alloc: Global, job: &Job, texts: &Texts) -> Result<Answer, AllocError>
+pub fn judge(alloc: Global, job: &Job, texts: &Texts) -> Result<Judged, AllocError>
     requires program_short { length texts.now.program ≤ limit }
     requires input_short { length texts.now.input ≤ limit }
     requires bounds { are_bounds job.now.bounds ≡ true }
-    ensures { IfOk result (λ answer. IsAnswer job.now texts.now answer) }
+    ensures { IfOk result (IsJudged job.now texts.now) }
 {
     match read_program(alloc, texts.program.as_slice()) {
-        Ok(program) => judge_program(alloc, job, texts, &program),
-        Err(fault) => program_answer(fault),
+        Ok(program) => judge_program(alloc, job, texts, program),
+        Err(fault) => Ok(Judged::Answered(program_answer(fault)?)),
     }
 }
 
@@ -107,121 +130,64 @@ fn judge_program(
     alloc: Global,
     job: &Job,
     texts: &Texts,
-    program: &Program,
-) -> Result<Answer, AllocError>
+    program: Program,
+) -> Result<Judged, AllocError>
+    requires spells { Spells texts.now.program program }
     requires input_short { length texts.now.input ≤ limit }
     requires bounds { are_bounds job.now.bounds ≡ true }
-    ensures { IfOk result (λ answer. Answers job.now texts.now program.now answer) }
+    ensures { IfOk result (IsJudged job.now texts.now) }
 {
-    let input = match read_input(alloc, program, texts.input.as_slice()) {
+    let input = match read_input(alloc, &program, texts.input.as_slice()) {
         Ok(input) => input,
-        Err(error) => return input_answer(error),
+        Err(error) => return Ok(Judged::Answered(input_answer(error)?)),
     };
-    let weights = match read_weights(alloc, program, texts.weights.as_slice()) {
+    let weights = match read_weights(alloc, &program, texts.weights.as_slice()) {
         Ok(weights) => weights,
-        Err(WeightsError::Line(line)) => return Ok(Answer::BadWeights(line)),
+        Err(WeightsError::Line(line)) => return Ok(Judged::Answered(Answer::BadWeights(line))),
         Err(WeightsError::Memory) => return Err(AllocError),
     };
-    if units(program, job.bounds) > UNIT_LIMIT {
-        return Ok(Answer::TooLarge);
+    if units(&program, job.bounds) > UNIT_LIMIT {
+        return Ok(Judged::Answered(Answer::TooLarge));
     }
-    let outcome = plain_run(alloc, program, &input, job.bounds)?;
-    judge_run(alloc, job, texts, program, &input, &weights, outcome)
+    let outcome = plain_run(alloc, &program, &input, job.bounds)?;
+    let case = Case {
+        program,
+        input,
+        weights,
+    };
+    judge_run(job, case, outcome)
 }
 
-/// The same where its input and weights are these, it isn't too large, and its run as written ends
-/// so.
-fn judge_run(
-    alloc: Global,
-    job: &Job,
-    texts: &Texts,
-    program: &Program,
-    input: &Input,
-    weights: &Weights,
-    outcome: Outcome,
-) -> Result<Answer, AllocError>
-    requires input { input.now ≡ input_of program.now texts.now }
-    requires fits { fits program.now input.now ≡ true }
-    requires bounds { are_bounds job.now.bounds ≡ true }
-    requires weights { weights.now.of ≡ weights_of program.now texts.now }
-    requires weighed { AreWeightsOf program.now weights.now.of }
-    requires runs { RunsTo job.now texts.now program.now outcome }
-    ensures { IfOk result (λ answer. Answers job.now texts.now program.now answer) }
+/// What a job comes to where its case is this one, which isn't too large, and the run as written
+/// ends so.
+///
+/// The one error is want of memory.
+fn judge_run(job: &Job, case: Case, outcome: Outcome) -> Result<Judged, AllocError>
+    requires unchosen { outcome ≢ Outcome.WrongChoices }
+    ensures { (x : Texts) → IsCaseOf x case → RunsTo job.now x case.program outcome
+        → IfOk result (IsJudged job.now x) }
 {
     match outcome {
-        Outcome::Done => Ok(Answer::NotFailing),
-        Outcome::Beyond(stmt) => Ok(Answer::BeyondBound(position_of(program, stmt))),
+        Outcome::Done => Ok(Judged::Answered(Answer::NotFailing)),
+        Outcome::Beyond(stmt) => {
+            let at = position_of(&case.program, stmt)?;
+            Ok(Judged::Answered(Answer::BeyondBound(at)))
+        }
         Outcome::AssertFails(stmt) => match job.task {
-            Task::Run => Ok(Answer::AssertFails(position_of(program, stmt))),
-            Task::Localise => locate(alloc, job, texts, program, input, weights),
+            Task::Run => {
+                let at = position_of(&case.program, stmt)?;
+                Ok(Judged::Answered(Answer::AssertFails(at)))
+            }
+            Task::Localise => Ok(Judged::Fails(case)),
         },
         Outcome::Trap(stmt) => match job.task {
-            Task::Run => Ok(Answer::Trap(position_of(program, stmt))),
-            Task::Localise => locate(alloc, job, texts, program, input, weights),
+            Task::Run => {
+                let at = position_of(&case.program, stmt)?;
+                Ok(Judged::Answered(Answer::Trap(at)))
+            }
+            Task::Localise => Ok(Judged::Fails(case)),
         },
         // Nothing may be relaxed, so no choice is missing.
         Outcome::WrongChoices => unreachable!(),
-    }
-}
-
-/// What a job that localises comes to where the run as written fails: what a search for the least
-/// sets finds.
-///
-/// The one error is want of memory.
-fn locate(
-    alloc: Global,
-    job: &Job,
-    texts: &Texts,
-    program: &Program,
-    input: &Input,
-    weights: &Weights,
-) -> Result<Answer, AllocError>
-    requires input { input.now ≡ input_of program.now texts.now }
-    requires fits { fits program.now input.now ≡ true }
-    requires bounds { are_bounds job.now.bounds ≡ true }
-    requires weights { weights.now.of ≡ weights_of program.now texts.now }
-    requires weighed { AreWeightsOf program.now weights.now.of }
-    requires searches { Searches job.now texts.now program.now }
-    ensures { IfOk result (λ answer. Answers job.now texts.now program.now answer) }
-{
-    let verdict = localise(
-        alloc,
-        program,
-        input,
-        job.bounds,
-        weights,
-        CONFLICT_LIMIT,
-        SET_LIMIT,
-        luby,
-        keep,
-    )?;
-    verdict_answer(alloc, texts, program, verdict)
-}
-
-/// The answer for the verdict of a search.
-///
-/// The one error is want of memory.
-fn verdict_answer(
-    alloc: Global,
-    texts: &Texts,
-    program: &Program,
-    verdict: Verdict,
-) -> Result<Answer, AllocError>
-    ensures { IfOk result (λ answer. (job : Job) → Searches job texts.now program.now
-        → IsVerdictIn job texts.now program.now verdict
-        → Answers job texts.now program.now answer) }
-{
-    match verdict {
-        Verdict::Located { weight, sets } => {
-            let source = texts.program.as_slice();
-            let bytes = report(alloc, source, program, weight, sets.as_slice())?;
-            Ok(Answer::Located(Items::from_vec(bytes)))
-        }
-        Verdict::NoRepair => Ok(Answer::NoRepair),
-        Verdict::TooMany { weight, .. } => Ok(Answer::TooManySets {
-            weight,
-            most: SET_LIMIT,
-        }),
-        Verdict::Spent => Ok(Answer::BudgetSpent(CONFLICT_LIMIT)),
     }
 }

@@ -9,7 +9,7 @@ mod files;
 mod jobs;
 mod judge;
 pub mod laws;
-mod report;
 pub mod rules;
+mod search;
 pub mod status;
 pub mod tool;

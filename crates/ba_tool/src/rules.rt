@@ -1,9 +1,12 @@
-//! Rules of a search. Those of the caller are not used yet: the search goes by the ones of this file.
+//! Rules of a search: those that a caller of the program may choose, and those of the program
+//! itself.
 
 ghost use Rattle.std.specs.Prelude.{◌≡◌, ◌↔◌, ◌⊎◌, ℕ, ◌+◌, ◌*◌, ◌≤◌, ◌<◌, ◌^◌, IsTrue};
+ghost use Rattle.ba_search.specs.Rules.{IsKeepRule, IsRestartRule};
 ghost use Rattle.ba_tool.specs.Luby.{IsLubyTerm};
 
-/// When a search restarts, and which learnt clauses it keeps.
+/// When a search restarts, and which learnt clauses it keeps. What the program promises holds for
+/// all such rules; how soon a search ends depends on them.
 #[derive(Drop)]
 pub struct Rules<L, G, K> {
     /// How many conflicts the search has before it restarts, by the number of restarts so far,
@@ -17,8 +20,12 @@ pub struct Rules<L, G, K> {
 }
 
 impl<L: Fn(u64) -> u64, G: Fn(u64) -> u64, K: Fn(u64, u64) -> bool> Rules<L, G, K> {
-    /// The rules that these functions are.
+    /// The rules that these functions are: each restart rule may be asked at every number of
+    /// restarts and answers at least 1, and the keep rule keeps clauses of at most two literals.
     pub fn new(luby: L, steady: G, keep: K) -> Rules<L, G, K>
+        requires luby { IsRestartRule (L.pre luby) (L.post luby) }
+        requires steady { IsRestartRule (G.pre steady) (G.post steady) }
+        requires keep { IsKeepRule (K.pre keep) (K.post keep) }
         ensures luby { result.luby ≡ luby }
         ensures steady { result.steady ≡ steady }
         ensures keep { result.keep ≡ keep }

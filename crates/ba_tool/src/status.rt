@@ -25,8 +25,7 @@ pub enum Status {
     NoRepair = 7,
     /// There are more least sets than may be listed.
     TooManySets = 8,
-    /// The search spent its conflicts before it found out the least sets. Promised is that some allowed
-    /// steps over a faithful encoding have so many.
+    /// The search spent the conflicts that it may have before it found out the least sets.
     BudgetSpent = 9,
     /// A file could not be read.
     ReadFault = 11,

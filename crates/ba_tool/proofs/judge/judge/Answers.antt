@@ -1,15 +1,15 @@
-use Rattle.std.proofs.lemmas.Result.{IfOk-weaker}
-use Rattle.ba_tool.proofs.Answering.{answered, refused}
+use Rattle.std.proofs.Common.{subst}
+use Rattle.ba_types.specs.Spelling.{Spells}
+use Rattle.ba_tool.specs.Programs.{TellsFault}
+use Rattle.ba_tool.proofs.Answering.{refused}
 use Rattle.ba_tool.proofs.judge.judge.Goals as goal
 
-pub returns-in-Ok : goal.returns-in-Ok
-returns-in-Ok c = IfOk-weaker c.judge_program.result _ _
-    (λ a holds. answered c.args.job.now c.args.texts.now c.in-Ok.program a
-    (rw c.as_slice.ensures at c.in-Ok.ensures.ok) holds)
-    c.judge_program.ensures
+pub judge_program-requires-clause-spells : goal.judge_program-requires-clause-spells
+judge_program-requires-clause-spells c =
+    subst (λ source. Spells source c.in-Ok.program) c.as_slice.ensures c.in-Ok.ensures.ok
 
-pub returns-in-Err : goal.returns-in-Err
-returns-in-Err c = IfOk-weaker c.program_answer.result _ _
-    (λ a is. refused c.args.job.now c.args.texts.now c.in-Err.fault a (rw c.as_slice.ensures at c.in-Err.ensures.err)
-    is)
-    c.program_answer.ensures
+pub returns-in_ok-program_answer-in-Err : goal.returns-in_ok-program_answer-in-Err
+returns-in_ok-program_answer-in-Err c = refused c.args.job.now c.args.texts.now c.in-Err.fault
+    c.in_ok-program_answer-in-Err.field-0
+    (subst (λ source. TellsFault source c.in-Err.fault) c.as_slice.ensures c.in-Err.ensures.err)
+    c.in_ok-program_answer-in-Err.ensures

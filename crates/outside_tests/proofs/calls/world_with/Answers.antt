@@ -1,7 +1,7 @@
 use Rattle.std.proofs.Common.{[], ◌∷◌, ◌++◌, ◌∙◌, ap}
 use Rattle.std.specs.String.{string_bytes}
 use Rattle.outside_tests.proofs.Names.{three_names}
-use Rattle.outside_tests.proofs.program.world_with.Goals as goal
+use Rattle.outside_tests.proofs.calls.world_with.Goals as goal
 
 pub new-requires-clause-names : goal.new-requires-clause-names
 new-requires-clause-names c = three_names (λ file. string_bytes file.0) c.push-3.new.self.items

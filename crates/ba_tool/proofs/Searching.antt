@@ -1,0 +1,120 @@
+-- What a search comes to, from what it finds and hands on.
+
+use Rattle.std.proofs.Common.{◌≡◌, Option, None, Some, option_map, List, [], ◌∷◌, ◌++◌, IfSome, refl, sym, ap, subst, ◌∙◌, append_assoc, append-nil, ℕ}
+use Rattle.ba_cert.specs.Text.{text_of as certificate_of}
+use Rattle.ba_cert.specs.Writing.{OnlyWritesTo}
+use Rattle.ba_commands.specs.Modes.{Word}
+use Rattle.ba_derivations.specs.declared.verdict.Verdict.{Verdict}
+use Rattle.ba_localise.specs.Verdicts.{Derivation, Finds, Hands, Shows, Told}
+use Rattle.ba_steps.specs.Puts.{with_steps}
+use Rattle.ba_steps.specs.Sinks.{Logs, with_step, with_told}
+use Rattle.ba_steps.specs.declared.step.CertStep.{CertStep}
+use Rattle.ba_tree.specs.Least.{WeightList, judge_of}
+use Rattle.ba_tree.specs.declared.run.Input.{Input}
+use Rattle.ba_world.specs.World.{Outside}
+use Rattle.ba_tool.specs.Answers.{AnswersBy, Searches, Tells, input_of, judge_in, weights_of}
+use Rattle.ba_tool.specs.Calls.{Concludes, HandsAnswer}
+use Rattle.ba_tool.specs.Cases.{IsCaseOf}
+use Rattle.ba_tool.specs.declared.answers.Answer.{Answer}
+use Rattle.ba_tool.specs.declared.files.Texts.{Texts}
+use Rattle.ba_tool.specs.declared.jobs.Job.{Job}
+use Rattle.ba_tool.specs.declared.judge.Case.{Case}
+use Rattle.ba_tool.proofs.Answering.{answered}
+
+-- AN ANSWER by what is found
+
+shows_in : (j : Job) (x : Texts) (c : Case) → IsCaseOf x c → (d : Derivation) (v : Verdict) →
+    Shows c.weights.of (judge_of c.program c.input j.bounds) j.conflicts j.sets d v →
+    Shows (weights_of c.program x) (judge_in j x c.program) j.conflicts j.sets d v
+shows_in j x c is d v shows =
+    subst (λ (weights : WeightList). Shows weights (judge_in j x c.program) j.conflicts j.sets d v) is.weights
+    (subst (λ (i : Input). Shows c.weights.of (judge_of c.program i j.bounds) j.conflicts j.sets d v) is.input
+    shows)
+
+pub hands_answer : (j : Job) (x : Texts) (c : Case) (source : List ℕ) (t u : Told) (v : Verdict) (a :
+    Answer) →
+    IsCaseOf x c → Searches j x c.program →
+    Finds c.weights.of (judge_of c.program c.input j.bounds) j.conflicts j.sets t u v → source ≡ x.program →
+    Tells j source c.program v a → HandsAnswer j x t u a
+hands_answer j x c source t u v a is searches finds same tells = record {
+  derivation = finds.derivation;
+  is = answered j x c.program (Some finds.derivation) a is.spells by;
+  hands = finds.hands;
+}
+  where
+    by : AnswersBy j x c.program finds.derivation a
+    by = record {
+      searches = searches;
+      verdict = v;
+      shows = shows_in j x c is finds.derivation v finds.shows;
+      tells = subst (λ source. Tells j source c.program v a) same tells;
+    }
+
+-- A CERTIFICATE by the log of its sink
+
+-- a log with these steps more
+with_each : List CertStep → Option (List CertStep) → Option (List CertStep)
+with_each [] log = log
+with_each (step ∷ steps) log = with_each steps (with_told step log)
+
+logs_split : (steps : List CertStep) (log : Option (List CertStep)) (logs : Logs) →
+    with_steps steps (log ∷ logs) ≡ with_each steps log ∷ with_steps steps logs
+unfolding with_each
+logs_split [] log logs = refl
+logs_split (step ∷ steps) log logs = logs_split steps (with_told step log) (with_step step logs)
+
+each_told : (steps xs : List CertStep) → with_each steps (Some xs) ≡ Some (xs ++ steps)
+unfolding with_each
+each_told [] xs = ap (λ (xs : List CertStep). Some xs) (sym (append-nil xs))
+each_told (step ∷ steps) xs = each_told steps (xs ++ step ∷ [])
+    ∙ ap (λ (xs : List CertStep). Some xs) (append_assoc xs (step ∷ []) steps)
+
+each_untold : (steps : List CertStep) → with_each steps None ≡ None
+unfolding with_each
+each_untold [] = refl
+each_untold (step ∷ steps) = each_untold steps
+
+kept_text : (steps : List CertStep) (begun kept : Option (List ℕ)) →
+    kept ≡ option_map certificate_of (with_each steps (option_map (λ (bytes : List ℕ). []) begun)) →
+    IfSome kept (λ bytes. bytes ≡ certificate_of steps)
+kept_text steps None kept is =
+    subst (λ k. IfSome k (λ bytes. bytes ≡ certificate_of steps))
+    (sym (is ∙ ap (option_map certificate_of) (each_untold steps))) tt
+kept_text steps (Some bytes) kept is =
+    subst (λ k. IfSome k (λ bytes. bytes ≡ certificate_of steps))
+    (sym (is ∙ ap (option_map certificate_of) (each_told steps []))) refl
+
+heads : (a b : Option (List CertStep)) (logs others : Logs) → a ∷ logs ≡ b ∷ others → a ≡ b
+heads a b logs others e = cc
+
+tails : (a b : Option (List CertStep)) (logs others : Logs) → a ∷ logs ≡ b ∷ others → logs ≡ others
+tails a b logs others e = cc
+
+-- a sink of its text and then of another sink was handed the derivation, so the other was handed it, and the
+-- file holds its text
+pub certified : (j : Job) (x : Texts) (name : Word) (old begun new : Outside) (from to t u : Told) (a :
+    Answer)
+    (log later : Option (List CertStep)) → HandsAnswer j x from to a →
+    from.over ≡ t.over → to.over ≡ u.over → from.logs ≡ log ∷ t.logs → to.logs ≡ later ∷ u.logs →
+    log ≡ option_map (λ (bytes : List ℕ). []) (begun.kept name) →
+    new.kept name ≡ option_map certificate_of later → OnlyWritesTo name old new →
+    Concludes j x (Some name) old new t u a
+certified j x name old begun new from to t u a log later h over over' logs logs' fresh kept only = record {
+  derivation = h.derivation;
+  is = h.is;
+  hands = record {
+    over = sym over' ∙ h.hands.over ∙ ap (with_told h.derivation.begun) over;
+    logs = tails later (with_each h.derivation.steps log) u.logs (with_steps h.derivation.steps t.logs) split;
+  };
+  certifies = record {
+    only = only;
+    holds = kept_text h.derivation.steps (begun.kept name) (new.kept name) (kept
+        ∙ ap (option_map certificate_of)
+        (heads later (with_each h.derivation.steps log) u.logs (with_steps h.derivation.steps t.logs) split
+        ∙ ap (with_each h.derivation.steps) fresh));
+  };
+}
+  where
+    split : later ∷ u.logs ≡ with_each h.derivation.steps log ∷ with_steps h.derivation.steps t.logs
+    split = sym logs' ∙ h.hands.logs ∙ ap (with_steps h.derivation.steps) logs
+        ∙ logs_split h.derivation.steps log t.logs

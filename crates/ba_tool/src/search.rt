@@ -1,0 +1,254 @@
+//! The search for the least sets of a program that fails.
+
+ghost use Rattle.std.specs.Prelude.{◌≡◌, ◌≤◌, true, [], Err, IfOk, OnOk, Some, option_map};
+ghost use Rattle.ba_cert.specs.Writing.{is_sound, steps_at};
+ghost use Rattle.ba_world.specs.World.{HasWriteFault};
+ghost use Rattle.ba_derivations.specs.declared.verdict.Verdict.{Verdict};
+ghost use Rattle.ba_localise.specs.Verdicts.{told};
+ghost use Rattle.ba_search.specs.Rules.{IsKeepRule, IsRestartRule};
+ghost use Rattle.ba_search.specs.declared.search.SearchError.{SearchError};
+ghost use Rattle.ba_steps.specs.Sinks.{Rose};
+ghost use Rattle.ba_tree.specs.Run.{are_bounds};
+ghost use Rattle.ba_tool.specs.Answers.{Searches, Tells};
+ghost use Rattle.ba_tool.specs.Calls.{Begins, Concludes, HandsAnswer, HasFaultOf, MayBegin};
+ghost use Rattle.ba_tool.specs.Cases.{IsCaseOf};
+ghost use Rattle.ba_tool.specs.declared.answers.Answer.{Answer};
+ghost use Rattle.ba_tool.specs.declared.jobs.Job.{Job};
+
+use crate::answers::Answer;
+use crate::files::Texts;
+use crate::jobs::Job;
+use crate::judge::Case;
+use crate::rules::Rules;
+use ba_cert::{CertSink, Start, TextSink, begin_text};
+use ba_commands::Text;
+use ba_derivations::Verdict;
+use ba_items::Items;
+use ba_localise::localise;
+use ba_report::report;
+use ba_search::SearchError;
+use ba_steps::{SinkError, StepSink};
+use ba_tree::tree::Program;
+use ba_world::World;
+use std::alloc::{AllocError, Global};
+use std::marker::Brand;
+
+/// The answer that tells a verdict on the program of this source text.
+///
+/// The one error is want of memory.
+fn verdict_answer(
+    alloc: Global,
+    job: &Job,
+    source: &[u8],
+    program: &Program,
+    verdict: &Verdict,
+) -> Result<Answer, AllocError>
+    ensures { IfOk result (Tells job.now source.now program.now verdict.now) }
+{
+    match verdict {
+        Verdict::Located { .. } => {
+            let bytes = report(alloc, source, program, verdict, job.runs)?;
+            Ok(Answer::Located(Items::from_vec(bytes)))
+        }
+        Verdict::NoRepair => Ok(Answer::NoRepair),
+        Verdict::TooMany { weight, .. } => Ok(Answer::TooManySets {
+            weight: *weight,
+            most: job.sets,
+        }),
+        Verdict::Spent => Ok(Answer::BudgetSpent(job.conflicts)),
+    }
+}
+
+/// What a search for the least sets of a case comes to; its derivation is handed to `steps`.
+///
+/// `SinkFailed` comes only where the faults of `steps` rose; `Memory` for want of memory.
+fn locate<D, R, K>(
+    alloc: Global,
+    job: &Job,
+    texts: &Texts,
+    case: &Case,
+    restart: R,
+    keep: K,
+    steps: &mut D,
+) -> Result<Answer, SearchError>
+where
+    D: StepSink + Drop,
+    R: Fn(u64) -> u64 + Drop,
+    K: Fn(u64, u64) -> bool + Drop,
+    requires bounds { are_bounds job.now.bounds ≡ true }
+    requires case { IsCaseOf texts.now case.now }
+    requires searches { Searches job.now texts.now case.now.program }
+    requires restart { IsRestartRule (R.pre restart) (R.post restart) }
+    requires keep { IsKeepRule (K.pre keep) (K.post keep) }
+    ensures answer { IfOk result (λ answer. HandsAnswer job.now texts.now
+        (told D.over D.logs D.faults steps.old) (told D.over D.logs D.faults steps.new) answer) }
+    ensures cause { result ≡ Err SearchError.SinkFailed
+        → Rose (D.faults steps.old) (D.faults steps.new) }
+    ensures no_fall { D.faults steps.old ≤ D.faults steps.new }
+    ensures same_references { D.references steps.new ≡ D.references steps.old }
+{
+    let verdict = localise(
+        alloc,
+        &case.program,
+        &case.input,
+        job.bounds,
+        &case.weights,
+        job.conflicts,
+        job.sets,
+        restart,
+        keep,
+        steps,
+    )?;
+    let source = texts.program.as_slice();
+    Ok(verdict_answer(alloc, job, source, &case.program, &verdict)?)
+}
+
+/// The same by the restart rule that the job asks for.
+fn locate_by<D, L, G, K>(
+    alloc: Global,
+    job: &Job,
+    texts: &Texts,
+    case: &Case,
+    rules: Rules<L, G, K>,
+    steps: &mut D,
+) -> Result<Answer, SearchError>
+where
+    D: StepSink + Drop,
+    L: Fn(u64) -> u64 + Drop,
+    G: Fn(u64) -> u64 + Drop,
+    K: Fn(u64, u64) -> bool + Drop,
+    requires bounds { are_bounds job.now.bounds ≡ true }
+    requires case { IsCaseOf texts.now case.now }
+    requires searches { Searches job.now texts.now case.now.program }
+    requires luby { IsRestartRule (L.pre rules.luby) (L.post rules.luby) }
+    requires steady { IsRestartRule (G.pre rules.steady) (G.post rules.steady) }
+    requires keep { IsKeepRule (K.pre rules.keep) (K.post rules.keep) }
+    ensures answer { IfOk result (λ answer. HandsAnswer job.now texts.now
+        (told D.over D.logs D.faults steps.old) (told D.over D.logs D.faults steps.new) answer) }
+    ensures cause { result ≡ Err SearchError.SinkFailed
+        → Rose (D.faults steps.old) (D.faults steps.new) }
+    ensures no_fall { D.faults steps.old ≤ D.faults steps.new }
+    ensures same_references { D.references steps.new ≡ D.references steps.old }
+{
+    let Rules { luby, steady, keep } = rules;
+    if job.steady {
+        locate(alloc, job, texts, case, steady, keep, steps)
+    } else {
+        locate(alloc, job, texts, case, luby, keep, steps)
+    }
+}
+
+/// Begins the certificate of a search.
+///
+/// `SinkFailed` comes only where the world's faults of writing rose; `Memory` for want of memory.
+fn begin<W: World>(world: &mut W, name: &str) -> Result<(), SearchError>
+    ensures sound { OnOk result (is_sound true name.now (W.outside world.new) ≡ true) }
+    ensures no_step { OnOk result (steps_at name.now (W.outside world.new)
+        ≡ option_map (λ _. []) ((W.outside world.new).kept name.now)) }
+    ensures begins { Begins name.now (W.outside world.old) (W.outside world.new) }
+    ensures cause { result ≡ Err SearchError.SinkFailed
+        → HasWriteFault (W.outside world.old) (W.outside world.new) }
+{
+    match begin_text(world, name) {
+        Ok(()) => Ok(()),
+        Err(SinkError::Failed) => Err(SearchError::SinkFailed),
+        Err(SinkError::Memory) => Err(SearchError::Memory),
+    }
+}
+
+/// The same as [`locate_by`], with a certificate: its steps are written to the file of this name as
+/// they are made, and then handed on.
+///
+/// `SinkFailed` comes only where a fault of writing rose, of the world or of `steps`; `Memory` for
+/// want of memory.
+fn certify<S, W, D, L, G, K>(
+    alloc: Global,
+    world: &mut W,
+    name: &Text,
+    job: &Job,
+    texts: &Texts,
+    case: &Case,
+    rules: Rules<L, G, K>,
+    steps: &mut D,
+) -> Result<Answer, SearchError>
+where
+    S: Start,
+    W: World,
+    D: StepSink + Drop,
+    L: Fn(u64) -> u64 + Drop,
+    G: Fn(u64) -> u64 + Drop,
+    K: Fn(u64, u64) -> bool + Drop,
+    requires named { name.now ≡ S.name }
+    requires start { W.outside world.old ≡ S.outside }
+    requires faults { D.faults steps.old ≡ S.faults }
+    requires bounds { are_bounds job.now.bounds ≡ true }
+    requires case { IsCaseOf texts.now case.now }
+    requires searches { Searches job.now texts.now case.now.program }
+    requires luby { IsRestartRule (L.pre rules.luby) (L.post rules.luby) }
+    requires steady { IsRestartRule (G.pre rules.steady) (G.post rules.steady) }
+    requires keep { IsKeepRule (K.pre rules.keep) (K.post rules.keep) }
+    ensures answer { IfOk result (λ answer. Concludes job.now texts.now (Some name.now)
+        (W.outside world.old) (W.outside world.new)
+        (told D.over D.logs D.faults steps.old) (told D.over D.logs D.faults steps.new) answer) }
+    ensures begins { Begins name.now (W.outside world.old) (W.outside world.new) }
+    ensures cause { result ≡ Err SearchError.SinkFailed
+        → HasFaultOf (W.outside world.old) (W.outside world.new)
+        (told D.over D.logs D.faults steps.old) (told D.over D.logs D.faults steps.new) }
+    ensures no_fall { D.faults steps.old ≤ D.faults steps.new }
+    ensures same_references { D.references steps.new ≡ D.references steps.old }
+{
+    begin(world, name.as_str())?;
+    let text: TextSink<W, S> = TextSink::new(alloc, world, name.as_str());
+    let mut sink = CertSink { text, next: steps };
+    let answer = locate_by(alloc, job, texts, case, rules, &mut sink)?;
+    if sink.text.is_whole(name.as_str()) {
+        Ok(answer)
+    } else {
+        // Each step was taken, so the certificate is whole.
+        Err(SearchError::Memory)
+    }
+}
+
+/// What a search comes to; the derivation is handed to `steps`, and its steps are written to the
+/// file of this name, if one is named.
+///
+/// `SinkFailed` comes only where a fault of writing rose, of the world or of `steps`; `Memory` for
+/// want of memory.
+pub fn conclude<W, D, L, G, K>(
+    alloc: Global,
+    world: &mut W,
+    job: &Job,
+    texts: &Texts,
+    case: &Case,
+    rules: Rules<L, G, K>,
+    steps: &mut D,
+) -> Result<Answer, SearchError>
+where
+    W: World,
+    D: StepSink + Drop,
+    L: Fn(u64) -> u64 + Drop,
+    G: Fn(u64) -> u64 + Drop,
+    K: Fn(u64, u64) -> bool + Drop,
+    requires bounds { are_bounds job.now.bounds ≡ true }
+    requires case { IsCaseOf texts.now case.now }
+    requires searches { Searches job.now texts.now case.now.program }
+    requires luby { IsRestartRule (L.pre rules.luby) (L.post rules.luby) }
+    requires steady { IsRestartRule (G.pre rules.steady) (G.post rules.steady) }
+    requires keep { IsKeepRule (K.pre rules.keep) (K.post rules.keep) }
+    ensures answer { IfOk result (λ answer. Concludes job.now texts.now job.now.cert
+        (W.outside world.old) (W.outside world.new)
+        (told D.over D.logs D.faults steps.old) (told D.over D.logs D.faults steps.new) answer) }
+    ensures may { MayBegin job.now.cert (W.outside world.old) (W.outside world.new) }
+    ensures cause { result ≡ Err SearchError.SinkFailed
+        → HasFaultOf (W.outside world.old) (W.outside world.new)
+        (told D.over D.logs D.faults steps.old) (told D.over D.logs D.faults steps.new) }
+    ensures no_fall { D.faults steps.old ≤ D.faults steps.new }
+    ensures same_references { D.references steps.new ≡ D.references steps.old }
+{
+    match &job.cert {
+        Some(name) => certify::<Brand, W, D, L, G, K>(
+            alloc, world, name, job, texts, case, rules, steps,
+        ),
+        None => locate_by(alloc, job, texts, case, rules, steps),
+    }
+}

@@ -1,0 +1,82 @@
+//! Calls of the program over worlds in memory.
+
+ghost use Rattle.std.specs.Prelude.{◌<◌, ◌≡◌, IfOk};
+ghost use Rattle.std.specs.String.{string_bytes};
+
+use ba_steps::{NoSink, StepSink};
+use ba_tool::rules::{Rules, keep, luby, steady};
+use ba_tool::status::Status;
+use ba_tool::tool::tool;
+use ba_world::{MemoryWorld, World};
+use std::alloc::{AllocError, Global};
+
+/// A file of this name with this text.
+fn file(alloc: Global, name: &str, text: &str) -> Result<(String, Vec<u8>), AllocError>
+    ensures { IfOk result (λ made. string_bytes made.0 ≡ name.now) }
+{
+    Ok((
+        String::from_str(alloc, name)?,
+        Vec::from_slice(alloc, text.as_bytes())?,
+    ))
+}
+
+/// A world that holds a program, an input and weights.
+pub fn world_with(
+    alloc: Global,
+    program: &str,
+    input: &str,
+    weights: &str,
+    fails: &[u64],
+    piece: usize,
+) -> Result<MemoryWorld, AllocError>
+    requires { 0 < piece }
+{
+    let mut files = Vec::new(alloc);
+    files.push(file(alloc, "p.c", program)?)?;
+    files.push(file(alloc, "in.txt", input)?)?;
+    files.push(file(alloc, "w.txt", weights)?)?;
+    MemoryWorld::new(alloc, files, Vec::from_slice(alloc, fails)?, piece)
+}
+
+/// A world that holds a program and an input.
+pub fn world_of(
+    alloc: Global,
+    program: &str,
+    input: &str,
+    fails: &[u64],
+    piece: usize,
+) -> Result<MemoryWorld, AllocError>
+    requires { 0 < piece }
+{
+    world_with(alloc, program, input, "", fails, piece)
+}
+
+/// Calls the program by these words, with its own rules of a search.
+pub fn end<W: World, D: StepSink + Drop>(
+    alloc: Global,
+    words: &[&str],
+    world: &mut W,
+    steps: &mut D,
+) -> Status {
+    tool(alloc, words, world, steps, Rules::new(luby, steady, keep))
+}
+
+/// Calls the program over a world, by a bound of 1.
+pub fn localise(alloc: Global, world: &mut MemoryWorld) -> Status {
+    let words = ["localise", "p.c", "in.txt", "--bound", "1"];
+    end(alloc, &words, world, &mut NoSink)
+}
+
+/// Calls the program by these words over a program, an input and weights: how it ends, and what it
+/// prints.
+pub fn call(
+    alloc: Global,
+    words: &[&str],
+    program: &str,
+    input: &str,
+    weights: &str,
+) -> Result<(Status, Vec<u8>), AllocError> {
+    let mut world = world_with(alloc, program, input, weights, &[], 4096)?;
+    let ended = end(alloc, words, &mut world, &mut NoSink);
+    Ok((ended, Vec::from_slice(alloc, world.printed())?))
+}

@@ -1,0 +1,21 @@
+//! The rules of a search.
+
+use ba_tool::rules::{keep, luby, steady};
+
+#[test]
+fn restarts_follow_the_sequence(rt: HostRuntime) {
+    for (restarts, conflicts) in [
+        (0, 100),
+        (1, 100),
+        (2, 200),
+        (5, 200),
+        (6, 400),
+        (7, 100),
+        (14, 800),
+        (1_000_000, 100),
+    ] {
+        assert_eq!(rt; luby(restarts), conflicts, "after {restarts}");
+    }
+    assert_eq!(rt; steady(3), 1000);
+    assert!(rt; keep(6, 4000) && keep(7, 3999) && !keep(7, 4000));
+}
