@@ -33,7 +33,9 @@ impl<'a> Pieces<'a> {
 
     /// The next piece, if one is left.
     pub fn next_piece(&mut self) -> Option<&'a [u8]>
-        ensures { MatchOption result ((self.old ≡ []) × (self.new ≡ [])) (λ piece. self.old ≡ piece.now ∷ self.new) }
+        ensures { MatchOption result
+            ((self.old ≡ []) × (self.new ≡ []))
+            (λ piece. self.old ≡ piece.now ∷ self.new) }
     {
         let (_, text) = self.rest.split_at(blank_count(self.rest));
         let (piece, rest) = text.split_at(piece_length(text));

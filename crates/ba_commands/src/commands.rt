@@ -22,7 +22,7 @@ impl<'a> Model for Text<'a> {
 
 impl<'a> Text<'a> {
     /// The text of this word, or of a part of it.
-    pub(crate) fn new(text: &'a str) -> Text<'a>
+    pub fn new(text: &'a str) -> Text<'a>
         ensures { result ≡ text.now }
     {
         Text { text }
