@@ -15,9 +15,9 @@ use ba_lits::{Lit, Model};
 use ba_numbers::numbers::{CType, convert};
 use std::alloc::{AllocError, Global};
 
-/// The choices of a good run in which the groups may be relaxed whose selectors are false in a model: those at the
-/// executions that take place and stand in one of these groups, in their order. Each value is in the range of `I32` or
-/// of `U32`.
+/// The choices at the executions that take place and stand in a group whose selector is false in a model, in their order. Each value
+/// is in the range of `I32` or of `U32`. Where the model satisfies the formula of an encoding that [`encode`](crate::encode) made,
+/// they are those of a good run in which these groups may be relaxed.
 ///
 /// The one error is want of memory.
 pub fn choices_of(

@@ -9,8 +9,8 @@ use ba_lits::{Formula, Lit};
 use ba_numbers::ids::StmtId;
 use std::alloc::Global;
 
-/// A group: its written number, the statement that it belongs to, its weight, and its selector, which is true where
-/// the group runs as written.
+/// A group: its written number, the statement that it belongs to, its weight, and its selector, which in an encoding that
+/// [`encode`](crate::encode) made is true where the group runs as written.
 #[derive(Clone, Copy, Debug, PartialEq, Eq)]
 pub struct Group {
     pub number: u32,
@@ -37,8 +37,8 @@ pub struct ValueReading {
     pub bits: Items<Reading>,
 }
 
-/// A formula whose models are the good runs in which groups may be relaxed, with its groups, and the readings of the
-/// executions that stand in groups, all by variables of the formula. There are fewer than 2^32 groups.
+/// A formula with its groups, and the readings of the executions that stand in groups, all by variables of the formula. There are
+/// fewer than 2^32 groups. Where [`encode`](crate::encode) made it, its models are the good runs in which groups may be relaxed.
 #[derive(Drop)]
 pub struct Encoded {
     pub(crate) formula: Formula,
@@ -49,7 +49,7 @@ pub struct Encoded {
 }
 
 impl Encoded {
-    /// A formula with groups, where no execution stands in one: its runs have no choices.
+    /// A formula with any groups, where no execution stands in one: its runs have no choices.
     pub fn without_places(alloc: Global, formula: Formula, groups: Items<Group>) -> Encoded
         requires { length groups < 2 ^ 32 }
         ensures formula { result.formula ≡ formula }
@@ -77,7 +77,7 @@ impl Encoded {
         self.groups.len() as u32
     }
 
-    /// The selector of a group: it is true where the group runs as written.
+    /// The selector of a group: in an encoding that [`encode`](crate::encode) made it is true where the group runs as written.
     pub fn selector(&self, group: u32) -> Lit
         requires { group < length self.now.groups }
         ensures { IfSome (slice_get self.now.groups group) (λ g. result ≡ g.selector) }

@@ -7,8 +7,9 @@ use crate::encoded::Encoded;
 use ba_lits::Lit;
 use std::alloc::{AllocError, Global};
 
-/// The selectors of groups with their weights: entry n - 1 is that of the group with the written number n, and an entry of
-/// weight 0 stands where there is none.
+/// The selectors of groups with their weights. Where the written numbers of the groups ascend, as in an encoding that
+/// [`encode`](crate::encode) made, entry n - 1 is that of the group with the written number n, and an entry of weight 0 stands where
+/// there is none.
 ///
 /// The one error is want of memory.
 pub fn softs_of(alloc: Global, encoded: &Encoded) -> Result<Vec<(Lit, u32)>, AllocError>
