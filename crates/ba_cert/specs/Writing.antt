@@ -1,9 +1,10 @@
 -- A certificate that is written to a file of a world, which may tell what it keeps under the file's name.
 
-use Rattle.std.specs.Prelude.{◌≡◌, ℕ, Bool, true, false, ◌&&◌, is_some, Option, None, Some, option_and_then, List, take, bytes_eq, All, IfSome}
+use Rattle.std.specs.Prelude.{◌≡◌, ℕ, Bool, true, false, ◌&&◌, is_some, Option, None, Some, option_and_then, List, [], ◌∷◌, take, bytes_eq, All, IfSome}
 use Rattle.ba_steps.specs.declared.sink.SinkError.{SinkError}
 use Rattle.ba_steps.specs.declared.sink.SinkError.TheVariants as sink
 use Rattle.ba_steps.specs.declared.step.CertStep.{CertStep}
+use Rattle.ba_steps.specs.Sinks.{Logs}
 use Rattle.ba_steps.specs.Steps.{IsFormed}
 use Rattle.ba_world.specs.World.{Appends, AppendsPrefix, OnlyWrites, Outside, StaysBut}
 use Rattle.ba_world.specs.declared.world.WorldError.{WorldError}
@@ -23,6 +24,10 @@ steps_kept kept = option_and_then (steps_from false) kept
 -- the steps of the whole lines in the file of this name
 abbrev pub steps_at : List ℕ → Outside → Option (List CertStep)
 steps_at name outside = steps_kept (outside.kept name)
+
+-- as the one log of a sink
+abbrev pub logs_at : List ℕ → Outside → Logs
+logs_at name outside = steps_at name outside ∷ []
 
 -- the file of this name holds this text, where what it holds is told; and text was appended to it
 abbrev pub Holds : List ℕ → List ℕ → Outside → Type 0

@@ -3,9 +3,9 @@
 ghost use Rattle.std.specs.Prelude.{◌≡◌, ◌≤◌, ◌++◌, ◌+◌, ◌&&◌, bytes_eq, ℕ, List, true, false, [], ◌∷◌, None, Some, option_map, All, OnOk, OnErr};
 ghost use Rattle.ba_world.specs.World.{HasWriteFault, Outside};
 ghost use Rattle.ba_steps.specs.Steps.{IsFormed};
-ghost use Rattle.ba_steps.specs.Sinks.{MayAdd, with_told};
+ghost use Rattle.ba_steps.specs.Sinks.{MayAdd, MayAddStep, with_step, with_told};
 ghost use Rattle.ba_cert.specs.Text.{line_of, text_of, with_feed};
-ghost use Rattle.ba_cert.specs.Writing.{AppendsPrefixTo, AppendsTo, Holds, HoldsBeginning, HoldsPrefix, OnlyWritesTo, is_sound, nothing_told, sink_error, steps_at};
+ghost use Rattle.ba_cert.specs.Writing.{AppendsPrefixTo, AppendsTo, Holds, HoldsBeginning, HoldsPrefix, OnlyWritesTo, is_sound, logs_at, nothing_told, sink_error, steps_at};
 
 use crate::writer::{groups_have_32_bits, head_text, step_text};
 use ba_lits::{Formula, Lit};
@@ -183,18 +183,35 @@ impl<'a, W: World, S: Start> TextSink<'a, W, S> {
 impl<'a, W: World, S: Start> StepSink for TextSink<'a, W, S> {
     ghost over = { λ _. None };
 
-    ghost logs = { λ sink. steps_at sink.name.now (W.outside sink.world.now) ∷ [] };
+    ghost logs = { λ sink. logs_at sink.name.now (W.outside sink.world.now) };
 
     ghost faults = { λ sink. (W.outside sink.world.now).write_faults };
 
     ghost references = { λ sink. sink.world.ghost_name ∷ [] };
 
-    fn begin(&mut self, _formula: &Formula, _softs: &[(Lit, u32)]) -> Result<(), SinkError> {
+    fn begin(&mut self, _formula: &Formula, _softs: &[(Lit, u32)]) -> Result<(), SinkError>
+        ensures never { result ≡ Ok tt }
+        ensures same { self.new ≡ self.old }
+    {
         Ok(())
     }
 
+    /// Writes the line of a step. A refused step leaves the sink without its whole file.
     #[tactic(auto, using(crate::proofs::SinkLaws::stays_then))]
-    fn take(&mut self, step: &CertStep) -> Result<(), SinkError> {
+    fn take(&mut self, step: &CertStep) -> Result<(), SinkError>
+        requires formed { IsFormed step.now }
+        ensures whole { OnOk result (self.new.whole ≡ true) }
+        ensures told { OnOk result (logs_at self.new.name.now (W.outside self.new.world.now)
+            ≡ with_step step.now (logs_at self.old.name.now (W.outside self.old.world.now))) }
+        ensures refused { OnErr result (MayAddStep step.now
+            (logs_at self.old.name.now (W.outside self.old.world.now))
+            (logs_at self.new.name.now (W.outside self.new.world.now))) }
+        ensures cause { result ≡ Err SinkError.Failed
+            → HasWriteFault (W.outside self.old.world.now) (W.outside self.new.world.now) }
+        ensures no_fall { (W.outside self.old.world.now).write_faults
+            ≤ (W.outside self.new.world.now).write_faults }
+        ensures same_references { self.new.world.ghost_name ≡ self.old.world.ghost_name }
+    {
         if !self.whole {
             return Err(SinkError::Memory);
         }

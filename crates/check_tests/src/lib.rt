@@ -5,4 +5,6 @@
 #[cfg(test)]
 mod certificates;
 #[cfg(test)]
+mod judges;
+#[cfg(test)]
 mod problems;

@@ -6,6 +6,8 @@ mod assignments;
 #[cfg(test)]
 mod examples;
 #[cfg(test)]
+mod laws;
+#[cfg(test)]
 mod lists;
 #[cfg(test)]
 mod values;

@@ -1,6 +1,8 @@
-//! Tests of the report: verdicts on small programs beside their texts, written by hand.
+//! Tests of the report: verdicts on small programs beside their texts, written by hand, and the parts of texts.
 #![tactic(auto)]
 
+#[cfg(test)]
+mod parts;
 #[cfg(test)]
 mod programs;
 #[cfg(test)]

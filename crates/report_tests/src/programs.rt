@@ -145,7 +145,10 @@ fn choice_of(alloc: Global, spelled: &[i64]) -> Result<Choice, AllocError> {
 }
 
 /// The choices of a run.
-fn run_of(alloc: Global, spelled: &[&'static [i64]]) -> Result<Items<Choice>, AllocError> {
+pub(crate) fn run_of(
+    alloc: Global,
+    spelled: &[&'static [i64]],
+) -> Result<Items<Choice>, AllocError> {
     let mut run = Items::new(alloc);
     for choice in spelled {
         run.push(choice_of(alloc, choice)?)?;
