@@ -13,11 +13,11 @@ use Rattle.ba_watch.specs.Propagation.{State, plain_lits, clause_in, lits_in, Sa
 use Rattle.ba_watch.proofs.Values.{value_of-take, value_of-take_none, place_of-some, place_of-take}
 use Rattle.ba_watch.proofs.Levels.{decided-kept, kept_below, kept_above, kept-le}
 use Rattle.ba_learn.specs.Levels.{level_in, IsBacked}
-use Rattle.ba_learn.specs.Backjumps.{after_back, IsUnitAt}
+use Rattle.ba_learn.specs.Backjumps.{after_backtrack, IsUnitAt}
 use Rattle.ba_lits.proofs.Members.{has_literal-permutation, has_literal-at}
 use Rattle.ba_learn.proofs.FollowLaws.{false_at}
 
-pub back_level : (s : State) (lits : List Literal) (back : ℕ) → IsBacked s lits back → decided (after_back back s).reasons ≡ back
+pub back_level : (s : State) (lits : List Literal) (back : ℕ) → IsBacked s lits back → decided (after_backtrack back s).reasons ≡ back
 back_level s lits back b = decided-kept back s.reasons (omega (arith, b.lower))
 
 module _ (s : State) (lits : List Literal) (back : ℕ) (facts : KeepsFacts s) (b : IsBacked s lits back) where
@@ -30,17 +30,17 @@ module _ (s : State) (lits : List Literal) (back : ℕ) (facts : KeepsFacts s) (
   goes : (k : ℕ) → k < length lits → back < level_in s lits k → kept back s.reasons ≤ place_of s.trail (lit_at lits k).variable
   goes k k_in more = omega (arith, kept_below back (place_of s.trail (lit_at lits k).variable + 1) s.reasons more)
 
-  stays_false : (k : ℕ) → k < length lits → level_in s lits k ≤ back → value_of (after_back back s).trail (lit_at lits k) ≡ Some false
+  stays_false : (k : ℕ) → k < length lits → level_in s lits k ≤ back → value_of (after_backtrack back s).trail (lit_at lits k) ≡ Some false
   stays_false k k_in le = value_of-take (kept back s.reasons) s.trail (lit_at lits k) (stays k k_in le) ∙ false_at (value_of s.trail) lits b.false_ k k_in
 
-  pub back_unit : IsUnitAt (after_back back s).trail lits b.present
+  pub back_unit : IsUnitAt (after_backtrack back s).trail lits b.present
   back_unit = record {
     free_in = b.present_in;
     no_value = value_of-take_none (kept back s.reasons) s.trail (lit_at lits b.present) (goes b.present b.present_in (omega (arith, b.present_level, b.lower)));
     others = λ k k_in ne. stays_false k k_in (b.others k k_in ne);
   }
 
-  pub back_asserting : 1 ≤ back → IsAsserting (after_back back s) lits
+  pub back_asserting : 1 ≤ back → IsAsserting (after_backtrack back s) lits
   back_asserting some = ⊎_elim
       (λ z. absurd (omega (arith, z, some)))
       (λ k. record {

@@ -12,7 +12,7 @@ use Rattle.ba_watch.specs.Propagation.{State, clause_in, lits_in, IsReason, Keep
 use Rattle.ba_watch.proofs.Values.{place_of-some}
 use Rattle.ba_learn.specs.Live.{Follows}
 use Rattle.ba_learn.specs.Levels.{IsCoreOf}
-use Rattle.ba_learn.specs.Resolving.{Work, is_marked, is_pending, MayKeep, MayStart, number_in, number_at, negated_at, SortsNumbers, SortsLiterals}
+use Rattle.ba_learn.specs.Resolving.{Work, is_seen, is_pending, MayKeep, MayStart, number_in, number_at, negated_at, SortsNumbers, SortsLiterals}
 use Rattle.ba_learn.proofs.WorkLaws.{place-is}
 use Rattle.ba_learn.proofs.ReasonLaws.{reason_below, reason_live, place_of-front_some}
 use Rattle.ba_learn.proofs.FollowLaws.{false_negates, false_further, known, refutes}
@@ -21,7 +21,7 @@ use Rattle.ba_learn.proofs.SortedLaws.{HasOne, kept_within, lead_in, kept_in, li
 
 -- a place is pending only from the floor on
 pub pending_above : (high : ℕ) (w : Work) (q : ℕ) → is_pending high w q ≡ true → (w.floor ≤ q) × (q < high)
-pending_above high w q e = (from w.floor q (ltb q high) (is_marked w q) e, to q high (leb w.floor q && is_marked w q) e)
+pending_above high w q e = (from w.floor q (ltb q high) (is_seen w q) e, to q high (leb w.floor q && is_seen w q) e)
   where
     from : (f q : ℕ) (a m : Bool) → (a && (leb f q && m)) ≡ true → f ≤ q
     from f q a m e = grind (arith, nat_tests)
@@ -46,16 +46,16 @@ module _ (s : State) (facts : KeepsFacts s) (lit : Literal) (p r : ℕ) (is_fals
   lead_same = ap negate (false_negates s.trail lit is_false ∙ ap (negated_at s) (sym p_is)) ∙ negate-negate (lit_at s.trail p)
 
   module _ (w : Work) (e : HasEnded s (p + 1) w r) (floor : w.floor ≡ p) (deep : w.deep ≡ true) where
-    marked : is_marked w p ≡ true
-    marked =
+    seen : is_seen w p ≡ true
+    seen =
         let k = literal_found (lit_at s.trail p) (lits_in s.clauses r) reason.has in
         let at : place_of s.trail (lit_at (lits_in s.clauses r) k.0).variable ≡ p =
         ap (λ (l : Literal). place_of s.trail l.variable) (k.2 ∙ sym lead_same) ∙ sym p_is in
-        sym (ap (is_marked w) at) ∙ e.met k.0 k.1
+        sym (ap (is_seen w) at) ∙ e.met k.0 k.1
 
     pub core_one : HasOne s (p + 1) w p (negate lit)
     core_one = record {
-      pending = here w.floor (is_marked w p) floor marked;
+      pending = here w.floor (is_seen w p) floor seen;
       only = λ q pending. let b = pending_above (p + 1) w q pending in omega (arith, b.0, b.1, floor);
       lead_is = ap (λ (l : Literal). l.variable) lead_same;
     }

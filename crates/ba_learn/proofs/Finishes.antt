@@ -12,7 +12,7 @@ use Rattle.ba_watch.specs.Propagation.{State, clause_in, lits_in, is_false, Keep
 use Rattle.ba_watch.proofs.Values.{place_of-some}
 use Rattle.ba_watch.proofs.Levels.{decided-take_drop}
 use Rattle.ba_learn.specs.Live.{Follows}
-use Rattle.ba_learn.specs.Resolving.{Work, is_marked, is_pending, IsWork, MayKeep, AreBelow, AreMarked, AreCovered, Resolves, MayStart, number_in, number_at, SortsNumbers}
+use Rattle.ba_learn.specs.Resolving.{Work, is_seen, is_pending, IsWork, MayKeep, AreBelow, AreSeen, AreCovered, Resolves, MayStart, number_in, number_at, SortsNumbers}
 use Rattle.ba_learn.proofs.FollowLaws.{false_at, at_occurs, known, refutes}
 
 -- the literals of a false clause are on the trail
@@ -26,10 +26,10 @@ may_start s n lits e h = record { floor_le = omega arith; within = omega arith; 
 pub record HasEnded (s : State) (high : ℕ) (w : Work) (conflict : ℕ) : Type 0 where
   pub work : IsWork s high w
   pub waiting : w.waiting ≡ []
-  pub covered : AreCovered s (is_marked w) w.resolved
-  pub met : AreMarked s (is_marked w) (lits_in s.clauses conflict)
+  pub covered : AreCovered s (is_seen w) w.resolved
+  pub met : AreSeen s (is_seen w) (lits_in s.clauses conflict)
 
-pub ended : (s : State) (high : ℕ) (u w : Work) (conflict : ℕ) → u.resolved ≡ [] → AreMarked s (is_marked u) (lits_in s.clauses conflict) → Resolves s u w → IsWork s high w → w.waiting ≡ [] → HasEnded s high w conflict
+pub ended : (s : State) (high : ℕ) (u w : Work) (conflict : ℕ) → u.resolved ≡ [] → AreSeen s (is_seen u) (lits_in s.clauses conflict) → Resolves s u w → IsWork s high w → w.waiting ≡ [] → HasEnded s high w conflict
 ended s high u w conflict none met steps work' waiting = record {
   work = work';
   waiting = waiting;
@@ -70,7 +70,7 @@ refuted s w conflict places facts e floor deep level live is_false' sorted claus
     between n f q b eq h = grind (arith, nat_tests)
 
     no_pending : (q : ℕ) → is_pending (length s.trail) w q ≡ true → ⊥
-    no_pending q pending = between (length s.trail) w.floor q (is_marked w q) floor pending
+    no_pending q pending = between (length s.trail) w.floor q (is_seen w q) floor pending
 
 pub kept_places : (s : State) (high : ℕ) (w : Work) (places : List ℕ) → IsWork s high w → places ≡ w.kept → All (λ p. p < length s.trail) places
 kept_places s high w places work e =

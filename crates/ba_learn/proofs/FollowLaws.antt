@@ -17,7 +17,7 @@ use Rattle.ba_watch.specs.Trails.{same_sign, value_of, place_of, IsTrail}
 use Rattle.ba_watch.specs.Propagation.{State, plain_lits, clause_in, lits_in, is_false, falsified, IsReason, KeepsFacts}
 use Rattle.ba_watch.proofs.Values.{value_of-more, value_of-place, lit_at-place, place_of-some, same_sign_false, none_apart}
 use Rattle.ba_learn.specs.Live.{IsSame, AreLive}
-use Rattle.ba_learn.specs.Resolving.{Work, is_marked, is_pending, IsWork, AreMarked, reason_lits, AreCovered, number_of, number_in, reason_number, number_at, negated_at, SortsNumbers}
+use Rattle.ba_learn.specs.Resolving.{Work, is_seen, is_pending, IsWork, AreSeen, reason_lits, AreCovered, number_of, number_in, reason_number, number_at, negated_at, SortsNumbers}
 use Rattle.ba_learn.proofs.Weights.{total-permutation}
 use Rattle.ba_learn.proofs.ReasonLaws.{reason_live, some_within, place_of-front_some}
 use Rattle.ba_learn.proofs.Standings.{times-permutation, times-once}
@@ -98,35 +98,35 @@ pub trail_apart : (n : ℕ) (T : List Literal) (R : List (Option ℕ)) → IsTra
 trail_apart n T R trail p q lt within e =
     none_apart (take q T) (lit_at T q) p (trail.fresh q within) (omega (arith, length-take-le q T (omega arith))) (ap (λ (l : Literal). l.variable) (get_or-take q T p no_literal lt) ∙ e)
 
-one_of : (k r v : ℕ) (pending marked : Bool) → marked ≡ true → v ≡ 0 → k + (r + (v + one_if pending)) ≡ one_if marked → (0 < k) ⊎ ((0 < r) ⊎ (pending ≡ true))
-one_of k r v true marked m none e = inr (inr refl)
-one_of k r v false marked m none e = ⊎_elim (λ z. inr (inl (omega (arith, z, none, ap one_if m)))) (λ nz. inl (omega (arith, nz))) (cases_eq k 0)
+one_of : (k r v : ℕ) (pending seen : Bool) → seen ≡ true → v ≡ 0 → k + (r + (v + one_if pending)) ≡ one_if seen → (0 < k) ⊎ ((0 < r) ⊎ (pending ≡ true))
+one_of k r v true seen m none e = inr (inr refl)
+one_of k r v false seen m none e = ⊎_elim (λ z. inr (inl (omega (arith, z, none, ap one_if m)))) (λ nz. inl (omega (arith, nz))) (cases_eq k 0)
 
-at_most_one : (k r v : ℕ) (pending marked : Bool) → k + (r + (v + one_if pending)) ≡ one_if marked → r ≤ 1
+at_most_one : (k r v : ℕ) (pending seen : Bool) → k + (r + (v + one_if pending)) ≡ one_if seen → r ≤ 1
 at_most_one k r v pending true e = omega arith
 at_most_one k r v pending false e = omega arith
 
-not_both : (k r v : ℕ) (pending marked : Bool) → k + (r + (v + one_if pending)) ≡ one_if marked → 0 < r → (0 < k) ⊎ (pending ≡ true) → ⊥
+not_both : (k r v : ℕ) (pending seen : Bool) → k + (r + (v + one_if pending)) ≡ one_if seen → 0 < r → (0 < k) ⊎ (pending ≡ true) → ⊥
 not_both k r v pending true e some other = ⊎_elim (λ h. omega arith) (λ h. omega (arith, ap one_if h)) other
 not_both k r v pending false e some other = omega arith
 
 module _ (s : State) (facts : KeepsFacts s) (high : ℕ) (w : Work) (work : IsWork s high w) (waiting : w.waiting ≡ []) where
-  -- each marked place is kept, resolved or pending
-  pub marked_parts : (q : ℕ) → is_marked w q ≡ true → (0 < occurrences q w.kept) ⊎ ((0 < occurrences q w.resolved) ⊎ (is_pending high w q ≡ true))
-  marked_parts q m = one_of (occurrences q w.kept) (occurrences q w.resolved) (occurrences q w.waiting) (is_pending high w q) (is_marked w q) m (ap (occurrences q) waiting) (work.parted q)
+  -- each seen place is kept, resolved or pending
+  pub seen_parts : (q : ℕ) → is_seen w q ≡ true → (0 < occurrences q w.kept) ⊎ ((0 < occurrences q w.resolved) ⊎ (is_pending high w q ≡ true))
+  seen_parts q m = one_of (occurrences q w.kept) (occurrences q w.resolved) (occurrences q w.waiting) (is_pending high w q) (is_seen w q) m (ap (occurrences q) waiting) (work.parted q)
 
   pub resolved_once : (q : ℕ) → occurrences q w.resolved ≤ 1
-  resolved_once q = at_most_one (occurrences q w.kept) (occurrences q w.resolved) (occurrences q w.waiting) (is_pending high w q) (is_marked w q) (work.parted q)
+  resolved_once q = at_most_one (occurrences q w.kept) (occurrences q w.resolved) (occurrences q w.waiting) (is_pending high w q) (is_seen w q) (work.parted q)
 
   pub resolved_apart : (q r : ℕ) → 0 < occurrences q w.resolved → (0 < occurrences r w.kept) ⊎ (is_pending high w r ≡ true) → q ≢ r
   resolved_apart q r some other e =
-      not_both (occurrences q w.kept) (occurrences q w.resolved) (occurrences q w.waiting) (is_pending high w q) (is_marked w q) (work.parted q) some
+      not_both (occurrences q w.kept) (occurrences q w.resolved) (occurrences q w.waiting) (is_pending high w q) (is_seen w q) (work.parted q) some
       (⊎_elim (λ k. inl (subst (λ (x : ℕ). 0 < occurrences x w.kept) (sym e) k)) (λ p. inr (ap (is_pending high w) e ∙ p)) other)
 
   pub resolved_within : (q : ℕ) → 0 < occurrences q w.resolved → q < length s.trail
   resolved_within q some = omega (arith, some_within s.reasons q (work.resolved q some), facts.trail.same_length)
 
-  module _ (covered : AreCovered s (is_marked w) w.resolved) (lits : List Literal) (places : List ℕ) (sorted : SortsNumbers w.resolved places) (kept_in : (q : ℕ) → 0 < occurrences q w.kept → has_literal (negated_at s q) lits ≡ true)
+  module _ (covered : AreCovered s (is_seen w) w.resolved) (lits : List Literal) (places : List ℕ) (sorted : SortsNumbers w.resolved places) (kept_in : (q : ℕ) → 0 < occurrences q w.kept → has_literal (negated_at s q) lits ≡ true)
       (pending_in : (p q : ℕ) → 0 < occurrences p w.resolved → q < p → is_pending high w q ≡ true → has_literal (negated_at s q) lits ≡ true)
       (free : (q : ℕ) → 0 < occurrences q w.resolved → (l : Literal) → has_literal l lits ≡ true → l.variable ≢ (lit_at s.trail q).variable) where
     in_places : (q : ℕ) → 0 < occurrences q w.resolved → 0 < occurrences q places
@@ -136,15 +136,15 @@ module _ (s : State) (facts : KeepsFacts s) (high : ℕ) (w : Work) (work : IsWo
     in_resolved q some = omega (arith, some, occurrences-permutation q w.resolved places sorted.same)
 
     module _ (live : ℕ → Option (List Literal)) (are : AreLive s.clauses live) where
-      -- a false literal whose place is marked is known
-      pub known : (last : ℕ) (x : Literal) → value_of s.trail x ≡ Some false → is_marked w (place_of s.trail x.variable) ≡ true
+      -- a false literal whose place is seen is known
+      pub known : (last : ℕ) (x : Literal) → value_of s.trail x ≡ Some false → is_seen w (place_of s.trail x.variable) ≡ true
           → (is_pending high w (place_of s.trail x.variable) ≡ true → has_literal (negated_at s (place_of s.trail x.variable)) lits ≡ true) → IsKnown live (lit_at s.trail) (number_at s) lits places last x
-      known last x is_false marked pending =
+      known last x is_false seen pending =
           let is : x ≡ negated_at s (place_of s.trail x.variable) = false_negates s.trail x is_false in
           ⊎_elim
           (λ kept. inl (subst (λ (y : Literal). has_literal y lits ≡ true) (sym is) (kept_in (place_of s.trail x.variable) kept)))
           (λ rest. ⊎_elim (λ resolved. inr (place_of s.trail x.variable, in_places (place_of s.trail x.variable) resolved, is)) (λ p. inl (subst (λ (y : Literal). has_literal y lits ≡ true) (sym is) (pending p))) rest)
-          (marked_parts (place_of s.trail x.variable) marked)
+          (seen_parts (place_of s.trail x.variable) seen)
 
       -- the clause that a live reference names
       same_some : (o : Option (List Literal)) (ls : List Literal) → IsSame o ls → (g : List Literal) × (o ≡ Some g) × IsPermutation g ls
@@ -167,7 +167,7 @@ module _ (s : State) (facts : KeepsFacts s) (high : ℕ) (w : Work) (work : IsWo
           let r = some_value (get_or s.reasons p None) (work.resolved p resolved) in
           let reason : IsReason (lits_in s.clauses r.0) (take p s.trail) (lit_at s.trail p) = facts.reasons p r.0 within r.1 in
           let g = live_given r.0 (reason_live s p r.0 facts within r.1) in
-          let marked : AreMarked s (is_marked w) (lits_in s.clauses r.0) = subst (λ (o : Option ℕ). AreMarked s (is_marked w) (reason_lits s o)) r.1 (covered p resolved) in
+          let seen : AreSeen s (is_seen w) (lits_in s.clauses r.0) = subst (λ (o : Option ℕ). AreSeen s (is_seen w) (reason_lits s o)) r.1 (covered p resolved) in
           record {
             given = g.0;
             is = ap live (ap (reason_number s) r.1) ∙ g.1;
@@ -183,7 +183,7 @@ module _ (s : State) (facts : KeepsFacts s) (high : ℕ) (w : Work) (work : IsWo
                 inr (⊎_elim
                 (λ kept. inl (subst (λ (y : Literal). has_literal y lits ≡ true) (sym is) (kept_in (place_of s.trail x.variable) kept)))
                 (λ rest. ⊎_elim (λ res. inr (place_of s.trail x.variable, in_places (place_of s.trail x.variable) res, before, is)) (λ pend. inl (subst (λ (y : Literal). has_literal y lits ≡ true) (sym is) (pending_in p (place_of s.trail x.variable) resolved before pend))) rest)
-                (marked_parts (place_of s.trail x.variable) (marked k k_in))))
+                (seen_parts (place_of s.trail x.variable) (seen k k_in))))
                 (cases_eq (index_of (lit_at (lits_in s.clauses r.0) k)) (index_of (lit_at s.trail p)))));
           }
 

@@ -18,7 +18,7 @@ use Rattle.ba_watch.proofs.Levels.{decided-take_drop, decided-take-le, decided-t
 use Rattle.ba_watch.proofs.Facts.{is_false-all, value_of-negate}
 use Rattle.ba_learn.specs.Live.{IsSame, AreLive, Follows, IsQuiet, IsNewTo}
 use Rattle.ba_learn.specs.Levels.{IsShort, level_in, IsReached, IsBacked}
-use Rattle.ba_learn.specs.Resolving.{Work, count_below, is_marked, is_above, is_pending, IsWork, AreMarked, place_in, IsStart, number_in, number_at, negated_at, SortsNumbers, SortsLiterals, IsSettled, AreSettled, IsShortened, reason_lits}
+use Rattle.ba_learn.specs.Resolving.{Work, count_below, is_seen, is_above, is_pending, IsWork, AreSeen, place_in, IsStart, number_in, number_at, negated_at, SortsNumbers, SortsLiterals, IsAbsorbed, AreAbsorbed, IsMinimised, reason_lits}
 use Rattle.ba_learn.proofs.ResolveLaws.{decided-zero, count_below-more}
 use Rattle.ba_learn.proofs.ReasonLaws.{place_of-at, reason_below}
 use Rattle.ba_learn.proofs.FollowLaws.{false_at, known, refutes}
@@ -73,12 +73,12 @@ later_literal T d (x ∷ xs) all e = ⊎_elim
     rest (Some false) b is h = h
 
 -- at the start of the walk there is a pending literal
-pub some_pending : (s : State) (w : Work) (conflict : ℕ) → KeepsFacts s → IsStart s w.floor → IsSome (clause_in s.clauses conflict) → is_false (value_of s.trail) (lits_in s.clauses conflict) ≡ true → AreMarked s (is_marked w) (lits_in s.clauses conflict) → IsWork s (length s.trail) w → 1 ≤ w.pending
-some_pending s w conflict facts start live is_false' marked work =
+pub some_pending : (s : State) (w : Work) (conflict : ℕ) → KeepsFacts s → IsStart s w.floor → IsSome (clause_in s.clauses conflict) → is_false (value_of s.trail) (lits_in s.clauses conflict) ≡ true → AreSeen s (is_seen w) (lits_in s.clauses conflict) → IsWork s (length s.trail) w → 1 ≤ w.pending
+some_pending s w conflict facts start live is_false' seen work =
     let complete = facts.below w.floor start.within start.decided_ in
     let k = later_literal s.trail w.floor (lits_in s.clauses conflict) (false_at (value_of s.trail) (lits_in s.clauses conflict) is_false') (complete.none_false conflict live) in
     let p : ℕ = place_in s (lits_in s.clauses conflict) k.0 in
-    omega (arith, work.pending, count_below-some (is_above w) p (length s.trail) (false_below s (lits_in s.clauses conflict) is_false' k.0 k.1) (above w.floor p (is_marked w p) k.2 (marked k.0 k.1)))
+    omega (arith, work.pending, count_below-some (is_above w) p (length s.trail) (false_below s (lits_in s.clauses conflict) is_false' k.0 k.1) (above w.floor p (is_seen w p) k.2 (seen k.0 k.1)))
   where
     above : (f p : ℕ) (m : Bool) → f ≤ p → m ≡ true → (leb f p && m) ≡ true
     above f p m le e = grind (arith, nat_tests)
@@ -88,9 +88,9 @@ pub negated_false : (s : State) → KeepsFacts s → (q : ℕ) → q < length s.
 negated_false s facts q within = value_of-negate s.trail (lit_at s.trail q) true (value_of-at s.trail q within (facts.trail.fresh q within))
 
 -- the last pending place is the only one
-pub analysed_one : (s : State) (w : Work) (u : ℕ) → IsWork s (u + 1) w → w.pending ≡ 1 → w.floor ≤ u → is_marked w u ≡ true → HasOne s (u + 1) w u (negated_at s u)
-analysed_one s w u work pending above marked = record {
-  pending = here w.floor (is_marked w u) above marked;
+pub analysed_one : (s : State) (w : Work) (u : ℕ) → IsWork s (u + 1) w → w.pending ≡ 1 → w.floor ≤ u → is_seen w u ≡ true → HasOne s (u + 1) w u (negated_at s u)
+analysed_one s w u work pending above seen = record {
+  pending = here w.floor (is_seen w u) above seen;
   only = λ q q_pending. only q q_pending;
   lead_is = refl;
 }
@@ -109,17 +109,17 @@ analysed_one s w u work pending above marked = record {
     only q q_pending = ⊎_elim
         (λ same. same)
         (λ other.
-        let none : count_below (is_above w) u ≡ 0 = omega (arith, work.pending, pending, count_below-more (is_above w) u, one_above w.floor (is_marked w u) above marked) in
+        let none : count_below (is_above w) u ≡ 0 = omega (arith, work.pending, pending, count_below-more (is_above w) u, one_above w.floor (is_seen w u) above seen) in
         absurd (cc (sym (count_below-none (is_above w) q u (omega (arith, other, (pending_above (u + 1) w q q_pending).1)) none) ∙ last (ltb q (u + 1)) (is_above w q) q_pending)))
         (cases_eq q u)
 
-module _ (s : State) (facts : KeepsFacts s) (w : Work) (u conflict : ℕ) (e : HasEnded s (u + 1) w conflict) (start : IsStart s w.floor) (pending : w.pending ≡ 1) (above : w.floor ≤ u) (marked : is_marked w u ≡ true) (live : IsSome (clause_in s.clauses conflict)) (is_false' : is_false (value_of s.trail) (lits_in s.clauses conflict) ≡ true)
+module _ (s : State) (facts : KeepsFacts s) (w : Work) (u conflict : ℕ) (e : HasEnded s (u + 1) w conflict) (start : IsStart s w.floor) (pending : w.pending ≡ 1) (above : w.floor ≤ u) (seen : is_seen w u ≡ true) (live : IsSome (clause_in s.clauses conflict)) (is_false' : is_false (value_of s.trail) (lits_in s.clauses conflict) ≡ true)
     (lits : List Literal) (places : List ℕ) (sorted : SortsLiterals (negated_at s u ∷ map (negated_at s) w.kept) lits) (ordered : SortsNumbers w.resolved places) where
   one : HasOne s (u + 1) w u (negated_at s u)
-  one = analysed_one s w u e.work pending above marked
+  one = analysed_one s w u e.work pending above seen
 
   within : u < length s.trail
-  within = e.work.ranged u marked
+  within = e.work.ranged u seen
 
   place_at : (q : ℕ) → q < length s.trail → place_of s.trail (lit_at s.trail q).variable ≡ q
   place_at q q_in = place_of-at s.trail q q_in (facts.trail.fresh q q_in)
@@ -200,21 +200,21 @@ module _ (s : State) (facts : KeepsFacts s) (w : Work) (u conflict : ℕ) (e : H
   pub analysed_placed : (k : ℕ) → k < length lits → place_of s.trail (lit_at lits k).variable < length s.trail
   analysed_placed k k_in = place_of-some s.trail (lit_at lits k) false (each_false k k_in)
 
-  kept_marked : (q : ℕ) → 0 < occurrences q w.kept → is_marked w q ≡ true
-  kept_marked q some = part (occurrences q w.kept) (occurrences q w.resolved) (occurrences q w.waiting) (is_pending (u + 1) w q) (is_marked w q) some (e.work.parted q)
+  kept_seen : (q : ℕ) → 0 < occurrences q w.kept → is_seen w q ≡ true
+  kept_seen q some = part (occurrences q w.kept) (occurrences q w.resolved) (occurrences q w.waiting) (is_pending (u + 1) w q) (is_seen w q) some (e.work.parted q)
     where
       part : (k r v : ℕ) (a m : Bool) → 0 < k → k + (r + (v + one_if a)) ≡ one_if m → m ≡ true
       part k r v a true some h = refl
       part k r v a false some h = absurd (omega arith)
 
-  -- what is in the clause is marked
-  in_marked : (x : Literal) → has_literal x lits ≡ true → is_marked w (place_of s.trail x.variable) ≡ true
-  in_marked x has = ⊎_elim
-      (λ is. ap (is_marked w) (ap (λ (l : Literal). place_of s.trail l.variable) is ∙ place_at u within) ∙ marked)
-      (λ q. ap (is_marked w) (ap (λ (l : Literal). place_of s.trail l.variable) q.2 ∙ place_at q.0 (kept_within s facts (u + 1) w e.work e.waiting u (negated_at s u) one lits sorted q.0 q.1)) ∙ kept_marked q.0 q.1)
+  -- what is in the clause is seen
+  in_seen : (x : Literal) → has_literal x lits ≡ true → is_seen w (place_of s.trail x.variable) ≡ true
+  in_seen x has = ⊎_elim
+      (λ is. ap (is_seen w) (ap (λ (l : Literal). place_of s.trail l.variable) is ∙ place_at u within) ∙ seen)
+      (λ q. ap (is_seen w) (ap (λ (l : Literal). place_of s.trail l.variable) q.2 ∙ place_at q.0 (kept_within s facts (u + 1) w e.work e.waiting u (negated_at s u) one lits sorted q.0 q.1)) ∙ kept_seen q.0 q.1)
       (literal_of s facts (u + 1) w e.work e.waiting u (negated_at s u) one lits sorted x has)
 
-  pub analysed_short : IsShortened s w → IsShort s lits
+  pub analysed_short : IsMinimised s w → IsShort s lits
   analysed_short short k k_in lower covered = ⊎_elim
       (λ is. omega (arith, lower, ap (λ (l : Literal). level_at s.reasons (place_of s.trail l.variable)) is, ap (level_at s.reasons) (place_at u within), level_above s facts w.floor start u above within))
       (λ q.
@@ -223,20 +223,20 @@ module _ (s : State) (facts : KeepsFacts s) (w : Work) (u conflict : ℕ) (e : H
       let r_is : get_or s.reasons q.0 None ≡ Some covered.reason = ap (λ (x : ℕ). get_or s.reasons x None) (sym place) ∙ covered.is in
       short q.0 q.1 (
         ap is_some r_is,
-        subst (λ (o : Option ℕ). AreSettled s (is_marked w) (reason_lits s o)) (sym r_is)
-            (All-from_get_or (IsSettled s (is_marked w)) (lits_in s.clauses covered.reason) no_literal (λ j j_in. (
-              settled_place q.0 covered.reason q_in r_is j j_in,
+        subst (λ (o : Option ℕ). AreAbsorbed s (is_seen w) (reason_lits s o)) (sym r_is)
+            (All-from_get_or (IsAbsorbed s (is_seen w)) (lits_in s.clauses covered.reason) no_literal (λ j j_in. (
+              absorbed_place q.0 covered.reason q_in r_is j j_in,
               ⊎_elim
-                  (λ same. inl (ap (is_marked w) (ap (λ (l : Literal). place_of s.trail l.variable) same ∙ place) ∙ kept_marked q.0 q.1))
-                  (λ rest. ⊎_elim (λ has. inl (in_marked (lit_at (lits_in s.clauses covered.reason) j) has)) (λ z. inr z) rest)
+                  (λ same. inl (ap (is_seen w) (ap (λ (l : Literal). place_of s.trail l.variable) same ∙ place) ∙ kept_seen q.0 q.1))
+                  (λ rest. ⊎_elim (λ has. inl (in_seen (lit_at (lits_in s.clauses covered.reason) j) has)) (λ z. inr z) rest)
                   (covered.others j j_in),
             ))),
       ))
       (literal_of s facts (u + 1) w e.work e.waiting u (negated_at s u) one lits sorted (lit_at lits k)
       (has_literal-at lits k k_in))
     where
-      settled_place : (q r : ℕ) → q < length s.trail → get_or s.reasons q None ≡ Some r → (j : ℕ) → j < length (lits_in s.clauses r) → place_of s.trail (lit_at (lits_in s.clauses r) j).variable < length s.trail
-      settled_place q r q_in is j j_in = omega (arith, reason_below s q r facts q_in is j j_in)
+      absorbed_place : (q r : ℕ) → q < length s.trail → get_or s.reasons q None ≡ Some r → (j : ℕ) → j < length (lits_in s.clauses r) → place_of s.trail (lit_at (lits_in s.clauses r) j).variable < length s.trail
+      absorbed_place q r q_in is j j_in = omega (arith, reason_below s q r facts q_in is j j_in)
 
   module _ (back : ℕ) (level : 1 ≤ decided s.reasons) (greatest : (k : ℕ) → k < length lits → level_in s lits k < decided s.reasons → level_in s lits k ≤ back) (reached : IsReached s lits (length lits) back) where
     present_at : (k : ℕ) × (k < length lits) × (lit_at lits k ≡ negated_at s u)

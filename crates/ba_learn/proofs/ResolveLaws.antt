@@ -14,7 +14,7 @@ use Rattle.ba_watch.specs.Chains.{occurrences}
 use Rattle.ba_watch.specs.Trails.{decided, level_at}
 use Rattle.ba_watch.proofs.Levels.{decided-take-le}
 use Rattle.ba_watch.specs.Propagation.{State, lits_in, KeepsFacts}
-use Rattle.ba_learn.specs.Resolving.{Work, count_below, is_marked, is_above, IsWork, AreBelow, AreMarked, MayMeet, Meets, with_resolved, MayResolve, reason_lits, reason_of_place, AreCovered, Resolves, KeepsWork, IsStart, IsSettled, AreSettled, IsInert, IsImplied, IsShortened, place_in}
+use Rattle.ba_learn.specs.Resolving.{Work, count_below, is_seen, is_above, IsWork, AreBelow, AreSeen, MayMeet, Meets, with_resolved, MayResolve, reason_lits, reason_of_place, AreCovered, Resolves, KeepsWork, IsStart, IsAbsorbed, AreAbsorbed, IsInert, IsRedundant, IsMinimised, place_in}
 use Rattle.ba_learn.proofs.WorkLaws.{occurrences-push, occurrences-append, pushed_cases, one_if-le, count_below-le, count_below-bound}
 use Rattle.ba_learn.proofs.ReasonLaws.{reason_below}
 use Rattle.ba_learn.proofs.FollowLaws.{occurrences-permutation}
@@ -51,7 +51,7 @@ not_above : (floor p : ℕ) (b : Bool) → p < floor → (leb floor p && b) ≡ 
 not_above floor p b lt = grind (arith, nat_tests)
 
 above_floor : (w : Work) (n : ℕ) → n ≤ w.floor → count_below (is_above w) n ≡ 0
-above_floor w n le = count_below-zero (is_above w) n (λ p lt. not_above w.floor p (is_marked w p) (omega arith))
+above_floor w n le = count_below-zero (is_above w) n (λ p lt. not_above w.floor p (is_seen w p) (omega arith))
 
 -- the latest pending place
 pub pending_floor : (w : Work) (place : ℕ) → 1 ≤ count_below (is_above w) (place + 1) → w.floor ≤ place
@@ -61,15 +61,15 @@ pending_floor w place some = ⊎_elim
     (cases_lt place w.floor)
 
 -- the walk goes on to the latest place that is pending
-pub work_narrower : (s : State) (w : Work) (end place : ℕ) → IsWork s end w → place < end → w.floor ≤ place → ((p : ℕ) → place < p → p < end → is_marked w p ≡ false) → IsWork s (place + 1) w
+pub work_narrower : (s : State) (w : Work) (end place : ℕ) → IsWork s end w → place < end → w.floor ≤ place → ((p : ℕ) → place < p → p < end → is_seen w p ≡ false) → IsWork s (place + 1) w
 work_narrower s w end place i below above none = record {
   short = i.short;
   within = omega (arith, i.within);
   floor = omega arith;
   ranged = i.ranged;
-  parted = λ q. parted (occurrences q w.kept) (occurrences q w.resolved) (occurrences q w.waiting) w.floor q (is_marked w q) (none q) (i.parted q);
+  parted = λ q. parted (occurrences q w.kept) (occurrences q w.resolved) (occurrences q w.waiting) w.floor q (is_seen w q) (none q) (i.parted q);
   pending = i.pending ∙ count_below-gap (is_above w) (place + 1) end (omega arith)
-      (λ p ge lt. and_right (leb w.floor p) (is_marked w p) (none p (omega arith) lt));
+      (λ p ge lt. and_right (leb w.floor p) (is_seen w p) (none p (omega arith) lt));
   kept_below = i.kept_below;
   kept = i.kept;
   resolved = i.resolved;
@@ -94,17 +94,17 @@ Resolves-trans s u v w a b = record {
   covered = λ c. b.covered (a.covered c);
 }
 
--- the reason of a place with its literals marked
-covered_push : (s : State) (old new : ℕ → Bool) (places : List ℕ) (place : ℕ) → ((p : ℕ) → old p ≡ true → new p ≡ true) → AreCovered s old places → AreMarked s new (reason_of_place s place) → AreCovered s new (places ++ place ∷ [])
+-- the reason of a place with its literals seen
+covered_push : (s : State) (old new : ℕ → Bool) (places : List ℕ) (place : ℕ) → ((p : ℕ) → old p ≡ true → new p ≡ true) → AreCovered s old places → AreSeen s new (reason_of_place s place) → AreCovered s new (places ++ place ∷ [])
 covered_push s old new places place grows covered here p some k k_in = ⊎_elim
     (λ was. grows _ (covered p was k k_in))
-    (λ same. (subst (λ (x : ℕ). AreMarked s new (reason_of_place s x)) (sym same) here) k k_in)
+    (λ same. (subst (λ (x : ℕ). AreSeen s new (reason_of_place s x)) (sym same) here) k k_in)
     (pushed_cases p places place some)
 
 -- a pending place is resolved
-module _ (s : State) (old mid : Work) (place reason : ℕ) (facts : KeepsFacts s) (is : get_or s.reasons place None ≡ Some reason) (work : IsWork s (place + 1) old) (marked : is_marked old place ≡ true) (above : old.floor ≤ place) (met : Meets s old mid (lits_in s.clauses reason)) where
+module _ (s : State) (old mid : Work) (place reason : ℕ) (facts : KeepsFacts s) (is : get_or s.reasons place None ≡ Some reason) (work : IsWork s (place + 1) old) (seen : is_seen old place ≡ true) (above : old.floor ≤ place) (met : Meets s old mid (lits_in s.clauses reason)) where
   within : place < length s.trail
-  within = work.ranged place marked
+  within = work.ranged place seen
 
   abbrev done : Work
   done = record mid { pending = mid.pending - 1; resolved = mid.resolved ++ place ∷ [] }
@@ -117,16 +117,16 @@ module _ (s : State) (old mid : Work) (place reason : ℕ) (facts : KeepsFacts s
     grows = met.grows;
     floor = met.floor;
     deep = met.deep;
-    covered = λ c. covered_push s (is_marked old) (is_marked mid) mid.resolved place met.grows
-        (subst (λ (xs : List ℕ). AreCovered s (is_marked old) xs) (sym met.resolved) c)
-        (subst (λ (o : Option ℕ). AreMarked s (is_marked mid) (reason_lits s o)) (sym is) met.met);
+    covered = λ c. covered_push s (is_seen old) (is_seen mid) mid.resolved place met.grows
+        (subst (λ (xs : List ℕ). AreCovered s (is_seen old) xs) (sym met.resolved) c)
+        (subst (λ (o : Option ℕ). AreSeen s (is_seen mid) (reason_lits s o)) (sym is) met.met);
   }
 
   mid_above : mid.floor ≤ place
   mid_above = omega (arith, met.floor, above)
 
-  mid_marked : is_marked mid place ≡ true
-  mid_marked = met.grows place marked
+  mid_seen : is_seen mid place ≡ true
+  mid_seen = met.grows place seen
 
   pub resolved_work : old.deep ≡ false → IsWork s place done
   resolved_work shallow = record {
@@ -134,9 +134,9 @@ module _ (s : State) (old mid : Work) (place reason : ℕ) (facts : KeepsFacts s
     within = omega arith;
     floor = mid_above;
     ranged = mid_work.ranged;
-    parted = λ q. parted (occurrences q mid.kept) (occurrences q mid.resolved) (occurrences q (mid.resolved ++ place ∷ [])) (occurrences q mid.waiting) mid.floor q (is_marked mid q) mid_above
-        (λ e. ap (is_marked mid) e ∙ mid_marked) (occurrences-push q mid.resolved place) (mid_work.parted q);
-    pending = omega (arith, mid_work.pending, count_below-more (is_above mid) place, one_above mid.floor place (is_marked mid place) mid_above mid_marked);
+    parted = λ q. parted (occurrences q mid.kept) (occurrences q mid.resolved) (occurrences q (mid.resolved ++ place ∷ [])) (occurrences q mid.waiting) mid.floor q (is_seen mid q) mid_above
+        (λ e. ap (is_seen mid) e ∙ mid_seen) (occurrences-push q mid.resolved place) (mid_work.parted q);
+    pending = omega (arith, mid_work.pending, count_below-more (is_above mid) place, one_above mid.floor place (is_seen mid place) mid_above mid_seen);
     kept_below = mid_work.kept_below;
     kept = mid_work.kept;
     resolved = λ p some. ⊎_elim (λ was. mid_work.resolved p was) (λ same. subst (λ (x : ℕ). IsSome (get_or s.reasons x None)) (sym same) (ap is_some is)) (pushed_cases p mid.resolved place some);
@@ -191,27 +191,27 @@ pub met_reason : (s : State) (w w' new : Work) (place reason : ℕ) → get_or s
 met_reason s w w' new place reason is e met =
     subst (λ (o : Option ℕ). Meets s (with_resolved w place) new (reason_lits s o)) (sym is) (subst (λ (x : Work). Meets s x new (lits_in s.clauses reason)) e met)
 
--- where only places of level 0 are marked, no more is settled, or implied
-pub inert_settled : (s : State) (old new : Work) (lits : List Literal) → IsInert s old new → AreSettled s (is_marked new) lits → AreSettled s (is_marked old) lits
-inert_settled s old new lits inert all =
-    All-weaker (IsSettled s (is_marked new)) (IsSettled s (is_marked old)) (λ l h. (h.0, ⊎_elim (λ m. inert.marks _ m) (λ z. inr z) h.1)) lits all
+-- where only places of level 0 are seen, no more is absorbed, or redundant
+pub inert_absorbed : (s : State) (old new : Work) (lits : List Literal) → IsInert s old new → AreAbsorbed s (is_seen new) lits → AreAbsorbed s (is_seen old) lits
+inert_absorbed s old new lits inert all =
+    All-weaker (IsAbsorbed s (is_seen new)) (IsAbsorbed s (is_seen old)) (λ l h. (h.0, ⊎_elim (λ m. inert.seen _ m) (λ z. inr z) h.1)) lits all
 
-pub inert_implied : (s : State) (old new : Work) (p : ℕ) → IsInert s old new → IsImplied s new p → IsImplied s old p
-inert_implied s old new p inert h = (h.0, inert_settled s old new (reason_of_place s p) inert h.1)
+pub inert_redundant : (s : State) (old new : Work) (p : ℕ) → IsInert s old new → IsRedundant s new p → IsRedundant s old p
+inert_redundant s old new p inert h = (h.0, inert_absorbed s old new (reason_of_place s p) inert h.1)
 
 -- the reason of a place of level 0 is settled
-zero_settled : (s : State) (marked : ℕ → Bool) (p : ℕ) → KeepsFacts s → p < length s.trail → level_at s.reasons p ≡ 0 → AreSettled s marked (reason_of_place s p)
-zero_settled s marked p facts within z = step (get_or s.reasons p None) refl
+zero_absorbed : (s : State) (seen : ℕ → Bool) (p : ℕ) → KeepsFacts s → p < length s.trail → level_at s.reasons p ≡ 0 → AreAbsorbed s seen (reason_of_place s p)
+zero_absorbed s seen p facts within z = step (get_or s.reasons p None) refl
   where
-    one : (r : ℕ) → get_or s.reasons p None ≡ Some r → (k : ℕ) → k < length (lits_in s.clauses r) → IsSettled s marked (lit_at (lits_in s.clauses r) k)
+    one : (r : ℕ) → get_or s.reasons p None ≡ Some r → (k : ℕ) → k < length (lits_in s.clauses r) → IsAbsorbed s seen (lit_at (lits_in s.clauses r) k)
     one r e k k_in =
         let below : place_in s (lits_in s.clauses r) k < p + 1 = reason_below s p r facts within e k k_in in
         let le : level_at s.reasons (place_in s (lits_in s.clauses r) k) ≤ level_at s.reasons p = decided-take-le (place_in s (lits_in s.clauses r) k + 1) (p + 1) s.reasons (omega (arith, below)) in
         (omega (arith, below), inr (omega (arith, z, le)))
 
-    step : (o : Option ℕ) → get_or s.reasons p None ≡ o → AreSettled s marked (reason_lits s o)
-    step None e = All-nil (IsSettled s marked)
-    step (Some r) e = All-from_get_or (IsSettled s marked) (lits_in s.clauses r) no_literal (one r e)
+    step : (o : Option ℕ) → get_or s.reasons p None ≡ o → AreAbsorbed s seen (reason_lits s o)
+    step None e = All-nil (IsAbsorbed s seen)
+    step (Some r) e = All-from_get_or (IsAbsorbed s seen) (lits_in s.clauses r) no_literal (one r e)
 
 -- the last of a list in the place of one that is taken out
 pub swapped_rest : (P : ℕ → Type 0) (xs ys : List ℕ) (index : ℕ) → length ys + 1 ≡ length xs → (index + 1 < length xs → get_or ys index 0 ≡ get_or xs (length xs - 1) 0) → ((k : ℕ) → k ≢ index → k + 1 < length xs → get_or ys k 0 ≡ get_or xs k 0)
@@ -266,7 +266,7 @@ module _ (s : State) (old : Work) (rest : List ℕ) (place : ℕ) (is : old.wait
       grows = met.grows;
       floor = met.floor;
       deep = met.deep;
-      covered = λ c. subst (λ (xs : List ℕ). AreCovered s (is_marked new) xs) (sym met.resolved) (covered_push s (is_marked old) (is_marked new) old.resolved place met.grows c met.met);
+      covered = λ c. subst (λ (xs : List ℕ). AreCovered s (is_seen new) xs) (sym met.resolved) (covered_push s (is_seen old) (is_seen new) old.resolved place met.grows c met.met);
     }
 
     pub popped_keeps : KeepsFacts s → KeepsWork s old new
@@ -280,14 +280,14 @@ module _ (s : State) (old : Work) (rest : List ℕ) (place : ℕ) (is : old.wait
         met.still (reason_of_place-below s facts place old.floor (i.waiting_below place waits)
         (popped_within high i))
 
-    pub popped_short : KeepsFacts s → (high : ℕ) → IsWork s high old → old.deep ≡ false → IsShortened s old → IsShortened s new
+    pub popped_short : KeepsFacts s → (high : ℕ) → IsWork s high old → old.deep ≡ false → IsMinimised s old → IsMinimised s new
     popped_short facts high i shallow short p some implied =
-        let inert : IsInert s (with_resolved popped place) new = met.inert shallow (zero_settled s (is_marked old) place facts (popped_within high i) ((i.waiting place waits).level shallow)) in
-        short p (subst (λ (xs : List ℕ). 0 < occurrences p xs) inert.kept some) (inert_implied s (with_resolved popped place) new p inert implied)
+        let inert : IsInert s (with_resolved popped place) new = met.inert shallow (zero_absorbed s (is_seen old) place facts (popped_within high i) ((i.waiting place waits).level shallow)) in
+        short p (subst (λ (xs : List ℕ). 0 < occurrences p xs) inert.kept some) (inert_redundant s (with_resolved popped place) new p inert implied)
 
-    -- each turn marks a place or takes one from those that wait
+    -- each turn sees a place or takes one from those that wait
     pub popped_less : KeepsFacts s → (high : ℕ) → IsWork s high old
-        → 2 * (length s.trail - count_below (is_marked new) (length s.trail)) + length new.waiting < 2 * (length s.trail - count_below (is_marked old) (length s.trail)) + length old.waiting
+        → 2 * (length s.trail - count_below (is_seen new) (length s.trail)) + length new.waiting < 2 * (length s.trail - count_below (is_seen old) (length s.trail)) + length old.waiting
     popped_less facts high i =
         let n : ℕ = length s.trail in
         let within : place < n = popped_within high i in
@@ -295,9 +295,9 @@ module _ (s : State) (old : Work) (rest : List ℕ) (place : ℕ) (is : old.wait
           arith,
           met.spends n (reason_of_place-below s facts place n within within),
           count_below-le
-              (is_marked old) (is_marked new) met.grows n,
+              (is_seen old) (is_seen new) met.grows n,
           count_below-bound
-              (is_marked new) n,
+              (is_seen new) n,
           ap length is,
           length_push rest place,
         )
@@ -354,7 +354,7 @@ module _ (s : State) (old : Work) (rest : List ℕ) (place : ℕ) (is : IsPermut
       grows = met.grows;
       floor = met.floor;
       deep = met.deep;
-      covered = λ c. subst (λ (xs : List ℕ). AreCovered s (is_marked new) xs) (sym met.resolved) (covered_push s (is_marked old) (is_marked new) old.resolved place met.grows c met.met);
+      covered = λ c. subst (λ (xs : List ℕ). AreCovered s (is_seen new) xs) (sym met.resolved) (covered_push s (is_seen old) (is_seen new) old.resolved place met.grows c met.met);
     }
 
     pub dropped_keeps : KeepsFacts s → KeepsWork s old new
@@ -368,7 +368,7 @@ module _ (s : State) (old : Work) (rest : List ℕ) (place : ℕ) (is : IsPermut
         met.still (reason_of_place-below s facts place old.floor (i.kept_below place was_kept)
         (dropped_within high i))
 
-    pub dropped_inert : old.deep ≡ false → AreSettled s (is_marked old) (reason_of_place s place) → IsInert s (with_resolved dropped place) new
+    pub dropped_inert : old.deep ≡ false → AreAbsorbed s (is_seen old) (reason_of_place s place) → IsInert s (with_resolved dropped place) new
     dropped_inert shallow settled = met.inert shallow settled
 
     pub dropped_length : (index : ℕ) → index < length old.kept → index ≤ length new.kept

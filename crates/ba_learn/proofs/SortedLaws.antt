@@ -14,7 +14,7 @@ use Rattle.ba_lits.specs.Satisfaction.{one_if}
 use Rattle.ba_watch.specs.Chains.{occurrences}
 use Rattle.ba_watch.specs.Trails.{place_of}
 use Rattle.ba_watch.specs.Propagation.{State, KeepsFacts}
-use Rattle.ba_learn.specs.Resolving.{Work, is_marked, is_pending, IsWork, negated_at, SortsLiterals}
+use Rattle.ba_learn.specs.Resolving.{Work, is_seen, is_pending, IsWork, negated_at, SortsLiterals}
 use Rattle.ba_learn.proofs.Weights.{total-permutation}
 use Rattle.ba_learn.proofs.ReasonLaws.{place_of-at}
 use Rattle.ba_learn.proofs.FollowLaws.{resolved_apart, resolved_within, trail_apart}
@@ -93,14 +93,14 @@ pub record HasOne (s : State) (high : ℕ) (w : Work) (u : ℕ) (lead : Literal)
   pub only : (q : ℕ) → is_pending high w q ≡ true → q ≡ u
   pub lead_is : lead.variable ≡ (lit_at s.trail u).variable
 
-pending_marked : (high : ℕ) (w : Work) (q : ℕ) → is_pending high w q ≡ true → is_marked w q ≡ true
-pending_marked high w q e =
-    (and_parts (leb w.floor q) (is_marked w q)
-    (and_parts (ltb q high) (leb w.floor q && is_marked w q) e).1).1
+pending_seen : (high : ℕ) (w : Work) (q : ℕ) → is_pending high w q ≡ true → is_seen w q ≡ true
+pending_seen high w q e =
+    (and_parts (leb w.floor q) (is_seen w q)
+    (and_parts (ltb q high) (leb w.floor q && is_seen w q) e).1).1
 
 module _ (s : State) (facts : KeepsFacts s) (high : ℕ) (w : Work) (work : IsWork s high w) (waiting : w.waiting ≡ []) (u : ℕ) (lead : Literal) (one : HasOne s high w u lead) (lits : List Literal) (sorted : SortsLiterals (lead ∷ map (negated_at s) w.kept) lits) where
   pub u_within : u < length s.trail
-  u_within = work.ranged u (pending_marked high w u one.pending)
+  u_within = work.ranged u (pending_seen high w u one.pending)
 
   pub kept_within : (q : ℕ) → 0 < occurrences q w.kept → q < length s.trail
   kept_within q some = omega (arith, work.kept_below q some, work.floor, work.within)
@@ -160,14 +160,14 @@ module _ (s : State) (facts : KeepsFacts s) (high : ℕ) (w : Work) (work : IsWo
       step x q k same none le = grind (arith, nat_tests)
 
       none_kept : (q : ℕ) → u ≡ q → occurrences q w.kept ≤ 0
-      none_kept q e = parted (occurrences q w.kept) (occurrences q w.resolved) (occurrences q w.waiting) (is_marked w q)
+      none_kept q e = parted (occurrences q w.kept) (occurrences q w.resolved) (occurrences q w.waiting) (is_seen w q)
           (ap (λ (b : Bool). occurrences q w.kept + (occurrences q w.resolved + (occurrences q w.waiting + one_if b))) (sym (ap (is_pending high w) (sym e) ∙ one.pending)) ∙ work.parted q)
 
       first : cond (eqb lead.variable v) 1 0 + occurrences (place_of s.trail v) w.kept ≤ 1
       first = step lead.variable (place_of s.trail v) (occurrences (place_of s.trail v) w.kept)
           (λ e. sym (place_at u u_within) ∙ (ap (place_of s.trail) (sym one.lead_is) ∙ ap (place_of s.trail) e))
           (none_kept (place_of s.trail v))
-          (at_most (occurrences (place_of s.trail v) w.kept) (occurrences (place_of s.trail v) w.resolved) (occurrences (place_of s.trail v) w.waiting) (is_pending high w (place_of s.trail v)) (is_marked w (place_of s.trail v)) (work.parted (place_of s.trail v)))
+          (at_most (occurrences (place_of s.trail v) w.kept) (occurrences (place_of s.trail v) w.resolved) (occurrences (place_of s.trail v) w.waiting) (is_pending high w (place_of s.trail v)) (is_seen w (place_of s.trail v)) (work.parted (place_of s.trail v)))
 
   -- the clause is formed
   pub is_clause : IsClause s.variables lits

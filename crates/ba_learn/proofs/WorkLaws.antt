@@ -1,4 +1,4 @@
--- The parts of a resolution's work, as a place more is marked.
+-- The parts of a resolution's work, as a place more is seen.
 
 use Rattle.std.proofs.Common.{◌≡◌, ℕ, suc, zero, ◌+◌, ◌<◌, ◌≤◌, Bool, true, false, ◌||◌, Option, None, Some, IsSome, List, [], ◌∷◌, ◌++◌, length, get_or, eqb, ltb, cond, refl, sym, ap, ◌∙◌, arith, ◌≢◌, ◌⊎◌, inl, inr, ⊎_elim}
 use Rattle.std.proofs.lemmas.Bool.{cases_eq}

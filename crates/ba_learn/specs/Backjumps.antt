@@ -6,8 +6,8 @@ use Rattle.ba_watch.specs.Trails.{value_of, decided, kept}
 use Rattle.ba_watch.specs.Propagation.{State}
 
 -- the watch without the literals of the levels above one
-abbrev pub after_back : ℕ → State → State
-after_back level s = record s {
+abbrev pub after_backtrack : ℕ → State → State
+after_backtrack level s = record s {
   trail = take (kept level s.reasons) s.trail;
   reasons = take (kept level s.reasons) s.reasons;
   settled = if ltb level (decided s.reasons) then true else s.settled;

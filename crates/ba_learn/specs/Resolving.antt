@@ -1,4 +1,4 @@
--- A resolution on its way: which places of the trail it has marked, and what is to become of their literals.
+-- A resolution on its way: which places of the trail it has seen, and what is to become of their literals.
 
 use Rattle.std.specs.Prelude.{◌≡◌, ℕ, ◌+◌, ◌<◌, ◌≤◌, leb, ltb, ◌^◌, Bool, true, false, ◌&&◌, Option, None, Some, IsSome, ◌⊎◌, List, [], ◌∷◌, ◌++◌, length, get_or}
 use Prim.Native.Nat.{suc, zero}
@@ -15,7 +15,7 @@ use Rattle.ba_watch.specs.Propagation.{State, clause_in, lits_in}
 -- pending until the walk down the trail comes to them; of the others some are kept in the clause, and the rest are
 -- resolved with their reasons, or wait for that.
 pub record Work : Type 0 where
-  pub marks : List Bool
+  pub seen : List Bool
   pub floor : ℕ
   pub deep : Bool
   pub pending : ℕ
@@ -23,18 +23,18 @@ pub record Work : Type 0 where
   pub resolved : List ℕ
   pub waiting : List ℕ
 
--- the place is marked
-abbrev pub is_marked : Work → ℕ → Bool
-is_marked w p = get_or w.marks p false
+-- the place is seen
+abbrev pub is_seen : Work → ℕ → Bool
+is_seen w p = get_or w.seen p false
 
 -- how many places below a number are in a set
 abbrev pub count_below : (ℕ → Bool) → ℕ → ℕ
 count_below set zero = 0
 count_below set (suc n) = one_if (set n) + count_below set n
 
--- the marked places from the floor on
+-- the seen places from the floor on
 abbrev pub is_above : Work → ℕ → Bool
-is_above w p = leb w.floor p && is_marked w p
+is_above w p = leb w.floor p && is_seen w p
 
 -- those of them that the walk hasn't come to
 abbrev pub is_pending : ℕ → Work → ℕ → Bool
@@ -55,13 +55,13 @@ abbrev pub parts_of : ℕ → Work → ℕ → ℕ
 parts_of high w p =
     occurrences p w.kept + (occurrences p w.resolved + (occurrences p w.waiting + one_if (is_pending high w p)))
 
--- the walk down the trail has come to a place: each marked place is in exactly one part of the work
+-- the walk down the trail has come to a place: each seen place is in exactly one part of the work
 pub record IsWork (s : State) (high : ℕ) (w : Work) : Type 0 where
   pub short : length s.trail < 2 ^ 62
   pub within : high ≤ length s.trail
   pub floor : w.floor ≤ high
-  pub ranged : (p : ℕ) → is_marked w p ≡ true → p < length s.trail
-  pub parted : (p : ℕ) → parts_of high w p ≡ one_if (is_marked w p)
+  pub ranged : (p : ℕ) → is_seen w p ≡ true → p < length s.trail
+  pub parted : (p : ℕ) → parts_of high w p ≡ one_if (is_seen w p)
   pub pending : w.pending ≡ count_below (is_above w) high
   pub kept_below : (p : ℕ) → 0 < occurrences p w.kept → p < w.floor
   pub kept : (p : ℕ) → 0 < occurrences p w.kept → MayKeep s w.deep p
@@ -84,9 +84,9 @@ place_in s lits k = place_of s.trail (lit_at lits k).variable
 abbrev pub AreBelow : State → ℕ → List Literal → Type 0
 AreBelow s high lits = (k : ℕ) → k < length lits → place_in s lits k < high
 
--- the literals of a clause are marked
-abbrev pub AreMarked : State → (ℕ → Bool) → List Literal → Type 0
-AreMarked s marked lits = (k : ℕ) → k < length lits → marked (place_in s lits k) ≡ true
+-- the literals of a clause are seen
+abbrev pub AreSeen : State → (ℕ → Bool) → List Literal → Type 0
+AreSeen s seen lits = (k : ℕ) → k < length lits → seen (place_in s lits k) ≡ true
 
 -- a resolution is under way and may meet the literals of a clause
 abbrev pub MayMeet : State → Work → List Literal → Type 0
@@ -98,32 +98,32 @@ pub record MayStart (s : State) (floor high : ℕ) (lits : List Literal) : Type 
   pub within : high ≤ length s.trail
   pub below : AreBelow s high lits
 
--- a literal has a value, and is marked or was assigned at level 0
-abbrev pub IsSettled : State → (ℕ → Bool) → Literal → Type 0
-IsSettled s marked l =
-    (place_of s.trail l.variable < length s.trail) × ((marked (place_of s.trail l.variable) ≡ true) ⊎ (level_at s.reasons (place_of s.trail l.variable) ≡ 0))
+-- a literal has a value, and is seen or was assigned at level 0
+abbrev pub IsAbsorbed : State → (ℕ → Bool) → Literal → Type 0
+IsAbsorbed s seen l =
+    (place_of s.trail l.variable < length s.trail) × ((seen (place_of s.trail l.variable) ≡ true) ⊎ (level_at s.reasons (place_of s.trail l.variable) ≡ 0))
 
-abbrev pub AreSettled : State → (ℕ → Bool) → List Literal → Type 0
-AreSettled s marked lits = All (IsSettled s marked) lits
+abbrev pub AreAbsorbed : State → (ℕ → Bool) → List Literal → Type 0
+AreAbsorbed s seen lits = All (IsAbsorbed s seen) lits
 
--- only places of level 0 were marked, and what is kept stays
+-- only places of level 0 were seen, and what is kept stays
 pub record IsInert (s : State) (old new : Work) : Type 0 where
-  pub marks : (p : ℕ) → is_marked new p ≡ true → (is_marked old p ≡ true) ⊎ (level_at s.reasons p ≡ 0)
+  pub seen : (p : ℕ) → is_seen new p ≡ true → (is_seen old p ≡ true) ⊎ (level_at s.reasons p ≡ 0)
   pub kept : new.kept ≡ old.kept
 
--- the literals of a clause were marked, each of them new in one part of the work
+-- the literals of a clause were seen, each of them new in one part of the work
 pub record Meets (s : State) (old new : Work) (lits : List Literal) : Type 0 where
-  pub grows : (p : ℕ) → is_marked old p ≡ true → is_marked new p ≡ true
-  pub met : AreMarked s (is_marked new) lits
+  pub grows : (p : ℕ) → is_seen old p ≡ true → is_seen new p ≡ true
+  pub met : AreSeen s (is_seen new) lits
   pub floor : new.floor ≡ old.floor
   pub deep : new.deep ≡ old.deep
   pub pending : old.pending ≤ new.pending
   pub still : AreBelow s old.floor lits → new.pending ≡ old.pending
   pub kept : length old.kept ≤ length new.kept
   pub resolved : new.resolved ≡ old.resolved
-  pub spends : (n : ℕ) → AreBelow s n lits → count_below (is_marked old) n + length new.waiting ≤ count_below (is_marked new) n + length old.waiting
+  pub spends : (n : ℕ) → AreBelow s n lits → count_below (is_seen old) n + length new.waiting ≤ count_below (is_seen new) n + length old.waiting
   pub work : (high : ℕ) → IsWork s high old → AreBelow s high lits → IsWork s high new
-  pub inert : old.deep ≡ false → AreSettled s (is_marked old) lits → IsInert s old new
+  pub inert : old.deep ≡ false → AreAbsorbed s (is_seen old) lits → IsInert s old new
 
 -- the literals of a reason; none where there is none
 abbrev pub reason_lits : State → Option ℕ → List Literal
@@ -142,25 +142,25 @@ MayResolve s w place = (high : ℕ) × IsWork s high (with_resolved w place) × 
 abbrev pub reason_of_place : State → ℕ → List Literal
 reason_of_place s place = reason_lits s (get_or s.reasons place None)
 
--- the literals of the reasons of places are marked
+-- the literals of the reasons of places are seen
 abbrev pub AreCovered : State → (ℕ → Bool) → List ℕ → Type 0
-AreCovered s marked places =
-    (p : ℕ) → 0 < occurrences p places → AreMarked s marked (reason_of_place s p)
+AreCovered s seen places =
+    (p : ℕ) → 0 < occurrences p places → AreSeen s seen (reason_of_place s p)
 
--- reasons were resolved with: what was marked stays so, and what is resolved has the literals of its reason marked
+-- reasons were resolved with: what was seen stays so, and what is resolved has the literals of its reason seen
 pub record Resolves (s : State) (old new : Work) : Type 0 where
-  pub grows : (p : ℕ) → is_marked old p ≡ true → is_marked new p ≡ true
+  pub grows : (p : ℕ) → is_seen old p ≡ true → is_seen new p ≡ true
   pub floor : new.floor ≡ old.floor
   pub deep : new.deep ≡ old.deep
-  pub covered : AreCovered s (is_marked old) old.resolved → AreCovered s (is_marked new) new.resolved
+  pub covered : AreCovered s (is_seen old) old.resolved → AreCovered s (is_seen new) new.resolved
 
--- a place has a reason, each literal of which is settled
-abbrev pub IsImplied : State → Work → ℕ → Type 0
-IsImplied s w p = IsSome (get_or s.reasons p None) × AreSettled s (is_marked w) (reason_of_place s p)
+-- a place has a reason, each literal of which is absorbed
+abbrev pub IsRedundant : State → Work → ℕ → Type 0
+IsRedundant s w p = IsSome (get_or s.reasons p None) × AreAbsorbed s (is_seen w) (reason_of_place s p)
 
--- nothing that is kept is implied
-abbrev pub IsShortened : State → Work → Type 0
-IsShortened s w = (p : ℕ) → 0 < occurrences p w.kept → IsImplied s w p → ⊥
+-- nothing that is kept is redundant
+abbrev pub IsMinimised : State → Work → Type 0
+IsMinimised s w = (p : ℕ) → 0 < occurrences p w.kept → IsRedundant s w p → ⊥
 
 -- the parts of the work stay apart, wherever the walk has come to
 abbrev pub KeepsWork : State → Work → Work → Type 0
@@ -200,10 +200,10 @@ pub record SortsLiterals (old new : List Literal) : Type 0 where
   pub same : IsPermutation old new
   pub ascends : IsNonDecreasingBy (λ (l : Literal). l.variable) new
 
--- from an index on nothing that is kept is implied
-abbrev pub IsShortFrom : State → Work → ℕ → Type 0
-IsShortFrom s w index = (k : ℕ) → index ≤ k → k < length w.kept → IsImplied s w (get_or w.kept k 0) → ⊥
+-- from an index on nothing that is kept is redundant
+abbrev pub IsMinimisedFrom : State → Work → ℕ → Type 0
+IsMinimisedFrom s w index = (k : ℕ) → index ≤ k → k < length w.kept → IsRedundant s w (get_or w.kept k 0) → ⊥
 
 -- the same from one index less on
-abbrev pub ShortensAt : State → Work → Work → ℕ → Type 0
-ShortensAt s old new index = old.deep ≡ false → IsShortFrom s old (index + 1) → IsShortFrom s new index
+abbrev pub MinimisesAt : State → Work → Work → ℕ → Type 0
+MinimisesAt s old new index = old.deep ≡ false → IsMinimisedFrom s old (index + 1) → IsMinimisedFrom s new index

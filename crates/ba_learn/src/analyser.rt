@@ -15,7 +15,7 @@ use ba_lits::Lit;
 use ba_watch::Watch;
 use std::alloc::{AllocError, Global};
 
-/// The marks that an analysis needs, kept from one to the next so that an analysis costs what it resolves and not
+/// The marks of what was seen, which an analysis needs, kept from one to the next so that an analysis costs what it resolves and not
 /// what there is.
 #[derive(Drop)]
 pub struct Analyser {
@@ -59,13 +59,13 @@ impl Analyser {
         let resolution = &mut self.resolution;
         resolution.start(watch, conflict, level_start(watch), false)?;
         let place = resolution.walk(watch)?;
-        resolution.shorten(watch)?;
+        resolution.minimise(watch)?;
         self.above = resolution.resolved().len();
         resolution.close(watch)?;
         resolution.sort();
         let lits = resolution.clause(self.alloc, watch, watch.trail()[place].negated())?;
         let hints = resolution.hints(self.alloc, watch, conflict)?;
-        let back = back_of(watch, lits.as_slice());
+        let back = backjump_level(watch, lits.as_slice());
         Ok(Learnt {
             lits: Items::from_vec(lits),
             hints: Items::from_vec(hints),
@@ -150,7 +150,7 @@ fn raised(watch: &Watch, lit: Lit, back: usize) -> usize
 }
 
 /// The greatest level of a clause's literals below the present one, or 0.
-fn back_of(watch: &Watch, lits: &[Lit]) -> usize
+fn backjump_level(watch: &Watch, lits: &[Lit]) -> usize
     requires within { All (λ l. l.variable ≤ watch.now.variables) lits.now }
     requires assigned { All (λ l. place_of watch.now.trail l.variable < length watch.now.trail)
         lits.now }

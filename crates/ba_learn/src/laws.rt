@@ -7,7 +7,7 @@ ghost use Rattle.ba_watch.specs.Trails.{decided};
 ghost use Rattle.ba_watch.specs.Propagation.{State, lits_in, IsReason, IsAsserting, AddsClause, KeepsFacts};
 ghost use Rattle.ba_learn.specs.Live.{AreLive, IsNew, IsPartOf, HaveDistinctNumbers, by_number};
 ghost use Rattle.ba_learn.specs.Levels.{IsBacked};
-ghost use Rattle.ba_learn.specs.Backjumps.{after_back, IsUnitAt};
+ghost use Rattle.ba_learn.specs.Backjumps.{after_backtrack, IsUnitAt};
 
 /// A clause that is new contains no live clause, where no literal stands twice in that.
 pub fn new_law()
@@ -20,15 +20,15 @@ pub fn new_law()
 /// false; the level is the one gone back to.
 pub fn unit_law()
     ensures unit { (s : State) (lits : List Literal) (back : ℕ) → KeepsFacts s
-        → (b : IsBacked s lits back) → IsUnitAt (after_back back s).trail lits b.present }
+        → (b : IsBacked s lits back) → IsUnitAt (after_backtrack back s).trail lits b.present }
     ensures level { (s : State) (lits : List Literal) (back : ℕ) → IsBacked s lits back
-        → decided (after_back back s).reasons ≡ back }
+        → decided (after_backtrack back s).reasons ≡ back }
 {}
 
 /// A learnt clause whose level isn't 0 may be added after going back to that level.
 pub fn asserting_law()
     ensures { (s : State) (lits : List Literal) (back : ℕ) → KeepsFacts s → IsBacked s lits back
-        → 1 ≤ back → IsAsserting (after_back back s) lits }
+        → 1 ≤ back → IsAsserting (after_backtrack back s) lits }
 {}
 
 /// A clause that was added where all but one of its literals are false is a reason for that one.

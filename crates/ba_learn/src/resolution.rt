@@ -4,7 +4,7 @@ ghost use Rattle.std.specs.Prelude.{◌≡◌, ℕ, ◌+◌, ◌^◌, ◌<◌, �
 ghost use Rattle.ba_lits.specs.Literals.{lit_at};
 ghost use Rattle.ba_watch.specs.Trails.{place_of, decided, level_at};
 ghost use Rattle.ba_watch.specs.Propagation.{clause_in, lits_in};
-ghost use Rattle.ba_learn.specs.Resolving.{Work, IsWork, is_marked, is_above, count_below, MayKeep, AreBelow, AreMarked, MayMeet, MayStart, Parts, Meets, with_resolved, MayResolve, reason_of_place, MustResolve, IsSettled, AreSettled, IsImplied, IsShortened, ShortensAt, Resolves, KeepsWork, IsStart, number_in, number_at, negated_at, SortsNumbers, SortsLiterals};
+ghost use Rattle.ba_learn.specs.Resolving.{Work, IsWork, is_seen, is_above, count_below, MayKeep, AreBelow, AreSeen, MayMeet, MayStart, Parts, Meets, with_resolved, MayResolve, reason_of_place, MustResolve, IsAbsorbed, AreAbsorbed, IsRedundant, IsMinimised, MinimisesAt, Resolves, KeepsWork, IsStart, number_in, number_at, negated_at, SortsNumbers, SortsLiterals};
 
 use ba_arena::ClauseRef;
 use ba_lits::{Lit, Marks};
@@ -18,7 +18,7 @@ use std::marker::Model;
 /// were decided, or, unless the resolution is deep, assigned above level 0. The rest waits to be resolved.
 #[derive(Drop)]
 pub struct Resolution {
-    marks: Marks,
+    seen: Marks,
     floor: usize,
     deep: bool,
     pending: usize,
@@ -33,7 +33,7 @@ impl Model for Resolution {
     ghost Value = { Work };
 
     ghost view = { λ r. record {
-      marks = r.marks;
+      seen = r.seen;
       floor = r.floor;
       deep = r.deep;
       pending =
@@ -48,7 +48,7 @@ impl Resolution {
     /// A resolution of nothing. It takes no memory.
     pub fn new(alloc: Global) -> Resolution {
         Resolution {
-            marks: Marks::new(alloc),
+            seen: Marks::new(alloc),
             floor: 0,
             deep: false,
             pending: 0,
@@ -60,7 +60,7 @@ impl Resolution {
 
     /// Begins anew.
     fn begin(&mut self, floor: usize, deep: bool)
-        ensures marks { (p : ℕ) → is_marked self.new p ≡ false }
+        ensures seen { (p : ℕ) → is_seen self.new p ≡ false }
         ensures floor { self.new.floor ≡ floor }
         ensures deep { self.new.deep ≡ deep }
         ensures pending { self.new.pending ≡ 0 }
@@ -68,7 +68,7 @@ impl Resolution {
         ensures resolved { self.new.resolved ≡ [] }
         ensures waiting { self.new.waiting ≡ [] }
     {
-        self.marks.clear();
+        self.seen.clear();
         self.floor = floor;
         self.deep = deep;
         self.pending = 0;
@@ -124,10 +124,10 @@ impl Resolution {
         let variable = lit.variable();
         watch.keeps_facts();
         let place = watch.place(variable).unwrap();
-        if self.marks.contains(place) {
+        if self.seen.contains(place) {
             return Ok(());
         }
-        self.marks.insert(place)?;
+        self.seen.insert(place)?;
         self.part(watch, variable, place)
     }
 
@@ -160,7 +160,7 @@ impl Resolution {
         ensures work { OnOk result ((high : ℕ)
             → MayStart watch.now floor high (lits_in watch.now.clauses clause)
             → IsWork watch.now high self.new) }
-        ensures marked { OnOk result (AreMarked watch.now (is_marked self.new)
+        ensures seen { OnOk result (AreSeen watch.now (is_seen self.new)
             (lits_in watch.now.clauses clause)) }
         ensures resolved { OnOk result (self.new.resolved ≡ []) }
         ensures floor { OnOk result (self.new.floor ≡ floor) }
@@ -177,11 +177,11 @@ impl Resolution {
         requires { 1 ≤ count_below (is_above self.now) end }
         ensures below { result < end }
         ensures floor { self.now.floor ≤ result }
-        ensures marked { is_marked self.now result ≡ true }
-        ensures latest { (p : ℕ) → result < p → p < end → is_marked self.now p ≡ false }
+        ensures seen { is_seen self.now result ≡ true }
+        ensures latest { (p : ℕ) → result < p → p < end → is_seen self.now p ≡ false }
     {
         let mut place = end - 1;
-        while !self.marks.contains(place) {
+        while !self.seen.contains(place) {
             place -= 1;
         }
         place
@@ -193,7 +193,7 @@ impl Resolution {
         requires start { IsStart watch.now self.old.floor }
         requires shallow { self.old.deep ≡ false }
         requires floor { self.old.floor ≤ place }
-        requires marked { is_marked self.old place ≡ true }
+        requires seen { is_seen self.old place ≡ true }
         requires others { 2 ≤ self.old.pending }
         ensures resolves { OnOk result (Resolves watch.now self.old self.new) }
         ensures work { OnOk result (IsWork watch.now place self.new) }
@@ -218,7 +218,7 @@ impl Resolution {
         ensures work { IfOk result (λ place. IsWork watch.now (place + 1) self.new) }
         ensures one { IfOk result (λ place. self.new.pending ≡ 1) }
         ensures floor { IfOk result (λ place. self.new.floor ≤ place) }
-        ensures marked { IfOk result (λ place. is_marked self.new place ≡ true) }
+        ensures seen { IfOk result (λ place. is_seen self.new place ≡ true) }
     {
         let mut place = self.next_pending(watch.trail().len());
         while self.pending > 1 {
@@ -242,43 +242,43 @@ impl Resolution {
         self.meet_all(watch, reason)
     }
 
-    /// Whether a literal is marked, or was assigned at level 0.
-    fn is_settled(&self, watch: &Watch, lit: Lit) -> bool
+    /// Whether a literal is seen, or was assigned at level 0.
+    fn is_absorbed(&self, watch: &Watch, lit: Lit) -> bool
         requires { lit.variable ≤ watch.now.variables }
-        ensures { IsTrue result ↔ IsSettled watch.now (is_marked self.now) lit }
+        ensures { IsTrue result ↔ IsAbsorbed watch.now (is_seen self.now) lit }
     {
         let variable = lit.variable();
         let Some(place) = watch.place(variable) else {
             return false;
         };
-        if self.marks.contains(place) {
+        if self.seen.contains(place) {
             return true;
         }
         watch.level_of(variable) == Some(0)
     }
 
-    /// Whether a place has a reason, and each of its literals is settled.
-    fn is_implied(&self, watch: &Watch, place: usize) -> bool
+    /// Whether a place has a reason, and each of its literals is absorbed.
+    fn is_redundant(&self, watch: &Watch, place: usize) -> bool
         requires { place < length watch.now.trail }
-        ensures { IsTrue result ↔ IsImplied watch.now self.now place }
+        ensures { IsTrue result ↔ IsRedundant watch.now self.now place }
     {
         watch.keeps_facts();
         match watch.reasons()[place] {
             None => false,
-            Some(reason) => self.are_settled(watch, reason),
+            Some(reason) => self.are_absorbed(watch, reason),
         }
     }
 
-    /// Whether each literal of a clause is settled.
-    fn are_settled(&self, watch: &Watch, clause: ClauseRef) -> bool
+    /// Whether each literal of a clause is absorbed.
+    fn are_absorbed(&self, watch: &Watch, clause: ClauseRef) -> bool
         requires { IsSome (clause_in watch.now.clauses clause) }
-        ensures { IsTrue result ↔ AreSettled watch.now (is_marked self.now)
+        ensures { IsTrue result ↔ AreAbsorbed watch.now (is_seen self.now)
             (lits_in watch.now.clauses clause) }
     {
         watch.keeps_facts();
         let arena = watch.arena();
         for index in 0..arena.len(clause) {
-            if !self.is_settled(watch, arena.lit(clause, index)) {
+            if !self.is_absorbed(watch, arena.lit(clause, index)) {
                 return false;
             }
         }
@@ -286,18 +286,18 @@ impl Resolution {
     }
 
     /// Resolves one of the kept literals, if the others imply its negation.
-    fn shorten_at(&mut self, watch: &Watch, index: usize) -> Result<(), AllocError>
+    fn minimise_at(&mut self, watch: &Watch, index: usize) -> Result<(), AllocError>
         requires work { (high : ℕ) × IsWork watch.now high self.old }
         requires within { index < length self.old.kept }
         ensures resolves { OnOk result (Resolves watch.now self.old self.new) }
         ensures work { OnOk result (KeepsWork watch.now self.old self.new) }
         ensures pending { OnOk result (self.new.pending ≡ self.old.pending) }
         ensures kept { OnOk result (index ≤ length self.new.kept) }
-        ensures short { OnOk result (ShortensAt watch.now self.old self.new index) }
+        ensures short { OnOk result (MinimisesAt watch.now self.old self.new index) }
     {
         watch.keeps_facts();
         let place = self.kept[index];
-        if !self.is_implied(watch, place) {
+        if !self.is_redundant(watch, place) {
             return Ok(());
         }
         self.kept.swap_remove(index);
@@ -305,18 +305,18 @@ impl Resolution {
     }
 
     /// Resolves the kept literals whose negations the others imply.
-    pub fn shorten(&mut self, watch: &Watch) -> Result<(), AllocError>
+    pub fn minimise(&mut self, watch: &Watch) -> Result<(), AllocError>
         requires work { (high : ℕ) × IsWork watch.now high self.old }
         requires shallow { self.old.deep ≡ false }
         ensures resolves { OnOk result (Resolves watch.now self.old self.new) }
         ensures work { OnOk result (KeepsWork watch.now self.old self.new) }
         ensures pending { OnOk result (self.new.pending ≡ self.old.pending) }
-        ensures short { OnOk result (IsShortened watch.now self.new) }
+        ensures short { OnOk result (IsMinimised watch.now self.new) }
     {
         let mut index = self.kept.len();
         while index > 0 {
             index -= 1;
-            self.shorten_at(watch, index)?;
+            self.minimise_at(watch, index)?;
         }
         Ok(())
     }
@@ -328,8 +328,8 @@ impl Resolution {
         ensures work { OnOk result (KeepsWork watch.now self.old self.new) }
         ensures pending { OnOk result (self.new.pending ≡ self.old.pending) }
         ensures all { OnOk result (self.new.waiting ≡ []) }
-        ensures short { OnOk result (self.old.deep ≡ false → IsShortened watch.now self.old
-            → IsShortened watch.now self.new) }
+        ensures short { OnOk result (self.old.deep ≡ false → IsMinimised watch.now self.old
+            → IsMinimised watch.now self.new) }
     {
         watch.keeps_facts();
         while let Some(place) = self.waiting.pop() {

@@ -16,21 +16,21 @@ use Rattle.ba_watch.specs.Propagation.{State as Watching, falsified, is_false, c
 use Rattle.ba_watch.proofs.Values.{place_of-some, lit_at-place, value_of-more, value_of-none}
 use Rattle.ba_learn.specs.Live.{Follows, IsSame}
 use Rattle.ba_learn.specs.Levels.{IsBacked, NegatesDecided, IsCoreOf}
-use Rattle.ba_learn.specs.Backjumps.{after_back}
+use Rattle.ba_learn.specs.Backjumps.{after_backtrack}
 use Rattle.ba_learn.proofs.BackLaws.{back_level, back_asserting}
 use Rattle.ba_learn.proofs.FollowLaws.{false_negates}
 use Rattle.ba_steps.specs.States.{State, clause_at}
 use Rattle.ba_search.specs.Answers.{AreAssumptions, IsModel, IsCore}
-use Rattle.ba_search.specs.Choices.{positive, is_true, values_of}
-use Rattle.ba_search.specs.Turns.{Numbering, AreTrue, IsUnderway}
+use Rattle.ba_search.specs.Values.{positive, is_true, values_of}
+use Rattle.ba_search.specs.Iterations.{Numbering, AreTrue, IsUnderway}
 use Rattle.ba_search.proofs.LearnLaws.{Formed, clause_formed, learnt_numbers}
 
 -- where a learnt clause may be added
 pub jump_level : (s t : Watching) (lits lits' : List Literal) (back : ℕ) → KeepsFacts s → IsBacked s lits back →
-    t ≡ after_back back s → lits' ≡ lits → (decided t.reasons ≡ 0) ⊎ IsAsserting t lits'
+    t ≡ after_backtrack back s → lits' ≡ lits → (decided t.reasons ≡ 0) ⊎ IsAsserting t lits'
 jump_level s t lits lits' back facts backed is same = ⊎_elim
     (λ none. inl (ap (λ (x : Watching). decided x.reasons) is ∙ (back_level s lits back backed ∙ none)))
-    (λ some. inr (subst (λ (x : Watching). IsAsserting x lits') (sym is) (subst (λ (ls : List Literal). IsAsserting (after_back back s) ls) (sym same) (back_asserting s lits back facts backed some))))
+    (λ some. inr (subst (λ (x : Watching). IsAsserting x lits') (sym is) (subst (λ (ls : List Literal). IsAsserting (after_backtrack back s) ls) (sym same) (back_asserting s lits back facts backed some))))
     (zero_or back)
   where
     zero_or : (n : ℕ) → (n ≡ 0) ⊎ (1 ≤ n)
@@ -80,14 +80,14 @@ front_true T a p l are has =
     ap (λ (ys : List Literal). value_of ys l) (sym (take-append-drop p T)) ∙ value_of-more (take p T) (drop p T) l true (ap (value_of (take p T)) (sym k.2) ∙ are k.0 k.1)
 
 -- where a literal that is no assumption was decided, all assumptions are true
-pub chosen_true : (a : List Literal) (s : Watching) (numbers : Numbering) (c : State) (p : ℕ) (l : Literal) →
+pub branched_true : (a : List Literal) (s : Watching) (numbers : Numbering) (c : State) (p : ℕ) (l : Literal) →
     IsUnderway a s numbers c → p < length s.trail → get_or s.reasons p None ≡ None → l ≡ lit_at s.trail p →
     has_literal l a ≡ false → AreTrue s.trail a
-chosen_true a s numbers c p l u within decided is none =
+branched_true a s numbers c p l u within decided is none =
     let front : AreTrue (take p s.trail) a = ⊎_elim
     (λ has. absurd (cc (sym has ∙ (ap (λ (x : Literal). has_literal x a) (sym is) ∙ none))))
     (λ are. are)
-    (u.choices p within decided).given in
+    (u.decisions p within decided).given in
     λ k k_in. front_true s.trail a p (lit_at a k) front (has_literal-at a k k_in)
 
 -- a core
@@ -98,7 +98,7 @@ module _ (a : List Literal) (s : Watching) (numbers : Numbering) (c : State) (fa
   -- what was decided is an assumption
   decided_assumption : (p : ℕ) → p < length s.trail → get_or s.reasons p None ≡ None →
       has_literal (lit_at s.trail p) a ≡ true
-  decided_assumption p within none = ⊎_elim (λ h. h) (λ t. absurd (not_all p t)) (u.choices p within none).given
+  decided_assumption p within none = ⊎_elim (λ h. h) (λ t. absurd (not_all p t)) (u.decisions p within none).given
 
   pub core_reason_some : IsSome (reason_of s.trail s.reasons l.variable)
   core_reason_some = step (get_or s.reasons (place_of s.trail l.variable) None) refl

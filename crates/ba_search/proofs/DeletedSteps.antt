@@ -10,8 +10,8 @@ use Rattle.ba_steps.specs.Judging.{Judge, may_go, error_of, after, after_delete}
 use Rattle.ba_steps.specs.Puts.{IsTakenOrAsleep}
 use Rattle.ba_steps.specs.Sinks.{Logs, with_step, MayAddStep}
 use Rattle.ba_steps.specs.declared.step.CertStep.TheVariants.{Delete}
-use Rattle.ba_search.specs.Searching.{IsGivenUp, Leaves}
-use Rattle.ba_search.specs.Turns.{Numbering, IsUnderway, Puts}
+use Rattle.ba_search.specs.Searching.{IsDiscarded, Leaves}
+use Rattle.ba_search.specs.Iterations.{Numbering, IsUnderway, Puts}
 use Rattle.ba_search.proofs.DeletionLaws.{delete_allowed}
 use Rattle.ba_search.proofs.StepLaws.{Gives, puts_delete, leaves_put, leaves_delete}
 
@@ -19,15 +19,15 @@ use Rattle.ba_search.proofs.StepLaws.{Gives, puts_delete, leaves_put, leaves_del
 pub record IsDeleteStep (good : Judge) (gives : Gives) (k : State) (learnt numbers : List ℕ) : Type 0 where
   pub formed : IsFormed (Delete numbers)
   pub allowed : error_of good k (Delete numbers) ≡ None
-  pub given : All (IsGivenUp gives k learnt) numbers
+  pub given : All (IsDiscarded gives k learnt) numbers
 
 pub delete_step : (good : Judge) (gives : Gives) (a : List Literal) (s : Watching) (n : Numbering) (k seen : State) (learnt listed numbers : List ℕ) →
     IsUnderway a s n k → 1000 ≤ k.learnt → seen ≡ k → listed ≡ learnt → AreNumbers numbers → AreAbove 0 numbers → 0 < length numbers →
-    list_all (may_go seen) numbers ≡ true → All (IsGivenUp gives seen listed) numbers → IsDeleteStep good gives k learnt numbers
+    list_all (may_go seen) numbers ≡ true → All (IsDiscarded gives seen listed) numbers → IsDeleteStep good gives k learnt numbers
 delete_step good gives a s n k seen learnt listed numbers u enough seen_is listed_is are ascend some go given = record {
   formed = (are, ascend, some);
   allowed = delete_allowed good k numbers u.begun u.awake (subst (λ (x : State). list_all (may_go x) numbers ≡ true) seen_is go) enough;
-  given = subst (λ (ns : List ℕ). All (IsGivenUp gives k ns) numbers) listed_is (subst (λ (x : State). All (IsGivenUp gives x listed) numbers) seen_is given);
+  given = subst (λ (ns : List ℕ). All (IsDiscarded gives k ns) numbers) listed_is (subst (λ (x : State). All (IsDiscarded gives x listed) numbers) seen_is given);
 }
 
 -- some number is given up

@@ -13,8 +13,8 @@ use Rattle.ba_steps.specs.Steps.{AreAbove}
 use Rattle.ba_steps.specs.declared.step.CertStep.TheVariants.{Delete}
 use Rattle.ba_steps.specs.declared.step.StepError.TheVariants.{AfterEnd, DeadClause, TooSoon, Memory}
 use Rattle.ba_watch.specs.Propagation.{State as Watching}
-use Rattle.ba_search.specs.Searching.{IsGivenUp}
-use Rattle.ba_search.specs.Turns.{AreGivenUp, MarksReasons, IsNoReason}
+use Rattle.ba_search.specs.Searching.{IsDiscarded}
+use Rattle.ba_search.specs.Iterations.{AreDiscarded, MarksReasons, IsNoReason}
 
 length-without : (cs : List Kept) (n : ℕ) → length (without cs n) ≡ length cs
 length-without cs zero = refl
@@ -89,7 +89,7 @@ go_within s n goes = within s.clauses n (and_parts (is_learnt_at s.clauses n) (l
 
 -- numbers that were gathered, up to the last one
 pub record AreGathered (gives : ℕ → ℕ → Bool → Type 0) (s : State) (marks : List Bool) (learnt numbers : List ℕ) (last : ℕ) : Type 0 where
-  pub are : AreGivenUp gives s marks learnt numbers
+  pub are : AreDiscarded gives s marks learnt numbers
   pub above : (m : ℕ) → last < m → AreAbove 0 (numbers ++ m ∷ [])
 
 pub gathered_none : (gives : ℕ → ℕ → Bool → Type 0) (s : State) (marks : List Bool) (learnt numbers : List ℕ) → numbers ≡ [] →
@@ -99,7 +99,7 @@ gathered_none gives s marks learnt numbers none = subst (λ (ns : List ℕ). Are
     numbers_are = All-nil (λ n. (1 ≤ n) × (n < 2 ^ 62));
     ascends = tt;
     go = refl;
-    given_up = All-nil (IsGivenUp gives s learnt);
+    discarded = All-nil (IsDiscarded gives s learnt);
     no_reasons = All-nil (λ n. get_or marks n false ≡ false);
   };
   above = λ m more. (more, tt);
@@ -107,7 +107,7 @@ gathered_none gives s marks learnt numbers none = subst (λ (ns : List ℕ). Are
 
 pub gathered_more : (gives : ℕ → ℕ → Bool → Type 0) (s : State) (marks : List Bool) (learnt numbers more : List ℕ) (last number : ℕ) →
     more ≡ numbers ++ number ∷ [] → last < number → length s.clauses < 2 ^ 62 → may_go s number ≡ true →
-    IsGivenUp gives s learnt number → get_or marks number false ≡ false → AreGathered gives s marks learnt numbers last →
+    IsDiscarded gives s learnt number → get_or marks number false ≡ false → AreGathered gives s marks learnt numbers last →
     AreGathered gives s marks learnt more number
 gathered_more gives s marks learnt numbers more last number is above few goes given unmarked g =
     subst (λ (ns : List ℕ). AreGathered gives s marks learnt ns number) (sym is) (record {
@@ -115,7 +115,7 @@ gathered_more gives s marks learnt numbers more last number is above few goes gi
         numbers_are = all_push (λ n. (1 ≤ n) × (n < 2 ^ 62)) numbers number g.are.numbers_are (omega (arith, above), omega (arith, go_within s number goes, few));
         ascends = g.above number above;
         go = list_all_push (may_go s) numbers number g.are.go goes;
-        given_up = all_push (IsGivenUp gives s learnt) numbers number g.are.given_up given;
+        discarded = all_push (IsDiscarded gives s learnt) numbers number g.are.discarded given;
         no_reasons = all_push (λ n. get_or marks n false ≡ false) numbers number g.are.no_reasons unmarked;
       };
       above = λ m higher. above_push 0 numbers number m (g.above number above) higher;

@@ -26,7 +26,7 @@ use Rattle.ba_steps.specs.Steps.{AreNumbers, AreFormedLits}
 use Rattle.ba_steps.specs.declared.store.Origin.TheVariants.{Given}
 use Rattle.ba_steps.specs.declared.step.CertStep.TheVariants.{Learn}
 use Rattle.ba_steps.specs.Judging.{Judge, error_of, lacks_variable, is_spent, error_of_replay, error_if}
-use Rattle.ba_search.specs.Turns.{Numbering, IsUnderway}
+use Rattle.ba_search.specs.Iterations.{Numbering, IsUnderway}
 use Rattle.ba_search.proofs.TakenLaws.{number_within, same_some}
 
 -- a record for what holds of a checker
@@ -94,7 +94,7 @@ module _ (a : List Literal) (s : Watching) (numbers : Numbering) (c : State) (fa
   trail_within p within = step (get_or s.reasons p None) refl
     where
       step : (o : Option ℕ) → get_or s.reasons p None ≡ o → (lit_at s.trail p).variable ≤ c.variables
-      step None is = (u.choices p within is).within
+      step None is = (u.decisions p within is).within
       step (Some r) is = reason_within p r within is
 
   pub valued_within : (l : Literal) (b : Bool) → value_of s.trail l ≡ Some b → l.variable ≤ c.variables

@@ -15,7 +15,7 @@ use Rattle.ba_steps.specs.Sinks.{Logs, with_step, MayAddStep}
 use Rattle.ba_steps.specs.declared.step.CertStep.{CertStep}
 use Rattle.ba_steps.specs.declared.step.CertStep.TheVariants.{Learn}
 use Rattle.ba_search.specs.Searching.{Leaves}
-use Rattle.ba_search.specs.Turns.{Numbering, IsUnderway, Puts}
+use Rattle.ba_search.specs.Iterations.{Numbering, IsUnderway, Puts}
 use Rattle.ba_search.proofs.LearnLaws.{Formed, learnt_clause, learnt_numbers, learnt_formed, learn_allowed}
 use Rattle.ba_search.proofs.StepLaws.{Gives, puts_learn, leaves_put, leaves_tried}
 

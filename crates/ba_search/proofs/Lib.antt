@@ -5,7 +5,7 @@ pub mod DeletedSteps
 pub mod UnderwayLaws
 pub mod LearnLaws
 pub mod AnswerLaws
-pub mod TurnLaws
+pub mod IterationLaws
 pub mod StepLaws
 pub mod LearntSteps
 pub mod OnceLaws

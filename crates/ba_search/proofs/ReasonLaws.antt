@@ -9,7 +9,7 @@ use Rattle.ba_watch.specs.Threads.{plain}
 use Rattle.ba_watch.specs.Propagation.{State, KeepsFacts}
 use Rattle.ba_learn.specs.Resolving.{number_in, number_of}
 use Rattle.ba_learn.proofs.ReasonLaws.{reason_live, live_in, number_same}
-use Rattle.ba_search.specs.Turns.{MarksReasons}
+use Rattle.ba_search.specs.Iterations.{MarksReasons}
 
 pub reason_is_live : (s : State) (clauses : Clauses) (p r : ℕ) → KeepsFacts s → map plain clauses ≡ s.clauses →
     p < length s.reasons → get_or s.reasons p None ≡ Some r → IsLive clauses r

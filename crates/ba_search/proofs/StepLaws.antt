@@ -16,8 +16,8 @@ use Rattle.ba_steps.specs.Puts.{IsTakenOrAsleep, leaves_all, leaves_last}
 use Rattle.ba_steps.proofs.PutLaws.{logs_then, leaves_weaker, leaves_after}
 use Rattle.ba_steps.specs.declared.step.CertStep.{CertStep}
 use Rattle.ba_steps.specs.declared.step.CertStep.TheVariants.{Learn, Delete}
-use Rattle.ba_search.specs.Searching.{nothing, IsGivenUp, Searches, searches_none, searches_learn, searches_delete, Leaves}
-use Rattle.ba_search.specs.Turns.{AreTaken, AreThere, Puts}
+use Rattle.ba_search.specs.Searching.{nothing, IsDiscarded, Searches, searches_none, searches_learn, searches_delete, Leaves}
+use Rattle.ba_search.specs.Iterations.{AreTaken, AreThere, Puts}
 use Rattle.ba_search.proofs.TakenLaws.{taken_live}
 
 abbrev pub Gives : Type 1
@@ -45,7 +45,7 @@ puts_learn good gives c d learnt all logs logs' lits hints formed allowed new is
 }
 
 pub puts_delete : (good : Judge) (gives : Gives) (c d : State) (learnt : List ℕ) (logs logs' : Logs) (numbers : List ℕ) →
-    IsFormed (Delete numbers) → error_of good c (Delete numbers) ≡ None → All (IsGivenUp gives c learnt) numbers →
+    IsFormed (Delete numbers) → error_of good c (Delete numbers) ≡ None → All (IsDiscarded gives c learnt) numbers →
     d ≡ after_delete c numbers → logs' ≡ with_step (Delete numbers) logs → Puts good gives c d learnt learnt logs logs'
 puts_delete good gives c d learnt logs logs' numbers formed allowed given is told = record {
   steps = Delete numbers ∷ [];
@@ -73,7 +73,7 @@ searches_weaker weaker (searches_learn s t learnt all lits hints steps formed al
     searches_learn s t learnt all lits hints steps formed allowed new (searches_weaker weaker rest)
 searches_weaker {gives = gives} {more = more} weaker (searches_delete s t learnt all numbers steps formed allowed given rest) =
     searches_delete s t learnt all numbers steps formed allowed
-    (All-weaker (IsGivenUp gives s learnt) (IsGivenUp more s learnt)
+    (All-weaker (IsDiscarded gives s learnt) (IsDiscarded more s learnt)
     (λ n g. record { place = g.place; within = g.within; at = g.at; rule = weaker _ _ _ g.rule }) numbers given)
     (searches_weaker weaker rest)
 
@@ -119,7 +119,7 @@ leaves_tried good gives learnt c d logs logs' lits hints formed allowed new take
     taken told
 
 pub leaves_delete : (good : Judge) (gives : Gives) (learnt : List ℕ) (c d : State) (logs logs' : Logs) (numbers : List ℕ) →
-    IsFormed (Delete numbers) → error_of good c (Delete numbers) ≡ None → All (IsGivenUp gives c learnt) numbers
+    IsFormed (Delete numbers) → error_of good c (Delete numbers) ≡ None → All (IsDiscarded gives c learnt) numbers
     → IsTakenOrAsleep c (Delete numbers) d → MayAddStep (Delete numbers) logs logs' → Leaves good gives learnt c logs d logs'
 leaves_delete good gives learnt c d logs logs' numbers formed allowed given taken told =
     let next : State = after c (Delete numbers) in

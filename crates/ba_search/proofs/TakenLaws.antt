@@ -14,7 +14,7 @@ use Rattle.ba_learn.specs.Live.{IsSame, AreLive}
 use Rattle.ba_steps.specs.States.{Kept, kept, live_lits, clause_at}
 use Rattle.ba_steps.specs.declared.store.Origin.TheVariants.{Learnt}
 use Rattle.ba_search.specs.Searching.{ArePart}
-use Rattle.ba_search.specs.Turns.{Numbering, HasNumber, MarksLive, AreTaken, AreThere, MarksOne, AddsOne}
+use Rattle.ba_search.specs.Iterations.{Numbering, HasNumber, MarksLive, AreTaken, AreThere, MarksOne, AddsOne}
 
 -- clauses by their numbers
 at_some : (cs : List Kept) (k : ℕ) (c : List Literal) → live_lits (slice_get cs k) ≡ Some c → k < length cs

@@ -1,5 +1,5 @@
 pub mod Rules
 pub mod Searching
 pub mod Answers
-pub mod Choices
-pub mod Turns
+pub mod Values
+pub mod Iterations

@@ -35,7 +35,7 @@ abbrev pub nothing : ℕ → ℕ → Bool → Type 0
 nothing width age kept = ⊥
 
 -- the keep rule has given up a clause, by its width and by how many were learnt after it
-pub record IsGivenUp (gives : ℕ → ℕ → Bool → Type 0) (s : State) (learnt : List ℕ) (number : ℕ) : Type 0 where
+pub record IsDiscarded (gives : ℕ → ℕ → Bool → Type 0) (s : State) (learnt : List ℕ) (number : ℕ) : Type 0 where
   pub place : ℕ
   pub within : place < length learnt
   pub at : get_or learnt place 0 ≡ number
@@ -51,7 +51,7 @@ pub data Searches (good : Judge) (gives : ℕ → ℕ → Bool → Type 0) : Sta
       Searches good gives (after s (Learn lits hints)) (learnt ++ (length s.clauses + 1) ∷ []) steps t all →
       Searches good gives s learnt (Learn lits hints ∷ steps) t all
   searches_delete : (s t : State) (learnt all : List ℕ) (numbers : List ℕ) (steps : List CertStep) →
-      IsFormed (Delete numbers) → error_of good s (Delete numbers) ≡ None → All (IsGivenUp gives s learnt) numbers →
+      IsFormed (Delete numbers) → error_of good s (Delete numbers) ≡ None → All (IsDiscarded gives s learnt) numbers →
       Searches good gives (after s (Delete numbers)) learnt steps t all →
       Searches good gives s learnt (Delete numbers ∷ steps) t all
 

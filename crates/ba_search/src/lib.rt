@@ -6,11 +6,15 @@
 //! a checker of derivations before it is used.
 #![tactic(auto)]
 
+mod clause_numbers;
+mod deciding;
 mod engine;
-mod forgetting;
+mod iteration;
 pub mod laws;
-mod numbers;
+mod learning;
 mod order;
+mod reduction;
+mod restarts;
 mod search;
 
 pub use search::{Answer, Search, SearchError};

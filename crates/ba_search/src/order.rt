@@ -2,21 +2,21 @@
 
 ghost use Rattle.std.specs.Prelude.{◌≡◌, ℕ, ◌≤◌, None, false, IfSome, IfNone, is_none};
 ghost use Rattle.ba_watch.specs.Trails.{value_of};
-ghost use Rattle.ba_search.specs.Choices.{positive, IsOpen};
+ghost use Rattle.ba_search.specs.Values.{positive, IsUnassigned};
 
 use ba_lits::Lit;
 use ba_watch::Watch;
 use std::alloc::{AllocError, Global};
 
 /// The first amount by which an activity grows.
-const FIRST_REWARD: u64 = 1 << 20;
+const FIRST_INCREMENT: u64 = 1 << 20;
 
 /// From here on activities and their growth are made smaller. An activity is at most 20 times the growth times the most
 /// rewards of a variable from one age to the next, so up to 3000 of them it stays below 2^64.
-const GREATEST_REWARD: u64 = 1 << 48;
+const GREATEST_INCREMENT: u64 = 1 << 48;
 
 /// By how many bits.
-const SMALLER: u32 = 28;
+const RESCALE_BITS: u32 = 28;
 
 /// Variables by their activity, the greatest first, with the value that each had last (M. Moskewicz, C. Madigan,
 /// Y. Zhao, L. Zhang, S. Malik, Chaff: Engineering an Efficient SAT Solver; K. Pipatsrisawat, A. Darwiche, A
@@ -28,7 +28,7 @@ pub struct Order {
     size: usize,
     places: Vec<usize>,
     phases: Vec<bool>,
-    reward: u64,
+    increment: u64,
 }
 
 impl Order {
@@ -40,7 +40,7 @@ impl Order {
             size: 0,
             places: Vec::new(alloc),
             phases: Vec::new(alloc),
-            reward: FIRST_REWARD,
+            increment: FIRST_INCREMENT,
         }
     }
 
@@ -75,24 +75,24 @@ impl Order {
     /// A variable without a value up to a limit; None exactly where all have values.
     pub fn pick(&mut self, watch: &Watch, limit: u64) -> Option<u64>
         requires { limit ≤ watch.now.variables }
-        ensures some { IfSome result (λ variable. IsOpen watch.now.trail limit variable) }
+        ensures some { IfSome result (λ variable. IsUnassigned watch.now.trail limit variable) }
         ensures none { IfNone result ((variable : ℕ) → 1 ≤ variable → variable ≤ limit
             → is_none (value_of watch.now.trail (positive variable)) ≡ false) }
     {
-        if let Some(variable) = self.pop_open(watch, limit) {
+        if let Some(variable) = self.pop_unassigned(watch, limit) {
             return Some(variable);
         }
-        first_open(watch, limit)
+        first_unassigned(watch, limit)
     }
 
     /// Takes variables off the heap until one has no value.
-    fn pop_open(&mut self, watch: &Watch, limit: u64) -> Option<u64>
+    fn pop_unassigned(&mut self, watch: &Watch, limit: u64) -> Option<u64>
         requires { limit ≤ watch.now.variables }
-        ensures { IfSome result (λ variable. IsOpen watch.now.trail limit variable) }
+        ensures { IfSome result (λ variable. IsUnassigned watch.now.trail limit variable) }
     {
         for _ in 0..self.size {
             let variable = self.pop();
-            if 1 <= variable && variable <= limit && is_open(watch, variable) {
+            if 1 <= variable && variable <= limit && is_unassigned(watch, variable) {
                 return Some(variable);
             }
         }
@@ -149,26 +149,26 @@ impl Order {
     }
 
     /// Raises the activities of the variables of literals.
-    pub fn reward(&mut self, lits: &[Lit]) {
+    pub fn bump(&mut self, lits: &[Lit]) {
         for lit in lits {
-            self.raise(lit.variable());
+            self.bump_variable(lit.variable());
         }
     }
 
     /// Raises the activities of the variables of the literals at these places of a trail.
-    pub fn reward_at(&mut self, trail: &[Lit], places: &[usize]) {
+    pub fn bump_at(&mut self, trail: &[Lit], places: &[usize]) {
         for place in places {
             if let Some(lit) = trail.get(*place) {
-                self.raise(lit.variable());
+                self.bump_variable(lit.variable());
             }
         }
     }
 
     /// Raises the activity of a variable.
-    fn raise(&mut self, variable: u64) {
-        let reward = self.reward;
+    fn bump_variable(&mut self, variable: u64) {
+        let increment = self.increment;
         if let Some(activity) = self.activities.get_mut(variable as usize) {
-            *activity = activity.saturating_add(reward);
+            *activity = activity.saturating_add(increment);
         }
         let place = self.place(variable);
         if place != usize::MAX {
@@ -177,12 +177,12 @@ impl Order {
     }
 
     /// Lets the next rewards count for more than the earlier ones.
-    pub fn age(&mut self) {
-        self.reward = self.reward.saturating_add(self.reward / 19);
-        if self.reward >= GREATEST_REWARD {
-            self.reward >>= SMALLER;
+    pub fn decay(&mut self) {
+        self.increment = self.increment.saturating_add(self.increment / 19);
+        if self.increment >= GREATEST_INCREMENT {
+            self.increment >>= RESCALE_BITS;
             for activity in self.activities.iter_mut() {
-                *activity >>= SMALLER;
+                *activity >>= RESCALE_BITS;
             }
         }
     }
@@ -264,7 +264,7 @@ impl Order {
 }
 
 /// Whether a variable has no value.
-fn is_open(watch: &Watch, variable: u64) -> bool
+fn is_unassigned(watch: &Watch, variable: u64) -> bool
     requires counted { 1 ≤ variable }
     requires within { variable ≤ watch.now.variables }
     ensures { result ≡ is_none (value_of watch.now.trail (positive variable)) }
@@ -276,14 +276,14 @@ fn is_open(watch: &Watch, variable: u64) -> bool
 }
 
 /// The first variable without a value up to a limit.
-fn first_open(watch: &Watch, limit: u64) -> Option<u64>
+fn first_unassigned(watch: &Watch, limit: u64) -> Option<u64>
     requires { limit ≤ watch.now.variables }
-    ensures some { IfSome result (λ variable. IsOpen watch.now.trail limit variable) }
+    ensures some { IfSome result (λ variable. IsUnassigned watch.now.trail limit variable) }
     ensures none { IfNone result ((variable : ℕ) → 1 ≤ variable → variable ≤ limit
         → is_none (value_of watch.now.trail (positive variable)) ≡ false) }
 {
     for variable in 1..=limit {
-        if is_open(watch, variable) {
+        if is_unassigned(watch, variable) {
             return Some(variable);
         }
     }

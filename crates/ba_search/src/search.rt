@@ -10,7 +10,7 @@ ghost use Rattle.ba_steps.specs.declared.step.CertStep.{CertStep};
 ghost use Rattle.ba_search.specs.Rules.{IsRestartRule, IsKeepRule};
 ghost use Rattle.ba_search.specs.Searching.{ArePart, Searches, Leaves};
 ghost use Rattle.ba_search.specs.Answers.{AreAssumptions, IsAnswer};
-ghost use Rattle.ba_search.specs.Turns.{failure_of};
+ghost use Rattle.ba_search.specs.Iterations.{failure_of};
 
 use crate::engine::Engine;
 use ba_learn::Learnt;
@@ -55,7 +55,7 @@ impl From<AllocError> for SearchError {
 
 impl From<SinkError> for SearchError {
     ghost use Rattle.std.specs.Prelude.{◌≡◌};
-    ghost use Rattle.ba_search.specs.Turns.{error_of_sink};
+    ghost use Rattle.ba_search.specs.Iterations.{error_of_sink};
 
     ghost from_gives = { λ refusal error. error ≡ error_of_sink refusal };
 
@@ -91,7 +91,7 @@ pub struct Search<R, K> {
 impl<R, K> Model for Search<R, K> {
     ghost use Rattle.std.specs.Prelude.{◌≡◌, None};
     ghost use Rattle.ba_search.specs.Searching.{Searching};
-    ghost use Rattle.ba_search.specs.Turns.{MarksLive};
+    ghost use Rattle.ba_search.specs.Iterations.{MarksLive};
 
     ghost Value = { Searching R K };
 

@@ -6,21 +6,21 @@ use Rattle.ba_lits.specs.Literals.{Literal, negate, index_of, lit_at}
 use Rattle.ba_arena.specs.Clauses.{Clauses, IsLive, lits_at}
 use Rattle.ba_watch.specs.Threads.{plain_at}
 use Rattle.ba_watch.specs.Trails.{Assignments, same_sign, value_of, place_of, decided, level_at}
-use Rattle.ba_watch.specs.Propagation.{falsified, is_false, unit_step, is_unit, IsGuarded, AreFacts, AreUnits, IsSweeping, AreSwept, Sweeps, IsUnderway, Settles}
+use Rattle.ba_watch.specs.Propagation.{falsified, is_false, unit_step, is_unit, IsGuarded, AreFacts, AreUnits, IsVisiting, AreVisited, VisitsSome, IsUnderway, Propagates}
 use Rattle.ba_watch.proofs.Values.{value_of-place, value_of-take, value_of-take_none, place_of-some, lit_at-place, same_sign_false}
 use Rattle.ba_watch.proofs.Levels.{decided-take_drop, decided-take-le}
 use Rattle.ba_watch.proofs.Visits.{SameClause-refl, SameClause-trans, Begins-refl, Begins-trans}
 
--- the list of a literal at the head begins to be swept
-pub Sweeping-start : (L : ℕ → List Literal) (v : ℕ) (T : List Literal) (R : List (Option ℕ)) (h f : ℕ) (l : Literal) → AreFacts L v T R h → h < length T → l ≡ negate (lit_at T h) → f ≡ index_of l → IsSweeping L v T R h f
-Sweeping-start L v T R h f l facts inside l_is f_is = record { facts = facts; inside = inside; swept_is = f_is ∙ ap index_of l_is }
+-- the list of a literal at the head begins to be visited
+pub Visiting-start : (L : ℕ → List Literal) (v : ℕ) (T : List Literal) (R : List (Option ℕ)) (h f : ℕ) (l : Literal) → AreFacts L v T R h → h < length T → l ≡ negate (lit_at T h) → f ≡ index_of l → IsVisiting L v T R h f
+Visiting-start L v T R h f l facts inside l_is f_is = record { facts = facts; inside = inside; visited_is = f_is ∙ ap index_of l_is }
 
 decided-le : (n : ℕ) (R : List (Option ℕ)) → decided (take n R) ≤ decided R
 decided-le n R = omega (arith, decided-take_drop n R)
 
 -- a guard at one place more
-IsGuarded-next : (L : ℕ → List Literal) (v : ℕ) (T : List Literal) (R : List (Option ℕ)) (h f : ℕ) (a b : Literal) → IsSweeping L v T R h f → IsGuarded T R h a b → (index_of a ≡ f → value_of T b ≡ Some true) → IsGuarded T R (h + 1) a b
-IsGuarded-next L v T R h f a b s g swept a_false before = ⊎_elim
+IsGuarded-next : (L : ℕ → List Literal) (v : ℕ) (T : List Literal) (R : List (Option ℕ)) (h f : ℕ) (a b : Literal) → IsVisiting L v T R h f → IsGuarded T R h a b → (index_of a ≡ f → value_of T b ≡ Some true) → IsGuarded T R (h + 1) a b
+IsGuarded-next L v T R h f a b s g visited a_false before = ⊎_elim
     (λ below. g a_false below)
     (λ above.
     let at : place_of T a.variable ≡ h = omega (arith, above, before) in
@@ -28,8 +28,8 @@ IsGuarded-next L v T R h f a b s g swept a_false before = ⊎_elim
     let var : (lit_at T h).variable ≡ a.variable = ap (λ (p : ℕ). (lit_at T p).variable) (sym at) ∙ lit_at-place T a.variable within in
     let sign : same_sign (lit_at T h).negated a.negated ≡ false = ap (λ (p : ℕ). same_sign (lit_at T p).negated a.negated) (sym at) ∙ some_is _ false (sym (value_of-place T a within) ∙ a_false) in
     let neg : a.negated ≡ not (lit_at T h).negated = same_sign_false (lit_at T h).negated a.negated sign in
-    let is : index_of a ≡ f = index_same a (lit_at T h) (sym var) neg ∙ sym s.swept_is in
-    let b_true : value_of T b ≡ Some true = swept is in
+    let is : index_of a ≡ f = index_same a (lit_at T h) (sym var) neg ∙ sym s.visited_is in
+    let b_true : value_of T b ≡ Some true = visited is in
     let total = decided-take_drop (h + 1) R in
     let rest : decided (drop (h + 1) R) ≡ 0 = ap (λ (k : ℕ). decided (drop k R)) (plus_one h) ∙ s.facts.present in
     (b_true, omega (arith, decided-le (place_of T b.variable + 1) R, total, rest, ap (level_at R) at)))
@@ -44,15 +44,15 @@ IsGuarded-next L v T R h f a b s g swept a_false before = ⊎_elim
     index_same : (x y : Literal) → x.variable ≡ y.variable → x.negated ≡ not y.negated → index_of x ≡ index_of (negate y)
     index_same x y e n = ap (λ (m : ℕ). 2 * m + cond x.negated 1 0) e ∙ ap (λ (c : Bool). 2 * y.variable + cond c 1 0) n
 
--- the list was swept: propagation goes on to the next place
-pub AreFacts-next : (L : ℕ → List Literal) (v : ℕ) (T : List Literal) (R : List (Option ℕ)) (h f : ℕ) → IsSweeping L v T R h f → AreSwept L T f [] → AreFacts L v T R (h + 1)
-AreFacts-next L v T R h f s swept = record {
+-- the list was visited: propagation goes on to the next place
+pub AreFacts-next : (L : ℕ → List Literal) (v : ℕ) (T : List Literal) (R : List (Option ℕ)) (h f : ℕ) → IsVisiting L v T R h f → AreVisited L T f [] → AreFacts L v T R (h + 1)
+AreFacts-next L v T R h f s visited = record {
   trail_is = s.facts.trail_is;
   head_le = omega (arith, s.inside);
   present = omega (arith, decided-drop h R, s.facts.present);
   guarded = record {
-    first = λ r long. IsGuarded-next L v T R h f (lit_at (L r) 0) (lit_at (L r) 1) s (s.facts.guarded.first r long) (swept.first r long refl);
-    second = λ r long. IsGuarded-next L v T R h f (lit_at (L r) 1) (lit_at (L r) 0) s (s.facts.guarded.second r long) (swept.second r long refl);
+    first = λ r long. IsGuarded-next L v T R h f (lit_at (L r) 0) (lit_at (L r) 1) s (s.facts.guarded.first r long) (visited.first r long refl);
+    second = λ r long. IsGuarded-next L v T R h f (lit_at (L r) 1) (lit_at (L r) 0) s (s.facts.guarded.second r long) (visited.second r long refl);
   };
   reasons_are = s.facts.reasons_are;
   in_range = s.facts.in_range;
@@ -61,12 +61,12 @@ AreFacts-next L v T R h f s swept = record {
     decided-drop : (n : ℕ) (R : List (Option ℕ)) → decided (drop (suc (n + 1)) R) ≤ decided (drop (suc n) R)
     decided-drop n R = omega (arith, decided-take_drop (suc (n + 1)) R, decided-take_drop (suc n) R, decided-take-le (suc n) (suc (n + 1)) R (omega arith))
 
--- from a sweep to propagation
-pub Settles-none : (a : Clauses) (t : Assignments) → Settles a a t t
-Settles-none a t = record { clauses = λ k. SameClause-refl (plain_at a k); variables = refl; trail = Begins-refl t.lits; reasons = Begins-refl t.reasons; level = refl; units = λ w u. u }
+-- from one list to all
+pub Propagates-none : (a : Clauses) (t : Assignments) → Propagates a a t t
+Propagates-none a t = record { clauses = λ k. SameClause-refl (plain_at a k); variables = refl; trail = Begins-refl t.lits; reasons = Begins-refl t.reasons; level = refl; units = λ w u. u }
 
-pub Settles-sweep : (a b c : Clauses) (t u w : Assignments) (f : ℕ) → Settles a b t u → Sweeps b c u w f → Settles a c t w
-Settles-sweep a b c t u w f s r = record {
+pub Propagates-literal : (a b c : Clauses) (t u w : Assignments) (f : ℕ) → Propagates a b t u → VisitsSome b c u w f → Propagates a c t w
+Propagates-literal a b c t u w f s r = record {
   clauses = λ k. SameClause-trans (plain_at a k) (plain_at b k) (plain_at c k) (s.clauses k) (r.clauses k);
   variables = r.variables ∙ s.variables;
   trail = Begins-trans t.lits u.lits w.lits s.trail r.trail;
@@ -144,19 +144,19 @@ complete_at a v T R h m facts units bound le r live = ⊎_elim
 pub IsBoundary-end : (R : List (Option ℕ)) (n : ℕ) → IsBoundary R n n
 IsBoundary-end R n = record { le = omega arith; higher = λ p q p_in above below. absurd (omega arith); decided_ = λ q above below. absurd (omega arith) }
 
--- a turn of propagation: the list of the literal at the head was swept
-module _ (start a a' : Clauses) (t u w : Assignments) (h f : ℕ) (conflict : Option ℕ) (s : IsSweeping (lits_at a) u.variables u.lits u.reasons h f) (way : IsUnderway a a' u w f [] conflict) where
+-- a turn of propagation: the list of the literal at the head was visited
+module _ (start a a' : Clauses) (t u w : Assignments) (h f : ℕ) (conflict : Option ℕ) (s : IsVisiting (lits_at a) u.variables u.lits u.reasons h f) (way : IsUnderway a a' u w f [] conflict) where
   pub turn_conflict : (r : ℕ) → conflict ≡ Some r → AreFacts (lits_at a') w.variables w.lits w.reasons h × (IsLive a' r × (is_false (value_of w.lits) (lits_at a' r) ≡ true))
-  turn_conflict r e = ((way.steps.sweeping h s).facts, (way.live r e, way.failed r e h s))
+  turn_conflict r e = ((way.steps.visiting h s).facts, (way.live r e, way.failed r e h s))
 
   pub turn_facts : AreFacts (lits_at a') w.variables w.lits w.reasons h
-  turn_facts = (way.steps.sweeping h s).facts
+  turn_facts = (way.steps.visiting h s).facts
 
   pub turn_next : conflict ≡ None → AreFacts (lits_at a') w.variables w.lits w.reasons (h + 1)
-  turn_next e = AreFacts-next (lits_at a') w.variables w.lits w.reasons h f (way.steps.sweeping h s) (way.passed e h s)
+  turn_next e = AreFacts-next (lits_at a') w.variables w.lits w.reasons h f (way.steps.visiting h s) (way.passed e h s)
 
-  pub turn_settles : Settles start a t u → Settles start a' t w
-  turn_settles old = Settles-sweep start a a' t u w f old way.steps
+  pub turn_propagates : Propagates start a t u → Propagates start a' t w
+  turn_propagates old = Propagates-literal start a a' t u w f old way.steps
 
 -- the index of the negation of a literal on the trail has a list
 pub negate_within : (v n : ℕ) (l m : Literal) (i : ℕ) → l.variable ≤ v → 2 * v + 2 ≤ n → m ≡ negate l → i ≡ index_of m → i < n

@@ -1,4 +1,4 @@
--- The two ways in which the next clause of the swept list leaves it: back into it, or into the list of
+-- The two ways in which the next clause of the visited list leaves it: back into it, or into the list of
 -- another literal that it watches from now on.
 
 use Rattle.std.proofs.Common.{◌≡◌, ◌≢◌, ℕ, suc, zero, ◌+◌, ◌<◌, ◌≤◌, Bool, true, false, Option, None, Some, List, [], ◌∷◌, length, get_or, set, eqb, leb, cond, ◌&&◌, refl, sym, ap, subst, ◌∙◌, arith, get_or-set_same, get_or-set_other}
@@ -36,7 +36,7 @@ pub plain-swapped : (x y : ℕ) (o : Option Stored) → plain (swapped x y o) �
 plain-swapped x y None = refl
 plain-swapped x y (Some s) = refl
 
--- the next clause of the swept list watches its literal
+-- the next clause of the visited list watches its literal
 pub pending_watches : (a : Clauses) (heads : List (Option ℕ)) (f r : ℕ) → AreThreaded a heads f (Some r) → watch_count a f r ≡ 1
 pending_watches a heads f r t =
     let leads : Leads (next_of a f) (Some r) (pending_of a f (Some r)) = Leads-walk (length a) _ _ t.pending_ends in
@@ -65,7 +65,7 @@ pending_long a heads f r t = watched_long (length (lits_at a r)) _ (pending_watc
 pub pending_within : (a : Clauses) (heads : List (Option ℕ)) (f r : ℕ) → AreThreaded a heads f (Some r) → r < length a
 pending_within a heads f r t = within_from_watch a f r (omega (arith, pending_watches a heads f r t))
 
--- the outcome of taking the next clause off the swept list
+-- the outcome of taking the next clause off the visited list
 abbrev pub Takes : Clauses → Clauses → List (Option ℕ) → ℕ → ℕ → Option ℕ → Type 0
 Takes a a' heads' f r next = AreThreaded a' heads' f next × (pending_of a f (Some r) ≡ r ∷ pending_of a' f next)
 

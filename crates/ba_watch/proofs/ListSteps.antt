@@ -36,11 +36,11 @@ keep_step a a' heads f r place pending next head t e le was within next_is head_
       ap (pending_of a f) e ∙ (out.1 ∙ (ap (λ (b : Clauses). r ∷ pending_of b f (link_at a r place)) (sym a'_none) ∙ ap (λ (n : Option ℕ). r ∷ pending_of a' f n) (sym next_is))),
     )
 
-pub shift_step : (a a1 a' : Clauses) (heads : List (Option ℕ)) (f g r place k : ℕ) (pending next head : Option ℕ) → AreThreaded a heads f pending → pending ≡ Some r → place ≤ 1
+pub move_step : (a a1 a' : Clauses) (heads : List (Option ℕ)) (f g r place k : ℕ) (pending next head : Option ℕ) → AreThreaded a heads f pending → pending ≡ Some r → place ≤ 1
     → 2 ≤ k → k < length (lits_at a r) → index_at (lits_at a r) place ≡ f → g ≡ index_at (lits_at a r) k → index_at (lits_at a r) k < length heads → next ≡ link_at a r place → head ≡ get_or heads g head
     → a1 ≡ changed (swapped place k) a r → a' ≡ changed (linked place head) a1 r
     → AreThreaded a' (set heads g (Some r)) f next × (pending_of a f pending ≡ r ∷ pending_of a' f next)
-shift_step a a1 a' heads f g r place k pending next head t e le far k_in was g_is within next_is head_is a1_is a'_is =
+move_step a a1 a' heads f g r place k pending next head t e le far k_in was g_is within next_is head_is a1_is a'_is =
     let t' : AreThreaded a heads f (Some r) = subst (λ (p : Option ℕ). AreThreaded a heads f p) e t in
     let out = shifted a heads f r t' place k le far k_in was within in
     let i : ℕ = index_at (lits_at a r) k in
@@ -147,7 +147,7 @@ module _ (a a0 a1 a2 a3 a4 : Clauses) (heads : List (Option ℕ)) (f r x y : ℕ
 pub pending_long_at : (a : Clauses) (heads : List (Option ℕ)) (f r : ℕ) (pending : Option ℕ) → AreThreaded a heads f pending → pending ≡ Some r → 2 ≤ length (lits_at a r)
 pending_long_at a heads f r pending t e = pending_long a heads f r (subst (λ (p : Option ℕ). AreThreaded a heads f p) e t)
 
--- the clause has the swept literal at place 1 where it hasn't at place 0
+-- the clause has the visited literal at place 1 where it hasn't at place 0
 pub pending_other : (a : Clauses) (heads : List (Option ℕ)) (f r : ℕ) (pending : Option ℕ) → AreThreaded a heads f pending → pending ≡ Some r → index_at (lits_at a r) 0 ≢ f → index_at (lits_at a r) 1 ≡ f
 pending_other a heads f r pending t e ne =
     other (length (lits_at a r)) (index_at (lits_at a r) 0) (index_at (lits_at a r) 1) f (pending_watches a heads f r (subst (λ (p : Option ℕ). AreThreaded a heads f p) e t)) ne

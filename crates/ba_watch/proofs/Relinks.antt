@@ -25,38 +25,38 @@ within_from_watch a index clause some =
     ⊎_elim (λ h. h) (λ past. absurd (omega (arith, watch_count-past a index clause past))) (cases_lt clause (length a))
 
 -- heads and links that thread given lists
-pub record Rebuilt (a : Clauses) (heads : List (Option ℕ)) (swept : ℕ) (pending : Option ℕ) (L : ℕ → List ℕ) (P : List ℕ) : Type 0 where
-  pub threaded : AreThreaded a heads swept pending
-  pub rest : pending_of a swept pending ≡ P
+pub record Rebuilt (a : Clauses) (heads : List (Option ℕ)) (visited : ℕ) (pending : Option ℕ) (L : ℕ → List ℕ) (P : List ℕ) : Type 0 where
+  pub threaded : AreThreaded a heads visited pending
+  pub rest : pending_of a visited pending ≡ P
 
-pub rebuilt : (a : Clauses) (heads : List (Option ℕ)) (swept : ℕ) (pending : Option ℕ) (L : ℕ → List ℕ) (P : List ℕ)
+pub rebuilt : (a : Clauses) (heads : List (Option ℕ)) (visited : ℕ) (pending : Option ℕ) (L : ℕ → List ℕ) (P : List ℕ)
     → ((index : ℕ) → Leads (next_of a index) (get_or heads index None) (L index))
-    → Leads (next_of a swept) pending P
-    → ((index clause : ℕ) → occurrences clause (L index) + cond (eqb index swept) (occurrences clause P) 0 ≡ watch_count a index clause)
+    → Leads (next_of a visited) pending P
+    → ((index clause : ℕ) → occurrences clause (L index) + cond (eqb index visited) (occurrences clause P) 0 ≡ watch_count a index clause)
     → ((clause : ℕ) → AreApart (lits_at a clause))
-    → Rebuilt a heads swept pending L P
-rebuilt a heads swept pending L P leads leads_pending counts apart =
+    → Rebuilt a heads visited pending L P
+rebuilt a heads visited pending L P leads leads_pending counts apart =
     let short : (index : ℕ) → length (L index) ≤ length a =
     λ index. length-le_from_occurrences (L index) (length a) (λ r. omega (arith, counts index r, watch_count-le a index r)) (λ r some. within_from_watch a index r (omega (arith, counts index r))) in
-    let pending_counts : (r : ℕ) → occurrences r P ≤ watch_count a swept r =
-    λ r. at_swept r (eqb swept swept) (eq-eqb swept swept refl) (counts swept r) in
+    let pending_counts : (r : ℕ) → occurrences r P ≤ watch_count a visited r =
+    λ r. at_visited r (eqb visited visited) (eq-eqb visited visited refl) (counts visited r) in
     let short_pending : length P ≤ length a =
-    length-le_from_occurrences P (length a) (λ r. omega (arith, pending_counts r, watch_count-le a swept r)) (λ r some. within_from_watch a swept r (omega (arith, pending_counts r))) in
+    length-le_from_occurrences P (length a) (λ r. omega (arith, pending_counts r, watch_count-le a visited r)) (λ r some. within_from_watch a visited r (omega (arith, pending_counts r))) in
     let lists : (index : ℕ) → list_of a heads index ≡ L index = λ index. walk-Leads (length a) _ _ (L index) (leads index) (short index) in
-    let rest : pending_of a swept pending ≡ P = walk-Leads (length a) _ _ P leads_pending short_pending in
+    let rest : pending_of a visited pending ≡ P = walk-Leads (length a) _ _ P leads_pending short_pending in
     record {
       threaded = record {
         ends = λ index. end_of_walk-Leads (length a) _ _ (L index) (leads index) (short index);
         pending_ends = end_of_walk-Leads (length a) _ _ P leads_pending short_pending;
-        counts = λ index clause. ap (λ xs. occurrences clause xs + cond (eqb index swept) (occurrences clause (pending_of a swept pending)) 0) (lists index) ∙ ap (λ xs. occurrences clause (L index) + cond (eqb index swept) (occurrences clause xs) 0) rest ∙ counts index clause;
+        counts = λ index clause. ap (λ xs. occurrences clause xs + cond (eqb index visited) (occurrences clause (pending_of a visited pending)) 0) (lists index) ∙ ap (λ xs. occurrences clause (L index) + cond (eqb index visited) (occurrences clause xs) 0) rest ∙ counts index clause;
         apart = apart;
       };
       rest = rest;
     }
   where
-    at_swept : (r : ℕ) (b : Bool) → b ≡ true → occurrences r (L swept) + cond b (occurrences r P) 0 ≡ watch_count a swept r → occurrences r P ≤ watch_count a swept r
-    at_swept r true e h = omega arith
-    at_swept r false e h = absurd (cc e)
+    at_visited : (r : ℕ) (b : Bool) → b ≡ true → occurrences r (L visited) + cond b (occurrences r P) 0 ≡ watch_count a visited r → occurrences r P ≤ watch_count a visited r
+    at_visited r true e h = omega arith
+    at_visited r false e h = absurd (cc e)
 
 uncons : (next : ℕ → Option ℕ) (r : ℕ) (xs : List ℕ) → Leads next (Some r) xs → (xs ≡ r ∷ drop 1 xs) × Leads next (next r) (drop 1 xs)
 uncons next r [] leads = absurd (cc leads)
@@ -73,7 +73,7 @@ occurrences-put false k r xs = omega arith
 abbrev put_in : ℕ → ℕ → (ℕ → List ℕ) → ℕ → List ℕ
 put_in g r L index = cond (eqb index g) (r ∷ L index) (L index)
 
--- the clause r, which was the next of the swept list f, goes into the list of g
+-- the clause r, which was the next of the visited list f, goes into the list of g
 pub record Moves (a a' : Clauses) (heads : List (Option ℕ)) (f g r : ℕ) (pending : Option ℕ) : Type 0 where
   pub elsewhere : (index k : ℕ) → k ≢ r → next_of a' index k ≡ next_of a index k
   pub others : (index : ℕ) → index ≢ f → index ≢ g → next_of a' index r ≡ next_of a index r
@@ -166,7 +166,7 @@ pub no_more : (b : Bool) (l p : ℕ) → p ≡ 0 → l + cond b p 0 ≡ l
 no_more true l p e = omega arith
 no_more false l p e = omega arith
 
--- the list of f is taken to be swept
+-- the list of f is taken to be visited
 pub taken : (a : Clauses) (heads : List (Option ℕ)) (old f : ℕ) → AreThreaded a heads old None → f < length heads
     → AreThreaded a (set heads f None) f (get_or heads f None) × ((r : ℕ) → occurrences r (pending_of a f (get_or heads f None)) ≡ watch_count a f r)
 taken a heads old f t within =

@@ -9,7 +9,7 @@ use Rattle.ba_lits.specs.Literals.{Literal, lit_at, no_literal}
 use Rattle.ba_arena.specs.Clauses.{Clauses, IsLive, lits_at}
 use Rattle.ba_watch.specs.Threads.{AreApart, Clause, plain, plain_at}
 use Rattle.ba_watch.specs.Trails.{Assignments, value_of, place_of, decided, level_at, kept, IsTrail}
-use Rattle.ba_watch.specs.Propagation.{State, plain_lits, clause_in, lits_in, SameClause, is_false, is_unit, IsComplete, IsReason, HasReasons, IsGuarded, AreFacts, AreUnits, IsSound, Settles, AssignsUnits, Extends, KeepsFacts}
+use Rattle.ba_watch.specs.Propagation.{State, plain_lits, clause_in, lits_in, SameClause, is_false, is_unit, IsComplete, IsReason, HasReasons, IsGuarded, AreFacts, AreUnits, IsSound, Propagates, AssignsUnits, Extends, KeepsFacts}
 use Rattle.ba_watch.proofs.Values.{value_of-take, value_of-take_none, place_of-some, place_of-take}
 use Rattle.ba_watch.proofs.Levels.{decided-append, decided-take_drop, decided-take-le, decided-take_step, kept_below, kept_above, kept-le, decided-kept}
 use Rattle.ba_watch.proofs.Facts.{AreFacts-push, AreUnits-push}
@@ -268,7 +268,7 @@ back_same a t s level len le =
     made : (x y : List Literal) (r q : List (Option ℕ)) (b d : Bool) → x ≡ y → r ≡ q → b ≡ d → ◌≡◌ {A = State} (record { variables = t.variables; clauses = map plain a; trail = y; reasons = q; settled = d }) (record { variables = t.variables; clauses = map plain a; trail = x; reasons = r; settled = b })
     made x y r q b d e f g = cc
 
-pub extends : (a a' : Clauses) (t u w : Assignments) (s s' : Bool) → AssignsUnits a t u → Settles a a' u w → Extends (state a t s) (state a' w s')
+pub extends : (a a' : Clauses) (t u w : Assignments) (s s' : Bool) → AssignsUnits a t u → Propagates a a' u w → Extends (state a t s) (state a' w s')
 extends a a' t u w s s' first second = record {
   variables = second.variables ∙ first.variables;
   trail = Begins-trans t.lits u.lits w.lits first.trail second.trail;

@@ -1,4 +1,4 @@
--- A clause of the swept list that goes back into it, or into another.
+-- A clause of the visited list that goes back into it, or into another.
 
 use Rattle.std.proofs.Common.{◌≡◌, ◌≢◌, ℕ, ◌+◌, ◌<◌, ◌≤◌, Bool, true, false, Option, None, Some, List, length, get_or, eqb, cond, leb, ◌&&◌, ◌||◌, refl, sym, ap, subst, ◌∙◌, arith, ⊎_elim}
 use Rattle.std.proofs.lemmas.Bool.{cases_eq}

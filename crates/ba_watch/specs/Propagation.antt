@@ -143,19 +143,19 @@ pub record IsAsserting (s : State) (lits : List Literal) : Type 0 where
   pub recent_false : value_of s.trail (lit_at lits recent) ≡ Some false
   pub recent_level : level_at s.reasons (place_of s.trail (lit_at lits recent).variable) ≡ decided s.reasons
 
--- the list of the literal that became false at the head of propagation is being swept
-pub record IsSweeping (lits : ℕ → List Literal) (variables : ℕ) (trail : List Literal) (reasons : List (Option ℕ)) (head swept : ℕ) : Type 0 where
+-- the list of the literal that became false at the head of propagation is being visited
+pub record IsVisiting (lits : ℕ → List Literal) (variables : ℕ) (trail : List Literal) (reasons : List (Option ℕ)) (head visited : ℕ) : Type 0 where
   pub facts : AreFacts lits variables trail reasons head
   pub inside : head < length trail
-  pub swept_is : swept ≡ index_of (negate (lit_at trail head))
+  pub visited_is : visited ≡ index_of (negate (lit_at trail head))
 
 -- a clause that watches the literal and isn't still to be looked at has its other watched literal true
-pub record AreSwept (lits : ℕ → List Literal) (trail : List Literal) (swept : ℕ) (todo : List ℕ) : Type 0 where
-  pub first : (clause : ℕ) → 2 ≤ length (lits clause) → occurrences clause todo ≡ 0 → index_at (lits clause) 0 ≡ swept → value_of trail (lit_at (lits clause) 1) ≡ Some true
-  pub second : (clause : ℕ) → 2 ≤ length (lits clause) → occurrences clause todo ≡ 0 → index_at (lits clause) 1 ≡ swept → value_of trail (lit_at (lits clause) 0) ≡ Some true
+pub record AreVisited (lits : ℕ → List Literal) (trail : List Literal) (visited : ℕ) (todo : List ℕ) : Type 0 where
+  pub first : (clause : ℕ) → 2 ≤ length (lits clause) → occurrences clause todo ≡ 0 → index_at (lits clause) 0 ≡ visited → value_of trail (lit_at (lits clause) 1) ≡ Some true
+  pub second : (clause : ℕ) → 2 ≤ length (lits clause) → occurrences clause todo ≡ 0 → index_at (lits clause) 1 ≡ visited → value_of trail (lit_at (lits clause) 0) ≡ Some true
 
--- what one step of a sweep, or several, may change
-pub record Sweeps (old new : Clauses) (t u : Assignments) (swept : ℕ) : Type 0 where
+-- what the visit of a clause, or of several, may change
+pub record VisitsSome (old new : Clauses) (t u : Assignments) (visited : ℕ) : Type 0 where
   pub clauses : (k : ℕ) → SameClause (plain_at old k) (plain_at new k)
   pub variables : u.variables ≡ t.variables
   pub trail : Begins t.lits u.lits
@@ -163,19 +163,19 @@ pub record Sweeps (old new : Clauses) (t u : Assignments) (swept : ℕ) : Type 0
   pub level : decided u.reasons ≡ decided t.reasons
   pub in_range : ((r k : ℕ) → k < length (lits_at old r) → (lit_at (lits_at old r) k).variable ≤ t.variables) → (r k : ℕ) → k < length (lits_at new r) → (lit_at (lits_at new r) k).variable ≤ u.variables
   pub units : (waiting : List ℕ) → AreUnits old t.lits t.reasons waiting → AreUnits new u.lits u.reasons waiting
-  pub sweeping : (head : ℕ) → IsSweeping (lits_at old) t.variables t.lits t.reasons head swept → IsSweeping (lits_at new) u.variables u.lits u.reasons head swept
+  pub visiting : (head : ℕ) → IsVisiting (lits_at old) t.variables t.lits t.reasons head visited → IsVisiting (lits_at new) u.variables u.lits u.reasons head visited
 
 -- a clause of the list was looked at: it is false, or one clause less is to be looked at
-pub record Visits (old new : Clauses) (t u : Assignments) (swept : ℕ) (todo rest : List ℕ) (clause : ℕ) (conflict : Bool) : Type 0 where
-  pub steps : Sweeps old new t u swept
-  pub passed : (head : ℕ) → IsSweeping (lits_at old) t.variables t.lits t.reasons head swept → conflict ≡ false → AreSwept (lits_at old) t.lits swept todo → AreSwept (lits_at new) u.lits swept rest
-  pub failed : (head : ℕ) → IsSweeping (lits_at old) t.variables t.lits t.reasons head swept → conflict ≡ true → is_false (value_of u.lits) (lits_at new clause) ≡ true
+pub record Visits (old new : Clauses) (t u : Assignments) (visited : ℕ) (todo rest : List ℕ) (clause : ℕ) (conflict : Bool) : Type 0 where
+  pub steps : VisitsSome old new t u visited
+  pub passed : (head : ℕ) → IsVisiting (lits_at old) t.variables t.lits t.reasons head visited → conflict ≡ false → AreVisited (lits_at old) t.lits visited todo → AreVisited (lits_at new) u.lits visited rest
+  pub failed : (head : ℕ) → IsVisiting (lits_at old) t.variables t.lits t.reasons head visited → conflict ≡ true → is_false (value_of u.lits) (lits_at new clause) ≡ true
 
--- a sweep on its way: what it has changed so far, and what is known of the clauses that it has passed
-pub record IsUnderway (start now : Clauses) (t u : Assignments) (swept : ℕ) (todo : List ℕ) (conflict : Option ℕ) : Type 0 where
-  pub steps : Sweeps start now t u swept
-  pub passed : conflict ≡ None → (head : ℕ) → IsSweeping (lits_at start) t.variables t.lits t.reasons head swept → AreSwept (lits_at now) u.lits swept todo
-  pub failed : (clause : ℕ) → conflict ≡ Some clause → (head : ℕ) → IsSweeping (lits_at start) t.variables t.lits t.reasons head swept → is_false (value_of u.lits) (lits_at now clause) ≡ true
+-- one list is being visited: what has changed so far, and what is known of the clauses that were visited
+pub record IsUnderway (start now : Clauses) (t u : Assignments) (visited : ℕ) (todo : List ℕ) (conflict : Option ℕ) : Type 0 where
+  pub steps : VisitsSome start now t u visited
+  pub passed : conflict ≡ None → (head : ℕ) → IsVisiting (lits_at start) t.variables t.lits t.reasons head visited → AreVisited (lits_at now) u.lits visited todo
+  pub failed : (clause : ℕ) → conflict ≡ Some clause → (head : ℕ) → IsVisiting (lits_at start) t.variables t.lits t.reasons head visited → is_false (value_of u.lits) (lits_at now clause) ≡ true
   pub live : (clause : ℕ) → conflict ≡ Some clause → IsLive now clause
 
 -- the literals of the clauses have variables up to a number
@@ -199,7 +199,7 @@ pub record AssignsUnit (clauses : Clauses) (t u : Assignments) (clause : ℕ) (o
   pub failed : ok ≡ false → is_false (value_of u.lits) (lits_at clauses clause) ≡ true
 
 -- what propagation may change: literals with reasons are added, and clauses reorder their literals
-pub record Settles (old new : Clauses) (t u : Assignments) : Type 0 where
+pub record Propagates (old new : Clauses) (t u : Assignments) : Type 0 where
   pub clauses : (k : ℕ) → SameClause (plain_at old k) (plain_at new k)
   pub variables : u.variables ≡ t.variables
   pub trail : Begins t.lits u.lits

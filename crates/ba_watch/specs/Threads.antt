@@ -24,9 +24,9 @@ next_of clauses index clause = next_in index (clause_at clauses clause)
 abbrev pub list_of : Clauses → List (Option ℕ) → ℕ → List ℕ
 list_of clauses heads index = walk (length clauses) (next_of clauses index) (get_or heads index None)
 
--- the clauses in the list that is being swept and that weren't looked at yet
+-- the clauses in the list that is being visited and that weren't looked at yet
 abbrev pub pending_of : Clauses → ℕ → Option ℕ → List ℕ
-pending_of clauses swept pending = walk (length clauses) (next_of clauses swept) pending
+pending_of clauses visited pending = walk (length clauses) (next_of clauses visited) pending
 
 -- a clause of two or more literals watches its first two
 abbrev pub watches : List Literal → ℕ → Bool
@@ -35,20 +35,20 @@ watches lits index = leb 2 (length lits) && (eqb (index_at lits 0) index || eqb 
 abbrev pub watch_count : Clauses → ℕ → ℕ → ℕ
 watch_count clauses index clause = if watches (lits_at clauses clause) index then 1 else 0
 
--- how often a clause stands in the list of the literal of an index, with the list that is being swept
+-- how often a clause stands in the list of the literal of an index, with the list that is being visited
 abbrev pub listed : Clauses → List (Option ℕ) → ℕ → Option ℕ → ℕ → ℕ → ℕ
-listed clauses heads swept pending index clause =
-    occurrences clause (list_of clauses heads index) + (if eqb index swept then occurrences clause (pending_of clauses swept pending) else 0)
+listed clauses heads visited pending index clause =
+    occurrences clause (list_of clauses heads index) + (if eqb index visited then occurrences clause (pending_of clauses visited pending) else 0)
 
 -- no literal stands twice in a clause
 abbrev pub AreApart : List Literal → Type 0
 AreApart lits = (j k : ℕ) → j < length lits → k < length lits → j ≢ k → index_at lits j ≢ index_at lits k
 
 -- the links and heads thread, for each literal, the list of the clauses that watch it
-pub record AreThreaded (clauses : Clauses) (heads : List (Option ℕ)) (swept : ℕ) (pending : Option ℕ) : Type 0 where
+pub record AreThreaded (clauses : Clauses) (heads : List (Option ℕ)) (visited : ℕ) (pending : Option ℕ) : Type 0 where
   pub ends : (index : ℕ) → end_of_walk (length clauses) (next_of clauses index) (get_or heads index None) ≡ None
-  pub pending_ends : end_of_walk (length clauses) (next_of clauses swept) pending ≡ None
-  pub counts : (index clause : ℕ) → listed clauses heads swept pending index clause ≡ watch_count clauses index clause
+  pub pending_ends : end_of_walk (length clauses) (next_of clauses visited) pending ≡ None
+  pub counts : (index clause : ℕ) → listed clauses heads visited pending index clause ≡ watch_count clauses index clause
   pub apart : (clause : ℕ) → AreApart (lits_at clauses clause)
 
 -- a clause without its links

@@ -8,7 +8,7 @@
 
 mod choice;
 mod lists;
-mod sweep;
+mod propagation;
 mod trail;
 mod units;
 mod watch;

@@ -11,15 +11,15 @@ use ba_arena::{Arena, ClauseRef};
 use ba_lits::Lit;
 use std::alloc::{AllocError, Global};
 
-/// The clauses, each in the lists of its first two literals. While a list is swept, its clauses are taken
+/// The clauses, each in the lists of its first two literals. While a list is visited, its clauses are taken
 /// off it one by one, and each goes back or into the list of another literal.
 #[derive(Drop)]
 pub struct Lists {
     pub arena: Arena,
     pub heads: Vec<Option<ClauseRef>>,
-    pub swept: usize,
+    pub visited: usize,
     pub pending: Option<ClauseRef>,
-    ghost threaded: { AreThreaded arena heads.items swept pending },
+    ghost threaded: { AreThreaded arena heads.items visited pending },
 }
 
 impl Lists {
@@ -31,7 +31,7 @@ impl Lists {
         Lists {
             arena: Arena::new(alloc),
             heads: Vec::new(alloc),
-            swept: 0,
+            visited: 0,
             pending: None,
         }
     }
@@ -40,7 +40,7 @@ impl Lists {
     pub fn keep_apart(&self)
         ensures { (clause : ℕ) → AreApart (lits_at self.now.arena clause) }
     {
-        let _ = &self.swept;
+        let _ = &self.visited;
     }
 
     /// Makes room for the lists of the literals with indices below a number.
@@ -48,7 +48,7 @@ impl Lists {
         ensures room { OnOk result (indices ≤ length self.new.heads.items) }
         ensures grows { length self.old.heads.items ≤ length self.new.heads.items }
         ensures arena { self.new.arena ≡ self.old.arena }
-        ensures swept { self.new.swept ≡ self.old.swept }
+        ensures visited { self.new.visited ≡ self.old.visited }
         ensures pending { self.new.pending ≡ self.old.pending }
     {
         if indices > self.heads.len() {
@@ -57,71 +57,71 @@ impl Lists {
         Ok(())
     }
 
-    /// Takes the list of the literal of an index, to be swept.
+    /// Takes the list of the literal of an index, to be visited.
     pub fn take(&mut self, index: usize)
-        requires settled { self.old.pending ≡ None }
+        requires idle { self.old.pending ≡ None }
         requires within { index < length self.old.heads.items }
-        ensures swept { self.new.swept ≡ index }
+        ensures visited { self.new.visited ≡ index }
         ensures arena { self.new.arena ≡ self.old.arena }
         ensures heads { length self.new.heads.items ≡ length self.old.heads.items }
         ensures pending { (clause : ℕ) → occurrences clause
-            (pending_of self.new.arena self.new.swept self.new.pending)
+            (pending_of self.new.arena self.new.visited self.new.pending)
             ≡ watch_count self.new.arena index clause }
     {
         self.pending = self.heads[index];
         self.heads[index] = None;
-        self.swept = index;
+        self.visited = index;
     }
 
-    /// The place, 0 or 1, at which the next clause of the swept list has the swept literal.
+    /// The place, 0 or 1, at which the next clause of the visited list has the visited literal.
     pub fn watched_place(&self, clause: ClauseRef) -> usize
         requires { self.now.pending ≡ Some clause }
         ensures place { result ≤ 1 }
-        ensures watched { index_at (lits_at self.now.arena clause) result ≡ self.now.swept }
+        ensures watched { index_at (lits_at self.now.arena clause) result ≡ self.now.visited }
         ensures long { 2 ≤ length (lits_at self.now.arena clause) }
         ensures apart { AreApart (lits_at self.now.arena clause) }
         ensures live { IsLive self.now.arena clause }
     {
-        if self.arena.lit(clause, 0).index() == self.swept {
+        if self.arena.lit(clause, 0).index() == self.visited {
             0
         } else {
             1
         }
     }
 
-    /// Puts the next clause of the swept list back into it.
+    /// Puts the next clause of the visited list back into it.
     pub fn keep(&mut self, clause: ClauseRef, place: usize)
         requires next { self.old.pending ≡ Some clause }
         requires place { place ≤ 1 }
-        requires watched { index_at (lits_at self.old.arena clause) place ≡ self.old.swept }
-        requires within { self.old.swept < length self.old.heads.items }
-        ensures swept { self.new.swept ≡ self.old.swept }
+        requires watched { index_at (lits_at self.old.arena clause) place ≡ self.old.visited }
+        requires within { self.old.visited < length self.old.heads.items }
+        ensures visited { self.new.visited ≡ self.old.visited }
         ensures heads { length self.new.heads.items ≡ length self.old.heads.items }
         ensures arena { SamePlain self.old.arena self.new.arena }
-        ensures pending { pending_of self.old.arena self.old.swept self.old.pending ≡ clause
-            ∷ pending_of self.new.arena self.new.swept self.new.pending }
+        ensures pending { pending_of self.old.arena self.old.visited self.old.pending ≡ clause
+            ∷ pending_of self.new.arena self.new.visited self.new.pending }
     {
         let next = self.arena.link(clause, place);
-        let head = self.heads[self.swept];
+        let head = self.heads[self.visited];
         self.arena.set_link(clause, place, head);
-        self.heads[self.swept] = Some(clause);
+        self.heads[self.visited] = Some(clause);
         self.pending = next;
     }
 
-    /// Lets the next clause of the swept list watch another of its literals.
-    pub fn shift(&mut self, clause: ClauseRef, place: usize, other: usize)
+    /// Lets the next clause of the visited list watch another of its literals.
+    pub fn move_watch(&mut self, clause: ClauseRef, place: usize, other: usize)
         requires next { self.old.pending ≡ Some clause }
         requires place { place ≤ 1 }
-        requires watched { index_at (lits_at self.old.arena clause) place ≡ self.old.swept }
+        requires watched { index_at (lits_at self.old.arena clause) place ≡ self.old.visited }
         requires unwatched { 2 ≤ other }
         requires other { other < length (lits_at self.old.arena clause) }
         requires within { index_at (lits_at self.old.arena clause) other < length
             self.old.heads.items }
-        ensures swept { self.new.swept ≡ self.old.swept }
+        ensures visited { self.new.visited ≡ self.old.visited }
         ensures heads { length self.new.heads.items ≡ length self.old.heads.items }
         ensures arena { ReordersOne clause place other self.old.arena self.new.arena }
-        ensures pending { pending_of self.old.arena self.old.swept self.old.pending ≡ clause
-            ∷ pending_of self.new.arena self.new.swept self.new.pending }
+        ensures pending { pending_of self.old.arena self.old.visited self.old.pending ≡ clause
+            ∷ pending_of self.new.arena self.new.visited self.new.pending }
     {
         let next = self.arena.link(clause, place);
         let index = self.arena.lit(clause, other).index();
@@ -134,7 +134,7 @@ impl Lists {
 
     /// Adds a clause of fewer than two literals, which watches none.
     pub fn add_short(&mut self, lits: &[Lit], number: u64) -> Result<ClauseRef, AllocError>
-        requires settled { self.old.pending ≡ None }
+        requires idle { self.old.pending ≡ None }
         requires short { length lits.now < 2 }
         ensures pending { self.new.pending ≡ None }
         ensures heads { length self.new.heads.items ≡ length self.old.heads.items }
@@ -153,7 +153,7 @@ impl Lists {
         first: usize,
         second: usize,
     ) -> Result<ClauseRef, AllocError>
-        requires settled { self.old.pending ≡ None }
+        requires idle { self.old.pending ≡ None }
         requires order { first < second }
         requires places { second < length lits.now }
         requires apart { AreApart lits.now }

@@ -8,7 +8,7 @@ ghost use Rattle.ba_watch.specs.Propagation.{clause_in, lits_in, is_false, IsRea
 
 use crate::choice::{latest, rank};
 use crate::lists::Lists;
-use crate::sweep::settle;
+use crate::propagation::propagate_all;
 use crate::trail::Trail;
 use crate::units::assign_units;
 use ba_arena::{Arena, ClauseRef};
@@ -212,7 +212,7 @@ impl Watch {
         if conflict.is_some() {
             return conflict;
         }
-        let conflict = settle(&mut self.lists, &mut self.trail, &mut self.head);
+        let conflict = propagate_all(&mut self.lists, &mut self.trail, &mut self.head);
         if conflict.is_none() {
             self.settled = true;
         }

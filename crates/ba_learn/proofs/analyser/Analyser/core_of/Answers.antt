@@ -64,7 +64,7 @@ returns-clause-clause c =
     let m = core_start s c.keeps_facts.ensures c.args.lit c.unwrap-place.result c.unwrap-reason.result c.requires.false_ p_is r_is in
     let u = c.in_ok-start.ensures in
     let w = c.in_ok-close.ensures in
-    let done = ended s (c.unwrap-place.result + 1) c.start.new.self c.close.new.self c.unwrap-reason.result u.resolved u.marked w.resolves (w.work (c.unwrap-place.result + 1) (u.work (c.unwrap-place.result + 1) m)) w.all in
+    let done = ended s (c.unwrap-place.result + 1) c.start.new.self c.close.new.self c.unwrap-reason.result u.resolved u.seen w.resolves (w.work (c.unwrap-place.result + 1) (u.work (c.unwrap-place.result + 1) m)) w.all in
     let sorted = same_sorted s c.negated.result (negate c.args.lit) c.sort.new.self.kept c.close.new.self.kept c.in_ok-lits.lits.items c.negated.ensures (ap (λ (w : Work). w.kept) c.sort.ensures.rest) c.in_ok-lits.ensures in
     subst (λ (ls : List Literal). IsClause s.variables ls) (sym c.from_vec.ensures) (core_clause s c.keeps_facts.ensures c.args.lit c.unwrap-place.result c.unwrap-reason.result c.requires.false_ p_is r_is c.close.new.self done (w.resolves.floor ∙ u.floor) (w.resolves.deep ∙ u.deep) c.in_ok-lits.lits.items c.sort.new.self.resolved sorted c.sort.ensures.sorted)
 
@@ -76,7 +76,7 @@ returns-clause-follows c =
     let m = core_start s c.keeps_facts.ensures c.args.lit c.unwrap-place.result c.unwrap-reason.result c.requires.false_ p_is r_is in
     let u = c.in_ok-start.ensures in
     let w = c.in_ok-close.ensures in
-    let done = ended s (c.unwrap-place.result + 1) c.start.new.self c.close.new.self c.unwrap-reason.result u.resolved u.marked w.resolves (w.work (c.unwrap-place.result + 1) (u.work (c.unwrap-place.result + 1) m)) w.all in
+    let done = ended s (c.unwrap-place.result + 1) c.start.new.self c.close.new.self c.unwrap-reason.result u.resolved u.seen w.resolves (w.work (c.unwrap-place.result + 1) (u.work (c.unwrap-place.result + 1) m)) w.all in
     let sorted = same_sorted s c.negated.result (negate c.args.lit) c.sort.new.self.kept c.close.new.self.kept c.in_ok-lits.lits.items c.negated.ensures (ap (λ (w : Work). w.kept) c.sort.ensures.rest) c.in_ok-lits.ensures in
     subst (λ (ls : List Literal). Follows s.clauses ls c.from_vec-2.result) (sym c.from_vec.ensures)
     (subst (λ (hs : List ℕ). Follows s.clauses c.in_ok-lits.lits.items hs) (sym (c.from_vec-2.ensures ∙ c.in_ok-hints.ensures)) (core_follows s c.keeps_facts.ensures c.args.lit c.unwrap-place.result c.unwrap-reason.result c.requires.false_ p_is r_is c.close.new.self done (w.resolves.floor ∙ u.floor) (w.resolves.deep ∙ u.deep) c.in_ok-lits.lits.items c.sort.new.self.resolved sorted c.sort.ensures.sorted))
@@ -89,6 +89,6 @@ returns-clause-core c =
     let m = core_start s c.keeps_facts.ensures c.args.lit c.unwrap-place.result c.unwrap-reason.result c.requires.false_ p_is r_is in
     let u = c.in_ok-start.ensures in
     let w = c.in_ok-close.ensures in
-    let done = ended s (c.unwrap-place.result + 1) c.start.new.self c.close.new.self c.unwrap-reason.result u.resolved u.marked w.resolves (w.work (c.unwrap-place.result + 1) (u.work (c.unwrap-place.result + 1) m)) w.all in
+    let done = ended s (c.unwrap-place.result + 1) c.start.new.self c.close.new.self c.unwrap-reason.result u.resolved u.seen w.resolves (w.work (c.unwrap-place.result + 1) (u.work (c.unwrap-place.result + 1) m)) w.all in
     let sorted = same_sorted s c.negated.result (negate c.args.lit) c.sort.new.self.kept c.close.new.self.kept c.in_ok-lits.lits.items c.negated.ensures (ap (λ (w : Work). w.kept) c.sort.ensures.rest) c.in_ok-lits.ensures in
     subst (λ (ls : List Literal). IsCoreOf s c.args.lit ls) (sym c.from_vec.ensures) (core_is s c.keeps_facts.ensures c.args.lit c.unwrap-place.result c.unwrap-reason.result c.requires.false_ p_is r_is c.close.new.self done (w.resolves.floor ∙ u.floor) (w.resolves.deep ∙ u.deep) c.in_ok-lits.lits.items c.sort.new.self.resolved sorted c.sort.ensures.sorted)

@@ -26,7 +26,7 @@ returns c =
     let m = may_start s _ (lits_in s.clauses c.args.conflict) (ap length c.trail.ensures) c.requires.false_ in
     let u = c.in_ok-start.ensures in
     let w = c.in_ok-close.ensures in
-    let done = ended s (length s.trail) c.start.new.self c.close.new.self c.args.conflict u.resolved u.marked w.resolves (w.work (length s.trail) (u.work (length s.trail) m)) w.all in
+    let done = ended s (length s.trail) c.start.new.self c.close.new.self c.args.conflict u.resolved u.seen w.resolves (w.work (length s.trail) (u.work (length s.trail) m)) w.all in
     IfOk-weaker c.hints.result _ (λ hints. Follows s.clauses [] hints.items)
     (λ hints is. subst (λ (hs : List ℕ). Follows s.clauses [] hs) (sym is)
     (refuted s c.close.new.self c.args.conflict c.sort.new.self.resolved c.keeps_facts.ensures done (w.resolves.floor ∙ (u.floor ∙ ap length c.trail.ensures)) (w.resolves.deep ∙ u.deep) c.requires.level c.requires.live c.requires.false_ c.sort.ensures.sorted))

@@ -1,7 +1,7 @@
 use Rattle.std.proofs.Common.{◌≡◌, ◌<◌, ℕ, arith, length, ◌∙◌, sym, ap, true, subst, IsSome, Option, OnOk, [], ◌∷◌, ◌^◌}
 use Rattle.std.proofs.lemmas.Result.{on_ok_weaker}
 use Rattle.ba_watch.specs.Trails.{place_of}
-use Rattle.ba_learn.specs.Resolving.{Work, Meets, is_marked}
+use Rattle.ba_learn.specs.Resolving.{Work, Meets, is_seen}
 use Rattle.ba_learn.proofs.WorkLaws.{some_place, place-is}
 use Rattle.ba_learn.proofs.MeetLaws.{met_place, met_new, met_old, pending_room}
 use Rattle.ba_learn.proofs.resolution.Resolution.meet.Goals as goal
@@ -17,7 +17,7 @@ returns-then-contains c =
     let v = c.variable-variable in
     let p_is : c.unwrap-place.result ≡ place_of w.trail v.result = place-is w.trail v.result c.unwrap-place.result (met_place w c.args.self.now c.args.lit v.result v.ensures.variable c.requires.may) (sym c.place.ensures ∙ c.unwrap-place.ensures) in
     met_old w c.args.self.now c.args.lit c.unwrap-place.result (p_is ∙ ap (place_of w.trail) v.ensures.variable)
-    (subst (λ (old : Work). is_marked old c.unwrap-place.result ≡ true) c.self.view_is (sym c.contains.ensures ∙ c.if-contains.true))
+    (subst (λ (old : Work). is_seen old c.unwrap-place.result ≡ true) c.self.view_is (sym c.contains.ensures ∙ c.if-contains.true))
 
 pub part-requires-clause-assigned : goal.part-requires-clause-assigned
 part-requires-clause-assigned c = met_place c.args.watch.now c.args.self.now c.args.lit c.variable-variable.result c.variable-variable.ensures.variable c.requires.may
@@ -41,7 +41,7 @@ returns c =
     let p_is : c.unwrap-place.result ≡ place_of w.trail v.result = place-is w.trail v.result c.unwrap-place.result within (sym c.place.ensures ∙ c.unwrap-place.ensures) in
     subst (λ (old : Work). OnOk c.part.result (Meets w old c.part.new.self (c.args.lit ∷ []))) c.self.view_is
     (on_ok_weaker c.part.result
-    (met_new w (record { marks = i.marks; floor = i.floor; deep = i.deep; pending = i.pending; kept = i.kept.items; resolved = i.resolved.items; waiting = i.waiting.items }) c.insert.new.self c.unwrap-place.result
+    (met_new w (record { seen = i.seen; floor = i.floor; deep = i.deep; pending = i.pending; kept = i.kept.items; resolved = i.resolved.items; waiting = i.waiting.items }) c.insert.new.self c.unwrap-place.result
     (omega arith) (sym c.contains.ensures
     ∙ c.if-contains.false) c.in_ok-insert.ensures.ok c.part.new.self c.args.lit
     (p_is ∙ ap (place_of w.trail) v.ensures.variable)) c.part.ensures)

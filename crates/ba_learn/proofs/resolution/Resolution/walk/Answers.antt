@@ -11,7 +11,7 @@ loop-self-init c =
       resolves = Resolves-none w c.args.self.now;
       work = work_narrower w c.args.self.now (length w.trail) p.result c.requires.work (omega (arith, p.ensures.below, len)) p.ensures.floor (λ q above below. p.ensures.latest q above (omega (arith, below, len)));
       floor = p.ensures.floor;
-      marked = p.ensures.marked;
+      seen = p.ensures.seen;
       some = c.requires.some;
     }
 
@@ -24,6 +24,6 @@ loop-self-preserved c =
       resolves = Resolves-trans w c.args.self.now c.loop-self.self c.resolve_pending.new.self c.loop-self.invariant.resolves e.resolves;
       work = work_narrower w c.resolve_pending.new.self c.loop-self.place p.result e.work p.ensures.below p.ensures.floor p.ensures.latest;
       floor = p.ensures.floor;
-      marked = p.ensures.marked;
+      seen = p.ensures.seen;
       some = e.pending;
     }

@@ -14,15 +14,15 @@ is_false o (Some false) b e some absent untrue = refl
 pub value-requires : goal.value-requires
 value-requires c = omega (arith, assumed_within c.args.checker.now.variables c.args.assumptions.now c.args.assumption c.requires.assumptions c.requires.one, c.requires.underway.room)
 
-pub decide-requires-clause-within : goal.decide-requires-clause-within
-decide-requires-clause-within c = omega (arith, assumed_within c.args.checker.now.variables c.args.assumptions.now c.args.assumption c.requires.assumptions c.requires.one, c.requires.underway.room)
+pub decide_literal-requires-clause-within : goal.decide_literal-requires-clause-within
+decide_literal-requires-clause-within c = omega (arith, assumed_within c.args.checker.now.variables c.args.assumptions.now c.args.assumption c.requires.assumptions c.requires.one, c.requires.underway.room)
 
 pub returns-then-is_none-clause-less : goal.returns-then-is_none-clause-less
-returns-then-is_none-clause-less c = c.decide.ensures.less c.args.checker.now
+returns-then-is_none-clause-less c = c.decide_literal.ensures.less c.args.checker.now
 
 pub returns-then-is_none-clause-underway : goal.returns-then-is_none-clause-underway
 returns-then-is_none-clause-underway c =
-    c.decide.ensures.underway c.args.assumptions.now c.args.checker.now
+    c.decide_literal.ensures.underway c.args.assumptions.now c.args.checker.now
     (record { within = assumed_within c.args.checker.now.variables c.args.assumptions.now c.args.assumption c.requires.assumptions c.requires.one; given = inl c.requires.one })
     c.requires.underway
 

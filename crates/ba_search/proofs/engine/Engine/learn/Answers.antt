@@ -1,13 +1,13 @@
 use Rattle.std.proofs.Common.{ℕ, ◌≡◌, false, [], ◌∷◌, ◌++◌, length, get_or, sym, ap, subst, ◌∙◌, arith}
-use Rattle.ba_search.specs.Turns.{Numbering}
+use Rattle.ba_search.specs.Iterations.{Numbering}
 use Rattle.std.proofs.lemmas.List.{length_push}
 use Rattle.ba_steps.specs.States.{State, kept}
 use Rattle.ba_steps.specs.declared.store.Origin.TheVariants.{Learnt}
 use Rattle.ba_search.proofs.TakenLaws.{unmarked_next}
 use Rattle.ba_search.proofs.LearnLaws.{Formed}
 use Rattle.ba_search.proofs.LearntSteps.{learnt_step, step_formed, step_allowed, step_taken, learnt_puts, learnt_left, learnt_tried}
-use Rattle.ba_learn.specs.Backjumps.{after_back}
-use Rattle.ba_search.proofs.TurnLaws.{learnt_less}
+use Rattle.ba_learn.specs.Backjumps.{after_backtrack}
+use Rattle.ba_search.proofs.IterationLaws.{learnt_less}
 use Rattle.ba_search.proofs.UnderwayLaws.{underway_jump}
 use Rattle.ba_search.specs.Searching.{nothing}
 use Rattle.ba_search.proofs.StepLaws.{leaves_none}
@@ -55,8 +55,8 @@ returns-in_err-put-clause-leaves g c =
     c.in_ok-step.ensures step
     (c.in_err-put.ensures.taken_or_asleep c.requires.fresh) c.in_err-put.ensures.refused
 
-pub returns-in_err-back_jump-clause-leaves : goal.returns-in_err-back_jump-clause-leaves
-returns-in_err-back_jump-clause-leaves g c =
+pub returns-in_err-backjump-clause-leaves : goal.returns-in_err-backjump-clause-leaves
+returns-in_err-backjump-clause-leaves g c =
     let s = c.args.self.now.watch in
     let k = c.args.checked.now.checker in
     let formed : Formed k = subst (λ (x : State). Formed x) c.checker.ensures c.keeps_facts-2.ensures in
@@ -70,10 +70,10 @@ returns-in_err-back_jump-clause-leaves g c =
 
 pub returns-clause-underway : goal.returns-clause-underway
 returns-clause-underway g c =
-    underway_jump c.args.assumptions.now c.args.self.now.watch c.reward.new.self.watch c.back_jump.new.self.watch
-    c.args.self.now.numbers c.reward.new.self.numbers c.back_jump.new.self.numbers
+    underway_jump c.args.assumptions.now c.args.self.now.watch c.bump.new.self.watch c.backjump.new.self.watch
+    c.args.self.now.numbers c.bump.new.self.numbers c.backjump.new.self.numbers
     c.last.result c.args.checked.now.checker c.put.new.self.checker c.in_ok-learnt.learnt.lits
-    c.in_ok-learnt.learnt.back c.reward.ensures.watch c.reward.ensures.numbers c.in_ok-back_jump.ensures.learns
+    c.in_ok-learnt.learnt.back c.bump.ensures.watch c.bump.ensures.numbers c.in_ok-backjump.ensures.learns
     (c.last.ensures ∙ ap (λ (x : State). length x.clauses) c.checker-2.ensures)
     (step_taken c.args.checked.now.checker c.put.new.self.checker c.in_ok-learnt.learnt.lits
     c.in_ok-learnt.learnt.hints c.in_ok-step.step c.in_ok-step.ensures c.in_ok-put.ensures.taken)
@@ -88,11 +88,11 @@ returns-clause-puts g c =
     let step = learnt_step (g.J.RunJudge.accepts c.args.checked.now.judge) c.args.assumptions.now s c.args.self.now.numbers k c.in_ok-learnt.learnt.lits c.in_ok-learnt.learnt.hints c.in_ok-learnt.learnt.back
     c.keeps_facts.ensures formed c.requires.underway c.requires.left l.clause l.follows l.new l.backed in
     learnt_puts (g.J.RunJudge.accepts c.args.checked.now.judge) nothing k c.put.new.self.checker
-    c.args.self.now.numbers.learnt c.back_jump.new.self.numbers.learnt (g.S.StepSink.logs c.args.checked.now.sink)
+    c.args.self.now.numbers.learnt c.backjump.new.self.numbers.learnt (g.S.StepSink.logs c.args.checked.now.sink)
     (g.S.StepSink.logs c.put.new.self.sink) c.in_ok-learnt.learnt.lits c.in_ok-learnt.learnt.hints c.in_ok-step.step
     c.in_ok-step.ensures step c.in_ok-put.ensures.taken
-    (c.in_ok-back_jump.ensures.learns.learnt
-    ∙ (ap (λ (n : Numbering). n.learnt ++ c.last.result ∷ []) c.reward.ensures.numbers
+    (c.in_ok-backjump.ensures.learns.learnt
+    ∙ (ap (λ (n : Numbering). n.learnt ++ c.last.result ∷ []) c.bump.ensures.numbers
     ∙ ap (λ (m : ℕ). c.args.self.now.numbers.learnt ++ m ∷ [])
     (c.last.ensures ∙ ap (λ (x : State). length x.clauses) c.checker-2.ensures)))
     c.in_ok-put.ensures.told
@@ -112,19 +112,19 @@ returns-clause-leaves g c =
 
 pub returns-clause-less : goal.returns-clause-less
 returns-clause-less g c =
-    learnt_less c.args.checked.now.checker c.put.new.self.checker c.args.self.now.watch c.back_jump.new.self.watch
-    (after_back c.in_ok-learnt.learnt.back c.reward.new.self.watch) c.reward.new.self.numbers
-    c.back_jump.new.self.numbers c.last.result
+    learnt_less c.args.checked.now.checker c.put.new.self.checker c.args.self.now.watch c.backjump.new.self.watch
+    (after_backtrack c.in_ok-learnt.learnt.back c.bump.new.self.watch) c.bump.new.self.numbers
+    c.backjump.new.self.numbers c.last.result
     c.args.self.now.since c.saturating_add-self.result c.in_ok-learnt.learnt.back c.in_ok-learnt.learnt.lits
     (step_taken c.args.checked.now.checker c.put.new.self.checker c.in_ok-learnt.learnt.lits
     c.in_ok-learnt.learnt.hints c.in_ok-step.step c.in_ok-step.ensures c.in_ok-put.ensures.taken)
-    (ap (after_back c.in_ok-learnt.learnt.back) c.reward.ensures.watch) c.in_ok-back_jump.ensures.learns
+    (ap (after_backtrack c.in_ok-learnt.learnt.back) c.bump.ensures.watch) c.in_ok-backjump.ensures.learns
     (omega (arith, c.saturating_add-self.ensures)) c.requires.left
 
-pub back_jump-requires-clause-fresh : goal.back_jump-requires-clause-fresh
-back_jump-requires-clause-fresh g c =
+pub backjump-requires-clause-fresh : goal.backjump-requires-clause-fresh
+backjump-requires-clause-fresh g c =
     let k = c.args.checked.now.checker in
-    subst (λ (n : Numbering). get_or n.taken c.last.result false ≡ false) (sym c.reward.ensures.numbers)
+    subst (λ (n : Numbering). get_or n.taken c.last.result false ≡ false) (sym c.bump.ensures.numbers)
     (unmarked_next c.args.self.now.watch.clauses c.args.self.now.numbers.taken k.clauses c.last.result
     c.requires.underway.numbered c.requires.underway.live
     (c.last.ensures ∙ (ap (λ (x : State). length x.clauses) c.checker-2.ensures

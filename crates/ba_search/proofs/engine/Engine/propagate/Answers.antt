@@ -1,5 +1,5 @@
 use Rattle.ba_search.proofs.UnderwayLaws.{underway_extends}
-use Rattle.ba_search.proofs.TurnLaws.{extends_less}
+use Rattle.ba_search.proofs.IterationLaws.{extends_less}
 use Rattle.ba_search.proofs.engine.Engine.propagate.Goals as goal
 
 pub returns-clause-underway : goal.returns-clause-underway

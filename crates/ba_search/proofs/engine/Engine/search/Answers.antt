@@ -1,26 +1,26 @@
 use Rattle.std.proofs.Common.{ℕ, ◌^◌, ◌<◌, max, length, ap, ◌∙◌, refl, arith}
 use Rattle.ba_steps.specs.States.{State}
 use Rattle.ba_search.proofs.UnderwayLaws.{underway_moved, underway_begin}
-use Rattle.ba_search.specs.Turns.{Numbering}
+use Rattle.ba_search.specs.Iterations.{Numbering}
 use Rattle.ba_search.proofs.StepLaws.{puts_none, puts_then, puts_from, leaves_none, leaves_then, leaves_from}
 use Rattle.ba_search.proofs.engine.Engine.search.Goals as goal
 
-pub turns-init : goal.turns-init
-turns-init g c =
+pub iterations-init : goal.iterations-init
+iterations-init g c =
     let s = c.args.self.now.watch in
     let k = c.args.checked.now.checker in
     let few : length k.clauses < 2 ^ 62 = omega (arith, c.last.ensures, ap (λ (x : State). length x.clauses) c.checker.ensures, c.if-last.false) in
     record {
-      underway = underway_moved c.args.assumptions.now c.go_back.new.self.watch c.go_back.new.self.watch c.args.self.now.numbers c.go_back.new.self.numbers k refl (c.go_back.ensures.numbers ∙ c.grow.ensures.numbers)
-          (underway_begin c.args.assumptions.now s c.grow.new.self.watch c.go_back.new.self.watch
+      underway = underway_moved c.args.assumptions.now c.backtrack.new.self.watch c.backtrack.new.self.watch c.args.self.now.numbers c.backtrack.new.self.numbers k refl (c.backtrack.ensures.numbers ∙ c.grow.ensures.numbers)
+          (underway_begin c.args.assumptions.now s c.grow.new.self.watch c.backtrack.new.self.watch
           c.args.self.now.numbers k
           (c.in_ok-grow.ensures.ok ∙ ap (λ (v : ℕ). record s { variables = max s.variables v }) (c.variables.ensures.variables ∙ ap (λ (x : State). x.variables) c.checker-2.ensures))
-          c.go_back.ensures.watch c.keeps_facts.ensures c.requires.numbered c.requires.live
+          c.backtrack.ensures.watch c.keeps_facts.ensures c.requires.numbered c.requires.live
           few c.requires.begun c.requires.awake);
       variables = refl;
-      puts = puts_none (g.J.RunJudge.accepts c.args.checked.now.judge) (λ width age kept. g.K.Fn.post c.args.keep.now (width, (age, tt)) kept) k c.go_back.new.self.numbers.learnt (g.S.StepSink.logs c.args.checked.now.sink);
+      puts = puts_none (g.J.RunJudge.accepts c.args.checked.now.judge) (λ width age kept. g.K.Fn.post c.args.keep.now (width, (age, tt)) kept) k c.backtrack.new.self.numbers.learnt (g.S.StepSink.logs c.args.checked.now.sink);
       fresh = c.requires.fresh;
-      propagated = omega (arith, c.grow.ensures.propagated, c.go_back.ensures.propagated);
+      propagated = omega (arith, c.grow.ensures.propagated, c.backtrack.ensures.propagated);
       judge = refl;
       over = refl;
       no_fall = omega arith;
@@ -31,32 +31,32 @@ pub returns-in-Some-clause-puts : goal.returns-in-Some-clause-puts
 returns-in-Some-clause-puts g c =
     puts_from (g.J.RunJudge.accepts c.args.checked.now.judge)
     (λ width age kept. g.K.Fn.post c.args.keep.now (width, (age, tt)) kept) c.args.checked.now.checker
-    c.turn.new.checked.checker c.go_back.new.self.numbers.learnt c.args.self.now.numbers.learnt
-    c.turn.new.self.numbers.learnt (g.S.StepSink.logs c.args.checked.now.sink)
-    (g.S.StepSink.logs c.turn.new.checked.sink)
-    (ap (λ (n : Numbering). n.learnt) (c.go_back.ensures.numbers ∙ c.grow.ensures.numbers))
-    (puts_then (g.J.RunJudge.accepts c.args.checked.now.judge) (g.J.RunJudge.accepts c.turns.checked.judge)
+    c.iterate.new.checked.checker c.backtrack.new.self.numbers.learnt c.args.self.now.numbers.learnt
+    c.iterate.new.self.numbers.learnt (g.S.StepSink.logs c.args.checked.now.sink)
+    (g.S.StepSink.logs c.iterate.new.checked.sink)
+    (ap (λ (n : Numbering). n.learnt) (c.backtrack.ensures.numbers ∙ c.grow.ensures.numbers))
+    (puts_then (g.J.RunJudge.accepts c.args.checked.now.judge) (g.J.RunJudge.accepts c.iterations.checked.judge)
     (λ width age kept. g.K.Fn.post c.args.keep.now (width, (age, tt)) kept) c.args.checked.now.checker
-    c.turns.checked.checker c.turn.new.checked.checker
-    c.go_back.new.self.numbers.learnt c.turns.self.numbers.learnt c.turn.new.self.numbers.learnt
-    (g.S.StepSink.logs c.args.checked.now.sink) (g.S.StepSink.logs c.turns.checked.sink)
-    (g.S.StepSink.logs c.turn.new.checked.sink)
-    (ap g.J.RunJudge.accepts c.turns.invariant.judge) c.turns.invariant.puts c.in_ok-answer.ensures.puts)
+    c.iterations.checked.checker c.iterate.new.checked.checker
+    c.backtrack.new.self.numbers.learnt c.iterations.self.numbers.learnt c.iterate.new.self.numbers.learnt
+    (g.S.StepSink.logs c.args.checked.now.sink) (g.S.StepSink.logs c.iterations.checked.sink)
+    (g.S.StepSink.logs c.iterate.new.checked.sink)
+    (ap g.J.RunJudge.accepts c.iterations.invariant.judge) c.iterations.invariant.puts c.in_ok-answer.ensures.puts)
 
-pub turns-preserved : goal.turns-preserved
-turns-preserved g c =
-    let i = c.turns.invariant in
+pub iterations-preserved : goal.iterations-preserved
+iterations-preserved g c =
+    let i = c.iterations.invariant in
     let t = c.in_ok-answer.ensures in
     record {
       underway = t.underway;
       variables = t.variables ∙ i.variables;
-      puts = puts_then (g.J.RunJudge.accepts c.args.checked.now.judge) (g.J.RunJudge.accepts c.turns.checked.judge) (λ width age kept. g.K.Fn.post c.args.keep.now (width, (age, tt)) kept) c.args.checked.now.checker c.turns.checked.checker c.turn.new.checked.checker
-          c.go_back.new.self.numbers.learnt c.turns.self.numbers.learnt c.turn.new.self.numbers.learnt
-          (g.S.StepSink.logs c.args.checked.now.sink) (g.S.StepSink.logs c.turns.checked.sink)
-          (g.S.StepSink.logs c.turn.new.checked.sink)
+      puts = puts_then (g.J.RunJudge.accepts c.args.checked.now.judge) (g.J.RunJudge.accepts c.iterations.checked.judge) (λ width age kept. g.K.Fn.post c.args.keep.now (width, (age, tt)) kept) c.args.checked.now.checker c.iterations.checked.checker c.iterate.new.checked.checker
+          c.backtrack.new.self.numbers.learnt c.iterations.self.numbers.learnt c.iterate.new.self.numbers.learnt
+          (g.S.StepSink.logs c.args.checked.now.sink) (g.S.StepSink.logs c.iterations.checked.sink)
+          (g.S.StepSink.logs c.iterate.new.checked.sink)
           (ap g.J.RunJudge.accepts i.judge) i.puts t.puts;
       fresh = t.fresh;
-      propagated = omega (arith, c.turn.ensures.propagated, i.propagated);
+      propagated = omega (arith, c.iterate.ensures.propagated, i.propagated);
       judge = t.judge_stays ∙ i.judge;
       over = t.over_stays ∙ i.over;
       no_fall = omega (arith, t.no_fall, i.no_fall);
@@ -72,29 +72,29 @@ returns-in_err-grow-clause-leaves g c = leaves_none (g.J.RunJudge.accepts c.args
 pub returns-in_err-answer-clause-leaves : goal.returns-in_err-answer-clause-leaves
 returns-in_err-answer-clause-leaves g c =
     leaves_from (g.J.RunJudge.accepts c.args.checked.now.judge)
-    (λ width age kept. g.K.Fn.post c.args.keep.now (width, (age, tt)) kept) c.go_back.new.self.numbers.learnt
-    c.args.self.now.numbers.learnt c.args.checked.now.checker c.turn.new.checked.checker
-    (g.S.StepSink.logs c.args.checked.now.sink) (g.S.StepSink.logs c.turn.new.checked.sink)
-    (ap (λ (n : Numbering). n.learnt) (c.go_back.ensures.numbers ∙ c.grow.ensures.numbers))
-    (leaves_then (g.J.RunJudge.accepts c.args.checked.now.judge) (g.J.RunJudge.accepts c.turns.checked.judge)
-    (λ width age kept. g.K.Fn.post c.args.keep.now (width, (age, tt)) kept) c.go_back.new.self.numbers.learnt
-    c.turns.self.numbers.learnt
-    c.args.checked.now.checker c.turns.checked.checker c.turn.new.checked.checker
-    (g.S.StepSink.logs c.args.checked.now.sink) (g.S.StepSink.logs c.turns.checked.sink)
-    (g.S.StepSink.logs c.turn.new.checked.sink)
-    (ap g.J.RunJudge.accepts c.turns.invariant.judge) c.turns.invariant.puts c.turn.ensures.leaves)
+    (λ width age kept. g.K.Fn.post c.args.keep.now (width, (age, tt)) kept) c.backtrack.new.self.numbers.learnt
+    c.args.self.now.numbers.learnt c.args.checked.now.checker c.iterate.new.checked.checker
+    (g.S.StepSink.logs c.args.checked.now.sink) (g.S.StepSink.logs c.iterate.new.checked.sink)
+    (ap (λ (n : Numbering). n.learnt) (c.backtrack.ensures.numbers ∙ c.grow.ensures.numbers))
+    (leaves_then (g.J.RunJudge.accepts c.args.checked.now.judge) (g.J.RunJudge.accepts c.iterations.checked.judge)
+    (λ width age kept. g.K.Fn.post c.args.keep.now (width, (age, tt)) kept) c.backtrack.new.self.numbers.learnt
+    c.iterations.self.numbers.learnt
+    c.args.checked.now.checker c.iterations.checked.checker c.iterate.new.checked.checker
+    (g.S.StepSink.logs c.args.checked.now.sink) (g.S.StepSink.logs c.iterations.checked.sink)
+    (g.S.StepSink.logs c.iterate.new.checked.sink)
+    (ap g.J.RunJudge.accepts c.iterations.invariant.judge) c.iterations.invariant.puts c.iterate.ensures.leaves)
 
 pub returns-in-Some-clause-leaves : goal.returns-in-Some-clause-leaves
 returns-in-Some-clause-leaves g c =
     leaves_from (g.J.RunJudge.accepts c.args.checked.now.judge)
-    (λ width age kept. g.K.Fn.post c.args.keep.now (width, (age, tt)) kept) c.go_back.new.self.numbers.learnt
-    c.args.self.now.numbers.learnt c.args.checked.now.checker c.turn.new.checked.checker
-    (g.S.StepSink.logs c.args.checked.now.sink) (g.S.StepSink.logs c.turn.new.checked.sink)
-    (ap (λ (n : Numbering). n.learnt) (c.go_back.ensures.numbers ∙ c.grow.ensures.numbers))
-    (leaves_then (g.J.RunJudge.accepts c.args.checked.now.judge) (g.J.RunJudge.accepts c.turns.checked.judge)
-    (λ width age kept. g.K.Fn.post c.args.keep.now (width, (age, tt)) kept) c.go_back.new.self.numbers.learnt
-    c.turns.self.numbers.learnt
-    c.args.checked.now.checker c.turns.checked.checker c.turn.new.checked.checker
-    (g.S.StepSink.logs c.args.checked.now.sink) (g.S.StepSink.logs c.turns.checked.sink)
-    (g.S.StepSink.logs c.turn.new.checked.sink)
-    (ap g.J.RunJudge.accepts c.turns.invariant.judge) c.turns.invariant.puts c.turn.ensures.leaves)
+    (λ width age kept. g.K.Fn.post c.args.keep.now (width, (age, tt)) kept) c.backtrack.new.self.numbers.learnt
+    c.args.self.now.numbers.learnt c.args.checked.now.checker c.iterate.new.checked.checker
+    (g.S.StepSink.logs c.args.checked.now.sink) (g.S.StepSink.logs c.iterate.new.checked.sink)
+    (ap (λ (n : Numbering). n.learnt) (c.backtrack.ensures.numbers ∙ c.grow.ensures.numbers))
+    (leaves_then (g.J.RunJudge.accepts c.args.checked.now.judge) (g.J.RunJudge.accepts c.iterations.checked.judge)
+    (λ width age kept. g.K.Fn.post c.args.keep.now (width, (age, tt)) kept) c.backtrack.new.self.numbers.learnt
+    c.iterations.self.numbers.learnt
+    c.args.checked.now.checker c.iterations.checked.checker c.iterate.new.checked.checker
+    (g.S.StepSink.logs c.args.checked.now.sink) (g.S.StepSink.logs c.iterations.checked.sink)
+    (g.S.StepSink.logs c.iterate.new.checked.sink)
+    (ap g.J.RunJudge.accepts c.iterations.invariant.judge) c.iterations.invariant.puts c.iterate.ensures.leaves)

@@ -1,9 +1,9 @@
 use Rattle.std.proofs.Common.{◌≡◌, ◌≤◌, None}
-use Rattle.ba_search.specs.Turns.{IsUnderway, Puts, turns_left}
+use Rattle.ba_search.specs.Iterations.{IsUnderway, Puts, iterations_left}
 use Rattle.ba_search.proofs.engine.Engine.search.Given as goal
 
-abbrev pub invariant-turns : goal.invariant-turns
-invariant-turns g l = record {
+abbrev pub invariant-iterations : goal.invariant-iterations
+invariant-iterations g l = record {
   underway : IsUnderway l.assumptions l.self.watch l.self.numbers l.checked.checker;
   variables : l.checked.checker.variables ≡ l.initial.checked.checker.variables;
   puts : Puts (g.J.RunJudge.accepts l.initial.checked.judge) (λ width age kept. g.K.Fn.post l.keep (width, (age, tt)) kept) l.initial.checked.checker l.checked.checker l.initial.self.numbers.learnt l.self.numbers.learnt (g.S.StepSink.logs l.initial.checked.sink) (g.S.StepSink.logs l.checked.sink);
@@ -15,5 +15,5 @@ invariant-turns g l = record {
   references : g.S.StepSink.references l.checked.sink ≡ g.S.StepSink.references l.initial.checked.sink;
 }
 
-abbrev pub decreases-turns : goal.decreases-turns
-decreases-turns g l = turns_left l.checked.checker l.self.since l.self.watch
+abbrev pub decreases-iterations : goal.decreases-iterations
+decreases-iterations g l = iterations_left l.checked.checker l.self.since l.self.watch

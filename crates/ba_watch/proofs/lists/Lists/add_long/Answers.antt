@@ -13,8 +13,8 @@ invariant_of-self-2 c =
     let g_is : c.index-one.result ≡ index_at lits c.args.first = c.index-one.ensures.index ∙ ap index_of (get_or_read lits c.args.first c.index-lits-first.result x_in c.index-lits-first.is no_literal) in
     let h_is : c.index-two.result ≡ index_at lits c.args.second = c.index-two.ensures.index ∙ ap index_of (get_or_read lits c.args.second c.index-lits-second.result y_in c.index-lits-second.is no_literal) in
     record {
-      threaded = add_long_step c.args.self.now.arena c.add.new.self c.swap.new.self c.swap-2.new.self c.set_link.new.self c.set_link-2.new.self c.args.self.now.heads.items c.args.self.now.swept c.in_ok-clause.clause c.args.first c.args.second c.index.result.now c.index-2.result.now (record { lits = lits; number = c.args.number; first = None; second = None })
+      threaded = add_long_step c.args.self.now.arena c.add.new.self c.swap.new.self c.swap-2.new.self c.set_link.new.self c.set_link-2.new.self c.args.self.now.heads.items c.args.self.now.visited c.in_ok-clause.clause c.args.first c.args.second c.index.result.now c.index-2.result.now (record { lits = lits; number = c.args.number; first = None; second = None })
           c.in_ok-clause.ensures.ok c.swap.ensures c.swap-2.ensures c.set_link.ensures c.set_link-2.ensures
-          c.args.self.now.pending c.index-one.result c.index-two.result c.args.self.now.threaded c.requires.settled c.requires.order y_in c.requires.apart g_is h_is
+          c.args.self.now.pending c.index-one.result c.index-two.result c.args.self.now.threaded c.requires.idle c.requires.order y_in c.requires.apart g_is h_is
           (omega (arith, g_is, c.requires.within c.args.first x_in)) (omega (arith, h_is, c.requires.within c.args.second y_in)) c.index.ensures c.index-2.ensures;
     }

@@ -9,9 +9,9 @@ set_link-requires-clause-live c = pending_live _ _ _ _ _ c.args.self.now.threade
 
 pub invariant_of-self : goal.invariant_of-self
 invariant_of-self c = record {
-  threaded = (keep_step c.args.self.now.arena c.set_link.new.self c.args.self.now.heads.items c.args.self.now.swept c.args.clause c.args.place c.args.self.now.pending c.link-next.result c.index-head.result.now c.args.self.now.threaded c.requires.next c.requires.place c.requires.watched c.requires.within c.link-next.ensures c.index-head.ensures c.set_link.ensures).0;
+  threaded = (keep_step c.args.self.now.arena c.set_link.new.self c.args.self.now.heads.items c.args.self.now.visited c.args.clause c.args.place c.args.self.now.pending c.link-next.result c.index-head.result.now c.args.self.now.threaded c.requires.next c.requires.place c.requires.watched c.requires.within c.link-next.ensures c.index-head.ensures c.set_link.ensures).0;
 }
 
 pub returns-clause-pending : goal.returns-clause-pending
 returns-clause-pending c =
-    (keep_step c.args.self.now.arena c.set_link.new.self c.args.self.now.heads.items c.args.self.now.swept c.args.clause c.args.place c.args.self.now.pending c.link-next.result c.index-head.result.now c.args.self.now.threaded c.requires.next c.requires.place c.requires.watched c.requires.within c.link-next.ensures c.index-head.ensures c.set_link.ensures).1
+    (keep_step c.args.self.now.arena c.set_link.new.self c.args.self.now.heads.items c.args.self.now.visited c.args.clause c.args.place c.args.self.now.pending c.link-next.result c.index-head.result.now c.args.self.now.threaded c.requires.next c.requires.place c.requires.watched c.requires.within c.link-next.ensures c.index-head.ensures c.set_link.ensures).1

@@ -1,0 +1,232 @@
+//! Decisions where no clause is false or unit, and the answers where there is none to make.
+
+ghost use Rattle.std.specs.Prelude.{◌≡◌, ◌≢◌, ℕ, ◌<◌, ◌≤◌, ◌^◌, None, Some, true, length, IfOk, IfSome, IfNone, OnOk, List};
+ghost use Rattle.ba_lits.specs.Literals.{Literal, lit_at};
+ghost use Rattle.ba_lits.specs.Hints.{has_literal};
+ghost use Rattle.ba_watch.specs.Trails.{value_of};
+ghost use Rattle.ba_watch.specs.Propagation.{IsComplete};
+ghost use Rattle.ba_steps.specs.States.{State as Checking};
+ghost use Rattle.ba_search.specs.Answers.{AreAssumptions, IsAnswer};
+ghost use Rattle.ba_search.specs.Values.{positive, is_true, values_of};
+ghost use Rattle.ba_search.specs.Iterations.{AreTrue, IsDecision, IsUnderway, iterations_left};
+
+use crate::engine::Engine;
+use crate::iteration::is_spent;
+use crate::search::Answer;
+use ba_items::Items;
+use ba_lits::{Lit, Model as Assignment};
+use ba_steps::Checker;
+use ba_watch::Watch;
+use std::alloc::{AllocError, Global};
+
+impl Engine {
+    /// What to do where no clause is false or unit: decide, or answer. None where the search isn't over.
+    ///
+    /// The one error is want of memory.
+    pub fn decide(
+        &mut self,
+        assumptions: &[Lit],
+        checker: &Checker,
+    ) -> Result<Option<Answer>, AllocError>
+        requires underway { IsUnderway assumptions.now self.old.watch self.old.numbers checker.now }
+        requires assumptions { AreAssumptions checker.now.variables assumptions.now }
+        requires settled { self.old.watch.settled ≡ true }
+        requires complete { IsComplete self.old.watch.clauses self.old.watch.trail }
+        ensures answer { IfOk result (λ found. IfSome found (IsAnswer checker.now assumptions.now)) }
+        ensures less { IfOk result (λ found.
+            IfNone found (iterations_left checker.now self.new.since self.new.watch < iterations_left
+            checker.now self.old.since self.old.watch)) }
+        ensures underway { OnOk result (IsUnderway assumptions.now self.new.watch self.new.numbers
+            checker.now) }
+        ensures numbers { self.new.numbers ≡ self.old.numbers }
+        ensures propagated { self.new.propagated ≡ self.old.propagated }
+    {
+        checker.keeps_facts();
+        if self.has_branched(assumptions) {
+            return self.branch(assumptions, checker);
+        }
+        match first_untrue(&self.watch, assumptions) {
+            Some(assumption) => self.assume(assumptions, checker, assumption),
+            None => {
+                self.first_branch = self.watch.trail().len();
+                self.branch(assumptions, checker)
+            }
+        }
+    }
+
+    /// Whether a literal that is no assumption was decided at the noted place. All assumptions are true then.
+    fn has_branched(&self, assumptions: &[Lit]) -> bool
+        ensures { result ≡ true → (checker : Checking)
+            → IsUnderway assumptions.now self.now.watch self.now.numbers checker
+            → AreTrue self.now.watch.trail assumptions.now }
+    {
+        let trail = self.watch.trail();
+        let reasons = self.watch.reasons();
+        let place = self.first_branch;
+        if place >= trail.len() || place >= reasons.len() {
+            return false;
+        }
+        reasons[place].is_none() && !is_among(trail[place], assumptions)
+    }
+
+    /// Decides a literal.
+    fn decide_literal(&mut self, lit: Lit)
+        requires settled { self.old.watch.settled ≡ true }
+        requires within { lit.variable ≤ self.old.watch.variables }
+        requires free { value_of self.old.watch.trail lit ≡ None }
+        ensures underway { (assumptions : List Literal) (checker : Checking)
+            → IsDecision checker.variables assumptions self.old.watch.trail lit
+            → IsUnderway assumptions self.old.watch self.old.numbers checker → IsUnderway assumptions self.new.watch self.new.numbers checker }
+        ensures less { (checker : Checking)
+            → iterations_left checker self.new.since self.new.watch < iterations_left checker self.old.since
+            self.old.watch }
+        ensures numbers { self.new.numbers ≡ self.old.numbers }
+        ensures propagated { self.new.propagated ≡ self.old.propagated }
+    {
+        self.watch.keeps_facts();
+        self.watch.decide(lit);
+        self.watch.keeps_facts();
+    }
+
+    /// Decides an assumption that has no value, or answers where it is false.
+    ///
+    /// The one error is want of memory.
+    fn assume(
+        &mut self,
+        assumptions: &[Lit],
+        checker: &Checker,
+        assumption: Lit,
+    ) -> Result<Option<Answer>, AllocError>
+        requires underway { IsUnderway assumptions.now self.old.watch self.old.numbers checker.now }
+        requires assumptions { AreAssumptions checker.now.variables assumptions.now }
+        requires settled { self.old.watch.settled ≡ true }
+        requires one { has_literal assumption assumptions.now ≡ true }
+        requires untrue { value_of self.old.watch.trail assumption ≢ Some true }
+        ensures answer { IfOk result (λ found. IfSome found (IsAnswer checker.now assumptions.now)) }
+        ensures less { IfOk result (λ found.
+            IfNone found (iterations_left checker.now self.new.since self.new.watch < iterations_left
+            checker.now self.old.since self.old.watch)) }
+        ensures underway { OnOk result (IsUnderway assumptions.now self.new.watch self.new.numbers
+            checker.now) }
+        ensures numbers { self.new.numbers ≡ self.old.numbers }
+        ensures propagated { self.new.propagated ≡ self.old.propagated }
+    {
+        self.watch.keeps_facts();
+        if self.watch.value(assumption).is_none() {
+            self.decide_literal(assumption);
+            return Ok(None);
+        }
+        if is_spent(checker) {
+            return Ok(Some(Answer::Spent));
+        }
+        let core = self.analyser.core_of(&self.watch, assumption)?;
+        Ok(Some(Answer::Core(core)))
+    }
+
+    /// Decides a variable that has no value, or answers where all have one.
+    ///
+    /// The one error is want of memory.
+    fn branch(
+        &mut self,
+        assumptions: &[Lit],
+        checker: &Checker,
+    ) -> Result<Option<Answer>, AllocError>
+        requires underway { IsUnderway assumptions.now self.old.watch self.old.numbers checker.now }
+        requires settled { self.old.watch.settled ≡ true }
+        requires complete { IsComplete self.old.watch.clauses self.old.watch.trail }
+        requires assumptions { AreAssumptions checker.now.variables assumptions.now }
+        requires true_ { AreTrue self.old.watch.trail assumptions.now }
+        ensures answer { IfOk result (λ found. IfSome found (IsAnswer checker.now assumptions.now)) }
+        ensures less { IfOk result (λ found.
+            IfNone found (iterations_left checker.now self.new.since self.new.watch < iterations_left
+            checker.now self.old.since self.old.watch)) }
+        ensures underway { OnOk result (IsUnderway assumptions.now self.new.watch self.new.numbers
+            checker.now) }
+        ensures numbers { self.new.numbers ≡ self.old.numbers }
+        ensures propagated { self.new.propagated ≡ self.old.propagated }
+    {
+        checker.keeps_facts();
+        let variables = checker.variables();
+        if let Some(variable) = self.order.pick(&self.watch, variables) {
+            let lit = literal(variable, self.order.phase(variable));
+            self.decide_literal(lit);
+            return Ok(None);
+        }
+        let model = model_of(self.alloc, &self.watch, variables)?;
+        Ok(Some(Answer::Model(model)))
+    }
+}
+
+/// The first assumption that isn't true.
+fn first_untrue(watch: &Watch, assumptions: &[Lit]) -> Option<Lit>
+    requires { (k : ℕ) → k < length assumptions.now
+        → (lit_at assumptions.now k).variable ≤ watch.now.variables }
+    ensures one { IfSome result (λ lit. has_literal lit assumptions.now ≡ true) }
+    ensures untrue { IfSome result (λ lit. value_of watch.now.trail lit ≢ Some true) }
+    ensures none { IfNone result (AreTrue watch.now.trail assumptions.now) }
+{
+    for lit in assumptions {
+        if !is_true(watch, *lit) {
+            return Some(*lit);
+        }
+    }
+    None
+}
+
+/// Whether a literal is among others.
+fn is_among(lit: Lit, lits: &[Lit]) -> bool
+    ensures { result ≡ has_literal lit lits.now }
+{
+    for other in lits {
+        if other.index() == lit.index() {
+            return true;
+        }
+    }
+    false
+}
+
+/// Whether a literal is true.
+fn is_true(watch: &Watch, lit: Lit) -> bool
+    requires { lit.variable ≤ watch.now.variables }
+    ensures { result ≡ is_true (value_of watch.now.trail lit) }
+{
+    watch.value(lit) == Some(true)
+}
+
+/// The literal of a variable that is true where the variable has a value.
+fn literal(variable: u64, value: bool) -> Lit
+    requires counted { 1 ≤ variable }
+    requires below { variable < 2 ^ 62 }
+    ensures variable { result.variable ≡ variable }
+    ensures free { (trail : List Literal) → value_of trail (positive variable) ≡ None
+        → value_of trail result ≡ None }
+{
+    let lit = Lit::positive(variable);
+    if value { lit } else { lit.negated() }
+}
+
+/// The values of the variables up to a number.
+///
+/// The one error is want of memory.
+fn model_of(alloc: Global, watch: &Watch, variables: u64) -> Result<Assignment, AllocError>
+    requires { variables ≤ watch.now.variables }
+    ensures { IfOk result (λ model. model.values ≡ values_of watch.now.trail variables) }
+{
+    let mut values = Vec::new(alloc);
+    for place in 0..variables {
+        values.push(is_positive(watch, place + 1))?;
+    }
+    Ok(Assignment {
+        values: Items::from_vec(values),
+    })
+}
+
+/// Whether a variable is true.
+fn is_positive(watch: &Watch, variable: u64) -> bool
+    requires counted { 1 ≤ variable }
+    requires within { variable ≤ watch.now.variables }
+    ensures { result ≡ is_true (value_of watch.now.trail (positive variable)) }
+{
+    let variables = watch.variables();
+    is_true(watch, Lit::positive(variable.min(variables)))
+}

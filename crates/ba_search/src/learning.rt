@@ -1,0 +1,114 @@
+//! Learning from a conflict, and the backjump.
+
+ghost use Rattle.std.specs.Prelude.{◌≡◌, ◌<◌, ◌≤◌, None, true, false, get_or, IfOk, IsSome, OnOk, Err};
+ghost use Rattle.ba_lits.specs.Literals.{IsClause};
+ghost use Rattle.ba_watch.specs.Trails.{value_of, decided};
+ghost use Rattle.ba_watch.specs.Propagation.{clause_in, lits_in, is_false};
+ghost use Rattle.ba_learn.specs.Levels.{IsBacked};
+ghost use Rattle.ba_learn.specs.Backjumps.{after_backtrack};
+ghost use Rattle.ba_steps.specs.Sinks.{Rose};
+ghost use Rattle.ba_steps.specs.declared.step.CertStep.TheVariants.{Learn};
+ghost use Rattle.ba_search.specs.Searching.{Leaves, nothing};
+ghost use Rattle.ba_search.specs.Iterations.{IsUnderway, LearnsOne, Puts, iterations_left};
+ghost use Rattle.ba_search.specs.declared.search.SearchError.{SearchError};
+
+use crate::engine::Engine;
+use crate::search::SearchError;
+use ba_arena::ClauseRef;
+use ba_items::Items;
+use ba_learn::Learnt;
+use ba_lits::Lit;
+use ba_steps::{CertStep, Checked, RunJudge, StepSink};
+use std::alloc::{AllocError, Global};
+
+impl Engine {
+    /// Learns a clause from one that is false, puts it as a step, and goes back to where it is unit.
+    pub fn learn<S: StepSink + Drop, J: RunJudge + Drop>(
+        &mut self,
+        assumptions: &[Lit],
+        checked: &mut Checked<S, J>,
+        conflict: ClauseRef,
+    ) -> Result<(), SearchError>
+        requires underway { IsUnderway assumptions.now self.old.watch self.old.numbers
+            checked.old.checker }
+        requires fresh { checked.old.refusal ≡ None }
+        requires live { IsSome (clause_in self.old.watch.clauses conflict) }
+        requires false_ { is_false (value_of self.old.watch.trail)
+            (lits_in self.old.watch.clauses conflict) ≡ true }
+        requires level { 1 ≤ decided self.old.watch.reasons }
+        requires left { checked.old.checker.conflicts < checked.old.checker.budget }
+        ensures less { OnOk result (iterations_left checked.new.checker self.new.since self.new.watch <
+            iterations_left checked.old.checker self.old.since self.old.watch) }
+        ensures underway { OnOk result (IsUnderway assumptions.now self.new.watch self.new.numbers
+            checked.new.checker) }
+        ensures variables { OnOk result (checked.new.checker.variables
+            ≡ checked.old.checker.variables) }
+        ensures puts { OnOk result (Puts (J.accepts checked.old.judge) nothing checked.old.checker
+            checked.new.checker self.old.numbers.learnt self.new.numbers.learnt
+            (S.logs checked.old.sink) (S.logs checked.new.sink)) }
+        ensures fresh { OnOk result (checked.new.refusal ≡ None) }
+        ensures cause { result ≡ Err SearchError.SinkFailed
+            → Rose (S.faults checked.old.sink) (S.faults checked.new.sink) }
+        ensures judge_stays { checked.new.judge ≡ checked.old.judge }
+        ensures over_stays { S.over checked.new.sink ≡ S.over checked.old.sink }
+        ensures no_fall { S.faults checked.old.sink ≤ S.faults checked.new.sink }
+        ensures same_references { S.references checked.new.sink ≡ S.references checked.old.sink }
+        ensures propagated { self.new.propagated ≡ self.old.propagated }
+        ensures leaves { Leaves (J.accepts checked.old.judge) nothing self.old.numbers.learnt
+            checked.old.checker (S.logs checked.old.sink) checked.new.checker
+            (S.logs checked.new.sink) }
+    {
+        self.watch.keeps_facts();
+        checked.checker().keeps_facts();
+        let learnt = self.analyser.analyse(&self.watch, conflict)?;
+        self.bump(learnt.lits.as_slice());
+        let step = step_of(self.alloc, &learnt)?;
+        checked.put(&step)?;
+        self.backjump(&learnt, checked.checker().last())?;
+        self.since = self.since.saturating_add(1);
+        Ok(())
+    }
+
+    /// Goes back to the level at which a learnt clause is unit, and adds the clause under its number.
+    ///
+    /// The one error is want of memory or of room.
+    fn backjump(&mut self, learnt: &Learnt, number: u64) -> Result<(), AllocError>
+        requires clause { IsClause self.old.watch.variables learnt.now.lits }
+        requires backed { IsBacked self.old.watch learnt.now.lits learnt.now.back }
+        requires fresh { get_or self.old.numbers.taken number false ≡ false }
+        ensures learns { OnOk result (LearnsOne (after_backtrack learnt.now.back self.old.watch)
+            self.new.watch self.old.numbers self.new.numbers number learnt.now.lits) }
+        ensures since { self.new.since ≡ self.old.since }
+        ensures propagated { self.new.propagated ≡ self.old.propagated }
+    {
+        self.watch.keeps_facts();
+        self.backtrack(learnt.back);
+        self.add(learnt.lits.as_slice(), number)?;
+        self.numbers.learn(number)
+    }
+
+    /// Raises the activities of the variables of a learnt clause, and of those above level 0 that were resolved for it.
+    fn bump(&mut self, lits: &[Lit])
+        ensures watch { self.new.watch ≡ self.old.watch }
+        ensures numbers { self.new.numbers ≡ self.old.numbers }
+        ensures since { self.new.since ≡ self.old.since }
+        ensures propagated { self.new.propagated ≡ self.old.propagated }
+    {
+        self.order.bump(lits);
+        self.order
+            .bump_at(self.watch.trail(), self.analyser.resolved());
+        self.order.decay();
+    }
+}
+
+/// The step that learns a clause.
+///
+/// The one error is want of memory.
+fn step_of(alloc: Global, learnt: &Learnt) -> Result<CertStep, AllocError>
+    ensures { IfOk result (λ step. step ≡ Learn learnt.now.lits learnt.now.hints) }
+{
+    Ok(CertStep::Learn {
+        lits: Items::from_slice(alloc, learnt.lits.as_slice())?,
+        hints: Items::from_slice(alloc, learnt.hints.as_slice())?,
+    })
+}
