@@ -12,7 +12,7 @@ use Rattle.ba_encode.specs.Readings.{choices_read}
 use Rattle.ba_encode.specs.Softs.{softs_of}
 use Rattle.ba_encode.specs.declared.encoded.Encoded.{Encoded}
 use Rattle.ba_encode.specs.declared.grouping.Grouping.TheVariants.{ByStatement}
-use Rattle.ba_formula.proofs.Members.{are-selectors, false-relaxable, given-up, is_in, set-given-up, weighs}
+use Rattle.ba_formula.proofs.Members.{are-selectors, false-relaxable, given-up, is_in, set-given-up, statements-are, weighs}
 use Rattle.ba_formula.proofs.Relaxing.{same-relaxes}
 use Rattle.ba_formula.specs.Formulas.{IsFormulaOf}
 use Rattle.ba_guards.specs.Contract.{Chosen, IsGood, IsGuarded}
@@ -137,4 +137,5 @@ module _ (p : Program) (input : Input) (b : Bounds) (weights : Weights) (fit : f
     runs = λ v satisfies. spelled-good (false_groups v (softs_of encoded.groups)) v
         (false-relaxable weights.of encoded.groups encodes.groups_are are_weights.in_range v) satisfies refl;
     some = λ fails v satisfies none. fails (none-false v satisfies none);
+    statements = statements-are weights.of encoded.groups encodes.groups_are;
   }

@@ -11,14 +11,16 @@ use Rattle.ba_encode.specs.Encodings.{AreGivenUp, without_selector}
 use Rattle.ba_encode.specs.Groups.{statements_from}
 use Rattle.ba_encode.specs.Softs.{softs_from, softs_of}
 use Rattle.ba_encode.specs.declared.encoded.Group.{Group}
+use Rattle.ba_encode.specs.declared.grouping.Numbered.{Numbered}
 use Rattle.ba_formula.proofs.Spreading.{first_or_later, here, later, spread}
 use Rattle.ba_lits.specs.Formulas.{Cnf}
 use Rattle.ba_lits.specs.Literals.{Literal}
 use Rattle.ba_lits.specs.Satisfaction.{Assignment, Soft, lit_true}
+use Rattle.ba_numbers.specs.declared.ids.StmtId.{StmtId}
 use Rattle.ba_steps.specs.Blocks as blocks
 use Rattle.ba_steps.specs.Facts.{AreDifferent, AreSelectors, Differs}
 use Rattle.ba_steps.specs.States.{present}
-use Rattle.ba_tree.specs.Least.{AreRelaxableAbove, IsRelaxableSet, WeightList, entry_of, weight_at}
+use Rattle.ba_tree.specs.Least.{AreRelaxableAbove, IsRelaxableSet, WeightList, entry_of, stmt_of, weight_at}
 use Rattle.ba_tree.specs.Weights.{is_weight}
 
 -- a number is one of a list
@@ -448,3 +450,26 @@ false-relaxable w gs is ok v =
     (given-up w gs is ok v)))
     (members-relaxable w 0 0 w (is_in (false_groups v (softs_of gs))) (omega arith) (λ i. ap (slice_get w)
     (let same : i ≡ 0 + i = omega arith in same)))
+
+-- THE STATEMENTS of groups are those of their numbers
+without-selectors : (f : Numbered → StmtId) (gs : List Group)
+    → map (λ (g : Group). f (without_selector g)) gs ≡ map f (map without_selector gs)
+without-selectors f [] = refl
+without-selectors f (g ∷ gs) = ap (λ ss. f (without_selector g) ∷ ss) (without-selectors f gs)
+
+abbrev own_statement : Numbered → StmtId
+own_statement n = n.statement
+
+abbrev numbered_statement : Numbered → StmtId
+numbered_statement n = stmt_of n.number
+
+same-statements : (k : ℕ) (w : WeightList)
+    → map own_statement (statements_from k w) ≡ map numbered_statement (statements_from k w)
+same-statements k [] = refl
+same-statements k (None ∷ w) = same-statements (k + 1) w
+same-statements k (Some x ∷ w) = ap (λ ss. stmt_of k ∷ ss) (same-statements (k + 1) w)
+
+pub statements-are : (w : WeightList) (gs : List Group) → map without_selector gs ≡ statements_from 1 w
+    → map (λ (g : Group). g.statement) gs ≡ map (λ (g : Group). stmt_of g.number) gs
+statements-are w gs is = without-selectors own_statement gs ∙ ap (map own_statement) is ∙ same-statements 1 w
+    ∙ ap (map numbered_statement) (sym is) ∙ sym (without-selectors numbered_statement gs)
