@@ -1,0 +1,208 @@
+//! Programs with failing runs, and the sets of statements that could repair these, as worked out by hand.
+
+use crate::programs::encoded_of;
+use crate::searching::has_model;
+use ba_encode::Encoded;
+use ba_lits::Lit;
+use ba_numbers::ids::StmtId;
+use std::alloc::{AllocError, Global};
+use std::process::Abort;
+use std::test::Fail;
+use test_programs::examples::{GLOBAL, P1, P2, P3, STORE, TWO};
+
+/// A parameter and an assert.
+const ASSERT: &str = "1 i  0  0  1  1 0  0  1 assert 1 == v 0 2  1 !";
+
+/// A variable that gets the input, and an assert.
+const FIVE_LINES: &str = "2 i i  0  0  1  1 0  1 1  3 decl 1 = 1 1 v 0 assert 2 == v 1 2  2 = !";
+
+/// The same with a `short`.
+const SHORT: &str = "2 i s  0  0  1  1 0  1 1  3 decl 1 = 1 1 s v 0 assert 2 == i v 1 v 0  2 = !";
+
+/// A program, an input, the bound on turns, weights, the groups of the formula as statements with their weights, and the repairs: a set of
+/// statements could repair the run exactly where one of these is among it.
+#[derive(Clone, Copy)]
+struct Row {
+    program: &'static str,
+    input: &'static str,
+    turns: u32,
+    weights: &'static str,
+    groups: &'static [(u32, u32)],
+    repairs: &'static [&'static [u32]],
+}
+
+/// Programs with failing runs.
+static ROWS: [Row; 11] = [
+    Row {
+        program: ASSERT,
+        input: "1",
+        turns: 1,
+        weights: "",
+        groups: &[],
+        repairs: &[],
+    },
+    Row {
+        program: FIVE_LINES,
+        input: "1",
+        turns: 1,
+        weights: "",
+        groups: &[(1, 1)],
+        repairs: &[&[1]],
+    },
+    // No `short` equals 40000.
+    Row {
+        program: SHORT,
+        input: "40000",
+        turns: 1,
+        weights: "",
+        groups: &[(1, 1)],
+        repairs: &[],
+    },
+    // The assignment in the other branch doesn't take place, and the assert fails before the `return`.
+    Row {
+        program: P1,
+        input: "1",
+        turns: 1,
+        weights: "3 3",
+        groups: &[(1, 1), (2, 1), (3, 3), (4, 1), (6, 1)],
+        repairs: &[&[1], &[3], &[4]],
+    },
+    Row {
+        program: P1,
+        input: "1",
+        turns: 1,
+        weights: "1 fixed\n4 fixed",
+        groups: &[(2, 1), (3, 1), (6, 1)],
+        repairs: &[&[3]],
+    },
+    Row {
+        program: P2,
+        input: "4",
+        turns: 1,
+        weights: "",
+        groups: &[(1, 1), (2, 1), (4, 1)],
+        repairs: &[&[1], &[2]],
+    },
+    // Within three turns steps alone come to 1 + 2 + 2, and with another start to 2 + 2 + 2.
+    Row {
+        program: P3,
+        input: "3",
+        turns: 3,
+        weights: "7 fixed",
+        groups: &[(1, 1), (2, 1), (3, 1), (4, 1), (5, 1)],
+        repairs: &[&[1], &[3], &[5], &[2, 4]],
+    },
+    // Within four turns steps alone come to 1 + 2 + 2 + 1.
+    Row {
+        program: P3,
+        input: "3",
+        turns: 4,
+        weights: "7 fixed",
+        groups: &[(1, 1), (2, 1), (3, 1), (4, 1), (5, 1)],
+        repairs: &[&[1], &[3], &[4], &[5]],
+    },
+    Row {
+        program: STORE,
+        input: "2",
+        turns: 1,
+        weights: "",
+        groups: &[(1, 1), (3, 1)],
+        repairs: &[&[1]],
+    },
+    // Where another value is taken, the call that sets the global isn't made.
+    Row {
+        program: GLOBAL,
+        input: "",
+        turns: 1,
+        weights: "",
+        groups: &[(1, 1), (2, 1), (3, 1), (5, 1)],
+        repairs: &[&[1], &[3]],
+    },
+    Row {
+        program: TWO,
+        input: "",
+        turns: 1,
+        weights: "5 1000",
+        groups: &[(1, 1), (2, 1), (5, 1000)],
+        repairs: &[&[1, 2]],
+    },
+];
+
+/// The groups of a formula as statements with their weights. None where a group is not that of the statement of its number.
+fn groups_of(alloc: Global, encoded: &Encoded) -> Result<Option<Vec<(u32, u32)>>, AllocError> {
+    let mut groups = Vec::new(alloc);
+    for group in 0..encoded.groups() {
+        let number = encoded.number(group);
+        if encoded.statement(group) != StmtId(number) {
+            return Ok(None);
+        }
+        groups.push((number, encoded.weight(group)))?;
+    }
+    Ok(Some(groups))
+}
+
+/// The statements of the groups whose bits are set in a number.
+fn set_of(alloc: Global, groups: &[(u32, u32)], bits: u32) -> Result<Vec<u32>, AllocError> {
+    let mut set = Vec::new(alloc);
+    let mut rest = bits;
+    for (number, _) in groups {
+        if rest % 2 == 1 {
+            set.push(*number)?;
+        }
+        rest /= 2;
+    }
+    Ok(set)
+}
+
+/// The literals that say that exactly the selectors of a set of groups are false.
+fn exactly(alloc: Global, encoded: &Encoded, set: &[u32]) -> Result<Vec<Lit>, AllocError> {
+    let mut lits = Vec::new(alloc);
+    for group in 0..encoded.groups() {
+        let selector = encoded.selector(group);
+        if set.contains(&encoded.number(group)) {
+            lits.push(selector.negated())?;
+        } else {
+            lits.push(selector)?;
+        }
+    }
+    Ok(lits)
+}
+
+/// Whether one of these repairs is among a set.
+fn repairs(repairs: &[&[u32]], set: &[u32]) -> bool {
+    repairs
+        .iter()
+        .any(|repair| repair.iter().all(|number| set.contains(number)))
+}
+
+/// Tries all sets of groups of a row's formula.
+fn check(rt: &impl Abort, alloc: Global, row: &Row) -> Result<(), Fail> {
+    let encoded = encoded_of(alloc, row.program, row.input, row.turns, row.weights)?;
+    let groups = groups_of(alloc, &encoded)?.ok_or("a group of another statement")?;
+    assert!(rt;
+        groups.as_slice() == row.groups,
+        "the groups of {}",
+        row.program
+    );
+    assert!(rt; groups.len() <= 5);
+    for bits in 0..1u32 << groups.len() {
+        let set = set_of(alloc, groups.as_slice(), bits)?;
+        let lits = exactly(alloc, &encoded, set.as_slice())?;
+        let found = has_model(rt, alloc, encoded.formula(), lits.as_slice())?;
+        assert_eq!(rt;
+            found,
+            repairs(row.repairs, set.as_slice()),
+            "set {bits} of {}",
+            row.program
+        );
+    }
+    Ok(())
+}
+
+#[test]
+fn exactly_the_sets_that_could_repair_have_models(rt: HostRuntime) -> Result<(), Fail> {
+    for row in &ROWS {
+        check(&rt, rt.alloc(), row)?;
+    }
+    Ok(())
+}

@@ -1,0 +1,45 @@
+//! Models of a formula, sought under assumptions.
+
+ghost use Rattle.std.specs.Prelude.{◌≡◌, true};
+ghost use Rattle.ba_search.specs.Answers.{AreAssumptions};
+
+use ba_lits::{Formula, Lit, is_clause};
+use ba_search::{Answer, Search};
+use ba_steps::{Checked, Checker, NoSink};
+use std::alloc::Global;
+use std::process::Abort;
+use std::test::Fail;
+use test_formulas::NoRuns;
+
+/// How many conflicts a search may have.
+const CONFLICTS: u64 = 100_000;
+
+/// Whether literals of ascending variables are assumptions over so many variables.
+fn are_assumptions(variables: u64, lits: &[Lit]) -> bool
+    ensures { result ≡ true → AreAssumptions variables lits.now }
+{
+    is_clause(variables, lits)
+}
+
+/// Whether a formula has a model that satisfies these literals of ascending variables.
+pub fn has_model(
+    rt: &impl Abort,
+    alloc: Global,
+    formula: &Formula,
+    assumptions: &[Lit],
+) -> Result<bool, Fail> {
+    let checker = Checker::new(alloc, formula, &[], CONFLICTS, 0)?;
+    let mut checked = Checked::new(checker, NoRuns, NoSink);
+    let mut search = Search::new(
+        alloc,
+        formula,
+        |_: u64| 100,
+        |width: u64, _: u64| width <= 6,
+    )?;
+    assert!(rt; are_assumptions(checked.checker().variables(), assumptions));
+    match search.solve(assumptions, &mut checked)? {
+        Answer::Model(_) => Ok(true),
+        Answer::Core(_) => Ok(false),
+        Answer::Spent => panic!(rt; "the conflicts are spent"),
+    }
+}
