@@ -1,0 +1,4 @@
+int main(int a) {
+    if (a != 1)
+        assert(0);
+}
