@@ -15,8 +15,8 @@ fn numbers_stand_in_decimal_digits(rt: HostRuntime) -> Result<(), Fail> {
         push_value(value, &mut text)?;
         text.push(b' ')?;
     }
-    let expected = b"0 10 18446744073709551615 0 -1 -9223372036854775808 ";
-    assert_eq!(rt; text.as_slice(), expected);
+    let expected = "0 10 18446744073709551615 0 -1 -9223372036854775808 ";
+    assert_eq!(rt; text.as_slice(), expected.as_bytes());
     Ok(())
 }
 
@@ -25,6 +25,6 @@ fn each_choice_stands_behind_a_space(rt: HostRuntime) -> Result<(), Fail> {
     let run = run_of(rt.alloc(), &[&[KEEP], &[-2, 3], &[]])?;
     let mut text = Vec::new(rt.alloc());
     push_choices(run.as_slice(), &mut text)?;
-    assert_eq!(rt; text.as_slice(), b" k t -2 3 t");
+    assert_eq!(rt; text.as_slice(), " k t -2 3 t".as_bytes());
     Ok(())
 }
