@@ -9,7 +9,7 @@ use Rattle.ba_bits.proofs.Elements.{numbers-extends, values-extends}
 use Rattle.ba_bits.proofs.Laws.{AreSame, entry-same}
 use Rattle.ba_bits.proofs.Spelled.{elements-words, names-below, of_name}
 use Rattle.ba_bits.proofs.Spelling.{low-agree}
-use Rattle.ba_bits.specs.Bits.{AgreeBelow, AreEntries, AreEntriesOf, CanTake, IsTaken, SpellEntry, TakingAll, elements_in, is_needed, numbers_in, value_in, values_in, word_at, words_at}
+use Rattle.ba_bits.specs.Bits.{AgreeBelow, AreEntries, AreEntriesOf, AreOthersZero, CanTake, IsTaken, SpellEntry, SpellZero, TakingAll, elements_in, is_needed, numbers_in, value_in, values_in, word_at, words_at}
 use Rattle.ba_bits.specs.Needs.{names_of}
 use Rattle.ba_cells.specs.Cells.{AreCellsOf, cell_at}
 use Rattle.ba_cells.proofs.Trees.{cells-extends}
@@ -279,3 +279,26 @@ entries-none nodes needed = record {
     takes = λ w op found need. absurd (cc);
   };
 }
+
+-- ENTRIES THAT AREN'T NEEDED
+
+others-push : (here : ℕ → Bool) (entries : List (List (List Bit))) (words : List (List Bit))
+    → ((w : ℕ) → here w ≡ false → SpellZero (words_at entries w))
+    → (here (length entries) ≡ false → SpellZero words)
+    → (w : ℕ) → here w ≡ false → SpellZero (words_at (entries ++ words ∷ []) w)
+others-push here [] words so own zero not = own not
+others-push here [] words so own (suc w) not = λ nodes free. refl
+others-push here (first ∷ entries) words so own zero not = so zero not
+others-push here (first ∷ entries) words so own (suc w) not =
+    others-push (λ k. here (suc k)) entries words (λ k. so (suc k)) own w not
+
+pub others-step : (old nodes : List Node) (ops : List WordOp) (i : ℕ) (needed : List Bool)
+    (entries : List (List (List Bit))) (words : List (List Bit)) → i < length ops
+    → AreEntries old (take i ops) needed nodes entries → AreOthersZero needed entries
+    → (is_needed needed i ≡ false → SpellZero words) → AreOthersZero needed (entries ++ words ∷ [])
+others-step old nodes ops i needed entries words within are so own =
+    let many : length entries ≡ i =
+    sym (length-map entries length) ∙ ap length are.lengths ∙ length-lengths (take i ops)
+    ∙ length-take-le i ops (omega (arith, within)) in
+    others-push (is_needed needed) entries words so
+    (subst (λ k. is_needed needed k ≡ false → SpellZero words) (sym many) own)

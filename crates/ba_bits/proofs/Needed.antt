@@ -1,11 +1,11 @@
 -- Marks of entries.
-use Rattle.std.proofs.Common.{rules, ◌≡◌, ℕ, zero, suc, ◌+◌, ◌-◌, ◌<◌, ◌≤◌, Bool, true, false, cond, List, [], ◌∷◌, length, get_or, set, drop, take, ◌++◌, Some, slice_get, refl, sym, ◌∙◌, ap, subst, arith, inl, inr}
-use Rattle.std.proofs.lemmas.Bool.{and_from, and_parts, cases_eq}
-use Rattle.std.proofs.lemmas.List.{get_or-set_other, get_or-set_same, get_or_read, length-set, take_at}
-use Rattle.std.proofs.lemmas.Option.{get_or_from_slice_get, slice_get_within}
+use Rattle.std.proofs.Common.{rules, ◌≡◌, ℕ, zero, suc, ◌+◌, ◌-◌, ◌<◌, ◌≤◌, Bool, true, false, cond, List, [], ◌∷◌, length, get_or, set, drop, take, ◌++◌, Some, slice_get, replicate, refl, sym, ◌∙◌, ap, subst, arith, inl, inr}
+use Rattle.std.proofs.lemmas.Bool.{and_from, and_parts, cases_eq, cases_lt}
+use Rattle.std.proofs.lemmas.List.{get_or-replicate, get_or-set_other, get_or-set_same, get_or_past, get_or_read, length-replicate, length-set, take_at}
+use Rattle.std.proofs.lemmas.Option.{get_or_from_slice_get, slice_get-get_or, slice_get_within}
 use Rattle.ba_bits.proofs.Spelled.{names-below, of_name}
 use Rattle.ba_bits.specs.Bits.{is_needed}
-use Rattle.ba_bits.specs.Needs.{are_needed, marked, names_of}
+use Rattle.ba_bits.specs.Needs.{AreClosed, AreFewest, are_needed, marked, names_of}
 use Rattle.ba_wordlist.specs.Facts.{are_names, are_words, is_name}
 use Rattle.ba_wordlist.specs.declared.words.WordOp.{WordOp}
 use Rattle.ba_wordlist.specs.declared.words.WordOp.TheVariants.{Free}
@@ -49,6 +49,24 @@ marked-marks needed (w ∷ ws) h =
     (get_or-set_same needed w true false (of_name (length needed) w both.0)))
     (marked-marks (set needed w true) ws (subst (λ n. are_names n ws ≡ true) (sym long) both.1))
 
+set-within : (needed marks : List Bool) (w k : ℕ) → is_needed marks w ≡ true
+    → (is_needed needed k ≡ true → is_needed marks k ≡ true) → is_needed (set needed w true) k ≡ true
+    → is_needed marks k ≡ true
+set-within needed marks w k has within need = elim (cases_eq k w) [
+  | inl e ↦ subst (λ n. is_needed marks n ≡ true) (sym e) has
+  | inr other ↦ within (sym (get_or-set_other needed w k true false other) ∙ need)
+]
+
+-- what is marked of them was marked, or is one of the entries
+pub marked-within : (needed marks : List Bool) (ws : List ℕ) → are_needed marks ws ≡ true
+    → ((k : ℕ) → is_needed needed k ≡ true → is_needed marks k ≡ true)
+    → (k : ℕ) → is_needed (marked needed ws) k ≡ true → is_needed marks k ≡ true
+marked-within needed marks [] has within k need = within k need
+marked-within needed marks (w ∷ ws) has within k need =
+    let both = and_parts (is_needed marks w) (are_needed marks ws) has in
+    marked-within (set needed w true) marks ws both.1
+    (λ n mark. set-within needed marks w n both.0 (within n) mark) k need
+
 -- and no others
 pub marked-others : (needed : List Bool) (ws : List ℕ) (n k : ℕ) → are_names n ws ≡ true → n ≤ k
     → is_needed (marked needed ws) k ≡ is_needed needed k
@@ -74,14 +92,42 @@ pub record AreMarked (ops : List WordOp) (roots : List ℕ) (n : ℕ) (needed : 
   pub of_roots : are_needed needed roots ≡ true
   pub closed : (w : ℕ) (op : WordOp) → n ≤ w → slice_get ops w ≡ Some op → is_needed needed w ≡ true
       → are_needed needed (names_of op) ≡ true
+  pub fewest : AreFewest ops roots needed
+
+-- nothing is marked
+abbrev pub IsUnmarked : List Bool → Type 0
+IsUnmarked needed = (k : ℕ) → is_needed needed k ≡ false
+
+replicate-unmarked : (n : ℕ) → IsUnmarked (replicate n false)
+replicate-unmarked n k = elim (cases_lt k n) [
+  | inl below ↦ get_or-replicate n k false false below
+  | inr past ↦ get_or_past (replicate n false) k false (omega (arith, past, length-replicate n false))
+]
+
+take-none : (n : ℕ) (marks : List Bool) → take n [] ++ marks ≡ marks
+take-none zero marks = refl
+take-none (suc n) marks = refl
+
+-- no mark is set in a vector that was empty and was filled up
+pub filled-unmarked : (n len : ℕ) (before : List Bool) → before ≡ [] → len ≡ 0
+    → IsUnmarked (take n before ++ replicate (n - len) false)
+filled-unmarked n len before none empty =
+    let left : n - len ≡ n = omega (arith, empty) in
+    subst IsUnmarked
+    (sym (ap (λ marks. take n marks ++ replicate (n - len) false) none
+    ∙ take-none n (replicate (n - len) false)
+    ∙ ap (λ m. replicate m false) left))
+    (replicate-unmarked n)
 
 pub marked-roots : (ops : List WordOp) (roots : List ℕ) (n : ℕ) (needed : List Bool) → length ops ≤ n
-    → length needed ≡ length ops → are_names (length ops) roots ≡ true
+    → length needed ≡ length ops → are_names (length ops) roots ≡ true → IsUnmarked needed
     → AreMarked ops roots n (marked needed roots)
-marked-roots ops roots n needed all long names = record {
+marked-roots ops roots n needed all long names none = record {
   long = length-marked needed roots ∙ long;
   of_roots = marked-marks needed roots (subst (λ k. are_names k roots ≡ true) (sym long) names);
   closed = λ w op le found need. absurd (omega (arith, all, le, slice_get_within ops w op found));
+  fewest = λ marks has closed. marked-within needed marks roots has
+      (λ k need. absurd (cc (none k, need)));
 }
 
 module _ (ops : List WordOp) (fit : are_words ops ≡ true) (roots : List ℕ) (n : ℕ) (below : n < length ops)
@@ -107,6 +153,10 @@ module _ (ops : List WordOp) (fit : are_words ops ≡ true) (roots : List ℕ) (
                 (has.closed w own (omega (arith, le, other)) found
                 (sym (marked-others needed (names_of (get_or ops n Free)) n w names le) ∙ need))
           ];
+          fewest = λ marks of_roots closed. marked-within needed marks (names_of (get_or ops n Free))
+              (closed n (get_or ops n Free) (slice_get-get_or ops n Free below)
+              (has.fewest marks of_roots closed n here))
+              (has.fewest marks of_roots closed);
         }
 
     unmarked-next : (needed : List Bool) → AreMarked ops roots (n + 1) needed → is_needed needed n ≡ false
@@ -120,6 +170,7 @@ module _ (ops : List WordOp) (fit : are_words ops ≡ true) (roots : List ℕ) (
             absurd (cc)
         | inr other ↦ has.closed w own (omega (arith, le, other)) found need
       ];
+      fewest = has.fewest;
     }
 
     pub marks-next : (needed : List Bool) (b : Bool) → AreMarked ops roots (n + 1) needed
@@ -132,10 +183,10 @@ module _ (ops : List WordOp) (fit : are_words ops ≡ true) (roots : List ℕ) (
 
 pub marked-first : (ops : List WordOp) (roots : List ℕ) (len : ℕ) (marks before items : List Bool)
     → marks ≡ marked before roots → length before ≡ len → len ≡ length ops
-    → are_names (length ops) roots ≡ true
+    → are_names (length ops) roots ≡ true → IsUnmarked before
     → AreMarked ops roots (length ops - 0) (take len (marks ++ drop (length marks) items))
-marked-first ops roots len marks before items is long many names =
-    let now = marked-roots ops roots (length ops - 0) before (omega arith) (long ∙ many) names in
+marked-first ops roots len marks before items is long many names none =
+    let now = marked-roots ops roots (length ops - 0) before (omega arith) (long ∙ many) names none in
     let back = take_at marks (drop (length marks) items) len (ap length is ∙ length-marked before roots
     ∙ long) in
     subst (AreMarked ops roots (length ops - 0)) (sym (back ∙ is)) now

@@ -1,6 +1,6 @@
 -- What the bits of the entries of a word list are.
 
-use Rattle.std.specs.Prelude.{◌≡◌, ℕ, ◌<◌, ℤ, pos, Bool, true, false, List, [], map, length, Some, slice_get, slice_index_or}
+use Rattle.std.specs.Prelude.{◌≡◌, ℕ, ◌<◌, ℤ, pos, Bool, true, false, List, [], map, length, replicate, Some, slice_get, slice_index_or}
 use Rattle.ba_cells.specs.Cells.{AreCellsOf, cell_at}
 use Rattle.ba_nodes.specs.declared.Bit.{Bit}
 use Rattle.ba_nodes.specs.declared.Node.{Node}
@@ -83,6 +83,15 @@ CanTake old op new words = (start : ℕ → Bool) (z : ℤ) → Taking old op ne
 -- an entry is needed
 abbrev pub is_needed : List Bool → ℕ → Bool
 is_needed needed w = slice_index_or needed w false
+
+-- words spell 0, whatever the nodes are and the free bits have
+abbrev pub SpellZero : List (List Bit) → Type 0
+SpellZero words = (nodes : List Node) (free : ℕ → Bool)
+    → numbers_in free nodes words ≡ replicate (length words) 0
+
+-- the words of each entry that isn't needed spell 0
+abbrev pub AreOthersZero : List Bool → List (List (List Bit)) → Type 0
+AreOthersZero needed entries = (w : ℕ) → is_needed needed w ≡ false → SpellZero (words_at entries w)
 
 -- each needed free word and flag has the bits of its number
 abbrev pub AreTaken : (ℕ → Bool) → List Node → List WordOp → List Bool → Assignment → List (List (List Bit))

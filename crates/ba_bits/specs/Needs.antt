@@ -29,3 +29,9 @@ marked needed (w ∷ ws) = marked (slice_set needed w true) ws
 abbrev pub AreClosed : List WordOp → List Bool → Type 0
 AreClosed ops needed = (w : ℕ) (op : WordOp) → slice_get ops w ≡ Some op → is_needed needed w ≡ true
     → are_needed needed (names_of op) ≡ true
+
+-- no entry is needed that could be left out: all marks have it that have the roots and what each marked entry
+-- names
+abbrev pub AreFewest : List WordOp → List ℕ → List Bool → Type 0
+AreFewest ops roots needed = (marks : List Bool) → are_needed marks roots ≡ true → AreClosed ops marks
+    → (w : ℕ) → is_needed needed w ≡ true → is_needed marks w ≡ true

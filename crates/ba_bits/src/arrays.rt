@@ -1,7 +1,7 @@
 //! Arrays of words.
 
 ghost use Rattle.std.specs.Prelude.{◌≡◌, ℕ, ◌<◌, ◌≤◌, Bool, true, List, length, replicate, slice_set, cond, IfOk};
-ghost use Rattle.ba_bits.specs.Bits.{AreEntriesOf, HasLowBits, HaveLowBits, firsts_in, numbers_in, value_in, values_in};
+ghost use Rattle.ba_bits.specs.Bits.{AreEntriesOf, HasLowBits, HaveLowBits, SpellZero, firsts_in, numbers_in, value_in, values_in};
 ghost use Rattle.ba_cells.specs.Cells.{AreCellsOf};
 ghost use Rattle.ba_nodes.specs.Gates.{Extends, IsBitOf, truth};
 ghost use Rattle.ba_nodes.specs.declared.Node.{Node};
@@ -26,6 +26,7 @@ pub(crate) fn zeros(alloc: Global, count: usize) -> Result<Cells, AllocError>
     ensures length { IfOk result (λ cells. length cells ≡ count) }
     ensures numbers { IfOk result (λ cells. (nodes : List Node) (free : ℕ → Bool)
         → numbers_in free nodes cells ≡ replicate count 0) }
+    ensures zeros { IfOk result SpellZero }
 {
     let mut words = Vec::new(alloc);
     words.resize(count, constant_word(0))?;

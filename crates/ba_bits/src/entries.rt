@@ -1,7 +1,7 @@
 //! The bits of all entries of a word list.
 
-ghost use Rattle.std.specs.Prelude.{◌≡◌, ◌<◌, ◌≤◌, true, map, length, IfOk};
-ghost use Rattle.ba_bits.specs.Bits.{AreEntries, AreEntriesOf, CanTake, SpellEntry, word_at, words_at};
+ghost use Rattle.std.specs.Prelude.{◌≡◌, ◌<◌, ◌≤◌, true, false, map, length, IfOk};
+ghost use Rattle.ba_bits.specs.Bits.{AreEntries, AreEntriesOf, AreOthersZero, CanTake, SpellEntry, SpellZero, word_at, words_at};
 ghost use Rattle.ba_cells.specs.Cells.{AreCellsOf};
 ghost use Rattle.ba_nodes.specs.Gates.{Extends};
 ghost use Rattle.ba_wordlist.specs.Facts.{are_words, fits_behind, is_name, length_of};
@@ -28,6 +28,7 @@ pub fn bits_of(
     requires marks { length needed.now ≡ length words.now }
     ensures entries { IfOk result (λ entries.
         AreEntries nodes.old words.now needed.now nodes.new entries.items) }
+    ensures zeros { IfOk result (λ entries. AreOthersZero needed.now entries.items) }
     ensures extends { Extends nodes.old nodes.new }
 {
     let mut entries = Vec::new(alloc);
@@ -55,6 +56,7 @@ fn next_entry(
     ensures spell { IfOk result (λ cells. needed ≡ true
         → SpellEntry nodes.old entries.now op.now nodes.new cells) }
     ensures take { IfOk result (λ cells. needed ≡ true → CanTake nodes.old op.now nodes.new cells) }
+    ensures zeros { IfOk result (λ cells. needed ≡ false → SpellZero cells) }
     ensures extends { Extends nodes.old nodes.new }
 {
     if needed {

@@ -2,7 +2,7 @@
 
 ghost use Rattle.std.specs.Prelude.{◌≡◌, ◌<◌, true, length, cond, IfOk};
 ghost use Rattle.ba_bits.specs.Bits.{is_needed};
-ghost use Rattle.ba_bits.specs.Needs.{AreClosed, are_needed, marked, names_of};
+ghost use Rattle.ba_bits.specs.Needs.{AreClosed, AreFewest, are_needed, marked, names_of};
 ghost use Rattle.ba_wordlist.specs.Facts.{are_names, are_words};
 
 use ba_wordlist::words::WordOp;
@@ -21,6 +21,7 @@ pub fn needed_entries(
     ensures many { IfOk result (λ needed. length needed.items ≡ length words.now) }
     ensures roots { IfOk result (λ needed. are_needed needed.items roots.now ≡ true) }
     ensures closed { IfOk result (λ needed. AreClosed words.now needed.items) }
+    ensures fewest { IfOk result (λ needed. AreFewest words.now roots.now needed.items) }
 {
     let mut needed = Vec::new(alloc);
     needed.resize(words.len(), false)?;

@@ -1,4 +1,5 @@
-use Rattle.std.proofs.Common.{◌≡◌, replicate, subst, sym, ap, ◌∙◌}
+use Rattle.std.proofs.Common.{◌≡◌, length, replicate, subst, sym, ap, ◌∙◌}
+use Rattle.std.proofs.lemmas.List.{length-replicate}
 use Rattle.ba_bits.proofs.Elements.{all-equal, cells-replicate, numbers-replicate}
 use Rattle.ba_bits.specs.Bits.{numbers_in}
 use Rattle.ba_cells.specs.Cells.{AreCellsOf}
@@ -17,3 +18,9 @@ pub returns-clause-numbers : goal.returns-clause-numbers
 returns-clause-numbers c nodes free = ap (numbers_in free nodes) (equal-words c)
     ∙ numbers-replicate free nodes c.args.count c.constant_word.result 0
     ((c.constant_word.ensures nodes).holds free)
+
+pub returns-clause-zeros : goal.returns-clause-zeros
+returns-clause-zeros c nodes free =
+    returns-clause-numbers c nodes free
+    ∙ ap (λ n. replicate n 0)
+    (sym (ap length (equal-words c) ∙ length-replicate c.args.count c.constant_word.result))

@@ -1,6 +1,6 @@
-use Rattle.std.proofs.Common.{[], ◌+◌, take, subst, sym}
-use Rattle.ba_bits.proofs.Growing.{entries-none, entries-step, fits-step}
-use Rattle.ba_bits.specs.Bits.{AreEntries}
+use Rattle.std.proofs.Common.{[], ◌+◌, take, refl, subst, sym}
+use Rattle.ba_bits.proofs.Growing.{entries-none, entries-step, fits-step, others-step}
+use Rattle.ba_bits.specs.Bits.{AreEntries, AreOthersZero}
 use Rattle.ba_nodes.proofs.Truths.{Extends-through, Extends_refl}
 use Rattle.ba_bits.proofs.entries.bits_of.Goals as goal
 
@@ -9,6 +9,8 @@ loop-i-init c = record {
   extends = Extends_refl c.args.nodes.now;
   are_entries = subst (λ entries. AreEntries c.args.nodes.now [] c.args.needed.now c.args.nodes.now entries)
       (sym c.new-entries.ensures.items) (entries-none c.args.nodes.now c.args.needed.now);
+  zeros = subst (AreOthersZero c.args.needed.now) (sym c.new-entries.ensures.items)
+      (λ w not nodes free. refl);
 }
 
 pub next_entry-requires-clause-fits : goal.next_entry-requires-clause-fits
@@ -40,4 +42,8 @@ loop-i-preserved c = record {
         spell = c.in_ok-cells.ensures.spell;
         can = c.in_ok-cells.ensures.take;
       });
+  zeros = subst (AreOthersZero c.args.needed.now) (sym c.in_ok-push.ensures.items)
+      (others-step c.args.nodes.now c.loop-i.nodes c.args.words.now c.loop-i.i c.args.needed.now
+      c.loop-i.entries.items c.in_ok-cells.cells c.loop-i-test.true c.loop-i.invariant.are_entries
+      c.loop-i.invariant.zeros c.in_ok-cells.ensures.zeros);
 }

@@ -1,5 +1,5 @@
-use Rattle.std.proofs.Common.{length, ap, ◌∙◌}
-use Rattle.ba_bits.proofs.Needed.{marked-first, marked-further, names-fit}
+use Rattle.std.proofs.Common.{length, ap, subst, sym, ◌∙◌}
+use Rattle.ba_bits.proofs.Needed.{IsUnmarked, filled-unmarked, marked-first, marked-further, names-fit}
 use Rattle.ba_bits.proofs.needs.needed_entries.Goals as goal
 
 pub loop-i-init : goal.loop-i-init
@@ -7,7 +7,12 @@ loop-i-init c =
     marked-first c.args.words.now c.args.roots.now c.resize.new.self.len c.mark_all.new.needed
     c.as_mut_slice.result.now
     c.resize.new.self.items c.mark_all.ensures c.as_mut_slice.ensures.len c.in_ok-resize.ensures.len
-    c.requires.roots
+    c.requires.roots unmarked
+  where
+    unmarked : IsUnmarked c.as_mut_slice.result.now
+    unmarked = subst IsUnmarked (sym (c.as_mut_slice.ensures.value ∙ c.in_ok-resize.ensures.items))
+        (filled-unmarked (length c.args.words.now) c.new-needed.result.len c.new-needed.result.items
+        c.new-needed.ensures.items c.new-needed.ensures.len)
 
 pub mark_from-requires-clause-names : goal.mark_from-requires-clause-names
 mark_from-requires-clause-names c =
@@ -24,3 +29,6 @@ loop-i-preserved c =
     c.loop-i.needed.items
     c.as_mut_slice-in-loop-i.ensures.value c.as_mut_slice-in-loop-i.ensures.len c.mark_from.ensures
     c.loop-i.invariant
+
+pub returns-clause-fewest : goal.returns-clause-fewest
+returns-clause-fewest c = c.loop-i.invariant.fewest
