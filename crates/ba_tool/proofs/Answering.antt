@@ -1,6 +1,6 @@
 -- Which row of the table of answers holds.
 
-use Rattle.std.proofs.Common.{◌≡◌, ◌∙◌, ℕ, ℤ, ◌+◌, ◌<◌, ◌≤◌, min, true, List, Some, ap, refl, sym, subst, arith, Option, None}
+use Rattle.std.proofs.Common.{◌≡◌, ◌∙◌, ℕ, ℤ, ◌+◌, ◌<◌, ◌≤◌, min, true, List, length, Some, ap, refl, sym, subst, arith, Option, None}
 use Rattle.ba_commands.specs.Weights.{bad_line, weights_in}
 use Rattle.ba_derivations.specs.declared.verdict.Verdict.{Verdict}
 use Rattle.ba_derivations.specs.declared.verdict.Verdict.TheVariants.{Located, NoRepair, TooMany, Spent}
@@ -19,8 +19,10 @@ use Rattle.ba_tree.specs.declared.run.Outcome.{Outcome}
 use Rattle.ba_tree.specs.declared.run.Outcome.TheVariants as outcome
 use Rattle.ba_tree.specs.declared.run.Weights.{Weights}
 use Rattle.ba_tree.specs.declared.tree.Program.{Program}
-use Rattle.ba_tool.specs.Answers.{Answers, AnswersAtOnce, AreAccepted, Fails, IsAnswer, IsOfSearch, RunsTo, RunsToAt, Tells, input_answer, input_of, is_failure, position_of, program_answer}
+use Rattle.ba_report.specs.Report.{report_text}
+use Rattle.ba_tool.specs.Answers.{Answers, AnswersAtOnce, AreAccepted, Checks, Fails, IsAnswer, IsOfSearch, RunsTo, RunsToAt, Searches, Tells, input_answer, input_of, is_failure, position_of, program_answer, sets_answer}
 use Rattle.ba_tool.specs.Cases.{IsCaseOf, IsJudged}
+use Rattle.ba_tool.specs.Jobs.{is_search}
 use Rattle.ba_types.specs.Spelling.{Spells}
 use Rattle.ba_tool.specs.Programs.{TellsFault}
 use Rattle.ba_tool.specs.declared.answers.Answer.{Answer}
@@ -29,17 +31,26 @@ use Rattle.ba_tool.specs.declared.faults.Fault.{Fault}
 use Rattle.ba_tool.specs.declared.files.File.{File}
 use Rattle.ba_tool.specs.declared.files.Texts.{Texts}
 use Rattle.ba_tool.specs.declared.jobs.Job.{Job}
+use Rattle.ba_tool.specs.declared.jobs.Task.{Task}
 use Rattle.ba_tool.specs.declared.jobs.Task.TheVariants as task
 use Rattle.ba_tool.specs.declared.judge.Case.{Case}
 
 in_some : {a b : Answer} → Some a ≡ Some b → a ≡ b
 in_some e = cc
 
+sets_of_search : (t : Task) (report : List ℕ) (weight count : ℕ) → IsOfSearch (sets_answer t report weight
+    count)
+sets_of_search task.Localise report weight count = tt
+sets_of_search task.Check report weight count = tt
+sets_of_search task.Run report weight count = tt
+sets_of_search (task.Sample additions) report weight count = tt
+
 -- an answer that tells a verdict is of a search
 pub tells_of_search : (j : Job) (source : List ℕ) (p : Program) (v : Verdict) (a : Answer) →
     Tells j source p v a
     → IsOfSearch a
-tells_of_search j source p (Located weight sets) a is = subst IsOfSearch (sym is) tt
+tells_of_search j source p (Located weight sets) a is = subst IsOfSearch (sym is)
+    (sets_of_search j.task (report_text source p j.runs weight sets) weight (length sets))
 tells_of_search j source p NoRepair a is = subst IsOfSearch (sym is) tt
 tells_of_search j source p (TooMany weight sets) a is = subst IsOfSearch (sym is) tt
 tells_of_search j source p Spent a is = subst IsOfSearch (sym is) tt
@@ -48,6 +59,8 @@ tells_of_search j source p Spent a is = subst IsOfSearch (sym is) tt
 abbrev pub IsOfTexts : Answer → Type 0
 IsOfTexts (answer.Unreadable which) = ⊥
 IsOfTexts (answer.TooLong which) = ⊥
+IsOfTexts (answer.Accepted claimed) = ⊥
+IsOfTexts (answer.BadCertificate code line) = ⊥
 IsOfTexts a = Unit {0}
 
 of_texts : (a : Answer) → IsOfSearch a → IsOfTexts a
@@ -66,7 +79,9 @@ of_texts (answer.BadInput fault) of = tt
 of_texts answer.TooLarge of = tt
 of_texts (answer.BeyondBound at) of = tt
 of_texts (answer.BadWeights line) of = tt
-of_texts answer.NotBuilt of = tt
+of_texts (answer.Sampled additions weight sets) of = tt
+of_texts (answer.Accepted claimed) of = of
+of_texts (answer.BadCertificate code line) of = of
 
 at_once_of_texts : (j : Job) (x : Texts) (p : Program) (a : Answer) → AnswersAtOnce j x p a → IsOfTexts a
 at_once_of_texts j x p (answer.Unreadable which) row = row
@@ -84,7 +99,9 @@ at_once_of_texts j x p (answer.BadInput fault) row = tt
 at_once_of_texts j x p answer.TooLarge row = tt
 at_once_of_texts j x p (answer.BeyondBound at) row = tt
 at_once_of_texts j x p (answer.BadWeights line) row = tt
-at_once_of_texts j x p answer.NotBuilt row = tt
+at_once_of_texts j x p (answer.Sampled additions weight sets) row = tt
+at_once_of_texts j x p (answer.Accepted claimed) row = row
+at_once_of_texts j x p (answer.BadCertificate code line) row = row
 
 pub answers_read : (j : Job) (x : Texts) (p : Program) (handed : Option Derivation) (a : Answer) →
     Answers j x p handed a → IsOfTexts a
@@ -114,7 +131,9 @@ answered j x p handed (answer.BudgetSpent conflicts) spelled h = (p, spelled, h)
 answered j x p handed (answer.Unreadable which) spelled h = (p, spelled, h)
 answered j x p handed (answer.TooLong which) spelled h = (p, spelled, h)
 answered j x p handed (answer.BadWeights line) spelled h = (p, spelled, h)
-answered j x p handed answer.NotBuilt spelled h = (p, spelled, h)
+answered j x p handed (answer.Sampled additions weight sets) spelled h = (p, spelled, h)
+answered j x p handed (answer.Accepted claimed) spelled h = (p, spelled, h)
+answered j x p handed (answer.BadCertificate code line) spelled h = (p, spelled, h)
 
 -- the answer for the fault of a program
 pub refused : (j : Job) (x : Texts) (fault : Option Fault) (a : Answer) → TellsFault x.program fault
@@ -212,6 +231,10 @@ module _ (j : Job) (x : Texts) (c : Case) (is : IsCaseOf x c) (end : Outcome) (r
   judged_trap stmt at t e place =
       (c.program, is.spells, (t, (stmt, runs_as j x c.program end (outcome.Trap stmt) runs e, place)))
 
-  pub judged_failing : (other : Outcome) → j.task ≡ task.Localise → end ≡ other → is_failure other ≡ true →
-      IsCaseOf x c × (j.task ≡ task.Localise) × Fails j x c.program
-  judged_failing other t e failure = (is, t, (other, runs_as j x c.program end other runs e, failure))
+  pub judged_search : (other : Outcome) → is_search j.task ≡ true → end ≡ other → is_failure other ≡ true →
+      IsCaseOf x c × Searches j x c.program
+  judged_search other t e failure = (is, (t, (other, runs_as j x c.program end other runs e, failure)))
+
+  pub judged_check : (other : Outcome) → j.task ≡ task.Check → end ≡ other → is_failure other ≡ true →
+      IsCaseOf x c × Checks j x c.program
+  judged_check other t e failure = (is, (t, (other, runs_as j x c.program end other runs e, failure)))

@@ -1,6 +1,7 @@
 -- The bounds that words name are within their limits.
 
-use Rattle.std.proofs.Common.{◌≡◌, ℕ, nat_le, Bool, true, false, ◌&&◌, if◌then◌else◌, Option, None, Some, option_and_then, IfSome, List, [], ◌∷◌, codes, refl, ap, sym, ◌∙◌}
+use Rattle.std.proofs.Common.{◌≡◌, ℕ, nat_le, Bool, true, false, ◌&&◌, if◌then◌else◌, Option, None, Some, option_and_then, IfSome, List, [], ◌∷◌, codes, ◌≤◌, refl, ap, sym, subst, ◌∙◌, arith}
+use Rattle.std.proofs.lemmas.Bool.Decides.{nat_tests}
 use Rattle.std.specs.List.{list_all}
 use Rattle.ba_tree.specs.Run.{are_bounds}
 use Rattle.ba_tree.specs.declared.run.Bounds.{Bounds}
@@ -16,6 +17,14 @@ use Rattle.ba_tool.specs.Jobs.{request_by, request_of}
 use Rattle.ba_tool.specs.declared.jobs.Job.{Job}
 use Rattle.ba_tool.specs.declared.jobs.Request.TheVariants as request
 
+-- NUMBERS of a range
+
+abbrev is_from : ℕ → ℕ → ℕ → Bool
+is_from least most n = nat_le least n && nat_le n most
+
+abbrev IsFrom : ℕ → ℕ → ℕ → Type 0
+IsFrom least most n = is_from least most n ≡ true
+
 -- bounds of a command, and of one that there may be
 
 abbrev AreWithin : Bounds → Type 0
@@ -25,7 +34,7 @@ abbrev IsWithin : Command → Type 0
 IsWithin (command.Localise program input bounds weights conflicts sets cert runs steady) = AreWithin bounds
 IsWithin (command.Check program input cert bounds weights conflicts sets) = AreWithin bounds
 IsWithin (command.Run program input bounds) = AreWithin bounds
-IsWithin (command.Sample additions) = Unit {0}
+IsWithin (command.Sample additions) = IsFrom 1 500 additions
 
 abbrev IfWithin : Option Command → Type 0
 IfWithin o = IfSome o IsWithin
@@ -46,14 +55,6 @@ if_any : {B : Type 0} (Q : B → Type 0) (b : Bool) (o : Option B) → IfSome o 
     IfSome (if b then o else None) Q
 if_any Q true o h = h
 if_any Q false o h = tt
-
--- NUMBERS of a range
-
-abbrev is_from : ℕ → ℕ → ℕ → Bool
-is_from least most n = nat_le least n && nat_le n most
-
-abbrev IsFrom : ℕ → ℕ → ℕ → Type 0
-IsFrom least most n = is_from least most n ≡ true
 
 picked : (a b : Bool) (n : ℕ) (P : ℕ → Type 0) → (b ≡ true → P n) → IfSome (if a && b then Some n else None) P
 picked true true n P h = h refl
@@ -112,8 +113,8 @@ run_within program input bounds within =
     then_any IsWithin program _ (λ p. then_any IsWithin input _
     (λ i. then_if AreWithin IsWithin bounds _ within (λ b ok. ok)))
 
-sample_within : (additions : Option ℕ) → IfWithin (sample_from additions)
-sample_within additions = then_any IsWithin additions _ (λ n. tt)
+sample_within : (additions : Option ℕ) → IfSome additions (IsFrom 1 500) → IfWithin (sample_from additions)
+sample_within additions within = then_if (IsFrom 1 500) IsWithin additions _ within (λ n few. few)
 
 with_within : (mode : Mode) (name value : Word → Option Word) (runs : Bool)
     → IfWithin (command_with mode name value runs)
@@ -130,6 +131,7 @@ with_within Run name value runs =
     run_within (name (codes "PROGRAM")) (name (codes "INPUT")) (bounds_with value)
     (bounds_within (value (codes "bound")) (value (codes "depth")))
 with_within Sample name value runs = sample_within (number_of 1 500 (name (codes "N")))
+    (number_of-range 1 500 (name (codes "N")))
 
 on_within : (mode : Mode) (parts : List Part) → IfWithin (command_on mode parts)
 on_within mode parts =
@@ -157,7 +159,7 @@ wanted_within (Some (command.Localise program input bounds weights conflicts set
     within is =
     let same : bounds ≡ j.bounds = cc in ap are_bounds (sym same) ∙ within
 wanted_within (Some (command.Check program input cert bounds weights conflicts sets)) j within is =
-    absurd (let no : ⊥ = cc in no)
+    let same : bounds ≡ j.bounds = cc in ap are_bounds (sym same) ∙ within
 wanted_within (Some (command.Run program input bounds)) j within is =
     let same : bounds ≡ j.bounds = cc in ap are_bounds (sym same) ∙ within
 wanted_within (Some (command.Sample additions)) j within is = absurd (let no : ⊥ = cc in no)
@@ -166,3 +168,23 @@ wanted_within (Some (command.Sample additions)) j within is = absurd (let no : �
 pub job_bounds : (words : List Word) (j : Job) → request_of words ≡ request.Wanted j →
     are_bounds j.bounds ≡ true
 job_bounds words j is = wanted_within (command_of words) j (command_within words) is
+
+-- and a sample has no more additions than it may have
+sampled_within : (o : Option Command) (additions : ℕ) → IfWithin o → request_by o ≡ request.Sample additions →
+    IsFrom 1 500 additions
+sampled_within None additions within is = absurd (let no : ⊥ = cc in no)
+sampled_within (Some (command.Localise program input bounds weights conflicts sets cert runs steady)) additions
+    within is = absurd (let no : ⊥ = cc in no)
+sampled_within (Some (command.Check program input cert bounds weights conflicts sets)) additions within is =
+    absurd (let no : ⊥ = cc in no)
+sampled_within (Some (command.Run program input bounds)) additions within is = absurd (let no : ⊥ = cc in no)
+sampled_within (Some (command.Sample n)) additions within is =
+    let same : n ≡ additions = cc in subst (IsFrom 1 500) same within
+
+few_of : (n : ℕ) → IsFrom 1 500 n → n ≤ 500
+few_of n h = grind (arith, nat_tests, h)
+
+pub sample_few : (words : List Word) (additions : ℕ) → request_of words ≡ request.Sample additions →
+    additions ≤ 500
+sample_few words additions is =
+    few_of additions (sampled_within (command_of words) additions (command_within words) is)

@@ -1,14 +1,17 @@
 -- The answer that is due to words and told files is the one that the call comes to, unless a fault rose.
 
-use Rattle.std.proofs.Common.{◌≡◌, ◌⊎◌, inl, inr, ℕ, ◌<◌, ◌≤◌, List, length, Option, None, Some, IfSome, IsSomeAnd, refl, sym, ap, subst, ◌∙◌, arith}
+use Rattle.std.proofs.Common.{◌≡◌, ◌⊎◌, inl, inr, ℕ, ◌<◌, ◌≤◌, true, List, [], length, Option, None, Some, IfSome, IsSomeAnd, refl, sym, ap, subst, ◌∙◌, arith}
 use Rattle.ba_commands.specs.Modes.{Word}
 use Rattle.ba_localise.specs.Verdicts.{Derivation}
 use Rattle.ba_world.specs.Read.{Stopped, StoppedPast}
 use Rattle.ba_world.specs.World.{HasReadFault, OnlyPrints, OnlyReads, Outside, Rose}
+use Rattle.ba_world.specs.declared.read.ReadFileError.{ReadFileError}
 use Rattle.ba_world.specs.declared.read.ReadFileError.TheVariants as read
+use Rattle.ba_types.specs.Spelling.{Spells}
 use Rattle.ba_world.proofs.WholeReads.{only_reads_none, only_reads_on, past_longer, rose_since}
-use Rattle.ba_tool.specs.Answers.{Agree, IsAnswer, IsOfSearch, are_one, first_spent, runs_differ, second_spent}
-use Rattle.ba_tool.specs.Calls.{AreRead, Call, EndsWith, HasFault, IsDue, IsDueToJob, IsEndFor, IsEndOfSearch, IsReadFile, IsReadIfNamed, IsShown, JobComesTo, RequestComesTo, StopsAt, TellsAbsent, TellsAll, TellsEarlier, TellsFailing, TellsFile, TellsIfNamed, TellsLong, TellsShort, TellsText, WasReadBefore, absent, as_wanted, limit, located, long, memory, name_of, no_repair, of_texts, read_fault, spent, too_many, write_fault}
+use Rattle.ba_tool.specs.Answers.{Agree, Checks, IsAnswer, IsOfSearch, are_one, first_spent, runs_differ, second_spent}
+use Rattle.ba_tool.specs.Calls.{AreRead, Call, CheckComesTo, EndsWith, HasFault, IsDue, IsDueToJob, IsEndFor, IsEndOfSearch, IsReadFile, IsReadIfNamed, IsShown, JobComesTo, RequestComesTo, StopsAt, TellsAbsent, TellsAll, TellsEarlier, TellsFailing, TellsFile, TellsIfNamed, TellsLong, TellsShort, TellsText, TellsTexts, UnreadComesTo, WasReadBefore, absent, as_wanted, located, long, memory, name_of, no_repair, of_files, of_sample, of_texts, read_fault, spent, too_many, write_fault}
+use Rattle.ba_tool.specs.Limits.{limit}
 use Rattle.ba_tool.specs.Printed.{status_of}
 use Rattle.ba_tool.specs.declared.answers.Answer.{Answer}
 use Rattle.ba_tool.specs.declared.answers.Answer.TheVariants as answer
@@ -16,13 +19,15 @@ use Rattle.ba_tool.specs.declared.files.File.{File}
 use Rattle.ba_tool.specs.declared.files.File.TheVariants as file
 use Rattle.ba_tool.specs.declared.files.Texts.{Texts}
 use Rattle.ba_tool.specs.declared.jobs.Job.{Job}
+use Rattle.ba_tool.specs.declared.jobs.Task.{Task}
+use Rattle.ba_tool.specs.declared.jobs.Task.TheVariants as task
 use Rattle.ba_tool.specs.declared.jobs.Request.{Request}
 use Rattle.ba_tool.specs.declared.jobs.Request.TheVariants as request
 use Rattle.ba_tool.specs.declared.status.Status.{Status}
 use Rattle.ba_tool.specs.declared.status.Status.TheVariants as status
-use Rattle.ba_tool.specs.Jobs.{request_of}
+use Rattle.ba_tool.specs.Jobs.{is_search, request_of, sample_job, sample_texts}
 use Rattle.ba_tool.proofs.Ending.{Ends, fault_since, reads_stay}
-use Rattle.ba_tool.proofs.OneAnswer.{is_of_search, one_answer}
+use Rattle.ba_tool.proofs.OneAnswer.{is_of_search, no_answer, one_answer}
 
 -- WHAT IS TOLD OF A FILE is still told after reading
 
@@ -73,8 +78,9 @@ read_only j file.Program before opened same = subst (OnlyReads before) (sym same
 read_only j file.Input before opened (program, f) = f.only
 read_only j file.Weights before opened (mid, program, input, f, g) = only_reads_on before mid opened f.only
     g.only
+read_only j file.Certificate before opened never = absurd never
 
-named_only : (name : Option Word) (text : List ℕ) (old new : Outside) → IsReadIfNamed name text old new
+pub named_only : (name : Option Word) (text : List ℕ) (old new : Outside) → IsReadIfNamed name text old new
     → OnlyReads old new
 named_only None text old new (empty, same) = subst (OnlyReads old) (sym same) (only_reads_none old)
 named_only (Some name) text old new f = f.only
@@ -84,6 +90,7 @@ told_text : File → Texts → List ℕ
 told_text file.Program x = x.program
 told_text file.Input x = x.input
 told_text file.Weights x = x.weights
+told_text file.Certificate x = []
 
 named_told : (before : Outside) (named : Option Word) (name : Word) (text : List ℕ) → named ≡ Some name
     → TellsIfNamed before named text → TellsText before name text
@@ -99,6 +106,7 @@ file_told file.Program j x before name tells is =
 file_told file.Input j x before name tells is =
     let same : j.input ≡ name = cc in subst (λ name. TellsText before name x.input) same tells.input
 file_told file.Weights j x before name tells is = named_told before j.weights name x.weights is tells.weights
+file_told file.Certificate j x before name tells is = let no : ⊥ = cc in absurd no
 
 -- where all files were read, their texts are those that are told
 
@@ -160,7 +168,9 @@ own_end (answer.BudgetSpent conflicts) = spent
 own_end (answer.Unreadable which) = refl
 own_end (answer.TooLong which) = refl
 own_end (answer.BadWeights line) = refl
-own_end answer.NotBuilt = refl
+own_end (answer.Sampled additions weight sets) = inl refl
+own_end (answer.Accepted claimed) = refl
+own_end (answer.BadCertificate code line) = refl
 
 -- to a search it may be that its conflicts are spent
 may_spend : (due : Answer) → IsOfSearch due → IsEndFor due status.BudgetSpent
@@ -179,7 +189,9 @@ may_spend (answer.BudgetSpent conflicts) of = spent
 may_spend (answer.Unreadable which) of = absurd of
 may_spend (answer.TooLong which) of = absurd of
 may_spend (answer.BadWeights line) of = absurd of
-may_spend answer.NotBuilt of = absurd of
+may_spend (answer.Sampled additions weight sets) of = inr refl
+may_spend (answer.Accepted claimed) of = absurd of
+may_spend (answer.BadCertificate code line) of = absurd of
 
 ends_search : (a : Answer) → IsOfSearch a → IsEndOfSearch (status_of a)
 ends_search (answer.Located report) of = located
@@ -197,7 +209,9 @@ ends_search (answer.BudgetSpent conflicts) of = spent
 ends_search (answer.Unreadable which) of = absurd of
 ends_search (answer.TooLong which) of = absurd of
 ends_search (answer.BadWeights line) of = absurd of
-ends_search answer.NotBuilt of = absurd of
+ends_search (answer.Sampled additions weight sets) of = located
+ends_search (answer.Accepted claimed) of = absurd of
+ends_search (answer.BadCertificate code line) of = absurd of
 
 -- an answer that agrees with the one that is due ends the call
 agree_ends : (j : Job) (a due : Answer) → Agree j a due → IsEndFor due (status_of a)
@@ -212,7 +226,7 @@ agree_ends j a due (runs_differ bytes others is are shown) =
 
 -- with one of the statuses that are wanted, or a fault or want of memory in its place
 module _ (c : Call) (wanted : Status → Type 0) (result : Status) where
-  shown_ends : (a : Answer) (s : Ends c a result) → (result ≡ status_of a → EndsWith c wanted result)
+  pub shown_ends : (a : Answer) (s : Ends c a result) → (result ≡ status_of a → EndsWith c wanted result)
       → EndsWith c wanted result
   shown_ends a s ends = by s.shown where
     by : IsShown a s.written c.after result → EndsWith c wanted result
@@ -220,15 +234,24 @@ module _ (c : Call) (wanted : Status → Type 0) (result : Status) where
     by (inr (inl fault)) = write_fault fault.0 (fault_since c a result s fault.1)
     by (inr (inr short)) = memory short.0
 
-  ends_as : (other : Status) → wanted other → result ≡ other → EndsWith c wanted result
+  pub ends_as : (other : Status) → wanted other → result ≡ other → EndsWith c wanted result
   ends_as other holds is = as_wanted (subst wanted (sym is) holds)
 
 -- a fault of reading that rose in reading
-fault_later : (c : Call) (opened mid : Outside) → OnlyReads c.before opened →
+pub fault_later : (c : Call) (opened mid : Outside) → OnlyReads c.before opened →
     c.after.read_faults ≡ mid.read_faults → HasReadFault opened mid → HasReadFault c.before c.after
 fault_later c opened mid before same rose =
     subst (λ n. Rose c.before.read_faults n) (sym same)
     (rose_since c.before.read_faults opened.read_faults mid.read_faults before.no_fall rose)
+
+-- a file that wasn't read is one that is read whole, or the certificate of a check, which is read behind these
+unread_stops : (which : File) (error : ReadFileError) (j : Job) (before mid : Outside)
+    (handed : Option Derivation) (a : Answer) → UnreadComesTo which error j before mid handed a →
+    StopsAt which error j before mid ⊎ CheckComesTo j before mid handed a
+unread_stops file.Program error j before mid handed a (stops, none) = inl stops
+unread_stops file.Input error j before mid handed a (stops, none) = inl stops
+unread_stops file.Weights error j before mid handed a (stops, none) = inl stops
+unread_stops file.Certificate error j before mid handed a check = inr check
 
 -- A JOB WHOSE FILES ARE ALL TOLD
 
@@ -253,18 +276,36 @@ module _ (c : Call) (wanted : Status → Type 0) (result : Status) (j : Job) (x 
       let over = long_read stops.name (told_text which x) stops.opened mid told.told stops.unread in
       let short = told.short in omega (arith, over, short)
 
-  -- where a status is wanted for each answer that the texts come to
+  -- where a status is wanted for each answer that the texts come to, and one for each that a certificate
+  -- comes to
   module _ (wants : (handed : Option Derivation) (a : Answer) → IsAnswer j x handed a →
-      wanted (status_of a)) where
+      wanted (status_of a))
+      (checked : (handed : Option Derivation) (a : Answer) → CheckComesTo j c.before mid handed a →
+      result ≡ status_of a → EndsWith c wanted result) where
     as_read : (handed : Option Derivation) (a : Answer) (y : Texts) → AreRead j y c.before mid →
         IsAnswer j y handed a → result ≡ status_of a → EndsWith c wanted result
     as_read handed a y r holds e = ends_as c wanted result (status_of a)
         (wants handed a (subst (λ x. IsAnswer j x handed a) (all_read j x y c.before mid tells r) holds)) e
 
-    job_ends : (handed : Option Derivation) (a : Answer) → JobComesTo j c.before mid handed a →
+    pub job_ends : (handed : Option Derivation) (a : Answer) → JobComesTo j c.before mid handed a →
         result ≡ status_of a → EndsWith c wanted result
-    job_ends handed (answer.Unreadable which) (stops, none) e = unreadable_ends which stops e
-    job_ends handed (answer.TooLong which) (stops, none) e = absurd (none_long which stops)
+    job_ends handed (answer.Unreadable which) comes e =
+        by (unread_stops which read.Failed j c.before mid handed (answer.Unreadable which) comes)
+      where
+        by : StopsAt which read.Failed j c.before mid
+            ⊎ CheckComesTo j c.before mid handed (answer.Unreadable which) → EndsWith c wanted result
+        by (inl stops) = unreadable_ends which stops e
+        by (inr check) = checked handed (answer.Unreadable which) check e
+    job_ends handed (answer.TooLong which) comes e =
+        by (unread_stops which read.TooLong j c.before mid handed (answer.TooLong which) comes)
+      where
+        by : StopsAt which read.TooLong j c.before mid
+            ⊎ CheckComesTo j c.before mid handed (answer.TooLong which) → EndsWith c wanted result
+        by (inl stops) = absurd (none_long which stops)
+        by (inr check) = checked handed (answer.TooLong which) check e
+    job_ends handed (answer.Accepted claimed) check e = checked handed (answer.Accepted claimed) check e
+    job_ends handed (answer.BadCertificate code line) check e =
+        checked handed (answer.BadCertificate code line) check e
     job_ends handed (answer.Located report) (y, r, holds) e =
         as_read handed (answer.Located report) y r holds e
     job_ends handed (answer.AssertFails at) (y, r, holds) e =
@@ -291,8 +332,8 @@ module _ (c : Call) (wanted : Status → Type 0) (result : Status) (j : Job) (x 
         as_read handed (answer.BudgetSpent conflicts) y r holds e
     job_ends handed (answer.BadWeights line) (y, r, holds) e =
         as_read handed (answer.BadWeights line) y r holds e
-    job_ends handed answer.NotBuilt (y, r, holds) e =
-        as_read handed answer.NotBuilt y r holds e
+    job_ends handed (answer.Sampled additions weight sets) (y, r, holds) e =
+        as_read handed (answer.Sampled additions weight sets) y r holds e
 
 -- A FILE THAT CAN'T BE READ WHOLE, before which others are told
 
@@ -369,6 +410,7 @@ blocks_all file.Program j y before after b r = never_at before b.name j.program 
     before r.program_read y.program (only_reads_none before) r.program
 blocks_all file.Input j y before after b r = never_at before b.name j.input b.named b.never
     r.program_read r.input_read y.input r.program.only r.input
+blocks_all file.Certificate j y before after b r = absurd b.earlier
 blocks_all file.Weights j y before after b r =
     never_named before r.input_read b.name j.weights y.weights after b.named
     (only_reads_on before r.program_read r.input_read r.program.only r.input.only) b.never r.weights
@@ -400,6 +442,10 @@ stands file.Weights file.Program j before opened b same =
 stands file.Weights file.Input j before opened b (program, f) =
     ahead j.input refl (short_still before opened j.input f.only b.earlier.1)
 stands file.Weights file.Weights j before opened b read = there refl
+stands file.Certificate other j before opened b read = absurd b.earlier
+stands file.Program file.Certificate j before opened b never = absurd never
+stands file.Input file.Certificate j before opened b never = absurd never
+stands file.Weights file.Certificate j before opened b never = absurd never
 
 name_same : (a b : Word) (named : Option Word) → named ≡ Some a → named ≡ Some b → a ≡ b
 name_same a b named one two = let same : Some a ≡ Some b = sym one ∙ two in cc
@@ -449,7 +495,21 @@ module _ (c : Call) (which : File) (j : Job) (result : Status) (mid : Outside) (
     absent_ends : (a : Answer) → TellsAbsent which c.before j → JobComesTo j c.before mid handed a
         → result ≡ status_of a → EndsWith c (IsEndFor (answer.Unreadable which)) result
     absent_ends (answer.Unreadable other) t comes e = as_wanted e
-    absent_ends (answer.TooLong other) t (stops, none) e = absurd (absent_not_long c which other j mid t stops)
+    absent_ends (answer.TooLong other) t comes e =
+        by (unread_stops other read.TooLong j c.before mid handed (answer.TooLong other) comes)
+      where
+        by : StopsAt other read.TooLong j c.before mid
+            ⊎ CheckComesTo j c.before mid handed (answer.TooLong other)
+            → EndsWith c (IsEndFor (answer.Unreadable which)) result
+        by (inl stops) = absurd (absent_not_long c which other j mid t stops)
+        by (inr check) = absurd (blocks_all which j check.texts c.before check.read
+            (absent_blocks which c.before j t) check.are_read)
+    absent_ends (answer.Accepted claimed) t check e =
+        absurd (blocks_all which j check.texts c.before check.read (absent_blocks which c.before j t)
+        check.are_read)
+    absent_ends (answer.BadCertificate code line) t check e =
+        absurd (blocks_all which j check.texts c.before check.read (absent_blocks which c.before j t)
+        check.are_read)
     absent_ends (answer.Located report) t (y, r, holds) e =
         absurd (blocks_all which j y c.before mid (absent_blocks which c.before j t) r)
     absent_ends (answer.AssertFails at) t (y, r, holds) e =
@@ -476,16 +536,30 @@ module _ (c : Call) (which : File) (j : Job) (result : Status) (mid : Outside) (
         absurd (blocks_all which j y c.before mid (absent_blocks which c.before j t) r)
     absent_ends (answer.BadWeights line) t (y, r, holds) e =
         absurd (blocks_all which j y c.before mid (absent_blocks which c.before j t) r)
-    absent_ends answer.NotBuilt t (y, r, holds) e =
+    absent_ends (answer.Sampled additions weight sets) t (y, r, holds) e =
         absurd (blocks_all which j y c.before mid (absent_blocks which c.before j t) r)
 
     long_ends : (a : Answer) → TellsLong which c.before j → c.after.read_faults ≡ mid.read_faults
         → JobComesTo j c.before mid handed a → result ≡ status_of a
         → EndsWith c (IsEndFor (answer.TooLong which)) result
     long_ends (answer.TooLong other) t same comes e = as_wanted e
-    long_ends (answer.Unreadable other) t same (stops, none) e = read_fault e
-        (fault_later c stops.opened mid (read_only j other c.before stops.opened stops.read_before) same
-        (long_faults c which other j mid t stops))
+    long_ends (answer.Unreadable other) t same comes e =
+        by (unread_stops other read.Failed j c.before mid handed (answer.Unreadable other) comes)
+      where
+        by : StopsAt other read.Failed j c.before mid
+            ⊎ CheckComesTo j c.before mid handed (answer.Unreadable other)
+            → EndsWith c (IsEndFor (answer.TooLong which)) result
+        by (inl stops) = read_fault e
+            (fault_later c stops.opened mid (read_only j other c.before stops.opened stops.read_before) same
+            (long_faults c which other j mid t stops))
+        by (inr check) = absurd (blocks_all which j check.texts c.before check.read
+            (long_blocks which c.before j t) check.are_read)
+    long_ends (answer.Accepted claimed) t same check e =
+        absurd (blocks_all which j check.texts c.before check.read (long_blocks which c.before j t)
+        check.are_read)
+    long_ends (answer.BadCertificate code line) t same check e =
+        absurd (blocks_all which j check.texts c.before check.read (long_blocks which c.before j t)
+        check.are_read)
     long_ends (answer.Located report) t same (y, r, holds) e =
         absurd (blocks_all which j y c.before mid (long_blocks which c.before j t) r)
     long_ends (answer.AssertFails at) t same (y, r, holds) e =
@@ -512,7 +586,7 @@ module _ (c : Call) (which : File) (j : Job) (result : Status) (mid : Outside) (
         absurd (blocks_all which j y c.before mid (long_blocks which c.before j t) r)
     long_ends (answer.BadWeights line) t same (y, r, holds) e =
         absurd (blocks_all which j y c.before mid (long_blocks which c.before j t) r)
-    long_ends answer.NotBuilt t same (y, r, holds) e =
+    long_ends (answer.Sampled additions weight sets) t same (y, r, holds) e =
         absurd (blocks_all which j y c.before mid (long_blocks which c.before j t) r)
 
 -- A CALL to which an answer is due
@@ -523,7 +597,13 @@ due_ends : (c : Call) (j : Job) (due a : Answer) (result : Status) (mid : Outsid
     → JobComesTo j c.before mid handed a → result ≡ status_of a → EndsWith c (IsEndFor due) result
 due_ends c j due a result mid handed (of_texts x other tells is) same comes e =
     job_ends c (IsEndFor due) result j x mid tells same
-    (λ h b holds. agree_ends j b due (one_answer j x h other b due holds is)) handed a comes e
+    (λ h b holds. agree_ends j b due (one_answer j x h other b due holds is))
+    (λ h b check e. absurd (no_answer j x check.program
+    (subst (λ (x : Texts). Spells x.program check.program)
+    (all_read j x check.texts c.before check.read tells check.are_read) check.spells)
+    (subst (λ x. Checks j x check.program)
+    (all_read j x check.texts c.before check.read tells check.are_read) check.checks) other due is))
+    handed a comes e
 due_ends c j due a result mid handed (absent which t is) same comes e =
     subst (λ due. EndsWith c (IsEndFor due) result) (sym is)
     (absent_ends c which j result mid handed a t comes e)
@@ -541,13 +621,14 @@ request_ends : (c : Call) (r : Request) (due a : Answer) (result : Status) (mid 
     → RequestComesTo r c.before mid handed a → result ≡ status_of a → EndsWith c (IsEndFor due) result
 request_ends c request.Refused due a result mid handed is same comes e =
     at_once c due a answer.BadWords result comes.0 is e
-request_ends c request.NotBuilt due a result mid handed is same comes e =
-    at_once c due a answer.NotBuilt result comes.0 is e
+request_ends c (request.Sample additions) due a result mid handed (other, is) same (unread, holds) e =
+    ends_as c (IsEndFor due) result (status_of a) (agree_ends (sample_job additions) a due
+    (one_answer (sample_job additions) (sample_texts additions) handed other a due holds is)) e
 request_ends c (request.Wanted j) due a result mid handed is same comes e =
     due_ends c j due a result mid handed is same comes e
 
 -- the faults of reading are those of the reading
-read_faults_stay : (c : Call) (a : Answer) (result : Status) (s : Ends c a result) →
+pub read_faults_stay : (c : Call) (a : Answer) (result : Status) (s : Ends c a result) →
     c.after.read_faults ≡ s.comes.read.read_faults
 read_faults_stay c a result s = s.prints.read_faults
     ∙ reads_stay (request_of c.words) c.before s.written c.told_before c.told_after a s.comes
@@ -565,12 +646,27 @@ ends_due c a due result s is =
 failing_ends : (c : Call) (r : Request) (a : Answer) (result : Status) (mid : Outside)
     (handed : Option Derivation) → TellsFailing r c.before → c.after.read_faults ≡ mid.read_faults
     → RequestComesTo r c.before mid handed a → result ≡ status_of a → EndsWith c IsEndOfSearch result
-failing_ends c r a result mid handed f same comes e =
-    let job_comes : JobComesTo f.job c.before mid handed a =
-    subst (λ r. RequestComesTo r c.before mid handed a) f.wanted comes in
-    job_ends c IsEndOfSearch result f.job f.texts mid f.told same
-    (λ h b holds. ends_search b (is_of_search f.job f.texts f.program f.spelled f.searches h b holds))
-    handed a job_comes e
+failing_ends c r a result mid handed f same comes e = by f.told where
+  unchecked : (t : Task) → is_search t ≡ true → t ≡ task.Check → ⊥
+  unchecked task.Localise search is = let no : ⊥ = cc in no
+  unchecked (task.Sample additions) search is = let no : ⊥ = cc in no
+  unchecked task.Check search is = let no : ⊥ = cc in no
+  unchecked task.Run search is = let no : ⊥ = cc in no
+
+  by : TellsTexts r c.before f.job f.texts → EndsWith c IsEndOfSearch result
+  by (of_files wanted told) =
+      let job_comes : JobComesTo f.job c.before mid handed a =
+      subst (λ r. RequestComesTo r c.before mid handed a) wanted comes in
+      job_ends c IsEndOfSearch result f.job f.texts mid told same
+      (λ h b holds. ends_search b (is_of_search f.job f.texts f.program f.spelled f.searches h b holds))
+      (λ h b check e. absurd (unchecked f.job.task f.searches.0 check.checks.0)) handed a job_comes e
+  by (of_sample additions asked job texts) =
+      let answers : (mid ≡ c.before) × IsAnswer (sample_job additions) (sample_texts additions) handed a =
+      subst (λ r. RequestComesTo r c.before mid handed a) asked comes in
+      let holds : IsAnswer f.job f.texts handed a = subst (λ x. IsAnswer f.job x handed a) (sym texts)
+      (subst (λ j. IsAnswer j (sample_texts additions) handed a) (sym job) answers.1) in
+      ends_as c IsEndOfSearch result (status_of a)
+      (ends_search a (is_of_search f.job f.texts f.program f.spelled f.searches handed a holds)) e
 
 pub ends_failing : (c : Call) (a : Answer) (result : Status) → Ends c a result
     → TellsFailing (request_of c.words) c.before → EndsWith c IsEndOfSearch result

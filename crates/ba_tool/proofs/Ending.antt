@@ -1,6 +1,7 @@
 -- How a call ends, by the answer that it comes to.
 
 use Rattle.std.proofs.Common.{◌≡◌, ◌⊎◌, inl, inr, ℕ, ◌+◌, ◌<◌, ◌≤◌, Option, None, Some, List, ◌++◌, length, take, option_map, All, IfSome, refl, sym, ap, subst, ◌∙◌, arith}
+use Rattle.std.proofs.lemmas.List.Elements.{All-nil}
 use Rattle.std.proofs.lemmas.List.{take_all}
 use Rattle.ba_cert.specs.Text.{text_of as certificate_of}
 use Rattle.ba_cert.specs.Writing.{BeginsText, HoldsBeginning, OnlyWritesTo}
@@ -11,13 +12,17 @@ use Rattle.ba_localise.specs.Verdicts.{Derivation, Shows, Told}
 use Rattle.ba_steps.specs.Steps.{IsFormed}
 use Rattle.ba_steps.specs.declared.step.CertStep.{CertStep}
 use Rattle.ba_world.specs.World.{HasPrintShortage, HasWriteFault, OnlyPrints, OnlyReads, OnlyWrites, Outside, Prints, PrintsPrefix, Rose}
+use Rattle.ba_world.specs.declared.read.ReadFileError.{ReadFileError}
+use Rattle.ba_world.specs.declared.read.ReadFileError.TheVariants as read_error
 use Rattle.ba_world.proofs.WholeReads.{rose_since}
 use Rattle.ba_tool.specs.Answers.{Answers, IsAnswer}
-use Rattle.ba_tool.specs.Calls.{Answered, AnsweredInPart, Begins, Call, Certifies, Comes, ComesTo, HasFault, IsShown, JobComesTo, MayBegin, RequestComesTo, Says, Stops, Unanswered, WritesNoFile, WritesOnly}
-use Rattle.ba_tool.specs.Jobs.{cert_of, request_of}
+use Rattle.ba_tool.specs.Calls.{Answered, AnsweredInPart, Begins, Call, Certifies, CheckComesTo, Comes, ComesTo, HasFault, IsShown, JobComesTo, MayBegin, RequestComesTo, Says, Stops, Unanswered, UnreadComesTo, WritesNoFile, WritesOnly}
+use Rattle.ba_tool.specs.Jobs.{cert_of, request_of, sample_job, sample_texts}
 use Rattle.ba_tool.specs.Printed.{status_of, text_of}
 use Rattle.ba_tool.specs.declared.answers.Answer.{Answer}
 use Rattle.ba_tool.specs.declared.answers.Answer.TheVariants as answer
+use Rattle.ba_tool.specs.declared.files.File.{File}
+use Rattle.ba_tool.specs.declared.files.File.TheVariants as file
 use Rattle.ba_tool.specs.declared.files.Texts.{Texts}
 use Rattle.ba_tool.specs.declared.jobs.Job.{Job}
 use Rattle.ba_tool.specs.declared.jobs.Request.{Request}
@@ -30,8 +35,10 @@ use Rattle.ba_tree.specs.declared.tree.Program.{Program}
 -- what the status of an answer says, by the answer
 said : (c : Call) (a : Answer) → Answered c a → Says c (status_of a)
 said c (answer.Located report) h = inl (report, h)
-said c (answer.AssertFails at) h = inr (inl (at, h))
-said c (answer.Trap at) h = inr (inr (at, h))
+said c (answer.Sampled additions weight sets) h = inr (inl (additions, weight, sets, h))
+said c (answer.Accepted claimed) h = inr (inr (inl (claimed, h)))
+said c (answer.AssertFails at) h = inr (inr (inr (inl (at, h))))
+said c (answer.Trap at) h = inr (inr (inr (inr (at, h))))
 said c answer.NotFailing h = h
 said c answer.BadWords h = h
 said c (answer.BadProgram fault) h = (fault, h)
@@ -44,7 +51,7 @@ said c (answer.BudgetSpent conflicts) h = (conflicts, h)
 said c (answer.Unreadable which) h = (which, h)
 said c (answer.TooLong which) h = (which, h)
 said c (answer.BadWeights line) h = (line, h)
-said c answer.NotBuilt h = h
+said c (answer.BadCertificate code line) h = (code, line, h)
 
 -- THE STEPS THAT ARE HANDED ON are formed
 
@@ -89,15 +96,40 @@ answer_formed j x handed (answer.TooLong which) (p, s, row) = row_formed j x p h
     which) row
 answer_formed j x handed (answer.BadWeights line) (p, s, row) = row_formed j x p handed (answer.BadWeights
     line) row
-answer_formed j x handed answer.NotBuilt (p, s, row) = row_formed j x p handed answer.NotBuilt row
+answer_formed j x handed (answer.Sampled additions weight sets) (p, s, row) =
+    row_formed j x p handed (answer.Sampled additions weight sets) row
+answer_formed j x handed (answer.Accepted claimed) (p, s, row) =
+    row_formed j x p handed (answer.Accepted claimed) row
+answer_formed j x handed (answer.BadCertificate code line) (p, s, row) =
+    row_formed j x p handed (answer.BadCertificate code line) row
 
 none_formed : (handed : Option Derivation) → handed ≡ None → AreFormed handed
 none_formed handed none = subst AreFormed (sym none) tt
 
+-- no step is handed on in a check
+check_formed : (j : Job) (before read : Outside) (handed : Option Derivation) (a : Answer) →
+    CheckComesTo j before read handed a → AreFormed handed
+check_formed j before read handed a c = subst AreFormed (sym c.handed_is)
+    (subst (All IsFormed) (sym c.about.no_step) (All-nil IsFormed))
+
+unread_formed : (which : File) (error : ReadFileError) (j : Job) (before read : Outside)
+    (handed : Option Derivation) (a : Answer) → UnreadComesTo which error j before read handed a →
+    AreFormed handed
+unread_formed file.Program error j before read handed a (stops, none) = none_formed handed none
+unread_formed file.Input error j before read handed a (stops, none) = none_formed handed none
+unread_formed file.Weights error j before read handed a (stops, none) = none_formed handed none
+unread_formed file.Certificate error j before read handed a c = check_formed j before read handed a c
+
 job_formed : (j : Job) (before read : Outside) (handed : Option Derivation) (a : Answer) →
     JobComesTo j before read handed a → AreFormed handed
-job_formed j before read handed (answer.Unreadable which) (stops, none) = none_formed handed none
-job_formed j before read handed (answer.TooLong which) (stops, none) = none_formed handed none
+job_formed j before read handed (answer.Unreadable which) comes =
+    unread_formed which read_error.Failed j before read handed (answer.Unreadable which) comes
+job_formed j before read handed (answer.TooLong which) comes =
+    unread_formed which read_error.TooLong j before read handed (answer.TooLong which) comes
+job_formed j before read handed (answer.Accepted claimed) comes = check_formed j before read handed
+    (answer.Accepted claimed) comes
+job_formed j before read handed (answer.BadCertificate code line) comes =
+    check_formed j before read handed (answer.BadCertificate code line) comes
 job_formed j before read handed (answer.BadProgram fault) (x, r, is) = answer_formed j x handed
     (answer.BadProgram fault) is
 job_formed j before read handed (answer.Located report) (x, r, is) = answer_formed j x handed
@@ -119,12 +151,14 @@ job_formed j before read handed (answer.BudgetSpent conflicts) (x, r, is) = answ
     (answer.BudgetSpent conflicts) is
 job_formed j before read handed (answer.BadWeights line) (x, r, is) = answer_formed j x handed
     (answer.BadWeights line) is
-job_formed j before read handed answer.NotBuilt (x, r, is) = answer_formed j x handed answer.NotBuilt is
+job_formed j before read handed (answer.Sampled additions weight sets) (x, r, is) =
+    answer_formed j x handed (answer.Sampled additions weight sets) is
 
 formed_of : (r : Request) (before read : Outside) (handed : Option Derivation) (a : Answer) →
     RequestComesTo r before read handed a → AreFormed handed
 formed_of request.Refused before read handed a (is, once) = none_formed handed once.unsearched
-formed_of request.NotBuilt before read handed a (is, once) = none_formed handed once.unsearched
+formed_of (request.Sample additions) before read handed a (same, is) =
+    answer_formed (sample_job additions) (sample_texts additions) handed a is
 formed_of (request.Wanted j) before read handed a comes = job_formed j before read handed a comes
 
 -- WHAT IS WRITTEN before anything is printed

@@ -7,6 +7,10 @@ mod Stages
 mod Rows
 mod OneAnswer
 mod Due
+mod Checking
+mod Feeding
+mod Concluding
+mod Sampling
 mod Coming
 mod Faulty
 mod Answering

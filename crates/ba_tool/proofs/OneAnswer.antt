@@ -18,7 +18,7 @@ use Rattle.ba_types.specs.declared.fault.Fault.{Fault as TypeFault}
 use Rattle.ba_types.proofs.FileRows.{same_faults}
 use Rattle.ba_types.proofs.Least.{connected}
 use Rattle.ba_types.proofs.Programs.{clean, has_program, one_of_text}
-use Rattle.ba_tool.specs.Answers.{Agree, Answers, IsAnswer, IsOfSearch, Searches, are_one}
+use Rattle.ba_tool.specs.Answers.{Agree, Answers, Checks, IsAnswer, IsOfSearch, Searches, are_one}
 use Rattle.ba_tool.specs.Programs.{IsFault, ill_typed, lexical_fault, no_file, no_main, no_tokens, place_at, too_deep, typing_fault}
 use Rattle.ba_tool.specs.declared.answers.Answer.{Answer}
 use Rattle.ba_tool.specs.declared.answers.Answer.TheVariants as answer
@@ -26,7 +26,7 @@ use Rattle.ba_tool.specs.declared.faults.Cause.TheVariants as cause
 use Rattle.ba_tool.specs.declared.faults.Fault.{Fault}
 use Rattle.ba_tool.specs.declared.files.Texts.{Texts}
 use Rattle.ba_tool.specs.declared.jobs.Job.{Job}
-use Rattle.ba_tool.proofs.Rows.{same_row, searched_too}
+use Rattle.ba_tool.proofs.Rows.{same_row, searched_too, unanswered_too}
 
 -- A FAULT OF A TEXT, by the stage that it is of
 
@@ -236,7 +236,10 @@ module _ (j : Job) (x : Texts) where
   sorted handed (answer.Unreadable which) h = spelled_as handed (answer.Unreadable which) h
   sorted handed (answer.TooLong which) h = spelled_as handed (answer.TooLong which) h
   sorted handed (answer.BadWeights line) h = spelled_as handed (answer.BadWeights line) h
-  sorted handed answer.NotBuilt h = spelled_as handed answer.NotBuilt h
+  sorted handed (answer.Sampled additions weight sets) h =
+      spelled_as handed (answer.Sampled additions weight sets) h
+  sorted handed (answer.Accepted claimed) h = spelled_as handed (answer.Accepted claimed) h
+  sorted handed (answer.BadCertificate code line) h = spelled_as handed (answer.BadCertificate code line) h
 
   sorted_same : (h k : Option Derivation) (a b : Answer) → IsSpelled h a ⊎ IsRefused a →
       IsSpelled k b ⊎ IsRefused b
@@ -265,3 +268,14 @@ module _ (j : Job) (x : Texts) where
       (h : Option Derivation) (a : Answer)
       → IsAnswer j x h a → IsOfSearch a
   is_of_search p spells searches h a holds = sorted_searched p spells searches h a (sorted h a holds)
+
+  -- where its certificate is to be checked, there is none by the texts alone
+  sorted_unanswered : (p : Program) → Spells x.program p → Checks j x p → (h : Option Derivation) (a : Answer)
+      → IsSpelled h a ⊎ IsRefused a → ⊥
+  sorted_unanswered p spells checks h a (inl it) =
+      unanswered_too j x p it.p (one_of_text x.program p it.p spells it.spells) checks h a it.row
+  sorted_unanswered p spells checks h a (inr it) = no_fault x.program p it.fault spells it.of
+
+  pub no_answer : (p : Program) → Spells x.program p → Checks j x p → (h : Option Derivation) (a : Answer)
+      → IsAnswer j x h a → ⊥
+  no_answer p spells checks h a holds = sorted_unanswered p spells checks h a (sorted h a holds)

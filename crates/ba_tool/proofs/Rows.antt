@@ -1,5 +1,5 @@
 -- The row of an answer holds of each program with the same tree, so a text comes to one answer.
-use Rattle.std.proofs.Common.{◌≡◌, ℕ, ℤ, ◌<◌, ◌≤◌, Option, None, Some, option_map, List, [], map, sym, ◌∙◌, ap, subst}
+use Rattle.std.proofs.Common.{◌≡◌, ℕ, ℤ, ◌<◌, ◌≤◌, Option, None, Some, option_map, List, [], map, length, sym, ◌∙◌, ap, subst}
 use Rattle.ba_commands.specs.Lines.{lines_of}
 use Rattle.ba_commands.specs.Weights.{said_of, statement_weight}
 use Rattle.ba_derivations.specs.declared.verdict.Verdict.{Verdict}
@@ -17,13 +17,13 @@ use Rattle.ba_tree.specs.declared.tree.StmtInfo.{StmtInfo}
 use Rattle.ba_types.specs.Trees.{tree_of}
 use Rattle.ba_tree_laws.specs.Equivalent.{AreEquivalent}
 use Rattle.ba_tree_laws.proofs.Equivalence.{equivalent}
-use Rattle.ba_tool.specs.Answers.{Agree, AreAccepted, Answers, AnswersAtOnce, AnswersBy, Fails, IsOfSearch, RunsTo, RunsToAt, Searches, Tells, input_of, judge_in, position_of, unit_limit, weights_of}
+use Rattle.ba_tool.specs.Answers.{Agree, AreAccepted, Answers, AnswersAtOnce, AnswersBy, Checks, Fails, IsOfSearch, RunsTo, RunsToAt, Searches, Tells, input_of, judge_in, position_of, sets_answer, unit_limit, weights_of}
 use Rattle.ba_tool.specs.declared.answers.Answer.{Answer}
 use Rattle.ba_tool.specs.declared.answers.Answer.TheVariants as answer
 use Rattle.ba_tool.specs.declared.files.Texts.{Texts}
 use Rattle.ba_tool.specs.declared.jobs.Job.{Job}
 use Rattle.ba_tool.proofs.Reports.{info_same, report_of_same}
-use Rattle.ba_tool.proofs.Stages.{one_row, searched}
+use Rattle.ba_tool.proofs.Stages.{one_row, searched, unanswered}
 
 module _ (j : Job) (x : Texts) (p q : Program) (same : tree_of p ≡ tree_of q) where
   equal : AreEquivalent p q
@@ -72,7 +72,8 @@ module _ (j : Job) (x : Texts) (p q : Program) (same : tree_of p ≡ tree_of q) 
 
   tells_too : (v : Verdict) (a : Answer) → Tells j x.program p v a → Tells j x.program q v a
   tells_too (verdict.Located weight sets) a is =
-      is ∙ ap answer.Located (report_of_same p q equal.statements x.program j.runs weight sets)
+      is ∙ ap (λ report. sets_answer j.task report weight (length sets))
+      (report_of_same p q equal.statements x.program j.runs weight sets)
   tells_too verdict.NoRepair a is = is
   tells_too (verdict.TooMany weight sets) a is = is
   tells_too verdict.Spent a is = is
@@ -98,7 +99,9 @@ module _ (j : Job) (x : Texts) (p q : Program) (same : tree_of p ≡ tree_of q) 
   at_once_too (answer.Located bytes) none = absurd none
   at_once_too (answer.TooManySets weight most) none = absurd none
   at_once_too (answer.BudgetSpent conflicts) none = absurd none
-  at_once_too answer.NotBuilt none = absurd none
+  at_once_too (answer.Sampled additions weight sets) none = absurd none
+  at_once_too (answer.Accepted claimed) none = absurd none
+  at_once_too (answer.BadCertificate code line) none = absurd none
   at_once_too answer.BadWords none = absurd none
   at_once_too (answer.BadProgram fault) none = absurd none
   at_once_too (answer.Unreadable which) none = absurd none
@@ -116,3 +119,7 @@ module _ (j : Job) (x : Texts) (p q : Program) (same : tree_of p ≡ tree_of q) 
   pub searched_too : Searches j x p → (handed : Option Derivation) (a : Answer) → Answers j x q handed a →
       IsOfSearch a
   searched_too searches handed a row = searched j x q (searches_too searches) handed a row
+
+  -- where its certificate is to be checked, it has none
+  pub unanswered_too : Checks j x p → (handed : Option Derivation) (a : Answer) → Answers j x q handed a → ⊥
+  unanswered_too (is, fails) handed a row = unanswered j x q (is, fails_too fails) handed a row

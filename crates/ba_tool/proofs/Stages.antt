@@ -21,7 +21,8 @@ use Rattle.ba_tree.specs.declared.run.Outcome.{Outcome}
 use Rattle.ba_tree.specs.declared.run.Outcome.TheVariants as outcome
 use Rattle.ba_tree.specs.declared.tree.Program.{Program}
 use Rattle.ba_tree.proofs.Sets.{AreLeast-unique}
-use Rattle.ba_tool.specs.Answers.{Agree, AreAccepted, Answers, AnswersAtOnce, AnswersBy, Fails, IsOfSearch, RunsTo, Searches, Tells, are_one, first_spent, input_of, is_failure, judge_in, position_of, runs_differ, second_spent, text_fault, unit_limit, weights_of}
+use Rattle.ba_tool.specs.Answers.{Agree, AreAccepted, Answers, AnswersAtOnce, AnswersBy, Checks, Fails, IsOfSearch, RunsTo, Searches, Tells, are_one, first_spent, input_of, is_failure, judge_in, position_of, runs_differ, second_spent, sets_answer, text_fault, unit_limit, weights_of}
+use Rattle.ba_tool.specs.Jobs.{is_search}
 use Rattle.ba_tool.specs.declared.answers.Answer.{Answer}
 use Rattle.ba_tool.specs.declared.answers.Answer.TheVariants as answer
 use Rattle.ba_tool.specs.declared.answers.InputFault.{InputFault}
@@ -101,6 +102,8 @@ module _ (j : Job) (x : Texts) (p : Program) where
   abbrev IsShownBy : Task → (At → Answer) → StmtId → Answer → Type 0
   IsShownBy task.Run shown stmt a = IsShownAt shown stmt a
   IsShownBy task.Localise shown stmt a = IsFound a
+  IsShownBy (task.Sample additions) shown stmt a = IsFound a
+  IsShownBy task.Check shown stmt a = ⊥
 
   record IsFaultOf (fault : TextFault) (a : Answer) : Type 0 where
     pub of : InputFault
@@ -117,17 +120,23 @@ module _ (j : Job) (x : Texts) (p : Program) where
   Fits (at_end (outcome.Trap stmt)) a = IsShownBy j.task answer.Trap stmt a
   Fits (at_end outcome.WrongChoices) a = ⊥
 
-  found_fits : (end : Outcome) (a : Answer) → j.task ≡ task.Localise → is_failure end ≡ true → IsFound a
+  found_shown : (t : Task) (shown : At → Answer) (stmt : StmtId) (a : Answer) → is_search t ≡ true → IsFound a →
+      IsShownBy t shown stmt a
+  found_shown task.Localise shown stmt a is it = it
+  found_shown (task.Sample additions) shown stmt a is it = it
+  found_shown task.Check shown stmt a is it = absurd (let no : ⊥ = cc in no)
+  found_shown task.Run shown stmt a is it = absurd (let no : ⊥ = cc in no)
+
+  found_fits : (end : Outcome) (a : Answer) → is_search j.task ≡ true → is_failure end ≡ true → IsFound a
       → Fits (at_end end) a
   found_fits (outcome.AssertFails stmt) a is fails found =
-      subst (λ t. IsShownBy t answer.AssertFails stmt a) (sym is) found
-  found_fits (outcome.Trap stmt) a is fails found =
-      subst (λ t. IsShownBy t answer.Trap stmt a) (sym is) found
+      found_shown j.task answer.AssertFails stmt a is found
+  found_fits (outcome.Trap stmt) a is fails found = found_shown j.task answer.Trap stmt a is found
   found_fits outcome.Done a is fails found = absurd (let no : ⊥ = cc in no)
   found_fits (outcome.Beyond stmt) a is fails found = absurd (let no : ⊥ = cc in no)
   found_fits outcome.WrongChoices a is fails found = absurd (let no : ⊥ = cc in no)
 
-  found : (a : Answer) → j.task ≡ task.Localise → Fails j x p → IsFound a → Fits stage a
+  found : (a : Answer) → is_search j.task ≡ true → Fails j x p → IsFound a → Fits stage a
   found a is (end, runs, fails) it =
       subst (λ s. Fits s a) (sym (by_end end runs)) (found_fits end a is fails it)
 
@@ -152,7 +161,9 @@ module _ (j : Job) (x : Texts) (p : Program) where
   fits_at_once (answer.Located bytes) none = absurd none
   fits_at_once (answer.TooManySets weight most) none = absurd none
   fits_at_once (answer.BudgetSpent conflicts) none = absurd none
-  fits_at_once answer.NotBuilt none = absurd none
+  fits_at_once (answer.Sampled additions weight sets) none = absurd none
+  fits_at_once (answer.Accepted claimed) none = absurd none
+  fits_at_once (answer.BadCertificate code line) none = absurd none
   fits_at_once answer.BadWords none = absurd none
   fits_at_once (answer.BadProgram f) none = absurd none
   fits_at_once (answer.Unreadable which) none = absurd none
@@ -163,12 +174,14 @@ module _ (j : Job) (x : Texts) (p : Program) where
   fits (Some d) a row = found a row.searches.0 row.searches.1 (d, row)
 
   -- a failing run that is to be repaired has what is found
-  shown_found : (t : Task) (shown : At → Answer) (stmt : StmtId) (a : Answer) → t ≡ task.Localise →
+  shown_found : (t : Task) (shown : At → Answer) (stmt : StmtId) (a : Answer) → is_search t ≡ true →
       IsShownBy t shown stmt a → IsFound a
   shown_found task.Localise shown stmt a is it = it
+  shown_found (task.Sample additions) shown stmt a is it = it
+  shown_found task.Check shown stmt a is it = absurd it
   shown_found task.Run shown stmt a is it = absurd (let no : ⊥ = cc in no)
 
-  found_at : (end : Outcome) (a : Answer) → j.task ≡ task.Localise → is_failure end ≡ true
+  found_at : (end : Outcome) (a : Answer) → is_search j.task ≡ true → is_failure end ≡ true
       → Fits (at_end end) a → IsFound a
   found_at (outcome.AssertFails stmt) a is fails it = shown_found j.task answer.AssertFails stmt a is it
   found_at (outcome.Trap stmt) a is fails it = shown_found j.task answer.Trap stmt a is it
@@ -180,6 +193,26 @@ module _ (j : Job) (x : Texts) (p : Program) where
       IsOfSearch a
   searched (is, (end, runs, fails)) handed a row = found_searched a
       (found_at end a is fails (subst (λ s. Fits s a) (by_end end runs) (fits handed a row)))
+
+  -- a failing run whose certificate is to be checked has no answer by the texts alone
+  none_shown : (t : Task) (shown : At → Answer) (stmt : StmtId) (a : Answer) → t ≡ task.Check →
+      IsShownBy t shown stmt a → ⊥
+  none_shown task.Check shown stmt a is it = it
+  none_shown task.Run shown stmt a is it = let no : ⊥ = cc in no
+  none_shown task.Localise shown stmt a is it = let no : ⊥ = cc in no
+  none_shown (task.Sample additions) shown stmt a is it = let no : ⊥ = cc in no
+
+  none_at : (end : Outcome) (a : Answer) → j.task ≡ task.Check → is_failure end ≡ true → Fits (at_end end) a
+      → ⊥
+  none_at (outcome.AssertFails stmt) a is fails it = none_shown j.task answer.AssertFails stmt a is it
+  none_at (outcome.Trap stmt) a is fails it = none_shown j.task answer.Trap stmt a is it
+  none_at outcome.Done a is fails it = let no : ⊥ = cc in no
+  none_at (outcome.Beyond stmt) a is fails it = let no : ⊥ = cc in no
+  none_at outcome.WrongChoices a is fails it = it
+
+  pub unanswered : Checks j x p → (handed : Option Derivation) (a : Answer) → Answers j x p handed a → ⊥
+  unanswered (is, (end, runs, fails)) handed a row =
+      none_at end a is fails (subst (λ s. Fits s a) (by_end end runs) (fits handed a row))
 
   -- THE ANSWERS OF EACH STAGE AGREE
 
@@ -234,6 +267,28 @@ module _ (j : Job) (x : Texts) (p : Program) where
         ∙ report_same x.program p more sets others (all_same weight more sets others one other)
         ∙ ap (λ runs. report_text x.program p runs more others) (sym plain))
         ∙ sym are)
+
+  -- and samples of all least sets are one
+  counted_same : (weight more : ℕ) (sets others : List FoundSet) → AreAll weight sets → AreAll more others →
+      length sets ≡ length others
+  counted_same weight more sets others one other =
+      sym (length-map sets (λ (b : FoundSet). b.groups))
+      ∙ ap length (all_same weight more sets others one other) ∙ length-map others (λ (b : FoundSet). b.groups)
+
+  told_agree : (t : Task) (weight more : ℕ) (sets others : List FoundSet) (a b : Answer) → AreAll weight sets
+      → AreAll more others
+      → a ≡ sets_answer t (report_text x.program p j.runs weight sets) weight (length sets)
+      → b ≡ sets_answer t (report_text x.program p j.runs more others) more (length others) → Agree j a b
+  told_agree task.Localise weight more sets others a b one other is are =
+      all_agree weight more sets others a b one other is are
+  told_agree task.Check weight more sets others a b one other is are =
+      all_agree weight more sets others a b one other is are
+  told_agree task.Run weight more sets others a b one other is are =
+      all_agree weight more sets others a b one other is are
+  told_agree (task.Sample additions) weight more sets others a b one other is are = are_one (is
+      ∙ ap (λ weight. answer.Sampled additions weight (length sets)) (all_weigh weight more sets others one
+      other)
+      ∙ ap (answer.Sampled additions more) (counted_same weight more sets others one other) ∙ sym are)
 
   no_sets : (sets : List FoundSet) → sets_of sets ≡ [] → sets ≡ []
   no_sets [] e = refl
@@ -302,7 +357,7 @@ module _ (j : Job) (x : Texts) (p : Program) where
   verdicts_agree d e (Located weight sets) NoRepair a b one other is are =
       absurd (some_or_none weight sets one other)
   verdicts_agree d e (Located weight sets) (Located more others) a b one other is are =
-      all_agree weight more sets others a b one other is are
+      told_agree j.task weight more sets others a b one other is are
   verdicts_agree d e (Located weight sets) (TooMany more others) a b one other is are =
       absurd (many_or_few weight more sets others one other.0)
   verdicts_agree d e (TooMany weight sets) NoRepair a b one other is are =
@@ -327,6 +382,8 @@ module _ (j : Job) (x : Texts) (p : Program) where
       → IsShownBy t shown stmt b → Agree j a b
   one_shown task.Run shown stmt a b one other = one_at shown stmt a b one other
   one_shown task.Localise shown stmt a b one other = one_found a b one other
+  one_shown (task.Sample additions) shown stmt a b one other = one_found a b one other
+  one_shown task.Check shown stmt a b one other = absurd one
 
   one_fits : (s : Stage) (a b : Answer) → Fits s a → Fits s b → Agree j a b
   one_fits (at_input f) a b one other = are_one

@@ -1,6 +1,6 @@
 -- WHAT A JOB COMES TO, where its files have these texts: a row for each answer. It says nothing of a world.
 
-use Rattle.std.specs.Prelude.{◌≡◌, ℕ, ◌<◌, ◌≤◌, Bool, true, false, Option, None, Some, option_map, List}
+use Rattle.std.specs.Prelude.{◌≡◌, ℕ, ◌<◌, ◌≤◌, Bool, true, false, Option, None, Some, option_map, List, length}
 use Rattle.ba_commands.specs.Weights.{bad_line, weights_in}
 use Rattle.ba_derivations.specs.declared.verdict.Verdict.{Verdict}
 use Rattle.ba_derivations.specs.declared.verdict.Verdict.TheVariants.{Located, NoRepair, TooMany, Spent}
@@ -22,6 +22,7 @@ use Rattle.ba_tree.specs.declared.run.Outcome.TheVariants as outcome
 use Rattle.ba_tree.specs.declared.tree.Program.{Program}
 use Rattle.ba_tree.specs.declared.tree.StmtInfo.{StmtInfo}
 use Rattle.ba_types.specs.Spelling.{Spells}
+use Rattle.ba_tool.specs.Jobs.{is_search}
 use Rattle.ba_tool.specs.Programs.{IsFault}
 use Rattle.ba_tool.specs.declared.answers.Answer.{Answer}
 use Rattle.ba_tool.specs.declared.answers.Answer.TheVariants as answer
@@ -30,6 +31,7 @@ use Rattle.ba_tool.specs.declared.answers.InputFault.TheVariants as fault
 use Rattle.ba_tool.specs.declared.faults.Fault.{Fault}
 use Rattle.ba_tool.specs.declared.files.Texts.{Texts}
 use Rattle.ba_tool.specs.declared.jobs.Job.{Job}
+use Rattle.ba_tool.specs.declared.jobs.Task.{Task}
 use Rattle.ba_tool.specs.declared.jobs.Task.TheVariants as task
 
 -- how many units a program may have
@@ -90,19 +92,28 @@ is_failure _ = false
 abbrev pub Fails : Job → Texts → Program → Type 0
 Fails j x p = (end : Outcome) × RunsTo j x p end × (is_failure end ≡ true)
 
--- a program that fails is to be localised
+-- the least sets of a program that fails are to be searched for; or a certificate for it is to be checked
 abbrev pub Searches : Job → Texts → Program → Type 0
-Searches j x p = (j.task ≡ task.Localise) × Fails j x p
+Searches j x p = (is_search j.task ≡ true) × Fails j x p
+
+abbrev pub Checks : Job → Texts → Program → Type 0
+Checks j x p = (j.task ≡ task.Check) × Fails j x p
 
 -- which choices make a good run on the input where a set of statements is relaxed
 abbrev pub judge_in : Job → Texts → Program → Judge
 judge_in j x p = judge_of p (input_of p x) j.bounds
 
--- AN ANSWER TELLS A VERDICT: it is the report of the least sets, with their runs where these are asked for;
--- that there is no repair; that there are more least sets than may be listed, each of this weight; or that
--- the conflicts that are allowed are spent
+-- least sets are told by their report, with their runs where these are asked for; those of a sample by what
+-- they weigh and how many they are
+abbrev pub sets_answer : Task → List ℕ → ℕ → ℕ → Answer
+sets_answer (task.Sample additions) report weight count = answer.Sampled additions weight count
+sets_answer _ report weight count = answer.Located report
+
+-- AN ANSWER TELLS A VERDICT: the least sets; that there is no repair; that there are more least sets than may
+-- be listed, each of this weight; or that the conflicts that are allowed are spent
 abbrev pub Tells : Job → List ℕ → Program → Verdict → Answer → Type 0
-Tells j source p (Located weight sets) a = a ≡ answer.Located (report_text source p j.runs weight sets)
+Tells j source p (Located weight sets) a =
+    a ≡ sets_answer j.task (report_text source p j.runs weight sets) weight (length sets)
 Tells j source p NoRepair a = a ≡ answer.NoRepair
 Tells j source p (TooMany weight sets) a = a ≡ answer.TooManySets weight j.sets
 Tells j source p Spent a = a ≡ answer.BudgetSpent j.conflicts
@@ -141,6 +152,7 @@ IsAnswer j x handed a = (p : Program) × Spells x.program p × Answers j x p han
 -- the answers of a search
 abbrev pub IsOfSearch : Answer → Type 0
 IsOfSearch (answer.Located bytes) = Unit {0}
+IsOfSearch (answer.Sampled additions weight sets) = Unit {0}
 IsOfSearch answer.NoRepair = Unit {0}
 IsOfSearch (answer.TooManySets weight most) = Unit {0}
 IsOfSearch (answer.BudgetSpent conflicts) = Unit {0}

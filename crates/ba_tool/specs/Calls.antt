@@ -1,30 +1,36 @@
 -- A CALL of the program: how its answer comes from the words and the files, what it hands to the sink of
 -- steps, and what it leaves of the outside.
 
-use Rattle.std.specs.Prelude.{◌≡◌, ◌⊎◌, ℕ, ◌+◌, ◌<◌, ◌≤◌, true, Option, None, Some, List, [], map, length}
+use Rattle.std.specs.Prelude.{◌≡◌, ◌⊎◌, ℕ, ◌+◌, ◌*◌, ◌<◌, ◌≤◌, true, Option, None, Some, List, [], map, length}
 use denote.Ref.{Bor}
 use Rattle.ba_cert.specs.Text.{text_of as certificate_of}
 use Rattle.ba_cert.specs.Writing.{Holds, HoldsBeginning, OnlyWritesTo}
 use Rattle.ba_commands.specs.Modes.{Word}
-use Rattle.ba_localise.specs.Verdicts.{Derivation, Hands, Told}
+use Rattle.ba_derivations.specs.Encodings.{IsFaithful}
+use Rattle.ba_localise.specs.Verdicts.{Derivation, Hands, Told, problem_of}
 use Rattle.ba_numbers.specs.declared.ids.At.{At}
-use Rattle.ba_world.specs.Read.{IsReadWhole, Stopped, StoppedPast}
+use Rattle.ba_world.specs.Read.{IsReadWhole, Stopped, StoppedPast, piece_size}
 use Rattle.ba_world.specs.declared.read.ReadFileError.{ReadFileError}
 use Rattle.ba_world.specs.declared.read.ReadFileError.TheVariants as read
 use Rattle.ba_world.specs.World.{HasPrintShortage, HasReadFault, HasWriteFault, OnlyPrints, OnlyReads, Outside, Prints, PrintsPrefix, Rose, StaysBut}
 use Rattle.ba_tree.specs.declared.tree.Program.{Program}
 use Rattle.ba_types.specs.Spelling.{Spells}
-use Rattle.ba_tool.specs.Answers.{IsAnswer, Searches}
-use Rattle.ba_tool.specs.Jobs.{cert_of, request_of}
+use Rattle.ba_tool.specs.Answers.{Checks, IsAnswer, Searches, judge_in, weights_of}
+use Rattle.ba_tool.specs.Certificates.{CertificateComesTo, Judging}
+use Rattle.ba_tool.specs.Jobs.{cert_of, request_of, sample_job, sample_texts, written_by}
+use Rattle.ba_tool.specs.Limits.{certificate_limit, limit}
 use Rattle.ba_tool.specs.Printed.{status_of, text_of}
 use Rattle.ba_tool.specs.declared.answers.Answer.{Answer}
 use Rattle.ba_tool.specs.declared.answers.Answer.TheVariants as answer
+use Rattle.ba_tool.specs.declared.answers.Claim.{Claim}
 use Rattle.ba_tool.specs.declared.answers.InputFault.{InputFault}
 use Rattle.ba_tool.specs.declared.faults.Fault.{Fault}
 use Rattle.ba_tool.specs.declared.files.File.{File}
 use Rattle.ba_tool.specs.declared.files.File.TheVariants as file
 use Rattle.ba_tool.specs.declared.files.Texts.{Texts}
 use Rattle.ba_tool.specs.declared.jobs.Job.{Job}
+use Rattle.ba_tool.specs.declared.jobs.Task.{Task}
+use Rattle.ba_tool.specs.declared.jobs.Task.TheVariants as task
 use Rattle.ba_tool.specs.declared.jobs.Request.{Request}
 use Rattle.ba_tool.specs.declared.jobs.Request.TheVariants as request
 use Rattle.ba_tool.specs.declared.status.Status.{Status}
@@ -56,11 +62,8 @@ HasFaultOf before after told_before told_after =
 abbrev pub HasFault : Call → Type 0
 HasFault c = HasFaultOf c.before c.after c.told_before c.told_after
 
--- THE FILES: the program, the input, and the weights if they are named, in this order
-
--- how many bytes a file may have
-abbrev pub limit : ℕ
-limit = 65536
+-- THE FILES that are read whole: the program, the input, and the weights if they are named, in this order. The
+-- certificate of a check isn't among them: it is read behind them.
 
 -- the file of this name was read whole, and these are its bytes, as far as the world tells them
 pub record IsReadFile (name : Word) (text : List ℕ) (old new : Outside) : Type 0 where
@@ -80,6 +83,7 @@ WasReadBefore file.Input j before opened = (program : List ℕ) × IsReadFile j.
 WasReadBefore file.Weights j before opened =
     (mid : Outside) × (program input : List ℕ)
     × IsReadFile j.program program before mid × IsReadFile j.input input mid opened
+WasReadBefore file.Certificate j before opened = ⊥
 
 -- all files of a job were read, and have these texts
 pub record AreRead (j : Job) (x : Texts) (before read : Outside) : Type 0 where
@@ -93,6 +97,7 @@ abbrev pub name_of : File → Job → Option Word
 name_of file.Program j = Some j.program
 name_of file.Input j = Some j.input
 name_of file.Weights j = j.weights
+name_of file.Certificate j = None
 
 -- A FILE THAT WASN'T READ: its read stopped by a fault or since there is no such file; or with the piece by
 -- which there were more bytes than the limit
@@ -113,14 +118,56 @@ pub record StopsAt (which : File) (error : ReadFileError) (j : Job) (before read
   pub read_before : WasReadBefore which j before opened
   pub unread : IsUnread name error opened read
 
+-- what is judged of a certificate: what its file says on the problem of the run, over the formula that was
+-- handed on
+abbrev pub judging : Job → Texts → Program → Derivation → Word → Judging
+judging j x p over name = record {
+  name = name;
+  problem = problem_of over (judge_in j x p) j.conflicts j.sets;
+  weights = weights_of p x;
+}
+
+-- a certificate comes to the answer, over a formula that encodes faithfully which runs are good, with no step
+pub record IsAbout (j : Job) (x : Texts) (p : Program) (over : Derivation) (a : Answer) (old new : Outside)
+    : Type 0
+  where
+    pub faithful : IsFaithful over.begun.formula over.begun.softs (weights_of p x) (judge_in j x p)
+    pub no_step : over.steps ≡ []
+    pub name : Word
+    pub named : j.cert ≡ Some name
+    pub comes : CertificateComesTo (judging j x p over name) a old new
+
+-- A CHECK: all files were read whole and their run fails; a formula was handed to the sink of steps, and no
+-- step; and the certificate, which then is read, comes to the answer over this formula
+pub record CheckComesTo (j : Job) (before after : Outside) (handed : Option Derivation) (a : Answer) :
+    Type 0 where
+  pub texts : Texts
+  pub read : Outside
+  pub are_read : AreRead j texts before read
+  pub program : Program
+  pub spells : Spells texts.program program
+  pub checks : Checks j texts program
+  pub over : Derivation
+  pub handed_is : handed ≡ Some over
+  pub about : IsAbout j texts program over a read after
+
 -- THE ANSWER of words and files, where reading leads from one moment to a later one
 
--- a file couldn't be read, or was too long; or all were read, and their texts come to the answer
+-- a file couldn't be read, or was too long
+abbrev pub UnreadComesTo : File → ReadFileError → Job → Outside → Outside → Option Derivation → Answer → Type 0
+UnreadComesTo file.Certificate error j before after handed a = CheckComesTo j before after handed a
+UnreadComesTo which error j before after handed a = StopsAt which error j before after × (handed ≡ None)
+
+-- or all were read, and their texts come to the answer; or their run fails, and the certificate comes to it
 abbrev pub JobComesTo : Job → Outside → Outside → Option Derivation → Answer → Type 0
 JobComesTo j before after handed (answer.Unreadable which) =
-    StopsAt which read.Failed j before after × (handed ≡ None)
+    UnreadComesTo which read.Failed j before after handed (answer.Unreadable which)
 JobComesTo j before after handed (answer.TooLong which) =
-    StopsAt which read.TooLong j before after × (handed ≡ None)
+    UnreadComesTo which read.TooLong j before after handed (answer.TooLong which)
+JobComesTo j before after handed (answer.Accepted claimed) =
+    CheckComesTo j before after handed (answer.Accepted claimed)
+JobComesTo j before after handed (answer.BadCertificate code line) =
+    CheckComesTo j before after handed (answer.BadCertificate code line)
 JobComesTo j before after handed a = (x : Texts) × AreRead j x before after × IsAnswer j x handed a
 
 -- an answer that is given at once: no file is opened, and nothing is handed to the sink of steps
@@ -128,10 +175,11 @@ pub record IsAtOnce (before after : Outside) (handed : Option Derivation) : Type
   pub unread : after ≡ before
   pub unsearched : handed ≡ None
 
--- words that are no command, and a command that isn't built, are answered at once
+-- words that are no command are answered at once; a sample is no file, and its text comes to the answer
 abbrev pub RequestComesTo : Request → Outside → Outside → Option Derivation → Answer → Type 0
 RequestComesTo request.Refused before after handed a = (a ≡ answer.BadWords) × IsAtOnce before after handed
-RequestComesTo request.NotBuilt before after handed a = (a ≡ answer.NotBuilt) × IsAtOnce before after handed
+RequestComesTo (request.Sample additions) before after handed a =
+    (after ≡ before) × IsAnswer (sample_job additions) (sample_texts additions) handed a
 RequestComesTo (request.Wanted j) before after handed a = JobComesTo j before after handed a
 
 -- the answer for a file that wasn't read; none for want of memory
@@ -183,8 +231,27 @@ pub record Concludes (j : Job) (x : Texts) (name : Option Word) (before after : 
   pub hands : Hands derivation told_before told_after
   pub certifies : Certifies name (Some derivation) before after
 
--- WHAT A REQUEST COMES TO before anything is printed. By what is read it comes to an answer; a derivation
--- of it was handed to the sink of steps where it is of a search, and only the certificate was written.
+-- what a check comes to, where the run is known to fail: a formula was handed to the sink of steps, and the
+-- certificate comes to the answer over it
+pub record ConcludesCheck (j : Job) (x : Texts) (p : Program) (before after : Outside)
+    (told_before told_after : Told) (a : Answer) : Type 0 where
+  pub over : Derivation
+  pub hands : Hands over told_before told_after
+  pub about : IsAbout j x p over a before after
+
+-- what a job comes to, where its files have these texts: an answer of theirs, or of its certificate
+pub data Proceeds (j : Job) (x : Texts) (before after : Outside) (told_before told_after : Told)
+    (a : Answer) : Type 0
+  where
+    by_texts : (handed : Option Derivation) → IsAnswer j x handed a → HandsOn handed told_before told_after →
+        Certifies (written_by j.task j.cert) handed before after →
+        Proceeds j x before after told_before told_after a
+    by_certificate : (p : Program) → Spells x.program p → Checks j x p → OnlyReads before after →
+        ConcludesCheck j x p before after told_before told_after a →
+        Proceeds j x before after told_before told_after a
+
+-- WHAT A REQUEST COMES TO before anything is printed. By what is read it comes to an answer; a derivation of
+-- it was handed to the sink of steps where it is of a search, and only the certificate was written.
 pub record Comes (r : Request) (before after : Outside) (told_before told_after : Told) (a : Answer) : Type 0
   where
     pub read : Outside
@@ -195,10 +262,13 @@ pub record Comes (r : Request) (before after : Outside) (told_before told_after 
     pub certifies : Certifies (cert_of r) handed read after
 
 -- it stopped on the way: it read, and may have begun the certificate
-pub record Stops (r : Request) (before after : Outside) : Type 0 where
+pub record StopsWith (cert : Option Word) (before after : Outside) : Type 0 where
   pub read : Outside
   pub reads : OnlyReads before read
-  pub may : MayBegin (cert_of r) read after
+  pub may : MayBegin cert read after
+
+abbrev pub Stops : Request → Outside → Outside → Type 0
+Stops r before after = StopsWith (cert_of r) before after
 
 -- A CALL COMES TO AN ANSWER, and from then on only prints
 pub record ComesTo (c : Call) (a : Answer) : Type 0 where
@@ -229,9 +299,12 @@ IsShown a before after result =
 -- WHAT EACH STATUS SAYS of a call that ends with it
 
 abbrev pub Says : Call → Status → Type 0
--- a derivation shows that these sets are all that are least, and their report was printed; or where the run
--- of a program fails that was to be run
+-- a derivation shows that these sets are all that are least, and their report was printed, or for a sample
+-- what they weigh and how many they are; or a certificate claims what is true, and is accepted; or where the
+-- run of a program fails that was to be run
 Says c status.Ok = ((report : List ℕ) × Answered c (answer.Located report))
+    ⊎ ((additions weight sets : ℕ) × Answered c (answer.Sampled additions weight sets))
+    ⊎ ((claimed : Claim) × Answered c (answer.Accepted claimed))
     ⊎ ((at : At) × Answered c (answer.AssertFails at)) ⊎ ((at : At) × Answered c (answer.Trap at))
 Says c status.NotFailing = Answered c answer.NotFailing
 Says c status.BadWords = Answered c answer.BadWords
@@ -245,6 +318,8 @@ Says c status.NoRepair = Answered c answer.NoRepair
 Says c status.TooManySets = (weight most : ℕ) × Answered c (answer.TooManySets weight most)
 -- the steps that were handed to the sink spend the conflicts that are allowed
 Says c status.BudgetSpent = (conflicts : ℕ) × Answered c (answer.BudgetSpent conflicts)
+-- the certificate is refused, at its first refused line
+Says c status.BadCertificate = (code line : ℕ) × Answered c (answer.BadCertificate code line)
 Says c status.ReadFault = (which : File) × Answered c (answer.Unreadable which)
 -- a fault of writing rose; a prefix of the text of an answer was printed, or the call ended before it
 -- printed
@@ -254,7 +329,6 @@ Says c status.WriteFault = HasFault c × (AnsweredInPart c ⊎ Unanswered c)
 Says c status.Memory = Unanswered c ⊎ (HasPrintShortage c.before c.after × AnsweredInPart c)
 Says c status.TooLong = (which : File) × Answered c (answer.TooLong which)
 Says c status.BadWeights = (line : ℕ) × Answered c (answer.BadWeights line)
-Says c status.NotBuilt = Answered c answer.NotBuilt
 
 -- WHAT IS WRITTEN. No count of faults falls.
 
@@ -287,7 +361,7 @@ pub data EndsWith (c : Call) (wanted : Status → Type 0) (result : Status) : Ty
   write_fault : result ≡ status.WriteFault → HasFault c → EndsWith c wanted result
   memory : result ≡ status.Memory → EndsWith c wanted result
 
--- a search ends with the report of the least sets, with that there are none, or more than may be listed; or
+-- a search ends with the least sets, with that there are none, or more than may be listed; or
 -- with that its conflicts are spent
 pub data IsEndOfSearch : Status → Type 0 where
   located : IsEndOfSearch status.Ok
@@ -299,6 +373,7 @@ pub data IsEndOfSearch : Status → Type 0 where
 -- conflicts are spent in its place; and where this is due, it may also end otherwise.
 abbrev pub IsEndFor : Answer → Status → Type 0
 IsEndFor (answer.Located bytes) result = (result ≡ status.Ok) ⊎ (result ≡ status.BudgetSpent)
+IsEndFor (answer.Sampled additions weight sets) result = (result ≡ status.Ok) ⊎ (result ≡ status.BudgetSpent)
 IsEndFor answer.NoRepair result = (result ≡ status.NoRepair) ⊎ (result ≡ status.BudgetSpent)
 IsEndFor (answer.TooManySets weight most) result =
     (result ≡ status.TooManySets) ⊎ (result ≡ status.BudgetSpent)
@@ -331,6 +406,7 @@ abbrev pub TellsEarlier : File → Outside → Job → Type 0
 TellsEarlier file.Program before j = Unit {0}
 TellsEarlier file.Input before j = TellsShort before j.program
 TellsEarlier file.Weights before j = TellsShort before j.program × TellsShort before j.input
+TellsEarlier file.Certificate before j = ⊥
 
 -- and it tells that there is no file of this name; or that this one is too long
 pub record TellsAbsent (which : File) (before : Outside) (j : Job) : Type 0 where
@@ -348,8 +424,8 @@ pub record TellsLong (which : File) (before : Outside) (j : Job) : Type 0 where
   pub long : limit < length text
 
 -- THE ANSWER THAT IS DUE to a job: one for the texts of its files, where the world tells them all; that a
--- file can't be read, or is too long, where the world tells so, and tells the files before it; to words, at
--- once
+-- file can't be read, or is too long, where the world tells so, and tells the files before it; to a sample,
+-- one for its text; to words that are no command, at once
 pub data IsDueToJob (j : Job) (before : Outside) (a : Answer) : Type 0 where
   of_texts : (x : Texts) (handed : Option Derivation) → TellsAll before j x → IsAnswer j x handed a →
       IsDueToJob j before a
@@ -358,16 +434,50 @@ pub data IsDueToJob (j : Job) (before : Outside) (a : Answer) : Type 0 where
 
 abbrev pub IsDue : Request → Outside → Answer → Type 0
 IsDue request.Refused before a = a ≡ answer.BadWords
-IsDue request.NotBuilt before a = a ≡ answer.NotBuilt
+IsDue (request.Sample additions) before a =
+    (handed : Option Derivation) × IsAnswer (sample_job additions) (sample_texts additions) handed a
 IsDue (request.Wanted j) before a = IsDueToJob j before a
 
--- words ask for the least sets of a program, and the world tells all files: none is too long, the program's
--- text spells it, and its run fails
+-- words ask for a job, and the world tells all of its files, of which none is too long; or they ask for a
+-- sample
+pub data TellsTexts (asked : Request) (before : Outside) (j : Job) (x : Texts) : Type 0 where
+  of_files : asked ≡ request.Wanted j → TellsAll before j x → TellsTexts asked before j x
+  of_sample : (additions : ℕ) → asked ≡ request.Sample additions → j ≡ sample_job additions →
+      x ≡ sample_texts additions → TellsTexts asked before j x
+
+-- they ask for the least sets of a program; its text spells it, and its run fails
 pub record TellsFailing (asked : Request) (before : Outside) : Type 0 where
   pub job : Job
+  pub texts : Texts
+  pub told : TellsTexts asked before job texts
+  pub program : Program
+  pub spelled : Spells texts.program program
+  pub searches : Searches job texts program
+
+-- they ask to check the certificate of this name, and the run fails
+pub record TellsCheck (asked : Request) (before : Outside) (name : Word) : Type 0 where
+  pub job : Job
   pub wanted : asked ≡ request.Wanted job
+  pub named : job.cert ≡ Some name
   pub texts : Texts
   pub told : TellsAll before job texts
   pub program : Program
   pub spelled : Spells texts.program program
-  pub searches : Searches job texts program
+  pub checks : Checks job texts program
+
+-- How a check ends by what the world tells of the certificate: it can't be read where there is none; where
+-- there is one it is accepted, if it isn't too long, or it is refused, or it is too long.
+pub data IsEndOfCheck : Option (List ℕ) → Status → Type 0 where
+  not_there : IsEndOfCheck None status.ReadFault
+  accepted : (text : List ℕ) → length text ≤ certificate_limit → IsEndOfCheck (Some text) status.Ok
+  refused : (text : List ℕ) → IsEndOfCheck (Some text) status.BadCertificate
+  too_long : (text : List ℕ) → certificate_limit < length text → IsEndOfCheck (Some text) status.TooLong
+
+-- HOW MANY BYTES of files may come: of each file no more than its limit and one piece
+abbrev pub most_of : Task → ℕ
+most_of task.Check = certificate_limit + piece_size
+most_of _ = 0
+
+abbrev pub most_given : Request → ℕ
+most_given (request.Wanted j) = 3 * (limit + piece_size) + most_of j.task
+most_given _ = 0

@@ -4,7 +4,7 @@ use Rattle.std.specs.Prelude.{◌≡◌, None, true}
 use Rattle.ba_tree.specs.Least.{AreWeightsOf}
 use Rattle.ba_tree.specs.Run.{fits}
 use Rattle.ba_types.specs.Spelling.{Spells}
-use Rattle.ba_tool.specs.Answers.{IsAnswer, Searches, input_of, weights_of}
+use Rattle.ba_tool.specs.Answers.{Checks, IsAnswer, Searches, input_of, weights_of}
 use Rattle.ba_tool.specs.declared.files.Texts.{Texts}
 use Rattle.ba_tool.specs.declared.jobs.Job.{Job}
 use Rattle.ba_tool.specs.declared.judge.Case.{Case}
@@ -19,7 +19,8 @@ pub record IsCaseOf (x : Texts) (c : Case) : Type 0 where
   pub weights : c.weights.of ≡ weights_of c.program x
   pub weighed : AreWeightsOf c.program c.weights.of
 
--- an answer at once; or a case that is to be searched
+-- an answer at once; or a case whose least sets are to be searched for, or whose certificate is to be checked
 abbrev pub IsJudged : Job → Texts → Judged → Type 0
 IsJudged j x (judged.Answered a) = IsAnswer j x None a
-IsJudged j x (judged.Fails c) = IsCaseOf x c × Searches j x c.program
+IsJudged j x (judged.ToSearch c) = IsCaseOf x c × Searches j x c.program
+IsJudged j x (judged.ToCheck c) = IsCaseOf x c × Checks j x c.program

@@ -5,6 +5,9 @@ use Rattle.std.specs.Prelude.{ℕ, Option, None, Some, List, ◌++◌, codes, de
 use Rattle.ba_numbers.specs.declared.ids.At.{At}
 use Rattle.ba_tool.specs.declared.answers.Answer.{Answer}
 use Rattle.ba_tool.specs.declared.answers.Answer.TheVariants as answer
+use Rattle.ba_tool.specs.Limits.{limit_of}
+use Rattle.ba_tool.specs.declared.answers.Claim.{Claim}
+use Rattle.ba_tool.specs.declared.answers.Claim.TheVariants as claim
 use Rattle.ba_tool.specs.declared.answers.InputFault.{InputFault}
 use Rattle.ba_tool.specs.declared.answers.InputFault.TheVariants as input
 use Rattle.ba_tool.specs.declared.faults.Cause.{Cause}
@@ -17,6 +20,8 @@ use Rattle.ba_tool.specs.declared.status.Status.TheVariants as status
 -- the status of an answer that was printed whole
 abbrev pub status_of : Answer → Status
 status_of (answer.Located bytes) = status.Ok
+status_of (answer.Accepted claimed) = status.Ok
+status_of (answer.Sampled additions weight sets) = status.Ok
 status_of (answer.AssertFails at) = status.Ok
 status_of (answer.Trap at) = status.Ok
 status_of answer.NotFailing = status.NotFailing
@@ -28,10 +33,10 @@ status_of (answer.BeyondBound at) = status.BeyondBound
 status_of answer.NoRepair = status.NoRepair
 status_of (answer.TooManySets weight most) = status.TooManySets
 status_of (answer.BudgetSpent conflicts) = status.BudgetSpent
+status_of (answer.BadCertificate code line) = status.BadCertificate
 status_of (answer.Unreadable which) = status.ReadFault
 status_of (answer.TooLong which) = status.TooLong
 status_of (answer.BadWeights line) = status.BadWeights
-status_of answer.NotBuilt = status.NotBuilt
 
 -- the number that the program ends with
 abbrev pub number_of : Status → ℕ
@@ -45,12 +50,12 @@ number_of status.BeyondBound = 6
 number_of status.NoRepair = 7
 number_of status.TooManySets = 8
 number_of status.BudgetSpent = 9
+number_of status.BadCertificate = 10
 number_of status.ReadFault = 11
 number_of status.WriteFault = 12
 number_of status.Memory = 13
 number_of status.TooLong = 14
 number_of status.BadWeights = 15
-number_of status.NotBuilt = 16
 
 -- PARTS of the texts
 
@@ -93,10 +98,22 @@ abbrev pub file_word : File → List ℕ
 file_word file.Program = codes "program"
 file_word file.Input = codes "input"
 file_word file.Weights = codes "weights"
+file_word file.Certificate = codes "certificate"
+
+abbrev pub claim_text : Claim → List ℕ
+claim_text claim.Located = codes "located"
+claim_text claim.NoRepair = codes "no repair"
+claim_text claim.TooManySets = codes "too many sets"
+claim_text claim.BudgetSpent = codes "budget spent"
 
 -- THE TEXT of an answer
 abbrev pub text_of : Answer → List ℕ
 text_of (answer.Located bytes) = bytes
+text_of (answer.Accepted claimed) = codes "accepted: " ++ claim_text claimed ++ codes "\n"
+text_of (answer.Sampled additions weight sets) =
+    codes "sample " ++ decimal additions ++ codes ": weight " ++ decimal weight ++ codes ", sets " ++
+    decimal sets
+    ++ codes "\n"
 text_of (answer.AssertFails at) = codes "assertion fails at " ++ at_text at ++ codes "\n"
 text_of (answer.Trap at) = codes "trap at " ++ at_text at ++ codes "\n"
 text_of answer.NotFailing = codes "not failing\n"
@@ -112,7 +129,10 @@ text_of (answer.TooManySets weight most) =
     codes "too many sets: weight " ++ decimal weight ++ codes ", more than " ++ decimal most ++ codes "\n"
 text_of (answer.BudgetSpent conflicts) =
     codes "budget spent: " ++ decimal conflicts ++ codes " conflicts\n"
+text_of (answer.BadCertificate code line) =
+    codes "refused: certificate, error " ++ decimal code ++ codes " at line " ++ decimal line ++ codes "\n"
 text_of (answer.Unreadable which) = codes "refused: " ++ file_word which ++ codes " cannot be read\n"
-text_of (answer.TooLong which) = codes "refused: " ++ file_word which ++ codes " is longer than 65536 bytes\n"
+text_of (answer.TooLong which) =
+    codes "refused: " ++ file_word which ++ codes " is longer than " ++ decimal (limit_of which)
+    ++ codes " bytes\n"
 text_of (answer.BadWeights line) = codes "refused: weights, line " ++ decimal line ++ codes "\n"
-text_of answer.NotBuilt = codes "refused: not built\n"

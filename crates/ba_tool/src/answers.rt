@@ -1,7 +1,7 @@
 //! What a call of the program comes to, before it is printed.
 
 ghost use Rattle.std.specs.Prelude.{◌≡◌, ◌++◌, codes, decimal, IfOk, OnOk};
-ghost use Rattle.ba_tool.specs.Printed.{at_text, code_of, file_word, input_text, place_text, status_of, text_of};
+ghost use Rattle.ba_tool.specs.Printed.{at_text, claim_text, code_of, file_word, input_text, place_text, status_of, text_of};
 ghost use Rattle.ba_tool.specs.declared.answers.Answer.{Answer};
 
 use crate::faults::{Cause, Fault};
@@ -23,11 +23,35 @@ pub enum InputFault {
     WrongCount,
 }
 
+/// What a certificate claims of a failing run.
+#[derive(Clone, Copy, Debug, PartialEq, Eq)]
+pub enum Claim {
+    /// The least sets are those that it names.
+    Located,
+    /// No set of statements could repair the run.
+    NoRepair,
+    /// There are more least sets than may be listed.
+    TooManySets,
+    /// The stated number of conflicts is spent.
+    BudgetSpent,
+}
+
 /// What a call comes to.
 #[derive(Drop)]
 pub enum Answer {
     /// The least sets were found: their report.
     Located(Items<u8>),
+    /// The least sets of a sample were found.
+    Sampled {
+        /// How many additions the sample has.
+        additions: u32,
+        /// The weight of each set.
+        weight: u64,
+        /// How many sets there are.
+        sets: u64,
+    },
+    /// The certificate is accepted, and claims this.
+    Accepted(Claim),
     /// The run fails at the assertion that begins here.
     AssertFails(At),
     /// The run traps at the statement that begins here.
@@ -55,14 +79,20 @@ pub enum Answer {
     },
     /// The search spent so many conflicts before it found out the least sets.
     BudgetSpent(u64),
+    /// The certificate is refused.
+    BadCertificate {
+        /// What is wrong: the number of the step's error, from 1 to 14; 20 for a line that is no step's;
+        /// or 21 for a text that ends too early.
+        code: u8,
+        /// The first refused line, counted from 1.
+        line: u64,
+    },
     /// This file cannot be read.
     Unreadable(File),
     /// This file is too long.
     TooLong(File),
     /// This line of the weights is the first that is refused.
     BadWeights(u64),
-    /// The command is of a form that isn't built yet.
-    NotBuilt,
 }
 
 impl Answer {
@@ -71,7 +101,8 @@ impl Answer {
         ensures { result ≡ status_of self.now }
     {
         match self {
-            Answer::Located(_) | Answer::AssertFails(_) | Answer::Trap(_) => Status::Ok,
+            Answer::Located(_) | Answer::Sampled { .. } | Answer::Accepted(_) => Status::Ok,
+            Answer::AssertFails(_) | Answer::Trap(_) => Status::Ok,
             Answer::NotFailing => Status::NotFailing,
             Answer::BadWords => Status::BadWords,
             Answer::BadProgram(_) => Status::BadProgram,
@@ -81,10 +112,10 @@ impl Answer {
             Answer::NoRepair => Status::NoRepair,
             Answer::TooManySets { .. } => Status::TooManySets,
             Answer::BudgetSpent(_) => Status::BudgetSpent,
+            Answer::BadCertificate { .. } => Status::BadCertificate,
             Answer::Unreadable(_) => Status::ReadFault,
             Answer::TooLong(_) => Status::TooLong,
             Answer::BadWeights(_) => Status::BadWeights,
-            Answer::NotBuilt => Status::NotBuilt,
         }
     }
 
@@ -106,6 +137,12 @@ fn push_answer(answer: &Answer, text: &mut Vec<u8>) -> Result<(), AllocError>
 {
     match answer {
         Answer::Located(report) => text.extend_from_slice(report.as_slice()),
+        Answer::Sampled {
+            additions,
+            weight,
+            sets,
+        } => push_sampled(*additions, *weight, *sets, text),
+        Answer::Accepted(claim) => push_claim(*claim, text),
         Answer::AssertFails(at) => push_with_place(b"assertion fails at ", *at, text),
         Answer::Trap(at) => push_with_place(b"trap at ", *at, text),
         Answer::NotFailing => text.extend_from_slice(b"not failing\n"),
@@ -117,10 +154,10 @@ fn push_answer(answer: &Answer, text: &mut Vec<u8>) -> Result<(), AllocError>
         Answer::NoRepair => text.extend_from_slice(b"no repair\n"),
         Answer::TooManySets { weight, most } => push_too_many(*weight, *most, text),
         Answer::BudgetSpent(conflicts) => push_spent(*conflicts, text),
+        Answer::BadCertificate { code, line } => push_bad_certificate(*code, *line, text),
         Answer::Unreadable(file) => push_with_file(*file, b" cannot be read\n", text),
-        Answer::TooLong(file) => push_with_file(*file, b" is longer than 65536 bytes\n", text),
+        Answer::TooLong(file) => push_too_long(*file, text),
         Answer::BadWeights(line) => push_line(*line, text),
-        Answer::NotBuilt => text.extend_from_slice(b"refused: not built\n"),
     }
 }
 
@@ -151,6 +188,7 @@ fn file_word(file: File) -> &'static [u8]
         File::Program => b"program",
         File::Input => b"input",
         File::Weights => b"weights",
+        File::Certificate => b"certificate",
     }
 }
 
@@ -162,6 +200,36 @@ fn push_with_file(file: File, words: &[u8], text: &mut Vec<u8>) -> Result<(), Al
     text.extend_from_slice(b"refused: ")?;
     text.extend_from_slice(file_word(file))?;
     text.extend_from_slice(words)
+}
+
+/// Adds the refusal of a file that is too long.
+fn push_too_long(file: File, text: &mut Vec<u8>) -> Result<(), AllocError>
+    ensures { OnOk result (text.new.items ≡ text.old.items ++ text_of (Answer.TooLong file)) }
+{
+    push_with_file(file, b" is longer than ", text)?;
+    push_number(file.limit(), text)?;
+    text.extend_from_slice(b" bytes\n")
+}
+
+/// The words for what a certificate claims.
+fn claim_text(claim: Claim) -> &'static [u8]
+    ensures { result.now ≡ claim_text claim }
+{
+    match claim {
+        Claim::Located => b"located",
+        Claim::NoRepair => b"no repair",
+        Claim::TooManySets => b"too many sets",
+        Claim::BudgetSpent => b"budget spent",
+    }
+}
+
+/// Adds that a certificate is accepted, and what it claims.
+fn push_claim(claim: Claim, text: &mut Vec<u8>) -> Result<(), AllocError>
+    ensures { OnOk result (text.new.items ≡ text.old.items ++ text_of (Answer.Accepted claim)) }
+{
+    text.extend_from_slice(b"accepted: ")?;
+    text.extend_from_slice(claim_text(claim))?;
+    text.extend_from_slice(b"\n")
 }
 
 /// The stage and the number of a cause.
@@ -297,4 +365,32 @@ fn push_spent(conflicts: u64, text: &mut Vec<u8>) -> Result<(), AllocError>
         ≡ text.old.items ++ text_of (Answer.BudgetSpent conflicts)) }
 {
     push_between(b"budget spent: ", conflicts, b" conflicts\n", text)
+}
+
+/// Adds the refusal of a certificate at a line.
+fn push_bad_certificate(code: u8, line: u64, text: &mut Vec<u8>) -> Result<(), AllocError>
+    ensures { OnOk result (text.new.items
+        ≡ text.old.items ++ text_of (Answer.BadCertificate code line)) }
+{
+    push_two(
+        b"refused: certificate, error ",
+        u64::from(code),
+        b" at line ",
+        line,
+        text,
+    )
+}
+
+/// Adds what the least sets of a sample weigh, and how many they are.
+fn push_sampled(
+    additions: u32,
+    weight: u64,
+    sets: u64,
+    text: &mut Vec<u8>,
+) -> Result<(), AllocError>
+    ensures { OnOk result (text.new.items
+        ≡ text.old.items ++ text_of (Answer.Sampled additions weight sets)) }
+{
+    push_numbered(b"sample ", u64::from(additions), text)?;
+    push_two(b": weight ", weight, b", sets ", sets, text)
 }

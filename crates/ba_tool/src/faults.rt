@@ -3,7 +3,7 @@
 ghost use Rattle.std.specs.Prelude.{◌≡◌, ◌≤◌, length, Some, IfOk, IfErr};
 ghost use Rattle.ba_types.specs.Spelling.{Spells};
 ghost use Rattle.ba_tool.specs.Programs.{TellsFault, lexical_fault, place_at, tree_fault, type_fault};
-ghost use Rattle.ba_tool.specs.Calls.{limit};
+ghost use Rattle.ba_tool.specs.Limits.{limit};
 
 use ba_lex::error::LexError;
 use ba_lex::token::Token;

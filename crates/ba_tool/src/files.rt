@@ -3,7 +3,8 @@
 ghost use Rattle.std.specs.Prelude.{◌≡◌, ◌+◌, ◌*◌, ◌≤◌, IfOk, IfErr};
 ghost use Rattle.ba_world.specs.Read.{piece_size};
 ghost use Rattle.ba_world.specs.World.{OnlyReads};
-ghost use Rattle.ba_tool.specs.Calls.{AreRead, IsReadFile, IsReadIfNamed, IsUnread, IsUnreadIfNamed, StopsAt, limit};
+ghost use Rattle.ba_tool.specs.Calls.{AreRead, IsReadFile, IsReadIfNamed, IsUnread, IsUnreadIfNamed, StopsAt};
+ghost use Rattle.ba_tool.specs.Limits.{limit, limit_of};
 
 use crate::jobs::Job;
 use ba_commands::Text;
@@ -17,6 +18,20 @@ pub enum File {
     Program,
     Input,
     Weights,
+    /// The certificate of a check.
+    Certificate,
+}
+
+impl File {
+    /// How many bytes the file may have.
+    pub fn limit(self) -> u64
+        ensures { result ≡ limit_of self }
+    {
+        match self {
+            File::Program | File::Input | File::Weights => LIMIT,
+            File::Certificate => CERTIFICATE_LIMIT,
+        }
+    }
 }
 
 /// What the files of a job hold. Where no weights are named, their text is empty.
@@ -27,8 +42,11 @@ pub struct Texts {
     pub weights: Items<u8>,
 }
 
-/// How many bytes a file may have.
+/// How many bytes a file may have that is read whole.
 const LIMIT: u64 = 65536;
+
+/// How many bytes a certificate may have.
+pub const CERTIFICATE_LIMIT: u64 = 4_611_686_018_427_387_904;
 
 /// Why the files of a job weren't read: which of them wasn't, and why.
 #[derive(Clone, Copy, Debug, PartialEq, Eq)]

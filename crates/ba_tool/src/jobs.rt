@@ -1,7 +1,7 @@
-//! What the words of a call ask for, as far as it is built.
+//! What the words of a call ask for.
 
 ghost use Rattle.std.specs.Prelude.{◌≡◌, Some, map, IfOk};
-ghost use Rattle.ba_tool.specs.Jobs.{request_by, request_of};
+ghost use Rattle.ba_tool.specs.Jobs.{request_by, request_of, sample_job};
 
 use ba_commands::{Command, Text, WordsError, read_words};
 use ba_tree::run::Bounds;
@@ -12,8 +12,12 @@ use std::alloc::{AllocError, Global};
 pub enum Task {
     /// It finds the least sets of statements whose change could repair the run.
     Localise,
+    /// It judges a certificate.
+    Check,
     /// It runs the program.
     Run,
+    /// It finds the least sets of the sample with so many additions.
+    Sample(u32),
 }
 
 /// What the words ask for: a task, the names of its files, and how far a run and a search may go.
@@ -31,7 +35,8 @@ pub struct Job<'a> {
     pub conflicts: u64,
     /// How many sets may be listed.
     pub sets: u32,
-    /// The file that the certificate is written to, if there is one.
+    /// The file of the certificate, if there is one: where it is written to, or in a check, where it is
+    /// read from.
     pub cert: Option<Text<'a>>,
     /// Whether a run is shown for each set.
     pub runs: bool,
@@ -44,13 +49,14 @@ pub struct Job<'a> {
 pub enum Request<'a> {
     /// The words are no command.
     Refused,
-    /// They are a command that isn't built yet.
-    NotBuilt,
-    /// They are a command that is built.
+    /// They ask for the sample with so many additions.
+    Sample(u32),
+    /// They ask for this job.
     Wanted(Job<'a>),
 }
 
-/// What a command asks for. A run is no search, so it has no conflicts, sets and certificate.
+/// What a command asks for. A check shows no runs and has no restarts. A run is no search, so it has no
+/// conflicts, sets and certificate.
 fn request_by(command: Command) -> Request
     ensures { result ≡ request_by (Some command.entry) }
 {
@@ -93,7 +99,48 @@ fn request_by(command: Command) -> Request
             runs: false,
             steady: false,
         }),
-        Command::Check { .. } | Command::Sample { .. } => Request::NotBuilt,
+        Command::Check {
+            program,
+            input,
+            cert,
+            bounds,
+            weights,
+            conflicts,
+            sets,
+        } => Request::Wanted(Job {
+            task: Task::Check,
+            program,
+            input,
+            weights,
+            bounds,
+            conflicts,
+            sets,
+            cert: Some(cert),
+            runs: false,
+            steady: false,
+        }),
+        Command::Sample { additions } => Request::Sample(additions),
+    }
+}
+
+/// The job of a sample with so many additions. It has no files.
+pub fn sample_job(additions: u32) -> Job<'static>
+    ensures { result ≡ sample_job additions }
+{
+    Job {
+        task: Task::Sample(additions),
+        program: Text::new(""),
+        input: Text::new(""),
+        weights: None,
+        bounds: Bounds {
+            turns: 1,
+            frames: 16,
+        },
+        conflicts: 200_000,
+        sets: 1000,
+        cert: None,
+        runs: false,
+        steady: false,
     }
 }
 

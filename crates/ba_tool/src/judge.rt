@@ -1,11 +1,11 @@
-//! What a job comes to before any search, where its files have these texts.
+//! What a job comes to before any search or check, where its files have these texts.
 
 ghost use Rattle.std.specs.Prelude.{◌≡◌, ◌≢◌, ◌≤◌, true, Some, length, IfOk};
 ghost use Rattle.ba_tree.specs.Choices.{info_of};
 ghost use Rattle.ba_tree.specs.Run.{are_bounds, plain_run};
 ghost use Rattle.ba_types.specs.Spelling.{Spells};
 ghost use Rattle.ba_tool.specs.Answers.{RunsTo, input_answer, position_of, program_answer};
-ghost use Rattle.ba_tool.specs.Calls.{limit};
+ghost use Rattle.ba_tool.specs.Limits.{limit};
 ghost use Rattle.ba_tool.specs.Cases.{IsCaseOf, IsJudged};
 ghost use Rattle.ba_tool.specs.declared.answers.Answer.{Answer};
 ghost use Rattle.ba_tool.specs.declared.files.Texts.{Texts};
@@ -35,13 +35,15 @@ pub struct Case {
     pub weights: Weights,
 }
 
-/// What a job comes to before any search.
+/// What a job comes to before any search or check.
 #[derive(Drop)]
 pub enum Judged {
     /// To this answer.
     Answered(Answer),
     /// The run of this case fails, and its least sets are to be searched for.
-    Fails(Case),
+    ToSearch(Case),
+    /// The run of this case fails, and its certificate is to be checked.
+    ToCheck(Case),
 }
 
 /// What the program says of a statement.
@@ -107,7 +109,7 @@ fn input_answer(error: InputError) -> Result<Answer, AllocError>
     }
 }
 
-/// What a job comes to before any search, where its files have these texts.
+/// What a job comes to before any search or check, where its files have these texts.
 ///
 /// In this order it reads the program, the input and the weights, counts the units, and runs the
 /// program as written.
@@ -178,14 +180,16 @@ fn judge_run(job: &Job, case: Case, outcome: Outcome) -> Result<Judged, AllocErr
                 let at = position_of(&case.program, stmt)?;
                 Ok(Judged::Answered(Answer::AssertFails(at)))
             }
-            Task::Localise => Ok(Judged::Fails(case)),
+            Task::Localise | Task::Sample(_) => Ok(Judged::ToSearch(case)),
+            Task::Check => Ok(Judged::ToCheck(case)),
         },
         Outcome::Trap(stmt) => match job.task {
             Task::Run => {
                 let at = position_of(&case.program, stmt)?;
                 Ok(Judged::Answered(Answer::Trap(at)))
             }
-            Task::Localise => Ok(Judged::Fails(case)),
+            Task::Localise | Task::Sample(_) => Ok(Judged::ToSearch(case)),
+            Task::Check => Ok(Judged::ToCheck(case)),
         },
         // Nothing may be relaxed, so no choice is missing.
         Outcome::WrongChoices => unreachable!(),

@@ -3,6 +3,7 @@
 #![tactic(auto)]
 
 mod answers;
+mod certificates;
 pub mod entry;
 mod faults;
 mod files;
@@ -10,6 +11,7 @@ mod jobs;
 mod judge;
 pub mod laws;
 pub mod rules;
+pub mod samples;
 mod search;
 pub mod status;
 pub mod tool;

@@ -17,7 +17,7 @@ ghost use Rattle.ba_tool.specs.declared.jobs.Job.{Job};
 
 use crate::answers::Answer;
 use crate::files::Texts;
-use crate::jobs::Job;
+use crate::jobs::{Job, Task};
 use crate::judge::Case;
 use crate::rules::Rules;
 use ba_cert::{CertSink, Start, TextSink, begin_text};
@@ -46,10 +46,17 @@ fn verdict_answer(
     ensures { IfOk result (Tells job.now source.now program.now verdict.now) }
 {
     match verdict {
-        Verdict::Located { .. } => {
-            let bytes = report(alloc, source, program, verdict, job.runs)?;
-            Ok(Answer::Located(Items::from_vec(bytes)))
-        }
+        Verdict::Located { weight, sets } => match job.task {
+            Task::Sample(additions) => Ok(Answer::Sampled {
+                additions,
+                weight: *weight,
+                sets: sets.as_slice().len() as u64,
+            }),
+            Task::Localise | Task::Check | Task::Run => {
+                let bytes = report(alloc, source, program, verdict, job.runs)?;
+                Ok(Answer::Located(Items::from_vec(bytes)))
+            }
+        },
         Verdict::NoRepair => Ok(Answer::NoRepair),
         Verdict::TooMany { weight, .. } => Ok(Answer::TooManySets {
             weight: *weight,

@@ -6,8 +6,9 @@ ghost use Rattle.ba_tool.specs.Printed.{number_of};
 /// How the program ends.
 #[derive(Clone, Copy, Debug, PartialEq, Eq)]
 pub enum Status {
-    /// The least sets were found and their report was printed; or a program that was to be run
-    /// failed, and where was printed.
+    /// The least sets were found and their report was printed, or for a sample what they weigh and how
+    /// many they are; or a certificate was accepted; or a program that was to be run failed, and where
+    /// was printed.
     Ok = 0,
     /// The run as written meets every assertion: there is nothing to repair.
     NotFailing = 1,
@@ -27,18 +28,18 @@ pub enum Status {
     TooManySets = 8,
     /// The search spent the conflicts that it may have before it found out the least sets.
     BudgetSpent = 9,
+    /// A line of the certificate is refused, or it ends too early.
+    BadCertificate = 10,
     /// A file could not be read.
     ReadFault = 11,
     /// A text could not be printed whole.
     WriteFault = 12,
     /// There was no memory.
     Memory = 13,
-    /// A file is longer than 65,536 bytes.
+    /// A file is longer than 65,536 bytes, or a certificate than 2^62 bytes.
     TooLong = 14,
     /// A line of the weights is refused.
     BadWeights = 15,
-    /// The command is of a form that is not built yet.
-    NotBuilt = 16,
 }
 
 impl Status {

@@ -1,23 +1,27 @@
 //! The top call of the program.
 
-ghost use Rattle.std.specs.Prelude.{◌≡◌, ◌⊎◌, ◌+◌, ◌*◌, ◌≤◌, true, Err, Some, map, IfOk, IfErr};
+ghost use Rattle.std.specs.Prelude.{◌≡◌, ◌⊎◌, ℕ, ◌+◌, ◌*◌, ◌≤◌, true, Err, List, Option, Some, length, map, IfOk, IfErr};
+ghost use Rattle.ba_commands.specs.Modes.{Word};
 ghost use Rattle.ba_localise.specs.Verdicts.{told};
 ghost use Rattle.ba_search.specs.Rules.{IsKeepRule, IsRestartRule};
 ghost use Rattle.ba_search.specs.declared.search.SearchError.{SearchError};
 ghost use Rattle.ba_world.specs.Read.{piece_size};
 ghost use Rattle.ba_world.specs.World.{HasPrintShortage, HasWriteFault, OnlyPrints, Prints, PrintsPrefix};
-ghost use Rattle.ba_tool.specs.Calls.{Comes, EndsWith, HasFaultOf, IsDue, IsEndFor, IsEndOfSearch, IsShown, Says, Stops, TellsFailing, WritesOnly, answer_for, call, limit};
-ghost use Rattle.ba_tool.specs.Jobs.{cert_of, request_of};
+ghost use Rattle.ba_tool.specs.Calls.{Comes, EndsWith, HasFaultOf, IsDue, IsEndFor, IsEndOfCheck, IsEndOfSearch, IsShown, Proceeds, Says, Stops, StopsWith, TellsCheck, TellsFailing, WritesOnly, answer_for, call, most_given, most_of};
+ghost use Rattle.ba_tool.specs.Limits.{limit};
+ghost use Rattle.ba_tool.specs.Jobs.{cert_of, request_of, written_by};
 ghost use Rattle.ba_tool.specs.Printed.{text_of};
 ghost use Rattle.ba_tree.specs.Run.{are_bounds};
 ghost use Rattle.ba_tool.specs.declared.answers.Answer.{Answer};
 ghost use Rattle.ba_tool.specs.declared.jobs.Request.{Request};
 
 use crate::answers::Answer;
-use crate::files::{Unread, read_texts};
-use crate::jobs::{Job, Request, read_request};
+use crate::certificates::check;
+use crate::files::{Texts, Unread, read_texts};
+use crate::jobs::{Job, Request, read_request, sample_job};
 use crate::judge::{Judged, judge};
 use crate::rules::Rules;
+use crate::samples::sample_texts;
 use crate::search::conclude;
 use crate::status::Status;
 use ba_search::SearchError;
@@ -38,8 +42,52 @@ fn unread_answer(unread: Unread) -> Result<Answer, AllocError>
     }
 }
 
-/// What a job comes to: its files are read whole, and then their texts are judged; if it is to
-/// localise a program that fails, it searches.
+/// What a job comes to where its files have these texts: they are judged, and where the run fails it
+/// searches for the least sets, or checks the certificate.
+///
+/// `SinkFailed` comes only where a fault of writing rose, of the world or of `steps`; `Memory` for want
+/// of memory.
+fn texts_answer<W, D, L, G, K>(
+    alloc: Global,
+    world: &mut W,
+    job: &Job,
+    texts: &Texts,
+    steps: &mut D,
+    rules: Rules<L, G, K>,
+) -> Result<Answer, SearchError>
+where
+    W: World,
+    D: StepSink + Drop,
+    L: Fn(u64) -> u64 + Drop,
+    G: Fn(u64) -> u64 + Drop,
+    K: Fn(u64, u64) -> bool + Drop,
+    requires program_short { length texts.now.program ≤ limit }
+    requires input_short { length texts.now.input ≤ limit }
+    requires bounds { are_bounds job.now.bounds ≡ true }
+    requires luby { IsRestartRule (L.pre rules.luby) (L.post rules.luby) }
+    requires steady { IsRestartRule (G.pre rules.steady) (G.post rules.steady) }
+    requires keep { IsKeepRule (K.pre rules.keep) (K.post rules.keep) }
+    ensures answer { IfOk result (λ answer. Proceeds job.now texts.now
+        (W.outside world.old) (W.outside world.new)
+        (told D.over D.logs D.faults steps.old) (told D.over D.logs D.faults steps.new) answer) }
+    ensures stops { IfErr result (λ _. StopsWith (written_by job.now.task job.now.cert)
+        (W.outside world.old) (W.outside world.new)) }
+    ensures cause { result ≡ Err SearchError.SinkFailed
+        → HasFaultOf (W.outside world.old) (W.outside world.new)
+        (told D.over D.logs D.faults steps.old) (told D.over D.logs D.faults steps.new) }
+    ensures bounded { (W.outside world.new).given
+        ≤ (W.outside world.old).given + most_of job.now.task }
+    ensures no_fall { D.faults steps.old ≤ D.faults steps.new }
+    ensures same_references { D.references steps.new ≡ D.references steps.old }
+{
+    match judge(alloc, job, texts)? {
+        Judged::Answered(answer) => Ok(answer),
+        Judged::ToSearch(case) => conclude(alloc, world, job, texts, &case, rules, steps),
+        Judged::ToCheck(case) => check(alloc, world, job, &case, steps),
+    }
+}
+
+/// What a job comes to: its files are read whole, and then their texts are judged.
 ///
 /// `SinkFailed` comes only where a fault of writing rose, of the world or of `steps`; `Memory` for
 /// want of memory.
@@ -69,22 +117,56 @@ where
         → HasFaultOf (W.outside world.old) (W.outside world.new)
         (told D.over D.logs D.faults steps.old) (told D.over D.logs D.faults steps.new) }
     ensures bounded { (W.outside world.new).given
-        ≤ (W.outside world.old).given + 3 * (limit + piece_size) }
+        ≤ (W.outside world.old).given + (3 * (limit + piece_size) + most_of job.now.task) }
     ensures no_fall { D.faults steps.old ≤ D.faults steps.new }
     ensures same_references { D.references steps.new ≡ D.references steps.old }
 {
-    let texts = match read_texts(alloc, world, job) {
-        Ok(texts) => texts,
-        Err(unread) => return Ok(unread_answer(unread)?),
-    };
-    match judge(alloc, job, &texts)? {
-        Judged::Answered(answer) => Ok(answer),
-        Judged::Fails(case) => conclude(alloc, world, job, &texts, &case, rules, steps),
+    match read_texts(alloc, world, job) {
+        Ok(texts) => texts_answer(alloc, world, job, &texts, steps, rules),
+        Err(unread) => Ok(unread_answer(unread)?),
     }
 }
 
-/// What a call comes to, before it is printed: it reads the words, then the files, and then judges
-/// and searches.
+/// What a sample comes to: its text is judged, and its least sets are searched for.
+///
+/// `SinkFailed` comes only where a fault of writing rose, of the world or of `steps`; `Memory` for want
+/// of memory.
+fn sample_answer<W, D, L, G, K>(
+    alloc: Global,
+    world: &mut W,
+    additions: u32,
+    steps: &mut D,
+    rules: Rules<L, G, K>,
+) -> Result<Answer, SearchError>
+where
+    W: World,
+    D: StepSink + Drop,
+    L: Fn(u64) -> u64 + Drop,
+    G: Fn(u64) -> u64 + Drop,
+    K: Fn(u64, u64) -> bool + Drop,
+    requires few { additions ≤ 500 }
+    requires luby { IsRestartRule (L.pre rules.luby) (L.post rules.luby) }
+    requires steady { IsRestartRule (G.pre rules.steady) (G.post rules.steady) }
+    requires keep { IsKeepRule (K.pre rules.keep) (K.post rules.keep) }
+    ensures answer { IfOk result (λ answer. Comes (Request.Sample additions)
+        (W.outside world.old) (W.outside world.new)
+        (told D.over D.logs D.faults steps.old) (told D.over D.logs D.faults steps.new) answer) }
+    ensures stops { IfErr result (λ _. Stops (Request.Sample additions)
+        (W.outside world.old) (W.outside world.new)) }
+    ensures cause { result ≡ Err SearchError.SinkFailed
+        → HasFaultOf (W.outside world.old) (W.outside world.new)
+        (told D.over D.logs D.faults steps.old) (told D.over D.logs D.faults steps.new) }
+    ensures bounded { (W.outside world.new).given ≤ (W.outside world.old).given }
+    ensures no_fall { D.faults steps.old ≤ D.faults steps.new }
+    ensures same_references { D.references steps.new ≡ D.references steps.old }
+{
+    let job = sample_job(additions);
+    let texts = sample_texts(alloc, additions)?;
+    texts_answer(alloc, world, &job, &texts, steps, rules)
+}
+
+/// What a call comes to, before it is printed: it reads the words, then the files, and then judges their
+/// texts, and searches or checks.
 ///
 /// `SinkFailed` comes only where a fault of writing rose, of the world or of `steps`; `Memory` for
 /// want of memory.
@@ -113,13 +195,13 @@ where
         → HasFaultOf (W.outside world.old) (W.outside world.new)
         (told D.over D.logs D.faults steps.old) (told D.over D.logs D.faults steps.new) }
     ensures bounded { (W.outside world.new).given
-        ≤ (W.outside world.old).given + 3 * (limit + piece_size) }
+        ≤ (W.outside world.old).given + most_given (request_of (map (λ word. word.now) words.now)) }
     ensures no_fall { D.faults steps.old ≤ D.faults steps.new }
     ensures same_references { D.references steps.new ≡ D.references steps.old }
 {
     match read_request(alloc, words)? {
         Request::Refused => Ok(Answer::BadWords),
-        Request::NotBuilt => Ok(Answer::NotBuilt),
+        Request::Sample(additions) => sample_answer(alloc, world, additions, steps, rules),
         Request::Wanted(job) => job_answer(alloc, world, &job, steps, rules),
     }
 }
@@ -154,14 +236,18 @@ fn finish<W: World>(alloc: Global, world: &mut W, answer: &Answer) -> Status
 }
 
 /// Reads a program and a failing input, and prints the sets of statements of least weight whose
-/// change could repair that run; or runs the program on the input, and prints how it fails.
+/// change could repair that run; or judges a certificate of them, and prints what it claims; or runs the
+/// program on the input, and prints how it fails. Or it makes a sample program, and prints how many such
+/// sets it has.
 ///
 /// In this order it reads the words; the files of the program, of the input and of the weights,
 /// each of them whole; the program, the input and the weights from their texts. It counts the
-/// program's units, runs it as written, and if that run fails and it is to localise, it searches.
-/// The search hands its derivation to `steps`: the formula, and then each step as it is made. If a
-/// certificate is asked for, it is begun before the search, and each step is written to it before
-/// it is handed on; it is whole before anything is printed.
+/// program's units, runs it as written, and if that run fails and it is to localise, it searches. The
+/// search hands its derivation to `steps`: the formula, and then each step as it is made. If a
+/// certificate is asked for, it is begun before the search, and each step is written to it before it is
+/// handed on; it is whole before anything is printed. If it is to check, it hands the formula to `steps`
+/// and no step, and then reads the certificate in pieces and judges it over that formula, up to its first
+/// refused line.
 ///
 /// It prints one text, made whole before. Where `steps` or the certificate fails, nothing is
 /// printed. Want of memory is the one answer that no clause ties to a cause. Every clause holds for
@@ -196,19 +282,28 @@ where
         (told D.over D.logs D.faults steps.old) (told D.over D.logs D.faults steps.new))
         (IsEndFor due) result }
 
-    // A search for the least sets of a program that fails comes to an end.
+    // A search for the least sets of a program that fails, also of a sample, comes to an end.
     ensures where_failing { TellsFailing (request_of (map (λ word. word.now) words.now))
         (W.outside world.old)
         → EndsWith (call words.now (W.outside world.old) (W.outside world.new)
         (told D.over D.logs D.faults steps.old) (told D.over D.logs D.faults steps.new))
         IsEndOfSearch result }
 
-    // No file is written but the certificate, and of each that is read come no more bytes than the
-    // limit and one piece.
+    // A check comes to an end, by what the world tells of its certificate. Which it is of accepted and
+    // refused, and where, `says` tells: over the formula that was handed to the sink.
+    ensures where_checking { (name : Word) (file : Option (List ℕ))
+        → TellsCheck (request_of (map (λ word. word.now) words.now)) (W.outside world.old) name
+        → (W.outside world.old).held name ≡ Some file
+        → EndsWith (call words.now (W.outside world.old) (W.outside world.new)
+        (told D.over D.logs D.faults steps.old) (told D.over D.logs D.faults steps.new))
+        (IsEndOfCheck file) result }
+
+    // No file is written but the certificate of a search, and of each that is read come no more bytes
+    // than its limit and one piece.
     ensures stays { WritesOnly (cert_of (request_of (map (λ word. word.now) words.now)))
         (W.outside world.old) (W.outside world.new) }
     ensures bounded { (W.outside world.new).given
-        ≤ (W.outside world.old).given + 3 * (limit + piece_size) }
+        ≤ (W.outside world.old).given + most_given (request_of (map (λ word. word.now) words.now)) }
 
     // The sink writes where it wrote, and its count of faults does not fall.
     ensures sink_stays { D.references steps.new ≡ D.references steps.old }

@@ -10,13 +10,13 @@ use ba_tool::tool::tool;
 use ba_world::{MemoryWorld, World};
 use std::alloc::{AllocError, Global};
 
-/// A file of this name with this text.
-fn file(alloc: Global, name: &str, text: &str) -> Result<(String, Vec<u8>), AllocError>
+/// A file of this name with these bytes.
+fn file(alloc: Global, name: &str, bytes: &[u8]) -> Result<(String, Vec<u8>), AllocError>
     ensures { IfOk result (λ made. string_bytes made.0 ≡ name.now) }
 {
     Ok((
         String::from_str(alloc, name)?,
-        Vec::from_slice(alloc, text.as_bytes())?,
+        Vec::from_slice(alloc, bytes)?,
     ))
 }
 
@@ -32,9 +32,28 @@ pub fn world_with(
     requires { 0 < piece }
 {
     let mut files = Vec::new(alloc);
-    files.push(file(alloc, "p.c", program)?)?;
-    files.push(file(alloc, "in.txt", input)?)?;
-    files.push(file(alloc, "w.txt", weights)?)?;
+    files.push(file(alloc, "p.c", program.as_bytes())?)?;
+    files.push(file(alloc, "in.txt", input.as_bytes())?)?;
+    files.push(file(alloc, "w.txt", weights.as_bytes())?)?;
+    MemoryWorld::new(alloc, files, Vec::from_slice(alloc, fails)?, piece)
+}
+
+/// A world that holds a program, an input, weights and a certificate, whose calls of these numbers fail.
+pub fn world_to_check(
+    alloc: Global,
+    program: &str,
+    weights: &str,
+    certificate: &[u8],
+    fails: &[u64],
+    piece: usize,
+) -> Result<MemoryWorld, AllocError>
+    requires { 0 < piece }
+{
+    let mut files = Vec::new(alloc);
+    files.push(file(alloc, "p.c", program.as_bytes())?)?;
+    files.push(file(alloc, "in.txt", b"1")?)?;
+    files.push(file(alloc, "w.txt", weights.as_bytes())?)?;
+    files.push(file(alloc, "c", certificate)?)?;
     MemoryWorld::new(alloc, files, Vec::from_slice(alloc, fails)?, piece)
 }
 

@@ -9,6 +9,8 @@ mod endless;
 #[cfg(test)]
 mod faults;
 #[cfg(test)]
+mod modes;
+#[cfg(test)]
 mod programs;
 #[cfg(test)]
 mod refusals;

@@ -14,8 +14,6 @@ set 1:
 
 pub const NOT_FAILING: &str = "not failing\n";
 
-pub const NOT_BUILT: &str = "refused: not built\n";
-
 pub const BRANCHES: &str = "int Array[3];
 int main(int index) {
     int i;

@@ -2,8 +2,7 @@
 
 use crate::calls::{call, end, localise, world_of};
 use crate::programs::{
-    BRANCHES, ELEMENTS, NO_REPAIR, NOT_BUILT, NOT_FAILING, ONE_ASSIGNMENT, ONE_REPORT, RUN,
-    TWO_IN_A_ROW,
+    BRANCHES, ELEMENTS, NO_REPAIR, NOT_FAILING, ONE_ASSIGNMENT, ONE_REPORT, RUN, TWO_IN_A_ROW,
 };
 use ba_steps::NoSink;
 use ba_tool::status::Status;
@@ -269,12 +268,11 @@ fn answers_words_before_it_reads(rt: HostRuntime) -> Result<(), Fail> {
         ),
         (["sample", "0"].as_slice(), Status::BadWords),
         (["sample", "501"].as_slice(), Status::BadWords),
-        (["sample", "500"].as_slice(), Status::NotBuilt),
+        // These are commands, and there is no such file.
         (
             ["check", "p.c", "in.txt", "c", "--bound=3"].as_slice(),
-            Status::NotBuilt,
+            Status::ReadFault,
         ),
-        // These are built, and there is no such file.
         (
             ["localise", "--bound", "1", "p.c", "in.txt"].as_slice(),
             Status::ReadFault,
@@ -301,7 +299,6 @@ fn answers_words_before_it_reads(rt: HostRuntime) -> Result<(), Fail> {
         assert_eq!(rt; ended, status, "of {words:?}");
         let printed = match status {
             Status::BadWords => "refused: words\n",
-            Status::NotBuilt => NOT_BUILT,
             _ => "refused: program cannot be read\n",
         };
         assert_eq!(rt; world.printed(), printed.as_bytes(), "of {words:?}");

@@ -1,7 +1,9 @@
-use Rattle.std.proofs.Common.{sym, ◌∙◌}
+use Rattle.std.proofs.Common.{◌≡◌, ◌∙◌, ◌+◌, ◌≤◌, sym, subst}
 use Rattle.ba_world.proofs.WholeReads.{only_reads_none}
-use Rattle.ba_tool.proofs.Bounded.{job_bounds}
-use Rattle.ba_tool.proofs.Coming.{if_err, refused_as, stops_read, unbuilt_as}
+use Rattle.ba_tool.specs.Calls.{most_given}
+use Rattle.ba_tool.specs.declared.jobs.Request.{Request}
+use Rattle.ba_tool.proofs.Bounded.{job_bounds, sample_few}
+use Rattle.ba_tool.proofs.Coming.{if_err, refused_as, stops_read}
 use Rattle.ba_tool.proofs.tool.answer.Goals as goal
 
 pub returns-in_err-read_request-clause-stops : goal.returns-in_err-read_request-clause-stops
@@ -17,6 +19,12 @@ pub returns-in-Refused-clause-answer : goal.returns-in-Refused-clause-answer
 returns-in-Refused-clause-answer g c = refused_as _ (g.W.World.outside c.args.world.now) _
     (sym c.in-Refused.is ∙ c.in_ok-read_request.ensures)
 
-pub returns-in-NotBuilt-clause-answer : goal.returns-in-NotBuilt-clause-answer
-returns-in-NotBuilt-clause-answer g c = unbuilt_as _ (g.W.World.outside c.args.world.now) _
-    (sym c.in-NotBuilt.is ∙ c.in_ok-read_request.ensures)
+pub sample_answer-requires-clause-few : goal.sample_answer-requires-clause-few
+sample_answer-requires-clause-few g c =
+    sample_few _ c.in-Sample.additions (sym c.in_ok-read_request.ensures ∙ c.in-Sample.is)
+
+pub returns-in-Wanted-clause-bounded : goal.returns-in-Wanted-clause-bounded
+returns-in-Wanted-clause-bounded g c =
+    subst (λ (r : Request). (g.W.World.outside c.job_answer.new.world).given
+    ≤ (g.W.World.outside c.args.world.now).given + most_given r)
+    (sym c.in-Wanted.is ∙ c.in_ok-read_request.ensures) c.job_answer.ensures.bounded

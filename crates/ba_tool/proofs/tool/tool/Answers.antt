@@ -1,4 +1,5 @@
 use Rattle.ba_tool.proofs.Ending.{comes_write, ends_says}
+use Rattle.ba_tool.proofs.Checking.{ends_checking}
 use Rattle.ba_tool.proofs.Due.{ends_due, ends_failing}
 use Rattle.ba_tool.proofs.tool.tool.Goals as goal
 
@@ -31,6 +32,18 @@ returns-in-Ok-clause-where_failing g c = λ failing. ends_failing _ c.in-Ok.answ
   prefix = c.finish.ensures.prefix;
   no_fall = c.answer.ensures.no_fall;
 }) failing
+
+pub returns-in-Ok-clause-where_checking : goal.returns-in-Ok-clause-where_checking
+returns-in-Ok-clause-where_checking g c = λ name file checking told. ends_checking _ c.in-Ok.answer
+    c.finish.result
+    (record {
+      written = g.W.World.outside c.answer.new.world;
+      comes = c.in-Ok.ensures.answer;
+      prints = c.finish.ensures.stays;
+      shown = c.finish.ensures.shown;
+      prefix = c.finish.ensures.prefix;
+      no_fall = c.answer.ensures.no_fall;
+    }) name file checking told
 
 pub returns-in-Ok-clause-stays : goal.returns-in-Ok-clause-stays
 returns-in-Ok-clause-stays g c = comes_write _ _ _ _ _ _ c.in-Ok.answer c.in-Ok.ensures.answer

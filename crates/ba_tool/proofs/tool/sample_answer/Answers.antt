@@ -1,0 +1,37 @@
+use Rattle.std.proofs.Common.{ap, subst, ◌+◌, ◌≤◌, arith}
+use Rattle.std.proofs.lemmas.Result.{IfErr-weaker, IfOk-weaker}
+use Rattle.ba_tree.specs.Run.{are_bounds}
+use Rattle.ba_tool.specs.Calls.{most_of}
+use Rattle.ba_tool.specs.declared.jobs.Job.{Job}
+use Rattle.ba_tool.proofs.Coming.{sample_stops, sampled_as}
+use Rattle.ba_tool.proofs.Sampling.{inputs_short, texts_short}
+use Rattle.ba_tool.proofs.tool.sample_answer.Goals as goal
+
+pub texts_answer-requires-clause-program_short : goal.texts_answer-requires-clause-program_short
+texts_answer-requires-clause-program_short g c =
+    texts_short c.in_ok-texts.texts c.args.additions c.in_ok-texts.ensures c.requires.few
+
+pub texts_answer-requires-clause-input_short : goal.texts_answer-requires-clause-input_short
+texts_answer-requires-clause-input_short g c =
+    inputs_short c.in_ok-texts.texts c.args.additions c.in_ok-texts.ensures
+
+pub texts_answer-requires-clause-bounds : goal.texts_answer-requires-clause-bounds
+texts_answer-requires-clause-bounds g c = ap (λ (j : Job). are_bounds j.bounds) c.sample_job-job.ensures
+
+pub returns-clause-answer : goal.returns-clause-answer
+returns-clause-answer g c = IfOk-weaker c.texts_answer.result _ _
+    (λ a holds. sampled_as c.sample_job-job.result c.in_ok-texts.texts c.args.additions _ _ _ _ a
+    c.sample_job-job.ensures c.in_ok-texts.ensures holds) c.texts_answer.ensures.answer
+
+pub returns-clause-stops : goal.returns-clause-stops
+returns-clause-stops g c = IfErr-weaker c.texts_answer.result _ _
+    (λ error stops. sample_stops c.sample_job-job.result c.args.additions _ _ c.sample_job-job.ensures stops)
+    c.texts_answer.ensures.stops
+
+pub returns-clause-bounded : goal.returns-clause-bounded
+returns-clause-bounded g c =
+    let none : (g.W.World.outside c.texts_answer.new.world).given
+    ≤ (g.W.World.outside c.args.world.now).given + 0 =
+    subst (λ (j : Job). (g.W.World.outside c.texts_answer.new.world).given
+    ≤ (g.W.World.outside c.args.world.now).given + most_of j.task) c.sample_job-job.ensures
+    c.texts_answer.ensures.bounded in omega (arith, none)
