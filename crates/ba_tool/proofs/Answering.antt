@@ -20,15 +20,14 @@ use Rattle.ba_tree.specs.declared.run.Outcome.TheVariants as outcome
 use Rattle.ba_tree.specs.declared.run.Weights.{Weights}
 use Rattle.ba_tree.specs.declared.tree.Program.{Program}
 use Rattle.ba_report.specs.Report.{report_text}
-use Rattle.ba_tool.specs.Answers.{Answers, AnswersAtOnce, AreAccepted, Checks, Fails, IsAnswer, IsOfSearch, RunsTo, RunsToAt, Searches, Tells, input_answer, input_of, is_failure, position_of, program_answer, sets_answer}
-use Rattle.ba_tool.specs.Cases.{IsCaseOf, IsJudged}
+use Rattle.ba_tool.specs.Answers.{Answers, AnswersAtOnce, AreAccepted, Checks, IsAnswer, IsOfSearch, RunsTo, Searches, Tells, input_answer, input_of, is_failure, position_of, program_answer, sets_answer}
+use Rattle.ba_tool.specs.Cases.{IsCaseOf}
 use Rattle.ba_tool.specs.Jobs.{is_search}
 use Rattle.ba_types.specs.Spelling.{Spells}
 use Rattle.ba_tool.specs.Programs.{TellsFault}
 use Rattle.ba_tool.specs.declared.answers.Answer.{Answer}
 use Rattle.ba_tool.specs.declared.answers.Answer.TheVariants as answer
 use Rattle.ba_tool.specs.declared.faults.Fault.{Fault}
-use Rattle.ba_tool.specs.declared.files.File.{File}
 use Rattle.ba_tool.specs.declared.files.Texts.{Texts}
 use Rattle.ba_tool.specs.declared.jobs.Job.{Job}
 use Rattle.ba_tool.specs.declared.jobs.Task.{Task}

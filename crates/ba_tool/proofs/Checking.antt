@@ -1,16 +1,13 @@
 -- How a check ends, by what the world tells of its certificate.
 
-use Rattle.std.proofs.Common.{◌≡◌, ◌⊎◌, inl, inr, ℕ, ◌<◌, ◌≤◌, List, ◌++◌, length, Option, None, Some, IfSome, option_map, sym, ap, subst, ◌∙◌, length-append, arith}
+use Rattle.std.proofs.Common.{◌≡◌, ◌⊎◌, inl, inr, ℕ, List, ◌++◌, Option, None, Some, IfSome, option_map, sym, ap, subst, ◌∙◌, length-append, arith}
 use Rattle.ba_commands.specs.Modes.{Word}
 use Rattle.ba_localise.specs.Verdicts.{Derivation}
-use Rattle.ba_world.specs.Read.{IsReadTo, IsReadWhole, StoppedInOpening}
 use Rattle.ba_world.specs.World.{HasReadFault, OnlyReads, Outside}
 use Rattle.ba_world.proofs.WholeReads.{only_reads_on}
-use Rattle.ba_tool.specs.Answers.{IsAnswer}
 use Rattle.ba_tool.specs.Calls.{AreRead, Call, CheckComesTo, EndsWith, IsEndOfCheck, JobComesTo, RequestComesTo, TellsCheck, accepted, judging, not_there, read_fault, refused, too_long}
-use Rattle.ba_tool.specs.Certificates.{CertificateComesTo, EndsRefused, Judging, StopsRefused, StopsUnread}
+use Rattle.ba_tool.specs.Certificates.{CertificateComesTo, Judging}
 use Rattle.ba_tool.specs.Jobs.{request_of}
-use Rattle.ba_tool.specs.Limits.{certificate_limit}
 use Rattle.ba_tool.specs.Printed.{status_of}
 use Rattle.ba_tool.specs.declared.answers.Answer.{Answer}
 use Rattle.ba_tool.specs.declared.answers.Answer.TheVariants as answer

@@ -1,6 +1,6 @@
 -- What a job comes to, from what its files come to.
 
-use Rattle.std.proofs.Common.{◌≡◌, ℕ, true, Option, None, Some, List, Result, Ok, Err, IfErr, inl, inr, refl, arith, subst, ap}
+use Rattle.std.proofs.Common.{◌≡◌, ℕ, true, Option, None, Some, Result, Ok, Err, IfErr, inl, inr, refl, arith, subst}
 use Rattle.ba_commands.specs.Modes.{Word}
 use Rattle.ba_localise.specs.Verdicts.{Derivation, Told}
 use Rattle.ba_steps.specs.Sinks.{Rose}

@@ -1,6 +1,6 @@
 -- What a check comes to, by the formula that was made.
 
-use Rattle.std.proofs.Common.{◌≡◌, ◌∙◌, ℕ, Some, List, [], refl, sym, ap, subst}
+use Rattle.std.proofs.Common.{◌≡◌, ◌∙◌, Some, List, [], refl, sym, ap, subst}
 use Rattle.ba_check.specs.Answers.{problem_of as problem_over}
 use Rattle.ba_check.specs.declared.settings.Settings.{Settings}
 use Rattle.ba_commands.specs.Modes.{Word}
@@ -11,16 +11,15 @@ use Rattle.ba_encode.specs.declared.encoded.Encoded.{Encoded}
 use Rattle.ba_formula.specs.Formulas.{IsFormulaOf}
 use Rattle.ba_lits.specs.Formulas.{Cnf}
 use Rattle.ba_lits.specs.Satisfaction.{Soft}
-use Rattle.ba_localise.specs.Verdicts.{Derivation, Hands, Told, problem_of}
+use Rattle.ba_localise.specs.Verdicts.{Derivation, Told, problem_of}
 use Rattle.ba_steps.specs.Sinks.{basis, with_told}
-use Rattle.ba_steps.specs.declared.sink.Basis.{Basis}
-use Rattle.ba_tree.specs.Least.{Judge, WeightList, judge_of}
+use Rattle.ba_tree.specs.Least.{WeightList, judge_of}
 use Rattle.ba_tree.specs.declared.run.Input.{Input}
 use Rattle.ba_world.specs.World.{Outside}
-use Rattle.ba_tool.specs.Answers.{input_of, judge_in, weights_of}
-use Rattle.ba_tool.specs.Calls.{ConcludesCheck, judging}
+use Rattle.ba_tool.specs.Answers.{judge_in, weights_of}
+use Rattle.ba_tool.specs.Calls.{ConcludesCheck}
 use Rattle.ba_tool.specs.Cases.{IsCaseOf}
-use Rattle.ba_tool.specs.Certificates.{CertificateComesTo, Judging}
+use Rattle.ba_tool.specs.Certificates.{CertificateComesTo}
 use Rattle.ba_tool.specs.declared.answers.Answer.{Answer}
 use Rattle.ba_tool.specs.declared.files.Texts.{Texts}
 use Rattle.ba_tool.specs.declared.jobs.Job.{Job}

@@ -4,7 +4,7 @@ use Rattle.std.proofs.Common.{◌≡◌, ◌⊎◌, inl, inr, ℕ, ◌<◌, ◌�
 use Rattle.ba_commands.specs.Modes.{Word}
 use Rattle.ba_localise.specs.Verdicts.{Derivation}
 use Rattle.ba_world.specs.Read.{Stopped, StoppedPast}
-use Rattle.ba_world.specs.World.{HasReadFault, OnlyPrints, OnlyReads, Outside, Rose}
+use Rattle.ba_world.specs.World.{HasReadFault, OnlyReads, Outside, Rose}
 use Rattle.ba_world.specs.declared.read.ReadFileError.{ReadFileError}
 use Rattle.ba_world.specs.declared.read.ReadFileError.TheVariants as read
 use Rattle.ba_types.specs.Spelling.{Spells}

@@ -1,10 +1,10 @@
 -- How a call ends, by the answer that it comes to.
 
-use Rattle.std.proofs.Common.{◌≡◌, ◌⊎◌, inl, inr, ℕ, ◌+◌, ◌<◌, ◌≤◌, Option, None, Some, List, ◌++◌, length, take, option_map, All, IfSome, refl, sym, ap, subst, ◌∙◌, arith}
+use Rattle.std.proofs.Common.{◌≡◌, inl, inr, ℕ, ◌+◌, ◌≤◌, Option, None, Some, List, ◌++◌, length, take, option_map, All, IfSome, refl, sym, ap, subst, ◌∙◌, arith}
 use Rattle.std.proofs.lemmas.List.Elements.{All-nil}
 use Rattle.std.proofs.lemmas.List.{take_all}
 use Rattle.ba_cert.specs.Text.{text_of as certificate_of}
-use Rattle.ba_cert.specs.Writing.{BeginsText, HoldsBeginning, OnlyWritesTo}
+use Rattle.ba_cert.specs.Writing.{BeginsText}
 use Rattle.ba_commands.specs.Modes.{Word}
 use Rattle.ba_derivations.specs.declared.verdict.Verdict.{Verdict}
 use Rattle.ba_derivations.specs.declared.verdict.Verdict.TheVariants as verdict
@@ -16,7 +16,7 @@ use Rattle.ba_world.specs.declared.read.ReadFileError.{ReadFileError}
 use Rattle.ba_world.specs.declared.read.ReadFileError.TheVariants as read_error
 use Rattle.ba_world.proofs.WholeReads.{rose_since}
 use Rattle.ba_tool.specs.Answers.{Answers, IsAnswer}
-use Rattle.ba_tool.specs.Calls.{Answered, AnsweredInPart, Begins, Call, Certifies, CheckComesTo, Comes, ComesTo, HasFault, IsShown, JobComesTo, MayBegin, RequestComesTo, Says, Stops, Unanswered, UnreadComesTo, WritesNoFile, WritesOnly}
+use Rattle.ba_tool.specs.Calls.{Answered, AnsweredInPart, Call, Certifies, CheckComesTo, Comes, ComesTo, HasFault, IsShown, JobComesTo, MayBegin, RequestComesTo, Says, Stops, UnreadComesTo, WritesOnly}
 use Rattle.ba_tool.specs.Jobs.{cert_of, request_of, sample_job, sample_texts}
 use Rattle.ba_tool.specs.Printed.{status_of, text_of}
 use Rattle.ba_tool.specs.declared.answers.Answer.{Answer}
@@ -28,7 +28,6 @@ use Rattle.ba_tool.specs.declared.jobs.Job.{Job}
 use Rattle.ba_tool.specs.declared.jobs.Request.{Request}
 use Rattle.ba_tool.specs.declared.jobs.Request.TheVariants as request
 use Rattle.ba_tool.specs.declared.status.Status.{Status}
-use Rattle.ba_tool.specs.declared.status.Status.TheVariants as status
 use Rattle.ba_tree.specs.Least.{Judge, WeightList}
 use Rattle.ba_tree.specs.declared.tree.Program.{Program}
 

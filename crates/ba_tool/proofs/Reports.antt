@@ -1,6 +1,6 @@
 -- A report without runs is of its sets alone, and of the statements of its program.
 
-use Rattle.std.proofs.Common.{◌≡◌, ℕ, ◌+◌, ◌-◌, ◌==◌, cond, Bool, false, Option, None, List, [], ◌∷◌, ◌++◌, length, flat_map, slice_get, codes, decimal, refl, sym, ap, ◌∙◌}
+use Rattle.std.proofs.Common.{◌≡◌, ℕ, ◌+◌, ◌-◌, ◌==◌, cond, Bool, false, None, List, [], ◌∷◌, ◌++◌, length, flat_map, slice_get, codes, decimal, refl, sym, ap, ◌∙◌}
 use Rattle.std.proofs.lemmas.List.{length-map}
 use Rattle.ba_derivations.specs.Derivations.{sets_of}
 use Rattle.ba_derivations.specs.declared.verdict.FoundSet.{FoundSet}

@@ -1,5 +1,5 @@
 -- The row of an answer holds of each program with the same tree, so a text comes to one answer.
-use Rattle.std.proofs.Common.{◌≡◌, ℕ, ℤ, ◌<◌, ◌≤◌, Option, None, Some, option_map, List, [], map, length, sym, ◌∙◌, ap, subst}
+use Rattle.std.proofs.Common.{◌≡◌, ℤ, ◌<◌, ◌≤◌, Option, None, Some, option_map, List, [], map, length, sym, ◌∙◌, ap, subst}
 use Rattle.ba_commands.specs.Lines.{lines_of}
 use Rattle.ba_commands.specs.Weights.{said_of, statement_weight}
 use Rattle.ba_derivations.specs.declared.verdict.Verdict.{Verdict}
@@ -17,7 +17,7 @@ use Rattle.ba_tree.specs.declared.tree.StmtInfo.{StmtInfo}
 use Rattle.ba_types.specs.Trees.{tree_of}
 use Rattle.ba_tree_laws.specs.Equivalent.{AreEquivalent}
 use Rattle.ba_tree_laws.proofs.Equivalence.{equivalent}
-use Rattle.ba_tool.specs.Answers.{Agree, AreAccepted, Answers, AnswersAtOnce, AnswersBy, Checks, Fails, IsOfSearch, RunsTo, RunsToAt, Searches, Tells, input_of, judge_in, position_of, sets_answer, unit_limit, weights_of}
+use Rattle.ba_tool.specs.Answers.{Agree, AreAccepted, Answers, AnswersAtOnce, AnswersBy, Checks, Fails, IsOfSearch, RunsTo, RunsToAt, Searches, Tells, input_of, judge_in, sets_answer, unit_limit, weights_of}
 use Rattle.ba_tool.specs.declared.answers.Answer.{Answer}
 use Rattle.ba_tool.specs.declared.answers.Answer.TheVariants as answer
 use Rattle.ba_tool.specs.declared.files.Texts.{Texts}

@@ -54,10 +54,18 @@ fn lines_in(bytes: &[u8]) -> usize {
 /// Whether formulas and soft literals are the same.
 fn are_same(one: &Basis, other: &Basis) -> bool {
     let clauses = one.formula.len();
-    one.softs.as_slice() == other.softs.as_slice()
-        && one.formula.variables() == other.formula.variables()
-        && clauses == other.formula.len()
-        && (1..=clauses).all(|number| one.formula.clause(number) == other.formula.clause(number))
+    if one.softs.as_slice() != other.softs.as_slice()
+        || one.formula.variables() != other.formula.variables()
+        || clauses != other.formula.len()
+    {
+        return false;
+    }
+    for place in 0..clauses {
+        if one.formula.clause(place + 1) != other.formula.clause(place + 1) {
+            return false;
+        }
+    }
+    true
 }
 
 #[test]

@@ -1,7 +1,5 @@
-use Rattle.std.proofs.Common.{◌≡◌, ◌∙◌, List, sym, ap}
-use Rattle.std.proofs.lemmas.Result.{IfOk-weaker}
+use Rattle.std.proofs.Common.{◌∙◌, sym}
 use Rattle.ba_check.specs.Answers.{problem_of}
-use Rattle.ba_encode.specs.Softs.{softs_of}
 use Rattle.ba_localise.specs.Verdicts.{told}
 use Rattle.ba_tool.specs.Answers.{weights_of}
 use Rattle.ba_tool.specs.Certificates.{Judging}

@@ -1,4 +1,4 @@
-use Rattle.std.proofs.Common.{◌≡◌, ◌∙◌, ◌+◌, ◌≤◌, sym, subst}
+use Rattle.std.proofs.Common.{◌∙◌, ◌+◌, ◌≤◌, sym, subst}
 use Rattle.ba_world.proofs.WholeReads.{only_reads_none}
 use Rattle.ba_tool.specs.Calls.{most_given}
 use Rattle.ba_tool.specs.declared.jobs.Request.{Request}
