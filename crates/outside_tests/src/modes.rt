@@ -1,5 +1,7 @@
 //! Checks of certificates, and samples.
 
+ghost use Rattle.std.specs.Prelude.{◌<◌};
+
 use crate::calls::{call, end, world_of, world_to_check};
 use crate::programs::BRANCHES;
 use ba_steps::{Basis, ListSink, NoSink};
