@@ -2,3 +2,8 @@ pub mod Reading
 pub mod Writing
 pub mod Swapping
 pub mod Appending
+pub mod Cuts
+pub mod Compacting
+pub mod Moves
+pub mod Planning
+pub mod Mapped

@@ -1,11 +1,11 @@
 -- What is read at a place where a clause begins.
 
-use Rattle.std.proofs.Common.{◌≡◌, ℕ, suc, zero, ◌+◌, ◌<◌, ◌≤◌, Option, None, Some, IsSome, List, [], ◌∷◌, length, ◌^◌, get_or, take, drop, refl, sym, ap, subst, ◌∙◌, arith, length-drop}
+use Rattle.std.proofs.Common.{is_some, ◌≡◌, ℕ, Bool, true, false, cond, eqb, suc, zero, ◌+◌, ◌<◌, ◌≤◌, Option, None, Some, IsSome, List, [], ◌∷◌, length, ◌^◌, get_or, take, drop, refl, sym, ap, subst, ◌∙◌, arith, length-drop}
 use Rattle.std.proofs.lemmas.List.{get_or-map, get_or-take, get_or-drop, length-map, length-take}
 use Rattle.std.proofs.lemmas.Grind.{get_or_default_zero}
 use Rattle.ba_lits.specs.Literals.{literal_at, index_of, index_of-literal_at, lit_at, no_literal}
 use Rattle.ba_arena.specs.Clauses.{Stored, clause_at, lits_at, lits_of, number_at, number_of, link_at, link_of, IsLive}
-use Rattle.ba_arena.specs.Words.{clauses_of, stored_in, lacking, link_of_word, Fits, AreWords}
+use Rattle.ba_arena.specs.Words.{clauses_of, stored_in, entry_in, dead, lacking, link_of_word, Fits, AreWords}
 
 -- there is a place for each word
 pub length-clauses : (left : ℕ) (ws : List ℕ) → length (clauses_of left ws) ≡ length ws
@@ -13,14 +13,25 @@ length-clauses left [] = refl
 length-clauses zero (w ∷ ws) = ap suc (length-clauses (suc (suc (suc w))) ws)
 length-clauses (suc left) (w ∷ ws) = ap suc (length-clauses left ws)
 
+some_entry : {X : Type 0} (b : Bool) (x : X) → IsSome (cond b None (Some x)) → cond b None (Some x) ≡ Some x
+some_entry true x live = absurd (cc live)
+some_entry false x live = refl
+
 -- what begins at a place
+pub entry : (left : ℕ) (ws : List ℕ) (i : ℕ) → IsSome (clause_at (clauses_of left ws) i)
+    → clause_at (clauses_of left ws) i ≡ entry_in (get_or ws i 0) (drop (suc i) ws)
+entry left [] i live = absurd (cc live)
+entry zero (w ∷ ws) zero live = refl
+entry zero (w ∷ ws) (suc i) live = entry (suc (suc (suc w))) ws i live
+entry (suc left) (w ∷ ws) zero live = absurd (cc live)
+entry (suc left) (w ∷ ws) (suc i) live = entry left ws i live
+
 pub begins : (left : ℕ) (ws : List ℕ) (i : ℕ) → IsSome (clause_at (clauses_of left ws) i)
     → clause_at (clauses_of left ws) i ≡ Some (stored_in (get_or ws i 0) (drop (suc i) ws))
-begins left [] i live = absurd (cc live)
-begins zero (w ∷ ws) zero live = refl
-begins zero (w ∷ ws) (suc i) live = begins (suc (suc (suc w))) ws i live
-begins (suc left) (w ∷ ws) zero live = absurd (cc live)
-begins (suc left) (w ∷ ws) (suc i) live = begins left ws i live
+begins left ws i live =
+    let is = entry left ws i live in
+    is ∙ some_entry (eqb (get_or (drop (suc i) ws) 0 0) dead) (stored_in (get_or ws i 0) (drop (suc i) ws))
+    (ap is_some (sym is) ∙ live)
 
 -- no clause begins within another
 pub after_left : (left : ℕ) (ws : List ℕ) (i : ℕ) → IsSome (clause_at (clauses_of left ws) i) → left ≤ i
@@ -46,13 +57,14 @@ room (suc left) (w ∷ ws) (suc i) live whole = omega (arith, room left ws i liv
 -- what stands at a place where a clause begins
 pub record IsHere (ws : List ℕ) (i : ℕ) : Type 0 where
   pub is : clause_at (clauses_of 0 ws) i ≡ Some (stored_in (get_or ws i 0) (drop (suc i) ws))
+  pub entry_is : entry_in (get_or ws i 0) (drop (suc i) ws) ≡ clause_at (clauses_of 0 ws) i
   pub room : i + 4 + get_or ws i 0 ≤ length ws
   pub fits : Fits (stored_in (get_or ws i 0) (drop (suc i) ws))
 
 pub here : (ws : List ℕ) (i : ℕ) → AreWords ws → IsLive (clauses_of 0 ws) i → IsHere ws i
 here ws i words live =
     let is = begins 0 ws i live in
-    record { is = is; room = room 0 ws i live words.whole; fits = words.fit i _ is }
+    record { is = is; entry_is = sym (entry 0 ws i live); room = room 0 ws i live words.whole; fits = words.fit i _ is }
 
 pub live_from_lits : (o : Option Stored) (k : ℕ) → k < length (lits_of o) → IsSome o
 live_from_lits None k h = absurd (omega (arith, h))

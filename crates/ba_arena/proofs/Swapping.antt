@@ -1,6 +1,6 @@
 -- Two literals exchanged, as two words that are written one after the other.
 
-use Rattle.std.proofs.Common.{◌≡◌, ℕ, suc, zero, ◌+◌, ◌^◌, ◌<◌, ◌≤◌, Option, None, Some, is_some, List, [], ◌∷◌, length, get_or, set, take, drop, map, refl, sym, ap, subst, ◌∙◌, arith, get_or-set_same}
+use Rattle.std.proofs.Common.{◌≡◌, ℕ, eqb, suc, zero, ◌+◌, ◌^◌, ◌<◌, ◌≤◌, Option, None, Some, is_some, List, [], ◌∷◌, length, get_or, set, take, drop, map, refl, sym, ap, subst, ◌∙◌, arith, get_or-set_same}
 use Rattle.std.proofs.lemmas.List.{length-set, map-set}
 use Rattle.std.proofs.Math.Seq.{take-set-lt}
 use Rattle.std.proofs.lemmas.List.Edits.{swap_is}
@@ -8,9 +8,9 @@ use Rattle.std.proofs.lemmas.Grind.{get_or_default_zero}
 use Rattle.std.specs.List.{swap}
 use Rattle.ba_lits.specs.Literals.{Literal, literal_at, index_of, index_of-literal_at, lit_at, no_literal}
 use Rattle.ba_arena.specs.Clauses.{Stored, Clauses, clause_at, lits_at, lits_of, changed, swapped}
-use Rattle.ba_arena.specs.Words.{clauses_of, stored_in, link_of_word, Fits, AreIndexed, AreWords}
+use Rattle.ba_arena.specs.Words.{clauses_of, stored_in, entry_in, dead, link_of_word, Fits, AreIndexed, AreWords}
 use Rattle.ba_arena.proofs.Reading.{length-clauses, here_with_lit, lit_within, lit_room, lit_read, lit_counted, lit_below}
-use Rattle.ba_arena.proofs.Writing.{writes, words-written, rest_long}
+use Rattle.ba_arena.proofs.Writing.{writes, words-written, rest_long, entry-change}
 
 -- the clause with another literal at a place
 abbrev pub put : ℕ → Literal → Option Stored → Option Stored
@@ -18,16 +18,16 @@ put k l None = None
 put k l (Some s) = Some (record s { lits = set s.lits k l })
 
 put-word : (count k v : ℕ) (rest : List ℕ) → k < count → 3 + count ≤ length rest
-    → Some (stored_in count (set rest (suc (suc (suc k))) v)) ≡ put k (literal_at v)
-    (Some (stored_in count rest))
+    → entry_in count (set rest (suc (suc (suc k))) v) ≡ put k (literal_at v) (entry_in count rest)
 put-word count k v [] h long = absurd (omega (arith, long))
 put-word count k v (n ∷ []) h long = absurd (omega (arith, long))
 put-word count k v (n ∷ a ∷ []) h long = absurd (omega (arith, long))
 put-word count k v (n ∷ a ∷ b ∷ codes) h long =
     let of_lits : List Literal → Option Stored =
     λ ls. Some (record { lits = ls; number = n; first = link_of_word a; second = link_of_word b }) in
-    ap of_lits (ap (map literal_at) (take-set-lt count codes k v h)
-    ∙ map-set literal_at (take count codes) k v)
+    entry-change (eqb n dead) _ _ (put k (literal_at v)) refl
+    (ap of_lits (ap (map literal_at) (take-set-lt count codes k v h)
+    ∙ map-set literal_at (take count codes) k v))
 
 -- literals in the range of indices stay so
 indexed-set : (ls : List Literal) (k : ℕ) (l : Literal) → 2 ≤ index_of l → index_of l < 2 ^ 63
@@ -65,9 +65,10 @@ puts ws i k v words k_in low high =
     record {
       is = writes 0 ws i (suc (suc (suc k))) (i + 4 + k) v e (ap is_some h.is) j_in
           ∙ ap (λ (o : Option Stored). set (clauses_of 0 ws) i o)
-          (word ∙ sym (ap (put k (literal_at v)) h.is));
+          (word ∙ ap (put k (literal_at v)) h.entry_is);
       words = words-written ws i (suc (suc (suc k))) (i + 4 + k) v words h e j_in
-          (put-fits k v _ _ low high h.fits word);
+          (λ t is. put-fits k v _ t low high h.fits
+          (sym is ∙ (word ∙ ap (put k (literal_at v)) (h.entry_is ∙ h.is))));
     }
 
 -- two changes of one clause

@@ -1,2 +1,4 @@
 pub mod Clauses
+pub mod Compaction
+pub mod Links
 pub mod Words

@@ -27,10 +27,18 @@ stored_in count rest = record {
   second = link_of_word (get_or rest 2 0);
 }
 
+-- a dead clause has this word in the place of its number
+abbrev pub dead : ℕ
+dead = 2 ^ 32 - 1
+
+-- the same clause, unless it is dead
+abbrev pub entry_in : ℕ → List ℕ → Option Stored
+entry_in count rest = if eqb (get_or rest 0 0) dead then None else Some (stored_in count rest)
+
 -- the clauses that words stand for, where so many words of the present clause are left
 abbrev pub clauses_of : ℕ → List ℕ → Clauses
 clauses_of left [] = []
-clauses_of zero (count ∷ rest) = Some (stored_in count rest) ∷ clauses_of (suc (suc (suc count))) rest
+clauses_of zero (count ∷ rest) = entry_in count rest ∷ clauses_of (suc (suc (suc count))) rest
 clauses_of (suc left) (word ∷ rest) = None ∷ clauses_of left rest
 
 -- how many words the last clause lacks
@@ -51,4 +59,11 @@ pub record Fits (s : Stored) : Type 0 where
 -- the words of whole clauses that fit
 pub record AreWords (words : List ℕ) : Type 0 where
   pub whole : lacking 0 words ≡ 0
+  pub few : length words < 2 ^ 32
   pub fit : (clause : ℕ) (s : Stored) → clause_at (clauses_of 0 words) clause ≡ Some s → Fits s
+
+-- a clause begins at a place, or the words end there
+pub record IsCut (words : List ℕ) (place : ℕ) : Type 0 where
+  pub within : place ≤ length words
+  pub whole : lacking 0 (drop place words) ≡ 0
+  pub clauses : drop place (clauses_of 0 words) ≡ clauses_of 0 (drop place words)

@@ -8,12 +8,16 @@
 //! Efficient SAT Solver, on watched literals).
 #![tactic(auto)]
 
-ghost use Rattle.std.specs.Prelude.{◌≡◌, ◌+◌, ◌^◌, ◌<◌, ◌≤◌, [], ◌++◌, None, length, take, IfOk, OnOk, OnErr};
+ghost use Rattle.std.specs.Prelude.{◌≡◌, ◌+◌, ◌-◌, ◌^◌, ◌<◌, ◌≤◌, [], ◌++◌, None, Some, length, get_or, set, take, drop, map, ℕ, IfOk, IfSome, OnOk, OnErr};
 ghost use Rattle.ba_lits.specs.Literals.{lit_at, index_of};
 ghost use Rattle.ba_arena.specs.Clauses.{IsLive, lits_at, number_at, link_at, changed, swapped, linked, Adds};
-ghost use Rattle.ba_arena.specs.Words.{words_of, word_of_link, link_of_word, AreIndexed};
+ghost use Rattle.ba_arena.specs.Compaction.{compacted, forwarded, Plans, IsFirstFrom};
+ghost use Rattle.ba_arena.specs.Words.{words_of, word_of_link, link_of_word, clauses_of, AreIndexed, AreWords, IsCut};
+
+mod link;
 
 use ba_lits::Lit;
+pub use link::Link;
 use std::alloc::{AllocError, Global};
 use std::marker::Model;
 
@@ -25,6 +29,9 @@ const LINKS: usize = 2;
 
 /// The place of a clause's first literal among its words.
 const LITS: usize = 4;
+
+/// The word of a dead clause in the place of its number.
+const DEAD: u32 = u32::MAX;
 
 /// A reference to a clause of an arena: the place of its first word. It names the clause as long as the clause is
 /// live.
@@ -97,8 +104,8 @@ impl Arena {
 
     /// Adds a clause without links and gives its reference.
     ///
-    /// The one error is want of memory or of room, which is for 2^32 - 1 words, and for numbers and indices of literals
-    /// below 2^32. It leaves the arena as it was.
+    /// The one error is want of memory or of room, which is for 2^32 - 1 words, for numbers below 2^32 - 1 and for indices
+    /// of literals below 2^32. It leaves the arena as it was.
     pub fn add(&mut self, lits: &[Lit], number: u64) -> Result<ClauseRef, AllocError>
         ensures ok { IfOk result (λ clause.
             Adds self.old self.new clause (record
@@ -106,7 +113,7 @@ impl Arena {
         ensures err { OnErr result (self.new ≡ self.old) }
     {
         let place = self.words.len();
-        if place + LITS + lits.len() > u32::MAX as usize || number > u32::MAX as u64 {
+        if place + LITS + lits.len() > u32::MAX as usize || number >= DEAD as u64 {
             return Err(AllocError);
         }
         if let Err(error) = append(&mut self.words, lits, number) {
@@ -160,6 +167,14 @@ impl Arena {
         self.words[clause.index as usize + LINKS + which] = ClauseRef::to_word(next);
     }
 
+    /// Takes a clause out. Its words stay until the arena is compacted; lists that name it are to be threaded anew.
+    pub fn mark_dead(&mut self, clause: ClauseRef)
+        requires { IsLive self.old clause }
+        ensures { self.new ≡ set self.old clause None }
+    {
+        self.words[clause.index as usize + NUMBER] = DEAD;
+    }
+
     /// Exchanges two literals of a clause. The links stay at their places.
     pub fn swap(&mut self, clause: ClauseRef, a: usize, b: usize)
         requires a_within { a < length (lits_at self.old clause) }
@@ -171,10 +186,121 @@ impl Arena {
     }
 }
 
+impl Arena {
+    /// The first live clause.
+    pub fn first(&self) -> Option<ClauseRef>
+        ensures { IsFirstFrom self.now 0 result }
+    {
+        to_reference(live_from(self.words.as_slice(), 0))
+    }
+
+    /// The first live clause after one.
+    pub fn after(&self, clause: ClauseRef) -> Option<ClauseRef>
+        requires { IsLive self.now clause }
+        ensures first { IsFirstFrom self.now (clause + 1) result }
+        ensures room { IfSome result (λ next. clause + 4 + length (lits_at self.now clause) ≤ next) }
+        ensures below { clause + 4 + length (lits_at self.now clause) < 2 ^ 32 }
+    {
+        let end = clause.index as usize + LITS + self.words[clause.index as usize] as usize;
+        to_reference(live_from(self.words.as_slice(), end))
+    }
+
+    /// Sets the first link of each live clause to the place to which [`compact`](Arena::compact) moves it.
+    pub fn plan(&mut self)
+        ensures { Plans self.old self.new }
+    {
+        let mut place = 0;
+        let mut next = self.first();
+        while let Some(clause) = next {
+            next = self.after(clause);
+            let size = LITS + self.len(clause);
+            self.set_link(
+                clause,
+                0,
+                Some(ClauseRef {
+                    index: place as u32,
+                }),
+            );
+            place += size;
+        }
+    }
+
+    /// Rewrites so many references to what the first links of their clauses name: after [`plan`](Arena::plan) each names the
+    /// place to which [`compact`](Arena::compact) moves its clause.
+    pub fn rewrite(&self, kept: &mut Vec<Option<ClauseRef>>, count: usize)
+        requires within { count ≤ length kept.old.items }
+        requires live { (k clause : ℕ) → k < count → get_or kept.old.items k None ≡ Some clause
+            → IsLive self.now clause }
+        ensures { kept.new.items ≡ map (forwarded self.now) (take count kept.old.items)
+            ++ drop count kept.old.items }
+    {
+        for place in 0..count {
+            if let Some(clause) = kept[place] {
+                kept[place] = self.link(clause, 0);
+            }
+        }
+    }
+
+    /// Moves the live clauses down, so that no gap is left where clauses died. It takes no memory.
+    pub fn compact(&mut self)
+        ensures { self.new ≡ compacted self.old }
+    {
+        move_down(&mut self.words);
+    }
+}
+
+/// The reference of the clause at a place.
+fn to_reference(place: Option<usize>) -> Option<ClauseRef>
+    requires { IfSome place (λ p. p < 2 ^ 32 - 1) }
+    ensures { result ≡ place }
+{
+    match place {
+        None => None,
+        Some(place) => Some(ClauseRef {
+            index: place as u32,
+        }),
+    }
+}
+
+/// The place of the first live clause from the beginning of a clause on.
+fn live_from(words: &[u32], start: usize) -> Option<usize>
+    requires { IsCut words.now start }
+    ensures first { IsFirstFrom (clauses_of 0 words.now) start result }
+    ensures below { IfSome result (λ place. place + 4 ≤ length words.now) }
+{
+    let mut place = start;
+    while place < words.len() {
+        if words[place + NUMBER] != DEAD {
+            return Some(place);
+        }
+        place += LITS + words[place] as usize;
+    }
+    None
+}
+
+/// Moves the words of the live clauses down, over those of the dead ones.
+fn move_down(words: &mut Vec<u32>)
+    requires { AreWords words.old.items }
+    ensures words { AreWords words.new.items }
+    ensures clauses { clauses_of 0 words.new.items ≡ compacted (clauses_of 0 words.old.items) }
+{
+    let mut place = 0;
+    let mut end = 0;
+    while place < words.len() {
+        let size = LITS + words[place] as usize;
+        if words[place + NUMBER] != DEAD {
+            words.copy_within(place..place + size, end);
+            end += size;
+        }
+        place += size;
+    }
+    words.truncate(end);
+}
+
 /// Appends the words of a clause.
 fn append(words: &mut Vec<u32>, lits: &[Lit], number: u64) -> Result<(), AllocError>
     requires few { length lits.now < 2 ^ 32 }
-    requires small { number < 2 ^ 32 }
+    requires small { number < 2 ^ 32 - 1 }
     ensures begins { take (length words.old.items) words.new.items ≡ words.old.items }
     ensures ok { OnOk result (words.new.items ≡ words.old.items ++ words_of lits.now number) }
     ensures indexed { OnOk result (AreIndexed lits.now) }

@@ -27,7 +27,8 @@ among_at : (n : ℕ) (softs : List Soft) (k : ℕ) → AreAmong n softs → k < 
     (1 ≤ (lit_at (literals_of softs) k).variable) × ((lit_at (literals_of softs) k).variable ≤ n)
 among_at n [] k all lt = absurd (omega arith)
 among_at n (s ∷ ss) zero all lt = All-head (λ (s : Soft). (1 ≤ s.0.variable) × (s.0.variable ≤ n)) s ss all
-among_at n (s ∷ ss) (suc k) all lt = among_at n ss k (All-tail (λ (s : Soft). (1 ≤ s.0.variable) × (s.0.variable ≤ n)) s ss all) (omega (arith, lt))
+among_at n (s ∷ ss) (suc k) all lt = among_at n ss k
+    (All-tail (λ (s : Soft). (1 ≤ s.0.variable) × (s.0.variable ≤ n)) s ss all) (omega (arith, lt))
 
 differs_at : (x : ℕ) (softs : List Soft) (k : ℕ) → Differs x softs → k < length (literals_of softs) →
     x ≢ (lit_at (literals_of softs) k).variable
@@ -41,9 +42,11 @@ different_at [] j k d jk lt = absurd (omega arith)
 different_at (s ∷ ss) zero zero d jk lt = absurd (omega arith)
 different_at (s ∷ ss) zero (suc k) d jk lt = differs_at s.0.variable ss k d.0 (omega (arith, lt))
 different_at (s ∷ ss) (suc j) zero d jk lt = absurd (omega arith)
-different_at (s ∷ ss) (suc j) (suc k) d jk lt = different_at ss j k d.1 (omega (arith, jk)) (omega (arith, lt))
+different_at (s ∷ ss) (suc j) (suc k) d jk lt =
+    different_at ss j k d.1 (omega (arith, jk)) (omega (arith, lt))
 
-all_assumed : (n : ℕ) (softs : List Soft) → AreAmong n softs → AreDifferent softs → AreAssumptions n (literals_of softs)
+all_assumed : (n : ℕ) (softs : List Soft) → AreAmong n softs → AreDifferent softs →
+    AreAssumptions n (literals_of softs)
 all_assumed n softs among differ = record {
   counted = λ k lt. (among_at n softs k among lt).0;
   within = λ k lt. (among_at n softs k among lt).1;
@@ -60,7 +63,8 @@ softs_assumed n m softs lits is same among differ =
 -- THE STEP IS FORMED
 pub core_formed : (s : State) (assumptions lits : List Literal) (hints : List ℕ) (back : ℕ) →
     IsCore s assumptions lits hints back → s.variables < 2 ^ 62 → 0 < length lits → IsFormed (Core lits hints)
-core_formed s assumptions lits hints back core few some = ((IsClause-more s.variables (2 ^ 62 - 1) lits (omega (arith, few)) core.clause, some), core.numbers)
+core_formed s assumptions lits hints back core few some =
+    ((IsClause-more s.variables (2 ^ 62 - 1) lits (omega (arith, few)) core.clause, some), core.numbers)
 
 -- THE STEP IS ALLOWED
 none_of : (p : Literal → Bool) (xs : List Literal) → ((k : ℕ) → k < length xs → p (lit_at xs k) ≡ false) →
@@ -72,14 +76,17 @@ none_of p (x ∷ xs) each =
 
 no_error : (refused ended lacks spent blocked others : Bool) (r : Replay) → refused ≡ false → ended ≡ false →
     lacks ≡ false → spent ≡ false → blocked ≡ false → others ≡ false → r ≡ Refutes →
-    error_if refused Memory (error_if ended AfterEnd (error_if lacks BadVariable (error_if spent WrongCount (error_if blocked CoreAfterSet (error_if others NotSofts (error_of_replay r)))))) ≡ None
+    error_if refused Memory (error_if ended AfterEnd
+    (error_if lacks BadVariable (error_if spent WrongCount
+    (error_if blocked CoreAfterSet (error_if others NotSofts (error_of_replay r)))))) ≡ None
 no_error refused ended lacks spent blocked others r e f g h i j k = rw (e, f, g, h, i, j, k) refl
 
 pub core_allowed : (good : Judge) (s : State) (lits : List Literal) (hints : List ℕ) (back : ℕ) →
     IsCore s (literals_of s.softs) lits hints back → IsReady s →
     error_of good s (Core lits hints) ≡ None
 core_allowed good s lits hints back core ready =
-    no_error s.refused s.ended (lacks_variable s lits) (is_spent s) (ltb 0 (length s.sets)) (lacks_soft s.softs lits) (replay (clause_at s.clauses) lits hints)
+    no_error s.refused s.ended (lacks_variable s lits) (is_spent s) (ltb 0 (length s.sets))
+    (lacks_soft s.softs lits) (replay (clause_at s.clauses) lits hints)
     ready.awake ready.begun
     (none_of (λ (l : Literal). ltb s.variables l.variable) lits
     (λ k lt. le-ltb s.variables (lit_at lits k).variable (core.clause.within k lt)))
@@ -106,17 +113,23 @@ clause_at-more xs ys (suc k) c is = kept_at-more xs ys k c is
 same_more : (old new : Option (List Literal)) (lits : List Literal) →
     ((c : List Literal) → old ≡ Some c → new ≡ Some c) → IsSame old lits → IsSame new lits
 same_more None new lits more same = absurd same
-same_more (Some c) new lits more same = subst (λ (o : Option (List Literal)). IsSame o lits) (sym (more c refl)) same
+same_more (Some c) new lits more same = subst (λ (o : Option (List Literal)). IsSame o lits)
+    (sym (more c refl)) same
 
-pub part_of_same : (live : ℕ → Option (List Literal)) {clauses : _} → AreLive clauses live → ArePart clauses live
+pub part_of_same : (live : ℕ → Option (List Literal)) {clauses : _} → AreLive clauses live →
+    ArePart clauses live
 part_of_same live are = are.each
 
 pub part_after_core : (s t : State) (lits : List Literal) (hints : List ℕ) {clauses : _} →
-    t ≡ after s (Core lits hints) → AreLive clauses (clause_at s.clauses) → ArePart clauses (clause_at t.clauses)
+    t ≡ after s (Core lits hints) → AreLive clauses (clause_at s.clauses) →
+    ArePart clauses (clause_at t.clauses)
 part_after_core s t lits hints taken are = λ reference c is.
-    same_more (clause_at s.clauses c.number) (clause_at t.clauses c.number) c.lits (grows c.number) (are.each reference c is)
+    same_more (clause_at s.clauses c.number) (clause_at t.clauses c.number) c.lits (grows c.number)
+    (are.each reference c is)
   where
-    grows : (number : ℕ) (d : List Literal) → clause_at s.clauses number ≡ Some d → clause_at t.clauses number ≡ Some d
+    grows : (number : ℕ) (d : List Literal) → clause_at s.clauses number ≡ Some d →
+        clause_at t.clauses number ≡ Some d
     grows number d at =
         ap (λ (u : State). clause_at u.clauses number) taken
-        ∙ clause_at-more s.clauses (kept origins.Core lits ∷ map (kept origins.Split) (split_clauses (s.variables + 1) lits)) number d at
+        ∙ clause_at-more s.clauses (kept origins.Core lits
+        ∷ map (kept origins.Split) (split_clauses (s.variables + 1) lits)) number d at

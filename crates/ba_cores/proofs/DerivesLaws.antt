@@ -24,11 +24,14 @@ use Rattle.ba_cores.specs.declared.costs.Found.{Found}
 use Rattle.ba_cores.specs.declared.costs.Found.TheVariants.{Least, NoModel, Spent}
 
 -- the steps of a search are steps
-pub searches_derives : {good : Judge} {gives : Gives} {a b : State} {learnt all : List ℕ} {xs : List CertStep} →
+pub searches_derives : {good : Judge} {gives : Gives} {a b : State} {learnt all : List ℕ}
+    {xs : List CertStep} →
     Searches good gives a learnt xs b all → Derives good a xs b
 searches_derives (searches_none s learnt) = derives_none s
-searches_derives (searches_learn s t learnt all lits hints steps formed allowed new rest) = derives_learn s t lits hints steps formed allowed new (searches_derives rest)
-searches_derives (searches_delete s t learnt all numbers steps formed allowed given_up rest) = derives_delete s t numbers steps formed allowed (searches_derives rest)
+searches_derives (searches_learn s t learnt all lits hints steps formed allowed new rest) =
+    derives_learn s t lits hints steps formed allowed new (searches_derives rest)
+searches_derives (searches_delete s t learnt all numbers steps formed allowed given_up rest) =
+    derives_delete s t numbers steps formed allowed (searches_derives rest)
 
 -- one derivation after another
 pub derives_append : {good : Judge} {a b : State} {xs : List CertStep} → Derives good a xs b →
@@ -77,14 +80,18 @@ searches_softs : {good : Judge} {gives : Gives} {a b : State} {learnt all : List
     Searches good gives a learnt xs b all → b.softs ≡ a.softs
 searches_softs (searches_none s learnt) = refl
 searches_softs (searches_learn s t learnt all lits hints steps formed allowed new rest) = searches_softs rest
-searches_softs (searches_delete s t learnt all numbers steps formed allowed given_up rest) = searches_softs rest
+searches_softs (searches_delete s t learnt all numbers steps formed allowed given_up rest) =
+    searches_softs rest
 
 -- a derivation is one of allowed, formed steps
 pub derives_formed : {good : Judge} {a b : State} {xs : List CertStep} → Derives good a xs b → All IsFormed xs
 derives_formed (derives_none s) = All-nil IsFormed
-derives_formed (derives_learn s t lits hints steps formed allowed new rest) = All-cons IsFormed (Learn lits hints) steps formed (derives_formed rest)
-derives_formed (derives_delete s t numbers steps formed allowed rest) = All-cons IsFormed (Delete numbers) steps formed (derives_formed rest)
-derives_formed (derives_core s t lits hints steps formed allowed rest) = All-cons IsFormed (Core lits hints) steps formed (derives_formed rest)
+derives_formed (derives_learn s t lits hints steps formed allowed new rest) =
+    All-cons IsFormed (Learn lits hints) steps formed (derives_formed rest)
+derives_formed (derives_delete s t numbers steps formed allowed rest) =
+    All-cons IsFormed (Delete numbers) steps formed (derives_formed rest)
+derives_formed (derives_core s t lits hints steps formed allowed rest) =
+    All-cons IsFormed (Core lits hints) steps formed (derives_formed rest)
 
 next_allowed : (o : Option StepError) (next : Option State) (t : State) → o ≡ None → next ≡ Some t →
     next_if o next ≡ Some t
@@ -95,11 +102,14 @@ pub derives_after : {good : Judge} {a b : State} {xs : List CertStep} → Derive
     after_all good a xs ≡ Some b
 derives_after (derives_none s) = refl
 derives_after {good} (derives_learn s t lits hints steps formed allowed new rest) =
-    next_allowed (error_of good s (Learn lits hints)) (after_all good (after s (Learn lits hints)) steps) t allowed (derives_after rest)
+    next_allowed (error_of good s (Learn lits hints)) (after_all good (after s (Learn lits hints)) steps) t
+    allowed (derives_after rest)
 derives_after {good} (derives_delete s t numbers steps formed allowed rest) =
-    next_allowed (error_of good s (Delete numbers)) (after_all good (after s (Delete numbers)) steps) t allowed (derives_after rest)
+    next_allowed (error_of good s (Delete numbers)) (after_all good (after s (Delete numbers)) steps) t
+    allowed (derives_after rest)
 derives_after {good} (derives_core s t lits hints steps formed allowed rest) =
-    next_allowed (error_of good s (Core lits hints)) (after_all good (after s (Core lits hints)) steps) t allowed (derives_after rest)
+    next_allowed (error_of good s (Core lits hints)) (after_all good (after s (Core lits hints)) steps) t
+    allowed (derives_after rest)
 
 next_parts : (o : Option StepError) (next : Option State) (t : State) → next_if o next ≡ Some t →
     (o ≡ None) × (next ≡ Some t)
@@ -114,7 +124,8 @@ after_append good [] ys a b c first second =
     subst P e second
 after_append good (x ∷ xs) ys a b c first second =
     let parts = next_parts (error_of good a x) (after_all good (after a x) xs) b first in
-    next_allowed (error_of good a x) (after_all good (after a x) (xs ++ ys)) c parts.0 (after_append good xs ys (after a x) b c parts.1 second)
+    next_allowed (error_of good a x) (after_all good (after a x) (xs ++ ys)) c parts.0
+    (after_append good xs ys (after a x) b c parts.1 second)
 
 -- what a formula's derivation reaches, it reaches after more steps
 pub reached_on : {good : Judge} {a b : State} {xs : List CertStep} (formula : Cnf) (softs : List Soft) →
@@ -125,14 +136,27 @@ reached_on {good} {a} {b} {xs} formula softs r d = record {
   sets = r.sets;
   steps = r.steps ++ xs;
   formed = All-append IsFormed r.steps xs r.formed (derives_formed d);
-  reached = after_append good r.steps xs (first_state formula softs r.conflicts r.sets) a b r.reached (derives_after d);
+  reached = after_append good r.steps xs (first_state formula softs r.conflicts r.sets) a b r.reached
+      (derives_after d);
 }
 
 -- what is found from a later state is found from an earlier one
-found_on : {good : Judge} {a b : State} {xs : List CertStep} → Derives good a xs b → (c : State) (found : Found) →
+found_on : {good : Judge} {a b : State} {xs : List CertStep} → Derives good a xs b →
+    (c : State) (found : Found) →
     IsFound good b c found → IsFound good a c found
-found_on d c (Least weight model) is = (is.0, is.1, λ formula softs r. is.2 formula softs (reached_on formula softs r d))
-found_on d c (NoModel hints) is = (is.0, is.1, is.2, λ formula softs r. is.3 formula softs (reached_on formula softs r d))
+found_on d c (Least weight model) is = (
+  is.0,
+  is.1,
+  λ formula softs r. is.2 formula softs
+      (reached_on formula softs r d),
+)
+found_on d c (NoModel hints) is = (
+  is.0,
+  is.1,
+  is.2,
+  λ formula softs r. is.3 formula softs
+      (reached_on formula softs r d),
+)
 found_on d c Spent is = is
 
 round_from : {good : Judge} {a b : State} {xs : List CertStep} → Derives good a xs b →
@@ -144,7 +168,8 @@ round_from d c v w None is = let s = derives_stays d in omega (arith, is, s.budg
 pub puts_none : (good : Judge) (s : State) (logs : Logs) → Puts good s s logs logs
 puts_none good s logs = record { steps = []; leads = derives_none s; logs = refl }
 
-pub puts_on : (good : Judge) (a b c : State) (l m n : Logs) → Puts good a b l m → Puts good b c m n → Puts good a c l n
+pub puts_on : (good : Judge) (a b c : State) (l m n : Logs) → Puts good a b l m → Puts good b c m n →
+    Puts good a c l n
 puts_on good a b c l m n p q = record {
   steps = p.steps ++ q.steps;
   leads = derives_append p.leads c q.steps q.leads;
@@ -152,7 +177,8 @@ puts_on good a b c l m n p q = record {
 }
 
 pub puts_core : (good : Judge) (s t : State) (lits : List Literal) (hints : List ℕ) (l m : Logs) →
-    IsFormed (Core lits hints) → error_of good s (Core lits hints) ≡ None → t ≡ after s (Core lits hints) → m ≡ with_step (Core lits hints) l → Puts good s t l m
+    IsFormed (Core lits hints) → error_of good s (Core lits hints) ≡ None → t ≡ after s (Core lits hints) →
+    m ≡ with_step (Core lits hints) l → Puts good s t l m
 puts_core good s t lits hints l m formed allowed taken told = record {
   steps = Core lits hints ∷ [];
   leads = derives_core s t lits hints [] formed allowed
@@ -171,7 +197,8 @@ puts_ready good a b l m p r =
     let s = derives_stays p.leads in
     record { begun = s.ended ∙ r.begun; awake = s.refused ∙ r.awake; none_blocked = s.sets ∙ r.none_blocked }
 
-pub round_on : (good : Judge) (a b c : State) (l m : Logs) (v w : ℕ) (found : Option Found) → Puts good a b l m →
+pub round_on : (good : Judge) (a b c : State) (l m : Logs) (v w : ℕ) (found : Option Found) →
+    Puts good a b l m →
     EndsRound good b c v w found → EndsRound good a c v w found
 round_on good a b c l m v w found p is = round_from p.leads c v w found is
 
@@ -197,7 +224,8 @@ on_ok (Ok x) p = p
 on_ok (Err e) p = tt
 
 -- the same with a judge that is the same
-pub puts_as : (good same : Judge) (a b : State) (l m : Logs) → good ≡ same → Puts good a b l m → Puts same a b l m
+pub puts_as : (good same : Judge) (a b : State) (l m : Logs) → good ≡ same → Puts good a b l m →
+    Puts same a b l m
 puts_as good same a b l m is p = let P : Judge → Type 0 = λ g. Puts g a b l m in subst P is p
 
 pub found_as : (good same : Judge) (a b : State) (v w : ℕ) (o : Option Found) (found : Found) → good ≡ same →
@@ -207,18 +235,22 @@ found_as good same a b v w o found is some ends =
     let Q : Judge → Type 0 = λ g. IsFound g a b found in
     subst Q is (subst P some ends)
 
-pub round_as : (good same : Judge) (a b c : State) (l m : Logs) (v w : ℕ) (found : Option Found) → same ≡ good →
+pub round_as : (good same : Judge) (a b c : State) (l m : Logs) (v w : ℕ) (found : Option Found) →
+    same ≡ good →
     Puts good a b l m → EndsRound same b c v w found → EndsRound good a c v w found
-round_as good same a b c l m v w found is p ends = let P : Judge → Type 0 = λ g. EndsRound g b c v w found in round_on good a b c l m v w found p (subst P is ends)
+round_as good same a b c l m v w found is p ends = let P : Judge → Type 0 =
+    λ g. EndsRound g b c v w found in round_on good a b c l m v w found p (subst P is ends)
 
 -- a round that leaves the weight from which on soft literals are assumed
-pub round_weight : (good : Judge) (a b : State) (v : ℕ) (found : Option Found) → EndsRound good a b 0 0 found →
+pub round_weight : (good : Judge) (a b : State) (v : ℕ) (found : Option Found) →
+    EndsRound good a b 0 0 found →
     EndsRound good a b v v found
 round_weight good a b v (Some found) is = is
 round_weight good a b v None is = omega (arith, is)
 
 -- a round that ends with a model
-pub round_model : (good : Judge) (s : State) (v w : ℕ) (found : Option Found) → IfSome found (IsFound good s s) →
+pub round_model : (good : Judge) (s : State) (v w : ℕ) (found : Option Found) →
+    IfSome found (IsFound good s s) →
     IfNone found (w < v) → EndsRound good s s v w found
 round_model good s v w (Some found) is less = is
 round_model good s v w None is less = omega (arith, less)
@@ -231,10 +263,12 @@ pub leaves_put : (good : Judge) (a b : State) (l m : Logs) → Puts good a b l m
 leaves_put good a b l m p = leaves_all p.steps p.leads p.logs
 
 pub leaves_core : (good : Judge) (s t : State) (lits : List Literal) (hints : List ℕ) (l m : Logs) →
-    IsFormed (Core lits hints) → error_of good s (Core lits hints) ≡ None → IsTakenOrAsleep s (Core lits hints) t → MayAddStep (Core lits hints) l m → Leaves good s l t m
+    IsFormed (Core lits hints) → error_of good s (Core lits hints) ≡ None →
+    IsTakenOrAsleep s (Core lits hints) t → MayAddStep (Core lits hints) l m → Leaves good s l t m
 leaves_core good s t lits hints l m formed allowed taken told =
     leaves_last [] (Core lits hints) s (derives_none s)
-    (derives_core s (after s (Core lits hints)) lits hints [] formed allowed (derives_none (after s (Core lits hints))))
+    (derives_core s (after s (Core lits hints)) lits hints [] formed allowed
+    (derives_none (after s (Core lits hints))))
     taken told
 
 pub leaves_searches : (good : Judge) {gives : Gives} {learnt : List ℕ} (a b : State) (l m : Logs) →

@@ -42,13 +42,16 @@ cost_of_true : (v : Assignment) (softs : List Soft) → All (λ l. lit_true v l 
 cost_of_true v [] all = refl
 cost_of_true v (s ∷ ss) all =
     let first : lit_true v s.0 ≡ true = All-head (λ l. lit_true v l ≡ true) s.0 (literals_of ss) all in
-    let rest : cost v ss ≡ 0 = cost_of_true v ss (All-tail (λ l. lit_true v l ≡ true) s.0 (literals_of ss) all) in
+    let rest : cost v ss ≡ 0 = cost_of_true v ss (All-tail (λ l. lit_true v l ≡ true) s.0 (literals_of ss)
+    all) in
     ap (λ b. cond b 0 s.1 + cost v ss) first ∙ (omega (arith, rest))
 
 -- the facts of a state that a formula's derivation reaches
-reached_facts : (good : Judge) (formula : Cnf) (softs : List Soft) (s : State) (r : IsReached good formula softs s) →
+reached_facts : (good : Judge) (formula : Cnf) (softs : List Soft) (s : State)
+    (r : IsReached good formula softs s) →
     Holds good formula softs (splits_of (first_state formula softs r.conflicts r.sets) r.steps) s
-reached_facts good formula softs s r = facts_hold good formula softs r.conflicts r.sets r.start r.steps r.formed s r.reached
+reached_facts good formula softs s r = facts_hold good formula softs r.conflicts r.sets r.start r.steps
+    r.formed s r.reached
 
 -- where no set is blocked, no clause is to be satisfied beside the formula's
 none_to_block : (softs : List Soft) (s : State) (v : Assignment) → s.sets ≡ [] →
@@ -56,19 +59,23 @@ none_to_block : (softs : List Soft) (s : State) (v : Assignment) → s.sets ≡ 
 none_to_block softs s v none = ap (λ sets. all_true v (block_clauses softs sets)) none
 
 -- from the facts: a model of all live clauses and present soft literals is a least one
-least_of_facts : (good : Judge) (formula : Cnf) (softs : List Soft) (splits : List (List Literal)) (s : State) (values : List Bool) →
-    Holds good formula softs splits s → s.sets ≡ [] → IsModel s (literals_of s.softs) values → IsLeast formula softs s.bound values
+least_of_facts : (good : Judge) (formula : Cnf) (softs : List Soft) (splits : List (List Literal))
+    (s : State) (values : List Bool) →
+    Holds good formula softs splits s → s.sets ≡ [] → IsModel s (literals_of s.softs) values →
+    IsLeast formula softs s.bound values
 least_of_facts good formula softs splits s values h none m = record {
   satisfies = given;
   costs = costs;
-  least = λ v holds. let (z, same, split, lives, is) = h.extends v holds (none_to_block softs s v none) in omega (arith, is);
+  least = λ v holds. let (z, same, split, lives, is) = h.extends v holds (none_to_block softs s v none) in
+      omega (arith, is);
 }
   where
     v : Assignment
     v = assignment_of values
 
     given : all_true v formula.clauses ≡ true
-    given = all_of_each v formula.clauses (λ k lt. m.clauses (k + 1) (get_or formula.clauses k []) (h.given_live k lt))
+    given = all_of_each v formula.clauses (λ k lt. m.clauses (k + 1) (get_or formula.clauses k [])
+        (h.given_live k lt))
 
     splits_true : all_true v splits ≡ true
     splits_true = all_of_live v s.clauses m.clauses splits h.splits_live
@@ -76,20 +83,26 @@ least_of_facts good formula softs splits s values h none m = record {
     costs : cost v (present softs) ≡ s.bound
     costs =
         let (z, same, split, lives, is) = h.extends v given (none_to_block softs s v none) in
-        let agree : cost v s.softs ≡ cost z s.softs = cost-agree (s.variables + 1) v z s.softs (h.alone v z same splits_true split) (among-below s.variables s.softs h.among) in
+        let agree : cost v s.softs ≡ cost z s.softs =
+        cost-agree (s.variables + 1) v z s.softs (h.alone v z same splits_true split)
+        (among-below s.variables s.softs h.among) in
         let none : cost v s.softs ≡ 0 = cost_of_true v s.softs m.assumed in
         omega (arith, is, agree, none)
 
 pub least_of_model : (good : Judge) (formula : Cnf) (softs : List Soft) (s : State) (values : List Bool) →
-    IsModel s (literals_of s.softs) values → s.sets ≡ [] → IsReached good formula softs s → IsLeast formula softs s.bound values
+    IsModel s (literals_of s.softs) values → s.sets ≡ [] → IsReached good formula softs s →
+    IsLeast formula softs s.bound values
 least_of_model good formula softs s values m none r =
-    least_of_facts good formula softs (splits_of (first_state formula softs r.conflicts r.sets) r.steps) s values (reached_facts good formula softs s r) none m
+    least_of_facts good formula softs (splits_of (first_state formula softs r.conflicts r.sets) r.steps) s
+    values (reached_facts good formula softs s r) none m
 
 -- where the empty clause follows there is no model
 pub none_of_empty : (good : Judge) (formula : Cnf) (softs : List Soft) (s : State) (hints : List ℕ) →
-    FollowsByHints (clause_at s.clauses) [] hints → s.sets ≡ [] → IsReached good formula softs s → (v : Assignment) → all_true v formula.clauses ≡ true → ⊥
+    FollowsByHints (clause_at s.clauses) [] hints → s.sets ≡ [] → IsReached good formula softs s →
+    (v : Assignment) → all_true v formula.clauses ≡ true → ⊥
 none_of_empty good formula softs s hints follows none r v holds =
-    let (z, same, split, lives, is) = (reached_facts good formula softs s r).extends v holds (none_to_block softs s v none) in
+    let (z, same, split, lives, is) = (reached_facts good formula softs s r).extends v holds
+    (none_to_block softs s v none) in
     let e : false ≡ true = follows_true s z [] hints (ap error_of_replay follows) lives in
     cc e
 
@@ -102,5 +115,10 @@ none_from s a (l ∷ ls) hints back core none = absurd (omega (arith, none))
 pub none_of_core : (good : Judge) (s : State) (a lits : List Literal) (hints : List ℕ) (back : ℕ) →
     IsCore s a lits hints back → s.sets ≡ [] → length lits ≡ 0 → IsFound good s s (NoModel hints)
 none_of_core good s a lits hints back core no_sets none =
-    let follows = none_from s a lits hints back core none in
-    (follows, core.numbers, core.left, λ formula softs r v holds. none_of_empty good formula softs s hints follows no_sets r v holds)
+    let follows = none_from s a lits hints back core none in (
+      follows,
+      core.numbers,
+      core.left,
+      λ formula softs r v holds. none_of_empty good formula softs s hints
+          follows no_sets r v holds,
+    )

@@ -20,13 +20,16 @@ pub data Derives (good : Judge) : State → List CertStep → State → Type 0 w
   derives_none : (s : State) → Derives good s [] s
   derives_learn : (s t : State) (lits : List Literal) (hints : List ℕ) (steps : List CertStep) →
       IsFormed (Learn lits hints) →
-      error_of good s (Learn lits hints) ≡ None → IsNew (clause_at s.clauses) lits → Derives good (after s (Learn lits hints)) steps t → Derives good s (Learn lits hints ∷ steps) t
+      error_of good s (Learn lits hints) ≡ None → IsNew (clause_at s.clauses) lits →
+      Derives good (after s (Learn lits hints)) steps t → Derives good s (Learn lits hints ∷ steps) t
   derives_delete : (s t : State) (numbers : List ℕ) (steps : List CertStep) →
       IsFormed (Delete numbers) →
-      error_of good s (Delete numbers) ≡ None → Derives good (after s (Delete numbers)) steps t → Derives good s (Delete numbers ∷ steps) t
+      error_of good s (Delete numbers) ≡ None → Derives good (after s (Delete numbers)) steps t →
+      Derives good s (Delete numbers ∷ steps) t
   derives_core : (s t : State) (lits : List Literal) (hints : List ℕ) (steps : List CertStep) →
       IsFormed (Core lits hints) →
-      error_of good s (Core lits hints) ≡ None → Derives good (after s (Core lits hints)) steps t → Derives good s (Core lits hints ∷ steps) t
+      error_of good s (Core lits hints) ≡ None → Derives good (after s (Core lits hints)) steps t →
+      Derives good s (Core lits hints ∷ steps) t
 
 -- what such steps leave, also after an error
 abbrev pub Leaves : Judge → State → Logs → State → Logs → Type 0

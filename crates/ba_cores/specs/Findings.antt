@@ -23,8 +23,10 @@ pub record IsLeast (formula : Cnf) (softs : List Soft) (weight : ℕ) (values : 
 abbrev pub IsFound : Judge → State → State → Found → Type 0
 IsFound good old new (Least weight model) =
     (weight ≡ new.bound) × (length model.values ≡ new.variables)
-    × ((formula : Cnf) (softs : List Soft) → IsReached good formula softs old → IsLeast formula softs weight model.values)
+    × ((formula : Cnf) (softs : List Soft) → IsReached good formula softs old →
+    IsLeast formula softs weight model.values)
 IsFound good old new (NoModel hints) =
     FollowsByHints (clause_at new.clauses) [] hints × AreNumbers hints × (new.conflicts < new.budget)
-    × ((formula : Cnf) (softs : List Soft) → IsReached good formula softs old → (v : Assignment) → all_true v formula.clauses ≡ true → ⊥)
+    × ((formula : Cnf) (softs : List Soft) → IsReached good formula softs old → (v : Assignment) →
+    all_true v formula.clauses ≡ true → ⊥)
 IsFound good old new Spent = new.conflicts ≡ new.budget

@@ -33,4 +33,5 @@ Puts good old new old_logs new_logs = PutsSteps (λ steps. Derives good old step
 -- assumed get lighter, the weight from which on they are assumed being a second one in place of a first
 abbrev pub EndsRound : Judge → State → State → ℕ → ℕ → Option Found → Type 0
 EndsRound good old new before next (Some found) = IsFound good old new found
-EndsRound good old new before next None = (new.budget - new.conflicts) + next < (old.budget - old.conflicts) + before
+EndsRound good old new before next None = (new.budget - new.conflicts) + next < (old.budget - old.conflicts)
+    + before

@@ -21,7 +21,11 @@ use Rattle.ba_learn.proofs.SortedLaws.{HasOne, kept_within, lead_in, kept_in, li
 
 -- a place is pending only from the floor on
 pub pending_above : (high : ℕ) (w : Work) (q : ℕ) → is_pending high w q ≡ true → (w.floor ≤ q) × (q < high)
-pending_above high w q e = (from w.floor q (ltb q high) (is_seen w q) e, to q high (leb w.floor q && is_seen w q) e)
+pending_above high w q e = (
+  from w.floor q (ltb q high) (is_seen w q) e,
+  to q high (leb w.floor q
+      && is_seen w q) e,
+)
   where
     from : (f q : ℕ) (a m : Bool) → (a && (leb f q && m)) ≡ true → f ≤ q
     from f q a m e = grind (arith, nat_tests)
@@ -29,12 +33,18 @@ pending_above high w q e = (from w.floor q (ltb q high) (is_seen w q) e, to q hi
     to : (q n : ℕ) (b : Bool) → (ltb q n && b) ≡ true → q < n
     to q n b e = grind (arith, nat_tests)
 
-module _ (s : State) (facts : KeepsFacts s) (lit : Literal) (p r : ℕ) (is_false : value_of s.trail lit ≡ Some false) (p_is : p ≡ place_of s.trail lit.variable) (r_is : get_or s.reasons p None ≡ Some r) where
+module _ (s : State) (facts : KeepsFacts s) (lit : Literal) (p r : ℕ) (is_false : value_of s.trail lit
+    ≡ Some false) (p_is : p ≡ place_of s.trail lit.variable) (r_is : get_or s.reasons p None ≡ Some r) where
   p_within : p < length s.trail
   p_within = omega (arith, p_is, place_of-some s.trail lit false is_false)
 
   pub core_start : MayStart s p (p + 1) (lits_in s.clauses r)
-  core_start = record { floor_le = omega arith; within = omega (arith, p_within); below = reason_below s p r facts p_within r_is }
+  core_start = record {
+    floor_le = omega arith;
+    within = omega (arith, p_within);
+    below =
+        reason_below s p r facts p_within r_is;
+  }
 
   pub core_live : IsSome (clause_in s.clauses r)
   core_live = reason_live s p r facts p_within r_is
@@ -43,7 +53,8 @@ module _ (s : State) (facts : KeepsFacts s) (lit : Literal) (p r : ℕ) (is_fals
   reason = facts.reasons p r p_within r_is
 
   lead_same : negate lit ≡ lit_at s.trail p
-  lead_same = ap negate (false_negates s.trail lit is_false ∙ ap (negated_at s) (sym p_is)) ∙ negate-negate (lit_at s.trail p)
+  lead_same = ap negate (false_negates s.trail lit is_false ∙ ap (negated_at s) (sym p_is))
+      ∙ negate-negate (lit_at s.trail p)
 
   module _ (w : Work) (e : HasEnded s (p + 1) w r) (floor : w.floor ≡ p) (deep : w.deep ≡ true) where
     seen : is_seen w p ≡ true
@@ -63,12 +74,16 @@ module _ (s : State) (facts : KeepsFacts s) (lit : Literal) (p r : ℕ) (is_fals
         here : (f : ℕ) (m : Bool) → f ≡ p → m ≡ true → (ltb p (p + 1) && (leb f p && m)) ≡ true
         here f m e h = grind (arith, nat_tests)
 
-    module _ (lits : List Literal) (places : List ℕ) (sorted : SortsLiterals (negate lit ∷ map (negated_at s) w.kept) lits) (ordered : SortsNumbers w.resolved places) where
+    module _ (lits : List Literal) (places : List ℕ)
+        (sorted : SortsLiterals (negate lit ∷ map (negated_at s) w.kept) lits)
+        (ordered : SortsNumbers w.resolved places) where
       pub core_clause : IsClause s.variables lits
       core_clause = is_clause s facts (p + 1) w e.work e.waiting p (negate lit) core_one lits sorted
 
-      none_pending : (a q : ℕ) → 0 < occurrences a w.resolved → q < a → is_pending (p + 1) w q ≡ true → has_literal (negated_at s q) lits ≡ true
-      none_pending a q some lt pending = absurd (omega (arith, e.work.resolved_below a some deep, (pending_above (p + 1) w q pending).0))
+      none_pending : (a q : ℕ) → 0 < occurrences a w.resolved → q < a → is_pending (p + 1) w q ≡ true →
+          has_literal (negated_at s q) lits ≡ true
+      none_pending a q some lt pending = absurd (omega
+          (arith, e.work.resolved_below a some deep, (pending_above (p + 1) w q pending).0))
 
       pub core_follows : Follows s.clauses lits (map (number_at s) places ++ number_in s r ∷ [])
       core_follows clauses are =
@@ -77,7 +92,10 @@ module _ (s : State) (facts : KeepsFacts s) (lit : Literal) (p r : ℕ) (is_fals
           (literals_free s facts (p + 1) w e.work e.waiting p (negate lit) core_one lits sorted)
           clauses are r core_live
           (λ k k_in. ⊎_elim
-          (λ same. inl (subst (λ (x : Literal). has_literal x lits ≡ true) (sym (same_from_index (lit_at (lits_in s.clauses r) k) (lit_at s.trail p) same ∙ sym lead_same)) (lead_in s facts (p + 1) w e.work e.waiting p (negate lit) core_one lits sorted)))
+          (λ same. inl (subst (λ (x : Literal). has_literal x lits ≡ true)
+          (sym (same_from_index (lit_at (lits_in s.clauses r) k) (lit_at s.trail p) same
+          ∙ sym lead_same)) (lead_in s facts (p + 1) w e.work e.waiting p (negate lit) core_one lits
+          sorted)))
           (λ other.
           let x : Literal = lit_at (lits_in s.clauses r) k in
           let front : value_of (take p s.trail) x ≡ Some false = reason.others k k_in other in
@@ -85,24 +103,43 @@ module _ (s : State) (facts : KeepsFacts s) (lit : Literal) (p r : ℕ) (is_fals
           (kept_in s facts (p + 1) w e.work e.waiting p (negate lit) core_one lits sorted) none_pending
           (literals_free s facts (p + 1) w e.work e.waiting p (negate lit) core_one lits sorted)
           clauses are (number_in s r) x (false_further s.trail p x front) (e.met k k_in)
-          (λ pending. absurd (omega (arith, place_of-front_some s.trail p x false (omega (arith, p_within)) front, (pending_above (p + 1) w (place_of s.trail x.variable) pending).0, floor))))
+          (λ pending. absurd (omega (
+            arith,
+            place_of-front_some s.trail p x false (omega (arith, p_within))
+                front,
+            (pending_above (p + 1) w (place_of s.trail x.variable) pending).0,
+            floor,
+          ))))
           (cases_eq (index_of (lit_at (lits_in s.clauses r) k)) (index_of (lit_at s.trail p))))
 
       pub core_is : IsCoreOf s lit lits
       core_is k k_in = ⊎_elim
           (λ is. inl is)
-          (λ q. inr (q.0, kept_within s facts (p + 1) w e.work e.waiting p (negate lit) core_one lits sorted q.0 q.1, subst (λ (b : Bool). MayKeep s b q.0) deep (e.work.kept q.0 q.1), q.2))
+          (λ q. inr (
+            q.0,
+            kept_within s facts (p + 1) w e.work e.waiting p (negate lit) core_one lits sorted
+                q.0 q.1,
+            subst (λ (b : Bool). MayKeep s b q.0) deep (e.work.kept q.0 q.1),
+            q.2,
+          ))
           (literal_of s facts (p + 1) w e.work e.waiting p (negate lit) core_one lits sorted (lit_at lits k)
           (has_literal-at lits k k_in))
 
 -- what the code reads
-pub core_place : (s : State) (lit : Literal) (v p : ℕ) → v ≡ lit.variable → value_of s.trail lit ≡ Some false → place_if s.trail v ≡ Some p → p ≡ place_of s.trail lit.variable
+pub core_place : (s : State) (lit : Literal) (v p : ℕ) → v ≡ lit.variable →
+    value_of s.trail lit ≡ Some false → place_if s.trail v ≡ Some p → p ≡ place_of s.trail lit.variable
 core_place s lit v p v_is is_false e =
-    place-is s.trail lit.variable p (place_of-some s.trail lit false is_false) (ap (place_if s.trail) (sym v_is) ∙ e)
+    place-is s.trail lit.variable p (place_of-some s.trail lit false is_false)
+    (ap (place_if s.trail) (sym v_is) ∙ e)
 
-pub core_reason : (s : State) (lit : Literal) (v p r : ℕ) → v ≡ lit.variable → p ≡ place_of s.trail lit.variable → reason_of s.trail s.reasons v ≡ Some r → get_or s.reasons p None ≡ Some r
-core_reason s lit v p r v_is p_is e = ap (λ (x : ℕ). get_or s.reasons x None) p_is ∙ (ap (reason_of s.trail s.reasons) (sym v_is) ∙ e)
+pub core_reason : (s : State) (lit : Literal) (v p r : ℕ) → v ≡ lit.variable →
+    p ≡ place_of s.trail lit.variable → reason_of s.trail s.reasons v ≡ Some r →
+    get_or s.reasons p None ≡ Some r
+core_reason s lit v p r v_is p_is e = ap (λ (x : ℕ). get_or s.reasons x None) p_is
+    ∙ (ap (reason_of s.trail s.reasons) (sym v_is) ∙ e)
 
-pub same_sorted : (s : State) (a b : Literal) (k l : List ℕ) (lits : List Literal) → a ≡ b → k ≡ l → SortsLiterals (a ∷ map (negated_at s) k) lits → SortsLiterals (b ∷ map (negated_at s) l) lits
+pub same_sorted : (s : State) (a b : Literal) (k l : List ℕ) (lits : List Literal) → a ≡ b → k ≡ l →
+    SortsLiterals (a ∷ map (negated_at s) k) lits → SortsLiterals (b ∷ map (negated_at s) l) lits
 same_sorted s a b k l lits e f h =
-    subst (λ (x : Literal). SortsLiterals (x ∷ map (negated_at s) l) lits) e (subst (λ (xs : List ℕ). SortsLiterals (a ∷ map (negated_at s) xs) lits) f h)
+    subst (λ (x : Literal). SortsLiterals (x ∷ map (negated_at s) l) lits) e
+    (subst (λ (xs : List ℕ). SortsLiterals (a ∷ map (negated_at s) xs) lits) f h)

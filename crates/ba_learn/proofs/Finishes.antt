@@ -16,10 +16,13 @@ use Rattle.ba_learn.specs.Resolving.{Work, is_seen, is_pending, IsWork, MayKeep,
 use Rattle.ba_learn.proofs.FollowLaws.{false_at, at_occurs, known, refutes}
 
 -- the literals of a false clause are on the trail
-pub false_below : (s : State) (lits : List Literal) → is_false (value_of s.trail) lits ≡ true → AreBelow s (length s.trail) lits
-false_below s lits h k k_in = place_of-some s.trail (lit_at lits k) false (false_at (value_of s.trail) lits h k k_in)
+pub false_below : (s : State) (lits : List Literal) → is_false (value_of s.trail) lits ≡ true →
+    AreBelow s (length s.trail) lits
+false_below s lits h k k_in = place_of-some s.trail (lit_at lits k) false
+    (false_at (value_of s.trail) lits h k k_in)
 
-pub may_start : (s : State) (n : ℕ) (lits : List Literal) → n ≡ length s.trail → is_false (value_of s.trail) lits ≡ true → MayStart s n (length s.trail) lits
+pub may_start : (s : State) (n : ℕ) (lits : List Literal) → n ≡ length s.trail →
+    is_false (value_of s.trail) lits ≡ true → MayStart s n (length s.trail) lits
 may_start s n lits e h = record { floor_le = omega arith; within = omega arith; below = false_below s lits h }
 
 -- a resolution that has come to its end
@@ -29,7 +32,9 @@ pub record HasEnded (s : State) (high : ℕ) (w : Work) (conflict : ℕ) : Type 
   pub covered : AreCovered s (is_seen w) w.resolved
   pub met : AreSeen s (is_seen w) (lits_in s.clauses conflict)
 
-pub ended : (s : State) (high : ℕ) (u w : Work) (conflict : ℕ) → u.resolved ≡ [] → AreSeen s (is_seen u) (lits_in s.clauses conflict) → Resolves s u w → IsWork s high w → w.waiting ≡ [] → HasEnded s high w conflict
+pub ended : (s : State) (high : ℕ) (u w : Work) (conflict : ℕ) → u.resolved ≡ [] →
+    AreSeen s (is_seen u) (lits_in s.clauses conflict) → Resolves s u w → IsWork s high w → w.waiting ≡ [] →
+    HasEnded s high w conflict
 ended s high u w conflict none met steps work' waiting = record {
   work = work';
   waiting = waiting;
@@ -41,12 +46,18 @@ ended s high u w conflict none met steps work' waiting = record {
 pub places_all : (P : ℕ → Type 0) (xs : List ℕ) → ((p : ℕ) → 0 < occurrences p xs → P p) → All P xs
 places_all P xs h = All-from_get_or P xs 0 (λ k k_in. h (get_or xs k 0) (at_occurs xs k k_in))
 
-pub sorted_reasons : (s : State) (high : ℕ) (w : Work) (places : List ℕ) → IsWork s high w → SortsNumbers w.resolved places → All (λ p. IsSome (get_or s.reasons p None)) places
-sorted_reasons s high w places work sorted = All-permutation (λ (p : ℕ). IsSome (get_or s.reasons p None)) w.resolved places sorted.same (places_all (λ p. IsSome (get_or s.reasons p None)) w.resolved work.resolved)
+pub sorted_reasons : (s : State) (high : ℕ) (w : Work) (places : List ℕ) → IsWork s high w →
+    SortsNumbers w.resolved places → All (λ p. IsSome (get_or s.reasons p None)) places
+sorted_reasons s high w places work sorted = All-permutation (λ (p : ℕ). IsSome (get_or s.reasons p None))
+    w.resolved places sorted.same (places_all (λ p. IsSome (get_or s.reasons p None)) w.resolved
+    work.resolved)
 
 -- the hints of the empty clause
-pub refuted : (s : State) (w : Work) (conflict : ℕ) (places : List ℕ) → KeepsFacts s → HasEnded s (length s.trail) w conflict → w.floor ≡ length s.trail → w.deep ≡ false → decided s.reasons ≡ 0
-    → IsSome (clause_in s.clauses conflict) → is_false (value_of s.trail) (lits_in s.clauses conflict) ≡ true → SortsNumbers w.resolved places → Follows s.clauses [] (map (number_at s) places ++ number_in s conflict ∷ [])
+pub refuted : (s : State) (w : Work) (conflict : ℕ) (places : List ℕ) → KeepsFacts s →
+    HasEnded s (length s.trail) w conflict → w.floor ≡ length s.trail → w.deep ≡ false → decided s.reasons ≡ 0
+    → IsSome (clause_in s.clauses conflict) → is_false (value_of s.trail) (lits_in s.clauses conflict)
+    ≡ true → SortsNumbers w.resolved places → Follows s.clauses [] (map (number_at s) places
+    ++ number_in s conflict ∷ [])
 refuted s w conflict places facts e floor deep level live is_false' sorted clauses are =
     refutes s facts (length s.trail) w e.work e.waiting e.covered [] places sorted
     (λ q some. absurd (no_kept q some))
@@ -57,7 +68,9 @@ refuted s w conflict places facts e floor deep level live is_false' sorted claus
     (λ q some. absurd (no_kept q some))
     (λ p q some lt pending. absurd (no_pending q pending))
     (λ q some l has. absurd (cc has))
-    clauses are (number_in s conflict) (lit_at (lits_in s.clauses conflict) k) (false_at (value_of s.trail) (lits_in s.clauses conflict) is_false' k k_in) (e.met k k_in) (λ pending. absurd (no_pending _ pending)))
+    clauses are (number_in s conflict) (lit_at (lits_in s.clauses conflict) k)
+    (false_at (value_of s.trail) (lits_in s.clauses conflict) is_false' k k_in) (e.met k k_in)
+    (λ pending. absurd (no_pending _ pending)))
   where
     above_zero : (p : ℕ) (b : Bool) → b ≡ false → MayKeep s b p → ⊥
     above_zero p true eq may = absurd (cc eq)
@@ -72,6 +85,9 @@ refuted s w conflict places facts e floor deep level live is_false' sorted claus
     no_pending : (q : ℕ) → is_pending (length s.trail) w q ≡ true → ⊥
     no_pending q pending = between (length s.trail) w.floor q (is_seen w q) floor pending
 
-pub kept_places : (s : State) (high : ℕ) (w : Work) (places : List ℕ) → IsWork s high w → places ≡ w.kept → All (λ p. p < length s.trail) places
+pub kept_places : (s : State) (high : ℕ) (w : Work) (places : List ℕ) → IsWork s high w → places ≡ w.kept →
+    All (λ p. p < length s.trail) places
 kept_places s high w places work e =
-    subst (λ (xs : List ℕ). All (λ (p : ℕ). p < length s.trail) xs) (sym e) (places_all (λ p. p < length s.trail) w.kept (λ p some. omega (arith, work.kept_below p some, work.floor, work.within)))
+    subst (λ (xs : List ℕ). All (λ (p : ℕ). p < length s.trail) xs) (sym e)
+    (places_all (λ p. p < length s.trail) w.kept (λ p some. omega
+    (arith, work.kept_below p some, work.floor, work.within)))

@@ -15,16 +15,20 @@ use Rattle.ba_lits.proofs.Members.{same_from_index, literal_found}
 
 -- a clause all of whose literals are false or one that has no value, and in which this one stands once at most, is
 -- false or unit
-one_free : (value : Literal → Option Bool) (t : Literal) (c : List Literal) → value t ≡ None → AreApart c → ((k : ℕ) → k < length c → (lit_at c k ≡ t) ⊎ (value (lit_at c k) ≡ Some false)) → (is_false value c ≡ true) ⊎ (is_unit value c ≡ true)
+one_free : (value : Literal → Option Bool) (t : Literal) (c : List Literal) → value t ≡ None → AreApart c →
+    ((k : ℕ) → k < length c → (lit_at c k ≡ t) ⊎ (value (lit_at c k) ≡ Some false)) →
+    (is_false value c ≡ true) ⊎ (is_unit value c ≡ true)
 one_free value t [] none apart each = inl refl
 one_free value t (x ∷ xs) none apart each = ⊎_elim
     (λ is. inr (free (value x) (is_false value xs) (is_unit value xs) (ap value is ∙ none)
     (is_false-all value xs (λ k k_in. ⊎_elim
-    (λ same. absurd (apart 0 (suc k) (omega arith) (omega arith) (λ e. omega arith) (ap index_of (is ∙ sym same))))
+    (λ same. absurd (apart 0 (suc k) (omega arith) (omega arith) (λ e. omega arith)
+    (ap index_of (is ∙ sym same))))
     (λ h. h)
     (each (suc k) (omega arith))))))
     (λ h. step (value x) (is_false value xs) (is_unit value xs) h
-    (one_free value t xs none (λ j k j_in k_in ne. apart (suc j) (suc k) (omega arith) (omega arith) (λ e. ne (omega arith))) (λ k k_in. each (suc k) (omega arith))))
+    (one_free value t xs none (λ j k j_in k_in ne. apart (suc j) (suc k) (omega arith) (omega arith)
+    (λ e. ne (omega arith))) (λ k k_in. each (suc k) (omega arith))))
     (each 0 (omega arith))
   where
     free : (v : Option Bool) (a b : Bool) → v ≡ None → a ≡ true → unit_step v a b ≡ true
@@ -32,12 +36,14 @@ one_free value t (x ∷ xs) none apart each = ⊎_elim
     free (Some true) a b e h = absurd (cc e)
     free (Some false) a b e h = absurd (cc e)
 
-    step : (v : Option Bool) (a b : Bool) → v ≡ Some false → (a ≡ true) ⊎ (b ≡ true) → ((falsified v && a) ≡ true) ⊎ (unit_step v a b ≡ true)
+    step : (v : Option Bool) (a b : Bool) → v ≡ Some false → (a ≡ true) ⊎ (b ≡ true) →
+        ((falsified v && a) ≡ true) ⊎ (unit_step v a b ≡ true)
     step None a b e h = absurd (cc e)
     step (Some true) a b e h = absurd (cc e)
     step (Some false) a b e h = h
 
-pub contains_none : (live : ℕ → Option (List Literal)) (lits : List Literal) → IsNew live lits → (number : ℕ) (c : List Literal) → live number ≡ Some c → AreApart c → IsPartOf c lits → ⊥
+pub contains_none : (live : ℕ → Option (List Literal)) (lits : List Literal) → IsNew live lits →
+    (number : ℕ) (c : List Literal) → live number ≡ Some c → AreApart c → IsPartOf c lits → ⊥
 contains_none live lits new number c is apart part = ⊎_elim
     (λ e. absurd (cc (sym e ∙ new.quiet.none_false number c is)))
     (λ e. absurd (cc (sym e ∙ new.quiet.none_unit number c is)))
@@ -52,15 +58,19 @@ contains_none live lits new number c is apart part = ⊎_elim
         (cases_eq (index_at lits r.0) (index_of new.free))
 
 -- clauses by their numbers
-found : (clauses : List (Option Clause)) (number : ℕ) (given : List Literal) → by_number clauses number ≡ Some given → (reference : ℕ) × (c : Clause) × (clause_in clauses reference ≡ Some c) × (c.number ≡ number)
+found : (clauses : List (Option Clause)) (number : ℕ) (given : List Literal) →
+    by_number clauses number ≡ Some given → (reference : ℕ) × (c : Clause)
+    × (clause_in clauses reference ≡ Some c) × (c.number ≡ number)
 found [] number given is = absurd (cc is)
 found (None ∷ clauses) number given is = let r = found clauses number given is in (suc r.0, r.1, r.2, r.3)
 found (Some c ∷ clauses) number given is = ⊎_elim
     (λ same. (0, c, refl, same))
-    (λ other. let r = found clauses number given (rest c.number (by_number clauses number) other is) in (suc r.0, r.1, r.2, r.3))
+    (λ other. let r = found clauses number given (rest c.number (by_number clauses number) other is) in
+    (suc r.0, r.1, r.2, r.3))
     (cases_eq c.number number)
   where
-    rest : (n : ℕ) (o : Option (List Literal)) → n ≢ number → cond (eqb n number) (Some c.lits) o ≡ Some given → o ≡ Some given
+    rest : (n : ℕ) (o : Option (List Literal)) → n ≢ number →
+        cond (eqb n number) (Some c.lits) o ≡ Some given → o ≡ Some given
     rest n o ne e = grind (arith, nat_tests)
 
 numbered_rest : (o : Option Clause) (clauses : List (Option Clause)) → HaveDistinctNumbers (o ∷ clauses) →
@@ -74,24 +84,30 @@ has_number : (clauses : List (Option Clause)) → HaveDistinctNumbers clauses �
     clause_in clauses reference ≡ Some c → IsSame (by_number clauses c.number) c.lits
 has_number [] h reference c is = absurd (cc is)
 has_number (None ∷ clauses) h zero c is = absurd (cc is)
-has_number (None ∷ clauses) h (suc reference) c is = has_number clauses (numbered_rest None clauses h) reference c is
+has_number (None ∷ clauses) h (suc reference) c is =
+    has_number clauses (numbered_rest None clauses h) reference c is
 has_number (Some d ∷ clauses) h zero c is =
     let e : d ≡ c = cc is in
-    here d.number c.number (by_number clauses c.number) (ap (λ (x : Clause). x.number) e) (subst (λ (x : Clause). IsPermutation x.lits c.lits) (sym e) (IsPermutation-refl c.lits))
+    here d.number c.number (by_number clauses c.number) (ap (λ (x : Clause). x.number) e)
+    (subst (λ (x : Clause). IsPermutation x.lits c.lits) (sym e) (IsPermutation-refl c.lits))
   where
-    here : (m n : ℕ) (o : Option (List Literal)) → m ≡ n → IsPermutation d.lits c.lits → IsSame (cond (eqb m n) (Some d.lits) o) c.lits
+    here : (m n : ℕ) (o : Option (List Literal)) → m ≡ n → IsPermutation d.lits c.lits →
+        IsSame (cond (eqb m n) (Some d.lits) o) c.lits
     here m n o e p = subst (λ (b : Bool). IsSame (cond b (Some d.lits) o) c.lits) (sym (yes m n e)) p
       where
         yes : (m n : ℕ) → m ≡ n → eqb m n ≡ true
         yes m n e = grind (arith, nat_tests)
 has_number (Some d ∷ clauses) h (suc reference) c is =
-    there d.number c.number (λ e. absurd (zero_not (h 0 (suc reference) d c refl is e))) (has_number clauses (numbered_rest (Some d) clauses h) reference c is)
+    there d.number c.number (λ e. absurd (zero_not (h 0 (suc reference) d c refl is e)))
+    (has_number clauses (numbered_rest (Some d) clauses h) reference c is)
   where
     zero_not : 0 ≡ suc reference → ⊥
     zero_not e = omega arith
 
-    there : (m n : ℕ) → m ≢ n → IsSame (by_number clauses c.number) c.lits → IsSame (cond (eqb m n) (Some d.lits) (by_number clauses c.number)) c.lits
-    there m n ne p = subst (λ (b : Bool). IsSame (cond b (Some d.lits) (by_number clauses c.number)) c.lits) (sym (no' m n ne)) p
+    there : (m n : ℕ) → m ≢ n → IsSame (by_number clauses c.number) c.lits →
+        IsSame (cond (eqb m n) (Some d.lits) (by_number clauses c.number)) c.lits
+    there m n ne p = subst (λ (b : Bool). IsSame (cond b (Some d.lits) (by_number clauses c.number)) c.lits)
+        (sym (no' m n ne)) p
       where
         no' : (m n : ℕ) → m ≢ n → eqb m n ≡ false
         no' m n ne = grind (arith, nat_tests)

@@ -17,47 +17,64 @@ use Rattle.ba_watch.proofs.Sounds.{clause_in-map, lits_in-map}
 use Rattle.ba_learn.specs.Resolving.{AreBelow, number_of, number_in}
 
 -- what contracts see of the arena
-pub live_in : (a : Clauses) (cs : List (Option Clause)) (r : ℕ) → map plain a ≡ cs → IsSome (clause_in cs r) → IsLive a r
-live_in a cs r e live = some-plain a r ∙ (ap is_some (sym (clause_in-map a r)) ∙ (ap (λ (x : List (Option Clause)). is_some (clause_in x r)) e ∙ live))
+pub live_in : (a : Clauses) (cs : List (Option Clause)) (r : ℕ) → map plain a ≡ cs →
+    IsSome (clause_in cs r) → IsLive a r
+live_in a cs r e live = some-plain a r ∙ (ap is_some (sym (clause_in-map a r))
+    ∙ (ap (λ (x : List (Option Clause)). is_some (clause_in x r)) e ∙ live))
 
-pub lits_same : (a : Clauses) (cs : List (Option Clause)) (r : ℕ) → map plain a ≡ cs → lits_at a r ≡ lits_in cs r
+pub lits_same : (a : Clauses) (cs : List (Option Clause)) (r : ℕ) → map plain a ≡ cs →
+    lits_at a r ≡ lits_in cs r
 lits_same a cs r e = sym (lits_in-map a r) ∙ ap (λ (x : List (Option Clause)). lits_in x r) e
 
 -- the place of a literal of the trail
-pub place_of-at : (xs : List Literal) (p : ℕ) → p < length xs → value_of (take p xs) (lit_at xs p) ≡ None → place_of xs (lit_at xs p).variable ≡ p
+pub place_of-at : (xs : List Literal) (p : ℕ) → p < length xs → value_of (take p xs) (lit_at xs p) ≡ None →
+    place_of xs (lit_at xs p).variable ≡ p
 place_of-at [] p within none = absurd (omega arith)
 place_of-at (x ∷ xs) zero within none = first x.variable
   where
     first : (v : ℕ) → cond (eqb v v) 0 (suc (place_of xs v)) ≡ 0
     first v = grind (arith, nat_tests)
-place_of-at (x ∷ xs) (suc p) within none = step (eqb x.variable (lit_at xs p).variable) _ (value_of (take p xs) (lit_at xs p)) (place_of xs (lit_at xs p).variable) (place_of-at xs p (omega arith)) none
+place_of-at (x ∷ xs) (suc p) within none = step (eqb x.variable (lit_at xs p).variable) _
+    (value_of (take p xs) (lit_at xs p)) (place_of xs (lit_at xs p).variable)
+    (place_of-at xs p (omega arith)) none
   where
-    step : (c s : Bool) (v : Option Bool) (q : ℕ) → (v ≡ None → q ≡ p) → cond c (Some s) v ≡ None → cond c 0 (suc q) ≡ suc p
+    step : (c s : Bool) (v : Option Bool) (q : ℕ) → (v ≡ None → q ≡ p) → cond c (Some s) v ≡ None →
+        cond c 0 (suc q) ≡ suc p
     step true s v q rest e = absurd (cc e)
     step false s v q rest e = ap suc (rest e)
 
 -- a literal that is false at the front of the trail has its place there
-pub place_of-front_some : (xs : List Literal) (p : ℕ) (l : Literal) (b : Bool) → p ≤ length xs → value_of (take p xs) l ≡ Some b → place_of xs l.variable < p
+pub place_of-front_some : (xs : List Literal) (p : ℕ) (l : Literal) (b : Bool) → p ≤ length xs →
+    value_of (take p xs) l ≡ Some b → place_of xs l.variable < p
 place_of-front_some xs p l b le has =
     let within : place_of (take p xs) l.variable < length (take p xs) = place_of-some (take p xs) l b has in
-    let same : place_of (take p xs ++ drop p xs) l.variable ≡ place_of (take p xs) l.variable = place_of-append (take p xs) (drop p xs) l.variable within in
-    let whole : place_of xs l.variable ≡ place_of (take p xs) l.variable = ap (λ (ys : List Literal). place_of ys l.variable) (sym (take-append-drop p xs)) ∙ same in
+    let same : place_of (take p xs ++ drop p xs) l.variable ≡ place_of (take p xs) l.variable =
+    place_of-append (take p xs) (drop p xs) l.variable within in
+    let whole : place_of xs l.variable ≡ place_of (take p xs) l.variable =
+    ap (λ (ys : List Literal). place_of ys l.variable) (sym (take-append-drop p xs)) ∙ same in
     omega (arith, length-take-le p xs le, whole, within)
 
 -- the literals of a reason have places up to its own
-pub reason_below : (s : State) (p r : ℕ) → KeepsFacts s → p < length s.trail → get_or s.reasons p None ≡ Some r → AreBelow s (p + 1) (lits_in s.clauses r)
+pub reason_below : (s : State) (p r : ℕ) → KeepsFacts s → p < length s.trail →
+    get_or s.reasons p None ≡ Some r → AreBelow s (p + 1) (lits_in s.clauses r)
 reason_below s p r facts within is k k_in =
     let reason = facts.reasons p r within is in
     let l : Literal = lit_at (lits_in s.clauses r) k in
     ⊎_elim
     (λ same.
     let l_is : l ≡ lit_at s.trail p = same_from_index l (lit_at s.trail p) same in
-    omega (arith, ap (λ (x : Literal). place_of s.trail x.variable) l_is, place_of-at s.trail p within (facts.trail.fresh p within)))
+    omega (
+      arith,
+      ap (λ (x : Literal). place_of s.trail x.variable) l_is,
+      place_of-at s.trail p within
+          (facts.trail.fresh p within),
+    ))
     (λ other. omega (arith, place_of-front_some s.trail p l false (omega arith) (reason.others k k_in other)))
     (cases_eq (index_of l) (index_of (lit_at s.trail p)))
 
 -- a reason is live
-pub reason_live : (s : State) (p r : ℕ) → KeepsFacts s → p < length s.trail → get_or s.reasons p None ≡ Some r → IsSome (clause_in s.clauses r)
+pub reason_live : (s : State) (p r : ℕ) → KeepsFacts s → p < length s.trail →
+    get_or s.reasons p None ≡ Some r → IsSome (clause_in s.clauses r)
 reason_live s p r facts within is = step (clause_in s.clauses r) (facts.reasons p r within is).has
   where
     step : (o : Option Clause) → has_literal (lit_at s.trail p) (plain_lits o) ≡ true → IsSome o
@@ -79,4 +96,5 @@ number-plain a r = step (clause_at a r)
     step (Some s) = refl
 
 pub number_same : (s : State) (a : Clauses) (r : ℕ) → map plain a ≡ s.clauses → number_at a r ≡ number_in s r
-number_same s a r e = number-plain a r ∙ (ap number_of (sym (clause_in-map a r)) ∙ ap (λ (x : List (Option Clause)). number_of (clause_in x r)) e)
+number_same s a r e = number-plain a r ∙ (ap number_of (sym (clause_in-map a r))
+    ∙ ap (λ (x : List (Option Clause)). number_of (clause_in x r)) e)

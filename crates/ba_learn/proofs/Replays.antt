@@ -16,13 +16,15 @@ abbrev pub IsAscending : List ℕ → Type 0
 IsAscending [] = Unit {0}
 IsAscending (p ∷ ps) = ((q : ℕ) → 0 < occurrences q ps → p < q) × IsAscending ps
 
-module _ (live : ℕ → Option (List Literal)) (t : ℕ → Literal) (number : ℕ → ℕ) (lits : List Literal) (places : List ℕ) (last : ℕ) where
+module _ (live : ℕ → Option (List Literal)) (t : ℕ → Literal) (number : ℕ →
+    ℕ) (lits : List Literal) (places : List ℕ) (last : ℕ) where
   -- a literal is one of the clause, or negates that of a place, here also of an earlier one
   abbrev pub IsKnown : Literal → Type 0
   IsKnown x = (has_literal x lits ≡ true) ⊎ ((q : ℕ) × (0 < occurrences q places) × (x ≡ negate (t q)))
 
   abbrev pub IsKnownBefore : ℕ → Literal → Type 0
-  IsKnownBefore p x = (has_literal x lits ≡ true) ⊎ ((q : ℕ) × (0 < occurrences q places) × (q < p) × (x ≡ negate (t q)))
+  IsKnownBefore p x = (has_literal x lits ≡ true) ⊎ ((q : ℕ) × (0 < occurrences q places) × (q < p)
+      × (x ≡ negate (t q)))
 
   -- the clause that makes the literal of a place true
   pub record IsGiven (p : ℕ) : Type 0 where
@@ -37,42 +39,60 @@ module _ (live : ℕ → Option (List Literal)) (t : ℕ → Literal) (number : 
     pub is : live last ≡ Some given
     pub all : All IsKnown given
 
-  module _ (each : (p : ℕ) → 0 < occurrences p places → IsGiven p) (end : IsEnd) (apart : (p q : ℕ) → 0 < occurrences p places → 0 < occurrences q places → p < q → (t p).variable ≢ (t q).variable) where
-    absent : (falses : List Literal) (x : Literal) (v : ℕ) → x.variable ≡ v → ((l : Literal) → has_literal l falses ≡ true → l.variable ≢ v) → has_literal x falses ≡ false
+  module _ (each : (p : ℕ) → 0 < occurrences p places → IsGiven p) (end : IsEnd) (apart : (p q : ℕ) →
+      0 < occurrences p places → 0 < occurrences q places → p < q → (t p).variable ≢ (t q).variable) where
+    absent : (falses : List Literal) (x : Literal) (v : ℕ) → x.variable ≡ v →
+        ((l : Literal) → has_literal l falses ≡ true → l.variable ≢ v) → has_literal x falses ≡ false
     absent falses x v e free = step (has_literal x falses) refl
       where
         step : (b : Bool) → has_literal x falses ≡ b → b ≡ false
         step true is = absurd (free x is e)
         step false is = refl
 
-    pub runs : (ps : List ℕ) (falses : List Literal) → IsAscending ps → ((q : ℕ) → 0 < occurrences q ps → 0 < occurrences q places)
+    pub runs : (ps : List ℕ) (falses : List Literal) → IsAscending ps →
+        ((q : ℕ) → 0 < occurrences q ps → 0 < occurrences q places)
         → ((x : Literal) → has_literal x lits ≡ true → has_literal x falses ≡ true)
-        → ((q : ℕ) → 0 < occurrences q places → (0 < occurrences q ps) ⊎ (has_literal (negate (t q)) falses ≡ true))
-        → ((q : ℕ) → 0 < occurrences q ps → (l : Literal) → has_literal l falses ≡ true → l.variable ≢ (t q).variable)
+        → ((q : ℕ) → 0 < occurrences q places → (0 < occurrences q ps) ⊎ (has_literal (negate (t q)) falses
+        ≡ true))
+        → ((q : ℕ) → 0 < occurrences q ps → (l : Literal) → has_literal l falses ≡ true →
+        l.variable ≢ (t q).variable)
         → replay live falses (map number ps ++ last ∷ []) ≡ Refutes
     runs [] falses ascends sub start done free =
         let known : (x : Literal) → IsKnown x → has_literal x falses ≡ true = λ x k. ⊎_elim
         (λ has. start x has)
-        (λ q. subst (λ (y : Literal). has_literal y falses ≡ true) (sym q.2) (⊎_elim (λ none. absurd (omega arith)) (λ has. has) (done q.0 q.1)))
+        (λ q. subst (λ (y : Literal). has_literal y falses ≡ true) (sym q.2)
+        (⊎_elim (λ none. absurd (omega arith)) (λ has. has) (done q.0 q.1)))
         k in
-        ap (λ (o : Option (List Literal)). after_hint o falses true (λ l. replay live (falses ++ negate l ∷ []) [])) end.is
-        ∙ ap (λ (st : Standing). after_clause st true (λ l. replay live (falses ++ negate l ∷ []) [])) (stands_false falses end.given (All-weaker IsKnown (λ (x : Literal). has_literal x falses ≡ true) known end.given end.all))
+        ap (λ (o : Option (List Literal)). after_hint o falses true
+        (λ l. replay live (falses ++ negate l ∷ []) [])) end.is
+        ∙ ap (λ (st : Standing). after_clause st true (λ l. replay live (falses ++ negate l ∷ []) []))
+        (stands_false falses end.given (All-weaker IsKnown (λ (x : Literal). has_literal x falses
+        ≡ true) known end.given end.all))
     runs (p ∷ ps) falses ascends sub start done free =
         let here : 0 < occurrences p (p ∷ ps) = self p (occurrences p ps) in
         let g = each p (sub p here) in
-        let fits : (x : Literal) → (x ≡ t p) ⊎ IsKnownBefore p x → (x ≡ t p) ⊎ (has_literal x falses ≡ true) = λ x k. ⊎_elim
+        let fits : (x : Literal) → (x ≡ t p) ⊎ IsKnownBefore p x →
+        (x ≡ t p) ⊎ (has_literal x falses ≡ true) = λ x k. ⊎_elim
         (λ is. inl is)
         (λ known. inr (⊎_elim
         (λ has. start x has)
-        (λ q. subst (λ (y : Literal). has_literal y falses ≡ true) (sym q.3) (⊎_elim (λ left. absurd (not_before p q.0 (occurrences q.0 ps) (ascends.0 q.0) q.2 left)) (λ has. has) (done q.0 q.1)))
+        (λ q. subst (λ (y : Literal). has_literal y falses ≡ true) (sym q.3)
+        (⊎_elim (λ left. absurd (not_before p q.0 (occurrences q.0 ps) (ascends.0 q.0) q.2 left))
+        (λ has. has) (done q.0 q.1)))
         known))
         k in
         let no_t : has_literal (t p) falses ≡ false = absent falses (t p) (t p).variable refl (free p here) in
-        let no_negation : has_literal (negate (t p)) falses ≡ false = absent falses (negate (t p)) (t p).variable refl (free p here) in
-        ap (λ (o : Option (List Literal)). after_hint o falses (is_last (map number ps ++ last ∷ [])) (λ l. replay live (falses ++ negate l ∷ []) (map number ps ++ last ∷ []))) g.is
-        ∙ (ap (λ (st : Standing). after_clause st (is_last (map number ps ++ last ∷ [])) (λ l. replay live (falses ++ negate l ∷ []) (map number ps ++ last ∷ [])))
-        (stands_unit falses (t p) no_t no_negation g.given (All-weaker (λ (x : Literal). (x ≡ t p) ⊎ IsKnownBefore p x) (λ (x : Literal). (x ≡ t p) ⊎ (has_literal x falses ≡ true)) fits g.given g.others) g.once)
-        ∙ runs ps (falses ++ negate (t p) ∷ []) ascends.1 (λ q some. sub q (later p q (occurrences q ps) some))
+        let no_negation : has_literal (negate (t p)) falses ≡ false =
+        absent falses (negate (t p)) (t p).variable refl (free p here) in
+        ap (λ (o : Option (List Literal)). after_hint o falses (is_last (map number ps ++ last ∷ []))
+        (λ l. replay live (falses ++ negate l ∷ []) (map number ps ++ last ∷ []))) g.is
+        ∙ (ap (λ (st : Standing). after_clause st (is_last (map number ps ++ last ∷ []))
+        (λ l. replay live (falses ++ negate l ∷ []) (map number ps ++ last ∷ [])))
+        (stands_unit falses (t p) no_t no_negation g.given
+        (All-weaker (λ (x : Literal). (x ≡ t p) ⊎ IsKnownBefore p x)
+        (λ (x : Literal). (x ≡ t p) ⊎ (has_literal x falses ≡ true)) fits g.given g.others) g.once)
+        ∙ runs ps (falses ++ negate (t p) ∷ []) ascends.1
+        (λ q some. sub q (later p q (occurrences q ps) some))
         (λ x has. has_literal-more x falses (negate (t p) ∷ []) (start x has))
         (λ q some. ⊎_elim
         (λ left. ⊎_elim
@@ -84,7 +104,8 @@ module _ (live : ℕ → Option (List Literal)) (t : ℕ → Literal) (number : 
         (done q some))
         (λ q some l has. ⊎_elim
         (λ was. free q (later p q (occurrences q ps) some) l was)
-        (λ is. subst (λ (x : Literal). x.variable ≢ (t q).variable) is (apart p q (sub p here) (sub q (later p q (occurrences q ps) some)) (ascends.0 q some)))
+        (λ is. subst (λ (x : Literal). x.variable ≢ (t q).variable) is
+        (apart p q (sub p here) (sub q (later p q (occurrences q ps) some)) (ascends.0 q some)))
         (has_literal-push l (negate (t p)) falses has)))
       where
         self : (n k : ℕ) → 0 < cond (eqb n n) 1 0 + k

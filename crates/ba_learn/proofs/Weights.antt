@@ -29,7 +29,8 @@ weight value (x ∷ xs) = weight_of (value x) + weight value xs
 plus_zero : (n : ℕ) → n ≡ 0 + n
 plus_zero n = omega arith
 
-false_weight : (value : Literal → Option Bool) (xs : List Literal) → is_false value xs ≡ eqb (weight value xs) 0
+false_weight : (value : Literal → Option Bool) (xs : List Literal) →
+    is_false value xs ≡ eqb (weight value xs) 0
 false_weight value [] = refl
 false_weight value (x ∷ xs) = step (value x) (is_false value xs) (weight value xs) (false_weight value xs)
   where
@@ -40,9 +41,11 @@ false_weight value (x ∷ xs) = step (value x) (is_false value xs) (weight value
 
 unit_weight : (value : Literal → Option Bool) (xs : List Literal) → is_unit value xs ≡ eqb (weight value xs) 1
 unit_weight value [] = refl
-unit_weight value (x ∷ xs) = step (value x) (is_false value xs) (is_unit value xs) (weight value xs) (false_weight value xs) (unit_weight value xs)
+unit_weight value (x ∷ xs) = step (value x) (is_false value xs) (is_unit value xs) (weight value xs)
+    (false_weight value xs) (unit_weight value xs)
   where
-    step : (v : Option Bool) (a b : Bool) (n : ℕ) → a ≡ eqb n 0 → b ≡ eqb n 1 → unit_step v a b ≡ eqb (weight_of v + n) 1
+    step : (v : Option Bool) (a b : Bool) (n : ℕ) → a ≡ eqb n 0 → b ≡ eqb n 1 →
+        unit_step v a b ≡ eqb (weight_of v + n) 1
     step None a b n e f = e ∙ one n
       where
         one : (n : ℕ) → eqb n 0 ≡ eqb (1 + n) 1
@@ -53,12 +56,17 @@ unit_weight value (x ∷ xs) = step (value x) (is_false value xs) (is_unit value
         two n = grind (arith, nat_tests)
     step (Some false) a b n e f = f ∙ ap (λ (m : ℕ). eqb m 1) (plus_zero n)
 
-weight-permutation : (value : Literal → Option Bool) (xs ys : List Literal) → IsPermutation xs ys → weight value ys ≡ weight value xs
+weight-permutation : (value : Literal → Option Bool) (xs ys : List Literal) → IsPermutation xs ys →
+    weight value ys ≡ weight value xs
 weight-permutation value =
     total-permutation (weight value) (λ (x : Literal). weight_of (value x)) refl (λ x xs. refl)
 
-pub is_false-permutation : (value : Literal → Option Bool) (xs ys : List Literal) → IsPermutation xs ys → is_false value ys ≡ is_false value xs
-is_false-permutation value xs ys same = false_weight value ys ∙ (ap (λ (n : ℕ). eqb n 0) (weight-permutation value xs ys same) ∙ sym (false_weight value xs))
+pub is_false-permutation : (value : Literal → Option Bool) (xs ys : List Literal) → IsPermutation xs ys →
+    is_false value ys ≡ is_false value xs
+is_false-permutation value xs ys same = false_weight value ys
+    ∙ (ap (λ (n : ℕ). eqb n 0) (weight-permutation value xs ys same) ∙ sym (false_weight value xs))
 
-pub is_unit-permutation : (value : Literal → Option Bool) (xs ys : List Literal) → IsPermutation xs ys → is_unit value ys ≡ is_unit value xs
-is_unit-permutation value xs ys same = unit_weight value ys ∙ (ap (λ (n : ℕ). eqb n 1) (weight-permutation value xs ys same) ∙ sym (unit_weight value xs))
+pub is_unit-permutation : (value : Literal → Option Bool) (xs ys : List Literal) → IsPermutation xs ys →
+    is_unit value ys ≡ is_unit value xs
+is_unit-permutation value xs ys same = unit_weight value ys
+    ∙ (ap (λ (n : ℕ). eqb n 1) (weight-permutation value xs ys same) ∙ sym (unit_weight value xs))

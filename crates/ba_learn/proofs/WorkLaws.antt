@@ -17,26 +17,30 @@ some_place T v within = step (place_of T v) (length T) within
     step : (p n : ℕ) → p < n → IsSome (cond (ltb p n) (Some p) None)
     step p n lt = grind (arith, nat_tests)
 
-pub place-is : (T : List Literal) (v p : ℕ) → place_of T v < length T → place_if T v ≡ Some p → p ≡ place_of T v
+pub place-is : (T : List Literal) (v p : ℕ) → place_of T v < length T → place_if T v ≡ Some p →
+    p ≡ place_of T v
 place-is T v p within e = step (place_of T v) (length T) within e
   where
     step : (q n : ℕ) → q < n → cond (ltb q n) (Some q) None ≡ Some p → p ≡ q
     step q n lt e = grind (arith, nat_tests)
 
-pub some_level : (T : List Literal) (R : List (Option ℕ)) (v : ℕ) → place_of T v < length T → IsSome (level_of T R v)
+pub some_level : (T : List Literal) (R : List (Option ℕ)) (v : ℕ) → place_of T v < length T →
+    IsSome (level_of T R v)
 some_level T R v within = step (place_of T v) (length T) (level_at R (place_of T v)) within
   where
     step : (p n l : ℕ) → p < n → IsSome (cond (ltb p n) (Some l) None)
     step p n l lt = grind (arith, nat_tests)
 
-pub level-is : (T : List Literal) (R : List (Option ℕ)) (v l : ℕ) → place_of T v < length T → level_of T R v ≡ Some l → l ≡ level_at R (place_of T v)
+pub level-is : (T : List Literal) (R : List (Option ℕ)) (v l : ℕ) → place_of T v < length T →
+    level_of T R v ≡ Some l → l ≡ level_at R (place_of T v)
 level-is T R v l within e = step (place_of T v) (length T) (level_at R (place_of T v)) within e
   where
     step : (q n m : ℕ) → q < n → cond (ltb q n) (Some m) None ≡ Some l → l ≡ m
     step q n m lt e = grind (arith, nat_tests)
 
 -- at level 0 nothing was decided
-pub zero_has_reason : (R : List (Option ℕ)) (p : ℕ) → p < length R → level_at R p ≡ 0 → IsSome (get_or R p None)
+pub zero_has_reason : (R : List (Option ℕ)) (p : ℕ) → p < length R → level_at R p ≡ 0 →
+    IsSome (get_or R p None)
 zero_has_reason R p within e = step (get_or R p None) refl
   where
     step : (o : Option ℕ) → get_or R p None ≡ o → IsSome o
@@ -44,11 +48,13 @@ zero_has_reason R p within e = step (get_or R p None) refl
     step (Some r) is = refl
 
 -- how often a place stands in a list
-pub occurrences-append : (p : ℕ) (xs ys : List ℕ) → occurrences p (xs ++ ys) ≡ occurrences p xs + occurrences p ys
+pub occurrences-append : (p : ℕ) (xs ys : List ℕ) →
+    occurrences p (xs ++ ys) ≡ occurrences p xs + occurrences p ys
 occurrences-append p [] ys = omega arith
 occurrences-append p (x ∷ xs) ys = omega (arith, occurrences-append p xs ys)
 
-pub occurrences-push : (p : ℕ) (xs : List ℕ) (q : ℕ) → occurrences p (xs ++ q ∷ []) ≡ occurrences p xs + one_if (eqb q p)
+pub occurrences-push : (p : ℕ) (xs : List ℕ) (q : ℕ) →
+    occurrences p (xs ++ q ∷ []) ≡ occurrences p xs + one_if (eqb q p)
 occurrences-push p xs q = omega (arith, occurrences-append p xs (q ∷ []))
 
 pub pushed_cases : (p : ℕ) (xs : List ℕ) (q : ℕ) → 0 < occurrences p (xs ++ q ∷ []) →
@@ -63,24 +69,30 @@ pushed_cases p xs q some =
 -- how many places are in a set that has one more
 pub count_below-same : (f g : ℕ → Bool) → ((q : ℕ) → g q ≡ f q) → (n : ℕ) → count_below g n ≡ count_below f n
 count_below-same f g same zero = refl
-count_below-same f g same (suc n) = ap (λ (b : Bool). one_if b + count_below g n) (same n) ∙ ap (λ (k : ℕ). one_if (f n) + k) (count_below-same f g same n)
+count_below-same f g same (suc n) = ap (λ (b : Bool). one_if b + count_below g n) (same n)
+    ∙ ap (λ (k : ℕ). one_if (f n) + k) (count_below-same f g same n)
 
-pub count_below-add : (f g : ℕ → Bool) (p : ℕ) → ((q : ℕ) → g q ≡ (eqb q p || f q)) → f p ≡ false → (n : ℕ) → count_below g n ≡ count_below f n + one_if (ltb p n)
+pub count_below-add : (f g : ℕ → Bool) (p : ℕ) → ((q : ℕ) → g q ≡ (eqb q p || f q)) → f p ≡ false →
+    (n : ℕ) → count_below g n ≡ count_below f n + one_if (ltb p n)
 count_below-add f g p adds new zero = none p
   where
     none : (p : ℕ) → 0 ≡ 0 + one_if (ltb p 0)
     none p = grind (arith, nat_tests)
-count_below-add f g p adds new (suc n) = step (f n) (g n) (count_below f n) (count_below g n) (λ e. sym (ap f e) ∙ new) (adds n) (count_below-add f g p adds new n)
+count_below-add f g p adds new (suc n) = step (f n) (g n) (count_below f n) (count_below g n)
+    (λ e. sym (ap f e) ∙ new) (adds n) (count_below-add f g p adds new n)
   where
-    step : (a b : Bool) (k m : ℕ) → (p ≡ n → a ≡ false) → b ≡ (eqb n p || a) → m ≡ k + one_if (ltb p n) → one_if b + m ≡ (one_if a + k) + one_if (ltb p (suc n))
+    step : (a b : Bool) (k m : ℕ) → (p ≡ n → a ≡ false) → b ≡ (eqb n p || a) → m ≡ k + one_if (ltb p n) →
+        one_if b + m ≡ (one_if a + k) + one_if (ltb p (suc n))
     step true b k m apart is h = grind (arith, nat_tests)
     step false b k m apart is h = grind (arith, nat_tests)
 
-pub count_below-le : (f g : ℕ → Bool) → ((q : ℕ) → f q ≡ true → g q ≡ true) → (n : ℕ) → count_below f n ≤ count_below g n
+pub count_below-le : (f g : ℕ → Bool) → ((q : ℕ) → f q ≡ true → g q ≡ true) → (n : ℕ) →
+    count_below f n ≤ count_below g n
 count_below-le f g more zero = omega arith
 count_below-le f g more (suc n) = step (f n) (g n) (more n) (count_below-le f g more n)
   where
-    step : (a b : Bool) → (a ≡ true → b ≡ true) → count_below f n ≤ count_below g n → one_if a + count_below f n ≤ one_if b + count_below g n
+    step : (a b : Bool) → (a ≡ true → b ≡ true) → count_below f n ≤ count_below g n →
+        one_if a + count_below f n ≤ one_if b + count_below g n
     step true true h le = omega arith
     step true false h le = absurd (cc (h refl))
     step false true h le = omega arith

@@ -41,15 +41,18 @@ NegatesDecided s l =
 
 -- each literal of the clause negates the given one, or one that was decided
 abbrev pub IsCoreOf : State → Literal → List Literal → Type 0
-IsCoreOf s lit lits = (k : ℕ) → k < length lits → (lit_at lits k ≡ negate lit) ⊎ NegatesDecided s (lit_at lits k)
+IsCoreOf s lit lits = (k : ℕ) → k < length lits →
+    (lit_at lits k ≡ negate lit) ⊎ NegatesDecided s (lit_at lits k)
 
 -- the literal at a place of the clause is implied by the others: it has a reason whose other literals stand in the
 -- clause, or were assigned at level 0
 pub record IsCovered (s : State) (lits : List Literal) (k : ℕ) : Type 0 where
   pub reason : ℕ
   pub is : reason_of s.trail s.reasons (lit_at lits k).variable ≡ Some reason
-  pub others : (j : ℕ) → j < length (lits_in s.clauses reason) → (lit_at (lits_in s.clauses reason) j ≡ negate (lit_at lits k))
-      ⊎ ((has_literal (lit_at (lits_in s.clauses reason) j) lits ≡ true) ⊎ (level_of_literal s (lit_at (lits_in s.clauses reason) j) ≡ 0))
+  pub others : (j : ℕ) → j < length (lits_in s.clauses reason) →
+      (lit_at (lits_in s.clauses reason) j ≡ negate (lit_at lits k))
+      ⊎ ((has_literal (lit_at (lits_in s.clauses reason) j) lits ≡ true) ⊎
+      (level_of_literal s (lit_at (lits_in s.clauses reason) j) ≡ 0))
 
 -- no literal of a level below the present one is implied by the others
 abbrev pub IsShort : State → List Literal → Type 0

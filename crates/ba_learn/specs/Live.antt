@@ -15,17 +15,20 @@ IsSame (Some given) lits = IsPermutation given lits
 
 -- the live clauses of a watch, which has them by reference, are those of a function that has them by number
 pub record AreLive (clauses : List (Option Clause)) (live : ℕ → Option (List Literal)) : Type 0 where
-  pub each : (reference : ℕ) (c : Clause) → clause_in clauses reference ≡ Some c → IsSame (live c.number) c.lits
+  pub each : (reference : ℕ) (c : Clause) → clause_in clauses reference ≡ Some c →
+      IsSame (live c.number) c.lits
   pub all : (number : ℕ) (given : List Literal) → live number ≡ Some given →
       (reference : ℕ) × (c : Clause) × (clause_in clauses reference ≡ Some c) × (c.number ≡ number)
 
 -- the clause follows by the hints from the live clauses of a watch
 abbrev pub Follows : List (Option Clause) → List Literal → List ℕ → Type 0
-Follows clauses lits hints = (live : ℕ → Option (List Literal)) → AreLive clauses live → FollowsByHints live lits hints
+Follows clauses lits hints = (live : ℕ → Option (List Literal)) → AreLive clauses live →
+    FollowsByHints live lits hints
 
 -- no clause is false or unit where the literals of a trail are true
 pub record IsQuiet (live : ℕ → Option (List Literal)) (trail : List Literal) : Type 0 where
-  pub none_false : (number : ℕ) (c : List Literal) → live number ≡ Some c → is_false (value_of trail) c ≡ false
+  pub none_false : (number : ℕ) (c : List Literal) → live number ≡ Some c →
+      is_false (value_of trail) c ≡ false
   pub none_unit : (number : ℕ) (c : List Literal) → live number ≡ Some c → is_unit (value_of trail) c ≡ false
 
 -- A clause is new to propagation where, for one of its literals, some partial assignment gives that literal no value,
@@ -52,7 +55,8 @@ by_number (Some c ∷ clauses) number = if eqb c.number number then Some c.lits 
 -- no two clauses have the same number
 abbrev pub HaveDistinctNumbers : List (Option Clause) → Type 0
 HaveDistinctNumbers clauses =
-    (a b : ℕ) (c d : Clause) → clause_in clauses a ≡ Some c → clause_in clauses b ≡ Some d → c.number ≡ d.number → a ≡ b
+    (a b : ℕ) (c d : Clause) → clause_in clauses a ≡ Some c → clause_in clauses b ≡ Some d →
+    c.number ≡ d.number → a ≡ b
 
 -- each literal of a clause stands in another one
 abbrev pub IsPartOf : List Literal → List Literal → Type 0

@@ -53,7 +53,8 @@ pub record MustResolve (s : State) (deep : Bool) (p : ℕ) : Type 0 where
 -- in how many parts of the work a place is
 abbrev pub parts_of : ℕ → Work → ℕ → ℕ
 parts_of high w p =
-    occurrences p w.kept + (occurrences p w.resolved + (occurrences p w.waiting + one_if (is_pending high w p)))
+    occurrences p w.kept + (occurrences p w.resolved
+    + (occurrences p w.waiting + one_if (is_pending high w p)))
 
 -- the walk down the trail has come to a place: each seen place is in exactly one part of the work
 pub record IsWork (s : State) (high : ℕ) (w : Work) : Type 0 where
@@ -73,8 +74,10 @@ pub record IsWork (s : State) (high : ℕ) (w : Work) : Type 0 where
 -- a place is put into its part of the work
 pub data Parts (s : State) (old new : Work) (place : ℕ) : Type 0 where
   ToPending : old.floor ≤ place → new ≡ record old { pending = old.pending + 1 } → Parts s old new place
-  ToKept : place < old.floor → MayKeep s old.deep place → new ≡ record old { kept = old.kept ++ place ∷ [] } → Parts s old new place
-  ToWaiting : place < old.floor → MustResolve s old.deep place → new ≡ record old { waiting = old.waiting ++ place ∷ [] } → Parts s old new place
+  ToKept : place < old.floor → MayKeep s old.deep place →
+      new ≡ record old { kept = old.kept ++ place ∷ [] } → Parts s old new place
+  ToWaiting : place < old.floor → MustResolve s old.deep place →
+      new ≡ record old { waiting = old.waiting ++ place ∷ [] } → Parts s old new place
 
 -- the place of a clause's literal
 abbrev pub place_in : State → List Literal → ℕ → ℕ
@@ -101,7 +104,9 @@ pub record MayStart (s : State) (floor high : ℕ) (lits : List Literal) : Type 
 -- a literal has a value, and is seen or was assigned at level 0
 abbrev pub IsAbsorbed : State → (ℕ → Bool) → Literal → Type 0
 IsAbsorbed s seen l =
-    (place_of s.trail l.variable < length s.trail) × ((seen (place_of s.trail l.variable) ≡ true) ⊎ (level_at s.reasons (place_of s.trail l.variable) ≡ 0))
+    (place_of s.trail l.variable < length s.trail)
+    × ((seen (place_of s.trail l.variable) ≡ true) ⊎ (level_at s.reasons (place_of s.trail l.variable)
+    ≡ 0))
 
 abbrev pub AreAbsorbed : State → (ℕ → Bool) → List Literal → Type 0
 AreAbsorbed s seen lits = All (IsAbsorbed s seen) lits
@@ -121,7 +126,8 @@ pub record Meets (s : State) (old new : Work) (lits : List Literal) : Type 0 whe
   pub still : AreBelow s old.floor lits → new.pending ≡ old.pending
   pub kept : length old.kept ≤ length new.kept
   pub resolved : new.resolved ≡ old.resolved
-  pub spends : (n : ℕ) → AreBelow s n lits → count_below (is_seen old) n + length new.waiting ≤ count_below (is_seen new) n + length old.waiting
+  pub spends : (n : ℕ) → AreBelow s n lits → count_below (is_seen old) n + length new.waiting ≤ count_below
+      (is_seen new) n + length old.waiting
   pub work : (high : ℕ) → IsWork s high old → AreBelow s high lits → IsWork s high new
   pub inert : old.deep ≡ false → AreAbsorbed s (is_seen old) lits → IsInert s old new
 
@@ -206,4 +212,5 @@ IsMinimisedFrom s w index = (k : ℕ) → index ≤ k → k < length w.kept → 
 
 -- the same from one index less on
 abbrev pub MinimisesAt : State → Work → Work → ℕ → Type 0
-MinimisesAt s old new index = old.deep ≡ false → IsMinimisedFrom s old (index + 1) → IsMinimisedFrom s new index
+MinimisesAt s old new index = old.deep ≡ false → IsMinimisedFrom s old (index + 1) →
+    IsMinimisedFrom s new index

@@ -1,4 +1,4 @@
--- The clauses that are given up make an allowed step.
+-- The clauses that are discarded make an allowed step.
 
 use Rattle.std.proofs.Common.{◌≡◌, ℕ, suc, zero, ◌<◌, ◌≤◌, ◌==◌, Bool, true, false, None, List, length, All, refl, sym, subst, ◌∙◌, arith}
 use Rattle.std.specs.List.{list_all}
@@ -30,7 +30,7 @@ delete_step good gives a s n k seen learnt listed numbers u enough seen_is liste
   given = subst (λ (ns : List ℕ). All (IsDiscarded gives k ns) numbers) listed_is (subst (λ (x : State). All (IsDiscarded gives x listed) numbers) seen_is given);
 }
 
--- some number is given up
+-- some number is discarded
 pub some_items : (ns : List ℕ) (n : ℕ) (empty : Bool) → empty ≡ (n == 0) → empty ≡ false → n ≡ length ns → 0 < length ns
 some_items ns n empty is not_empty same = pos n (sym is ∙ not_empty) same
   where

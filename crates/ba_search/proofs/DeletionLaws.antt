@@ -52,7 +52,7 @@ width_live cs n lits is = at (Rattle.ba_steps.specs.States.kept_at cs n) is
         step true e = cc e
         step false e = absurd (cc e)
 
--- a learnt clause that the keep rule gives up has at least three literals
+-- a learnt clause that the keep rule discards has at least three literals
 pub goes : (s : State) (n width : ℕ) → is_learnt_at s.clauses n ≡ true → width ≡ width_at s.clauses n → 2 < width → may_go s n ≡ true
 goes s n width learnt is wide =
     and_from (is_learnt_at s.clauses n) (ltb 2 (width_at s.clauses n)) learnt
@@ -160,7 +160,7 @@ set_other (c ∷ cs) zero (suc k) x ne = refl
 set_other (c ∷ cs) (suc j) zero x ne = refl
 set_other (c ∷ cs) (suc j) (suc k) x ne = set_other cs j k x (λ e. ne (ap suc e))
 
-without_other : (cs : List Kept) (n m : ℕ) → n ≢ m → clause_at (without cs m) n ≡ clause_at cs n
+pub without_other : (cs : List Kept) (n m : ℕ) → n ≢ m → clause_at (without cs m) n ≡ clause_at cs n
 without_other cs zero m ne = refl
 without_other cs (suc j) zero ne = refl
 without_other cs (suc j) (suc k) ne = ap live_lits (set_other cs j k _ (λ e. ne (ap suc e)))

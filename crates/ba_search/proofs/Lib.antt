@@ -9,3 +9,4 @@ pub mod IterationLaws
 pub mod StepLaws
 pub mod LearntSteps
 pub mod OnceLaws
+pub mod ForgetLaws

@@ -64,7 +64,7 @@ searches_then good gives _ _ c _ _ m _ ys (searches_delete a b k l numbers xs fo
     searches_delete a c k m numbers (xs ++ ys) formed allowed given
     (searches_then good gives (after a (Delete numbers)) b c k l m xs ys rest more)
 
--- a rule that gives up more
+-- a rule that discards more
 searches_weaker : {good : Judge} {gives more : Gives} {s t : State} {learnt all : List ℕ} {steps : List CertStep} →
     ((width age : ℕ) (kept : Bool) → gives width age kept → more width age kept) →
     Searches good gives s learnt steps t all → Searches good more s learnt steps t all

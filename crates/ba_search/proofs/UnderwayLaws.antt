@@ -173,18 +173,3 @@ pub underway_moved : (a : List Literal) (s t : Watching) (old new : Numbering) (
     IsUnderway a s old c → IsUnderway a t new c
 underway_moved a s t old new c t_is new_is u =
     subst (λ (n : Numbering). IsUnderway a t n c) (sym new_is) (subst (λ (x : Watching). IsUnderway a x old c) (sym t_is) u)
-
--- deleting, after which the clauses are the checker's
-pub underway_reload : (a : List Literal) (s t : Watching) (old new : Numbering) (c d : State) (numbers : List ℕ) →
-    d ≡ after_delete c numbers → t.variables ≡ s.variables → MarksLive t.clauses new.taken →
-    AreLive t.clauses (clause_at d.clauses) → decided t.reasons ≡ 0 → length t.reasons ≡ length t.trail →
-    IsUnderway a s old c → IsUnderway a t new d
-underway_reload a s t old new c d numbers is variables numbered live level len u = record {
-  numbered = numbered;
-  live = live;
-  few = omega (arith, ap (λ (x : State). length x.clauses) is, length-without_all c.clauses numbers, u.few);
-  room = omega (arith, ap (λ (x : State). x.variables) is, variables, u.room);
-  decisions = no_decisions d.variables a t.trail t.reasons len level;
-  begun = ap (λ (x : State). x.ended) is ∙ u.begun;
-  awake = ap (λ (x : State). x.refused) is ∙ u.awake;
-}

@@ -11,7 +11,7 @@ use Rattle.ba_steps.specs.Judging.{Judge, may_go}
 use Rattle.ba_steps.specs.Sinks.{Logs}
 use Rattle.ba_steps.specs.Puts.{PutsSteps}
 use Rattle.ba_learn.specs.Live.{AreLive, HaveDistinctNumbers}
-use Rattle.std.specs.List.{list_all}
+use Rattle.std.specs.List.{list_all, Contains}
 use Rattle.ba_steps.specs.Steps.{AreNumbers, AreAbove}
 use Rattle.ba_search.specs.Searching.{ArePart, IsDiscarded, Searches}
 use Rattle.ba_steps.specs.declared.sink.SinkError.{SinkError}
@@ -63,6 +63,11 @@ AreThere clauses last live =
 abbrev pub MarksOne : List Bool → List Bool → ℕ → Type 0
 MarksOne old new number = (k : ℕ) → get_or new k false ≡ ((k == number) || get_or old k false)
 
+-- the marks of some numbers are taken off
+pub record Forgets (numbers : List ℕ) (old new : List Bool) : Type 0 where
+  pub gone : (number : ℕ) → Contains numbers number → get_or new number false ≡ false
+  pub stays : (number : ℕ) → (Contains numbers number → ⊥) → get_or new number false ≡ get_or old number false
+
 -- a clause was added under a number
 pub record AddsOne (s t : Watching) (old new : Numbering) (number : ℕ) (lits : List Literal) : Type 0 where
   pub clause : ℕ
@@ -79,7 +84,7 @@ pub record LearnsOne (s t : Watching) (old new : Numbering) (number : ℕ) (lits
   pub learnt : new.learnt ≡ old.learnt ++ number ∷ []
   pub few : number < 2 ^ 62
 
--- the numbers of learnt clauses that the keep rule has given up and that aren't marked, strictly ascending
+-- the numbers of learnt clauses that the keep rule has discarded and that aren't marked, strictly ascending
 pub record AreDiscarded (gives : ℕ → ℕ → Bool → Type 0) (c : State) (marks : List Bool) (learnt numbers : List ℕ) : Type 0 where
   pub numbers_are : AreNumbers numbers
   pub ascends : AreAbove 0 numbers

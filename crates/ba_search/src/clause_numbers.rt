@@ -1,9 +1,9 @@
 //! The numbers of the clauses of a search.
 
-ghost use Rattle.std.specs.Prelude.{◌≡◌, ℕ, ◌<◌, ◌^◌, ◌++◌, ◌∷◌, [], false, OnOk, get_or};
-ghost use Rattle.ba_search.specs.Iterations.{MarksOne};
+ghost use Rattle.std.specs.Prelude.{◌≡◌, ◌≢◌, ℕ, ◌<◌, ◌^◌, ◌++◌, ◌∷◌, [], false, OnOk, get_or};
+ghost use Rattle.ba_search.specs.Iterations.{MarksOne, Forgets};
 
-use ba_lits::Marks;
+use ba_items::fill_up;
 use std::alloc::{AllocError, Global};
 use std::marker::Model;
 
@@ -11,7 +11,7 @@ use std::marker::Model;
 /// were learnt, the deleted ones too: the one at place n is the one before which n clauses were learnt.
 #[derive(Drop)]
 pub struct ClauseNumbers {
-    taken: Marks,
+    taken: Vec<bool>,
     learnt: Vec<u64>,
 }
 
@@ -20,7 +20,7 @@ impl Model for ClauseNumbers {
 
     ghost Value = { Numbering };
 
-    ghost view = { λ n. record { taken = n.taken; learnt = n.learnt.items } };
+    ghost view = { λ n. record { taken = n.taken.items; learnt = n.learnt.items } };
 }
 
 impl ClauseNumbers {
@@ -30,7 +30,7 @@ impl ClauseNumbers {
         ensures learnt { result.learnt ≡ [] }
     {
         ClauseNumbers {
-            taken: Marks::new(alloc),
+            taken: Vec::new(alloc),
             learnt: Vec::new(alloc),
         }
     }
@@ -39,7 +39,8 @@ impl ClauseNumbers {
     pub fn is_taken(&self, number: u64) -> bool
         ensures { result ≡ get_or self.now.taken number false }
     {
-        self.taken.contains(number as usize)
+        let place = number as usize;
+        place < self.taken.len() && self.taken[place]
     }
 
     /// Marks a number as that of a clause that was taken.
@@ -50,15 +51,18 @@ impl ClauseNumbers {
         ensures marks { OnOk result (MarksOne self.old.taken self.new.taken number) }
         ensures learnt { self.new.learnt ≡ self.old.learnt }
     {
-        self.taken.insert(number as usize)
+        let place = number as usize;
+        fill_up(&mut self.taken, place + 1, false)?;
+        self.taken[place] = true;
+        Ok(())
     }
 
-    /// No clause counts as taken.
-    pub fn take_none(&mut self)
-        ensures taken { (number : ℕ) → get_or self.new.taken number false ≡ false }
+    /// The clauses of the numbers count as taken no more. It takes no memory.
+    pub fn forget(&mut self, numbers: &[u64])
+        ensures forgets { Forgets numbers.now self.old.taken self.new.taken }
         ensures learnt { self.new.learnt ≡ self.old.learnt }
     {
-        self.taken.clear();
+        clear_all(&mut self.taken, numbers);
     }
 
     /// Adds the number of a clause that was learnt.
@@ -76,5 +80,26 @@ impl ClauseNumbers {
         ensures { result.now ≡ self.now.learnt }
     {
         self.learnt.as_slice()
+    }
+}
+
+/// Takes the marks of the numbers off.
+fn clear_all(taken: &mut Vec<bool>, numbers: &[u64])
+    ensures { Forgets numbers.now taken.old.items taken.new.items }
+{
+    for place in 0..numbers.len() {
+        clear(taken, numbers[place]);
+    }
+}
+
+/// Takes the mark of a number off.
+fn clear(taken: &mut Vec<bool>, number: u64)
+    ensures cleared { get_or taken.new.items number false ≡ false }
+    ensures others { (n : ℕ) → n ≢ number → get_or taken.new.items n false
+        ≡ get_or taken.old.items n false }
+{
+    let place = number as usize;
+    if place < taken.len() {
+        taken[place] = false;
     }
 }

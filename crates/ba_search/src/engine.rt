@@ -4,9 +4,10 @@ ghost use Rattle.std.specs.Prelude.{◌≡◌, ◌≢◌, ℕ, ◌≤◌, ◌⊎
 ghost use Rattle.ba_lits.specs.Literals.{Literal, IsClause};
 ghost use Rattle.ba_watch.specs.Trails.{decided};
 ghost use Rattle.ba_watch.specs.Propagation.{IsAsserting};
+ghost use Rattle.ba_watch.specs.Deletion.{Deletes, MayDelete};
 ghost use Rattle.ba_learn.specs.Backjumps.{after_backtrack};
 ghost use Rattle.ba_steps.specs.States.{clause_at};
-ghost use Rattle.ba_search.specs.Iterations.{AreTaken, AddsOne, HasNumber, MarksLive};
+ghost use Rattle.ba_search.specs.Iterations.{AreTaken, AddsOne, HasNumber, MarksLive, Forgets};
 ghost use Rattle.ba_learn.specs.Live.{AreLive};
 ghost use Rattle.ba_search.specs.declared.search.SearchError.{SearchError};
 
@@ -175,26 +176,16 @@ impl Engine {
         self.add(lits, number)
     }
 
-    /// Takes the clauses of a checker in the place of all that there are.
-    ///
-    /// The one error is want of memory or of room.
-    pub fn reload(&mut self, checker: &Checker) -> Result<(), AllocError>
-        ensures numbered { OnOk result (MarksLive self.new.watch.clauses self.new.numbers.taken) }
-        ensures live { OnOk result (AreLive self.new.watch.clauses
-            (clause_at checker.now.clauses)) }
-        ensures level { OnOk result (decided self.new.watch.reasons ≡ 0) }
-        ensures trail { OnOk result (length self.new.watch.reasons ≡ length self.new.watch.trail) }
-        ensures variables { OnOk result (self.new.watch.variables ≡ self.old.watch.variables) }
+    /// Deletes the clauses of the numbers. It takes no memory.
+    pub fn delete(&mut self, numbers: &[u64])
+        requires { MayDelete self.old.watch numbers.now }
+        ensures deletes { Deletes self.old.watch self.new.watch numbers.now }
+        ensures forgets { Forgets numbers.now self.old.numbers.taken self.new.numbers.taken }
         ensures learnt { self.new.numbers.learnt ≡ self.old.numbers.learnt }
         ensures since { self.new.since ≡ self.old.since }
         ensures propagated { self.new.propagated ≡ self.old.propagated }
     {
-        let variables = self.watch.variables();
-        self.watch = Watch::new(self.alloc);
-        self.numbers.take_none();
-        self.watch.grow(variables)?;
-        self.take_all(checker)?;
-        self.watch.keeps_facts();
-        Ok(())
+        self.watch.delete(numbers);
+        self.numbers.forget(numbers);
     }
 }

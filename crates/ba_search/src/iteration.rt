@@ -206,7 +206,7 @@ pub fn is_spent(checker: &Checker) -> bool
     checker.conflicts() == checker.budget()
 }
 
-/// Whether it is time to begin anew.
+/// Whether a restart is due.
 fn is_due<R: Fn(u64) -> u64 + Drop>(restart: &R, restarts: u64, since: u64) -> bool
     requires { IsRestartRule (R.pre restart.now) (R.post restart.now) }
     ensures { result ≡ true → 1 ≤ since }

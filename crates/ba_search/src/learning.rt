@@ -87,7 +87,7 @@ impl Engine {
         self.numbers.learn(number)
     }
 
-    /// Raises the activities of the variables of a learnt clause, and of those above level 0 that were resolved for it.
+    /// Bumps the activities of the variables of a learnt clause, and of those above level 0 that were resolved for it.
     fn bump(&mut self, lits: &[Lit])
         ensures watch { self.new.watch ≡ self.old.watch }
         ensures numbers { self.new.numbers ≡ self.old.numbers }

@@ -8,14 +8,14 @@ use ba_lits::Lit;
 use ba_watch::Watch;
 use std::alloc::{AllocError, Global};
 
-/// The first amount by which an activity grows.
+/// The first increment: by how much a bump raises an activity.
 const FIRST_INCREMENT: u64 = 1 << 20;
 
-/// From here on activities and their growth are made smaller. An activity is at most 20 times the growth times the most
-/// rewards of a variable from one age to the next, so up to 3000 of them it stays below 2^64.
+/// From this increment on it and the activities are rescaled. An activity is at most 20 times the increment times the most
+/// bumps of a variable from one decay to the next, so up to 3000 of them it stays below 2^64.
 const GREATEST_INCREMENT: u64 = 1 << 48;
 
-/// By how many bits.
+/// By how many bits they are rescaled.
 const RESCALE_BITS: u32 = 28;
 
 /// Variables by their activity, the greatest first, with the value that each had last (M. Moskewicz, C. Madigan,
@@ -148,14 +148,14 @@ impl Order {
         self.sift_up(place, variable);
     }
 
-    /// Raises the activities of the variables of literals.
+    /// Bumps the activities of the variables of literals.
     pub fn bump(&mut self, lits: &[Lit]) {
         for lit in lits {
             self.bump_variable(lit.variable());
         }
     }
 
-    /// Raises the activities of the variables of the literals at these places of a trail.
+    /// Bumps the activities of the variables of the literals at these places of a trail.
     pub fn bump_at(&mut self, trail: &[Lit], places: &[usize]) {
         for place in places {
             if let Some(lit) = trail.get(*place) {
@@ -164,7 +164,7 @@ impl Order {
         }
     }
 
-    /// Raises the activity of a variable.
+    /// Bumps the activity of a variable.
     fn bump_variable(&mut self, variable: u64) {
         let increment = self.increment;
         if let Some(activity) = self.activities.get_mut(variable as usize) {
@@ -176,7 +176,7 @@ impl Order {
         }
     }
 
-    /// Lets the next rewards count for more than the earlier ones.
+    /// Decays activities: later bumps count for more than earlier ones.
     pub fn decay(&mut self) {
         self.increment = self.increment.saturating_add(self.increment / 19);
         if self.increment >= GREATEST_INCREMENT {

@@ -1,4 +1,4 @@
-//! Which learnt clauses are given up.
+//! Which learnt clauses are discarded.
 
 ghost use Rattle.std.specs.Prelude.{◌≡◌, ◌+◌, ◌<◌, ◌≤◌, ◌^◌, true, false, IfOk, OnOk, length, get_or, All};
 ghost use Rattle.std.specs.List.{list_all};
@@ -20,7 +20,7 @@ pub fn may_reduce(learnt: &[u64], checker: &Checker) -> bool
     checker.learnt() >= APART_BY && learnt.len() > youth(learnt, checker)
 }
 
-/// The numbers of the learnt clauses that the keep rule gives up and that are no reasons, in their order.
+/// The numbers of the learnt clauses that the keep rule discards and that are no reasons, in their order.
 ///
 /// The one error is want of memory.
 pub fn discarded<K: Fn(u64, u64) -> bool + Drop>(
@@ -43,7 +43,7 @@ pub fn discarded<K: Fn(u64, u64) -> bool + Drop>(
     gather(alloc, &reasons, learnt, checker, keep)
 }
 
-/// The numbers of the learnt clauses that the keep rule gives up and that aren't marked as reasons, in their order.
+/// The numbers of the learnt clauses that the keep rule discards and that aren't marked as reasons, in their order.
 ///
 /// The one error is want of memory.
 fn gather<K: Fn(u64, u64) -> bool + Drop>(
@@ -74,7 +74,7 @@ fn gather<K: Fn(u64, u64) -> bool + Drop>(
     Ok(numbers)
 }
 
-/// Whether the learnt clause whose number stands at a place is given up by the keep rule and isn't marked as a reason.
+/// Whether the learnt clause whose number stands at a place is discarded by the keep rule and isn't marked as a reason.
 fn is_discarded<K: Fn(u64, u64) -> bool + Drop>(
     reasons: &Marks,
     learnt: &[u64],

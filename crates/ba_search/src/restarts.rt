@@ -16,7 +16,7 @@ use ba_lits::Lit;
 use ba_steps::{CertStep, Checked, RunJudge, StepSink};
 
 impl Engine {
-    /// Takes all decisions back, and deletes the clauses that the keep rule gives up once enough were learnt since the
+    /// Takes all decisions back, and deletes the clauses that the keep rule discards once enough were learnt since the
     /// last deletion.
     pub fn restart<S: StepSink + Drop, J: RunJudge + Drop, K: Fn(u64, u64) -> bool + Drop>(
         &mut self,
@@ -60,7 +60,7 @@ impl Engine {
         }
     }
 
-    /// Deletes the clauses that the keep rule gives up.
+    /// Deletes the clauses that the keep rule discards.
     fn reduce<S: StepSink + Drop, J: RunJudge + Drop, K: Fn(u64, u64) -> bool + Drop>(
         &mut self,
         assumptions: &[Lit],
@@ -107,10 +107,11 @@ impl Engine {
         if numbers.is_empty() {
             return Ok(());
         }
+        self.delete(numbers.as_slice());
         let deletion = CertStep::Delete {
             clauses: Items::from_vec(numbers),
         };
         checked.put(&deletion)?;
-        Ok(self.reload(checked.checker())?)
+        Ok(())
     }
 }

@@ -80,12 +80,22 @@ fn failure_of<T>(answer: &Result<T, SearchError>) -> Option<SearchError>
 /// A search over the clauses of a checker. `restart` answers, by the number of restarts so far, how many conflicts come
 /// before the next; `keep` answers whether a learnt clause is kept, by its width, how many literals it has, and its age,
 /// how many clauses this search has learnt after it.
-#[derive(Drop)]
 pub struct Search<R, K> {
     engine: Engine,
     restart: R,
     keep: K,
     failure: Option<SearchError>,
+}
+
+impl<R: Drop, K: Drop> Drop for Search<R, K> {
+    fn drop(self) {
+        let Search {
+            engine: _,
+            restart: _,
+            keep: _,
+            failure: _,
+        } = self;
+    }
 }
 
 impl<R, K> Model for Search<R, K> {

@@ -15,3 +15,8 @@ pub mod ShortClauses
 pub mod Complete
 pub mod Sounds
 pub mod NewClauses
+pub mod Deletions
+pub mod Deleted
+pub mod Follows
+pub mod DeletedSound
+pub mod References

@@ -73,11 +73,12 @@ AreThreaded-heads a heads heads' f pending same t = record {
   apart = t.apart;
 }
 
-pub grow_step : (a : Clauses) (heads heads' : List (Option ℕ)) (f n len : ℕ) (pending : Option ℕ) (ok : Bool) → AreThreaded a heads f pending → len ≡ length heads → len < n → heads' ≡ cond ok (take n heads ++ replicate (n - len) None) heads → AreThreaded a heads' f pending
-grow_step a heads heads' f n len pending true t len_is more heads'_is =
+pub grow_step : (a : Clauses) (heads heads' : List (Option ℕ)) (f n len : ℕ) (pending filler : Option ℕ) (ok : Bool) → AreThreaded a heads f pending → len ≡ length heads → len < n → filler ≡ None
+    → heads' ≡ cond ok (take n heads ++ replicate (n - len) filler) heads → AreThreaded a heads' f pending
+grow_step a heads heads' f n len pending filler true t len_is more filler_is heads'_is =
     AreThreaded-heads a heads heads' f pending
-    (λ i. ap (λ (hs : List (Option ℕ)). get_or hs i None) (heads'_is ∙ ap (λ (hs : List (Option ℕ)). hs ++ replicate (n - len) None) (take_all n heads (omega arith))) ∙ get_or-more heads (n - len) i) t
-grow_step a heads heads' f n len pending false t len_is more heads'_is = subst (λ (hs : List (Option ℕ)). AreThreaded a hs f pending) (sym heads'_is) t
+    (λ i. ap (λ (hs : List (Option ℕ)). get_or hs i None) (heads'_is ∙ (ap (λ (x : Option ℕ). take n heads ++ replicate (n - len) x) filler_is ∙ ap (λ (hs : List (Option ℕ)). hs ++ replicate (n - len) None) (take_all n heads (omega arith)))) ∙ get_or-more heads (n - len) i) t
+grow_step a heads heads' f n len pending filler false t len_is more filler_is heads'_is = subst (λ (hs : List (Option ℕ)). AreThreaded a hs f pending) (sym heads'_is) t
 
 -- what the arena says of an added clause
 IsNew-from_Adds : (a a' : Clauses) (r : ℕ) (s : Stored) → Adds a a' r s → AreApart s.lits → IsNew a a' r s

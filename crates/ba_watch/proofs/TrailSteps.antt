@@ -201,17 +201,19 @@ value_of-outside v [] l within above = refl
 value_of-outside v (x ∷ xs) l within above =
     skipped (eqb x.variable l.variable) _ (value_of xs l) (unlike x.variable l.variable v (within 0 (omega arith)) above) (value_of-outside v xs l (λ p p_in. within (suc p) (omega arith)) above)
 
-pub grown : (variables variables' : ℕ) (lits lits' : List Literal) (reasons reasons' : List (Option ℕ)) (levels levels' : List ℕ) (n level : ℕ) (values values' : List (Option Bool)) (places places' : List ℕ) (ok : Bool) (len : ℕ)
-    → Holds variables lits reasons levels n level values places → variables ≤ variables' → ok ≡ true → len ≡ length values
+pub grown : (variables variables' : ℕ) (lits lits' : List Literal) (reasons reasons' : List (Option ℕ)) (levels levels' : List ℕ) (n level : ℕ) (values values' : List (Option Bool)) (places places' : List ℕ) (ok : Bool) (len : ℕ) (filler : Option Bool)
+    → Holds variables lits reasons levels n level values places → variables ≤ variables' → ok ≡ true → len ≡ length values → filler ≡ None
     → take (length lits) lits' ≡ lits → take (length reasons) reasons' ≡ reasons → take (length levels) levels' ≡ levels → take (length places) places' ≡ places
     → variables' ≤ length lits' → variables' ≤ length reasons' → variables' ≤ length levels' → variables' ≤ length places'
-    → values' ≡ cond ok (take variables' values ++ replicate (variables' - len) None) values
+    → values' ≡ cond ok (take variables' values ++ replicate (variables' - len) filler) values
     → Holds variables' lits' reasons' levels' n level values' places'
-grown variables variables' lits lits' reasons reasons' levels levels' n level values values' places places' ok len h more ok_is len_is lits_front reasons_front levels_front places_front lits_room reasons_room levels_room places_room values_is =
+grown variables variables' lits lits' reasons reasons' levels levels' n level values values' places places' ok len filler h more ok_is len_is filler_is lits_front reasons_front levels_front places_front lits_room reasons_room levels_room places_room values_is =
     let T : take n lits' ≡ take n lits = take_front n lits lits' lits_front (omega (arith, h.assigned_le, h.lits_room)) in
     let R : take n reasons' ≡ take n reasons = take_front n reasons reasons' reasons_front (omega (arith, h.assigned_le, h.reasons_room)) in
     let k : ℕ = variables' - len in
-    let v : values' ≡ values ++ replicate k None = values_is ∙ (ap (λ (b : Bool). cond b (take variables' values ++ replicate k None) values) ok_is ∙ ap (λ (ys : List (Option Bool)). ys ++ replicate k None) (take_all variables' values (omega (arith, h.values_room)))) in
+    let empty : values' ≡ cond ok (take variables' values ++ replicate k None) values =
+    values_is ∙ ap (λ (f : Option Bool). cond ok (take variables' values ++ replicate k f) values) filler_is in
+    let v : values' ≡ values ++ replicate k None = empty ∙ (ap (λ (b : Bool). cond b (take variables' values ++ replicate k None) values) ok_is ∙ ap (λ (ys : List (Option Bool)). ys ++ replicate k None) (take_all variables' values (omega (arith, h.values_room)))) in
     let v_len : length values' ≡ variables' = ap length v ∙ (length-append values (replicate k None) ∙ (ap (λ (m : ℕ). length values + m) (length-replicate k None) ∙ omega (arith, h.values_room))) in
     let read : (i : ℕ) → get_or values' i None ≡ get_or values i None = λ i. ap (λ (ys : List (Option Bool)). get_or ys i None) v ∙ get_or-more values k i in
     record {

@@ -379,10 +379,11 @@ module _ (a a' : Clauses) (t : Assignments) (f r place other : ℕ) (rest : List
         same_sign-same true = refl
         same_sign-same false = refl
 
-pub some_false : (v : Option Bool) → is_some v ≡ true → (v ≡ Some true → ⊥) → v ≡ Some false
-some_false None e ne = absurd (cc e)
-some_false (Some true) e ne = absurd (ne refl)
-some_false (Some false) e ne = refl
+-- what is neither true nor false has no value
+pub neither : (v : Option Bool) → (v ≡ Some true → ⊥) → (v ≡ Some false → ⊥) → v ≡ None
+neither None t f = refl
+neither (Some true) t f = absurd (t refl)
+neither (Some false) t f = absurd (f refl)
 
 -- the visits of one list go on
 pub Underway-start : (a : Clauses) (t : Assignments) (f : ℕ) (todo : List ℕ) → ((r : ℕ) → occurrences r todo ≡ watch_count a f r) → IsUnderway a a t t f todo None

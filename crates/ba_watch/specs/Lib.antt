@@ -1,4 +1,6 @@
 pub mod Chains
+pub mod Lifted
 pub mod Threads
 pub mod Trails
 pub mod Propagation
+pub mod Deletion

@@ -7,6 +7,8 @@
 #![tactic(auto)]
 
 mod choice;
+mod deletion;
+mod lifted;
 mod lists;
 mod propagation;
 mod trail;

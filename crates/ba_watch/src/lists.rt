@@ -7,7 +7,7 @@ ghost use Rattle.ba_arena.specs.Clauses.{IsLive, lits_at, link_at};
 ghost use Rattle.ba_watch.specs.Chains.{occurrences};
 ghost use Rattle.ba_watch.specs.Threads.{AreThreaded, AreApart, pending_of, watch_count, index_at, SamePlain, ReordersOne, AddsPlain};
 
-use ba_arena::{Arena, ClauseRef};
+use ba_arena::{Arena, ClauseRef, Link};
 use ba_lits::Lit;
 use std::alloc::{AllocError, Global};
 
@@ -16,7 +16,7 @@ use std::alloc::{AllocError, Global};
 #[derive(Drop)]
 pub struct Lists {
     pub arena: Arena,
-    pub heads: Vec<Option<ClauseRef>>,
+    pub heads: Vec<Link>,
     pub visited: usize,
     pub pending: Option<ClauseRef>,
     ghost threaded: { AreThreaded arena heads.items visited pending },
@@ -52,7 +52,7 @@ impl Lists {
         ensures pending { self.new.pending ≡ self.old.pending }
     {
         if indices > self.heads.len() {
-            self.heads.resize(indices, None)?;
+            self.heads.resize(indices, Link::none())?;
         }
         Ok(())
     }
@@ -68,8 +68,8 @@ impl Lists {
             (pending_of self.new.arena self.new.visited self.new.pending)
             ≡ watch_count self.new.arena index clause }
     {
-        self.pending = self.heads[index];
-        self.heads[index] = None;
+        self.pending = self.heads[index].get();
+        self.heads[index] = Link::none();
         self.visited = index;
     }
 
@@ -102,9 +102,9 @@ impl Lists {
             ∷ pending_of self.new.arena self.new.visited self.new.pending }
     {
         let next = self.arena.link(clause, place);
-        let head = self.heads[self.visited];
+        let head = self.heads[self.visited].get();
         self.arena.set_link(clause, place, head);
-        self.heads[self.visited] = Some(clause);
+        self.heads[self.visited] = Link::some(clause);
         self.pending = next;
     }
 
@@ -125,10 +125,10 @@ impl Lists {
     {
         let next = self.arena.link(clause, place);
         let index = self.arena.lit(clause, other).index();
-        let head = self.heads[index];
+        let head = self.heads[index].get();
         self.arena.swap(clause, place, other);
         self.arena.set_link(clause, place, head);
-        self.heads[index] = Some(clause);
+        self.heads[index] = Link::some(clause);
         self.pending = next;
     }
 
@@ -171,10 +171,10 @@ impl Lists {
         let two = lits[second].index();
         self.arena.swap(clause, 0, first);
         self.arena.swap(clause, 1, second);
-        self.arena.set_link(clause, 0, self.heads[one]);
-        self.arena.set_link(clause, 1, self.heads[two]);
-        self.heads[one] = Some(clause);
-        self.heads[two] = Some(clause);
+        self.arena.set_link(clause, 0, self.heads[one].get());
+        self.arena.set_link(clause, 1, self.heads[two].get());
+        self.heads[one] = Link::some(clause);
+        self.heads[two] = Link::some(clause);
         Ok(clause)
     }
 }

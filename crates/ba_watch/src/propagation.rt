@@ -22,22 +22,11 @@ fn find_watch(arena: &Arena, trail: &Trail, clause: ClauseRef) -> Option<usize>
         → value_of trail.now.lits (lit_at (lits_at arena.now clause) k) ≡ Some false) }
 {
     for place in 2..arena.len(clause) {
-        match trail.value(arena.lit(clause, place)) {
-            Some(false) => {}
-            _ => return Some(place),
+        if !trail.is_false(arena.lit(clause, place)) {
+            return Some(place);
         }
     }
     None
-}
-
-/// Whether a value is true.
-fn is_true(value: &Option<bool>) -> bool
-    ensures { IsTrue result ↔ value.now ≡ Some true }
-{
-    match value {
-        Some(value) => *value,
-        None => false,
-    }
 }
 
 /// Visits the next clause of the visited list, and answers whether it is false. Its other watched literal is
@@ -57,8 +46,7 @@ fn visit_watch(lists: &mut Lists, trail: &mut Trail, clause: ClauseRef) -> bool
 {
     let place = lists.watched_place(clause);
     let other = lists.arena.lit(clause, 1 - place);
-    let value = trail.value(other);
-    if is_true(&value) {
+    if trail.is_true(other) {
         lists.keep(clause, place);
         return false;
     }
@@ -67,7 +55,7 @@ fn visit_watch(lists: &mut Lists, trail: &mut Trail, clause: ClauseRef) -> bool
         return false;
     }
     lists.keep(clause, place);
-    if value.is_some() {
+    if trail.is_false(other) {
         return true;
     }
     trail.push(other, Some(clause));

@@ -1,10 +1,13 @@
 //! The trail: the assigned literals in their order, with their levels and reasons.
 
-ghost use Rattle.std.specs.Prelude.{◌≡◌, ◌≢◌, ℕ, ◌+◌, ◌-◌, ◌<◌, ◌≤◌, ◌^◌, ◌∷◌, ◌++◌, [], None, Some, Option, OnOk, OnErr, List, length, take, get_or, max, is_some, if◌then◌else◌};
+ghost use Rattle.std.specs.Prelude.{◌≡◌, ◌≢◌, ℕ, ◌+◌, ◌-◌, ◌<◌, ◌≤◌, ◌^◌, ◌∷◌, ◌++◌, [], None, Some, Option, true, false, IsTrue, ◌↔◌, OnOk, OnErr, List, length, take, get_or, max, map, is_some, IsSome, if◌then◌else◌};
 ghost use Rattle.ba_lits.specs.Literals.{lit_at};
+ghost use Rattle.ba_arena.specs.Clauses.{IsLive, link_at};
+ghost use Rattle.ba_arena.specs.Compaction.{forwarded};
 ghost use Rattle.ba_watch.specs.Trails.{value_of, place_if, decided, level_of, reason_of, kept, IsTrail, Begins};
 
-use ba_arena::ClauseRef;
+use crate::lifted::LiftedBool;
+use ba_arena::{Arena, ClauseRef};
 use ba_items::fill_up;
 use ba_lits::Lit;
 use std::alloc::{AllocError, Global};
@@ -16,11 +19,11 @@ pub struct Trail {
     variables: u64,
     lits: Vec<Lit>,
     reasons: Vec<Option<ClauseRef>>,
-    levels: Vec<usize>,
+    levels: Vec<u32>,
     assigned: usize,
     level: usize,
-    values: Vec<Option<bool>>,
-    places: Vec<usize>,
+    values: Vec<LiftedBool>,
+    places: Vec<u32>,
 }
 
 impl Model for Trail {
@@ -35,7 +38,7 @@ impl Model for Trail {
       reasons = take t.assigned t.reasons.items;
     } };
 
-    ghost invariant = { λ t. (t.variables < 2 ^ 62)
+    ghost invariant = { λ t. (t.variables < 2 ^ 32)
         × Holds t.variables t.lits.items t.reasons.items t.levels.items t.assigned t.level
         t.values.items t.places.items };
 }
@@ -108,10 +111,26 @@ impl Trail {
         requires { lit.variable ≤ self.now.variables }
         ensures { result ≡ value_of self.now.lits lit }
     {
-        match self.values[lit.variable() as usize - 1] {
+        match self.values[lit.variable() as usize - 1].get() {
             None => None,
             Some(value) => Some(value != lit.is_negated()),
         }
+    }
+
+    /// Whether a literal is true.
+    pub fn is_true(&self, lit: Lit) -> bool
+        requires { lit.variable ≤ self.now.variables }
+        ensures { IsTrue result ↔ value_of self.now.lits lit ≡ Some true }
+    {
+        self.values[lit.variable() as usize - 1].is(!lit.is_negated())
+    }
+
+    /// Whether a literal is false.
+    pub fn is_false(&self, lit: Lit) -> bool
+        requires { lit.variable ≤ self.now.variables }
+        ensures { IsTrue result ↔ value_of self.now.lits lit ≡ Some false }
+    {
+        self.values[lit.variable() as usize - 1].is(lit.is_negated())
     }
 
     /// The place on the trail of a variable that has a value.
@@ -122,7 +141,7 @@ impl Trail {
     {
         let index = variable as usize - 1;
         if self.values[index].is_some() {
-            Some(self.places[index])
+            Some(self.places[index] as usize)
         } else {
             None
         }
@@ -136,7 +155,7 @@ impl Trail {
     {
         match self.place(variable) {
             None => None,
-            Some(place) => Some(self.levels[place]),
+            Some(place) => Some(self.levels[place] as usize),
         }
     }
 
@@ -167,11 +186,11 @@ impl Trail {
         let index = lit.variable() as usize - 1;
         let level = self.level + decisions(&reason);
         self.level = level;
-        self.levels[self.assigned] = level;
+        self.levels[self.assigned] = level as u32;
         self.lits[self.assigned] = lit;
         self.reasons[self.assigned] = reason;
-        self.values[index] = Some(!lit.is_negated());
-        self.places[index] = self.assigned;
+        self.values[index] = LiftedBool::some(!lit.is_negated());
+        self.places[index] = self.assigned as u32;
         self.assigned += 1;
     }
 
@@ -187,7 +206,7 @@ impl Trail {
         let place = self.assigned - 1;
         let index = self.lits[place].variable() as usize - 1;
         self.level -= decisions(&self.reasons[place]);
-        self.values[index] = None;
+        self.values[index] = LiftedBool::none();
         self.assigned = place;
     }
 
@@ -204,6 +223,18 @@ impl Trail {
         }
     }
 
+    /// Rewrites the reasons to what the first links of their clauses name.
+    pub fn follow(&mut self, arena: &Arena)
+        requires live { (p clause : ℕ) → get_or self.old.reasons p None ≡ Some clause
+            → IsLive arena.now clause }
+        requires linked { (clause : ℕ) → IsLive arena.now clause
+            → IsSome (link_at arena.now clause 0) }
+        ensures { self.new ≡ record self.old
+            { reasons = map (forwarded arena.now) self.old.reasons } }
+    {
+        arena.rewrite(&mut self.reasons, self.assigned);
+    }
+
     /// Makes room for the assignment of variables up to a number.
     pub fn grow(&mut self, variables: u64) -> Result<(), AllocError>
         ensures ok { OnOk result (self.new
@@ -213,7 +244,7 @@ impl Trail {
         if variables <= self.variables {
             return Ok(());
         }
-        if variables >= 1 << 62 {
+        if variables > u32::MAX as u64 {
             return Err(AllocError);
         }
         let count = variables as usize;
@@ -221,7 +252,7 @@ impl Trail {
         fill_up(&mut self.reasons, count, None)?;
         fill_up(&mut self.levels, count, 0)?;
         fill_up(&mut self.places, count, 0)?;
-        self.values.resize(count, None)?;
+        self.values.resize(count, LiftedBool::none())?;
         self.variables = variables;
         Ok(())
     }

@@ -5,8 +5,10 @@ ghost use Rattle.ba_lits.specs.Literals.{lit_at, IsClause};
 ghost use Rattle.ba_watch.specs.Threads.{plain};
 ghost use Rattle.ba_watch.specs.Trails.{value_of, place_if, decided, level_of, reason_of, kept};
 ghost use Rattle.ba_watch.specs.Propagation.{clause_in, lits_in, is_false, IsReason, IsComplete, IsAsserting, Extends, AddsClause, KeepsFacts};
+ghost use Rattle.ba_watch.specs.Deletion.{Deletes, MayDelete};
 
 use crate::choice::{latest, rank};
+use crate::deletion::{delete_all, make_room};
 use crate::lists::Lists;
 use crate::propagation::propagate_all;
 use crate::trail::Trail;
@@ -27,6 +29,7 @@ pub struct Watch {
     trail: Trail,
     head: usize,
     waiting: Vec<ClauseRef>,
+    references: Vec<Option<ClauseRef>>,
     settled: bool,
 }
 
@@ -34,6 +37,7 @@ impl Model for Watch {
     ghost use Rattle.std.specs.Prelude.{map, length};
     ghost use Rattle.ba_watch.specs.Threads.{plain};
     ghost use Rattle.ba_watch.specs.Propagation.{State, IsSound};
+    ghost use Rattle.ba_watch.specs.Deletion.{AreReferenced};
 
     ghost Value = { State };
 
@@ -46,7 +50,8 @@ impl Model for Watch {
     } };
 
     ghost invariant = { λ w. IsSound w.lists.arena (length w.lists.heads.items) w.lists.pending
-        w.trail.variables w.trail.lits w.trail.reasons w.head w.waiting.items w.settled };
+        w.trail.variables w.trail.lits w.trail.reasons w.head w.waiting.items w.settled
+        × AreReferenced w.lists.arena w.references.items };
 }
 
 impl Watch {
@@ -66,20 +71,21 @@ impl Watch {
             trail: Trail::new(alloc),
             head: 0,
             waiting: Vec::new(alloc),
+            references: Vec::new(alloc),
             settled: true,
         }
     }
 
     /// Makes room for the variables up to a number, and for all later assignments of them.
     ///
-    /// The one error is want of memory or of room, which is for less than 2^62 variables. It leaves the watch as it
+    /// The one error is want of memory or of room, which is for less than 2^32 variables. It leaves the watch as it
     /// was.
     pub fn grow(&mut self, variables: u64) -> Result<(), AllocError>
         ensures ok { OnOk result (self.new
             ≡ record self.old { variables = max self.old.variables variables }) }
         ensures err { OnErr result (self.new ≡ self.old) }
     {
-        if variables >= 1 << 62 {
+        if variables > u32::MAX as u64 {
             return Err(AllocError);
         }
         self.lists.grow(2 * variables as usize + 2)?;
@@ -240,7 +246,8 @@ impl Watch {
     /// Adds a clause, at level 0 or with exactly one literal that has no value and all others false, one of them
     /// from the present level on.
     ///
-    /// The one error is want of memory or of room in the arena. It leaves the watch as it was.
+    /// The one error is want of memory or of room in the arena, which is for numbers below 2^32 - 1. It leaves the watch
+    /// as it was.
     pub fn add_clause(&mut self, lits: &[Lit], number: u64) -> Result<ClauseRef, AllocError>
         requires clause { IsClause self.old.variables lits.now }
         requires level { (decided self.old.reasons ≡ 0) ⊎ IsAsserting self.old lits.now }
@@ -254,6 +261,20 @@ impl Watch {
         }
     }
 
+    /// Deletes the clauses of the numbers. The others move in place, and the reasons follow them. It takes no memory.
+    pub fn delete(&mut self, numbers: &[u64])
+        requires { MayDelete self.old numbers.now }
+        ensures { Deletes self.old self.new numbers.now }
+    {
+        delete_all(
+            &mut self.lists,
+            &mut self.trail,
+            &mut self.waiting,
+            &mut self.references,
+            numbers,
+        );
+    }
+
     /// Adds a clause of fewer than two literals, which waits to be looked at.
     fn add_short(&mut self, lits: &[Lit], number: u64) -> Result<ClauseRef, AllocError>
         requires clause { IsClause self.old.variables lits.now }
@@ -262,9 +283,11 @@ impl Watch {
         ensures ok { IfOk result (λ clause. AddsClause self.old self.new clause lits.now number) }
         ensures err { OnErr result (self.new ≡ self.old) }
     {
+        make_room(&mut self.references, number)?;
         self.waiting.reserve(1)?;
         let clause = self.lists.add_short(lits, number)?;
         self.waiting.push(clause)?;
+        self.references[number as usize] = Some(clause);
         self.settled = false;
         Ok(clause)
     }
@@ -277,11 +300,13 @@ impl Watch {
         ensures ok { IfOk result (λ clause. AddsClause self.old self.new clause lits.now number) }
         ensures err { OnErr result (self.new ≡ self.old) }
     {
+        make_room(&mut self.references, number)?;
         let first = latest(&self.trail, lits, lits.len());
         let second = latest(&self.trail, lits, first);
         let clause = self
             .lists
             .add_long(lits, number, first.min(second), first.max(second))?;
+        self.references[number as usize] = Some(clause);
         self.head = self.head.min(rank(&self.trail, lits[second]));
         self.settled = false;
         Ok(clause)

@@ -1,8 +1,20 @@
 //! Tests of the arena of clauses.
 
 use ba_arena::Arena;
+use std::alloc::{AllocError, Global};
 use std::test::Fail;
 use test_formulas::lit;
+
+/// The numbers of the live clauses, in their order.
+fn numbers(alloc: Global, arena: &Arena) -> Result<Vec<u64>, AllocError> {
+    let mut numbers = Vec::new(alloc);
+    let mut next = arena.first();
+    while let Some(clause) = next {
+        numbers.push(arena.number(clause))?;
+        next = arena.after(clause);
+    }
+    Ok(numbers)
+}
 
 #[test]
 fn clauses_keep_their_literals_and_links(rt: HostRuntime) -> Result<(), Fail> {
@@ -20,5 +32,24 @@ fn clauses_keep_their_literals_and_links(rt: HostRuntime) -> Result<(), Fail> {
         (arena.lit(first, 0), arena.lit(second, 0)),
         (lit(2), lit(-2))
     );
+    Ok(())
+}
+
+#[test]
+fn live_clauses_keep_their_order_in_compaction(rt: HostRuntime) -> Result<(), Fail> {
+    let mut arena = Arena::new(rt.alloc());
+    let _ = arena.add([lit(1), lit(2)].as_slice(), 7)?;
+    let second = arena.add([lit(-2)].as_slice(), 9)?;
+    arena.mark_dead(second);
+    let third = arena.add([lit(-1), lit(2), lit(3)].as_slice(), 11)?;
+    arena.swap(third, 0, 2);
+    arena.plan();
+    assert_eq!(rt; numbers(rt.alloc(), &arena)?.as_slice(), [7, 11].as_slice());
+    arena.compact();
+    assert_eq!(rt; numbers(rt.alloc(), &arena)?.as_slice(), [7, 11].as_slice());
+    let Some(first) = arena.first() else {
+        return Ok(());
+    };
+    assert_eq!(rt; arena.after(first), Some(second));
     Ok(())
 }

@@ -5,10 +5,17 @@ use Rattle.ba_cores.proofs.costs.least.Goals as goal
 pub rounds-init : goal.rounds-init
 rounds-init g c = record {
   same = search rules;
-  ready = record { begun = c.requires.begun c.in_ok-take_new.ensures.fresh; awake = c.requires.awake c.in_ok-take_new.ensures.fresh; none_blocked = c.requires.none_blocked c.in_ok-take_new.ensures.fresh };
+  ready = record {
+    begun = c.requires.begun c.in_ok-take_new.ensures.fresh;
+    awake =
+        c.requires.awake c.in_ok-take_new.ensures.fresh;
+    none_blocked =
+        c.requires.none_blocked c.in_ok-take_new.ensures.fresh;
+  };
   fresh = c.requires.fresh c.in_ok-take_new.ensures.fresh;
   working = search rules;
-  puts = puts_none (g.J.RunJudge.accepts c.args.checked.now.judge) c.args.checked.now.checker (g.S.StepSink.logs c.args.checked.now.sink);
+  puts = puts_none (g.J.RunJudge.accepts c.args.checked.now.judge) c.args.checked.now.checker
+      (g.S.StepSink.logs c.args.checked.now.sink);
   restart = refl;
   keep = refl;
   judge = refl;
@@ -20,8 +27,12 @@ rounds-init g c = record {
 pub returns-in-Some-clause-found : goal.returns-in-Some-clause-found
 returns-in-Some-clause-found g c =
     let good = g.J.RunJudge.accepts c.args.checked.now.judge in
-    found_later good c.args.checked.now.checker c.rounds.checked.checker c.round.new.checked.checker (g.S.StepSink.logs c.args.checked.now.sink) (g.S.StepSink.logs c.rounds.checked.sink) c.in-Some.found c.rounds.invariant.puts
-    (found_as (g.J.RunJudge.accepts c.rounds.checked.judge) good c.rounds.checked.checker c.round.new.checked.checker c.rounds.weight c.round.new.weight c.in_ok-found.field-0 c.in-Some.found (ap g.J.RunJudge.accepts c.rounds.invariant.judge) c.in-Some.is c.in_ok-found.ensures.found)
+    found_later good c.args.checked.now.checker c.rounds.checked.checker c.round.new.checked.checker
+    (g.S.StepSink.logs c.args.checked.now.sink) (g.S.StepSink.logs c.rounds.checked.sink)
+    c.in-Some.found c.rounds.invariant.puts
+    (found_as (g.J.RunJudge.accepts c.rounds.checked.judge) good c.rounds.checked.checker
+    c.round.new.checked.checker c.rounds.weight c.round.new.weight c.in_ok-found.field-0 c.in-Some.found
+    (ap g.J.RunJudge.accepts c.rounds.invariant.judge) c.in-Some.is c.in_ok-found.ensures.found)
 
 pub returns-in-Some-clause-steps : goal.returns-in-Some-clause-steps
 returns-in-Some-clause-steps g c =
@@ -29,15 +40,19 @@ returns-in-Some-clause-steps g c =
     let old = c.args.checked.now in
     let mid = c.rounds.checked in
     let new = c.round.new.checked in
-    let puts = puts_on good old.checker mid.checker new.checker (g.S.StepSink.logs old.sink) (g.S.StepSink.logs mid.sink) (g.S.StepSink.logs new.sink) c.rounds.invariant.puts
-    (puts_as (g.J.RunJudge.accepts mid.judge) good mid.checker new.checker (g.S.StepSink.logs mid.sink) (g.S.StepSink.logs new.sink) (ap g.J.RunJudge.accepts c.rounds.invariant.judge) c.in_ok-found.ensures.puts) in
+    let puts = puts_on good old.checker mid.checker new.checker (g.S.StepSink.logs old.sink)
+    (g.S.StepSink.logs mid.sink) (g.S.StepSink.logs new.sink) c.rounds.invariant.puts
+    (puts_as (g.J.RunJudge.accepts mid.judge) good mid.checker new.checker (g.S.StepSink.logs mid.sink)
+    (g.S.StepSink.logs new.sink) (ap g.J.RunJudge.accepts c.rounds.invariant.judge)
+    c.in_ok-found.ensures.puts) in
     (puts.steps, puts.leads, puts.logs)
 
 pub returns-in-Some-clause-awake : goal.returns-in-Some-clause-awake
 returns-in-Some-clause-awake g c =
     let mid = c.rounds.checked in
     let new = c.round.new.checked in
-    (puts_ready (g.J.RunJudge.accepts mid.judge) mid.checker new.checker (g.S.StepSink.logs mid.sink) (g.S.StepSink.logs new.sink) c.in_ok-found.ensures.puts c.rounds.invariant.ready).awake
+    (puts_ready (g.J.RunJudge.accepts mid.judge) mid.checker new.checker (g.S.StepSink.logs mid.sink)
+    (g.S.StepSink.logs new.sink) c.in_ok-found.ensures.puts c.rounds.invariant.ready).awake
 
 pub rounds-preserved : goal.rounds-preserved
 rounds-preserved g c =
@@ -45,11 +60,16 @@ rounds-preserved g c =
     let old = c.args.checked.now in
     let mid = c.rounds.checked in
     let new = c.round.new.checked in
-    let puts = puts_on good old.checker mid.checker new.checker (g.S.StepSink.logs old.sink) (g.S.StepSink.logs mid.sink) (g.S.StepSink.logs new.sink) c.rounds.invariant.puts
-    (puts_as (g.J.RunJudge.accepts mid.judge) good mid.checker new.checker (g.S.StepSink.logs mid.sink) (g.S.StepSink.logs new.sink) (ap g.J.RunJudge.accepts c.rounds.invariant.judge) c.in_ok-found.ensures.puts) in
+    let puts = puts_on good old.checker mid.checker new.checker (g.S.StepSink.logs old.sink)
+    (g.S.StepSink.logs mid.sink) (g.S.StepSink.logs new.sink) c.rounds.invariant.puts
+    (puts_as (g.J.RunJudge.accepts mid.judge) good mid.checker new.checker (g.S.StepSink.logs mid.sink)
+    (g.S.StepSink.logs new.sink) (ap g.J.RunJudge.accepts c.rounds.invariant.judge)
+    c.in_ok-found.ensures.puts) in
     record {
       same = c.in_ok-found.ensures.same;
-      ready = puts_ready (g.J.RunJudge.accepts mid.judge) mid.checker new.checker (g.S.StepSink.logs mid.sink) (g.S.StepSink.logs new.sink) c.in_ok-found.ensures.puts c.rounds.invariant.ready;
+      ready = puts_ready (g.J.RunJudge.accepts mid.judge) mid.checker new.checker
+          (g.S.StepSink.logs mid.sink) (g.S.StepSink.logs new.sink) c.in_ok-found.ensures.puts
+          c.rounds.invariant.ready;
       fresh = c.in_ok-found.ensures.stays_fresh.1;
       working = c.in_ok-found.ensures.stays_fresh.0;
       puts = puts;
@@ -65,16 +85,19 @@ pub returns-in-Some-clause-stays_begun : goal.returns-in-Some-clause-stays_begun
 returns-in-Some-clause-stays_begun g c =
     let mid = c.rounds.checked in
     let new = c.round.new.checked in
-    (puts_ready (g.J.RunJudge.accepts mid.judge) mid.checker new.checker (g.S.StepSink.logs mid.sink) (g.S.StepSink.logs new.sink) c.in_ok-found.ensures.puts c.rounds.invariant.ready).begun
+    (puts_ready (g.J.RunJudge.accepts mid.judge) mid.checker new.checker (g.S.StepSink.logs mid.sink)
+    (g.S.StepSink.logs new.sink) c.in_ok-found.ensures.puts c.rounds.invariant.ready).begun
 
 pub returns-in-Some-clause-none_blocked : goal.returns-in-Some-clause-none_blocked
 returns-in-Some-clause-none_blocked g c =
     let mid = c.rounds.checked in
     let new = c.round.new.checked in
-    (puts_ready (g.J.RunJudge.accepts mid.judge) mid.checker new.checker (g.S.StepSink.logs mid.sink) (g.S.StepSink.logs new.sink) c.in_ok-found.ensures.puts c.rounds.invariant.ready).none_blocked
+    (puts_ready (g.J.RunJudge.accepts mid.judge) mid.checker new.checker (g.S.StepSink.logs mid.sink)
+    (g.S.StepSink.logs new.sink) c.in_ok-found.ensures.puts c.rounds.invariant.ready).none_blocked
 
 pub returns-in_err-take_new-clause-leaves : goal.returns-in_err-take_new-clause-leaves
-returns-in_err-take_new-clause-leaves g c = leaves_none (g.J.RunJudge.accepts c.args.checked.now.judge) c.args.checked.now.checker (g.S.StepSink.logs c.args.checked.now.sink)
+returns-in_err-take_new-clause-leaves g c = leaves_none (g.J.RunJudge.accepts c.args.checked.now.judge)
+    c.args.checked.now.checker (g.S.StepSink.logs c.args.checked.now.sink)
 
 pub returns-in_err-found-clause-leaves : goal.returns-in_err-found-clause-leaves
 returns-in_err-found-clause-leaves g c =
@@ -82,7 +105,8 @@ returns-in_err-found-clause-leaves g c =
     let old = c.args.checked.now in
     let mid = c.rounds.checked in
     let new = c.round.new.checked in
-    leaves_on good (g.J.RunJudge.accepts mid.judge) old.checker mid.checker new.checker (g.S.StepSink.logs old.sink) (g.S.StepSink.logs mid.sink) (g.S.StepSink.logs new.sink)
+    leaves_on good (g.J.RunJudge.accepts mid.judge) old.checker mid.checker new.checker
+    (g.S.StepSink.logs old.sink) (g.S.StepSink.logs mid.sink) (g.S.StepSink.logs new.sink)
     (ap g.J.RunJudge.accepts c.rounds.invariant.judge) c.rounds.invariant.puts c.round.ensures.leaves
 
 pub returns-in-Some-clause-leaves : goal.returns-in-Some-clause-leaves
@@ -91,5 +115,6 @@ returns-in-Some-clause-leaves g c =
     let old = c.args.checked.now in
     let mid = c.rounds.checked in
     let new = c.round.new.checked in
-    leaves_on good (g.J.RunJudge.accepts mid.judge) old.checker mid.checker new.checker (g.S.StepSink.logs old.sink) (g.S.StepSink.logs mid.sink) (g.S.StepSink.logs new.sink)
+    leaves_on good (g.J.RunJudge.accepts mid.judge) old.checker mid.checker new.checker
+    (g.S.StepSink.logs old.sink) (g.S.StepSink.logs mid.sink) (g.S.StepSink.logs new.sink)
     (ap g.J.RunJudge.accepts c.rounds.invariant.judge) c.rounds.invariant.puts c.round.ensures.leaves

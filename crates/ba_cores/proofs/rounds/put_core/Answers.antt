@@ -14,44 +14,56 @@ put-requires-clause-formed g c =
 
 pub put-requires-clause-allowed : goal.put-requires-clause-allowed
 put-requires-clause-allowed g c = λ fresh awake.
-    core_allowed (g.J.RunJudge.accepts c.args.checked.now.judge) c.args.checked.now.checker c.args.core.lits c.args.core.hints c.args.core.back c.requires.core c.requires.ready
+    core_allowed (g.J.RunJudge.accepts c.args.checked.now.judge) c.args.checked.now.checker c.args.core.lits
+    c.args.core.hints c.args.core.back c.requires.core c.requires.ready
 
 pub returns-in-Err-clause-leaves : goal.returns-in-Err-clause-leaves
 returns-in-Err-clause-leaves g c =
     let s = c.args.checked.now.checker in
-    leaves_core (g.J.RunJudge.accepts c.args.checked.now.judge) s c.put.new.self.checker c.args.core.lits c.args.core.hints (g.S.StepSink.logs c.args.checked.now.sink) (g.S.StepSink.logs c.put.new.self.sink)
+    leaves_core (g.J.RunJudge.accepts c.args.checked.now.judge) s c.put.new.self.checker c.args.core.lits
+    c.args.core.hints (g.S.StepSink.logs c.args.checked.now.sink) (g.S.StepSink.logs c.put.new.self.sink)
     (core_formed s (literals_of s.softs) c.args.core.lits c.args.core.hints c.args.core.back c.requires.core
     (omega (arith, c.keeps_facts.ensures.few, ap (λ (s : State). s.variables) c.checker.ensures))
     c.requires.some)
-    (core_allowed (g.J.RunJudge.accepts c.args.checked.now.judge) s c.args.core.lits c.args.core.hints c.args.core.back c.requires.core c.requires.ready)
+    (core_allowed (g.J.RunJudge.accepts c.args.checked.now.judge) s c.args.core.lits c.args.core.hints
+    c.args.core.back c.requires.core c.requires.ready)
     (c.in-Err.ensures.taken_or_asleep c.requires.fresh) c.in-Err.ensures.refused
 
 pub take_new-requires : goal.take_new-requires
-take_new-requires g c = record { part = λ working. part_after_core c.args.checked.now.checker c.put.new.self.checker c.args.core.lits c.args.core.hints c.in_default.ensures.taken c.requires.same }
+take_new-requires g c = record {
+  part = λ working. part_after_core c.args.checked.now.checker
+      c.put.new.self.checker c.args.core.lits c.args.core.hints c.in_default.ensures.taken c.requires.same;
+}
 
 pub returns-clause-puts : goal.returns-clause-puts
 returns-clause-puts g c =
     let s = c.args.checked.now.checker in
     on_ok c.take_new.result
-    (puts_core (g.J.RunJudge.accepts c.args.checked.now.judge) s c.put.new.self.checker c.args.core.lits c.args.core.hints (g.S.StepSink.logs c.args.checked.now.sink) (g.S.StepSink.logs c.put.new.self.sink)
+    (puts_core (g.J.RunJudge.accepts c.args.checked.now.judge) s c.put.new.self.checker c.args.core.lits
+    c.args.core.hints (g.S.StepSink.logs c.args.checked.now.sink) (g.S.StepSink.logs c.put.new.self.sink)
     (core_formed s (literals_of s.softs) c.args.core.lits c.args.core.hints c.args.core.back c.requires.core
     (omega (arith, c.keeps_facts.ensures.few, ap (λ (s : State). s.variables) c.checker.ensures))
     c.requires.some)
-    (core_allowed (g.J.RunJudge.accepts c.args.checked.now.judge) s c.args.core.lits c.args.core.hints c.args.core.back c.requires.core c.requires.ready)
+    (core_allowed (g.J.RunJudge.accepts c.args.checked.now.judge) s c.args.core.lits c.args.core.hints
+    c.args.core.back c.requires.core c.requires.ready)
     c.in_default.ensures.taken c.in_default.ensures.told)
 
 pub returns-clause-leaves : goal.returns-clause-leaves
 returns-clause-leaves g c =
     let s = c.args.checked.now.checker in
-    leaves_put (g.J.RunJudge.accepts c.args.checked.now.judge) s c.put.new.self.checker (g.S.StepSink.logs c.args.checked.now.sink) (g.S.StepSink.logs c.put.new.self.sink)
-    (puts_core (g.J.RunJudge.accepts c.args.checked.now.judge) s c.put.new.self.checker c.args.core.lits c.args.core.hints (g.S.StepSink.logs c.args.checked.now.sink) (g.S.StepSink.logs c.put.new.self.sink)
+    leaves_put (g.J.RunJudge.accepts c.args.checked.now.judge) s c.put.new.self.checker
+    (g.S.StepSink.logs c.args.checked.now.sink) (g.S.StepSink.logs c.put.new.self.sink)
+    (puts_core (g.J.RunJudge.accepts c.args.checked.now.judge) s c.put.new.self.checker c.args.core.lits
+    c.args.core.hints (g.S.StepSink.logs c.args.checked.now.sink) (g.S.StepSink.logs c.put.new.self.sink)
     (core_formed s (literals_of s.softs) c.args.core.lits c.args.core.hints c.args.core.back c.requires.core
     (omega (arith, c.keeps_facts.ensures.few, ap (λ (s : State). s.variables) c.checker.ensures))
     c.requires.some)
-    (core_allowed (g.J.RunJudge.accepts c.args.checked.now.judge) s c.args.core.lits c.args.core.hints c.args.core.back c.requires.core c.requires.ready)
+    (core_allowed (g.J.RunJudge.accepts c.args.checked.now.judge) s c.args.core.lits c.args.core.hints
+    c.args.core.back c.requires.core c.requires.ready)
     c.in_default.ensures.taken c.in_default.ensures.told)
 
 pub returns-clause-fewer : goal.returns-clause-fewer
 returns-clause-fewer g c =
     on_ok c.take_new.result
-    (core_fewer c.args.checked.now.checker c.put.new.self.checker c.args.core.lits c.args.core.hints c.requires.core.left c.in_default.ensures.taken)
+    (core_fewer c.args.checked.now.checker c.put.new.self.checker c.args.core.lits c.args.core.hints
+    c.requires.core.left c.in_default.ensures.taken)

@@ -11,13 +11,18 @@ use Rattle.ba_cores.proofs.rounds.take_model.Goals as goal
 pub returns-clause-found : goal.returns-clause-found
 returns-clause-found g c =
     let s = c.args.checked.now.checker in
-    let same : c.softs.result.now ≡ s.softs = c.softs.ensures.softs ∙ ap (λ (t : State). t.softs) c.checker-checker.ensures in
+    let same : c.softs.result.now ≡ s.softs = c.softs.ensures.softs
+    ∙ ap (λ (t : State). t.softs) c.checker-checker.ensures in
     let all : heavy c.args.weight.now s.softs ≡ s.softs =
-    subst (λ (softs : List Soft). heavy c.args.weight.now softs ≡ softs) same (c.are_heavy.ensures.all c.if-not-are_heavy.false) in
-    let model : IsModel s (literals_of s.softs) c.args.model.values = heavy_model s c.args.weight.now c.args.model.values all c.requires.model in
-    let bound : c.bound.result ≡ s.bound = c.bound.ensures ∙ ap (λ (t : State). t.bound) c.checker-checker.ensures in (
+    subst (λ (softs : List Soft). heavy c.args.weight.now softs ≡ softs) same
+    (c.are_heavy.ensures.all c.if-not-are_heavy.false) in
+    let model : IsModel s (literals_of s.softs) c.args.model.values =
+    heavy_model s c.args.weight.now c.args.model.values all c.requires.model in
+    let bound : c.bound.result ≡ s.bound = c.bound.ensures
+    ∙ ap (λ (t : State). t.bound) c.checker-checker.ensures in (
       bound,
       model.all,
       λ formula softs r. subst (λ (w : _). IsLeast formula softs w c.args.model.values) (sym bound)
-          (least_of_model (g.J.RunJudge.accepts c.args.checked.now.judge) formula softs s c.args.model.values model c.requires.ready.none_blocked r),
+          (least_of_model (g.J.RunJudge.accepts c.args.checked.now.judge) formula softs s
+          c.args.model.values model c.requires.ready.none_blocked r),
     )

@@ -5,4 +5,5 @@ use Rattle.ba_learn.specs.Resolving.{is_seen, IsAbsorbed}
 use Rattle.ba_learn.proofs.resolution.Resolution.are_absorbed.Given as goal
 
 abbrev pub invariant-loop-index : goal.invariant-loop-index
-invariant-loop-index l = (k : ℕ) → k < l.index → IsAbsorbed l.watch (is_seen l.self) (lit_at (lits_in l.watch.clauses l.clause) k)
+invariant-loop-index l = (k : ℕ) → k < l.index →
+    IsAbsorbed l.watch (is_seen l.self) (lit_at (lits_in l.watch.clauses l.clause) k)

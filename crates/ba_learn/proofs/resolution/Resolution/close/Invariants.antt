@@ -11,4 +11,5 @@ invariant-loop-place l = record {
 }
 
 abbrev pub decreases-loop-place : goal.decreases-loop-place
-decreases-loop-place l = 2 * (length l.watch.trail - count_below (is_seen l.self) (length l.watch.trail)) + length l.self.waiting
+decreases-loop-place l = 2 * (length l.watch.trail - count_below (is_seen l.self) (length l.watch.trail))
+    + length l.self.waiting

@@ -10,9 +10,11 @@ not_above n e = grind (arith, nat_tests)
 pub returns-else-self-clause-resolved : goal.returns-else-self-clause-resolved
 returns-else-self-clause-resolved c = λ e.
     let w = c.args.watch.now in
-    let l = level-is w.trail w.reasons c.args.variable c.unwrap.result c.requires.assigned (sym c.level_of.ensures ∙ c.unwrap.ensures) in
+    let l = level-is w.trail w.reasons c.args.variable c.unwrap.result c.requires.assigned
+    (sym c.level_of.ensures ∙ c.unwrap.ensures) in
     let z : level_at w.reasons (place_of w.trail c.args.variable) ≡ 0 = sym l ∙ not_above c.unwrap.result e in
     record {
-      reason = zero_has_reason w.reasons (place_of w.trail c.args.variable) (omega (arith, c.keeps_facts.ensures.trail.same_length, c.requires.assigned)) z;
+      reason = zero_has_reason w.reasons (place_of w.trail c.args.variable)
+          (omega (arith, c.keeps_facts.ensures.trail.same_length, c.requires.assigned)) z;
       level = λ shallow. z;
     }

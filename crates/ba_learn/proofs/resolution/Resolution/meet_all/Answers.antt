@@ -11,14 +11,21 @@ use Rattle.ba_learn.proofs.resolution.Resolution.meet_all.Goals as goal
 pub loop-place-preserved : goal.loop-place-preserved
 loop-place-preserved c =
     let w = c.args.watch.now in
-    let same : lits_at c.arena-arena.result.now c.args.clause ≡ lits_in w.clauses c.args.clause = lits_same c.arena-arena.result.now w.clauses c.args.clause c.arena-arena.ensures in
-    let within : c.loop-place.place < length (lits_in w.clauses c.args.clause) = omega (arith, ap length same, c.len-place-end.ensures, c.loop-place-test.true) in
-    Meets-more w c.args.self.now c.loop-place.self c.meet.new.self (lits_in w.clauses c.args.clause) c.loop-place.place c.lit.result within
-    (c.lit.ensures ∙ ap (λ (xs : List Literal). lit_at xs c.loop-place.place) same) c.loop-place.invariant c.in_ok-meet.ensures
+    let same : lits_at c.arena-arena.result.now c.args.clause ≡ lits_in w.clauses c.args.clause =
+    lits_same c.arena-arena.result.now w.clauses c.args.clause c.arena-arena.ensures in
+    let within : c.loop-place.place < length (lits_in w.clauses c.args.clause) =
+    omega (arith, ap length same, c.len-place-end.ensures, c.loop-place-test.true) in
+    Meets-more w c.args.self.now c.loop-place.self c.meet.new.self (lits_in w.clauses c.args.clause)
+    c.loop-place.place c.lit.result within
+    (c.lit.ensures ∙ ap (λ (xs : List Literal). lit_at xs c.loop-place.place) same) c.loop-place.invariant
+    c.in_ok-meet.ensures
 
 pub returns : goal.returns
 returns c =
     let w = c.args.watch.now in
-    let same : lits_at c.arena-arena.result.now c.args.clause ≡ lits_in w.clauses c.args.clause = lits_same c.arena-arena.result.now w.clauses c.args.clause c.arena-arena.ensures in
+    let same : lits_at c.arena-arena.result.now c.args.clause ≡ lits_in w.clauses c.args.clause =
+    lits_same c.arena-arena.result.now w.clauses c.args.clause c.arena-arena.ensures in
     subst (λ (xs : List Literal). Meets w c.args.self.now c.loop-place.self xs)
-    (take_all c.loop-place.place (lits_in w.clauses c.args.clause) (omega (arith, ap length same, c.len-place-end.ensures, c.loop-place-test.false))) c.loop-place.invariant
+    (take_all c.loop-place.place (lits_in w.clauses c.args.clause)
+    (omega (arith, ap length same, c.len-place-end.ensures, c.loop-place-test.false)))
+    c.loop-place.invariant

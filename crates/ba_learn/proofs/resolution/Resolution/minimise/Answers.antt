@@ -6,4 +6,5 @@ use Rattle.ba_learn.proofs.resolution.Resolution.minimise.Goals as goal
 pub returns-clause-short : goal.returns-clause-short
 returns-clause-short c = λ p some h.
     let k = occurs_at p c.loop-index.self.kept some in
-    c.loop-index.invariant.short k.0 (omega (arith, c.loop-index-test.false)) k.1 (subst (λ (x : ℕ). IsRedundant c.args.watch.now c.loop-index.self x) (sym k.2) h)
+    c.loop-index.invariant.short k.0 (omega (arith, c.loop-index-test.false)) k.1
+    (subst (λ (x : ℕ). IsRedundant c.args.watch.now c.loop-index.self x) (sym k.2) h)

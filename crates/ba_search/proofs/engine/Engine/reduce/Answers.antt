@@ -1,9 +1,12 @@
-use Rattle.std.proofs.Common.{vec_len, subst, arith}
-use Rattle.ba_learn.specs.Live.{AreLive}
-use Rattle.ba_steps.specs.States.{State, clause_at}
+use Rattle.std.proofs.Common.{◌≡◌, ℕ, true, List, vec_len, sym, subst, arith}
+use Rattle.std.specs.List.{list_all}
+use Rattle.ba_watch.specs.Deletion.{Deletes, MayDelete}
+use Rattle.ba_steps.specs.States.{State}
+use Rattle.ba_steps.specs.Judging.{may_go}
+use Rattle.ba_search.specs.Iterations.{Forgets}
 use Rattle.ba_search.proofs.StepLaws.{puts_none, leaves_none}
 use Rattle.ba_search.proofs.DeletedSteps.{some_items, delete_step, named_formed, named_allowed, delete_taken, delete_puts, delete_left, delete_tried}
-use Rattle.ba_search.proofs.UnderwayLaws.{underway_reload}
+use Rattle.ba_search.proofs.ForgetLaws.{may_delete, underway_deleted}
 use Rattle.ba_search.proofs.engine.Engine.reduce.Goals as goal
 
 pub returns-in_err-numbers-clause-leaves : goal.returns-in_err-numbers-clause-leaves
@@ -65,42 +68,36 @@ returns-in_err-put-clause-leaves g c =
     c.in_ok-numbers.ensures.may_go c.in_ok-numbers.ensures.discarded)
     (c.in_err-put.ensures.taken_or_asleep c.requires.fresh) c.in_err-put.ensures.refused
 
-pub returns-in_err-reload-clause-leaves : goal.returns-in_err-reload-clause-leaves
-returns-in_err-reload-clause-leaves g c =
+pub delete-requires : goal.delete-requires
+delete-requires g c =
     let k = c.args.checked.now.checker in
-    delete_left (g.J.RunJudge.accepts c.args.checked.now.judge)
-    (λ width age kept. g.K.Fn.post c.args.keep.now (width, (age, tt)) kept) k c.put.new.self.checker
-    c.args.self.now.numbers.learnt (g.S.StepSink.logs c.args.checked.now.sink)
-    (g.S.StepSink.logs c.put.new.self.sink) c.in_ok-numbers.numbers.items c.from_vec.result c.from_vec.ensures
-    (delete_step (g.J.RunJudge.accepts c.args.checked.now.judge)
-    (λ width age kept. g.K.Fn.post c.args.keep.now (width, (age, tt)) kept) c.args.assumptions.now
-    c.args.self.now.watch c.args.self.now.numbers k c.checker-checker.result.now c.args.self.now.numbers.learnt
-    c.learnt.result.now c.in_ok-numbers.numbers.items
-    c.requires.underway c.requires.learnt c.checker-checker.ensures c.learnt.ensures c.in_ok-numbers.ensures.numbers
-    c.in_ok-numbers.ensures.ascends
-    (some_items c.in_ok-numbers.numbers.items (vec_len c.in_ok-numbers.numbers) c.is_empty.result c.is_empty.ensures
-    c.if-is_empty.false (omega (arith, c.in_ok-numbers.numbers.ok.0)))
-    c.in_ok-numbers.ensures.may_go c.in_ok-numbers.ensures.discarded)
-    c.in_ok-put.ensures.taken c.in_ok-put.ensures.told
+    let u = c.requires.underway in
+    let go : list_all (may_go k) c.in_ok-numbers.numbers.items ≡ true =
+    subst (λ (x : State). list_all (may_go x) c.in_ok-numbers.numbers.items ≡ true) c.checker-checker.ensures
+    c.in_ok-numbers.ensures.may_go in
+    subst (λ (ns : List ℕ). MayDelete c.args.self.now.watch ns) (sym c.as_slice.ensures.value)
+    (may_delete c.args.self.now.watch k c.args.self.now.numbers.taken c.in_ok-numbers.numbers.items u.numbered u.live go
+    c.in_ok-numbers.ensures.no_reasons)
 
 pub returns-clause-underway : goal.returns-clause-underway
 returns-clause-underway g c =
-    let r = c.in_ok-reload.ensures in
     let d = c.put.new.self.checker in
-    underway_reload c.args.assumptions.now c.args.self.now.watch c.reload.new.self.watch c.args.self.now.numbers
-    c.reload.new.self.numbers c.args.checked.now.checker d c.in_ok-numbers.numbers.items
+    underway_deleted c.args.assumptions.now c.args.self.now.watch c.delete.new.self.watch c.args.self.now.numbers
+    c.delete.new.self.numbers c.args.checked.now.checker d c.in_ok-numbers.numbers.items
     (delete_taken c.args.checked.now.checker d c.in_ok-numbers.numbers.items c.from_vec.result c.from_vec.ensures
     c.in_ok-put.ensures.taken)
-    r.variables r.numbered
-    (subst (λ (x : State). AreLive c.reload.new.self.watch.clauses (clause_at x.clauses)) c.checker.ensures r.live)
-    r.level r.trail c.requires.underway
+    (subst (λ (ns : List ℕ). Deletes c.args.self.now.watch c.delete.new.self.watch ns) c.as_slice.ensures.value
+    c.delete.ensures.deletes)
+    (subst (λ (ns : List ℕ). Forgets ns c.args.self.now.numbers.taken c.delete.new.self.numbers.taken)
+    c.as_slice.ensures.value c.delete.ensures.forgets)
+    c.requires.underway
 
 pub returns-clause-puts : goal.returns-clause-puts
 returns-clause-puts g c =
     let k = c.args.checked.now.checker in
     delete_puts (g.J.RunJudge.accepts c.args.checked.now.judge)
     (λ width age kept. g.K.Fn.post c.args.keep.now (width, (age, tt)) kept) k c.put.new.self.checker
-    c.args.self.now.numbers.learnt c.reload.new.self.numbers.learnt (g.S.StepSink.logs c.args.checked.now.sink)
+    c.args.self.now.numbers.learnt c.delete.new.self.numbers.learnt (g.S.StepSink.logs c.args.checked.now.sink)
     (g.S.StepSink.logs c.put.new.self.sink) c.in_ok-numbers.numbers.items c.from_vec.result c.from_vec.ensures
     (delete_step (g.J.RunJudge.accepts c.args.checked.now.judge)
     (λ width age kept. g.K.Fn.post c.args.keep.now (width, (age, tt)) kept) c.args.assumptions.now
@@ -111,7 +108,7 @@ returns-clause-puts g c =
     (some_items c.in_ok-numbers.numbers.items (vec_len c.in_ok-numbers.numbers) c.is_empty.result c.is_empty.ensures
     c.if-is_empty.false (omega (arith, c.in_ok-numbers.numbers.ok.0)))
     c.in_ok-numbers.ensures.may_go c.in_ok-numbers.ensures.discarded)
-    c.in_ok-put.ensures.taken c.in_ok-reload.ensures.learnt c.in_ok-put.ensures.told
+    c.in_ok-put.ensures.taken c.delete.ensures.learnt c.in_ok-put.ensures.told
 
 pub returns-clause-leaves : goal.returns-clause-leaves
 returns-clause-leaves g c =

@@ -12,5 +12,5 @@ index_mut-requires c =
 pub invariant_of-self : goal.invariant_of-self
 invariant_of-self c = (
   c.self.invariant.0,
-  popped_seen _ _ _ _ _ _ _ _ c.self.invariant.1 _ c.self.view_is c.requires c.index.result.now c.variable.result c.index-2.result.now c.decisions.result c.index.ensures c.variable.ensures.variable c.index-2.ensures c.decisions.ensures,
+  rw c.none.ensures (popped_seen _ _ _ _ _ _ _ _ c.self.invariant.1 _ c.self.view_is c.requires c.index.result.now c.variable.result c.index-2.result.now c.decisions.result c.index.ensures c.variable.ensures.variable c.index-2.ensures c.decisions.ensures),
 )

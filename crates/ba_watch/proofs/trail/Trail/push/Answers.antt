@@ -24,10 +24,16 @@ index_mut-requires-3 c =
     let room = room_left _ _ _ _ _ _ _ _ c.self.invariant.1 _ c.self.view_is c.args.lit c.variable.result c.variable.ensures.variable c.variable.ensures.counted c.requires.within c.requires.free in
     omega (arith, room.1, c.self.inside.reasons.ok.0)
 
+pub overflow_cast-level : goal.overflow_cast-level
+overflow_cast-level c =
+    let room = room_left _ _ _ _ _ _ _ _ c.self.invariant.1 _ c.self.view_is c.args.lit c.variable.result c.variable.ensures.variable c.variable.ensures.counted c.requires.within c.requires.free in
+    let short = room_seen _ _ _ _ _ _ _ _ c.self.invariant.1 _ c.self.view_is c.args.lit c.variable.result c.variable.ensures.variable c.variable.ensures.counted c.requires.within c.requires.free in
+    omega (arith, room.3, short, c.self.invariant.0, c.decisions.ensures, small (is_some c.args.reason))
+
 pub invariant_of-self : goal.invariant_of-self
 invariant_of-self c = (
   c.self.invariant.0,
-  pushed_seen _ _ _ _ _ _ _ _ c.self.invariant.1 _ c.self.view_is c.args.lit c.variable.result c.variable.ensures.variable c.variable.ensures.counted c.args.reason c.decisions.result c.is_negated.result c.decisions.ensures c.is_negated.ensures c.requires.within c.requires.free,
+  rw c.some.ensures (pushed_seen _ _ _ _ _ _ _ _ c.self.invariant.1 _ c.self.view_is c.args.lit c.variable.result c.variable.ensures.variable c.variable.ensures.counted c.args.reason c.decisions.result c.is_negated.result c.decisions.ensures c.is_negated.ensures c.requires.within c.requires.free),
 )
 
 pub returns-clause-pushed : goal.returns-clause-pushed

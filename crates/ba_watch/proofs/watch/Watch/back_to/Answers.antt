@@ -4,8 +4,10 @@ use Rattle.ba_watch.proofs.Sounds.{Sound-back, back, back_same}
 use Rattle.ba_watch.proofs.watch.Watch.back_to.Goals as goal
 
 pub invariant_of-self : goal.invariant_of-self
-invariant_of-self c =
-    Sound-back _ _ _ c.self.inside.trail c.back_to.new.self _ _ c.args.level _ _ c.self.invariant (omega (arith, c.if-level.true, c.level.ensures.level)) c.back_to.ensures c.len-self-inside.ensures.trail c.len-self-inside.ensures.len
+invariant_of-self c = (
+  Sound-back _ _ _ c.self.inside.trail c.back_to.new.self _ _ c.args.level _ _ c.self.invariant.0 (omega (arith, c.if-level.true, c.level.ensures.level)) c.back_to.ensures c.len-self-inside.ensures.trail c.len-self-inside.ensures.len,
+  c.self.invariant.1,
+)
 
 pub returns-else-level : goal.returns-else-level
 returns-else-level c =

@@ -1,0 +1,37 @@
+-- The clauses of an arena without the gaps that dead ones leave.
+
+use Rattle.std.specs.Prelude.{◌≡◌, ℕ, ◌+◌, ◌<◌, ◌≤◌, Option, None, Some, List, [], ◌∷◌, ◌++◌, length, replicate}
+use Prim.Native.Nat.{suc, zero}
+use Rattle.ba_arena.specs.Clauses.{Stored, Clauses, clause_at, link_at, IsLive, linked}
+
+-- how many words a clause takes
+abbrev pub size_of : Option Stored → ℕ
+size_of None = 0
+size_of (Some s) = 4 + length s.lits
+
+-- the place to which a clause moves: the words of the live clauses before it
+abbrev pub moved : Clauses → ℕ → ℕ
+moved [] clause = 0
+moved (c ∷ cs) zero = 0
+moved (c ∷ cs) (suc clause) = size_of c + moved cs clause
+
+-- the live clauses, one after the other
+abbrev pub compacted : Clauses → Clauses
+compacted [] = []
+compacted (None ∷ cs) = compacted cs
+compacted (Some s ∷ cs) = Some s ∷ (replicate (3 + length s.lits) None ++ compacted cs)
+
+-- the first link of each live clause names the place to which it moves
+abbrev pub Plans : Clauses → Clauses → Type 0
+Plans old new = (clause : ℕ) → clause_at new clause ≡ linked 0 (Some (moved old clause)) (clause_at old clause)
+
+-- the first live clause from a place on
+abbrev pub IsFirstFrom : Clauses → ℕ → Option ℕ → Type 0
+IsFirstFrom clauses place None = (k : ℕ) → place ≤ k → clause_at clauses k ≡ None
+IsFirstFrom clauses place (Some clause) =
+    (place ≤ clause) × IsLive clauses clause × ((k : ℕ) → place ≤ k → k < clause → clause_at clauses k ≡ None)
+
+-- where a reference leads by the first link of its clause
+abbrev pub forwarded : Clauses → Option ℕ → Option ℕ
+forwarded clauses None = None
+forwarded clauses (Some clause) = link_at clauses clause 0

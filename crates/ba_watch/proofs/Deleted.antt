@@ -1,0 +1,267 @@
+-- What a deletion leaves of the clauses, and of what names them.
+
+use Rattle.std.proofs.Common.{◌≡◌, ℕ, suc, zero, ◌+◌, ◌<◌, ◌≤◌, Option, None, Some, IsSome, is_some, List, [], ◌∷◌, ◌++◌, length, get_or, take, drop, map, refl, sym, ap, subst, ◌∙◌, arith, ⊎_elim}
+use Rattle.std.specs.List.{Contains}
+use Rattle.std.specs.Option.{option_map}
+use Rattle.std.proofs.lemmas.List.{get_or_default, take_all, drop_all, append-nil}
+use Rattle.ba_lits.specs.Literals.{Literal}
+use Rattle.ba_arena.specs.Clauses.{Clauses, Stored, IsLive, clause_at, lits_at, lits_of, link_at, link_of, linked}
+use Rattle.ba_arena.specs.Compaction.{size_of, moved, compacted, forwarded, Plans}
+use Rattle.ba_arena.proofs.Moves.{moved-there, moved-from, moved-apart, moved-same}
+use Rattle.ba_watch.specs.Threads.{Clause, plain, plain_at, SamePlain}
+use Rattle.ba_watch.specs.Propagation.{clause_in}
+use Rattle.ba_watch.specs.Trails.{Assignments}
+use Rattle.ba_watch.specs.Deletion.{Source, KeepsOthers, DeletesAll, IsKept, number_of, numbered, AreReferenced, IsNamed, IsWithout, followed, link_or}
+use Rattle.ba_watch.proofs.Sounds.{clause_in-map}
+
+none_some : {X : Type 0} (o : Option X) (x : X) → o ≡ None → o ≡ Some x → ⊥
+none_some o x e f = cc (sym e ∙ f)
+
+-- a number of the list, read in two ways
+named_from : (numbers : List ℕ) (n : ℕ) → Contains numbers n → IsNamed numbers (length numbers) n
+named_from numbers n has = (has.0, has.1, get_or_default numbers has.0 0 n has.1 ∙ has.2)
+
+contains_from : (numbers : List ℕ) (n : ℕ) → IsNamed numbers (length numbers) n → Contains numbers n
+contains_from numbers n named = (named.0, named.1, sym (get_or_default numbers named.0 0 n named.1) ∙ named.2)
+
+-- a clause and its number, without links
+stored_of : (o : Option Stored) (c : Clause) → plain o ≡ Some c → (s : Stored) × (o ≡ Some s)
+stored_of None c e = absurd (cc e)
+stored_of (Some s) c e = (s, refl)
+
+number_plain : (o : Option Stored) (c : Clause) → plain o ≡ Some c → number_of o ≡ Some c.number
+number_plain None c e = absurd (cc e)
+number_plain (Some s) c e =
+    let is : ◌≡◌ {A = Clause} (record { lits = s.lits; number = s.number }) c = cc e in
+    ap (λ (d : Clause). Some d.number) is
+
+plain_linked : (n : ℕ) (o : Option Stored) → plain (linked 0 (Some n) o) ≡ plain o
+plain_linked n None = refl
+plain_linked n (Some s) = refl
+
+number_linked : (n : ℕ) (o : Option Stored) → number_of (linked 0 (Some n) o) ≡ number_of o
+number_linked n None = refl
+number_linked n (Some s) = refl
+
+size_linked : (n : ℕ) (o : Option Stored) → size_of (linked 0 (Some n) o) ≡ size_of o
+size_linked n None = refl
+size_linked n (Some s) = refl
+
+link_linked : (n : ℕ) (o : Option Stored) → IsSome o → link_of 0 (linked 0 (Some n) o) ≡ Some n
+link_linked n None live = absurd (cc live)
+link_linked n (Some s) live = refl
+
+live_linked : (n : ℕ) (o : Option Stored) → IsSome o → IsSome (linked 0 (Some n) o)
+live_linked n None live = absurd (cc live)
+live_linked n (Some s) live = refl
+
+pub numbered_live : (a : Clauses) (r n : ℕ) → numbered a r ≡ Some n → IsLive a r
+numbered_live a r n e = of (clause_at a r) e
+  where
+    of : (o : Option Stored) → number_of o ≡ Some n → IsSome o
+    of None e = absurd (cc e)
+    of (Some s) e = refl
+
+lits_linked : (n : ℕ) (o : Option Stored) → lits_of (linked 0 (Some n) o) ≡ lits_of o
+lits_linked n None = refl
+lits_linked n (Some s) = refl
+
+-- clauses are marked and planned
+module _ (a0 a1 a2 : Clauses) (numbers : List ℕ) (without : IsWithout (IsNamed numbers (length numbers)) a0 a1) (plans : Plans a1 a2) where
+  pub kept_live : (r : ℕ) → IsKept a0 numbers r → IsLive a1 r
+  kept_live r kept =
+      let s = kept.0 in
+      let stays = without.stays r s.number (ap number_of kept.1) (λ named. kept.2 (contains_from numbers s.number named)) in
+      ap is_some (stays ∙ kept.1)
+
+  pub planned_live : (r : ℕ) → IsLive a1 r → IsLive a2 r
+  planned_live r live =
+      subst (λ (o : Option Stored). IsSome o) (sym (plans r)) (live_linked (moved a1 r) (clause_at a1 r) live)
+
+  pub planned_link : (r : ℕ) → IsLive a1 r → link_at a2 r 0 ≡ Some (moved a1 r)
+  planned_link r live = ap (link_of 0) (plans r) ∙ link_linked (moved a1 r) (clause_at a1 r) live
+
+  was_live : (r : ℕ) → IsLive a2 r → IsLive a1 r
+  was_live r live = of (clause_at a1 r) (subst (λ (o : Option Stored). IsSome o) (plans r) live)
+    where
+      of : (o : Option Stored) → IsSome (linked 0 (Some (moved a1 r)) o) → IsSome o
+      of None live = absurd (cc live)
+      of (Some s) live = refl
+
+  pub planned_some : (r : ℕ) → IsLive a2 r → IsSome (link_at a2 r 0)
+  planned_some r live = ap is_some (planned_link r (was_live r live))
+
+  pub planned_forward : (r : ℕ) → IsLive a1 r → forwarded a2 (Some r) ≡ option_map (moved a1) (Some r)
+  planned_forward r live = planned_link r live
+
+  pub planned_follow : (r : ℕ) → IsLive a1 r → followed a2 r ≡ moved a1 r
+  planned_follow r live = ap (link_or r) (planned_link r live)
+
+  -- what holds of the literals of each clause still does
+  pub compact_lits : (a3 : Clauses) → a3 ≡ compacted a2 → (P : List Literal → Type 0) → P []
+      → ((r : ℕ) → P (lits_at a0 r)) → (q : ℕ) → P (lits_at a3 q)
+  compact_lits a3 compact P none all q = at (clause_at a3 q) refl
+    where
+      at : (o : Option Stored) → clause_at a3 q ≡ o → P (lits_at a3 q)
+      at None is = subst P (sym (ap lits_of is)) none
+      at (Some s) is =
+          let source = moved-from a2 q s (ap (λ (cs : Clauses). clause_at cs q) (sym compact) ∙ is) in
+          let r = source.from in
+          let planned : linked 0 (Some (moved a1 r)) (clause_at a1 r) ≡ Some s = sym (plans r) ∙ source.is in
+          let was : lits_at a1 r ≡ s.lits = sym (lits_linked (moved a1 r) (clause_at a1 r)) ∙ ap lits_of planned in
+          let live : IsLive a1 r = was_live r (ap is_some source.is) in
+          let first : lits_at a0 r ≡ lits_at a1 r = ⊎_elim
+          (λ gone. absurd (cc (sym live ∙ ap is_some gone)))
+          (λ same. sym (ap lits_of same))
+          (without.either r) in
+          subst P (first ∙ (was ∙ sym (ap lits_of is))) (all r)
+
+  module _ (a3 a4 : Clauses) (compact : a3 ≡ compacted a2) (same : SamePlain a3 a4) where
+    to : (r : ℕ) → moved a2 r ≡ moved a1 r
+    to r = moved-same a1 a2 (λ k. ap size_of (plans k) ∙ size_linked (moved a1 k) (clause_at a1 k)) r
+
+    plain_there : (r : ℕ) (c : Clause) → plain_at a1 r ≡ Some c → plain_at a4 (moved a1 r) ≡ Some c
+    plain_there r c is =
+        let planned : plain_at a2 r ≡ Some c = ap plain (plans r) ∙ (plain_linked (moved a1 r) (clause_at a1 r) ∙ is) in
+        let stored = stored_of (clause_at a2 r) c planned in
+        let at : clause_at a3 (moved a1 r) ≡ Some stored.0 =
+        ap (λ (cs : Clauses). clause_at cs (moved a1 r)) compact
+        ∙ (ap (clause_at (compacted a2)) (sym (to r)) ∙ moved-there a2 r stored.0 stored.1) in
+        same (moved a1 r) ∙ (ap plain at ∙ (sym (ap plain stored.1) ∙ planned))
+
+    -- where a clause that is there has come from
+    record Came (q : ℕ) (c : Clause) : Type 0 where
+      pub from : ℕ
+      pub is : plain_at a1 from ≡ Some c
+      pub at : moved a1 from ≡ q
+
+    came : (q : ℕ) (c : Clause) → plain_at a4 q ≡ Some c → Came q c
+    came q c is =
+        let before : plain_at a3 q ≡ Some c = sym (same q) ∙ is in
+        let stored = stored_of (clause_at a3 q) c before in
+        let source = moved-from a2 q stored.0 (ap (λ (cs : Clauses). clause_at cs q) (sym compact) ∙ stored.1) in
+        let r = source.from in
+        record {
+          from = r;
+          is = sym (plain_linked (moved a1 r) (clause_at a1 r)) ∙ (sym (ap plain (plans r))
+              ∙ (ap plain source.is ∙ (sym (ap plain stored.1) ∙ before)));
+          at = sym (to r) ∙ source.to;
+        }
+
+    stays_plain : (r : ℕ) (c : Clause) → clause_in (map plain a0) r ≡ Some c → (Contains numbers c.number → ⊥) → plain_at a1 r ≡ Some c
+    stays_plain r c is stays =
+        let was : plain_at a0 r ≡ Some c = sym (clause_in-map a0 r) ∙ is in
+        ap plain (without.stays r c.number (number_plain (clause_at a0 r) c was)
+        (λ named. stays (contains_from numbers c.number named))) ∙ was
+
+    pub keeps_others : KeepsOthers numbers (moved a1) (map plain a0) (map plain a4)
+    keeps_others = record {
+      there = λ r c is stays. clause_in-map a4 (moved a1 r) ∙ plain_there r c (stays_plain r c is stays);
+      only = λ q c is.
+          let source = came q c (sym (clause_in-map a4 q) ∙ is) in
+          let r = source.from in
+          let was : plain_at a0 r ≡ Some c = ⊎_elim
+          (λ none. absurd (none_some _ c (ap plain none) source.is))
+          (λ still. sym (ap plain still) ∙ source.is)
+          (without.either r) in
+          record {
+            from = r;
+            there = clause_in-map a0 r ∙ was;
+            stays = λ has. none_some _ c (ap plain (without.gone r c.number (number_plain (clause_at a0 r) c was)
+                (named_from numbers c.number has))) source.is;
+            to = source.at;
+          };
+      apart = λ x y c d x_is x_stays y_is y_stays e. moved-apart a1 x y
+          (live_plain (clause_at a1 x) c (stays_plain x c x_is x_stays))
+          (live_plain (clause_at a1 y) d (stays_plain y d y_is y_stays)) e;
+    }
+      where
+        live_plain : (o : Option Stored) (c : Clause) → plain o ≡ Some c → IsSome o
+        live_plain None c e = absurd (cc e)
+        live_plain (Some s) c e = refl
+
+    -- numbers
+    plain_of_number : (o : Option Stored) (n : ℕ) → number_of o ≡ Some n → (c : Clause) × (plain o ≡ Some c)
+    plain_of_number None n e = absurd (cc e)
+    plain_of_number (Some s) n e = (record { lits = s.lits; number = s.number }, refl)
+
+    number_there : (r n : ℕ) → numbered a1 r ≡ Some n → numbered a4 (moved a1 r) ≡ Some n
+    number_there r n is =
+        let c = plain_of_number (clause_at a1 r) n is in
+        number_plain (clause_at a4 (moved a1 r)) c.0 (plain_there r c.0 c.1)
+        ∙ (sym (number_plain (clause_at a1 r) c.0 c.1) ∙ is)
+
+    pub references_moved : (refs : List (Option ℕ)) → AreReferenced a1 refs → AreReferenced a4 (map (forwarded a2) refs)
+    references_moved refs r = record {
+      sound = λ n q at. sound_at n q (get_or refs n None) refl (sym (get_or-forward refs n) ∙ at);
+      each = λ n q at.
+          let c = plain_of_number (clause_at a4 q) n at in
+          let source = came q c.0 c.1 in
+          let was : numbered a1 source.from ≡ Some n =
+          number_plain (clause_at a1 source.from) c.0 source.is ∙ (sym (number_plain (clause_at a4 q) c.0 c.1) ∙ at) in
+          each_at n (get_or refs n None) refl (r.each n source.from was);
+    }
+      where
+        get_or-forward : (xs : List (Option ℕ)) (n : ℕ) → get_or (map (forwarded a2) xs) n None ≡ forwarded a2 (get_or xs n None)
+        get_or-forward [] n = refl
+        get_or-forward (x ∷ xs) zero = refl
+        get_or-forward (x ∷ xs) (suc n) = get_or-forward xs n
+
+        live_number : (o : Option Stored) (n : ℕ) → number_of o ≡ Some n → IsSome o
+        live_number None n e = absurd (cc e)
+        live_number (Some s) n e = refl
+
+        sound_at : (n q : ℕ) (o : Option ℕ) → get_or refs n None ≡ o → forwarded a2 o ≡ Some q → numbered a4 q ≡ Some n
+        sound_at n q None is at = absurd (cc at)
+        sound_at n q (Some k) is at =
+            let named : numbered a1 k ≡ Some n = r.sound n k is in
+            let there : Some (moved a1 k) ≡ Some q = sym (planned_link k (live_number (clause_at a1 k) n named)) ∙ at in
+            let q_is : moved a1 k ≡ q = cc there in
+            ap (numbered a4) (sym q_is) ∙ number_there k n named
+
+        each_at : (n : ℕ) (o : Option ℕ) → get_or refs n None ≡ o → IsSome (get_or refs n None) → IsSome (get_or (map (forwarded a2) refs) n None)
+        each_at n None is some = absurd (cc (sym (ap is_some is) ∙ some))
+        each_at n (Some k) is some =
+            let named : numbered a1 k ≡ Some n = r.sound n k is in
+            ap is_some (get_or-forward refs n ∙ (ap (forwarded a2) is ∙ planned_link k (live_number (clause_at a1 k) n named)))
+
+abbrev with_reasons : Assignments → List (Option ℕ) → Assignments
+with_reasons t rs = record t { reasons = rs }
+
+-- lists on whose members two functions agree
+map_agree : {X Y : Type 0} (f g : X → Y) (xs : List X) (d : X) → ((k : ℕ) → k < length xs → f (get_or xs k d) ≡ g (get_or xs k d))
+    → map f xs ≡ map g xs
+map_agree f g [] d same = refl
+map_agree f g (x ∷ xs) d same =
+    both _ _ _ _ (same 0 (omega arith)) (map_agree f g xs d (λ k h. same (suc k) (omega (arith, h))))
+  where
+    both : {Z : Type 0} (x y : Z) (xs ys : List Z) → x ≡ y → xs ≡ ys → x ∷ xs ≡ y ∷ ys
+    both x y xs ys e f = rw (e, f) refl
+
+all_mapped : {X : Type 0} (f : X → X) (xs : List X) (n : ℕ) → length xs ≤ n → map f (take n xs) ++ drop n xs ≡ map f xs
+all_mapped f xs n h =
+    ap (λ (ys : List _). map f (take n xs) ++ ys) (drop_all n xs h)
+    ∙ (append-nil (map f (take n xs)) ∙ ap (map f) (take_all n xs h))
+
+pub deletes_all : (a0 a1 a2 a3 a4 : Clauses) (t u : Assignments) (w w' numbers : List ℕ) (refs refs' : List (Option ℕ)) (n : ℕ)
+    → IsWithout (IsNamed numbers (length numbers)) a0 a1 → AreReferenced a1 refs → Plans a1 a2 → a3 ≡ compacted a2 → SamePlain a3 a4
+    → ((p r : ℕ) → get_or t.reasons p None ≡ Some r → IsKept a0 numbers r)
+    → ((k : ℕ) → k < length w → IsKept a0 numbers (get_or w k 0))
+    → u ≡ record t { reasons = map (forwarded a2) t.reasons } → w' ≡ map (followed a2) w
+    → length refs ≤ n → refs' ≡ map (forwarded a2) (take n refs) ++ drop n refs
+    → DeletesAll a0 a4 t u w w' refs' numbers
+deletes_all a0 a1 a2 a3 a4 t u w w' numbers refs refs' n without r plans compact same reasons waiting u_is w'_is n_is refs'_is = record {
+  moved = moved a1;
+  clauses = keeps_others a0 a1 a2 numbers without plans a3 a4 compact same;
+  trail = u_is ∙ ap (with_reasons t)
+      (map_agree (forwarded a2) (option_map (moved a1)) t.reasons None
+      (λ k h. forward (get_or t.reasons k None) (λ q is. kept_live a0 a1 a2 numbers without plans q (reasons k q is))));
+  waiting_moved = w'_is ∙ map_agree (followed a2) (moved a1) w 0
+      (λ k h. planned_follow a0 a1 a2 numbers without plans (get_or w k 0) (kept_live a0 a1 a2 numbers without plans (get_or w k 0) (waiting k h)));
+  referenced = subst (λ (rs : List (Option ℕ)). AreReferenced a4 rs) (sym (refs'_is ∙ all_mapped (forwarded a2) refs n n_is))
+      (references_moved a0 a1 a2 numbers without plans a3 a4 compact same refs r);
+}
+  where
+    forward : (o : Option ℕ) → ((q : ℕ) → o ≡ Some q → IsLive a1 q) → forwarded a2 o ≡ option_map (moved a1) o
+    forward None live = refl
+    forward (Some q) live = planned_forward a0 a1 a2 numbers without plans q (live q refl)

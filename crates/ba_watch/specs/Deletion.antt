@@ -1,0 +1,95 @@
+-- Clauses that are deleted, and where the others are then.
+
+use Rattle.std.specs.Prelude.{◌≡◌, ℕ, ◌<◌, ◌≤◌, ◌⊎◌, Option, None, Some, IsSome, List, length, get_or, map}
+use Rattle.std.specs.List.{Contains}
+use Rattle.std.specs.Option.{option_map}
+use Rattle.ba_lits.specs.Literals.{Literal, lit_at}
+use Rattle.ba_arena.specs.Clauses.{Clauses, Stored, clause_at, link_at}
+use Rattle.ba_watch.specs.Threads.{Clause, plain, index_at}
+use Rattle.ba_watch.specs.Trails.{Assignments}
+use Rattle.ba_watch.specs.Propagation.{State, clause_in}
+
+-- a clause that is kept, with the reference that it had
+pub record Source (numbers : List ℕ) (moved : ℕ → ℕ) (old : List (Option Clause)) (reference : ℕ) (c : Clause) : Type 0 where
+  pub from : ℕ
+  pub there : clause_in old from ≡ Some c
+  pub stays : Contains numbers c.number → ⊥
+  pub to : moved from ≡ reference
+
+-- the clauses of some numbers are gone, every other one has moved, and there are no more
+pub record KeepsOthers (numbers : List ℕ) (moved : ℕ → ℕ) (old new : List (Option Clause)) : Type 0 where
+  pub there : (reference : ℕ) (c : Clause) → clause_in old reference ≡ Some c → (Contains numbers c.number → ⊥) →
+      clause_in new (moved reference) ≡ Some c
+  pub only : (reference : ℕ) (c : Clause) → clause_in new reference ≡ Some c → Source numbers moved old reference c
+  pub apart : (a b : ℕ) (c d : Clause) → clause_in old a ≡ Some c → (Contains numbers c.number → ⊥) →
+      clause_in old b ≡ Some d → (Contains numbers d.number → ⊥) → moved a ≡ moved b → a ≡ b
+
+-- numbers that may be deleted: no two clauses have the same number, and none of them is that of a reason or of a clause of
+-- less than two literals
+pub record MayDelete (s : State) (numbers : List ℕ) : Type 0 where
+  pub alone : (a b : ℕ) (c d : Clause) → clause_in s.clauses a ≡ Some c → clause_in s.clauses b ≡ Some d →
+      c.number ≡ d.number → a ≡ b
+  pub no_reason : (p reference : ℕ) (c : Clause) → get_or s.reasons p None ≡ Some reference →
+      clause_in s.clauses reference ≡ Some c → Contains numbers c.number → ⊥
+  pub long : (reference : ℕ) (c : Clause) → clause_in s.clauses reference ≡ Some c → Contains numbers c.number →
+      2 ≤ length c.lits
+
+-- the clauses of some numbers were deleted; reasons name the same clauses as before, and the rest stays
+pub record Deletes (old new : State) (numbers : List ℕ) : Type 0 where
+  pub moved : ℕ → ℕ
+  pub clauses : KeepsOthers numbers moved old.clauses new.clauses
+  pub reasons : new.reasons ≡ map (option_map moved) old.reasons
+  pub variables : new.variables ≡ old.variables
+  pub trail : new.trail ≡ old.trail
+  pub settled : new.settled ≡ old.settled
+
+-- the number of a clause
+abbrev pub number_of : Option Stored → Option ℕ
+number_of None = None
+number_of (Some s) = Some s.number
+
+abbrev pub numbered : Clauses → ℕ → Option ℕ
+numbered clauses clause = number_of (clause_at clauses clause)
+
+-- for each number that a clause has, a clause that has it
+pub record AreReferenced (clauses : Clauses) (references : List (Option ℕ)) : Type 0 where
+  pub sound : (number clause : ℕ) → get_or references number None ≡ Some clause → numbered clauses clause ≡ Some number
+  pub each : (number clause : ℕ) → numbered clauses clause ≡ Some number → IsSome (get_or references number None)
+
+-- no two clauses have the same number
+abbrev pub AreAlone : Clauses → Type 0
+AreAlone clauses = (a b number : ℕ) → numbered clauses a ≡ Some number → numbered clauses b ≡ Some number → a ≡ b
+
+-- one of so many numbers
+abbrev pub IsNamed : List ℕ → ℕ → ℕ → Type 0
+IsNamed numbers count number = (k : ℕ) × (k < count) × (get_or numbers k 0 ≡ number)
+
+-- the clauses whose numbers are named are gone, and the others stay
+pub record IsWithout (named : ℕ → Type 0) (old new : Clauses) : Type 0 where
+  pub either : (r : ℕ) → (clause_at new r ≡ None) ⊎ (clause_at new r ≡ clause_at old r)
+  pub gone : (r number : ℕ) → numbered old r ≡ Some number → named number → clause_at new r ≡ None
+  pub stays : (r number : ℕ) → numbered old r ≡ Some number → (named number → ⊥) → clause_at new r ≡ clause_at old r
+
+-- the same of all that names clauses
+pub record DeletesAll (old new : Clauses) (t u : Assignments) (waiting left : List ℕ) (references : List (Option ℕ)) (numbers : List ℕ) : Type 0 where
+  pub moved : ℕ → ℕ
+  pub clauses : KeepsOthers numbers moved (map plain old) (map plain new)
+  pub trail : u ≡ record t { reasons = map (option_map moved) t.reasons }
+  pub waiting_moved : left ≡ map moved waiting
+  pub referenced : AreReferenced new references
+
+-- where a reference leads by the first link of its clause, if it has one
+abbrev pub link_or : ℕ → Option ℕ → ℕ
+link_or clause None = clause
+link_or clause (Some next) = next
+
+abbrev pub followed : Clauses → ℕ → ℕ
+followed clauses clause = link_or clause (link_at clauses clause 0)
+
+-- there are lists for the literals of a clause
+abbrev pub MayLink : List Literal → ℕ → Type 0
+MayLink lits heads = (k : ℕ) → k < length lits → 1 ≤ (lit_at lits k).variable → index_at lits k < heads
+
+-- a live clause that none of the numbers names
+abbrev pub IsKept : Clauses → List ℕ → ℕ → Type 0
+IsKept clauses numbers clause = (s : Stored) × (clause_at clauses clause ≡ Some s) × (Contains numbers s.number → ⊥)
