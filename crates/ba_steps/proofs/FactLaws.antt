@@ -47,12 +47,14 @@ pub record KeepsFacts (good : Judge) (formula : Cnf) (softs : List Soft) (splits
   pub wide : formula.variables ≤ s.variables
   pub splits_below : ClausesBelow (s.variables + 1) splits
   pub live_below : ClausesBelow (s.variables + 1) (all_lits s.clauses)
-  pub given_stay : (place : ℕ) → place < length formula.clauses → kept_at s.clauses (place + 1) ≡ Some (kept origins.Given (get_or formula.clauses place []))
+  pub given_stay : (place : ℕ) → place < length formula.clauses →
+      kept_at s.clauses (place + 1) ≡ Some (kept origins.Given (get_or formula.clauses place []))
   pub splits_stay : All (Stays origins.Split s.clauses) splits
   pub sets_stay : All (Stays origins.Blocked s.clauses) (block_clauses softs s.sets)
 
 -- an allowed test is false, and the rest is allowed
-pub no_error : (test : Bool) (e : StepError) (rest : Option StepError) → error_if test e rest ≡ None → (test ≡ false) × (rest ≡ None)
+pub no_error : (test : Bool) (e : StepError) (rest : Option StepError) → error_if test e rest ≡ None →
+    (test ≡ false) × (rest ≡ None)
 no_error true e rest none = absurd (cc)
 no_error false e rest none = (refl, none)
 
@@ -74,7 +76,8 @@ holds_number v clauses (suc k) c holds is = holds_at v clauses k c holds is
 pub follows_true : (s : State) (v : Assignment) (lits : List Literal) (hints : List ℕ) →
     hint_error s lits hints ≡ None → all_true v (all_lits s.clauses) ≡ true → any_true v lits ≡ true
 follows_true s v lits hints none holds =
-    FollowsByHints-holds (clause_at s.clauses) v (λ n c is. holds_number v s.clauses n c holds is) lits hints (refutes (replay (clause_at s.clauses) lits hints) none)
+    FollowsByHints-holds (clause_at s.clauses) v (λ n c is. holds_number v s.clauses n c holds is) lits
+    hints (refutes (replay (clause_at s.clauses) lits hints) none)
   where
     refutes : (r : Replay) → error_of_replay r ≡ None → r ≡ Refutes
     refutes Refutes e = refl
@@ -83,7 +86,8 @@ follows_true s v lits hints none holds =
     refutes NamesIdle e = absurd (cc)
 
 -- variables that exist are below the next
-exist_below : (s : State) (lits : List Literal) → lacks_variable s lits ≡ false → ClauseBelow (s.variables + 1) lits
+exist_below : (s : State) (lits : List Literal) → lacks_variable s lits ≡ false →
+    ClauseBelow (s.variables + 1) lits
 exist_below s [] known = tt
 exist_below s (l ∷ ls) known =
     let parts = or_parts (ltb s.variables l.variable) (lacks_variable s ls) known in
@@ -93,12 +97,14 @@ exist_below s (l ∷ ls) known =
     below n x e = grind (arith, nat_tests)
 
 -- an entry stays where others are added
-slice_get-more : (xs ys : List Kept) (k : ℕ) (x : Kept) → slice_get xs k ≡ Some x → slice_get (xs ++ ys) k ≡ Some x
+slice_get-more : (xs ys : List Kept) (k : ℕ) (x : Kept) → slice_get xs k ≡ Some x →
+    slice_get (xs ++ ys) k ≡ Some x
 slice_get-more [] ys k x is = absurd (cc)
 slice_get-more (y ∷ xs) ys zero x is = is
 slice_get-more (y ∷ xs) ys (suc k) x is = slice_get-more xs ys k x is
 
-kept_at-more : (xs ys : List Kept) (number : ℕ) (x : Kept) → kept_at xs number ≡ Some x → kept_at (xs ++ ys) number ≡ Some x
+kept_at-more : (xs ys : List Kept) (number : ℕ) (x : Kept) → kept_at xs number ≡ Some x →
+    kept_at (xs ++ ys) number ≡ Some x
 kept_at-more xs ys zero x is = absurd (cc)
 kept_at-more xs ys (suc k) x is = slice_get-more xs ys k x is
 
@@ -115,7 +121,8 @@ stays_live origin clauses cs lives h = All-weaker (Stays origin clauses) (IsLive
     (λ c (number, is). (number, ap live_lits is ∙ ap (λ b. cond b (Some c) None) lives)) cs h
 
 -- added clauses have entries
-slice_get-seam : (front : List Kept) (x : Kept) (ys : List Kept) → slice_get (front ++ x ∷ ys) (length front) ≡ Some x
+slice_get-seam : (front : List Kept) (x : Kept) (ys : List Kept) →
+    slice_get (front ++ x ∷ ys) (length front) ≡ Some x
 slice_get-seam [] x ys = refl
 slice_get-seam (f ∷ front) x ys = slice_get-seam front x ys
 
@@ -137,7 +144,8 @@ pub all_lits-kept : (origin : Origin) (cs : List (List Literal)) → all_lits (m
 all_lits-kept origin [] = refl
 all_lits-kept origin (c ∷ cs) = ap (λ ds. c ∷ ds) (all_lits-kept origin cs)
 
-pub all_true-push : (v : Assignment) (cs : List (List Literal)) (c : List Literal) → all_true v cs ≡ true → any_true v c ≡ true → all_true v (cs ++ c ∷ []) ≡ true
+pub all_true-push : (v : Assignment) (cs : List (List Literal)) (c : List Literal) → all_true v cs ≡ true →
+    any_true v c ≡ true → all_true v (cs ++ c ∷ []) ≡ true
 all_true-push v cs c all one = all_true-append v cs (c ∷ [])
     ∙ and_from (all_true v cs) (any_true v c && true) all (and_from (any_true v c) true one refl)
 
@@ -179,8 +187,11 @@ learn_keeps good formula softs splits s lits hints h exists follows = record {
   sets_stay = sets_stay;
 }
   where
-    given_stay : (place : ℕ) → place < length formula.clauses → kept_at (s.clauses ++ kept origins.Learnt lits ∷ []) (place + 1) ≡ Some (kept origins.Given (get_or formula.clauses place []))
-    given_stay place lt = kept_at-more s.clauses (kept origins.Learnt lits ∷ []) (place + 1) (kept origins.Given (get_or formula.clauses place [])) (h.given_stay place lt)
+    given_stay : (place : ℕ) → place < length formula.clauses →
+        kept_at (s.clauses ++ kept origins.Learnt lits ∷ []) (place + 1)
+        ≡ Some (kept origins.Given (get_or formula.clauses place []))
+    given_stay place lt = kept_at-more s.clauses (kept origins.Learnt lits ∷ []) (place + 1)
+        (kept origins.Given (get_or formula.clauses place [])) (h.given_stay place lt)
 
     splits_stay : All (Stays origins.Split (s.clauses ++ kept origins.Learnt lits ∷ [])) splits
     splits_stay = all_stay-more origins.Split s.clauses (kept origins.Learnt lits ∷ []) splits h.splits_stay
@@ -233,26 +244,32 @@ all_lits-without_all clauses [] = refl
 all_lits-without_all clauses (number ∷ numbers) = all_lits-without_all (without clauses number) numbers
     ∙ all_lits-without clauses number
 
-slice_get-other : (clauses : List Kept) (j k : ℕ) (x : Kept) → j ≢ k → slice_get (set clauses j x) k ≡ slice_get clauses k
+slice_get-other : (clauses : List Kept) (j k : ℕ) (x : Kept) → j ≢ k →
+    slice_get (set clauses j x) k ≡ slice_get clauses k
 slice_get-other [] j k x ne = refl
 slice_get-other (y ∷ ys) zero zero x ne = absurd (ne refl)
 slice_get-other (y ∷ ys) zero (suc k) x ne = refl
 slice_get-other (y ∷ ys) (suc j) zero x ne = refl
 slice_get-other (y ∷ ys) (suc j) (suc k) x ne = slice_get-other ys j k x (λ e. ne (ap suc e))
 
-kept_at-other : (clauses : List Kept) (m number : ℕ) → m ≢ number → kept_at (without clauses m) number ≡ kept_at clauses number
+kept_at-other : (clauses : List Kept) (m number : ℕ) → m ≢ number →
+    kept_at (without clauses m) number ≡ kept_at clauses number
 kept_at-other clauses zero number ne = refl
 kept_at-other clauses (suc j) zero ne = refl
-kept_at-other clauses (suc j) (suc k) ne = slice_get-other clauses j k (kept origins.Deleted (lits_at clauses j)) (λ e. ne (ap suc e))
+kept_at-other clauses (suc j) (suc k) ne = slice_get-other clauses j k
+    (kept origins.Deleted (lits_at clauses j)) (λ e. ne (ap suc e))
 
-kept_at-without_all : (s : State) (clauses : List Kept) (numbers : List ℕ) (number : ℕ) (k : Kept) → list_all (may_go s) numbers ≡ true → kept_at s.clauses number ≡ Some k → is_learnt_origin k.origin ≡ false →
+kept_at-without_all : (s : State) (clauses : List Kept) (numbers : List ℕ) (number : ℕ) (k : Kept) →
+    list_all (may_go s) numbers ≡ true → kept_at s.clauses number ≡ Some k →
+    is_learnt_origin k.origin ≡ false →
     kept_at (without_all clauses numbers) number ≡ kept_at clauses number
 kept_at-without_all s clauses [] number k go is stays = refl
 kept_at-without_all s clauses (m ∷ ms) number k go is stays =
     let parts = and_parts (may_go s m) (list_all (may_go s) ms) go in
     let learnt = and_parts (is_learnt_at s.clauses m) (ltb 2 (width_at s.clauses m)) parts.0 in
     kept_at-without_all s (without clauses m) ms number k parts.1 is stays
-    ∙ kept_at-other clauses m number (λ e. let other : is_learnt_at s.clauses m ≡ false = ap (is_learnt_at s.clauses) e ∙ (ap is_learnt_entry is ∙ stays) in cc)
+    ∙ kept_at-other clauses m number (λ e. let other : is_learnt_at s.clauses m ≡ false =
+    ap (is_learnt_at s.clauses) e ∙ (ap is_learnt_entry is ∙ stays) in cc)
 
 pub delete_keeps : (good : Judge) (formula : Cnf) (softs : List Soft) (splits : List (List Literal)) (s :
     State) (numbers : List ℕ) →
@@ -283,10 +300,13 @@ delete_keeps good formula softs splits s numbers h go = record {
   sets_stay = sets_stay;
 }
   where
-    given_stay : (place : ℕ) → place < length formula.clauses → kept_at (without_all s.clauses numbers) (place + 1) ≡ Some (kept origins.Given (get_or formula.clauses place []))
+    given_stay : (place : ℕ) → place < length formula.clauses →
+        kept_at (without_all s.clauses numbers) (place + 1)
+        ≡ Some (kept origins.Given (get_or formula.clauses place []))
     given_stay place lt =
         let is = h.given_stay place lt in
-        kept_at-without_all s s.clauses numbers (place + 1) (kept origins.Given (get_or formula.clauses place [])) go is refl ∙ is
+        kept_at-without_all s s.clauses numbers (place + 1)
+        (kept origins.Given (get_or formula.clauses place [])) go is refl ∙ is
 
     splits_stay : All (Stays origins.Split (without_all s.clauses numbers)) splits
     splits_stay = All-weaker (Stays origins.Split s.clauses) (Stays origins.Split (without_all s.clauses
@@ -316,33 +336,46 @@ in_order-below n a b p q = cases (ltb a.variable b.variable)
     cases true = (p, (q, tt))
     cases false = (q, (p, tt))
 
-some_of-below : (n d : ℕ) (b : Literal) (rest : List Literal) → ClauseBelow n (b ∷ rest) → (0 < length rest → d < n) → (some_of d (b ∷ rest)).variable < n
+some_of-below : (n d : ℕ) (b : Literal) (rest : List Literal) → ClauseBelow n (b ∷ rest) →
+    (0 < length rest → d < n) → (some_of d (b ∷ rest)).variable < n
 some_of-below n d b [] below fresh = below.0
 some_of-below n d b (c ∷ rest) below fresh = fresh (omega arith)
 
-or_clauses-below : (n d : ℕ) (lits : List Literal) → ClauseBelow n lits → d + (length lits - 1) ≤ n → ClausesBelow n (or_clauses d lits)
+or_clauses-below : (n d : ℕ) (lits : List Literal) → ClauseBelow n lits → d + (length lits - 1) ≤ n →
+    ClausesBelow n (or_clauses d lits)
 or_clauses-below n d [] below le = tt
 or_clauses-below n d (b ∷ []) below le = tt
 or_clauses-below n d (b ∷ c ∷ rest) below le =
-    let later : (some_of (d + 1) (c ∷ rest)).variable < n = some_of-below n (d + 1) c rest below.1 (λ some. omega arith) in
+    let later : (some_of (d + 1) (c ∷ rest)).variable < n =
+    some_of-below n (d + 1) c rest below.1 (λ some. omega arith) in
     let fresh : d < n = omega arith in
     ClausesBelow-append n (or_gate d b (some_of (d + 1) (c ∷ rest))) (or_clauses (d + 1) (c ∷ rest)) (
       (below.0, in_order-below n (negative d) (some_of (d + 1) (c ∷ rest)) fresh later),
-      ((below.0, (fresh, tt)), (in_order-below n (positive d) (negate (some_of (d + 1) (c ∷ rest))) fresh later, tt)),
+      (
+        (below.0, (fresh, tt)),
+        (
+          in_order-below n (positive d) (negate (some_of (d + 1) (c ∷ rest))) fresh
+              later,
+          tt,
+        ),
+      ),
     )
     (or_clauses-below n (d + 1) (c ∷ rest) below.1 (omega arith))
 
-and_clauses-below : (n d e : ℕ) (lits : List Literal) → ClauseBelow n lits → d ≤ e → e + (length lits - 1) ≤ n → ClausesBelow n (and_clauses d e lits)
+and_clauses-below : (n d e : ℕ) (lits : List Literal) → ClauseBelow n lits → d ≤ e →
+    e + (length lits - 1) ≤ n → ClausesBelow n (and_clauses d e lits)
 and_clauses-below n d e [] below le more = tt
 and_clauses-below n d e (b ∷ []) below le more = tt
 and_clauses-below n d e (b ∷ c ∷ rest) below le more =
-    let later : (some_of d (c ∷ rest)).variable < n = some_of-below n d c rest below.1 (λ some. omega arith) in
+    let later : (some_of d (c ∷ rest)).variable < n =
+    some_of-below n d c rest below.1 (λ some. omega arith) in
     let fresh : e < n = omega arith in
     ClausesBelow-append n (and_gate e b (some_of d (c ∷ rest))) (and_clauses (d + 1) (e + 1) (c ∷ rest))
     ((below.0, (fresh, tt)), ((later, (fresh, tt)), ((below.0, (later, (fresh, tt))), tt)))
     (and_clauses-below n (d + 1) (e + 1) (c ∷ rest) below.1 (omega arith) (omega arith))
 
-split_clauses-below : (n m : ℕ) (b : Literal) (rest : List Literal) → ClauseBelow n (b ∷ rest) → n + fresh_count (length (b ∷ rest)) ≤ m → ClausesBelow m (split_clauses n (b ∷ rest))
+split_clauses-below : (n m : ℕ) (b : Literal) (rest : List Literal) → ClauseBelow n (b ∷ rest) →
+    n + fresh_count (length (b ∷ rest)) ≤ m → ClausesBelow m (split_clauses n (b ∷ rest))
 split_clauses-below n m b rest below le =
     let wide = ClauseBelow-more n m (b ∷ rest) (omega arith) below in
     ClausesBelow-append m (or_clauses n rest) (and_clauses n (n + (length rest - 1)) (b ∷ rest))
@@ -350,42 +383,59 @@ split_clauses-below n m b rest below le =
     (and_clauses-below m n (n + (length rest - 1)) (b ∷ rest) wide (omega arith) (omega arith))
 
 -- lowered soft literals are some of the soft literals
-pub lowered-below : (n w : ℕ) (core : List Literal) (softs : List Soft) → SoftsBelow n softs → SoftsBelow n (lowered core w softs)
+pub lowered-below : (n w : ℕ) (core : List Literal) (softs : List Soft) → SoftsBelow n softs →
+    SoftsBelow n (lowered core w softs)
 lowered-below n w core [] below = tt
-lowered-below n w core (s ∷ ss) below = cases (has_literal (negate s.0) core) (ltb w s.1) (lowered-below n w core ss below.1)
+lowered-below n w core (s ∷ ss) below = cases (has_literal (negate s.0) core) (ltb w s.1)
+    (lowered-below n w core ss below.1)
   where
-    cases : (m h : Bool) → SoftsBelow n (lowered core w ss) → SoftsBelow n (cond m (cond h ((s.0, s.1 - w) ∷ lowered core w ss) (lowered core w ss)) (s ∷ lowered core w ss))
+    cases : (m h : Bool) → SoftsBelow n (lowered core w ss) →
+        SoftsBelow n (cond m (cond h ((s.0, s.1 - w) ∷ lowered core w ss) (lowered core w ss)) (s
+        ∷ lowered core w ss))
     cases true true rest = (below.0, rest)
     cases true false rest = rest
     cases false h rest = (below.0, rest)
 
-lowered-differs : (x w : ℕ) (core : List Literal) (softs : List Soft) → Differs x softs → Differs x (lowered core w softs)
+lowered-differs : (x w : ℕ) (core : List Literal) (softs : List Soft) → Differs x softs →
+    Differs x (lowered core w softs)
 lowered-differs x w core [] h = tt
-lowered-differs x w core (s ∷ ss) h = cases (has_literal (negate s.0) core) (ltb w s.1) (lowered-differs x w core ss h.1)
+lowered-differs x w core (s ∷ ss) h = cases (has_literal (negate s.0) core) (ltb w s.1)
+    (lowered-differs x w core ss h.1)
   where
-    cases : (m t : Bool) → Differs x (lowered core w ss) → Differs x (cond m (cond t ((s.0, s.1 - w) ∷ lowered core w ss) (lowered core w ss)) (s ∷ lowered core w ss))
+    cases : (m t : Bool) → Differs x (lowered core w ss) →
+        Differs x (cond m (cond t ((s.0, s.1 - w) ∷ lowered core w ss) (lowered core w ss)) (s
+        ∷ lowered core w ss))
     cases true true rest = (h.0, rest)
     cases true false rest = rest
     cases false t rest = (h.0, rest)
 
-pub lowered-different : (w : ℕ) (core : List Literal) (softs : List Soft) → AreDifferent softs → AreDifferent (lowered core w softs)
+pub lowered-different : (w : ℕ) (core : List Literal) (softs : List Soft) → AreDifferent softs →
+    AreDifferent (lowered core w softs)
 lowered-different w core [] h = tt
-lowered-different w core (s ∷ ss) h = cases (has_literal (negate s.0) core) (ltb w s.1) (lowered-differs s.0.variable w core ss h.0) (lowered-different w core ss h.1)
+lowered-different w core (s ∷ ss) h = cases (has_literal (negate s.0) core) (ltb w s.1)
+    (lowered-differs s.0.variable w core ss h.0) (lowered-different w core ss h.1)
   where
-    cases : (m t : Bool) → Differs s.0.variable (lowered core w ss) → AreDifferent (lowered core w ss) → AreDifferent (cond m (cond t ((s.0, s.1 - w) ∷ lowered core w ss) (lowered core w ss)) (s ∷ lowered core w ss))
+    cases : (m t : Bool) → Differs s.0.variable (lowered core w ss) → AreDifferent (lowered core w ss) →
+        AreDifferent (cond m (cond t ((s.0, s.1 - w) ∷ lowered core w ss) (lowered core w ss)) (s
+        ∷ lowered core w ss))
     cases true true first rest = (first, rest)
     cases true false first rest = rest
     cases false t first rest = (first, rest)
 
-pub lowered-all : (P : Soft → Type 0) (w : ℕ) (core : List Literal) (softs : List Soft) → ((s : Soft) → P s → w < s.1 → P (s.0, s.1 - w)) → All P softs → All P (lowered core w softs)
+pub lowered-all : (P : Soft → Type 0) (w : ℕ) (core : List Literal) (softs : List Soft) →
+    ((s : Soft) → P s → w < s.1 → P (s.0, s.1 - w)) → All P softs → All P (lowered core w softs)
 lowered-all P w core [] less all = All-nil P
-lowered-all P w core (s ∷ ss) less all = cases (has_literal (negate s.0) core) (ltb w s.1) refl (lowered-all P w core ss less (All-tail P s ss all))
+lowered-all P w core (s ∷ ss) less all = cases (has_literal (negate s.0) core) (ltb w s.1) refl
+    (lowered-all P w core ss less (All-tail P s ss all))
   where
     heavier : (a b : ℕ) → ltb a b ≡ true → a < b
     heavier a b e = grind (arith, nat_tests)
 
-    cases : (m t : Bool) → ltb w s.1 ≡ t → All P (lowered core w ss) → All P (cond m (cond t ((s.0, s.1 - w) ∷ lowered core w ss) (lowered core w ss)) (s ∷ lowered core w ss))
-    cases true true e rest = All-cons P (s.0, s.1 - w) (lowered core w ss) (less s (All-head P s ss all) (heavier w s.1 e)) rest
+    cases : (m t : Bool) → ltb w s.1 ≡ t → All P (lowered core w ss) →
+        All P (cond m (cond t ((s.0, s.1 - w) ∷ lowered core w ss) (lowered core w ss)) (s
+        ∷ lowered core w ss))
+    cases true true e rest = All-cons P (s.0, s.1 - w) (lowered core w ss)
+        (less s (All-head P s ss all) (heavier w s.1 e)) rest
     cases true false e rest = rest
     cases false t e rest = All-cons P s (lowered core w ss) (All-head P s ss all) rest
 
@@ -393,29 +443,45 @@ lowered-all P w core (s ∷ ss) less all = cases (has_literal (negate s.0) core)
 late-from : (x w e : ℕ) (lits : List Literal) → x < e → Differs x (late_softs w e lits)
 late-from x w e [] lt = tt
 late-from x w e (b ∷ []) lt = tt
-late-from x w e (b ∷ c ∷ rest) lt = (λ same. absurd (omega arith), late-from x w (e + 1) (c ∷ rest) (omega arith))
+late-from x w e (b ∷ c ∷ rest) lt = (
+  λ same. absurd (omega arith),
+  late-from x w (e + 1) (c ∷ rest)
+      (omega arith),
+)
 
 late-different : (w e : ℕ) (lits : List Literal) → AreDifferent (late_softs w e lits)
 late-different w e [] = tt
 late-different w e (b ∷ []) = tt
-late-different w e (b ∷ c ∷ rest) = (late-from e w (e + 1) (c ∷ rest) (omega arith), late-different w (e + 1) (c ∷ rest))
+late-different w e (b ∷ c ∷ rest) = (
+  late-from e w (e + 1) (c ∷ rest) (omega arith),
+  late-different w
+      (e + 1) (c ∷ rest),
+)
 
-pub late-all : (P : Soft → Type 0) (w e : ℕ) (lits : List Literal) → ((x : ℕ) → e ≤ x → x < e + (length lits - 1) → P (negative x, w)) → All P (late_softs w e lits)
+pub late-all : (P : Soft → Type 0) (w e : ℕ) (lits : List Literal) →
+    ((x : ℕ) → e ≤ x → x < e + (length lits - 1) → P (negative x, w)) → All P (late_softs w e lits)
 late-all P w e [] each = All-nil P
 late-all P w e (b ∷ []) each = All-nil P
 late-all P w e (b ∷ c ∷ rest) each =
-    All-cons P (negative e, w) (late_softs w (e + 1) (c ∷ rest)) (each e (omega arith) (omega arith)) (late-all P w (e + 1) (c ∷ rest) (λ x ge lt. each x (omega arith) (omega arith)))
+    All-cons P (negative e, w) (late_softs w (e + 1) (c ∷ rest)) (each e (omega arith) (omega arith))
+    (late-all P w (e + 1) (c ∷ rest) (λ x ge lt. each x (omega arith) (omega arith)))
 
 Differs-append : (x : ℕ) (xs ys : List Soft) → Differs x xs → Differs x ys → Differs x (xs ++ ys)
 Differs-append x [] ys first second = second
 Differs-append x (s ∷ ss) ys first second = (first.0, Differs-append x ss ys first.1 second)
 
-pub apart : (n w e : ℕ) (xs : List Soft) (lits : List Literal) → n ≤ e → SoftsBelow n xs → AreDifferent xs → AreDifferent (xs ++ late_softs w e lits)
+pub apart : (n w e : ℕ) (xs : List Soft) (lits : List Literal) → n ≤ e → SoftsBelow n xs → AreDifferent xs →
+    AreDifferent (xs ++ late_softs w e lits)
 apart n w e [] lits le below differ = late-different w e lits
-apart n w e (s ∷ ss) lits le below differ =
-    (Differs-append s.0.variable ss (late_softs w e lits) differ.0 (late-from s.0.variable w e lits (omega (arith, below.0, le))), apart n w e ss lits le below.1 differ.1)
+apart n w e (s ∷ ss) lits le below differ = (
+  Differs-append s.0.variable ss (late_softs w e lits) differ.0
+      (late-from s.0.variable w e lits (omega (arith, below.0, le))),
+  apart n w e ss lits le below.1
+      differ.1,
+)
 
-pub among-below : (variables : ℕ) (softs : List Soft) → AreAmong variables softs → SoftsBelow (variables + 1) softs
+pub among-below : (variables : ℕ) (softs : List Soft) → AreAmong variables softs →
+    SoftsBelow (variables + 1) softs
 among-below variables [] all = tt
 among-below variables (s ∷ ss) all =
     let P : Soft → Type 0 = λ soft. (1 ≤ soft.0.variable) × (soft.0.variable ≤ variables) in
@@ -423,18 +489,23 @@ among-below variables (s ∷ ss) all =
     (omega (arith, first.1), among-below variables ss (All-tail P s ss all))
 
 -- the least weight of a core is at least 1
-light_step : (core : List Literal) (s : Soft) (ss : List Soft) (m : Bool) → has_literal (negate s.0) core ≡ m → lightest core (s ∷ ss) ≡ cond m (Some (lesser s.1 (lightest core ss))) (lightest core ss)
+light_step : (core : List Literal) (s : Soft) (ss : List Soft) (m : Bool) →
+    has_literal (negate s.0) core ≡ m → lightest core (s ∷ ss)
+    ≡ cond m (Some (lesser s.1 (lightest core ss))) (lightest core ss)
 light_step core s ss m is = ap (λ t. cond t (Some (lesser s.1 (lightest core ss))) (lightest core ss)) is
 
-lightest_some : (core : List Literal) (softs : List Soft) (w : ℕ) → All (λ (soft : Soft). 1 ≤ soft.1) softs → lightest core softs ≡ Some w → 1 ≤ w
+lightest_some : (core : List Literal) (softs : List Soft) (w : ℕ) →
+    All (λ (soft : Soft). 1 ≤ soft.1) softs → lightest core softs ≡ Some w → 1 ≤ w
 lightest_some core [] w weighty is = absurd (cc)
 lightest_some core (s ∷ ss) w weighty is =
-    cases (has_literal (negate s.0) core) refl (lightest core ss) refl (λ u e. lightest_some core ss u (All-tail (λ (soft : Soft). 1 ≤ soft.1) s ss weighty) e)
+    cases (has_literal (negate s.0) core) refl (lightest core ss) refl
+    (λ u e. lightest_some core ss u (All-tail (λ (soft : Soft). 1 ≤ soft.1) s ss weighty) e)
   where
     first : 1 ≤ s.1
     first = All-head (λ (soft : Soft). 1 ≤ soft.1) s ss weighty
 
-    cases : (m : Bool) → has_literal (negate s.0) core ≡ m → (o : Option ℕ) → lightest core ss ≡ o → ((u : ℕ) → lightest core ss ≡ Some u → 1 ≤ u) → 1 ≤ w
+    cases : (m : Bool) → has_literal (negate s.0) core ≡ m → (o : Option ℕ) → lightest core ss ≡ o →
+        ((u : ℕ) → lightest core ss ≡ Some u → 1 ≤ u) → 1 ≤ w
     cases true m None o next =
         let e = same_Some s.1 w (sym (light_step core s ss true m ∙ ap (λ l. Some (lesser s.1 l)) o)
         ∙ is) in omega (arith, e, first)
@@ -445,11 +516,14 @@ lightest_some core (s ∷ ss) w weighty is =
         omega (arith, e, first, more)
     cases false m o e next = next w (sym (light_step core s ss false m) ∙ is)
 
-lightest_there : (core : List Literal) (softs : List Soft) (b : Literal) → has_literal b core ≡ true → is_soft softs (negate b) ≡ true → lightest core softs ≡ None → ⊥
+lightest_there : (core : List Literal) (softs : List Soft) (b : Literal) → has_literal b core ≡ true →
+    is_soft softs (negate b) ≡ true → lightest core softs ≡ None → ⊥
 lightest_there core [] b known is none = cc
-lightest_there core (s ∷ ss) b known is none = cases (has_literal (negate s.0) core) refl (λ later e. lightest_there core ss b known later e)
+lightest_there core (s ∷ ss) b known is none =
+    cases (has_literal (negate s.0) core) refl (λ later e. lightest_there core ss b known later e)
   where
-    cases : (m : Bool) → has_literal (negate s.0) core ≡ m → (is_soft ss (negate b) ≡ true → lightest core ss ≡ None → ⊥) → ⊥
+    cases : (m : Bool) → has_literal (negate s.0) core ≡ m →
+        (is_soft ss (negate b) ≡ true → lightest core ss ≡ None → ⊥) → ⊥
     cases true m next = let e = sym (light_step core s ss true m) ∙ none in cc
     cases false m next =
         ⊎_elim
@@ -461,7 +535,9 @@ lightest_there core (s ∷ ss) b known is none = cases (has_literal (negate s.0)
         (λ later. next later (sym (light_step core s ss false m) ∙ none))
         (or_cases (eqb (index_of s.0) (index_of (negate b))) (is_soft ss (negate b)) is)
 
-pub lightest_weighty : (core : List Literal) (softs : List Soft) (b : Literal) → All (λ (soft : Soft). 1 ≤ soft.1) softs → has_literal b core ≡ true → is_soft softs (negate b) ≡ true → 1 ≤ unwrap_or (lightest core softs) 0
+pub lightest_weighty : (core : List Literal) (softs : List Soft) (b : Literal) →
+    All (λ (soft : Soft). 1 ≤ soft.1) softs → has_literal b core ≡ true → is_soft softs (negate b) ≡ true →
+    1 ≤ unwrap_or (lightest core softs) 0
 lightest_weighty core softs b weighty known is = cases (lightest core softs) refl
   where
     cases : (o : Option ℕ) → lightest core softs ≡ o → 1 ≤ unwrap_or o 0
@@ -469,33 +545,46 @@ lightest_weighty core softs b weighty known is = cases (lightest core softs) ref
     cases (Some w) e = lightest_some core softs w weighty e
 
 -- the extension of an assignment to the fresh variables of a core has their meaning
-extension_means : (n : ℕ) (z : Assignment) (b : Literal) (rest : List Literal) → OrsHave z (extended z n (n + (length rest - 1)) rest (b ∷ rest)) n rest × AndsHave z (extended z n (n + (length rest - 1)) rest (b ∷ rest)) (n + (length rest - 1)) (b ∷ rest)
+extension_means : (n : ℕ) (z : Assignment) (b : Literal) (rest : List Literal) →
+    OrsHave z (extended z n (n + (length rest - 1)) rest (b ∷ rest)) n rest
+    × AndsHave z (extended z n (n + (length rest - 1)) rest (b ∷ rest)) (n + (length rest - 1)) (b ∷ rest)
 extension_means n z b rest =
     let e = n + (length rest - 1) in (
-      OrsHave-each z (extended z n e rest (b ∷ rest)) n rest (λ j lt. extended-ors z n e rest (b ∷ rest) j (omega arith)),
-      AndsHave-each z (extended z n e rest (b ∷ rest)) e (b ∷ rest) (λ j lt. extended-ands z n e rest (b ∷ rest) j (omega arith)),
+      OrsHave-each z (extended z n e rest (b ∷ rest)) n rest
+          (λ j lt. extended-ors z n e rest (b ∷ rest) j (omega arith)),
+      AndsHave-each z (extended z n e rest (b ∷ rest)) e (b ∷ rest)
+          (λ j lt. extended-ands z n e rest (b ∷ rest) j (omega arith)),
     )
 
 -- what the soft literals cost before and after the split
-split_cost : (n : ℕ) (z y : Assignment) (b : Literal) (rest : List Literal) (softs : List Soft) (bound w : ℕ) →
-    Agree n z y → SoftsBelow n softs → IsClause (2 ^ 62 - 1) (b ∷ rest) → lacks_soft softs (b ∷ rest) ≡ false → AreDifferent softs → w ≡ unwrap_or (lightest (b ∷ rest) softs) 0 →
+split_cost : (n : ℕ) (z y : Assignment) (b : Literal) (rest : List Literal) (softs : List Soft)
+    (bound w : ℕ) →
+    Agree n z y → SoftsBelow n softs → IsClause (2 ^ 62 - 1) (b ∷ rest) →
+    lacks_soft softs (b ∷ rest) ≡ false → AreDifferent softs →
+    w ≡ unwrap_or (lightest (b ∷ rest) softs) 0 →
     any_true z (b ∷ rest) ≡ true → AndsHave z y (n + (length rest - 1)) (b ∷ rest) →
     bound + cost z softs ≡ bound + w + cost y (lowered (b ∷ rest) w softs ++ split_softs w n (b ∷ rest))
 split_cost n z y b rest softs bound w same below clause known differ w_is some ands =
-    let least : AreAtLeast w (b ∷ rest) softs = let P : ℕ → Type 0 = λ x. AreAtLeast x (b ∷ rest) softs in subst P (sym w_is) (lightest_at_least (b ∷ rest) softs) in
+    let least : AreAtLeast w (b ∷ rest) softs = let P : ℕ → Type 0 = λ x. AreAtLeast x (b ∷ rest) softs in
+    subst P (sym w_is) (lightest_at_least (b ∷ rest) softs) in
     let before = lowered_cost z w (b ∷ rest) softs least in
     let counted = hits_count (2 ^ 62 - 1) z (b ∷ rest) softs clause known differ in
     let paired = count_pairs z b rest ∙ ap (λ t. one_if t + pairs z (b ∷ rest)) some in
-    let kept_cost = cost-agree n z y (lowered (b ∷ rest) w softs) same (lowered-below n w (b ∷ rest) softs below) in
+    let kept_cost = cost-agree n z y (lowered (b ∷ rest) w softs) same
+    (lowered-below n w (b ∷ rest) softs below) in
     let start : n + (length (b ∷ rest) - 2) ≡ n + (length rest - 1) = omega arith in
-    let late = ap (λ e. cost y (late_softs w e (b ∷ rest))) start ∙ late_cost z y w (n + (length rest - 1)) (b ∷ rest) ands in
+    let late = ap (λ e. cost y (late_softs w e (b ∷ rest))) start
+    ∙ late_cost z y w (n + (length rest - 1)) (b ∷ rest) ands in
     let joined = cost-append y (lowered (b ∷ rest) w softs) (split_softs w n (b ∷ rest)) in
     let product = mul-add w 1 (pairs z (b ∷ rest)) in
-    let times : w * hits z (b ∷ rest) softs ≡ w * (1 + pairs z (b ∷ rest)) = ap (λ k. w * k) (counted ∙ paired) in
+    let times : w * hits z (b ∷ rest) softs ≡ w * (1 + pairs z (b ∷ rest)) =
+    ap (λ k. w * k) (counted ∙ paired) in
     omega (arith, before, times, product, kept_cost, late, joined)
 
 -- the split determines the fresh variables
-split_alone : (n m : ℕ) (y z : Assignment) (b : Literal) (rest : List Literal) → Agree n y z → ClauseBelow n (b ∷ rest) → all_true y (split_clauses n (b ∷ rest)) ≡ true → all_true z (split_clauses n (b ∷ rest)) ≡ true → m ≡ n + fresh_count (length (b ∷ rest)) → Agree m y z
+split_alone : (n m : ℕ) (y z : Assignment) (b : Literal) (rest : List Literal) → Agree n y z →
+    ClauseBelow n (b ∷ rest) → all_true y (split_clauses n (b ∷ rest)) ≡ true →
+    all_true z (split_clauses n (b ∷ rest)) ≡ true → m ≡ n + fresh_count (length (b ∷ rest)) → Agree m y z
 split_alone n m y z b rest same below first second m_is u lt =
     let own = split_has n y y b rest (λ x _. refl) below first in
     let other = split_has n z z b rest (λ x _. refl) below second in
@@ -503,7 +592,8 @@ split_alone n m y z b rest same below first second m_is u lt =
     (λ old. same u old)
     (λ fresh. ⊎_elim
     (λ before. ors_alone n y z n rest same below.1 own.0 other.0 u fresh before)
-    (λ after_. ands_alone n y z (n + (length rest - 1)) (b ∷ rest) same below own.1 other.1 u after_ (omega arith))
+    (λ after_. ands_alone n y z (n + (length rest - 1)) (b ∷ rest) same below own.1 other.1 u after_
+    (omega arith))
     (cases_lt u (n + (length rest - 1))))
     (cases_lt u n)
 
@@ -519,19 +609,41 @@ core_keeps good formula softs splits s b rest hints h clause exists known no_set
     extends = λ v given blocked. let (z, same, split, lives, costs) = h.facts.extends v given blocked in
         extends v z same split lives costs;
     alone = λ y z same first second.
-        let own = and_parts (all_true y splits) (all_true y (split_clauses (s.variables + 1) (b ∷ rest))) (sym (all_true-append y splits (split_clauses (s.variables + 1) (b ∷ rest))) ∙ first) in
-        let other = and_parts (all_true z splits) (all_true z (split_clauses (s.variables + 1) (b ∷ rest))) (sym (all_true-append z splits (split_clauses (s.variables + 1) (b ∷ rest))) ∙ second) in
-        split_alone (s.variables + 1) (s.variables + fresh_count (length (b ∷ rest)) + 1) y z b rest (h.facts.alone y z same own.0 other.0) below own.1 other.1 (omega arith);
+        let own = and_parts (all_true y splits) (all_true y (split_clauses (s.variables + 1) (b ∷ rest)))
+        (sym (all_true-append y splits (split_clauses (s.variables + 1) (b ∷ rest))) ∙ first) in
+        let other = and_parts (all_true z splits) (all_true z (split_clauses (s.variables + 1) (b ∷ rest)))
+        (sym (all_true-append z splits (split_clauses (s.variables + 1) (b ∷ rest))) ∙ second) in
+        split_alone (s.variables + 1) (s.variables + fresh_count (length (b ∷ rest)) + 1) y z b rest
+        (h.facts.alone y z same own.0 other.0) below own.1 other.1 (omega arith);
     sets_differ = h.facts.sets_differ;
     sets_good = none_blocked s.sets no_sets;
-    differ = apart (s.variables + 1) (unwrap_or (lightest (b ∷ rest) s.softs) 0) ((s.variables + 1) + (length (b ∷ rest) - 2)) (lowered (b ∷ rest) (unwrap_or (lightest (b ∷ rest) s.softs) 0) s.softs) (b ∷ rest) (omega arith) (lowered-below (s.variables + 1) (unwrap_or (lightest (b ∷ rest) s.softs) 0) (b ∷ rest) s.softs softs_below) (lowered-different (unwrap_or (lightest (b ∷ rest) s.softs) 0) (b ∷ rest) s.softs h.facts.differ);
-    among = All-append (λ (soft : Soft). (1 ≤ soft.0.variable) × (soft.0.variable ≤ s.variables + fresh_count (length (b ∷ rest)))) (lowered (b ∷ rest) (unwrap_or (lightest (b ∷ rest) s.softs) 0) s.softs) (split_softs (unwrap_or (lightest (b ∷ rest) s.softs) 0) (s.variables + 1) (b ∷ rest))
-        (lowered-all (λ (soft : Soft). (1 ≤ soft.0.variable) × (soft.0.variable ≤ s.variables + fresh_count (length (b ∷ rest)))) (unwrap_or (lightest (b ∷ rest) s.softs) 0) (b ∷ rest) s.softs (λ soft p lt. p)
-        (All-weaker (λ (soft : Soft). (1 ≤ soft.0.variable) × (soft.0.variable ≤ s.variables)) (λ (soft : Soft). (1 ≤ soft.0.variable) × (soft.0.variable ≤ s.variables + fresh_count (length (b ∷ rest)))) (λ soft p. (p.0, omega (arith, p.1))) s.softs h.facts.among))
-        (late-all (λ (soft : Soft). (1 ≤ soft.0.variable) × (soft.0.variable ≤ s.variables + fresh_count (length (b ∷ rest)))) (unwrap_or (lightest (b ∷ rest) s.softs) 0) ((s.variables + 1) + (length (b ∷ rest) - 2)) (b ∷ rest) (λ x ge lt. (omega arith, omega arith)));
-    weighty = All-append (λ (soft : Soft). 1 ≤ soft.1) (lowered (b ∷ rest) (unwrap_or (lightest (b ∷ rest) s.softs) 0) s.softs) (split_softs (unwrap_or (lightest (b ∷ rest) s.softs) 0) (s.variables + 1) (b ∷ rest))
-        (lowered-all (λ (soft : Soft). 1 ≤ soft.1) (unwrap_or (lightest (b ∷ rest) s.softs) 0) (b ∷ rest) s.softs (λ soft p lt. omega (arith, lt)) h.facts.weighty)
-        (late-all (λ (soft : Soft). 1 ≤ soft.1) (unwrap_or (lightest (b ∷ rest) s.softs) 0) ((s.variables + 1) + (length (b ∷ rest) - 2)) (b ∷ rest) (λ x ge lt. light));
+    differ = apart (s.variables + 1) (unwrap_or (lightest (b ∷ rest) s.softs) 0)
+        ((s.variables + 1) + (length (b ∷ rest) - 2))
+        (lowered (b ∷ rest) (unwrap_or (lightest (b ∷ rest) s.softs) 0) s.softs) (b ∷ rest) (omega arith)
+        (lowered-below (s.variables + 1) (unwrap_or (lightest (b ∷ rest) s.softs) 0) (b ∷ rest) s.softs
+        softs_below) (lowered-different (unwrap_or (lightest (b ∷ rest) s.softs) 0) (b ∷ rest) s.softs
+        h.facts.differ);
+    among = All-append (λ (soft : Soft). (1 ≤ soft.0.variable)
+        × (soft.0.variable ≤ s.variables + fresh_count (length (b ∷ rest))))
+        (lowered (b ∷ rest) (unwrap_or (lightest (b ∷ rest) s.softs) 0) s.softs)
+        (split_softs (unwrap_or (lightest (b ∷ rest) s.softs) 0) (s.variables + 1) (b ∷ rest))
+        (lowered-all (λ (soft : Soft). (1 ≤ soft.0.variable)
+        × (soft.0.variable ≤ s.variables + fresh_count (length (b ∷ rest))))
+        (unwrap_or (lightest (b ∷ rest) s.softs) 0) (b ∷ rest) s.softs (λ soft p lt. p)
+        (All-weaker (λ (soft : Soft). (1 ≤ soft.0.variable) × (soft.0.variable ≤ s.variables))
+        (λ (soft : Soft). (1 ≤ soft.0.variable) × (soft.0.variable ≤ s.variables + fresh_count
+        (length (b ∷ rest)))) (λ soft p. (p.0, omega (arith, p.1))) s.softs h.facts.among))
+        (late-all (λ (soft : Soft). (1 ≤ soft.0.variable)
+        × (soft.0.variable ≤ s.variables + fresh_count (length (b ∷ rest))))
+        (unwrap_or (lightest (b ∷ rest) s.softs) 0) ((s.variables + 1) + (length (b ∷ rest) - 2)) (b
+        ∷ rest) (λ x ge lt. (omega arith, omega arith)));
+    weighty = All-append (λ (soft : Soft). 1 ≤ soft.1)
+        (lowered (b ∷ rest) (unwrap_or (lightest (b ∷ rest) s.softs) 0) s.softs)
+        (split_softs (unwrap_or (lightest (b ∷ rest) s.softs) 0) (s.variables + 1) (b ∷ rest))
+        (lowered-all (λ (soft : Soft). 1 ≤ soft.1) (unwrap_or (lightest (b ∷ rest) s.softs) 0) (b ∷ rest)
+        s.softs (λ soft p lt. omega (arith, lt)) h.facts.weighty)
+        (late-all (λ (soft : Soft). 1 ≤ soft.1) (unwrap_or (lightest (b ∷ rest) s.softs) 0)
+        ((s.variables + 1) + (length (b ∷ rest) - 2)) (b ∷ rest) (λ x ge lt. light));
     given_live = λ place lt. ap live_lits (given_stay place lt);
     splits_live = stays_live origins.Split (s.clauses ++ (kept origins.Core (b ∷ rest) ∷ map (kept
         origins.Split) (split_clauses (s.variables + 1) (b ∷ rest)))) (splits ++ split_clauses (s.variables
@@ -540,8 +652,11 @@ core_keeps good formula softs splits s b rest hints h clause exists known no_set
   };
   groups_stay = h.groups_stay;
   wide = omega (arith, h.wide);
-  splits_below = ClausesBelow-append (s.variables + fresh_count (length (b ∷ rest)) + 1) splits (split_clauses (s.variables + 1) (b ∷ rest)) (ClausesBelow-more (s.variables + 1) (s.variables + fresh_count (length (b ∷ rest)) + 1) splits (omega arith) h.splits_below) new_below;
-  live_below = let P : List (List Literal) → Type 0 = λ cs. ClausesBelow (s.variables + fresh_count (length (b ∷ rest)) + 1) cs in
+  splits_below = ClausesBelow-append (s.variables + fresh_count (length (b ∷ rest)) + 1) splits
+      (split_clauses (s.variables + 1) (b ∷ rest)) (ClausesBelow-more (s.variables + 1)
+      (s.variables + fresh_count (length (b ∷ rest)) + 1) splits (omega arith) h.splits_below) new_below;
+  live_below = let P : List (List Literal) → Type 0 =
+      λ cs. ClausesBelow (s.variables + fresh_count (length (b ∷ rest)) + 1) cs in
       subst P (sym lives_is) (ClausesBelow-append (s.variables + fresh_count (length (b ∷ rest)) + 1)
       (all_lits s.clauses) ((b ∷ rest) ∷ (split_clauses (s.variables + 1) (b ∷ rest)))
       (ClausesBelow-more (s.variables + 1) (s.variables + fresh_count (length (b ∷ rest)) + 1)
@@ -570,8 +685,13 @@ core_keeps good formula softs splits s b rest hints h clause exists known no_set
         (kept origins.Core (b ∷ rest) ∷ map (kept origins.Split) (split_clauses (s.variables + 1) (b ∷ rest)))
         (block_clauses softs s.sets) h.sets_stay
 
-    given_stay : (place : ℕ) → place < length formula.clauses → kept_at (s.clauses ++ (kept origins.Core (b ∷ rest) ∷ map (kept origins.Split) (split_clauses (s.variables + 1) (b ∷ rest)))) (place + 1) ≡ Some (kept origins.Given (get_or formula.clauses place []))
-    given_stay place lt = kept_at-more s.clauses (kept origins.Core (b ∷ rest) ∷ map (kept origins.Split) (split_clauses (s.variables + 1) (b ∷ rest))) (place + 1) (kept origins.Given (get_or formula.clauses place [])) (h.given_stay place lt)
+    given_stay : (place : ℕ) → place < length formula.clauses →
+        kept_at (s.clauses ++ (kept origins.Core (b ∷ rest)
+        ∷ map (kept origins.Split) (split_clauses (s.variables + 1) (b ∷ rest)))) (place + 1)
+        ≡ Some (kept origins.Given (get_or formula.clauses place []))
+    given_stay place lt = kept_at-more s.clauses (kept origins.Core (b ∷ rest)
+        ∷ map (kept origins.Split) (split_clauses (s.variables + 1) (b ∷ rest))) (place + 1)
+        (kept origins.Given (get_or formula.clauses place [])) (h.given_stay place lt)
 
     below : ClauseBelow (s.variables + 1) (b ∷ rest)
     below = exist_below s (b ∷ rest) exists
@@ -579,8 +699,10 @@ core_keeps good formula softs splits s b rest hints h clause exists known no_set
     softs_below : SoftsBelow (s.variables + 1) s.softs
     softs_below = among-below s.variables s.softs h.facts.among
 
-    new_below : ClausesBelow (s.variables + fresh_count (length (b ∷ rest)) + 1) (split_clauses (s.variables + 1) (b ∷ rest))
-    new_below = split_clauses-below (s.variables + 1) (s.variables + fresh_count (length (b ∷ rest)) + 1) b rest below (omega arith)
+    new_below : ClausesBelow (s.variables + fresh_count (length (b ∷ rest)) + 1)
+        (split_clauses (s.variables + 1) (b ∷ rest))
+    new_below = split_clauses-below (s.variables + 1) (s.variables + fresh_count (length (b ∷ rest)) + 1) b
+        rest below (omega arith)
 
     lives_is : all_lits (s.clauses ++ (kept origins.Core (b ∷ rest) ∷ map (kept origins.Split)
         (split_clauses (s.variables + 1) (b ∷ rest)))) ≡ all_lits s.clauses ++ (b ∷ rest) ∷
@@ -595,7 +717,10 @@ core_keeps good formula softs splits s b rest hints h clause exists known no_set
         ∷ rest))
     new_stay = let P : List Kept → Type 0 = λ cs. All (Stays origins.Split cs) (split_clauses (s.variables
         + 1) (b ∷ rest)) in
-        subst P (append_assoc s.clauses (kept origins.Core (b ∷ rest) ∷ []) (map (kept origins.Split) (split_clauses (s.variables + 1) (b ∷ rest)))) (added_stay (s.clauses ++ kept origins.Core (b ∷ rest) ∷ []) (split_clauses (s.variables + 1) (b ∷ rest)))
+        subst P (append_assoc s.clauses (kept origins.Core (b ∷ rest) ∷ [])
+        (map (kept origins.Split) (split_clauses (s.variables + 1) (b ∷ rest))))
+        (added_stay (s.clauses ++ kept origins.Core (b ∷ rest) ∷ [])
+        (split_clauses (s.variables + 1) (b ∷ rest)))
 
     splits_stay : All (Stays origins.Split (s.clauses ++ (kept origins.Core (b ∷ rest) ∷ map (kept
         origins.Split) (split_clauses (s.variables + 1) (b ∷ rest))))) (splits ++ split_clauses
@@ -606,7 +731,8 @@ core_keeps good formula softs splits s b rest hints h clause exists known no_set
         origins.Split) (split_clauses (s.variables + 1) (b ∷ rest))) splits h.splits_stay) new_stay
 
     light : 1 ≤ (unwrap_or (lightest (b ∷ rest) s.softs) 0)
-    light = lightest_weighty (b ∷ rest) s.softs b h.facts.weighty (first_there b rest) (soft_there (is_soft s.softs (negate b)) (lacks_soft s.softs rest) known)
+    light = lightest_weighty (b ∷ rest) s.softs b h.facts.weighty (first_there b rest)
+        (soft_there (is_soft s.softs (negate b)) (lacks_soft s.softs rest) known)
       where
         first_there : (b : Literal) (rest : List Literal) → has_literal b (b ∷ rest) ≡ true
         first_there b rest = grind (arith, nat_tests)
@@ -632,9 +758,11 @@ core_keeps good formula softs splits s b rest hints h clause exists known no_set
         let y : Assignment = extended z (s.variables + 1) e rest (b ∷ rest) in
         let agree : Agree (s.variables + 1) z y = extended-old z (s.variables + 1) e rest (b ∷ rest) in
         let means = extension_means (s.variables + 1) z b rest in
-        let news : all_true y (split_clauses (s.variables + 1) (b ∷ rest)) ≡ true = split_holds (s.variables + 1) z y b rest agree below means.0 means.1 in
+        let news : all_true y (split_clauses (s.variables + 1) (b ∷ rest)) ≡ true =
+        split_holds (s.variables + 1) z y b rest agree below means.0 means.1 in
         let true_ : any_true z (b ∷ rest) ≡ true = follows_true s z (b ∷ rest) hints follows lives in
-        let core_true : any_true y (b ∷ rest) ≡ true = sym (any_true-agree (s.variables + 1) z y (b ∷ rest) agree below) ∙ true_ in (
+        let core_true : any_true y (b ∷ rest) ≡ true =
+        sym (any_true-agree (s.variables + 1) z y (b ∷ rest) agree below) ∙ true_ in (
           y,
           λ u lt. same u lt ∙ agree u (omega (arith, h.wide, lt)),
           all_true-append y splits (split_clauses (s.variables + 1) (b ∷ rest))
@@ -650,7 +778,9 @@ core_keeps good formula softs splits s b rest hints h clause exists known no_set
               (and_from (any_true y (b ∷ rest))
               (all_true y (split_clauses (s.variables + 1)
               (b ∷ rest))) core_true news)),
-          costs ∙ split_cost (s.variables + 1) z y b rest s.softs s.bound (unwrap_or (lightest (b ∷ rest) s.softs) 0) agree softs_below clause known h.facts.differ refl true_ means.1,
+          costs ∙ split_cost (s.variables + 1) z y b rest s.softs s.bound
+              (unwrap_or (lightest (b ∷ rest) s.softs) 0) agree softs_below clause known h.facts.differ refl
+              true_ means.1,
         )
 
 -- AN ALLOWED STEP keeps the facts
@@ -831,23 +961,31 @@ block_keeps good formula softs splits s set run start h above none = record {
         (all_stay-more origins.Blocked s.clauses added (block_clauses softs s.sets) h.sets_stay)
         (All-cons (Stays origins.Blocked grown) new [] new_stays (All-nil (Stays origins.Blocked grown))))
 
-step_keeps : (good : Judge) (formula : Cnf) (softs : List Soft) (splits : List (List Literal)) (s : State) (step : CertStep) →
+step_keeps : (good : Judge) (formula : Cnf) (softs : List Soft) (splits : List (List Literal)) (s : State)
+    (step : CertStep) →
     IsStart formula softs → KeepsFacts good formula softs splits s → IsFormed step → error_of good s step ≡
     None → KeepsFacts good formula softs (splits ++ step_splits s step) (after s step)
 step_keeps good formula softs splits s (Learn lits hints) start h formed none =
     let awake = no_error s.refused Memory (error_if s.ended AfterEnd (learn_error s lits hints)) none in
     let going = no_error s.ended AfterEnd (learn_error s lits hints) awake.1 in
-    let exists = no_error (lacks_variable s lits) BadVariable (error_if (is_spent s) WrongCount (error_if (holds_clause s.clauses lits) NotNew (hint_error s lits hints))) going.1 in
-    let left = no_error (is_spent s) WrongCount (error_if (holds_clause s.clauses lits) NotNew (hint_error s lits hints)) exists.1 in
+    let exists = no_error (lacks_variable s lits) BadVariable
+    (error_if (is_spent s) WrongCount (error_if (holds_clause s.clauses lits) NotNew
+    (hint_error s lits hints))) going.1 in
+    let left = no_error (is_spent s) WrongCount (error_if (holds_clause s.clauses lits) NotNew
+    (hint_error s lits hints)) exists.1 in
     let new = no_error (holds_clause s.clauses lits) NotNew (hint_error s lits hints) left.1 in
     no_more good formula softs splits (after_learn s lits) (learn_keeps good formula softs splits s lits
     hints h exists.0 new.1)
 step_keeps good formula softs splits s (Core lits hints) start h formed none =
     let awake = no_error s.refused Memory (error_if s.ended AfterEnd (core_error s lits hints)) none in
     let going = no_error s.ended AfterEnd (core_error s lits hints) awake.1 in
-    let exists = no_error (lacks_variable s lits) BadVariable (error_if (is_spent s) WrongCount (error_if (ltb 0 (length s.sets)) CoreAfterSet (error_if (lacks_soft s.softs lits) NotSofts (hint_error s lits hints)))) going.1 in
-    let left = no_error (is_spent s) WrongCount (error_if (ltb 0 (length s.sets)) CoreAfterSet (error_if (lacks_soft s.softs lits) NotSofts (hint_error s lits hints))) exists.1 in
-    let early = no_error (ltb 0 (length s.sets)) CoreAfterSet (error_if (lacks_soft s.softs lits) NotSofts (hint_error s lits hints)) left.1 in
+    let exists = no_error (lacks_variable s lits) BadVariable
+    (error_if (is_spent s) WrongCount (error_if (ltb 0 (length s.sets)) CoreAfterSet
+    (error_if (lacks_soft s.softs lits) NotSofts (hint_error s lits hints)))) going.1 in
+    let left = no_error (is_spent s) WrongCount (error_if (ltb 0 (length s.sets)) CoreAfterSet
+    (error_if (lacks_soft s.softs lits) NotSofts (hint_error s lits hints))) exists.1 in
+    let early = no_error (ltb 0 (length s.sets)) CoreAfterSet
+    (error_if (lacks_soft s.softs lits) NotSofts (hint_error s lits hints)) left.1 in
     let known = no_error (lacks_soft s.softs lits) NotSofts (hint_error s lits hints) early.1 in
     core_step good formula softs splits s lits hints h formed.0 exists.0 known.0 (none_yet s.sets early.0)
     known.1
@@ -861,7 +999,8 @@ step_keeps good formula softs splits s (Core lits hints) start h formed none =
 step_keeps good formula softs splits s (Delete numbers) start h formed none =
     let awake = no_error s.refused Memory (error_if s.ended AfterEnd (delete_error s numbers)) none in
     let going = no_error s.ended AfterEnd (delete_error s numbers) awake.1 in
-    let goes = no_error (not (list_all (may_go s) numbers)) DeadClause (error_if (ltb s.learnt apart_by) TooSoon None) going.1 in
+    let goes = no_error (not (list_all (may_go s) numbers)) DeadClause
+    (error_if (ltb s.learnt apart_by) TooSoon None) going.1 in
     no_more good formula softs splits (after_delete s numbers) (delete_keeps good formula softs splits s
     numbers h (not_not (list_all (may_go s) numbers) goes.0))
   where
@@ -883,11 +1022,13 @@ step_keeps good formula softs splits s EndSpent start h formed none = no_more go
     (record s { ended = true }) (end_keeps good formula softs splits s h)
 
 -- so do any allowed steps
-allowed : (o : Option StepError) (next : Option State) (t : State) → next_if o next ≡ Some t → (o ≡ None) × (next ≡ Some t)
+pub allowed : (o : Option StepError) (next : Option State) (t : State) → next_if o next ≡ Some t →
+    (o ≡ None) × (next ≡ Some t)
 allowed None next t is = (refl, is)
 allowed (Some e) next t is = absurd (cc)
 
-steps_keep : (good : Judge) (formula : Cnf) (softs : List Soft) (splits : List (List Literal)) (s : State) (steps : List CertStep) (t : State) →
+steps_keep : (good : Judge) (formula : Cnf) (softs : List Soft) (splits : List (List Literal)) (s : State)
+    (steps : List CertStep) (t : State) →
     IsStart formula softs → KeepsFacts good formula softs splits s → All IsFormed steps → after_all good s
     steps ≡ Some t → KeepsFacts good formula softs (splits ++ splits_of s steps) t
 steps_keep good formula softs splits s [] t start h formed is =
@@ -910,16 +1051,19 @@ present_weighty (s ∷ ss) = cases (ltb 0 s.1) refl (present_weighty ss)
     heavy : (x : ℕ) → ltb 0 x ≡ true → 1 ≤ x
     heavy x e = grind (arith, nat_tests)
 
-    cases : (t : Bool) → ltb 0 s.1 ≡ t → All (λ (soft : Soft). 1 ≤ soft.1) (present ss) → All (λ (soft : Soft). 1 ≤ soft.1) (cond t (s ∷ present ss) (present ss))
+    cases : (t : Bool) → ltb 0 s.1 ≡ t → All (λ (soft : Soft). 1 ≤ soft.1) (present ss) →
+        All (λ (soft : Soft). 1 ≤ soft.1) (cond t (s ∷ present ss) (present ss))
     cases true e rest = All-cons (λ (soft : Soft). 1 ≤ soft.1) s (present ss) (heavy s.1 e) rest
     cases false e rest = rest
 
-given_at : (cs : List (List Literal)) (place : ℕ) → place < length cs → slice_get (map (kept origins.Given) cs) place ≡ Some (kept origins.Given (get_or cs place []))
+given_at : (cs : List (List Literal)) (place : ℕ) → place < length cs →
+    slice_get (map (kept origins.Given) cs) place ≡ Some (kept origins.Given (get_or cs place []))
 given_at [] place lt = absurd (omega arith)
 given_at (c ∷ cs) zero lt = refl
 given_at (c ∷ cs) (suc place) lt = given_at cs place (omega arith)
 
-given_numbered : (cs : List (List Literal)) (place : ℕ) → place < length cs → kept_at (map (kept origins.Given) cs) (place + 1) ≡ Some (kept origins.Given (get_or cs place []))
+given_numbered : (cs : List (List Literal)) (place : ℕ) → place < length cs →
+    kept_at (map (kept origins.Given) cs) (place + 1) ≡ Some (kept origins.Given (get_or cs place []))
 given_numbered cs place lt = let e : place + 1 ≡ suc place = omega arith in rw e (given_at cs place lt)
 
 first_keeps : (good : Judge) (formula : Cnf) (softs : List Soft) (conflicts sets : ℕ) → IsStart formula
@@ -960,7 +1104,8 @@ first_keeps good formula softs conflicts sets start = record {
     from_zero k = omega arith
 
 -- the law
-pub facts_hold : (good : Judge) (formula : Cnf) (softs : List Soft) (conflicts sets : ℕ) → IsStart formula softs → (steps : List CertStep) → All IsFormed steps → (s : State) →
+pub facts_hold : (good : Judge) (formula : Cnf) (softs : List Soft) (conflicts sets : ℕ) →
+    IsStart formula softs → (steps : List CertStep) → All IsFormed steps → (s : State) →
     after_all good (first_state formula softs conflicts sets) steps ≡ Some s → Holds good formula softs
     (splits_of (first_state formula softs conflicts sets) steps) s
 facts_hold good formula softs conflicts sets start steps formed s is =

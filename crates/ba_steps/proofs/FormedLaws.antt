@@ -21,14 +21,18 @@ nil_formed n = record {
 }
 
 -- a literal before a clause of greater variables
-pub cons_formed : (n : ℕ) (a : Literal) (rest : List Literal) → 1 ≤ a.variable → a.variable ≤ n → (0 < length rest → a.variable < (lit_at rest 0).variable) → IsClause n rest → IsClause n (a ∷ rest)
-cons_formed n a rest counted within first clause = record { ascends = ascends; counted = each_counted; within = each_within }
+pub cons_formed : (n : ℕ) (a : Literal) (rest : List Literal) → 1 ≤ a.variable → a.variable ≤ n →
+    (0 < length rest → a.variable < (lit_at rest 0).variable) → IsClause n rest → IsClause n (a ∷ rest)
+cons_formed n a rest counted within first clause =
+    record { ascends = ascends; counted = each_counted; within = each_within }
   where
     after_first : (k : ℕ) → k < length rest → a.variable < (lit_at rest k).variable
     after_first zero lt = first lt
-    after_first (suc k) lt = let begins = first (omega arith) in let goes_on = clause.ascends 0 (suc k) (omega arith) lt in omega (arith, begins, goes_on)
+    after_first (suc k) lt = let begins = first (omega arith) in let goes_on =
+        clause.ascends 0 (suc k) (omega arith) lt in omega (arith, begins, goes_on)
 
-    ascends : (j k : ℕ) → j < k → k < suc (length rest) → (lit_at (a ∷ rest) j).variable < (lit_at (a ∷ rest) k).variable
+    ascends : (j k : ℕ) → j < k → k < suc (length rest) →
+        (lit_at (a ∷ rest) j).variable < (lit_at (a ∷ rest) k).variable
     ascends zero zero jk lt = absurd (omega arith)
     ascends zero (suc k) jk lt = after_first k (omega arith)
     ascends (suc j) zero jk lt = absurd (omega arith)
@@ -43,13 +47,17 @@ cons_formed n a rest counted within first clause = record { ascends = ascends; c
     each_within (suc k) lt = clause.within k (omega arith)
 
 pub single_formed : (n : ℕ) (a : Literal) → 1 ≤ a.variable → a.variable ≤ n → IsClause n (a ∷ [])
-single_formed n a counted within = cons_formed n a [] counted within (λ some. absurd (omega arith)) (nil_formed n)
+single_formed n a counted within = cons_formed n a [] counted within (λ some. absurd (omega arith))
+    (nil_formed n)
 
-pair_formed : (n : ℕ) (a b : Literal) → 1 ≤ a.variable → a.variable < b.variable → b.variable ≤ n → IsClause n (a ∷ b ∷ [])
-pair_formed n a b counted lt within = cons_formed n a (b ∷ []) counted (omega arith) (λ some. lt) (single_formed n b (omega arith) within)
+pair_formed : (n : ℕ) (a b : Literal) → 1 ≤ a.variable → a.variable < b.variable → b.variable ≤ n →
+    IsClause n (a ∷ b ∷ [])
+pair_formed n a b counted lt within = cons_formed n a (b ∷ []) counted (omega arith) (λ some. lt)
+    (single_formed n b (omega arith) within)
 
 -- two literals in order, and one before them
-in_order_formed : (n : ℕ) (a b : Literal) → 1 ≤ a.variable → 1 ≤ b.variable → a.variable ≤ n → b.variable ≤ n → a.variable ≢ b.variable → IsClause n (in_order a b)
+in_order_formed : (n : ℕ) (a b : Literal) → 1 ≤ a.variable → 1 ≤ b.variable → a.variable ≤ n →
+    b.variable ≤ n → a.variable ≢ b.variable → IsClause n (in_order a b)
 in_order_formed n a b p q r s ne = cases (ltb a.variable b.variable) refl
   where
     less : (x y : ℕ) → ltb x y ≡ true → x < y
@@ -62,35 +70,48 @@ in_order_formed n a b p q r s ne = cases (ltb a.variable b.variable) refl
     cases true e = pair_formed n a b p (less a.variable b.variable e) s
     cases false e = pair_formed n b a q (more a.variable b.variable e ne) r
 
-in_order_above : (x : ℕ) (a b : Literal) → x < a.variable → x < b.variable → x < (lit_at (in_order a b) 0).variable
+in_order_above : (x : ℕ) (a b : Literal) → x < a.variable → x < b.variable →
+    x < (lit_at (in_order a b) 0).variable
 in_order_above x a b p q = cases (ltb a.variable b.variable)
   where
     cases : (t : Bool) → x < (lit_at (cond t (a ∷ b ∷ []) (b ∷ a ∷ [])) 0).variable
     cases true = p
     cases false = q
 
-or_gate_formed : (n d : ℕ) (b c : Literal) → 1 ≤ b.variable → b.variable < d → b.variable < c.variable → c.variable ≢ d → d ≤ n → c.variable ≤ n → All (IsClause n) (or_gate d b c)
+or_gate_formed : (n d : ℕ) (b c : Literal) → 1 ≤ b.variable → b.variable < d → b.variable < c.variable →
+    c.variable ≢ d → d ≤ n → c.variable ≤ n → All (IsClause n) (or_gate d b c)
 or_gate_formed n d b c counted before_d before_c other d_le c_le =
-    All-cons (IsClause n) (b ∷ in_order (negative d) c) ((negate b ∷ positive d ∷ []) ∷ in_order (positive d) (negate c) ∷ [])
-    (cons_formed n b (in_order (negative d) c) counted (omega arith) (λ some. in_order_above b.variable (negative d) c before_d before_c)
+    All-cons (IsClause n) (b ∷ in_order (negative d) c) ((negate b ∷ positive d ∷ [])
+    ∷ in_order (positive d) (negate c) ∷ [])
+    (cons_formed n b (in_order (negative d) c) counted (omega arith)
+    (λ some. in_order_above b.variable (negative d) c before_d before_c)
     (in_order_formed n (negative d) c (omega arith) (omega arith) d_le c_le (λ e. other (sym e))))
-    (All-cons (IsClause n) (negate b ∷ positive d ∷ []) (in_order (positive d) (negate c) ∷ []) (pair_formed n (negate b) (positive d) counted before_d d_le)
+    (All-cons (IsClause n) (negate b ∷ positive d ∷ []) (in_order (positive d) (negate c) ∷ [])
+    (pair_formed n (negate b) (positive d) counted before_d d_le)
     (All-cons (IsClause n) (in_order (positive d) (negate c)) []
-    (in_order_formed n (positive d) (negate c) (omega arith) (omega arith) d_le c_le (λ e. other (sym e))) (All-nil (IsClause n))))
+    (in_order_formed n (positive d) (negate c) (omega arith) (omega arith) d_le c_le (λ e. other (sym e)))
+    (All-nil (IsClause n))))
 
-and_gate_formed : (n e : ℕ) (b c : Literal) → 1 ≤ b.variable → b.variable < c.variable → c.variable < e → e ≤ n → All (IsClause n) (and_gate e b c)
+and_gate_formed : (n e : ℕ) (b c : Literal) → 1 ≤ b.variable → b.variable < c.variable → c.variable < e →
+    e ≤ n → All (IsClause n) (and_gate e b c)
 and_gate_formed n e b c counted before after_ e_le =
-    All-cons (IsClause n) (b ∷ negative e ∷ []) ((c ∷ negative e ∷ []) ∷ (negate b ∷ negate c ∷ positive e ∷ []) ∷ []) (pair_formed n b (negative e) counted (omega arith) e_le)
-    (All-cons (IsClause n) (c ∷ negative e ∷ []) ((negate b ∷ negate c ∷ positive e ∷ []) ∷ []) (pair_formed n c (negative e) (omega arith) after_ e_le)
+    All-cons (IsClause n) (b ∷ negative e ∷ []) ((c ∷ negative e ∷ [])
+    ∷ (negate b ∷ negate c ∷ positive e ∷ []) ∷ [])
+    (pair_formed n b (negative e) counted (omega arith) e_le)
+    (All-cons (IsClause n) (c ∷ negative e ∷ []) ((negate b ∷ negate c ∷ positive e ∷ []) ∷ [])
+    (pair_formed n c (negative e) (omega arith) after_ e_le)
     (All-cons (IsClause n) (negate b ∷ negate c ∷ positive e ∷ []) []
-    (cons_formed n (negate b) (negate c ∷ positive e ∷ []) counted (omega arith) (λ some. before) (pair_formed n (negate c) (positive e) (omega arith) after_ e_le)) (All-nil (IsClause n))))
+    (cons_formed n (negate b) (negate c ∷ positive e ∷ []) counted (omega arith) (λ some. before)
+    (pair_formed n (negate c) (positive e) (omega arith) after_ e_le)) (All-nil (IsClause n))))
 
 -- what stands for the later literals is a fresh variable, or the last literal
-some_of_is : (P : ℕ → Type 0) (d : ℕ) (c : Literal) (rest : List Literal) → P c.variable → (0 < length rest → P d) → P (some_of d (c ∷ rest)).variable
+some_of_is : (P : ℕ → Type 0) (d : ℕ) (c : Literal) (rest : List Literal) → P c.variable →
+    (0 < length rest → P d) → P (some_of d (c ∷ rest)).variable
 some_of_is P d c [] old fresh = old
 some_of_is P d c (x ∷ rest) old fresh = fresh (omega arith)
 
-or_clauses_formed : (m n d : ℕ) (lits : List Literal) → IsClause m lits → m < d → d + (length lits - 1) ≤ n + 1 → All (IsClause n) (or_clauses d lits)
+or_clauses_formed : (m n d : ℕ) (lits : List Literal) → IsClause m lits → m < d →
+    d + (length lits - 1) ≤ n + 1 → All (IsClause n) (or_clauses d lits)
 or_clauses_formed m n d [] clause fresh le = All-nil (IsClause n)
 or_clauses_formed m n d (b ∷ []) clause fresh le = All-nil (IsClause n)
 or_clauses_formed m n d (b ∷ c ∷ rest) clause fresh le =
@@ -100,12 +121,15 @@ or_clauses_formed m n d (b ∷ c ∷ rest) clause fresh le =
     All-append (IsClause n) (or_gate d b (some_of (d + 1) (c ∷ rest))) (or_clauses (d + 1) (c ∷ rest))
     (or_gate_formed n d b (some_of (d + 1) (c ∷ rest)) b_counted (omega (arith, before, c_within, fresh))
     (some_of_is (λ x. b.variable < x) (d + 1) c rest before (λ some. omega (arith, before, c_within, fresh)))
-    (some_of_is (λ x. x ≢ d) (d + 1) c rest (λ e. omega (arith, e, c_within, fresh)) (λ some e. omega (arith, e)))
+    (some_of_is (λ x. x ≢ d) (d + 1) c rest (λ e. omega (arith, e, c_within, fresh))
+    (λ some e. omega (arith, e)))
     (omega arith)
     (some_of_is (λ x. x ≤ n) (d + 1) c rest (omega (arith, c_within, fresh, le)) (λ some. omega arith)))
-    (or_clauses_formed m n (d + 1) (c ∷ rest) (IsClause-rest m b (c ∷ rest) clause) (omega arith) (omega arith))
+    (or_clauses_formed m n (d + 1) (c ∷ rest) (IsClause-rest m b (c ∷ rest) clause) (omega arith)
+    (omega arith))
 
-and_clauses_formed : (m n d e : ℕ) (lits : List Literal) → IsClause m lits → m < d → m < e → (2 < length lits → d < e) → e + (length lits - 1) ≤ n + 1 → All (IsClause n) (and_clauses d e lits)
+and_clauses_formed : (m n d e : ℕ) (lits : List Literal) → IsClause m lits → m < d → m < e →
+    (2 < length lits → d < e) → e + (length lits - 1) ≤ n + 1 → All (IsClause n) (and_clauses d e lits)
 and_clauses_formed m n d e [] clause fresh_d fresh_e apart le = All-nil (IsClause n)
 and_clauses_formed m n d e (b ∷ []) clause fresh_d fresh_e apart le = All-nil (IsClause n)
 and_clauses_formed m n d e (b ∷ c ∷ rest) clause fresh_d fresh_e apart le =
@@ -117,61 +141,88 @@ and_clauses_formed m n d e (b ∷ c ∷ rest) clause fresh_d fresh_e apart le =
     (some_of_is (λ x. b.variable < x) d c rest before (λ some. omega (arith, before, c_within, fresh_d)))
     (some_of_is (λ x. x < e) d c rest (omega (arith, c_within, fresh_e)) (λ some. apart (omega arith)))
     (omega arith))
-    (and_clauses_formed m n (d + 1) (e + 1) (c ∷ rest) (IsClause-rest m b (c ∷ rest) clause) (omega arith) (omega arith) (λ many. let a = apart (omega arith) in omega (arith, a)) (omega arith))
+    (and_clauses_formed m n (d + 1) (e + 1) (c ∷ rest) (IsClause-rest m b (c ∷ rest) clause) (omega arith)
+    (omega arith) (λ many. let a = apart (omega arith) in omega (arith, a)) (omega arith))
 
-pub split_formed : (m n : ℕ) (lits : List Literal) → IsClause m lits → m + fresh_count (length lits) ≤ n → All (IsClause n) (split_clauses (m + 1) lits)
+pub split_formed : (m n : ℕ) (lits : List Literal) → IsClause m lits → m + fresh_count (length lits) ≤ n →
+    All (IsClause n) (split_clauses (m + 1) lits)
 split_formed m n [] clause le = All-nil (IsClause n)
 split_formed m n (b ∷ rest) clause le =
-    All-append (IsClause n) (or_clauses (m + 1) rest) (and_clauses (m + 1) (m + 1 + (length rest - 1)) (b ∷ rest))
+    All-append (IsClause n) (or_clauses (m + 1) rest)
+    (and_clauses (m + 1) (m + 1 + (length rest - 1)) (b ∷ rest))
     (or_clauses_formed m n (m + 1) rest (IsClause-rest m b rest clause) (omega arith) (omega arith))
-    (and_clauses_formed m n (m + 1) (m + 1 + (length rest - 1)) (b ∷ rest) clause (omega arith) (omega arith) (λ many. omega arith) (omega arith))
+    (and_clauses_formed m n (m + 1) (m + 1 + (length rest - 1)) (b ∷ rest) clause (omega arith)
+    (omega arith) (λ many. omega arith) (omega arith))
 
 -- clauses that are kept
 abbrev pub AreFormed : ℕ → List Kept → Type 0
 AreFormed n clauses = All (λ (k : Kept). IsClause n k.lits) clauses
 
-pub kept_formed : (n : ℕ) (origin : Origin) (cs : List (List Literal)) → All (IsClause n) cs → AreFormed n (map (kept origin) cs)
+pub kept_formed : (n : ℕ) (origin : Origin) (cs : List (List Literal)) → All (IsClause n) cs →
+    AreFormed n (map (kept origin) cs)
 kept_formed n origin cs all = All-map (λ (k : Kept). IsClause n k.lits) (kept origin) cs all
 
 pub one_formed : (n : ℕ) (origin : Origin) (clauses : List Kept) (lits : List Literal) → AreFormed n clauses →
     IsClause n lits → AreFormed n (clauses ++ kept origin lits ∷ [])
 one_formed n origin clauses lits all clause =
     All-append (λ (k : Kept). IsClause n k.lits) clauses (kept origin lits ∷ []) all
-    (All-cons (λ (k : Kept). IsClause n k.lits) (kept origin lits) [] clause (All-nil (λ (k : Kept). IsClause n k.lits)))
+    (All-cons (λ (k : Kept). IsClause n k.lits) (kept origin lits) [] clause
+    (All-nil (λ (k : Kept). IsClause n k.lits)))
 
-pub core_formed : (m n : ℕ) (clauses : List Kept) (lits : List Literal) → AreFormed m clauses → IsClause m lits → m + fresh_count (length lits) ≤ n →
-    AreFormed n (clauses ++ kept origins.Core lits ∷ [] ++ map (kept origins.Split) (split_clauses (m + 1) lits))
+pub core_formed : (m n : ℕ) (clauses : List Kept) (lits : List Literal) → AreFormed m clauses →
+    IsClause m lits → m + fresh_count (length lits) ≤ n →
+    AreFormed n (clauses ++ kept origins.Core lits ∷ []
+    ++ map (kept origins.Split) (split_clauses (m + 1) lits))
 core_formed m n clauses lits all clause le =
-    All-append (λ (k : Kept). IsClause n k.lits) (clauses ++ kept origins.Core lits ∷ []) (map (kept origins.Split) (split_clauses (m + 1) lits))
+    All-append (λ (k : Kept). IsClause n k.lits) (clauses ++ kept origins.Core lits ∷ [])
+    (map (kept origins.Split) (split_clauses (m + 1) lits))
     (All-append (λ (k : Kept). IsClause n k.lits) clauses (kept origins.Core lits ∷ [])
-    (All-weaker (λ (k : Kept). IsClause m k.lits) (λ (k : Kept). IsClause n k.lits) (λ k c. IsClause-more m n k.lits (omega arith) c) clauses all)
-    (All-cons (λ (k : Kept). IsClause n k.lits) (kept origins.Core lits) [] (IsClause-more m n lits (omega arith) clause) (All-nil (λ (k : Kept). IsClause n k.lits))))
+    (All-weaker (λ (k : Kept). IsClause m k.lits) (λ (k : Kept). IsClause n k.lits)
+    (λ k c. IsClause-more m n k.lits (omega arith) c) clauses all)
+    (All-cons (λ (k : Kept). IsClause n k.lits) (kept origins.Core lits) []
+    (IsClause-more m n lits (omega arith) clause) (All-nil (λ (k : Kept). IsClause n k.lits))))
     (kept_formed n origins.Split (split_clauses (m + 1) lits) (split_formed m n lits clause le))
 
 -- clauses are deleted
-without_formed : (n : ℕ) (clauses : List Kept) (number : ℕ) → AreFormed n clauses → AreFormed n (without clauses number)
+without_formed : (n : ℕ) (clauses : List Kept) (number : ℕ) → AreFormed n clauses →
+    AreFormed n (without clauses number)
 without_formed n clauses zero all = all
 without_formed n [] (suc k) all = all
 without_formed n (x ∷ xs) (suc zero) all =
-    All-cons (λ (y : Kept). IsClause n y.lits) (kept origins.Deleted x.lits) xs (All-head (λ (y : Kept). IsClause n y.lits) x xs all) (All-tail (λ (y : Kept). IsClause n y.lits) x xs all)
+    All-cons (λ (y : Kept). IsClause n y.lits) (kept origins.Deleted x.lits) xs
+    (All-head (λ (y : Kept). IsClause n y.lits) x xs all)
+    (All-tail (λ (y : Kept). IsClause n y.lits) x xs all)
 without_formed n (x ∷ xs) (suc (suc k)) all =
-    All-cons (λ (y : Kept). IsClause n y.lits) x (without xs (suc k)) (All-head (λ (y : Kept). IsClause n y.lits) x xs all) (without_formed n xs (suc k) (All-tail (λ (y : Kept). IsClause n y.lits) x xs all))
+    All-cons (λ (y : Kept). IsClause n y.lits) x (without xs (suc k))
+    (All-head (λ (y : Kept). IsClause n y.lits) x xs all)
+    (without_formed n xs (suc k) (All-tail (λ (y : Kept). IsClause n y.lits) x xs all))
 
-pub without_all_formed : (n : ℕ) (clauses : List Kept) (numbers : List ℕ) → AreFormed n clauses → AreFormed n (without_all clauses numbers)
+pub without_all_formed : (n : ℕ) (clauses : List Kept) (numbers : List ℕ) → AreFormed n clauses →
+    AreFormed n (without_all clauses numbers)
 without_all_formed n clauses [] all = all
-without_all_formed n clauses (number ∷ numbers) all = without_all_formed n (without clauses number) numbers (without_formed n clauses number all)
+without_all_formed n clauses (number ∷ numbers) all =
+    without_all_formed n (without clauses number) numbers (without_formed n clauses number all)
 
-clause_in : (n : ℕ) (clauses : List Kept) (k : ℕ) (c : List Literal) → AreFormed n clauses → live_lits (slice_get clauses k) ≡ Some c → IsClause n c
+clause_in : (n : ℕ) (clauses : List Kept) (k : ℕ) (c : List Literal) → AreFormed n clauses →
+    live_lits (slice_get clauses k) ≡ Some c → IsClause n c
 clause_in n [] k c all is = absurd (cc)
 clause_in n (x ∷ xs) zero c all is =
     subst (IsClause n) ((cond_some (is_live_origin x.origin) x.lits c is).1)
     (All-head (λ (y : Kept). IsClause n y.lits) x xs all)
-clause_in n (x ∷ xs) (suc k) c all is = clause_in n xs k c (All-tail (λ (y : Kept). IsClause n y.lits) x xs all) is
+clause_in n (x ∷ xs) (suc k) c all is = clause_in n xs k c
+    (All-tail (λ (y : Kept). IsClause n y.lits) x xs all) is
 
-pub clause_formed : (n : ℕ) (clauses : List Kept) (number : ℕ) (c : List Literal) → AreFormed n clauses → clause_at clauses number ≡ Some c → IsClause n c
+pub clause_formed : (n : ℕ) (clauses : List Kept) (number : ℕ) (c : List Literal) → AreFormed n clauses →
+    clause_at clauses number ≡ Some c → IsClause n c
 clause_formed n clauses zero c all is = absurd (cc)
 clause_formed n clauses (suc k) c all is = clause_in n clauses k c all is
 
 -- literals of variables that exist
-pub exist_formed : (m n : ℕ) (lits : List Literal) → IsClause m lits → ((k : ℕ) → k < length lits → (lit_at lits k).variable ≤ n) → IsClause n lits
-exist_formed m n lits clause within = record { ascends = clause.ascends; counted = clause.counted; within = within }
+pub exist_formed : (m n : ℕ) (lits : List Literal) → IsClause m lits →
+    ((k : ℕ) → k < length lits → (lit_at lits k).variable ≤ n) → IsClause n lits
+exist_formed m n lits clause within = record {
+  ascends = clause.ascends;
+  counted = clause.counted;
+  within =
+      within;
+}

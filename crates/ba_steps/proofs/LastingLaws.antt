@@ -26,7 +26,8 @@ lasting-append xs ys = ap all_lits (filter-append is_lasting xs ys)
     ∙ all_lits-append (filter is_lasting xs) (filter is_lasting ys)
 
 -- clauses of one lasting origin
-lasting_kept : (origin : Origin) (cs : List (List Literal)) → is_lasting_origin origin ≡ true → lasting (map (kept origin) cs) ≡ cs
+lasting_kept : (origin : Origin) (cs : List (List Literal)) → is_lasting_origin origin ≡ true →
+    lasting (map (kept origin) cs) ≡ cs
 lasting_kept origin [] lasts = refl
 lasting_kept origin (c ∷ cs) lasts = one (is_lasting_origin origin) lasts (lasting_kept origin cs lasts)
   where
@@ -43,12 +44,15 @@ given_implied cs v holds = ap (all_true v) (all_lits-kept origins.Given cs)
 -- lasting clauses are added
 more_implied : (xs ys : List Kept) → lasting ys ≡ all_lits ys → AreImplied xs → AreImplied (xs ++ ys)
 more_implied xs ys same h v holds =
-    let parts = and_parts (all_true v (lasting xs)) (all_true v (lasting ys)) (sym (all_true-append v (lasting xs) (lasting ys)) ∙ sym (ap (all_true v) (lasting-append xs ys)) ∙ holds) in
+    let parts = and_parts (all_true v (lasting xs)) (all_true v (lasting ys))
+    (sym (all_true-append v (lasting xs) (lasting ys)) ∙ sym (ap (all_true v) (lasting-append xs ys))
+    ∙ holds) in
     ap (all_true v) (all_lits-append xs ys) ∙ all_true-append v (all_lits xs) (all_lits ys)
     ∙ and_from (all_true v (all_lits xs)) (all_true v (all_lits ys)) (h v parts.0)
     (sym (ap (all_true v) same) ∙ parts.1)
 
-pub core_implied : (clauses : List Kept) (lits : List Literal) (splits : List (List Literal)) → AreImplied clauses →
+pub core_implied : (clauses : List Kept) (lits : List Literal) (splits : List (List Literal)) →
+    AreImplied clauses →
     AreImplied (clauses ++ kept origins.Core lits ∷ [] ++ map (kept origins.Split) splits)
 core_implied clauses lits splits h =
     more_implied (clauses ++ kept origins.Core lits ∷ []) (map (kept origins.Split) splits)
@@ -72,10 +76,14 @@ learnt_implied clauses lits follows h v holds =
     ap (all_true v) (all_lits-append clauses (kept origins.Learnt lits ∷ []))
     ∙ all_true-push v (all_lits clauses) lits before (follows v before)
 
-pub learn_implied : (s : State) (lits : List Literal) (hints : List ℕ) → learn_error s lits hints ≡ None → AreImplied s.clauses → AreImplied (s.clauses ++ kept origins.Learnt lits ∷ [])
+pub learn_implied : (s : State) (lits : List Literal) (hints : List ℕ) → learn_error s lits hints ≡ None →
+    AreImplied s.clauses → AreImplied (s.clauses ++ kept origins.Learnt lits ∷ [])
 learn_implied s lits hints none h =
-    let exists = no_error (lacks_variable s lits) BadVariable (error_if (is_spent s) WrongCount (error_if (holds_clause s.clauses lits) NotNew (hint_error s lits hints))) none in
-    let left = no_error (is_spent s) WrongCount (error_if (holds_clause s.clauses lits) NotNew (hint_error s lits hints)) exists.1 in
+    let exists = no_error (lacks_variable s lits) BadVariable
+    (error_if (is_spent s) WrongCount (error_if (holds_clause s.clauses lits) NotNew
+    (hint_error s lits hints))) none in
+    let left = no_error (is_spent s) WrongCount (error_if (holds_clause s.clauses lits) NotNew
+    (hint_error s lits hints)) exists.1 in
     let new = no_error (holds_clause s.clauses lits) NotNew (hint_error s lits hints) left.1 in
     learnt_implied s.clauses lits (λ v lives. follows_true s v lits hints new.1 lives) h
 
@@ -96,7 +104,8 @@ learnt_goes (Some k) e = of_origin k.origin e
     of_origin origins.Blocked e = absurd (cc)
     of_origin origins.Deleted e = refl
 
-lasting-without : (clauses : List Kept) (m : ℕ) → lasts (kept_at clauses m) ≡ false → lasting (without clauses m) ≡ lasting clauses
+lasting-without : (clauses : List Kept) (m : ℕ) → lasts (kept_at clauses m) ≡ false →
+    lasting (without clauses m) ≡ lasting clauses
 lasting-without clauses zero goes = refl
 lasting-without [] (suc k) goes = refl
 lasting-without (x ∷ xs) (suc zero) goes = drops (is_lasting x) goes
@@ -114,7 +123,8 @@ lasting-without (x ∷ xs) (suc (suc k)) goes = keeps (is_lasting x) (lasting-wi
     keeps true e = ap (λ cs. x.lits ∷ cs) e
     keeps false e = e
 
-still_goes : (clauses : List Kept) (m n : ℕ) → lasts (kept_at clauses n) ≡ false → lasts (kept_at (without clauses m) n) ≡ false
+still_goes : (clauses : List Kept) (m n : ℕ) → lasts (kept_at clauses n) ≡ false →
+    lasts (kept_at (without clauses m) n) ≡ false
 still_goes clauses zero n goes = goes
 still_goes clauses (suc j) zero goes = refl
 still_goes [] (suc j) (suc k) goes = refl
@@ -124,16 +134,20 @@ still_goes (x ∷ xs) (suc (suc j)) (suc zero) goes = goes
 still_goes (x ∷ xs) (suc (suc j)) (suc (suc k)) goes = still_goes xs (suc j) (suc k) goes
 
 -- learnt clauses are deleted: none of the lasting ones
-lasting-without_all : (clauses less : List Kept) (numbers : List ℕ) → ((n : ℕ) → lasts (kept_at clauses n) ≡ false → lasts (kept_at less n) ≡ false) →
-    list_all (λ (n : ℕ). is_learnt_at clauses n && ltb 2 (width_at clauses n)) numbers ≡ true → lasting (without_all less numbers) ≡ lasting less
+lasting-without_all : (clauses less : List Kept) (numbers : List ℕ) →
+    ((n : ℕ) → lasts (kept_at clauses n) ≡ false → lasts (kept_at less n) ≡ false) →
+    list_all (λ (n : ℕ). is_learnt_at clauses n && ltb 2 (width_at clauses n)) numbers ≡ true →
+    lasting (without_all less numbers) ≡ lasting less
 lasting-without_all clauses less [] same go = refl
 lasting-without_all clauses less (m ∷ ms) same go =
-    let parts = and_parts (is_learnt_at clauses m && ltb 2 (width_at clauses m)) (list_all (λ (n : ℕ). is_learnt_at clauses n && ltb 2 (width_at clauses n)) ms) go in
+    let parts = and_parts (is_learnt_at clauses m && ltb 2 (width_at clauses m))
+    (list_all (λ (n : ℕ). is_learnt_at clauses n && ltb 2 (width_at clauses n)) ms) go in
     let learnt = and_parts (is_learnt_at clauses m) (ltb 2 (width_at clauses m)) parts.0 in
     lasting-without_all clauses (without less m) ms (λ n goes. still_goes less m n (same n goes)) parts.1
     ∙ lasting-without less m (same m (learnt_goes (kept_at clauses m) learnt.0))
 
-pub deleted_implied : (clauses : List Kept) (numbers : List ℕ) → list_all (λ (n : ℕ). is_learnt_at clauses n && ltb 2 (width_at clauses n)) numbers ≡ true →
+pub deleted_implied : (clauses : List Kept) (numbers : List ℕ) →
+    list_all (λ (n : ℕ). is_learnt_at clauses n && ltb 2 (width_at clauses n)) numbers ≡ true →
     AreImplied clauses → AreImplied (without_all clauses numbers)
 deleted_implied clauses numbers go h v holds =
     ap (all_true v) (all_lits-without_all clauses numbers)

@@ -11,3 +11,4 @@ pub mod BlockLaws
 pub mod LastingLaws
 pub mod StateLaws
 pub mod PutLaws
+pub mod OnceLaws

@@ -20,23 +20,30 @@ use Rattle.ba_steps.proofs.LastingLaws.{given_implied, core_implied, learn_impli
 use Rattle.ba_steps.specs.Blocks.{lacks_group, block_clause}
 use Rattle.ba_steps.proofs.BlockLaws.{block_formed}
 
-none_at : (p : Literal → Bool) (xs : List Literal) (k : ℕ) → list_any p xs ≡ false → k < length xs → p (lit_at xs k) ≡ false
+none_at : (p : Literal → Bool) (xs : List Literal) (k : ℕ) → list_any p xs ≡ false → k < length xs →
+    p (lit_at xs k) ≡ false
 none_at p [] k none lt = absurd (omega arith)
 none_at p (x ∷ xs) zero none lt = (or_parts (p x) (list_any p xs) none).0
 none_at p (x ∷ xs) (suc k) none lt = none_at p xs k (or_parts (p x) (list_any p xs) none).1 (omega arith)
 
 -- a formed clause of variables that exist
-pub exist_clause : (s : State) (lits : List Literal) → AreFormedLits lits → lacks_variable s lits ≡ false → IsClause s.variables lits
+pub exist_clause : (s : State) (lits : List Literal) → AreFormedLits lits → lacks_variable s lits ≡ false →
+    IsClause s.variables lits
 exist_clause s lits formed exists =
-    exist_formed (2 ^ 62 - 1) s.variables lits formed.0 (λ k lt. below s.variables (lit_at lits k).variable (none_at (λ (l : Literal). ltb s.variables l.variable) lits k exists lt))
+    exist_formed (2 ^ 62 - 1) s.variables lits formed.0
+    (λ k lt. below s.variables (lit_at lits k).variable
+    (none_at (λ (l : Literal). ltb s.variables l.variable) lits k exists lt))
   where
     below : (n x : ℕ) → ltb n x ≡ false → x ≤ n
     below n x e = grind (arith, nat_tests)
 
 -- the weight of a core is at least 1
-core_weight : (softs : List Soft) (lits : List Literal) → 0 < length lits → lacks_soft softs lits ≡ false → All (λ (s : Soft). 1 ≤ s.1) softs → 1 ≤ unwrap_or (lightest lits softs) 0
+core_weight : (softs : List Soft) (lits : List Literal) → 0 < length lits → lacks_soft softs lits ≡ false →
+    All (λ (s : Soft). 1 ≤ s.1) softs → 1 ≤ unwrap_or (lightest lits softs) 0
 core_weight softs [] some known weighty = absurd (omega arith)
-core_weight softs (b ∷ rest) some known weighty = lightest_weighty (b ∷ rest) softs b weighty (here b rest) (there (is_soft softs (negate b)) (lacks_soft softs rest) known)
+core_weight softs (b ∷ rest) some known weighty =
+    lightest_weighty (b ∷ rest) softs b weighty (here b rest)
+    (there (is_soft softs (negate b)) (lacks_soft softs rest) known)
   where
     here : (b : Literal) (rest : List Literal) → has_literal b (b ∷ rest) ≡ true
     here b rest = grind (arith, nat_tests)
@@ -51,15 +58,20 @@ pub core_state : (seen : State) (variables : ℕ) (clauses : List Kept) (groups 
     IsState variables clauses groups softs conflicts budget learnt refused → variables ≡ seen.variables →
     softs ≡ seen.softs → refused ≡ false → conflicts < budget →
     AreFormedLits lits → lacks_variable seen lits ≡ false → lacks_soft seen.softs lits ≡ false →
-    fresh ≡ fresh_count (length lits) → variables + fresh < 2 ^ 62 → w ≡ unwrap_or (lightest lits softs) 0 → e ≡ variables + 1 + (length lits - 2) →
-    more ≡ lowered lits w softs ++ late_softs w e lits → one ≡ clauses ++ kept origins.Core lits ∷ [] → grown ≡ one ++ map (kept origins.Split) (split_clauses (variables + 1) lits) →
+    fresh ≡ fresh_count (length lits) → variables + fresh < 2 ^ 62 → w ≡ unwrap_or (lightest lits softs) 0 →
+    e ≡ variables + 1 + (length lits - 2) →
+    more ≡ lowered lits w softs ++ late_softs w e lits → one ≡ clauses ++ kept origins.Core lits ∷ [] →
+    grown ≡ one ++ map (kept origins.Split) (split_clauses (variables + 1) lits) →
     IsState (variables + fresh) grown groups more (conflicts + 1) budget learnt false
 core_state seen variables clauses groups softs conflicts budget learnt refused lits fresh w e one grown
     more h variables_is softs_is awake left formed exists known fresh_is few w_is e_is more_is one_is
     grown_is = record {
       few = few;
-      formed = λ _. rw (grown_is, one_is) (core_formed variables (variables + fresh) clauses lits (h.formed awake) (rw variables_is (exist_clause seen lits formed exists)) (omega (arith, fresh_is)));
-      implied = λ _. rw (grown_is, one_is) (core_implied clauses lits (split_clauses (variables + 1) lits) (h.implied awake));
+      formed = λ _. rw (grown_is, one_is) (core_formed variables (variables + fresh) clauses lits
+          (h.formed awake) (rw variables_is (exist_clause seen lits formed exists))
+          (omega (arith, fresh_is)));
+      implied = λ _. rw (grown_is, one_is) (core_implied clauses lits (split_clauses (variables + 1) lits)
+          (h.implied awake));
       groups_among = All-weaker (λ (s : Soft). (1 ≤ s.0.variable) × (s.0.variable ≤ variables))
           (λ (s : Soft). (1 ≤ s.0.variable) × (s.0.variable ≤ variables + fresh)) (λ s p. (
             p.0,
@@ -70,10 +82,17 @@ core_state seen variables clauses groups softs conflicts budget learnt refused l
           ))
           (present groups) h.groups_among;
       groups_differ = h.groups_differ;
-      among = rw more_is (All-append (λ (s : Soft). (1 ≤ s.0.variable) × (s.0.variable ≤ variables + fresh)) (lowered lits w softs) (late_softs w e lits)
-          (lowered-all (λ (s : Soft). (1 ≤ s.0.variable) × (s.0.variable ≤ variables + fresh)) w lits softs (λ s p lt. p) (All-weaker (λ (s : Soft). (1 ≤ s.0.variable) × (s.0.variable ≤ variables)) (λ (s : Soft). (1 ≤ s.0.variable) × (s.0.variable ≤ variables + fresh)) (λ s p. (p.0, omega (arith, p.1))) softs h.among))
-          (late-all (λ (s : Soft). (1 ≤ s.0.variable) × (s.0.variable ≤ variables + fresh)) w e lits (λ x ge lt. (omega (arith, e_is), omega (arith, e_is, fresh_is)))));
-      differ = rw more_is (apart (variables + 1) w e (lowered lits w softs) lits (omega (arith, e_is)) (lowered-below (variables + 1) w lits softs (among-below variables softs h.among)) (lowered-different w lits softs h.differ));
+      among = rw more_is (All-append (λ (s : Soft). (1 ≤ s.0.variable) × (s.0.variable ≤ variables + fresh))
+          (lowered lits w softs) (late_softs w e lits)
+          (lowered-all (λ (s : Soft). (1 ≤ s.0.variable) × (s.0.variable ≤ variables + fresh)) w lits softs
+          (λ s p lt. p) (All-weaker (λ (s : Soft). (1 ≤ s.0.variable) × (s.0.variable ≤ variables))
+          (λ (s : Soft). (1 ≤ s.0.variable) × (s.0.variable ≤ variables + fresh))
+          (λ s p. (p.0, omega (arith, p.1))) softs h.among))
+          (late-all (λ (s : Soft). (1 ≤ s.0.variable) × (s.0.variable ≤ variables + fresh)) w e lits
+          (λ x ge lt. (omega (arith, e_is), omega (arith, e_is, fresh_is)))));
+      differ = rw more_is (apart (variables + 1) w e (lowered lits w softs) lits (omega (arith, e_is))
+          (lowered-below (variables + 1) w lits softs (among-below variables softs h.among))
+          (lowered-different w lits softs h.differ));
       weighty = rw more_is (All-append (λ (s : Soft). 1 ≤ s.1) (lowered lits w softs) (late_softs w e lits)
           (lowered-all (λ (s : Soft). 1 ≤ s.1) w lits softs (λ s p lt. omega (arith, lt)) h.weighty)
           (late-all (λ (s : Soft). 1 ≤ s.1) w e lits (λ x ge lt. heavy)));
@@ -87,41 +106,47 @@ core_state seen variables clauses groups softs conflicts budget learnt refused l
         let a = core_weight softs lits formed.1 k h.weighty in
         omega (arith, a, w_is)
 
-pub first_state_holds : (variables : ℕ) (cs : List (List Literal)) (softs given : List Soft) (clauses : List Kept) (conflicts : ℕ) →
+pub first_state_holds : (variables : ℕ) (cs : List (List Literal)) (softs given : List Soft)
+    (clauses : List Kept) (conflicts : ℕ) →
     variables < 2 ^ 62 → All (IsClause variables) cs → AreSelectors variables given → clauses ≡ map (kept
     origins.Given) cs → softs ≡ present given → IsState variables clauses given softs 0 conflicts 0 false
-first_state_holds variables cs softs given clauses conflicts few formed selectors clauses_is softs_is = rw (clauses_is, softs_is) (record {
-  few = few;
-  formed = λ _. kept_formed variables origins.Given cs formed;
-  implied = λ _. given_implied cs;
-  groups_among = selectors.among;
-  groups_differ = selectors.differ;
-  among = selectors.among;
-  differ = selectors.differ;
-  weighty = present_weighty given;
-  within = omega arith;
-  learnt_within = omega arith;
-})
+first_state_holds variables cs softs given clauses conflicts few formed selectors clauses_is softs_is =
+    rw (clauses_is, softs_is) (record {
+      few = few;
+      formed = λ _. kept_formed variables origins.Given cs formed;
+      implied = λ _. given_implied cs;
+      groups_among = selectors.among;
+      groups_differ = selectors.differ;
+      among = selectors.among;
+      differ = selectors.differ;
+      weighty = present_weighty given;
+      within = omega arith;
+      learnt_within = omega arith;
+    })
 
-pub first_state_as : (n variables : ℕ) (cs : List (List Literal)) (softs given : List Soft) (clauses : List Kept) (conflicts : ℕ) →
+pub first_state_as : (n variables : ℕ) (cs : List (List Literal)) (softs given : List Soft)
+    (clauses : List Kept) (conflicts : ℕ) →
     variables ≡ n → variables < 2 ^ 62 → All (IsClause n) cs → AreSelectors n given → clauses ≡ map (kept
     origins.Given) cs → softs ≡ present given → IsState variables clauses given softs 0 conflicts 0 false
 first_state_as n variables cs softs given clauses conflicts is few formed selectors clauses_is softs_is =
-    rw is (first_state_holds n cs softs given clauses conflicts (rw (← is) few) formed selectors clauses_is softs_is)
+    rw is (first_state_holds n cs softs given clauses conflicts (rw (← is) few) formed selectors clauses_is
+    softs_is)
 
 -- a clause is learnt
 pub learnt_state : (seen : State) (variables : ℕ) (clauses grown : List Kept) (groups softs : List Soft)
     (conflicts budget learnt : ℕ) (refused : Bool) (lits : List Literal) (hints : List ℕ) →
     IsState variables clauses groups softs conflicts budget learnt refused → variables ≡ seen.variables →
     clauses ≡ seen.clauses → conflicts < budget →
-    AreFormedLits lits → lacks_variable seen lits ≡ false → learn_error seen lits hints ≡ None → grown ≡ clauses ++ kept origins.Learnt lits ∷ [] →
+    AreFormedLits lits → lacks_variable seen lits ≡ false → learn_error seen lits hints ≡ None →
+    grown ≡ clauses ++ kept origins.Learnt lits ∷ [] →
     IsState variables grown groups softs (conflicts + 1) budget (learnt + 1) refused
 learnt_state seen variables clauses grown groups softs conflicts budget learnt refused lits hints h
     variables_is clauses_is left formed exists none grown_is = record {
       few = h.few;
       formed = λ awake. rw grown_is (one_formed variables origins.Learnt clauses lits (h.formed awake) (rw
           variables_is (exist_clause seen lits formed exists)));
-      implied = λ awake. rw (grown_is, clauses_is) (learn_implied seen lits hints none (rw (← clauses_is) (h.implied awake)));
+      implied = λ awake. rw (grown_is, clauses_is) (learn_implied seen lits hints none
+          (rw (← clauses_is) (h.implied awake)));
       groups_among = h.groups_among;
       groups_differ = h.groups_differ;
       among = h.among;

@@ -45,7 +45,8 @@ pub record AreSelectors (variables : ℕ) (softs : List Soft) : Type 0 where
 
 -- what holds of every state of a checker; where memory refuses, nothing is said of its clauses. The learnt clauses, also
 -- the deleted ones, hold wherever the lasting ones do
-pub record IsState (variables : ℕ) (clauses : List Kept) (groups softs : List Soft) (conflicts budget learnt : ℕ) (refused : Bool) : Type 0 where
+pub record IsState (variables : ℕ) (clauses : List Kept) (groups softs : List Soft)
+    (conflicts budget learnt : ℕ) (refused : Bool) : Type 0 where
   pub few : variables < 2 ^ 62
   pub formed : refused ≡ false → All (λ (k : Kept). IsClause variables k.lits) clauses
   pub implied : refused ≡ false → (v : Assignment) → all_true v (lasting clauses) ≡ true →
@@ -99,7 +100,8 @@ pub record IsBlocked (good : Judge) (groups : List Soft) (bound : ℕ) (set : Li
 -- the bound plus the weights of the present soft literals that are false under the extension; (3) the blocked sets differ,
 -- and each has the bound as its weight, and a good run; (4) the present soft literals are of different variables that exist,
 -- with weights of at least 1, and all clauses of the formula, of the splits and of the blocked sets are live
-pub record Holds (good : Judge) (formula : Cnf) (softs : List Soft) (splits : List (List Literal)) (s : State) : Type 0 where
+pub record Holds (good : Judge) (formula : Cnf) (softs : List Soft) (splits : List (List Literal))
+    (s : State) : Type 0 where
   pub extends : (v : Assignment) → all_true v formula.clauses ≡ true →
       all_true v (block_clauses softs s.sets) ≡ true →
       (z : Assignment) × Agree

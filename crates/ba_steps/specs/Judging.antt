@@ -64,6 +64,11 @@ is_memory (Ok _) = false
 is_memory (Err Memory) = true
 is_memory (Err error) = false
 
+-- a Delete step takes no memory
+abbrev pub KeepsMemory : CertStep → Result Unit StepError → Type 0
+KeepsMemory (Delete clauses) result = is_memory result ≡ false
+KeepsMemory step result = Unit {0}
+
 -- the first error of each step before the end
 abbrev pub learn_error : State → List Literal → List ℕ → Option StepError
 learn_error s lits hints =
@@ -150,7 +155,8 @@ after_learn s lits = record s {
 abbrev pub after_core : State → List Literal → State
 after_core s lits = let w = unwrap_or (lightest lits s.softs) 0 in record s {
   variables = s.variables + fresh_count (length lits);
-  clauses = s.clauses ++ (kept origins.Core lits ∷ map (kept origins.Split) (split_clauses (s.variables + 1) lits));
+  clauses = s.clauses ++ (kept origins.Core lits
+      ∷ map (kept origins.Split) (split_clauses (s.variables + 1) lits));
   softs = lowered lits w s.softs ++ split_softs w (s.variables + 1) lits;
   bound = s.bound + w;
   conflicts = s.conflicts + 1;

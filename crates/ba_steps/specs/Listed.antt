@@ -33,7 +33,8 @@ pub record AreLinks (keys heads earlier : List ℕ) : Type 0 where
   pub same : length earlier ≡ length keys
   pub few : length keys < 2 ^ 32
   pub heads_are : (key : ℕ) → slice_index heads key ≡ latest keys key (length keys)
-  pub earlier_are : (place : ℕ) → place < length keys → slice_index earlier place ≡ latest keys (slice_index keys place) place
+  pub earlier_are : (place : ℕ) → place < length keys →
+      slice_index earlier place ≡ latest keys (slice_index keys place) place
 
 -- a key of a clause: the index of one of its literals, or 0 for the empty clause
 abbrev pub is_key : ℕ → List Literal → Bool
@@ -59,16 +60,24 @@ abbrev pub key_anew : Bool → ℕ → ℕ
 key_anew keeps key = if keeps then key else 1
 
 abbrev pub anew : Bool → Node → List ℕ → Node
-anew keeps n heads = record { key = key_anew keeps n.key; second = n.second; third = n.third; earlier = slice_index heads (key_anew keeps n.key) }
+anew keeps n heads = record {
+  key = key_anew keeps n.key;
+  second = n.second;
+  third = n.third;
+  earlier =
+      slice_index heads (key_anew keeps n.key);
+}
 
 -- the clauses below place n are linked, where all were
-pub record AreLinkedBelow (n : ℕ) (all : List Keys) (heads earlier : List ℕ) (clauses : List Kept) : Type 0 where
-  pub same : length earlier ≡ length all
-  pub few : length all < 2 ^ 32
-  pub heads_are : (key : ℕ) → slice_index heads key ≡ latest (firsts all) key n
-  pub earlier_are : (place : ℕ) → place < n → slice_index earlier place ≡ latest (firsts all) (slice_index (firsts all) place) place
-  pub room : (place : ℕ) → place < length all → slice_index (firsts all) place < length heads
-  pub listed : AreListed all clauses
+pub record AreLinkedBelow (n : ℕ) (all : List Keys) (heads earlier : List ℕ) (clauses : List Kept) : Type 0
+  where
+    pub same : length earlier ≡ length all
+    pub few : length all < 2 ^ 32
+    pub heads_are : (key : ℕ) → slice_index heads key ≡ latest (firsts all) key n
+    pub earlier_are : (place : ℕ) → place < n → slice_index earlier place
+        ≡ latest (firsts all) (slice_index (firsts all) place) place
+    pub room : (place : ℕ) → place < length all → slice_index (firsts all) place < length heads
+    pub listed : AreListed all clauses
 
 -- a live clause stands at the place, and has all its literals in these
 abbrev pub is_entry_part : Option Kept → List Literal → Bool
@@ -87,4 +96,5 @@ any_listed clauses keys key lits (suc n) =
 -- the same under one of the literals from here on
 abbrev pub under_any : List Kept → List ℕ → List Literal → ℕ → List Literal → Bool
 under_any clauses keys lits n [] = false
-under_any clauses keys lits n (l ∷ ls) = any_listed clauses keys (index_of l) lits n || under_any clauses keys lits n ls
+under_any clauses keys lits n (l ∷ ls) = any_listed clauses keys (index_of l) lits n
+    || under_any clauses keys lits n ls

@@ -22,7 +22,8 @@ in_order a b = if ltb a.variable b.variable then a ∷ b ∷ [] else b ∷ a ∷
 
 -- the variable d means `b or c`
 abbrev pub or_gate : ℕ → Literal → Literal → List (List Literal)
-or_gate d b c = (b ∷ in_order (negative d) c) ∷ (negate b ∷ positive d ∷ []) ∷ in_order (positive d) (negate c) ∷ []
+or_gate d b c = (b ∷ in_order (negative d) c) ∷ (negate b ∷ positive d ∷ [])
+    ∷ in_order (positive d) (negate c) ∷ []
 
 -- the variable e means `b and c`
 abbrev pub and_gate : ℕ → Literal → Literal → List (List Literal)
@@ -78,7 +79,8 @@ lesser w (Some u) = min w u
 -- the least weight of the soft literals whose negations stand in the core
 abbrev pub lightest : List Literal → List Soft → Option ℕ
 lightest core [] = None
-lightest core (s ∷ ss) = if has_literal (negate s.0) core then Some (lesser s.1 (lightest core ss)) else lightest core ss
+lightest core (s ∷ ss) = if has_literal (negate s.0) core then Some (lesser s.1 (lightest core ss))
+    else lightest core ss
 
 -- the soft literals whose negations stand in the core lose the weight w, and are gone at 0
 abbrev pub lowered : List Literal → ℕ → List Soft → List Soft

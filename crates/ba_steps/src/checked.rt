@@ -15,12 +15,22 @@ use std::marker::Model;
 
 /// A checker, with a judge of runs and a sink. Each step goes through the checker and then to the sink. After a refusal
 /// every further step is refused in the same way.
-#[derive(Drop)]
 pub struct Checked<S, J> {
     checker: Checker,
     judge: J,
     sink: S,
     refusal: Option<SinkError>,
+}
+
+impl<S: Drop, J: Drop> Drop for Checked<S, J> {
+    fn drop(self) {
+        let Checked {
+            checker: _,
+            judge: _,
+            sink: _,
+            refusal: _,
+        } = self;
+    }
 }
 
 impl<S, J> Model for Checked<S, J> {
@@ -67,7 +77,13 @@ impl<S: Drop, J: Drop> Checked<S, J> {
         ensures checker { result.0 ≡ self.checker }
         ensures sink { result.1 ≡ self.sink }
     {
-        (self.checker, self.sink)
+        let Checked {
+            checker,
+            judge: _,
+            sink,
+            refusal: _,
+        } = self;
+        (checker, sink)
     }
 }
 

@@ -8,7 +8,7 @@ ghost use Rattle.ba_lits.specs.Satisfaction.{Soft};
 ghost use Rattle.ba_steps.specs.States.{first_state, present, clause_at, is_learnt_at, kept};
 ghost use Rattle.ba_steps.specs.Facts.{AreSelectors, AreAmong, AreDifferent, IsState};
 ghost use Rattle.ba_steps.specs.Steps.{IsFormed, AreFormedLits, AreAbove};
-ghost use Rattle.ba_steps.specs.Judging.{Answers, Finds, Does, is_memory, is_spent, are_too_many, lacks_variable, lacks_soft, error_before_end, after};
+ghost use Rattle.ba_steps.specs.Judging.{Answers, Finds, Does, KeepsMemory, is_memory, is_spent, are_too_many, lacks_variable, lacks_soft, error_before_end, after};
 ghost use Rattle.ba_steps.specs.Judging.{learn_error, core_error, delete_error, block_error, located_error, no_repair_error, too_many_error, spent_error};
 ghost use Rattle.ba_steps.specs.Judging.{after_learn, after_core, after_delete, after_block};
 ghost use Rattle.ba_steps.specs.Blocks.{lacks_group};
@@ -31,7 +31,6 @@ use std::marker::Model;
 pub const APART_BY: u64 = 1000;
 
 /// The state of a derivation, to which steps are put one after the other.
-#[derive(Drop)]
 pub struct Checker {
     alloc: Global,
     variables: u64,
@@ -47,6 +46,27 @@ pub struct Checker {
     ended: bool,
     refused: bool,
     falses: LiteralSet,
+}
+
+impl Drop for Checker {
+    fn drop(self) {
+        let Checker {
+            alloc: _,
+            variables: _,
+            clauses: _,
+            groups: _,
+            softs: _,
+            bound: _,
+            sets: _,
+            conflicts: _,
+            budget: _,
+            learnt: _,
+            most_sets: _,
+            ended: _,
+            refused: _,
+            falses: _,
+        } = self;
+    }
 }
 
 impl Model for Checker {
@@ -115,10 +135,11 @@ impl Checker {
     /// the state is as before. The judge is asked for the run of a Block step alone, and after all its other tests.
     ///
     /// It may answer `Memory` in place of either, where the judge or the checker finds no memory, and answers it to every
-    /// step from then on.
+    /// step from then on. A Delete step takes no memory.
     pub fn step<J: RunJudge>(&mut self, step: &CertStep, judge: &J) -> Result<(), StepError>
         requires formed { IsFormed step.now }
         ensures exactly { Answers (J.accepts judge.now) self.old step.now self.new result }
+        ensures deletes { self.old.refused ≡ false → KeepsMemory step.now result }
     {
         if self.refused {
             return Err(StepError::Memory);
@@ -228,8 +249,10 @@ impl Checker {
     fn attempt<J: RunJudge>(&mut self, step: &CertStep, judge: &J) -> Result<(), StepError>
         requires formed { IsFormed step.now }
         requires awake { self.old.refused ≡ false }
-        ensures { Does self.old self.new (error_before_end (J.accepts judge.now) self.old step.now)
-            (after self.old step.now) result }
+        ensures does { Does self.old self.new
+            (error_before_end (J.accepts judge.now) self.old step.now) (after self.old step.now)
+            result }
+        ensures deletes { KeepsMemory step.now result }
     {
         match step {
             CertStep::Learn { lits, hints } => self.learn(lits.as_slice(), hints.as_slice()),
@@ -351,8 +374,9 @@ impl Checker {
 
     /// Takes a Delete step.
     fn delete(&mut self, numbers: &[u64]) -> Result<(), StepError>
-        ensures { Does self.old self.new (delete_error self.old numbers.now)
+        ensures does { Does self.old self.new (delete_error self.old numbers.now)
             (after_delete self.old numbers.now) result }
+        ensures enough { is_memory result ≡ false }
     {
         if !self.clauses.may_all_go(numbers) {
             return Err(StepError::DeadClause);

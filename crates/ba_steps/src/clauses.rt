@@ -17,10 +17,15 @@ use std::marker::Model;
 /// The clauses in the order of their numbers, which begin at 1. Each is listed under that of its literals under which
 /// the fewest were, so a clause whose literals all stand in a given one is found in the time of a few short lists.
 /// Deleted clauses keep their places; what stands in these lists is made anew after each deletion.
-#[derive(Drop)]
 pub struct Clauses {
     store: Store,
     index: Index,
+}
+
+impl Drop for Clauses {
+    fn drop(self) {
+        let Clauses { store: _, index: _ } = self;
+    }
 }
 
 impl Model for Clauses {

@@ -29,11 +29,20 @@ pub struct Node {
 
 /// For each clause, by its place, the keys under which it is listed. The clauses of a first key are linked from the
 /// latest to the earliest: links are places plus 1, and 0 where there is none. Contracts see the list of the keys.
-#[derive(Drop)]
 pub struct Index {
     nodes: Vec<Node>,
     heads: Vec<u32>,
     counts: Vec<u32>,
+}
+
+impl Drop for Index {
+    fn drop(self) {
+        let Index {
+            nodes: _,
+            heads: _,
+            counts: _,
+        } = self;
+    }
 }
 
 impl Model for Index {

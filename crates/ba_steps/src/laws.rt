@@ -1,6 +1,6 @@
 //! Laws of the definitions, each the clause of a function that does nothing.
 
-ghost use Rattle.std.specs.Prelude.{◌≡◌, ℕ, Option, Some, List, true, All};
+ghost use Rattle.std.specs.Prelude.{◌≡◌, ℕ, ◌≤◌, ◌∷◌, ◌++◌, Option, Some, List, true, All, length};
 ghost use Rattle.ba_lits.specs.Literals.{Literal};
 ghost use Rattle.ba_lits.specs.Satisfaction.{Assignment, any_true, Soft};
 ghost use Rattle.ba_lits.specs.Formulas.{Cnf};
@@ -10,6 +10,7 @@ ghost use Rattle.ba_steps.specs.States.{State, first_state};
 ghost use Rattle.ba_steps.specs.Judging.{Judge, after_all};
 ghost use Rattle.ba_steps.specs.Facts.{IsStart, splits_of, Holds};
 ghost use Rattle.ba_steps.specs.declared.step.CertStep.{CertStep};
+ghost use Rattle.ba_steps.specs.declared.step.CertStep.TheVariants.{Learn};
 
 /// A clause that follows by hints holds wherever the live clauses do.
 pub fn implied_law()
@@ -23,4 +24,11 @@ pub fn facts_law()
     ensures { (good : Judge) (formula : Cnf) (softs : List Soft) (conflicts sets : ℕ)
         → IsStart formula softs → (steps : List CertStep) → All IsFormed steps → (s : State)
         → after_all good (first_state formula softs conflicts sets) steps ≡ Some s → Holds good formula softs (splits_of (first_state formula softs conflicts sets) steps) s }
+{}
+
+/// No clause of at most two literals is learnt twice, whatever allowed steps come between.
+pub fn learnt_once_law()
+    ensures { (good : Judge) (s t : State) (before between rest : List CertStep)
+        → (lits : List Literal) (first second : List ℕ) → length lits ≤ 2
+        → after_all good s (before ++ Learn lits first ∷ (between ++ Learn lits second ∷ rest)) ≡ Some t → ⊥ }
 {}

@@ -10,16 +10,26 @@ use std::alloc::{AllocError, Global};
 use std::marker::Model;
 
 /// A list of choices, and the groups for which it is a good run.
-#[derive(Drop)]
 pub struct GoodRun {
     pub groups: Items<u32>,
     pub run: Items<Choice>,
 }
 
+impl Drop for GoodRun {
+    fn drop(self) {
+        let GoodRun { groups: _, run: _ } = self;
+    }
+}
+
 /// A judge for tests: exactly the runs that were added are good, for the groups that they were added with.
-#[derive(Drop)]
 pub struct ListJudge {
     runs: Items<GoodRun>,
+}
+
+impl Drop for ListJudge {
+    fn drop(self) {
+        let ListJudge { runs: _ } = self;
+    }
 }
 
 impl Model for ListJudge {

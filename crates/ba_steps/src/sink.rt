@@ -49,10 +49,18 @@ impl<T: Drop> From<AllocFailed<T>> for SinkError {
 }
 
 /// A formula with its soft literals, over which steps are taken.
-#[derive(Drop)]
 pub struct Basis {
     pub formula: Formula,
     pub softs: Items<(Lit, u32)>,
+}
+
+impl Drop for Basis {
+    fn drop(self) {
+        let Basis {
+            formula: _,
+            softs: _,
+        } = self;
+    }
 }
 
 /// A sink takes formulas, and then steps.
@@ -118,11 +126,20 @@ impl StepSink for NoSink {
 }
 
 /// A sink that keeps its formulas and steps, and tells them.
-#[derive(Drop)]
 pub struct ListSink {
     alloc: Global,
     steps: Vec<CertStep>,
     over: Vec<Basis>,
+}
+
+impl Drop for ListSink {
+    fn drop(self) {
+        let ListSink {
+            alloc: _,
+            steps: _,
+            over: _,
+        } = self;
+    }
 }
 
 impl Model for ListSink {

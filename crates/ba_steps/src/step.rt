@@ -11,7 +11,6 @@ use thiserror::Error;
 
 /// A step of a derivation. The literals of a step have strictly ascending variables and, but in `EndLocated`, are at
 /// least one; numbers of clauses are at least 1; all numbers are below 2^62, values without their signs.
-#[derive(Drop)]
 pub enum CertStep {
     /// The clause follows by the hints, numbers of live clauses, and is live from now on.
     Learn {
@@ -48,6 +47,21 @@ pub enum CertStep {
     EndTooMany,
     /// The stated number of conflicts is spent. It ends the derivation.
     EndSpent,
+}
+
+impl Drop for CertStep {
+    fn drop(self) {
+        match self {
+            CertStep::Learn { lits: _, hints: _ } => {}
+            CertStep::Core { lits: _, hints: _ } => {}
+            CertStep::Delete { clauses: _ } => {}
+            CertStep::Block { groups: _, run: _ } => {}
+            CertStep::EndLocated { lits: _, hints: _ } => {}
+            CertStep::EndNoRepair { hints: _ } => {}
+            CertStep::EndTooMany => {}
+            CertStep::EndSpent => {}
+        }
+    }
 }
 
 impl TryClone for CertStep {

@@ -27,11 +27,20 @@ pub enum Origin {
 
 /// The clauses in the order of their numbers, which begin at 1: one vector of literals, and the end of each clause
 /// in it.
-#[derive(Drop)]
 pub struct Store {
     lits: Vec<Lit>,
     ends: Vec<usize>,
     origins: Vec<Origin>,
+}
+
+impl Drop for Store {
+    fn drop(self) {
+        let Store {
+            lits: _,
+            ends: _,
+            origins: _,
+        } = self;
+    }
 }
 
 impl Model for Store {

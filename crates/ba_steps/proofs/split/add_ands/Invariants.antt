@@ -5,4 +5,5 @@ use Rattle.ba_steps.proofs.split.add_ands.Given as goal
 
 abbrev pub invariant-loop-place : goal.invariant-loop-place
 invariant-loop-place l =
-    l.clauses ++ split_kept (and_clauses (l.d + (l.place - 1)) (l.e + (l.place - 1)) (from l.place l.lits)) ≡ l.fn.clauses ++ split_kept (and_clauses l.d l.e l.lits)
+    l.clauses ++ split_kept (and_clauses (l.d + (l.place - 1)) (l.e + (l.place - 1)) (from l.place l.lits))
+    ≡ l.fn.clauses ++ split_kept (and_clauses l.d l.e l.lits)

@@ -4,4 +4,7 @@ use Rattle.ba_steps.proofs.clauses.Clauses.add.Goals as goal
 
 pub invariant_of-self-else-is_err : goal.invariant_of-self-else-is_err
 invariant_of-self-else-is_err c =
-    AreListed-added c.self.inside.index c.push.new.self c.self.inside.store c.add.new.self c.choose_keys.result (kept c.args.origin c.args.lits.now) c.self.invariant c.in_ok-push.ensures.ok (after_ok c.add.result c.is_err.result c.is_err.ensures.value c.if-is_err.false c.add.ensures.ok) c.choose_keys.ensures
+    AreListed-added c.self.inside.index c.push.new.self c.self.inside.store c.add.new.self
+    c.choose_keys.result (kept c.args.origin c.args.lits.now) c.self.invariant c.in_ok-push.ensures.ok
+    (after_ok c.add.result c.is_err.result c.is_err.ensures.value c.if-is_err.false c.add.ensures.ok)
+    c.choose_keys.ensures

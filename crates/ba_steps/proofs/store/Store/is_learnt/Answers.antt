@@ -4,9 +4,14 @@ use Rattle.ba_steps.proofs.store.Store.is_learnt.Goals as goal
 
 pub index-requires : goal.index-requires
 index-requires c =
-    let within = place_named c.self.inside.lits.items c.self.inside.ends.items c.self.inside.origins.items c.args.self.now c.args.number c.self.invariant c.self.view_is c.if-number-eq0.false (omega (arith, c.last.ensures)) in
+    let within = place_named c.self.inside.lits.items c.self.inside.ends.items c.self.inside.origins.items
+    c.args.self.now c.args.number c.self.invariant c.self.view_is c.if-number-eq0.false
+    (omega (arith, c.last.ensures)) in
     omega (arith, within, c.self.inside.origins.ok.0)
 
 pub returns : goal.returns
 returns c =
-    learnt_named c.self.inside.lits.items c.self.inside.ends.items c.self.inside.origins.items c.args.self.now c.args.number c.self.invariant c.self.view_is c.if-number-eq0.false (omega (arith, c.last.ensures)) c.index.result.now c.index.ensures c.is_learnt.result c.is_learnt.ensures
+    learnt_named c.self.inside.lits.items c.self.inside.ends.items c.self.inside.origins.items
+    c.args.self.now c.args.number c.self.invariant c.self.view_is c.if-number-eq0.false
+    (omega (arith, c.last.ensures)) c.index.result.now c.index.ensures c.is_learnt.result
+    c.is_learnt.ensures

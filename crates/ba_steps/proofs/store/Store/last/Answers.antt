@@ -4,5 +4,6 @@ use Rattle.ba_steps.proofs.store.Store.last.Goals as goal
 
 pub returns : goal.returns
 returns c =
-    let e = length-entries c.self.inside.lits.items 0 c.self.inside.ends.items c.self.inside.origins.items c.self.invariant.1 in
+    let e = length-entries c.self.inside.lits.items 0 c.self.inside.ends.items c.self.inside.origins.items
+    c.self.invariant.1 in
     omega (arith, e, ap length c.self.view_is, c.len.ensures)
