@@ -36,7 +36,8 @@ text-at steps i step within is =
     ap text_of (sym (take-append-drop (i + 1) steps))
     ∙ ap (λ lines. with_feed head_line ++ lines)
     (flat_map-append (λ (s : CertStep). with_feed (line_of s)) (take (i + 1) steps) (drop (i + 1) steps))
-    ∙ sym (append_assoc (with_feed head_line) (lines_after (take (i + 1) steps)) (lines_after (drop (i + 1) steps)))
+    ∙ sym (append_assoc (with_feed head_line) (lines_after (take (i + 1) steps))
+    (lines_after (drop (i + 1) steps)))
     ∙ ap (λ text. text ++ lines_after (drop (i + 1) steps))
     (ap text_of front ∙ text-push (take i steps) step)
     ∙ append_assoc (text_of (take i steps)) (with_feed (line_of step)) (lines_after (drop (i + 1) steps))
@@ -68,7 +69,8 @@ added-prefix steps i step (Some bytes) new within is held prefix =
 
 -- the first bytes of the text of no step are the first of each
 pub head-prefix : (steps : List CertStep) (kept : Option (List ℕ))
-    → IfSome kept (λ bytes. IsPrefix bytes (text_of [])) → IfSome kept (λ bytes. IsPrefix bytes (text_of steps))
+    → IfSome kept (λ bytes. IsPrefix bytes (text_of [])) →
+    IfSome kept (λ bytes. IsPrefix bytes (text_of steps))
 unfolding lines_after
 head-prefix steps None held = tt
 head-prefix steps (Some bytes) held =
@@ -82,7 +84,8 @@ no-bytes (Some bytes) = ap (λ b. Some b) (sym (append-nil bytes))
 
 -- a whole text is some first bytes of it
 pub whole-prefix : (kept : Option (List ℕ)) (steps : List CertStep) (i : ℕ) → length steps ≤ i
-    → IfSome kept (λ bytes. bytes ≡ text_of (take i steps)) → IfSome kept (λ bytes. IsPrefix bytes (text_of steps))
+    → IfSome kept (λ bytes. bytes ≡ text_of (take i steps)) →
+    IfSome kept (λ bytes. IsPrefix bytes (text_of steps))
 whole-prefix None steps i all held = tt
 whole-prefix (Some bytes) steps i all held = (
   length (text_of steps),
@@ -113,23 +116,25 @@ sound-begins name o sound = ∣ by (o.kept name) (sym (sound-is true name o) ∙
       subst BeginsText (sym t.text) (text-begins t.steps t.formed)
 
 -- and so does one with some bytes of a line more
-pub line-begins : (step : CertStep) → HasLine step → (name : List ℕ) (o new : Outside) → is_sound true name o ≡ true →
+pub line-begins : (step : CertStep) → HasLine step → (name : List ℕ) (o new : Outside) →
+    is_sound true name o ≡ true →
     AppendsPrefix (o.kept name) (new.kept name) (with_feed (line_of step)) → HoldsBeginning name new
-line-begins step h name o new sound prefix = ∣ by (o.kept name) (sym (sound-is true name o) ∙ sound) prefix ∣₁ where
-  by : (kept : Option (List ℕ)) → is_written true name o.is_writing o.writing kept ≡ true →
-      AppendsPrefix kept (new.kept name) (with_feed (line_of step)) → IfSome (new.kept name) BeginsText
-  by None e added = subst (λ k. IfSome k BeginsText) (sym added.1) tt
-  by (Some bytes) e added =
-      let t = text-sound name o.is_writing o.writing bytes e in
-      let front = front-behind (text_of t.steps) (with_feed (line_of step)) [] added.0 in
-      let whole : text_of t.steps ++ (with_feed (line_of step) ++ []) ≡ text_of (t.steps ++ step ∷ []) =
-      ap (λ line. text_of t.steps ++ line) (append-nil (with_feed (line_of step)))
-      ∙ sym (text-push t.steps step) in
-      subst (λ k. IfSome k BeginsText) (sym added.1) (
-        t.steps ++ step ∷ [],
-        are-formed (t.steps ++ step ∷ []) (All-push HasLine t.steps step t.formed h),
-        (
-          front.0,
-          ap (λ b. b ++ take added.0 (with_feed (line_of step))) t.text ∙ front.1 ∙ ap (take front.0) whole,
-        ),
-      )
+line-begins step h name o new sound prefix = ∣ by (o.kept name) (sym (sound-is true name o)
+    ∙ sound) prefix ∣₁ where
+      by : (kept : Option (List ℕ)) → is_written true name o.is_writing o.writing kept ≡ true →
+          AppendsPrefix kept (new.kept name) (with_feed (line_of step)) → IfSome (new.kept name) BeginsText
+      by None e added = subst (λ k. IfSome k BeginsText) (sym added.1) tt
+      by (Some bytes) e added =
+          let t = text-sound name o.is_writing o.writing bytes e in
+          let front = front-behind (text_of t.steps) (with_feed (line_of step)) [] added.0 in
+          let whole : text_of t.steps ++ (with_feed (line_of step) ++ []) ≡ text_of (t.steps ++ step ∷ []) =
+          ap (λ line. text_of t.steps ++ line) (append-nil (with_feed (line_of step)))
+          ∙ sym (text-push t.steps step) in
+          subst (λ k. IfSome k BeginsText) (sym added.1) (
+            t.steps ++ step ∷ [],
+            are-formed (t.steps ++ step ∷ []) (All-push HasLine t.steps step t.formed h),
+            (
+              front.0,
+              ap (λ b. b ++ take added.0 (with_feed (line_of step))) t.text ∙ front.1 ∙ ap (take front.0) whole,
+            ),
+          )

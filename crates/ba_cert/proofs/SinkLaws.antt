@@ -125,8 +125,15 @@ others-stay name old new follows others stays = record {
 pub stays-self : (name : List ℕ) (old : Outside) → OnlyWritesTo name old old
 stays-self name old = record {
   kept = λ other apart. refl;
-  stays = record
-      { no_fall = omega arith; printed = refl; is_reading = refl; read_faults = refl; print_shortages = refl; given = refl };
+  stays = record {
+    no_fall = omega arith;
+    printed = refl;
+    is_reading = refl;
+    read_faults = refl;
+    print_shortages =
+        refl;
+    given = refl;
+  };
 }
 
 pub stays_then : (name : List ℕ) (a b c : Outside) → OnlyWritesTo name a b → OnlyWritesTo name b c →

@@ -196,11 +196,15 @@ impl<'a, W: World, S: Start> StepSink for TextSink<'a, W, S> {
         Ok(())
     }
 
-    /// Writes the line of a step. A refused step leaves the sink without its whole file.
+    /// Writes the line of a step. A refused step leaves the sink without its whole file, and from then on each step is refused and nothing
+    /// is written.
     #[tactic(auto, using(crate::proofs::SinkLaws::stays_then))]
     fn take(&mut self, step: &CertStep) -> Result<(), SinkError>
         requires formed { IsFormed step.now }
         ensures whole { OnOk result (self.new.whole ≡ true) }
+        ensures not_whole { OnErr result (self.new.whole ≡ false) }
+        ensures again { self.old.whole ≡ false
+            → (result ≡ Err SinkError.Memory) × (self.new ≡ self.old) }
         ensures told { OnOk result (logs_at self.new.name.now (W.outside self.new.world.now)
             ≡ with_step step.now (logs_at self.old.name.now (W.outside self.old.world.now))) }
         ensures refused { OnErr result (MayAddStep step.now

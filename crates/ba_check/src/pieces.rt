@@ -1,6 +1,6 @@
 //! A certificate that comes in pieces.
 
-ghost use Rattle.std.specs.Prelude.{◌≡◌, ◌++◌, ℕ, List, [], Some, Err, true, IfOk};
+ghost use Rattle.std.specs.Prelude.{◌≡◌, ◌++◌, ℕ, List, [], None, Some, Err, true, IfOk};
 ghost use Rattle.ba_check.specs.Answers.{IsTrueOf, Tells, TellsRefusal, problem_of};
 ghost use Rattle.ba_check.specs.Findings.{finding_of, first_refused};
 ghost use Rattle.ba_check.specs.Readers.{seen};
@@ -48,9 +48,10 @@ impl<'a> Confirm<'a> {
         requires bounds { are_bounds settings.bounds ≡ true }
         requires selectors { AreSelectors encoded.now.formula.variables
             (softs_of encoded.now.groups) }
-        ensures { IfOk result
+        ensures nothing_read { IfOk result
             (λ confirm. HasRead (problem_of program.now input.now settings encoded.now) []
             (seen confirm)) }
+        ensures no_refusal { IfOk result (λ confirm. (seen confirm).refusal ≡ None) }
     {
         let softs = softs_of(alloc, encoded)?;
         let checker = Checker::new(

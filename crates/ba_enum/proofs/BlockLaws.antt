@@ -31,22 +31,27 @@ pub record IsRead (encoded : Encoded) (values : List Bool) (set : FoundSet) : Ty
   pub run : set.run ≡ choices_read (assignment_of values) encoded.places
   pub in_range : list_all is_in_range set.run ≡ true
 
-pub read_same : (encoded : Encoded) (values : List Bool) (groups : List ℕ) (run : List Choice) (set : FoundSet) →
+pub read_same : (encoded : Encoded) (values : List Bool) (groups : List ℕ) (run : List Choice)
+    (set : FoundSet) →
     IsRead encoded values set → groups ≡ set.groups → run ≡ set.run →
     IsRead encoded values (record { groups = groups; run = run })
 read_same encoded values groups run set read first second = record {
   groups = first ∙ read.groups;
   run = second ∙ read.run;
-  in_range = let P : List Choice → Type 0 = λ cs. list_all is_in_range cs ≡ true in subst P (sym second) read.in_range;
+  in_range = let P : List Choice → Type 0 = λ cs. list_all is_in_range cs ≡ true in
+      subst P (sym second) read.in_range;
 }
 
 pub found_same : (old new : List FoundSet) (groups : List ℕ) (run : List Choice) (set : FoundSet) →
-    groups ≡ set.groups → run ≡ set.run → new ≡ old ++ set ∷ [] → new ≡ old ++ record { groups = groups; run = run } ∷ []
+    groups ≡ set.groups → run ≡ set.run → new ≡ old ++ set ∷ [] →
+    new ≡ old ++ record { groups = groups; run = run } ∷ []
 found_same old new groups run set first second pushed =
-    let same : record { groups = groups; run = run } ≡ set = λ i. record { groups = first i; run = second i } in
+    let same : record { groups = groups; run = run } ≡ set =
+    λ i. record { groups = first i; run = second i } in
     pushed ∙ ap (λ (b : FoundSet). old ++ b ∷ []) (sym same)
 
-pub long_enough : (good : Judge) (encoded : Encoded) (s : State) (values : List Bool) (found : List FoundSet) →
+pub long_enough : (good : Judge) (encoded : Encoded) (s : State) (values : List Bool)
+    (found : List FoundSet) →
     IsReached good encoded.formula (softs_of encoded.groups) s found →
     IsNext encoded.formula (softs_of encoded.groups) s values → encoded.formula.variables ≤ length values
 long_enough good encoded s values found reached next =
@@ -56,14 +61,16 @@ long_enough good encoded s values found reached next =
 
 -- THE STEP IS FORMED
 pub block_formed : (good : Judge) (encoded : Encoded) (s : State) (values : List Bool) (set : FoundSet) →
-    IsReadable encoded good → IsNext encoded.formula (softs_of encoded.groups) s values → IsRead encoded values set →
+    IsReadable encoded good → IsNext encoded.formula (softs_of encoded.groups) s values →
+    IsRead encoded values set →
     IsFormed (Block set.groups set.run)
 block_formed good encoded s values set readable next read = (
   let P : List ℕ → Type 0 = AreAbove 0 in
       subst P (sym read.groups) (groups_ascend (assignment_of values) (softs_of encoded.groups)),
   let P : List ℕ → Type 0 = λ groups. 0 < length groups in
       subst P (sym read.groups)
-      (some_groups (false_groups (assignment_of values) (softs_of encoded.groups)) (readable.some (assignment_of values) next.satisfies)),
+      (some_groups (false_groups (assignment_of values) (softs_of encoded.groups))
+      (readable.some (assignment_of values) next.satisfies)),
   formed_choices set.run read.in_range,
 )
 
@@ -77,13 +84,16 @@ no_error refused ended lacks twice weighs run e f g h i j = rw (e, f, g, h, i, j
 allowed_set : (good : Judge) (encoded : Encoded) (s : State) (values : List Bool) (found : List FoundSet) →
     IsReadable encoded good → IsReached good encoded.formula (softs_of encoded.groups) s found →
     IsNext encoded.formula (softs_of encoded.groups) s values → IsReady s →
-    error_of good s (Block (false_groups (assignment_of values) (softs_of encoded.groups)) (choices_read (assignment_of values) encoded.places)) ≡ None
+    error_of good s (Block (false_groups (assignment_of values) (softs_of encoded.groups))
+    (choices_read (assignment_of values) encoded.places)) ≡ None
 allowed_set good encoded s values found readable reached next ready =
-    no_error s.refused s.ended (lacks_group s.groups set) (is_among s.sets set) (set_weight s.groups set == s.bound) (good set run)
+    no_error s.refused s.ended (lacks_group s.groups set) (is_among s.sets set)
+    (set_weight s.groups set == s.bound) (good set run)
     ready.awake ready.begun
     (ap (λ gs. lacks_group gs set) groups ∙ groups_exist v softs)
     (not_among v softs s.sets next.unblocked)
-    (same (set_weight s.groups set) s.bound (ap (λ gs. set_weight gs set) groups ∙ (cost_is v softs ∙ next.costs)))
+    (same (set_weight s.groups set) s.bound (ap (λ gs. set_weight gs set) groups
+    ∙ (cost_is v softs ∙ next.costs)))
     (readable.good_run v next.satisfies)
   where
     v : Assignment
@@ -104,15 +114,18 @@ allowed_set good encoded s values found readable reached next ready =
     same : (a b : ℕ) → a ≡ b → (a == b) ≡ true
     same a b e = grind (arith, nat_tests)
 
-pub block_allowed : (good : Judge) (encoded : Encoded) (s : State) (values : List Bool) (found : List FoundSet)
+pub block_allowed : (good : Judge) (encoded : Encoded) (s : State) (values : List Bool)
+    (found : List FoundSet)
     (set : FoundSet) →
     IsReadable encoded good → IsReached good encoded.formula (softs_of encoded.groups) s found →
     IsNext encoded.formula (softs_of encoded.groups) s values → IsReady s → IsRead encoded values set →
     error_of good s (Block set.groups set.run) ≡ None
 block_allowed good encoded s values found set readable reached next ready read =
     let P : List ℕ → Type 0 = λ groups. error_of good s (Block groups set.run) ≡ None in
-    let Q : List Choice → Type 0 = λ run. error_of good s (Block (false_groups (assignment_of values) (softs_of encoded.groups)) run) ≡ None in
-    subst P (sym read.groups) (subst Q (sym read.run) (allowed_set good encoded s values found readable reached next ready))
+    let Q : List Choice → Type 0 = λ run. error_of good s
+    (Block (false_groups (assignment_of values) (softs_of encoded.groups)) run) ≡ None in
+    subst P (sym read.groups) (subst Q (sym read.run)
+    (allowed_set good encoded s values found readable reached next ready))
 
 -- SO IT LEADS ON
 pub block_puts : (good : Judge) (encoded : Encoded) (s t : State) (values : List Bool) (found : List FoundSet)
@@ -124,8 +137,10 @@ pub block_puts : (good : Judge) (encoded : Encoded) (s t : State) (values : List
 block_puts good encoded s t values found set l m readable reached next ready read taken told = record {
   steps = Block set.groups set.run ∷ [];
   leads = record {
-    formed = All-cons IsFormed (Block set.groups set.run) [] (block_formed good encoded s values set readable next read) (All-nil IsFormed);
-    reaches = one_after good s t (Block set.groups set.run) (block_allowed good encoded s values found set readable reached next ready read) taken;
+    formed = All-cons IsFormed (Block set.groups set.run) []
+        (block_formed good encoded s values set readable next read) (All-nil IsFormed);
+    reaches = one_after good s t (Block set.groups set.run)
+        (block_allowed good encoded s values found set readable reached next ready read) taken;
     news = (tt, tt);
     blocks = refl;
     models = All-cons (HasModelFor encoded.formula (softs_of encoded.groups)) set.groups [] model

@@ -45,46 +45,55 @@ none_of p (x ∷ xs) each =
 
 no_error : (refused ended none spent lacks others : Bool) (r : Replay) → refused ≡ false → ended ≡ false →
     none ≡ false → spent ≡ false → lacks ≡ false → others ≡ false → r ≡ Refutes →
-    error_if refused Memory (error_if ended AfterEnd (error_if none WrongCount (error_if spent WrongCount (error_if lacks BadVariable (error_if others NotSofts (error_of_replay r)))))) ≡ None
+    error_if refused Memory (error_if ended AfterEnd
+    (error_if none WrongCount (error_if spent WrongCount
+    (error_if lacks BadVariable (error_if others NotSofts (error_of_replay r)))))) ≡ None
 no_error refused ended none spent lacks others r e f g h i j k = rw (e, f, g, h, i, j, k) refl
 
-pub last_allowed : (good : Judge) (s : State) (found : List FoundSet) (lits : List Literal) (hints : List ℕ) (back : ℕ) →
+pub last_allowed : (good : Judge) (s : State) (found : List FoundSet) (lits : List Literal) (hints : List ℕ)
+    (back : ℕ) →
     IsLast s found lits hints back → s.sets ≡ sets_of found → IsReady s →
     error_of good s (EndLocated lits hints) ≡ None
 last_allowed good s found lits hints back last sets ready =
-    no_error s.refused s.ended (not (ltb 0 (length s.sets))) (is_spent s) (lacks_variable s lits) (lacks_soft s.softs lits) (replay (clause_at s.clauses) lits hints)
+    no_error s.refused s.ended (not (ltb 0 (length s.sets))) (is_spent s) (lacks_variable s lits)
+    (lacks_soft s.softs lits) (replay (clause_at s.clauses) lits hints)
     ready.awake ready.begun
-    (some (length s.sets) (length found) (ap (λ (ss : List (List ℕ)). length ss) sets ∙ sets_long found) last.some)
+    (some (length s.sets) (length found) (ap (λ (ss : List (List ℕ)). length ss) sets
+    ∙ sets_long found) last.some)
     (left s.conflicts s.budget last.core.left)
     (none_of (λ (l : Literal). ltb s.variables l.variable) lits
     (λ k lt. le-ltb s.variables (lit_at lits k).variable (last.core.clause.within k lt)))
-    (none_of (λ (l : Literal). not (is_soft s.softs (negate l))) lits (λ k lt. ap not (last.core.negates k lt)))
+    (none_of (λ (l : Literal). not (is_soft s.softs (negate l))) lits
+    (λ k lt. ap not (last.core.negates k lt)))
     last.core.follows
   where
     some : (m n : ℕ) → m ≡ n → 0 < n → not (ltb 0 m) ≡ false
     some m n e lt = grind (arith, nat_tests)
 
-pub last_ends : (good : Judge) (s t : State) (found sets : List FoundSet) (lits : List Literal) (hints : List ℕ)
+pub last_ends : (good : Judge) (s t : State) (found sets : List FoundSet) (lits : List Literal)
+    (hints : List ℕ)
     (back weight : ℕ) (l m : Logs) →
     IsLast s found lits hints back → s.sets ≡ sets_of found → IsReady s → weight ≡ s.bound →
     HaveSame sets found → AreInOrder (sets_of sets) → length sets ≡ length found →
-    IsFormed (EndLocated lits hints) → t ≡ after s (EndLocated lits hints) → m ≡ with_step (EndLocated lits hints) l →
+    IsFormed (EndLocated lits hints) → t ≡ after s (EndLocated lits hints) →
+    m ≡ with_step (EndLocated lits hints) l →
     Ends good s found l (Located weight sets) t m
-last_ends good s t found sets lits hints back weight l m last are ready is same order count formed taken told = record {
-  last = EndLocated lits hints;
-  said = derived.Located s.bound s.sets;
-  formed = formed;
-  allowed = last_allowed good s found lits hints back last are ready;
-  says = refl;
-  fits = (
-    ap (λ w. derived.Located w s.sets) (sym is) ∙ ap (λ (ss : List (List ℕ)). derived.Located weight ss) are,
-    same,
-    order,
-    let few = last.few in omega (arith, few, count),
-  );
-  taken = taken;
-  told = told;
-}
+last_ends good s t found sets lits hints back weight l m last are ready is same order count formed taken
+    told = record {
+      last = EndLocated lits hints;
+      said = derived.Located s.bound s.sets;
+      formed = formed;
+      allowed = last_allowed good s found lits hints back last are ready;
+      says = refl;
+      fits = (
+        ap (λ w. derived.Located w s.sets) (sym is) ∙ ap (λ (ss : List (List ℕ)). derived.Located weight ss) are,
+        same,
+        order,
+        let few = last.few in omega (arith, few, count),
+      );
+      taken = taken;
+      told = told;
+    }
 
 -- TOO MANY
 count_error : (refused ended right : Bool) → refused ≡ false → ended ≡ false → right ≡ true →
@@ -98,24 +107,30 @@ pub many_allowed : (good : Judge) (s : State) (found : List FoundSet) → length
     s.sets ≡ sets_of found → IsReady s → error_of good s EndTooMany ≡ None
 many_allowed good s found many are ready =
     count_error s.refused s.ended (are_too_many s) ready.awake ready.begun
-    (equal (length s.sets) (s.most_sets + 1) (ap (λ (ss : List (List ℕ)). length ss) are ∙ (sets_long found ∙ many)))
+    (equal (length s.sets) (s.most_sets + 1) (ap (λ (ss : List (List ℕ)). length ss) are
+    ∙ (sets_long found ∙ many)))
 
 -- SPENT
-pub spent_allowed : (good : Judge) (s : State) → s.conflicts ≡ s.budget → IsReady s → error_of good s EndSpent ≡ None
+pub spent_allowed : (good : Judge) (s : State) → s.conflicts ≡ s.budget → IsReady s →
+    error_of good s EndSpent ≡ None
 spent_allowed good s spent ready =
     count_error s.refused s.ended (is_spent s) ready.awake ready.begun (equal s.conflicts s.budget spent)
 
 -- NO MODEL
-model_error : (refused ended some spent : Bool) (r : Replay) → refused ≡ false → ended ≡ false → some ≡ false →
+model_error : (refused ended some spent : Bool) (r : Replay) → refused ≡ false → ended ≡ false →
+    some ≡ false →
     spent ≡ false → r ≡ Refutes →
-    error_if refused Memory (error_if ended AfterEnd (error_if some WrongCount (error_if spent WrongCount (error_of_replay r)))) ≡ None
+    error_if refused Memory (error_if ended AfterEnd
+    (error_if some WrongCount (error_if spent WrongCount (error_of_replay r)))) ≡ None
 model_error refused ended some spent r e f g h i = rw (e, f, g, h, i) refl
 
 pub none_allowed : (good : Judge) (s : State) (found : List FoundSet) (hints : List ℕ) →
-    FollowsByHints (clause_at s.clauses) [] hints → s.conflicts < s.budget → found ≡ [] → s.sets ≡ sets_of found →
+    FollowsByHints (clause_at s.clauses) [] hints → s.conflicts < s.budget → found ≡ [] →
+    s.sets ≡ sets_of found →
     IsReady s → error_of good s (EndNoRepair hints) ≡ None
 none_allowed good s found hints follows more none are ready =
     model_error s.refused s.ended (ltb 0 (length s.sets)) (is_spent s) (replay (clause_at s.clauses) [] hints)
     ready.awake ready.begun
-    (ap (λ (ss : List (List ℕ)). ltb 0 (length ss)) are ∙ ap (λ (fs : List FoundSet). ltb 0 (length (sets_of fs))) none)
+    (ap (λ (ss : List (List ℕ)). ltb 0 (length ss)) are
+    ∙ ap (λ (fs : List FoundSet). ltb 0 (length (sets_of fs))) none)
     (left s.conflicts s.budget more) follows

@@ -43,10 +43,12 @@ unfolding IsDistinct
 empty_differ = tt
 
 pub none_differ : (found : List FoundSet) → found ≡ [] → IsDistinct (pointwise nat_eq) (sets_of found)
-none_differ found none = subst (λ (fs : List FoundSet). IsDistinct (pointwise nat_eq) (sets_of fs)) (sym none) empty_differ
+none_differ found none = subst (λ (fs : List FoundSet). IsDistinct (pointwise nat_eq) (sets_of fs))
+    (sym none) empty_differ
 
 -- the end after sets that were added
-pub finishes_of : (good same : Judge) (formula : Cnf) (softs : List Soft) (s t u : State) (found : List FoundSet)
+pub finishes_of : (good same : Judge) (formula : Cnf) (softs : List Soft) (s t u : State)
+    (found : List FoundSet)
     (l m n : Logs) (verdict : Verdict) → same ≡ good →
     Adds good formula softs s t [] found l m → Ends same t found m verdict u n →
     Finishes good formula softs s l verdict u n
@@ -54,13 +56,15 @@ finishes_of good same formula softs s t u found l m n verdict is adds ends = rec
   found = found;
   between = t;
   logs = m;
-  puts = let P : List FoundSet → Type 0 = λ fs. Puts good formula softs s t fs l m in subst P (sym adds.found) adds.puts;
+  puts = let P : List FoundSet → Type 0 = λ fs. Puts good formula softs s t fs l m in
+      subst P (sym adds.found) adds.puts;
   ends = let Q : Judge → Type 0 = λ j. Ends j t found m verdict u n in subst Q is ends;
 }
 
 -- the whole: the search for the least cost, further sets, and the end
 pub enumerates_on : (p : Problem) (same : Judge) (start s u : State) (k l n : Logs) (verdict : Verdict) →
-    IsStart p.formula p.softs → same ≡ p.good → start ≡ start_of p → Puts p.good p.formula p.softs start s [] k l →
+    IsStart p.formula p.softs → same ≡ p.good → start ≡ start_of p →
+    Puts p.good p.formula p.softs start s [] k l →
     Finishes same p.formula p.softs s l verdict u n → Enumerates p k verdict u n
 enumerates_on p same start s u k l n verdict clauses is first puts finishes =
     let P : Judge → Type 0 = λ j. Finishes j p.formula p.softs s l verdict u n in
@@ -71,7 +75,8 @@ enumerates_on p same start s u k l n verdict clauses is first puts finishes =
 -- the search for the least cost, and the end
 pub enumerates_end : (p : Problem) (same : Judge) (start s u : State) (found : List FoundSet) (k l n : Logs)
     (verdict : Verdict) →
-    IsStart p.formula p.softs → same ≡ p.good → start ≡ start_of p → Puts p.good p.formula p.softs start s [] k l →
+    IsStart p.formula p.softs → same ≡ p.good → start ≡ start_of p →
+    Puts p.good p.formula p.softs start s [] k l →
     found ≡ [] → Ends same s found l verdict u n → Enumerates p k verdict u n
 enumerates_end p same start s u found k l n verdict clauses is first puts none ends =
     let P : Judge → Type 0 = λ j. Ends j s found l verdict u n in
@@ -90,7 +95,8 @@ module _ {R K S J : Type 0} {encoded : Encoded} {sets : ℕ} {search : Searching
       ∙ ap (first_state encoded.formula (softs_of encoded.groups) checked.checker.budget) (sym fresh_sets)
 
 -- THE SEARCH FOR THE LEAST COST
-pub was_working : {X : Type 0} (failure : Option SearchError) (result : Result X SearchError) (x : X) → result ≡ Ok x →
+pub was_working : {X : Type 0} (failure : Option SearchError) (result : Result X SearchError) (x : X) →
+    result ≡ Ok x →
     ((error : SearchError) → failure ≡ Some error → result ≡ Err error) → failure ≡ None
 was_working None result x is again = refl
 was_working (Some error) result x is again =
@@ -117,10 +123,12 @@ pub least_reached : (good same : Judge) (encoded : Encoded) (start s : State) (l
 least_reached good same encoded start s l m is clauses first puts =
     let P : Judge → Type 0 = λ j. IsReached j encoded.formula (softs_of encoded.groups) s [] in
     subst P (sym is)
-    (reached_on (reached_start good encoded.formula (softs_of encoded.groups) start start.budget start.most_sets clauses first)
+    (reached_on (reached_start good encoded.formula (softs_of encoded.groups) start start.budget
+    start.most_sets clauses first)
     s puts.steps [] puts.leads)
 
-pub least_next : (good : Judge) (encoded : Encoded) (start s : State) (found : Found) (weight : ℕ) (model : Model) →
+pub least_next : (good : Judge) (encoded : Encoded) (start s : State) (found : Found) (weight : ℕ)
+    (model : Model) →
     IsStart encoded.formula (softs_of encoded.groups) → start ≡ start_of (problem_in encoded good start) →
     found ≡ Least weight model → IsFound good start s found → s.sets ≡ [] →
     IsNext encoded.formula (softs_of encoded.groups) s model.values

@@ -61,7 +61,8 @@ exist_from v softs k (s ∷ ss) from =
     some : (w : ℕ) → ltb 0 w ≡ true → (w == 0) ≡ false
     some w e = grind (arith, nat_tests)
 
-    by_case : (b : Bool) → is_false_group v s ≡ b → lacks_group softs (false_groups_from (suc k) v ss) ≡ false →
+    by_case : (b : Bool) → is_false_group v s ≡ b →
+        lacks_group softs (false_groups_from (suc k) v ss) ≡ false →
         lacks_group softs (with_if b (suc k) (false_groups_from (suc k) v ss)) ≡ false
     by_case true is rest =
         or_from (weight_at softs (suc k) == 0) (lacks_group softs (false_groups_from (suc k) v ss))
@@ -104,12 +105,14 @@ clause_from v softs k (s ∷ ss) from =
         any_true v (block_clause softs (false_groups_from (suc k) v ss)) ≡ false →
         any_true v (block_clause softs (with_if b (suc k) (false_groups_from (suc k) v ss))) ≡ false
     by_case true is rest =
-        ap (λ o. any_true v (with_selector o (block_clause softs (false_groups_from (suc k) v ss)))) (entry_here softs k s ss from)
+        ap (λ o. any_true v (with_selector o (block_clause softs (false_groups_from (suc k) v ss))))
+        (entry_here softs k s ss from)
         ∙ placed_false v s.0 (block_clause softs (false_groups_from (suc k) v ss))
         (turned (lit_true v s.0) ((and_parts (ltb 0 s.1) (not (lit_true v s.0)) is).1)) rest
     by_case false is rest = rest
 
-clause_false : (v : Assignment) (softs : List Soft) → any_true v (block_clause softs (false_groups v softs)) ≡ false
+clause_false : (v : Assignment) (softs : List Soft) →
+    any_true v (block_clause softs (false_groups v softs)) ≡ false
 clause_false v softs = clause_from v softs 0 softs (from_start softs)
 
 -- so where the clauses of other sets hold, it is none of them
@@ -117,15 +120,18 @@ pub not_among : (v : Assignment) (softs : List Soft) (sets : List (List ℕ)) �
     all_true v (block_clauses softs sets) ≡ true → is_among sets (false_groups v softs) ≡ false
 not_among v softs [] holds = refl
 not_among v softs (set ∷ sets) holds =
-    let parts = and_parts (any_true v (block_clause softs set)) (all_true v (block_clauses softs sets)) holds in
+    let parts = and_parts (any_true v (block_clause softs set)) (all_true v (block_clauses softs sets))
+    holds in
     or_from (pointwise nat_eq set (false_groups v softs)) (is_among sets (false_groups v softs))
     (other (pointwise nat_eq set (false_groups v softs)) refl parts.0) (not_among v softs sets parts.1)
   where
-    other : (t : Bool) → pointwise nat_eq set (false_groups v softs) ≡ t → any_true v (block_clause softs set) ≡ true →
+    other : (t : Bool) → pointwise nat_eq set (false_groups v softs) ≡ t →
+        any_true v (block_clause softs set) ≡ true →
         t ≡ false
     other true is clause =
         let same : set ≡ false_groups v softs = (bytes_decides set (false_groups v softs)).0 is in
-        let both : true ≡ false = sym clause ∙ (ap (λ s. any_true v (block_clause softs s)) same ∙ clause_false v softs) in
+        let both : true ≡ false = sym clause ∙ (ap (λ s. any_true v (block_clause softs s)) same
+        ∙ clause_false v softs) in
         absurd (cc both)
     other false is clause = refl
 
@@ -133,7 +139,8 @@ not_among v softs (set ∷ sets) holds =
 abbrev IsAmong : ℕ → Soft → Type 0
 IsAmong n s = (1 ≤ s.0.variable) × (s.0.variable ≤ n)
 
-pub present_at : (n : ℕ) (softs : List Soft) (k : ℕ) (s : Soft) → AreAmong n (present softs) → k < length softs →
+pub present_at : (n : ℕ) (softs : List Soft) (k : ℕ) (s : Soft) → AreAmong n (present softs) →
+    k < length softs →
     s ≡ get_or softs k s → 0 < s.1 → s.0.variable ≤ n
 present_at n [] k s among lt is some = absurd (omega arith)
 present_at n (t ∷ ts) zero s among lt is some =
@@ -154,4 +161,5 @@ present_at n (t ∷ ts) (suc k) s among lt is some =
     by_case false all = all
 
 pub among_more : (m n : ℕ) (softs : List Soft) → m ≤ n → AreAmong m softs → AreAmong n softs
-among_more m n softs le among = All-weaker (IsAmong m) (IsAmong n) (λ s is. (is.0, let most = is.1 in omega (arith, le, most))) softs among
+among_more m n softs le among = All-weaker (IsAmong m) (IsAmong n)
+    (λ s is. (is.0, let most = is.1 in omega (arith, le, most))) softs among

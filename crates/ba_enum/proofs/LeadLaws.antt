@@ -36,9 +36,11 @@ after_append good [] ys a b c first second =
     subst P e second
 after_append good (x ∷ xs) ys a b c first second =
     let parts = step_allowed (error_of good a x) (after_all good (after a x) xs) b first in
-    next_allowed (error_of good a x) (after_all good (after a x) (xs ++ ys)) c parts.0 (after_append good xs ys (after a x) b c parts.1 second)
+    next_allowed (error_of good a x) (after_all good (after a x) (xs ++ ys)) c parts.0
+    (after_append good xs ys (after a x) b c parts.1 second)
 
-pub one_after : (good : Judge) (s t : State) (step : CertStep) → error_of good s step ≡ None → t ≡ after s step →
+pub one_after : (good : Judge) (s t : State) (step : CertStep) → error_of good s step ≡ None →
+    t ≡ after s step →
     after_all good s (step ∷ []) ≡ Some t
 one_after good s t step allowed taken =
     next_allowed (error_of good s step) (Some (after s step)) t allowed (ap Some (sym taken))
@@ -57,7 +59,8 @@ sets_append : (xs ys : List FoundSet) → sets_of (xs ++ ys) ≡ sets_of xs ++ s
 sets_append [] ys = refl
 sets_append (x ∷ xs) ys = ap (λ zs. x.groups ∷ zs) (sets_append xs ys)
 
-pub leads_none : (good : Judge) (formula : Cnf) (softs : List Soft) (s : State) → Leads good formula softs s [] s []
+pub leads_none : (good : Judge) (formula : Cnf) (softs : List Soft) (s : State) →
+    Leads good formula softs s [] s []
 leads_none good formula softs s = record {
   formed = All-nil IsFormed;
   reaches = refl;
@@ -74,7 +77,8 @@ leads_append {good} {formula} {softs} {a} {b} {xs} {found} first c ys more secon
   formed = All-append IsFormed xs ys first.formed second.formed;
   reaches = after_append good xs ys a b c first.reaches second.reaches;
   news = news_append good xs ys a b first.reaches first.news second.news;
-  blocks = blocked_append xs ys ∙ (ap (λ zs. zs ++ blocked_by ys) first.blocks ∙ ap (λ zs. found ++ zs) second.blocks);
+  blocks = blocked_append xs ys ∙ (ap (λ zs. zs ++ blocked_by ys) first.blocks
+      ∙ ap (λ zs. found ++ zs) second.blocks);
   models = let P : List (List ℕ) → Type 0 = All (HasModelFor formula softs) in
       subst P (sym (sets_append found more))
       (All-append (HasModelFor formula softs) (sets_of found) (sets_of more) first.models second.models);
@@ -168,7 +172,12 @@ reached_wide {good} {formula} {softs} {s} r =
 -- STEPS THAT WERE PUT
 pub puts_none : (good : Judge) (formula : Cnf) (softs : List Soft) (s : State) (logs : Logs) →
     Puts good formula softs s s [] logs logs
-puts_none good formula softs s logs = record { steps = []; leads = leads_none good formula softs s; logs = refl }
+puts_none good formula softs s logs = record {
+  steps = [];
+  leads = leads_none good formula softs s;
+  logs =
+      refl;
+}
 
 pub puts_on : (good : Judge) (formula : Cnf) (softs : List Soft) (a b c : State) (found more : List FoundSet)
     (l m n : Logs) →
@@ -187,7 +196,8 @@ pub puts_as : (good same : Judge) (formula : Cnf) (softs : List Soft) (a b : Sta
 puts_as good same formula softs a b found l m is p =
     let P : Judge → Type 0 = λ g. Puts g formula softs a b found l m in subst P is p
 
-pub puts_most : (good : Judge) (formula : Cnf) (softs : List Soft) (a b : State) (found : List FoundSet) (l m : Logs) →
+pub puts_most : (good : Judge) (formula : Cnf) (softs : List Soft) (a b : State) (found : List FoundSet)
+    (l m : Logs) →
     Puts good formula softs a b found l m → b.most_sets ≡ a.most_sets
 puts_most good formula softs a b found l m p = (limits_stay good a p.steps b p.leads.reaches).most_sets
 
@@ -195,22 +205,26 @@ puts_most good formula softs a b found l m p = (limits_stay good a p.steps b p.l
 pub leaves_none : (good : Judge) (s : State) (logs : Logs) → Leaves good s logs s logs
 leaves_none good s logs = leaves_all [] refl refl
 
-pub leaves_put : (good : Judge) (formula : Cnf) (softs : List Soft) (a b : State) (found : List FoundSet) (l m : Logs) →
+pub leaves_put : (good : Judge) (formula : Cnf) (softs : List Soft) (a b : State) (found : List FoundSet)
+    (l m : Logs) →
     Puts good formula softs a b found l m → Leaves good a l b m
 leaves_put good formula softs a b found l m p = leaves_all p.steps p.leads.reaches p.logs
 
 pub leaves_one : (good : Judge) (s t : State) (step : CertStep) (l m : Logs) → error_of good s step ≡ None →
     t ≡ after s step → m ≡ with_step step l → Leaves good s l t m
-leaves_one good s t step l m allowed taken told = leaves_all (step ∷ []) (one_after good s t step allowed taken) told
+leaves_one good s t step l m allowed taken told =
+    leaves_all (step ∷ []) (one_after good s t step allowed taken) told
 
 pub leaves_tried : (good : Judge) (s t : State) (step : CertStep) (l m : Logs) → error_of good s step ≡ None →
     IsTakenOrAsleep s step t → MayAddStep step l m → Leaves good s l t m
 leaves_tried good s t step l m allowed taken told =
     leaves_last [] step s refl (one_after good s (after s step) step allowed refl) taken told
 
-pub leaves_on : (good same : Judge) (formula : Cnf) (softs : List Soft) (a b c : State) (found : List FoundSet)
+pub leaves_on : (good same : Judge) (formula : Cnf) (softs : List Soft) (a b c : State)
+    (found : List FoundSet)
     (l m n : Logs) → same ≡ good →
     Puts good formula softs a b found l m → Leaves same b m c n → Leaves good a l c n
 leaves_on good same formula softs a b c found l m n is p left =
     let P : Judge → Type 0 = λ g. Leaves g b m c n in
-    leaves_after p.steps c l m n p.logs (λ steps t d. after_append good p.steps steps a b t p.leads.reaches d) (subst P is left)
+    leaves_after p.steps c l m n p.logs (λ steps t d. after_append good p.steps steps a b t p.leads.reaches
+    d) (subst P is left)

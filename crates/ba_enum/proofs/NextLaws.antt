@@ -42,7 +42,8 @@ cost_of_true : (v : Assignment) (softs : List Soft) → All (λ l. lit_true v l 
 cost_of_true v [] all = refl
 cost_of_true v (s ∷ ss) all =
     let first : lit_true v s.0 ≡ true = All-head (λ l. lit_true v l ≡ true) s.0 (literals_of ss) all in
-    let rest : cost v ss ≡ 0 = cost_of_true v ss (All-tail (λ l. lit_true v l ≡ true) s.0 (literals_of ss) all) in
+    let rest : cost v ss ≡ 0 = cost_of_true v ss (All-tail (λ l. lit_true v l ≡ true) s.0 (literals_of ss)
+    all) in
     ap (λ b. cond b 0 s.1 + cost v ss) first ∙ (omega (arith, rest))
 
 -- from the facts: a model of all live clauses and present soft literals costs the bound
@@ -60,7 +61,8 @@ next_of_facts good formula softs splits s values h m = record {
     v = assignment_of values
 
     given : all_true v formula.clauses ≡ true
-    given = all_of_each v formula.clauses (λ k lt. m.clauses (k + 1) (get_or formula.clauses k []) (h.given_live k lt))
+    given = all_of_each v formula.clauses (λ k lt. m.clauses (k + 1) (get_or formula.clauses k [])
+        (h.given_live k lt))
 
     unblocked : all_true v (block_clauses softs s.sets) ≡ true
     unblocked = all_of_live v s.clauses m.clauses (block_clauses softs s.sets) h.sets_live
@@ -71,15 +73,19 @@ next_of_facts good formula softs splits s values h m = record {
     costs : cost v (present softs) ≡ s.bound
     costs =
         let (z, same, split, lives, is) = h.extends v given unblocked in
-        let agree : cost v s.softs ≡ cost z s.softs = cost-agree (s.variables + 1) v z s.softs (h.alone v z same splits_true split) (among-below s.variables s.softs h.among) in
+        let agree : cost v s.softs ≡ cost z s.softs =
+        cost-agree (s.variables + 1) v z s.softs (h.alone v z same splits_true split)
+        (among-below s.variables s.softs h.among) in
         let none : cost v s.softs ≡ 0 = cost_of_true v s.softs m.assumed in
         omega (arith, is, agree, none)
 
 pub next_of_model : (good : Judge) (formula : Cnf) (softs : List Soft) (s : State) (found : List FoundSet)
     (values : List Bool) →
-    IsReached good formula softs s found → IsModel s (literals_of s.softs) values → IsNext formula softs s values
+    IsReached good formula softs s found → IsModel s (literals_of s.softs) values →
+    IsNext formula softs s values
 next_of_model good formula softs s found values r m =
-    next_of_facts good formula softs (splits_of (first_state formula softs r.conflicts r.most_sets) r.steps) s values
+    next_of_facts good formula softs (splits_of (first_state formula softs r.conflicts r.most_sets) r.steps)
+    s values
     (reached_facts good formula softs s found r) m
 
 -- the first one

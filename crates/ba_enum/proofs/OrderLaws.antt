@@ -23,7 +23,8 @@ abbrev pub is_before : FoundSet → FoundSet → Bool
 is_before x y = is_lt (slice_cmp nat_cmp x.groups y.groups)
 
 -- one that isn't after another, and isn't the same, is before it
-ordered : (xs ys : List ℕ) → is_lt (slice_cmp nat_cmp ys xs) ≡ false → pointwise nat_eq xs ys ≡ false → IsBefore xs ys
+ordered : (xs ys : List ℕ) → is_lt (slice_cmp nat_cmp ys xs) ≡ false → pointwise nat_eq xs ys ≡ false →
+    IsBefore xs ys
 ordered [] [] after other = absurd (cc other)
 ordered [] (y ∷ ys) after other = tt
 ordered (x ∷ xs) [] after other = absurd (cc after)
@@ -31,7 +32,8 @@ ordered (x ∷ xs) (y ∷ ys) after other = by_case (λ h e. ordered xs ys h e) 
   where
     rest : y ≡ x → pointwise nat_eq xs ys ≡ false
     rest same =
-        let itself : (n m : ℕ) (b : Bool) → n ≡ m → (nat_eq m n && b) ≡ false → b ≡ false = λ n m b e h. grind (arith, nat_tests) in
+        let itself : (n m : ℕ) (b : Bool) → n ≡ m → (nat_eq m n && b) ≡ false → b ≡ false =
+        λ n m b e h. grind (arith, nat_tests) in
         itself y x (pointwise nat_eq xs ys) same other
 
     by_case : (is_lt (slice_cmp nat_cmp ys xs) ≡ false → pointwise nat_eq xs ys ≡ false → IsBefore xs ys) →
@@ -43,21 +45,24 @@ ordered (x ∷ xs) (y ∷ ys) after other = by_case (λ h e. ordered xs ys h e) 
 
 -- NO LATER ONE is before an earlier one
 abbrev Rises : List FoundSet → Type 0
-Rises xs = (i j : ℕ) (d : FoundSet) → i ≤ j → j < length xs → is_before (get_or xs j d) (get_or xs i d) ≡ false
+Rises xs = (i j : ℕ) (d : FoundSet) → i ≤ j → j < length xs →
+    is_before (get_or xs j d) (get_or xs i d) ≡ false
 
 rises_tail : (x : FoundSet) (xs : List FoundSet) → Rises (x ∷ xs) → Rises xs
 rises_tail x xs rises i j d le lt = rises (suc i) (suc j) d (omega (arith, le)) (omega (arith, lt))
 
 before_all : (x : FoundSet) (ys : List FoundSet) →
     ((j : ℕ) (d : FoundSet) → j < length ys → is_before (get_or ys j d) x ≡ false) →
-    AllByRecursion (λ set. pointwise nat_eq x.groups set ≡ false) (sets_of ys) → IsBeforeAll x.groups (sets_of ys)
+    AllByRecursion (λ set. pointwise nat_eq x.groups set ≡ false) (sets_of ys) →
+    IsBeforeAll x.groups (sets_of ys)
 before_all x [] each other = tt
 before_all x (y ∷ ys) each other = (
   ordered x.groups y.groups (each 0 x (omega arith)) other.0,
   before_all x ys (λ j d lt. each (suc j) d (omega (arith, lt))) other.1,
 )
 
-all_ordered : (xs : List FoundSet) → Rises xs → IsDistinct (pointwise nat_eq) (sets_of xs) → AreInOrder (sets_of xs)
+all_ordered : (xs : List FoundSet) → Rises xs → IsDistinct (pointwise nat_eq) (sets_of xs) →
+    AreInOrder (sets_of xs)
 unfolding IsDistinct
 all_ordered [] rises distinct = tt
 all_ordered (x ∷ xs) rises distinct = (
@@ -72,7 +77,8 @@ flips xs ys = nat_list_eq_equiv.symm xs ys
 sorted_order : (found sets : List FoundSet) → IsPermutation found sets → IsSortedBy is_before sets →
     IsDistinct (pointwise nat_eq) (sets_of found) → AreInOrder (sets_of sets)
 sorted_order found sets moved sorted distinct =
-    all_ordered sets (sorted_far is_before (ranks_by nat_list_cmp_total (λ (b : FoundSet). b.groups)) sets sorted)
+    all_ordered sets (sorted_far is_before (ranks_by nat_list_cmp_total (λ (b : FoundSet). b.groups)) sets
+    sorted)
     (IsDistinct-IsPermutation (pointwise nat_eq) flips (sets_of found) (sets_of sets)
     (IsPermutation-map (λ (b : FoundSet). b.groups) found sets moved) distinct)
 
@@ -85,5 +91,6 @@ pub sorted_by : {F : Type 0} {g : Mut F (Bor FoundSet × (Bor FoundSet × Unit {
 sorted_by {g = g} {f = f} found sets moved sorted calls distinct =
     sorted_order found sets moved
     (sorted is_before (ranks_by nat_list_cmp_total (λ (b : FoundSet). b.groups))
-    (always_returns_same g (λ a r. is_lt r ≡ is_before a.0.now a.1.0.now) f (λ a r f' k. (ap is_lt (calls a r f' k).0, (calls a r f' k).1))))
+    (always_returns_same g (λ a r. is_lt r ≡ is_before a.0.now a.1.0.now) f
+    (λ a r f' k. (ap is_lt (calls a r f' k).0, (calls a r f' k).1))))
     distinct

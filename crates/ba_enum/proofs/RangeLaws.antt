@@ -20,7 +20,8 @@ unsigned_value : (z : ℤ) → is_in U32 z ≡ true → IsValue z
 unsigned_value z is = (grind (arith, ints), grind (arith, ints))
 
 word_value : (z : ℤ) → is_word_value z ≡ true → IsValue z
-word_value z is = elim (or_cases (is_in I32 z) (is_in U32 z) is) [ inl h ↦ signed_value z h | inr h ↦ unsigned_value z h ]
+word_value z is = elim (or_cases (is_in I32 z) (is_in U32 z) is)
+    [ inl h ↦ signed_value z h | inr h ↦ unsigned_value z h ]
 
 word_values : (zs : List ℤ) → list_all is_word_value zs ≡ true → All IsValue zs
 word_values [] all = All-nil IsValue

@@ -26,7 +26,8 @@ derives_news (derives_learn s t lits hints steps formed allowed new rest) = (new
 derives_news (derives_delete s t numbers steps formed allowed rest) = (tt, derives_news rest)
 derives_news (derives_core s t lits hints steps formed allowed rest) = (tt, derives_news rest)
 
-derives_blocks : {good : Judge} {a b : State} {xs : List CertStep} → cores.Derives good a xs b → blocked_by xs ≡ []
+derives_blocks : {good : Judge} {a b : State} {xs : List CertStep} → cores.Derives good a xs b →
+    blocked_by xs ≡ []
 derives_blocks (derives_none s) = refl
 derives_blocks (derives_learn s t lits hints steps formed allowed new rest) = derives_blocks rest
 derives_blocks (derives_delete s t numbers steps formed allowed rest) = derives_blocks rest
@@ -43,7 +44,8 @@ derives_leads formula softs d = record {
 }
 
 pub puts_derived : (good : Judge) (formula : Cnf) (softs : List Soft) (a b : State) (l m : Logs) →
-    (xs : List CertStep) × cores.Derives good a xs b × (m ≡ with_steps xs l) → Puts good formula softs a b [] l m
+    (xs : List CertStep) × cores.Derives good a xs b × (m ≡ with_steps xs l) →
+    Puts good formula softs a b [] l m
 puts_derived good formula softs a b l m (xs, derives, logs) =
     record { steps = xs; leads = derives_leads formula softs derives; logs = logs }
 
@@ -58,5 +60,6 @@ pub leaves_searches : (good : Judge) {gives : Gives} {learnt : List ℕ} (a b : 
     LeavesSearched good gives learnt a l b m → Leaves good a l b m
 leaves_searches good a b l m left = leaves_weaker (λ steps t s. derives_after (searches_derives s.1)) left
 
-pub leaves_derived : (good : Judge) (a b : State) (l m : Logs) → cores.Leaves good a l b m → Leaves good a l b m
+pub leaves_derived : (good : Judge) (a b : State) (l m : Logs) → cores.Leaves good a l b m →
+    Leaves good a l b m
 leaves_derived good a b l m left = leaves_weaker (λ steps t d. derives_after d) left

@@ -26,28 +26,33 @@ use Rattle.ba_steps.specs.declared.store.Origin.TheVariants as origins
 
 -- the search's clauses stay part of the checker's
 pub part_after_block : {good : Judge} {formula : Cnf} {softs : List Soft} {s t : State} {f h : List FoundSet}
-    {l m : Logs} {clauses : _} → Blocks good formula softs s t f h l m → AreLive clauses (clause_at s.clauses) →
+    {l m : Logs} {clauses : _} → Blocks good formula softs s t f h l m →
+    AreLive clauses (clause_at s.clauses) →
     ArePart clauses (clause_at t.clauses)
 part_after_block {s = s} {t = t} blocks are = λ reference c is.
     let same = are.each reference c is in
     let more : clause_at t.clauses c.number ≡ clause_at s.clauses c.number =
     ap (λ (u : State). clause_at u.clauses c.number) blocks.taken
-    ∙ clause_at-more s.clauses (kept origins.Blocked (block_clause s.groups blocks.set.groups) ∷ []) c.number (number_le s.clauses c.number c.lits same) in
+    ∙ clause_at-more s.clauses (kept origins.Blocked (block_clause s.groups blocks.set.groups) ∷ [])
+    c.number (number_le s.clauses c.number c.lits same) in
     subst (λ (o : Option (List Literal)). IsSame o c.lits) (sym more) same
 
 -- WHAT A BLOCKED SET LEAVES
-pub blocks_ready : {good : Judge} {formula : Cnf} {softs : List Soft} {s t : State} {f h : List FoundSet} {l m : Logs} →
+pub blocks_ready : {good : Judge} {formula : Cnf} {softs : List Soft} {s t : State} {f h : List FoundSet}
+    {l m : Logs} →
     Blocks good formula softs s t f h l m → IsReady s → IsReady t
 blocks_ready blocks ready = record {
   begun = ap (λ (u : State). u.ended) blocks.taken ∙ ready.begun;
   awake = ap (λ (u : State). u.refused) blocks.taken ∙ ready.awake;
 }
 
-pub blocks_softs : {good : Judge} {formula : Cnf} {softs : List Soft} {s t : State} {f h : List FoundSet} {l m : Logs} →
+pub blocks_softs : {good : Judge} {formula : Cnf} {softs : List Soft} {s t : State} {f h : List FoundSet}
+    {l m : Logs} →
     Blocks good formula softs s t f h l m → t.softs ≡ s.softs
 blocks_softs blocks = ap (λ (u : State). u.softs) blocks.taken
 
-pub blocks_most : {good : Judge} {formula : Cnf} {softs : List Soft} {s t : State} {f h : List FoundSet} {l m : Logs} →
+pub blocks_most : {good : Judge} {formula : Cnf} {softs : List Soft} {s t : State} {f h : List FoundSet}
+    {l m : Logs} →
     Blocks good formula softs s t f h l m → t.most_sets ≡ s.most_sets
 blocks_most blocks = ap (λ (u : State). u.most_sets) blocks.taken
 
@@ -67,11 +72,13 @@ pub blocks_longer : {good : Judge} {formula : Cnf} {softs : List Soft} {s t : St
 blocks_longer {f = f} blocks = ap (λ (fs : List FoundSet). length fs) blocks.found ∙ one_longer f blocks.set
 
 -- SETS THAT WERE ADDED
-pub blocks_adds : {good : Judge} {formula : Cnf} {softs : List Soft} {s t : State} {f h : List FoundSet} {l m : Logs} →
+pub blocks_adds : {good : Judge} {formula : Cnf} {softs : List Soft} {s t : State} {f h : List FoundSet}
+    {l m : Logs} →
     Blocks good formula softs s t f h l m → Adds good formula softs s t f h l m
 blocks_adds blocks = record { more = blocks.set ∷ []; puts = blocks.puts; found = blocks.found }
 
-pub adds_none : (good : Judge) (formula : Cnf) (softs : List Soft) (s : State) (found : List FoundSet) (l : Logs) →
+pub adds_none : (good : Judge) (formula : Cnf) (softs : List Soft) (s : State) (found : List FoundSet)
+    (l : Logs) →
     Adds good formula softs s s found found l l
 adds_none good formula softs s found l = record {
   more = [];
@@ -82,19 +89,22 @@ adds_none good formula softs s found l = record {
 -- sets, and then steps that block none
 pub adds_then : (good same : Judge) (formula : Cnf) (softs : List Soft) (s t u : State) (f h : List FoundSet)
     (l m n : Logs) → same ≡ good →
-    Adds good formula softs s t f h l m → Puts same formula softs t u [] m n → Adds good formula softs s u f h l n
+    Adds good formula softs s t f h l m → Puts same formula softs t u [] m n →
+    Adds good formula softs s u f h l n
 adds_then good same formula softs s t u f h l m n is adds puts = record {
   more = adds.more;
   puts = let P : List FoundSet → Type 0 = λ found. Puts good formula softs s u found l n in
       subst P (append-nil adds.more)
-      (puts_on good formula softs s t u adds.more [] l m n adds.puts (puts_as same good formula softs t u [] m n is puts));
+      (puts_on good formula softs s t u adds.more [] l m n adds.puts
+      (puts_as same good formula softs t u [] m n is puts));
   found = adds.found;
 }
 
 -- sets, and then others
 pub adds_on : (good same : Judge) (formula : Cnf) (softs : List Soft) (s t u : State) (f h k : List FoundSet)
     (l m n : Logs) → same ≡ good →
-    Adds good formula softs s t f h l m → Adds same formula softs t u h k m n → Adds good formula softs s u f k l n
+    Adds good formula softs s t f h l m → Adds same formula softs t u h k m n →
+    Adds good formula softs s u f k l n
 adds_on good same formula softs s t u f h k l m n is first second = record {
   more = first.more ++ second.more;
   puts = puts_on good formula softs s t u first.more second.more l m n first.puts
@@ -102,15 +112,18 @@ adds_on good same formula softs s t u f h k l m n is first second = record {
   found = second.found ∙ (ap (λ fs. fs ++ second.more) first.found ∙ append_assoc f first.more second.more);
 }
 
-pub adds_reached : {good : Judge} {formula : Cnf} {softs : List Soft} {s t : State} {f h : List FoundSet} {l m : Logs} →
+pub adds_reached : {good : Judge} {formula : Cnf} {softs : List Soft} {s t : State} {f h : List FoundSet}
+    {l m : Logs} →
     Adds good formula softs s t f h l m → IsReached good formula softs s f → IsReached good formula softs t h
 adds_reached {good} {formula} {softs} {s} {t} {f} {h} adds reached =
     let P : List FoundSet → Type 0 = λ found. IsReached good formula softs t found in
     subst P (sym adds.found) (reached_on reached t adds.puts.steps adds.more adds.puts.leads)
 
-pub adds_leaves : {good : Judge} {formula : Cnf} {softs : List Soft} {s t : State} {f h : List FoundSet} {l m : Logs} →
+pub adds_leaves : {good : Judge} {formula : Cnf} {softs : List Soft} {s t : State} {f h : List FoundSet}
+    {l m : Logs} →
     Adds good formula softs s t f h l m → Leaves good s l t m
-adds_leaves {good} {formula} {softs} {s} {t} {l = l} {m = m} adds = leaves_put good formula softs s t adds.more l m adds.puts
+adds_leaves {good} {formula} {softs} {s} {t} {l = l} {m = m} adds =
+    leaves_put good formula softs s t adds.more l m adds.puts
 
 pub adds_leave : (good same : Judge) (formula : Cnf) (softs : List Soft) (s t u : State) (f h : List FoundSet)
     (l m n : Logs) → same ≡ good →
@@ -129,7 +142,8 @@ reached_assumed {good} {formula} {softs} s found lits reached is =
 -- WHAT THE ANSWER COMES TO
 pub comes_of : (good : Judge) (formula : Cnf) (softs : List Soft) (s : State) (found : List FoundSet)
     (lits : List Literal) (answer : Answer) →
-    IsReached good formula softs s found → lits ≡ literals_of s.softs → IsAnswer s lits answer → 0 < length found →
+    IsReached good formula softs s found → lits ≡ literals_of s.softs → IsAnswer s lits answer →
+    0 < length found →
     length found ≤ s.most_sets → Comes formula softs s found (next_of answer)
 comes_of good formula softs s found lits answer reached is answers some few =
     let P : List Literal → Type 0 = λ ls. IsAnswer s ls answer in

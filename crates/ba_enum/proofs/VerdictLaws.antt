@@ -40,7 +40,8 @@ ends_block s (EndNoRepair hints) said is = refl
 ends_block s EndTooMany said is = refl
 ends_block s EndSpent said is = refl
 
-ends_new : (s : State) (last : CertStep) (said : derived.Verdict) → verdict_of s last ≡ Some said → IsNewIn s last
+ends_new : (s : State) (last : CertStep) (said : derived.Verdict) → verdict_of s last ≡ Some said →
+    IsNewIn s last
 ends_new s (Learn lits hints) said is = absurd (cc is)
 ends_new s (Core lits hints) said is = tt
 ends_new s (Delete clauses) said is = tt
@@ -65,22 +66,27 @@ no_model good formula softs s found reached (Block groups run) allowed says v ho
 no_model good formula softs s found reached (EndLocated lits hints) allowed says v holds = cc says
 no_model good formula softs s found reached (EndNoRepair hints) allowed says v holds =
     let rest = error_if (is_spent s) WrongCount (hint_error s [] hints) in
-    let first = no_error (ltb 0 (length s.sets)) WrongCount rest (before_end good s (EndNoRepair hints) allowed) in
+    let first = no_error (ltb 0 (length s.sets)) WrongCount rest
+    (before_end good s (EndNoRepair hints) allowed) in
     let second = no_error (is_spent s) WrongCount (hint_error s [] hints) first.1 in
     let none : all_true v (block_clauses softs s.sets) ≡ true =
     ap (λ (sets : List (List ℕ)). all_true v (block_clauses softs sets)) (none_blocked s.sets first.0) in
-    let (z, same, split, lives, is) = (reached_facts good formula softs s found reached).extends v holds none in
+    let (z, same, split, lives, is) = (reached_facts good formula softs s found reached).extends v holds
+    none in
     let e : false ≡ true = follows_true s z [] hints second.1 lives in
     cc e
 no_model good formula softs s found reached EndTooMany allowed says v holds = cc says
 no_model good formula softs s found reached EndSpent allowed says v holds = cc says
 
-says_of : (p : Problem) (s : State) (found : List FoundSet) (steps : List CertStep) (verdict : Verdict) (said : derived.Verdict) →
+says_of : (p : Problem) (s : State) (found : List FoundSet) (steps : List CertStep) (verdict : Verdict)
+    (said : derived.Verdict) →
     Derives p steps said → Fits s found verdict said → s.most_sets ≡ p.most_sets → blocked_by steps ≡ found →
-    (said ≡ derived.NoRepair → (v : Assignment) → all_true v p.formula.clauses ≡ true → ⊥) → Says p steps verdict
+    (said ≡ derived.NoRepair → (v : Assignment) → all_true v p.formula.clauses ≡ true → ⊥) →
+    Says p steps verdict
 says_of p s found steps (Located weight sets) said derives fits most blocked none = (
   let P : derived.Verdict → Type 0 = λ v. Derives p steps v in
-      subst P (fits.0 ∙ ap (λ (fs : List FoundSet). derived.Located weight (sets_of fs)) (sym blocked)) derives,
+      subst P (fits.0 ∙ ap (λ (fs : List FoundSet). derived.Located weight (sets_of fs)) (sym blocked))
+      derives,
   let P : List FoundSet → Type 0 = λ fs. HaveSame sets fs in subst P (sym blocked) fits.1,
   fits.2,
   let P : ℕ → Type 0 = λ n. length sets ≤ n in subst P most fits.3,
@@ -95,11 +101,13 @@ says_of p s found steps Spent said derives fits most blocked none =
     let P : derived.Verdict → Type 0 = λ v. Derives p steps v in subst P fits derives
 
 -- from the start: sets are blocked, and an End step is put
-pub enumerates : (p : Problem) (start s t : State) (found : List FoundSet) (k l m : Logs) (verdict : Verdict) →
+pub enumerates : (p : Problem) (start s t : State) (found : List FoundSet) (k l m : Logs)
+    (verdict : Verdict) →
     IsStart p.formula p.softs → start ≡ start_of p → Puts p.good p.formula p.softs start s found k l →
     Ends p.good s found l verdict t m → Enumerates p k verdict t m
 enumerates p start s t found k l m verdict clauses same puts ends =
-    let P : State → Type 0 = λ u. Puts p.good p.formula p.softs u s found k l in from_start (subst P same puts)
+    let P : State → Type 0 = λ u. Puts p.good p.formula p.softs u s found k l in
+    from_start (subst P same puts)
   where
     from_start : Puts p.good p.formula p.softs (start_of p) s found k l → Enumerates p k verdict t m
     from_start q = record {
@@ -113,7 +121,8 @@ enumerates p start s t found k l m verdict clauses same puts ends =
           subst P (sym blocked) q.leads.models;
       says = says_of p s found (q.steps ++ ends.last ∷ []) verdict ends.said derives ends.fits
           ((limits_stay p.good (start_of p) q.steps s q.leads.reaches).most_sets) blocked
-          (λ said v. no_model p.good p.formula p.softs s found reached ends.last ends.allowed (ends.says ∙ ap Some said) v);
+          (λ said v. no_model p.good p.formula p.softs s found reached ends.last ends.allowed (ends.says
+          ∙ ap Some said) v);
     }
       where
         reached : IsReached p.good p.formula p.softs s found

@@ -31,13 +31,15 @@ Says p steps (Located weight sets) =
     × HaveSame sets (blocked_by steps) × AreInOrder (sets_of sets) × (length sets ≤ p.most_sets)
 Says p steps NoRepair =
     Derives p steps derived.NoRepair × ((v : Assignment) → all_true v p.formula.clauses ≡ true → ⊥)
-Says p steps (TooMany weight sets) = Derives p steps (derived.TooMany weight (sets_of sets)) × (sets ≡ blocked_by steps)
+Says p steps (TooMany weight sets) = Derives p steps (derived.TooMany weight (sets_of sets))
+    × (sets ≡ blocked_by steps)
 Says p steps Spent = Derives p steps derived.Spent
 
 -- ALL LEAST SETS ARE SEARCHED FOR: steps were put that lead from the start of the problem to the checker's state and say the
 -- verdict; each clause that they learn is new to propagation where it is learnt; and each set that they block is that of a
 -- model of the formula.
-pub record Enumerates (p : Problem) (old_logs : Logs) (verdict : Verdict) (new : State) (new_logs : Logs) : Type 0 where
+pub record Enumerates (p : Problem) (old_logs : Logs) (verdict : Verdict) (new : State)
+    (new_logs : Logs) : Type 0 where
   pub steps : List CertStep
   pub logs : new_logs ≡ with_steps steps old_logs
   pub reaches : after_all p.good (start_of p) steps ≡ Some new
@@ -57,7 +59,8 @@ Fits s found (TooMany weight sets) said = (said ≡ derived.TooMany weight (sets
 Fits s found Spent said = said ≡ derived.Spent
 
 -- an allowed End step was put, which has the form that its text asks for and says the verdict
-pub record Ends (good : Judge) (s : State) (found : List FoundSet) (old_logs : Logs) (verdict : Verdict) (new : State)
+pub record Ends (good : Judge) (s : State) (found : List FoundSet) (old_logs : Logs) (verdict : Verdict)
+    (new : State)
     (new_logs : Logs) : Type 0 where
   pub last : CertStep
   pub said : derived.Verdict
@@ -69,7 +72,8 @@ pub record Ends (good : Judge) (s : State) (found : List FoundSet) (old_logs : L
   pub told : new_logs ≡ with_step last old_logs
 
 -- sets were blocked, and then an End step was put
-pub record Finishes (good : Judge) (formula : Cnf) (softs : List Soft) (old : State) (old_logs : Logs) (verdict : Verdict)
+pub record Finishes (good : Judge) (formula : Cnf) (softs : List Soft) (old : State) (old_logs : Logs)
+    (verdict : Verdict)
     (new : State) (new_logs : Logs) : Type 0 where
   pub found : List FoundSet
   pub between : State

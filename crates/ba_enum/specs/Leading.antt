@@ -35,7 +35,8 @@ AreNew s (step ∷ steps) = IsNewIn s step × AreNew (after s step) steps
 
 -- each step is allowed in turn, has the form that its text asks for, and learns what is new; the blocked sets are these, each
 -- that of a model of the formula
-pub record Leads (good : Judge) (formula : Cnf) (softs : List Soft) (old : State) (steps : List CertStep) (new : State)
+pub record Leads (good : Judge) (formula : Cnf) (softs : List Soft) (old : State) (steps : List CertStep)
+    (new : State)
     (found : List FoundSet) : Type 0 where
   pub formed : All IsFormed steps
   pub reaches : after_all good old steps ≡ Some new
@@ -44,7 +45,8 @@ pub record Leads (good : Judge) (formula : Cnf) (softs : List Soft) (old : State
   pub models : All (HasModelFor formula softs) (sets_of found)
 
 -- the state is reached from the start, and these sets were blocked on the way
-pub record IsReached (good : Judge) (formula : Cnf) (softs : List Soft) (s : State) (found : List FoundSet) : Type 0 where
+pub record IsReached (good : Judge) (formula : Cnf) (softs : List Soft) (s : State)
+    (found : List FoundSet) : Type 0 where
   pub start : IsStart formula softs
   pub conflicts : ℕ
   pub most_sets : ℕ
@@ -74,7 +76,8 @@ pub record IsReady (s : State) : Type 0 where
   pub awake : s.refused ≡ false
 
 -- a set was blocked, and added to those found
-pub record Blocks (good : Judge) (formula : Cnf) (softs : List Soft) (old new : State) (old_found new_found : List FoundSet)
+pub record Blocks (good : Judge) (formula : Cnf) (softs : List Soft) (old new : State)
+    (old_found new_found : List FoundSet)
     (old_logs new_logs : Logs) : Type 0 where
   pub set : FoundSet
   pub puts : Puts good formula softs old new (set ∷ []) old_logs new_logs
@@ -82,7 +85,8 @@ pub record Blocks (good : Judge) (formula : Cnf) (softs : List Soft) (old new : 
   pub found : new_found ≡ old_found ++ set ∷ []
 
 -- sets were blocked, and added to those found
-pub record Adds (good : Judge) (formula : Cnf) (softs : List Soft) (old new : State) (old_found new_found : List FoundSet)
+pub record Adds (good : Judge) (formula : Cnf) (softs : List Soft) (old new : State)
+    (old_found new_found : List FoundSet)
     (old_logs new_logs : Logs) : Type 0 where
   pub more : List FoundSet
   pub puts : Puts good formula softs old new more old_logs new_logs

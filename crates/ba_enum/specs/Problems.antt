@@ -25,10 +25,12 @@ problem_in encoded good s = record {
 
 -- a search and a checker at the start: the search has the live clauses of the checker, which is in the first state, over the
 -- formula with the soft literals of its groups, lists at most so many sets, and has had no step refused
-pub record IsFresh {R K S J : Type 0} (encoded : Encoded) (sets : ℕ) (search : Searching R K) (checked : Putting S J) :
+pub record IsFresh {R K S J : Type 0} (encoded : Encoded) (sets : ℕ) (search : Searching R K)
+    (checked : Putting S J) :
     Type 0 where
   pub same : AreLive search.clauses (clause_at checked.checker.clauses)
-  pub starts : checked.checker ≡ first_state encoded.formula (softs_of encoded.groups) checked.checker.budget sets
+  pub starts : checked.checker ≡ first_state encoded.formula (softs_of encoded.groups)
+      checked.checker.budget sets
   pub accepted : checked.refusal ≡ None
 
 -- for each model of the formula some selector is false, and the choices that are read from it are good for the groups

@@ -19,7 +19,8 @@ use Rattle.ba_steps.specs.States.{State, clause_at}
 use Rattle.ba_steps.specs.Steps.{AreNumbers}
 
 -- the clause of a core after which no further set is of least weight
-pub record IsLast (s : State) (found : List FoundSet) (lits : List Literal) (hints : List ℕ) (back : ℕ) : Type 0 where
+pub record IsLast (s : State) (found : List FoundSet) (lits : List Literal) (hints : List ℕ)
+    (back : ℕ) : Type 0 where
   pub core : IsCore s (literals_of s.softs) lits hints back
   pub some : 0 < length found
   pub few : length found ≤ s.most_sets

@@ -9,9 +9,10 @@ use Rattle.ba_derivations.specs.declared.verdict.FoundSet.{FoundSet}
 use Rattle.ba_derivations.specs.declared.verdict.Verdict.{Verdict}
 use Rattle.ba_derivations.specs.declared.verdict.Verdict.TheVariants.{Located, NoRepair, TooMany, Spent}
 use Rattle.ba_enum.specs.Enumerating.{Enumerates, HaveSame, Says}
-use Rattle.ba_localise.specs.Verdicts.{AreLocated, Finds, IsVerdict, Told, problem_of}
+use Rattle.ba_enum.specs.Leading.{Leaves}
+use Rattle.ba_localise.specs.Verdicts.{AreLocated, Finds, IsVerdict, LeavesDerivation, Told, leaves_steps, problem_of}
 use Rattle.ba_steps.specs.Puts.{with_steps}
-use Rattle.ba_steps.specs.Sinks.{Rose, with_told}
+use Rattle.ba_steps.specs.Sinks.{Logs, Rose, with_told}
 use Rattle.ba_steps.specs.States.{State, first_state}
 use Rattle.ba_steps.specs.declared.sink.Basis.{Basis}
 use Rattle.ba_steps.specs.declared.step.CertStep.{CertStep}
@@ -56,13 +57,15 @@ same-sets xs ys same set = (forth, back) where
   back at = let has = has-run ys set at in
       subst (Contains (sets_of xs)) has.is (run-has xs has.found ((same has.found).1 has.among))
 
-same-runs : (good : Judge) (xs ys : List FoundSet) → HaveSame xs ys → All (IsGood good) ys → All (IsGood good) xs
+same-runs : (good : Judge) (xs ys : List FoundSet) → HaveSame xs ys → All (IsGood good) ys →
+    All (IsGood good) xs
 same-runs good xs ys same runs k d few =
     let x : FoundSet = get_or xs k d in
     let at = (same x).0 (k, few, get-same xs k d few) in
     subst (IsGood good) at.2 (runs at.0 x at.1)
   where
-    get-same : (zs : List FoundSet) (i : ℕ) (e : FoundSet) → i < length zs → get_or zs i (get_or zs i e) ≡ get_or zs i e
+    get-same : (zs : List FoundSet) (i : ℕ) (e : FoundSet) → i < length zs →
+        get_or zs i (get_or zs i e) ≡ get_or zs i e
     get-same [] i e less = absurd (omega (arith, less))
     get-same (z ∷ zs) zero e less = refl
     get-same (z ∷ zs) (suc i) e less = get-same zs i e (omega (arith, less))
@@ -79,7 +82,8 @@ module _ (weights : WeightList) (p : Problem) (faithful : IsFaithful p.formula p
   all-located weight sets says =
       let all : AreAllLeast weights p.good weight (sets_of (blocked_by steps)) =
       located weights p steps weight (sets_of (blocked_by steps)) (faithful, says.0) in
-      let same : HaveSameSets (sets_of sets) (sets_of (blocked_by steps)) = same-sets sets (blocked_by steps) says.1 in
+      let same : HaveSameSets (sets_of sets) (sets_of (blocked_by steps)) =
+      same-sets sets (blocked_by steps) says.1 in
       record {
         least = ordered weights p.good weight (sets_of (blocked_by steps)) (sets_of sets) all same says.2;
         some = λ none. all.some (no-sets (sets_of (blocked_by steps)) (λ set at.
@@ -116,7 +120,8 @@ pub finds : (weights : WeightList) (good same : Judge) (begun : Basis) (s last :
     → mid.logs ≡ old.logs → new.over ≡ mid.over
     → Enumerates (problem begun same s.budget s.most_sets) mid.logs verdict last new.logs
     → Finds weights good conflicts most old new verdict
-finds weights good same begun s last conflicts most old mid new verdict faithful judges starts begins stay over has =
+finds weights good same begun s last conflicts most old mid new verdict faithful judges starts begins stay
+    over has =
     let p : Problem = problem begun good conflicts most in
     let is : problem begun same s.budget s.most_sets ≡ p =
     ap (λ (g : Judge). problem begun g s.budget s.most_sets) judges
@@ -135,6 +140,32 @@ finds weights good same begun s last conflicts most old mid new verdict faithful
       };
     }
 
+-- and what is left of it, whatever was answered
+pub left : (weights : WeightList) (good same : Judge) (begun : Basis) (s last : State) (conflicts most : ℕ)
+    (old mid new : Told) → IsFaithful begun.formula begun.softs weights good → same ≡ good
+    → s ≡ first_state begun.formula begun.softs conflicts most → mid.over ≡ with_told begun old.over
+    → mid.logs ≡ old.logs → new.over ≡ mid.over → Leaves same s mid.logs last new.logs
+    → LeavesDerivation weights good conflicts most old new
+left weights good same begun s last conflicts most old mid new faithful judges starts begins stay over has =
+    let judged : Leaves good s mid.logs last new.logs =
+    subst (λ (g : Judge). Leaves g s mid.logs last new.logs) judges has in
+    let started : Leaves good (first_state begun.formula begun.softs conflicts most) mid.logs last new.logs =
+    subst (λ (t : State). Leaves good t mid.logs last new.logs) starts judged in
+    leaves_steps begun last faithful (over ∙ begins)
+    (subst (λ (logs : Logs). Leaves good (first_state begun.formula begun.softs conflicts most) logs last
+    new.logs)
+    stay started)
+
+-- the same of equal judges, states and logs
+pub leaves-same : (good better : Judge) (s t last end : State) (old first new final : Logs) → good ≡ better → s ≡ t
+    → old ≡ first → last ≡ end → new ≡ final → Leaves good s old last new → Leaves better t first end final
+leaves-same good better s t last end old first new final judges starts begins ends stops has =
+    subst (λ (logs : Logs). Leaves better t first end logs) stops
+    (subst (λ (e : State). Leaves better t first e new) ends
+    (subst (λ (logs : Logs). Leaves better t logs last new) begins
+    (subst (λ (u : State). Leaves better u old last new) starts
+    (subst (λ (g : Judge). Leaves g s old last new) judges has))))
+
 -- A COUNT that rose beside one of no faults
 pub rose-second : (a b c d : ℕ) → a ≡ c → b ≡ d → Rose (0 + a) (0 + b) → Rose c d
 rose-second a b c d first second rose =
@@ -148,6 +179,7 @@ rose-after a b c le (inl lt) = inl (omega (arith, le, lt))
 rose-after a b c le (inr end) = inr end
 
 -- THE JUDGE
-pub same-judge : (p q : Program) (i k : Input) (b d : Bounds) → p ≡ q → i ≡ k → b ≡ d → judge_of p i b ≡ judge_of q k d
+pub same-judge : (p q : Program) (i k : Input) (b d : Bounds) → p ≡ q → i ≡ k → b ≡ d →
+    judge_of p i b ≡ judge_of q k d
 same-judge p q i k b d is_p is_i is_b =
     ap (λ p. judge_of p i b) is_p ∙ ap (λ i. judge_of q i b) is_i ∙ ap (judge_of q k) is_b

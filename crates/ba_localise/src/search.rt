@@ -3,9 +3,10 @@
 ghost use Rattle.std.specs.Prelude.{◌≡◌, ◌≢◌, ◌≤◌, true, None, Err, IfOk};
 ghost use Rattle.ba_encode.specs.Softs.{softs_of};
 ghost use Rattle.ba_enum.specs.Enumerating.{Enumerates};
+ghost use Rattle.ba_enum.specs.Leading.{Leaves};
 ghost use Rattle.ba_enum.specs.Problems.{IsReadable, problem_in};
 ghost use Rattle.ba_learn.specs.Live.{AreLive};
-ghost use Rattle.ba_localise.specs.Verdicts.{Finds, told};
+ghost use Rattle.ba_localise.specs.Verdicts.{Finds, LeavesDerivation, told};
 ghost use Rattle.ba_search.specs.Rules.{IsKeepRule, IsRestartRule};
 ghost use Rattle.ba_search.specs.declared.search.SearchError.{SearchError};
 ghost use Rattle.ba_steps.specs.Facts.{IsStart};
@@ -34,7 +35,8 @@ use std::alloc::Global;
 /// before it is handed on, and judges each set's run by the interpreter.
 ///
 /// The search restarts and keeps learnt clauses by these rules; what is promised holds for all of them. `SinkFailed` comes only where
-/// the faults of `steps` rose; `Memory` for want of memory. Steps that were handed on before an error stay there.
+/// the faults of `steps` rose; `Memory` for want of memory. What was handed on before an error stays there: the formula, and steps over it
+/// that are allowed one after the other.
 pub fn localise<D, R, K>(
     alloc: Global,
     program: &Program,
@@ -60,6 +62,9 @@ where
     ensures finds { IfOk result (λ verdict. Finds weights.now.of
         (judge_of program.now input.now bounds) conflicts sets
         (told D.over D.logs D.faults steps.old) (told D.over D.logs D.faults steps.new) verdict) }
+    ensures leaves { LeavesDerivation weights.now.of
+        (judge_of program.now input.now bounds) conflicts sets
+        (told D.over D.logs D.faults steps.old) (told D.over D.logs D.faults steps.new) }
     ensures cause { result ≡ Err SearchError.SinkFailed
         → Rose (D.faults steps.old) (D.faults steps.new) }
     ensures no_fall { D.faults steps.old ≤ D.faults steps.new }
@@ -103,6 +108,8 @@ where
     ensures verdict { IfOk result.0 (λ verdict.
         Enumerates (problem_in encoded.now (J.accepts judge) checker)
         (D.logs steps.old) verdict result.1 (D.logs steps.new)) }
+    ensures leaves { Leaves (J.accepts judge) checker (D.logs steps.old) result.1
+        (D.logs steps.new) }
     ensures over_stays { D.over steps.new ≡ D.over steps.old }
     ensures cause { result.0 ≡ Err SearchError.SinkFailed
         → Rose (D.faults steps.old) (D.faults steps.new) }

@@ -173,7 +173,8 @@ job_bounds words j is = wanted_within (command_of words) j (command_within words
 sampled_within : (o : Option Command) (additions : ℕ) → IfWithin o → request_by o ≡ request.Sample additions →
     IsFrom 1 500 additions
 sampled_within None additions within is = absurd (let no : ⊥ = cc in no)
-sampled_within (Some (command.Localise program input bounds weights conflicts sets cert runs steady)) additions
+sampled_within (Some (command.Localise program input bounds weights conflicts sets cert runs steady))
+    additions
     within is = absurd (let no : ⊥ = cc in no)
 sampled_within (Some (command.Check program input cert bounds weights conflicts sets)) additions within is =
     absurd (let no : ⊥ = cc in no)

@@ -122,7 +122,8 @@ module _ (c : Call) (r : Request) (result : Status) (name : Word) (told : Option
       ap (λ (held : Word → Option (Option (List ℕ))). held k.about.name) only.held
       ∙ subst (λ n. c.before.held n ≡ Some told)
       (names_same t.job.cert name k.about.name t.named k.about.named) held in
-      certificate_ends c result told (judging t.job k.texts k.program k.over k.about.name) k.read mid only same
+      certificate_ends c result told (judging t.job k.texts k.program k.over k.about.name) k.read mid only
+      same
       there a k.about.comes e
 
   checking_ends : (handed : Option Derivation) (a : Answer) → RequestComesTo r c.before mid handed a →
@@ -135,7 +136,8 @@ module _ (c : Call) (r : Request) (result : Status) (name : Word) (told : Option
       check_ends handed a job_comes e
 
 pub ends_checking : (c : Call) (a : Answer) (result : Status) → Ends c a result → (name : Word)
-    (told : Option (List ℕ)) → TellsCheck (request_of c.words) c.before name → c.before.held name ≡ Some told →
+    (told : Option (List ℕ)) → TellsCheck (request_of c.words) c.before name →
+    c.before.held name ≡ Some told →
     EndsWith c (IsEndOfCheck told) result
 ends_checking c a result s name told t held =
     shown_ends c (IsEndOfCheck told) result a s

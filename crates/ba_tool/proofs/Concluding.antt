@@ -49,7 +49,8 @@ module _ (j : Job) (x : Texts) (c : Case) (is : IsCaseOf x c) (encoded : Encoded
       ≡ problem_of (handed_of formula softs) (judge_in j x c.program) j.conflicts j.sets
   problem_same =
       ap (λ (i : Input). problem_over c.program i (settings_of j) encoded) is.input
-      ∙ ap (λ (formula : Cnf). problem_of (handed_of formula (softs_of encoded.groups)) (judge_in j x c.program)
+      ∙ ap (λ (formula : Cnf). problem_of (handed_of formula (softs_of encoded.groups))
+      (judge_in j x c.program)
       j.conflicts j.sets) (sym formula_is)
       ∙ ap (λ (softs : List Soft). problem_of (handed_of formula softs) (judge_in j x c.program)
       j.conflicts j.sets)
@@ -82,6 +83,7 @@ module _ (j : Job) (x : Texts) (c : Case) (is : IsCaseOf x c) (encoded : Encoded
       name = name;
       named = named;
       comes = subst (λ (p : Problem). CertificateComesTo
-          (record { name = name; problem = p; weights = weights_of c.program x }) a old new) problem_same comes;
+          (record { name = name; problem = p; weights = weights_of c.program x }) a old new) problem_same
+          comes;
     };
   }

@@ -64,14 +64,15 @@ pub feeding_goes_on : (name : Word) (first reader later : Confirming) (buffer : 
     ((p : Problem) (text : List ℕ) → HasRead p text reader →
     first_refused p (text ++ take count buffer) ≡ None) →
     IsFeeding name first later old new (given + count)
-feeding_goes_on name first reader later buffer count given old mid new f piece reading reads refuses = record {
-  text = f.text ++ take count buffer;
-  read = read_on name f.text buffer count old mid new f.read piece reading;
-  count = length-append f.text (take count buffer)
-      ∙ ap (λ n. length f.text + n) (length-take-le count buffer piece.within)
-      ∙ ap (λ n. n + count) f.count;
-  reads = λ p has. let h = f.reads p has in (reads p f.text h.0, refuses p f.text h.0);
-}
+feeding_goes_on name first reader later buffer count given old mid new f piece reading reads refuses =
+    record {
+      text = f.text ++ take count buffer;
+      read = read_on name f.text buffer count old mid new f.read piece reading;
+      count = length-append f.text (take count buffer)
+          ∙ ap (λ n. length f.text + n) (length-take-le count buffer piece.within)
+          ∙ ap (λ n. n + count) f.count;
+      reads = λ p has. let h = f.reads p has in (reads p f.text h.0, refuses p f.text h.0);
+    }
 
 -- THE END of the file: nothing is left of it
 
@@ -140,9 +141,11 @@ feeding_faults j name first reader given old mid new named has f few none readin
   cause = rose_since old.read_faults mid.read_faults new.read_faults later rose;
 }
 
-pub feeding_passes : (j : Judging) (name : Word) (first reader : Confirming) (buffer : List ℕ) (count given : ℕ)
+pub feeding_passes : (j : Judging) (name : Word) (first reader : Confirming) (buffer : List ℕ)
+    (count given : ℕ)
     (old mid new : Outside) → j.name ≡ name → HasRead j.problem [] first →
-    IsFeeding name first reader old mid given → given ≤ certificate_limit → certificate_limit < given + count →
+    IsFeeding name first reader old mid given → given ≤ certificate_limit →
+    certificate_limit < given + count →
     length buffer ≡ piece_size → GivesPiece count buffer mid new → new.is_reading ≡ true →
     StopsTooLong j old new
 feeding_passes j name first reader buffer count given old mid new named has f few more room piece reading =
@@ -152,7 +155,8 @@ feeding_passes j name first reader buffer count given old mid new named has f fe
       read = subst (λ n. IsReadTo n (f.text ++ take count buffer) old new) (sym named)
           (read_on name f.text buffer count old mid new f.read piece reading);
       unrefused = (f.reads j.problem has).1;
-      last = let e = length-take-le count buffer piece.within in let w = piece.within in omega (arith, e, w, room);
+      last = let e = length-take-le count buffer piece.within in let w = piece.within in
+          omega (arith, e, w, room);
       short = let e = f.count in omega (arith, e, few);
       long = let e = length-append f.text (take count buffer) in let n = f.count in
           let t = length-take-le count buffer piece.within in omega (arith, e, n, t, more);
@@ -164,7 +168,8 @@ pub feeding_refuses : (j : Judging) (name : Word) (first reader : Confirming) (b
     length buffer ≡ piece_size → GivesPiece count buffer mid new → new.is_reading ≡ true →
     ((p : Problem) (text : List ℕ) → HasRead p text reader →
     first_refused p (text ++ take count buffer) ≡ Some (line, code)) → StopsRefused j line code old new
-feeding_refuses j name first reader buffer count given line code old mid new named has f few room piece reading
+feeding_refuses j name first reader buffer count given line code old mid new named has f few room piece
+    reading
     refuses = record {
       text = f.text;
       piece = take count buffer;
@@ -190,7 +195,8 @@ feeding_errs j name first reader given old mid new world.Failed result named has
 feeding_errs j name first reader given old mid new world.Memory result named has f few none reading is rose
     later = tt
 
-pub feeding_stops : (j : Judging) (name : Word) (first reader : Confirming) (buffer : List ℕ) (count given : ℕ)
+pub feeding_stops : (j : Judging) (name : Word) (first reader : Confirming) (buffer : List ℕ)
+    (count given : ℕ)
     (old mid new : Outside) (error : CheckError) → j.name ≡ name → HasRead j.problem [] first →
     IsFeeding name first reader old mid given → given + count ≤ certificate_limit →
     length buffer ≡ piece_size → GivesPiece count buffer mid new → new.is_reading ≡ true →
@@ -199,7 +205,8 @@ pub feeding_stops : (j : Judging) (name : Word) (first reader : Confirming) (buf
     IsUnfed j (unfed.Refused error) old new
 feeding_stops j name first reader buffer count given old mid new (Line line code) named has f few room
     piece reading
-    refuses = feeding_refuses j name first reader buffer count given line code old mid new named has f few room
+    refuses = feeding_refuses j name first reader buffer count given line code old mid new named has f few
+    room
     piece reading refuses
 feeding_stops j name first reader buffer count given old mid new Memory named has f few room piece reading
     refuses =

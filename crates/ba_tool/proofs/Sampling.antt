@@ -26,7 +26,8 @@ pub sample_made : (n number : ℕ) (empty one two three four five lines shown : 
     one ≡ empty ++ head_text → lines ≡ repeat n line_text → shown ≡ lines → two ≡ one ++ shown →
     three ≡ two ++ test_text → number ≡ n + 1 → four ≡ three ++ decimal number → five ≡ four ++ end_text →
     five ≡ sample_text n
-sample_made n number empty one two three four five lines shown none head repeated same second third count digits
+sample_made n number empty one two three four five lines shown none head repeated same second third count
+    digits
     end = end ∙ ap (λ (t : List ℕ). t ++ end_text) (digits ∙ ap (λ (m : ℕ). three ++ decimal m) count
     ∙ ap (λ (t : List ℕ). t ++ decimal (n + 1)) (third ∙ ap (λ (t : List ℕ). t ++ test_text)
     (second ∙ ap (λ (s : List ℕ). one ++ s) (same ∙ repeated)
@@ -35,7 +36,8 @@ sample_made n number empty one two three four five lines shown none head repeate
 -- so many lines of fifteen bytes
 lines_short : (line : List ℕ) (n : ℕ) → length line ≡ 15 → length (repeat n line) ≤ 15 * n
 lines_short line zero is = omega arith
-lines_short line (suc n) is = let joined = length-append line (repeat n line) in let rest = lines_short line n is in
+lines_short line (suc n) is = let joined = length-append line (repeat n line) in let rest =
+    lines_short line n is in
     omega (arith, joined, rest, is)
 
 pub sample_short : (n : ℕ) → n ≤ 500 → length (sample_text n) ≤ limit

@@ -120,7 +120,8 @@ module _ (j : Job) (x : Texts) (p : Program) where
   Fits (at_end (outcome.Trap stmt)) a = IsShownBy j.task answer.Trap stmt a
   Fits (at_end outcome.WrongChoices) a = ⊥
 
-  found_shown : (t : Task) (shown : At → Answer) (stmt : StmtId) (a : Answer) → is_search t ≡ true → IsFound a →
+  found_shown : (t : Task) (shown : At → Answer) (stmt : StmtId) (a : Answer) → is_search t ≡ true →
+      IsFound a →
       IsShownBy t shown stmt a
   found_shown task.Localise shown stmt a is it = it
   found_shown (task.Sample additions) shown stmt a is it = it
@@ -273,7 +274,8 @@ module _ (j : Job) (x : Texts) (p : Program) where
       length sets ≡ length others
   counted_same weight more sets others one other =
       sym (length-map sets (λ (b : FoundSet). b.groups))
-      ∙ ap length (all_same weight more sets others one other) ∙ length-map others (λ (b : FoundSet). b.groups)
+      ∙ ap length (all_same weight more sets others one other)
+      ∙ length-map others (λ (b : FoundSet). b.groups)
 
   told_agree : (t : Task) (weight more : ℕ) (sets others : List FoundSet) (a b : Answer) → AreAll weight sets
       → AreAll more others

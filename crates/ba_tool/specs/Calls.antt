@@ -154,7 +154,8 @@ pub record CheckComesTo (j : Job) (before after : Outside) (handed : Option Deri
 -- THE ANSWER of words and files, where reading leads from one moment to a later one
 
 -- a file couldn't be read, or was too long
-abbrev pub UnreadComesTo : File → ReadFileError → Job → Outside → Outside → Option Derivation → Answer → Type 0
+abbrev pub UnreadComesTo : File → ReadFileError → Job → Outside → Outside → Option Derivation → Answer →
+    Type 0
 UnreadComesTo file.Certificate error j before after handed a = CheckComesTo j before after handed a
 UnreadComesTo which error j before after handed a = StopsAt which error j before after × (handed ≡ None)
 

@@ -37,7 +37,6 @@ pub enum Claim {
 }
 
 /// What a call comes to.
-#[derive(Drop)]
 pub enum Answer {
     /// The least sets were found: their report.
     Located(Items<u8>),
@@ -93,6 +92,35 @@ pub enum Answer {
     TooLong(File),
     /// This line of the weights is the first that is refused.
     BadWeights(u64),
+}
+
+impl Drop for Answer {
+    fn drop(self) {
+        match self {
+            Answer::Located(_) => {}
+            Answer::Sampled {
+                additions: _,
+                weight: _,
+                sets: _,
+            } => {}
+            Answer::Accepted(_) => {}
+            Answer::AssertFails(_) => {}
+            Answer::Trap(_) => {}
+            Answer::NotFailing => {}
+            Answer::BadWords => {}
+            Answer::BadProgram(_) => {}
+            Answer::BadInput(_) => {}
+            Answer::TooLarge => {}
+            Answer::BeyondBound(_) => {}
+            Answer::NoRepair => {}
+            Answer::TooManySets { weight: _, most: _ } => {}
+            Answer::BudgetSpent(_) => {}
+            Answer::BadCertificate { code: _, line: _ } => {}
+            Answer::Unreadable(_) => {}
+            Answer::TooLong(_) => {}
+            Answer::BadWeights(_) => {}
+        }
+    }
 }
 
 impl Answer {

@@ -35,11 +35,20 @@ impl File {
 }
 
 /// What the files of a job hold. Where no weights are named, their text is empty.
-#[derive(Drop)]
 pub struct Texts {
     pub program: Items<u8>,
     pub input: Items<u8>,
     pub weights: Items<u8>,
+}
+
+impl Drop for Texts {
+    fn drop(self) {
+        let Texts {
+            program: _,
+            input: _,
+            weights: _,
+        } = self;
+    }
 }
 
 /// How many bytes a file may have that is read whole.

@@ -28,11 +28,20 @@ use std::alloc::{AllocError, Global};
 const UNIT_LIMIT: u32 = 20000;
 
 /// A program with an input, and the weights of its statements.
-#[derive(Drop)]
 pub struct Case {
     pub program: Program,
     pub input: Input,
     pub weights: Weights,
+}
+
+impl Drop for Case {
+    fn drop(self) {
+        let Case {
+            program: _,
+            input: _,
+            weights: _,
+        } = self;
+    }
 }
 
 /// What a job comes to before any search or check.

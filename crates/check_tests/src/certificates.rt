@@ -118,7 +118,7 @@ fn first_wrong(
     Ok(None)
 }
 
-const ROWS: [Row; 35] = [
+const ROWS: [Row; 36] = [
     ("all sets", WHOLE, 5, 9, Located),
     (
         "more than two sets",
@@ -242,6 +242,13 @@ const ROWS: [Row; 35] = [
         5,
         3,
         Refused(6, 13),
+    ),
+    (
+        "a set is missing",
+        "c -1 -3 -4 0 1 0\ns 1 0 t 1\ns 3 0 t 2\ne l 0 12 13 14 2 0\n",
+        5,
+        9,
+        Refused(5, 1),
     ),
     (
         "a clause after the last conflict",

@@ -31,7 +31,8 @@ pub fn may_begin(encoded: &Encoded, softs: &[(Lit, u32)]) -> bool
 
 /// Whether the first clause of a formula says that some selector of a group is false.
 fn gives_up_some(formula: &Formula, softs: &[(Lit, u32)]) -> bool
-    ensures { result ≡ true → (v : Assignment) → all_true v formula.now.clauses ≡ true → false_groups v softs.now ≢ [] }
+    ensures { result ≡ true → (v : Assignment) → all_true v formula.now.clauses ≡ true
+        → false_groups v softs.now ≢ [] }
 {
     if formula.len() == 0 {
         return false;

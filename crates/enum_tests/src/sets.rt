@@ -210,10 +210,10 @@ fn two_hundred_sets_of_weight_1_are_found_in_order(rt: HostRuntime) -> Result<()
     }
     let formula = some_false(rt.alloc(), 200)?;
     let verdict = find(&rt, rt.alloc(), formula, weights.as_slice(), 9_999, 200)?;
-    let Verdict::Located { weight, sets } = verdict else {
+    let Verdict::Located { weight, sets } = &verdict else {
         panic!(rt; "not located");
     };
-    assert_eq!(rt; weight, 1);
+    assert_eq!(rt; *weight, 1);
     assert_eq!(rt; sets.len(), 200);
     for (place, set) in sets.as_slice().iter().enumerate() {
         assert_eq!(rt; set.groups.as_slice(), [place as u32 + 1].as_slice());

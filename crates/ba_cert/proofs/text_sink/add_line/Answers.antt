@@ -130,7 +130,11 @@ returns-clause-added g c =
     (with_feed (line_of step)) follows is c.in_default.ensures.added c.add.ensures.others.kept
 
 pub returns-in_err-line-clause-prefix : goal.returns-in_err-line-clause-prefix
-returns-in_err-line-clause-prefix g c = (0, no-bytes ((g.W.World.outside c.args.world.now).kept c.args.name.now))
+returns-in_err-line-clause-prefix g c = (
+  0,
+  no-bytes
+      ((g.W.World.outside c.args.world.now).kept c.args.name.now),
+)
 
 pub returns-in-Err-clause-prefix : goal.returns-in-Err-clause-prefix
 returns-in-Err-clause-prefix g c =

@@ -9,15 +9,17 @@ returns-in_err-feed-clause-exactly c =
     let p = problem_of c.args.program.now c.args.input.now c.args.settings c.args.encoded.now in
     let e = err_from_is_err_and c.from_residual-in_err-feed.result c.from_residual-in_err-feed.ensures.1 in
     rw (e.1, e.2)
-    (refusal-found p c.args.text.now _ (c.in_err-feed.ensures.refuses p [] c.in_ok-confirm.ensures))
+    (refusal-found p c.args.text.now _
+    (c.in_err-feed.ensures.refuses p [] c.in_ok-confirm.ensures.nothing_read))
 
 pub returns-clause-exactly : goal.returns-clause-exactly
 returns-clause-exactly c =
     let p = problem_of c.args.program.now c.args.input.now c.args.settings c.args.encoded.now in
-    c.finish.ensures.exactly p c.args.text.now (c.in_ok-feed.ensures.reads p [] c.in_ok-confirm.ensures)
+    c.finish.ensures.exactly p c.args.text.now
+    (c.in_ok-feed.ensures.reads p [] c.in_ok-confirm.ensures.nothing_read)
 
 pub returns-clause-truly : goal.returns-clause-truly
 returns-clause-truly c = λ weights faithful.
     let p = problem_of c.args.program.now c.args.input.now c.args.settings c.args.encoded.now in
-    c.finish.ensures.truly weights p c.args.text.now (c.in_ok-feed.ensures.reads p [] c.in_ok-confirm.ensures)
-    faithful
+    c.finish.ensures.truly weights p c.args.text.now
+    (c.in_ok-feed.ensures.reads p [] c.in_ok-confirm.ensures.nothing_read) faithful

@@ -6,37 +6,53 @@ use Rattle.ba_enum.proofs.blocking.block.Goals as goal
 
 pub found_set-requires-clause-long : goal.found_set-requires-clause-long
 found_set-requires-clause-long g c =
-    long_enough (g.J.RunJudge.accepts c.args.checked.now.judge) c.args.task.now.encoded.now c.args.checked.now.checker c.args.model.now.values c.args.found.now c.requires.reached c.requires.next
+    long_enough (g.J.RunJudge.accepts c.args.checked.now.judge) c.args.task.now.encoded.now
+    c.args.checked.now.checker c.args.model.now.values c.args.found.now c.requires.reached c.requires.next
 
 pub returns-in_err-set-clause-leaves : goal.returns-in_err-set-clause-leaves
 returns-in_err-set-clause-leaves g c =
-    leaves_none (g.J.RunJudge.accepts c.args.checked.now.judge) c.args.checked.now.checker (g.S.StepSink.logs c.args.checked.now.sink)
+    leaves_none (g.J.RunJudge.accepts c.args.checked.now.judge) c.args.checked.now.checker
+    (g.S.StepSink.logs c.args.checked.now.sink)
 
 pub returns-in_err-from_slice-clause-leaves : goal.returns-in_err-from_slice-clause-leaves
 returns-in_err-from_slice-clause-leaves g c =
-    leaves_none (g.J.RunJudge.accepts c.args.checked.now.judge) c.args.checked.now.checker (g.S.StepSink.logs c.args.checked.now.sink)
+    leaves_none (g.J.RunJudge.accepts c.args.checked.now.judge) c.args.checked.now.checker
+    (g.S.StepSink.logs c.args.checked.now.sink)
 
 pub returns-in_err-try_clone-clause-leaves : goal.returns-in_err-try_clone-clause-leaves
 returns-in_err-try_clone-clause-leaves g c =
-    leaves_none (g.J.RunJudge.accepts c.args.checked.now.judge) c.args.checked.now.checker (g.S.StepSink.logs c.args.checked.now.sink)
+    leaves_none (g.J.RunJudge.accepts c.args.checked.now.judge) c.args.checked.now.checker
+    (g.S.StepSink.logs c.args.checked.now.sink)
 
 pub put-requires-clause-formed : goal.put-requires-clause-formed
 put-requires-clause-formed g c =
     let encoded = c.args.task.now.encoded.now in
     let values = c.args.model.now.values in
     let read = read_same encoded values c.in_ok-from_slice.field-0 c.in_ok-try_clone.field-0 c.in_ok-set.set
-    (record { groups = c.in_ok-set.ensures.groups; run = c.in_ok-set.ensures.run; in_range = c.in_ok-set.ensures.in_range })
+    (record {
+      groups = c.in_ok-set.ensures.groups;
+      run = c.in_ok-set.ensures.run;
+      in_range =
+          c.in_ok-set.ensures.in_range;
+    })
     (c.in_ok-from_slice.ensures ∙ c.as_slice.ensures) c.in_ok-try_clone.ensures in
-    block_formed (g.J.RunJudge.accepts c.args.checked.now.judge) encoded c.args.checked.now.checker values _ c.requires.readable c.requires.next read
+    block_formed (g.J.RunJudge.accepts c.args.checked.now.judge) encoded c.args.checked.now.checker values _
+    c.requires.readable c.requires.next read
 
 pub put-requires-clause-allowed : goal.put-requires-clause-allowed
 put-requires-clause-allowed g c =
     let encoded = c.args.task.now.encoded.now in
     let values = c.args.model.now.values in
     let read = read_same encoded values c.in_ok-from_slice.field-0 c.in_ok-try_clone.field-0 c.in_ok-set.set
-    (record { groups = c.in_ok-set.ensures.groups; run = c.in_ok-set.ensures.run; in_range = c.in_ok-set.ensures.in_range })
+    (record {
+      groups = c.in_ok-set.ensures.groups;
+      run = c.in_ok-set.ensures.run;
+      in_range =
+          c.in_ok-set.ensures.in_range;
+    })
     (c.in_ok-from_slice.ensures ∙ c.as_slice.ensures) c.in_ok-try_clone.ensures in
-    block_allowed (g.J.RunJudge.accepts c.args.checked.now.judge) encoded c.args.checked.now.checker values c.args.found.now _
+    block_allowed (g.J.RunJudge.accepts c.args.checked.now.judge) encoded c.args.checked.now.checker values
+    c.args.found.now _
     c.requires.readable c.requires.reached c.requires.next c.requires.ready read
 
 pub returns-in_err-put-clause-leaves : goal.returns-in_err-put-clause-leaves
@@ -47,10 +63,17 @@ returns-in_err-put-clause-leaves g c =
     let encoded = c.args.task.now.encoded.now in
     let values = c.args.model.now.values in
     let read = read_same encoded values c.in_ok-from_slice.field-0 c.in_ok-try_clone.field-0 c.in_ok-set.set
-    (record { groups = c.in_ok-set.ensures.groups; run = c.in_ok-set.ensures.run; in_range = c.in_ok-set.ensures.in_range })
+    (record {
+      groups = c.in_ok-set.ensures.groups;
+      run = c.in_ok-set.ensures.run;
+      in_range =
+          c.in_ok-set.ensures.in_range;
+    })
     (c.in_ok-from_slice.ensures ∙ c.as_slice.ensures) c.in_ok-try_clone.ensures in
-    leaves_tried good old.checker new.checker (Block c.in_ok-from_slice.field-0 c.in_ok-try_clone.field-0) (g.S.StepSink.logs old.sink) (g.S.StepSink.logs new.sink)
-    (block_allowed good encoded old.checker values c.args.found.now _ c.requires.readable c.requires.reached c.requires.next c.requires.ready read)
+    leaves_tried good old.checker new.checker (Block c.in_ok-from_slice.field-0 c.in_ok-try_clone.field-0)
+    (g.S.StepSink.logs old.sink) (g.S.StepSink.logs new.sink)
+    (block_allowed good encoded old.checker values c.args.found.now _ c.requires.readable c.requires.reached
+    c.requires.next c.requires.ready read)
     c.in_err-put.ensures.taken_or_asleep c.in_err-put.ensures.refused
 
 pub returns-in_err-push-clause-leaves : goal.returns-in_err-push-clause-leaves
@@ -61,10 +84,17 @@ returns-in_err-push-clause-leaves g c =
     let encoded = c.args.task.now.encoded.now in
     let values = c.args.model.now.values in
     let read = read_same encoded values c.in_ok-from_slice.field-0 c.in_ok-try_clone.field-0 c.in_ok-set.set
-    (record { groups = c.in_ok-set.ensures.groups; run = c.in_ok-set.ensures.run; in_range = c.in_ok-set.ensures.in_range })
+    (record {
+      groups = c.in_ok-set.ensures.groups;
+      run = c.in_ok-set.ensures.run;
+      in_range =
+          c.in_ok-set.ensures.in_range;
+    })
     (c.in_ok-from_slice.ensures ∙ c.as_slice.ensures) c.in_ok-try_clone.ensures in
-    leaves_one good old.checker new.checker (Block c.in_ok-from_slice.field-0 c.in_ok-try_clone.field-0) (g.S.StepSink.logs old.sink) (g.S.StepSink.logs new.sink)
-    (block_allowed good encoded old.checker values c.args.found.now _ c.requires.readable c.requires.reached c.requires.next c.requires.ready read)
+    leaves_one good old.checker new.checker (Block c.in_ok-from_slice.field-0 c.in_ok-try_clone.field-0)
+    (g.S.StepSink.logs old.sink) (g.S.StepSink.logs new.sink)
+    (block_allowed good encoded old.checker values c.args.found.now _ c.requires.readable c.requires.reached
+    c.requires.next c.requires.ready read)
     c.in_ok-put.ensures.taken c.in_ok-put.ensures.told
 
 pub returns-clause-blocks : goal.returns-clause-blocks
@@ -77,14 +107,22 @@ returns-clause-blocks g c =
     let groups = c.in_ok-from_slice.field-0 in
     let run = c.in_ok-try_clone.field-0 in
     let read = read_same encoded values groups run c.in_ok-set.set
-    (record { groups = c.in_ok-set.ensures.groups; run = c.in_ok-set.ensures.run; in_range = c.in_ok-set.ensures.in_range })
+    (record {
+      groups = c.in_ok-set.ensures.groups;
+      run = c.in_ok-set.ensures.run;
+      in_range =
+          c.in_ok-set.ensures.in_range;
+    })
     (c.in_ok-from_slice.ensures ∙ c.as_slice.ensures) c.in_ok-try_clone.ensures in
     record {
       set = record { groups = groups; run = run };
-      puts = block_puts good encoded old.checker new.checker values c.args.found.now _ (g.S.StepSink.logs old.sink) (g.S.StepSink.logs new.sink)
-          c.requires.readable c.requires.reached c.requires.next c.requires.ready read c.in_ok-put.ensures.taken c.in_ok-put.ensures.told;
+      puts = block_puts good encoded old.checker new.checker values c.args.found.now _
+          (g.S.StepSink.logs old.sink) (g.S.StepSink.logs new.sink)
+          c.requires.readable c.requires.reached c.requires.next c.requires.ready read
+          c.in_ok-put.ensures.taken c.in_ok-put.ensures.told;
       taken = c.in_ok-put.ensures.taken;
-      found = found_same c.args.found.now c.push.new.self groups run c.in_ok-set.set (c.in_ok-from_slice.ensures ∙ c.as_slice.ensures) c.in_ok-try_clone.ensures c.in_ok-push.ensures.ok;
+      found = found_same c.args.found.now c.push.new.self groups run c.in_ok-set.set
+          (c.in_ok-from_slice.ensures ∙ c.as_slice.ensures) c.in_ok-try_clone.ensures c.in_ok-push.ensures.ok;
     }
 
 pub returns-clause-leaves : goal.returns-clause-leaves
@@ -95,8 +133,15 @@ returns-clause-leaves g c =
     let encoded = c.args.task.now.encoded.now in
     let values = c.args.model.now.values in
     let read = read_same encoded values c.in_ok-from_slice.field-0 c.in_ok-try_clone.field-0 c.in_ok-set.set
-    (record { groups = c.in_ok-set.ensures.groups; run = c.in_ok-set.ensures.run; in_range = c.in_ok-set.ensures.in_range })
+    (record {
+      groups = c.in_ok-set.ensures.groups;
+      run = c.in_ok-set.ensures.run;
+      in_range =
+          c.in_ok-set.ensures.in_range;
+    })
     (c.in_ok-from_slice.ensures ∙ c.as_slice.ensures) c.in_ok-try_clone.ensures in
-    leaves_one good old.checker new.checker (Block c.in_ok-from_slice.field-0 c.in_ok-try_clone.field-0) (g.S.StepSink.logs old.sink) (g.S.StepSink.logs new.sink)
-    (block_allowed good encoded old.checker values c.args.found.now _ c.requires.readable c.requires.reached c.requires.next c.requires.ready read)
+    leaves_one good old.checker new.checker (Block c.in_ok-from_slice.field-0 c.in_ok-try_clone.field-0)
+    (g.S.StepSink.logs old.sink) (g.S.StepSink.logs new.sink)
+    (block_allowed good encoded old.checker values c.args.found.now _ c.requires.readable c.requires.reached
+    c.requires.next c.requires.ready read)
     c.in_ok-put.ensures.taken c.in_ok-put.ensures.told

@@ -11,8 +11,10 @@ returns-in_err-put-in-NoModel-clause-leaves g c =
     let old = c.args.checked.now in
     let new = c.put.new.checked in
     let end = subst (IsEnd old.checker c.args.found) c.in-NoModel.is c.requires.end in
-    leaves_tried good old.checker new.checker (EndNoRepair c.in-NoModel.hints) (g.S.StepSink.logs old.sink) (g.S.StepSink.logs new.sink)
-    (none_allowed good old.checker c.args.found c.in-NoModel.hints end.0 end.2 end.3 c.requires.sets c.requires.ready)
+    leaves_tried good old.checker new.checker (EndNoRepair c.in-NoModel.hints) (g.S.StepSink.logs old.sink)
+    (g.S.StepSink.logs new.sink)
+    (none_allowed good old.checker c.args.found c.in-NoModel.hints end.0 end.2 end.3 c.requires.sets
+    c.requires.ready)
     c.in_err-put-in-NoModel.ensures.taken_or_asleep c.in_err-put-in-NoModel.ensures.refused
 
 pub returns-in_ok-put-in-NoModel-clause-leaves : goal.returns-in_ok-put-in-NoModel-clause-leaves
@@ -21,8 +23,10 @@ returns-in_ok-put-in-NoModel-clause-leaves g c =
     let old = c.args.checked.now in
     let new = c.put.new.checked in
     let end = subst (IsEnd old.checker c.args.found) c.in-NoModel.is c.requires.end in
-    leaves_one good old.checker new.checker (EndNoRepair c.in-NoModel.hints) (g.S.StepSink.logs old.sink) (g.S.StepSink.logs new.sink)
-    (none_allowed good old.checker c.args.found c.in-NoModel.hints end.0 end.2 end.3 c.requires.sets c.requires.ready)
+    leaves_one good old.checker new.checker (EndNoRepair c.in-NoModel.hints) (g.S.StepSink.logs old.sink)
+    (g.S.StepSink.logs new.sink)
+    (none_allowed good old.checker c.args.found c.in-NoModel.hints end.0 end.2 end.3 c.requires.sets
+    c.requires.ready)
     c.in_ok-put-in-NoModel.ensures.taken c.in_ok-put-in-NoModel.ensures.told
 
 pub returns-in_err-put-in-TooMany-clause-leaves : goal.returns-in_err-put-in-TooMany-clause-leaves
@@ -30,8 +34,10 @@ returns-in_err-put-in-TooMany-clause-leaves g c =
     let good = g.J.RunJudge.accepts c.args.checked.now.judge in
     let old = c.args.checked.now in
     let new = c.put-in-TooMany.new.checked in
-    leaves_tried good old.checker new.checker EndTooMany (g.S.StepSink.logs old.sink) (g.S.StepSink.logs new.sink)
-    (many_allowed good old.checker c.args.found (subst (IsEnd old.checker c.args.found) c.in-TooMany.is c.requires.end) c.requires.sets c.requires.ready)
+    leaves_tried good old.checker new.checker EndTooMany (g.S.StepSink.logs old.sink)
+    (g.S.StepSink.logs new.sink)
+    (many_allowed good old.checker c.args.found (subst (IsEnd old.checker c.args.found) c.in-TooMany.is
+    c.requires.end) c.requires.sets c.requires.ready)
     c.in_err-put-in-TooMany.ensures.taken_or_asleep c.in_err-put-in-TooMany.ensures.refused
 
 pub returns-in_ok-put-in-TooMany-clause-leaves : goal.returns-in_ok-put-in-TooMany-clause-leaves
@@ -39,8 +45,10 @@ returns-in_ok-put-in-TooMany-clause-leaves g c =
     let good = g.J.RunJudge.accepts c.args.checked.now.judge in
     let old = c.args.checked.now in
     let new = c.put-in-TooMany.new.checked in
-    leaves_one good old.checker new.checker EndTooMany (g.S.StepSink.logs old.sink) (g.S.StepSink.logs new.sink)
-    (many_allowed good old.checker c.args.found (subst (IsEnd old.checker c.args.found) c.in-TooMany.is c.requires.end) c.requires.sets c.requires.ready)
+    leaves_one good old.checker new.checker EndTooMany (g.S.StepSink.logs old.sink)
+    (g.S.StepSink.logs new.sink)
+    (many_allowed good old.checker c.args.found (subst (IsEnd old.checker c.args.found) c.in-TooMany.is
+    c.requires.end) c.requires.sets c.requires.ready)
     c.in_ok-put-in-TooMany.ensures.taken c.in_ok-put-in-TooMany.ensures.told
 
 pub returns-in_err-put-in-Spent-clause-leaves : goal.returns-in_err-put-in-Spent-clause-leaves
@@ -48,8 +56,10 @@ returns-in_err-put-in-Spent-clause-leaves g c =
     let good = g.J.RunJudge.accepts c.args.checked.now.judge in
     let old = c.args.checked.now in
     let new = c.put-in-Spent.new.checked in
-    leaves_tried good old.checker new.checker EndSpent (g.S.StepSink.logs old.sink) (g.S.StepSink.logs new.sink)
-    (spent_allowed good old.checker (subst (IsEnd old.checker c.args.found) c.in-Spent.is c.requires.end) c.requires.ready)
+    leaves_tried good old.checker new.checker EndSpent (g.S.StepSink.logs old.sink)
+    (g.S.StepSink.logs new.sink)
+    (spent_allowed good old.checker (subst (IsEnd old.checker c.args.found) c.in-Spent.is c.requires.end)
+    c.requires.ready)
     c.in_err-put-in-Spent.ensures.taken_or_asleep c.in_err-put-in-Spent.ensures.refused
 
 pub returns-in_ok-put-in-Spent-clause-leaves : goal.returns-in_ok-put-in-Spent-clause-leaves
@@ -58,5 +68,6 @@ returns-in_ok-put-in-Spent-clause-leaves g c =
     let old = c.args.checked.now in
     let new = c.put-in-Spent.new.checked in
     leaves_one good old.checker new.checker EndSpent (g.S.StepSink.logs old.sink) (g.S.StepSink.logs new.sink)
-    (spent_allowed good old.checker (subst (IsEnd old.checker c.args.found) c.in-Spent.is c.requires.end) c.requires.ready)
+    (spent_allowed good old.checker (subst (IsEnd old.checker c.args.found) c.in-Spent.is c.requires.end)
+    c.requires.ready)
     c.in_ok-put-in-Spent.ensures.taken c.in_ok-put-in-Spent.ensures.told

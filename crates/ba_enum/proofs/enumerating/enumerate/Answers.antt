@@ -12,7 +12,8 @@ use Rattle.ba_enum.proofs.enumerating.enumerate.Goals as goal
 pub turn-requires-clause-reached : goal.turn-requires-clause-reached
 turn-requires-clause-reached g c =
     let encoded = c.args.task.now.encoded.now in
-    subst (λ j. IsReached j encoded.formula (softs_of encoded.groups) c.turns.checked.checker c.turns.found) (sym (ap g.J.RunJudge.accepts c.turns.invariant.judge))
+    subst (λ j. IsReached j encoded.formula (softs_of encoded.groups) c.turns.checked.checker c.turns.found)
+    (sym (ap g.J.RunJudge.accepts c.turns.invariant.judge))
     (adds_reached c.turns.invariant.adds c.requires.reached)
 
 pub returns-in_err-next-clause-leaves : goal.returns-in_err-next-clause-leaves
@@ -21,8 +22,10 @@ returns-in_err-next-clause-leaves g c =
     let old = c.args.checked.now in
     let mid = c.turns.checked in
     let new = c.turn.new.checked in
-    adds_leave (g.J.RunJudge.accepts old.judge) (g.J.RunJudge.accepts mid.judge) encoded.formula (softs_of encoded.groups) old.checker mid.checker new.checker [] c.turns.found
-    (g.S.StepSink.logs old.sink) (g.S.StepSink.logs mid.sink) (g.S.StepSink.logs new.sink) (ap g.J.RunJudge.accepts c.turns.invariant.judge) c.turns.invariant.adds c.turn.ensures.leaves
+    adds_leave (g.J.RunJudge.accepts old.judge) (g.J.RunJudge.accepts mid.judge) encoded.formula
+    (softs_of encoded.groups) old.checker mid.checker new.checker [] c.turns.found
+    (g.S.StepSink.logs old.sink) (g.S.StepSink.logs mid.sink) (g.S.StepSink.logs new.sink)
+    (ap g.J.RunJudge.accepts c.turns.invariant.judge) c.turns.invariant.adds c.turn.ensures.leaves
 
 pub turns-preserved : goal.turns-preserved
 turns-preserved g c =
@@ -31,14 +34,19 @@ turns-preserved g c =
     let mid = c.turns.checked in
     let new = c.turn.new.checked in
     let turn = c.in_ok-next.ensures in
-    let comes = subst (Comes encoded.formula (softs_of encoded.groups) new.checker c.turn.new.found) c.in-Model.is turn.comes in
-    let listed : new.checker.most_sets ≡ c.args.task.now.sets = puts_most (g.J.RunJudge.accepts mid.judge) encoded.formula (softs_of encoded.groups) mid.checker new.checker turn.adds.more (g.S.StepSink.logs mid.sink) (g.S.StepSink.logs new.sink) turn.adds.puts
+    let comes = subst (Comes encoded.formula (softs_of encoded.groups) new.checker c.turn.new.found)
+    c.in-Model.is turn.comes in
+    let listed : new.checker.most_sets ≡ c.args.task.now.sets =
+    puts_most (g.J.RunJudge.accepts mid.judge) encoded.formula (softs_of encoded.groups) mid.checker
+    new.checker turn.adds.more (g.S.StepSink.logs mid.sink) (g.S.StepSink.logs new.sink) turn.adds.puts
     ∙ c.turns.invariant.listed in
     let few = comes.1 in
     record {
       same = turn.same;
-      adds = adds_on (g.J.RunJudge.accepts old.judge) (g.J.RunJudge.accepts mid.judge) encoded.formula (softs_of encoded.groups) old.checker mid.checker new.checker [] c.turns.found c.turn.new.found
-          (g.S.StepSink.logs old.sink) (g.S.StepSink.logs mid.sink) (g.S.StepSink.logs new.sink) (ap g.J.RunJudge.accepts c.turns.invariant.judge) c.turns.invariant.adds turn.adds;
+      adds = adds_on (g.J.RunJudge.accepts old.judge) (g.J.RunJudge.accepts mid.judge) encoded.formula
+          (softs_of encoded.groups) old.checker mid.checker new.checker [] c.turns.found c.turn.new.found
+          (g.S.StepSink.logs old.sink) (g.S.StepSink.logs mid.sink) (g.S.StepSink.logs new.sink)
+          (ap g.J.RunJudge.accepts c.turns.invariant.judge) c.turns.invariant.adds turn.adds;
       next = comes.0;
       assumed = c.turns.invariant.assumed ∙ ap literals_of (sym turn.softs_stay);
       listed = listed;
@@ -61,8 +69,10 @@ finish-requires-clause-sets g c =
     let mid = c.turns.checked in
     let new = c.turn.new.checked in
     reached_sets (adds_reached
-    (adds_on (g.J.RunJudge.accepts old.judge) (g.J.RunJudge.accepts mid.judge) encoded.formula (softs_of encoded.groups) old.checker mid.checker new.checker [] c.turns.found c.turn.new.found
-    (g.S.StepSink.logs old.sink) (g.S.StepSink.logs mid.sink) (g.S.StepSink.logs new.sink) (ap g.J.RunJudge.accepts c.turns.invariant.judge) c.turns.invariant.adds c.in_ok-next.ensures.adds)
+    (adds_on (g.J.RunJudge.accepts old.judge) (g.J.RunJudge.accepts mid.judge) encoded.formula
+    (softs_of encoded.groups) old.checker mid.checker new.checker [] c.turns.found c.turn.new.found
+    (g.S.StepSink.logs old.sink) (g.S.StepSink.logs mid.sink) (g.S.StepSink.logs new.sink)
+    (ap g.J.RunJudge.accepts c.turns.invariant.judge) c.turns.invariant.adds c.in_ok-next.ensures.adds)
     c.requires.reached)
 
 pub finish-requires-clause-differ : goal.finish-requires-clause-differ
@@ -72,8 +82,10 @@ finish-requires-clause-differ g c =
     let mid = c.turns.checked in
     let new = c.turn.new.checked in
     reached_differ new.checker c.turn.new.found (adds_reached
-    (adds_on (g.J.RunJudge.accepts old.judge) (g.J.RunJudge.accepts mid.judge) encoded.formula (softs_of encoded.groups) old.checker mid.checker new.checker [] c.turns.found c.turn.new.found
-    (g.S.StepSink.logs old.sink) (g.S.StepSink.logs mid.sink) (g.S.StepSink.logs new.sink) (ap g.J.RunJudge.accepts c.turns.invariant.judge) c.turns.invariant.adds c.in_ok-next.ensures.adds)
+    (adds_on (g.J.RunJudge.accepts old.judge) (g.J.RunJudge.accepts mid.judge) encoded.formula
+    (softs_of encoded.groups) old.checker mid.checker new.checker [] c.turns.found c.turn.new.found
+    (g.S.StepSink.logs old.sink) (g.S.StepSink.logs mid.sink) (g.S.StepSink.logs new.sink)
+    (ap g.J.RunJudge.accepts c.turns.invariant.judge) c.turns.invariant.adds c.in_ok-next.ensures.adds)
     c.requires.reached)
 
 pub finish-requires-clause-ready : goal.finish-requires-clause-ready
@@ -87,10 +99,13 @@ returns-in-End-clause-finishes g c =
     let mid = c.turns.checked in
     let new = c.turn.new.checked in
     let last = c.finish.new.checked in
-    let adds = adds_on good (g.J.RunJudge.accepts mid.judge) encoded.formula (softs_of encoded.groups) old.checker mid.checker new.checker [] c.turns.found c.turn.new.found
-    (g.S.StepSink.logs old.sink) (g.S.StepSink.logs mid.sink) (g.S.StepSink.logs new.sink) (ap g.J.RunJudge.accepts c.turns.invariant.judge) c.turns.invariant.adds c.in_ok-next.ensures.adds in
+    let adds = adds_on good (g.J.RunJudge.accepts mid.judge) encoded.formula (softs_of encoded.groups)
+    old.checker mid.checker new.checker [] c.turns.found c.turn.new.found
+    (g.S.StepSink.logs old.sink) (g.S.StepSink.logs mid.sink) (g.S.StepSink.logs new.sink)
+    (ap g.J.RunJudge.accepts c.turns.invariant.judge) c.turns.invariant.adds c.in_ok-next.ensures.adds in
     IfOk-weaker c.finish.result _ _
-    (λ verdict ends. finishes_of good (g.J.RunJudge.accepts new.judge) encoded.formula (softs_of encoded.groups) old.checker new.checker last.checker c.turn.new.found
+    (λ verdict ends. finishes_of good (g.J.RunJudge.accepts new.judge) encoded.formula
+    (softs_of encoded.groups) old.checker new.checker last.checker c.turn.new.found
     (g.S.StepSink.logs old.sink) (g.S.StepSink.logs new.sink) (g.S.StepSink.logs last.sink) verdict
     (ap g.J.RunJudge.accepts (c.turn.ensures.judge_stays ∙ c.turns.invariant.judge)) adds ends)
     c.finish.ensures.ends
@@ -103,8 +118,12 @@ returns-in-End-clause-leaves g c =
     let mid = c.turns.checked in
     let new = c.turn.new.checked in
     let last = c.finish.new.checked in
-    let adds = adds_on good (g.J.RunJudge.accepts mid.judge) encoded.formula (softs_of encoded.groups) old.checker mid.checker new.checker [] c.turns.found c.turn.new.found
-    (g.S.StepSink.logs old.sink) (g.S.StepSink.logs mid.sink) (g.S.StepSink.logs new.sink) (ap g.J.RunJudge.accepts c.turns.invariant.judge) c.turns.invariant.adds c.in_ok-next.ensures.adds in
-    adds_leave good (g.J.RunJudge.accepts new.judge) encoded.formula (softs_of encoded.groups) old.checker new.checker last.checker [] c.turn.new.found
+    let adds = adds_on good (g.J.RunJudge.accepts mid.judge) encoded.formula (softs_of encoded.groups)
+    old.checker mid.checker new.checker [] c.turns.found c.turn.new.found
+    (g.S.StepSink.logs old.sink) (g.S.StepSink.logs mid.sink) (g.S.StepSink.logs new.sink)
+    (ap g.J.RunJudge.accepts c.turns.invariant.judge) c.turns.invariant.adds c.in_ok-next.ensures.adds in
+    adds_leave good (g.J.RunJudge.accepts new.judge) encoded.formula (softs_of encoded.groups) old.checker
+    new.checker last.checker [] c.turn.new.found
     (g.S.StepSink.logs old.sink) (g.S.StepSink.logs new.sink) (g.S.StepSink.logs last.sink)
-    (ap g.J.RunJudge.accepts (c.turn.ensures.judge_stays ∙ c.turns.invariant.judge)) adds c.finish.ensures.leaves
+    (ap g.J.RunJudge.accepts (c.turn.ensures.judge_stays ∙ c.turns.invariant.judge)) adds
+    c.finish.ensures.leaves

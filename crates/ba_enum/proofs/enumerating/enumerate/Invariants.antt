@@ -9,9 +9,11 @@ use Rattle.ba_enum.proofs.enumerating.enumerate.Given as goal
 abbrev pub invariant-turns : goal.invariant-turns
 invariant-turns g l = record {
   same : AreLive l.search.clauses (clause_at l.checked.checker.clauses);
-  adds : Adds (g.J.RunJudge.accepts l.initial.checked.judge) l.task.encoded.now.formula (softs_of l.task.encoded.now.groups) l.initial.checked.checker l.checked.checker
+  adds : Adds (g.J.RunJudge.accepts l.initial.checked.judge) l.task.encoded.now.formula
+      (softs_of l.task.encoded.now.groups) l.initial.checked.checker l.checked.checker
       [] l.found (g.S.StepSink.logs l.initial.checked.sink) (g.S.StepSink.logs l.checked.sink);
-  next : IsNext l.task.encoded.now.formula (softs_of l.task.encoded.now.groups) l.checked.checker l.model.values;
+  next : IsNext l.task.encoded.now.formula (softs_of l.task.encoded.now.groups) l.checked.checker
+      l.model.values;
   assumed : l.task.assumptions.items ≡ literals_of l.checked.checker.softs;
   listed : l.checked.checker.most_sets ≡ l.task.sets;
   few : length l.found ≤ l.task.sets;

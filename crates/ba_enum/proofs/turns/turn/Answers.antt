@@ -9,12 +9,16 @@ use Rattle.ba_enum.proofs.TurnLaws.{part_after_block, blocks_softs, blocks_most,
 use Rattle.ba_enum.proofs.turns.turn.Goals as goal
 
 pub take_new-requires : goal.take_new-requires
-take_new-requires g c = record { part = λ working. part_after_block c.in_ok-block.ensures.blocks c.requires.same }
+take_new-requires g c = record {
+  part = λ working. part_after_block c.in_ok-block.ensures.blocks
+      c.requires.same;
+}
 
 pub solve-requires-clause-assumptions : goal.solve-requires-clause-assumptions
 solve-requires-clause-assumptions g c = λ working.
     let blocks = c.in_ok-block.ensures.blocks in
-    reached_assumed c.block.new.checked.checker c.block.new.found c.as_slice.result.now (blocks_reached blocks c.requires.reached)
+    reached_assumed c.block.new.checked.checker c.block.new.found c.as_slice.result.now
+    (blocks_reached blocks c.requires.reached)
     (c.as_slice.ensures.value ∙ (c.requires.assumed ∙ ap literals_of (sym (blocks_softs blocks))))
 
 pub returns-in_err-answer-clause-leaves : goal.returns-in_err-answer-clause-leaves
@@ -24,10 +28,13 @@ returns-in_err-answer-clause-leaves g c =
     let mid = c.block.new.checked in
     let new = c.solve.new.checked in
     let encoded = c.args.task.now.encoded.now in
-    adds_leave good (g.J.RunJudge.accepts mid.judge) encoded.formula (softs_of encoded.groups) old.checker mid.checker new.checker c.args.found.now c.block.new.found
-    (g.S.StepSink.logs old.sink) (g.S.StepSink.logs mid.sink) (g.S.StepSink.logs new.sink) (ap g.J.RunJudge.accepts c.block.ensures.judge_stays)
+    adds_leave good (g.J.RunJudge.accepts mid.judge) encoded.formula (softs_of encoded.groups) old.checker
+    mid.checker new.checker c.args.found.now c.block.new.found
+    (g.S.StepSink.logs old.sink) (g.S.StepSink.logs mid.sink) (g.S.StepSink.logs new.sink)
+    (ap g.J.RunJudge.accepts c.block.ensures.judge_stays)
     (blocks_adds c.in_ok-block.ensures.blocks)
-    (leaves_searches (g.J.RunJudge.accepts mid.judge) mid.checker new.checker (g.S.StepSink.logs mid.sink) (g.S.StepSink.logs new.sink) c.solve.ensures.leaves)
+    (leaves_searches (g.J.RunJudge.accepts mid.judge) mid.checker new.checker (g.S.StepSink.logs mid.sink)
+    (g.S.StepSink.logs new.sink) c.solve.ensures.leaves)
 
 pub returns-clause-adds : goal.returns-clause-adds
 returns-clause-adds g c =
@@ -36,10 +43,13 @@ returns-clause-adds g c =
     let mid = c.block.new.checked in
     let new = c.solve.new.checked in
     let encoded = c.args.task.now.encoded.now in
-    adds_then good (g.J.RunJudge.accepts mid.judge) encoded.formula (softs_of encoded.groups) old.checker mid.checker new.checker c.args.found.now c.block.new.found
-    (g.S.StepSink.logs old.sink) (g.S.StepSink.logs mid.sink) (g.S.StepSink.logs new.sink) (ap g.J.RunJudge.accepts c.block.ensures.judge_stays)
+    adds_then good (g.J.RunJudge.accepts mid.judge) encoded.formula (softs_of encoded.groups) old.checker
+    mid.checker new.checker c.args.found.now c.block.new.found
+    (g.S.StepSink.logs old.sink) (g.S.StepSink.logs mid.sink) (g.S.StepSink.logs new.sink)
+    (ap g.J.RunJudge.accepts c.block.ensures.judge_stays)
     (blocks_adds c.in_ok-block.ensures.blocks)
-    (puts_searched (g.J.RunJudge.accepts mid.judge) encoded.formula (softs_of encoded.groups) mid.checker new.checker (g.S.StepSink.logs mid.sink) (g.S.StepSink.logs new.sink) c.in_ok-answer.ensures.steps)
+    (puts_searched (g.J.RunJudge.accepts mid.judge) encoded.formula (softs_of encoded.groups) mid.checker
+    new.checker (g.S.StepSink.logs mid.sink) (g.S.StepSink.logs new.sink) c.in_ok-answer.ensures.steps)
 
 pub returns-clause-leaves : goal.returns-clause-leaves
 returns-clause-leaves g c =
@@ -48,15 +58,19 @@ returns-clause-leaves g c =
     let mid = c.block.new.checked in
     let new = c.solve.new.checked in
     let encoded = c.args.task.now.encoded.now in
-    adds_leaves (adds_then good (g.J.RunJudge.accepts mid.judge) encoded.formula (softs_of encoded.groups) old.checker mid.checker new.checker c.args.found.now c.block.new.found
-    (g.S.StepSink.logs old.sink) (g.S.StepSink.logs mid.sink) (g.S.StepSink.logs new.sink) (ap g.J.RunJudge.accepts c.block.ensures.judge_stays)
+    adds_leaves (adds_then good (g.J.RunJudge.accepts mid.judge) encoded.formula (softs_of encoded.groups)
+    old.checker mid.checker new.checker c.args.found.now c.block.new.found
+    (g.S.StepSink.logs old.sink) (g.S.StepSink.logs mid.sink) (g.S.StepSink.logs new.sink)
+    (ap g.J.RunJudge.accepts c.block.ensures.judge_stays)
     (blocks_adds c.in_ok-block.ensures.blocks)
-    (puts_searched (g.J.RunJudge.accepts mid.judge) encoded.formula (softs_of encoded.groups) mid.checker new.checker (g.S.StepSink.logs mid.sink) (g.S.StepSink.logs new.sink) c.in_ok-answer.ensures.steps))
+    (puts_searched (g.J.RunJudge.accepts mid.judge) encoded.formula (softs_of encoded.groups) mid.checker
+    new.checker (g.S.StepSink.logs mid.sink) (g.S.StepSink.logs new.sink) c.in_ok-answer.ensures.steps))
 
 pub returns-clause-softs_stay : goal.returns-clause-softs_stay
 returns-clause-softs_stay g c =
     let steps = c.in_ok-answer.ensures.steps in
-    puts_softs (g.J.RunJudge.accepts c.block.new.checked.judge) c.block.new.checked.checker c.solve.new.checked.checker steps.0 steps.1
+    puts_softs (g.J.RunJudge.accepts c.block.new.checked.judge) c.block.new.checked.checker
+    c.solve.new.checked.checker steps.0 steps.1
     ∙ blocks_softs c.in_ok-block.ensures.blocks
 
 pub returns-clause-comes : goal.returns-clause-comes
@@ -67,15 +81,24 @@ returns-clause-comes g c =
     let new = c.solve.new.checked in
     let encoded = c.args.task.now.encoded.now in
     let blocks = c.in_ok-block.ensures.blocks in
-    let puts = puts_searched (g.J.RunJudge.accepts mid.judge) encoded.formula (softs_of encoded.groups) mid.checker new.checker (g.S.StepSink.logs mid.sink) (g.S.StepSink.logs new.sink) c.in_ok-answer.ensures.steps in
-    let adds = adds_then good (g.J.RunJudge.accepts mid.judge) encoded.formula (softs_of encoded.groups) old.checker mid.checker new.checker c.args.found.now c.block.new.found
-    (g.S.StepSink.logs old.sink) (g.S.StepSink.logs mid.sink) (g.S.StepSink.logs new.sink) (ap g.J.RunJudge.accepts c.block.ensures.judge_stays) (blocks_adds blocks) puts in
+    let puts = puts_searched (g.J.RunJudge.accepts mid.judge) encoded.formula (softs_of encoded.groups)
+    mid.checker new.checker (g.S.StepSink.logs mid.sink) (g.S.StepSink.logs new.sink)
+    c.in_ok-answer.ensures.steps in
+    let adds = adds_then good (g.J.RunJudge.accepts mid.judge) encoded.formula (softs_of encoded.groups)
+    old.checker mid.checker new.checker c.args.found.now c.block.new.found
+    (g.S.StepSink.logs old.sink) (g.S.StepSink.logs mid.sink) (g.S.StepSink.logs new.sink)
+    (ap g.J.RunJudge.accepts c.block.ensures.judge_stays) (blocks_adds blocks) puts in
     let steps = c.in_ok-answer.ensures.steps in
-    let softs = puts_softs (g.J.RunJudge.accepts mid.judge) mid.checker new.checker steps.0 steps.1 ∙ blocks_softs blocks in
-    let most = puts_most (g.J.RunJudge.accepts mid.judge) encoded.formula (softs_of encoded.groups) mid.checker new.checker _ (g.S.StepSink.logs mid.sink) (g.S.StepSink.logs new.sink) puts
+    let softs = puts_softs (g.J.RunJudge.accepts mid.judge) mid.checker new.checker steps.0 steps.1
+    ∙ blocks_softs blocks in
+    let most = puts_most (g.J.RunJudge.accepts mid.judge) encoded.formula (softs_of encoded.groups)
+    mid.checker new.checker _ (g.S.StepSink.logs mid.sink) (g.S.StepSink.logs new.sink) puts
     ∙ (blocks_most blocks ∙ c.requires.listed) in
     let longer = blocks_longer blocks in
-    subst (Comes encoded.formula (softs_of encoded.groups) new.checker c.block.new.found) (sym c.next_of.ensures)
-    (comes_of good encoded.formula (softs_of encoded.groups) new.checker c.block.new.found c.as_slice.result.now c.in_ok-answer.answer
-    (adds_reached adds c.requires.reached) (c.as_slice.ensures.value ∙ (c.requires.assumed ∙ ap literals_of (sym softs))) c.in_ok-answer.ensures.answer
+    subst (Comes encoded.formula (softs_of encoded.groups) new.checker c.block.new.found)
+    (sym c.next_of.ensures)
+    (comes_of good encoded.formula (softs_of encoded.groups) new.checker c.block.new.found
+    c.as_slice.result.now c.in_ok-answer.answer
+    (adds_reached adds c.requires.reached) (c.as_slice.ensures.value
+    ∙ (c.requires.assumed ∙ ap literals_of (sym softs))) c.in_ok-answer.ensures.answer
     (omega (arith, longer)) (omega (arith, most, c.len.ensures, c.if-len-task.false)))

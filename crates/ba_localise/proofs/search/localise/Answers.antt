@@ -1,11 +1,12 @@
 use Rattle.std.proofs.Common.{◌≡◌, List, sym, ◌∙◌, ap, subst}
 use Rattle.std.proofs.lemmas.Result.{IfOk-weaker}
+use Rattle.ba_derivations.specs.Encodings.{IsFaithful}
 use Rattle.ba_encode.specs.Softs.{softs_of}
 use Rattle.ba_enum.specs.Problems.{IsReadable}
 use Rattle.ba_lits.specs.Formulas.{Cnf}
 use Rattle.ba_lits.specs.Satisfaction.{Soft}
-use Rattle.ba_localise.proofs.Concluding.{finds, rose-after, same-judge}
-use Rattle.ba_localise.specs.Verdicts.{told}
+use Rattle.ba_localise.proofs.Concluding.{finds, left, rose-after, same-judge}
+use Rattle.ba_localise.specs.Verdicts.{leaves_formula, told}
 use Rattle.ba_steps.specs.Sinks.{basis, with_told}
 use Rattle.ba_steps.specs.States.{first_state}
 use Rattle.ba_tree.specs.Least.{judge_of}
@@ -57,8 +58,65 @@ returns-clause-finds g c =
     (told g.D.StepSink.over g.D.StepSink.logs g.D.StepSink.faults c.args.steps.now)
     (told g.D.StepSink.over g.D.StepSink.logs g.D.StepSink.faults c.begin.new.self)
     (told g.D.StepSink.over g.D.StepSink.logs g.D.StepSink.faults c.all_sets_into-answer.new.steps) verdict
-    c.in_ok-encoded.ensures.faithful same starts begins c.in_ok-begin.ensures.logs_stay has.over_stays enumerates)
+    c.in_ok-encoded.ensures.faithful same starts begins c.in_ok-begin.ensures.logs_stay has.over_stays
+    enumerates)
     has.verdict
+
+pub all_sets_into-answer-requires-clause-clauses : goal.all_sets_into-answer-requires-clause-clauses
+all_sets_into-answer-requires-clause-clauses g c =
+    let made = c.in_ok-encoded.ensures.faithful in record {
+      clauses = made.clauses;
+      softs_among = made.selectors.among;
+      softs_differ = made.selectors.differ;
+    }
+
+pub returns-in_err-begin-clause-leaves : goal.returns-in_err-begin-clause-leaves
+returns-in_err-begin-clause-leaves g c =
+    let w = c.args.weights.now.of in
+    let good = judge_of c.args.program.now c.args.input.now c.args.bounds in
+    let f = c.formula-3.result.now in
+    let ss = c.as_slice-2.result.now in
+    let whole : IsFaithful c.in_ok-encoded.encoded.formula ss w good =
+    subst (λ (ss : List Soft). IsFaithful c.in_ok-encoded.encoded.formula ss w good)
+    (sym (c.as_slice-2.ensures.value ∙ c.in_ok-softs.ensures)) c.in_ok-encoded.ensures.faithful in
+    let faithful : IsFaithful f ss w good =
+    subst (λ (f : Cnf). IsFaithful f ss w good) (sym c.formula-3.ensures) whole in
+    leaves_formula (basis f ss) faithful c.in_err-begin.ensures.refused c.in_err-begin.ensures.logs_stay
+
+pub returns-clause-leaves : goal.returns-clause-leaves
+returns-clause-leaves g c =
+    let p = c.args.program.now in
+    let i = c.args.input.now in
+    let b = c.args.bounds in
+    let w = c.args.weights.now.of in
+    let conflicts = c.args.conflicts in
+    let most = c.args.sets in
+    let j = c.new-judge.result in
+    let encoded = c.in_ok-encoded.encoded in
+    let formula = encoded.formula in
+    let softs = softs_of encoded.groups in
+    let same : judge_of j.program.now j.input.now j.bounds ≡ judge_of p i b =
+    same-judge j.program.now p j.input.now i j.bounds b
+    c.new-judge.ensures.program c.new-judge.ensures.input c.new-judge.ensures.bounds in
+    let starts : c.in_ok-checker.checker ≡ first_state formula softs conflicts most =
+    c.in_ok-checker.ensures
+    ∙ (ap (λ (f : Cnf). first_state f c.as_slice.result.now conflicts most) c.formula.ensures
+    ∙ ap (λ (ss : List Soft). first_state formula ss conflicts most)
+    (c.as_slice.ensures.value ∙ c.in_ok-softs.ensures)) in
+    let before = g.D.StepSink.over c.args.steps.now in
+    let begins : g.D.StepSink.over c.begin.new.self ≡ with_told (basis formula softs) before =
+    c.in_ok-begin.ensures.told
+    ∙ (ap (λ (f : Cnf). with_told (basis f c.as_slice-2.result.now) before) c.formula-3.ensures
+    ∙ ap (λ (ss : List Soft). with_told (basis formula ss) before)
+    (c.as_slice-2.ensures.value ∙ c.in_ok-softs.ensures)) in
+    let has = c.all_sets_into-answer.ensures in
+    left w (judge_of p i b) (judge_of j.program.now j.input.now j.bounds) (basis formula softs)
+    c.in_ok-checker.checker c.all_sets_into-answer.result.1 conflicts most
+    (told g.D.StepSink.over g.D.StepSink.logs g.D.StepSink.faults c.args.steps.now)
+    (told g.D.StepSink.over g.D.StepSink.logs g.D.StepSink.faults c.begin.new.self)
+    (told g.D.StepSink.over g.D.StepSink.logs g.D.StepSink.faults c.all_sets_into-answer.new.steps)
+    c.in_ok-encoded.ensures.faithful same starts begins c.in_ok-begin.ensures.logs_stay has.over_stays
+    has.leaves
 
 pub returns-clause-cause : goal.returns-clause-cause
 returns-clause-cause g c = λ is.

@@ -28,5 +28,5 @@ returns-clause-answer g c = λ x is.
     (told g.D.StepSink.over g.D.StepSink.logs g.D.StepSink.faults c.begin.new.self)
     c.in_ok-file_answer.field-0 c.in_ok-encoded.ensures c.in-Some.is c.in_ok-begin.ensures.told
     c.in_ok-begin.ensures.logs_stay
-    (c.in_ok-file_answer.ensures.answer judging (sym c.as_str.ensures) c.in_ok-confirm.ensures
+    (c.in_ok-file_answer.ensures.answer judging (sym c.as_str.ensures) c.in_ok-confirm.ensures.nothing_read
     (faithful_case j x case is encoded c.in_ok-encoded.ensures))

@@ -9,7 +9,8 @@ use Rattle.ba_tool.proofs.certificates.feed_file.Goals as goal
 pub loop-count-init : goal.loop-count-init
 loop-count-init g c = record {
   feeding = feeding_starts c.args.name.now (seen c.args.confirm.now) (g.W.World.outside c.args.world.now)
-      (g.W.World.outside c.open_file.new.self) c.in_ok-open_file.ensures.opened c.open_file.ensures.none_given;
+      (g.W.World.outside c.open_file.new.self) c.in_ok-open_file.ensures.opened
+      c.open_file.ensures.none_given;
   within = omega arith;
   stays = c.open_file.ensures.stays;
 }
@@ -35,7 +36,8 @@ returns-then-count-eq0-clause-fed g c = λ j named has.
     feeding_ends j c.args.name.now (seen c.args.confirm.now) (seen c.loop-count.confirm) c.next_piece.new.into
     c.in_ok-count.count c.loop-count.given (g.W.World.outside c.args.world.now)
     (g.W.World.outside c.loop-count.world) (g.W.World.outside c.next_piece.new.self) named has
-    c.loop-count.invariant.feeding c.loop-count.invariant.within c.if-count-eq0.true c.in_ok-count.ensures.given
+    c.loop-count.invariant.feeding c.loop-count.invariant.within c.if-count-eq0.true
+    c.in_ok-count.ensures.given
     c.next_piece.ensures.still
 
 pub returns-then-count-eq0-clause-bounded : goal.returns-then-count-eq0-clause-bounded
@@ -46,7 +48,8 @@ returns-then-count-eq0-clause-bounded g c =
 pub returns-then-given-gt-CERTIFICATE_LIMIT-clause-unfed :
     goal.returns-then-given-gt-CERTIFICATE_LIMIT-clause-unfed
 returns-then-given-gt-CERTIFICATE_LIMIT-clause-unfed g c = λ j named has.
-    feeding_passes j c.args.name.now (seen c.args.confirm.now) (seen c.loop-count.confirm) c.next_piece.new.into
+    feeding_passes j c.args.name.now (seen c.args.confirm.now) (seen c.loop-count.confirm)
+    c.next_piece.new.into
     c.in_ok-count.count c.loop-count.given (g.W.World.outside c.args.world.now)
     (g.W.World.outside c.loop-count.world) (g.W.World.outside c.next_piece.new.self) named has
     c.loop-count.invariant.feeding c.loop-count.invariant.within c.if-given-gt-CERTIFICATE_LIMIT.true

@@ -15,7 +15,8 @@ returns-in_err-answer-clause-stops g c =
     if_err c.from_residual.result _ (stops_read _ before before (only_reads_none before))
 
 pub returns-in-Answered-clause-answer : goal.returns-in-Answered-clause-answer
-returns-in-Answered-clause-answer g c = proceeds_judged c.args.job.now c.args.texts.now _ _ c.in-Answered.answer
+returns-in-Answered-clause-answer g c = proceeds_judged c.args.job.now c.args.texts.now _ _
+    c.in-Answered.answer
     (subst (IsJudged c.args.job.now c.args.texts.now) c.in-Answered.is c.in_ok-answer.ensures)
 
 pub returns-in-ToSearch-clause-answer : goal.returns-in-ToSearch-clause-answer

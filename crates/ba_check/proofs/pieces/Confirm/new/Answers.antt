@@ -5,8 +5,8 @@ use Rattle.ba_check.proofs.ReaderLaws.{same-judge, started}
 use Rattle.ba_steps.specs.States.{first_state}
 use Rattle.ba_check.proofs.pieces.Confirm.new.Goals as goal
 
-pub returns : goal.returns
-returns c =
+pub returns-clause-nothing_read : goal.returns-clause-nothing_read
+returns-clause-nothing_read c =
     let settings = c.args.settings in
     let made = c.new-2.result in
     started (problem_of c.args.program.now c.args.input.now settings c.args.encoded.now) _
