@@ -16,7 +16,8 @@ AreCellsOf nodes cells = (place : ℕ) → AreBitsOf nodes (cell_at cells place)
 -- the word has the number of the cell at the index, wherever that is in range
 abbrev pub IsCellAt : (index : (ℕ → Bool) → ℕ) → List Node → List (List Bit) → List Node → List Bit → Type 0
 IsCellAt index old cells new word =
-    (free : ℕ → Bool) → index free < length cells → number_of free new word ≡ number_of free old (cell_at cells (index free))
+    (free : ℕ → Bool) → index free < length cells →
+    number_of free new word ≡ number_of free old (cell_at cells (index free))
 
 -- the place that is read among so many cells, at an index of so many bits: the bits count from the highest on,
 -- but for those that would lead behind the last cell
@@ -28,19 +29,24 @@ place_read cells (suc bits) index =
     else place_read cells bits (index % 2 ^ bits)
 
 -- the word has the number of the cell that is read at the low bits of the index, whatever they are
-abbrev pub IsCellRead : (bits : ℕ) → List Node → List (List Bit) → (index : List Bit) → List Node → List Bit → Type 0
+abbrev pub IsCellRead : (bits : ℕ) → List Node → List (List Bit) → (index : List Bit) → List Node →
+    List Bit → Type 0
 IsCellRead bits old cells index new word = (free : ℕ → Bool) →
     let place = place_read (length cells) bits (low_number free old index bits) in
     number_of free new word ≡ number_of free old (cell_at cells place)
 
 -- the cells are the old ones, but that the one at the index is the value where the condition holds
-abbrev pub AreWritten : (holds : (ℕ → Bool) → Bool) (index : (ℕ → Bool) → ℕ) → List Node → List (List Bit) → List Bit → List Node → List (List Bit) → Type 0
+abbrev pub AreWritten : (holds : (ℕ → Bool) → Bool) (index : (ℕ → Bool) → ℕ) → List Node → List (List Bit) →
+    List Bit → List Node → List (List Bit) → Type 0
 AreWritten holds index old cells value new written =
     (free : ℕ → Bool) (place : ℕ) → place < length cells →
-    number_of free new (cell_at written place) ≡ (if holds free && (index free == place) then number_of free old value else number_of free old (cell_at cells place))
+    number_of free new (cell_at written place) ≡ (if holds free
+    && (index free == place) then number_of free old value else number_of free old (cell_at cells place))
 
 -- such cells were added behind others
-pub record Adds (holds : (ℕ → Bool) → Bool) (index : (ℕ → Bool) → ℕ) (old : List Node) (cells : List (List Bit)) (value : List Bit) (new : List Node) (before after : List (List Bit)) : Type 0 where
+pub record Adds (holds : (ℕ → Bool) → Bool) (index : (ℕ → Bool) →
+    ℕ) (old : List Node) (cells : List (List Bit)) (value : List Bit) (new : List Node)
+    (before after : List (List Bit)) : Type 0 where
   pub added : List (List Bit)
   pub grown : after ≡ before ++ added
   pub long : length added ≡ length cells

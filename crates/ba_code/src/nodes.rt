@@ -44,7 +44,6 @@ pub enum Take {
 
 /// A step of a program without calls. Variables and arrays are named by their numbers, from 0; `stmt` is the statement of the program at
 /// which a run ends that the node ends.
-#[derive(Drop)]
 pub enum Node {
     /// The variable `to` has the value of `from`.
     Set {
@@ -133,4 +132,65 @@ pub enum Node {
     Beyond {
         stmt: StmtId,
     },
+}
+
+impl Drop for Node {
+    fn drop(self) {
+        match self {
+            Node::Set { to: _, from: _ } => {}
+            Node::Unary {
+                to: _,
+                op: _,
+                t: _,
+                a: _,
+            } => {}
+            Node::Binary {
+                to: _,
+                op: _,
+                t: _,
+                a: _,
+                b: _,
+                stmt: _,
+            } => {}
+            Node::Convert { to: _, t: _, a: _ } => {}
+            Node::Load {
+                to: _,
+                array: _,
+                index: _,
+                stmt: _,
+            } => {}
+            Node::Save {
+                array: _,
+                index: _,
+                value: _,
+                stmt: _,
+            } => {}
+            Node::Fill {
+                array: _,
+                values: _,
+            } => {}
+            Node::Pick {
+                place: _,
+                take: _,
+                keep: _,
+            } => {}
+            Node::If {
+                when: _,
+                yes: _,
+                no: _,
+            } => {}
+            Node::Block { label: _, body: _ } => {}
+            Node::Leave { label: _ } => {}
+            Node::Loop {
+                after: _,
+                head: _,
+                when: _,
+                body: _,
+                step: _,
+                stmt: _,
+            } => {}
+            Node::Assert { when: _, stmt: _ } => {}
+            Node::Beyond { stmt: _ } => {}
+        }
+    }
 }

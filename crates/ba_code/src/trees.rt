@@ -19,7 +19,6 @@ pub struct Code {
 /// A program without calls, whose parts fit together: each number in it names a variable or an array that is there, each `Leave` stands
 /// inside a block of its label, an array has 1 to 256 elements and a `Fill` one value for each, constants are in the range of `I32` or
 /// of `U32`, and operators work in one of these types.
-#[derive(Drop)]
 pub struct LoopTree {
     pub vars: u32,
     pub arrays: Items<ArrayInfo>,
@@ -33,8 +32,18 @@ pub struct LoopTree {
     })) },
 }
 
+impl Drop for LoopTree {
+    fn drop(self) {
+        let LoopTree {
+            vars: _,
+            arrays: _,
+            params: _,
+            body: _,
+        } = self;
+    }
+}
+
 /// A program without calls and loops: what a [`LoopTree`] keeps holds of it, it has no `Loop`, and turns in its places are counted from 1.
-#[derive(Drop)]
 pub struct BoundTree {
     pub vars: u32,
     pub arrays: Items<ArrayInfo>,
@@ -46,4 +55,15 @@ pub struct BoundTree {
       params = params;
       body = body;
     })) },
+}
+
+impl Drop for BoundTree {
+    fn drop(self) {
+        let BoundTree {
+            vars: _,
+            arrays: _,
+            params: _,
+            body: _,
+        } = self;
+    }
 }

@@ -34,7 +34,8 @@ then-erased : {A B : Type 0} (e : EndOn Traced A) (f : A → ActOn Traced B) (h 
 then-erased (Ok a, s) f h both = (both a).same s
 then-erased (Err x, s) f h both = refl
 
-erases-then : {A B : Type 0} (f : ActOn Traced A) (h : CodeAct A) (f' : A → ActOn Traced B) (h' : A → CodeAct B)
+erases-then : {A B : Type 0} (f : ActOn Traced A) (h : CodeAct A) (f' : A → ActOn Traced B) (h' : A →
+    CodeAct B)
     → Erases f h → ((a : A) → Erases (f' a) (h' a)) → Erases (λ s. then_do (f s) f') (λ s. then_do (h s) h')
 erases-then f h f' h' first second = record {
   same = λ s. then-erased (f s) f' h' second ∙ ap (λ e. then_do e h') (first.same s);
@@ -53,10 +54,12 @@ either-erased false x y x' y' h k = k
 erases-fork : (f f' : TracedExecution) (h h' : CodeExecution) (z : CodeState → ℤ) → Erases f h → Erases f' h'
     → Erases (λ s. fork f f' (z s.code) s) (λ s. fork h h' (z s) s)
 erases-fork f f' h h' z first second = record {
-  same = λ s. either-erased (int_eq (z s.code) (pos 0)) (f' s) (f s) (h' s.code) (h s.code) (second.same s) (first.same s);
+  same = λ s. either-erased (int_eq (z s.code) (pos 0)) (f' s) (f s) (h' s.code) (h s.code) (second.same s)
+      (first.same s);
 }
 
-erases-picked : (arrays : List ArrayInfo) (take : code.Take) (f : TracedExecution) (h : CodeExecution) → Erases f h
+erases-picked : (arrays : List ArrayInfo) (take : code.Take) (f : TracedExecution) (h : CodeExecution) →
+    Erases f h
     → (o : Option (List ℤ)) → Erases (traced_picked arrays take f o) (as_picked arrays take h o)
 erases-picked arrays take f h both None = both
 erases-picked arrays take f h both (Some zs) = erases-untraced (λ s. if_taken (taken arrays take zs s) s)
@@ -90,7 +93,8 @@ module _ (r : Relaxes) (arrays : List ArrayInfo) (bound : ℕ) where
   are_unrolled items = list_all (λ b. b) (map is_unrolled (bare items))
 
   rows-erased : (items : List InnerNode) → are_unrolled items ≡ true
-      → Erases (in_order (map (trace_node r arrays) (bare items))) (nodes_in_order [] (map (run_node setting) (bare items)))
+      → Erases (in_order (map (trace_node r arrays) (bare items)))
+      (nodes_in_order [] (map (run_node setting) (bare items)))
   rows-erased [] h = record { same = λ s. refl }
   rows-erased (n ∷ items) h =
       let both = and_parts (is_unrolled n.0) (are_unrolled items) h in
@@ -106,26 +110,36 @@ module _ (r : Relaxes) (arrays : List ArrayInfo) (bound : ℕ) where
   node-form (Node-F.Unary to op t a) h = erases-untraced (run_in (Node-F.Unary to op t a) [])
   node-form (Node-F.Binary to op t a b stmt) h = erases-untraced (run_in (Node-F.Binary to op t a b stmt) [])
   node-form (Node-F.Convert to t a) h = erases-untraced (run_in (Node-F.Convert to t a) [])
-  node-form (Node-F.Load to array index stmt) h = erases-untraced (run_in (Node-F.Load to array index stmt) [])
-  node-form (Node-F.Save array index value stmt) h = erases-untraced (run_in (Node-F.Save array index value stmt) [])
+  node-form (Node-F.Load to array index stmt) h =
+      erases-untraced (run_in (Node-F.Load to array index stmt) [])
+  node-form (Node-F.Save array index value stmt) h =
+      erases-untraced (run_in (Node-F.Save array index value stmt) [])
   node-form (Node-F.Fill array values) h = erases-untraced (run_in (Node-F.Fill array values) [])
   node-form (Node-F.Pick place take keep) h =
       let both = and_parts (list_all is_counted place.path) (are_unrolled keep.items) h in
-      erases-then (λ s. untraced (choice_where (is_relaxed r place)) (at_place place s)) (choice_where (is_relaxed r place))
+      erases-then (λ s. untraced (choice_where (is_relaxed r place)) (at_place place s))
+      (choice_where (is_relaxed r place))
       (traced_picked arrays take (in_order (map (trace_node r arrays) (bare keep.items))))
       (as_picked arrays take (nodes_in_order [] (map (run_node setting) (bare keep.items))))
-      (record { same = λ s. without-with (at_place place s).places (choice_where (is_relaxed r place) s.code) })
+      (record {
+        same = λ s. without-with (at_place place s).places
+            (choice_where (is_relaxed r place) s.code);
+      })
       (erases-picked arrays take (in_order (map (trace_node r arrays) (bare keep.items)))
       (nodes_in_order [] (map (run_node setting) (bare keep.items))) (rows-erased keep.items both.1))
   node-form (Node-F.If when a b) h =
       let both = and_parts (are_unrolled a.items) (are_unrolled b.items) h in
-      erases-fork (in_order (map (trace_node r arrays) (bare a.items))) (in_order (map (trace_node r arrays) (bare b.items)))
-      (nodes_in_order [] (map (run_node setting) (bare a.items))) (nodes_in_order [] (map (run_node setting) (bare b.items)))
+      erases-fork (in_order (map (trace_node r arrays) (bare a.items)))
+      (in_order (map (trace_node r arrays) (bare b.items)))
+      (nodes_in_order [] (map (run_node setting) (bare a.items)))
+      (nodes_in_order [] (map (run_node setting) (bare b.items)))
       (λ c. operand_value c when) (rows-erased a.items both.0) (rows-erased b.items both.1)
   node-form (Node-F.Block label body) h =
       erases-then (in_order (map (trace_node r arrays) (bare body.items)))
-      (nodes_in_order [] (map (run_node setting) (bare body.items))) (λ flow. give (flow_after_block label flow))
-      (λ flow. give (flow_after_block label flow)) (rows-erased body.items h) (λ flow. record { same = λ s. refl })
+      (nodes_in_order [] (map (run_node setting) (bare body.items)))
+      (λ flow. give (flow_after_block label flow))
+      (λ flow. give (flow_after_block label flow)) (rows-erased body.items h)
+      (λ flow. record { same = λ s. refl })
   node-form (Node-F.Leave label) h = erases-untraced (run_in (Node-F.Leave label) [])
   node-form (Node-F.Loop after head when body step stmt) h = absurd (cc)
   node-form (Node-F.Assert when stmt) h = erases-untraced (run_in (Node-F.Assert when stmt) [])
@@ -134,12 +148,15 @@ module _ (r : Relaxes) (arrays : List ArrayInfo) (bound : ℕ) where
   node-layer : (y : Node-F InnerNode) → ErasesNode (roll-Node (bare_node y))
   unfolding trace_node run_node is_unrolled
   node-layer y unrolled =
-      let h : unrolled_in (bare_node y) ≡ true = sym (fold-roll-Node Bool unrolled_step (bare_node y)) ∙ unrolled in
+      let h : unrolled_in (bare_node y) ≡ true = sym (fold-roll-Node Bool unrolled_step (bare_node y))
+      ∙ unrolled in
       let both : Erases (traced_in (bare_node y)) (run_in (bare_node y) []) = node-form y h in record {
         same = λ s.
-            ap (λ (f : TracedExecution). without_trace (f s)) (fold-roll-Node TracedExecution (trace_step r arrays) (bare_node y))
+            ap (λ (f : TracedExecution). without_trace (f s))
+            (fold-roll-Node TracedExecution (trace_step r arrays) (bare_node y))
             ∙ both.same s
-            ∙ sym (ap (λ (f : InTurns). f [] s.code) (fold-roll-Node InTurns (node_step setting) (bare_node y)));
+            ∙ sym (ap (λ (f : InTurns). f [] s.code) (fold-roll-Node InTurns (node_step setting)
+            (bare_node y)));
       }
 
   erases-node : (n : Node) → ErasesNode n

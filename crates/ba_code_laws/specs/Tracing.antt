@@ -52,7 +52,13 @@ traced_picked arrays take keep None s = keep s
 traced_picked arrays take keep (Some zs) s = untraced (λ c. if_taken (taken arrays take zs c) c) s
 
 abbrev pub bound_setting : Relaxes → List ArrayInfo → Setting
-bound_setting relaxes arrays = record { relaxes = relaxes; turns = 0; arrays = arrays; operators = converting }
+bound_setting relaxes arrays = record {
+  relaxes = relaxes;
+  turns = 0;
+  arrays = arrays;
+  operators =
+      converting;
+}
 
 abbrev pub trace_step : Relaxes → List ArrayInfo → Node-F TracedExecution → TracedExecution
 trace_step r arrays (Node-F.Set to a) s = untraced (node_step (bound_setting r arrays) (Node-F.Set to a) []) s
@@ -75,7 +81,8 @@ trace_step r arrays (Node-F.If when a b) s =
     fork (in_order a.items) (in_order b.items) (operand_value s.code when) s
 trace_step r arrays (Node-F.Block label body) s =
     then_do (in_order body.items s) (λ flow. give (flow_after_block label flow))
-trace_step r arrays (Node-F.Leave label) s = untraced (node_step (bound_setting r arrays) (Node-F.Leave label) []) s
+trace_step r arrays (Node-F.Leave label) s = untraced
+    (node_step (bound_setting r arrays) (Node-F.Leave label) []) s
 trace_step r arrays (Node-F.Loop after head when body step stmt) s = untraced (past_bound stmt) s
 trace_step r arrays (Node-F.Assert when stmt) s =
     untraced (node_step (bound_setting r arrays) (Node-F.Assert when stmt) []) s

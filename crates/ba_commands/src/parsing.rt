@@ -201,7 +201,8 @@ fn localise<'a>(matches: &ArgMatches<'a>, runs: bool) -> Option<Command<'a>>
 }
 
 fn check<'a>(matches: &ArgMatches<'a>) -> Option<Command<'a>>
-    ensures { result ≡ check_with (first_value (found_of matches.now)) (first_value (found_of matches.now)) }
+    ensures { result ≡ check_with (first_value (found_of matches.now))
+        (first_value (found_of matches.now)) }
 {
     let program = text_of(matches, "PROGRAM")?;
     let input = text_of(matches, "INPUT")?;

@@ -187,7 +187,8 @@ module _ (good : Judge) (formula : Cnf) (softs : List Soft) (weights : WeightLis
       s.bound ≤ weight_of weights set
   at_least set is_set feasible =
       let same = weight_same weights softs faithful.weighs set in
-      let bound = model_weighs good formula softs splits s facts set ((faithful.models set is_set).1 feasible) in
+      let bound = model_weighs good formula softs splits s facts set
+      ((faithful.models set is_set).1 feasible) in
       omega (arith, same, bound)
 
   pub blocked_least : (set : List ℕ) → Contains s.sets set → IsLeastSet weights good set

@@ -5,14 +5,18 @@ use ba_items::Items;
 
 /// A set of groups, by ascending numbers from 1, and the choices of a run that is good where they are
 /// relaxed.
-#[derive(Drop)]
 pub struct FoundSet {
     pub groups: Items<u32>,
     pub run: Items<Choice>,
 }
 
+impl Drop for FoundSet {
+    fn drop(self) {
+        let FoundSet { groups: _, run: _ } = self;
+    }
+}
+
 /// What a search comes to.
-#[derive(Drop)]
 pub enum Verdict {
     /// These are all sets of least weight, in order, and this is their weight.
     Located { weight: u64, sets: Items<FoundSet> },
@@ -22,4 +26,15 @@ pub enum Verdict {
     TooMany { weight: u64, sets: Items<FoundSet> },
     /// The stated number of conflicts is spent.
     Spent,
+}
+
+impl Drop for Verdict {
+    fn drop(self) {
+        match self {
+            Verdict::Located { weight: _, sets: _ } => {}
+            Verdict::NoRepair => {}
+            Verdict::TooMany { weight: _, sets: _ } => {}
+            Verdict::Spent => {}
+        }
+    }
 }

@@ -8,14 +8,17 @@ use Rattle.ba_lits.specs.Satisfaction.{Soft}
 -- the entries of a group and of those after it
 from-here : (groups : List Group) (k next : ℕ) (g : Group) → k < length groups → get_or groups k g ≡ g
     → softs_from next (drop k groups)
-    ≡ replicate (g.number - next) (g.selector, 0) ++ soft_of g ∷ softs_from (g.number + 1) (drop (k + 1) groups)
+    ≡ replicate (g.number - next) (g.selector, 0) ++ soft_of g
+    ∷ softs_from (g.number + 1) (drop (k + 1) groups)
 from-here [] k next g few is = absurd (omega (arith, few))
 from-here (h ∷ gs) zero next g few is =
-    ap (λ (x : Group). replicate (x.number - next) (x.selector, 0) ++ soft_of x ∷ softs_from (x.number + 1) gs) is
+    ap (λ (x : Group). replicate (x.number - next) (x.selector, 0) ++ soft_of x
+    ∷ softs_from (x.number + 1) gs) is
 from-here (h ∷ gs) (suc k) next g few is =
     let same : suc (k + 1) ≡ suc k + 1 = omega arith in
     from-here gs k next g (omega (arith, few)) is
-    ∙ ap (λ j. replicate (g.number - next) (g.selector, 0) ++ soft_of g ∷ softs_from (g.number + 1) (drop j (h ∷ gs))) same
+    ∙ ap (λ j. replicate (g.number - next) (g.selector, 0) ++ soft_of g
+    ∷ softs_from (g.number + 1) (drop j (h ∷ gs))) same
 
 pub softs-more : (groups : List Group) (k next : ℕ) (g : Group) (whole before filled after : List Soft)
     → k < length groups → get_or groups k g ≡ g → whole ≡ before ++ softs_from next (drop k groups)

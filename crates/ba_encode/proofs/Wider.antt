@@ -35,7 +35,8 @@ module _ (m n : ℕ) (more : m ≤ n) where
       let both = and_parts (length v.bits == 32) (list_all (is_readable m) v.bits) is in
       and_from (length v.bits == 32) (list_all (is_readable n) v.bits) both.0 (bits v.bits both.1)
 
-  values : (vs : List ValueReading) → list_all (is_readable_value m) vs ≡ true → list_all (is_readable_value n) vs ≡ true
+  values : (vs : List ValueReading) → list_all (is_readable_value m) vs ≡ true →
+      list_all (is_readable_value n) vs ≡ true
   values [] all = refl
   values (v ∷ vs) all =
       let both = and_parts (is_readable_value m v) (list_all (is_readable_value m) vs) all in
@@ -45,12 +46,14 @@ module _ (m n : ℕ) (more : m ≤ n) where
   place p is =
       let all = and_parts (is_readable m p.selector && is_readable m p.guard && is_readable m p.keep)
       (list_all (is_readable_value m) p.values) is in
-      let three = and_parts (is_readable m p.selector && is_readable m p.guard) (is_readable m p.keep) all.0 in
+      let three = and_parts (is_readable m p.selector && is_readable m p.guard) (is_readable m p.keep)
+      all.0 in
       let two = and_parts (is_readable m p.selector) (is_readable m p.guard) three.0 in
       and_from (is_readable n p.selector && is_readable n p.guard && is_readable n p.keep)
       (list_all (is_readable_value n) p.values)
       (and_from (is_readable n p.selector && is_readable n p.guard) (is_readable n p.keep)
-      (and_from (is_readable n p.selector) (is_readable n p.guard) (reading p.selector two.0) (reading p.guard two.1))
+      (and_from (is_readable n p.selector) (is_readable n p.guard) (reading p.selector two.0)
+      (reading p.guard two.1))
       (reading p.keep three.1))
       (values p.values all.1)
 

@@ -12,7 +12,8 @@ soft_of group = (group.selector, group.weight)
 abbrev pub softs_from : ℕ → List Group → List Soft
 softs_from number [] = []
 softs_from number (group ∷ groups) =
-    replicate (group.number - number) (group.selector, 0) ++ soft_of group ∷ softs_from (group.number + 1) groups
+    replicate (group.number - number) (group.selector, 0) ++ soft_of group
+    ∷ softs_from (group.number + 1) groups
 
 abbrev pub softs_of : List Group → List Soft
 softs_of groups = softs_from 1 groups

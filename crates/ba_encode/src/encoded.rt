@@ -21,12 +21,22 @@ pub struct Group {
 
 /// How the choice of an execution that stands in a group is read from a model: the group's selector, whether it takes
 /// place, whether it is as written, and else the values.
-#[derive(Drop)]
 pub struct PlaceReading {
     pub selector: Reading,
     pub guard: Reading,
     pub keep: Reading,
     pub values: Items<ValueReading>,
+}
+
+impl Drop for PlaceReading {
+    fn drop(self) {
+        let PlaceReading {
+            selector: _,
+            guard: _,
+            keep: _,
+            values: _,
+        } = self;
+    }
 }
 
 /// How a value is read from a model: its 32 bits, the lowest first, and whether these are those of a number of `I32`
@@ -39,13 +49,22 @@ pub struct ValueReading {
 
 /// A formula with its groups, and the readings of the executions that stand in groups, all by variables of the formula. There are
 /// fewer than 2^32 groups. Where [`encode`](crate::encode) made it, its models are the good runs in which groups may be relaxed.
-#[derive(Drop)]
 pub struct Encoded {
     pub(crate) formula: Formula,
     pub(crate) groups: Items<Group>,
     pub(crate) places: Items<PlaceReading>,
     pub ghost few: { length groups < 2 ^ 32 },
     pub ghost readable: { IsTrue (are_readable formula.variables places) },
+}
+
+impl Drop for Encoded {
+    fn drop(self) {
+        let Encoded {
+            formula: _,
+            groups: _,
+            places: _,
+        } = self;
+    }
 }
 
 impl Encoded {

@@ -90,10 +90,12 @@ any-map v (w ∷ vs) = ap (λ b. (w.0 == v.0) || b) (any-map v vs)
 
 -- THE LIMITS come first
 
-first-false : (w m l o g i f n k c : Bool) → w ≡ false → (w && m && l && o && g && i && f && n && k && c) ≡ false
+first-false : (w m l o g i f n k c : Bool) → w ≡ false →
+    (w && m && l && o && g && i && f && n && k && c) ≡ false
 first-false false m l o g i f n k c is = refl
 first-false true m l o g i f n k c is = cc
 
-pub past-limits : (p : Parts) (within : Bool) → within ≡ is_within_limits p → within ≡ false → false ≡ is_program p
+pub past-limits : (p : Parts) (within : Bool) → within ≡ is_within_limits p → within ≡ false →
+    false ≡ is_program p
 unfolding is_program
 past-limits p within is past = sym (first-false (is_within_limits p) _ _ _ _ _ _ _ _ _ (sym is ∙ past))

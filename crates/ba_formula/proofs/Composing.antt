@@ -115,12 +115,18 @@ module _ (p : Program) (input : Input) (b : Bounds) (weights : Weights) (fit : f
   feasible-model set relaxable feasible =
       let spells : Chosen list (relaxes set) feasible.choices = guards.each 0 (relaxes set) feasible.choices
       (run-good set feasible.choices relaxable feasible.is_good) in
-      let model = encodes.has_model (is_in set) (record { by = spells.by; met = spells.holds; kept = spells.kept }) in
+      let model = encodes.has_model (is_in set) (record {
+        by = spells.by;
+        met = spells.holds;
+        kept =
+            spells.kept;
+      }) in
       record {
         assignment = model.assignment;
         is_model = record {
           satisfies = model.satisfies;
-          groups_are = set-given-up weights.of encoded.groups encodes.groups_are are_weights.in_range model.assignment set
+          groups_are = set-given-up weights.of encoded.groups encodes.groups_are are_weights.in_range
+              model.assignment set
               relaxable model.given_up;
         };
       }
@@ -129,7 +135,8 @@ module _ (p : Program) (input : Input) (b : Bounds) (weights : Weights) (fit : f
   composed = record {
     faithful = record {
       clauses = clauses;
-      selectors = are-selectors weights.of encoded.groups encodes.groups_are are_weights.in_range encoded.formula
+      selectors = are-selectors weights.of encoded.groups encodes.groups_are are_weights.in_range
+          encoded.formula
           encodes.selectors;
       weighs = weighs weights.of encoded.groups encodes.groups_are are_weights.in_range;
       models = λ set relaxable. (model-feasible set relaxable, feasible-model set relaxable);

@@ -40,7 +40,8 @@ passed-by : (t : Bool) (m n : ℕ) (ns : List ℕ) → n < m → is_in (with_if 
 passed-by false m n ns less = refl
 passed-by true m n ns less = ap (λ t. t || is_in ns n) (other-number m n less)
 
-above-none : (j : ℕ) (v : Assignment) (ss : List Soft) (n : ℕ) → n ≤ j → is_in (false_groups_from j v ss) n ≡ false
+above-none : (j : ℕ) (v : Assignment) (ss : List Soft) (n : ℕ) → n ≤ j →
+    is_in (false_groups_from j v ss) n ≡ false
 above-none j v [] n low = refl
 above-none j v (s ∷ ss) n low =
     passed-by (is_false_group v s) (suc j) n (false_groups_from (suc j) v ss) (omega (arith, low))
@@ -77,10 +78,12 @@ AreNumbered k gs = (g : Group) → Contains gs g → k ≤ g.number
 no-group : (g : Group) → Contains [] g → ⊥
 no-group g (n, few, is) = omega (arith, few)
 
-numbered-next : (k : ℕ) (g : Group) (gs : List Group) → g.number ≡ k → AreNumbered (k + 1) gs → AreNumbered k (g ∷ gs)
+numbered-next : (k : ℕ) (g : Group) (gs : List Group) → g.number ≡ k → AreNumbered (k + 1) gs →
+    AreNumbered k (g ∷ gs)
 numbered-next k g gs is more h at = by (first_or_later g gs h at) where
   by : (g ≡ h) ⊎ Contains gs h → k ≤ h.number
-  by (inl same) = let number : g.number ≡ h.number = ap (λ (x : Group). x.number) same in omega (arith, is, number)
+  by (inl same) = let number : g.number ≡ h.number = ap (λ (x : Group). x.number) same in
+      omega (arith, is, number)
   by (inr in_rest) = let more' : k + 1 ≤ h.number = more h in_rest in omega (arith, more')
 
 -- THE SET OF A MODEL: exactly the groups of the false ones are given up
@@ -102,7 +105,8 @@ gives-up = spread GivesUp
       (λ j v is h at. one j v k w g gs ss number weighs so is h (first_or_later g gs h at)),
     ))
   where
-    one : (j : ℕ) (v : Assignment) (k : ℕ) (w : WeightList) (g : Group) (gs : List Group) (ss : List Soft) → g.number ≡ k
+    one : (j : ℕ) (v : Assignment) (k : ℕ) (w : WeightList) (g : Group) (gs : List Group) (ss : List Soft) →
+        g.number ≡ k
         → 1 ≤ g.weight → GivesUp (k + 1) w gs ss → k ≡ suc j → (h : Group) → (g ≡ h) ⊎ Contains gs h
         → lit_true v h.selector ≡ not (is_in (false_groups_from j v ((g.selector, g.weight) ∷ ss)) h.number)
     one j v k w g gs ss number weighs so is h (inl same) =
@@ -117,7 +121,8 @@ gives-up = spread GivesUp
         let next : k + 1 ≡ suc (suc j) = omega (arith, is) in
         let above : k + 1 ≤ h.number = so.0 h at in
         so.1 (suc j) v next h at
-        ∙ sym (ap not (with-other (is_false_group v (g.selector, g.weight)) (suc j) h.number (false_groups_from (suc j) v ss)
+        ∙ sym (ap not (with-other (is_false_group v (g.selector, g.weight)) (suc j) h.number
+        (false_groups_from (suc j) v ss)
         (omega (arith, is, above))))
 
 pub given-up : (w : WeightList) (gs : List Group) → map without_selector gs ≡ statements_from 1 w
@@ -142,11 +147,14 @@ are-members : (k : ℕ) (w : WeightList) (gs : List Group) → map without_selec
 unfolding members
 are-members = spread AreMembers
     (λ k j v set is up. refl)
-    (λ k w so j v set is up. so (suc j) v set (let next : k + 1 ≡ suc (suc j) = omega (arith, is) in next) (λ g at. absurd (no-group g at)))
-    (λ k w g gs ss above so j v set is up. so (suc j) v set (let next : k + 1 ≡ suc (suc j) = omega (arith, is) in next) up)
+    (λ k w so j v set is up. so (suc j) v set (let next : k + 1 ≡ suc (suc j) = omega (arith, is) in
+    next) (λ g at. absurd (no-group g at)))
+    (λ k w g gs ss above so j v set is up. so (suc j) v set (let next : k + 1 ≡ suc (suc j) =
+    omega (arith, is) in next) up)
     (λ k w g gs ss number weighs so j v set is up.
     let same : is_false_group v (g.selector, g.weight) ≡ set k =
-    false-group v (g.selector, g.weight) weighs ∙ ap not (up g (here g gs)) ∙ not-not (set g.number) ∙ ap set number in
+    false-group v (g.selector, g.weight) weighs ∙ ap not (up g (here g gs)) ∙ not-not (set g.number)
+    ∙ ap set number in
     ap (λ t. with_if t (suc j) (false_groups_from (suc j) v ss)) same
     ∙ ap (λ n. with_if (set k) n (false_groups_from (suc j) v ss)) (sym is)
     ∙ ap (with_if (set k) k) (so (suc j) v set (let next : k + 1 ≡ suc (suc j) = omega (arith, is) in next)
@@ -157,7 +165,8 @@ abbrev LiesIn : ℕ → WeightList → ℕ → List ℕ → Type 0
 LiesIn k w low [] = Unit {0}
 LiesIn k w low (n ∷ ns) = (low < n) × IsSome (entry_of (slice_get w (n - k))) × LiesIn k w n ns
 
-lies-next : (k : ℕ) (entry : Option ℕ) (w : WeightList) (low : ℕ) (ns : List ℕ) → k ≤ low → LiesIn k (entry ∷ w) low ns
+lies-next : (k : ℕ) (entry : Option ℕ) (w : WeightList) (low : ℕ) (ns : List ℕ) → k ≤ low →
+    LiesIn k (entry ∷ w) low ns
     → LiesIn (k + 1) w low ns
 lies-next k entry w low [] high lies = tt
 lies-next k entry w low (n ∷ ns) high lies =
@@ -168,7 +177,8 @@ lies-next k entry w low (n ∷ ns) high lies =
       lies-next k entry w n ns more lies.2,
     )
 
-below-none : (low n : ℕ) (k : ℕ) (w : WeightList) (ns : List ℕ) → n ≤ low → LiesIn k w low ns → is_in ns n ≡ false
+below-none : (low n : ℕ) (k : ℕ) (w : WeightList) (ns : List ℕ) → n ≤ low → LiesIn k w low ns →
+    is_in ns n ≡ false
 below-none low n k w [] few lies = refl
 below-none low n k w (m ∷ ns) few lies =
     ap (λ t. t || is_in ns n) (other-number m n (omega (arith, few, lies.0)))
@@ -187,9 +197,11 @@ no-entry zero some = cc
 no-entry (suc i) some = cc
 
 -- the first entry is that of the first member, or of none
-takes-first : (k n : ℕ) (entry : Option ℕ) (w : WeightList) (set : ℕ → Bool) (ns : List ℕ) → n ≡ k → LiesIn k (entry ∷ w) (n - 1) (n ∷ ns)
+takes-first : (k n : ℕ) (entry : Option ℕ) (w : WeightList) (set : ℕ → Bool) (ns : List ℕ) → n ≡ k →
+    LiesIn k (entry ∷ w) (n - 1) (n ∷ ns)
     → ((m : ℕ) → k ≤ m → set m ≡ is_in (n ∷ ns) m)
-    → ((m : ℕ) → k + 1 ≤ m → set m ≡ is_in ns m) → members (k + 1) w set ≡ ns → members k (entry ∷ w) set ≡ n ∷ ns
+    → ((m : ℕ) → k + 1 ≤ m → set m ≡ is_in ns m) → members (k + 1) w set ≡ ns →
+    members k (entry ∷ w) set ≡ n ∷ ns
 unfolding members
 takes-first k n entry w set ns own lies same more rest =
     let first : n - k ≡ 0 = omega (arith, own) in
@@ -220,7 +232,8 @@ which-first k low n entry w set ns is lies same own_rest other_rest (inl own) =
     let more : Agree (k + 1) set ns = λ m later. same m (omega (arith, later))
     ∙ ap (λ t. t || is_in ns m) (differs n m (omega (arith, own, later))) in
     takes-first k n entry w set ns own (omega (arith, own, is), lies.1, lies.2) same more
-    (own_rest (lies-next k entry w k ns (omega arith) (subst (λ m. LiesIn k (entry ∷ w) m ns) own lies.2)) more)
+    (own_rest (lies-next k entry w k ns (omega arith) (subst (λ m. LiesIn k (entry ∷ w) m ns) own lies.2))
+    more)
   where
     differs : (a b : ℕ) → a < b → (a == b) ≡ false
     differs a b less = grind (arith, nat_tests)
@@ -228,7 +241,8 @@ which-first k low n entry w set ns is lies same own_rest other_rest (inr above) 
     passes-first k entry w set (n ∷ ns)
     (same k (omega arith) ∙ ap (λ t. t || is_in ns k) (other-number n k above)
     ∙ below-none n k k (entry ∷ w) ns (omega (arith, above)) lies.2)
-    (other_rest (lies-next k entry w k (n ∷ ns) (omega arith) (above, lies.1, lies.2)) (λ m more. same m (omega (arith, more))))
+    (other_rest (lies-next k entry w k (n ∷ ns) (omega arith) (above, lies.1, lies.2))
+    (λ m more. same m (omega (arith, more))))
 
 members-are : (k low : ℕ) (w : WeightList) (set : ℕ → Bool) (ns : List ℕ) → k ≡ suc low → LiesIn k w low ns
     → Agree k set ns → members k w set ≡ ns
@@ -251,15 +265,20 @@ members-are k low (entry ∷ w) set (n ∷ ns) is lies same =
 lies-in : (w : WeightList) (low : ℕ) (ns : List ℕ) → AreRelaxableAbove w low ns → LiesIn 1 w low ns
 lies-in w low [] are = tt
 lies-in w low (n ∷ ns) are =
-    let some : (n == 0) ≡ false = positive n (omega (arith, are.0)) in
-    (are.0, subst (λ t. IsSome (cond t None (entry_of (slice_get w (n - 1))))) some are.1, lies-in w n ns are.2)
+    let some : (n == 0) ≡ false = positive n (omega (arith, are.0)) in (
+      are.0,
+      subst (λ t. IsSome (cond t None (entry_of (slice_get w (n - 1))))) some are.1,
+      lies-in w n ns
+          are.2,
+    )
   where
     positive : (m : ℕ) → 0 < m → (m == 0) ≡ false
     positive m more = grind (arith, nat_tests)
 
 -- where exactly the groups of a relaxable set are given up, it is the set of the false ones
 pub set-given-up : (w : WeightList) (gs : List Group) → map without_selector gs ≡ statements_from 1 w
-    → list_all is_weight w ≡ true → (v : Assignment) (set : List ℕ) → IsRelaxableSet w set → AreGivenUp v gs (is_in set)
+    → list_all is_weight w ≡ true → (v : Assignment) (set : List ℕ) → IsRelaxableSet w set →
+    AreGivenUp v gs (is_in set)
     → false_groups v (softs_of gs) ≡ set
 set-given-up w gs is ok v set are up =
     are-members 1 w gs is ok 0 v (is_in set) refl up
@@ -281,17 +300,20 @@ weighs-at = spread Weighs
     nothing zero = refl
     nothing (suc i) = refl
 
-    passed : (w : WeightList) → ((i : ℕ) → entry_of (slice_get w i) ≡ weight_if (blocks.entry_weight (slice_get [] i)))
+    passed : (w : WeightList) → ((i : ℕ) → entry_of (slice_get w i)
+        ≡ weight_if (blocks.entry_weight (slice_get [] i)))
         → (i : ℕ) → entry_of (slice_get (None ∷ w) i) ≡ weight_if (blocks.entry_weight (slice_get [] i))
     passed w so zero = refl
     passed w so (suc i) = so i ∙ empty i where
-      empty : (m : ℕ) → weight_if (blocks.entry_weight (slice_get [] m)) ≡ weight_if (blocks.entry_weight (slice_get [] (suc m)))
+      empty : (m : ℕ) → weight_if (blocks.entry_weight (slice_get [] m))
+          ≡ weight_if (blocks.entry_weight (slice_get [] (suc m)))
       empty zero = refl
       empty (suc m) = refl
 
     skipped : (w : WeightList) (g : Group) (ss : List Soft)
         → ((i : ℕ) → entry_of (slice_get w i) ≡ weight_if (blocks.entry_weight (slice_get ss i)))
-        → (i : ℕ) → entry_of (slice_get (None ∷ w) i) ≡ weight_if (blocks.entry_weight (slice_get ((g.selector, 0) ∷ ss) i))
+        → (i : ℕ) → entry_of (slice_get (None ∷ w) i)
+        ≡ weight_if (blocks.entry_weight (slice_get ((g.selector, 0) ∷ ss) i))
     skipped w g ss so zero = refl
     skipped w g ss so (suc i) = so i
 
@@ -332,12 +354,20 @@ EachOf gs (s ∷ ss) = IsOf gs s × EachOf gs ss
 
 of-later : (g : Group) (gs : List Group) (ss : List Soft) → EachOf gs ss → EachOf (g ∷ gs) ss
 of-later g gs [] all = tt
-of-later g gs (s ∷ ss) all =
-    (record { group = all.0.group; among = later g gs all.0.group all.0.among; is = all.0.is }, of-later g gs ss all.1)
+of-later g gs (s ∷ ss) all = (
+  record {
+    group = all.0.group;
+    among = later g gs all.0.group all.0.among;
+    is =
+        all.0.is;
+  },
+  of-later g gs ss all.1,
+)
 
 -- groups with different numbers have selectors of different variables
 abbrev AreApart : List Group → Type 0
-AreApart gs = (a b : Group) → Contains gs a → Contains gs b → a.selector.variable ≡ b.selector.variable → a.number ≡ b.number
+AreApart gs = (a b : Group) → Contains gs a → Contains gs b → a.selector.variable ≡ b.selector.variable →
+    a.number ≡ b.number
 
 abbrev AreOf : ℕ → WeightList → List Group → List Soft → Type 0
 AreOf k w gs ss = AreNumbered k gs × EachOf gs (present ss) × (AreApart gs → AreDifferent (present ss))
@@ -346,22 +376,30 @@ differs-all : (k : ℕ) (g : Group) (gs : List Group) (ss : List Soft) → g.num
     → AreApart (g ∷ gs) → EachOf gs ss → Differs g.selector.variable ss
 differs-all k g gs [] number above apart all = tt
 differs-all k g gs (s ∷ ss) number above apart all = (
-  (λ same. let numbers : all.0.group.number ≡ g.number = apart all.0.group g (later g gs all.0.group all.0.among)
+  (λ same. let numbers : all.0.group.number ≡ g.number =
+      apart all.0.group g (later g gs all.0.group all.0.among)
       (here g gs) (sym (ap (λ (l : Literal). l.variable) all.0.is) ∙ same) in
-      let more : k + 1 ≤ all.0.group.number = above all.0.group all.0.among in absurd (omega (arith, number, numbers, more))),
+      let more : k + 1 ≤ all.0.group.number = above all.0.group all.0.among in
+      absurd (omega (arith, number, numbers, more))),
   differs-all k g gs ss number above apart all.1,
 )
 
 shown : (g : Group) (ss : List Soft) → 1 ≤ g.weight
     → present ((g.selector, g.weight) ∷ ss) ≡ (g.selector, g.weight) ∷ present ss
-shown g ss weighs = ap (λ t. cond t ((g.selector, g.weight) ∷ present ss) (present ss)) (weighty g.weight weighs)
+shown g ss weighs = ap (λ t. cond t ((g.selector, g.weight) ∷ present ss) (present ss))
+    (weighty g.weight weighs)
 
 are-of : (k : ℕ) (w : WeightList) (gs : List Group) → map without_selector gs ≡ statements_from k w
     → list_all is_weight w ≡ true → AreOf k w gs (softs_from k gs)
 are-of = spread AreOf
     (λ k. ((λ g at. absurd (no-group g at)), tt, (λ apart. tt)))
     (λ k w so. ((λ g at. absurd (no-group g at)), tt, (λ apart. tt)))
-    (λ k w g gs ss above so. ((λ h at. let more : k + 1 ≤ h.number = so.0 h at in omega (arith, more)), so.1, so.2))
+    (λ k w g gs ss above so. (
+      (λ h at. let more : k + 1 ≤ h.number = so.0 h at in
+          omega (arith, more)),
+      so.1,
+      so.2,
+    ))
     (λ k w g gs ss number weighs so. (
       numbered-next k g gs number so.0,
       subst (EachOf (g ∷ gs)) (sym (shown g ss weighs))
@@ -380,14 +418,16 @@ IsPositive s = s.0.negated ≡ false
 abbrev IsAmong : ℕ → Soft → Type 0
 IsAmong variables s = (1 ≤ s.0.variable) × (s.0.variable ≤ variables)
 
-all-positive : (formula : Cnf) (gs : List Group) (ss : List Soft) → encoding.AreSelectors formula gs → EachOf gs ss
+all-positive : (formula : Cnf) (gs : List Group) (ss : List Soft) → encoding.AreSelectors formula gs →
+    EachOf gs ss
     → All IsPositive ss
 all-positive formula gs [] are all = λ k d few. absurd (omega (arith, few))
 all-positive formula gs (s ∷ ss) are all = All-cons IsPositive s ss
     (ap (λ (l : Literal). l.negated) all.0.is ∙ are.positive all.0.group all.0.among)
     (all-positive formula gs ss are all.1)
 
-all-among : (formula : Cnf) (gs : List Group) (ss : List Soft) → encoding.AreSelectors formula gs → EachOf gs ss
+all-among : (formula : Cnf) (gs : List Group) (ss : List Soft) → encoding.AreSelectors formula gs →
+    EachOf gs ss
     → All (IsAmong formula.variables) ss
 all-among formula gs [] are all = λ k d few. absurd (omega (arith, few))
 all-among formula gs (s ∷ ss) are all =
@@ -411,11 +451,13 @@ are-selectors w gs is ok formula are =
 -- THE FALSE GROUPS are statements that have a weight
 
 part-behind : (whole : WeightList) (j : ℕ) (entry : Option ℕ) (w : WeightList)
-    → ((i : ℕ) → slice_get (entry ∷ w) i ≡ slice_get whole (j + i)) → (i : ℕ) → slice_get w i ≡ slice_get whole (j + 1 + i)
+    → ((i : ℕ) → slice_get (entry ∷ w) i ≡ slice_get whole (j + i)) → (i : ℕ) →
+    slice_get w i ≡ slice_get whole (j + 1 + i)
 part-behind whole j entry w part i =
     part (suc i) ∙ ap (slice_get whole) (let same : j + suc i ≡ j + 1 + i = omega arith in same)
 
-weight-here : (whole : WeightList) (j x : ℕ) → Some (Some x) ≡ slice_get whole (j + 0) → weight_at whole (j + 1) ≡ Some x
+weight-here : (whole : WeightList) (j x : ℕ) → Some (Some x) ≡ slice_get whole (j + 0) →
+    weight_at whole (j + 1) ≡ Some x
 weight-here whole j x part =
     ap (λ t. cond t None (entry_of (slice_get whole (j + 1 - 1)))) (positive j)
     ∙ ap (λ i. entry_of (slice_get whole i)) (let same : j + 1 - 1 ≡ j + 0 = omega arith in same)
@@ -425,14 +467,16 @@ weight-here whole j x part =
     positive m = grind (arith, nat_tests)
 
 member-relaxable : (whole : WeightList) (j low x : ℕ) (ns : List ℕ) (t : Bool) → low ≤ j
-    → Some (Some x) ≡ slice_get whole (j + 0) → AreRelaxableAbove whole low ns → AreRelaxableAbove whole (j + 1) ns
+    → Some (Some x) ≡ slice_get whole (j + 0) → AreRelaxableAbove whole low ns →
+    AreRelaxableAbove whole (j + 1) ns
     → AreRelaxableAbove whole low (with_if t (j + 1) ns)
 member-relaxable whole j low x ns false high part are above = are
 member-relaxable whole j low x ns true high part are above =
     (omega (arith, high), subst IsSome (sym (weight-here whole j x part)) refl, above)
 
 members-relaxable : (whole : WeightList) (j low : ℕ) (w : WeightList) (set : ℕ → Bool) → low ≤ j
-    → ((i : ℕ) → slice_get w i ≡ slice_get whole (j + i)) → AreRelaxableAbove whole low (members (j + 1) w set)
+    → ((i : ℕ) → slice_get w i ≡ slice_get whole (j + i)) →
+    AreRelaxableAbove whole low (members (j + 1) w set)
 unfolding members
 members-relaxable whole j low [] set high part = tt
 members-relaxable whole j low (None ∷ w) set high part =

@@ -20,13 +20,15 @@ listed : (set : List ℕ) (n : ℕ) → list_any (λ (m : StmtId). m.0 == n) (ma
 listed [] n = refl
 listed (m ∷ set) n = ap (λ t. (m == n) || t) (listed set n)
 
-has-weight : (w : WeightList) (low : ℕ) (set : List ℕ) (n : ℕ) → AreRelaxableAbove w low set → is_in set n ≡ true
+has-weight : (w : WeightList) (low : ℕ) (set : List ℕ) (n : ℕ) → AreRelaxableAbove w low set →
+    is_in set n ≡ true
     → IsSome (weight_at w n)
 has-weight w low [] n are is = absurd (cc)
 has-weight w low (m ∷ set) n are is =
     by_case (m == n) refl (λ in_rest. has-weight w m set n are.2 in_rest)
   where
-    by_case : (t : Bool) → (m == n) ≡ t → (is_in set n ≡ true → IsSome (weight_at w n)) → IsSome (weight_at w n)
+    by_case : (t : Bool) → (m == n) ≡ t → (is_in set n ≡ true → IsSome (weight_at w n)) →
+        IsSome (weight_at w n)
     by_case true same later = subst (λ k. IsSome (weight_at w k)) (eqb-true m n same) are.1
     by_case false other later = later (ap (λ t. t || is_in set n) (sym other) ∙ is)
 
@@ -48,7 +50,8 @@ module _ (p : Program) (weights : Weights) (are_weights : AreWeightsOf p weights
     by_case false is = ap not is
 
   at-statement : (path : List Step) (stmt : StmtId)
-      → relaxes_in (ByStatement weights) (is_in set) path stmt ≡ admits p (Statements (map stmt_of set)) path stmt
+      → relaxes_in (ByStatement weights) (is_in set) path stmt
+      ≡ admits p (Statements (map stmt_of set)) path stmt
   unfolding admits
   at-statement path stmt = by_case (is_in set stmt.0) refl where
     by_case : (t : Bool) → is_in set stmt.0 ≡ t → relaxes_in (ByStatement weights) (is_in set) path stmt

@@ -15,7 +15,8 @@ use Rattle.ba_tree.specs.Weights.{is_weight}
 
 -- LISTS
 
-pub first_or_later : {A : Type 0} → (x : A) (xs : List A) (y : A) → Contains (x ∷ xs) y → (x ≡ y) ⊎ Contains xs y
+pub first_or_later : {A : Type 0} → (x : A) (xs : List A) (y : A) → Contains (x ∷ xs) y →
+    (x ≡ y) ⊎ Contains xs y
 first_or_later x xs y (zero, few, is) = inl is
 first_or_later x xs y (suc k, few, is) = inr (k, omega (arith, few), is)
 
@@ -44,15 +45,18 @@ absurd_first a xs same = let wrong : suc (length xs) ≡ 0 = ap length same in a
 -- GROUPS stand by ascending numbers
 
 some-weight : (x : ℕ) → is_weight (Some x) ≡ true → 1 ≤ x
-some-weight x ok = let one : nat_le 1 x ≡ true = (and_parts (nat_le 1 x) (nat_le x 1000) ok).0 in grind (arith, nat_tests, one)
+some-weight x ok = let one : nat_le 1 x ≡ true = (and_parts (nat_le 1 x) (nat_le x 1000) ok).0 in
+    grind (arith, nat_tests, one)
 
 first-number : (k : ℕ) (w : WeightList) (g : Group) (gs : List Group)
     → map without_selector (g ∷ gs) ≡ statements_from k w → k ≤ g.number
 first-number k [] g gs is = absurd_first (without_selector g) (map without_selector gs) is
-first-number k (None ∷ w) g gs is = let more : k + 1 ≤ g.number = first-number (k + 1) w g gs is in omega (arith, more)
+first-number k (None ∷ w) g gs is = let more : k + 1 ≤ g.number = first-number (k + 1) w g gs is in
+    omega (arith, more)
 first-number k (Some x ∷ w) g gs is =
     let same : g.number ≡ k = ap (λ (n : Numbered). n.number)
-    (same-first (without_selector g) (numbered k (stmt_of k) x) (map without_selector gs) (statements_from (k + 1) w) is) in
+    (same-first (without_selector g) (numbered k (stmt_of k) x) (map without_selector gs)
+    (statements_from (k + 1) w) is) in
     omega (arith, same)
 
 -- an entry that stands for no group
@@ -92,11 +96,13 @@ module _ (P : ℕ → WeightList → List Group → List Soft → Type 0)
   spread k (Some x ∷ w) (g ∷ gs) is ok =
       let both = and_parts (is_weight (Some x)) (list_all is_weight w) ok in
       let same : without_selector g ≡ numbered k (stmt_of k) x =
-      same-first (without_selector g) (numbered k (stmt_of k) x) (map without_selector gs) (statements_from (k + 1) w) is in
+      same-first (without_selector g) (numbered k (stmt_of k) x) (map without_selector gs)
+      (statements_from (k + 1) w) is in
       let number : g.number ≡ k = ap (λ (n : Numbered). n.number) same in
       let weight : g.weight ≡ x = ap (λ (n : Numbered). n.weight) same in
       subst (λ y. P k (Some y ∷ w) (g ∷ gs) (softs_from k (g ∷ gs))) weight
       (subst (P k (Some g.weight ∷ w) (g ∷ gs)) (sym (softs-group k g gs number))
       (takes k w g gs (softs_from (k + 1) gs) number (subst (λ y. 1 ≤ y) (sym weight) (some-weight x both.0))
-      (spread (k + 1) w gs (same-rest (without_selector g) (numbered k (stmt_of k) x) (map without_selector gs)
+      (spread (k + 1) w gs (same-rest (without_selector g) (numbered k (stmt_of k) x)
+      (map without_selector gs)
       (statements_from (k + 1) w) is) both.1)))

@@ -148,7 +148,12 @@ check-nothing d b halt test fits passes = means-steady d (λ f r. checked (λ c.
           (places_at vs b) cs
           (left-resting vs 0 b.exits)
           (λ on. ap (λ t. after_end (labels_of b.exits) (checked_by t halt (record {
-            code = record { variables = variables_at vs b.vars; arrays = arrays_at vs b.arrays; choices = cs };
+            code = record {
+              variables = variables_at vs b.vars;
+              arrays = arrays_at vs b.arrays;
+              choices =
+                  cs;
+            };
             places = places_at vs b;
           }))) (passes f))
           (λ off. refl);

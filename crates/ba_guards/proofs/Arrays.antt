@@ -239,7 +239,8 @@ pub cell-arm : (d : Declared) (b b3 new : Builder) (array a iw vw : ℕ) (words 
     (elements_in b3.words a f)))
     → new ≡ record b3 { words = ws; arrays = slice_set b3.arrays array w }
     → Means d (λ f r. picked d (Cell array) (values_in b.words words f)) b new
-cell-arm d b b3 new array a iw vw words s fits declared sides second few names right at_index at_value check ws w at e is =
+cell-arm d b b3 new array a iw vw words s fits declared sides second few names right at_index at_value check
+    ws w at e is =
     let t = (info_at d.arrays array).t in
     let there = array-below d array declared in
     let two : words ≡ iw ∷ vw ∷ [] = two-words t (λ w. word_in b.words w nowhere) words (right nowhere)

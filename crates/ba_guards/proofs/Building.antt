@@ -143,7 +143,8 @@ module _ (old new : List WordOp) (count : ℕ) (live1 : ℕ) (vars1 : List ℕ) 
             (omega (arith, ap length e.grown, length-append middle e.more)) m.names;
         long = m.long;
         on = λ f. ap is_nonzero (e.has f
-            ∙ ap (λ z. cond (is_nonzero z) (word_in middle 1 f) (word_in middle live2 f)) (word-later f old middle m.more live1 m.grown below1)
+            ∙ ap (λ z. cond (is_nonzero z) (word_in middle 1 f) (word_in middle live2 f))
+            (word-later f old middle m.more live1 m.grown below1)
             ∙ ap (λ z. cond (holds_in old live1 f) z (word_in middle live2 f))
             (word-later f old middle m.more 1 m.grown one_below ∙ value-const f old 1 (pos 1) one)
             ∙ ap (λ z. cond (holds_in old live1 f) (pos 1) z) (word-later f old middle m.more live2

@@ -25,7 +25,8 @@ pub record Over (old new : Builder) : Type 0 where
   pub more : List WordOp
   pub grown : new.words ≡ old.words ++ more
 
-pub other-over : (d : Declared) (which : ℕ) (b0 b1 b2 b3 : Builder) (p : Part) → Opens b0 b1 which → Means d p b1 b2
+pub other-over : (d : Declared) (which : ℕ) (b0 b1 b2 b3 : Builder) (p : Part) → Opens b0 b1 which →
+    Means d p b1 b2
     → Switches b0.live b0.vars b2 b3 which → Over b0 b3
 other-over d which b0 b1 b2 b3 p o m sw = record {
   more = (o.live.more ++ m.extends.more) ++ sw.live.more;
@@ -46,7 +47,8 @@ pub pick-arm : (d : Declared) (bp b1 b2 b3 b4 b5 b6 : Builder) (place : Place) (
     → sides ≡ sides_at fork b4.live b3.live b3.vars
     → ((d : Declared) → Fits d b3 → fork.which < length b3.words → fork.before.live < length b3.words
     → Switches fork.before.live fork.before.vars b3 b4 fork.which)
-    → (Fits d b4 → AreSides b4.words sides → b4.live ≡ sides.second → are_names (length b4.words) values ≡ true
+    → (Fits d b4 → AreSides b4.words sides → b4.live ≡ sides.second →
+    are_names (length b4.words) values ≡ true
     → ((f : Assignment) → are_right d take (values_in b4.words values f) ≡ true)
     → Means d (λ f r. picked d take (values_in b4.words values f)) b4 b5)
     → ((d : Declared) → Fits d b5 → sides.after.live < length b5.words →
@@ -80,12 +82,14 @@ pick-arm d bp b1 b2 b3 b4 b5 b6 place take ws keep values written fork sides fit
     let same : (f : Assignment) → values_in b4.words values f ≡ values_in ws values f =
     λ f. values-same (length ws) values (values_of f b4.words) (values_of f ws) (same-grown f ws b4.words
     over.more grown4) offer.names in
-    let whole = sides-arm d keep b1 b2 b3 b4 b5 b6 (λ f. written) (λ f r. picked d take (values_in ws values f))
+    let whole = sides-arm d keep b1 b2 b3 b4 b5 b6 (λ f. written)
+    (λ f r. picked d take (values_in ws values f))
     fork sides fits1 name1 forks opens kept splits switches
     (λ fits4. means-as d (λ f r. picked d take (values_in b4.words values f))
     (λ f r. picked d take (values_in ws values f)) b4 b5
     (takes fits4
-    (subst (AreSides b4.words) (sym at_sides) (fork-sides d keep b1 b2 b3 b4 b4.words [] (λ f. written) b3.live
+    (subst (AreSides b4.words) (sym at_sides) (fork-sides d keep b1 b2 b3 b4 b4.words [] (λ f. written)
+    b3.live
     b3.vars fits1 name1 opened fits2 m sw fits4 (sym (append-nil b4.words))))
     (sym (ap (λ (s : Sides). s.second) splits))
     (names-more (length ws) (length b4.words) values le offer.names)

@@ -41,7 +41,8 @@ pub record IsWrite (ws : List WordOp) (k of index value when : ℕ) : Type 0 whe
   pub long : get_or (lengths_of ws) k 1 ≡ get_or (lengths_of ws) of 1
   pub has : (f : Assignment) → elements_in ws k f
       ≡ cond (holds_in ws when f)
-      (slice_set (elements_in ws of f) (low_word (word_in ws index f)) (word_in ws value f)) (elements_in ws of f)
+      (slice_set (elements_in ws of f) (low_word (word_in ws index f)) (word_in ws value f))
+      (elements_in ws of f)
 
 pub is-write : (ws : List WordOp) (k of index value when : ℕ) → are_words ws ≡ true
     → slice_get ws k ≡ Some (Write of index value when) → IsWrite ws k of index value when
@@ -75,10 +76,14 @@ is-write ws k of index value when fit found =
           ∙ length-last front op
           ∙ sym (ap (λ ws. get_or (lengths_of ws) of 1) grown ∙ lengths-kept front (drop k ws) of of_front);
       has = λ f.
-          let w : word_in front when f ≡ word_in ws when f = sym (word-later f front ws (drop k ws) when grown when_front) in
-          let e : elements_in front of f ≡ elements_in ws of f = sym (same-grown f front ws (drop k ws) grown of of_front) in
-          let i : word_in front index f ≡ word_in ws index f = sym (word-later f front ws (drop k ws) index grown index_front) in
-          let v : word_in front value f ≡ word_in ws value f = sym (word-later f front ws (drop k ws) value grown value_front) in
+          let w : word_in front when f ≡ word_in ws when f =
+          sym (word-later f front ws (drop k ws) when grown when_front) in
+          let e : elements_in front of f ≡ elements_in ws of f =
+          sym (same-grown f front ws (drop k ws) grown of of_front) in
+          let i : word_in front index f ≡ word_in ws index f =
+          sym (word-later f front ws (drop k ws) index grown index_front) in
+          let v : word_in front value f ≡ word_in ws value f =
+          sym (word-later f front ws (drop k ws) value grown value_front) in
           elements-entry f ws k op found
           ∙ (λ t. cond (is_nonzero (w t)) (slice_set (e t) (low_word (i t)) (v t)) (e t));
     }
@@ -87,7 +92,8 @@ is-write ws k of index value when fit found =
 
 one-write : (which live : Bool) (zs : List ℤ) (i x v y : ℤ)
     → cond live (slice_set zs (low_word (cond which i x)) (cond which v y)) zs
-    ≡ cond (not which && live) (slice_set (cond (which && live) (slice_set zs (low_word i) v) zs) (low_word x) y)
+    ≡ cond (not which && live) (slice_set (cond (which && live) (slice_set zs (low_word i) v) zs)
+    (low_word x) y)
     (cond (which && live) (slice_set zs (low_word i) v) zs)
 one-write true true zs i x v y = refl
 one-write true false zs i x v y = refl
@@ -100,14 +106,18 @@ pub doubled : (ws ws1 ws2 new : List WordOp) (k of i v index value i2 v2 word co
     → (are_words ws ≡ true → s.which < length ws → i < length ws → index < length ws
     → Emits ws ws1 i2 (λ f. cond (is_nonzero (word_in ws s.which f)) (word_in ws i f) (word_in ws index f)))
     → (are_words ws1 ≡ true → s.which < length ws1 → v < length ws1 → value < length ws1
-    → Emits ws1 ws2 v2 (λ f. cond (is_nonzero (word_in ws1 s.which f)) (word_in ws1 v f) (word_in ws1 value f)))
+    → Emits ws1 ws2 v2 (λ f. cond (is_nonzero (word_in ws1 s.which f)) (word_in ws1 v f)
+    (word_in ws1 value f)))
     → ((count : ℕ) → are_words ws2 ≡ true → of < length ws2 → get_or (lengths_of ws2) of 1 ≡ count
     → i2 < length ws2 → v2 < length ws2 → s.live < length ws2
     → EmitsArray ws2 new word count (λ f. cond (is_nonzero (word_in ws2 s.live f))
-    (slice_set (elements_in ws2 of f) (low_word (word_in ws2 i2 f)) (word_in ws2 v2 f)) (elements_in ws2 of f)))
+    (slice_set (elements_in ws2 of f) (low_word (word_in ws2 i2 f)) (word_in ws2 v2 f))
+    (elements_in ws2 of f)))
     → EmitsArray ws new word count (λ f. cond (is_nonzero (word_in ws s.second f))
-    (slice_set (elements_in ws k f) (low_word (word_in ws index f)) (word_in ws value f)) (elements_in ws k f))
-doubled ws ws1 ws2 new k of i v index value i2 v2 word count s fit sides found long index_below value_below select1 select2 write =
+    (slice_set (elements_in ws k f) (low_word (word_in ws index f)) (word_in ws value f))
+    (elements_in ws k f))
+doubled ws ws1 ws2 new k of i v index value i2 v2 word count s fit sides found long index_below value_below
+    select1 select2 write =
     let entry = is-write ws k of i v s.first fit found in
     let e1 = select1 fit sides.condition entry.index_name index_below in
     let le1 : length ws ≤ length ws1 = omega (arith, ap length e1.grown, length-append ws e1.more) in
@@ -115,9 +125,11 @@ doubled ws ws1 ws2 new k of i v index value i2 v2 word count s fit sides found l
     (omega (arith, value_below, le1)) in
     let le2 : length ws1 ≤ length ws2 = omega (arith, ap length e2.grown, length-append ws1 e2.more) in
     let both = e1.more ++ e2.more in
-    let grown : ws2 ≡ ws ++ both = e2.grown ∙ ap (λ ws. ws ++ e2.more) e1.grown ∙ append_assoc ws e1.more e2.more in
+    let grown : ws2 ≡ ws ++ both = e2.grown ∙ ap (λ ws. ws ++ e2.more) e1.grown
+    ∙ append_assoc ws e1.more e2.more in
     let e3 = write count e2.fit (omega (arith, entry.of_name, le1, le2))
-    (ap (λ ws. get_or (lengths_of ws) of 1) grown ∙ lengths-kept ws both of entry.of_name ∙ sym entry.long ∙ long)
+    (ap (λ ws. get_or (lengths_of ws) of 1) grown ∙ lengths-kept ws both of entry.of_name ∙ sym entry.long
+    ∙ long)
     (omega (arith, e1.name, le2)) e2.name (omega (arith, sides.came, le1, le2)) in
     record {
       more = both ++ e3.more;
@@ -127,26 +139,34 @@ doubled ws ws1 ws2 new k of i v index value i2 v2 word count s fit sides found l
       long = e3.long;
       has = λ f.
           let c = holds_in ws s.which f in
-          let l : word_in ws2 s.live f ≡ word_in ws s.live f = word-later f ws ws2 both s.live grown sides.came in
-          let e : elements_in ws2 of f ≡ elements_in ws of f = same-grown f ws ws2 both grown of entry.of_name in
+          let l : word_in ws2 s.live f ≡ word_in ws s.live f =
+          word-later f ws ws2 both s.live grown sides.came in
+          let e : elements_in ws2 of f ≡ elements_in ws of f =
+          same-grown f ws ws2 both grown of entry.of_name in
           let x : word_in ws2 i2 f ≡ cond c (word_in ws i f) (word_in ws index f) =
           word-later f ws1 ws2 e2.more i2 e2.grown e1.name ∙ e1.has f in
-          let w1 : word_in ws1 s.which f ≡ word_in ws s.which f = word-later f ws ws1 e1.more s.which e1.grown sides.condition in
-          let v1 : word_in ws1 v f ≡ word_in ws v f = word-later f ws ws1 e1.more v e1.grown entry.value_name in
-          let y1 : word_in ws1 value f ≡ word_in ws value f = word-later f ws ws1 e1.more value e1.grown value_below in
+          let w1 : word_in ws1 s.which f ≡ word_in ws s.which f =
+          word-later f ws ws1 e1.more s.which e1.grown sides.condition in
+          let v1 : word_in ws1 v f ≡ word_in ws v f = word-later f ws ws1 e1.more v e1.grown
+          entry.value_name in
+          let y1 : word_in ws1 value f ≡ word_in ws value f =
+          word-later f ws ws1 e1.more value e1.grown value_below in
           let y : word_in ws2 v2 f ≡ cond c (word_in ws v f) (word_in ws value f) =
           e2.has f ∙ (λ t. cond (is_nonzero (w1 t)) (v1 t) (y1 t)) in
           let was : cond (c && holds_in ws s.live f)
           (slice_set (elements_in ws of f) (low_word (word_in ws i f)) (word_in ws v f)) (elements_in ws of f)
           ≡ elements_in ws k f =
-          sym (entry.has f ∙ ap (λ b. cond b (slice_set (elements_in ws of f) (low_word (word_in ws i f)) (word_in ws v f))
+          sym (entry.has f ∙ ap (λ b. cond b (slice_set (elements_in ws of f) (low_word (word_in ws i f))
+          (word_in ws v f))
           (elements_in ws of f)) (sides.first f)) in
           let other : (not c && holds_in ws s.live f) ≡ holds_in ws s.second f = sym (sides.second f) in
           e3.has f
           ∙ (λ t. cond (is_nonzero (l t)) (slice_set (e t) (low_word (x t)) (y t)) (e t))
-          ∙ one-write c (holds_in ws s.live f) (elements_in ws of f) (word_in ws i f) (word_in ws index f) (word_in ws v f)
+          ∙ one-write c (holds_in ws s.live f) (elements_in ws of f) (word_in ws i f) (word_in ws index f)
+          (word_in ws v f)
           (word_in ws value f)
-          ∙ (λ t. cond (other t) (slice_set (was t) (low_word (word_in ws index f)) (word_in ws value f)) (was t));
+          ∙ (λ t. cond (other t) (slice_set (was t) (low_word (word_in ws index f)) (word_in ws value f))
+          (was t));
     }
 
 -- the sides of a branch, behind more words

@@ -169,7 +169,8 @@ module _ (p : Program) (names : Names) (low : Types) (scope : IsScope p names lo
           mid in record {
             naming = record {
               apart = apart-set inner.values v.0 m m-out binds.scope.naming.apart;
-              below = below-set inner.values v.0 m (length (with_var ty mid).vars) (omega (arith, count, is_m))
+              below = below-set inner.values v.0 m (length (with_var ty mid).vars)
+                  (omega (arith, count, is_m))
                   (below-more (length mid.vars) (length (with_var ty mid).vars) inner.values (omega (
                     arith,
                     count,

@@ -223,7 +223,8 @@ makes-added p names path first part stands stands' low mid high old out new act 
           let back : List Step = path_in turns path in
           let g : Setting = code_setting p w in
           let nodes : CodeExecution = run_nodes g added.nodes turns in
-          meets-is (stands' t) (part w back t (seen names t)) (then_do (first w back t (seen names t)) (f w back))
+          meets-is (stands' t) (part w back t (seen names t))
+          (then_do (first w back t (seen names t)) (f w back))
           (run_nodes g (made.nodes ++ added.nodes) turns t)
           (then_do (run_nodes g made.nodes turns t) (after_part (act g turns)))
           (whole w back t (seen names t))

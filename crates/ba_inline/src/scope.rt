@@ -9,11 +9,20 @@ use std::alloc::{AllocError, Global};
 use std::marker::Model;
 
 /// What each variable of the program reads as, the location of each array variable, and the code's array for each location.
-#[derive(Drop)]
 pub struct Scope {
     values: Vec<Operand>,
     locations: Vec<u32>,
     arrays: Vec<u32>,
+}
+
+impl Drop for Scope {
+    fn drop(self) {
+        let Scope {
+            values: _,
+            locations: _,
+            arrays: _,
+        } = self;
+    }
 }
 
 impl Model for Scope {

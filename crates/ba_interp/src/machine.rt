@@ -85,12 +85,22 @@ impl Elements {
 
 /// How a run stands: what each variable has, the arrays by location, the location that each array variable names, and the choices
 /// that are not used yet.
-#[derive(Drop)]
 pub struct Machine<'a> {
     values: Vec<i64>,
     arrays: Vec<Elements>,
     locations: Vec<usize>,
     choices: &'a [Choice],
+}
+
+impl<'a> Drop for Machine<'a> {
+    fn drop(self) {
+        let Machine {
+            values: _,
+            arrays: _,
+            locations: _,
+            choices: _,
+        } = self;
+    }
 }
 
 impl<'a> Model for Machine<'a> {

@@ -32,24 +32,29 @@ or_false false = refl
 -- ---- whether a number has so many places
 
 -- a place lower
-pub wider_step : (p q l h n : ℕ) (t : Bool) → q ≡ 2 * p → n ≡ l + p * digit t + q * h → l < p → (nat_le q n || t) ≡ nat_le p n
+pub wider_step : (p q l h n : ℕ) (t : Bool) → q ≡ 2 * p → n ≡ l + p * digit t + q * h → l < p →
+    (nat_le q n || t) ≡ nat_le p n
 wider_step p q l h n true double is below = or_true (nat_le q n) ∙ sym (le_true p n (omega arith))
-wider_step p q l zero n false double is below = or_false (nat_le q n) ∙ le_false q n (omega arith) ∙ sym (le_false p n (omega arith))
+wider_step p q l zero n false double is below = or_false (nat_le q n) ∙ le_false q n (omega arith)
+    ∙ sym (le_false p n (omega arith))
 wider_step p q l (suc h) n false double is below =
     let more : q * suc h ≡ q * h + q = mul-suc q h in
     or_false (nat_le q n) ∙ le_true q n (omega arith) ∙ sym (le_true p n (omega arith))
 
 -- ---- a step of subtract and select
 
-module _ (r d l x y p f : ℕ) (small : r < p) (low_small : l < p) (x_small : x < 2 ^ 32) (complement : f + l + 1 ≡ 2 ^ 32) where
-  pub step_fits : (c : Bool) (h : ℕ) → x + 2 ^ 32 * digit c ≡ r + f + 1 → d ≡ l + p * h → (c && not (nat_le p d)) ≡ nat_le d r
+module _ (r d l x y p f : ℕ) (small : r < p) (low_small : l < p) (x_small : x < 2 ^ 32)
+    (complement : f + l + 1 ≡ 2 ^ 32) where
+  pub step_fits : (c : Bool) (h : ℕ) → x + 2 ^ 32 * digit c ≡ r + f + 1 → d ≡ l + p * h →
+      (c && not (nat_le p d)) ≡ nat_le d r
   step_fits true zero whole is = ap not (le_false p d (omega arith)) ∙ sym (le_true d r (omega arith))
   step_fits true (suc h) whole is =
       let more : p * suc h ≡ p * h + p = mul-suc p h in
       ap not (le_true p d (omega arith)) ∙ sym (le_false d r (omega arith))
   step_fits false h whole is = sym (le_false d r (omega arith))
 
-  pub step_left : (c : Bool) (h g : ℕ) → x + 2 ^ 32 * digit c ≡ r + f + 1 → d ≡ l + p * h → x ≡ y + p * g → d ≤ r → y ≡ r - d
+  pub step_left : (c : Bool) (h g : ℕ) → x + 2 ^ 32 * digit c ≡ r + f + 1 → d ≡ l + p * h → x ≡ y + p * g →
+      d ≤ r → y ≡ r - d
   step_left true zero zero whole is split below = omega arith
   step_left true zero (suc g) whole is split below =
       let more : p * suc g ≡ p * g + p = mul-suc p g in
@@ -60,7 +65,8 @@ module _ (r d l x y p f : ℕ) (small : r < p) (low_small : l < p) (x_small : x 
   step_left false h g whole is split below = absurd (omega arith)
 
 -- a choice by a test that says more of its branches
-pub chosen : (t s : Bool) (a b c r : ℕ) → t ≡ s → (s ≡ true → a ≡ b) → (s ≡ false → c ≡ r) → (if t then a else c) ≡ (if s then b else r)
+pub chosen : (t s : Bool) (a b c r : ℕ) → t ≡ s → (s ≡ true → a ≡ b) → (s ≡ false → c ≡ r) →
+    (if t then a else c) ≡ (if s then b else r)
 chosen t true a b c r same first second = ap (λ t. if t then a else c) same ∙ first refl
 chosen t false a b c r same first second = ap (λ t. if t then a else c) same ∙ second refl
 
@@ -81,9 +87,11 @@ double_twice q d = grind arith
 next_multiple : (q d : ℕ) → (2 * q + 1) * d ≡ 2 * (q * d) + d
 next_multiple q d = grind arith
 
-pub quotient_step : (s h d next : ℕ) (t : Bool) → next ≡ 2 * (h % d) + digit t → 2 * long_quotient s h d + digit (nat_le d next) ≡ long_quotient (s + 1) (digit t + 2 * h) d
+pub quotient_step : (s h d next : ℕ) (t : Bool) → next ≡ 2 * (h % d) + digit t →
+    2 * long_quotient s h d + digit (nat_le d next) ≡ long_quotient (s + 1) (digit t + 2 * h) d
 quotient_step s h zero next t is =
-    ap (λ b. 2 * (2 ^ s - 1) + digit b) (le_true zero next (omega arith)) ∙ omega (arith, power_more s, pow_pos s)
+    ap (λ b. 2 * (2 ^ s - 1) + digit b) (le_true zero next (omega arith))
+    ∙ omega (arith, power_more s, pow_pos s)
 quotient_step s h (suc d) next t is =
     let positive : 0 < suc d = omega arith in
     let whole : h / suc d * suc d + h % suc d ≡ h = div-add-mod' h (suc d) in
@@ -99,7 +107,8 @@ quotient_step s h (suc d) next t is =
           ∙ ap (λ n. n / suc d) sum
           ∙ sym (long_positive (s + 1) (digit t + 2 * h) (suc d) positive)
       | inr above ↦
-          let multiple : (2 * (h / suc d) + 1) * suc d ≡ 2 * (h / suc d * suc d) + suc d = next_multiple (h / suc d) (suc d) in
+          let multiple : (2 * (h / suc d) + 1) * suc d ≡ 2 * (h / suc d * suc d) + suc d =
+          next_multiple (h / suc d) (suc d) in
           let sum : (2 * (h / suc d) + 1) * suc d + (next - suc d) ≡ digit t + 2 * h = omega arith in
           let left : next - suc d < suc d = omega (arith, digit_small t) in
           (λ i. 2 * long_positive s h (suc d) positive i + digit (le_true (suc d) next above i))
@@ -108,9 +117,11 @@ quotient_step s h (suc d) next t is =
           ∙ sym (long_positive (s + 1) (digit t + 2 * h) (suc d) positive)
     ]
 
-pub rest_step : (h d next : ℕ) (t : Bool) → next ≡ 2 * (h % d) + digit t → (if nat_le d next then next - d else next) ≡ (digit t + 2 * h) % d
+pub rest_step : (h d next : ℕ) (t : Bool) → next ≡ 2 * (h % d) + digit t →
+    (if nat_le d next then next - d else next) ≡ (digit t + 2 * h) % d
 rest_step h zero next t is =
-    ap (λ b. if b then next - zero else next) (le_true zero next (omega arith)) ∙ omega (arith, mod-zero h) ∙ sym (mod-zero (digit t + 2 * h))
+    ap (λ b. if b then next - zero else next) (le_true zero next (omega arith)) ∙ omega (arith, mod-zero h)
+    ∙ sym (mod-zero (digit t + 2 * h))
 rest_step h (suc d) next t is =
     let whole : h / suc d * suc d + h % suc d ≡ h = div-add-mod' h (suc d) in
     let rest : h % suc d < suc d = mod_below h (suc d) (omega arith) in
@@ -122,7 +133,8 @@ rest_step h (suc d) next t is =
           ∙ sym (mod-mul-add (2 * (h / suc d)) (suc d) next below)
           ∙ ap (λ n. n % suc d) sum
       | inr above ↦
-          let multiple : (2 * (h / suc d) + 1) * suc d ≡ 2 * (h / suc d * suc d) + suc d = next_multiple (h / suc d) (suc d) in
+          let multiple : (2 * (h / suc d) + 1) * suc d ≡ 2 * (h / suc d * suc d) + suc d =
+          next_multiple (h / suc d) (suc d) in
           let sum : (2 * (h / suc d) + 1) * suc d + (next - suc d) ≡ digit t + 2 * h = omega arith in
           let left : next - suc d < suc d = omega (arith, digit_small t) in
           ap (λ b. if b then next - suc d else next) (le_true (suc d) next above)
@@ -138,13 +150,15 @@ brought n m d is small = omega arith
 pub power_most : (i : ℕ) → i ≤ 32 → 2 ^ i ≤ 2 ^ 32
 power_most i few = pow-le-pow_right {n = 2} (omega arith) few
 
-pub next_small : (i h d r n : ℕ) (t : Bool) → h < 2 ^ i → r ≡ h % d → n ≡ (2 * r + digit t) % 2 ^ 32 → n < 2 ^ (i + 1)
+pub next_small : (i h d r n : ℕ) (t : Bool) → h < 2 ^ i → r ≡ h % d → n ≡ (2 * r + digit t) % 2 ^ 32 →
+    n < 2 ^ (i + 1)
 next_small i h d r n t small r_is is =
     let less : h % d ≤ h = mod-le h d in
     let most : (2 * r + digit t) % 2 ^ 32 ≤ 2 * r + digit t = mod-le (2 * r + digit t) (2 ^ 32) in
     omega (arith, digit_small t, power_more i)
 
-pub next_value : (i h d r n : ℕ) (t : Bool) → i < 32 → h < 2 ^ i → r ≡ h % d → n ≡ (2 * r + digit t) % 2 ^ 32 → n ≡ 2 * (h % d) + digit t
+pub next_value : (i h d r n : ℕ) (t : Bool) → i < 32 → h < 2 ^ i → r ≡ h % d →
+    n ≡ (2 * r + digit t) % 2 ^ 32 → n ≡ 2 * (h % d) + digit t
 next_value i h d r n t few small r_is is =
     let less : h % d ≤ h = mod-le h d in
     let most : 2 ^ (i + 1) ≤ 2 ^ 32 = power_most (i + 1) (omega arith) in
@@ -157,7 +171,8 @@ long_quotient_below i h (suc d) small =
     let less : h / suc d ≤ h = div-le_self h (suc d) in
     omega (arith, long_positive i h (suc d) positive)
 
-pub quotient_value : (i h d q n : ℕ) (b : Bool) → i < 32 → h < 2 ^ i → q ≡ long_quotient i h d → n ≡ (2 * q + digit b) % 2 ^ 32 → n ≡ 2 * long_quotient i h d + digit b
+pub quotient_value : (i h d q n : ℕ) (b : Bool) → i < 32 → h < 2 ^ i → q ≡ long_quotient i h d →
+    n ≡ (2 * q + digit b) % 2 ^ 32 → n ≡ 2 * long_quotient i h d + digit b
 quotient_value i h d q n b few small q_is is =
     let less : long_quotient i h d < 2 ^ i = long_quotient_below i h d small in
     let most : 2 ^ (i + 1) ≤ 2 ^ 32 = power_most (i + 1) (omega arith) in
@@ -188,28 +203,35 @@ module _ (p r d l m x f h : ℕ) (c : Bool) (small : r < p) (m_small : m < p) (x
   pub whole_fits : (t : Bool) → r ≡ l + p * digit t → ((c || t) && not (nat_le p d)) ≡ nat_le d r
   whole_fits true is = absurd (omega arith)
   whole_fits false is =
-      ap (λ b. b && not (nat_le p d)) (or_false c) ∙ step_fits r d m x x p f small m_small x_small complement c h (omega arith) d_is
+      ap (λ b. b && not (nat_le p d)) (or_false c) ∙ step_fits r d m x x p f small m_small x_small
+      complement c h (omega arith) d_is
 
   pub whole_left : (t : Bool) (y g : ℕ) → r ≡ l + p * digit t → x ≡ y + p * g → d ≤ r → y ≡ r - d
   whole_left true y g is split fits = absurd (omega arith)
-  whole_left false y g is split fits = step_left r d m x y p f small m_small x_small complement c h g (omega arith) d_is split fits
+  whole_left false y g is split fits = step_left r d m x y p f small m_small x_small complement c h g
+      (omega arith) d_is split fits
 
 -- a step whose divisor d has no more than the low places, and whose remainder one more at most
-pub narrow_fits : (p r d l x : ℕ) (c t : Bool) → r ≡ l + p * digit t → d < p → x < 2 ^ 32 → x + 2 ^ 32 * digit c + d ≡ l + 2 ^ 32 → (c || t) ≡ nat_le d r
+pub narrow_fits : (p r d l x : ℕ) (c t : Bool) → r ≡ l + p * digit t → d < p → x < 2 ^ 32 →
+    x + 2 ^ 32 * digit c + d ≡ l + 2 ^ 32 → (c || t) ≡ nat_le d r
 narrow_fits p r d l x true true is narrow x_small sum = sym (le_true d r (omega arith))
 narrow_fits p r d l x true false is narrow x_small sum = sym (le_true d r (omega arith))
 narrow_fits p r d l x false true is narrow x_small sum = sym (le_true d r (omega arith))
 narrow_fits p r d l x false false is narrow x_small sum = sym (le_false d r (omega arith))
 
-pub narrow_left : (p r d l x y z g : ℕ) (c t : Bool) → r ≡ l + p * digit t → d < p → x < 2 ^ 32 → x + 2 ^ 32 * digit c + d ≡ l + 2 ^ 32
+pub narrow_left : (p r d l x y z g : ℕ) (c t : Bool) → r ≡ l + p * digit t → d < p → x < 2 ^ 32 →
+    x + 2 ^ 32 * digit c + d ≡ l + 2 ^ 32
     → x ≡ g * p + y → y < p → z * p ≡ 2 ^ 32 → r < 2 * d → d ≤ r → y ≡ r - d
-narrow_left p r d l x y z g true true is narrow x_small sum split y_small whole twice fits = absurd (omega arith)
+narrow_left p r d l x y z g true true is narrow x_small sum split y_small whole twice fits =
+    absurd (omega arith)
 narrow_left p r d l x y z g true false is narrow x_small sum split y_small whole twice fits =
     let left : r - d < p = omega arith in
     let same : g * p + y ≡ 0 * p + (r - d) = omega arith in
     (same_from_place g y 0 (r - d) p y_small left same).1
-narrow_left p r d l x y z g false false is narrow x_small sum split y_small whole twice fits = absurd (omega arith)
-narrow_left p r d l x y zero g false true is narrow x_small sum split y_small whole twice fits = absurd (omega arith)
+narrow_left p r d l x y z g false false is narrow x_small sum split y_small whole twice fits =
+    absurd (omega arith)
+narrow_left p r d l x y zero g false true is narrow x_small sum split y_small whole twice fits =
+    absurd (omega arith)
 narrow_left p r d l x y (suc z) g false true is narrow x_small sum split y_small whole twice fits =
     let left : r - d < p = omega arith in
     let more : suc z * p ≡ z * p + p = next_row z p in
@@ -232,7 +254,8 @@ is_turned negative low = negative && nat_lt 0 low
 abbrev pub low_opposite : Bool → ℕ → ℕ → ℕ
 low_opposite negative size low = if is_turned negative low then size - low else low
 
-pub turned_more : (negative bit : Bool) (p low : ℕ) → low < p → (if bit then negative else is_turned negative low) ≡ is_turned negative (low + p * digit bit)
+pub turned_more : (negative bit : Bool) (p low : ℕ) → low < p →
+    (if bit then negative else is_turned negative low) ≡ is_turned negative (low + p * digit bit)
 turned_more true true p low small = sym (grind (arith, nat_tests))
 turned_more true false p low small = grind (arith, nat_tests)
 turned_more false true p low small = refl
@@ -241,24 +264,30 @@ turned_more false false p low small = refl
 pub some_true : (n : ℕ) → 0 < n → nat_lt 0 n ≡ true
 some_true n some = grind (arith, nat_tests)
 
-pub opposite_more : (negative bit : Bool) (p q low : ℕ) → q ≡ 2 * p → low < p → low_opposite negative p low + p * digit (bool_xor bit (is_turned negative low)) ≡ low_opposite negative q (low + p * digit bit)
+pub opposite_more : (negative bit : Bool) (p q low : ℕ) → q ≡ 2 * p → low < p →
+    low_opposite negative p low + p * digit (bool_xor bit (is_turned negative low))
+    ≡ low_opposite negative q (low + p * digit bit)
 opposite_more true true p q zero double small =
-    omega arith ∙ sym (ap (λ t. if t then q - (0 + p * 1) else 0 + p * 1) (some_true (0 + p * 1) (omega arith)))
+    omega arith ∙ sym (ap (λ t. if t then q - (0 + p * 1) else 0 + p * 1)
+    (some_true (0 + p * 1) (omega arith)))
 opposite_more true true p q (suc low) double small =
     ap (λ t. (if t then p - suc low else suc low) + p * digit (not t)) (some_true (suc low) (omega arith))
     ∙ omega arith
-    ∙ sym (ap (λ t. if t then q - (suc low + p * 1) else suc low + p * 1) (some_true (suc low + p * 1) (omega arith)))
+    ∙ sym (ap (λ t. if t then q - (suc low + p * 1) else suc low + p * 1)
+    (some_true (suc low + p * 1) (omega arith)))
 opposite_more true false p q zero double small =
     let none : 0 + p * 0 ≡ 0 = omega arith in
     none ∙ sym (ap (low_opposite true q) none)
 opposite_more true false p q (suc low) double small =
     ap (λ t. (if t then p - suc low else suc low) + p * digit t) (some_true (suc low) (omega arith))
     ∙ omega arith
-    ∙ sym (ap (λ t. if t then q - (suc low + p * 0) else suc low + p * 0) (some_true (suc low + p * 0) (omega arith)))
+    ∙ sym (ap (λ t. if t then q - (suc low + p * 0) else suc low + p * 0)
+    (some_true (suc low + p * 0) (omega arith)))
 opposite_more false true p q low double small = refl
 opposite_more false false p q low double small = refl
 
-pub opposite_all : (negative : Bool) (n : ℕ) → n < 2 ^ 32 → low_opposite negative (2 ^ 32) n ≡ negated_where negative n
+pub opposite_all : (negative : Bool) (n : ℕ) → n < 2 ^ 32 →
+    low_opposite negative (2 ^ 32) n ≡ negated_where negative n
 opposite_all true zero small = refl
 opposite_all true (suc n) small =
     ap (λ t. if t then 2 ^ 32 - suc n else suc n) (some_true (suc n) (omega arith)) ∙ omega arith

@@ -30,16 +30,19 @@ long_quotient places m n = if n == 0 then 2 ^ places - 1 else m / n
 
 -- the quotient of two words, rounded toward zero: 1 or -1 of magnitude 2 ^ 32 - 1 for a divisor of zero
 abbrev pub quotient_of : Bool → ℕ → ℕ → ℕ
-quotient_of signed m n = negated_where (bool_xor (is_negative signed m) (is_negative signed n)) (long_quotient 32 (magnitude signed m) (magnitude signed n))
+quotient_of signed m n = negated_where (bool_xor (is_negative signed m) (is_negative signed n))
+    (long_quotient 32 (magnitude signed m) (magnitude signed n))
 
 -- the remainder, with the sign of the dividend: the dividend itself for a divisor of zero
 abbrev pub remainder_of : Bool → ℕ → ℕ → ℕ
 remainder_of signed m n = negated_where (is_negative signed m) (magnitude signed m % magnitude signed n)
 
 -- the word has the value of the operator at two words, read as signed or as unsigned, wherever there is one
-abbrev pub IsValueWhereDefined : BinOp → Bool → List Node → List Bit → List Bit → List Node → List Bit → Type 0
+abbrev pub IsValueWhereDefined : BinOp → Bool → List Node → List Bit → List Bit → List Node → List Bit →
+    Type 0
 IsValueWhereDefined op signed old a b new word =
-    (free : ℕ → Bool) (value : ℤ) → value_of op (word_type signed) (word_value signed free old a) (word_value signed free old b) ≡ Some value → word_value signed free new word ≡ value
+    (free : ℕ → Bool) (value : ℤ) → value_of op (word_type signed) (word_value signed free old a)
+    (word_value signed free old b) ≡ Some value → word_value signed free new word ≡ value
 
 -- the number that the places of a word spell from this place on
 abbrev pub high_number : (ℕ → Bool) → List Node → List Bit → ℕ → ℕ

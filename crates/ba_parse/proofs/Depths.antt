@@ -52,7 +52,8 @@ none_deep n d (down ∷ f) h k = none_deep n (suc d) f h k
 none_deep n d (up ∷ f) h k = subst (λ e. get_or (levels e f) k 0 ≤ n) (back_is d) (none_deep n (back d) f h k)
 
 -- the same of all leaves, as a test
-pub all_accepted : (n d : ℕ) (f : List Mark) → sunk n d f ≡ None → list_all (λ level. nat_le level n) (levels d f) ≡ true
+pub all_accepted : (n d : ℕ) (f : List Mark) → sunk n d f ≡ None →
+    list_all (λ level. nat_le level n) (levels d f) ≡ true
 all_accepted n d [] h = refl
 all_accepted n d (leaf t ∷ f) h = here (ltb n d) refl h (λ e. all_accepted n d f e)
   where
@@ -65,7 +66,8 @@ all_accepted n d (enter r ∷ f) h = all_accepted n d f h
 all_accepted n d (leave r ∷ f) h = all_accepted n d f h
 all_accepted n d (down ∷ f) h = all_accepted n (suc d) f h
 all_accepted n d (up ∷ f) h =
-    subst (λ e. list_all (λ level. nat_le level n) (levels e f) ≡ true) (back_is d) (all_accepted n (back d) f h)
+    subst (λ e. list_all (λ level. nat_le level n) (levels e f) ≡ true) (back_is d)
+    (all_accepted n (back d) f h)
 
 pub deep_none : (n d : ℕ) (f : List Mark) → ((k : ℕ) → get_or (levels d f) k 0 ≤ n) → sunk n d f ≡ None
 deep_none n d [] h = refl

@@ -491,6 +491,8 @@ pub one_verdict : (ts : List Token) (v w : Verdict) → Says ts v → Says ts w 
 one_verdict ts v w p q = says_only ts v p ∙ sym (says_only ts w q)
 
 -- what is read has levels that are accepted
-pub accepted_levels : (ts : List Token) (tree : List Mark) (rest : List Token) → answer_of ts ≡ done tree rest →
+pub accepted_levels : (ts : List Token) (tree : List Mark) (rest : List Token) →
+    answer_of ts ≡ done tree rest →
     has_accepted_levels tree ≡ true
-accepted_levels ts tree rest h = all_accepted max_level 0 tree (subst (Taken max_level (rule file) answer_of ts) h (taken ts)).level
+accepted_levels ts tree rest h = all_accepted max_level 0 tree
+    (subst (Taken max_level (rule file) answer_of ts) h (taken ts)).level

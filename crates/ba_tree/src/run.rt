@@ -34,17 +34,30 @@ pub enum Step {
 ///
 /// The condition of a `while` or `for` is in the turn that it begins, so its number can be one more than the bound; that of a `do` is
 /// in the turn that it ends. The step of a `for` is in the turn before it, its first part in none.
-#[derive(Drop)]
 pub struct Place {
     pub path: Items<Step>,
     pub stmt: StmtId,
 }
 
+impl Drop for Place {
+    fn drop(self) {
+        let Place { path: _, stmt: _ } = self;
+    }
+}
+
 /// What a run may relax: every execution of some statements, or single executions. An assert is never relaxed.
-#[derive(Drop)]
 pub enum Allowed {
     Statements(Items<StmtId>),
     Places(Items<Place>),
+}
+
+impl Drop for Allowed {
+    fn drop(self) {
+        match self {
+            Allowed::Statements(_) => {}
+            Allowed::Places(_) => {}
+        }
+    }
 }
 
 /// How a part of a program ends the whole run before its end. The first three have the innermost statement that was being

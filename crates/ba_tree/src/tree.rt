@@ -8,7 +8,6 @@ use ba_numbers::ids::{At, CallId, FnId, StmtId, VarId};
 use ba_numbers::numbers::{BinOp, CType, UnOp};
 
 /// An expression, with each conversion written out (C90 6.2.1, 6.3).
-#[derive(Drop)]
 #[cycle(expression)]
 pub enum Expr {
     /// A constant, in the range of its type.
@@ -69,17 +68,57 @@ pub enum Expr {
     },
 }
 
+impl Drop for Expr {
+    #[cycle(expression)]
+    fn drop(self) {
+        match self {
+            Expr::Const { t: _, value: _ } => {}
+            Expr::Var { var: _ } => {}
+            Expr::Element { array: _, index: _ } => {}
+            Expr::Unary { op: _, t: _, a: _ } => {}
+            Expr::Binary {
+                op: _,
+                t: _,
+                a: _,
+                b: _,
+            } => {}
+            Expr::AndAlso { a: _, b: _ } => {}
+            Expr::OrElse { a: _, b: _ } => {}
+            Expr::Select {
+                t: _,
+                when: _,
+                yes: _,
+                no: _,
+            } => {}
+            Expr::Convert { t: _, a: _ } => {}
+            Expr::Call {
+                call: _,
+                function: _,
+                args: _,
+            } => {}
+        }
+    }
+}
+
 /// An argument of a call: a value, or an array, which the parameter then names.
-#[derive(Drop)]
 #[cycle(expression)]
 pub enum Arg {
     Value(Expr),
     Array(VarId),
 }
 
+impl Drop for Arg {
+    #[cycle(expression)]
+    fn drop(self) {
+        match self {
+            Arg::Value(_) => {}
+            Arg::Array(_) => {}
+        }
+    }
+}
+
 /// A statement (C90 6.6), or a declaration that is executed (C90 6.5). Those with a `stmt` are numbered: they are what a report
 /// can name, and the asserts.
-#[derive(Drop)]
 pub enum Stmt {
     /// A block's statements, one after the other (C90 6.6.2).
     Block {
@@ -171,6 +210,71 @@ pub enum Stmt {
     },
 }
 
+impl Drop for Stmt {
+    fn drop(self) {
+        match self {
+            Stmt::Block { body: _ } => {}
+            Stmt::Declare { var: _ } => {}
+            Stmt::Init {
+                stmt: _,
+                var: _,
+                value: _,
+            } => {}
+            Stmt::InitArray {
+                stmt: _,
+                array: _,
+                values: _,
+            } => {}
+            Stmt::Assign {
+                stmt: _,
+                var: _,
+                value: _,
+            } => {}
+            Stmt::Store {
+                stmt: _,
+                array: _,
+                index: _,
+                value: _,
+            } => {}
+            Stmt::If {
+                stmt: _,
+                when: _,
+                yes: _,
+                no: _,
+            } => {}
+            Stmt::While {
+                stmt: _,
+                when: _,
+                body: _,
+            } => {}
+            Stmt::DoWhile {
+                stmt: _,
+                when: _,
+                body: _,
+            } => {}
+            Stmt::For {
+                stmt: _,
+                first: _,
+                when: _,
+                step: _,
+                body: _,
+            } => {}
+            Stmt::Break => {}
+            Stmt::Continue => {}
+            Stmt::Return { stmt: _, value: _ } => {}
+            Stmt::ReturnNone => {}
+            Stmt::CallStmt {
+                stmt: _,
+                call: _,
+                function: _,
+                args: _,
+            } => {}
+            Stmt::Print { stmt: _, args: _ } => {}
+            Stmt::Assert { stmt: _, when: _ } => {}
+        }
+    }
+}
+
 /// What a variable holds.
 #[derive(Clone, Copy, Debug, PartialEq, Eq)]
 pub enum Shape {
@@ -192,12 +296,22 @@ pub struct Variable {
 
 /// A function's definition: the type that it returns, if any, its parameters and its other variables, each in the order of the
 /// text, and its body.
-#[derive(Drop)]
 pub struct Function {
     pub result: Option<CType>,
     pub params: Items<VarId>,
     pub locals: Items<VarId>,
     pub body: Items<Stmt>,
+}
+
+impl Drop for Function {
+    fn drop(self) {
+        let Function {
+            result: _,
+            params: _,
+            locals: _,
+            body: _,
+        } = self;
+    }
 }
 
 /// What kind of statement a number names.
@@ -241,7 +355,6 @@ pub struct Parts {
 
 /// A program: parts that fit together. Its numbers name what is there, its expressions have types that fit, its `break`s and
 /// `continue`s stand in loops, and it is within the limits on its size.
-#[derive(Drop)]
 pub struct Program {
     pub variables: Items<Variable>,
     pub globals: Items<VarId>,
@@ -257,4 +370,17 @@ pub struct Program {
       main = main;
       statements = statements;
     })) },
+}
+
+impl Drop for Program {
+    fn drop(self) {
+        let Program {
+            variables: _,
+            globals: _,
+            inits: _,
+            functions: _,
+            main: _,
+            statements: _,
+        } = self;
+    }
 }

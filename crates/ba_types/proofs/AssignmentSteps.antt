@@ -9,7 +9,6 @@ use Rattle.ba_numbers.specs.declared.ids.VarId.{VarId}
 use Rattle.ba_numbers.specs.declared.numbers.BinOp.{BinOp}
 use Rattle.ba_numbers.specs.declared.numbers.CType.{CType}
 use Rattle.ba_numbers.specs.declared.numbers.CType.TheVariants.{I32}
-use Rattle.ba_parse.specs.declared.tree.expressions.Conditional.{Conditional}
 use Rattle.ba_parse.specs.declared.tree.statements.Index.{Index}
 use Rattle.ba_parse.specs.declared.tree.statements.Target.{Target}
 use Rattle.ba_tree.specs.declared.tree.Expr.{Expr}
@@ -18,7 +17,7 @@ use Rattle.ba_tree.specs.declared.tree.StmtKind.{StmtKind}
 use Rattle.ba_tree.specs.declared.tree.StmtKind.TheVariants as kind
 use Rattle.ba_types.specs.Adding.{Assigns, GivesTarget, JudgesTarget, Numbers, at_place, before_of, behind_part, index_tree, typed_target_of, with_number}
 use Rattle.ba_types.specs.Declarations.{next_stmt}
-use Rattle.ba_types.specs.Expressions.{Typed, Typing, array_of, element_type, promoted, typed_conditional, typed_constant, typed_element, typed_name, tree_as, variable_type}
+use Rattle.ba_types.specs.Expressions.{Typed, Typing, array_of, element_type, promoted, typed_constant, typed_element, typed_name, tree_as, variable_type}
 use Rattle.ba_types.specs.Faults.{array_name_faults, fault_if, height_limit, limit_faults, value_name_faults}
 use Rattle.ba_types.specs.Judging.{Judges, Stands, after, least_with, with_faults}
 use Rattle.ba_types.specs.Names.{Scope, meaning_of, name_of}
@@ -32,7 +31,6 @@ use Rattle.ba_types.specs.declared.scopes.Meaning.{Meaning}
 use Rattle.ba_types.specs.declared.tally.Tally.{Tally}
 use Rattle.ba_types.specs.declared.work.Work.{Work}
 use Rattle.ba_types.proofs.Adding.{after-nothing, numbered-is}
-use Rattle.ba_types.proofs.Judgements.{if-ok}
 use Rattle.ba_types.proofs.StmtForms.{tree-Assign, tree-Store}
 use Rattle.ba_types.proofs.Tallies.{after-as, after-then, faults-behind, faults-then}
 use Rattle.ba_types.proofs.Walking.{element-calls, element-faults}
@@ -124,19 +122,6 @@ module _ {E : Type 0} (target : Target) (scope : Scope) (calls : ℕ) (name : Li
       subst (λ o. IfOk r (λ j. Judges j (value_at target scope calls o))) (sym none)
       (subst (λ n. IfOk r (λ j. Judges j (typed_name at n (meaning_of scope n)))) names
       (subst (λ m. IfOk r (λ j. Judges j (typed_name at name m))) means gives))
-
-  pub element-value : (i : Index) (x : Conditional) (a : Judged) → name ≡ name_of target.name.now
-      → m ≡ meaning_of scope name → target.index ≡ Some i → x ≡ i.value.value
-      → Judges a (typed_conditional x scope calls)
-      → IfOk r (λ j. (s : Typed) → Judges a s → Judges j (typed_element target.name.now.at m s))
-      → IfOk r (λ j. Judges j (typed_target_of target scope calls).expression)
-  element-value i x a names means some is judges gives =
-      let at = target.name.now.at in let s = typed_conditional i.value.value scope calls in
-      subst (λ o. IfOk r (λ j. Judges j (value_at target scope calls o))) (sym some)
-      (if-ok r (λ j. (s : Typed) → Judges a s → Judges j (typed_element at m s))
-      (λ j. Judges j (value_at target scope calls (Some i)))
-      (λ j made. subst (λ m. Judges j (typed_element at m s)) (means ∙ ap (meaning_of scope) names)
-      (made s (subst (λ x. Judges a (typed_conditional x scope calls)) is judges))) gives)
 
 -- THE STATEMENT
 

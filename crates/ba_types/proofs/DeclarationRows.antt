@@ -1,15 +1,15 @@
 -- Declarations and what stands between the parentheses of a statement, read back.
-use Rattle.std.proofs.Common.{◌≡◌, ℕ, Bool, true, false, Option, None, Some, List, [], ◌∷◌, ◌++◌, map, refl, sym, ◌∙◌, ap, subst, Bor}
-use Rattle.std.specs.Prelude.{option_map, unwrap_or}
+use Rattle.std.proofs.Common.{◌≡◌, Option, None, Some, List, [], ◌∷◌, ◌++◌, map, refl, ◌∙◌, ap, Bor}
+use Rattle.std.specs.Prelude.{option_map}
 use Rattle.std.proofs.lemmas.List.{append-nil}
 use Rattle.ba_lex.specs.declared.token.Token.{Token}
 use Rattle.ba_numbers.specs.declared.numbers.CType.{CType}
 use Rattle.ba_parse.specs.Marks.{Mark, leaf}
 use Rattle.ba_parse.specs.Marks as rule
 use Rattle.ba_parse.specs.Views.{joined, optional, optional_leaf, name_marks}
-use Rattle.ba_parse.specs.ExpressionMarks.{M, type_name_marks, conditional_marks, arguments_marks, next_expression_marks}
+use Rattle.ba_parse.specs.ExpressionMarks.{M, conditional_marks}
 use Rattle.ba_parse.specs.DeclarationMarks.{array_length_marks, braced_marks, initialiser_marks, declarator_marks, listed_declarator_marks, declarators_marks, declaration_marks, parameter_marks, next_parameter_marks, parameter_list_marks, parameters_marks}
-use Rattle.ba_parse.specs.SimpleMarks.{index_marks, target_marks, simple_marks, listed_simple_marks, simples_marks, condition_marks, for_first_marks, for_head_marks, printed_marks}
+use Rattle.ba_parse.specs.SimpleMarks.{index_marks, target_marks, simple_marks, listed_simple_marks, simples_marks, condition_marks, for_first_marks, printed_marks}
 use Rattle.ba_parse.specs.declared.tree.declarations.ArrayLength.{ArrayLength}
 use Rattle.ba_parse.specs.declared.tree.declarations.Braced.{Braced}
 use Rattle.ba_parse.specs.declared.tree.declarations.Initialiser.{Initialiser}
@@ -23,7 +23,6 @@ use Rattle.ba_parse.specs.declared.tree.declarations.NextParameter.{NextParamete
 use Rattle.ba_parse.specs.declared.tree.declarations.ParameterList.{ParameterList}
 use Rattle.ba_parse.specs.declared.tree.declarations.Parameters.{Parameters}
 use Rattle.ba_parse.specs.declared.tree.expressions.Conditional.{Conditional}
-use Rattle.ba_parse.specs.declared.tree.expressions.NextExpression.{NextExpression}
 use Rattle.ba_parse.specs.declared.tree.statements.Target.{Target}
 use Rattle.ba_parse.specs.declared.tree.statements.Index.{Index}
 use Rattle.ba_parse.specs.declared.tree.statements.Simple.{Simple}
@@ -34,14 +33,14 @@ use Rattle.ba_parse.specs.declared.tree.statements.Condition.{Condition}
 use Rattle.ba_parse.specs.declared.tree.statements.ForFirst.{ForFirst}
 use Rattle.ba_parse.specs.declared.tree.statements.ForFirst.TheVariants as first
 use Rattle.ba_parse.specs.declared.tree.statements.Printed.{Printed}
-use Rattle.ba_types.specs.Declarations.{Part, in_order, add_declarator, add_declarators, braced_values}
-use Rattle.ba_types.specs.Expressions.{Typing, typed_conditional, typed_next}
+use Rattle.ba_types.specs.Declarations.{in_order, add_declarator, add_declarators, braced_values}
+use Rattle.ba_types.specs.Expressions.{Typing, typed_conditional}
 use Rattle.ba_types.specs.Files.{params_of_list}
-use Rattle.ba_types.specs.Names.{Scope, words_of, type_named}
+use Rattle.ba_types.specs.Names.{words_of, type_named}
 use Rattle.ba_types.specs.Statements.{add_simple, add_simples, add_first, for_scope, index_typing, optional_typing, printed_typings, test_of}
 use Rattle.ba_types.specs.declared.scopes.Signature.{Signature}
-use Rattle.ba_types.proofs.ExpressionRows.{AreListed, type_row, conditional_row, arguments_row, nexts_row}
-use Rattle.ba_types.proofs.Rows.{Item, Row, ParamItem, Declaring, Reads, token, words, conditional, arguments, array_length, braced, declarator, declarators, declaration, target, simple, simples, for_first, parameter, parameters, absent, as_token, as_conditional, as_length, as_braced, as_declarator, as_simple, as_simples, as_parameter, items_of, items_append, first_of, with_item, declarators_of, declaring, named_by, values_item, none, both, front, deeper, inside, as_row}
+use Rattle.ba_types.proofs.ExpressionRows.{type_row, conditional_row, arguments_row, nexts_row}
+use Rattle.ba_types.proofs.Rows.{Item, Row, ParamItem, Declaring, Reads, token, conditional, array_length, braced, declarator, declarators, declaration, target, simple, simples, for_first, parameter, parameters, absent, as_conditional, as_length, as_braced, as_declarator, as_simple, as_parameter, items_of, items_append, first_of, with_item, declarators_of, declaring, named_by, values_item, none, both, front, deeper, inside, as_row}
 
 -- MANY OF A KIND: marks whose row has these of a kind
 

@@ -1,5 +1,5 @@
 -- Expressions, read back: the row of each type of the parser's trees, by induction on the trees.
-use Rattle.std.proofs.Common.{◌≡◌, ℕ, Bool, true, false, Option, None, Some, List, [], ◌∷◌, ◌++◌, map, refl, sym, ◌∙◌, ap, subst, Box, Global, Bor}
+use Rattle.std.proofs.Common.{◌≡◌, Option, None, Some, List, [], ◌∷◌, ◌++◌, map, refl, sym, ◌∙◌, ap, subst, Box, Global, Bor}
 use Rattle.std.specs.Prelude.{option_map, unwrap_or}
 use Rattle.std.proofs.lemmas.List.{append-nil}
 use Rattle.ba_lex.specs.declared.token.Token.{Token}
@@ -22,9 +22,9 @@ use Rattle.ba_parse.specs.declared.tree.expressions.Primary.TheOpen.{Primary-F, 
 use Rattle.ba_parse.specs.declared.tree.expressions.Primary.TheShapes.{former-Arguments-values, former-Chain-rest, former-Conditional-branches}
 use Rattle.ba_parse.specs.declared.tree.expressions.Primary.TheViews.{roll-Primary, roll-Unary, roll-Arguments, roll-Branches, roll-Chain, roll-Conditional, roll-Expressions, roll-NextExpression, roll-Operand}
 use Rattle.ba_parse.specs.declared.tree.expressions.Primary.TheFolds.{map-Primary, map-Unary, map-Arguments, map-Branches, map-Chain, map-Conditional, map-Expressions, map-NextExpression, map-Operand, ind-Arguments, ind-Conditional, ind-NextExpression, fold-Branches, fold-Expressions, fold-roll-Primary, fold-roll-Unary, fold-roll-Arguments, fold-roll-Branches, fold-roll-Chain, fold-roll-Conditional, fold-roll-Expressions, fold-roll-NextExpression, fold-roll-Operand}
-use Rattle.ba_types.specs.Expressions.{Typed, Typing, Typings, BranchTypings, ChainTyping, OperandTyping, primary_step, unary_step, arguments_step, branches_step, chain_step, conditional_step, expressions_step, next_expression_step, operand_step, typed_conditional, typed_operand, typed_chain, typed_unary_expression, typed_primary, typed_arguments, typed_next, with_branches, whole_operand, chain_of, rest_of_chain}
+use Rattle.ba_types.specs.Expressions.{Typing, Typings, BranchTypings, ChainTyping, OperandTyping, primary_step, unary_step, arguments_step, branches_step, chain_step, conditional_step, expressions_step, next_expression_step, operand_step, typed_conditional, typed_operand, typed_chain, typed_unary_expression, typed_primary, typed_arguments, typed_next, with_branches, whole_operand, chain_of, rest_of_chain}
 use Rattle.ba_types.specs.Names.{punct_of, binary_operator, words_of}
-use Rattle.ba_types.proofs.Rows.{Item, Row, Reads, token, words, primary, unary, conditional, arguments, chain, as_token, as_conditional, as_chain, items_of, items_append, items_all, items_none, two_of, none, both, front, deeper, inside, as_row}
+use Rattle.ba_types.proofs.Rows.{Row, Reads, token, words, primary, unary, conditional, arguments, chain, as_token, as_conditional, as_chain, items_of, items_append, items_all, items_none, two_of, none, both, front, deeper, inside, as_row}
 
 -- WORDS OF A TYPE
 

@@ -1,23 +1,18 @@
 -- Files, read back: what typing makes of a file is a function of its tree written out.
-use Rattle.std.proofs.Common.{◌≡◌, ℕ, ◌+◌, Bool, true, false, not, ◌&&◌, ◌||◌, cond, Option, None, Some, List, [], ◌∷◌, ◌++◌, map, length, refl, sym, ◌∙◌, ap, subst, Bor}
+use Rattle.std.proofs.Common.{◌≡◌, ℕ, ◌+◌, Bool, true, false, not, ◌&&◌, cond, Option, None, Some, List, [], ◌∷◌, ◌++◌, map, length, refl, sym, ◌∙◌, ap, Bor}
 use Rattle.std.specs.Prelude.{option_map, unwrap_or}
 use Rattle.std.specs.Option.{is_some}
 use Rattle.std.proofs.lemmas.List.{append-nil}
 use Rattle.ba_lex.specs.declared.token.Token.{Token}
 use Rattle.ba_numbers.specs.declared.ids.At.{At}
-use Rattle.ba_numbers.specs.declared.ids.FnId.{FnId}
-use Rattle.ba_numbers.specs.declared.numbers.CType.{CType}
 use Rattle.ba_numbers.specs.declared.numbers.CType.TheVariants.{I32}
 use Rattle.ba_parse.specs.Marks.{Mark}
 use Rattle.ba_parse.specs.Marks as rule
-use Rattle.ba_parse.specs.Views.{joined}
-use Rattle.ba_parse.specs.ExpressionMarks.{M}
 use Rattle.ba_parse.specs.ExternalMarks.{end_marks, external_form_marks, external_marks}
 use Rattle.ba_parse.specs.FileMarks.{file_marks}
 use Rattle.ba_parse.specs.declared.tree.declarations.ArrayLength.{ArrayLength}
 use Rattle.ba_parse.specs.declared.tree.declarations.Parameter.{Parameter}
 use Rattle.ba_parse.specs.declared.tree.declarations.ParameterList.{ParameterList}
-use Rattle.ba_parse.specs.declared.tree.declarations.Parameters.{Parameters}
 use Rattle.ba_parse.specs.declared.tree.expressions.Conditional.{Conditional}
 use Rattle.ba_parse.specs.declared.tree.expressions.TypeName.{TypeName}
 use Rattle.ba_parse.specs.declared.tree.statements.External.{External}
@@ -28,19 +23,17 @@ use Rattle.ba_parse.specs.declared.tree.statements.FunctionEnd.TheVariants as en
 use Rattle.ba_parse.specs.declared.tree.statements.RawProgram.{RawProgram}
 use Rattle.ba_tree.specs.declared.tree.Shape.{Shape}
 use Rattle.ba_tree.specs.declared.tree.Shape.TheVariants.{Value, Passed}
-use Rattle.ba_types.specs.Declarations.{Added, nothing_added, ◌and◌, Before, behind, Part, ◌then◌, nothing, in_order, faults_added, TypedLength, shape_of, typed_array_length}
+use Rattle.ba_types.specs.Declarations.{nothing_added, ◌and◌, Before, behind, Part, ◌then◌, nothing, in_order, faults_added, TypedLength, shape_of}
 use Rattle.ba_types.specs.Expressions.{Typing}
 use Rattle.ba_types.specs.Faults.{void_faults, limit_faults, parameter_limit}
-use Rattle.ba_types.specs.Files.{FileAdded, add_external, add_externals, add_function, add_param, add_params, body_parts, declare_param, definitions_of, faults_of, file_of, file_scope, add_external_form, is_definition, signature_of_form, first_at, function_scope, function_tree, is_void_parameter, is_void_word, main_of, name_of_param, no_parts, param_length, param_shape, params_of, params_of_list, place_of_param, program_of, says_params, signature_faults, signature_of, signatures, signatures_from, type_of_param, typed_of, with_functions, with_signature, without_void}
-use Rattle.ba_types.specs.Names.{Scope, definition_in, is_main_name, knowing, main_name, name_of, type_named, type_of_words, words_of}
-use Rattle.ba_types.specs.Statements.{optional_typing, parts_of_block}
-use Rattle.ba_types.specs.Trees.{FunctionTree, ProgramTree}
-use Rattle.ba_types.specs.declared.fault.Fault.{Fault}
+use Rattle.ba_types.specs.Files.{FileAdded, add_external, add_externals, add_param, add_params, body_parts, declare_param, definitions_of, faults_of, file_of, file_scope, add_external_form, is_definition, signature_of_form, first_at, function_scope, function_tree, is_void_parameter, is_void_word, main_of, no_parts, params_of, params_of_list, program_of, says_params, signature_faults, signature_of, signatures_from, type_of_param, typed_of, with_functions, with_signature, without_void}
+use Rattle.ba_types.specs.Names.{Scope, definition_in, is_main_name, knowing, main_name, name_of, type_of_words, words_of}
+use Rattle.ba_types.specs.Statements.{parts_of_block}
 use Rattle.ba_types.specs.declared.scopes.ParamType.{ParamType}
 use Rattle.ba_types.specs.declared.scopes.Signature.{Signature}
 use Rattle.ba_types.proofs.DeclarationRows.{AllOf, all_of, add_all, declarators_row, lengths, param_item, parameters_row}
 use Rattle.ba_types.proofs.ExpressionRows.{type_row}
-use Rattle.ba_types.proofs.Rows.{Item, Row, ParamItem, ExternalItem, variables, function, Reads, read, token, words, block, declarators, parameters, external, file, as_external, items_of, length_of, none, both, front, deeper, inside, as_row, external_of}
+use Rattle.ba_types.proofs.Rows.{Row, ParamItem, ExternalItem, variables, function, Reads, read, token, words, block, declarators, parameters, external, file, as_external, length_of, none, both, front, deeper, inside, as_row, external_of}
 use Rattle.ba_types.proofs.StatementRows.{block_row}
 
 -- THE ROW OF A FILE

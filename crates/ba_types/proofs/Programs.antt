@@ -1,5 +1,5 @@
 -- No list of tokens and no text is that of two programs.
-use Rattle.std.proofs.Common.{◌≡◌, ℕ, Option, None, Some, List, [], Result, Ok, sym, ◌∙◌, ap, subst}
+use Rattle.std.proofs.Common.{◌≡◌, ℕ, Some, List, [], Result, Ok, sym, ◌∙◌, ap, subst}
 use Rattle.std.proofs.lemmas.Option.{same_Some}
 use Rattle.ba_lex.specs.Lines.{tokens_of}
 use Rattle.ba_lex.specs.declared.error.LexError.{LexError}

@@ -1,6 +1,6 @@
 -- A tree written out, read back: a node is known by the row of what stands in it, and what typing makes of a
 -- tree is a function of these rows.
-use Rattle.std.proofs.Common.{◌≡◌, ℕ, ◌+◌, pos, Bool, true, false, not, ◌&&◌, ◌==◌, cond, Option, None, Some, List, [], ◌∷◌, ◌++◌, map, length, refl, sym, ◌∙◌, ap, subst, append_assoc}
+use Rattle.std.proofs.Common.{◌≡◌, ℕ, ◌+◌, pos, Bool, true, false, not, ◌==◌, cond, Option, None, Some, List, [], ◌∷◌, ◌++◌, map, length, refl, sym, ◌∙◌, ap, subst, append_assoc}
 use Rattle.std.specs.Prelude.{flat_map, option_map, unwrap_or}
 use Rattle.std.specs.Option.{is_some}
 use Rattle.std.proofs.lemmas.List.{append-nil}
@@ -13,11 +13,11 @@ use Rattle.ba_numbers.specs.declared.numbers.CType.TheVariants.{I32}
 use Rattle.ba_parse.specs.Marks.{Mark, Rule, leaf, enter, leave, down, up, node_of, one_deeper}
 use Rattle.ba_parse.specs.Marks as rule
 use Rattle.ba_tree.specs.declared.tree.StmtKind.TheVariants as kind
-use Rattle.ba_types.specs.Declarations.{Added, Part, ◌and◌, ◌then◌, nothing, in_order, behind, numbered, next_stmt, faults_added, add_variable, add_declare, add_length, shape_of, written_count, exceeds, init_tree, typed_each, calls_in, initial_faults, TypedLength, typed_written_length, typed_counted_length}
-use Rattle.ba_types.specs.Expressions.{Typed, Typing, Typings, BranchTypings, ChainTyping, OperandTyping, typed_constant, typed_token, parenthesized, typed_element, typed_called, typed_call, typed_unary, typed_cast, chain_of, whole_operand, with_branches}
+use Rattle.ba_types.specs.Declarations.{Part, ◌and◌, ◌then◌, nothing, in_order, behind, numbered, next_stmt, faults_added, add_variable, add_declare, add_length, shape_of, written_count, exceeds, init_tree, typed_each, calls_in, initial_faults, TypedLength, typed_written_length, typed_counted_length}
+use Rattle.ba_types.specs.Expressions.{Typing, BranchTypings, ChainTyping, typed_constant, typed_token, parenthesized, typed_element, typed_called, typed_call, typed_unary, typed_cast, chain_of, whole_operand, with_branches}
 use Rattle.ba_types.specs.Faults.{fault_if, void_faults, limit_faults, height_limit}
 use Rattle.ba_types.specs.Names.{Scope, inner, knowing, looping, meaning_of, name_of, punct_of, unary_operator, binary_operator, type_of_words}
-use Rattle.ba_types.specs.Statements.{typed_target, index_faults, changed, assigned_tree, kind_of_target, one, add_call, operator_at, add_test, enclosing, one_of, optional_part, for_test_or, add_if, add_while, add_do, add_jump_with, add_assert, add_printf, add_block}
+use Rattle.ba_types.specs.Statements.{typed_target, index_faults, changed, assigned_tree, kind_of_target, one, add_call, operator_at, add_test, enclosing, one_of, optional_part, add_if, add_while, add_do, add_jump_with, add_assert, add_printf, add_block}
 use Rattle.ba_types.specs.Trees.{stmts_of}
 use Rattle.ba_types.specs.Trees as tree
 use Rattle.ba_types.specs.declared.fault.Cause.TheVariants.{WrongKind, WrongCount}

@@ -1,6 +1,6 @@
 -- Each statement of the grammar: what it adds fits the parts of the program. By induction on the parser's
 -- trees, one line a form.
-use Rattle.std.proofs.Common.{◌≡◌, ◌≤◌, true, Option, None, Some, List, [], ◌∷◌, map, refl, sym, subst, arith, length}
+use Rattle.std.proofs.Common.{◌≡◌, ◌≤◌, true, Option, None, Some, List, [], ◌∷◌, map, sym, subst, arith, length}
 use Rattle.ba_numbers.specs.declared.ids.At.{At}
 use Rattle.ba_numbers.specs.declared.ids.VarId.{VarId}
 use Rattle.ba_parse.specs.declared.tree.expressions.Conditional.{Conditional}
@@ -25,7 +25,6 @@ use Rattle.ba_types.specs.Declarations.{Before, Part, nothing}
 use Rattle.ba_types.specs.Expressions.{Typing, typed_next}
 use Rattle.ba_types.specs.Names.{Scope, jump_of, type_named}
 use Rattle.ba_types.specs.Statements.{PartList, add_simple, add_jump, add_jump_with, optional_typing, printed_typings, test_of, item_step, form_step, block_step, controlled_step, do_step, else_step, for_step, statement_step, add_item, add_statement_form, add_statement, parts_of_block}
-use Rattle.ba_types.specs.Trees as tree
 use Rattle.ba_types.proofs.AdditionFacts.{IsPart, part_nothing, AreParts}
 use Rattle.ba_types.proofs.AssignmentFacts.{AreOptional}
 use Rattle.ba_types.proofs.ControlFacts.{IsStatement, block_part, if_part, while_part, do_part}

@@ -1,12 +1,11 @@
 -- Statements, read back: the row of each type of the parser's trees, by induction on the trees.
-use Rattle.std.proofs.Common.{◌≡◌, ℕ, Bool, true, false, Option, None, Some, List, [], ◌∷◌, ◌++◌, map, refl, sym, ◌∙◌, ap, subst, Bor}
-use Rattle.std.specs.Prelude.{option_map, unwrap_or}
+use Rattle.std.proofs.Common.{◌≡◌, Option, None, Some, List, [], ◌∷◌, ◌++◌, map, refl, sym, ◌∙◌, ap, subst, Bor}
 use Rattle.std.proofs.lemmas.List.{append-nil}
 use Rattle.ba_lex.specs.declared.token.Token.{Token}
 use Rattle.ba_parse.specs.Marks.{Mark, leaf}
 use Rattle.ba_parse.specs.Marks as rule
-use Rattle.ba_parse.specs.Views.{joined, optional}
-use Rattle.ba_parse.specs.ExpressionMarks.{M, conditional_marks}
+use Rattle.ba_parse.specs.Views.{joined}
+use Rattle.ba_parse.specs.ExpressionMarks.{M}
 use Rattle.ba_parse.specs.SimpleMarks.{for_head_marks}
 use Rattle.ba_parse.specs.StatementMarks.{item_marks, form_marks, block_marks, controlled_marks, else_marks, statement_marks}
 use Rattle.ba_parse.specs.StatementMarks as marks
@@ -26,12 +25,10 @@ use Rattle.ba_parse.specs.declared.tree.statements.BlockItem.TheOpen.{BlockItem-
 use Rattle.ba_parse.specs.declared.tree.statements.BlockItem.TheViews.{roll-BlockItem, roll-StatementForm, roll-Block, roll-Controlled, roll-DoWhile, roll-Else, roll-For, roll-Statement}
 use Rattle.ba_parse.specs.declared.tree.statements.BlockItem.TheFolds.{map-BlockItem, map-StatementForm, map-Block, map-Controlled, map-DoWhile, map-Else, map-For, map-Statement, ind-Block, fold-Controlled, fold-DoWhile, fold-Else, fold-For, fold-roll-BlockItem, fold-roll-StatementForm, fold-roll-Block, fold-roll-Controlled, fold-roll-DoWhile, fold-roll-Else, fold-roll-For, fold-roll-Statement}
 use Rattle.ba_types.specs.Declarations.{Part}
-use Rattle.ba_types.specs.Expressions.{typed_conditional}
 use Rattle.ba_types.specs.Statements as statements
 use Rattle.ba_types.specs.Statements.{PartList, add_first, add_printf, for_scope, optional_typing, item_step, form_step, block_step, controlled_step, do_step, else_step, for_step, statement_step, add_item, add_statement_form, add_statement, parts_of_block}
 use Rattle.ba_types.proofs.DeclarationRows.{AllOf, conditional_items, optional_row, declaration_row, simple_row, condition_row, first_row, simples_items, step_row, printed_row}
-use Rattle.ba_types.proofs.ExpressionRows.{conditional_row}
-use Rattle.ba_types.proofs.Rows.{Item, Row, Reads, token, conditional, for_first, simples, block, statement, declaration, absent, as_conditional, as_block_item, items_of, items_append, with_item, statement_of, for_of, none, both, front, deeper, inside, as_row}
+use Rattle.ba_types.proofs.Rows.{Item, Row, Reads, token, for_first, block, statement, as_conditional, as_block_item, items_of, items_append, with_item, statement_of, none, both, front, deeper, inside, as_row}
 
 -- WHAT IS READ of each type
 

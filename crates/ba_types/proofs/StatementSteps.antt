@@ -1,5 +1,5 @@
 -- What statements add, from the judgements of their expressions.
-use Rattle.std.proofs.Common.{◌≡◌, not, None, Some, List, [], ◌∷◌, ◌++◌, refl, ◌∙◌, ap}
+use Rattle.std.proofs.Common.{◌≡◌, not, List, [], ◌∷◌, ◌++◌, refl, ◌∙◌, ap}
 use Rattle.std.specs.Option.{is_some}
 use Rattle.std.specs.Prelude.{unwrap_or}
 use Rattle.ba_numbers.specs.declared.ids.At.{At}

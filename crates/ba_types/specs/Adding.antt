@@ -59,7 +59,12 @@ abbrev pub state : Scope → Work → Vec Stmt → State
 state scope work stmts = at_place scope work (map tree_of_stmt stmts.items)
 
 abbrev pub extended : State → Added → State
-extended s a = record { scope = knowing a.entries s.scope; work = with_added s.work a; stmts = s.stmts ++ a.stmts }
+extended s a = record {
+  scope = knowing a.entries s.scope;
+  work = with_added s.work a;
+  stmts =
+      s.stmts ++ a.stmts;
+}
 
 -- the state behind a part of the text
 unfoldable pub behind_part : Part → State → State
@@ -123,7 +128,8 @@ keep_one how e k = record { trees = k.trees ++ how.tree e ∷ []; tally = after 
 
 abbrev pub keep_each : Keeping → Scope → List Typing → Kept → Kept
 keep_each how scope [] k = k
-keep_each how scope (typing ∷ typings) k = keep_each how scope typings (keep_one how (typing scope k.tally.calls) k)
+keep_each how scope (typing ∷ typings) k = keep_each how scope typings
+    (keep_one how (typing scope k.tally.calls) k)
 
 -- as values of an initialiser
 abbrev pub initialising : At → CType → Bool → Keeping
@@ -190,7 +196,8 @@ pub record JudgesTarget (j : JudgedTarget) (s : TypedTarget) : Type 0 where
 -- it is, and the tally has risen by the calls and the faults
 abbrev pub GivesTarget : At → At → Option BinOp → TypedTarget → Tally → Tally → JudgedTarget → Type 0
 GivesTarget at name_at op s old new j = JudgesTarget j s
-    × (new ≡ after old s.expression.calls (s.expression.faults ++ index_faults at name_at (is_some op) s.index))
+    × (new ≡ after old s.expression.calls (s.expression.faults
+    ++ index_faults at name_at (is_some op) s.index))
 
 -- the statement that assigns an expression was numbered and put behind those, and the expression's height was looked at
 abbrev pub Assigns : At → TypedTarget → Typed → Work → Work → List StmtTree → List StmtTree → Type 0

@@ -43,7 +43,16 @@ pub record Added : Type 0 where
   pub faults : List Fault
 
 abbrev pub nothing_added : Added
-nothing_added = record { stmts = []; entries = []; variables = []; statements = []; calls = 0; elements = 0; faults = [] }
+nothing_added = record {
+  stmts = [];
+  entries = [];
+  variables = [];
+  statements = [];
+  calls = 0;
+  elements =
+      0;
+  faults = [];
+}
 
 infixr 5 ◌and◌
 abbrev pub ◌and◌ : Added → Added → Added
@@ -114,14 +123,16 @@ whole_faults at e = limit_faults height_limit e.height at ++ e.faults
 
 -- a name that the file declares before, as a variable, or as a function among these
 abbrev pub is_declared : Scope → List Signature → List ℕ → Bool
-is_declared scope functions name = is_declared_here scope name || ((scope.depth == 0) && is_declared_in functions name)
+is_declared scope functions name = is_declared_here scope name
+    || ((scope.depth == 0) && is_declared_in functions name)
 
 -- a variable with its name at this position, behind the functions that are declared before it
 abbrev pub add_variable : List Signature → At → List ℕ → Variable → Part
 add_variable functions at name v scope n = record nothing_added {
   entries = record { name = name; depth = scope.depth; var = record { 0 = n.variables }; variable = v } ∷ [];
   variables = v ∷ [];
-  faults = twice_faults (is_declared scope functions name) at ++ limit_faults variable_limit (n.variables + 1) at;
+  faults = twice_faults (is_declared scope functions name) at
+      ++ limit_faults variable_limit (n.variables + 1) at;
 }
 
 -- LENGTHS OF ARRAYS (C90 6.5.4.2)
@@ -154,7 +165,8 @@ has_braces (initialiser.Braced assign b) = true
 -- expressions one after the other
 abbrev pub typed_each : Scope → ℕ → List Typing → List Typed
 typed_each scope calls [] = []
-typed_each scope calls (typing ∷ typings) = let e = typing scope calls in e ∷ typed_each scope (calls + e.calls) typings
+typed_each scope calls (typing ∷ typings) = let e = typing scope calls in
+    e ∷ typed_each scope (calls + e.calls) typings
 
 abbrev pub calls_in : List Typed → ℕ
 calls_in = sum_by (λ (e : Typed). e.calls)
@@ -182,10 +194,22 @@ pub record TypedLength : Type 0 where
   pub faults : List Fault
 
 abbrev pub typed_written_length : At → Typed → TypedLength
-typed_written_length at e = record { count = written_length e; is_written = true; calls = e.calls; faults = whole_faults at e }
+typed_written_length at e = record {
+  count = written_length e;
+  is_written = true;
+  calls = e.calls;
+  faults =
+      whole_faults at e;
+}
 
 abbrev pub typed_counted_length : Option ℕ → TypedLength
-typed_counted_length values = record { count = length_in_range (option_map pos values); is_written = false; calls = 0; faults = [] }
+typed_counted_length values = record {
+  count = length_in_range (option_map pos values);
+  is_written =
+      false;
+  calls = 0;
+  faults = [];
+}
 
 -- of an array at this position with so many initialisers, if it has any
 abbrev pub typed_length : At → Option ℕ → Option Conditional → Scope → ℕ → TypedLength
@@ -256,4 +280,5 @@ add_declarator functions t d scope n =
 
 -- those of a list, of a type, behind functions that are declared before them
 abbrev pub add_declarators : List Signature → Option CType → Declarators → Part
-add_declarators functions t ds = in_order (map (λ (l : ListedDeclarator). add_declarator functions t l.declarator) ds.all.items)
+add_declarators functions t ds = in_order (map
+    (λ (l : ListedDeclarator). add_declarator functions t l.declarator) ds.all.items)

@@ -99,11 +99,13 @@ operator_over first operands t typed z = record {
 abbrev pub typed_unary : At → Option UnOp → Typed → Typed
 typed_unary first None a = let t = promoted a.t in operator_over first (a ∷ []) t (tree_as t a) (value_as t a)
 typed_unary first (Some op) a = let t = promoted a.t in
-    operator_over first (a ∷ []) (type_of_unary op t) (tree.unary op t (tree_as t a)) (option_map (value_of_one op t) (value_as t a))
+    operator_over first (a ∷ []) (type_of_unary op t) (tree.unary op t (tree_as t a))
+    (option_map (value_of_one op t) (value_as t a))
 
 -- a cast to `void` is at fault (C90 6.3.4)
 abbrev pub typed_cast : At → Option CType → Typed → Typed
-typed_cast first None a = record (operator_over first (a ∷ []) I32 (tree_as I32 a) (value_as I32 a)) { faults = fault WrongKind first ++ a.faults }
+typed_cast first None a = record (operator_over first (a ∷ []) I32 (tree_as I32 a) (value_as I32 a))
+    { faults = fault WrongKind first ++ a.faults }
 typed_cast first (Some t) a = operator_over first (a ∷ []) t (tree_as t a) (value_as t a)
 
 -- the value of an operator whose operands have these values, None where one has none
@@ -155,7 +157,13 @@ abbrev pub placeholder : ExprTree
 placeholder = tree.const I32 (pos 0)
 
 abbrev pub typed_with : Typed → Option (List ℕ) → List Fault → Typed
-typed_with e name faults = record e { name = name; is_constant = false; value = None; faults = faults ++ e.faults }
+typed_with e name faults = record e {
+  name = name;
+  is_constant = false;
+  value = None;
+  faults =
+      faults ++ e.faults;
+}
 
 abbrev pub variable_tree : Meaning → ExprTree
 variable_tree meaning.Unknown = placeholder
@@ -168,7 +176,8 @@ variable_type meaning.Function = I32
 variable_type (meaning.Variable e) = cond (is_array_entry e) I32 e.variable.t
 
 abbrev pub typed_name : At → List ℕ → Meaning → Typed
-typed_name at name m = typed_with (operator_over at [] (variable_type m) (variable_tree m) None) (Some name) (value_name_faults m at)
+typed_name at name m = typed_with (operator_over at [] (variable_type m) (variable_tree m) None) (Some name)
+    (value_name_faults m at)
 
 -- the array whose element is taken; where the name is at fault, anything
 abbrev pub array_of : Meaning → VarId
@@ -183,7 +192,8 @@ element_type (meaning.Variable e) = cond (is_array_entry e) e.variable.t I32
 
 abbrev pub typed_element : At → Meaning → Typed → Typed
 typed_element at m index = typed_with
-    (operator_over at (index ∷ []) (element_type m) (tree.element (array_of m) (tree_as (promoted index.t) index)) None)
+    (operator_over at (index ∷ []) (element_type m)
+    (tree.element (array_of m) (tree_as (promoted index.t) index)) None)
     None (array_name_faults m at)
 
 -- CALLS (C90 6.3.2.2)
@@ -198,7 +208,8 @@ abbrev pub array_given : Option CType → Meaning → Option VarId
 array_given t meaning.Unknown = None
 array_given t meaning.Function = None
 array_given None (meaning.Variable e) = None
-array_given (Some t) (meaning.Variable e) = cond (is_array_entry e && same_type e.variable.t t) (Some e.var) None
+array_given (Some t) (meaning.Variable e) = cond (is_array_entry e && same_type e.variable.t t) (Some e.var)
+    None
 
 abbrev pub named_array : Scope → Option CType → Option (List ℕ) → Option VarId
 named_array scope t None = None
@@ -210,7 +221,11 @@ value_arg t e = record { given = tree.value (tree_as (unwrap_or t e.t) e); expre
 
 -- an array; anything else is at fault at the first token, beside its own faults
 abbrev pub array_arg : Option VarId → Typed → TypedArg
-array_arg None e = record { given = tree.value e.tree; expression = record e { faults = fault WrongKind e.first ++ e.faults } }
+array_arg None e = record {
+  given = tree.value e.tree;
+  expression =
+      record e { faults = fault WrongKind e.first ++ e.faults };
+}
 array_arg (Some v) e = record { given = tree.array v; expression = record e { faults = [] } }
 
 -- for a parameter, None where the function has no more
@@ -282,7 +297,8 @@ counting_call e = record e { calls = 1 + e.calls }
 
 abbrev pub typed_called : At → TypedCall → Typed
 typed_called at c = typed_with
-    (counting_call (operator_over at (expressions_of_args c.args) c.result (tree.call c.call c.function (args_of (trees_of_args c.args))) None))
+    (counting_call (operator_over at (expressions_of_args c.args) c.result
+    (tree.call c.call c.function (args_of (trees_of_args c.args))) None))
     None c.faults
 
 -- THE FORMS OF THE GRAMMAR
@@ -305,7 +321,8 @@ abbrev pub parenthesized : At → Typing → Typing
 parenthesized at inside scope calls = record (inside scope calls) { first = at }
 
 abbrev pub select_typing : Typing → Typing → Typing → Typing
-select_typing when if_true if_false scope calls = let w = when scope calls in let a = if_true scope (calls + w.calls) in
+select_typing when if_true if_false scope calls = let w = when scope calls in let a =
+    if_true scope (calls + w.calls) in
     typed_select w a (if_false scope (calls + w.calls + a.calls))
 
 -- Arguments give a list, branches two. A chain of operators has the level of its operator, and stands behind its leftmost operand, which
@@ -324,26 +341,31 @@ pub record OperandTyping : Type 0 where
   pub first : Typing
   pub chains : List ChainTyping
 
-abbrev pub primary_step : Primary-F Typing Typing Typings BranchTypings ChainTyping Typing Typings Typing OperandTyping → Typing
+abbrev pub primary_step : Primary-F Typing Typing Typings BranchTypings ChainTyping Typing Typings Typing
+    OperandTyping → Typing
 primary_step (Primary-F.Name name) scope calls = typed_token name.now scope calls
 primary_step (Primary-F.Element name opener index closer) scope calls =
     typed_element name.now.at (meaning_of scope (name_of name.now)) (index.value scope calls)
 primary_step (Primary-F.Call name opener arguments closer) scope calls =
     typed_called name.now.at (typed_call true name.now.at (name_of name.now) arguments scope calls)
 primary_step (Primary-F.Constant constant) scope calls = typed_token constant.now scope calls
-primary_step (Primary-F.Parenthesized opener expression closer) scope calls = parenthesized opener.now.at expression.value scope calls
+primary_step (Primary-F.Parenthesized opener expression closer) scope calls =
+    parenthesized opener.now.at expression.value scope calls
 
-abbrev pub unary_step : Unary-F Typing Typing Typings BranchTypings ChainTyping Typing Typings Typing OperandTyping → Typing
+abbrev pub unary_step : Unary-F Typing Typing Typings BranchTypings ChainTyping Typing Typings Typing
+    OperandTyping → Typing
 unary_step (Unary-F.Prefix operator operand) scope calls =
     typed_unary operator.now.at (unary_operator (punct_of operator.now)) (operand.value scope calls)
 unary_step (Unary-F.Cast opener name closer operand) scope calls =
     typed_cast opener.now.at (type_named name) (operand.value scope calls)
 unary_step (Unary-F.Primary p) scope calls = p scope calls
 
-abbrev pub arguments_step : Arguments-F Typing Typing Typings BranchTypings ChainTyping Typing Typings Typing OperandTyping → Typings
+abbrev pub arguments_step : Arguments-F Typing Typing Typings BranchTypings ChainTyping Typing Typings
+    Typing OperandTyping → Typings
 arguments_step a = unwrap_or a.values []
 
-abbrev pub branches_step : Branches-F Typing Typing Typings BranchTypings ChainTyping Typing Typings Typing OperandTyping → BranchTypings
+abbrev pub branches_step : Branches-F Typing Typing Typings BranchTypings ChainTyping Typing Typings Typing
+    OperandTyping → BranchTypings
 branches_step b = (b.holds.value, b.fails.value)
 
 -- one chain after the other, each with what stands before it as its leftmost operand
@@ -369,7 +391,8 @@ abbrev pub chain_of : ℕ → Operator → Typing → List ChainTyping → Chain
 chain_of level operator first chains = record {
   level = level;
   over = λ scope calls left.
-      let right = whole_operand (record { first = first; chains = tighter level chains }) scope (calls + left.calls) in
+      let right = whole_operand (record { first = first; chains = tighter level chains }) scope
+      (calls + left.calls) in
       after_chains scope calls (typed_binary operator left right) (from_looser level chains);
 }
 
@@ -377,7 +400,8 @@ abbrev pub rest_of_chain : Option (Box ChainTyping) → List ChainTyping
 rest_of_chain None = []
 rest_of_chain (Some rest) = rest.value ∷ []
 
-abbrev pub chain_step : Chain-F Typing Typing Typings BranchTypings ChainTyping Typing Typings Typing OperandTyping → ChainTyping
+abbrev pub chain_step : Chain-F Typing Typing Typings BranchTypings ChainTyping Typing Typings Typing
+    OperandTyping → ChainTyping
 chain_step c = chain_of c.level (binary_operator (punct_of c.operator.now)) c.operand.first
     (c.operand.chains ++ rest_of_chain c.rest)
 
@@ -385,38 +409,56 @@ abbrev pub with_branches : Typing → Option BranchTypings → Typing
 with_branches test None = test
 with_branches test (Some (holds, fails)) = select_typing test holds fails
 
-abbrev pub conditional_step : Conditional-F Typing Typing Typings BranchTypings ChainTyping Typing Typings Typing OperandTyping → Typing
+abbrev pub conditional_step : Conditional-F Typing Typing Typings BranchTypings ChainTyping Typing Typings
+    Typing OperandTyping → Typing
 conditional_step c = with_branches (whole_operand c.test) c.branches
 
-abbrev pub expressions_step : Expressions-F Typing Typing Typings BranchTypings ChainTyping Typing Typings Typing OperandTyping → Typings
+abbrev pub expressions_step : Expressions-F Typing Typing Typings BranchTypings ChainTyping Typing Typings
+    Typing OperandTyping → Typings
 expressions_step e = e.first.value ∷ e.rest.items
 
-abbrev pub next_expression_step : NextExpression-F Typing Typing Typings BranchTypings ChainTyping Typing Typings Typing OperandTyping → Typing
+abbrev pub next_expression_step : NextExpression-F Typing Typing Typings BranchTypings ChainTyping Typing
+    Typings Typing OperandTyping → Typing
 next_expression_step n = n.expression
 
-abbrev pub operand_step : Operand-F Typing Typing Typings BranchTypings ChainTyping Typing Typings Typing OperandTyping → OperandTyping
+abbrev pub operand_step : Operand-F Typing Typing Typings BranchTypings ChainTyping Typing Typings Typing
+    OperandTyping → OperandTyping
 operand_step o = record { first = o.first; chains = o.chains.items }
 
 -- WHOLE TREES
 
 unfoldable pub typed_conditional : Conditional → Typing
-typed_conditional = fold-Conditional Typing Typing Typings BranchTypings ChainTyping Typing Typings Typing OperandTyping primary_step unary_step arguments_step branches_step chain_step conditional_step expressions_step next_expression_step operand_step
+typed_conditional = fold-Conditional Typing Typing Typings BranchTypings ChainTyping Typing Typings Typing
+    OperandTyping primary_step unary_step arguments_step branches_step chain_step conditional_step
+    expressions_step next_expression_step operand_step
 
 unfoldable pub typed_operand : Operand → OperandTyping
-typed_operand = fold-Operand Typing Typing Typings BranchTypings ChainTyping Typing Typings Typing OperandTyping primary_step unary_step arguments_step branches_step chain_step conditional_step expressions_step next_expression_step operand_step
+typed_operand = fold-Operand Typing Typing Typings BranchTypings ChainTyping Typing Typings Typing
+    OperandTyping primary_step unary_step arguments_step branches_step chain_step conditional_step
+    expressions_step next_expression_step operand_step
 
 unfoldable pub typed_chain : Chain → ChainTyping
-typed_chain = fold-Chain Typing Typing Typings BranchTypings ChainTyping Typing Typings Typing OperandTyping primary_step unary_step arguments_step branches_step chain_step conditional_step expressions_step next_expression_step operand_step
+typed_chain = fold-Chain Typing Typing Typings BranchTypings ChainTyping Typing Typings Typing OperandTyping
+    primary_step unary_step arguments_step branches_step chain_step conditional_step expressions_step
+    next_expression_step operand_step
 
 unfoldable pub typed_unary_expression : Unary → Typing
-typed_unary_expression = fold-Unary Typing Typing Typings BranchTypings ChainTyping Typing Typings Typing OperandTyping primary_step unary_step arguments_step branches_step chain_step conditional_step expressions_step next_expression_step operand_step
+typed_unary_expression = fold-Unary Typing Typing Typings BranchTypings ChainTyping Typing Typings Typing
+    OperandTyping primary_step unary_step arguments_step branches_step chain_step conditional_step
+    expressions_step next_expression_step operand_step
 
 unfoldable pub typed_primary : Primary → Typing
-typed_primary = fold-Primary Typing Typing Typings BranchTypings ChainTyping Typing Typings Typing OperandTyping primary_step unary_step arguments_step branches_step chain_step conditional_step expressions_step next_expression_step operand_step
+typed_primary = fold-Primary Typing Typing Typings BranchTypings ChainTyping Typing Typings Typing
+    OperandTyping primary_step unary_step arguments_step branches_step chain_step conditional_step
+    expressions_step next_expression_step operand_step
 
 unfoldable pub typed_arguments : Arguments → Typings
-typed_arguments = fold-Arguments Typing Typing Typings BranchTypings ChainTyping Typing Typings Typing OperandTyping primary_step unary_step arguments_step branches_step chain_step conditional_step expressions_step next_expression_step operand_step
+typed_arguments = fold-Arguments Typing Typing Typings BranchTypings ChainTyping Typing Typings Typing
+    OperandTyping primary_step unary_step arguments_step branches_step chain_step conditional_step
+    expressions_step next_expression_step operand_step
 
 -- an expression behind a comma
 unfoldable pub typed_next : NextExpression → Typing
-typed_next = fold-NextExpression Typing Typing Typings BranchTypings ChainTyping Typing Typings Typing OperandTyping primary_step unary_step arguments_step branches_step chain_step conditional_step expressions_step next_expression_step operand_step
+typed_next = fold-NextExpression Typing Typing Typings BranchTypings ChainTyping Typing Typings Typing
+    OperandTyping primary_step unary_step arguments_step branches_step chain_step conditional_step
+    expressions_step next_expression_step operand_step

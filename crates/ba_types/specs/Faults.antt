@@ -105,7 +105,8 @@ less_or m n rest = nat_lt m n || ((m == n) && rest)
 
 abbrev pub comes_before : Fault → Fault → Bool
 comes_before f g =
-    less_or f.at.line g.at.line (less_or f.at.column g.at.column (nat_lt (number_of f.cause) (number_of g.cause)))
+    less_or f.at.line g.at.line (less_or f.at.column g.at.column
+    (nat_lt (number_of f.cause) (number_of g.cause)))
 
 -- the fault stands in the list, and none of it comes before
 pub record IsFirst (faults : List Fault) (f : Fault) : Type 0 where

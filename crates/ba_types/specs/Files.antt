@@ -191,7 +191,11 @@ bad_length_faults at (Some count) = []
 
 abbrev pub check_length : At → Option TypedLength → Part
 check_length at None scope n = nothing_added
-check_length at (Some l) scope n = record nothing_added { calls = l.calls; faults = bad_length_faults at l.count ++ l.faults }
+check_length at (Some l) scope n = record nothing_added {
+  calls = l.calls;
+  faults =
+      bad_length_faults at l.count ++ l.faults;
+}
 
 -- the parameters of a definition are variables; those of a prototype are looked at alone
 abbrev pub declare_param : Bool → At → List ℕ → Variable → Option TypedLength → Part
@@ -204,7 +208,8 @@ add_param is_main defined function_at number p scope n =
     let at = place_of_param function_at p in
     let t = type_named p.type_name in
     let l = param_length is_main at p.length scope n.calls in
-    (declare_param defined at (name_of_param p.name) (record { t = unwrap_or t I32; shape = param_shape is_main p.length l }) l
+    (declare_param defined at (name_of_param p.name)
+    (record { t = unwrap_or t I32; shape = param_shape is_main p.length l }) l
     then (λ scope n. faults_added (void_faults t at ++ limit_faults parameter_limit number at))) scope n
 
 abbrev pub add_params : Bool → Bool → At → ℕ → List Parameter → Part
@@ -243,20 +248,27 @@ function_tree n result params body = record {
 }
 
 -- nothing of what stands in a function is known behind it
-abbrev pub add_function : At → Signature → List Parameter → FunctionEnd → Scope → List Signature → Before → FileAdded
+abbrev pub add_function : At → Signature → List Parameter → FunctionEnd → Scope → List Signature → Before →
+    FileAdded
 add_function at s ps e file earlier n =
     let inside = function_scope s.result file in
     let params = add_params (is_main_name s.name) s.is_definition at 1 ps inside n in
     let body = in_order (body_parts e) (knowing params.entries inside) (behind n params) in
     record {
-      added = record (faults_added (signature_faults file earlier s at) and params and body) { stmts = []; entries = [] };
+      added = record (faults_added (signature_faults file earlier s at) and params and body) {
+        stmts =
+            [];
+        entries = [];
+      };
       functions = cond s.is_definition (function_tree n s.result params body ∷ []) [];
     }
 
-abbrev pub add_external_form : Option CType → ExternalForm → Option Signature → Scope → List Signature → Before → FileAdded
+abbrev pub add_external_form : Option CType → ExternalForm → Option Signature → Scope → List Signature →
+    Before → FileAdded
 add_external_form t (form.Variables declarators semicolon) s file earlier n =
     record { added = add_declarators earlier t declarators file n; functions = [] }
-add_external_form t (form.Function name opener params closer e) None file earlier n = record { added = nothing_added; functions = [] }
+add_external_form t (form.Function name opener params closer e) None file earlier n =
+    record { added = nothing_added; functions = [] }
 add_external_form t (form.Function name opener params closer e) (Some s) file earlier n =
     add_function name.now.at s (params_of params) e file earlier n
 

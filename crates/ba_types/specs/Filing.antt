@@ -54,14 +54,16 @@ declaring_param is_main defined at t p scope n =
 -- FUNCTIONS
 
 -- the tree is that of a function with these parameters and this body, which were added
-pub record IsFunction (n : Before) (result : Option CType) (params body : Added) (scope later : Scope) (w u : Work)
+pub record IsFunction (n : Before) (result : Option CType) (params body : Added) (scope later : Scope)
+    (w u : Work)
     (f : Function) : Type 0 where
   pub tree : tree_of_function f ≡ function_tree n result params body
   pub knows : later ≡ knowing (params.entries ++ body.entries) scope
   pub works : u ≡ with_added w (params and body)
 
 -- the answer is the tree of a function with these parameters and this body, in the function's own scope
-abbrev pub GivesFunction : Owner → Option CType → List Parameter → FunctionEnd → Scope → Work → Scope → Work → Function
+abbrev pub GivesFunction : Owner → Option CType → List Parameter → FunctionEnd → Scope → Work → Scope →
+    Work → Function
     → Type 0
 GivesFunction owner result ps e scope w later u f =
     let params = add_params owner.is_main owner.is_defined owner.at 1 ps scope (before_of w) in

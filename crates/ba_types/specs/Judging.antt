@@ -49,7 +49,14 @@ nothing_found = record { calls = 0; least = None }
 
 -- the file's scope with these functions, before its first variable
 abbrev pub fresh_scope : List Signature → Scope
-fresh_scope functions = record { functions = functions; known = []; depth = 0; in_loop = false; result = None }
+fresh_scope functions = record {
+  functions = functions;
+  known = [];
+  depth = 0;
+  in_loop = false;
+  result =
+      None;
+}
 
 -- the scope around the innermost one, with the first of the variables
 abbrev pub left_for : ℕ → Scope → Scope
@@ -132,7 +139,8 @@ GivesArg call e old new (Ok j) = (tree_of_arg j.given ≡ e.given) × (j.height 
 GivesArg call e old new (Err error) = Unit {0}
 
 abbrev pub GivesArgs : {E : Type 0} → CallUse → List TypedArg → Tally → Tally → Result JudgedArgs E → Type 0
-GivesArgs call es old new (Ok j) = AreArgs j es × (new ≡ after old (calls_of_args es) (faults_of_args call es))
+GivesArgs call es old new (Ok j) = AreArgs j es
+    × (new ≡ after old (calls_of_args es) (faults_of_args call es))
 GivesArgs call es old new (Err e) = Unit {0}
 
 -- the code's judgement is what there is to say of the call

@@ -5,7 +5,19 @@ use Rattle.ba_types.specs.Names.{Scope}
 use Rattle.ba_types.specs.declared.scopes.Mark.{Mark}
 
 abbrev pub mark_of : Scope → Mark
-mark_of scope = record { count = length scope.known; depth = scope.depth; in_loop = scope.in_loop; result = scope.result }
+mark_of scope = record {
+  count = length scope.known;
+  depth = scope.depth;
+  in_loop = scope.in_loop;
+  result =
+      scope.result;
+}
 
 abbrev pub back_to : Mark → Scope → Scope
-back_to mark scope = record scope { known = take mark.count scope.known; depth = mark.depth; in_loop = mark.in_loop; result = mark.result }
+back_to mark scope = record scope {
+  known = take mark.count scope.known;
+  depth = mark.depth;
+  in_loop =
+      mark.in_loop;
+  result = mark.result;
+}

@@ -1,6 +1,6 @@
 -- What the names, words and operators of a program mean.
 
-use Rattle.std.specs.Prelude.{ℕ, Bool, true, false, ◌&&◌, ◌==◌, cond, nat_eq, ◌+◌, ◌++◌, Option, None, Some, List, [], ◌∷◌, map}
+use Rattle.std.specs.Prelude.{ℕ, Bool, true, ◌&&◌, ◌==◌, cond, nat_eq, ◌+◌, ◌++◌, Option, None, Some, List, [], ◌∷◌, map}
 use Rattle.std.specs.Borrow.{Bor}
 use Rattle.std.specs.List.{list_any}
 use Rattle.std.specs.Cmp.Lexicographic.{pointwise}
@@ -180,7 +180,8 @@ meaning_of scope name =
 
 -- a name is declared in the innermost scope
 abbrev pub is_declared_here : Scope → List ℕ → Bool
-is_declared_here scope name = list_any (λ (e : Entry). same_name e.name name && (e.depth == scope.depth)) scope.known
+is_declared_here scope name = list_any (λ (e : Entry). same_name e.name name && (e.depth == scope.depth))
+    scope.known
 
 abbrev pub is_array_entry : Entry → Bool
 is_array_entry e = is_array_shape e.variable.shape

@@ -58,7 +58,8 @@ var_of (meaning.Variable e) = e.var
 abbrev pub typed_target : At → List ℕ → Option Typing → Scope → ℕ → TypedTarget
 typed_target at name None scope calls = let m = meaning_of scope name in
     record { expression = typed_name at name m; index = None; var = var_of m }
-typed_target at name (Some typing) scope calls = let m = meaning_of scope name in let index = typing scope calls in
+typed_target at name (Some typing) scope calls = let m = meaning_of scope name in let index =
+    typing scope calls in
     record { expression = typed_element at m index; index = Some index; var = array_of m }
 
 abbrev pub index_typing : Option Index → Option Typing
@@ -69,7 +70,8 @@ index_typing (Some i) = Some (typed_conditional i.value.value)
 abbrev pub index_faults : At → At → Bool → Option Typed → List Fault
 index_faults at name_at changes None = []
 index_faults at name_at changes (Some index) =
-    limit_faults height_limit index.height at ++ fault_if (changes && nat_lt 0 index.calls) CallInIndex name_at
+    limit_faults height_limit index.height at ++ fault_if (changes && nat_lt 0 index.calls) CallInIndex
+    name_at
 
 -- `v op= e` is `v = v op (e)`
 abbrev pub changed : Option BinOp → Typed → Typed → Typed
@@ -94,7 +96,8 @@ add_assignment at target op typing scope n =
     let place = typed_target name_at (name_of target.name.now) (index_typing target.index) scope n.calls in
     let e = typing scope (n.calls + place.expression.calls) in
     let whole = changed op place.expression e in
-    numbered n at (kind_of_target place.index) (assigned_tree (next_stmt n) place whole) (place.expression.calls + e.calls)
+    numbered n at (kind_of_target place.index) (assigned_tree (next_stmt n) place whole)
+    (place.expression.calls + e.calls)
     (place.expression.faults ++ index_faults at name_at (is_some op) place.index
     ++ e.faults ++ limit_faults height_limit whole.height at)
 
@@ -104,7 +107,8 @@ one at scope calls = typed_constant at I32 (pos 1)
 
 abbrev pub add_call : At → List ℕ → List Typing → Part
 add_call at name typings scope n = let c = typed_call false at name typings scope n.calls in
-    numbered n at kind.Call (tree.call_stmt (next_stmt n) c.call c.function (trees_of_args c.args)) (1 + calls_in (expressions_of_args c.args))
+    numbered n at kind.Call (tree.call_stmt (next_stmt n) c.call c.function (trees_of_args c.args))
+    (1 + calls_in (expressions_of_args c.args))
     (c.faults ++ flat_map (whole_faults at) (expressions_of_args c.args))
 
 abbrev pub operator_at : Token → Option BinOp
@@ -113,9 +117,12 @@ operator_at token = changing_operator (punct_of token)
 abbrev pub add_simple : Simple → Part
 add_simple (form.Assign target operator value) =
     add_assignment target.name.now.at target (operator_at operator.now) (typed_conditional value)
-add_simple (form.Step target operator) = add_assignment target.name.now.at target (operator_at operator.now) (one operator.now.at)
-add_simple (form.PrefixStep operator target) = add_assignment operator.now.at target (operator_at operator.now) (one operator.now.at)
-add_simple (form.Call name opener arguments closer) = add_call name.now.at (name_of name.now) (typed_arguments arguments)
+add_simple (form.Step target operator) = add_assignment target.name.now.at target (operator_at operator.now)
+    (one operator.now.at)
+add_simple (form.PrefixStep operator target) =
+    add_assignment operator.now.at target (operator_at operator.now) (one operator.now.at)
+add_simple (form.Call name opener arguments closer) =
+    add_call name.now.at (name_of name.now) (typed_arguments arguments)
 
 abbrev pub add_simples : Simples → Part
 add_simples s = in_order (map (λ (l : ListedSimple). add_simple l.simple) s.all.items)
@@ -123,7 +130,8 @@ add_simples s = in_order (map (λ (l : ListedSimple). add_simple l.simple) s.all
 -- CONDITIONS (C90 6.6.4, 6.6.5): a statement that stands at the first token of its expression
 
 abbrev pub add_test : At → Typed → Part
-add_test at e scope n = record (numbered n at kind.Condition tree.break_loop e.calls (whole_faults at e)) { stmts = [] }
+add_test at e scope n = record (numbered n at kind.Condition tree.break_loop e.calls (whole_faults at e))
+    { stmts = [] }
 
 -- a statement that holds others: what they declare is not known behind it
 abbrev pub enclosing : StmtTree → Added → Added
@@ -212,7 +220,8 @@ unnumbered typed faults = record nothing_added { stmts = typed ∷ []; faults = 
 -- with a value (C90 6.6.6.4)
 abbrev pub add_return : At → Typing → Part
 add_return at typing scope n = let e = typing scope n.calls in
-    numbered n at kind.Return (tree.return_value (next_stmt n) (tree_as (unwrap_or scope.result I32) e)) e.calls
+    numbered n at kind.Return (tree.return_value (next_stmt n) (tree_as (unwrap_or scope.result I32) e))
+    e.calls
     (fault_if (not (is_some scope.result)) WrongKind at ++ whole_faults at e)
 
 -- C90 7.2.1.1
@@ -223,7 +232,8 @@ add_assert at typing scope n = let e = typing scope n.calls in
 -- C90 7.9.6.3
 abbrev pub add_printf : At → List Typing → Part
 add_printf at typings scope n = let es = typed_each scope n.calls typings in
-    numbered n at kind.Call (tree.print (next_stmt n) (map (λ (e : Typed). e.tree) es)) (calls_in es) (flat_map (whole_faults at) es)
+    numbered n at kind.Call (tree.print (next_stmt n) (map (λ (e : Typed). e.tree) es)) (calls_in es)
+    (flat_map (whole_faults at) es)
 
 -- C90 6.6.6.2, 6.6.6.3
 abbrev pub add_loop_jump : At → StmtTree → Part
@@ -245,7 +255,8 @@ add_jump_with keyword (Some typing) = add_return keyword.at typing
 
 -- C90 6.6.2
 abbrev pub add_block : List Part → Part
-add_block items scope n = let a = in_order items (inner scope) n in enclosing (tree.block (stmts_of a.stmts)) a
+add_block items scope n = let a = in_order items (inner scope) n in
+    enclosing (tree.block (stmts_of a.stmts)) a
 
 abbrev pub test_of : Condition → Typing
 test_of c = typed_conditional c.test.value
@@ -278,7 +289,8 @@ form_step (StatementForm-F.Break keyword semicolon) = add_jump_with keyword.now 
 form_step (StatementForm-F.Continue keyword semicolon) = add_jump_with keyword.now None
 form_step (StatementForm-F.Return keyword value semicolon) = add_jump_with keyword.now (optional_typing value)
 form_step (StatementForm-F.Assert keyword condition semicolon) = add_assert keyword.now.at (test_of condition)
-form_step (StatementForm-F.Printf keyword opener printed closer semicolon) = add_printf keyword.now.at (printed_typings printed)
+form_step (StatementForm-F.Printf keyword opener printed closer semicolon) =
+    add_printf keyword.now.at (printed_typings printed)
 
 abbrev pub block_step : Block-F Part Part PartList Part Part Part Part Part → PartList
 block_step b = b.items.items
@@ -301,13 +313,17 @@ statement_step s = s.form
 -- WHOLE TREES
 
 unfoldable pub add_item : BlockItem → Part
-add_item = fold-BlockItem Part Part PartList Part Part Part Part Part item_step form_step block_step controlled_step do_step else_step for_step statement_step
+add_item = fold-BlockItem Part Part PartList Part Part Part Part Part item_step form_step block_step
+    controlled_step do_step else_step for_step statement_step
 
 unfoldable pub add_statement_form : StatementForm → Part
-add_statement_form = fold-StatementForm Part Part PartList Part Part Part Part Part item_step form_step block_step controlled_step do_step else_step for_step statement_step
+add_statement_form = fold-StatementForm Part Part PartList Part Part Part Part Part item_step form_step
+    block_step controlled_step do_step else_step for_step statement_step
 
 unfoldable pub add_statement : Statement → Part
-add_statement = fold-Statement Part Part PartList Part Part Part Part Part item_step form_step block_step controlled_step do_step else_step for_step statement_step
+add_statement = fold-Statement Part Part PartList Part Part Part Part Part item_step form_step block_step
+    controlled_step do_step else_step for_step statement_step
 
 unfoldable pub parts_of_block : Block → PartList
-parts_of_block = fold-Block Part Part PartList Part Part Part Part Part item_step form_step block_step controlled_step do_step else_step for_step statement_step
+parts_of_block = fold-Block Part Part PartList Part Part Part Part Part item_step form_step block_step
+    controlled_step do_step else_step for_step statement_step

@@ -33,12 +33,14 @@ entries_of = map (λ (s : Stored). s.entry)
 pub record AreStored (items : List Stored) (newest : Places) : Type 0 where
   pub found : (name : List ℕ) → place_in newest name ≡ last_place name (entries_of items)
   pub hides : (i : ℕ) (d : Stored) → i < length items →
-      (slice_index_or items i d).hidden ≡ last_place (slice_index_or items i d).entry.name (take i (entries_of items))
+      (slice_index_or items i d).hidden ≡ last_place (slice_index_or items i d).entry.name
+      (take i (entries_of items))
 
 -- the number of the first definition of the name, of declarations that are counted from a number on
 abbrev pub first_from : ℕ → List ℕ → List Signature → Option ℕ
 first_from i name [] = None
-first_from i name (s ∷ ss) = cond (s.is_definition && same_name s.name name) (Some i) (first_from (i + 1) name ss)
+first_from i name (s ∷ ss) = cond (s.is_definition && same_name s.name name) (Some i)
+    (first_from (i + 1) name ss)
 
 -- one map has the names of all declarations, the other one the first definition of each name
 pub record AreListed (declarations : List Signature) (names definitions : Places) : Type 0 where

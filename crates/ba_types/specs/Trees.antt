@@ -113,7 +113,8 @@ stmt_tree_step (Stmt-F.Init stmt v e) = init stmt v (tree_of_expr e)
 stmt_tree_step (Stmt-F.InitArray stmt v es) = init_array stmt v (map tree_of_expr es.items)
 stmt_tree_step (Stmt-F.Assign stmt v e) = assign stmt v (tree_of_expr e)
 stmt_tree_step (Stmt-F.Store stmt v index e) = store stmt v (tree_of_expr index) (tree_of_expr e)
-stmt_tree_step (Stmt-F.If stmt when a b) = if_tree stmt (tree_of_expr when) a.value (option_map (λ b. b.value) b)
+stmt_tree_step (Stmt-F.If stmt when a b) = if_tree stmt (tree_of_expr when) a.value
+    (option_map (λ b. b.value) b)
 stmt_tree_step (Stmt-F.While stmt when body) = while_loop stmt (tree_of_expr when) body.value
 stmt_tree_step (Stmt-F.DoWhile stmt when body) = do_while stmt (tree_of_expr when) body.value
 stmt_tree_step (Stmt-F.For stmt first when step body) =
@@ -146,7 +147,13 @@ pub record ProgramTree : Type 0 where
   pub statements : List StmtInfo
 
 abbrev pub tree_of_function : Function → FunctionTree
-tree_of_function f = record { result = f.result; params = f.params; locals = f.locals; body = map tree_of_stmt f.body }
+tree_of_function f = record {
+  result = f.result;
+  params = f.params;
+  locals = f.locals;
+  body =
+      map tree_of_stmt f.body;
+}
 
 abbrev pub tree_of : Program → ProgramTree
 tree_of p = record {

@@ -22,12 +22,22 @@ use std::alloc::{AllocError, Global};
 use std::marker::Model;
 
 /// A variable that is in scope: its name, how many scopes are around its declaration (0 for the file), its number and its type.
-#[derive(Drop)]
 pub struct Entry<'a> {
     pub name: Text<'a>,
     pub depth: u32,
     pub var: VarId,
     pub variable: Variable,
+}
+
+impl<'a> Drop for Entry<'a> {
+    fn drop(self) {
+        let Entry {
+            name: _,
+            depth: _,
+            var: _,
+            variable: _,
+        } = self;
+    }
 }
 
 impl<'a> Entry<'a> {
@@ -53,13 +63,24 @@ pub struct ParamType {
 
 /// A declaration of a function: the type that it returns, `None` for `void`; its parameters' types, `None` where a prototype has empty
 /// parentheses; whether it is a definition, and how many definitions of functions stand before it.
-#[derive(Drop)]
 pub struct Signature<'a> {
     pub name: Text<'a>,
     pub result: Option<CType>,
     pub params: Option<Items<ParamType>>,
     pub is_definition: bool,
     pub function: FnId,
+}
+
+impl<'a> Drop for Signature<'a> {
+    fn drop(self) {
+        let Signature {
+            name: _,
+            result: _,
+            params: _,
+            is_definition: _,
+            function: _,
+        } = self;
+    }
 }
 
 /// What a name means where it stands.
@@ -78,10 +99,18 @@ pub struct Stored<'a> {
 }
 
 /// The variables that are in scope, in the order of their declarations. A name is found by a map.
-#[derive(Drop)]
 pub struct Variables<'a> {
     stored: Vec<Stored<'a>>,
     newest: Places<'a>,
+}
+
+impl<'a> Drop for Variables<'a> {
+    fn drop(self) {
+        let Variables {
+            stored: _,
+            newest: _,
+        } = self;
+    }
 }
 
 impl<'a> Model for Variables<'a> {
@@ -205,12 +234,22 @@ fn numbers_from<'a>(
 }
 
 /// The declarations of functions in a file, in their order, and how many functions they declare. A name is found by maps.
-#[derive(Drop)]
 pub struct Functions<'a> {
     declarations: Vec<Signature<'a>>,
     names: Places<'a>,
     definitions: Places<'a>,
     count: u32,
+}
+
+impl<'a> Drop for Functions<'a> {
+    fn drop(self) {
+        let Functions {
+            declarations: _,
+            names: _,
+            definitions: _,
+            count: _,
+        } = self;
+    }
 }
 
 impl<'a> Model for Functions<'a> {
@@ -368,13 +407,24 @@ fn undefine<'a>(definitions: &mut Places<'a>, name: &Text<'a>, is_first: bool)
 /// What an expression or a statement finds around it: the functions of the file; the variables that are in scope; how many scopes are
 /// inside the file's, where parameters and a function's block are one; whether a loop is around; and the type that the function around
 /// returns, `None` for `void`.
-#[derive(Drop)]
 pub struct Scope<'a> {
     functions: Functions<'a>,
     variables: Variables<'a>,
     depth: u32,
     in_loop: bool,
     result: Option<CType>,
+}
+
+impl<'a> Drop for Scope<'a> {
+    fn drop(self) {
+        let Scope {
+            functions: _,
+            variables: _,
+            depth: _,
+            in_loop: _,
+            result: _,
+        } = self;
+    }
 }
 
 /// What is around a part of the text: how many variables are in scope, how many scopes are inside the file's, whether a loop is around,

@@ -40,7 +40,10 @@ visit-same : (n : ℕ) (p : PlaceWords) (vs us : List (List ℤ)) → SameBelow 
 visit-same n p vs us same h =
     let all = and_parts (is_name n p.guard && is_name n p.keep) (are_names n p.values) h in
     let two = and_parts (is_name n p.guard) (is_name n p.keep) all.0 in
-    ap (λ z. record { place = p.place; choice = cond (is_nonzero z) Keep (Take (map (value_at vs) p.values)) })
+    ap (λ z. record {
+      place = p.place;
+      choice = cond (is_nonzero z) Keep (Take (map (value_at vs) p.values));
+    })
     (value-same n p.keep vs us same (of_name n p.keep two.1))
     ∙ ap (λ zs. record { place = p.place; choice = cond (is_nonzero (value_at us p.keep)) Keep (Take zs) })
     (values-same n p.values vs us same all.1)

@@ -22,7 +22,12 @@ use Rattle.ba_wordlist.specs.declared.words.WordOp.TheVariants.{Const, Free, Fla
 
 lengths-grown : (ops : List WordOp) (ls : List ℕ) → length (fold more_lengths ls ops) ≡ length ls + length ops
 lengths-grown [] ls = omega arith
-lengths-grown (op ∷ ops) ls = omega (arith, lengths-grown ops (more_lengths ls op), length_push ls (length_of ls op))
+lengths-grown (op ∷ ops) ls = omega (
+  arith,
+  lengths-grown ops (more_lengths ls op),
+  length_push ls
+      (length_of ls op),
+)
 
 pub length-lengths : (ops : List WordOp) → length (lengths_of ops) ≡ length ops
 unfolding lengths_of
@@ -33,7 +38,8 @@ pub lengths-push : (ops : List WordOp) (op : WordOp)
 unfolding lengths_of
 lengths-push ops op = fold-append more_lengths [] ops (op ∷ [])
 
-same-grown : (ops : List WordOp) (ls : List ℕ) (w : ℕ) → w < length ls → get_or (fold more_lengths ls ops) w 1 ≡ get_or ls w 1
+same-grown : (ops : List WordOp) (ls : List ℕ) (w : ℕ) → w < length ls →
+    get_or (fold more_lengths ls ops) w 1 ≡ get_or ls w 1
 same-grown [] ls w within = refl
 same-grown (op ∷ ops) ls w within =
     same-grown ops (more_lengths ls op) w (omega (arith, length_push ls (length_of ls op)))
@@ -67,7 +73,8 @@ fit-append (other ∷ ops) ls op =
       regroup true b c = refl
       regroup false b c = refl
 
-pub words-push : (ops : List WordOp) (op : WordOp) → are_words ops ≡ true → fits_behind (lengths_of ops) op ≡ true
+pub words-push : (ops : List WordOp) (op : WordOp) → are_words ops ≡ true →
+    fits_behind (lengths_of ops) op ≡ true
     → are_words (ops ++ op ∷ []) ≡ true
 unfolding are_words lengths_of
 words-push ops op fit fits = fit-append ops [] op
@@ -87,7 +94,8 @@ either-long : (b : Bool) (xs ys : List ℤ) (n : ℕ) → length xs ≡ n → le
 either-long true xs ys n k l = k
 either-long false xs ys n k l = l
 
-entry-long : (z : ℤ) (vs : List (List ℤ)) (ls : List ℕ) (op : WordOp) → LongAs vs ls → fits_behind ls op ≡ true
+entry-long : (z : ℤ) (vs : List (List ℤ)) (ls : List ℕ) (op : WordOp) → LongAs vs ls →
+    fits_behind ls op ≡ true
     → length (entry_of z vs op) ≡ length_of ls op
 entry-long z vs ls (Const y) k h = refl
 entry-long z vs ls Free k h = refl
@@ -104,17 +112,20 @@ entry-long z vs ls (Fill array words when) k h =
     let three = and_parts (is_name (length ls) array && are_names (length ls) words)
     (length words == get_or ls array 1) all.0 in
     let two = and_parts (is_name (length ls) array) (are_names (length ls) words) three.0 in
-    either-long (is_nonzero (value_at vs when)) (map (value_at vs) words) (elements_at vs array) (get_or ls array 1)
+    either-long (is_nonzero (value_at vs when)) (map (value_at vs) words) (elements_at vs array)
+    (get_or ls array 1)
     (length-map words (value_at vs) ∙ eqb-true (length words) (get_or ls array 1) three.1)
     (k.long array (of_name (length ls) array two.0))
 entry-long z vs ls (Write array index value when) k h =
     let all = and_parts (is_name (length ls) array && is_name (length ls) index && is_name (length ls) value)
     (is_name (length ls) when) h in
-    let three = and_parts (is_name (length ls) array && is_name (length ls) index) (is_name (length ls) value) all.0 in
+    let three = and_parts (is_name (length ls) array && is_name (length ls) index)
+    (is_name (length ls) value) all.0 in
     let two = and_parts (is_name (length ls) array) (is_name (length ls) index) three.0 in
     let own = k.long array (of_name (length ls) array two.0) in
     either-long (is_nonzero (value_at vs when))
-    (slice_set (elements_at vs array) (low_word (value_at vs index)) (value_at vs value)) (elements_at vs array)
+    (slice_set (elements_at vs array) (low_word (value_at vs index)) (value_at vs value))
+    (elements_at vs array)
     (get_or ls array 1)
     (length-set (elements_at vs array) (low_word (value_at vs index)) (value_at vs value) ∙ own) own
 
@@ -147,7 +158,11 @@ pub length-elements : (f : Assignment) (ops : List WordOp) (w : ℕ) → are_wor
     → length (elements_at (values_of f ops) w) ≡ get_or (lengths_of ops) w 1
 unfolding are_words values_of lengths_of
 length-elements f ops w fit below =
-    let grown = long-grown f ops [] [] (record { many = refl; long = λ w none. absurd (omega (arith, none)) }) fit in
+    let grown = long-grown f ops [] [] (record {
+      many = refl;
+      long =
+          λ w none. absurd (omega (arith, none));
+    }) fit in
     grown.long w (omega (arith, lengths-grown ops []))
 
 -- THE RANGES OF VALUES
@@ -218,7 +233,8 @@ read-values vs (w ∷ ws) k = and_from (is_word_value (value_at vs w)) (are_valu
 one-value : (z : ℤ) → is_word_value z ≡ true → are_values (z ∷ []) ≡ true
 one-value z h = and_from (is_word_value z) true h refl
 
-either-value : (b : Bool) (y z : ℤ) → is_word_value y ≡ true → is_word_value z ≡ true → is_word_value (cond b y z) ≡ true
+either-value : (b : Bool) (y z : ℤ) → is_word_value y ≡ true → is_word_value z ≡ true →
+    is_word_value (cond b y z) ≡ true
 either-value true y z h k = h
 either-value false y z h k = k
 
@@ -253,13 +269,17 @@ entry-in : (z : ℤ) (vs : List (List ℤ)) (ls : List ℕ) (op : WordOp) → Ar
     → are_values (entry_of z vs op) ≡ true
 unfolding AreInRange
 entry-in z vs ls (Const y) k h = one-value y h
-entry-in z vs ls Free k h = one-value (converted I32 z) (in-word I32 (converted I32 z) (converted_in_range I32 z))
+entry-in z vs ls Free k h = one-value (converted I32 z)
+    (in-word I32 (converted I32 z) (converted_in_range I32 z))
 entry-in z vs ls Flag k h = one-value (truth (is_nonzero z)) (truth-value (is_nonzero z))
 entry-in z vs ls (Unary op t a) k h = one-value (converting.unary op t (value_at vs a))
-    (in-word t (converting.unary op t (value_at vs a)) (value_of_one_in_range op t (converted t (value_at vs a))))
+    (in-word t (converting.unary op t (value_at vs a))
+    (value_of_one_in_range op t (converted t (value_at vs a))))
 entry-in z vs ls (Binary op t a b) k h = one-value (binary_value op t (value_at vs a) (value_at vs b))
-    (value-or-in (converting.binary op t (value_at vs a) (value_at vs b)) t (value_at_zero op t (value_at vs a))
-    (value_in_range op t (converted t (value_at vs a)) (cond (shifts op) (value_at vs b) (converted t (value_at vs b))))
+    (value-or-in (converting.binary op t (value_at vs a) (value_at vs b)) t
+    (value_at_zero op t (value_at vs a))
+    (value_in_range op t (converted t (value_at vs a))
+    (cond (shifts op) (value_at vs b) (converted t (value_at vs b))))
     (zero-value op t (value_at vs a)))
 entry-in z vs ls (Convert t a) k h = one-value (converted t (value_at vs a))
     (in-word t (converted t (value_at vs a)) (converted_in_range t (value_at vs a)))
@@ -269,17 +289,21 @@ entry-in z vs ls (Select which a b) k h =
     (at-values (elements_at vs a) 0 (k a)) (at-values (elements_at vs b) 0 (k b)))
 entry-in z vs ls (Read array index) k h =
     one-value (element_read (elements_at vs array) (value_at vs index))
-    (at-values (elements_at vs array) (place_read (length (elements_at vs array)) 8 (low_word (value_at vs index) % 256))
+    (at-values (elements_at vs array) (place_read (length (elements_at vs array)) 8
+    (low_word (value_at vs index) % 256))
     (k array))
 entry-in z vs ls (Zeros count) k h = zero-values count
-entry-in z vs ls (Fill array words when) k h = either-values (is_nonzero (value_at vs when)) (map (value_at vs) words)
+entry-in z vs ls (Fill array words when) k h =
+    either-values (is_nonzero (value_at vs when)) (map (value_at vs) words)
     (elements_at vs array) (read-values vs words k) (k array)
 entry-in z vs ls (Write array index value when) k h = either-values (is_nonzero (value_at vs when))
-    (slice_set (elements_at vs array) (low_word (value_at vs index)) (value_at vs value)) (elements_at vs array)
+    (slice_set (elements_at vs array) (low_word (value_at vs index)) (value_at vs value))
+    (elements_at vs array)
     (set-values (elements_at vs array) (low_word (value_at vs index)) (value_at vs value)
     (at-values (elements_at vs value) 0 (k value)) (k array)) (k array)
 
-push-in : (vs : List (List ℤ)) (zs : List ℤ) → AreInRange vs → are_values zs ≡ true → AreInRange (vs ++ zs ∷ [])
+push-in : (vs : List (List ℤ)) (zs : List ℤ) → AreInRange vs → are_values zs ≡ true →
+    AreInRange (vs ++ zs ∷ [])
 unfolding AreInRange
 push-in [] zs k h zero = h
 push-in [] zs k h (suc w) = refl

@@ -33,7 +33,8 @@ same-grown : (f : Assignment) (ops : List WordOp) (vs : List (List ℤ)) (w : �
     → elements_at (fold (more_values f) vs ops) w ≡ elements_at vs w
 same-grown f [] vs w within = refl
 same-grown f (op ∷ ops) vs w within =
-    let still : w < length (more_values f vs op) = omega (arith, length_push vs (entry_of (f (length vs)) vs op)) in
+    let still : w < length (more_values f vs op) =
+    omega (arith, length_push vs (entry_of (f (length vs)) vs op)) in
     same-grown f ops (more_values f vs op) w still
     ∙ get_or_append_left vs (entry_of (f (length vs)) vs op ∷ []) [] w within
 
@@ -58,7 +59,8 @@ pub elements-last : (f : Assignment) (ops : List WordOp) (op : WordOp)
     → elements_at (values_of f (ops ++ op ∷ [])) (length ops) ≡ entry_of (f (length ops)) (values_of f ops) op
 elements-last f ops op =
     ap (λ vs. elements_at vs (length ops)) (values-append f ops (op ∷ []))
-    ∙ get_or_at (values_of f ops) (entry_of (f (length (values_of f ops))) (values_of f ops) op) [] [] (length ops)
+    ∙ get_or_at (values_of f ops) (entry_of (f (length (values_of f ops))) (values_of f ops) op) [] []
+    (length ops)
     (length-values f ops)
     ∙ ap (λ n. entry_of (f n) (values_of f ops) op) (length-values f ops)
 
@@ -100,7 +102,8 @@ agree-grown f g (op ∷ ops) vs same =
     agree-grown f g ops (more_values f vs op) (λ k below. same k (omega (arith, long)))
     ∙ ap (λ vs. fold (more_values g) vs ops) here
 
-pub values-agree : (f g : Assignment) (ops : List WordOp) → Agree (length ops) f g → values_of f ops ≡ values_of g ops
+pub values-agree : (f g : Assignment) (ops : List WordOp) → Agree (length ops) f g →
+    values_of f ops ≡ values_of g ops
 unfolding values_of
 values-agree f g ops same = agree-grown f g ops [] (λ k below. same k (omega arith))
 

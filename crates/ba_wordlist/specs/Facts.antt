@@ -40,15 +40,18 @@ fits_behind lengths (Const z) = is_word_value z
 fits_behind lengths Free = true
 fits_behind lengths Flag = true
 fits_behind lengths (Unary op t a) = is_promoted t && is_name (length lengths) a
-fits_behind lengths (Binary op t a b) = is_promoted t && is_name (length lengths) a && is_name (length lengths) b
+fits_behind lengths (Binary op t a b) = is_promoted t && is_name (length lengths) a
+    && is_name (length lengths) b
 fits_behind lengths (Convert t a) = is_name (length lengths) a
 fits_behind lengths (Select which a b) =
     is_name (length lengths) which && is_name (length lengths) a && is_name (length lengths) b
 fits_behind lengths (Read array index) = is_name (length lengths) array && is_name (length lengths) index
 fits_behind lengths (Zeros count) = nat_le 1 count && nat_le count 256
-fits_behind lengths (Fill array values when) = is_name (length lengths) array && are_names (length lengths) values
+fits_behind lengths (Fill array values when) =
+    is_name (length lengths) array && are_names (length lengths) values
     && (length values == slice_index_or lengths array 1) && is_name (length lengths) when
-fits_behind lengths (Write array index value when) = is_name (length lengths) array && is_name (length lengths) index
+fits_behind lengths (Write array index value when) =
+    is_name (length lengths) array && is_name (length lengths) index
     && is_name (length lengths) value && is_name (length lengths) when
 
 abbrev pub fit_behind : List ℕ → List WordOp → Bool

@@ -95,7 +95,8 @@ visit_of values p = record { place = p.place; choice = choice_of values p }
 unfoldable pub visits_in : List (List ℤ) → List PlaceWords → List Visit
 visits_in values [] = []
 visits_in values (p ∷ ps) =
-    cond (is_nonzero (value_at values p.guard)) (visit_of values p ∷ visits_in values ps) (visits_in values ps)
+    cond (is_nonzero (value_at values p.guard)) (visit_of values p ∷ visits_in values ps)
+    (visits_in values ps)
 
 abbrev pub visits_of : Assignment → WordList → List Visit
 visits_of f list = visits_in (values_of f list.words) list.places

@@ -9,7 +9,6 @@ use ba_tree::run::Place;
 
 /// An entry of a word list: a word of 32 bits, or the state of an array at some moment of the run, as a list of such words. It names
 /// earlier entries by their numbers, which count from 0. Where a word is wanted and an array is named, its first element is meant.
-#[derive(Drop)]
 pub enum WordOp {
     /// A number in the range of `I32` or of `U32`.
     Const(i64),
@@ -63,9 +62,44 @@ pub enum WordOp {
     },
 }
 
+impl Drop for WordOp {
+    fn drop(self) {
+        match self {
+            WordOp::Const(_) => {}
+            WordOp::Free => {}
+            WordOp::Flag => {}
+            WordOp::Unary { op: _, t: _, a: _ } => {}
+            WordOp::Binary {
+                op: _,
+                t: _,
+                a: _,
+                b: _,
+            } => {}
+            WordOp::Convert { t: _, a: _ } => {}
+            WordOp::Select {
+                which: _,
+                yes: _,
+                no: _,
+            } => {}
+            WordOp::Read { array: _, index: _ } => {}
+            WordOp::Zeros(_) => {}
+            WordOp::Fill {
+                of: _,
+                values: _,
+                when: _,
+            } => {}
+            WordOp::Write {
+                of: _,
+                index: _,
+                value: _,
+                when: _,
+            } => {}
+        }
+    }
+}
+
 /// The words of an execution of a statement that may be relaxed: it takes place where `guard` is not 0. It goes as written where `keep`
 /// is not 0, and else the values of its choice are those of the words `values`.
-#[derive(Drop)]
 pub struct PlaceWords {
     pub place: Place,
     pub guard: u32,
@@ -73,15 +107,35 @@ pub struct PlaceWords {
     pub values: Items<u32>,
 }
 
+impl Drop for PlaceWords {
+    fn drop(self) {
+        let PlaceWords {
+            place: _,
+            guard: _,
+            keep: _,
+            values: _,
+        } = self;
+    }
+}
+
 /// A list of words, with the words that are to be other than 0 and the words of the places that a run may come to, in the order in
 /// which it does.
 ///
 /// Each entry names earlier ones, operators work in `I32` or `U32`, a constant is in the range of one of these, an array has 1 to 256
 /// elements and a `Fill` one value for each. A value of a choice is no `Select`, element or array, so that its entry shows its type.
-#[derive(Drop)]
 pub struct WordList {
     pub words: Items<WordOp>,
     pub require: Items<u32>,
     pub places: Items<PlaceWords>,
     pub ghost fit: { IsTrue (is_word_list words require places) },
+}
+
+impl Drop for WordList {
+    fn drop(self) {
+        let WordList {
+            words: _,
+            require: _,
+            places: _,
+        } = self;
+    }
 }

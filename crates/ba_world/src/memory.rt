@@ -11,11 +11,21 @@ use std::alloc::{AllocError, Global};
 use std::marker::Model;
 
 /// A file of a [`MemoryWorld`].
-#[derive(Debug, Drop)]
+#[derive(Debug)]
 struct MemoryFile {
     name: String,
     bytes: Vec<u8>,
     begun: bool,
+}
+
+impl Drop for MemoryFile {
+    fn drop(self) {
+        let MemoryFile {
+            name: _,
+            bytes: _,
+            begun: _,
+        } = self;
+    }
 }
 
 impl Model for MemoryFile {
@@ -169,7 +179,7 @@ struct Reading {
 ///
 /// A file that is begun is held from then on as it is kept. What is kept is told of the files that were
 /// begun. The file being read goes on at its place in it, also where it is begun or added to meanwhile.
-#[derive(Debug, Drop)]
+#[derive(Debug)]
 pub struct MemoryWorld {
     files: Vec<MemoryFile>,
     reading: Option<Reading>,
@@ -182,6 +192,24 @@ pub struct MemoryWorld {
     write_faults: u64,
     print_shortages: u64,
     given: u64,
+}
+
+impl Drop for MemoryWorld {
+    fn drop(self) {
+        let MemoryWorld {
+            files: _,
+            reading: _,
+            writing: _,
+            printed: _,
+            fails: _,
+            piece: _,
+            calls: _,
+            read_faults: _,
+            write_faults: _,
+            print_shortages: _,
+            given: _,
+        } = self;
+    }
 }
 
 impl Model for MemoryWorld {

@@ -8,7 +8,7 @@ use ba_numbers::ids::StmtId;
 use std::alloc::{AllocError, Global};
 use std::process::Abort;
 use std::test::Fail;
-use test_programs::examples::{GLOBAL, P1, P2, P3, STORE, TWO};
+use test_programs::examples::{DIVISION, GLOBAL, P1, P2, P3, P5, STORE, TWO};
 
 /// A parameter and an assert.
 const ASSERT: &str = "1 i  0  0  1  1 0  0  1 assert 1 == v 0 2  1 !";
@@ -32,7 +32,7 @@ struct Row {
 }
 
 /// Programs with failing runs.
-static ROWS: [Row; 11] = [
+static ROWS: [Row; 13] = [
     Row {
         program: ASSERT,
         input: "1",
@@ -108,6 +108,23 @@ static ROWS: [Row; 11] = [
         weights: "",
         groups: &[(1, 1), (3, 1)],
         repairs: &[&[1]],
+    },
+    Row {
+        program: DIVISION,
+        input: "0",
+        turns: 1,
+        weights: "",
+        groups: &[(1, 1), (3, 1)],
+        repairs: &[&[1]],
+    },
+    // The function calls itself past the depth; its `return` without a call isn't reached.
+    Row {
+        program: P5,
+        input: "15",
+        turns: 1,
+        weights: "",
+        groups: &[(1, 1), (2, 1), (3, 1), (4, 1)],
+        repairs: &[&[1], &[3], &[4]],
     },
     // Where another value is taken, the call that sets the global isn't made.
     Row {

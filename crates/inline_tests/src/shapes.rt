@@ -4,6 +4,7 @@ use ba_code::nodes::Node;
 use ba_inline::inline;
 use std::alloc::{AllocError, Global};
 use std::test::Fail;
+use test_programs::examples::P5;
 use test_programs::reader::{Fault, Reader};
 
 /// Writes a node: a letter for what it does, and in brackets the nodes in it.
@@ -75,13 +76,31 @@ fn write_label(shape: &mut String, letter: &str, label: u32) -> Result<(), Alloc
     }
 }
 
-/// Whether these nodes stand for a program that is written as words.
-fn has_shape(alloc: Global, program: &str, frames: u32, expected: &str) -> Result<bool, Fault> {
+/// The nodes that stand for a program that is written as words.
+fn shape_of(alloc: Global, program: &str, frames: u32) -> Result<String, Fault> {
     let program = Reader::new(alloc, program.as_bytes()).program()?;
     let tree = inline(alloc, &program, frames)?;
     let mut shape = String::new(alloc);
     write_nodes(&mut shape, tree.body.as_slice())?;
+    Ok(shape)
+}
+
+/// Whether these nodes stand for a program that is written as words.
+fn has_shape(alloc: Global, program: &str, frames: u32, expected: &str) -> Result<bool, Fault> {
+    let shape = shape_of(alloc, program, frames)?;
     Ok(shape.as_str() == expected)
+}
+
+/// How many calls of a program that is written as words go past so many frames.
+fn calls_beyond(alloc: Global, program: &str, frames: u32) -> Result<usize, Fault> {
+    let shape = shape_of(alloc, program, frames)?;
+    Ok(
+        shape
+            .as_bytes()
+            .iter()
+            .filter(|byte| **byte == b'x')
+            .count(),
+    )
 }
 
 /// A call that changes a global.
@@ -144,6 +163,17 @@ fn nodes_stand_for_programs_as_worked_out(rt: HostRuntime) -> Result<(), Fail> {
     ] {
         let found = has_shape(rt.alloc(), program, frames, expected);
         assert_eq!(rt; found, Ok(true));
+    }
+    Ok(())
+}
+
+#[test]
+fn a_function_that_calls_itself_once_goes_past_the_depth_at_one_call(
+    rt: HostRuntime,
+) -> Result<(), Fail> {
+    for frames in [1, 2, 16] {
+        let found = calls_beyond(rt.alloc(), P5, frames);
+        assert_eq!(rt; found, Ok(1));
     }
     Ok(())
 }

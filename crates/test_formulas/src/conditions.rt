@@ -31,7 +31,8 @@ pub fn are_selectors(variables: u64, softs: &[(Lit, u32)]) -> bool
 
 /// Whether a literal is positive, of a variable above one and up to another.
 fn is_next(variables: u64, last: u64, lit: Lit) -> bool
-    ensures { result ≡ true → (lit.negated ≡ false) × (last < lit.variable) × (lit.variable ≤ variables) }
+    ensures { result ≡ true → (lit.negated ≡ false) × (last < lit.variable)
+        × (lit.variable ≤ variables) }
 {
     if lit.is_negated() || lit.variable() <= last {
         return false;

@@ -399,13 +399,15 @@ impl<'a> Reader<'a> {
         Ok(functions)
     }
 
-    /// How many numbered statements, and each as `-`, or `!` for an assert.
+    /// How many numbered statements, and each as `-`, or `!` for an assert. Each is in the line of its number, so that weights can
+    /// name it.
     fn statements(&mut self) -> Result<Items<StmtInfo>, Fault> {
         let mut statements = Items::new(self.alloc);
-        for _ in 0..self.id()? {
+        for place in 0..self.id()? {
             let word = self.word()?;
+            let line = place.saturating_add(1);
             statements.push(StmtInfo {
-                at: At { line: 1, column: 1 },
+                at: At { line, column: 1 },
                 kind: kind(word)?,
             })?;
         }

@@ -45,6 +45,8 @@ fn limits_are_reached_and_passed_by_one(rt: HostRuntime) -> Result<(), Fail> {
         ("int main(int x) { x += 1", "+1", 99, ";}", "9 at 1:19"),
         ("int main(int a[2]) { a[0] *= ", "~", 98, "1;}", "fits"),
         ("int main(int a[2]) { a[0] *= ", "~", 99, "1;}", "9 at 1:22"),
+        ("int main(int x) { x += ", "+ ", 98, "1;}", "fits"),
+        ("int main(int x) { x += ", "+ ", 99, "1;}", "9 at 1:19"),
         ("int x = 1", "+1", 99, "; int main(void) { }", "fits"),
         ("int x = 1", "+1", 100, "; int main(void) { }", "9 at 1:5"),
     ] {

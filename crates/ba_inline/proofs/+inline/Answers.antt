@@ -59,7 +59,8 @@ operands::expression-returns-in-Var t c = λ scope.
     makes-variable p names path frame here e low old c.in-Var.var c.value.result c.in-Var.is
     c.value.ensures scope.naming
 
-pub operands::expression-returns-in_ok-add_load-in-Element : goal.operands::expression-returns-in_ok-add_load-in-Element
+pub operands::expression-returns-in_ok-add_load-in-Element :
+    goal.operands::expression-returns-in_ok-add_load-in-Element
 operands::expression-returns-in_ok-add_load-in-Element t c = λ scope.
     let p = c.args.setting.now.program.now in
     let names = c.args.scope.now in
@@ -79,7 +80,8 @@ operands::expression-returns-in_ok-add_load-in-Element t c = λ scope.
     c.in_ok-number-in-Element.ensures
     c.in_ok-add_load-in-Element.ensures)
 
-pub operands::expression-returns-in_ok-add_unary-in-Unary : goal.operands::expression-returns-in_ok-add_unary-in-Unary
+pub operands::expression-returns-in_ok-add_unary-in-Unary :
+    goal.operands::expression-returns-in_ok-add_unary-in-Unary
 operands::expression-returns-in_ok-add_unary-in-Unary t c = λ scope.
     let p = c.args.setting.now.program.now in
     let names = c.args.scope.now in
@@ -97,7 +99,8 @@ operands::expression-returns-in_ok-add_unary-in-Unary t c = λ scope.
     c.in-Unary.op c.in-Unary.t c.in-Unary.a c.in-Unary.is c.deref-in-Unary.ensures
     c.in_ok-add_unary-in-Unary.ensures)
 
-pub operands::expression-returns-in_ok-add_convert-in-Convert : goal.operands::expression-returns-in_ok-add_convert-in-Convert
+pub operands::expression-returns-in_ok-add_convert-in-Convert :
+    goal.operands::expression-returns-in_ok-add_convert-in-Convert
 operands::expression-returns-in_ok-add_convert-in-Convert t c = λ scope.
     let p = c.args.setting.now.program.now in
     let names = c.args.scope.now in
@@ -116,7 +119,8 @@ operands::expression-returns-in_ok-add_convert-in-Convert t c = λ scope.
     c.in-Convert.t c.in-Convert.a c.in-Convert.is c.deref-in-Convert.ensures
     c.in_ok-add_convert-in-Convert.ensures)
 
-pub operands::expression-returns-in_ok-add_binary-in-Binary : goal.operands::expression-returns-in_ok-add_binary-in-Binary
+pub operands::expression-returns-in_ok-add_binary-in-Binary :
+    goal.operands::expression-returns-in_ok-add_binary-in-Binary
 operands::expression-returns-in_ok-add_binary-in-Binary t c = λ scope.
     let p = c.args.setting.now.program.now in
     let names = c.args.scope.now in
@@ -145,7 +149,8 @@ operands::expression-returns-in_ok-add_binary-in-Binary t c = λ scope.
     c.in_ok-to-in-Binary.ensures.0 c.in-Binary.op c.in-Binary.t c.in-Binary.a c.in-Binary.b c.in-Binary.is
     c.deref-in-Binary-2.ensures c.deref-in-Binary-3.ensures c.in_ok-add_binary-in-Binary.ensures)
 
-pub operands::expression-returns-in_ok-add_if-in-AndAlso : goal.operands::expression-returns-in_ok-add_if-in-AndAlso
+pub operands::expression-returns-in_ok-add_if-in-AndAlso :
+    goal.operands::expression-returns-in_ok-add_if-in-AndAlso
 operands::expression-returns-in_ok-add_if-in-AndAlso t c = λ scope.
     let p = c.args.setting.now.program.now in
     let names = c.args.scope.now in
@@ -174,7 +179,8 @@ operands::expression-returns-in_ok-add_if-in-AndAlso t c = λ scope.
     (c.in_ok-truth_to-in-AndAlso.ensures inner)))
     (adds-old c.new-no.ensures.items c.in_ok-add_set-in-AndAlso.ensures)
 
-pub operands::expression-returns-in_ok-add_if-in-OrElse : goal.operands::expression-returns-in_ok-add_if-in-OrElse
+pub operands::expression-returns-in_ok-add_if-in-OrElse :
+    goal.operands::expression-returns-in_ok-add_if-in-OrElse
 operands::expression-returns-in_ok-add_if-in-OrElse t c = λ scope.
     let p = c.args.setting.now.program.now in
     let names = c.args.scope.now in
@@ -203,7 +209,8 @@ operands::expression-returns-in_ok-add_if-in-OrElse t c = λ scope.
     (to-low c.in_ok-to-in-OrElse.ensures.1 (makes-old c.new-no-in-OrElse.ensures.items
     (c.in_ok-truth_to-in-OrElse.ensures inner)))
 
-pub operands::expression-returns-in_ok-add_if-in-Select : goal.operands::expression-returns-in_ok-add_if-in-Select
+pub operands::expression-returns-in_ok-add_if-in-Select :
+    goal.operands::expression-returns-in_ok-add_if-in-Select
 operands::expression-returns-in_ok-add_if-in-Select t c = λ scope.
     let p = c.args.setting.now.program.now in
     let names = c.args.scope.now in
@@ -259,7 +266,8 @@ operands::expression-returns-in-Call t c =
     scope))
     c.call_value.ensures
 
-pub operands::kept_expression-returns-in_ok-add_set-in-Var : goal.operands::kept_expression-returns-in_ok-add_set-in-Var
+pub operands::kept_expression-returns-in_ok-add_set-in-Var :
+    goal.operands::kept_expression-returns-in_ok-add_set-in-Var
 operands::kept_expression-returns-in_ok-add_set-in-Var t c = λ scope.
     let p = c.args.setting.now.program.now in
     let names = c.args.scope.now in
@@ -811,7 +819,8 @@ control::statement-returns-in-DoWhile t c =
     c.deref-in-DoWhile.result.now c.in-DoWhile.is c.deref-in-DoWhile.ensures) (made is_frame))
     c.repeat-in-DoWhile.ensures
 
-pub control::statement-returns-in_ok-statements-in-For : goal.control::statement-returns-in_ok-statements-in-For
+pub control::statement-returns-in_ok-statements-in-For :
+    goal.control::statement-returns-in_ok-statements-in-For
 control::statement-returns-in_ok-statements-in-For t c =
     let p = c.args.setting.now.program.now in
     let names = c.args.scope.now in
@@ -887,7 +896,8 @@ control::statement-returns-in-Continue t c =
     c.continue_label.ensures added))
     c.add_leave-in-Continue.ensures
 
-pub control::statement-returns-in_ok-given_to-in-Return : goal.control::statement-returns-in_ok-given_to-in-Return
+pub control::statement-returns-in_ok-given_to-in-Return :
+    goal.control::statement-returns-in_ok-given_to-in-Return
 control::statement-returns-in_ok-given_to-in-Return t c =
     let p = c.args.setting.now.program.now in
     let names = c.args.scope.now in
@@ -907,7 +917,8 @@ control::statement-returns-in_ok-given_to-in-Return t c =
     (c.in_ok-given_to-in-Return.ensures (scope-of p frame.home names low is_frame))) added)
     c.add_leave-in-Return.ensures
 
-pub control::statement-returns-in_ok-add_set-in-ReturnNone : goal.control::statement-returns-in_ok-add_set-in-ReturnNone
+pub control::statement-returns-in_ok-add_set-in-ReturnNone :
+    goal.control::statement-returns-in_ok-add_set-in-ReturnNone
 control::statement-returns-in_ok-add_set-in-ReturnNone t c =
     let p = c.args.setting.now.program.now in
     let names = c.args.scope.now in

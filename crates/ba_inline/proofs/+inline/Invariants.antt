@@ -13,25 +13,30 @@ abbrev pub decreases-operands::expression : goal.decreases-operands::expression
 decreases-operands::expression l = l.frame.frames * tallest l.setting.now.program.now + weight l.expr.now
 
 abbrev pub decreases-operands::kept_expression : goal.decreases-operands::kept_expression
-decreases-operands::kept_expression l = l.frame.frames * tallest l.setting.now.program.now + (weight l.expr.now + 1)
+decreases-operands::kept_expression l = l.frame.frames * tallest l.setting.now.program.now
+    + (weight l.expr.now + 1)
 
 abbrev pub decreases-operands::expression_to : goal.decreases-operands::expression_to
-decreases-operands::expression_to l = l.frame.frames * tallest l.setting.now.program.now + (weight l.expr.now + 1)
+decreases-operands::expression_to l = l.frame.frames * tallest l.setting.now.program.now
+    + (weight l.expr.now + 1)
 
 abbrev pub decreases-operands::truth_to : goal.decreases-operands::truth_to
 decreases-operands::truth_to l = l.frame.frames * tallest l.setting.now.program.now + (weight l.expr.now + 1)
 
 abbrev pub decreases-operands::expressions : goal.decreases-operands::expressions
-decreases-operands::expressions l = l.frame.frames * tallest l.setting.now.program.now + (weights l.exprs.now + 1)
+decreases-operands::expressions l = l.frame.frames * tallest l.setting.now.program.now
+    + (weights l.exprs.now + 1)
 
 abbrev pub decreases-calls::argument : goal.decreases-calls::argument
 decreases-calls::argument l = l.frame.frames * tallest l.setting.now.program.now + arg_weight l.arg.now
 
 abbrev pub decreases-calls::arguments : goal.decreases-calls::arguments
-decreases-calls::arguments l = l.frame.frames * tallest l.setting.now.program.now + (arg_weights l.args.now + 1)
+decreases-calls::arguments l = l.frame.frames * tallest l.setting.now.program.now
+    + (arg_weights l.args.now + 1)
 
 abbrev pub decreases-calls::call_value : goal.decreases-calls::call_value
-decreases-calls::call_value l = l.frame.frames * tallest l.setting.now.program.now + (arg_weights l.args.now + 2)
+decreases-calls::call_value l = l.frame.frames * tallest l.setting.now.program.now
+    + (arg_weights l.args.now + 2)
 
 abbrev pub decreases-calls::invoke : goal.decreases-calls::invoke
 decreases-calls::invoke l = l.frame.frames * tallest l.setting.now.program.now
@@ -50,10 +55,12 @@ decreases-simple::store l = l.frame.frames * tallest l.setting.now.program.now +
     l.value.now + 3)
 
 abbrev pub decreases-simple::init_array : goal.decreases-simple::init_array
-decreases-simple::init_array l = l.frame.frames * tallest l.setting.now.program.now + (weights l.values.now + 2)
+decreases-simple::init_array l = l.frame.frames * tallest l.setting.now.program.now
+    + (weights l.values.now + 2)
 
 abbrev pub decreases-calls::call_statement : goal.decreases-calls::call_statement
-decreases-calls::call_statement l = l.frame.frames * tallest l.setting.now.program.now + (arg_weights l.args.now + 3)
+decreases-calls::call_statement l = l.frame.frames * tallest l.setting.now.program.now
+    + (arg_weights l.args.now + 3)
 
 abbrev pub decreases-simple::print : goal.decreases-simple::print
 decreases-simple::print l = l.frame.frames * tallest l.setting.now.program.now + (weights l.args.now + 2)
@@ -62,10 +69,12 @@ abbrev pub decreases-control::statement : goal.decreases-control::statement
 decreases-control::statement l = l.frame.frames * tallest l.setting.now.program.now + height l.stmt.now
 
 abbrev pub decreases-control::optional : goal.decreases-control::optional
-decreases-control::optional l = l.frame.frames * tallest l.setting.now.program.now + optional_stmt_height l.stmt.now
+decreases-control::optional l = l.frame.frames * tallest l.setting.now.program.now + optional_stmt_height
+    l.stmt.now
 
 abbrev pub decreases-control::statements : goal.decreases-control::statements
-decreases-control::statements l = l.frame.frames * tallest l.setting.now.program.now + (heights l.body.now + 1)
+decreases-control::statements l = l.frame.frames * tallest l.setting.now.program.now
+    + (heights l.body.now + 1)
 
 abbrev pub decreases-control::repeat : goal.decreases-control::repeat
 decreases-control::repeat l = l.frame.frames * tallest l.setting.now.program.now

@@ -9,7 +9,6 @@ use crate::tree::expressions::{Conditional, NextExpression, TypeName};
 use ba_lex::token::Token;
 
 /// The length of an array behind its name: `[ ]`, with an expression or without.
-#[derive(Drop)]
 pub struct ArrayLength<'a> {
     /// `[`
     pub open: &'a Token<'a>,
@@ -18,8 +17,17 @@ pub struct ArrayLength<'a> {
     pub close: &'a Token<'a>,
 }
 
+impl<'a> Drop for ArrayLength<'a> {
+    fn drop(self) {
+        let ArrayLength {
+            open: _,
+            length: _,
+            close: _,
+        } = self;
+    }
+}
+
 /// Initial values in braces (C90 6.5.7).
-#[derive(Drop)]
 pub struct Braced<'a> {
     /// `{`
     pub open: &'a Token<'a>,
@@ -31,8 +39,19 @@ pub struct Braced<'a> {
     pub close: &'a Token<'a>,
 }
 
+impl<'a> Drop for Braced<'a> {
+    fn drop(self) {
+        let Braced {
+            open: _,
+            first: _,
+            rest: _,
+            comma: _,
+            close: _,
+        } = self;
+    }
+}
+
 /// `=` and what a variable begins with (C90 6.5.7): an expression, or values in braces.
-#[derive(Drop)]
 pub enum Initialiser<'a> {
     /// `=` and an expression.
     Expression {
@@ -44,6 +63,21 @@ pub enum Initialiser<'a> {
         assign: &'a Token<'a>,
         values: Braced<'a>,
     },
+}
+
+impl<'a> Drop for Initialiser<'a> {
+    fn drop(self) {
+        match self {
+            Initialiser::Expression {
+                assign: _,
+                value: _,
+            } => {}
+            Initialiser::Braced {
+                assign: _,
+                values: _,
+            } => {}
+        }
+    }
 }
 
 /// A declared name, with its length if it is an array, and its initialiser (C90 6.5.4).
@@ -64,10 +98,18 @@ impl<'a> Drop for Declarator<'a> {
 }
 
 /// A declarator in a list, and the comma before it, if it is not the first.
-#[derive(Drop)]
 pub struct ListedDeclarator<'a> {
     pub comma: Option<&'a Token<'a>>,
     pub declarator: Declarator<'a>,
+}
+
+impl<'a> Drop for ListedDeclarator<'a> {
+    fn drop(self) {
+        let ListedDeclarator {
+            comma: _,
+            declarator: _,
+        } = self;
+    }
 }
 
 /// One declarator or more, with commas between: each but the first has the comma before it.
@@ -82,11 +124,20 @@ impl<'a> Drop for Declarators<'a> {
 }
 
 /// A declaration in a block (C90 6.5).
-#[derive(Drop)]
 pub struct Declaration<'a> {
     pub name: TypeName<'a>,
     pub declarators: Declarators<'a>,
     pub semicolon: &'a Token<'a>,
+}
+
+impl<'a> Drop for Declaration<'a> {
+    fn drop(self) {
+        let Declaration {
+            name: _,
+            declarators: _,
+            semicolon: _,
+        } = self;
+    }
 }
 
 /// A parameter of a function (C90 6.5.4.3).
@@ -116,10 +167,18 @@ impl<'a> Parameter<'a> {
 }
 
 /// A comma and the parameter after it.
-#[derive(Drop)]
 pub struct NextParameter<'a> {
     pub comma: &'a Token<'a>,
     pub parameter: Parameter<'a>,
+}
+
+impl<'a> Drop for NextParameter<'a> {
+    fn drop(self) {
+        let NextParameter {
+            comma: _,
+            parameter: _,
+        } = self;
+    }
 }
 
 impl<'a> NextParameter<'a> {
@@ -137,10 +196,15 @@ fn each_is_named(rest: &[NextParameter]) -> bool
 }
 
 /// One parameter or more, with commas between.
-#[derive(Drop)]
 pub struct ParameterList<'a> {
     pub first: Parameter<'a>,
     pub rest: Vec<NextParameter<'a>>,
+}
+
+impl<'a> Drop for ParameterList<'a> {
+    fn drop(self) {
+        let ParameterList { first: _, rest: _ } = self;
+    }
 }
 
 impl<'a> ParameterList<'a> {
@@ -152,9 +216,14 @@ impl<'a> ParameterList<'a> {
 }
 
 /// The parameters of a function, none or more; `void` alone is one without a name.
-#[derive(Drop)]
 pub struct Parameters<'a> {
     pub list: Option<ParameterList<'a>>,
+}
+
+impl<'a> Drop for Parameters<'a> {
+    fn drop(self) {
+        let Parameters { list: _ } = self;
+    }
 }
 
 impl<'a> Parameters<'a> {

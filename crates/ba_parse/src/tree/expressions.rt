@@ -3,9 +3,14 @@
 use ba_lex::token::Token;
 
 /// The words that name a type (C90 6.5.1, 6.5.2, 6.5.3), in the order of the text.
-#[derive(Drop)]
 pub struct TypeName<'a> {
     pub words: Vec<&'a Token<'a>>,
+}
+
+impl<'a> Drop for TypeName<'a> {
+    fn drop(self) {
+        let TypeName { words: _ } = self;
+    }
 }
 
 /// A conditional expression (C90 6.3.15), the widest expression of the profile.
@@ -28,7 +33,6 @@ impl<'a> Drop for Conditional<'a> {
 
 /// The branches of a conditional expression: `? expression : expression`.
 #[cycle(expression)]
-#[derive(Drop)]
 pub struct Branches<'a> {
     /// `?`
     pub question: &'a Token<'a>,
@@ -36,6 +40,18 @@ pub struct Branches<'a> {
     /// `:`
     pub colon: &'a Token<'a>,
     pub fails: Box<Conditional<'a>>,
+}
+
+impl<'a> Drop for Branches<'a> {
+    #[cycle(expression)]
+    fn drop(self) {
+        let Branches {
+            question: _,
+            holds: _,
+            colon: _,
+            fails: _,
+        } = self;
+    }
 }
 
 /// A unary expression and the chains of binary operators that follow it, those that bind tighter first (C90 6.3.5 to
@@ -59,7 +75,6 @@ impl<'a> Drop for Operand<'a> {
 /// What follows the leftmost operand in a chain of binary operators of one level: an operator, its right operand, and the
 /// rest of the chain. So `a - b - c` is `a` and then the chain `- b` with `- c` as its rest; it leans left.
 #[cycle(expression)]
-#[derive(Drop)]
 pub struct Chain<'a> {
     /// The level of the operators, from 1 for `*` to 10 for `||`.
     pub level: u32,
@@ -68,9 +83,20 @@ pub struct Chain<'a> {
     pub rest: Option<Box<Chain<'a>>>,
 }
 
+impl<'a> Drop for Chain<'a> {
+    #[cycle(expression)]
+    fn drop(self) {
+        let Chain {
+            level: _,
+            operator: _,
+            operand: _,
+            rest: _,
+        } = self;
+    }
+}
+
 /// A unary expression (C90 6.3.3, 6.3.4).
 #[cycle(expression)]
-#[derive(Drop)]
 pub enum Unary<'a> {
     /// `+`, `-`, `~` or `!` before its operand.
     Prefix {
@@ -88,9 +114,27 @@ pub enum Unary<'a> {
     Primary(Primary<'a>),
 }
 
+impl<'a> Drop for Unary<'a> {
+    #[cycle(expression)]
+    fn drop(self) {
+        match self {
+            Unary::Prefix {
+                operator: _,
+                operand: _,
+            } => {}
+            Unary::Cast {
+                open: _,
+                name: _,
+                close: _,
+                operand: _,
+            } => {}
+            Unary::Primary(_) => {}
+        }
+    }
+}
+
 /// A name, an element of an array, a call, a constant or an expression in parentheses (C90 6.3.1, 6.3.2).
 #[cycle(expression)]
-#[derive(Drop)]
 pub enum Primary<'a> {
     /// An identifier.
     Name {
@@ -122,6 +166,33 @@ pub enum Primary<'a> {
     },
 }
 
+impl<'a> Drop for Primary<'a> {
+    #[cycle(expression)]
+    fn drop(self) {
+        match self {
+            Primary::Name { name: _ } => {}
+            Primary::Element {
+                name: _,
+                open: _,
+                index: _,
+                close: _,
+            } => {}
+            Primary::Call {
+                name: _,
+                open: _,
+                arguments: _,
+                close: _,
+            } => {}
+            Primary::Constant { constant: _ } => {}
+            Primary::Parenthesized {
+                open: _,
+                expression: _,
+                close: _,
+            } => {}
+        }
+    }
+}
+
 /// The arguments of a call, none or more (C90 6.3.2.2).
 #[cycle(expression)]
 pub struct Arguments<'a> {
@@ -137,16 +208,31 @@ impl<'a> Drop for Arguments<'a> {
 
 /// One expression or more, with commas between.
 #[cycle(expression)]
-#[derive(Drop)]
 pub struct Expressions<'a> {
     pub first: Box<Conditional<'a>>,
     pub rest: Vec<NextExpression<'a>>,
 }
 
+impl<'a> Drop for Expressions<'a> {
+    #[cycle(expression)]
+    fn drop(self) {
+        let Expressions { first: _, rest: _ } = self;
+    }
+}
+
 /// A comma and the expression after it.
 #[cycle(expression)]
-#[derive(Drop)]
 pub struct NextExpression<'a> {
     pub comma: &'a Token<'a>,
     pub expression: Conditional<'a>,
+}
+
+impl<'a> Drop for NextExpression<'a> {
+    #[cycle(expression)]
+    fn drop(self) {
+        let NextExpression {
+            comma: _,
+            expression: _,
+        } = self;
+    }
 }

@@ -23,13 +23,22 @@ impl<'a> Drop for Target<'a> {
 }
 
 /// An index in brackets.
-#[derive(Drop)]
 pub struct Index<'a> {
     /// `[`
     pub open: &'a Token<'a>,
     pub value: Box<Conditional<'a>>,
     /// `]`
     pub close: &'a Token<'a>,
+}
+
+impl<'a> Drop for Index<'a> {
+    fn drop(self) {
+        let Index {
+            open: _,
+            value: _,
+            close: _,
+        } = self;
+    }
 }
 
 /// An assignment, a step or a call, as it stands in a statement or in the head of a `for`.
@@ -86,10 +95,18 @@ impl<'a> Drop for Simple<'a> {
 }
 
 /// An assignment or the like in a list, and the comma before it, if it is not the first.
-#[derive(Drop)]
 pub struct ListedSimple<'a> {
     pub comma: Option<&'a Token<'a>>,
     pub simple: Simple<'a>,
+}
+
+impl<'a> Drop for ListedSimple<'a> {
+    fn drop(self) {
+        let ListedSimple {
+            comma: _,
+            simple: _,
+        } = self;
+    }
 }
 
 /// One or more, with commas between: each but the first has the comma before it.
@@ -193,7 +210,6 @@ impl<'a> Drop for Printed<'a> {
 
 /// Declarations and statements in braces (C90 6.6.2).
 #[cycle(statement)]
-#[derive(Drop)]
 pub struct Block<'a> {
     /// `{`
     pub open: &'a Token<'a>,
@@ -202,24 +218,49 @@ pub struct Block<'a> {
     pub close: &'a Token<'a>,
 }
 
+impl<'a> Drop for Block<'a> {
+    #[cycle(statement)]
+    fn drop(self) {
+        let Block {
+            open: _,
+            items: _,
+            close: _,
+        } = self;
+    }
+}
+
 /// What stands in a block: the profile lets declarations stand among the statements (C90 6.6.2 has them first).
 #[cycle(statement)]
-#[derive(Drop)]
 pub enum BlockItem<'a> {
     Declaration(Declaration<'a>),
     Statement(Statement<'a>),
 }
 
+impl<'a> Drop for BlockItem<'a> {
+    #[cycle(statement)]
+    fn drop(self) {
+        match self {
+            BlockItem::Declaration(_) => {}
+            BlockItem::Statement(_) => {}
+        }
+    }
+}
+
 /// A statement (C90 6.6).
 #[cycle(statement)]
-#[derive(Drop)]
 pub struct Statement<'a> {
     pub form: StatementForm<'a>,
 }
 
+impl<'a> Drop for Statement<'a> {
+    #[cycle(statement)]
+    fn drop(self) {
+        let Statement { form: _ } = self;
+    }
+}
+
 /// The forms of a statement. `assert` and `printf` are among them.
 #[cycle(statement)]
-#[derive(Drop)]
 pub enum StatementForm<'a> {
     /// A compound statement (C90 6.6.2).
     Block(Block<'a>),
@@ -281,6 +322,58 @@ pub enum StatementForm<'a> {
     },
 }
 
+impl<'a> Drop for StatementForm<'a> {
+    #[cycle(statement)]
+    fn drop(self) {
+        match self {
+            StatementForm::Block(_) => {}
+            StatementForm::Empty { semicolon: _ } => {}
+            StatementForm::Simple {
+                simple: _,
+                semicolon: _,
+            } => {}
+            StatementForm::If {
+                keyword: _,
+                condition: _,
+                holds: _,
+                fails: _,
+            } => {}
+            StatementForm::While {
+                keyword: _,
+                condition: _,
+                body: _,
+            } => {}
+            StatementForm::DoWhile(_) => {}
+            StatementForm::For(_) => {}
+            StatementForm::Break {
+                keyword: _,
+                semicolon: _,
+            } => {}
+            StatementForm::Continue {
+                keyword: _,
+                semicolon: _,
+            } => {}
+            StatementForm::Return {
+                keyword: _,
+                value: _,
+                semicolon: _,
+            } => {}
+            StatementForm::Assert {
+                keyword: _,
+                condition: _,
+                semicolon: _,
+            } => {}
+            StatementForm::Printf {
+                keyword: _,
+                open: _,
+                printed: _,
+                close: _,
+                semicolon: _,
+            } => {}
+        }
+    }
+}
+
 /// The substatement or loop body that another statement controls (C90 6.6.4, 6.6.5): one more construct is around its
 /// tokens.
 #[cycle(statement)]
@@ -297,15 +390,23 @@ impl<'a> Drop for Controlled<'a> {
 
 /// `else` and its statement.
 #[cycle(statement)]
-#[derive(Drop)]
 pub struct Else<'a> {
     pub keyword: &'a Token<'a>,
     pub statement: Controlled<'a>,
 }
 
+impl<'a> Drop for Else<'a> {
+    #[cycle(statement)]
+    fn drop(self) {
+        let Else {
+            keyword: _,
+            statement: _,
+        } = self;
+    }
+}
+
 /// A `do` loop (C90 6.6.5.2).
 #[cycle(statement)]
-#[derive(Drop)]
 pub struct DoWhile<'a> {
     /// `do`
     pub keyword: &'a Token<'a>,
@@ -316,9 +417,21 @@ pub struct DoWhile<'a> {
     pub semicolon: &'a Token<'a>,
 }
 
+impl<'a> Drop for DoWhile<'a> {
+    #[cycle(statement)]
+    fn drop(self) {
+        let DoWhile {
+            keyword: _,
+            body: _,
+            while_keyword: _,
+            condition: _,
+            semicolon: _,
+        } = self;
+    }
+}
+
 /// A `for` loop (C90 6.6.5.3).
 #[cycle(statement)]
-#[derive(Drop)]
 pub struct For<'a> {
     /// `for`
     pub keyword: &'a Token<'a>,
@@ -330,15 +443,32 @@ pub struct For<'a> {
     pub body: Controlled<'a>,
 }
 
+impl<'a> Drop for For<'a> {
+    #[cycle(statement)]
+    fn drop(self) {
+        let For {
+            keyword: _,
+            open: _,
+            head: _,
+            close: _,
+            body: _,
+        } = self;
+    }
+}
+
 /// What stands at the level of the file: variables or a function (C90 6.7).
-#[derive(Drop)]
 pub struct External<'a> {
     pub name: TypeName<'a>,
     pub form: ExternalForm<'a>,
 }
 
+impl<'a> Drop for External<'a> {
+    fn drop(self) {
+        let External { name: _, form: _ } = self;
+    }
+}
+
 /// The forms of what stands at the level of the file.
-#[derive(Drop)]
 pub enum ExternalForm<'a> {
     /// Variables of the file (C90 6.7.2).
     Variables {
@@ -355,8 +485,25 @@ pub enum ExternalForm<'a> {
     },
 }
 
+impl<'a> Drop for ExternalForm<'a> {
+    fn drop(self) {
+        match self {
+            ExternalForm::Variables {
+                declarators: _,
+                semicolon: _,
+            } => {}
+            ExternalForm::Function {
+                name: _,
+                open: _,
+                parameters: _,
+                close: _,
+                end: _,
+            } => {}
+        }
+    }
+}
+
 /// A function's body, or the end of its prototype.
-#[derive(Drop)]
 pub enum FunctionEnd<'a> {
     /// The body of a definition (C90 6.7.1).
     Body(Block<'a>),
@@ -364,10 +511,24 @@ pub enum FunctionEnd<'a> {
     Prototype { semicolon: &'a Token<'a> },
 }
 
+impl<'a> Drop for FunctionEnd<'a> {
+    fn drop(self) {
+        match self {
+            FunctionEnd::Body(_) => {}
+            FunctionEnd::Prototype { semicolon: _ } => {}
+        }
+    }
+}
+
 /// The tree of a file, a translation unit (C90 6.7). No token in it has more than a hundred constructs around it.
-#[derive(Drop)]
 pub struct RawProgram<'a> {
     pub externals: Vec<External<'a>>,
     pub ghost accepted: { IsTrue (has_accepted_levels
         (node_of file (joined (map external_marks externals.items)))) },
+}
+
+impl<'a> Drop for RawProgram<'a> {
+    fn drop(self) {
+        let RawProgram { externals: _ } = self;
+    }
 }

@@ -32,4 +32,5 @@ returns c =
 
 pub returns-then-not-is_within_limits : goal.returns-then-not-is_within_limits
 returns-then-not-is_within_limits c =
-    past-limits c.args.parts.now c.is_within_limits.result c.is_within_limits.ensures c.if-not-is_within_limits.true
+    past-limits c.args.parts.now c.is_within_limits.result c.is_within_limits.ensures
+    c.if-not-is_within_limits.true

@@ -64,7 +64,8 @@ returns-in_ok-version-in-Cell c = λ vars infos fits fit sides second names righ
       c.length_of.ensures,
     ))))
     c.write_second.new.self c.in_ok-version-in-Cell.version c.at.ensures c.in_ok-version-in-Cell.ensures
-    (ap (λ xs. record c.demand_index.new.b { words = c.write_second.new.self; arrays = xs }) c.set-in-Cell.ensures))
+    (ap (λ xs. record c.demand_index.new.b { words = c.write_second.new.self; arrays = xs })
+    c.set-in-Cell.ensures))
     (λ f r cs. ap (λ k. picked d k (values_in b.words c.args.values f) (traced_of f b cs)) (sym c.in-Cell.is))
 
 pub returns-in_ok-version-in-Cells : goal.returns-in_ok-version-in-Cells

@@ -6,7 +6,8 @@ use Rattle.ba_muldiv.proofs.constants.constant_word.Goals as goal
 pub loop-i-init : goal.loop-i-init
 loop-i-init c = record {
   long = refl;
-  bits = λ nodes. are_bits-replicate nodes 32 c.constant-word.result (c.constant-word.ensures.value nodes).is_bit;
+  bits = λ nodes. are_bits-replicate nodes 32 c.constant-word.result
+      (c.constant-word.ensures.value nodes).is_bit;
   places = λ place within. absurd (omega arith);
 }
 

@@ -12,7 +12,8 @@ returns-then-bit-ne0-clause-narrow c nodes free = number_small free nodes c.args
 
 pub returns-then-bit-clause-narrow : goal.returns-then-bit-clause-narrow
 returns-then-bit-clause-narrow c nodes free =
-    number_low free nodes c.args.word.now (32 - c.loop-i.i) c.told-word (omega arith) (c.loop-i.invariant nodes free)
+    number_low free nodes c.args.word.now (32 - c.loop-i.i) c.told-word (omega arith)
+    (c.loop-i.invariant nodes free)
 
 pub returns-then-bit-clause-some : goal.returns-then-bit-clause-some
 returns-then-bit-clause-some c below nodes free =

@@ -5,4 +5,5 @@ use Rattle.ba_words.specs.Words.{bit_at}
 use Rattle.ba_muldiv.proofs.division.known_width.Given as goal
 
 abbrev pub invariant-loop-i : goal.invariant-loop-i
-invariant-loop-i l = (nodes : List Node) (free : ℕ → Bool) (place : ℕ) → 32 - l.i ≤ place → place < 32 → truth free nodes (bit_at l.word place) ≡ false
+invariant-loop-i l = (nodes : List Node) (free : ℕ → Bool) (place : ℕ) → 32 - l.i ≤ place → place < 32 →
+    truth free nodes (bit_at l.word place) ≡ false

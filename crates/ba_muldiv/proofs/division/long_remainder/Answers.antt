@@ -9,13 +9,19 @@ use Rattle.ba_muldiv.proofs.division.long_remainder.Goals as goal
 
 pub step-requires-clause-twice : goal.step-requires-clause-twice
 step-requires-clause-twice c below free =
-    let kept = number_of-extends free c.args.nodes.now c.upper_steps.new.nodes c.args.divisor.now c.upper_steps.ensures.extends c.requires.second in
+    let kept = number_of-extends free c.args.nodes.now c.upper_steps.new.nodes c.args.divisor.now
+    c.upper_steps.ensures.extends c.requires.second in
     subst (λ d. number_of free c.upper_steps.new.nodes c.brought_down-last.result < 2 * d) (sym kept)
-    (next_twice (high_number free c.args.nodes.now c.args.dividend.now 1) (number_of free c.args.nodes.now c.args.divisor.now)
-    (number_of free c.upper_steps.new.nodes c.brought_down-last.result) (truth free c.args.nodes.now (bit_at c.args.dividend.now 0))
+    (next_twice (high_number free c.args.nodes.now c.args.dividend.now 1)
+    (number_of free c.args.nodes.now c.args.divisor.now)
+    (number_of free c.upper_steps.new.nodes c.brought_down-last.result)
+    (truth free c.args.nodes.now (bit_at c.args.dividend.now 0))
     (c.known_width.ensures.some below c.args.nodes.now free)
-    (next_is free c.args.nodes.now c.upper_steps.new.nodes c.args.dividend.now 0 31 (number_of free c.args.nodes.now c.args.divisor.now)
-    (number_of free c.upper_steps.new.nodes c.in_ok-rest.rest) (number_of free c.upper_steps.new.nodes c.brought_down-last.result) c.told-dividend c.requires.first c.upper_steps.ensures.extends refl
+    (next_is free c.args.nodes.now c.upper_steps.new.nodes c.args.dividend.now 0 31
+    (number_of free c.args.nodes.now c.args.divisor.now)
+    (number_of free c.upper_steps.new.nodes c.in_ok-rest.rest)
+    (number_of free c.upper_steps.new.nodes c.brought_down-last.result) c.told-dividend c.requires.first
+    c.upper_steps.ensures.extends refl
     (c.in_ok-rest.ensures.rest.holds free) (c.brought_down-last.ensures.number c.upper_steps.new.nodes free)))
 
 pub returns-clause-number : goal.returns-clause-number
@@ -23,13 +29,24 @@ returns-clause-number c = record {
   long = c.in_ok-left.ensures.left.long;
   are_bits = c.in_ok-left.ensures.left.are_bits;
   holds = λ free.
-      let kept = number_of-extends free c.args.nodes.now c.upper_steps.new.nodes c.args.divisor.now c.upper_steps.ensures.extends c.requires.second in
-      let now_is = next_is free c.args.nodes.now c.upper_steps.new.nodes c.args.dividend.now 0 31 (number_of free c.args.nodes.now c.args.divisor.now)
-      (number_of free c.upper_steps.new.nodes c.in_ok-rest.rest) (number_of free c.upper_steps.new.nodes c.brought_down-last.result) c.told-dividend c.requires.first c.upper_steps.ensures.extends refl
-      (c.in_ok-rest.ensures.rest.holds free) (c.brought_down-last.ensures.number c.upper_steps.new.nodes free) in
+      let kept = number_of-extends free c.args.nodes.now c.upper_steps.new.nodes c.args.divisor.now
+      c.upper_steps.ensures.extends c.requires.second in
+      let now_is = next_is free c.args.nodes.now c.upper_steps.new.nodes c.args.dividend.now 0 31
+      (number_of free c.args.nodes.now c.args.divisor.now)
+      (number_of free c.upper_steps.new.nodes c.in_ok-rest.rest)
+      (number_of free c.upper_steps.new.nodes c.brought_down-last.result) c.told-dividend
+      c.requires.first c.upper_steps.ensures.extends refl
+      (c.in_ok-rest.ensures.rest.holds free) (c.brought_down-last.ensures.number c.upper_steps.new.nodes
+      free) in
       c.in_ok-left.ensures.left.holds free
-      ∙ ap (λ d. if nat_le d (number_of free c.upper_steps.new.nodes c.brought_down-last.result) then number_of free c.upper_steps.new.nodes c.brought_down-last.result - d else number_of free c.upper_steps.new.nodes c.brought_down-last.result) kept
-      ∙ rest_step (high_number free c.args.nodes.now c.args.dividend.now 1) (number_of free c.args.nodes.now c.args.divisor.now)
-      (number_of free c.upper_steps.new.nodes c.brought_down-last.result) (truth free c.args.nodes.now (bit_at c.args.dividend.now 0)) now_is
-      ∙ ap (λ h. h % number_of free c.args.nodes.now c.args.divisor.now) (sym (high_number-more free c.args.nodes.now c.args.dividend.now 0 (omega (arith, c.told-dividend))));
+      ∙ ap (λ d. if nat_le d (number_of free c.upper_steps.new.nodes c.brought_down-last.result)
+      then number_of free c.upper_steps.new.nodes c.brought_down-last.result - d else number_of free
+      c.upper_steps.new.nodes c.brought_down-last.result) kept
+      ∙ rest_step (high_number free c.args.nodes.now c.args.dividend.now 1)
+      (number_of free c.args.nodes.now c.args.divisor.now)
+      (number_of free c.upper_steps.new.nodes c.brought_down-last.result)
+      (truth free c.args.nodes.now (bit_at c.args.dividend.now 0)) now_is
+      ∙ ap (λ h. h % number_of free c.args.nodes.now c.args.divisor.now)
+      (sym (high_number-more free c.args.nodes.now c.args.dividend.now 0
+      (omega (arith, c.told-dividend))));
 }

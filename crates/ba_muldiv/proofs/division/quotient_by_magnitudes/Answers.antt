@@ -15,25 +15,39 @@ returns-clause-number c =
       long = has.long;
       are_bits = has.are_bits;
       holds = λ free.
-          let a_bit = sign_bit c.args.nodes.now c.args.a.now c.sign_of-a_sign.result c.args.signed c.sign_of-a_sign.ensures.bit c.requires.first in
-          let b_bit = sign_bit c.args.nodes.now c.args.b.now c.sign_of-b_sign.result c.args.signed c.sign_of-b_sign.ensures.bit c.requires.second in
-          let a_sign = c.sign_of-a_sign.ensures.value c.args.nodes.now free ∙ sign_value free c.args.nodes.now c.args.a.now c.args.signed c.told-a in
-          let b_sign = c.sign_of-b_sign.ensures.value c.args.nodes.now free ∙ sign_value free c.args.nodes.now c.args.b.now c.args.signed c.told-b in
-          let dividend : number_of free c.negated_where-2.new.nodes c.in_ok-dividend.dividend ≡ magnitude c.args.signed (number_of free c.args.nodes.now c.args.a.now) =
-          number_of-extends free c.negated_where.new.nodes c.negated_where-2.new.nodes c.in_ok-dividend.dividend c.negated_where-2.ensures.extends c.in_ok-dividend.ensures.number.are_bits
+          let a_bit = sign_bit c.args.nodes.now c.args.a.now c.sign_of-a_sign.result c.args.signed
+          c.sign_of-a_sign.ensures.bit c.requires.first in
+          let b_bit = sign_bit c.args.nodes.now c.args.b.now c.sign_of-b_sign.result c.args.signed
+          c.sign_of-b_sign.ensures.bit c.requires.second in
+          let a_sign = c.sign_of-a_sign.ensures.value c.args.nodes.now free
+          ∙ sign_value free c.args.nodes.now c.args.a.now c.args.signed c.told-a in
+          let b_sign = c.sign_of-b_sign.ensures.value c.args.nodes.now free
+          ∙ sign_value free c.args.nodes.now c.args.b.now c.args.signed c.told-b in
+          let dividend : number_of free c.negated_where-2.new.nodes c.in_ok-dividend.dividend
+          ≡ magnitude c.args.signed (number_of free c.args.nodes.now c.args.a.now) =
+          number_of-extends free c.negated_where.new.nodes c.negated_where-2.new.nodes
+          c.in_ok-dividend.dividend c.negated_where-2.ensures.extends
+          c.in_ok-dividend.ensures.number.are_bits
           ∙ c.in_ok-dividend.ensures.number.holds free
           ∙ ap (λ t. negated_where t (number_of free c.args.nodes.now c.args.a.now)) a_sign in
-          let divisor : number_of free c.negated_where-2.new.nodes c.in_ok-divisor.divisor ≡ magnitude c.args.signed (number_of free c.args.nodes.now c.args.b.now) =
+          let divisor : number_of free c.negated_where-2.new.nodes c.in_ok-divisor.divisor
+          ≡ magnitude c.args.signed (number_of free c.args.nodes.now c.args.b.now) =
           c.in_ok-divisor.ensures.number.holds free
-          ∙ (λ i. negated_where ((c.negated_where.ensures.extends.keeps free c.sign_of-b_sign.result b_bit ∙ b_sign) i)
-          (number_of-extends free c.args.nodes.now c.negated_where.new.nodes c.args.b.now c.negated_where.ensures.extends c.requires.second i)) in
+          ∙ (λ i. negated_where ((c.negated_where.ensures.extends.keeps free c.sign_of-b_sign.result b_bit
+          ∙ b_sign) i)
+          (number_of-extends free c.args.nodes.now c.negated_where.new.nodes c.args.b.now
+          c.negated_where.ensures.extends c.requires.second i)) in
           let lower : Extends c.args.nodes.now c.negated_where-2.new.nodes =
-          Extends-through c.args.nodes.now c.negated_where.new.nodes c.negated_where-2.new.nodes c.negated_where.ensures.extends c.negated_where-2.ensures.extends in
+          Extends-through c.args.nodes.now c.negated_where.new.nodes c.negated_where-2.new.nodes
+          c.negated_where.ensures.extends c.negated_where-2.ensures.extends in
           let all : Extends c.args.nodes.now c.long_quotient.new.nodes =
-          Extends-through c.args.nodes.now c.negated_where-2.new.nodes c.long_quotient.new.nodes lower c.long_quotient.ensures.extends in
+          Extends-through c.args.nodes.now c.negated_where-2.new.nodes c.long_quotient.new.nodes lower
+          c.long_quotient.ensures.extends in
           let negative = c.in_ok-negative.ensures.value.holds free
-          ∙ (λ i. bool_xor ((all.keeps free c.sign_of-a_sign.result a_bit ∙ a_sign) i) ((all.keeps free c.sign_of-b_sign.result b_bit ∙ b_sign) i)) in
-          let quotient = number_of-extends free c.long_quotient.new.nodes c.xor.new.self c.in_ok-quotient.quotient c.xor.ensures.extends c.in_ok-quotient.ensures.number.are_bits
+          ∙ (λ i. bool_xor ((all.keeps free c.sign_of-a_sign.result a_bit ∙ a_sign) i)
+          ((all.keeps free c.sign_of-b_sign.result b_bit ∙ b_sign) i)) in
+          let quotient = number_of-extends free c.long_quotient.new.nodes c.xor.new.self
+          c.in_ok-quotient.quotient c.xor.ensures.extends c.in_ok-quotient.ensures.number.are_bits
           ∙ c.in_ok-quotient.ensures.number.holds free
           ∙ (λ i. long_quotient 32 (dividend i) (divisor i)) in
           has.holds free ∙ (λ i. negated_where (negative i) (quotient i));

@@ -11,23 +11,28 @@ use Rattle.ba_muldiv.proofs.division.upper_steps.Goals as goal
 
 pub loop-i-init : goal.loop-i-init
 loop-i-init c =
-    let zeros = are_bits-replicate c.args.nodes.now 32 c.constant-zero.result (c.constant-zero.ensures.value c.args.nodes.now).is_bit in
+    let zeros = are_bits-replicate c.args.nodes.now 32 c.constant-zero.result
+    (c.constant-zero.ensures.value c.args.nodes.now).is_bit in
     record {
       extends = Extends_refl c.args.nodes.now;
       quotient = record {
         long = refl;
         are_bits = zeros;
         holds = λ free.
-            number-zeros free c.args.nodes.now 32 c.constant-zero.result ((c.constant-zero.ensures.value c.args.nodes.now).holds free)
-            ∙ no_quotient (high_number free c.args.nodes.now c.args.dividend.now 32) (number_of free c.args.nodes.now c.args.divisor.now)
+            number-zeros free c.args.nodes.now 32 c.constant-zero.result
+            ((c.constant-zero.ensures.value c.args.nodes.now).holds free)
+            ∙ no_quotient (high_number free c.args.nodes.now c.args.dividend.now 32)
+            (number_of free c.args.nodes.now c.args.divisor.now)
             (high_number_below free c.args.nodes.now c.args.dividend.now 32 0 c.told-dividend);
       };
       rest = record {
         long = refl;
         are_bits = zeros;
         holds = λ free.
-            number-zeros free c.args.nodes.now 32 c.constant-zero.result ((c.constant-zero.ensures.value c.args.nodes.now).holds free)
-            ∙ no_rest (high_number free c.args.nodes.now c.args.dividend.now 32) (number_of free c.args.nodes.now c.args.divisor.now)
+            number-zeros free c.args.nodes.now 32 c.constant-zero.result
+            ((c.constant-zero.ensures.value c.args.nodes.now).holds free)
+            ∙ no_rest (high_number free c.args.nodes.now c.args.dividend.now 32)
+            (number_of free c.args.nodes.now c.args.divisor.now)
             (high_number_below free c.args.nodes.now c.args.dividend.now 32 0 c.told-dividend);
       };
       gates = omega arith;
@@ -35,9 +40,12 @@ loop-i-init c =
 
 pub step-requires-clause-small : goal.step-requires-clause-small
 step-requires-clause-small c free =
-    next_small c.loop-i.i (high_number free c.args.nodes.now c.args.dividend.now (32 - c.loop-i.i)) (number_of free c.args.nodes.now c.args.divisor.now)
-    (number_of free c.loop-i.nodes c.loop-i.rest) (number_of free c.loop-i.nodes c.brought_down-next.result) (truth free c.loop-i.nodes (bit_at c.args.dividend.now (31 - c.loop-i.i)))
-    (high_number_below free c.args.nodes.now c.args.dividend.now (32 - c.loop-i.i) c.loop-i.i (omega (arith, c.told-dividend)))
+    next_small c.loop-i.i (high_number free c.args.nodes.now c.args.dividend.now (32 - c.loop-i.i))
+    (number_of free c.args.nodes.now c.args.divisor.now)
+    (number_of free c.loop-i.nodes c.loop-i.rest) (number_of free c.loop-i.nodes c.brought_down-next.result)
+    (truth free c.loop-i.nodes (bit_at c.args.dividend.now (31 - c.loop-i.i)))
+    (high_number_below free c.args.nodes.now c.args.dividend.now (32 - c.loop-i.i) c.loop-i.i
+    (omega (arith, c.told-dividend)))
     (c.loop-i.invariant.rest.holds free) (c.brought_down-next.ensures.number c.loop-i.nodes free)
 
 pub step-requires-clause-narrow : goal.step-requires-clause-narrow
@@ -47,14 +55,20 @@ pub step-requires-clause-twice : goal.step-requires-clause-twice
 step-requires-clause-twice c below free =
     let place : 31 - c.loop-i.i + 1 ≡ 32 - c.loop-i.i = omega arith in
     let whole : 31 - c.loop-i.i + 1 + c.loop-i.i ≡ 32 = omega arith in
-    let kept = number_of-extends free c.args.nodes.now c.loop-i.nodes c.args.divisor.now c.loop-i.invariant.extends c.requires.second in
+    let kept = number_of-extends free c.args.nodes.now c.loop-i.nodes c.args.divisor.now
+    c.loop-i.invariant.extends c.requires.second in
     subst (λ d. number_of free c.loop-i.nodes c.brought_down-next.result < 2 * d) (sym kept)
-    (next_twice (high_number free c.args.nodes.now c.args.dividend.now (31 - c.loop-i.i + 1)) (number_of free c.args.nodes.now c.args.divisor.now)
-    (number_of free c.loop-i.nodes c.brought_down-next.result) (truth free c.args.nodes.now (bit_at c.args.dividend.now (31 - c.loop-i.i)))
+    (next_twice (high_number free c.args.nodes.now c.args.dividend.now (31 - c.loop-i.i + 1))
+    (number_of free c.args.nodes.now c.args.divisor.now)
+    (number_of free c.loop-i.nodes c.brought_down-next.result)
+    (truth free c.args.nodes.now (bit_at c.args.dividend.now (31 - c.loop-i.i)))
     (c.known_width-known.ensures.some below c.args.nodes.now free)
-    (next_is free c.args.nodes.now c.loop-i.nodes c.args.dividend.now (31 - c.loop-i.i) c.loop-i.i (number_of free c.args.nodes.now c.args.divisor.now)
-    (number_of free c.loop-i.nodes c.loop-i.rest) (number_of free c.loop-i.nodes c.brought_down-next.result) c.told-dividend c.requires.first c.loop-i.invariant.extends whole
-    (c.loop-i.invariant.rest.holds free ∙ ap (λ j. high_number free c.args.nodes.now c.args.dividend.now j % number_of free c.args.nodes.now c.args.divisor.now) (sym place))
+    (next_is free c.args.nodes.now c.loop-i.nodes c.args.dividend.now (31 - c.loop-i.i) c.loop-i.i
+    (number_of free c.args.nodes.now c.args.divisor.now)
+    (number_of free c.loop-i.nodes c.loop-i.rest) (number_of free c.loop-i.nodes c.brought_down-next.result)
+    c.told-dividend c.requires.first c.loop-i.invariant.extends whole
+    (c.loop-i.invariant.rest.holds free ∙ ap (λ j. high_number free c.args.nodes.now c.args.dividend.now j %
+    number_of free c.args.nodes.now c.args.divisor.now) (sym place))
     (c.brought_down-next.ensures.number c.loop-i.nodes free)))
 
 pub loop-i-preserved : goal.loop-i-preserved
@@ -63,46 +77,75 @@ loop-i-preserved c =
     let place : 31 - c.loop-i.i + 1 ≡ 32 - c.loop-i.i = omega arith in
     let next : 32 - (c.loop-i.i + 1) ≡ 31 - c.loop-i.i = omega arith in
     let whole : 31 - c.loop-i.i + 1 + c.loop-i.i ≡ 32 = omega arith in
-    let now_is : (free : ℕ → Bool) → number_of free c.loop-i.nodes c.brought_down-next.result ≡ 2 * (high_number free c.args.nodes.now c.args.dividend.now (31 - c.loop-i.i + 1) % number_of free c.args.nodes.now c.args.divisor.now) + digit (truth free c.args.nodes.now (bit_at c.args.dividend.now (31 - c.loop-i.i))) =
+    let now_is : (free : ℕ → Bool) → number_of free c.loop-i.nodes c.brought_down-next.result
+    ≡ 2 * (high_number free c.args.nodes.now c.args.dividend.now (31 - c.loop-i.i + 1) % number_of free
+    c.args.nodes.now c.args.divisor.now) + digit (truth free c.args.nodes.now
+    (bit_at c.args.dividend.now (31 - c.loop-i.i))) =
     λ free.
-    next_is free c.args.nodes.now c.loop-i.nodes c.args.dividend.now (31 - c.loop-i.i) c.loop-i.i (number_of free c.args.nodes.now c.args.divisor.now)
-    (number_of free c.loop-i.nodes c.loop-i.rest) (number_of free c.loop-i.nodes c.brought_down-next.result) c.told-dividend c.requires.first c.loop-i.invariant.extends whole
-    (c.loop-i.invariant.rest.holds free ∙ ap (λ j. high_number free c.args.nodes.now c.args.dividend.now j % number_of free c.args.nodes.now c.args.divisor.now) (sym place))
+    next_is free c.args.nodes.now c.loop-i.nodes c.args.dividend.now (31 - c.loop-i.i) c.loop-i.i
+    (number_of free c.args.nodes.now c.args.divisor.now)
+    (number_of free c.loop-i.nodes c.loop-i.rest) (number_of free c.loop-i.nodes c.brought_down-next.result)
+    c.told-dividend c.requires.first c.loop-i.invariant.extends whole
+    (c.loop-i.invariant.rest.holds free ∙ ap (λ j. high_number free c.args.nodes.now c.args.dividend.now j %
+    number_of free c.args.nodes.now c.args.divisor.now) (sym place))
     (c.brought_down-next.ensures.number c.loop-i.nodes free) in
     record {
-      extends = Extends-through c.args.nodes.now c.loop-i.nodes c.step.new.nodes c.loop-i.invariant.extends c.step.ensures.extends;
+      extends = Extends-through c.args.nodes.now c.loop-i.nodes c.step.new.nodes c.loop-i.invariant.extends
+          c.step.ensures.extends;
       quotient = record {
         long = c.brought_down-quotient.ensures.long;
         are_bits = c.brought_down-quotient.ensures.bits c.step.new.nodes
-            (are_bits-extends c.loop-i.nodes c.step.new.nodes c.loop-i.quotient c.step.ensures.extends c.loop-i.invariant.quotient.are_bits) c.in_ok-fits.ensures.fits.is_bit;
+            (are_bits-extends c.loop-i.nodes c.step.new.nodes c.loop-i.quotient c.step.ensures.extends
+            c.loop-i.invariant.quotient.are_bits) c.in_ok-fits.ensures.fits.is_bit;
         holds = λ free.
-            let kept = number_of-extends free c.args.nodes.now c.loop-i.nodes c.args.divisor.now c.loop-i.invariant.extends c.requires.second in
-            quotient_value c.loop-i.i (high_number free c.args.nodes.now c.args.dividend.now (31 - c.loop-i.i + 1)) (number_of free c.args.nodes.now c.args.divisor.now)
-            (number_of free c.step.new.nodes c.loop-i.quotient) (number_of free c.step.new.nodes c.brought_down-quotient.result)
-            (nat_le (number_of free c.args.nodes.now c.args.divisor.now) (number_of free c.loop-i.nodes c.brought_down-next.result)) (omega arith)
-            (high_number_below free c.args.nodes.now c.args.dividend.now (31 - c.loop-i.i + 1) c.loop-i.i (c.told-dividend ∙ sym whole))
-            (number_of-extends free c.loop-i.nodes c.step.new.nodes c.loop-i.quotient c.step.ensures.extends c.loop-i.invariant.quotient.are_bits
+            let kept = number_of-extends free c.args.nodes.now c.loop-i.nodes c.args.divisor.now
+            c.loop-i.invariant.extends c.requires.second in
+            quotient_value c.loop-i.i (high_number free c.args.nodes.now c.args.dividend.now
+            (31 - c.loop-i.i + 1)) (number_of free c.args.nodes.now c.args.divisor.now)
+            (number_of free c.step.new.nodes c.loop-i.quotient)
+            (number_of free c.step.new.nodes c.brought_down-quotient.result)
+            (nat_le (number_of free c.args.nodes.now c.args.divisor.now)
+            (number_of free c.loop-i.nodes c.brought_down-next.result)) (omega arith)
+            (high_number_below free c.args.nodes.now c.args.dividend.now (31 - c.loop-i.i + 1) c.loop-i.i
+            (c.told-dividend ∙ sym whole))
+            (number_of-extends free c.loop-i.nodes c.step.new.nodes c.loop-i.quotient c.step.ensures.extends
+            c.loop-i.invariant.quotient.are_bits
             ∙ c.loop-i.invariant.quotient.holds free
-            ∙ ap (λ j. long_quotient c.loop-i.i (high_number free c.args.nodes.now c.args.dividend.now j) (number_of free c.args.nodes.now c.args.divisor.now)) (sym place))
+            ∙ ap (λ j. long_quotient c.loop-i.i (high_number free c.args.nodes.now c.args.dividend.now j)
+            (number_of free c.args.nodes.now c.args.divisor.now)) (sym place))
             (c.brought_down-quotient.ensures.number c.step.new.nodes free
             ∙ ap (λ b. (2 * number_of free c.step.new.nodes c.loop-i.quotient + digit b) % 2 ^ 32)
-            (c.in_ok-fits.ensures.fits.holds free ∙ ap (λ d. nat_le d (number_of free c.loop-i.nodes c.brought_down-next.result)) kept))
-            ∙ quotient_step c.loop-i.i (high_number free c.args.nodes.now c.args.dividend.now (31 - c.loop-i.i + 1)) (number_of free c.args.nodes.now c.args.divisor.now)
-            (number_of free c.loop-i.nodes c.brought_down-next.result) (truth free c.args.nodes.now (bit_at c.args.dividend.now (31 - c.loop-i.i))) (now_is free)
-            ∙ ap (λ h. long_quotient (c.loop-i.i + 1) h (number_of free c.args.nodes.now c.args.divisor.now)) (sym (high_number-more free c.args.nodes.now c.args.dividend.now (31 - c.loop-i.i) (omega (arith, c.told-dividend))))
-            ∙ ap (λ j. long_quotient (c.loop-i.i + 1) (high_number free c.args.nodes.now c.args.dividend.now j) (number_of free c.args.nodes.now c.args.divisor.now)) (sym next);
+            (c.in_ok-fits.ensures.fits.holds free ∙ ap (λ d. nat_le d
+            (number_of free c.loop-i.nodes c.brought_down-next.result)) kept))
+            ∙ quotient_step c.loop-i.i (high_number free c.args.nodes.now c.args.dividend.now
+            (31 - c.loop-i.i + 1)) (number_of free c.args.nodes.now c.args.divisor.now)
+            (number_of free c.loop-i.nodes c.brought_down-next.result)
+            (truth free c.args.nodes.now (bit_at c.args.dividend.now (31 - c.loop-i.i))) (now_is free)
+            ∙ ap (λ h. long_quotient (c.loop-i.i + 1) h (number_of free c.args.nodes.now
+            c.args.divisor.now)) (sym (high_number-more free c.args.nodes.now c.args.dividend.now
+            (31 - c.loop-i.i) (omega (arith, c.told-dividend))))
+            ∙ ap (λ j. long_quotient (c.loop-i.i + 1) (high_number free c.args.nodes.now c.args.dividend.now
+            j) (number_of free c.args.nodes.now c.args.divisor.now)) (sym next);
       };
       rest = record {
         long = c.in_ok-fits.ensures.left.long;
         are_bits = c.in_ok-fits.ensures.left.are_bits;
         holds = λ free.
-            let kept = number_of-extends free c.args.nodes.now c.loop-i.nodes c.args.divisor.now c.loop-i.invariant.extends c.requires.second in
+            let kept = number_of-extends free c.args.nodes.now c.loop-i.nodes c.args.divisor.now
+            c.loop-i.invariant.extends c.requires.second in
             c.in_ok-fits.ensures.left.holds free
-            ∙ ap (λ d. if nat_le d (number_of free c.loop-i.nodes c.brought_down-next.result) then number_of free c.loop-i.nodes c.brought_down-next.result - d else number_of free c.loop-i.nodes c.brought_down-next.result) kept
-            ∙ rest_step (high_number free c.args.nodes.now c.args.dividend.now (31 - c.loop-i.i + 1)) (number_of free c.args.nodes.now c.args.divisor.now)
-            (number_of free c.loop-i.nodes c.brought_down-next.result) (truth free c.args.nodes.now (bit_at c.args.dividend.now (31 - c.loop-i.i))) (now_is free)
-            ∙ ap (λ h. h % number_of free c.args.nodes.now c.args.divisor.now) (sym (high_number-more free c.args.nodes.now c.args.dividend.now (31 - c.loop-i.i) (omega (arith, c.told-dividend))))
-            ∙ ap (λ j. high_number free c.args.nodes.now c.args.dividend.now j % number_of free c.args.nodes.now c.args.divisor.now) (sym next);
+            ∙ ap (λ d. if nat_le d (number_of free c.loop-i.nodes c.brought_down-next.result) then number_of
+            free c.loop-i.nodes c.brought_down-next.result - d else number_of free c.loop-i.nodes
+            c.brought_down-next.result) kept
+            ∙ rest_step (high_number free c.args.nodes.now c.args.dividend.now (31 - c.loop-i.i + 1))
+            (number_of free c.args.nodes.now c.args.divisor.now)
+            (number_of free c.loop-i.nodes c.brought_down-next.result)
+            (truth free c.args.nodes.now (bit_at c.args.dividend.now (31 - c.loop-i.i))) (now_is free)
+            ∙ ap (λ h. h % number_of free c.args.nodes.now c.args.divisor.now)
+            (sym (high_number-more free c.args.nodes.now c.args.dividend.now (31 - c.loop-i.i)
+            (omega (arith, c.told-dividend))))
+            ∙ ap (λ j. high_number free c.args.nodes.now c.args.dividend.now j % number_of free
+            c.args.nodes.now c.args.divisor.now) (sym next);
       };
       gates = omega arith;
     }

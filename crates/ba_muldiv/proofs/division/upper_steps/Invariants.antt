@@ -7,7 +7,9 @@ use Rattle.ba_muldiv.proofs.division.upper_steps.Given as goal
 abbrev pub invariant-loop-i : goal.invariant-loop-i
 invariant-loop-i l = record {
   extends : Extends l.fn.nodes l.nodes;
-  quotient : HasNumber l.nodes l.quotient (λ free. long_quotient l.i (high_number free l.fn.nodes l.dividend (32 - l.i)) (number_of free l.fn.nodes l.divisor));
-  rest : HasNumber l.nodes l.rest (λ free. high_number free l.fn.nodes l.dividend (32 - l.i) % number_of free l.fn.nodes l.divisor);
+  quotient : HasNumber l.nodes l.quotient (λ free. long_quotient l.i
+      (high_number free l.fn.nodes l.dividend (32 - l.i)) (number_of free l.fn.nodes l.divisor));
+  rest : HasNumber l.nodes l.rest (λ free. high_number free l.fn.nodes l.dividend (32 - l.i) % number_of
+      free l.fn.nodes l.divisor);
   gates : gates_in l.nodes ≤ gates_in l.fn.nodes + 162 * l.i;
 }

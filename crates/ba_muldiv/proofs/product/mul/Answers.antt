@@ -10,9 +10,12 @@ pub returns-then-known_bits-clause-value : goal.returns-then-known_bits-clause-v
 returns-then-known_bits-clause-value c =
     on_ok c.times.result _ _
     (λ word has signed free.
-    mul_value signed (number_of free c.args.nodes.now c.args.a.now) (number_of free c.args.nodes.now c.args.b.now)
-    (number_small free c.args.nodes.now c.args.a.now c.told-a) (number_small free c.args.nodes.now c.args.b.now c.told-b)
-    ∙ ap (λ n. Some (read signed (n % 2 ^ 32))) (mul_comm (number_of free c.args.nodes.now c.args.a.now) (number_of free c.args.nodes.now c.args.b.now))
+    mul_value signed (number_of free c.args.nodes.now c.args.a.now)
+    (number_of free c.args.nodes.now c.args.b.now)
+    (number_small free c.args.nodes.now c.args.a.now c.told-a)
+    (number_small free c.args.nodes.now c.args.b.now c.told-b)
+    ∙ ap (λ n. Some (read signed (n % 2 ^ 32))) (mul_comm (number_of free c.args.nodes.now c.args.a.now)
+    (number_of free c.args.nodes.now c.args.b.now))
     ∙ ap (λ n. Some (read signed n)) (sym (has.holds free)))
     c.times.ensures.number
 
@@ -20,7 +23,9 @@ pub returns-else-known_bits-clause-value : goal.returns-else-known_bits-clause-v
 returns-else-known_bits-clause-value c =
     on_ok c.times-else-known_bits.result _ _
     (λ word has signed free.
-    mul_value signed (number_of free c.args.nodes.now c.args.a.now) (number_of free c.args.nodes.now c.args.b.now)
-    (number_small free c.args.nodes.now c.args.a.now c.told-a) (number_small free c.args.nodes.now c.args.b.now c.told-b)
+    mul_value signed (number_of free c.args.nodes.now c.args.a.now)
+    (number_of free c.args.nodes.now c.args.b.now)
+    (number_small free c.args.nodes.now c.args.a.now c.told-a)
+    (number_small free c.args.nodes.now c.args.b.now c.told-b)
     ∙ ap (λ n. Some (read signed n)) (sym (has.holds free)))
     c.times-else-known_bits.ensures.number

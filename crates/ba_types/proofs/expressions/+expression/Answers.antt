@@ -35,20 +35,7 @@ use Rattle.ba_types.proofs.ArgumentSteps.{
 }
 use Rattle.ba_types.proofs.ParsedForms as forms
 use Rattle.ba_types.proofs.Tallies.{after-as, faults-before}
-use Rattle.ba_types.proofs.Walking.{
-  cast-calls,
-  cast-faults,
-  chain-step,
-  element-calls,
-  element-faults,
-  gives-called,
-  gives-constant,
-  gives-over,
-  gives-select,
-  nothing-more,
-  unary-calls,
-  unary-faults,
-}
+use Rattle.ba_types.proofs.Walking.{cast-calls, cast-faults, chain-step, element-calls, element-faults, gives-called, gives-over, gives-select, nothing-more, unary-calls, unary-faults}
 use Rattle.ba_types.proofs.Walks.{next_item, none_left}
 use Rattle.ba_types.proofs.expressions.+expression.Goals as goal
 

@@ -1,7 +1,6 @@
-use Rattle.std.proofs.Common.{◌≡◌, ◌∷◌, [], ◌++◌, map, sym, ◌∙◌, ap}
+use Rattle.std.proofs.Common.{◌∷◌, [], ◌++◌, map, sym, ◌∙◌, ap}
 use Rattle.std.proofs.lemmas.Result.{on_ok_weaker}
 use Rattle.ba_types.specs.Adding.{behind_part, state}
-use Rattle.ba_types.specs.Names.{jump_of}
 use Rattle.ba_types.specs.Statements.{add_jump}
 use Rattle.ba_types.specs.Trees.{StmtTree, tree_of_stmt}
 use Rattle.ba_types.specs.declared.names.Jump.{Jump}
