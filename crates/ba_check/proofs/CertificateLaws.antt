@@ -10,11 +10,11 @@ use Rattle.ba_cert.specs.Text.{HasLine, head_line, line_of, text_of, with_feed}
 use Rattle.ba_cert.proofs.LineLaws.{line-again, line-back, line-feedless}
 use Rattle.ba_cert.proofs.PlainLaws.{no_feed}
 use Rattle.ba_derivations.specs.Derivations.{Problem, Verdict, start_of, verdict_of}
-use Rattle.ba_steps.specs.Judging.{Judge, after, after_all, error_of, next_if}
-use Rattle.ba_steps.specs.States.{State}
 use Rattle.ba_steps.specs.Steps.{IsFormed}
 use Rattle.ba_steps.specs.declared.step.CertStep.{CertStep}
 use Rattle.ba_steps.specs.declared.step.StepError.{StepError}
+use Rattle.ba_checker.specs.Judging.{Judge, after, after_all, error_of, next_if}
+use Rattle.ba_checker.specs.States.{State}
 use Rattle.ba_check.specs.Findings.{Accepted, Course, Goes, IsCertificateOf, Stops, after_head, after_line, after_lines, after_read, after_step, bad_line, code_of, course_of, finding_by, finding_of}
 use Rattle.ba_check.specs.Lines.{HasNoFeed, lines_in, rest_in}
 use Rattle.ba_check.proofs.CourseLaws.{stopped}

@@ -9,12 +9,12 @@ use Rattle.ba_cert.specs.Text.{HasLine}
 use Rattle.ba_derivations.specs.Derivations.{Located, NoRepair, Problem, Spent, TooMany, Verdict, start_of, verdict_of}
 use Rattle.ba_derivations.specs.Encodings.{IsFaithful}
 use Rattle.ba_derivations.proofs.VerdictLaws.{located, no_repair, spent, starts, too_many}
-use Rattle.ba_steps.proofs.FactLaws.{facts_hold}
-use Rattle.ba_steps.specs.Facts.{Holds, splits_of}
-use Rattle.ba_steps.specs.States.{State}
 use Rattle.ba_steps.specs.Steps.{IsFormed}
 use Rattle.ba_steps.specs.declared.step.CertStep.{CertStep}
 use Rattle.ba_steps.specs.declared.step.CertStep.TheVariants.{Learn, Core, Delete, Block, EndLocated, EndNoRepair, EndTooMany, EndSpent}
+use Rattle.ba_checker.proofs.FactLaws.{facts_hold}
+use Rattle.ba_checker.specs.Facts.{Holds, splits_of}
+use Rattle.ba_checker.specs.States.{State}
 use Rattle.ba_tree.specs.Least.{WeightList}
 use Rattle.ba_check.specs.Answers.{IsTrueOf, Tells, confirmed_of}
 use Rattle.ba_check.specs.Findings.{Accepted, Finding, IsCertificateOf, Refused, finding_of}

@@ -5,11 +5,11 @@ use Rattle.std.specs.Prelude.{◌≡◌, ℕ, ◌+◌, ◌==◌, cond, unwrap_or
 use Rattle.ba_cert.specs.Reading.{step_in}
 use Rattle.ba_cert.specs.Text.{HasLine, head_line, text_of}
 use Rattle.ba_derivations.specs.Derivations.{Derives, Problem, Verdict, start_of, verdict_of}
-use Rattle.ba_steps.specs.Judging.{Judge, after, error_of}
 use Rattle.ba_steps.specs.Numbers.{number_of}
-use Rattle.ba_steps.specs.States.{State}
 use Rattle.ba_steps.specs.declared.step.CertStep.{CertStep}
 use Rattle.ba_steps.specs.declared.step.StepError.{StepError}
+use Rattle.ba_checker.specs.Judging.{Judge, after, error_of}
+use Rattle.ba_checker.specs.States.{State}
 use Rattle.ba_check.specs.Lines.{lines_in, rest_in}
 
 -- CODES: of a line that isn't the head line, or that of a step, where it has to be; of a text that ends too

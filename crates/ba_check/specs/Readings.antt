@@ -11,10 +11,10 @@ use Rattle.ba_check.specs.declared.error.CheckError.{CheckError}
 use Rattle.ba_check.specs.declared.error.CheckError.TheVariants.{Line, Memory}
 use Rattle.ba_check.specs.declared.judged.Judged.{Judged}
 use Rattle.ba_derivations.specs.Derivations.{Problem, Verdict, Located, NoRepair, TooMany, Spent}
-use Rattle.ba_steps.specs.Judging.{Judge}
 use Rattle.ba_steps.specs.Numbers.{number_of}
-use Rattle.ba_steps.specs.States.{State}
 use Rattle.ba_steps.specs.declared.step.StepError.{StepError}
+use Rattle.ba_checker.specs.Judging.{Judge}
+use Rattle.ba_checker.specs.States.{State}
 
 -- the verdict of an End step, in the state before it or after it
 abbrev pub verdict_at : State → Ending → Verdict

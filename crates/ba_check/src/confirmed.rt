@@ -4,13 +4,14 @@ ghost use Rattle.std.specs.Prelude.{◌≡◌, option_map, map, IfOk};
 ghost use Rattle.ba_check.specs.Answers.{confirmed_of, statements_of};
 ghost use Rattle.ba_check.specs.Readings.{verdict_at};
 ghost use Rattle.ba_derivations.specs.Derivations.{verdict_of};
-ghost use Rattle.ba_steps.specs.Judging.{after};
-ghost use Rattle.ba_steps.specs.States.{State};
+ghost use Rattle.ba_checker.specs.Judging.{after};
+ghost use Rattle.ba_checker.specs.States.{State};
 ghost use Rattle.ba_tree.specs.Least.{stmt_of};
 
+use ba_checker::Checker;
 use ba_items::Items;
 use ba_numbers::ids::StmtId;
-use ba_steps::{CertStep, Checker};
+use ba_steps::CertStep;
 use std::alloc::{AllocError, Global};
 
 /// What an accepted certificate says.

@@ -8,7 +8,8 @@ ghost use Rattle.ba_check.specs.Findings.{Course, Goes, after_head, after_line, 
 use crate::confirmed::{Confirmed, Ending, ending_of, said_by};
 use crate::error::{BAD_LINE, CheckError, TOO_EARLY, error_at, unread_at};
 use ba_cert::read_line;
-use ba_steps::{Checker, RunJudge};
+use ba_checker::Checker;
+use ba_steps::RunJudge;
 use std::alloc::{AllocError, Global};
 
 /// The first line of a certificate.

@@ -5,7 +5,7 @@ ghost use Rattle.ba_check.specs.Answers.{IsTrueOf, Tells, problem_of};
 ghost use Rattle.ba_check.specs.Findings.{finding_of};
 ghost use Rattle.ba_derivations.specs.Encodings.{IsFaithful};
 ghost use Rattle.ba_encode.specs.Softs.{softs_of};
-ghost use Rattle.ba_steps.specs.Facts.{AreSelectors};
+ghost use Rattle.ba_checker.specs.Facts.{AreSelectors};
 ghost use Rattle.ba_tree.specs.Least.{WeightList, judge_of};
 ghost use Rattle.ba_tree.specs.Run.{are_bounds};
 

@@ -10,14 +10,14 @@ use Rattle.ba_lits.specs.Satisfaction.{Soft}
 use Rattle.ba_lits.specs.Hints.{Replay, Refutes, replay}
 use Rattle.ba_lits.proofs.ClauseLaws.{IsClause-more}
 use Rattle.ba_learn.specs.Live.{IsSame, AreLive}
-use Rattle.ba_steps.specs.Splits.{is_soft, split_clauses}
-use Rattle.ba_steps.specs.States.{Kept, kept, State, clause_at, live_lits}
-use Rattle.ba_steps.specs.declared.store.Origin.TheVariants as origins
 use Rattle.ba_steps.specs.Steps.{IsFormed}
-use Rattle.ba_steps.specs.Judging.{Judge, error_if, lacks_variable, is_spent, lacks_soft, error_of_replay, error_of, after}
-use Rattle.ba_steps.specs.Facts.{Differs, AreDifferent, AreAmong}
 use Rattle.ba_steps.specs.declared.step.CertStep.TheVariants.{Core}
 use Rattle.ba_steps.specs.declared.step.StepError.TheVariants.{AfterEnd, NotSofts, CoreAfterSet, WrongCount, BadVariable, Memory}
+use Rattle.ba_checker.specs.Splits.{is_soft, split_clauses}
+use Rattle.ba_checker.specs.States.{Kept, kept, State, clause_at, live_lits}
+use Rattle.ba_checker.specs.declared.store.Origin.TheVariants as origins
+use Rattle.ba_checker.specs.Judging.{Judge, error_if, lacks_variable, is_spent, lacks_soft, error_of_replay, error_of, after}
+use Rattle.ba_checker.specs.Facts.{Differs, AreDifferent, AreAmong}
 use Rattle.ba_search.specs.Searching.{ArePart}
 use Rattle.ba_search.specs.Answers.{AreAssumptions, IsCore}
 use Rattle.ba_cores.specs.Rounds.{literals_of, IsReady}

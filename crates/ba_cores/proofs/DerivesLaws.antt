@@ -6,15 +6,15 @@ use Rattle.std.proofs.lemmas.List.Elements.{All-nil, All-cons, All-append}
 use Rattle.ba_lits.specs.Literals.{Literal}
 use Rattle.ba_lits.specs.Satisfaction.{Soft}
 use Rattle.ba_lits.specs.Formulas.{Cnf}
-use Rattle.ba_steps.specs.States.{State, first_state}
-use Rattle.ba_steps.specs.Judging.{Judge, error_of, after, after_all, next_if}
 use Rattle.ba_steps.specs.Sinks.{Logs, with_step, MayAddStep}
-use Rattle.ba_steps.specs.Puts.{IsTakenOrAsleep, with_steps, leaves_all, leaves_last}
-use Rattle.ba_steps.proofs.PutLaws.{logs_then, leaves_weaker, leaves_after}
 use Rattle.ba_steps.specs.Steps.{IsFormed}
 use Rattle.ba_steps.specs.declared.step.CertStep.{CertStep}
 use Rattle.ba_steps.specs.declared.step.CertStep.TheVariants.{Learn, Core, Delete}
 use Rattle.ba_steps.specs.declared.step.StepError.{StepError}
+use Rattle.ba_checker.specs.States.{State, first_state}
+use Rattle.ba_checker.specs.Judging.{Judge, error_of, after, after_all, next_if}
+use Rattle.ba_checker.specs.Puts.{IsTakenOrAsleep, with_steps, leaves_all, leaves_last}
+use Rattle.ba_checker.proofs.PutLaws.{logs_then, leaves_weaker, leaves_after}
 use Rattle.ba_search.specs.Searching.{Searches, searches_none, searches_learn, searches_delete, Leaves as LeavesSearched}
 use Rattle.ba_search.proofs.StepLaws.{Gives}
 use Rattle.ba_cores.specs.Derivations.{Derives, derives_none, derives_learn, derives_delete, derives_core, Leaves, IsReached}

@@ -5,8 +5,8 @@ use Rattle.std.proofs.lemmas.List.Elements.{All-filter}
 use Rattle.ba_lits.specs.Literals.{Literal, negate, lit_at, index_of}
 use Rattle.ba_lits.specs.Satisfaction.{Soft}
 use Rattle.ba_lits.specs.Hints.{has_literal}
-use Rattle.ba_steps.specs.States.{State}
-use Rattle.ba_steps.specs.Facts.{Differs, AreDifferent, AreAmong}
+use Rattle.ba_checker.specs.States.{State}
+use Rattle.ba_checker.specs.Facts.{Differs, AreDifferent, AreAmong}
 use Rattle.ba_search.specs.Answers.{AreAssumptions, IsModel, IsCore}
 use Rattle.ba_cores.specs.Rounds.{literals_of, heavy}
 use Rattle.ba_cores.proofs.CoreLaws.{softs_assumed}

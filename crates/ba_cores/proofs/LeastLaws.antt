@@ -8,11 +8,11 @@ use Rattle.ba_lits.specs.Satisfaction.{Assignment, lit_true, any_true, all_true,
 use Rattle.ba_lits.specs.Formulas.{Cnf}
 use Rattle.ba_lits.specs.Hints.{FollowsByHints}
 use Rattle.ba_lits.proofs.Satisfied.{cost-agree}
-use Rattle.ba_steps.specs.States.{Kept, State, clause_at, present, first_state}
-use Rattle.ba_steps.specs.Judging.{Judge, error_of_replay}
-use Rattle.ba_steps.specs.Facts.{IsLive, Holds, splits_of}
-use Rattle.ba_steps.specs.Blocks.{block_clauses}
-use Rattle.ba_steps.proofs.FactLaws.{facts_hold, follows_true, among-below}
+use Rattle.ba_checker.specs.States.{Kept, State, clause_at, present, first_state}
+use Rattle.ba_checker.specs.Judging.{Judge, error_of_replay}
+use Rattle.ba_checker.specs.Facts.{IsLive, Holds, splits_of}
+use Rattle.ba_checker.specs.Blocks.{block_clauses}
+use Rattle.ba_checker.proofs.FactLaws.{facts_hold, follows_true, among-below}
 use Rattle.ba_search.specs.Answers.{IsModel, IsCore}
 use Rattle.ba_cores.specs.Derivations.{IsReached}
 use Rattle.ba_cores.specs.Findings.{IsLeast, IsFound}

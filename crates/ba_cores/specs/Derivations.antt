@@ -5,14 +5,14 @@ use Rattle.ba_lits.specs.Literals.{Literal}
 use Rattle.ba_lits.specs.Satisfaction.{Soft}
 use Rattle.ba_lits.specs.Formulas.{Cnf}
 use Rattle.ba_learn.specs.Live.{IsNew}
-use Rattle.ba_steps.specs.States.{State, clause_at, first_state}
-use Rattle.ba_steps.specs.Judging.{Judge, error_of, after, after_all}
 use Rattle.ba_steps.specs.Steps.{IsFormed}
-use Rattle.ba_steps.specs.Facts.{IsStart}
 use Rattle.ba_steps.specs.Sinks.{Logs}
-use Rattle.ba_steps.specs.Puts.{LeavesSteps}
 use Rattle.ba_steps.specs.declared.step.CertStep.{CertStep}
 use Rattle.ba_steps.specs.declared.step.CertStep.TheVariants.{Learn, Core, Delete}
+use Rattle.ba_checker.specs.States.{State, clause_at, first_state}
+use Rattle.ba_checker.specs.Judging.{Judge, error_of, after, after_all}
+use Rattle.ba_checker.specs.Facts.{IsStart}
+use Rattle.ba_checker.specs.Puts.{LeavesSteps}
 
 -- Learn, Delete and Core steps lead from one state of a checker to another: each has the form that its text asks for and is
 -- allowed, and the clause of a Learn step is new to propagation for the clauses that are live at that moment

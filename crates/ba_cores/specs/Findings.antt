@@ -4,9 +4,9 @@ use Rattle.std.specs.Prelude.{◌≡◌, ℕ, ◌<◌, ◌≤◌, Bool, true, Li
 use Rattle.ba_lits.specs.Satisfaction.{Assignment, all_true, assignment_of, Soft, cost}
 use Rattle.ba_lits.specs.Formulas.{Cnf}
 use Rattle.ba_lits.specs.Hints.{FollowsByHints}
-use Rattle.ba_steps.specs.States.{State, clause_at, present}
 use Rattle.ba_steps.specs.Steps.{AreNumbers}
-use Rattle.ba_steps.specs.Judging.{Judge}
+use Rattle.ba_checker.specs.States.{State, clause_at, present}
+use Rattle.ba_checker.specs.Judging.{Judge}
 use Rattle.ba_cores.specs.Derivations.{IsReached}
 use Rattle.ba_cores.specs.declared.costs.Found.{Found}
 use Rattle.ba_cores.specs.declared.costs.Found.TheVariants.{Least, NoModel, Spent}

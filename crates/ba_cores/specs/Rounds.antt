@@ -3,10 +3,10 @@
 use Rattle.std.specs.Prelude.{◌≡◌, ℕ, ◌+◌, ◌-◌, ◌<◌, not, ltb, false, Option, None, Some, List, [], map, filter}
 use Rattle.ba_lits.specs.Literals.{Literal}
 use Rattle.ba_lits.specs.Satisfaction.{Soft}
-use Rattle.ba_steps.specs.States.{State}
-use Rattle.ba_steps.specs.Judging.{Judge}
 use Rattle.ba_steps.specs.Sinks.{Logs}
-use Rattle.ba_steps.specs.Puts.{PutsSteps}
+use Rattle.ba_checker.specs.States.{State}
+use Rattle.ba_checker.specs.Judging.{Judge}
+use Rattle.ba_checker.specs.Puts.{PutsSteps}
 use Rattle.ba_cores.specs.Derivations.{Derives}
 use Rattle.ba_cores.specs.Findings.{IsFound}
 use Rattle.ba_cores.specs.declared.costs.Found.{Found}

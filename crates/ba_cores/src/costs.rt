@@ -2,20 +2,21 @@
 
 ghost use Rattle.std.specs.Prelude.{◌≡◌, ◌≤◌, ◌⊎◌, [], None, Some, false, List, IfOk, OnOk, Err};
 ghost use Rattle.ba_learn.specs.Live.{AreLive};
-ghost use Rattle.ba_steps.specs.States.{clause_at};
 ghost use Rattle.ba_steps.specs.Sinks.{Rose};
 ghost use Rattle.ba_steps.specs.declared.step.CertStep.{CertStep};
+ghost use Rattle.ba_checker.specs.States.{clause_at};
 ghost use Rattle.ba_search.specs.Rules.{IsRestartRule, IsKeepRule};
-ghost use Rattle.ba_steps.specs.Puts.{with_steps};
+ghost use Rattle.ba_checker.specs.Puts.{with_steps};
 ghost use Rattle.ba_search.specs.declared.search.SearchError.{SearchError};
 ghost use Rattle.ba_cores.specs.Derivations.{Derives, Leaves};
 ghost use Rattle.ba_cores.specs.Findings.{IsFound};
 
 use crate::rounds::{heaviest, round};
+use ba_checker::Checked;
 use ba_items::Items;
 use ba_lits::Model;
 use ba_search::{Search, SearchError};
-use ba_steps::{Checked, RunJudge, StepSink};
+use ba_steps::{RunJudge, StepSink};
 use std::alloc::Global;
 
 /// What the least cost is.

@@ -3,8 +3,8 @@
 
 ghost use Rattle.std.specs.Prelude.{◌≡◌, ◌-◌, ◌<◌, ◌≤◌, ◌∷◌, ◌++◌, [], None, true, false, length, IfOk, IfSome, IfNone, OnOk, Err};
 ghost use Rattle.ba_learn.specs.Live.{AreLive};
-ghost use Rattle.ba_steps.specs.States.{clause_at};
 ghost use Rattle.ba_steps.specs.Sinks.{Rose};
+ghost use Rattle.ba_checker.specs.States.{clause_at};
 ghost use Rattle.ba_search.specs.Rules.{IsRestartRule, IsKeepRule};
 ghost use Rattle.ba_search.specs.Answers.{IsAnswer, IsCore, IsModel};
 ghost use Rattle.ba_search.specs.declared.search.SearchError.{SearchError};
@@ -13,10 +13,11 @@ ghost use Rattle.ba_cores.specs.Findings.{IsFound};
 ghost use Rattle.ba_cores.specs.Rounds.{literals_of, heavy, IsReady, Puts, EndsRound};
 
 use crate::costs::Found;
+use ba_checker::Checked;
 use ba_learn::Learnt;
 use ba_lits::{Lit, Model};
 use ba_search::{Answer, Search, SearchError};
-use ba_steps::{CertStep, Checked, RunJudge, StepSink};
+use ba_steps::{CertStep, RunJudge, StepSink};
 use std::alloc::{AllocError, Global};
 
 /// Searches once for a model that satisfies the present soft literals of at least a weight. What is found, or nothing

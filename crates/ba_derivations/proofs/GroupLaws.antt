@@ -6,9 +6,9 @@ use Rattle.std.proofs.lemmas.List.Sums.{sum_by-cons}
 use Rattle.std.specs.List.{slice_get}
 use Rattle.ba_lits.specs.Literals.{Literal, negate}
 use Rattle.ba_lits.specs.Satisfaction.{Assignment, Soft, signed, lit_true, any_true, cost}
-use Rattle.ba_steps.specs.Blocks.{entry_of, entry_weight, weight_at, set_weight, lacks_group, placed, with_selector, block_clause}
-use Rattle.ba_steps.specs.States.{present}
 use Rattle.ba_steps.specs.Steps.{AreAbove}
+use Rattle.ba_checker.specs.Blocks.{entry_of, entry_weight, weight_at, set_weight, lacks_group, placed, with_selector, block_clause}
+use Rattle.ba_checker.specs.States.{present}
 use Rattle.ba_tree.specs.Least as least
 use Rattle.ba_tree.specs.Least.{WeightList, AreRelaxableAbove, weight_of}
 use Rattle.ba_derivations.specs.Encodings.{is_false_group, with_if, false_groups_from, false_groups, weight_if}

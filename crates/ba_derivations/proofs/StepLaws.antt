@@ -3,15 +3,15 @@ use Rattle.std.proofs.Common.{◌≡◌, ◌+◌, Bool, true, false, not, Option
 use Rattle.std.proofs.lemmas.List.{append_assoc, append-nil}
 use Rattle.std.proofs.lemmas.List.Elements.{All-nil, All-cons, All-head, All-tail}
 use Rattle.std.proofs.lemmas.Option.{same_Some}
-use Rattle.ba_steps.specs.Blocks.{lacks_group, is_among, set_weight}
-use Rattle.ba_steps.specs.Judging.{Judge, error_if, error_of, error_before_end, after, after_all, next_if}
-use Rattle.ba_steps.specs.States.{State}
 use Rattle.ba_steps.specs.Steps.{IsFormed}
 use Rattle.ba_steps.specs.declared.step.CertStep.{CertStep}
 use Rattle.ba_steps.specs.declared.step.CertStep.TheVariants.{Learn, Core, Delete, Block, EndLocated, EndNoRepair, EndTooMany, EndSpent}
 use Rattle.ba_steps.specs.declared.step.StepError.{StepError}
 use Rattle.ba_steps.specs.declared.step.StepError.TheVariants.{AfterEnd, BadVariable, Memory, RunNotGood, SetTwice, WrongWeight}
-use Rattle.ba_steps.proofs.FactLaws.{no_error}
+use Rattle.ba_checker.specs.Blocks.{lacks_group, is_among, set_weight}
+use Rattle.ba_checker.specs.Judging.{Judge, error_if, error_of, error_before_end, after, after_all, next_if}
+use Rattle.ba_checker.specs.States.{State}
+use Rattle.ba_checker.proofs.FactLaws.{no_error}
 use Rattle.ba_derivations.specs.declared.verdict.FoundSet.{FoundSet}
 use Rattle.ba_derivations.specs.Derivations.{IsGood, blocked_by, conflict_of, conflicts_in, sets_of, with_block}
 

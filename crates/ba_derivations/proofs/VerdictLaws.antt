@@ -12,16 +12,16 @@ use Rattle.ba_lits.specs.Hints.{has_literal}
 use Rattle.ba_lits.specs.Literals.{Literal, index_of, negate}
 use Rattle.ba_lits.specs.Satisfaction.{Assignment, Soft, all_true, any_true, cost, lit_true}
 use Rattle.ba_lits.proofs.Members.{same_literal}
-use Rattle.ba_steps.specs.Blocks.{block_clause, block_clauses, set_weight}
-use Rattle.ba_steps.specs.Facts.{Holds, IsBlocked, IsStart, all_lits, splits_of}
-use Rattle.ba_steps.specs.Judging.{error_if, error_of, hint_error, is_spent, lacks_soft, lacks_variable, are_too_many}
-use Rattle.ba_steps.specs.Splits.{is_soft}
-use Rattle.ba_steps.specs.States.{State}
 use Rattle.ba_steps.specs.Steps.{IsFormed}
 use Rattle.ba_steps.specs.declared.step.CertStep.{CertStep}
 use Rattle.ba_steps.specs.declared.step.CertStep.TheVariants.{Learn, Core, Delete, Block, EndLocated, EndNoRepair, EndTooMany, EndSpent}
 use Rattle.ba_steps.specs.declared.step.StepError.TheVariants.{BadVariable, NotSofts, WrongCount}
-use Rattle.ba_steps.proofs.FactLaws.{facts_hold, follows_true, no_error}
+use Rattle.ba_checker.specs.Blocks.{block_clause, block_clauses, set_weight}
+use Rattle.ba_checker.specs.Facts.{Holds, IsBlocked, IsStart, all_lits, splits_of}
+use Rattle.ba_checker.specs.Judging.{error_if, error_of, hint_error, is_spent, lacks_soft, lacks_variable, are_too_many}
+use Rattle.ba_checker.specs.Splits.{is_soft}
+use Rattle.ba_checker.specs.States.{State}
+use Rattle.ba_checker.proofs.FactLaws.{facts_hold, follows_true, no_error}
 use Rattle.ba_tree.specs.Least.{Judge, WeightList, AreInOrder, AreLeast, IsFeasible, IsLeastSet, IsRelaxableSet, weight_of}
 use Rattle.ba_tree.proofs.Members.{here, there, contains_has}
 use Rattle.ba_derivations.specs.Derivations.{AreAllLeast, AreTooMany, AreTooManyModelSets, Derives, DerivesOver, HaveSameSets, IsGood, IsLeastModelSet, Located, NoRepair, Problem, Spent, TooMany, Verdict, blocked_by, conflicts_in, sets_of, start_of, verdict_of}

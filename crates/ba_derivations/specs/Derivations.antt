@@ -5,12 +5,12 @@ use Rattle.std.specs.Cmp.Lexicographic.{pointwise}
 use Rattle.std.specs.List.{IsDistinct}
 use Rattle.ba_lits.specs.Formulas.{Cnf}
 use Rattle.ba_lits.specs.Satisfaction.{Soft}
-use Rattle.ba_steps.specs.Blocks.{set_weight}
-use Rattle.ba_steps.specs.Judging.{Judge, after_all, error_of}
-use Rattle.ba_steps.specs.States.{State, first_state}
 use Rattle.ba_steps.specs.Steps.{IsFormed}
 use Rattle.ba_steps.specs.declared.step.CertStep.{CertStep}
 use Rattle.ba_steps.specs.declared.step.CertStep.TheVariants.{Learn, Core, Delete, Block, EndLocated, EndNoRepair, EndTooMany, EndSpent}
+use Rattle.ba_checker.specs.Blocks.{set_weight}
+use Rattle.ba_checker.specs.Judging.{Judge, after_all, error_of}
+use Rattle.ba_checker.specs.States.{State, first_state}
 use Rattle.ba_derivations.specs.declared.verdict.FoundSet.{FoundSet}
 use Rattle.ba_derivations.specs.Encodings.{HasModelFor, IsFaithful}
 use Rattle.ba_tree.specs.Least.{WeightList, IsLeastSet, weight_of}

@@ -4,8 +4,8 @@ use Rattle.std.specs.Prelude.{◌≡◌, ℕ, suc, ◌==◌, ◌↔◌, Bool, tr
 use Rattle.ba_lits.specs.Formulas.{Cnf}
 use Rattle.ba_lits.specs.Literals.{IsClause}
 use Rattle.ba_lits.specs.Satisfaction.{Assignment, Soft, all_true, lit_true}
-use Rattle.ba_steps.specs.Blocks as groups
-use Rattle.ba_steps.specs.Facts.{AreSelectors}
+use Rattle.ba_checker.specs.Blocks as groups
+use Rattle.ba_checker.specs.Facts.{AreSelectors}
 use Rattle.ba_tree.specs.Least.{Judge, WeightList, IsFeasible, IsRelaxableSet, weight_at}
 
 -- THE SET OF AN ASSIGNMENT. Entry n - 1 of a list of soft literals is the selector of group n, with its

@@ -7,8 +7,8 @@ ghost use Rattle.ba_derivations.specs.Derivations.{HaveSameSets, IsGood, Problem
 ghost use Rattle.ba_derivations.specs.Derivations.{Located, NoRepair, Spent, TooMany};
 ghost use Rattle.ba_derivations.specs.Derivations.{blocked_by, conflicts_in, sets_of};
 ghost use Rattle.ba_derivations.specs.Encodings.{HasModelFor};
-ghost use Rattle.ba_steps.specs.Facts.{IsStart};
 ghost use Rattle.ba_steps.specs.declared.step.CertStep.{CertStep};
+ghost use Rattle.ba_checker.specs.Facts.{IsStart};
 ghost use Rattle.ba_tree.specs.Least.{AreInOrder, AreLeast, Judge, WeightList};
 
 /// Over a faithful encoding, the sets of a derived verdict `Located` are exactly the least sets, all

@@ -17,13 +17,13 @@ use Rattle.ba_enum.proofs.GroupLaws.{groups_ascend, some_groups, groups_exist, n
 use Rattle.ba_enum.proofs.LeadLaws.{reached_groups, reached_wide, one_after}
 use Rattle.ba_enum.proofs.RangeLaws.{formed_choices}
 use Rattle.ba_lits.specs.Satisfaction.{Assignment, Soft, assignment_of}
-use Rattle.ba_steps.specs.Blocks.{lacks_group, is_among, set_weight}
-use Rattle.ba_steps.specs.Judging.{Judge, error_if, error_of, after}
 use Rattle.ba_steps.specs.Sinks.{Logs, with_step}
-use Rattle.ba_steps.specs.States.{State}
 use Rattle.ba_steps.specs.Steps.{AreAbove, IsFormed}
 use Rattle.ba_steps.specs.declared.step.CertStep.TheVariants.{Block}
 use Rattle.ba_steps.specs.declared.step.StepError.TheVariants.{AfterEnd, Memory, BadVariable, SetTwice, WrongWeight, RunNotGood}
+use Rattle.ba_checker.specs.Blocks.{lacks_group, is_among, set_weight}
+use Rattle.ba_checker.specs.Judging.{Judge, error_if, error_of, after}
+use Rattle.ba_checker.specs.States.{State}
 
 -- what is blocked: the set of a model, with the run that is read from it
 pub record IsRead (encoded : Encoded) (values : List Bool) (set : FoundSet) : Type 0 where

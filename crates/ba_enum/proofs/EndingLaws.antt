@@ -24,12 +24,12 @@ use Rattle.ba_lits.specs.Satisfaction.{Soft}
 use Rattle.ba_lits.specs.declared.assignment.Model.{Model}
 use Rattle.ba_search.specs.Searching.{Searching}
 use Rattle.ba_search.specs.declared.search.SearchError.{SearchError}
-use Rattle.ba_steps.specs.Facts.{IsStart}
-use Rattle.ba_steps.specs.Judging.{Judge}
-use Rattle.ba_steps.specs.Puts.{Putting}
 use Rattle.ba_steps.specs.Sinks.{Logs}
-use Rattle.ba_steps.specs.States.{State, first_state}
 use Rattle.ba_steps.specs.Steps.{IsFormed}
+use Rattle.ba_checker.specs.Facts.{IsStart}
+use Rattle.ba_checker.specs.Judging.{Judge}
+use Rattle.ba_checker.specs.Puts.{Putting}
+use Rattle.ba_checker.specs.States.{State, first_state}
 
 -- the found sets differ
 pub reached_differ : {good : Judge} {formula : Cnf} {softs : List Soft} (s : State) (found : List FoundSet) →

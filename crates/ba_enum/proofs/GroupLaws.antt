@@ -8,10 +8,10 @@ use Rattle.std.specs.Cmp.Lexicographic.{pointwise, bytes_decides}
 use Rattle.std.specs.List.{slice_get}
 use Rattle.ba_lits.specs.Literals.{Literal}
 use Rattle.ba_lits.specs.Satisfaction.{Assignment, Soft, lit_true, any_true, all_true}
-use Rattle.ba_steps.specs.Blocks.{entry_of, entry_weight, weight_at, lacks_group, is_among, placed, with_selector, block_clause, block_clauses}
-use Rattle.ba_steps.specs.Facts.{AreAmong}
-use Rattle.ba_steps.specs.States.{present}
 use Rattle.ba_steps.specs.Steps.{AreAbove}
+use Rattle.ba_checker.specs.Blocks.{entry_of, entry_weight, weight_at, lacks_group, is_among, placed, with_selector, block_clause, block_clauses}
+use Rattle.ba_checker.specs.Facts.{AreAmong}
+use Rattle.ba_checker.specs.States.{present}
 use Rattle.ba_derivations.specs.Encodings.{is_false_group, with_if, false_groups_from, false_groups}
 
 -- the entries from a place on

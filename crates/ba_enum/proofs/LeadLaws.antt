@@ -5,17 +5,17 @@ use Rattle.std.proofs.lemmas.List.Elements.{All-nil, All-append}
 use Rattle.std.proofs.lemmas.Option.{same_Some}
 use Rattle.ba_lits.specs.Satisfaction.{Soft}
 use Rattle.ba_lits.specs.Formulas.{Cnf}
-use Rattle.ba_steps.specs.States.{State, first_state}
-use Rattle.ba_steps.specs.Judging.{Judge, error_of, after, after_all, next_if}
-use Rattle.ba_steps.specs.Facts.{IsStart, Holds, splits_of}
 use Rattle.ba_steps.specs.Sinks.{Logs, with_step, MayAddStep}
-use Rattle.ba_steps.specs.Puts.{IsTakenOrAsleep, leaves_all, leaves_last}
 use Rattle.ba_steps.specs.Steps.{IsFormed}
 use Rattle.ba_steps.specs.declared.step.CertStep.{CertStep}
 use Rattle.ba_steps.specs.declared.step.CertStep.TheVariants.{Learn, Core, Delete, Block, EndLocated, EndNoRepair, EndTooMany, EndSpent}
 use Rattle.ba_steps.specs.declared.step.StepError.{StepError}
-use Rattle.ba_steps.proofs.FactLaws.{facts_hold}
-use Rattle.ba_steps.proofs.PutLaws.{logs_then, leaves_after}
+use Rattle.ba_checker.specs.States.{State, first_state}
+use Rattle.ba_checker.specs.Judging.{Judge, error_of, after, after_all, next_if}
+use Rattle.ba_checker.specs.Facts.{IsStart, Holds, splits_of}
+use Rattle.ba_checker.specs.Puts.{IsTakenOrAsleep, leaves_all, leaves_last}
+use Rattle.ba_checker.proofs.FactLaws.{facts_hold}
+use Rattle.ba_checker.proofs.PutLaws.{logs_then, leaves_after}
 use Rattle.ba_derivations.specs.Derivations.{blocked_by, sets_of}
 use Rattle.ba_derivations.specs.Encodings.{HasModelFor}
 use Rattle.ba_derivations.specs.declared.verdict.FoundSet.{FoundSet}

@@ -7,11 +7,11 @@ use Rattle.ba_lits.specs.Literals.{Literal}
 use Rattle.ba_lits.specs.Satisfaction.{Assignment, lit_true, any_true, all_true, assignment_of, Soft, cost}
 use Rattle.ba_lits.specs.Formulas.{Cnf}
 use Rattle.ba_lits.proofs.Satisfied.{cost-agree}
-use Rattle.ba_steps.specs.States.{Kept, State, clause_at, present, first_state}
-use Rattle.ba_steps.specs.Judging.{Judge}
-use Rattle.ba_steps.specs.Facts.{IsLive, Holds, splits_of}
-use Rattle.ba_steps.specs.Blocks.{block_clauses}
-use Rattle.ba_steps.proofs.FactLaws.{among-below}
+use Rattle.ba_checker.specs.States.{Kept, State, clause_at, present, first_state}
+use Rattle.ba_checker.specs.Judging.{Judge}
+use Rattle.ba_checker.specs.Facts.{IsLive, Holds, splits_of}
+use Rattle.ba_checker.specs.Blocks.{block_clauses}
+use Rattle.ba_checker.proofs.FactLaws.{among-below}
 use Rattle.ba_search.specs.Answers.{IsModel}
 use Rattle.ba_cores.specs.Rounds.{literals_of}
 use Rattle.ba_cores.specs.Findings.{IsLeast}

@@ -12,12 +12,12 @@ use Rattle.ba_lits.specs.Formulas.{Cnf}
 use Rattle.ba_lits.specs.Satisfaction.{Soft}
 use Rattle.ba_search.specs.Searching.{Searches, Leaves as LeavesSearched}
 use Rattle.ba_search.proofs.StepLaws.{Gives}
-use Rattle.ba_steps.specs.Judging.{Judge}
-use Rattle.ba_steps.specs.Puts.{with_steps}
 use Rattle.ba_steps.specs.Sinks.{Logs}
-use Rattle.ba_steps.specs.States.{State}
 use Rattle.ba_steps.specs.declared.step.CertStep.{CertStep}
-use Rattle.ba_steps.proofs.PutLaws.{leaves_weaker}
+use Rattle.ba_checker.specs.Judging.{Judge}
+use Rattle.ba_checker.specs.Puts.{with_steps}
+use Rattle.ba_checker.specs.States.{State}
+use Rattle.ba_checker.proofs.PutLaws.{leaves_weaker}
 
 -- Learn, Delete and Core steps
 derives_news : {good : Judge} {a b : State} {xs : List CertStep} → cores.Derives good a xs b → AreNew a xs

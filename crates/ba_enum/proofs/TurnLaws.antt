@@ -18,11 +18,11 @@ use Rattle.ba_search.specs.Searching.{ArePart}
 use Rattle.ba_search.specs.declared.search.Answer.{Answer}
 use Rattle.ba_search.specs.declared.search.Answer.TheVariants.{Model, Core, Spent}
 use Rattle.ba_search.proofs.TakenLaws.{clause_at-more, number_le}
-use Rattle.ba_steps.specs.Blocks.{block_clause}
-use Rattle.ba_steps.specs.Judging.{Judge}
 use Rattle.ba_steps.specs.Sinks.{Logs}
-use Rattle.ba_steps.specs.States.{kept, State, clause_at}
-use Rattle.ba_steps.specs.declared.store.Origin.TheVariants as origins
+use Rattle.ba_checker.specs.Blocks.{block_clause}
+use Rattle.ba_checker.specs.Judging.{Judge}
+use Rattle.ba_checker.specs.States.{kept, State, clause_at}
+use Rattle.ba_checker.specs.declared.store.Origin.TheVariants as origins
 
 -- the search's clauses stay part of the checker's
 pub part_after_block : {good : Judge} {formula : Cnf} {softs : List Soft} {s t : State} {f h : List FoundSet}

@@ -16,17 +16,17 @@ use Rattle.ba_enum.specs.Leading.{IsNewIn, IsReached, Puts}
 use Rattle.ba_enum.proofs.LeadLaws.{after_append, one_after, news_append, reached_facts}
 use Rattle.ba_lits.specs.Formulas.{Cnf}
 use Rattle.ba_lits.specs.Satisfaction.{Assignment, all_true, Soft}
-use Rattle.ba_steps.specs.Judging.{Judge, error_if, is_spent, hint_error, error_of}
-use Rattle.ba_steps.specs.Blocks.{block_clauses}
-use Rattle.ba_steps.specs.Facts.{IsStart}
 use Rattle.ba_steps.specs.Sinks.{Logs}
-use Rattle.ba_steps.specs.States.{State}
 use Rattle.ba_steps.specs.Steps.{IsFormed}
 use Rattle.ba_steps.specs.declared.step.CertStep.{CertStep}
 use Rattle.ba_steps.specs.declared.step.CertStep.TheVariants.{Learn, Core, Delete, Block, EndLocated, EndNoRepair, EndTooMany, EndSpent}
 use Rattle.ba_steps.specs.declared.step.StepError.TheVariants.{WrongCount}
-use Rattle.ba_steps.proofs.FactLaws.{no_error, follows_true}
-use Rattle.ba_steps.proofs.PutLaws.{logs_then}
+use Rattle.ba_checker.specs.Judging.{Judge, error_if, is_spent, hint_error, error_of}
+use Rattle.ba_checker.specs.Blocks.{block_clauses}
+use Rattle.ba_checker.specs.Facts.{IsStart}
+use Rattle.ba_checker.specs.States.{State}
+use Rattle.ba_checker.proofs.FactLaws.{no_error, follows_true}
+use Rattle.ba_checker.proofs.PutLaws.{logs_then}
 
 -- an End step blocks nothing, and learns nothing
 ends_block : (s : State) (last : CertStep) (said : derived.Verdict) → verdict_of s last ≡ Some said →

@@ -10,12 +10,12 @@ use Rattle.ba_derivations.specs.declared.verdict.Verdict.TheVariants.{Located, N
 use Rattle.ba_enum.specs.Leading.{AreNew, Puts}
 use Rattle.ba_lits.specs.Formulas.{Cnf}
 use Rattle.ba_lits.specs.Satisfaction.{Assignment, all_true, Soft}
-use Rattle.ba_steps.specs.Judging.{Judge, error_of, after, after_all}
-use Rattle.ba_steps.specs.Puts.{with_steps}
 use Rattle.ba_steps.specs.Sinks.{Logs, with_step}
-use Rattle.ba_steps.specs.States.{State}
 use Rattle.ba_steps.specs.Steps.{IsFormed}
 use Rattle.ba_steps.specs.declared.step.CertStep.{CertStep}
+use Rattle.ba_checker.specs.Judging.{Judge, error_of, after, after_all}
+use Rattle.ba_checker.specs.Puts.{with_steps}
+use Rattle.ba_checker.specs.States.{State}
 use Rattle.ba_tree.specs.Least.{AreInOrder}
 
 -- the lists have the same sets with the same runs

@@ -7,15 +7,15 @@ use Rattle.ba_derivations.specs.declared.verdict.FoundSet.{FoundSet}
 use Rattle.ba_learn.specs.Live.{IsNew}
 use Rattle.ba_lits.specs.Formulas.{Cnf}
 use Rattle.ba_lits.specs.Satisfaction.{all_true, assignment_of, Soft, cost}
-use Rattle.ba_steps.specs.Blocks.{block_clauses}
-use Rattle.ba_steps.specs.Facts.{IsStart}
-use Rattle.ba_steps.specs.Judging.{Judge, after, after_all, after_block}
-use Rattle.ba_steps.specs.Puts.{PutsSteps, LeavesSteps}
 use Rattle.ba_steps.specs.Sinks.{Logs}
-use Rattle.ba_steps.specs.States.{State, clause_at, first_state, present}
 use Rattle.ba_steps.specs.Steps.{IsFormed}
 use Rattle.ba_steps.specs.declared.step.CertStep.{CertStep}
 use Rattle.ba_steps.specs.declared.step.CertStep.TheVariants.{Learn, Core, Delete, Block, EndLocated, EndNoRepair, EndTooMany, EndSpent}
+use Rattle.ba_checker.specs.Blocks.{block_clauses}
+use Rattle.ba_checker.specs.Facts.{IsStart}
+use Rattle.ba_checker.specs.Judging.{Judge, after, after_all, after_block}
+use Rattle.ba_checker.specs.Puts.{PutsSteps, LeavesSteps}
+use Rattle.ba_checker.specs.States.{State, clause_at, first_state, present}
 
 -- the clause of a Learn step is new to propagation for the clauses that are live in the state
 abbrev pub IsNewIn : State → CertStep → Type 0

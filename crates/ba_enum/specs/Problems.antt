@@ -9,9 +9,9 @@ use Rattle.ba_encode.specs.Softs.{softs_of}
 use Rattle.ba_learn.specs.Live.{AreLive}
 use Rattle.ba_lits.specs.Satisfaction.{Assignment, all_true}
 use Rattle.ba_search.specs.Searching.{Searching}
-use Rattle.ba_steps.specs.Judging.{Judge}
-use Rattle.ba_steps.specs.Puts.{Putting}
-use Rattle.ba_steps.specs.States.{State, clause_at, first_state}
+use Rattle.ba_checker.specs.Judging.{Judge}
+use Rattle.ba_checker.specs.Puts.{Putting}
+use Rattle.ba_checker.specs.States.{State, clause_at, first_state}
 
 -- the problem, with as many conflicts as the checker counts, and as many sets as it allows
 abbrev pub problem_in : Encoded → Judge → State → Problem

@@ -15,8 +15,8 @@ use Rattle.ba_lits.specs.Satisfaction.{Soft}
 use Rattle.ba_search.specs.Answers.{IsCore}
 use Rattle.ba_search.specs.declared.search.Answer.{Answer}
 use Rattle.ba_search.specs.declared.search.Answer.TheVariants as answers
-use Rattle.ba_steps.specs.States.{State, clause_at}
 use Rattle.ba_steps.specs.Steps.{AreNumbers}
+use Rattle.ba_checker.specs.States.{State, clause_at}
 
 -- the clause of a core after which no further set is of least weight
 pub record IsLast (s : State) (found : List FoundSet) (lits : List Literal) (hints : List ℕ)

@@ -9,18 +9,19 @@ ghost use Rattle.ba_enum.specs.Problems.{IsReadable};
 ghost use Rattle.ba_encode.specs.Softs.{softs_of};
 ghost use Rattle.ba_lits.specs.Satisfaction.{assignment_of};
 ghost use Rattle.ba_search.specs.declared.search.SearchError.{SearchError};
-ghost use Rattle.ba_steps.specs.Facts.{AreAmong};
 ghost use Rattle.ba_steps.specs.Sinks.{Rose};
-ghost use Rattle.ba_steps.specs.States.{present};
+ghost use Rattle.ba_checker.specs.Facts.{AreAmong};
+ghost use Rattle.ba_checker.specs.States.{present};
 
 use crate::putting::put;
 use crate::task::Task;
+use ba_checker::Checked;
 use ba_derivations::FoundSet;
 use ba_encode::choices_of;
 use ba_items::{Items, TryClone};
 use ba_lits::{Lit, Model};
 use ba_search::SearchError;
-use ba_steps::{CertStep, Checked, RunJudge, StepSink};
+use ba_steps::{CertStep, RunJudge, StepSink};
 use std::alloc::{AllocError, Global};
 
 /// Blocks the set of a model, with the run that is read from it, and adds it to those found.

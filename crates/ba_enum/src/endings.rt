@@ -12,11 +12,12 @@ ghost use Rattle.ba_steps.specs.Sinks.{Rose};
 ghost use Rattle.ba_tree.specs.Least.{AreInOrder};
 
 use crate::putting::put;
+use ba_checker::Checked;
 use ba_derivations::{FoundSet, Verdict};
 use ba_items::Items;
 use ba_learn::Learnt;
 use ba_search::SearchError;
-use ba_steps::{CertStep, Checked, RunJudge, StepSink};
+use ba_steps::{CertStep, RunJudge, StepSink};
 use std::alloc::AllocError;
 
 /// Why the search ends.

@@ -10,20 +10,21 @@ ghost use Rattle.ba_learn.specs.Live.{AreLive};
 ghost use Rattle.ba_lits.specs.Satisfaction.{Soft};
 ghost use Rattle.ba_search.specs.Rules.{IsRestartRule, IsKeepRule};
 ghost use Rattle.ba_search.specs.declared.search.SearchError.{SearchError};
-ghost use Rattle.ba_steps.specs.Facts.{IsStart};
 ghost use Rattle.ba_steps.specs.Sinks.{Rose};
-ghost use Rattle.ba_steps.specs.States.{clause_at};
+ghost use Rattle.ba_checker.specs.Facts.{IsStart};
+ghost use Rattle.ba_checker.specs.States.{clause_at};
 
 use crate::endings::{End, finish};
 use crate::task::Task;
 use crate::turns::{Next, turn};
+use ba_checker::Checked;
 use ba_cores::{Found, least};
 use ba_derivations::Verdict;
 use ba_encode::{Encoded, softs_of};
 use ba_items::Items;
 use ba_lits::{Lit, Model};
 use ba_search::{Search, SearchError};
-use ba_steps::{Checked, RunJudge, StepSink};
+use ba_steps::{RunJudge, StepSink};
 use std::alloc::{AllocError, Global};
 
 /// All sets of models of least weight, each with a good run, where they are at most `sets`; else one more than that. The set

@@ -2,13 +2,14 @@
 
 ghost use Rattle.std.specs.Prelude.{◌≡◌, ◌≤◌, false, None, OnOk, OnErr, Err};
 ghost use Rattle.ba_search.specs.declared.search.SearchError.{SearchError};
-ghost use Rattle.ba_steps.specs.Judging.{error_of, after};
-ghost use Rattle.ba_steps.specs.Puts.{IsTakenOrAsleep};
 ghost use Rattle.ba_steps.specs.Sinks.{MayAddStep, Rose, with_step};
 ghost use Rattle.ba_steps.specs.Steps.{IsFormed};
+ghost use Rattle.ba_checker.specs.Judging.{error_of, after};
+ghost use Rattle.ba_checker.specs.Puts.{IsTakenOrAsleep};
 
+use ba_checker::Checked;
 use ba_search::SearchError;
-use ba_steps::{CertStep, Checked, RunJudge, StepSink};
+use ba_steps::{CertStep, RunJudge, StepSink};
 
 /// Puts an allowed step.
 ///

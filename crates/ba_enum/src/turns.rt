@@ -10,16 +10,17 @@ ghost use Rattle.ba_learn.specs.Live.{AreLive};
 ghost use Rattle.ba_search.specs.Rules.{IsRestartRule, IsKeepRule};
 ghost use Rattle.ba_search.specs.declared.search.SearchError.{SearchError};
 ghost use Rattle.ba_steps.specs.Sinks.{Rose};
-ghost use Rattle.ba_steps.specs.States.{clause_at};
+ghost use Rattle.ba_checker.specs.States.{clause_at};
 
 use crate::blocking::block;
 use crate::endings::End;
 use crate::task::Task;
+use ba_checker::Checked;
 use ba_derivations::FoundSet;
 use ba_items::Items;
 use ba_lits::Model;
 use ba_search::{Answer, Search, SearchError};
-use ba_steps::{Checked, RunJudge, StepSink};
+use ba_steps::{RunJudge, StepSink};
 use std::alloc::Global;
 
 /// What a turn comes to: a model whose set is another one, or the end.

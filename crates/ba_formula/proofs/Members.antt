@@ -17,9 +17,9 @@ use Rattle.ba_lits.specs.Formulas.{Cnf}
 use Rattle.ba_lits.specs.Literals.{Literal}
 use Rattle.ba_lits.specs.Satisfaction.{Assignment, Soft, lit_true}
 use Rattle.ba_numbers.specs.declared.ids.StmtId.{StmtId}
-use Rattle.ba_steps.specs.Blocks as blocks
-use Rattle.ba_steps.specs.Facts.{AreDifferent, AreSelectors, Differs}
-use Rattle.ba_steps.specs.States.{present}
+use Rattle.ba_checker.specs.Blocks as blocks
+use Rattle.ba_checker.specs.Facts.{AreDifferent, AreSelectors, Differs}
+use Rattle.ba_checker.specs.States.{present}
 use Rattle.ba_tree.specs.Least.{AreRelaxableAbove, IsRelaxableSet, WeightList, entry_of, stmt_of, weight_at}
 use Rattle.ba_tree.specs.Weights.{is_weight}
 

@@ -11,11 +11,11 @@ use Rattle.ba_derivations.specs.declared.verdict.Verdict.TheVariants.{Located, N
 use Rattle.ba_enum.specs.Enumerating.{Enumerates, HaveSame, Says}
 use Rattle.ba_enum.specs.Leading.{Leaves}
 use Rattle.ba_localise.specs.Verdicts.{AreLocated, Finds, IsVerdict, LeavesDerivation, Told, leaves_steps, problem_of}
-use Rattle.ba_steps.specs.Puts.{with_steps}
 use Rattle.ba_steps.specs.Sinks.{Logs, Rose, with_told}
-use Rattle.ba_steps.specs.States.{State, first_state}
 use Rattle.ba_steps.specs.declared.sink.Basis.{Basis}
 use Rattle.ba_steps.specs.declared.step.CertStep.{CertStep}
+use Rattle.ba_checker.specs.Puts.{with_steps}
+use Rattle.ba_checker.specs.States.{State, first_state}
 use Rattle.ba_tree.specs.Least.{Judge, WeightList, judge_of}
 use Rattle.ba_tree.specs.declared.run.Bounds.{Bounds}
 use Rattle.ba_tree.specs.declared.run.Input.{Input}

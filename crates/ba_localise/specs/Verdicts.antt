@@ -8,11 +8,11 @@ use Rattle.ba_derivations.specs.declared.verdict.Verdict.{Verdict}
 use Rattle.ba_derivations.specs.declared.verdict.Verdict.TheVariants.{Located, NoRepair, TooMany, Spent}
 use Rattle.ba_enum.specs.Enumerating.{Says}
 use Rattle.ba_enum.specs.Leading.{AreNew, Leaves}
-use Rattle.ba_steps.specs.Puts.{with_steps}
 use Rattle.ba_steps.specs.Sinks.{Logs, MayAdd, with_told}
-use Rattle.ba_steps.specs.States.{State, first_state}
 use Rattle.ba_steps.specs.declared.sink.Basis.{Basis}
 use Rattle.ba_steps.specs.declared.step.CertStep.{CertStep}
+use Rattle.ba_checker.specs.Puts.{with_steps}
+use Rattle.ba_checker.specs.States.{State, first_state}
 use Rattle.ba_tree.specs.Least.{AreLeast, Judge, WeightList, weight_of}
 
 -- WHAT A SINK OF STEPS TELLS at one moment: its formulas, its logs, and how often what it writes to has failed

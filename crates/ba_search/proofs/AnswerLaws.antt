@@ -19,7 +19,7 @@ use Rattle.ba_learn.specs.Levels.{IsBacked, NegatesDecided, IsCoreOf}
 use Rattle.ba_learn.specs.Backjumps.{after_backtrack}
 use Rattle.ba_learn.proofs.BackLaws.{back_level, back_asserting}
 use Rattle.ba_learn.proofs.FollowLaws.{false_negates}
-use Rattle.ba_steps.specs.States.{State, clause_at}
+use Rattle.ba_checker.specs.States.{State, clause_at}
 use Rattle.ba_search.specs.Answers.{AreAssumptions, IsModel, IsCore}
 use Rattle.ba_search.specs.Values.{positive, is_true, values_of}
 use Rattle.ba_search.specs.Iterations.{Numbering, AreTrue, IsUnderway}

@@ -4,12 +4,12 @@ use Rattle.std.proofs.Common.{◌≡◌, ℕ, suc, zero, ◌<◌, ◌≤◌, ◌
 use Rattle.std.specs.List.{list_all}
 use Rattle.ba_lits.specs.Literals.{Literal}
 use Rattle.ba_watch.specs.Propagation.{State as Watching}
-use Rattle.ba_steps.specs.States.{State}
 use Rattle.ba_steps.specs.Steps.{AreNumbers, AreAbove, IsFormed}
-use Rattle.ba_steps.specs.Judging.{Judge, may_go, error_of, after, after_delete}
-use Rattle.ba_steps.specs.Puts.{IsTakenOrAsleep}
 use Rattle.ba_steps.specs.Sinks.{Logs, with_step, MayAddStep}
 use Rattle.ba_steps.specs.declared.step.CertStep.TheVariants.{Delete}
+use Rattle.ba_checker.specs.States.{State}
+use Rattle.ba_checker.specs.Judging.{Judge, may_go, error_of, after, after_delete}
+use Rattle.ba_checker.specs.Puts.{IsTakenOrAsleep}
 use Rattle.ba_search.specs.Searching.{IsDiscarded, Leaves}
 use Rattle.ba_search.specs.Iterations.{Numbering, IsUnderway, Puts}
 use Rattle.ba_search.proofs.DeletionLaws.{delete_allowed}

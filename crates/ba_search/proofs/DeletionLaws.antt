@@ -7,11 +7,11 @@ use Rattle.std.proofs.lemmas.List.{length-set}
 use Rattle.std.proofs.lemmas.List.Elements.{All-append, All-cons, All-nil, All-weaker}
 use Rattle.std.specs.List.{list_all, slice_get}
 use Rattle.ba_lits.specs.Literals.{Literal}
-use Rattle.ba_steps.specs.States.{Kept, State, live_lits, lits_of, is_live_origin, clause_at, is_learnt_at, is_learnt_entry, width_at, without, without_all}
-use Rattle.ba_steps.specs.Judging.{Judge, error_if, error_of, may_go, after_delete}
 use Rattle.ba_steps.specs.Steps.{AreAbove}
 use Rattle.ba_steps.specs.declared.step.CertStep.TheVariants.{Delete}
 use Rattle.ba_steps.specs.declared.step.StepError.TheVariants.{AfterEnd, DeadClause, TooSoon, Memory}
+use Rattle.ba_checker.specs.States.{Kept, State, live_lits, lits_of, is_live_origin, clause_at, is_learnt_at, is_learnt_entry, width_at, without, without_all}
+use Rattle.ba_checker.specs.Judging.{Judge, error_if, error_of, may_go, after_delete}
 use Rattle.ba_watch.specs.Propagation.{State as Watching}
 use Rattle.ba_search.specs.Searching.{IsDiscarded}
 use Rattle.ba_search.specs.Iterations.{AreDiscarded, MarksReasons, IsNoReason}
@@ -42,7 +42,7 @@ list_all_push p (k ∷ ks) n all is =
 
 -- the width of a live clause
 pub width_live : (cs : List Kept) (n : ℕ) (lits : List Literal) → clause_at cs n ≡ Some lits → width_at cs n ≡ length lits
-width_live cs n lits is = at (Rattle.ba_steps.specs.States.kept_at cs n) is
+width_live cs n lits is = at (Rattle.ba_checker.specs.States.kept_at cs n) is
   where
     at : (o : Option Kept) → live_lits o ≡ Some lits → length (lits_of o) ≡ length lits
     at None is = absurd (cc is)

@@ -13,8 +13,8 @@ use Rattle.ba_lits.specs.Literals.{Literal, lit_at}
 use Rattle.ba_watch.specs.Threads.{Clause}
 use Rattle.ba_watch.specs.Propagation.{State as Watching, clause_in}
 use Rattle.ba_watch.specs.Deletion.{KeepsOthers, Deletes, MayDelete, IsNamed}
-use Rattle.ba_steps.specs.States.{Kept, State, live_lits, is_learnt_at, clause_at, width_at, without, without_all}
-use Rattle.ba_steps.specs.Judging.{may_go, after_delete}
+use Rattle.ba_checker.specs.States.{Kept, State, live_lits, is_learnt_at, clause_at, width_at, without, without_all}
+use Rattle.ba_checker.specs.Judging.{may_go, after_delete}
 use Rattle.ba_learn.specs.Live.{AreLive, IsSame, HaveDistinctNumbers}
 use Rattle.ba_search.specs.Iterations.{Numbering, HasNumber, MarksLive, MarksOne, IsNoReason, Forgets, AreDecisions, IsDecision, IsUnderway}
 use Rattle.ba_search.proofs.DeletionLaws.{width_live, length-without_all, without_other}

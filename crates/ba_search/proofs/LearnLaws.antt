@@ -19,13 +19,13 @@ use Rattle.ba_learn.specs.Live.{AreLive, IsNew, IsPartOf}
 use Rattle.ba_learn.proofs.FollowLaws.{false_at}
 use Rattle.ba_learn.proofs.ReasonLaws.{reason_live}
 use Rattle.ba_learn.proofs.NewLaws.{contains_none}
-use Rattle.ba_steps.specs.Facts.{IsState}
-use Rattle.ba_steps.specs.Parts.{is_part, is_live_part, holds_clause}
-use Rattle.ba_steps.specs.States.{Kept, kept, State, live_lits, is_live_origin, clause_at}
 use Rattle.ba_steps.specs.Steps.{AreNumbers, AreFormedLits}
-use Rattle.ba_steps.specs.declared.store.Origin.TheVariants.{Given}
 use Rattle.ba_steps.specs.declared.step.CertStep.TheVariants.{Learn}
-use Rattle.ba_steps.specs.Judging.{Judge, error_of, lacks_variable, is_spent, error_of_replay, error_if}
+use Rattle.ba_checker.specs.Facts.{IsState}
+use Rattle.ba_checker.specs.Parts.{is_part, is_live_part, holds_clause}
+use Rattle.ba_checker.specs.States.{Kept, kept, State, live_lits, is_live_origin, clause_at}
+use Rattle.ba_checker.specs.declared.store.Origin.TheVariants.{Given}
+use Rattle.ba_checker.specs.Judging.{Judge, error_of, lacks_variable, is_spent, error_of_replay, error_if}
 use Rattle.ba_search.specs.Iterations.{Numbering, IsUnderway}
 use Rattle.ba_search.proofs.TakenLaws.{number_within, same_some}
 

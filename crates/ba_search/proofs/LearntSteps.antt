@@ -6,14 +6,14 @@ use Rattle.ba_lits.specs.Literals.{Literal, IsClause}
 use Rattle.ba_watch.specs.Propagation.{State as Watching, KeepsFacts}
 use Rattle.ba_learn.specs.Live.{Follows, IsNew, IsNewTo}
 use Rattle.ba_learn.specs.Levels.{IsBacked}
-use Rattle.ba_steps.specs.States.{State, kept, clause_at}
-use Rattle.ba_steps.specs.declared.store.Origin.TheVariants.{Learnt}
 use Rattle.ba_steps.specs.Steps.{IsFormed}
-use Rattle.ba_steps.specs.Judging.{Judge, error_of, after, after_learn}
-use Rattle.ba_steps.specs.Puts.{IsTakenOrAsleep}
 use Rattle.ba_steps.specs.Sinks.{Logs, with_step, MayAddStep}
 use Rattle.ba_steps.specs.declared.step.CertStep.{CertStep}
 use Rattle.ba_steps.specs.declared.step.CertStep.TheVariants.{Learn}
+use Rattle.ba_checker.specs.States.{State, kept, clause_at}
+use Rattle.ba_checker.specs.declared.store.Origin.TheVariants.{Learnt}
+use Rattle.ba_checker.specs.Judging.{Judge, error_of, after, after_learn}
+use Rattle.ba_checker.specs.Puts.{IsTakenOrAsleep}
 use Rattle.ba_search.specs.Searching.{Leaves}
 use Rattle.ba_search.specs.Iterations.{Numbering, IsUnderway, Puts}
 use Rattle.ba_search.proofs.LearnLaws.{Formed, learnt_clause, learnt_numbers, learnt_formed, learn_allowed}

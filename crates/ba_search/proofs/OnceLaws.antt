@@ -5,12 +5,12 @@ use Rattle.ba_lits.specs.Literals.{Literal}
 use Rattle.ba_lits.proofs.Members.{has_literal-at}
 use Rattle.ba_learn.specs.Live.{IsNew}
 use Rattle.ba_learn.proofs.NewLaws.{contains_none}
-use Rattle.ba_steps.specs.States.{Kept, State, kept, clause_at}
-use Rattle.ba_steps.specs.declared.store.Origin.TheVariants.{Learnt}
 use Rattle.ba_steps.specs.Steps.{IsFormed}
-use Rattle.ba_steps.specs.Judging.{Judge, error_of, after_delete}
 use Rattle.ba_steps.specs.declared.step.CertStep.{CertStep}
 use Rattle.ba_steps.specs.declared.step.CertStep.TheVariants.{Learn, Core, Delete, Block, EndLocated, EndNoRepair, EndTooMany, EndSpent}
+use Rattle.ba_checker.specs.States.{Kept, State, kept, clause_at}
+use Rattle.ba_checker.specs.declared.store.Origin.TheVariants.{Learnt}
+use Rattle.ba_checker.specs.Judging.{Judge, error_of, after_delete}
 use Rattle.ba_search.specs.Searching.{Searches, searches_none, searches_learn, searches_delete}
 use Rattle.ba_search.proofs.StepLaws.{Gives}
 use Rattle.ba_search.proofs.DeletionLaws.{all_go, stays_without}

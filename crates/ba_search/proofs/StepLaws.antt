@@ -7,15 +7,15 @@ use Rattle.std.proofs.lemmas.List.Elements.{All-weaker}
 use Rattle.ba_lits.specs.Literals.{Literal}
 use Rattle.ba_watch.specs.Threads.{Clause}
 use Rattle.ba_learn.specs.Live.{AreLive, IsNew}
-use Rattle.ba_steps.specs.States.{kept, State, live_lits, clause_at}
-use Rattle.ba_steps.specs.declared.store.Origin.TheVariants.{Given}
 use Rattle.ba_steps.specs.Steps.{IsFormed}
-use Rattle.ba_steps.specs.Judging.{Judge, error_of, after, after_learn, after_delete}
 use Rattle.ba_steps.specs.Sinks.{Logs, with_step, MayAddStep}
-use Rattle.ba_steps.specs.Puts.{IsTakenOrAsleep, leaves_all, leaves_last}
-use Rattle.ba_steps.proofs.PutLaws.{logs_then, leaves_weaker, leaves_after}
 use Rattle.ba_steps.specs.declared.step.CertStep.{CertStep}
 use Rattle.ba_steps.specs.declared.step.CertStep.TheVariants.{Learn, Delete}
+use Rattle.ba_checker.specs.States.{kept, State, live_lits, clause_at}
+use Rattle.ba_checker.specs.declared.store.Origin.TheVariants.{Given}
+use Rattle.ba_checker.specs.Judging.{Judge, error_of, after, after_learn, after_delete}
+use Rattle.ba_checker.specs.Puts.{IsTakenOrAsleep, leaves_all, leaves_last}
+use Rattle.ba_checker.proofs.PutLaws.{logs_then, leaves_weaker, leaves_after}
 use Rattle.ba_search.specs.Searching.{nothing, IsDiscarded, Searches, searches_none, searches_learn, searches_delete, Leaves}
 use Rattle.ba_search.specs.Iterations.{AreTaken, AreThere, Puts}
 use Rattle.ba_search.proofs.TakenLaws.{taken_live}

@@ -11,8 +11,8 @@ use Rattle.ba_lits.specs.Literals.{Literal}
 use Rattle.ba_watch.specs.Threads.{Clause}
 use Rattle.ba_watch.specs.Propagation.{State, clause_in, SameClause, SameClauses, AddsClause}
 use Rattle.ba_learn.specs.Live.{IsSame, AreLive}
-use Rattle.ba_steps.specs.States.{Kept, kept, live_lits, clause_at}
-use Rattle.ba_steps.specs.declared.store.Origin.TheVariants.{Learnt}
+use Rattle.ba_checker.specs.States.{Kept, kept, live_lits, clause_at}
+use Rattle.ba_checker.specs.declared.store.Origin.TheVariants.{Learnt}
 use Rattle.ba_search.specs.Searching.{ArePart}
 use Rattle.ba_search.specs.Iterations.{Numbering, HasNumber, MarksLive, AreTaken, AreThere, MarksOne, AddsOne}
 

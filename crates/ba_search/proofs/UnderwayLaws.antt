@@ -9,9 +9,9 @@ use Rattle.ba_watch.specs.Trails.{Begins, decided, kept}
 use Rattle.ba_watch.specs.Propagation.{State as Watching, Extends, KeepsFacts}
 use Rattle.ba_watch.proofs.Levels.{decided-take_drop, decided-take-le, decided-take_none, decided-kept}
 use Rattle.ba_learn.specs.Backjumps.{after_backtrack}
-use Rattle.ba_steps.specs.States.{State, kept as kept_as, clause_at}
-use Rattle.ba_steps.specs.declared.store.Origin.TheVariants.{Learnt}
-use Rattle.ba_steps.specs.Judging.{after_learn, after_delete}
+use Rattle.ba_checker.specs.States.{State, kept as kept_as, clause_at}
+use Rattle.ba_checker.specs.declared.store.Origin.TheVariants.{Learnt}
+use Rattle.ba_checker.specs.Judging.{after_learn, after_delete}
 use Rattle.ba_learn.specs.Live.{AreLive}
 use Rattle.ba_watch.specs.Threads.{Clause}
 use Rattle.ba_search.specs.Iterations.{Numbering, MarksLive, LearnsOne, IsDecision, AreDecisions, IsUnderway}

@@ -4,8 +4,8 @@ use Rattle.std.specs.Prelude.{◌≡◌, ◌≢◌, ℕ, ◌<◌, ◌≤◌, Boo
 use Rattle.ba_lits.specs.Literals.{Literal, negate, lit_at, IsClause}
 use Rattle.ba_lits.specs.Satisfaction.{lit_true, any_true, assignment_of}
 use Rattle.ba_lits.specs.Hints.{has_literal, FollowsByHints}
-use Rattle.ba_steps.specs.States.{State, clause_at}
 use Rattle.ba_steps.specs.Steps.{AreNumbers}
+use Rattle.ba_checker.specs.States.{State, clause_at}
 use Rattle.ba_search.specs.declared.search.Answer.{Answer}
 use Rattle.ba_search.specs.declared.search.Answer.TheVariants.{Model, Core, Spent}
 

@@ -6,10 +6,10 @@ use Rattle.ba_lits.specs.Hints.{has_literal}
 use Rattle.ba_watch.specs.Threads.{Clause}
 use Rattle.ba_watch.specs.Trails.{value_of}
 use Rattle.ba_watch.specs.Propagation.{State as Watching, clause_in, AddsClause}
-use Rattle.ba_steps.specs.States.{State, clause_at}
-use Rattle.ba_steps.specs.Judging.{Judge, may_go}
 use Rattle.ba_steps.specs.Sinks.{Logs}
-use Rattle.ba_steps.specs.Puts.{PutsSteps}
+use Rattle.ba_checker.specs.States.{State, clause_at}
+use Rattle.ba_checker.specs.Judging.{Judge, may_go}
+use Rattle.ba_checker.specs.Puts.{PutsSteps}
 use Rattle.ba_learn.specs.Live.{AreLive, HaveDistinctNumbers}
 use Rattle.std.specs.List.{list_all, Contains}
 use Rattle.ba_steps.specs.Steps.{AreNumbers, AreAbove}

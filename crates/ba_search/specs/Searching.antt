@@ -5,13 +5,13 @@ use Rattle.ba_lits.specs.Literals.{Literal}
 use Rattle.ba_watch.specs.Threads.{Clause}
 use Rattle.ba_watch.specs.Propagation.{clause_in}
 use Rattle.ba_learn.specs.Live.{IsSame, IsNew}
-use Rattle.ba_steps.specs.States.{State, clause_at, width_at}
-use Rattle.ba_steps.specs.Judging.{Judge, error_of, after}
 use Rattle.ba_steps.specs.Sinks.{Logs}
-use Rattle.ba_steps.specs.Puts.{LeavesSteps}
 use Rattle.ba_steps.specs.Steps.{IsFormed}
 use Rattle.ba_steps.specs.declared.step.CertStep.{CertStep}
 use Rattle.ba_steps.specs.declared.step.CertStep.TheVariants.{Learn, Delete}
+use Rattle.ba_checker.specs.States.{State, clause_at, width_at}
+use Rattle.ba_checker.specs.Judging.{Judge, error_of, after}
+use Rattle.ba_checker.specs.Puts.{LeavesSteps}
 use Rattle.ba_search.specs.declared.search.SearchError.{SearchError}
 
 -- a search between calls: its variables, its live clauses by reference, the numbers of the clauses that it has learnt, in

@@ -5,7 +5,7 @@ ghost use Rattle.ba_lits.specs.Literals.{Literal, lit_at};
 ghost use Rattle.ba_lits.specs.Hints.{has_literal};
 ghost use Rattle.ba_watch.specs.Trails.{value_of};
 ghost use Rattle.ba_watch.specs.Propagation.{IsComplete};
-ghost use Rattle.ba_steps.specs.States.{State as Checking};
+ghost use Rattle.ba_checker.specs.States.{State as Checking};
 ghost use Rattle.ba_search.specs.Answers.{AreAssumptions, IsAnswer};
 ghost use Rattle.ba_search.specs.Values.{positive, is_true, values_of};
 ghost use Rattle.ba_search.specs.Iterations.{AreTrue, IsDecision, IsUnderway, iterations_left};
@@ -13,9 +13,9 @@ ghost use Rattle.ba_search.specs.Iterations.{AreTrue, IsDecision, IsUnderway, it
 use crate::engine::Engine;
 use crate::iteration::is_spent;
 use crate::search::Answer;
+use ba_checker::Checker;
 use ba_items::Items;
 use ba_lits::{Lit, Model as Assignment};
-use ba_steps::Checker;
 use ba_watch::Watch;
 use std::alloc::{AllocError, Global};
 

@@ -4,8 +4,8 @@ ghost use Rattle.std.specs.Prelude.{◌≡◌, ◌<◌, ◌≤◌, None, true, f
 ghost use Rattle.ba_lits.specs.Literals.{Literal};
 ghost use Rattle.ba_watch.specs.Trails.{value_of, decided};
 ghost use Rattle.ba_watch.specs.Propagation.{clause_in, lits_in, is_false, IsComplete};
-ghost use Rattle.ba_steps.specs.States.{State as Checking, clause_at};
 ghost use Rattle.ba_steps.specs.Sinks.{Rose};
+ghost use Rattle.ba_checker.specs.States.{State as Checking, clause_at};
 ghost use Rattle.ba_search.specs.Rules.{IsRestartRule, IsKeepRule};
 ghost use Rattle.ba_search.specs.Answers.{AreAssumptions, IsAnswer};
 ghost use Rattle.ba_search.specs.Searching.{Leaves};
@@ -16,10 +16,11 @@ ghost use Rattle.ba_search.specs.declared.search.SearchError.{SearchError};
 use crate::engine::Engine;
 use crate::search::{Answer, SearchError};
 use ba_arena::ClauseRef;
+use ba_checker::{Checked, Checker};
 use ba_items::Items;
 use ba_learn::Learnt;
 use ba_lits::Lit;
-use ba_steps::{Checked, Checker, RunJudge, StepSink};
+use ba_steps::{RunJudge, StepSink};
 use std::alloc::AllocError;
 
 impl Engine {

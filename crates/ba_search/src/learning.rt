@@ -15,10 +15,11 @@ ghost use Rattle.ba_search.specs.declared.search.SearchError.{SearchError};
 use crate::engine::Engine;
 use crate::search::SearchError;
 use ba_arena::ClauseRef;
+use ba_checker::Checked;
 use ba_items::Items;
 use ba_learn::Learnt;
 use ba_lits::Lit;
-use ba_steps::{CertStep, Checked, RunJudge, StepSink};
+use ba_steps::{CertStep, RunJudge, StepSink};
 use std::alloc::{AllocError, Global};
 
 impl Engine {

@@ -2,14 +2,14 @@
 
 ghost use Rattle.std.specs.Prelude.{◌≡◌, ◌+◌, ◌<◌, ◌≤◌, ◌^◌, true, false, IfOk, OnOk, length, get_or, All};
 ghost use Rattle.std.specs.List.{list_all};
-ghost use Rattle.ba_steps.specs.Judging.{apart_by, may_go};
 ghost use Rattle.ba_steps.specs.Steps.{AreNumbers, AreAbove};
+ghost use Rattle.ba_checker.specs.Judging.{apart_by, may_go};
 ghost use Rattle.ba_search.specs.Rules.{IsKeepRule};
 ghost use Rattle.ba_search.specs.Searching.{IsDiscarded};
 ghost use Rattle.ba_search.specs.Iterations.{AreDiscarded, IsNoReason, MarksReasons};
 
+use ba_checker::{APART_BY, Checker};
 use ba_lits::Marks;
-use ba_steps::{APART_BY, Checker};
 use ba_watch::Watch;
 use std::alloc::{AllocError, Global};
 

@@ -1,8 +1,8 @@
 //! Restarts, and the reduction of the learnt clauses.
 
 ghost use Rattle.std.specs.Prelude.{◌≡◌, ◌<◌, ◌≤◌, None, OnOk, Err};
-ghost use Rattle.ba_steps.specs.Judging.{apart_by};
 ghost use Rattle.ba_steps.specs.Sinks.{Rose};
+ghost use Rattle.ba_checker.specs.Judging.{apart_by};
 ghost use Rattle.ba_search.specs.Rules.{IsKeepRule};
 ghost use Rattle.ba_search.specs.Searching.{Leaves};
 ghost use Rattle.ba_search.specs.Iterations.{IsUnderway, Puts, iterations_left};
@@ -11,9 +11,10 @@ ghost use Rattle.ba_search.specs.declared.search.SearchError.{SearchError};
 use crate::engine::Engine;
 use crate::reduction::{discarded, may_reduce};
 use crate::search::SearchError;
+use ba_checker::Checked;
 use ba_items::Items;
 use ba_lits::Lit;
-use ba_steps::{CertStep, Checked, RunJudge, StepSink};
+use ba_steps::{CertStep, RunJudge, StepSink};
 
 impl Engine {
     /// Takes all decisions back, and deletes the clauses that the keep rule discards once enough were learnt since the

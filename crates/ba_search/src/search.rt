@@ -2,20 +2,21 @@
 
 ghost use Rattle.std.specs.Prelude.{◌≡◌, ◌≤◌, ◌⊎◌, None, Some, false, [], List, map, IfOk, IfErr, OnOk, Err};
 ghost use Rattle.ba_learn.specs.Live.{AreLive, HaveDistinctNumbers};
-ghost use Rattle.ba_steps.specs.States.{kept, clause_at};
 ghost use Rattle.ba_steps.specs.Sinks.{Rose};
-ghost use Rattle.ba_steps.specs.Puts.{with_steps};
-ghost use Rattle.ba_steps.specs.declared.store.Origin.TheVariants.{Given};
 ghost use Rattle.ba_steps.specs.declared.step.CertStep.{CertStep};
+ghost use Rattle.ba_checker.specs.States.{kept, clause_at};
+ghost use Rattle.ba_checker.specs.Puts.{with_steps};
+ghost use Rattle.ba_checker.specs.declared.store.Origin.TheVariants.{Given};
 ghost use Rattle.ba_search.specs.Rules.{IsRestartRule, IsKeepRule};
 ghost use Rattle.ba_search.specs.Searching.{ArePart, Searches, Leaves};
 ghost use Rattle.ba_search.specs.Answers.{AreAssumptions, IsAnswer};
 ghost use Rattle.ba_search.specs.Iterations.{failure_of};
 
 use crate::engine::Engine;
+use ba_checker::Checked;
 use ba_learn::Learnt;
 use ba_lits::{Formula, Lit, Model as Assignment};
-use ba_steps::{Checked, RunJudge, SinkError, StepSink};
+use ba_steps::{RunJudge, SinkError, StepSink};
 use std::alloc::{AllocError, Global};
 use std::marker::Model;
 use thiserror::Error;

@@ -1,14 +1,2 @@
-pub mod CutLaws
-pub mod ReplayLaws
-pub mod SplitLaws
-pub mod ListedLaws
+pub mod ClauseLaws
 pub mod SinkLaws
-pub mod SplitMeaning
-pub mod LoweredLaws
-pub mod FactLaws
-pub mod FormedLaws
-pub mod BlockLaws
-pub mod LastingLaws
-pub mod StateLaws
-pub mod PutLaws
-pub mod OnceLaws

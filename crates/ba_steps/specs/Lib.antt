@@ -1,15 +1,5 @@
 pub mod Steps
-pub mod Splits
-pub mod States
-pub mod Blocks
-pub mod Cuts
-pub mod Parts
-pub mod Listed
-pub mod Judging
 pub mod GoodRuns
-pub mod Looks
 pub mod Sinks
 pub mod Lists
-pub mod Puts
-pub mod Facts
 pub mod Numbers

@@ -1,28 +1,15 @@
-//! Derivations, judged step by step and without search.
+//! The steps of derivations, who says which runs are good, and where steps go.
 //!
 //! A derivation starts from a formula in conjunctive normal form with weighted soft literals. Each step adds a
-//! clause that follows by unit propagation along a list of clause numbers, deletes learnt clauses, or ends the
-//! derivation. A core, a clause of negated soft literals, raises the lower bound of the cost and is split so that costs stay exact (N. Narodytska,
-//! F. Bacchus, Maximum Satisfiability Using Core-Guided MaxSAT Resolution). The [`Checker`] answers for
-//! each step whether it is allowed, and the first error where it isn't.
+//! clause, deletes learnt clauses, or ends the derivation; a [`StepError`] says why one isn't allowed. A [`StepSink`]
+//! takes formulas and steps, and a [`RunJudge`] says which runs are good.
 #![tactic(auto)]
 
-mod block;
-mod checked;
-mod checker;
-mod clauses;
-mod index;
 mod judge;
-pub mod laws;
 mod list_judge;
-mod replay;
 mod sink;
-mod split;
 mod step;
-mod store;
 
-pub use checked::Checked;
-pub use checker::{APART_BY, Checker};
 pub use judge::RunJudge;
 pub use list_judge::{GoodRun, ListJudge};
 pub use sink::{Basis, Both, ListSink, NoSink, SinkError, StepSink};

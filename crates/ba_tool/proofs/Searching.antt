@@ -6,9 +6,9 @@ use Rattle.ba_cert.specs.Writing.{OnlyWritesTo}
 use Rattle.ba_commands.specs.Modes.{Word}
 use Rattle.ba_derivations.specs.declared.verdict.Verdict.{Verdict}
 use Rattle.ba_localise.specs.Verdicts.{Derivation, Finds, Shows, Told}
-use Rattle.ba_steps.specs.Puts.{with_steps}
 use Rattle.ba_steps.specs.Sinks.{Logs, with_step, with_told}
 use Rattle.ba_steps.specs.declared.step.CertStep.{CertStep}
+use Rattle.ba_checker.specs.Puts.{with_steps}
 use Rattle.ba_tree.specs.Least.{WeightList, judge_of}
 use Rattle.ba_tree.specs.declared.run.Input.{Input}
 use Rattle.ba_world.specs.World.{Outside}

@@ -2,7 +2,7 @@
 
 ghost use Rattle.std.specs.Prelude.{◌≡◌, true};
 ghost use Rattle.ba_encode.specs.Softs.{softs_of};
-ghost use Rattle.ba_steps.specs.Facts.{AreSelectors};
+ghost use Rattle.ba_checker.specs.Facts.{AreSelectors};
 ghost use Rattle.ba_tree.specs.Run.{are_bounds};
 
 use ba_check::{CheckError, Confirm, Confirmed, Settings, confirm};

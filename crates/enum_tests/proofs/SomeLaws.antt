@@ -12,7 +12,7 @@ use Rattle.ba_encode.specs.Softs.{softs_of}
 use Rattle.ba_lits.specs.Formulas.{Cnf}
 use Rattle.ba_lits.specs.Literals.{Literal, IsClause}
 use Rattle.ba_lits.specs.Satisfaction.{Assignment, Soft, signed, lit_true, any_true, all_true}
-use Rattle.ba_steps.specs.Facts.{AreSelectors, IsStart}
+use Rattle.ba_checker.specs.Facts.{AreSelectors, IsStart}
 use Rattle.enum_tests.specs.Runs.{is_empty_run, has_selector, negates_selectors}
 
 false_selector : (v : Assignment) (x : ℕ) (s : Soft) → v x ≡ false →

@@ -5,7 +5,7 @@ ghost use Rattle.ba_derivations.specs.Encodings.{false_groups};
 ghost use Rattle.ba_lits.specs.Satisfaction.{Assignment, all_true};
 ghost use Rattle.ba_enum.specs.Problems.{IsReadable};
 ghost use Rattle.ba_encode.specs.Softs.{softs_of};
-ghost use Rattle.ba_steps.specs.Facts.{AreSelectors, IsStart};
+ghost use Rattle.ba_checker.specs.Facts.{AreSelectors, IsStart};
 ghost use Rattle.enum_tests.specs.Runs.{is_empty_run, has_selector, negates_selectors};
 
 use ba_encode::Encoded;

@@ -2,6 +2,7 @@
 
 use crate::conditions::may_begin;
 use crate::judge::EmptyRuns;
+use ba_checker::{Checked, Checker};
 use ba_derivations::{FoundSet, Verdict};
 use ba_encode::{Encoded, Group, softs_of};
 use ba_enum::all_sets;
@@ -9,7 +10,7 @@ use ba_items::Items;
 use ba_lits::{Formula, Lit};
 use ba_numbers::ids::StmtId;
 use ba_search::Search;
-use ba_steps::{Checked, Checker, NoSink};
+use ba_steps::NoSink;
 use std::alloc::{AllocError, Global};
 use std::process::Abort;
 use std::test::Fail;

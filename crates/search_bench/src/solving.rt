@@ -2,10 +2,11 @@
 
 use crate::report::{Report, Verdict};
 use crate::rules::{keep, luby};
+use ba_checker::{Checked, Checker};
 use ba_items::Items;
 use ba_lits::{Formula, Lit, Model};
 use ba_search::{Answer, Search, SearchError};
-use ba_steps::{CertStep, Checked, Checker, NoSink};
+use ba_steps::{CertStep, NoSink};
 use std::alloc::Global;
 use test_formulas::{NoRuns, are_numbers};
 

@@ -2,11 +2,12 @@
 
 ghost use Rattle.std.specs.Prelude.{◌≡◌, []};
 
+use ba_checker::{Checked, Checker};
 use ba_derivations::Verdict;
 use ba_encode::{Encoded, softs_of};
 use ba_enum::all_sets;
 use ba_search::{Search, SearchError};
-use ba_steps::{Checked, Checker, NoSink};
+use ba_steps::NoSink;
 use enum_tests::{EmptyRuns, may_begin};
 use std::alloc::Global;
 

@@ -4,10 +4,11 @@ ghost use Rattle.std.specs.Prelude.{◌≡◌, ◌<◌, ◌-◌, ◌^◌, true, 
 ghost use Rattle.ba_lits.specs.Literals.{IsClause};
 ghost use Rattle.ba_steps.specs.Steps.{IsFormed, AreFormedLits, AreNumbers, AreAbove, IsFormedChoice, IsValue};
 
+use ba_checker::Checker;
 use ba_choices::{Choice, Values};
 use ba_items::{Items, TryClone};
 use ba_lits::{Formula, Lit, is_clause};
-use ba_steps::{CertStep, Checker, GoodRun, ListJudge};
+use ba_steps::{CertStep, GoodRun, ListJudge};
 use std::alloc::{AllocError, Global};
 use std::process::Abort;
 use std::test::Fail;

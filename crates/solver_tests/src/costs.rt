@@ -1,10 +1,11 @@
 //! Tests of the least cost.
 
 use crate::values::{bits_of, is_true, satisfies};
+use ba_checker::{Checked, Checker};
 use ba_cores::{Found, least};
 use ba_lits::{Formula, Lit};
 use ba_search::Search;
-use ba_steps::{Checked, Checker, NoSink};
+use ba_steps::NoSink;
 use std::alloc::{AllocError, Global};
 use std::process::Abort;
 use std::test::Fail;

@@ -4,9 +4,10 @@ ghost use Rattle.std.specs.Prelude.{◌≡◌, true};
 ghost use Rattle.ba_search.specs.Answers.{AreAssumptions};
 
 use crate::values::{bits_of, satisfies};
+use ba_checker::{Checked, Checker};
 use ba_lits::{Formula, Lit, is_clause};
 use ba_search::{Answer, Search};
-use ba_steps::{Checked, Checker, NoSink};
+use ba_steps::NoSink;
 use std::alloc::Global;
 use std::process::Abort;
 use std::test::Fail;

@@ -1,14 +1,14 @@
 //! Tests of sinks, of a checker with a sink, and of the judge that holds a list.
 
 ghost use Rattle.std.specs.Prelude.{◌≡◌, [], None, IfOk};
-ghost use Rattle.ba_steps.specs.States.{first_state};
+ghost use Rattle.ba_checker.specs.States.{first_state};
 
+use ba_checker::{Checked, Checker};
 use ba_choices::{Choice, Values};
 use ba_items::Items;
 use ba_lits::{Formula, Lit};
 use ba_steps::{
-    Both, CertStep, Checked, Checker, GoodRun, ListJudge, ListSink, NoSink, RunJudge, SinkError,
-    StepSink,
+    Both, CertStep, GoodRun, ListJudge, ListSink, NoSink, RunJudge, SinkError, StepSink,
 };
 use std::alloc::{AllocError, Global};
 use std::process::Abort;

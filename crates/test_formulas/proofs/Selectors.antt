@@ -4,8 +4,8 @@ use Rattle.std.proofs.Common.{◌≡◌, ℕ, ◌<◌, ◌≤◌, Bool, true, fa
 use Rattle.std.proofs.lemmas.List.{drop_all}
 use Rattle.std.proofs.lemmas.List.Elements.{All-nil, All-cons}
 use Rattle.ba_lits.specs.Satisfaction.{Soft}
-use Rattle.ba_steps.specs.States.{present}
-use Rattle.ba_steps.specs.Facts.{Differs, AreDifferent, AreAmong, AreSelectors}
+use Rattle.ba_checker.specs.States.{present}
+use Rattle.ba_checker.specs.Facts.{Differs, AreDifferent, AreAmong, AreSelectors}
 
 -- positive, of ascending variables above one number and up to another
 abbrev pub AscendAbove : ℕ → ℕ → List Soft → Type 0

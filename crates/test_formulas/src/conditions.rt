@@ -2,7 +2,7 @@
 
 ghost use Rattle.std.specs.Prelude.{◌≡◌, ◌<◌, ◌≤◌, true, false};
 ghost use Rattle.ba_steps.specs.Steps.{AreNumbers};
-ghost use Rattle.ba_steps.specs.Facts.{AreSelectors};
+ghost use Rattle.ba_checker.specs.Facts.{AreSelectors};
 
 use ba_lits::Lit;
 

@@ -1,6 +1,6 @@
 use Rattle.std.proofs.Common.{◌≡◌, ◌+◌, ◌-◌, ◌≤◌, None}
 use Rattle.ba_learn.specs.Live.{AreLive}
-use Rattle.ba_steps.specs.States.{clause_at}
+use Rattle.ba_checker.specs.States.{clause_at}
 use Rattle.ba_cores.specs.Rounds.{IsReady, Puts}
 use Rattle.ba_cores.proofs.costs.least.Given as goal
 

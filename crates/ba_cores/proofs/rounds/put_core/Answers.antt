@@ -1,5 +1,5 @@
 use Rattle.std.proofs.Common.{arith, ap}
-use Rattle.ba_steps.specs.States.{State}
+use Rattle.ba_checker.specs.States.{State}
 use Rattle.ba_cores.proofs.CoreLaws.{core_formed, core_allowed, part_after_core}
 use Rattle.ba_cores.proofs.DerivesLaws.{puts_core, core_fewer, on_ok, leaves_put, leaves_core}
 use Rattle.ba_cores.specs.Rounds.{literals_of}

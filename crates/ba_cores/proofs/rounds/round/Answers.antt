@@ -1,7 +1,7 @@
 use Rattle.std.proofs.Common.{◌≡◌, List, ap, sym, subst, ◌∙◌}
 use Rattle.std.proofs.lemmas.Result.{IfOk-weaker, on_ok_weaker}
 use Rattle.ba_lits.specs.Literals.{Literal}
-use Rattle.ba_steps.specs.States.{State}
+use Rattle.ba_checker.specs.States.{State}
 use Rattle.ba_search.specs.Answers.{IsAnswer}
 use Rattle.ba_cores.specs.Rounds.{literals_of, heavy}
 use Rattle.ba_cores.proofs.DerivesLaws.{puts_on, puts_searched, puts_ready, puts_softs, puts_as, round_as, leaves_none, leaves_searches, leaves_on}

@@ -1,6 +1,6 @@
 use Rattle.std.proofs.Common.{◌≡◌, List, ap, sym, subst, ◌∙◌}
 use Rattle.ba_lits.specs.Satisfaction.{Soft}
-use Rattle.ba_steps.specs.States.{State}
+use Rattle.ba_checker.specs.States.{State}
 use Rattle.ba_search.specs.Answers.{IsModel}
 use Rattle.ba_cores.specs.Findings.{IsLeast}
 use Rattle.ba_cores.specs.Rounds.{literals_of, heavy}

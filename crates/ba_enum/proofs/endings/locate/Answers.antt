@@ -1,6 +1,6 @@
 use Rattle.std.proofs.Common.{◌^◌, ◌<◌, subst}
-use Rattle.ba_steps.specs.States.{State}
 use Rattle.ba_steps.specs.declared.step.CertStep.TheVariants.{EndLocated}
+use Rattle.ba_checker.specs.States.{State}
 use Rattle.ba_enum.proofs.EndLaws.{last_allowed, last_ends, last_formed}
 use Rattle.ba_enum.proofs.LeadLaws.{leaves_none, leaves_one, leaves_tried}
 use Rattle.ba_enum.proofs.endings.locate.Goals as goal

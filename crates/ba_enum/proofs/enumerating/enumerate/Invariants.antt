@@ -3,7 +3,7 @@ use Rattle.ba_cores.specs.Rounds.{literals_of}
 use Rattle.ba_enum.specs.Leading.{IsNext, IsReady, Adds}
 use Rattle.ba_encode.specs.Softs.{softs_of}
 use Rattle.ba_learn.specs.Live.{AreLive}
-use Rattle.ba_steps.specs.States.{clause_at}
+use Rattle.ba_checker.specs.States.{clause_at}
 use Rattle.ba_enum.proofs.enumerating.enumerate.Given as goal
 
 abbrev pub invariant-turns : goal.invariant-turns

@@ -8,7 +8,7 @@ use Rattle.ba_lits.specs.Satisfaction.{Soft}
 use Rattle.ba_localise.proofs.Concluding.{finds, left, rose-after, same-judge}
 use Rattle.ba_localise.specs.Verdicts.{leaves_formula, told}
 use Rattle.ba_steps.specs.Sinks.{basis, with_told}
-use Rattle.ba_steps.specs.States.{first_state}
+use Rattle.ba_checker.specs.States.{first_state}
 use Rattle.ba_tree.specs.Least.{judge_of}
 use Rattle.ba_localise.proofs.search.localise.Goals as goal
 

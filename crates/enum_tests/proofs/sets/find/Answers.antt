@@ -3,8 +3,8 @@ use Rattle.ba_encode.specs.Softs.{softs_of}
 use Rattle.ba_learn.specs.Live.{AreLive}
 use Rattle.ba_lits.specs.Formulas.{Cnf}
 use Rattle.ba_lits.specs.Satisfaction.{Soft}
-use Rattle.ba_steps.specs.States.{Kept, State, clause_at, first_state, kept}
-use Rattle.ba_steps.specs.declared.store.Origin.TheVariants.{Given}
+use Rattle.ba_checker.specs.States.{Kept, State, clause_at, first_state, kept}
+use Rattle.ba_checker.specs.declared.store.Origin.TheVariants.{Given}
 use Rattle.enum_tests.proofs.sets.find.Goals as goal
 
 pub all_sets-requires-clause-fresh : goal.all_sets-requires-clause-fresh

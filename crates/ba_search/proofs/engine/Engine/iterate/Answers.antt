@@ -1,5 +1,5 @@
 use Rattle.std.proofs.Common.{sym, ap, subst, ◌∙◌}
-use Rattle.ba_steps.specs.States.{State}
+use Rattle.ba_checker.specs.States.{State}
 use Rattle.ba_search.specs.Iterations.{Numbering, IsUnderway}
 use Rattle.ba_search.proofs.UnderwayLaws.{underway_moved}
 use Rattle.ba_search.specs.Searching.{nothing}

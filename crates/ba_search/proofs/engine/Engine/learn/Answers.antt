@@ -1,8 +1,8 @@
 use Rattle.std.proofs.Common.{ℕ, ◌≡◌, false, [], ◌∷◌, ◌++◌, length, get_or, sym, ap, subst, ◌∙◌, arith}
 use Rattle.ba_search.specs.Iterations.{Numbering}
 use Rattle.std.proofs.lemmas.List.{length_push}
-use Rattle.ba_steps.specs.States.{State, kept}
-use Rattle.ba_steps.specs.declared.store.Origin.TheVariants.{Learnt}
+use Rattle.ba_checker.specs.States.{State, kept}
+use Rattle.ba_checker.specs.declared.store.Origin.TheVariants.{Learnt}
 use Rattle.ba_search.proofs.TakenLaws.{unmarked_next}
 use Rattle.ba_search.proofs.LearnLaws.{Formed}
 use Rattle.ba_search.proofs.LearntSteps.{learnt_step, step_formed, step_allowed, step_taken, learnt_puts, learnt_left, learnt_tried}

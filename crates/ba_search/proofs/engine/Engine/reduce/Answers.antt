@@ -1,8 +1,8 @@
 use Rattle.std.proofs.Common.{◌≡◌, ℕ, true, List, vec_len, sym, subst, arith}
 use Rattle.std.specs.List.{list_all}
 use Rattle.ba_watch.specs.Deletion.{Deletes, MayDelete}
-use Rattle.ba_steps.specs.States.{State}
-use Rattle.ba_steps.specs.Judging.{may_go}
+use Rattle.ba_checker.specs.States.{State}
+use Rattle.ba_checker.specs.Judging.{may_go}
 use Rattle.ba_search.specs.Iterations.{Forgets}
 use Rattle.ba_search.proofs.StepLaws.{puts_none, leaves_none}
 use Rattle.ba_search.proofs.DeletedSteps.{some_items, delete_step, named_formed, named_allowed, delete_taken, delete_puts, delete_left, delete_tried}

@@ -1,5 +1,5 @@
 use Rattle.std.proofs.Common.{ℕ, ◌^◌, ◌<◌, max, length, ap, ◌∙◌, refl, arith}
-use Rattle.ba_steps.specs.States.{State}
+use Rattle.ba_checker.specs.States.{State}
 use Rattle.ba_search.proofs.UnderwayLaws.{underway_moved, underway_begin}
 use Rattle.ba_search.specs.Iterations.{Numbering}
 use Rattle.ba_search.proofs.StepLaws.{puts_none, puts_then, puts_from, leaves_none, leaves_then, leaves_from}

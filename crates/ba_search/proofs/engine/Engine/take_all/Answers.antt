@@ -1,5 +1,5 @@
 use Rattle.std.proofs.Common.{◌+◌, refl, ◌∙◌, arith}
-use Rattle.ba_steps.specs.States.{clause_at}
+use Rattle.ba_checker.specs.States.{clause_at}
 use Rattle.ba_search.proofs.TakenLaws.{there_next, taken_live}
 use Rattle.ba_search.proofs.engine.Engine.take_all.Goals as goal
 

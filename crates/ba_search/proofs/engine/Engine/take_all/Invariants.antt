@@ -1,6 +1,6 @@
 use Rattle.std.proofs.Common.{◌≡◌}
 use Rattle.ba_watch.specs.Trails.{decided}
-use Rattle.ba_steps.specs.States.{clause_at}
+use Rattle.ba_checker.specs.States.{clause_at}
 use Rattle.ba_search.specs.Iterations.{AreTaken, AreThere}
 use Rattle.ba_search.proofs.engine.Engine.take_all.Given as goal
 

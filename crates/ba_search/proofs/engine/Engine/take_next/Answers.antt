@@ -1,6 +1,6 @@
 use Rattle.std.proofs.Common.{rules, sym, ◌∙◌}
 use Rattle.std.proofs.lemmas.Result.{on_ok_weaker}
-use Rattle.ba_steps.specs.States.{clause_at}
+use Rattle.ba_checker.specs.States.{clause_at}
 use Rattle.ba_search.proofs.TakenLaws.{taken_more}
 use Rattle.ba_search.proofs.engine.Engine.take_next.Goals as goal
 

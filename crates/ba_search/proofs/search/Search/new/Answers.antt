@@ -1,7 +1,7 @@
 use Rattle.std.proofs.Common.{map, refl, ap, ◌∙◌, ◌+◌, arith}
 use Rattle.ba_watch.specs.Trails.{decided}
-use Rattle.ba_steps.specs.States.{clause_at, kept}
-use Rattle.ba_steps.specs.declared.store.Origin.TheVariants.{Given}
+use Rattle.ba_checker.specs.States.{clause_at, kept}
+use Rattle.ba_checker.specs.declared.store.Origin.TheVariants.{Given}
 use Rattle.ba_search.proofs.TakenLaws.{taken_more, there_more, marks_later}
 use Rattle.ba_search.proofs.StepLaws.{given_next, given_live}
 use Rattle.ba_search.proofs.search.Search.new.Goals as goal

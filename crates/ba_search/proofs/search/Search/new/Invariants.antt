@@ -1,7 +1,7 @@
 use Rattle.std.proofs.Common.{◌≡◌, ℕ, ◌<◌, false, [], get_or, map}
 use Rattle.ba_watch.specs.Trails.{decided}
-use Rattle.ba_steps.specs.States.{clause_at, kept}
-use Rattle.ba_steps.specs.declared.store.Origin.TheVariants.{Given}
+use Rattle.ba_checker.specs.States.{clause_at, kept}
+use Rattle.ba_checker.specs.declared.store.Origin.TheVariants.{Given}
 use Rattle.ba_search.specs.Iterations.{AreTaken, AreThere}
 use Rattle.ba_search.proofs.search.Search.new.Given as goal
 

@@ -1,0 +1,13 @@
+pub mod CutLaws
+pub mod ReplayLaws
+pub mod SplitLaws
+pub mod ListedLaws
+pub mod SplitMeaning
+pub mod LoweredLaws
+pub mod FactLaws
+pub mod FormedLaws
+pub mod BlockLaws
+pub mod LastingLaws
+pub mod StateLaws
+pub mod PutLaws
+pub mod OnceLaws

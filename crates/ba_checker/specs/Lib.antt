@@ -1,0 +1,10 @@
+pub mod Splits
+pub mod States
+pub mod Blocks
+pub mod Cuts
+pub mod Parts
+pub mod Listed
+pub mod Judging
+pub mod Looks
+pub mod Puts
+pub mod Facts

@@ -1,0 +1,34 @@
+//! Laws of the definitions, each the clause of a function that does nothing.
+
+ghost use Rattle.std.specs.Prelude.{◌≡◌, ℕ, ◌≤◌, ◌∷◌, ◌++◌, Option, Some, List, true, All, length};
+ghost use Rattle.ba_lits.specs.Literals.{Literal};
+ghost use Rattle.ba_lits.specs.Satisfaction.{Assignment, any_true, Soft};
+ghost use Rattle.ba_lits.specs.Formulas.{Cnf};
+ghost use Rattle.ba_lits.specs.Hints.{FollowsByHints};
+ghost use Rattle.ba_steps.specs.Steps.{IsFormed};
+ghost use Rattle.ba_steps.specs.declared.step.CertStep.{CertStep};
+ghost use Rattle.ba_steps.specs.declared.step.CertStep.TheVariants.{Learn};
+ghost use Rattle.ba_checker.specs.States.{State, first_state};
+ghost use Rattle.ba_checker.specs.Judging.{Judge, after_all};
+ghost use Rattle.ba_checker.specs.Facts.{IsStart, splits_of, Holds};
+
+/// A clause that follows by hints holds wherever the live clauses do.
+pub fn implied_law()
+    ensures { (live : ℕ → Option (List Literal)) (v : Assignment)
+        → ((number : ℕ) (c : List Literal) → live number ≡ Some c → any_true v c ≡ true)
+        → (clause : List Literal) (hints : List ℕ) → FollowsByHints live clause hints → any_true v clause ≡ true }
+{}
+
+/// The facts hold of every state that allowed steps lead to, whatever the judge says.
+pub fn facts_law()
+    ensures { (good : Judge) (formula : Cnf) (softs : List Soft) (conflicts sets : ℕ)
+        → IsStart formula softs → (steps : List CertStep) → All IsFormed steps → (s : State)
+        → after_all good (first_state formula softs conflicts sets) steps ≡ Some s → Holds good formula softs (splits_of (first_state formula softs conflicts sets) steps) s }
+{}
+
+/// No clause of at most two literals is learnt twice, whatever allowed steps come between.
+pub fn learnt_once_law()
+    ensures { (good : Judge) (s t : State) (before between rest : List CertStep)
+        → (lits : List Literal) (first second : List ℕ) → length lits ≤ 2
+        → after_all good s (before ++ Learn lits first ∷ (between ++ Learn lits second ∷ rest)) ≡ Some t → ⊥ }
+{}

@@ -1,7 +1,0 @@
-use Rattle.std.proofs.Common.{◌≡◌, map, take}
-use Rattle.ba_steps.specs.States.{kept}
-use Rattle.ba_steps.specs.declared.store.Origin.TheVariants as origins
-use Rattle.ba_steps.proofs.checker.given_clauses.Given as goal
-
-abbrev pub invariant-loop-place : goal.invariant-loop-place
-invariant-loop-place l = l.clauses ≡ map (kept origins.Given) (take l.place l.formula.clauses)

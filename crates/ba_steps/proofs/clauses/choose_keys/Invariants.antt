@@ -1,6 +1,0 @@
-use Rattle.std.proofs.Common.{◌≡◌, true}
-use Rattle.ba_steps.specs.Listed.{are_keys}
-use Rattle.ba_steps.proofs.clauses.choose_keys.Given as goal
-
-abbrev pub invariant-loop-lit : goal.invariant-loop-lit
-invariant-loop-lit l = are_keys l.all l.lits ≡ true

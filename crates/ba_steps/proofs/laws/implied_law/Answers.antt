@@ -1,5 +1,0 @@
-use Rattle.ba_lits.proofs.HintLaws.{FollowsByHints-holds}
-use Rattle.ba_steps.proofs.laws.implied_law.Goals as goal
-
-pub returns : goal.returns
-returns c = FollowsByHints-holds

@@ -1,6 +1,0 @@
-use Rattle.ba_steps.proofs.OnceLaws.{learnt_once}
-use Rattle.ba_steps.proofs.laws.learnt_once_law.Goals as goal
-
-pub returns : goal.returns
-returns c = λ good s t before between rest lits first second few is. learnt_once good s t before between
-    rest lits first second few is

@@ -1,8 +1,0 @@
-use Rattle.std.proofs.Common.{◌≡◌, drop}
-use Rattle.ba_lits.specs.Hints.{replay}
-use Rattle.ba_steps.specs.States.{clause_at}
-use Rattle.ba_steps.proofs.replay.replay.Given as goal
-
-abbrev pub invariant-loop-place : goal.invariant-loop-place
-invariant-loop-place l = replay (clause_at l.clauses) l.falses (drop l.place l.hints)
-    ≡ replay (clause_at l.clauses) l.fn.falses l.hints

@@ -1,9 +1,0 @@
-use Rattle.std.proofs.Common.{◌≡◌, ◌+◌, ◌-◌, ◌++◌}
-use Rattle.ba_steps.specs.Splits.{and_clauses}
-use Rattle.ba_steps.proofs.SplitLaws.{from, split_kept}
-use Rattle.ba_steps.proofs.split.add_ands.Given as goal
-
-abbrev pub invariant-loop-place : goal.invariant-loop-place
-invariant-loop-place l =
-    l.clauses ++ split_kept (and_clauses (l.d + (l.place - 1)) (l.e + (l.place - 1)) (from l.place l.lits))
-    ≡ l.fn.clauses ++ split_kept (and_clauses l.d l.e l.lits)

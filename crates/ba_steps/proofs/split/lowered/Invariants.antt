@@ -1,7 +1,0 @@
-use Rattle.std.proofs.Common.{◌≡◌, ◌++◌, drop}
-use Rattle.ba_steps.specs.Splits.{lowered}
-use Rattle.ba_steps.proofs.split.lowered.Given as goal
-
-abbrev pub invariant-loop-soft : goal.invariant-loop-soft
-invariant-loop-soft l = l.left.items ++ lowered l.core l.weight (drop l.soft-index l.softs)
-    ≡ lowered l.core l.weight l.softs
