@@ -19,6 +19,38 @@ const FIVE_LINES: &str = "2 i i  0  0  1  1 0  1 1  3 decl 1 = 1 1 v 0 assert 2 
 /// The same with a `short`.
 const SHORT: &str = "2 i s  0  0  1  1 0  1 1  3 decl 1 = 1 1 s v 0 assert 2 == i v 1 v 0  2 = !";
 
+/// A greatest element that is sought up to the last but one, and asserted over all. `main` has the statements 1 to 7.
+const GREATEST: &str = "7 p i i i 4 i i  0  0  2
+    2 0 1  2 2 3  5 decl 2 decl 3 init 8 3 e 0 0
+    for 10 1 = 9 2 1 < v 2 - v 1 1 1 = 11 2 + v 2 1 if 12 < v 3 e 0 v 2 = 13 3 e 0 v 2 return 14 v 3
+    1 4  2 5 6  6 decl 5 decl 6 = 1 6 call 1 0 2 a 4 x 4
+    for 3 1 = 2 5 0 < v 5 4 1 = 4 5 + v 5 1 assert 5 >= v 6 e 4 v 5 print 6 1 v 6 return 7 0
+    14 = = ? = ! c r i = ? = ? = r";
+
+/// The groups of its formula, with the weights 10 and 20 for the two conditions of its loops.
+const GREATEST_GROUPS: [(u32, u32); 13] = [
+    (1, 1),
+    (2, 1),
+    (3, 10),
+    (4, 1),
+    (6, 1),
+    (7, 1),
+    (8, 1),
+    (9, 1),
+    (10, 20),
+    (11, 1),
+    (12, 1),
+    (13, 1),
+    (14, 1),
+];
+
+/// The smallest sets that could repair its run: a greater element is found, or asserts are left out. The assignment in the branch
+/// repairs where the branch is taken too.
+const GREATEST_REPAIRS: [&[u32]; 8] = [&[1], &[2], &[3], &[4], &[8], &[10], &[14], &[12, 13]];
+
+/// The largest sets that couldn't.
+const GREATEST_OTHERS: [&[u32]; 2] = [&[6, 7, 9, 11, 12], &[6, 7, 9, 11, 13]];
+
 /// A program, an input, the bound on turns, weights, the groups of the formula as statements with their weights, and the repairs: a set of
 /// statements could repair the run exactly where one of these is among it.
 #[derive(Clone, Copy)]
@@ -192,6 +224,17 @@ fn repairs(repairs: &[&[u32]], set: &[u32]) -> bool {
         .any(|repair| repair.iter().all(|number| set.contains(number)))
 }
 
+/// Whether a formula has a model whose false selectors are exactly those of a set of groups.
+fn has_repair(
+    rt: &impl Abort,
+    alloc: Global,
+    encoded: &Encoded,
+    set: &[u32],
+) -> Result<bool, Fail> {
+    let lits = exactly(alloc, encoded, set)?;
+    has_model(rt, alloc, encoded.formula(), lits.as_slice())
+}
+
 /// Tries all sets of groups of a row's formula.
 fn check(rt: &impl Abort, alloc: Global, row: &Row) -> Result<(), Fail> {
     let encoded = encoded_of(alloc, row.program, row.input, row.turns, row.weights)?;
@@ -204,8 +247,7 @@ fn check(rt: &impl Abort, alloc: Global, row: &Row) -> Result<(), Fail> {
     assert!(rt; groups.len() <= 5);
     for bits in 0..1u32 << groups.len() {
         let set = set_of(alloc, groups.as_slice(), bits)?;
-        let lits = exactly(alloc, &encoded, set.as_slice())?;
-        let found = has_model(rt, alloc, encoded.formula(), lits.as_slice())?;
+        let found = has_repair(rt, alloc, &encoded, set.as_slice())?;
         assert_eq!(rt;
             found,
             repairs(row.repairs, set.as_slice()),
@@ -220,6 +262,21 @@ fn check(rt: &impl Abort, alloc: Global, row: &Row) -> Result<(), Fail> {
 fn exactly_the_sets_that_could_repair_have_models(rt: HostRuntime) -> Result<(), Fail> {
     for row in &ROWS {
         check(&rt, rt.alloc(), row)?;
+    }
+    Ok(())
+}
+
+#[test]
+fn thirteen_groups_have_their_smallest_repairs(rt: HostRuntime) -> Result<(), Fail> {
+    let alloc = rt.alloc();
+    let encoded = encoded_of(alloc, GREATEST, "3 1 2 9", 4, "3 10\n10 20")?;
+    let groups = groups_of(alloc, &encoded)?.ok_or("a group of another statement")?;
+    assert!(rt; groups.as_slice() == GREATEST_GROUPS.as_slice());
+    for set in GREATEST_REPAIRS {
+        assert!(rt; has_repair(&rt, alloc, &encoded, set)?, "set {set:?}");
+    }
+    for set in GREATEST_OTHERS {
+        assert!(rt; !has_repair(&rt, alloc, &encoded, set)?, "set {set:?}");
     }
     Ok(())
 }
