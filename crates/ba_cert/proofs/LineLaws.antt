@@ -7,7 +7,7 @@ use Rattle.ba_steps.specs.declared.step.CertStep.{CertStep}
 use Rattle.ba_steps.specs.declared.step.CertStep.TheVariants.{Learn, Core, Delete, Block, EndLocated, EndNoRepair, EndTooMany, EndSpent}
 use Rattle.ba_cert.specs.declared.error.CertError.{CertError}
 use Rattle.ba_cert.specs.declared.error.CertError.TheVariants.{BadLine, Memory}
-use Rattle.ba_cert.specs.Readers.{Gives}
+use Rattle.ba_cert.specs.Readers.{Parses}
 use Rattle.ba_cert.specs.Text.{ended, clause_parts, step_parts, joined, line_of, HasLine}
 use Rattle.ba_text.specs.Texts.{choice_parts}
 use Rattle.ba_cert.specs.Reading.{parts_of, step_at, step_in}
@@ -107,13 +107,13 @@ line-once step other h k same = same_Some step other
 -- what a reader answers that gives what reading gives
 
 pub found-line : (result : Result CertStep CertError) (line : List ℕ) →
-    Gives (λ (s : CertStep). s) result (step_in line) →
+    Parses (λ (s : CertStep). s) result (step_in line) →
     IfOk result (λ step. HasLine step × (line ≡ line_of step))
 found-line (Ok step) line gives = let r = line-back line step gives in (r.1, r.0)
 found-line (Err error) line gives = tt
 
 pub bad-line : (result : Result CertStep CertError) (line : List ℕ) →
-    Gives (λ (s : CertStep). s) result (step_in line) → result ≡ Err BadLine → (step : CertStep) →
+    Parses (λ (s : CertStep). s) result (step_in line) → result ≡ Err BadLine → (step : CertStep) →
     HasLine step → line ≢ line_of step
 bad-line (Ok step) line gives is other h same = cc
 bad-line (Err BadLine) line gives is other h same = none-some other

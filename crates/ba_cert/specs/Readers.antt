@@ -10,6 +10,6 @@ Refuses BadLine read = read ≡ None
 Refuses Memory read = Unit {0}
 
 -- an answer, seen by view, is what reading gives
-abbrev pub Gives : {X Y : Type 0} → (X → Y) → Result X CertError → Option Y → Type 0
-Gives view (Ok x) read = read ≡ Some (view x)
-Gives view (Err error) read = Refuses error read
+abbrev pub Parses : {X Y : Type 0} → (X → Y) → Result X CertError → Option Y → Type 0
+Parses view (Ok x) read = read ≡ Some (view x)
+Parses view (Err error) read = Refuses error read

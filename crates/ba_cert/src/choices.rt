@@ -2,7 +2,7 @@
 
 ghost use Rattle.std.specs.Prelude.{◌≡◌, None, OnOk};
 ghost use Rattle.ba_cert.specs.Reading.{choices_of, no_choice, run_at, with_part, with_value};
-ghost use Rattle.ba_cert.specs.Readers.{Gives};
+ghost use Rattle.ba_cert.specs.Readers.{Parses};
 
 use crate::error::CertError;
 use crate::numerals::value_of;
@@ -22,7 +22,7 @@ struct Run {
 
 /// Adds a value to the last choice.
 fn add_value(pending: &mut Option<Values>, value: i64) -> Result<(), CertError>
-    ensures { Gives (λ _. pending.new) result (with_value pending.old value) }
+    ensures { Parses (λ _. pending.new) result (with_value pending.old value) }
 {
     let Some(values) = pending else {
         return Err(CertError::BadLine);
@@ -45,7 +45,7 @@ impl Run {
     /// Takes one more part: `k` or `t`, which begin a choice, or a value of the last one.
     #[tactic(auto, unfolding(crate::specs::Reading::with_part))]
     fn take(&mut self, alloc: Global, part: &[u8]) -> Result<(), CertError>
-        ensures { Gives (λ _. self.new) result (with_part self.old part.now) }
+        ensures { Parses (λ _. self.new) result (with_part self.old part.now) }
     {
         if part == b"k".as_slice() {
             self.complete()?;
@@ -64,7 +64,7 @@ impl Run {
 
 /// Reads the choices that all parts left write.
 pub(crate) fn run_at(alloc: Global, parts: &mut Parts) -> Result<Items<Choice>, CertError>
-    ensures { Gives (λ run. run) result (run_at no_choice parts.old) }
+    ensures { Parses (λ run. run) result (run_at no_choice parts.old) }
 {
     let mut run = Run {
         done: Items::new(alloc),

@@ -4,7 +4,7 @@ ghost use Rattle.std.specs.Prelude.{◌≡◌, ◌++◌, ℕ, List, [], Option, 
 ghost use Rattle.ba_cert.specs.Text.{ended, literal_text};
 ghost use Rattle.ba_text.specs.Texts.{spaced};
 ghost use Rattle.ba_cert.specs.Reading.{ascends, counted_of, group_of, itself, listed, literal_of, variable_of};
-ghost use Rattle.ba_cert.specs.Readers.{Gives};
+ghost use Rattle.ba_cert.specs.Readers.{Parses};
 
 use crate::error::CertError;
 use crate::numerals::{counted_of, group_of, literal_of, sign_text};
@@ -113,7 +113,7 @@ pub(crate) fn push_list<T: Entry>(items: &[T], text: &mut Vec<u8>) -> Result<(),
 
 /// Reads a list up to the part `0`, which is taken too.
 pub(crate) fn list_at<T: Entry>(alloc: Global, parts: &mut Parts) -> Result<Items<T>, CertError>
-    ensures { Gives (λ items. (items, parts.new)) result (listed T.reading [] parts.old) }
+    ensures { Parses (λ items. (items, parts.new)) result (listed T.reading [] parts.old) }
 {
     let mut items = Items::new(alloc);
     while let Some(part) = parts.next_part() {

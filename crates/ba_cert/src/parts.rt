@@ -3,7 +3,7 @@
 ghost use Rattle.std.specs.Prelude.{◌≡◌, ◌<◌, ◌∷◌, [], length, position, MatchOption, IfSome};
 ghost use Rattle.std.specs.Option.{option_map_or};
 ghost use Rattle.ba_cert.specs.Reading.{has_more, is_space, letter_at, letter_of, parts_of};
-ghost use Rattle.ba_cert.specs.Readers.{Gives};
+ghost use Rattle.ba_cert.specs.Readers.{Parses};
 
 use crate::error::CertError;
 use std::marker::Model;
@@ -83,7 +83,7 @@ fn letter_of(part: &[u8]) -> Option<u8>
 
 /// Reads a part that is one byte.
 pub(crate) fn letter_at(parts: &mut Parts) -> Result<u8, CertError>
-    ensures { Gives (λ letter. (letter, parts.new)) result (letter_at parts.old) }
+    ensures { Parses (λ letter. (letter, parts.new)) result (letter_at parts.old) }
 {
     let part = parts.next_part().ok_or(CertError::BadLine)?;
     letter_of(part).ok_or(CertError::BadLine)

@@ -4,7 +4,7 @@ ghost use Rattle.std.specs.Prelude.{◌≡◌, ◌≢◌, IfOk};
 ghost use Rattle.ba_steps.specs.declared.step.CertStep.{CertStep};
 ghost use Rattle.ba_cert.specs.Text.{HasLine, line_of};
 ghost use Rattle.ba_cert.specs.Reading.{alone, block_at, clause_at, core_at, delete_at, end_at, end_by, learn_at, located_at, no_repair_at, step_at, step_by, step_in};
-ghost use Rattle.ba_cert.specs.Readers.{Gives};
+ghost use Rattle.ba_cert.specs.Readers.{Parses};
 
 use crate::choices::run_at;
 use crate::entry::{ascends, list_at};
@@ -18,7 +18,7 @@ use std::alloc::Global;
 /// Reads literals with ascending variables, and hints, and no more.
 #[tactic(auto, unfolding(crate::specs::Reading::clause_at))]
 fn clause_at(alloc: Global, parts: &mut Parts) -> Result<(Items<Lit>, Items<u64>), CertError>
-    ensures { Gives (λ clause. clause) result (clause_at parts.old) }
+    ensures { Parses (λ clause. clause) result (clause_at parts.old) }
 {
     let lits = list_at::<Lit>(alloc, parts)?;
     let hints = list_at::<u64>(alloc, parts)?;
@@ -34,7 +34,7 @@ fn clause_at(alloc: Global, parts: &mut Parts) -> Result<(Items<Lit>, Items<u64>
 /// The rest of a Learn step.
 #[tactic(auto, unfolding(crate::specs::Reading::learn_at))]
 fn learn_at(alloc: Global, parts: &mut Parts) -> Result<CertStep, CertError>
-    ensures { Gives (λ step. step) result (learn_at parts.old) }
+    ensures { Parses (λ step. step) result (learn_at parts.old) }
 {
     let (lits, hints) = clause_at(alloc, parts)?;
     if lits.is_empty() {
@@ -46,7 +46,7 @@ fn learn_at(alloc: Global, parts: &mut Parts) -> Result<CertStep, CertError>
 /// The rest of a Core step.
 #[tactic(auto, unfolding(crate::specs::Reading::core_at))]
 fn core_at(alloc: Global, parts: &mut Parts) -> Result<CertStep, CertError>
-    ensures { Gives (λ step. step) result (core_at parts.old) }
+    ensures { Parses (λ step. step) result (core_at parts.old) }
 {
     let (lits, hints) = clause_at(alloc, parts)?;
     if lits.is_empty() {
@@ -58,7 +58,7 @@ fn core_at(alloc: Global, parts: &mut Parts) -> Result<CertStep, CertError>
 /// The rest of a Delete step.
 #[tactic(auto, unfolding(crate::specs::Reading::delete_at))]
 fn delete_at(alloc: Global, parts: &mut Parts) -> Result<CertStep, CertError>
-    ensures { Gives (λ step. step) result (delete_at parts.old) }
+    ensures { Parses (λ step. step) result (delete_at parts.old) }
 {
     let clauses = list_at::<u64>(alloc, parts)?;
     if has_more(parts) {
@@ -76,7 +76,7 @@ fn delete_at(alloc: Global, parts: &mut Parts) -> Result<CertStep, CertError>
 /// The rest of a Block step.
 #[tactic(auto, unfolding(crate::specs::Reading::block_at))]
 fn block_at(alloc: Global, parts: &mut Parts) -> Result<CertStep, CertError>
-    ensures { Gives (λ step. step) result (block_at parts.old) }
+    ensures { Parses (λ step. step) result (block_at parts.old) }
 {
     let groups = list_at::<u32>(alloc, parts)?;
     let run = run_at(alloc, parts)?;
@@ -92,7 +92,7 @@ fn block_at(alloc: Global, parts: &mut Parts) -> Result<CertStep, CertError>
 /// The rest of an EndLocated step.
 #[tactic(auto, unfolding(crate::specs::Reading::located_at))]
 fn located_at(alloc: Global, parts: &mut Parts) -> Result<CertStep, CertError>
-    ensures { Gives (λ step. step) result (located_at parts.old) }
+    ensures { Parses (λ step. step) result (located_at parts.old) }
 {
     let (lits, hints) = clause_at(alloc, parts)?;
     Ok(CertStep::EndLocated { lits, hints })
@@ -101,7 +101,7 @@ fn located_at(alloc: Global, parts: &mut Parts) -> Result<CertStep, CertError>
 /// The rest of an EndNoRepair step.
 #[tactic(auto, unfolding(crate::specs::Reading::no_repair_at))]
 fn no_repair_at(alloc: Global, parts: &mut Parts) -> Result<CertStep, CertError>
-    ensures { Gives (λ step. step) result (no_repair_at parts.old) }
+    ensures { Parses (λ step. step) result (no_repair_at parts.old) }
 {
     let hints = list_at::<u64>(alloc, parts)?;
     if has_more(parts) {
@@ -113,7 +113,7 @@ fn no_repair_at(alloc: Global, parts: &mut Parts) -> Result<CertStep, CertError>
 /// A step that ends with its letters.
 #[tactic(auto, unfolding(crate::specs::Reading::alone))]
 fn alone(step: CertStep, parts: &mut Parts) -> Result<CertStep, CertError>
-    ensures { Gives (λ step. step) result (alone step parts.old) }
+    ensures { Parses (λ step. step) result (alone step parts.old) }
 {
     if has_more(parts) {
         return Err(CertError::BadLine);
@@ -124,7 +124,7 @@ fn alone(step: CertStep, parts: &mut Parts) -> Result<CertStep, CertError>
 /// The rest of a step that ends a derivation, after its second letter.
 #[tactic(auto, unfolding(crate::specs::Reading::end_by))]
 fn end_by(alloc: Global, letter: u8, parts: &mut Parts) -> Result<CertStep, CertError>
-    ensures { Gives (λ step. step) result (end_by letter parts.old) }
+    ensures { Parses (λ step. step) result (end_by letter parts.old) }
 {
     match letter {
         b'l' => located_at(alloc, parts),
@@ -138,7 +138,7 @@ fn end_by(alloc: Global, letter: u8, parts: &mut Parts) -> Result<CertStep, Cert
 /// The rest of a step that ends a derivation.
 #[tactic(auto, unfolding(crate::specs::Reading::end_at))]
 fn end_at(alloc: Global, parts: &mut Parts) -> Result<CertStep, CertError>
-    ensures { Gives (λ step. step) result (end_at parts.old) }
+    ensures { Parses (λ step. step) result (end_at parts.old) }
 {
     let letter = letter_at(parts)?;
     end_by(alloc, letter, parts)
@@ -147,7 +147,7 @@ fn end_at(alloc: Global, parts: &mut Parts) -> Result<CertStep, CertError>
 /// The rest of a step, after its letter.
 #[tactic(auto, unfolding(crate::specs::Reading::step_by))]
 fn step_by(alloc: Global, letter: u8, parts: &mut Parts) -> Result<CertStep, CertError>
-    ensures { Gives (λ step. step) result (step_by letter parts.old) }
+    ensures { Parses (λ step. step) result (step_by letter parts.old) }
 {
     match letter {
         b'l' => learn_at(alloc, parts),
@@ -162,7 +162,7 @@ fn step_by(alloc: Global, letter: u8, parts: &mut Parts) -> Result<CertStep, Cer
 /// The step that the parts write.
 #[tactic(auto, unfolding(crate::specs::Reading::step_at))]
 fn step_at(alloc: Global, parts: &mut Parts) -> Result<CertStep, CertError>
-    ensures { Gives (λ step. step) result (step_at parts.old) }
+    ensures { Parses (λ step. step) result (step_at parts.old) }
 {
     let letter = letter_at(parts)?;
     step_by(alloc, letter, parts)
@@ -170,7 +170,7 @@ fn step_at(alloc: Global, parts: &mut Parts) -> Result<CertStep, CertError>
 
 /// The step of a line, by the function that reads its parts.
 fn step_in(alloc: Global, line: &[u8]) -> Result<CertStep, CertError>
-    ensures { Gives (λ step. step) result (step_in line.now) }
+    ensures { Parses (λ step. step) result (step_in line.now) }
 {
     let mut parts = Parts::new(line);
     step_at(alloc, &mut parts)
@@ -188,7 +188,7 @@ pub fn read_line(alloc: Global, line: &[u8]) -> Result<CertStep, CertError>
         → (step : CertStep) → HasLine step → line.now ≢ line_of step }
 
     // The same by a function of the line.
-    ensures exact { Gives (λ step. step) result (step_in line.now) }
+    ensures exact { Parses (λ step. step) result (step_in line.now) }
 {
     step_in(alloc, line)
 }

@@ -16,7 +16,7 @@ ghost use Rattle.ba_tree.specs.Run.{are_bounds};
 use crate::confirmed::Confirmed;
 use crate::error::CheckError;
 use crate::judged::Judged;
-use crate::reading::Reading;
+use crate::reading::LineReader;
 use crate::settings::Settings;
 use ba_checker::Checker;
 use ba_encode::{Encoded, softs_of};
@@ -30,7 +30,7 @@ use std::alloc::{AllocError, Global};
 #[derive(Drop)]
 pub struct Confirm<'a> {
     judge: ProgramJudge<'a>,
-    reading: Reading,
+    reading: LineReader,
     refusal: Option<CheckError>,
 }
 
@@ -63,7 +63,7 @@ impl<'a> Confirm<'a> {
         )?;
         Ok(Confirm {
             judge: ProgramJudge::new(alloc, program, input, settings.bounds),
-            reading: Reading {
+            reading: LineReader {
                 judged: Judged::new(alloc, checker),
                 rest: Vec::new(alloc),
             },

@@ -12,12 +12,12 @@ use ba_steps::RunJudge;
 
 /// What came of the whole lines so far, and what stands behind the last line feed.
 #[derive(Drop)]
-pub(crate) struct Reading {
+pub(crate) struct LineReader {
     pub(crate) judged: Judged,
     pub(crate) rest: Vec<u8>,
 }
 
-impl Reading {
+impl LineReader {
     /// Takes the next bytes of the text. What stands behind the last line feed is kept, and no more.
     ///
     /// `Line` comes exactly where a line that ends in them is refused.

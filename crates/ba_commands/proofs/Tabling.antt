@@ -17,10 +17,10 @@ use Rattle.ba_tree.specs.Least.{AreWeightsOf, WeightList}
 use Rattle.ba_tree.specs.declared.tree.Program.{Program}
 use Rattle.ba_commands.specs.declared.weights.LineWeight.{LineWeight}
 use Rattle.ba_commands.specs.declared.weights.LineWeight.TheVariants.{Fixed, Weight}
-use Rattle.ba_commands.specs.declared.weights.Reading.{Reading}
-use Rattle.ba_commands.specs.declared.weights.Reading.TheVariants.{Skipped, Named, Bad}
+use Rattle.ba_commands.specs.declared.weights.LineContent.{LineContent}
+use Rattle.ba_commands.specs.declared.weights.LineContent.TheVariants.{Skipped, Named, Bad}
 use Rattle.ba_commands.specs.Numbers.{number_in}
-use Rattle.ba_commands.specs.Weights.{IsWithinTable, bad_from, bad_line, begins_comment, first_said, is_bad_after, named_by, named_with, reading_after, reading_by, reading_of, said_by, said_of, statement_weight, weight_in, weight_of, weights_in}
+use Rattle.ba_commands.specs.Weights.{IsWithinTable, bad_from, bad_line, begins_comment, first_said, is_bad_after, named_by, named_with, content_after, content_by, content_of, said_by, said_of, statement_weight, weight_in, weight_of, weights_in}
 use Rattle.ba_commands.specs.Tables.{IsTableOf, Table, after_line}
 use Rattle.ba_commands.specs.Lines.{lines_of}
 use Rattle.ba_bytes.specs.Pieces.{pieces_of}
@@ -47,23 +47,23 @@ first_said-silent (Some weight ∷ said) = refl
 
 said_of-more : (earlier : List (List ℕ)) (text : List ℕ) (line : ℕ)
     → said_of (earlier ++ text ∷ []) line
-    ≡ first_said (map (λ text. said_by line (reading_of text)) earlier ++ said_by line (reading_of text) ∷ [])
+    ≡ first_said (map (λ text. said_by line (content_of text)) earlier ++ said_by line (content_of text) ∷ [])
 said_of-more earlier text line =
-    ap first_said (map-append (λ text. said_by line (reading_of text)) earlier (text ∷ []))
+    ap first_said (map-append (λ text. said_by line (content_of text)) earlier (text ∷ []))
 
 -- a line that says nothing of this line
-said_of-silent : (earlier : List (List ℕ)) (text : List ℕ) (line : ℕ) → said_by line (reading_of text) ≡ None
+said_of-silent : (earlier : List (List ℕ)) (text : List ℕ) (line : ℕ) → said_by line (content_of text) ≡ None
     → said_of (earlier ++ text ∷ []) line ≡ said_of earlier line
 said_of-silent earlier text line none = said_of-more earlier text line
-    ∙ ap (λ s. first_said (map (λ text. said_by line (reading_of text)) earlier ++ s ∷ [])) none
-    ∙ first_said-silent (map (λ text. said_by line (reading_of text)) earlier)
+    ∙ ap (λ s. first_said (map (λ text. said_by line (content_of text)) earlier ++ s ∷ [])) none
+    ∙ first_said-silent (map (λ text. said_by line (content_of text)) earlier)
 
 -- one that is the first to name it
 said_of-named : (earlier : List (List ℕ)) (text : List ℕ) (line : ℕ) (weight : LineWeight)
-    → said_by line (reading_of text) ≡ Some weight
+    → said_by line (content_of text) ≡ Some weight
     → said_of earlier line ≡ None → said_of (earlier ++ text ∷ []) line ≡ Some weight
 said_of-named earlier text line weight says none = said_of-more earlier text line
-    ∙ first_said-more (map (λ text. said_by line (reading_of text)) earlier) (said_by line (reading_of text))
+    ∙ first_said-more (map (λ text. said_by line (content_of text)) earlier) (said_by line (content_of text))
     none
     ∙ ap (λ s. first_said (s ∷ [])) says
 
@@ -83,7 +83,7 @@ is_none (Some x) e = absurd (true≢false e)
 
 named_says : (earlier : List (List ℕ)) (table : Table) (text : List ℕ) (line : ℕ) (weight : LineWeight)
     → Says earlier table
-    → reading_of text ≡ Named line weight → is_some (get_or table line None) ≡ false → line < length table
+    → content_of text ≡ Named line weight → is_some (get_or table line None) ≡ false → line < length table
     → Says (earlier ++ text ∷ []) (slice_set table line (Some weight))
 named_says earlier table text line weight says is free within other = by (line == other) refl
   where
@@ -127,22 +127,22 @@ named-within line weight =
     small : (v : ℕ) → (nat_le 1 v && nat_le v 99999) ≡ true → v < 100000
     small v e = grind (arith, nat_tests)
 
-reading-within : (pieces : List (List ℕ)) → IsWithinTable (reading_by pieces)
-reading-within [] = tt
-reading-within (first ∷ others) = by (begins_comment first)
+content-within : (pieces : List (List ℕ)) → IsWithinTable (content_by pieces)
+content-within [] = tt
+content-within (first ∷ others) = by (begins_comment first)
   where
-    after : (others : List (List ℕ)) → IsWithinTable (reading_after first others)
+    after : (others : List (List ℕ)) → IsWithinTable (content_after first others)
     after [] = tt
     after (second ∷ []) = named-within first second
     after (second ∷ third ∷ others) = tt
 
-    by : (b : Bool) → IsWithinTable (cond b Skipped (reading_after first others))
+    by : (b : Bool) → IsWithinTable (cond b Skipped (content_after first others))
     by true = tt
     by false = after others
 
-within : (text : List ℕ) → IsWithinTable (reading_of text)
-unfolding reading_of
-within text = reading-within (pieces_of text)
+within : (text : List ℕ) → IsWithinTable (content_of text)
+unfolding content_of
+within text = content-within (pieces_of text)
 
 -- THE READING of a text: these lines are left
 
@@ -170,7 +170,7 @@ reads-first text left number table is none empty size = record {
 pub reads-next : (text : List ℕ) (left rest : List (List ℕ)) (number more : ℕ) (table next : Table)
     (line : List ℕ)
     → Reads text left number table → left ≡ line ∷ rest → more ≡ number + 1
-    → after_line table (reading_of line) ≡ Some next
+    → after_line table (content_of line) ≡ Some next
     → length next ≡ 100000 → Reads text rest more next
 reads-next text left rest number more table next line r is one goes size = record {
   earlier = r.earlier ++ line ∷ [];
@@ -184,8 +184,8 @@ reads-next text left rest number more table next line r is one goes size = recor
 }
   where
     -- the line is not bad, and the table after it has what it says
-    step : (reading : Reading) → reading_of line ≡ reading → after_line table reading ≡ Some next
-        → (is_bad_after r.earlier reading ≡ false) × Says (r.earlier ++ line ∷ []) next
+    step : (content : LineContent) → content_of line ≡ content → after_line table content ≡ Some next
+        → (is_bad_after r.earlier content ≡ false) × Says (r.earlier ++ line ∷ []) next
     step Skipped are goes = (
       refl,
       subst (Says (r.earlier ++ line ∷ [])) (let same : table ≡ next = cc in same)
@@ -206,10 +206,10 @@ reads-next text left rest number more table next line r is one goes size = recor
               (omega (arith, r.size, subst IsWithinTable are (within line)))),
         )
 
-    both : (is_bad_after r.earlier (reading_of line) ≡ false) × Says (r.earlier ++ line ∷ []) next
-    both = step (reading_of line) refl goes
+    both : (is_bad_after r.earlier (content_of line) ≡ false) × Says (r.earlier ++ line ∷ []) next
+    both = step (content_of line) refl goes
 
-    fine : is_bad_after r.earlier (reading_of line) ≡ false
+    fine : is_bad_after r.earlier (content_of line) ≡ false
     fine = both.0
 
     says : Says (r.earlier ++ line ∷ []) next
@@ -218,15 +218,15 @@ reads-next text left rest number more table next line r is one goes size = recor
 -- a line that is bad
 pub reads-bad : (text : List ℕ) (left rest : List (List ℕ)) (number more : ℕ) (table : Table) (line : List ℕ)
     → Reads text left number table → left ≡ line ∷ rest → more ≡ number + 1
-    → after_line table (reading_of line) ≡ None
+    → after_line table (content_of line) ≡ None
     → bad_line text ≡ Some more
 reads-bad text left rest number more table line r is one stops =
     r.bad ∙ ap (bad_from (number + 1) r.earlier) is
     ∙ ap (λ b. cond b (Some (number + 1)) (bad_from (number + 1 + 1) (r.earlier ++ line ∷ []) rest))
-    (by (reading_of line) stops)
+    (by (content_of line) stops)
     ∙ ap Some (sym one)
   where
-    by : (reading : Reading) → after_line table reading ≡ None → is_bad_after r.earlier reading ≡ true
+    by : (content : LineContent) → after_line table content ≡ None → is_bad_after r.earlier content ≡ true
     by Skipped stops = cc
     by Bad stops = refl
     by (Named n weight) stops = named (is_some (get_or table n None)) refl stops
@@ -286,7 +286,7 @@ weight_in-range piece = by (bytes_eq piece (codes "fixed"))
         (nat_le 1 (digits_value 10 piece) && nat_le (digits_value 10 piece) 1000) (digits_value 10 piece) 1
         1000 refl)
 
--- what a reading says of any line
+-- what the content of a line says of any line
 named-range : (number : Option ℕ) (weight : Option LineWeight) → IsInRange weight → (line : ℕ)
     → IsInRange (said_by line (named_with number weight))
 named-range None weight fits line = refl
@@ -297,31 +297,31 @@ named-range (Some n) (Some weight) fits line = by (n == line)
     by true = fits
     by false = refl
 
-reading-range : (pieces : List (List ℕ)) (line : ℕ) → IsInRange (said_by line (reading_by pieces))
-reading-range [] line = refl
-reading-range (first ∷ others) line = by (begins_comment first)
+content-range : (pieces : List (List ℕ)) (line : ℕ) → IsInRange (said_by line (content_by pieces))
+content-range [] line = refl
+content-range (first ∷ others) line = by (begins_comment first)
   where
-    after : (others : List (List ℕ)) → IsInRange (said_by line (reading_after first others))
+    after : (others : List (List ℕ)) → IsInRange (said_by line (content_after first others))
     after [] = refl
     after (second ∷ []) =
         named-range (number_in 5 1 99999 first) (weight_in second) (weight_in-range second) line
     after (second ∷ third ∷ others) = refl
 
-    by : (b : Bool) → IsInRange (said_by line (cond b Skipped (reading_after first others)))
+    by : (b : Bool) → IsInRange (said_by line (cond b Skipped (content_after first others)))
     by true = refl
     by false = after others
 
-text-range : (text : List ℕ) (line : ℕ) → IsInRange (said_by line (reading_of text))
-unfolding reading_of
-text-range text line = reading-range (pieces_of text) line
+text-range : (text : List ℕ) (line : ℕ) → IsInRange (said_by line (content_of text))
+unfolding content_of
+text-range text line = content-range (pieces_of text) line
 
 pub said-range : (lines : List (List ℕ)) (line : ℕ) → IsInRange (said_of lines line)
 said-range [] line = refl
 said-range (text ∷ lines) line =
-    by (said_by line (reading_of text)) (text-range text line) (said-range lines line)
+    by (said_by line (content_of text)) (text-range text line) (said-range lines line)
   where
     by : (said : Option LineWeight) → IsInRange said → IsInRange (said_of lines line)
-        → IsInRange (first_said (said ∷ map (λ text. said_by line (reading_of text)) lines))
+        → IsInRange (first_said (said ∷ map (λ text. said_by line (content_of text)) lines))
     by None fits others = others
     by (Some weight) fits others = fits
 

@@ -3,8 +3,8 @@
 use Rattle.std.specs.Prelude.{◌≡◌, ℕ, if◌then◌else◌, Option, None, Some, is_some, List, get_or}
 use Rattle.std.specs.List.{slice_set}
 use Rattle.ba_commands.specs.declared.weights.LineWeight.{LineWeight}
-use Rattle.ba_commands.specs.declared.weights.Reading.{Reading}
-use Rattle.ba_commands.specs.declared.weights.Reading.TheVariants.{Skipped, Named, Bad}
+use Rattle.ba_commands.specs.declared.weights.LineContent.{LineContent}
+use Rattle.ba_commands.specs.declared.weights.LineContent.TheVariants.{Skipped, Named, Bad}
 use Rattle.ba_commands.specs.Lines.{lines_of}
 use Rattle.ba_commands.specs.Weights.{bad_line, said_of}
 
@@ -12,7 +12,7 @@ abbrev pub Table : Type 0
 Table = List (Option LineWeight)
 
 -- the table after a line of the text; none where the line is bad
-abbrev pub after_line : Table → Reading → Option Table
+abbrev pub after_line : Table → LineContent → Option Table
 after_line table Skipped = Some table
 after_line table (Named line weight) =
     if is_some (get_or table line None) then None else Some (slice_set table line (Some weight))

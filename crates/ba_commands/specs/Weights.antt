@@ -9,8 +9,8 @@ use Rattle.ba_tree.specs.declared.tree.StmtKind.{StmtKind}
 use Rattle.ba_tree.specs.declared.tree.StmtKind.TheVariants.{Assert}
 use Rattle.ba_commands.specs.declared.weights.LineWeight.{LineWeight}
 use Rattle.ba_commands.specs.declared.weights.LineWeight.TheVariants.{Fixed, Weight}
-use Rattle.ba_commands.specs.declared.weights.Reading.{Reading}
-use Rattle.ba_commands.specs.declared.weights.Reading.TheVariants.{Skipped, Named, Bad}
+use Rattle.ba_commands.specs.declared.weights.LineContent.{LineContent}
+use Rattle.ba_commands.specs.declared.weights.LineContent.TheVariants.{Skipped, Named, Bad}
 use Rattle.ba_commands.specs.declared.weights.WeightsError.{WeightsError}
 use Rattle.ba_commands.specs.declared.weights.WeightsError.TheVariants.{Line, Memory}
 use Rattle.ba_commands.specs.Lines.{lines_of}
@@ -29,30 +29,30 @@ weight_in piece =
     if bytes_eq piece (codes "fixed") then Some Fixed
     else option_map (λ n. Weight n) (number_in 4 1 1000 piece)
 
-abbrev pub named_with : Option ℕ → Option LineWeight → Reading
+abbrev pub named_with : Option ℕ → Option LineWeight → LineContent
 named_with None weight = Bad
 named_with (Some line) None = Bad
 named_with (Some line) (Some weight) = Named line weight
 
 -- the number of a line is one to five digits and at least 1
-abbrev pub named_by : List ℕ → List ℕ → Reading
+abbrev pub named_by : List ℕ → List ℕ → LineContent
 named_by line weight = named_with (number_in 5 1 99999 line) (weight_in weight)
 
-abbrev pub reading_after : List ℕ → List (List ℕ) → Reading
-reading_after first [] = Bad
-reading_after first (second ∷ []) = named_by first second
-reading_after first (second ∷ third ∷ others) = Bad
+abbrev pub content_after : List ℕ → List (List ℕ) → LineContent
+content_after first [] = Bad
+content_after first (second ∷ []) = named_by first second
+content_after first (second ∷ third ∷ others) = Bad
 
-abbrev pub reading_by : List (List ℕ) → Reading
-reading_by [] = Skipped
-reading_by (first ∷ others) = if begins_comment first then Skipped else reading_after first others
+abbrev pub content_by : List (List ℕ) → LineContent
+content_by [] = Skipped
+content_by (first ∷ others) = if begins_comment first then Skipped else content_after first others
 
-unfoldable pub reading_of : List ℕ → Reading
-reading_of line = reading_by (pieces_of line)
+unfoldable pub content_of : List ℕ → LineContent
+content_of line = content_by (pieces_of line)
 
 -- WHAT THE LINES SAY of a line of the program: what the first of them that names it says
 
-abbrev pub said_by : ℕ → Reading → Option LineWeight
+abbrev pub said_by : ℕ → LineContent → Option LineWeight
 said_by line Skipped = None
 said_by line (Named other weight) = if other == line then Some weight else None
 said_by line Bad = None
@@ -63,12 +63,12 @@ first_said (None ∷ others) = first_said others
 first_said (Some weight ∷ others) = Some weight
 
 abbrev pub said_of : List (List ℕ) → ℕ → Option LineWeight
-said_of lines line = first_said (map (λ text. said_by line (reading_of text)) lines)
+said_of lines line = first_said (map (λ text. said_by line (content_of text)) lines)
 
 -- THE FIRST BAD LINE, counted from 1: it is nothing that a line may be, or names a line that an
 -- earlier one names
 
-abbrev pub is_bad_after : List (List ℕ) → Reading → Bool
+abbrev pub is_bad_after : List (List ℕ) → LineContent → Bool
 is_bad_after earlier Skipped = false
 is_bad_after earlier (Named line weight) = is_some (said_of earlier line)
 is_bad_after earlier Bad = true
@@ -76,7 +76,7 @@ is_bad_after earlier Bad = true
 abbrev pub bad_from : ℕ → List (List ℕ) → List (List ℕ) → Option ℕ
 bad_from number earlier [] = None
 bad_from number earlier (text ∷ others) =
-    if is_bad_after earlier (reading_of text) then Some number
+    if is_bad_after earlier (content_of text) then Some number
     else bad_from (number + 1) (earlier ++ text ∷ []) others
 
 abbrev pub bad_line : List ℕ → Option ℕ
@@ -105,7 +105,7 @@ Tells (Line number) bad = bad ≡ Some number
 Tells Memory bad = Unit {0}
 
 -- the number of the line has a place in the table
-abbrev pub IsWithinTable : Reading → Type 0
+abbrev pub IsWithinTable : LineContent → Type 0
 IsWithinTable Skipped = Unit {0}
 IsWithinTable (Named line weight) = line < 100000
 IsWithinTable Bad = Unit {0}

@@ -5,7 +5,7 @@ ghost use Rattle.ba_bytes.specs.Pieces.{pieces_of};
 ghost use Rattle.ba_tree.specs.Least.{AreWeightsOf};
 ghost use Rattle.ba_tree.specs.Weights.{is_weight};
 ghost use Rattle.ba_tree.specs.declared.tree.StmtInfo.{StmtInfo};
-ghost use Rattle.ba_commands.specs.Weights.{IsWithinTable, bad_line, begins_comment, named_by, reading_of, statement_weight, weight_in, weight_of, weights_in, Tells};
+ghost use Rattle.ba_commands.specs.Weights.{IsWithinTable, bad_line, begins_comment, named_by, content_of, statement_weight, weight_in, weight_of, weights_in, Tells};
 ghost use Rattle.ba_commands.specs.Tables.{IsTableOf, after_line};
 
 use crate::lines::Lines;
@@ -62,7 +62,7 @@ pub enum LineWeight {
 
 /// What a line of the weights is.
 #[derive(Clone, Copy, Debug, PartialEq, Eq)]
-pub enum Reading {
+pub enum LineContent {
     /// A blank line or a comment.
     Skipped,
     /// A line of the program with its weight. The number is 1 to 99,999.
@@ -96,37 +96,37 @@ fn weight_in(piece: &[u8]) -> Option<LineWeight>
 }
 
 /// What a line is that has these two pieces.
-fn named(line: &[u8], weight: &[u8]) -> Reading
+fn named(line: &[u8], weight: &[u8]) -> LineContent
     ensures value { result ≡ named_by line.now weight.now }
     ensures within { IsWithinTable result }
 {
     let Some(line) = number_in(line, 5, 1, 99_999) else {
-        return Reading::Bad;
+        return LineContent::Bad;
     };
     let Some(weight) = weight_in(weight) else {
-        return Reading::Bad;
+        return LineContent::Bad;
     };
-    Reading::Named { line, weight }
+    LineContent::Named { line, weight }
 }
 
 /// What a line of the weights is.
-#[tactic(auto, unfolding(crate::specs::Weights::reading_of))]
-fn reading_of(line: &[u8]) -> Reading
-    ensures value { result ≡ reading_of line.now }
+#[tactic(auto, unfolding(crate::specs::Weights::content_of))]
+fn content_of(line: &[u8]) -> LineContent
+    ensures value { result ≡ content_of line.now }
     ensures within { IsWithinTable result }
 {
     let mut pieces = Pieces::new(line);
     let Some(first) = pieces.next_piece() else {
-        return Reading::Skipped;
+        return LineContent::Skipped;
     };
     if begins_comment(first) {
-        return Reading::Skipped;
+        return LineContent::Skipped;
     }
     let Some(second) = pieces.next_piece() else {
-        return Reading::Bad;
+        return LineContent::Bad;
     };
     if pieces.next_piece().is_some() {
-        return Reading::Bad;
+        return LineContent::Bad;
     }
     named(first, second)
 }
@@ -134,7 +134,7 @@ fn reading_of(line: &[u8]) -> Reading
 /// Puts the weight of a line of the program into the table, unless it stands there, and says whether it did.
 fn put(table: &mut [Option<LineWeight>], line: usize, weight: LineWeight) -> bool
     requires { line < length table.old }
-    ensures { MatchOption (after_line table.old (Reading.Named line weight)) (result ≡ false)
+    ensures { MatchOption (after_line table.old (LineContent.Named line weight)) (result ≡ false)
         (λ next. (result ≡ true) × (table.new ≡ next)) }
 {
     if table[line].is_some() {
@@ -147,13 +147,13 @@ fn put(table: &mut [Option<LineWeight>], line: usize, weight: LineWeight) -> boo
 /// Puts what a line of the weights says into the table, and says whether the line is right.
 fn put_line(table: &mut [Option<LineWeight>], line: &[u8]) -> bool
     requires { length table.old ≡ LINES }
-    ensures { MatchOption (after_line table.old (reading_of line.now)) (result ≡ false)
+    ensures { MatchOption (after_line table.old (content_of line.now)) (result ≡ false)
         (λ next. (result ≡ true) × (table.new ≡ next)) }
 {
-    match reading_of(line) {
-        Reading::Skipped => true,
-        Reading::Named { line, weight } => put(table, line as usize, weight),
-        Reading::Bad => false,
+    match content_of(line) {
+        LineContent::Skipped => true,
+        LineContent::Named { line, weight } => put(table, line as usize, weight),
+        LineContent::Bad => false,
     }
 }
 

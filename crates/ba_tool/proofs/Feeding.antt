@@ -12,7 +12,7 @@ use Rattle.ba_check.specs.declared.error.CheckError.TheVariants.{Line, Memory}
 use Rattle.ba_commands.specs.Modes.{Word}
 use Rattle.ba_derivations.specs.Derivations.{Problem, Verdict}
 use Rattle.ba_world.specs.Read.{IsReadTo, IsReadWhole, RoseBy, piece_size, read_error}
-use Rattle.ba_world.specs.World.{Gives, GivesNone, GivesPiece, HasReadFault, IsOpened, Outside}
+use Rattle.ba_world.specs.World.{Consumes, GivesNone, GivesPiece, HasReadFault, IsOpened, Outside}
 use Rattle.ba_world.specs.declared.read.ReadFileError.TheVariants as read
 use Rattle.ba_world.specs.declared.world.WorldError.{WorldError}
 use Rattle.ba_world.specs.declared.world.WorldError.TheVariants as world
@@ -80,7 +80,7 @@ raised_on : (top old mid new by : ℕ) → min (old + by) top ≤ mid → mid �
     new ≡ min (old + by) top
 raised_on top old mid new by least most is = omega arith
 
-nothing_left : (buffer : List ℕ) (left after : Option (List ℕ)) → Gives 0 buffer left after →
+nothing_left : (buffer : List ℕ) (left after : Option (List ℕ)) → Consumes 0 buffer left after →
     IfSome after (λ rest. rest ≡ [])
 nothing_left buffer None after is = subst (λ (after : Option (List ℕ)). IfSome after (λ rest. rest ≡ []))
     (sym is) tt
@@ -88,7 +88,7 @@ nothing_left buffer (Some bytes) after (split, rest, empty) =
     subst (λ (after : Option (List ℕ)). IfSome after (λ rest. rest ≡ [])) (sym rest) (empty.0 refl)
 
 all_given : (bytes buffer : List ℕ) (held : Option (Option (List ℕ))) (left after : Option (List ℕ)) →
-    held ≡ option_map (λ rest. Some (bytes ++ rest)) left → Gives 0 buffer left after →
+    held ≡ option_map (λ rest. Some (bytes ++ rest)) left → Consumes 0 buffer left after →
     IfSome held (λ file. file ≡ Some bytes)
 all_given bytes buffer held None after is gives =
     subst (λ (held : Option (Option (List ℕ))). IfSome held (λ file. file ≡ Some bytes)) (sym is) tt

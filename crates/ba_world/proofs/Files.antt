@@ -9,8 +9,8 @@ use Rattle.std.specs.Str.{bytes_eq}
 use Rattle.std.proofs.lemmas.Slice.Eq.{bytes_eq-Decides}
 use Rattle.std.proofs.lemmas.List.Quantifiers.{all_pairs_push}
 use Rattle.std.proofs.lemmas.Grind.{common_steps}
-use Rattle.ba_world.specs.declared.memory.Reading.{Reading}
-use Rattle.ba_world.specs.World.{Gives}
+use Rattle.ba_world.specs.declared.memory.ReadPosition.{ReadPosition}
+use Rattle.ba_world.specs.World.{Consumes}
 use Rattle.ba_world.specs.Memory.{File, Opened, NamesDiffer, file_of, with_file, name_at}
 
 -- a file that is being read
@@ -110,7 +110,7 @@ pub option_map-name_at : (places : Option ℕ) (files after : List File) → ((o
 option_map-name_at None files after stay = refl
 option_map-name_at (Some place) files after stay = ap Some (stay place)
 
-pub option_map-opened : (reading : Option Reading) (files after : List File) → ((other : ℕ) → name_at after other ≡ name_at files other) → option_map (λ (r : Reading). opened (name_at after r.file) r.offset) reading ≡ option_map (λ (r : Reading). opened (name_at files r.file) r.offset) reading
+pub option_map-opened : (reading : Option ReadPosition) (files after : List File) → ((other : ℕ) → name_at after other ≡ name_at files other) → option_map (λ (r : ReadPosition). opened (name_at after r.file) r.offset) reading ≡ option_map (λ (r : ReadPosition). opened (name_at files r.file) r.offset) reading
 option_map-opened None files after stay = refl
 option_map-opened (Some r) files after stay = ap (λ name. Some (opened name r.offset)) (stay r.file)
 
@@ -128,8 +128,8 @@ pub length-take-zero : (most : ℕ) (left : List ℕ) → 0 < most → length (t
 length-take-zero most left some none = grind (arith, common_steps)
 
 -- a piece of what is left, which isn't empty unless nothing is left
-pub Gives-piece : (bytes into : List ℕ) (offset most : ℕ) → 0 < most → Gives (length (take most (drop offset bytes))) (take most (drop offset bytes) ++ drop (length (take most (drop offset bytes))) into) (Some (drop offset bytes)) (Some (drop (offset + length (take most (drop offset bytes))) bytes))
-Gives-piece bytes into offset most some =
+pub Consumes-piece : (bytes into : List ℕ) (offset most : ℕ) → 0 < most → Consumes (length (take most (drop offset bytes))) (take most (drop offset bytes) ++ drop (length (take most (drop offset bytes))) into) (Some (drop offset bytes)) (Some (drop (offset + length (take most (drop offset bytes))) bytes))
+Consumes-piece bytes into offset most some =
     let left = drop offset bytes in
     let piece = take most left in (
       rw (take-append_seam piece (drop (length piece) into)) (sym (take-append-drop_length most left)),

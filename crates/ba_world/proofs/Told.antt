@@ -8,9 +8,9 @@ use Rattle.std.proofs.lemmas.Slice.Eq.{bytes_eq-Decides}
 use Rattle.std.proofs.Math.Seq.{take-length}
 use Rattle.ba_world.specs.declared.world.WorldError.{WorldError}
 use Rattle.ba_world.specs.declared.world.WorldError.TheVariants.{Failed, Memory as NoMemory}
-use Rattle.ba_world.specs.World.{Gives, GivesNone, GivesPiece, IsBegun, IsOpened, WritesNone, Appends, AppendsPrefix, StaysButWritten}
+use Rattle.ba_world.specs.World.{Consumes, GivesNone, GivesPiece, IsBegun, IsOpened, WritesNone, Appends, AppendsPrefix, StaysButWritten}
 use Rattle.ba_world.specs.Memory.{File, Opened, Memory, After, file_of, bytes_of, moved_on, kept_of, kept_in, held_in, left_of, with_file, added_to, half_of, with_added, called, write_failed, print_short, with_printed, fails_next, piece_of, after_piece, read_failed, after_next, after_open, after_search, outside_of}
-use Rattle.ba_world.proofs.Files.{bytes_eq_self, bytes_eq_other, Gives-piece}
+use Rattle.ba_world.proofs.Files.{bytes_eq_self, bytes_eq_other, Consumes-piece}
 
 -- the file found has the name
 pub file_of-name : (files : List File) (name : List ℕ) (file : File) → file_of files name ≡ Some file →
@@ -222,12 +222,12 @@ after_open-opened name old end is = subst opens (sym is) (go (fails_next old))
 
 -- what a piece of the file being read gives
 pub piece-gives : (files : List File) (into : List ℕ) (most : ℕ) (reading : Option Opened) → 0 < most →
-    Gives (length (take most (option_map_or (left_of files) reading [])))
+    Consumes (length (take most (option_map_or (left_of files) reading [])))
     (take most (option_map_or (left_of files) reading []) ++ drop (length (take most (option_map_or (left_of files) reading []))) into)
     (option_map (left_of files) reading)
     (option_map (left_of files) (option_map (moved_on (length (take most (option_map_or (left_of files) reading [])))) reading))
 piece-gives files into most None some = refl
-piece-gives files into most (Some opened) some = Gives-piece (bytes_of files opened.name) into opened.offset most some
+piece-gives files into most (Some opened) some = Consumes-piece (bytes_of files opened.name) into opened.offset most some
 
 -- what `next_piece` gives
 pub after_next-gives : (into : List ℕ) (old : Memory) (end : Result ℕ WorldError × List ℕ × Memory) →

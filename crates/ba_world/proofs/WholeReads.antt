@@ -1,7 +1,7 @@
 -- How a read of a whole file goes on, and stops past the limit.
 
 use Rattle.std.proofs.Common.{◌≡◌, ◌⊎◌, inl, inr, ℕ, ◌+◌, ◌-◌, ◌^◌, ◌<◌, ◌≤◌, min, true, List, ◌++◌, length, take, drop, Option, None, Some, IfSome, option_map, IsSomeAnd, refl, sym, ap, subst, ◌∙◌, append_assoc, length-append, length-take-le, arith}
-use Rattle.ba_world.specs.World.{Gives, GivesPiece, OnlyReads, Outside, Rose}
+use Rattle.ba_world.specs.World.{Consumes, GivesPiece, OnlyReads, Outside, Rose}
 use Rattle.ba_world.specs.Read.{IsReadTo, RoseBy, StoppedPast, piece_size}
 
 -- only reading goes on from one moment to a later one, and from there to one still later
@@ -42,7 +42,7 @@ rose_on top old mid new by count least most is = (omega arith, omega arith)
 -- the bytes given and those left still make up the file
 parts_on : (bytes buffer : List ℕ) (count : ℕ) (held : Option (Option (List ℕ)))
     (left after : Option (List ℕ)) → held ≡ option_map (λ rest. Some (bytes ++ rest)) left →
-    Gives count buffer left after →
+    Consumes count buffer left after →
     held ≡ option_map (λ rest. Some ((bytes ++ take count buffer) ++ rest)) after
 parts_on bytes buffer count held None after is none =
     is ∙ ap (option_map (λ rest. Some ((bytes ++ take count buffer) ++ rest))) (sym none)

@@ -94,15 +94,15 @@ pub record IsOpened (name : List ℕ) (old new : Outside) : Type 0 where
 
 -- the first `count` bytes of a buffer are the first of the bytes that were left, which are fewer by
 -- them, and there is none exactly where nothing was left
-abbrev pub Gives : ℕ → List ℕ → Option (List ℕ) → Option (List ℕ) → Type 0
-Gives count buffer None after = after ≡ None
-Gives count buffer (Some bytes) after =
+abbrev pub Consumes : ℕ → List ℕ → Option (List ℕ) → Option (List ℕ) → Type 0
+Consumes count buffer None after = after ≡ None
+Consumes count buffer (Some bytes) after =
     (bytes ≡ take count buffer ++ drop count bytes) × (after ≡ Some (drop count bytes)) × ((count ≡ 0) ↔ (bytes ≡ []))
 
 -- the first `count` bytes of a buffer were given of the file being read
 pub record GivesPiece (count : ℕ) (buffer : List ℕ) (old new : Outside) : Type 0 where
   pub within : count ≤ length buffer
-  pub bytes : Gives count buffer old.left new.left
+  pub bytes : Consumes count buffer old.left new.left
   pub counted : new.given ≡ raised old.given count
 
 -- no byte was given

@@ -170,7 +170,7 @@ fn count_call(calls: &mut u64, fails: &[u64]) -> bool
 
 /// The file that is being read, by its place in the list, and how many of its bytes were given.
 #[derive(Clone, Copy, Debug)]
-struct Reading {
+struct ReadPosition {
     file: usize,
     offset: usize,
 }
@@ -182,7 +182,7 @@ struct Reading {
 #[derive(Debug)]
 pub struct MemoryWorld {
     files: Vec<MemoryFile>,
-    reading: Option<Reading>,
+    reading: Option<ReadPosition>,
     writing: Option<usize>,
     printed: Vec<u8>,
     fails: Vec<u64>,
@@ -305,7 +305,7 @@ impl World for MemoryWorld {
         match place_of(self.files.as_slice(), name) {
             None => Err(WorldError::Failed),
             Some(file) => {
-                self.reading = Some(Reading { file, offset: 0 });
+                self.reading = Some(ReadPosition { file, offset: 0 });
                 Ok(())
             }
         }
@@ -322,12 +322,12 @@ impl World for MemoryWorld {
             raise(&mut self.read_faults, 1);
             return Err(WorldError::Failed);
         }
-        let Some(Reading { file, offset }) = self.reading else {
+        let Some(ReadPosition { file, offset }) = self.reading else {
             unreachable!()
         };
         let left = self.files[file].bytes_from(offset);
         let count = copy_front(left, into, self.piece);
-        self.reading = Some(Reading {
+        self.reading = Some(ReadPosition {
             file,
             offset: offset + count,
         });

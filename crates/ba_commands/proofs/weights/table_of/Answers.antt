@@ -1,7 +1,7 @@
 use Rattle.std.proofs.Common.{◌≡◌, ◌+◌, length, drop, refl, ap, sym, subst, ◌∙◌, arith}
 use Rattle.std.proofs.lemmas.List.{take_at}
 use Rattle.ba_commands.specs.Tables.{Table, after_line}
-use Rattle.ba_commands.specs.Weights.{reading_of}
+use Rattle.ba_commands.specs.Weights.{content_of}
 use Rattle.ba_commands.proofs.TextLines.{length-lines_of}
 use Rattle.ba_commands.proofs.Tabling.{Reads, put_goes, put_stops, reads-all, reads-bad, reads-first, reads-next}
 use Rattle.ba_commands.proofs.weights.table_of.Goals as goal
@@ -23,8 +23,8 @@ returns-then-not-put_line-clause-err c =
     reads-bad c.args.text.now c.loop-line.lines c.next_line.new.self c.loop-line.number
     (c.loop-line.number + 1) c.loop-line.table.items
     c.in-Some.line.now c.loop-line.invariant c.in-Some.ensures refl
-    (ap (λ (t : Table). after_line t (reading_of c.in-Some.line.now)) (sym c.as_mut_slice.ensures.value)
-    ∙ put_stops (after_line c.as_mut_slice.result.now (reading_of c.in-Some.line.now)) c.put_line.result
+    (ap (λ (t : Table). after_line t (content_of c.in-Some.line.now)) (sym c.as_mut_slice.ensures.value)
+    ∙ put_stops (after_line c.as_mut_slice.result.now (content_of c.in-Some.line.now)) c.put_line.result
     c.put_line.new.table
     c.put_line.ensures c.if-not-put_line.true)
 
@@ -39,8 +39,8 @@ loop-line-preserved c =
     (reads-next c.args.text.now c.loop-line.lines c.next_line.new.self c.loop-line.number
     (c.loop-line.number + 1) before after
     c.in-Some.line.now c.loop-line.invariant c.in-Some.ensures refl
-    (ap (λ (t : Table). after_line t (reading_of c.in-Some.line.now)) (sym c.as_mut_slice.ensures.value)
-    ∙ put_goes (after_line c.as_mut_slice.result.now (reading_of c.in-Some.line.now)) c.put_line.result after
+    (ap (λ (t : Table). after_line t (content_of c.in-Some.line.now)) (sym c.as_mut_slice.ensures.value)
+    ∙ put_goes (after_line c.as_mut_slice.result.now (content_of c.in-Some.line.now)) c.put_line.result after
     c.put_line.ensures c.if-not-put_line.false)
     (omega (arith, same, c.loop-line.table.ok.0, c.loop-line.invariant.size)))
 

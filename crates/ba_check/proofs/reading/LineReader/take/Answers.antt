@@ -3,7 +3,7 @@ use Rattle.std.proofs.lemmas.Result.{err_from_is_err_and}
 use Rattle.ba_check.specs.Lines.{rest_in}
 use Rattle.ba_check.specs.Readings.{course_kept}
 use Rattle.ba_check.proofs.CodeLaws.{line-more, line-refused, piece-ends}
-use Rattle.ba_check.proofs.reading.Reading.take.Goals as goal
+use Rattle.ba_check.proofs.reading.LineReader.take.Goals as goal
 
 pub returns-in_err-end_line : goal.returns-in_err-end_line
 returns-in_err-end_line g c =

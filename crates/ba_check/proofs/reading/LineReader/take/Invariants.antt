@@ -2,7 +2,7 @@ use Rattle.std.proofs.Common.{length}
 use Rattle.ba_check.specs.Lines.{HasNoFeed}
 use Rattle.ba_check.specs.Readings.{course_kept}
 use Rattle.ba_check.proofs.CodeLaws.{IsUnderWay}
-use Rattle.ba_check.proofs.reading.Reading.take.Given as goal
+use Rattle.ba_check.proofs.reading.LineReader.take.Given as goal
 
 -- what is left of the piece, after what is kept, gives what the whole piece gives
 abbrev pub invariant-loop-end : goal.invariant-loop-end
