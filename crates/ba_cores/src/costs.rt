@@ -71,7 +71,8 @@ where
     ensures again { (error : SearchError) → search.old.failure ≡ Some error
         → (result ≡ Err error) × (search.new ≡ search.old) × (checked.new ≡ checked.old) }
     ensures cause { result ≡ Err SearchError.SinkFailed
-        → (search.old.failure ≡ Some SearchError.SinkFailed) ⊎ Rose (S.faults checked.old.sink) (S.faults checked.new.sink) }
+        → (search.old.failure ≡ Some SearchError.SinkFailed)
+        ⊎ Rose (S.faults checked.old.sink) (S.faults checked.new.sink) }
     ensures judge_stays { checked.new.judge ≡ checked.old.judge }
     ensures over_stays { S.over checked.new.sink ≡ S.over checked.old.sink }
     ensures no_fall { S.faults checked.old.sink ≤ S.faults checked.new.sink }

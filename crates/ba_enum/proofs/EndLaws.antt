@@ -86,7 +86,8 @@ last_ends good s t found sets lits hints back weight l m last are ready is same 
       allowed = last_allowed good s found lits hints back last are ready;
       says = refl;
       fits = (
-        ap (λ w. derived.Located w s.sets) (sym is) ∙ ap (λ (ss : List (List ℕ)). derived.Located weight ss) are,
+        ap (λ w. derived.Located w s.sets) (sym is) ∙ ap (λ (ss : List (List ℕ)). derived.Located weight ss)
+            are,
         same,
         order,
         let few = last.few in omega (arith, few, count),

@@ -46,7 +46,8 @@ where
     requires fresh { checked.old.refusal ≡ None }
     ensures blocks { OnOk result (Blocks (J.accepts checked.old.judge)
         task.now.encoded.now.formula (softs_of task.now.encoded.now.groups) checked.old.checker
-        checked.new.checker found.old found.new (S.logs checked.old.sink) (S.logs checked.new.sink)) }
+        checked.new.checker found.old found.new
+        (S.logs checked.old.sink) (S.logs checked.new.sink)) }
     ensures leaves { Leaves (J.accepts checked.old.judge) checked.old.checker
         (S.logs checked.old.sink) checked.new.checker (S.logs checked.new.sink) }
     ensures stays_fresh { OnOk result (checked.new.refusal ≡ None) }
@@ -95,7 +96,8 @@ fn false_groups(
     model: &Model,
 ) -> Result<Items<u32>, AllocError>
     requires { AreAmong (length model.now.values) (present softs.now) }
-    ensures { IfOk result (λ groups. groups ≡ false_groups (assignment_of model.now.values) softs.now) }
+    ensures { IfOk result (λ groups.
+        groups ≡ false_groups (assignment_of model.now.values) softs.now) }
 {
     let mut groups = Items::new(alloc);
     for (place, soft) in softs.iter().enumerate() {

@@ -57,13 +57,15 @@ where
         (problem_in encoded.now (J.accepts checked.old.judge) checked.old.checker)
         (S.logs checked.old.sink) verdict checked.new.checker (S.logs checked.new.sink)) }
     ensures leaves { search.old.failure ≡ None → Leaves (J.accepts checked.old.judge)
-        checked.old.checker (S.logs checked.old.sink) checked.new.checker (S.logs checked.new.sink) }
+        checked.old.checker (S.logs checked.old.sink)
+        checked.new.checker (S.logs checked.new.sink) }
     ensures restart_stays { search.new.restart ≡ search.old.restart }
     ensures keep_stays { search.new.keep ≡ search.old.keep }
     ensures again { (error : SearchError) → search.old.failure ≡ Some error
         → (result ≡ Err error) × (search.new ≡ search.old) × (checked.new ≡ checked.old) }
     ensures cause { result ≡ Err SearchError.SinkFailed
-        → (search.old.failure ≡ Some SearchError.SinkFailed) ⊎ Rose (S.faults checked.old.sink) (S.faults checked.new.sink) }
+        → (search.old.failure ≡ Some SearchError.SinkFailed)
+        ⊎ Rose (S.faults checked.old.sink) (S.faults checked.new.sink) }
     ensures judge_stays { checked.new.judge ≡ checked.old.judge }
     ensures over_stays { S.over checked.new.sink ≡ S.over checked.old.sink }
     ensures no_fall { S.faults checked.old.sink ≤ S.faults checked.new.sink }

@@ -64,7 +64,8 @@ where
         (softs_of task.now.encoded.now.groups) checked.new.checker found.new next) }
     ensures adds { OnOk result (Adds (J.accepts checked.old.judge)
         task.now.encoded.now.formula (softs_of task.now.encoded.now.groups) checked.old.checker
-        checked.new.checker found.old found.new (S.logs checked.old.sink) (S.logs checked.new.sink)) }
+        checked.new.checker found.old found.new
+        (S.logs checked.old.sink) (S.logs checked.new.sink)) }
     ensures one_more { OnOk result (length found.new ≡ length found.old + 1) }
     ensures leaves { Leaves (J.accepts checked.old.judge) checked.old.checker
         (S.logs checked.old.sink) checked.new.checker (S.logs checked.new.sink) }

@@ -36,7 +36,12 @@ pub forgotten_more : (numbers : List ℕ) (i x : ℕ) (old now new : List Bool) 
 forgotten_more numbers i x old now new x_is cleared others h = record {
   gone = λ n named. ⊎_elim
       (λ e. ap (λ (m : ℕ). get_or new m false) e ∙ cleared)
-      (λ ne. others n ne ∙ h.gone n (named.0, below n named.0 named.1 (λ k_is. ne (sym named.2 ∙ (ap (λ k. get_or numbers k 0) k_is ∙ sym x_is))), named.2))
+      (λ ne. others n ne ∙ h.gone n (
+        named.0,
+        below n named.0 named.1
+            (λ k_is. ne (sym named.2 ∙ (ap (λ k. get_or numbers k 0) k_is ∙ sym x_is))),
+        named.2,
+      ))
       (cases_eq n x);
   stays = λ n other.
       let ne : n ≢ x = λ e. other (i, omega arith, sym x_is ∙ sym e) in
@@ -55,14 +60,16 @@ contains_from numbers n named = (named.0, named.1, sym (get_or_default numbers n
 pub forgets_all : (numbers : List ℕ) (count : ℕ) (old new : List Bool) → count ≡ length numbers
     → HasForgotten numbers count old new → Forgets numbers old new
 forgets_all numbers count old new count_is h =
-    let whole : HasForgotten numbers (length numbers) old new = subst (λ (m : ℕ). HasForgotten numbers m old new) count_is h in
+    let whole : HasForgotten numbers (length numbers) old new =
+    subst (λ (m : ℕ). HasForgotten numbers m old new) count_is h in
     record {
       gone = λ n has. whole.gone n (named_from numbers n has);
       stays = λ n other. whole.stays n (λ named. other (contains_from numbers n named));
     }
 
 -- a mark is set
-pub marks_set : (old grown new : List Bool) (number : ℕ) → ((k : ℕ) → get_or grown k false ≡ get_or old k false)
+pub marks_set : (old grown new : List Bool) (number : ℕ) →
+    ((k : ℕ) → get_or grown k false ≡ get_or old k false)
     → number < length grown → new ≡ set grown number true → MarksOne old new number
 marks_set old grown new number same within new_is k = ⊎_elim
     (λ e. ap (λ (xs : List Bool). get_or xs k false) new_is
@@ -85,12 +92,15 @@ without_here [] (suc k) = refl
 without_here (c ∷ cs) (suc zero) = refl
 without_here (c ∷ cs) (suc (suc k)) = without_here cs (suc k)
 
-still_none : (cs : List Kept) (ns : List ℕ) (n : ℕ) → clause_at cs n ≡ None → clause_at (without_all cs ns) n ≡ None
+still_none : (cs : List Kept) (ns : List ℕ) (n : ℕ) → clause_at cs n ≡ None →
+    clause_at (without_all cs ns) n ≡ None
 still_none cs [] n none = none
 still_none cs (m ∷ ms) n none = still_none (without cs m) ms n
-    (⊎_elim (λ e. ap (clause_at (without cs m)) e ∙ without_here cs m) (λ ne. without_other cs n m ne ∙ none) (cases_eq n m))
+    (⊎_elim (λ e. ap (clause_at (without cs m)) e ∙ without_here cs m) (λ ne. without_other cs n m ne
+    ∙ none) (cases_eq n m))
 
-without_gone : (cs : List Kept) (ns : List ℕ) (k n : ℕ) → k < length ns → get_or ns k 0 ≡ n → clause_at (without_all cs ns) n ≡ None
+without_gone : (cs : List Kept) (ns : List ℕ) (k n : ℕ) → k < length ns → get_or ns k 0 ≡ n →
+    clause_at (without_all cs ns) n ≡ None
 without_gone cs [] k n h e = absurd (omega (arith, h))
 without_gone cs (m ∷ ms) zero n h e =
     still_none (without cs m) ms n (ap (clause_at (without cs m)) (sym e) ∙ without_here cs m)
@@ -114,7 +124,8 @@ live_deleted old new cs ns moved keeps live = record {
       let source = keeps.only q c is in
       let same : clause_at (without_all cs ns) c.number ≡ clause_at cs c.number =
       without_stays cs ns c.number (λ k h e. source.stays (contains_from ns c.number (k, h, e))) in
-      subst (λ (o : Option (List Literal)). IsSame o c.lits) (sym same) (live.each source.from c source.there);
+      subst (λ (o : Option (List Literal)). IsSame o c.lits) (sym same)
+      (live.each source.from c source.there);
   all = λ n given is.
       let other : Contains ns n → ⊥ = λ has.
       let named = named_from ns n has in
@@ -139,7 +150,8 @@ marks_deleted old new ns moved before after keeps forgets marks = record {
       record {
         reference = moved found.reference;
         clause = found.clause;
-        there = keeps.there found.reference found.clause found.there (λ has. other (subst (λ m. Contains ns m) found.named has));
+        there = keeps.there found.reference found.clause found.there
+            (λ has. other (subst (λ m. Contains ns m) found.named has));
         named = found.named;
       };
   marked = λ q c is.
@@ -155,27 +167,32 @@ marks_deleted old new ns moved before after keeps forgets marks = record {
     clash e = cc e
 
 -- what the numbers that the keep rule discards have to be
-list_all_at : (p : ℕ → Bool) (ns : List ℕ) (k : ℕ) → list_all p ns ≡ true → k < length ns → p (get_or ns k 0) ≡ true
+list_all_at : (p : ℕ → Bool) (ns : List ℕ) (k : ℕ) → list_all p ns ≡ true → k < length ns →
+    p (get_or ns k 0) ≡ true
 list_all_at p [] k all h = absurd (omega (arith, h))
 list_all_at p (n ∷ ns) zero all h = (and_parts (p n) (list_all p ns) all).0
-list_all_at p (n ∷ ns) (suc k) all h = list_all_at p ns k (and_parts (p n) (list_all p ns) all).1 (omega (arith, h))
+list_all_at p (n ∷ ns) (suc k) all h = list_all_at p ns k (and_parts (p n) (list_all p ns) all).1
+    (omega (arith, h))
 
 pub may_delete : (s : Watching) (c : State) (taken : List Bool) (ns : List ℕ) → MarksLive s.clauses taken
-    → AreLive s.clauses (clause_at c.clauses) → list_all (may_go c) ns ≡ true → All (IsNoReason s) ns → MayDelete s ns
+    → AreLive s.clauses (clause_at c.clauses) → list_all (may_go c) ns ≡ true → All (IsNoReason s) ns →
+    MayDelete s ns
 may_delete s c taken ns marks live go none = record {
   alone = marks.alone;
   no_reason = λ p r d is at has.
       All-contains (IsNoReason s) ns d.number none has p r d (some_within s.reasons p r is) is at refl;
   long = λ r d at has.
       let named = named_from ns d.number has in
-      let goes : may_go c d.number ≡ true = subst (λ m. may_go c m ≡ true) named.2 (list_all_at (may_go c) ns named.0 go named.1) in
+      let goes : may_go c d.number ≡ true = subst (λ m. may_go c m ≡ true) named.2
+      (list_all_at (may_go c) ns named.0 go named.1) in
       let wide : ltb 2 (width_at c.clauses d.number) ≡ true =
       (and_parts (is_learnt_at c.clauses d.number) (ltb 2 (width_at c.clauses d.number)) goes).1 in
       long_at d (clause_at c.clauses d.number) refl (live.each r d at) wide;
 }
   where
     some_within : (rs : List (Option ℕ)) (p r : ℕ) → get_or rs p None ≡ Some r → p < length rs
-    some_within rs p r is = ⊎_elim (λ h. h) (λ past. absurd (none_some _ r (get_or_past rs p None past) is)) (cases_lt p (length rs))
+    some_within rs p r is = ⊎_elim (λ h. h) (λ past. absurd (none_some _ r (get_or_past rs p None past) is))
+        (cases_lt p (length rs))
 
     wide_is : (w : ℕ) → ltb 2 w ≡ true → 2 ≤ w
     wide_is w e = grind (arith, nat_tests, e)
@@ -193,9 +210,11 @@ may_delete s c taken ns marks live go none = record {
 
 -- the search goes on
 pub underway_deleted : (a : List Literal) (s t : Watching) (old new : Numbering) (c d : State) (ns : List ℕ)
-    → d ≡ after_delete c ns → Deletes s t ns → Forgets ns old.taken new.taken → IsUnderway a s old c → IsUnderway a t new d
+    → d ≡ after_delete c ns → Deletes s t ns → Forgets ns old.taken new.taken → IsUnderway a s old c →
+    IsUnderway a t new d
 underway_deleted a s t old new c d ns is del forgets u = record {
-  numbered = marks_deleted s.clauses t.clauses ns del.moved old.taken new.taken del.clauses forgets u.numbered;
+  numbered = marks_deleted s.clauses t.clauses ns del.moved old.taken new.taken del.clauses forgets
+      u.numbered;
   live = subst (λ (x : State). AreLive t.clauses (clause_at x.clauses)) (sym is)
       (live_deleted s.clauses t.clauses c.clauses ns del.moved del.clauses u.live);
   few = omega (arith, ap (λ (x : State). length x.clauses) is, length-without_all c.clauses ns, u.few);
@@ -203,12 +222,14 @@ underway_deleted a s t old new c d ns is del forgets u = record {
   decisions = subst (λ (n : ℕ). AreDecisions n a t.trail t.reasons) (sym (ap (λ (x : State). x.variables) is))
       (subst (λ (ls : List Literal). AreDecisions c.variables a ls t.reasons) (sym del.trail)
       (λ p within none. u.decisions p within (before (get_or s.reasons p None) refl
-      (sym (get_or-mapped s.reasons p) ∙ (ap (λ (rs : List (Option ℕ)). get_or rs p None) (sym del.reasons) ∙ none)))));
+      (sym (get_or-mapped s.reasons p) ∙ (ap (λ (rs : List (Option ℕ)). get_or rs p None) (sym del.reasons)
+      ∙ none)))));
   begun = ap (λ (x : State). x.ended) is ∙ u.begun;
   awake = ap (λ (x : State). x.refused) is ∙ u.awake;
 }
   where
-    get_or-mapped : (rs : List (Option ℕ)) (k : ℕ) → get_or (map (option_map del.moved) rs) k None ≡ option_map del.moved (get_or rs k None)
+    get_or-mapped : (rs : List (Option ℕ)) (k : ℕ) →
+        get_or (map (option_map del.moved) rs) k None ≡ option_map del.moved (get_or rs k None)
     get_or-mapped [] k = refl
     get_or-mapped (x ∷ xs) zero = refl
     get_or-mapped (x ∷ xs) (suc k) = get_or-mapped xs k

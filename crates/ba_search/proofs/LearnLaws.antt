@@ -46,40 +46,48 @@ at_formed : (n : ℕ) (cs : List Kept) (k : ℕ) (c : List Literal) → All (λ 
     live_lits (slice_get cs k) ≡ Some c → k < length cs → IsClause n c
 at_formed n cs k c all is within =
     let d : Kept = kept Given [] in
-    let e : live_lits (Some (get_or cs k d)) ≡ Some c = sym (ap live_lits (slice_get-get_or cs k d within)) ∙ is in
+    let e : live_lits (Some (get_or cs k d)) ≡ Some c = sym (ap live_lits (slice_get-get_or cs k d within))
+    ∙ is in
     subst (λ (x : List Literal). IsClause n x) (lits_live (get_or cs k d) c e)
     (All-get_or (λ (x : Kept). IsClause n x.lits) cs k d within all)
 
 pub clause_formed : (c : State) (number : ℕ) (lits : List Literal) → Formed c → c.refused ≡ false →
     clause_at c.clauses number ≡ Some lits → IsClause c.variables lits
 clause_formed c zero lits f awake is = absurd (cc is)
-clause_formed c (suc k) lits f awake is = at_formed c.variables c.clauses k lits (f.formed awake) is (omega (arith, (number_within c.clauses (suc k) lits is).1))
+clause_formed c (suc k) lits f awake is = at_formed c.variables c.clauses k lits (f.formed awake) is
+    (omega (arith, (number_within c.clauses (suc k) lits is).1))
 
 -- no literal stands twice in it
 pub clause_apart : (n : ℕ) (lits : List Literal) → IsClause n lits → AreApart lits
 clause_apart n lits c j k j_in k_in ne e =
-    let same : (lit_at lits j).variable ≡ (lit_at lits k).variable = ap (λ (l : Literal). l.variable) (same_from_index (lit_at lits j) (lit_at lits k) e) in
+    let same : (lit_at lits j).variable ≡ (lit_at lits k).variable =
+    ap (λ (l : Literal). l.variable) (same_from_index (lit_at lits j) (lit_at lits k) e) in
     ⊎_elim
     (λ lt. omega (arith, c.ascends j k lt k_in, same))
     (λ gt. omega (arith, c.ascends k j gt j_in, same))
     (apart j k ne)
   where
     apart : (j k : ℕ) → j ≢ k → (j < k) ⊎ (k < j)
-    apart j k ne = ⊎_elim (λ lt. inl lt) (λ le. inr (omega (arith, le, ne))) (Rattle.std.proofs.lemmas.Bool.cases_lt j k)
+    apart j k ne = ⊎_elim (λ lt. inl lt) (λ le. inr (omega (arith, le, ne)))
+        (Rattle.std.proofs.lemmas.Bool.cases_lt j k)
 
 -- the clause of a reference is the checker's, in some order
 pub same_clause : (clauses : List (Option Clause)) (c : State) (r : ℕ) →
     AreLive clauses (clause_at c.clauses) → IsSome (clause_in clauses r) →
-    (number : ℕ) × (given : List Literal) × (clause_at c.clauses number ≡ Some given) × IsPermutation given (lits_in clauses r)
+    (number : ℕ) × (given : List Literal) × (clause_at c.clauses number ≡ Some given)
+    × IsPermutation given (lits_in clauses r)
 same_clause clauses c r are some = step (clause_in clauses r) refl some
   where
     step : (o : Option Clause) → clause_in clauses r ≡ o → IsSome o →
-        (number : ℕ) × (given : List Literal) × (clause_at c.clauses number ≡ Some given) × IsPermutation given (plain_lits o)
+        (number : ℕ) × (given : List Literal) × (clause_at c.clauses number ≡ Some given)
+        × IsPermutation given (plain_lits o)
     step None is some = absurd (cc some)
-    step (Some x) is some = let s = same_some (clause_at c.clauses x.number) x.lits (are.each r x is) in (x.number, s.0, s.1, s.2)
+    step (Some x) is some = let s = same_some (clause_at c.clauses x.number) x.lits (are.each r x is) in
+        (x.number, s.0, s.1, s.2)
 
 -- each variable of the trail exists
-module _ (a : List Literal) (s : Watching) (numbers : Numbering) (c : State) (facts : KeepsFacts s) (formed : Formed c) (u : IsUnderway a s numbers c) where
+module _ (a : List Literal) (s : Watching) (numbers : Numbering) (c : State) (facts : KeepsFacts s)
+    (formed : Formed c) (u : IsUnderway a s numbers c) where
   reason_within : (p r : ℕ) → p < length s.trail → get_or s.reasons p None ≡ Some r →
       (lit_at s.trail p).variable ≤ c.variables
   reason_within p r within is =
@@ -88,7 +96,8 @@ module _ (a : List Literal) (s : Watching) (numbers : Numbering) (c : State) (fa
       (facts.reasons p r within is).has in
       let k = literal_found (lit_at s.trail p) g.1
       (has_literal-permutation (lit_at s.trail p) g.1 (lits_in s.clauses r) g.3 ∙ has) in
-      subst (λ (l : Literal). l.variable ≤ c.variables) k.2 ((clause_formed c g.0 g.1 formed u.awake g.2).within k.0 k.1)
+      subst (λ (l : Literal). l.variable ≤ c.variables) k.2
+      ((clause_formed c g.0 g.1 formed u.awake g.2).within k.0 k.1)
 
   pub trail_within : (p : ℕ) → p < length s.trail → (lit_at s.trail p).variable ≤ c.variables
   trail_within p within = step (get_or s.reasons p None) refl
@@ -102,7 +111,8 @@ module _ (a : List Literal) (s : Watching) (numbers : Numbering) (c : State) (fa
       let p = place_of-some s.trail l b has in
       omega (arith, trail_within (place_of s.trail l.variable) p, lit_at-place s.trail l.variable p)
 
-  pub learnt_clause : (lits : List Literal) → IsClause s.variables lits → is_false (value_of s.trail) lits ≡ true →
+  pub learnt_clause : (lits : List Literal) → IsClause s.variables lits →
+      is_false (value_of s.trail) lits ≡ true →
       IsClause c.variables lits
   learnt_clause lits clause false_ = record {
     ascends = clause.ascends;
@@ -117,7 +127,8 @@ ended P [] next e = All-nil P
 ended P (h ∷ hs) next e = absurd (cc e)
 
 after_one : (P : ℕ → Type 0) (st : Standing) (hints : List ℕ) (next : Literal → Replay) →
-    ((l : Literal) → next l ≡ Refutes → All P hints) → after_clause st (is_last hints) next ≡ Refutes → All P hints
+    ((l : Literal) → next l ≡ Refutes → All P hints) → after_clause st (is_last hints) next ≡ Refutes →
+    All P hints
 after_one P IsFalse hints next rest e = ended P hints next e
 after_one P (IsUnit l) hints next rest e = rest l e
 after_one P IsOpen hints next rest e = absurd (cc e)
@@ -126,13 +137,16 @@ numbers_of : (live : ℕ → Option (List Literal)) (P : ℕ → Type 0) →
     ((n : ℕ) (c : List Literal) → live n ≡ Some c → P n) → (falses : List Literal) (hints : List ℕ) →
     replay live falses hints ≡ Refutes → All P hints
 numbers_of live P each falses [] e = absurd (cc e)
-numbers_of live P each falses (h ∷ hs) e = first (live h) refl (λ l e. numbers_of live P each (falses ++ negate l ∷ []) hs e) e
+numbers_of live P each falses (h ∷ hs) e = first (live h) refl
+    (λ l e. numbers_of live P each (falses ++ negate l ∷ []) hs e) e
   where
     first : (o : Option (List Literal)) → live h ≡ o →
         ((l : Literal) → replay live (falses ++ negate l ∷ []) hs ≡ Refutes → All P hs) →
-        after_hint o falses (is_last hs) (λ l. replay live (falses ++ negate l ∷ []) hs) ≡ Refutes → All P (h ∷ hs)
+        after_hint o falses (is_last hs) (λ l. replay live (falses ++ negate l ∷ []) hs) ≡ Refutes →
+        All P (h ∷ hs)
     first None is rest e = absurd (cc e)
-    first (Some c) is rest e = All-cons P h hs (each h c is) (after_one P (standing falses c) hs (λ l. replay live (falses ++ negate l ∷ []) hs) rest e)
+    first (Some c) is rest e = All-cons P h hs (each h c is)
+        (after_one P (standing falses c) hs (λ l. replay live (falses ++ negate l ∷ []) hs) rest e)
 
 pub learnt_numbers : (c : State) (lits : List Literal) (hints : List ℕ) → length c.clauses < 2 ^ 62 →
     FollowsByHints (clause_at c.clauses) lits hints → AreNumbers hints
@@ -142,7 +156,8 @@ learnt_numbers c lits hints few follows =
     lits hints follows
 
 -- the literals of a step
-pub learnt_formed : (n : ℕ) (lits : List Literal) → n < 2 ^ 62 → IsClause n lits → 0 < length lits → AreFormedLits lits
+pub learnt_formed : (n : ℕ) (lits : List Literal) → n < 2 ^ 62 → IsClause n lits → 0 < length lits →
+    AreFormedLits lits
 learnt_formed n lits few clause some = (
   record {
     ascends = clause.ascends;
@@ -153,9 +168,11 @@ learnt_formed n lits few clause some = (
 )
 
 -- no error
-no_lack : (n : ℕ) (lits : List Literal) → IsClause n lits → list_any (λ (l : Literal). ltb n l.variable) lits ≡ false
+no_lack : (n : ℕ) (lits : List Literal) → IsClause n lits →
+    list_any (λ (l : Literal). ltb n l.variable) lits ≡ false
 no_lack n lits clause = list_any_none (λ (l : Literal). ltb n l.variable) lits
-    (All-from_get_or (λ (l : Literal). ltb n l.variable ≡ false) lits no_literal (λ k k_in. test n (lit_at lits k).variable (clause.within k k_in)))
+    (All-from_get_or (λ (l : Literal). ltb n l.variable ≡ false) lits no_literal
+    (λ k k_in. test n (lit_at lits k).variable (clause.within k k_in)))
   where
     test : (n v : ℕ) → v ≤ n → ltb n v ≡ false
     test n v le = grind (arith, nat_tests)
@@ -165,39 +182,54 @@ part_of part lits all k k_in = step (has_literal (lit_at part k) lits) refl
   where
     step : (b : Bool) → has_literal (lit_at part k) lits ≡ b → has_literal (lit_at part k) lits ≡ true
     step true is = is
-    step false is = absurd (cc (sym all ∙ list_all_at (λ (l : Literal). has_literal l lits) part k no_literal k_in is))
+    step false is = absurd (cc (sym all ∙ list_all_at (λ (l : Literal). has_literal l lits) part k
+        no_literal k_in is))
 
-no_part : (c : State) (lits : List Literal) → Formed c → c.refused ≡ false → IsNew (clause_at c.clauses) lits →
+no_part : (c : State) (lits : List Literal) → Formed c → c.refused ≡ false →
+    IsNew (clause_at c.clauses) lits →
     holds_clause c.clauses lits ≡ false
 no_part c lits formed awake new = list_any_none (λ (x : Kept). is_live_part x lits) c.clauses
-    (All-from_get_or (λ (x : Kept). is_live_part x lits ≡ false) c.clauses (kept Given []) (λ k k_in. step k k_in (is_live_part (get_or c.clauses k (kept Given [])) lits) refl))
+    (All-from_get_or (λ (x : Kept). is_live_part x lits ≡ false) c.clauses (kept Given [])
+    (λ k k_in. step k k_in (is_live_part (get_or c.clauses k (kept Given [])) lits) refl))
   where
     lits_of_live : (x : Kept) → is_live_origin x.origin ≡ true → live_lits (Some x) ≡ Some x.lits
     lits_of_live x is = ap (λ b. if b then Some x.lits else None) is
 
-    step : (k : ℕ) → k < length c.clauses → (b : Bool) → is_live_part (get_or c.clauses k (kept Given [])) lits ≡ b →
+    step : (k : ℕ) → k < length c.clauses → (b : Bool) →
+        is_live_part (get_or c.clauses k (kept Given [])) lits ≡ b →
         is_live_part (get_or c.clauses k (kept Given [])) lits ≡ false
     step k k_in false is = is
     step k k_in true is =
         let y : Kept = get_or c.clauses k (kept Given []) in
         let x : List Literal = y.lits in
         let parts = and_parts (is_live_origin y.origin) (is_part x lits) is in
-        let at : clause_at c.clauses (suc k) ≡ Some x = ap live_lits (slice_get-get_or c.clauses k (kept Given []) k_in) ∙ lits_of_live y parts.0 in
-        absurd (contains_none (clause_at c.clauses) lits new (suc k) x at (clause_apart c.variables x (clause_formed c (suc k) x formed awake at)) (part_of x lits parts.1))
+        let at : clause_at c.clauses (suc k) ≡ Some x =
+        ap live_lits (slice_get-get_or c.clauses k (kept Given []) k_in) ∙ lits_of_live y parts.0 in
+        absurd (contains_none (clause_at c.clauses) lits new (suc k) x at
+        (clause_apart c.variables x (clause_formed c (suc k) x formed awake at)) (part_of x lits parts.1))
 
-pub learn_allowed : (good : Judge) (c : State) (lits : List Literal) (hints : List ℕ) → Formed c → c.ended ≡ false →
+pub learn_allowed : (good : Judge) (c : State) (lits : List Literal) (hints : List ℕ) → Formed c →
+    c.ended ≡ false →
     c.refused ≡ false → c.conflicts < c.budget → IsClause c.variables lits
-    → FollowsByHints (clause_at c.clauses) lits hints → IsNew (clause_at c.clauses) lits → error_of good c (Learn lits hints) ≡ None
+    → FollowsByHints (clause_at c.clauses) lits hints → IsNew (clause_at c.clauses) lits →
+    error_of good c (Learn lits hints) ≡ None
 learn_allowed good c lits hints formed begun awake left clause follows new =
-    none c.refused c.ended (lacks_variable c lits) (is_spent c) (holds_clause c.clauses lits) (replay (clause_at c.clauses) lits hints) awake begun
-    (no_lack c.variables lits clause) (unspent c.conflicts c.budget left) (no_part c lits formed awake new) follows
+    none c.refused c.ended (lacks_variable c lits) (is_spent c) (holds_clause c.clauses lits)
+    (replay (clause_at c.clauses) lits hints) awake begun
+    (no_lack c.variables lits clause) (unspent c.conflicts c.budget left) (no_part c lits formed awake new)
+    follows
   where
     unspent : (m n : ℕ) → m < n → Rattle.std.specs.Prelude.eqb m n ≡ false
     unspent m n lt = grind (arith, nat_tests)
 
-    none : (r e l s h : Bool) (p : Replay) → r ≡ false → e ≡ false → l ≡ false → s ≡ false → h ≡ false → p ≡ Refutes
-        → error_if r Rattle.ba_steps.specs.declared.step.StepError.TheVariants.Memory (error_if e Rattle.ba_steps.specs.declared.step.StepError.TheVariants.AfterEnd (error_if l Rattle.ba_steps.specs.declared.step.StepError.TheVariants.BadVariable
-        (error_if s Rattle.ba_steps.specs.declared.step.StepError.TheVariants.WrongCount (error_if h Rattle.ba_steps.specs.declared.step.StepError.TheVariants.NotNew (error_of_replay p))))) ≡ None
+    none : (r e l s h : Bool) (p : Replay) → r ≡ false → e ≡ false → l ≡ false → s ≡ false → h ≡ false →
+        p ≡ Refutes
+        → error_if r Rattle.ba_steps.specs.declared.step.StepError.TheVariants.Memory
+        (error_if e Rattle.ba_steps.specs.declared.step.StepError.TheVariants.AfterEnd
+        (error_if l Rattle.ba_steps.specs.declared.step.StepError.TheVariants.BadVariable
+        (error_if s Rattle.ba_steps.specs.declared.step.StepError.TheVariants.WrongCount
+        (error_if h Rattle.ba_steps.specs.declared.step.StepError.TheVariants.NotNew
+        (error_of_replay p))))) ≡ None
     none false false false false false p r e l s h follows = ap error_of_replay follows
     none true e l s h p i j k m n o = absurd (cc i)
     none false true l s h p i j k m n o = absurd (cc j)

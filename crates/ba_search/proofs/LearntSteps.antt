@@ -25,18 +25,22 @@ pub record IsLearntStep (good : Judge) (k : State) (lits : List Literal) (hints 
   pub allowed : error_of good k (Learn lits hints) ≡ None
   pub new : IsNew (clause_at k.clauses) lits
 
-pub learnt_step : (good : Judge) (a : List Literal) (s : Watching) (numbers : Numbering) (k : State) (lits : List Literal) (hints : List ℕ) (back : ℕ) →
+pub learnt_step : (good : Judge) (a : List Literal) (s : Watching) (numbers : Numbering) (k : State)
+    (lits : List Literal) (hints : List ℕ) (back : ℕ) →
     KeepsFacts s → Formed k → IsUnderway a s numbers k → k.conflicts < k.budget →
-    IsClause s.variables lits → Follows s.clauses lits hints → IsNewTo s.clauses lits → IsBacked s lits back → IsLearntStep good k lits hints
+    IsClause s.variables lits → Follows s.clauses lits hints → IsNewTo s.clauses lits →
+    IsBacked s lits back → IsLearntStep good k lits hints
 learnt_step good a s numbers k lits hints back facts formed u left clause follows new backed =
     let live = u.live in
-    let is_clause : IsClause k.variables lits = learnt_clause a s numbers k facts formed u lits clause backed.false_ in
+    let is_clause : IsClause k.variables lits = learnt_clause a s numbers k facts formed u lits clause
+    backed.false_ in
     record {
       formed = (
         learnt_formed k.variables lits formed.few is_clause (omega (arith, backed.present_in)),
         learnt_numbers k lits hints u.few (follows (clause_at k.clauses) live),
       );
-      allowed = learn_allowed good k lits hints formed u.begun u.awake left is_clause (follows (clause_at k.clauses) live) (new (clause_at k.clauses) live);
+      allowed = learn_allowed good k lits hints formed u.begun u.awake left is_clause
+          (follows (clause_at k.clauses) live) (new (clause_at k.clauses) live);
       new = new (clause_at k.clauses) live;
     }
 
@@ -46,35 +50,44 @@ step_formed good k lits hints step is learnt = subst IsFormed (sym is) learnt.fo
 
 pub step_allowed : (good : Judge) (k : State) (lits : List Literal) (hints : List ℕ) (step : CertStep) →
     step ≡ Learn lits hints → IsLearntStep good k lits hints → error_of good k step ≡ None
-step_allowed good k lits hints step is learnt = let P : CertStep → Type 0 = λ x. error_of good k x ≡ None in subst P (sym is) learnt.allowed
+step_allowed good k lits hints step is learnt = let P : CertStep → Type 0 = λ x. error_of good k x ≡ None in
+    subst P (sym is) learnt.allowed
 
-pub step_taken : (k d : State) (lits : List Literal) (hints : List ℕ) (step : CertStep) → step ≡ Learn lits hints →
+pub step_taken : (k d : State) (lits : List Literal) (hints : List ℕ) (step : CertStep) →
+    step ≡ Learn lits hints →
     d ≡ after k step → d ≡ after_learn k lits
 step_taken k d lits hints step is taken = let P : CertStep → Type 0 = λ x. d ≡ after k x in subst P is taken
 
 -- the step was put
-pub learnt_puts : (good : Judge) (gives : Gives) (k d : State) (learnt all : List ℕ) (logs logs' : Logs) (lits : List Literal) (hints : List ℕ) (step : CertStep) →
+pub learnt_puts : (good : Judge) (gives : Gives) (k d : State) (learnt all : List ℕ) (logs logs' : Logs)
+    (lits : List Literal) (hints : List ℕ) (step : CertStep) →
     step ≡ Learn lits hints → IsLearntStep good k lits hints →
-    d ≡ after k step → all ≡ learnt ++ length d.clauses ∷ [] → logs' ≡ with_step step logs → Puts good gives k d learnt all logs logs'
+    d ≡ after k step → all ≡ learnt ++ length d.clauses ∷ [] → logs' ≡ with_step step logs →
+    Puts good gives k d learnt all logs logs'
 learnt_puts good gives k d learnt all logs logs' lits hints step is step_is taken grown told =
     let P : CertStep → Type 0 = λ x. logs' ≡ with_step x logs in
     let d_is : d ≡ after_learn k lits = step_taken k d lits hints step is taken in
-    let last : length d.clauses ≡ length k.clauses + 1 = ap (λ (x : State). length x.clauses) d_is ∙ length_push k.clauses (kept Learnt lits) in
+    let last : length d.clauses ≡ length k.clauses + 1 = ap (λ (x : State). length x.clauses) d_is
+    ∙ length_push k.clauses (kept Learnt lits) in
     puts_learn good gives k d learnt all logs logs' lits hints step_is.formed step_is.allowed step_is.new d_is
     (grown ∙ ap (λ (n : ℕ). learnt ++ n ∷ []) last) (subst P is told)
 
-pub learnt_left : (good : Judge) (gives : Gives) (k d : State) (learnt : List ℕ) (logs logs' : Logs) (lits : List Literal) (hints : List ℕ) (step : CertStep) →
+pub learnt_left : (good : Judge) (gives : Gives) (k d : State) (learnt : List ℕ) (logs logs' : Logs)
+    (lits : List Literal) (hints : List ℕ) (step : CertStep) →
     step ≡ Learn lits hints → IsLearntStep good k lits hints →
     d ≡ after k step → logs' ≡ with_step step logs → Leaves good gives learnt k logs d logs'
 learnt_left good gives k d learnt logs logs' lits hints step is step_is taken told =
     leaves_put good gives learnt (learnt ++ length d.clauses ∷ []) k d logs logs'
-    (learnt_puts good gives k d learnt (learnt ++ length d.clauses ∷ []) logs logs' lits hints step is step_is taken refl told)
+    (learnt_puts good gives k d learnt (learnt ++ length d.clauses ∷ []) logs logs' lits hints step is
+    step_is taken refl told)
 
 -- it was tried
-pub learnt_tried : (good : Judge) (gives : Gives) (k d : State) (learnt : List ℕ) (logs logs' : Logs) (lits : List Literal) (hints : List ℕ) (step : CertStep) →
+pub learnt_tried : (good : Judge) (gives : Gives) (k d : State) (learnt : List ℕ) (logs logs' : Logs)
+    (lits : List Literal) (hints : List ℕ) (step : CertStep) →
     step ≡ Learn lits hints → IsLearntStep good k lits hints →
     IsTakenOrAsleep k step d → MayAddStep step logs logs' → Leaves good gives learnt k logs d logs'
 learnt_tried good gives k d learnt logs logs' lits hints step is step_is taken told =
     let P : CertStep → Type 0 = λ x. IsTakenOrAsleep k x d in
     let Q : CertStep → Type 0 = λ x. MayAddStep x logs logs' in
-    leaves_tried good gives learnt k d logs logs' lits hints step_is.formed step_is.allowed step_is.new (subst P is taken) (subst Q is told)
+    leaves_tried good gives learnt k d logs logs' lits hints step_is.formed step_is.allowed step_is.new
+    (subst P is taken) (subst Q is told)

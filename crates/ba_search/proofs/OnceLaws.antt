@@ -57,25 +57,34 @@ still : (cs : List Kept) (x : Kept) (n : ℕ) (lits : List Literal) → clause_a
 still cs x n lits is = clause_at-more cs (x ∷ []) n (number_within cs n lits is).1 ∙ is
 
 -- and where others are deleted, if it has at most two literals
-spared : (good : Judge) (s : State) (numbers : List ℕ) (n : ℕ) (lits : List Literal) → error_of good s (Delete numbers) ≡ None →
-    clause_at s.clauses n ≡ Some lits → length lits ≤ 2 → clause_at (after_delete s numbers).clauses n ≡ Some lits
+spared : (good : Judge) (s : State) (numbers : List ℕ) (n : ℕ) (lits : List Literal) →
+    error_of good s (Delete numbers) ≡ None →
+    clause_at s.clauses n ≡ Some lits → length lits ≤ 2 →
+    clause_at (after_delete s numbers).clauses n ≡ Some lits
 spared good s numbers n lits allowed is narrow =
     stays_without s numbers n lits is narrow (all_go good s numbers allowed)
 
 -- so it isn't learnt
 not_again : {good : Judge} {gives : Gives} {s t : State} {learnt all : List ℕ} {steps : List CertStep} →
-    Searches good gives s learnt steps t all → (n : ℕ) (lits : List Literal) → length lits ≤ 2 → clause_at s.clauses n ≡ Some lits →
+    Searches good gives s learnt steps t all → (n : ℕ) (lits : List Literal) → length lits ≤ 2 →
+    clause_at s.clauses n ≡ Some lits →
     (between after : List CertStep) (hints : List ℕ) → steps ≡ between ++ Learn lits hints ∷ after → ⊥
 not_again (searches_none s learnt) n lits narrow is [] after hints e = cc e
 not_again (searches_none s learnt) n lits narrow is (step ∷ between) after hints e = cc e
-not_again (searches_learn s t learnt all c hs steps formed allowed new rest) n lits narrow is [] after hints e =
-    not_new (clause_at s.clauses) c hs n formed new (is ∙ ap (λ (c : List Literal). Some c) (sym (ap first_clause e)))
-not_again (searches_learn s t learnt all c hs steps formed allowed new rest) n lits narrow is (step ∷ between) after hints e =
+not_again (searches_learn s t learnt all c hs steps formed allowed new rest) n lits narrow is [] after hints
+    e =
+    not_new (clause_at s.clauses) c hs n formed new (is
+    ∙ ap (λ (c : List Literal). Some c) (sym (ap first_clause e)))
+not_again (searches_learn s t learnt all c hs steps formed allowed new rest) n lits narrow is (step
+    ∷ between) after hints e =
     not_again rest n lits narrow (still s.clauses (kept Learnt c) n lits is) between after hints (ap later e)
-not_again (searches_delete s t learnt all numbers steps formed allowed given rest) n lits narrow is [] after hints e =
+not_again (searches_delete s t learnt all numbers steps formed allowed given rest) n lits narrow is [] after
+    hints e =
     absurd (no_learn numbers lits hints (ap first_step e))
-not_again {good = good} (searches_delete s t learnt all numbers steps formed allowed given rest) n lits narrow is (step ∷ between) after hints e =
-    not_again rest n lits narrow (spared good s numbers n lits allowed is narrow) between after hints (ap later e)
+not_again {good = good} (searches_delete s t learnt all numbers steps formed allowed given rest) n lits
+    narrow is (step ∷ between) after hints e =
+    not_again rest n lits narrow (spared good s numbers n lits allowed is narrow) between after hints
+    (ap later e)
 
 pub not_twice : {good : Judge} {gives : Gives} {s t : State} {learnt all : List ℕ} {steps : List CertStep} →
     Searches good gives s learnt steps t all →
@@ -83,13 +92,18 @@ pub not_twice : {good : Judge} {gives : Gives} {s t : State} {learnt all : List 
     steps ≡ before ++ Learn lits first ∷ (between ++ Learn lits second ∷ after) → ⊥
 not_twice (searches_none s learnt) [] between after lits first second narrow e = cc e
 not_twice (searches_none s learnt) (step ∷ before) between after lits first second narrow e = cc e
-not_twice (searches_learn s t learnt all c hs steps formed allowed new rest) [] between after lits first second narrow e =
+not_twice (searches_learn s t learnt all c hs steps formed allowed new rest) [] between after lits first
+    second narrow e =
     not_again rest (length s.clauses + 1) lits narrow
-    (clause_at-end s.clauses c (length s.clauses + 1) refl ∙ ap (λ (c : List Literal). Some c) (ap first_clause e))
+    (clause_at-end s.clauses c (length s.clauses + 1) refl
+    ∙ ap (λ (c : List Literal). Some c) (ap first_clause e))
     between after second (ap later e)
-not_twice (searches_learn s t learnt all c hs steps formed allowed new rest) (step ∷ before) between after lits first second narrow e =
+not_twice (searches_learn s t learnt all c hs steps formed allowed new rest) (step ∷ before) between after
+    lits first second narrow e =
     not_twice rest before between after lits first second narrow (ap later e)
-not_twice (searches_delete s t learnt all numbers steps formed allowed given rest) [] between after lits first second narrow e =
+not_twice (searches_delete s t learnt all numbers steps formed allowed given rest) [] between after lits
+    first second narrow e =
     absurd (no_learn numbers lits first (ap first_step e))
-not_twice (searches_delete s t learnt all numbers steps formed allowed given rest) (step ∷ before) between after lits first second narrow e =
+not_twice (searches_delete s t learnt all numbers steps formed allowed given rest) (step ∷ before) between
+    after lits first second narrow e =
     not_twice rest before between after lits first second narrow (ap later e)

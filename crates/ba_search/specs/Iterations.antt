@@ -34,7 +34,8 @@ pub record HasNumber (clauses : List (Option Clause)) (number : ℕ) : Type 0 wh
 -- the marked numbers are those of the live clauses, of which no two have the same
 pub record MarksLive (clauses : List (Option Clause)) (taken : List Bool) : Type 0 where
   pub each : (number : ℕ) → get_or taken number false ≡ true → HasNumber clauses number
-  pub marked : (reference : ℕ) (c : Clause) → clause_in clauses reference ≡ Some c → get_or taken c.number false ≡ true
+  pub marked : (reference : ℕ) (c : Clause) → clause_in clauses reference ≡ Some c →
+      get_or taken c.number false ≡ true
   pub alone : HaveDistinctNumbers clauses
 
 -- the clauses of reasons of so many literals of the trail are marked by their numbers
@@ -50,14 +51,16 @@ IsNoReason s number =
     clause_in s.clauses reference ≡ Some c → c.number ≢ number
 
 -- and the live clauses are among those that have their numbers elsewhere
-pub record AreTaken (clauses : List (Option Clause)) (taken : List Bool) (live : ℕ → Option (List Literal)) : Type 0 where
+pub record AreTaken (clauses : List (Option Clause)) (taken : List Bool) (live : ℕ →
+    Option (List Literal)) : Type 0 where
   pub numbered : MarksLive clauses taken
   pub part : ArePart clauses live
 
 -- the live clauses elsewhere with numbers up to one are there
 abbrev pub AreThere : List (Option Clause) → ℕ → (ℕ → Option (List Literal)) → Type 0
 AreThere clauses last live =
-    (number : ℕ) → number ≤ last → (given : List Literal) → live number ≡ Some given → HasNumber clauses number
+    (number : ℕ) → number ≤ last → (given : List Literal) → live number ≡ Some given →
+    HasNumber clauses number
 
 -- one number more is marked
 abbrev pub MarksOne : List Bool → List Bool → ℕ → Type 0
@@ -85,7 +88,8 @@ pub record LearnsOne (s t : Watching) (old new : Numbering) (number : ℕ) (lits
   pub few : number < 2 ^ 62
 
 -- the numbers of learnt clauses that the keep rule has discarded and that aren't marked, strictly ascending
-pub record AreDiscarded (gives : ℕ → ℕ → Bool → Type 0) (c : State) (marks : List Bool) (learnt numbers : List ℕ) : Type 0 where
+pub record AreDiscarded (gives : ℕ → ℕ → Bool →
+    Type 0) (c : State) (marks : List Bool) (learnt numbers : List ℕ) : Type 0 where
   pub numbers_are : AreNumbers numbers
   pub ascends : AreAbove 0 numbers
   pub go : list_all (may_go c) numbers ≡ true
@@ -104,17 +108,19 @@ pub record IsDecision (variables : ℕ) (assumptions trail : List Literal) (lit 
 -- each literal that was decided might be
 abbrev pub AreDecisions : ℕ → List Literal → List Literal → List (Option ℕ) → Type 0
 AreDecisions variables assumptions trail reasons =
-    (p : ℕ) → p < length trail → get_or reasons p None ≡ None → IsDecision variables assumptions (take p trail) (lit_at trail p)
+    (p : ℕ) → p < length trail → get_or reasons p None ≡ None →
+    IsDecision variables assumptions (take p trail) (lit_at trail p)
 
 -- a search between two iterations: its clauses are the checker's
-pub record IsUnderway (assumptions : List Literal) (s : Watching) (numbers : Numbering) (c : State) : Type 0 where
-  pub numbered : MarksLive s.clauses numbers.taken
-  pub live : AreLive s.clauses (clause_at c.clauses)
-  pub few : length c.clauses < 2 ^ 62
-  pub room : c.variables ≤ s.variables
-  pub decisions : AreDecisions c.variables assumptions s.trail s.reasons
-  pub begun : c.ended ≡ false
-  pub awake : c.refused ≡ false
+pub record IsUnderway (assumptions : List Literal) (s : Watching) (numbers : Numbering) (c : State) : Type 0
+  where
+    pub numbered : MarksLive s.clauses numbers.taken
+    pub live : AreLive s.clauses (clause_at c.clauses)
+    pub few : length c.clauses < 2 ^ 62
+    pub room : c.variables ≤ s.variables
+    pub decisions : AreDecisions c.variables assumptions s.trail s.reasons
+    pub begun : c.ended ≡ false
+    pub awake : c.refused ≡ false
 
 -- Learn and Delete steps were put
 abbrev pub Puts : Judge → (ℕ → ℕ → Bool → Type 0) → State → State → List ℕ → List ℕ → Logs → Logs → Type 0
@@ -127,7 +133,8 @@ abbrev pub owed : ℕ → ℕ
 owed since = if ltb 0 since then 1 else 0
 
 abbrev pub iterations_left : State → ℕ → Watching → ℕ
-iterations_left c since s = (2 * (c.budget - c.conflicts) + owed since) * (s.variables + 1) + (s.variables - length s.trail)
+iterations_left c since s = (2 * (c.budget - c.conflicts) + owed since) * (s.variables + 1)
+    + (s.variables - length s.trail)
 
 -- the error that an answer is
 abbrev pub failure_of : {X : Type 0} → Result X SearchError → Option SearchError

@@ -28,14 +28,16 @@ pub record Searching (R K : Type 0) : Type 0 where
 
 -- each live clause of a search is a live clause of the checker with the same number, its literals in some order
 abbrev pub ArePart : List (Option Clause) → (ℕ → Option (List Literal)) → Type 0
-ArePart clauses live = (reference : ℕ) (c : Clause) → clause_in clauses reference ≡ Some c → IsSame (live c.number) c.lits
+ArePart clauses live = (reference : ℕ) (c : Clause) → clause_in clauses reference ≡ Some c →
+    IsSame (live c.number) c.lits
 
 -- a rule that discards nothing
 abbrev pub nothing : ℕ → ℕ → Bool → Type 0
 nothing width age kept = ⊥
 
 -- the keep rule has discarded a clause, by its width and by how many were learnt after it
-pub record IsDiscarded (gives : ℕ → ℕ → Bool → Type 0) (s : State) (learnt : List ℕ) (number : ℕ) : Type 0 where
+pub record IsDiscarded (gives : ℕ → ℕ → Bool →
+    Type 0) (s : State) (learnt : List ℕ) (number : ℕ) : Type 0 where
   pub place : ℕ
   pub within : place < length learnt
   pub at : get_or learnt place 0 ≡ number
@@ -44,14 +46,18 @@ pub record IsDiscarded (gives : ℕ → ℕ → Bool → Type 0) (s : State) (le
 -- Learn and Delete steps lead from one state of a checker to another, while the numbers of the learnt clauses grow: each
 -- step has the form that its text asks for and is allowed; each learnt clause is new to propagation for the clauses that are
 -- live at that moment; each clause that is deleted was discarded by the keep rule
-pub data Searches (good : Judge) (gives : ℕ → ℕ → Bool → Type 0) : State → List ℕ → List CertStep → State → List ℕ → Type 0 where
+pub data Searches (good : Judge) (gives : ℕ → ℕ → Bool → Type 0) : State → List ℕ → List CertStep → State →
+    List ℕ → Type 0 where
   searches_none : (s : State) (learnt : List ℕ) → Searches good gives s learnt [] s learnt
-  searches_learn : (s t : State) (learnt all : List ℕ) (lits : List Literal) (hints : List ℕ) (steps : List CertStep) →
-      IsFormed (Learn lits hints) → error_of good s (Learn lits hints) ≡ None → IsNew (clause_at s.clauses) lits →
+  searches_learn : (s t : State) (learnt all : List ℕ) (lits : List Literal) (hints : List ℕ)
+      (steps : List CertStep) →
+      IsFormed (Learn lits hints) → error_of good s (Learn lits hints) ≡ None →
+      IsNew (clause_at s.clauses) lits →
       Searches good gives (after s (Learn lits hints)) (learnt ++ (length s.clauses + 1) ∷ []) steps t all →
       Searches good gives s learnt (Learn lits hints ∷ steps) t all
   searches_delete : (s t : State) (learnt all : List ℕ) (numbers : List ℕ) (steps : List CertStep) →
-      IsFormed (Delete numbers) → error_of good s (Delete numbers) ≡ None → All (IsDiscarded gives s learnt) numbers →
+      IsFormed (Delete numbers) → error_of good s (Delete numbers) ≡ None →
+      All (IsDiscarded gives s learnt) numbers →
       Searches good gives (after s (Delete numbers)) learnt steps t all →
       Searches good gives s learnt (Delete numbers ∷ steps) t all
 

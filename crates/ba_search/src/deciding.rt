@@ -32,10 +32,11 @@ impl Engine {
         requires assumptions { AreAssumptions checker.now.variables assumptions.now }
         requires settled { self.old.watch.settled ≡ true }
         requires complete { IsComplete self.old.watch.clauses self.old.watch.trail }
-        ensures answer { IfOk result (λ found. IfSome found (IsAnswer checker.now assumptions.now)) }
+        ensures answer { IfOk result (λ found.
+            IfSome found (IsAnswer checker.now assumptions.now)) }
         ensures less { IfOk result (λ found.
-            IfNone found (iterations_left checker.now self.new.since self.new.watch < iterations_left
-            checker.now self.old.since self.old.watch)) }
+            IfNone found (iterations_left checker.now self.new.since self.new.watch
+            < iterations_left checker.now self.old.since self.old.watch)) }
         ensures underway { OnOk result (IsUnderway assumptions.now self.new.watch self.new.numbers
             checker.now) }
         ensures numbers { self.new.numbers ≡ self.old.numbers }
@@ -76,10 +77,11 @@ impl Engine {
         requires free { value_of self.old.watch.trail lit ≡ None }
         ensures underway { (assumptions : List Literal) (checker : Checking)
             → IsDecision checker.variables assumptions self.old.watch.trail lit
-            → IsUnderway assumptions self.old.watch self.old.numbers checker → IsUnderway assumptions self.new.watch self.new.numbers checker }
+            → IsUnderway assumptions self.old.watch self.old.numbers checker
+            → IsUnderway assumptions self.new.watch self.new.numbers checker }
         ensures less { (checker : Checking)
-            → iterations_left checker self.new.since self.new.watch < iterations_left checker self.old.since
-            self.old.watch }
+            → iterations_left checker self.new.since self.new.watch
+            < iterations_left checker self.old.since self.old.watch }
         ensures numbers { self.new.numbers ≡ self.old.numbers }
         ensures propagated { self.new.propagated ≡ self.old.propagated }
     {
@@ -102,10 +104,11 @@ impl Engine {
         requires settled { self.old.watch.settled ≡ true }
         requires one { has_literal assumption assumptions.now ≡ true }
         requires untrue { value_of self.old.watch.trail assumption ≢ Some true }
-        ensures answer { IfOk result (λ found. IfSome found (IsAnswer checker.now assumptions.now)) }
+        ensures answer { IfOk result (λ found.
+            IfSome found (IsAnswer checker.now assumptions.now)) }
         ensures less { IfOk result (λ found.
-            IfNone found (iterations_left checker.now self.new.since self.new.watch < iterations_left
-            checker.now self.old.since self.old.watch)) }
+            IfNone found (iterations_left checker.now self.new.since self.new.watch
+            < iterations_left checker.now self.old.since self.old.watch)) }
         ensures underway { OnOk result (IsUnderway assumptions.now self.new.watch self.new.numbers
             checker.now) }
         ensures numbers { self.new.numbers ≡ self.old.numbers }
@@ -136,10 +139,11 @@ impl Engine {
         requires complete { IsComplete self.old.watch.clauses self.old.watch.trail }
         requires assumptions { AreAssumptions checker.now.variables assumptions.now }
         requires true_ { AreTrue self.old.watch.trail assumptions.now }
-        ensures answer { IfOk result (λ found. IfSome found (IsAnswer checker.now assumptions.now)) }
+        ensures answer { IfOk result (λ found.
+            IfSome found (IsAnswer checker.now assumptions.now)) }
         ensures less { IfOk result (λ found.
-            IfNone found (iterations_left checker.now self.new.since self.new.watch < iterations_left
-            checker.now self.old.since self.old.watch)) }
+            IfNone found (iterations_left checker.now self.new.since self.new.watch
+            < iterations_left checker.now self.old.since self.old.watch)) }
         ensures underway { OnOk result (IsUnderway assumptions.now self.new.watch self.new.numbers
             checker.now) }
         ensures numbers { self.new.numbers ≡ self.old.numbers }

@@ -101,8 +101,8 @@ impl Engine {
         ensures answer { IfOk result (λ found.
             IfSome found (IsAnswer checked.new.checker assumptions.now)) }
         ensures less { IfOk result (λ found.
-            IfNone found (iterations_left checked.new.checker self.new.since self.new.watch < iterations_left
-            checked.old.checker self.old.since self.old.watch)) }
+            IfNone found (iterations_left checked.new.checker self.new.since self.new.watch
+            < iterations_left checked.old.checker self.old.since self.old.watch)) }
         ensures underway { OnOk result (IsUnderway assumptions.now self.new.watch self.new.numbers
             checked.new.checker) }
         ensures variables { OnOk result (checked.new.checker.variables
@@ -142,8 +142,8 @@ impl Engine {
             → IsUnderway assumptions self.old.watch self.old.numbers checker
             → IsUnderway assumptions self.new.watch self.new.numbers checker }
         ensures less { (checker : Checking)
-            → iterations_left checker self.new.since self.new.watch ≤ iterations_left checker self.old.since
-            self.old.watch }
+            → iterations_left checker self.new.since self.new.watch
+            ≤ iterations_left checker self.old.since self.old.watch }
         ensures none { IfNone result ((self.new.watch.settled ≡ true)
             × IsComplete self.new.watch.clauses self.new.watch.trail) }
         ensures some { IfSome result (λ clause. IsSome (clause_in self.new.watch.clauses clause)
@@ -175,7 +175,8 @@ impl Engine {
         requires live { IsSome (clause_in self.old.watch.clauses conflict) }
         requires false_ { is_false (value_of self.old.watch.trail)
             (lits_in self.old.watch.clauses conflict) ≡ true }
-        ensures answer { IfOk result (λ found. IfSome found (IsAnswer checker.now assumptions.now)) }
+        ensures answer { IfOk result (λ found.
+            IfSome found (IsAnswer checker.now assumptions.now)) }
         ensures left { IfOk result (λ found.
             IfNone found (checker.now.conflicts < checker.now.budget)) }
         ensures level { IfOk result (λ found. IfNone found (1 ≤ decided self.old.watch.reasons)) }

@@ -13,7 +13,8 @@ pub fn learnt_once_law<K: Fn(u64, u64) -> bool + Drop>(keep: &K)
     ensures { (good : Judge) (s t : State) (learnt all : List ℕ)
         (before between after : List CertStep)
         → (lits : List Literal) (first second : List ℕ) → length lits ≤ 2
-        → Searches good (K.post keep.now) s learnt (before ++ Learn lits first ∷ (between ++ Learn lits second ∷ after)) t all → ⊥ }
+        → Searches good (K.post keep.now) s learnt
+        (before ++ Learn lits first ∷ (between ++ Learn lits second ∷ after)) t all → ⊥ }
 {
     let _ = keep;
 }

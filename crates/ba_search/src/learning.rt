@@ -38,8 +38,9 @@ impl Engine {
             (lits_in self.old.watch.clauses conflict) ≡ true }
         requires level { 1 ≤ decided self.old.watch.reasons }
         requires left { checked.old.checker.conflicts < checked.old.checker.budget }
-        ensures less { OnOk result (iterations_left checked.new.checker self.new.since self.new.watch <
-            iterations_left checked.old.checker self.old.since self.old.watch) }
+        ensures less { OnOk result (
+            iterations_left checked.new.checker self.new.since self.new.watch
+            < iterations_left checked.old.checker self.old.since self.old.watch) }
         ensures underway { OnOk result (IsUnderway assumptions.now self.new.watch self.new.numbers
             checked.new.checker) }
         ensures variables { OnOk result (checked.new.checker.variables

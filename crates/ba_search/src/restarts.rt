@@ -30,8 +30,9 @@ impl Engine {
         requires underway { IsUnderway assumptions.now self.old.watch self.old.numbers
             checked.old.checker }
         requires fresh { checked.old.refusal ≡ None }
-        ensures less { OnOk result (iterations_left checked.new.checker self.new.since self.new.watch <
-            iterations_left checked.old.checker self.old.since self.old.watch) }
+        ensures less { OnOk result (
+            iterations_left checked.new.checker self.new.since self.new.watch
+            < iterations_left checked.old.checker self.old.since self.old.watch) }
         ensures underway { OnOk result (IsUnderway assumptions.now self.new.watch self.new.numbers
             checked.new.checker) }
         ensures variables { OnOk result (checked.new.checker.variables

@@ -222,7 +222,8 @@ impl<R: Fn(u64) -> u64 + Drop, K: Fn(u64, u64) -> bool + Drop> Search<R, K> {
             (clause_at checked.new.checker.clauses)) }
         ensures alone { OnOk result (HaveDistinctNumbers self.new.clauses) }
         ensures steps { OnOk result ((steps : List CertStep)
-            × Searches (J.accepts checked.old.judge) (K.post self.old.keep) checked.old.checker self.old.learnt steps checked.new.checker self.new.learnt
+            × Searches (J.accepts checked.old.judge) (K.post self.old.keep)
+            checked.old.checker self.old.learnt steps checked.new.checker self.new.learnt
             × (S.logs checked.new.sink ≡ with_steps steps (S.logs checked.old.sink))) }
         ensures leaves { Leaves (J.accepts checked.old.judge) (K.post self.old.keep) self.old.learnt
             checked.old.checker (S.logs checked.old.sink) checked.new.checker
@@ -238,7 +239,8 @@ impl<R: Fn(u64) -> u64 + Drop, K: Fn(u64, u64) -> bool + Drop> Search<R, K> {
         ensures again { (error : SearchError) → self.old.failure ≡ Some error
             → (result ≡ Err error) × (self.new ≡ self.old) × (checked.new ≡ checked.old) }
         ensures cause { result ≡ Err SearchError.SinkFailed
-            → (self.old.failure ≡ Some SearchError.SinkFailed) ⊎ Rose (S.faults checked.old.sink) (S.faults checked.new.sink) }
+            → (self.old.failure ≡ Some SearchError.SinkFailed)
+            ⊎ Rose (S.faults checked.old.sink) (S.faults checked.new.sink) }
         ensures judge_stays { checked.new.judge ≡ checked.old.judge }
         ensures over_stays { S.over checked.new.sink ≡ S.over checked.old.sink }
         ensures no_fall { S.faults checked.old.sink ≤ S.faults checked.new.sink }

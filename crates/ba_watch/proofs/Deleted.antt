@@ -67,11 +67,13 @@ lits_linked n None = refl
 lits_linked n (Some s) = refl
 
 -- clauses are marked and planned
-module _ (a0 a1 a2 : Clauses) (numbers : List ℕ) (without : IsWithout (IsNamed numbers (length numbers)) a0 a1) (plans : Plans a1 a2) where
+module _ (a0 a1 a2 : Clauses) (numbers : List ℕ)
+    (without : IsWithout (IsNamed numbers (length numbers)) a0 a1) (plans : Plans a1 a2) where
   pub kept_live : (r : ℕ) → IsKept a0 numbers r → IsLive a1 r
   kept_live r kept =
       let s = kept.0 in
-      let stays = without.stays r s.number (ap number_of kept.1) (λ named. kept.2 (contains_from numbers s.number named)) in
+      let stays = without.stays r s.number (ap number_of kept.1)
+      (λ named. kept.2 (contains_from numbers s.number named)) in
       ap is_some (stays ∙ kept.1)
 
   pub planned_live : (r : ℕ) → IsLive a1 r → IsLive a2 r
@@ -108,7 +110,8 @@ module _ (a0 a1 a2 : Clauses) (numbers : List ℕ) (without : IsWithout (IsNamed
           let source = moved-from a2 q s (ap (λ (cs : Clauses). clause_at cs q) (sym compact) ∙ is) in
           let r = source.from in
           let planned : linked 0 (Some (moved a1 r)) (clause_at a1 r) ≡ Some s = sym (plans r) ∙ source.is in
-          let was : lits_at a1 r ≡ s.lits = sym (lits_linked (moved a1 r) (clause_at a1 r)) ∙ ap lits_of planned in
+          let was : lits_at a1 r ≡ s.lits = sym (lits_linked (moved a1 r) (clause_at a1 r))
+          ∙ ap lits_of planned in
           let live : IsLive a1 r = was_live r (ap is_some source.is) in
           let first : lits_at a0 r ≡ lits_at a1 r = ⊎_elim
           (λ gone. absurd (cc (sym live ∙ ap is_some gone)))
@@ -122,7 +125,8 @@ module _ (a0 a1 a2 : Clauses) (numbers : List ℕ) (without : IsWithout (IsNamed
 
     plain_there : (r : ℕ) (c : Clause) → plain_at a1 r ≡ Some c → plain_at a4 (moved a1 r) ≡ Some c
     plain_there r c is =
-        let planned : plain_at a2 r ≡ Some c = ap plain (plans r) ∙ (plain_linked (moved a1 r) (clause_at a1 r) ∙ is) in
+        let planned : plain_at a2 r ≡ Some c = ap plain (plans r)
+        ∙ (plain_linked (moved a1 r) (clause_at a1 r) ∙ is) in
         let stored = stored_of (clause_at a2 r) c planned in
         let at : clause_at a3 (moved a1 r) ≡ Some stored.0 =
         ap (λ (cs : Clauses). clause_at cs (moved a1 r)) compact
@@ -139,7 +143,8 @@ module _ (a0 a1 a2 : Clauses) (numbers : List ℕ) (without : IsWithout (IsNamed
     came q c is =
         let before : plain_at a3 q ≡ Some c = sym (same q) ∙ is in
         let stored = stored_of (clause_at a3 q) c before in
-        let source = moved-from a2 q stored.0 (ap (λ (cs : Clauses). clause_at cs q) (sym compact) ∙ stored.1) in
+        let source = moved-from a2 q stored.0 (ap (λ (cs : Clauses). clause_at cs q) (sym compact)
+        ∙ stored.1) in
         let r = source.from in
         record {
           from = r;
@@ -148,7 +153,8 @@ module _ (a0 a1 a2 : Clauses) (numbers : List ℕ) (without : IsWithout (IsNamed
           at = sym (to r) ∙ source.to;
         }
 
-    stays_plain : (r : ℕ) (c : Clause) → clause_in (map plain a0) r ≡ Some c → (Contains numbers c.number → ⊥) → plain_at a1 r ≡ Some c
+    stays_plain : (r : ℕ) (c : Clause) → clause_in (map plain a0) r ≡ Some c →
+        (Contains numbers c.number → ⊥) → plain_at a1 r ≡ Some c
     stays_plain r c is stays =
         let was : plain_at a0 r ≡ Some c = sym (clause_in-map a0 r) ∙ is in
         ap plain (without.stays r c.number (number_plain (clause_at a0 r) c was)
@@ -167,7 +173,8 @@ module _ (a0 a1 a2 : Clauses) (numbers : List ℕ) (without : IsWithout (IsNamed
           record {
             from = r;
             there = clause_in-map a0 r ∙ was;
-            stays = λ has. none_some _ c (ap plain (without.gone r c.number (number_plain (clause_at a0 r) c was)
+            stays = λ has. none_some _ c (ap plain (without.gone r c.number
+                (number_plain (clause_at a0 r) c was)
                 (named_from numbers c.number has))) source.is;
             to = source.at;
           };
@@ -191,18 +198,21 @@ module _ (a0 a1 a2 : Clauses) (numbers : List ℕ) (without : IsWithout (IsNamed
         number_plain (clause_at a4 (moved a1 r)) c.0 (plain_there r c.0 c.1)
         ∙ (sym (number_plain (clause_at a1 r) c.0 c.1) ∙ is)
 
-    pub references_moved : (refs : List (Option ℕ)) → AreReferenced a1 refs → AreReferenced a4 (map (forwarded a2) refs)
+    pub references_moved : (refs : List (Option ℕ)) → AreReferenced a1 refs →
+        AreReferenced a4 (map (forwarded a2) refs)
     references_moved refs r = record {
       sound = λ n q at. sound_at n q (get_or refs n None) refl (sym (get_or-forward refs n) ∙ at);
       each = λ n q at.
           let c = plain_of_number (clause_at a4 q) n at in
           let source = came q c.0 c.1 in
           let was : numbered a1 source.from ≡ Some n =
-          number_plain (clause_at a1 source.from) c.0 source.is ∙ (sym (number_plain (clause_at a4 q) c.0 c.1) ∙ at) in
+          number_plain (clause_at a1 source.from) c.0 source.is
+          ∙ (sym (number_plain (clause_at a4 q) c.0 c.1) ∙ at) in
           each_at n (get_or refs n None) refl (r.each n source.from was);
     }
       where
-        get_or-forward : (xs : List (Option ℕ)) (n : ℕ) → get_or (map (forwarded a2) xs) n None ≡ forwarded a2 (get_or xs n None)
+        get_or-forward : (xs : List (Option ℕ)) (n : ℕ) →
+            get_or (map (forwarded a2) xs) n None ≡ forwarded a2 (get_or xs n None)
         get_or-forward [] n = refl
         get_or-forward (x ∷ xs) zero = refl
         get_or-forward (x ∷ xs) (suc n) = get_or-forward xs n
@@ -211,25 +221,30 @@ module _ (a0 a1 a2 : Clauses) (numbers : List ℕ) (without : IsWithout (IsNamed
         live_number None n e = absurd (cc e)
         live_number (Some s) n e = refl
 
-        sound_at : (n q : ℕ) (o : Option ℕ) → get_or refs n None ≡ o → forwarded a2 o ≡ Some q → numbered a4 q ≡ Some n
+        sound_at : (n q : ℕ) (o : Option ℕ) → get_or refs n None ≡ o → forwarded a2 o ≡ Some q →
+            numbered a4 q ≡ Some n
         sound_at n q None is at = absurd (cc at)
         sound_at n q (Some k) is at =
             let named : numbered a1 k ≡ Some n = r.sound n k is in
-            let there : Some (moved a1 k) ≡ Some q = sym (planned_link k (live_number (clause_at a1 k) n named)) ∙ at in
+            let there : Some (moved a1 k) ≡ Some q = sym (planned_link k
+            (live_number (clause_at a1 k) n named)) ∙ at in
             let q_is : moved a1 k ≡ q = cc there in
             ap (numbered a4) (sym q_is) ∙ number_there k n named
 
-        each_at : (n : ℕ) (o : Option ℕ) → get_or refs n None ≡ o → IsSome (get_or refs n None) → IsSome (get_or (map (forwarded a2) refs) n None)
+        each_at : (n : ℕ) (o : Option ℕ) → get_or refs n None ≡ o → IsSome (get_or refs n None) →
+            IsSome (get_or (map (forwarded a2) refs) n None)
         each_at n None is some = absurd (cc (sym (ap is_some is) ∙ some))
         each_at n (Some k) is some =
             let named : numbered a1 k ≡ Some n = r.sound n k is in
-            ap is_some (get_or-forward refs n ∙ (ap (forwarded a2) is ∙ planned_link k (live_number (clause_at a1 k) n named)))
+            ap is_some (get_or-forward refs n ∙ (ap (forwarded a2) is
+            ∙ planned_link k (live_number (clause_at a1 k) n named)))
 
 abbrev with_reasons : Assignments → List (Option ℕ) → Assignments
 with_reasons t rs = record t { reasons = rs }
 
 -- lists on whose members two functions agree
-map_agree : {X Y : Type 0} (f g : X → Y) (xs : List X) (d : X) → ((k : ℕ) → k < length xs → f (get_or xs k d) ≡ g (get_or xs k d))
+map_agree : {X Y : Type 0} (f g : X → Y) (xs : List X) (d : X) →
+    ((k : ℕ) → k < length xs → f (get_or xs k d) ≡ g (get_or xs k d))
     → map f xs ≡ map g xs
 map_agree f g [] d same = refl
 map_agree f g (x ∷ xs) d same =
@@ -238,29 +253,36 @@ map_agree f g (x ∷ xs) d same =
     both : {Z : Type 0} (x y : Z) (xs ys : List Z) → x ≡ y → xs ≡ ys → x ∷ xs ≡ y ∷ ys
     both x y xs ys e f = rw (e, f) refl
 
-all_mapped : {X : Type 0} (f : X → X) (xs : List X) (n : ℕ) → length xs ≤ n → map f (take n xs) ++ drop n xs ≡ map f xs
+all_mapped : {X : Type 0} (f : X → X) (xs : List X) (n : ℕ) → length xs ≤ n →
+    map f (take n xs) ++ drop n xs ≡ map f xs
 all_mapped f xs n h =
     ap (λ (ys : List _). map f (take n xs) ++ ys) (drop_all n xs h)
     ∙ (append-nil (map f (take n xs)) ∙ ap (map f) (take_all n xs h))
 
-pub deletes_all : (a0 a1 a2 a3 a4 : Clauses) (t u : Assignments) (w w' numbers : List ℕ) (refs refs' : List (Option ℕ)) (n : ℕ)
-    → IsWithout (IsNamed numbers (length numbers)) a0 a1 → AreReferenced a1 refs → Plans a1 a2 → a3 ≡ compacted a2 → SamePlain a3 a4
+pub deletes_all : (a0 a1 a2 a3 a4 : Clauses) (t u : Assignments) (w w' numbers : List ℕ)
+    (refs refs' : List (Option ℕ)) (n : ℕ)
+    → IsWithout (IsNamed numbers (length numbers)) a0 a1 → AreReferenced a1 refs → Plans a1 a2 →
+    a3 ≡ compacted a2 → SamePlain a3 a4
     → ((p r : ℕ) → get_or t.reasons p None ≡ Some r → IsKept a0 numbers r)
     → ((k : ℕ) → k < length w → IsKept a0 numbers (get_or w k 0))
     → u ≡ record t { reasons = map (forwarded a2) t.reasons } → w' ≡ map (followed a2) w
     → length refs ≤ n → refs' ≡ map (forwarded a2) (take n refs) ++ drop n refs
     → DeletesAll a0 a4 t u w w' refs' numbers
-deletes_all a0 a1 a2 a3 a4 t u w w' numbers refs refs' n without r plans compact same reasons waiting u_is w'_is n_is refs'_is = record {
-  moved = moved a1;
-  clauses = keeps_others a0 a1 a2 numbers without plans a3 a4 compact same;
-  trail = u_is ∙ ap (with_reasons t)
-      (map_agree (forwarded a2) (option_map (moved a1)) t.reasons None
-      (λ k h. forward (get_or t.reasons k None) (λ q is. kept_live a0 a1 a2 numbers without plans q (reasons k q is))));
-  waiting_moved = w'_is ∙ map_agree (followed a2) (moved a1) w 0
-      (λ k h. planned_follow a0 a1 a2 numbers without plans (get_or w k 0) (kept_live a0 a1 a2 numbers without plans (get_or w k 0) (waiting k h)));
-  referenced = subst (λ (rs : List (Option ℕ)). AreReferenced a4 rs) (sym (refs'_is ∙ all_mapped (forwarded a2) refs n n_is))
-      (references_moved a0 a1 a2 numbers without plans a3 a4 compact same refs r);
-}
+deletes_all a0 a1 a2 a3 a4 t u w w' numbers refs refs' n without r plans compact same reasons waiting u_is
+    w'_is n_is refs'_is = record {
+      moved = moved a1;
+      clauses = keeps_others a0 a1 a2 numbers without plans a3 a4 compact same;
+      trail = u_is ∙ ap (with_reasons t)
+          (map_agree (forwarded a2) (option_map (moved a1)) t.reasons None
+          (λ k h. forward (get_or t.reasons k None) (λ q is. kept_live a0 a1 a2 numbers without plans q
+          (reasons k q is))));
+      waiting_moved = w'_is ∙ map_agree (followed a2) (moved a1) w 0
+          (λ k h. planned_follow a0 a1 a2 numbers without plans (get_or w k 0)
+          (kept_live a0 a1 a2 numbers without plans (get_or w k 0) (waiting k h)));
+      referenced = subst (λ (rs : List (Option ℕ)). AreReferenced a4 rs)
+          (sym (refs'_is ∙ all_mapped (forwarded a2) refs n n_is))
+          (references_moved a0 a1 a2 numbers without plans a3 a4 compact same refs r);
+    }
   where
     forward : (o : Option ℕ) → ((q : ℕ) → o ≡ Some q → IsLive a1 q) → forwarded a2 o ≡ option_map (moved a1) o
     forward None live = refl

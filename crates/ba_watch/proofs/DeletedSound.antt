@@ -73,12 +73,15 @@ none_some : {X : Type 0} (o : Option X) (x : X) → o ≡ None → o ≡ Some x 
 none_some o x e f = cc (sym e ∙ f)
 
 some_within : (rs : List (Option ℕ)) (p r : ℕ) → get_or rs p None ≡ Some r → p < length rs
-some_within rs p r is = ⊎_elim (λ h. h) (λ past. absurd (none_some _ r (get_or_past rs p None past) is)) (cases_lt p (length rs))
+some_within rs p r is = ⊎_elim (λ h. h) (λ past. absurd (none_some _ r (get_or_past rs p None past) is))
+    (cases_lt p (length rs))
 
 -- what the conditions of a deletion give
-module _ (a : Clauses) (n : ℕ) (p : Option ℕ) (t : Assignments) (h : ℕ) (w : List ℕ) (s : Bool) (numbers : List ℕ)
+module _ (a : Clauses) (n : ℕ) (p : Option ℕ) (t : Assignments) (h : ℕ) (w : List ℕ) (s : Bool)
+    (numbers : List ℕ)
     (sound : IsSound a n p t.variables t.lits t.reasons h w s) (may : MayDelete (state a t s) numbers) where
-  seen : (r : ℕ) (x : Stored) → clause_at a r ≡ Some x → clause_in (map plain a) r ≡ Some (record { lits = x.lits; number = x.number })
+  seen : (r : ℕ) (x : Stored) → clause_at a r ≡ Some x →
+      clause_in (map plain a) r ≡ Some (record { lits = x.lits; number = x.number })
   seen r x is = clause_in-map a r ∙ ap plain is
 
   pub alone_in : AreAlone a
@@ -86,7 +89,8 @@ module _ (a : Clauses) (n : ℕ) (p : Option ℕ) (t : Assignments) (h : ℕ) (w
       let u = stored_some (clause_at a x) (live_number (clause_at a x) number x_is) in
       let v = stored_some (clause_at a y) (live_number (clause_at a y) number y_is) in
       may.alone x y _ _ (seen x u.0 u.1) (seen y v.0 v.1)
-      (the_number u.0 number (ap number_of (sym u.1) ∙ x_is) ∙ sym (the_number v.0 number (ap number_of (sym v.1) ∙ y_is)))
+      (the_number u.0 number (ap number_of (sym u.1) ∙ x_is)
+      ∙ sym (the_number v.0 number (ap number_of (sym v.1) ∙ y_is)))
     where
       live_number : (o : Option Stored) (m : ℕ) → number_of o ≡ Some m → IsSome o
       live_number None m e = absurd (cc e)
@@ -97,8 +101,13 @@ module _ (a : Clauses) (n : ℕ) (p : Option ℕ) (t : Assignments) (h : ℕ) (w
 
   pub reasons_kept : (q r : ℕ) → get_or t.reasons q None ≡ Some r → IsKept a numbers r
   reasons_kept q r is =
-      let within : q < length t.lits = omega (arith, some_within t.reasons q r is, sound.facts.trail_is.same_length) in
-      let reason : IsReason (lits_at a r) (take q t.lits) (lit_at t.lits q) = sound.facts.reasons_are q r within is in
+      let within : q < length t.lits = omega (
+        arith,
+        some_within t.reasons q r is,
+        sound.facts.trail_is.same_length,
+      ) in
+      let reason : IsReason (lits_at a r) (take q t.lits) (lit_at t.lits q) =
+      sound.facts.reasons_are q r within is in
       let x = stored_some (clause_at a r) (has_live (clause_at a r) (lit_at t.lits q) reason.has) in
       (x.0, x.1, λ named. may.no_reason q r _ is (seen r x.0 x.1) named)
     where
@@ -111,7 +120,8 @@ module _ (a : Clauses) (n : ℕ) (p : Option ℕ) (t : Assignments) (h : ℕ) (w
       let r = get_or w k 0 in
       let there : 0 < occurrences r w = occurs w k k_in in
       let x = stored_some (clause_at a r) (sound.units.live r there) in
-      let short : length x.0.lits < 2 = subst (λ (o : Option Stored). length (lits_of o) < 2) x.1 (sound.units.short r there) in
+      let short : length x.0.lits < 2 = subst (λ (o : Option Stored). length (lits_of o) < 2) x.1
+      (sound.units.short r there) in
       (x.0, x.1, λ named. clash (length x.0.lits) short (may.long r _ (seen r x.0 x.1) named))
     where
       clash : (m : ℕ) → m < 2 → 2 ≤ m → ⊥
@@ -124,22 +134,26 @@ module _ (a : Clauses) (n : ℕ) (p : Option ℕ) (t : Assignments) (h : ℕ) (w
       let room : 2 * t.variables + 2 ≤ n = sound.room (omega (arith, counted, within)) in
       below l.variable l.negated t.variables n within room
     where
-      below : (v : ℕ) (b : Bool) (m n : ℕ) → v ≤ m → 2 * m + 2 ≤ n → index_of (record { variable = v; negated = b }) < n
+      below : (v : ℕ) (b : Bool) (m n : ℕ) → v ≤ m → 2 * m + 2 ≤ n →
+          index_of (record { variable = v; negated = b }) < n
       below v true m n le room = omega (arith, le, room)
       below v false m n le room = omega (arith, le, room)
 
   -- after the deletion
-  module _ (a' : Clauses) (u : Assignments) (w' : List ℕ) (refs : List (Option ℕ)) (d : DeletesAll a a' t u w w' refs numbers) where
+  module _ (a' : Clauses) (u : Assignments) (w' : List ℕ) (refs : List (Option ℕ))
+      (d : DeletesAll a a' t u w w' refs numbers) where
     lits_there : (r : ℕ) → IsKept a numbers r → lits_at a' (d.moved r) ≡ lits_at a r
     lits_there r kept =
         let x = kept.0 in
         let at = d.clauses.there r _ (seen r x kept.1) kept.2 in
-        lits-plain a' (d.moved r) ∙ (ap plain_lits (sym (clause_in-map a' (d.moved r)) ∙ at) ∙ sym (ap lits_of kept.1))
+        lits-plain a' (d.moved r) ∙ (ap plain_lits (sym (clause_in-map a' (d.moved r)) ∙ at)
+        ∙ sym (ap lits_of kept.1))
 
     live_there : (r : ℕ) → IsKept a numbers r → IsLive a' (d.moved r)
     live_there r kept =
         let x = kept.0 in
-        some-plain a' (d.moved r) ∙ ap is_some (sym (clause_in-map a' (d.moved r)) ∙ d.clauses.there r _ (seen r x kept.1) kept.2)
+        some-plain a' (d.moved r) ∙ ap is_some (sym (clause_in-map a' (d.moved r))
+        ∙ d.clauses.there r _ (seen r x kept.1) kept.2)
 
     -- where a clause has come from
     record From (q : ℕ) : Type 0 where
@@ -184,23 +198,35 @@ module _ (a : Clauses) (n : ℕ) (p : Option ℕ) (t : Assignments) (h : ℕ) (w
     decisions : decided (map (option_map d.moved) t.reasons) ≡ decided t.reasons
     decisions = decided_map (option_map d.moved) t.reasons agrees
 
-    guarded : (x y : Literal) → IsGuarded t.lits t.reasons h x y → IsGuarded t.lits (map (option_map d.moved) t.reasons) h x y
+    guarded : (x y : Literal) → IsGuarded t.lits t.reasons h x y →
+        IsGuarded t.lits (map (option_map d.moved) t.reasons) h x y
     guarded x y g x_false before =
-        let out = g x_false before in
-        (out.0, omega (arith, out.1, levels (place_of t.lits y.variable), levels (place_of t.lits x.variable)))
+        let out = g x_false before in (
+          out.0,
+          omega (
+            arith,
+            out.1,
+            levels (place_of t.lits y.variable),
+            levels
+                (place_of t.lits x.variable),
+          ),
+        )
 
-    get_or-mapped : (rs : List (Option ℕ)) (k : ℕ) → get_or (map (option_map d.moved) rs) k None ≡ option_map d.moved (get_or rs k None)
+    get_or-mapped : (rs : List (Option ℕ)) (k : ℕ) →
+        get_or (map (option_map d.moved) rs) k None ≡ option_map d.moved (get_or rs k None)
     get_or-mapped [] k = refl
     get_or-mapped (x ∷ xs) zero = refl
     get_or-mapped (x ∷ xs) (suc k) = get_or-mapped xs k
 
-    reason_at : (k q : ℕ) → k < length t.lits → (o : Option ℕ) → get_or t.reasons k None ≡ o → option_map d.moved o ≡ Some q
+    reason_at : (k q : ℕ) → k < length t.lits → (o : Option ℕ) → get_or t.reasons k None ≡ o →
+        option_map d.moved o ≡ Some q
         → IsReason (lits_at a' q) (take k t.lits) (lit_at t.lits k)
     reason_at k q k_in None is e = absurd (cc e)
     reason_at k q k_in (Some r) is e =
         let to : d.moved r ≡ q = cc e in
         subst (λ (m : ℕ). IsReason (lits_at a' m) (take k t.lits) (lit_at t.lits k)) to
-        (subst (λ (ls : List Literal). IsReason ls (take k t.lits) (lit_at t.lits k)) (sym (lits_there r (reasons_kept k r is)))
+        (subst (λ (ls : List Literal). IsReason ls (take k t.lits) (lit_at t.lits k))
+        (sym (lits_there r (reasons_kept k r is)))
         (sound.facts.reasons_are k r k_in is))
 
     facts : AreFacts (lits_at a') t.variables t.lits (map (option_map d.moved) t.reasons) h
@@ -222,14 +248,19 @@ module _ (a : Clauses) (n : ℕ) (p : Option ℕ) (t : Assignments) (h : ℕ) (w
         taken,
       );
       guarded = record {
-        first = λ q. all_lits (λ ls. 2 ≤ length ls → IsGuarded t.lits (map (option_map d.moved) t.reasons) h (lit_at ls 0) (lit_at ls 1))
+        first = λ q. all_lits (λ ls. 2 ≤ length ls → IsGuarded t.lits (map (option_map d.moved) t.reasons) h
+            (lit_at ls 0) (lit_at ls 1))
             (λ long. absurd (omega (arith, long)))
-            (λ r long. guarded (lit_at (lits_at a r) 0) (lit_at (lits_at a r) 1) (sound.facts.guarded.first r long)) q;
-        second = λ q. all_lits (λ ls. 2 ≤ length ls → IsGuarded t.lits (map (option_map d.moved) t.reasons) h (lit_at ls 1) (lit_at ls 0))
+            (λ r long. guarded (lit_at (lits_at a r) 0) (lit_at (lits_at a r) 1)
+            (sound.facts.guarded.first r long)) q;
+        second = λ q. all_lits (λ ls. 2 ≤ length ls →
+            IsGuarded t.lits (map (option_map d.moved) t.reasons) h (lit_at ls 1) (lit_at ls 0))
             (λ long. absurd (omega (arith, long)))
-            (λ r long. guarded (lit_at (lits_at a r) 1) (lit_at (lits_at a r) 0) (sound.facts.guarded.second r long)) q;
+            (λ r long. guarded (lit_at (lits_at a r) 1) (lit_at (lits_at a r) 0)
+            (sound.facts.guarded.second r long)) q;
       };
-      reasons_are = λ k q k_in is. reason_at k q k_in (get_or t.reasons k None) refl (sym (get_or-mapped t.reasons k) ∙ is);
+      reasons_are = λ k q k_in is. reason_at k q k_in (get_or t.reasons k None) refl
+          (sym (get_or-mapped t.reasons k) ∙ is);
       in_range = λ q. all_lits (λ ls. (k : ℕ) → k < length ls → (lit_at ls k).variable ≤ t.variables)
           (λ k k_in. absurd (omega (arith, k_in))) sound.facts.in_range q;
     }
@@ -242,26 +273,32 @@ module _ (a : Clauses) (n : ℕ) (p : Option ℕ) (t : Assignments) (h : ℕ) (w
     record IsUnit (q : ℕ) : Type 0 where
       pub one : length (lits_at a' q) ≡ 1
       pub true_ : value_of t.lits (lit_at (lits_at a' q) 0) ≡ Some true
-      pub level : level_at (map (option_map d.moved) t.reasons) (place_of t.lits (lit_at (lits_at a' q) 0).variable) ≡ 0
+      pub level : level_at (map (option_map d.moved) t.reasons)
+          (place_of t.lits (lit_at (lits_at a' q) 0).variable) ≡ 0
 
     unit_at : (q : ℕ) → IsLive a' q → length (lits_at a' q) < 2 → occurrences q w' ≡ 0 → IsUnit q
     unit_at q live short none =
         let f = source q live in
         let r = f.from in
-        let old_short : length (lits_at a r) < 2 = subst (λ (ls : List Literal). length ls < 2) (sym f.same) short in
+        let old_short : length (lits_at a r) < 2 = subst (λ (ls : List Literal). length ls < 2) (sym f.same)
+        short in
         let moved_none : occurrences (d.moved r) (map d.moved w) ≡ 0 =
         ap (λ m. occurrences m (map d.moved w)) f.to ∙ (ap (occurrences q) (sym d.waiting_moved) ∙ none) in
         let absent : occurrences r w ≡ 0 = absent_before d.moved w r moved_none in
         record {
-          one = ap (λ (ls : List Literal). length ls) (sym f.same) ∙ sound.units.one r f.live old_short absent;
-          true_ = ap (λ (ls : List Literal). value_of t.lits (lit_at ls 0)) (sym f.same) ∙ sound.units.true_ r f.live old_short absent;
+          one = ap (λ (ls : List Literal). length ls) (sym f.same)
+              ∙ sound.units.one r f.live old_short absent;
+          true_ = ap (λ (ls : List Literal). value_of t.lits (lit_at ls 0)) (sym f.same)
+              ∙ sound.units.true_ r f.live old_short absent;
           level = levels (place_of t.lits (lit_at (lits_at a' q) 0).variable)
-              ∙ (ap (λ (ls : List Literal). level_at t.reasons (place_of t.lits (lit_at ls 0).variable)) (sym f.same)
+              ∙ (ap (λ (ls : List Literal). level_at t.reasons (place_of t.lits (lit_at ls 0).variable))
+              (sym f.same)
               ∙ sound.units.level r f.live old_short absent);
         }
 
     in_waiting : (q : ℕ) → 0 < occurrences q w' → Stands d.moved w q
-    in_waiting q some = stands d.moved w q (subst (λ (ws : List ℕ). 0 < occurrences q ws) d.waiting_moved some)
+    in_waiting q some = stands d.moved w q (subst (λ (ws : List ℕ). 0 < occurrences q ws) d.waiting_moved
+        some)
 
     units : AreUnits a' t.lits (map (option_map d.moved) t.reasons) w'
     units = record {
@@ -282,9 +319,11 @@ module _ (a : Clauses) (n : ℕ) (p : Option ℕ) (t : Assignments) (h : ℕ) (w
     none_left : w ≡ [] → w' ≡ []
     none_left e = d.waiting_moved ∙ ap (map d.moved) e
 
-    pub Sound-delete : (n' : ℕ) (p' : Option ℕ) → n' ≡ n → p' ≡ None → IsSound a' n' p' u.variables u.lits u.reasons h w' s
+    pub Sound-delete : (n' : ℕ) (p' : Option ℕ) → n' ≡ n → p' ≡ None →
+        IsSound a' n' p' u.variables u.lits u.reasons h w' s
     Sound-delete n' p' n'_is p'_is =
-        subst (λ (y : Assignments). IsSound a' n' p' y.variables y.lits y.reasons h w' s) (sym d.trail) (record {
+        subst (λ (y : Assignments). IsSound a' n' p' y.variables y.lits y.reasons h w' s) (sym d.trail)
+        (record {
           facts = facts;
           units = units;
           idle = p'_is;

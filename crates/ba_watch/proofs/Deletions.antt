@@ -29,11 +29,13 @@ same_some : {X : Type 0} (x y : X) → ◌≡◌ {A = Option X} (Some x) (Some y
 same_some x y e = cc e
 
 -- no clause has the number
-pub unnamed : (a : Clauses) (refs : List (Option ℕ)) (number : ℕ) → AreReferenced a refs → get_or refs number None ≡ None
+pub unnamed : (a : Clauses) (refs : List (Option ℕ)) (number : ℕ) → AreReferenced a refs →
+    get_or refs number None ≡ None
     → IsWithout (λ n. n ≡ number) a a
 unnamed a refs number r none = record {
   either = λ k. inr refl;
-  gone = λ k m is e. absurd (dead (get_or refs m None) (ap (λ n. get_or refs n None) e ∙ none) (r.each m k is));
+  gone = λ k m is e. absurd (dead (get_or refs m None) (ap (λ n. get_or refs n None) e
+      ∙ none) (r.each m k is));
   stays = λ k m is other. refl;
 }
   where
@@ -42,7 +44,8 @@ unnamed a refs number r none = record {
     dead (Some x) e some = cc e
 
 -- the clause of the number is marked
-module _ (a a' : Clauses) (refs : List (Option ℕ)) (number q : ℕ) (r : AreReferenced a refs) (alone : AreAlone a)
+module _ (a a' : Clauses) (refs : List (Option ℕ)) (number q : ℕ) (r : AreReferenced a refs)
+    (alone : AreAlone a)
     (is : get_or refs number None ≡ Some q) (a'_is : a' ≡ set a q None) where
   here : clause_at a' q ≡ None
   here = ap (λ (c : Clauses). clause_at c q) a'_is ∙ set_none a q
@@ -68,15 +71,18 @@ module _ (a a' : Clauses) (refs : List (Option ℕ)) (number q : ℕ) (r : AreRe
   pub marked_references : AreReferenced a' (set refs number None)
   marked_references = record {
     sound = λ n k at. ⊎_elim
-        (λ e. absurd (none_some _ k (ap (λ (m : ℕ). get_or (set refs number None) m None) e ∙ set_none refs number) at))
+        (λ e. absurd (none_some _ k (ap (λ (m : ℕ). get_or (set refs number None) m None) e
+        ∙ set_none refs number) at))
         (λ ne.
-        let was : numbered a k ≡ Some n = r.sound n k (sym (get_or-set_other refs number n None None ne) ∙ at) in
+        let was : numbered a k ≡ Some n = r.sound n k (sym (get_or-set_other refs number n None None ne)
+        ∙ at) in
         ap number_of (there k (only k n was ne)) ∙ was)
         (cases_eq n number);
     each = λ n k at.
         let ne : k ≢ q = λ e. none_some _ n (ap (numbered a') e ∙ ap number_of here) at in
         let was : numbered a k ≡ Some n = sym (ap number_of (there k ne)) ∙ at in
-        let other : n ≢ number = λ e. ne (alone k q number (was ∙ ap (λ (m : ℕ). Some m) e) (r.sound number q is)) in
+        let other : n ≢ number = λ e. ne (alone k q number (was
+        ∙ ap (λ (m : ℕ). Some m) e) (r.sound number q is)) in
         ap is_some (get_or-set_other refs number n None None other) ∙ r.each n k was;
   }
 
@@ -88,14 +94,16 @@ without_none a numbers = record {
   stays = λ k m is other. refl;
 }
 
-was_numbered : (P : ℕ → Type 0) (a b : Clauses) → IsWithout P a b → (k n : ℕ) → numbered b k ≡ Some n → numbered a k ≡ Some n
+was_numbered : (P : ℕ → Type 0) (a b : Clauses) → IsWithout P a b → (k n : ℕ) → numbered b k ≡ Some n →
+    numbered a k ≡ Some n
 was_numbered P a b w k n is = ⊎_elim
     (λ none. absurd (none_some _ n (ap number_of none) is))
     (λ same. sym (ap number_of same) ∙ is)
     (w.either k)
 
 pub alone_without : (P : ℕ → Type 0) (a b : Clauses) → IsWithout P a b → AreAlone a → AreAlone b
-alone_without P a b w alone x y n x_is y_is = alone x y n (was_numbered P a b w x n x_is) (was_numbered P a b w y n y_is)
+alone_without P a b w alone x y n x_is y_is =
+    alone x y n (was_numbered P a b w x n x_is) (was_numbered P a b w y n y_is)
 
 pub without_more : (a b d : Clauses) (numbers : List ℕ) (i x : ℕ) → IsWithout (IsNamed numbers i) a b
     → IsWithout (λ n. n ≡ x) b d → x ≡ get_or numbers i 0 → IsWithout (IsNamed numbers (i + 1)) a d
@@ -132,12 +140,14 @@ pub at_past : (m k : ℕ) (a : Clauses) → m ≤ k → clause_at (take m a) k �
 at_past m k a h = get_or_past (take m a) k None (omega (arith, length-take m a, h))
 
 -- the same clauses have the same lists
-pub threaded_same : (a a' : Clauses) (heads : List (Option ℕ)) (v : ℕ) → ((k : ℕ) → clause_at a' k ≡ clause_at a k)
+pub threaded_same : (a a' : Clauses) (heads : List (Option ℕ)) (v : ℕ) →
+    ((k : ℕ) → clause_at a' k ≡ clause_at a k)
     → AreThreaded a heads v None → AreThreaded a' heads v None
 threaded_same a a' heads v same t =
     let L : ℕ → List ℕ = list_of a heads in
     let all : Rebuilt a' heads v None L [] = rebuilt a' heads v None L []
-    (λ index. Leads-same (next_of a index) (next_of a' index) _ (L index) (λ k. ap (next_in index) (same k)) (Leads-walk (length a) _ _ (t.ends index)))
+    (λ index. Leads-same (next_of a index) (next_of a' index) _ (L index) (λ k. ap (next_in index) (same k))
+    (Leads-walk (length a) _ _ (t.ends index)))
     refl
     (λ index k. no_more (eqb index v) (occurrences k (L index)) 0 refl ∙ (plain_counts a heads v t index k
     ∙ ap (λ (o : Option Stored). cond (watches (lits_of o) index) 1 0) (sym (same k))))
@@ -152,8 +162,10 @@ pub threaded_none : (a : Clauses) (heads : List (Option ℕ)) (v : ℕ) → ((k 
     → ((k : ℕ) → get_or heads k None ≡ None) → AreThreaded a heads v None
 threaded_none a heads v none empty =
     let all : Rebuilt a heads v None (λ _. []) [] = rebuilt a heads v None (λ _. []) [] empty refl
-    (λ index k. no_more (eqb index v) 0 0 refl ∙ ap (λ (o : Option Stored). cond (watches (lits_of o) index) 1 0) (sym (none k)))
-    (λ k. subst (λ (o : Option Stored). AreApart (lits_of o)) (sym (none k)) (λ i j i_in. absurd (omega (arith, i_in)))) in
+    (λ index k. no_more (eqb index v) 0 0 refl ∙ ap
+    (λ (o : Option Stored). cond (watches (lits_of o) index) 1 0) (sym (none k)))
+    (λ k. subst (λ (o : Option Stored). AreApart (lits_of o)) (sym (none k))
+    (λ i j i_in. absurd (omega (arith, i_in)))) in
     all.threaded
 
 some_of : (o : Option Stored) → IsSome o → (s : Stored) × (o ≡ Some s)
@@ -161,7 +173,8 @@ some_of None live = absurd (cc live)
 some_of (Some s) live = (s, refl)
 
 -- one clause more, up to its place
-new_upto : (a b : Clauses) (r : ℕ) (s : Stored) → clause_at b r ≡ Some s → ((k : ℕ) → k ≢ r → clause_at b k ≡ clause_at a k)
+new_upto : (a b : Clauses) (r : ℕ) (s : Stored) → clause_at b r ≡ Some s →
+    ((k : ℕ) → k ≢ r → clause_at b k ≡ clause_at a k)
     → AreApart s.lits → IsNew (take r a) (take (r + 1) b) r s
 new_upto a b r s is others apart = record {
   fresh = at_past r r a (omega arith);
@@ -177,7 +190,8 @@ new_upto a b r s is others apart = record {
     more k ne le = ⊎_elim (λ h. omega (arith, h)) (λ ge. absurd (ne (omega (arith, ge, le)))) (cases_lt r k)
 
 pub linked_short : (a : Clauses) (heads : List (Option ℕ)) (r v : ℕ) → IsLive a r → AreApart (lits_at a r)
-    → length (lits_at a r) < 2 → AreThreaded (take r a) heads v None → AreThreaded (take (r + 1) a) heads v None
+    → length (lits_at a r) < 2 → AreThreaded (take r a) heads v None →
+    AreThreaded (take (r + 1) a) heads v None
 linked_short a heads r v live apart short t =
     let some = some_of (clause_at a r) live in
     let lits : lits_at a r ≡ some.0.lits = ap lits_of some.1 in
@@ -191,7 +205,8 @@ module _ (a a3 a4 : Clauses) (r : ℕ) (first second : Option ℕ) (live : IsLiv
   link_here =
       let in0 : r < length a = live_within a r live in
       let in3 : r < length a3 = rw a3_is (rw length-set in0) in
-      ap (λ (c : Clauses). clause_at c r) a4_is ∙ (changed_here (linked 1 second) a3 r in3 ∙ ap (linked 1 second)
+      ap (λ (c : Clauses). clause_at c r) a4_is ∙ (changed_here (linked 1 second) a3 r in3
+      ∙ ap (linked 1 second)
       (ap (λ (c : Clauses). clause_at c r) a3_is ∙ changed_here (linked 0 first) a r in0))
 
   link_there : (k : ℕ) → k ≢ r → clause_at a4 k ≡ clause_at a k
@@ -205,7 +220,8 @@ module _ (a a3 a4 : Clauses) (r : ℕ) (first second : Option ℕ) (live : IsLiv
 
   pub linked_plain : SamePlain a a4
   linked_plain k = ⊎_elim
-      (λ e. subst (λ (n : ℕ). plain_at a4 n ≡ plain_at a n) (sym e) (ap plain link_here ∙ plain_links (clause_at a r)))
+      (λ e. subst (λ (n : ℕ). plain_at a4 n ≡ plain_at a n) (sym e) (ap plain link_here
+      ∙ plain_links (clause_at a r)))
       (λ ne. ap plain (link_there k ne))
       (cases_eq k r)
 
@@ -228,27 +244,32 @@ module _ (a a3 a4 : Clauses) (r : ℕ) (first second : Option ℕ) (live : IsLiv
       let at0 : g ≡ index_at s.lits 0 = g_is ∙ ap (λ ls. index_at ls 0) lits in
       let at1 : h ≡ index_at s.lits 1 = h_is ∙ ap (λ ls. index_at ls 1) lits in
       let new : IsNew (take r a) (take (r + 1) a4) r s' =
-      new_upto a a4 r s' (link_here ∙ ap (λ (o : Option Stored). linked 1 second (linked 0 first o)) some.1) link_there
+      new_upto a a4 r s' (link_here ∙ ap (λ (o : Option Stored). linked 1 second (linked 0 first o)) some.1)
+      link_there
       (subst (λ ls. AreApart ls) lits apart) in
       let out = added (take r a) (take (r + 1) a4) heads v r s' t new (subst (λ ls. 2 ≤ length ls) lits long)
       (omega (arith, at0, g_in)) (omega (arith, at1, h_in))
       (get_or_read heads g first g_in first_is None ∙ ap (λ (n : ℕ). get_or heads n None) at0)
       (get_or_read heads h second h_in second_is None ∙ ap (λ (n : ℕ). get_or heads n None) at1) in
-      subst (λ (n : ℕ). AreThreaded (take (r + 1) a4) (set (set heads n (Some r)) h (Some r)) v None) (sym at0)
-      (subst (λ (n : ℕ). AreThreaded (take (r + 1) a4) (set (set heads (index_at s.lits 0) (Some r)) n (Some r)) v None) (sym at1) out)
+      subst (λ (n : ℕ). AreThreaded (take (r + 1) a4) (set (set heads n (Some r)) h (Some r)) v None)
+      (sym at0)
+      (subst (λ (n : ℕ). AreThreaded (take (r + 1) a4)
+      (set (set heads (index_at s.lits 0) (Some r)) n (Some r)) v None) (sym at1) out)
 
 -- the clauses before one are threaded
 abbrev pub upto : Clauses → Option ℕ → Clauses
 upto a None = a
 upto a (Some c) = take c a
 
-pub record IsRelinking (start now : Clauses) (count : ℕ) (heads : List (Option ℕ)) (next : Option ℕ) : Type 0 where
+pub record IsRelinking (start now : Clauses) (count : ℕ) (heads : List (Option ℕ)) (next : Option ℕ) : Type
+    0 where
   pub plain_is : SamePlain start now
   pub len : length heads ≡ count
   pub live : (c : ℕ) → next ≡ Some c → IsLive now c
   pub threaded : (v : ℕ) → AreThreaded (upto now next) heads v None
 
-pub relinking_init : (a : Clauses) (count : ℕ) (heads : List (Option ℕ)) (next : Option ℕ) → length heads ≡ count
+pub relinking_init : (a : Clauses) (count : ℕ) (heads : List (Option ℕ)) (next : Option ℕ) →
+    length heads ≡ count
     → ((k : ℕ) → get_or heads k None ≡ None) → IsFirstFrom a 0 next → IsRelinking a a count heads next
 relinking_init a count heads None len empty first = record {
   plain_is = λ k. refl;
@@ -261,10 +282,12 @@ relinking_init a count heads (Some n) len empty first = record {
   len = len;
   live = λ c e. subst (λ m. IsLive a m) (same_some n c e) first.1;
   threaded = λ v. threaded_none (take n a) heads v
-      (λ k. ⊎_elim (λ below. at_below n k a below ∙ first.2 k (omega arith) below) (λ above. at_past n k a above) (cases_lt k n)) empty;
+      (λ k. ⊎_elim (λ below. at_below n k a below ∙ first.2 k (omega arith) below)
+      (λ above. at_past n k a above) (cases_lt k n)) empty;
 }
 
-pub relinking_step : (start now new : Clauses) (count c : ℕ) (heads heads' : List (Option ℕ)) (next : Option ℕ)
+pub relinking_step : (start now new : Clauses) (count c : ℕ) (heads heads' : List (Option ℕ))
+    (next : Option ℕ)
     → IsRelinking start now count heads (Some c) → SamePlain now new → length heads' ≡ length heads
     → ((v : ℕ) → AreThreaded (take c now) heads v None → AreThreaded (take (c + 1) new) heads' v None)
     → IsFirstFrom new (c + 1) next → IsRelinking start new count heads' next

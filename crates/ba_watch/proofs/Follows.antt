@@ -21,26 +21,32 @@ decided_both None (Some x) rs ss e h = absurd (cc e)
 decided_both (Some o) None rs ss e h = absurd (cc e)
 decided_both (Some o) (Some x) rs ss e h = h
 
-pub decided_map : (f : Option ℕ → Option ℕ) (rs : List (Option ℕ)) → Agrees f rs → decided (map f rs) ≡ decided rs
+pub decided_map : (f : Option ℕ → Option ℕ) (rs : List (Option ℕ)) → Agrees f rs →
+    decided (map f rs) ≡ decided rs
 decided_map f [] agrees = refl
 decided_map f (r ∷ rs) agrees =
     decided_both (f r) r (map f rs) rs (agrees 0) (decided_map f rs (λ k. agrees (suc k)))
 
-pub agrees_take : (f : Option ℕ → Option ℕ) (m : ℕ) (rs : List (Option ℕ)) → is_some (f None) ≡ false → Agrees f rs
+pub agrees_take : (f : Option ℕ → Option ℕ) (m : ℕ) (rs : List (Option ℕ)) → is_some (f None) ≡ false →
+    Agrees f rs
     → Agrees f (take m rs)
 agrees_take f m rs none agrees k = ⊎_elim
-    (λ below. subst (λ (o : Option ℕ). is_some (f o) ≡ is_some o) (sym (get_or-take m rs k None below)) (agrees k))
+    (λ below. subst (λ (o : Option ℕ). is_some (f o) ≡ is_some o) (sym (get_or-take m rs k None below))
+    (agrees k))
     (λ past. subst (λ (o : Option ℕ). is_some (f o) ≡ is_some o)
     (sym (get_or_past (take m rs) k None (omega (arith, past, length-take m rs)))) none)
     (cases_lt k m)
 
-pub level_map : (f : Option ℕ → Option ℕ) (rs : List (Option ℕ)) (p : ℕ) → is_some (f None) ≡ false → Agrees f rs
+pub level_map : (f : Option ℕ → Option ℕ) (rs : List (Option ℕ)) (p : ℕ) → is_some (f None) ≡ false →
+    Agrees f rs
     → level_at (map f rs) p ≡ level_at rs p
 level_map f rs p none agrees =
-    ap decided (take-map f (p + 1) rs) ∙ decided_map f (take (p + 1) rs) (agrees_take f (p + 1) rs none agrees)
+    ap decided (take-map f (p + 1) rs) ∙ decided_map f (take (p + 1) rs)
+    (agrees_take f (p + 1) rs none agrees)
 
 -- reasons of live clauses whose first links are set
-pub agrees_forward : (a : Clauses) (rs : List (Option ℕ)) → ((p clause : ℕ) → get_or rs p None ≡ Some clause → IsLive a clause)
+pub agrees_forward : (a : Clauses) (rs : List (Option ℕ)) →
+    ((p clause : ℕ) → get_or rs p None ≡ Some clause → IsLive a clause)
     → ((clause : ℕ) → IsLive a clause → IsSome (link_at a clause 0)) → Agrees (forwarded a) rs
 agrees_forward a rs live linked k = at (get_or rs k None) refl
   where
@@ -52,7 +58,8 @@ module _ (f : Option ℕ → Option ℕ) (v : ℕ) (lits : List Literal) (rs rs'
     (within : n ≤ length rs) (rs'_is : rs' ≡ map f (take n rs) ++ drop n rs) where
   pub front_mapped : take n rs' ≡ map f (take n rs)
   front_mapped =
-      let len : n ≡ length (map f (take n rs)) = sym (length-map (take n rs) f ∙ length-take-le n rs within) in
+      let len : n ≡ length (map f (take n rs)) = sym (length-map (take n rs) f
+      ∙ length-take-le n rs within) in
       ap (take n) rs'_is ∙ (ap (λ m. take m (map f (take n rs) ++ drop n rs)) len
       ∙ take-append_seam (map f (take n rs)) (drop n rs))
 
@@ -61,14 +68,21 @@ module _ (f : Option ℕ → Option ℕ) (v : ℕ) (lits : List Literal) (rs rs'
       → Holds v lits rs levels n level values places → Holds v lits rs' levels n level values places
   Holds-follow levels level values places none agrees h = record {
     trail = record {
-      same_length = ap (λ (xs : List (Option ℕ)). length xs) front_mapped ∙ (length-map (take n rs) f ∙ h.trail.same_length);
+      same_length = ap (λ (xs : List (Option ℕ)). length xs) front_mapped
+          ∙ (length-map (take n rs) f ∙ h.trail.same_length);
       fresh = h.trail.fresh;
       counted = h.trail.counted;
       within = h.trail.within;
       short = h.trail.short;
     };
     lits_room = h.lits_room;
-    reasons_room = omega (arith, h.reasons_room, ap (λ (xs : List (Option ℕ)). length xs) rs'_is, map_length f rs n);
+    reasons_room = omega (
+      arith,
+      h.reasons_room,
+      ap (λ (xs : List (Option ℕ)). length xs) rs'_is,
+      map_length
+          f rs n,
+    );
     levels_room = h.levels_room;
     places_room = h.places_room;
     assigned_le = h.assigned_le;
@@ -76,7 +90,8 @@ module _ (f : Option ℕ → Option ℕ) (v : ℕ) (lits : List Literal) (rs rs'
     count = h.count;
     level_is = h.level_is ∙ sym (ap decided front_mapped ∙ decided_map f (take n rs) agrees);
     levels_are = λ p p_in. h.levels_are p p_in
-        ∙ sym (ap (λ (xs : List (Option ℕ)). level_at xs p) front_mapped ∙ level_map f (take n rs) p none agrees);
+        ∙ sym (ap (λ (xs : List (Option ℕ)). level_at xs p) front_mapped
+        ∙ level_map f (take n rs) p none agrees);
     places_are = h.places_are;
     values_are = h.values_are;
   }

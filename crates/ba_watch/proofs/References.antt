@@ -32,7 +32,8 @@ referenced_none a refs a_is refs_is = record {
 }
 
 -- the same entries, and clauses with the same numbers
-pub referenced_same : (a : Clauses) (refs refs' : List (Option ℕ)) → ((k : ℕ) → get_or refs' k None ≡ get_or refs k None)
+pub referenced_same : (a : Clauses) (refs refs' : List (Option ℕ)) →
+    ((k : ℕ) → get_or refs' k None ≡ get_or refs k None)
     → AreReferenced a refs → AreReferenced a refs'
 referenced_same a refs refs' same r = record {
   sound = λ n k at. r.sound n k (sym (same n) ∙ at);
@@ -46,7 +47,8 @@ referenced_alike a a' refs same r = record {
   each = λ n k at. r.each n k (sym (same k) ∙ at);
 }
 
-pub referenced_clauses : (a a' : Clauses) (refs : List (Option ℕ)) → ((k : ℕ) → SameClause (plain_at a k) (plain_at a' k))
+pub referenced_clauses : (a a' : Clauses) (refs : List (Option ℕ)) →
+    ((k : ℕ) → SameClause (plain_at a k) (plain_at a' k))
     → AreReferenced a refs → AreReferenced a' refs
 referenced_clauses a a' refs same r =
     referenced_alike a a' refs
@@ -59,8 +61,10 @@ referenced_clauses a a' refs same r =
     of (Some c) (Some d) s = ap (λ (n : ℕ). Some n) s.0
 
 -- one clause more
-pub referenced_more : (a a' : Clauses) (refs refs' : List (Option ℕ)) (r : ℕ) (lits : List Literal) (number : ℕ)
-    → AddsPlain a a' r lits number → number < length refs → refs' ≡ set refs number (Some r) → AreReferenced a refs
+pub referenced_more : (a a' : Clauses) (refs refs' : List (Option ℕ)) (r : ℕ) (lits : List Literal)
+    (number : ℕ)
+    → AddsPlain a a' r lits number → number < length refs → refs' ≡ set refs number (Some r) →
+    AreReferenced a refs
     → AreReferenced a' refs'
 referenced_more a a' refs refs' r lits number adds within refs'_is was = record {
   sound = λ n k at. ⊎_elim
@@ -86,10 +90,12 @@ referenced_more a a' refs refs' r lits number adds within refs'_is was = record 
 }
   where
     new_here : get_or refs' number None ≡ Some r
-    new_here = ap (λ (xs : List (Option ℕ)). get_or xs number None) refs'_is ∙ get_or-set_same refs number (Some r) None within
+    new_here = ap (λ (xs : List (Option ℕ)). get_or xs number None) refs'_is
+        ∙ get_or-set_same refs number (Some r) None within
 
     new_there : (n : ℕ) → n ≢ number → get_or refs' n None ≡ get_or refs n None
-    new_there n ne = ap (λ (xs : List (Option ℕ)). get_or xs n None) refs'_is ∙ get_or-set_other refs number n (Some r) None ne
+    new_there n ne = ap (λ (xs : List (Option ℕ)). get_or xs n None) refs'_is
+        ∙ get_or-set_other refs number n (Some r) None ne
 
     number_here : numbered a' r ≡ Some number
     number_here = numbered-plain a' r ∙ ap number_in adds.there

@@ -12,20 +12,23 @@ Leads next head [] = head ≡ None
 Leads next head (x ∷ xs) = (head ≡ Some x) × Leads next (next x) xs
 
 -- a walk that has come to its end is the list
-pub Leads-walk : (n : ℕ) (next : ℕ → Option ℕ) (head : Option ℕ) → end_of_walk n next head ≡ None → Leads next head (walk n next head)
+pub Leads-walk : (n : ℕ) (next : ℕ → Option ℕ) (head : Option ℕ) → end_of_walk n next head ≡ None →
+    Leads next head (walk n next head)
 Leads-walk zero next head ends = ends
 Leads-walk (suc n) next None ends = refl
 Leads-walk (suc n) next (Some r) ends = (refl, Leads-walk n next (next r) ends)
 
 -- a threaded list that is short enough is what the walk finds
-pub walk-Leads : (n : ℕ) (next : ℕ → Option ℕ) (head : Option ℕ) (xs : List ℕ) → Leads next head xs → length xs ≤ n → walk n next head ≡ xs
+pub walk-Leads : (n : ℕ) (next : ℕ → Option ℕ) (head : Option ℕ) (xs : List ℕ) → Leads next head xs →
+    length xs ≤ n → walk n next head ≡ xs
 walk-Leads zero next head [] leads short = refl
 walk-Leads zero next head (x ∷ xs) leads short = absurd (omega arith)
 walk-Leads (suc n) next head [] leads short = ap (walk (suc n) next) leads
 walk-Leads (suc n) next head (x ∷ xs) leads short =
     ap (walk (suc n) next) leads.0 ∙ ap (λ ys. x ∷ ys) (walk-Leads n next (next x) xs leads.1 (omega arith))
 
-pub end_of_walk-Leads : (n : ℕ) (next : ℕ → Option ℕ) (head : Option ℕ) (xs : List ℕ) → Leads next head xs → length xs ≤ n → end_of_walk n next head ≡ None
+pub end_of_walk-Leads : (n : ℕ) (next : ℕ → Option ℕ) (head : Option ℕ) (xs : List ℕ) → Leads next head xs →
+    length xs ≤ n → end_of_walk n next head ≡ None
 end_of_walk-Leads zero next head [] leads short = leads
 end_of_walk-Leads zero next head (x ∷ xs) leads short = absurd (omega arith)
 end_of_walk-Leads (suc n) next head [] leads short = ap (end_of_walk (suc n) next) leads
@@ -33,11 +36,15 @@ end_of_walk-Leads (suc n) next head (x ∷ xs) leads short =
     ap (end_of_walk (suc n) next) leads.0 ∙ end_of_walk-Leads n next (next x) xs leads.1 (omega arith)
 
 -- a change of what comes after r leaves the lists without r
-pub Leads-elsewhere : (next next' : ℕ → Option ℕ) (r : ℕ) (head : Option ℕ) (xs : List ℕ) → ((k : ℕ) → k ≢ r → next' k ≡ next k) → occurrences r xs ≡ 0 → Leads next head xs → Leads next' head xs
+pub Leads-elsewhere : (next next' : ℕ → Option ℕ) (r : ℕ) (head : Option ℕ) (xs : List ℕ) →
+    ((k : ℕ) → k ≢ r → next' k ≡ next k) → occurrences r xs ≡ 0 → Leads next head xs → Leads next' head xs
 Leads-elsewhere next next' r head [] same absent leads = leads
 Leads-elsewhere next next' r head (x ∷ xs) same absent leads =
-    let other : x ≢ r = λ e. differ x r (occurrences r xs) e absent in
-    (leads.0, rw (same x other) (Leads-elsewhere next next' r (next x) xs same (rest x r (occurrences r xs) absent) leads.1))
+    let other : x ≢ r = λ e. differ x r (occurrences r xs) e absent in (
+      leads.0,
+      rw (same x other) (Leads-elsewhere next next' r (next x) xs same
+          (rest x r (occurrences r xs) absent) leads.1),
+    )
   where
     differ : (x r n : ℕ) → x ≡ r → cond (eqb x r) 1 0 + n ≡ 0 → ⊥
     differ x r n e h = grind (arith, nat_tests)
@@ -45,9 +52,11 @@ Leads-elsewhere next next' r head (x ∷ xs) same absent leads =
     rest : (x r n : ℕ) → cond (eqb x r) 1 0 + n ≡ 0 → n ≡ 0
     rest x r n h = omega arith
 
-pub Leads-same : (next next' : ℕ → Option ℕ) (head : Option ℕ) (xs : List ℕ) → ((k : ℕ) → next' k ≡ next k) → Leads next head xs → Leads next' head xs
+pub Leads-same : (next next' : ℕ → Option ℕ) (head : Option ℕ) (xs : List ℕ) →
+    ((k : ℕ) → next' k ≡ next k) → Leads next head xs → Leads next' head xs
 Leads-same next next' head [] same leads = leads
-Leads-same next next' head (x ∷ xs) same leads = (leads.0, rw (same x) (Leads-same next next' (next x) xs same leads.1))
+Leads-same next next' head (x ∷ xs) same leads =
+    (leads.0, rw (same x) (Leads-same next next' (next x) xs same leads.1))
 
 apart_first : (x y n : ℕ) → cond (eqb y x) 1 0 + n ≡ 0 → eqb x y ≡ false
 apart_first x y n h = grind (arith, nat_tests)
@@ -62,22 +71,29 @@ once_first y n h = grind (arith, nat_tests)
 IsDistinct-from_occurrences : (ys : List ℕ) → ((r : ℕ) → occurrences r ys ≤ 1) → IsDistinct eqb ys
 unfolding IsDistinct
 IsDistinct-from_occurrences [] h = tt
-IsDistinct-from_occurrences (y ∷ ys) h =
-    (apart_rest y ys (once_first y (occurrences y ys) (h y)), IsDistinct-from_occurrences ys (λ r. omega (arith, h r)))
+IsDistinct-from_occurrences (y ∷ ys) h = (
+  apart_rest y ys (once_first y (occurrences y ys) (h y)),
+  IsDistinct-from_occurrences ys
+      (λ r. omega (arith, h r)),
+)
 
 eqb-comm : (q y : ℕ) → eqb q y ≡ eqb y q
 eqb-comm q y = grind (arith, nat_tests)
 
-positive_step : (b b' any : Bool) (n : ℕ) → b ≡ b' → (any ≡ true → 0 < n) → (b || any) ≡ true → 0 < cond b' 1 0 + n
+positive_step : (b b' any : Bool) (n : ℕ) → b ≡ b' → (any ≡ true → 0 < n) → (b || any) ≡ true →
+    0 < cond b' 1 0 + n
 positive_step true b' any n e rest h = rw (← e) (omega arith)
 positive_step false b' any n e rest h = omega (arith, rest h)
 
 positive : (q : ℕ) (ys : List ℕ) → list_any (eqb q) ys ≡ true → 0 < occurrences q ys
 positive q [] has = absurd (cc has)
 positive q (y ∷ ys) has =
-    positive_step (eqb q y) (eqb y q) (list_any (eqb q) ys) (occurrences q ys) (eqb-comm q y) (positive q ys) has
+    positive_step (eqb q y) (eqb y q) (list_any (eqb q) ys) (occurrences q ys) (eqb-comm q y)
+    (positive q ys) has
 
 -- numbers below n, none of them twice, are at most n
-pub length-le_from_occurrences : (xs : List ℕ) (n : ℕ) → ((r : ℕ) → occurrences r xs ≤ 1) → ((r : ℕ) → 0 < occurrences r xs → r < n) → length xs ≤ n
+pub length-le_from_occurrences : (xs : List ℕ) (n : ℕ) → ((r : ℕ) → occurrences r xs ≤ 1) →
+    ((r : ℕ) → 0 < occurrences r xs → r < n) → length xs ≤ n
 length-le_from_occurrences xs n once below =
-    length-le_from_distinct_below xs n (IsDistinct-from_occurrences xs once) (λ q has. below q (positive q xs has))
+    length-le_from_distinct_below xs n (IsDistinct-from_occurrences xs once)
+    (λ q has. below q (positive q xs has))

@@ -10,7 +10,8 @@ use Rattle.ba_watch.specs.Trails.{Assignments}
 use Rattle.ba_watch.specs.Propagation.{State, clause_in}
 
 -- a clause that is kept, with the reference that it had
-pub record Source (numbers : List ℕ) (moved : ℕ → ℕ) (old : List (Option Clause)) (reference : ℕ) (c : Clause) : Type 0 where
+pub record Source (numbers : List ℕ) (moved : ℕ →
+    ℕ) (old : List (Option Clause)) (reference : ℕ) (c : Clause) : Type 0 where
   pub from : ℕ
   pub there : clause_in old from ≡ Some c
   pub stays : Contains numbers c.number → ⊥
@@ -18,9 +19,11 @@ pub record Source (numbers : List ℕ) (moved : ℕ → ℕ) (old : List (Option
 
 -- the clauses of some numbers are gone, every other one has moved, and there are no more
 pub record KeepsOthers (numbers : List ℕ) (moved : ℕ → ℕ) (old new : List (Option Clause)) : Type 0 where
-  pub there : (reference : ℕ) (c : Clause) → clause_in old reference ≡ Some c → (Contains numbers c.number → ⊥) →
+  pub there : (reference : ℕ) (c : Clause) → clause_in old reference ≡ Some c →
+      (Contains numbers c.number → ⊥) →
       clause_in new (moved reference) ≡ Some c
-  pub only : (reference : ℕ) (c : Clause) → clause_in new reference ≡ Some c → Source numbers moved old reference c
+  pub only : (reference : ℕ) (c : Clause) → clause_in new reference ≡ Some c →
+      Source numbers moved old reference c
   pub apart : (a b : ℕ) (c d : Clause) → clause_in old a ≡ Some c → (Contains numbers c.number → ⊥) →
       clause_in old b ≡ Some d → (Contains numbers d.number → ⊥) → moved a ≡ moved b → a ≡ b
 
@@ -31,7 +34,8 @@ pub record MayDelete (s : State) (numbers : List ℕ) : Type 0 where
       c.number ≡ d.number → a ≡ b
   pub no_reason : (p reference : ℕ) (c : Clause) → get_or s.reasons p None ≡ Some reference →
       clause_in s.clauses reference ≡ Some c → Contains numbers c.number → ⊥
-  pub long : (reference : ℕ) (c : Clause) → clause_in s.clauses reference ≡ Some c → Contains numbers c.number →
+  pub long : (reference : ℕ) (c : Clause) → clause_in s.clauses reference ≡ Some c →
+      Contains numbers c.number →
       2 ≤ length c.lits
 
 -- the clauses of some numbers were deleted; reasons name the same clauses as before, and the rest stays
@@ -53,12 +57,15 @@ numbered clauses clause = number_of (clause_at clauses clause)
 
 -- for each number that a clause has, a clause that has it
 pub record AreReferenced (clauses : Clauses) (references : List (Option ℕ)) : Type 0 where
-  pub sound : (number clause : ℕ) → get_or references number None ≡ Some clause → numbered clauses clause ≡ Some number
-  pub each : (number clause : ℕ) → numbered clauses clause ≡ Some number → IsSome (get_or references number None)
+  pub sound : (number clause : ℕ) → get_or references number None ≡ Some clause →
+      numbered clauses clause ≡ Some number
+  pub each : (number clause : ℕ) → numbered clauses clause ≡ Some number →
+      IsSome (get_or references number None)
 
 -- no two clauses have the same number
 abbrev pub AreAlone : Clauses → Type 0
-AreAlone clauses = (a b number : ℕ) → numbered clauses a ≡ Some number → numbered clauses b ≡ Some number → a ≡ b
+AreAlone clauses = (a b number : ℕ) → numbered clauses a ≡ Some number → numbered clauses b ≡ Some number →
+    a ≡ b
 
 -- one of so many numbers
 abbrev pub IsNamed : List ℕ → ℕ → ℕ → Type 0
@@ -68,10 +75,12 @@ IsNamed numbers count number = (k : ℕ) × (k < count) × (get_or numbers k 0 �
 pub record IsWithout (named : ℕ → Type 0) (old new : Clauses) : Type 0 where
   pub either : (r : ℕ) → (clause_at new r ≡ None) ⊎ (clause_at new r ≡ clause_at old r)
   pub gone : (r number : ℕ) → numbered old r ≡ Some number → named number → clause_at new r ≡ None
-  pub stays : (r number : ℕ) → numbered old r ≡ Some number → (named number → ⊥) → clause_at new r ≡ clause_at old r
+  pub stays : (r number : ℕ) → numbered old r ≡ Some number → (named number → ⊥) →
+      clause_at new r ≡ clause_at old r
 
 -- the same of all that names clauses
-pub record DeletesAll (old new : Clauses) (t u : Assignments) (waiting left : List ℕ) (references : List (Option ℕ)) (numbers : List ℕ) : Type 0 where
+pub record DeletesAll (old new : Clauses) (t u : Assignments) (waiting left : List ℕ)
+    (references : List (Option ℕ)) (numbers : List ℕ) : Type 0 where
   pub moved : ℕ → ℕ
   pub clauses : KeepsOthers numbers moved (map plain old) (map plain new)
   pub trail : u ≡ record t { reasons = map (option_map moved) t.reasons }
@@ -92,4 +101,5 @@ MayLink lits heads = (k : ℕ) → k < length lits → 1 ≤ (lit_at lits k).var
 
 -- a live clause that none of the numbers names
 abbrev pub IsKept : Clauses → List ℕ → ℕ → Type 0
-IsKept clauses numbers clause = (s : Stored) × (clause_at clauses clause ≡ Some s) × (Contains numbers s.number → ⊥)
+IsKept clauses numbers clause = (s : Stored) × (clause_at clauses clause ≡ Some s)
+    × (Contains numbers s.number → ⊥)

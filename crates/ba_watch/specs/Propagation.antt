@@ -51,33 +51,42 @@ lits_in clauses clause = plain_lits (clause_in clauses clause)
 
 -- no live clause is false or unit under a trail
 pub record IsComplete (clauses : List (Option Clause)) (trail : List Literal) : Type 0 where
-  pub none_false : (clause : ℕ) → IsSome (clause_in clauses clause) → is_false (value_of trail) (lits_in clauses clause) ≡ false
-  pub none_unit : (clause : ℕ) → IsSome (clause_in clauses clause) → is_unit (value_of trail) (lits_in clauses clause) ≡ false
+  pub none_false : (clause : ℕ) → IsSome (clause_in clauses clause) →
+      is_false (value_of trail) (lits_in clauses clause) ≡ false
+  pub none_unit : (clause : ℕ) → IsSome (clause_in clauses clause) →
+      is_unit (value_of trail) (lits_in clauses clause) ≡ false
 
 -- a clause that has the literal and whose other literals are false under a trail
 pub record IsReason (lits trail : List Literal) (lit : Literal) : Type 0 where
   pub has : has_literal lit lits ≡ true
-  pub others : (k : ℕ) → k < length lits → index_at lits k ≢ index_of lit → value_of trail (lit_at lits k) ≡ Some false
+  pub others : (k : ℕ) → k < length lits → index_at lits k ≢ index_of lit →
+      value_of trail (lit_at lits k) ≡ Some false
 
 -- each reason is a live clause that has its literal, and whose others became false earlier on the trail
 abbrev pub HasReasons : (ℕ → List Literal) → List Literal → List (Option ℕ) → Type 0
 HasReasons lits trail reasons =
-    (p clause : ℕ) → p < length trail → get_or reasons p None ≡ Some clause → IsReason (lits clause) (take p trail) (lit_at trail p)
+    (p clause : ℕ) → p < length trail → get_or reasons p None ≡ Some clause →
+    IsReason (lits clause) (take p trail) (lit_at trail p)
 
 -- where the first literal became false before a place, the second is true, and became so at the level of the
 -- first or a lower one
 abbrev pub IsGuarded : List Literal → List (Option ℕ) → ℕ → Literal → Literal → Type 0
 IsGuarded trail reasons head a b =
     value_of trail a ≡ Some false → place_of trail a.variable < head →
-    (value_of trail b ≡ Some true) × (level_at reasons (place_of trail b.variable) ≤ level_at reasons (place_of trail a.variable))
+    (value_of trail b ≡ Some true) × (level_at reasons (place_of trail b.variable) ≤ level_at reasons
+    (place_of trail a.variable))
 
 -- the same of the watched literals of each clause, both ways
-pub record AreGuarded (lits : ℕ → List Literal) (trail : List Literal) (reasons : List (Option ℕ)) (head : ℕ) : Type 0 where
-  pub first : (clause : ℕ) → 2 ≤ length (lits clause) → IsGuarded trail reasons head (lit_at (lits clause) 0) (lit_at (lits clause) 1)
-  pub second : (clause : ℕ) → 2 ≤ length (lits clause) → IsGuarded trail reasons head (lit_at (lits clause) 1) (lit_at (lits clause) 0)
+pub record AreGuarded (lits : ℕ → List Literal) (trail : List Literal) (reasons : List (Option ℕ))
+    (head : ℕ) : Type 0 where
+  pub first : (clause : ℕ) → 2 ≤ length (lits clause) →
+      IsGuarded trail reasons head (lit_at (lits clause) 0) (lit_at (lits clause) 1)
+  pub second : (clause : ℕ) → 2 ≤ length (lits clause) →
+      IsGuarded trail reasons head (lit_at (lits clause) 1) (lit_at (lits clause) 0)
 
 -- what holds of the trail and of the clauses' literals where propagation has come to a place
-pub record AreFacts (lits : ℕ → List Literal) (variables : ℕ) (trail : List Literal) (reasons : List (Option ℕ)) (head : ℕ) : Type 0 where
+pub record AreFacts (lits : ℕ → List Literal) (variables : ℕ) (trail : List Literal)
+    (reasons : List (Option ℕ)) (head : ℕ) : Type 0 where
   pub trail_is : IsTrail variables trail reasons
   pub head_le : head ≤ length trail
   pub present : decided (drop (suc head) reasons) ≡ 0
@@ -86,15 +95,22 @@ pub record AreFacts (lits : ℕ → List Literal) (variables : ℕ) (trail : Lis
   pub in_range : (clause k : ℕ) → k < length (lits clause) → (lit_at (lits clause) k).variable ≤ variables
 
 -- each live clause of fewer than two literals has one that is true at level 0, or is still to be looked at
-pub record AreUnits (clauses : Clauses) (trail : List Literal) (reasons : List (Option ℕ)) (waiting : List ℕ) : Type 0 where
-  pub one : (clause : ℕ) → IsLive clauses clause → length (lits_at clauses clause) < 2 → occurrences clause waiting ≡ 0 → length (lits_at clauses clause) ≡ 1
-  pub true_ : (clause : ℕ) → IsLive clauses clause → length (lits_at clauses clause) < 2 → occurrences clause waiting ≡ 0 → value_of trail (lit_at (lits_at clauses clause) 0) ≡ Some true
-  pub level : (clause : ℕ) → IsLive clauses clause → length (lits_at clauses clause) < 2 → occurrences clause waiting ≡ 0 → level_at reasons (place_of trail (lit_at (lits_at clauses clause) 0).variable) ≡ 0
+pub record AreUnits (clauses : Clauses) (trail : List Literal) (reasons : List (Option ℕ))
+    (waiting : List ℕ) : Type 0 where
+  pub one : (clause : ℕ) → IsLive clauses clause → length (lits_at clauses clause) < 2 →
+      occurrences clause waiting ≡ 0 → length (lits_at clauses clause) ≡ 1
+  pub true_ : (clause : ℕ) → IsLive clauses clause → length (lits_at clauses clause) < 2 →
+      occurrences clause waiting ≡ 0 → value_of trail (lit_at (lits_at clauses clause) 0) ≡ Some true
+  pub level : (clause : ℕ) → IsLive clauses clause → length (lits_at clauses clause) < 2 →
+      occurrences clause waiting ≡ 0 → level_at reasons
+      (place_of trail (lit_at (lits_at clauses clause) 0).variable) ≡ 0
   pub live : (clause : ℕ) → 0 < occurrences clause waiting → IsLive clauses clause
   pub short : (clause : ℕ) → 0 < occurrences clause waiting → length (lits_at clauses clause) < 2
 
 -- the facts that a watch keeps
-pub record IsSound (clauses : Clauses) (heads : ℕ) (pending : Option ℕ) (variables : ℕ) (trail : List Literal) (reasons : List (Option ℕ)) (head : ℕ) (waiting : List ℕ) (settled : Bool) : Type 0 where
+pub record IsSound (clauses : Clauses) (heads : ℕ) (pending : Option ℕ) (variables : ℕ)
+    (trail : List Literal) (reasons : List (Option ℕ)) (head : ℕ) (waiting : List ℕ) (settled : Bool) : Type
+    0 where
   pub facts : AreFacts (lits_at clauses) variables trail reasons head
   pub units : AreUnits clauses trail reasons waiting
   pub idle : pending ≡ None
@@ -144,15 +160,19 @@ pub record IsAsserting (s : State) (lits : List Literal) : Type 0 where
   pub recent_level : level_at s.reasons (place_of s.trail (lit_at lits recent).variable) ≡ decided s.reasons
 
 -- the list of the literal that became false at the head of propagation is being visited
-pub record IsVisiting (lits : ℕ → List Literal) (variables : ℕ) (trail : List Literal) (reasons : List (Option ℕ)) (head visited : ℕ) : Type 0 where
+pub record IsVisiting (lits : ℕ → List Literal) (variables : ℕ) (trail : List Literal)
+    (reasons : List (Option ℕ)) (head visited : ℕ) : Type 0 where
   pub facts : AreFacts lits variables trail reasons head
   pub inside : head < length trail
   pub visited_is : visited ≡ index_of (negate (lit_at trail head))
 
 -- a clause that watches the literal and isn't still to be looked at has its other watched literal true
-pub record AreVisited (lits : ℕ → List Literal) (trail : List Literal) (visited : ℕ) (todo : List ℕ) : Type 0 where
-  pub first : (clause : ℕ) → 2 ≤ length (lits clause) → occurrences clause todo ≡ 0 → index_at (lits clause) 0 ≡ visited → value_of trail (lit_at (lits clause) 1) ≡ Some true
-  pub second : (clause : ℕ) → 2 ≤ length (lits clause) → occurrences clause todo ≡ 0 → index_at (lits clause) 1 ≡ visited → value_of trail (lit_at (lits clause) 0) ≡ Some true
+pub record AreVisited (lits : ℕ → List Literal) (trail : List Literal) (visited : ℕ) (todo : List ℕ) : Type
+    0 where
+  pub first : (clause : ℕ) → 2 ≤ length (lits clause) → occurrences clause todo ≡ 0 →
+      index_at (lits clause) 0 ≡ visited → value_of trail (lit_at (lits clause) 1) ≡ Some true
+  pub second : (clause : ℕ) → 2 ≤ length (lits clause) → occurrences clause todo ≡ 0 →
+      index_at (lits clause) 1 ≡ visited → value_of trail (lit_at (lits clause) 0) ≡ Some true
 
 -- what the visit of a clause, or of several, may change
 pub record VisitsSome (old new : Clauses) (t u : Assignments) (visited : ℕ) : Type 0 where
@@ -161,26 +181,39 @@ pub record VisitsSome (old new : Clauses) (t u : Assignments) (visited : ℕ) : 
   pub trail : Begins t.lits u.lits
   pub reasons : Begins t.reasons u.reasons
   pub level : decided u.reasons ≡ decided t.reasons
-  pub in_range : ((r k : ℕ) → k < length (lits_at old r) → (lit_at (lits_at old r) k).variable ≤ t.variables) → (r k : ℕ) → k < length (lits_at new r) → (lit_at (lits_at new r) k).variable ≤ u.variables
-  pub units : (waiting : List ℕ) → AreUnits old t.lits t.reasons waiting → AreUnits new u.lits u.reasons waiting
-  pub visiting : (head : ℕ) → IsVisiting (lits_at old) t.variables t.lits t.reasons head visited → IsVisiting (lits_at new) u.variables u.lits u.reasons head visited
+  pub in_range : ((r k : ℕ) → k < length (lits_at old r) →
+      (lit_at (lits_at old r) k).variable ≤ t.variables) → (r k : ℕ) → k < length (lits_at new r) →
+      (lit_at (lits_at new r) k).variable ≤ u.variables
+  pub units : (waiting : List ℕ) → AreUnits old t.lits t.reasons waiting →
+      AreUnits new u.lits u.reasons waiting
+  pub visiting : (head : ℕ) → IsVisiting (lits_at old) t.variables t.lits t.reasons head visited →
+      IsVisiting (lits_at new) u.variables u.lits u.reasons head visited
 
 -- a clause of the list was looked at: it is false, or one clause less is to be looked at
-pub record Visits (old new : Clauses) (t u : Assignments) (visited : ℕ) (todo rest : List ℕ) (clause : ℕ) (conflict : Bool) : Type 0 where
+pub record Visits (old new : Clauses) (t u : Assignments) (visited : ℕ) (todo rest : List ℕ) (clause : ℕ)
+    (conflict : Bool) : Type 0 where
   pub steps : VisitsSome old new t u visited
-  pub passed : (head : ℕ) → IsVisiting (lits_at old) t.variables t.lits t.reasons head visited → conflict ≡ false → AreVisited (lits_at old) t.lits visited todo → AreVisited (lits_at new) u.lits visited rest
-  pub failed : (head : ℕ) → IsVisiting (lits_at old) t.variables t.lits t.reasons head visited → conflict ≡ true → is_false (value_of u.lits) (lits_at new clause) ≡ true
+  pub passed : (head : ℕ) → IsVisiting (lits_at old) t.variables t.lits t.reasons head visited →
+      conflict ≡ false → AreVisited (lits_at old) t.lits visited todo →
+      AreVisited (lits_at new) u.lits visited rest
+  pub failed : (head : ℕ) → IsVisiting (lits_at old) t.variables t.lits t.reasons head visited →
+      conflict ≡ true → is_false (value_of u.lits) (lits_at new clause) ≡ true
 
 -- one list is being visited: what has changed so far, and what is known of the clauses that were visited
-pub record IsUnderway (start now : Clauses) (t u : Assignments) (visited : ℕ) (todo : List ℕ) (conflict : Option ℕ) : Type 0 where
+pub record IsUnderway (start now : Clauses) (t u : Assignments) (visited : ℕ) (todo : List ℕ)
+    (conflict : Option ℕ) : Type 0 where
   pub steps : VisitsSome start now t u visited
-  pub passed : conflict ≡ None → (head : ℕ) → IsVisiting (lits_at start) t.variables t.lits t.reasons head visited → AreVisited (lits_at now) u.lits visited todo
-  pub failed : (clause : ℕ) → conflict ≡ Some clause → (head : ℕ) → IsVisiting (lits_at start) t.variables t.lits t.reasons head visited → is_false (value_of u.lits) (lits_at now clause) ≡ true
+  pub passed : conflict ≡ None → (head : ℕ) → IsVisiting (lits_at start) t.variables t.lits t.reasons head
+      visited → AreVisited (lits_at now) u.lits visited todo
+  pub failed : (clause : ℕ) → conflict ≡ Some clause → (head : ℕ) →
+      IsVisiting (lits_at start) t.variables t.lits t.reasons head visited →
+      is_false (value_of u.lits) (lits_at now clause) ≡ true
   pub live : (clause : ℕ) → conflict ≡ Some clause → IsLive now clause
 
 -- the literals of the clauses have variables up to a number
 abbrev pub InRange : Clauses → ℕ → Type 0
-InRange clauses variables = (r k : ℕ) → k < length (lits_at clauses r) → (lit_at (lits_at clauses r) k).variable ≤ variables
+InRange clauses variables = (r k : ℕ) → k < length (lits_at clauses r) →
+    (lit_at (lits_at clauses r) k).variable ≤ variables
 
 -- literals of clauses of one literal were made true: whatever held still holds
 pub record AssignsUnits (clauses : Clauses) (t u : Assignments) : Type 0 where
@@ -188,8 +221,10 @@ pub record AssignsUnits (clauses : Clauses) (t u : Assignments) : Type 0 where
   pub trail : Begins t.lits u.lits
   pub reasons : Begins t.reasons u.reasons
   pub level : decided u.reasons ≡ decided t.reasons
-  pub facts : (head : ℕ) → AreFacts (lits_at clauses) t.variables t.lits t.reasons head → AreFacts (lits_at clauses) u.variables u.lits u.reasons head
-  pub units : (waiting : List ℕ) → AreUnits clauses t.lits t.reasons waiting → AreUnits clauses u.lits u.reasons waiting
+  pub facts : (head : ℕ) → AreFacts (lits_at clauses) t.variables t.lits t.reasons head →
+      AreFacts (lits_at clauses) u.variables u.lits u.reasons head
+  pub units : (waiting : List ℕ) → AreUnits clauses t.lits t.reasons waiting →
+      AreUnits clauses u.lits u.reasons waiting
 
 -- the same of one clause, which is true or false now
 pub record AssignsUnit (clauses : Clauses) (t u : Assignments) (clause : ℕ) (ok : Bool) : Type 0 where
@@ -205,7 +240,8 @@ pub record Propagates (old new : Clauses) (t u : Assignments) : Type 0 where
   pub trail : Begins t.lits u.lits
   pub reasons : Begins t.reasons u.reasons
   pub level : decided u.reasons ≡ decided t.reasons
-  pub units : (waiting : List ℕ) → AreUnits old t.lits t.reasons waiting → AreUnits new u.lits u.reasons waiting
+  pub units : (waiting : List ℕ) → AreUnits old t.lits t.reasons waiting →
+      AreUnits new u.lits u.reasons waiting
 
 -- how late a literal became false: its place on the trail, or the trail's length where it isn't false
 abbrev pub rank_of : List Literal → Literal → ℕ
@@ -216,9 +252,11 @@ rank_of trail l = if falsified (value_of trail l) then place_of trail l.variable
 pub record KeepsFacts (s : State) : Type 0 where
   pub trail : IsTrail s.variables s.trail s.reasons
   pub reasons : HasReasons (lits_in s.clauses) s.trail s.reasons
-  pub in_range : (clause k : ℕ) → k < length (lits_in s.clauses clause) → (lit_at (lits_in s.clauses clause) k).variable ≤ s.variables
+  pub in_range : (clause k : ℕ) → k < length (lits_in s.clauses clause) →
+      (lit_at (lits_in s.clauses clause) k).variable ≤ s.variables
   pub settled : s.settled ≡ true → IsComplete s.clauses s.trail
-  pub below : (p : ℕ) → p < length s.trail → get_or s.reasons p None ≡ None → IsComplete s.clauses (take p s.trail)
+  pub below : (p : ℕ) → p < length s.trail → get_or s.reasons p None ≡ None →
+      IsComplete s.clauses (take p s.trail)
   pub apart : (clause : ℕ) → AreApart (lits_in s.clauses clause)
 
 -- a number is one of two

@@ -14,7 +14,8 @@ index_at lits k = index_of (lit_at lits k)
 abbrev pub next_in : ℕ → Option Stored → Option ℕ
 next_in index None = None
 next_in index (Some s) =
-    if eqb (index_at s.lits 0) index then s.first else (if eqb (index_at s.lits 1) index then s.second else None)
+    if eqb (index_at s.lits 0) index then s.first
+    else (if eqb (index_at s.lits 1) index then s.second else None)
 
 -- the clause that comes after one in the list of the literal of an index
 abbrev pub next_of : Clauses → ℕ → ℕ → Option ℕ
@@ -38,17 +39,21 @@ watch_count clauses index clause = if watches (lits_at clauses clause) index the
 -- how often a clause stands in the list of the literal of an index, with the list that is being visited
 abbrev pub listed : Clauses → List (Option ℕ) → ℕ → Option ℕ → ℕ → ℕ → ℕ
 listed clauses heads visited pending index clause =
-    occurrences clause (list_of clauses heads index) + (if eqb index visited then occurrences clause (pending_of clauses visited pending) else 0)
+    occurrences clause (list_of clauses heads index)
+    + (if eqb index visited then occurrences clause (pending_of clauses visited pending) else 0)
 
 -- no literal stands twice in a clause
 abbrev pub AreApart : List Literal → Type 0
 AreApart lits = (j k : ℕ) → j < length lits → k < length lits → j ≢ k → index_at lits j ≢ index_at lits k
 
 -- the links and heads thread, for each literal, the list of the clauses that watch it
-pub record AreThreaded (clauses : Clauses) (heads : List (Option ℕ)) (visited : ℕ) (pending : Option ℕ) : Type 0 where
-  pub ends : (index : ℕ) → end_of_walk (length clauses) (next_of clauses index) (get_or heads index None) ≡ None
+pub record AreThreaded (clauses : Clauses) (heads : List (Option ℕ)) (visited : ℕ)
+    (pending : Option ℕ) : Type 0 where
+  pub ends : (index : ℕ) → end_of_walk (length clauses) (next_of clauses index) (get_or heads index None)
+      ≡ None
   pub pending_ends : end_of_walk (length clauses) (next_of clauses visited) pending ≡ None
-  pub counts : (index clause : ℕ) → listed clauses heads visited pending index clause ≡ watch_count clauses index clause
+  pub counts : (index clause : ℕ) → listed clauses heads visited pending index clause
+      ≡ watch_count clauses index clause
   pub apart : (clause : ℕ) → AreApart (lits_at clauses clause)
 
 -- a clause without its links
@@ -76,7 +81,8 @@ SamePlain old new = (k : ℕ) → plain_at new k ≡ plain_at old k
 -- the same clauses but for one, in which two literals were exchanged
 abbrev pub ReordersOne : ℕ → ℕ → ℕ → Clauses → Clauses → Type 0
 ReordersOne clause a b old new =
-    (plain_at new clause ≡ reordered a b (plain_at old clause)) × ((k : ℕ) → k ≢ clause → plain_at new k ≡ plain_at old k)
+    (plain_at new clause ≡ reordered a b (plain_at old clause))
+    × ((k : ℕ) → k ≢ clause → plain_at new k ≡ plain_at old k)
 
 -- one clause more
 pub record AddsPlain (old new : Clauses) (clause : ℕ) (lits : List Literal) (number : ℕ) : Type 0 where

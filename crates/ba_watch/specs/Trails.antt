@@ -14,7 +14,8 @@ same_sign false b = not b
 -- the value of a literal under a trail; None where its variable has none
 abbrev pub value_of : List Literal → Literal → Option Bool
 value_of [] l = None
-value_of (t ∷ ts) l = if eqb t.variable l.variable then Some (same_sign t.negated l.negated) else value_of ts l
+value_of (t ∷ ts) l = if eqb t.variable l.variable then Some (same_sign t.negated l.negated) else value_of
+    ts l
 
 -- the place on the trail where a variable got its value; the trail's length where it has none
 abbrev pub place_of : List Literal → ℕ → ℕ
@@ -23,7 +24,8 @@ place_of (t ∷ ts) variable = if eqb t.variable variable then 0 else suc (place
 
 -- the same where the variable has a value
 abbrev pub place_if : List Literal → ℕ → Option ℕ
-place_if lits variable = if ltb (place_of lits variable) (length lits) then Some (place_of lits variable) else None
+place_if lits variable = if ltb (place_of lits variable) (length lits) then Some (place_of lits variable)
+    else None
 
 -- a literal without a reason was decided, and begins a level: so many levels are begun
 abbrev pub decided : List (Option ℕ) → ℕ
@@ -45,7 +47,8 @@ kept level (Some r ∷ rs) = suc (kept level rs)
 -- the level at which a variable got its value
 abbrev pub level_of : List Literal → List (Option ℕ) → ℕ → Option ℕ
 level_of lits reasons variable =
-    if ltb (place_of lits variable) (length lits) then Some (level_at reasons (place_of lits variable)) else None
+    if ltb (place_of lits variable) (length lits) then Some (level_at reasons (place_of lits variable))
+    else None
 
 -- the clause because of which a variable got its value
 abbrev pub reason_of : List Literal → List (Option ℕ) → ℕ → Option ℕ
@@ -71,7 +74,8 @@ with_sign negated None = None
 with_sign negated (Some b) = Some (signed negated b)
 
 -- the vectors of the code hold the trail: values and places by variable, from 1 on; reasons and levels by place
-pub record Holds (variables : ℕ) (lits : List Literal) (reasons : List (Option ℕ)) (levels : List ℕ) (assigned level : ℕ) (values : List (Option Bool)) (places : List ℕ) : Type 0 where
+pub record Holds (variables : ℕ) (lits : List Literal) (reasons : List (Option ℕ)) (levels : List ℕ)
+    (assigned level : ℕ) (values : List (Option Bool)) (places : List ℕ) : Type 0 where
   pub trail : IsTrail variables (take assigned lits) (take assigned reasons)
   pub lits_room : variables ≤ length lits
   pub reasons_room : variables ≤ length reasons
@@ -83,7 +87,8 @@ pub record Holds (variables : ℕ) (lits : List Literal) (reasons : List (Option
   pub level_is : level ≡ decided (take assigned reasons)
   pub levels_are : (p : ℕ) → p < assigned → get_or levels p 0 ≡ level_at (take assigned reasons) p
   pub places_are : (p : ℕ) → p < assigned → get_or places ((lit_at (take assigned lits) p).variable - 1) 0 ≡ p
-  pub values_are : (l : Literal) → 1 ≤ l.variable → l.variable ≤ variables → with_sign l.negated (get_or values (l.variable - 1) None) ≡ value_of (take assigned lits) l
+  pub values_are : (l : Literal) → 1 ≤ l.variable → l.variable ≤ variables →
+      with_sign l.negated (get_or values (l.variable - 1) None) ≡ value_of (take assigned lits) l
 
 -- a list begins with another
 abbrev pub Begins : {X : Type 0} → List X → List X → Type 0

@@ -103,7 +103,8 @@ fn link_clause(arena: &mut Arena, heads: &mut Vec<Link>, clause: ClauseRef)
     ensures live { IsLive arena.new clause }
     ensures plain { SamePlain arena.old arena.new }
     ensures heads { length heads.new.items ≡ length heads.old.items }
-    ensures threaded { (visited : ℕ) → AreThreaded (take clause arena.old) heads.old.items visited None
+    ensures threaded { (visited : ℕ)
+        → AreThreaded (take clause arena.old) heads.old.items visited None
         → AreThreaded (take (clause + 1) arena.new) heads.new.items visited None }
 {
     if arena.len(clause) < 2 {

@@ -6,4 +6,5 @@ use Rattle.ba_search.proofs.deciding.literal.Goals as goal
 
 pub returns-else-value-clause-free : goal.returns-else-value-clause-free
 returns-else-value-clause-free c trail none =
-    value_of-none trail (positive c.args.variable) c.negated.result (sym (ap (λ (l : Literal). l.variable) (c.negated.ensures ∙ ap negate c.positive-lit.ensures))) none
+    value_of-none trail (positive c.args.variable) c.negated.result
+    (sym (ap (λ (l : Literal). l.variable) (c.negated.ensures ∙ ap negate c.positive-lit.ensures))) none

@@ -4,4 +4,5 @@ use Rattle.ba_search.specs.Values.{positive}
 use Rattle.ba_search.proofs.order.first_unassigned.Given as goal
 
 abbrev pub invariant-loop-variable : goal.invariant-loop-variable
-invariant-loop-variable l = (v : ℕ) → 1 ≤ v → v < l.variable → is_none (value_of l.watch.trail (positive v)) ≡ false
+invariant-loop-variable l = (v : ℕ) → 1 ≤ v → v < l.variable →
+    is_none (value_of l.watch.trail (positive v)) ≡ false

@@ -17,6 +17,7 @@ returns-clause-discarded g c = IfOk-weaker c.gather.result _ _ (λ numbers are. 
 pub returns-clause-no_reasons : goal.returns-clause-no_reasons
 returns-clause-no_reasons g c =
     IfOk-weaker c.gather.result _ _
-    (λ numbers are. no_reasons_are c.args.watch.now c.in_ok-reasons.reasons numbers.items c.in_ok-reasons.ensures
+    (λ numbers are. no_reasons_are c.args.watch.now c.in_ok-reasons.reasons numbers.items
+    c.in_ok-reasons.ensures
     are.no_reasons)
     c.gather.ensures

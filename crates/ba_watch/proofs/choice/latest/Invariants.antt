@@ -7,5 +7,6 @@ abbrev pub invariant-loop-place : goal.invariant-loop-place
 invariant-loop-place l = record {
   within : l.best < length l.lits;
   other : l.best ≢ l.skip;
-  latest : (k : ℕ) → k < l.place → k ≢ l.skip → rank_of l.trail.lits (lit_at l.lits k) ≤ rank_of l.trail.lits (lit_at l.lits l.best);
+  latest : (k : ℕ) → k < l.place → k ≢ l.skip →
+      rank_of l.trail.lits (lit_at l.lits k) ≤ rank_of l.trail.lits (lit_at l.lits l.best);
 }

@@ -5,5 +5,7 @@ use Rattle.ba_watch.proofs.choice.rank.Goals as goal
 
 pub returns-in-None : goal.returns-in-None
 returns-in-None c =
-    absurd (rank_placed c.args.trail.now.lits c.args.lit (sym c.value-value.ensures ∙ (c.in-Some-false.is ∙ ap (λ (b : Bool). Some b) c.in-Some-false.field-0-test))
-    (sym c.in-None.is ∙ (c.place.ensures ∙ ap (λ (x : ℕ). place_if c.args.trail.now.lits x) c.variable.ensures.variable)))
+    absurd (rank_placed c.args.trail.now.lits c.args.lit (sym c.value-value.ensures
+    ∙ (c.in-Some-false.is ∙ ap (λ (b : Bool). Some b) c.in-Some-false.field-0-test))
+    (sym c.in-None.is ∙ (c.place.ensures ∙ ap (λ (x : ℕ). place_if c.args.trail.now.lits x)
+    c.variable.ensures.variable)))

@@ -10,10 +10,24 @@ loop-place-preserved c =
     let xs = c.args.waiting.now.items in
     let v = c.index.result.now in
     elim c.match-link.branch [
-      | in-Some w ↦ map_write f xs c.loop-place.waiting.items c.match-link.waiting.items c.loop-place.place w.in-Some.clause
-          v c.loop-place.invariant (omega (arith, c.loop-place-test.true, c.len-place-end.ensures, c.args.waiting.now.ok.0))
-          c.index.ensures (ap (link_or v) (sym w.in-Some.is ∙ c.link.ensures)) (ap (λ u. u.items) w.waiting-is)
-      | in_default w ↦ map_keep f xs c.loop-place.waiting.items c.match-link.waiting.items c.loop-place.place v
-          c.loop-place.invariant (omega (arith, c.loop-place-test.true, c.len-place-end.ensures, c.args.waiting.now.ok.0))
-          c.index.ensures (ap (link_or v) (sym c.link.ensures ∙ w.in_default.is)) (ap (λ u. u.items) w.waiting-is)
+      | in-Some w ↦ map_write f xs c.loop-place.waiting.items c.match-link.waiting.items c.loop-place.place
+          w.in-Some.clause
+          v c.loop-place.invariant (omega (
+            arith,
+            c.loop-place-test.true,
+            c.len-place-end.ensures,
+            c.args.waiting.now.ok.0,
+          ))
+          c.index.ensures (ap (link_or v) (sym w.in-Some.is ∙ c.link.ensures))
+          (ap (λ u. u.items) w.waiting-is)
+      | in_default w ↦ map_keep f xs c.loop-place.waiting.items c.match-link.waiting.items
+          c.loop-place.place v
+          c.loop-place.invariant (omega (
+            arith,
+            c.loop-place-test.true,
+            c.len-place-end.ensures,
+            c.args.waiting.now.ok.0,
+          ))
+          c.index.ensures (ap (link_or v) (sym c.link.ensures ∙ w.in_default.is))
+          (ap (λ u. u.items) w.waiting-is)
     ]

@@ -4,4 +4,5 @@ use Rattle.ba_watch.proofs.deletion.follow.Given as goal
 
 abbrev pub invariant-loop-place : goal.invariant-loop-place
 invariant-loop-place l =
-    l.waiting.items ≡ map (followed l.arena) (take l.place l.initial.waiting.items) ++ drop l.place l.initial.waiting.items
+    l.waiting.items ≡ map (followed l.arena) (take l.place l.initial.waiting.items)
+    ++ drop l.place l.initial.waiting.items

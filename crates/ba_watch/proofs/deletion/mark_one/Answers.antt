@@ -20,7 +20,8 @@ mark_dead-requires c =
     let refs = c.args.references.now.items in
     let within : c.args.number < length refs =
     omega (arith, c.if-place-len.false, c.len.ensures, c.args.references.now.ok.0) in
-    let is = sym (get_or_read refs c.args.number c.index.result.now within c.index.ensures None) ∙ c.in-Some.is in
+    let is = sym (get_or_read refs c.args.number c.index.result.now within c.index.ensures None)
+    ∙ c.in-Some.is in
     live_of (clause_at c.args.arena.now c.in-Some.clause) c.args.number
     (c.requires.referenced.sound c.args.number c.in-Some.clause is)
 
@@ -29,7 +30,8 @@ returns-in-Some-clause-without c =
     let refs = c.args.references.now.items in
     let within : c.args.number < length refs =
     omega (arith, c.if-place-len.false, c.len.ensures, c.args.references.now.ok.0) in
-    let is = sym (get_or_read refs c.args.number c.index.result.now within c.index.ensures None) ∙ c.in-Some.is in
+    let is = sym (get_or_read refs c.args.number c.index.result.now within c.index.ensures None)
+    ∙ c.in-Some.is in
     marked c.args.arena.now c.mark_dead.new.self refs c.args.number c.in-Some.clause c.requires.referenced
     c.requires.alone is c.mark_dead.ensures
 
@@ -38,8 +40,10 @@ returns-in-Some-clause-referenced c =
     let refs = c.args.references.now.items in
     let within : c.args.number < length refs =
     omega (arith, c.if-place-len.false, c.len.ensures, c.args.references.now.ok.0) in
-    let is = sym (get_or_read refs c.args.number c.index.result.now within c.index.ensures None) ∙ c.in-Some.is in
-    marked_references c.args.arena.now c.mark_dead.new.self refs c.args.number c.in-Some.clause c.requires.referenced
+    let is = sym (get_or_read refs c.args.number c.index.result.now within c.index.ensures None)
+    ∙ c.in-Some.is in
+    marked_references c.args.arena.now c.mark_dead.new.self refs c.args.number c.in-Some.clause
+    c.requires.referenced
     c.requires.alone is c.mark_dead.ensures
 
 pub returns-in_default-clause-without : goal.returns-in_default-clause-without

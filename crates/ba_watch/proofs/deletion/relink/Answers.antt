@@ -8,7 +8,8 @@ use Rattle.ba_watch.proofs.deletion.relink.Goals as goal
 
 pub loop-next-init : goal.loop-next-init
 loop-next-init c =
-    relinking_init c.args.arena.now (length c.empty_all.new.heads.items) c.empty_all.new.heads.items c.first-next.result refl
+    relinking_init c.args.arena.now (length c.empty_all.new.heads.items) c.empty_all.new.heads.items
+    c.first-next.result refl
     c.empty_all.ensures.none c.first-next.ensures
 
 pub link_clause-requires-clause-apart : goal.link_clause-requires-clause-apart
@@ -28,13 +29,17 @@ link_clause-requires-clause-room c =
 pub loop-next-preserved : goal.loop-next-preserved
 loop-next-preserved c =
     let count = length c.empty_all.new.heads.items in
-    relinking_step c.args.arena.now c.loop-next.arena c.link_clause.new.arena count c.in-Some.clause c.loop-next.heads.items
+    relinking_step c.args.arena.now c.loop-next.arena c.link_clause.new.arena count c.in-Some.clause
+    c.loop-next.heads.items
     c.link_clause.new.heads.items c.after-next.result
-    (subst (λ (o : Option ℕ). IsRelinking c.args.arena.now c.loop-next.arena count c.loop-next.heads.items o) c.in-Some.is
+    (subst (λ (o : Option ℕ). IsRelinking c.args.arena.now c.loop-next.arena count c.loop-next.heads.items
+    o) c.in-Some.is
     c.loop-next.invariant)
-    c.link_clause.ensures.plain c.link_clause.ensures.heads c.link_clause.ensures.threaded c.after-next.ensures.first
+    c.link_clause.ensures.plain c.link_clause.ensures.heads c.link_clause.ensures.threaded
+    c.after-next.ensures.first
 
 pub returns-clause-threaded : goal.returns-clause-threaded
 returns-clause-threaded c = λ visited.
-    subst (λ (o : Option ℕ). AreThreaded (upto c.loop-next.arena o) c.loop-next.heads.items visited None) c.in_default.is
+    subst (λ (o : Option ℕ). AreThreaded (upto c.loop-next.arena o) c.loop-next.heads.items visited None)
+    c.in_default.is
     (c.loop-next.invariant.threaded visited)

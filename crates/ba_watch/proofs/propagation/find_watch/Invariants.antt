@@ -5,4 +5,5 @@ use Rattle.ba_watch.specs.Trails.{value_of}
 use Rattle.ba_watch.proofs.propagation.find_watch.Given as goal
 
 abbrev pub invariant-loop-place : goal.invariant-loop-place
-invariant-loop-place l = (k : ℕ) → 2 ≤ k → k < l.place → k < length (lits_at l.arena l.clause) → value_of l.trail.lits (lit_at (lits_at l.arena l.clause) k) ≡ Some false
+invariant-loop-place l = (k : ℕ) → 2 ≤ k → k < l.place → k < length (lits_at l.arena l.clause) →
+    value_of l.trail.lits (lit_at (lits_at l.arena l.clause) k) ≡ Some false

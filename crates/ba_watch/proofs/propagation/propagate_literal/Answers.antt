@@ -8,7 +8,8 @@ pub loop-lists-init : goal.loop-lists-init
 loop-lists-init c = record {
   visited = refl;
   heads = refl;
-  underway = Underway-start c.args.lists.now.arena c.args.trail.now c.args.lists.now.visited _ c.requires.taken;
+  underway = Underway-start c.args.lists.now.arena c.args.trail.now c.args.lists.now.visited _
+      c.requires.taken;
 }
 
 pub loop-lists-preserved : goal.loop-lists-preserved
@@ -18,11 +19,19 @@ loop-lists-preserved c =
     record {
       visited = e.visited ∙ i.visited;
       heads = e.heads ∙ i.heads;
-      underway = Underway-next c.args.lists.now.arena c.loop-lists.lists.arena c.visit_next-conflict.new.lists.arena c.args.trail.now c.loop-lists.trail c.visit_next-conflict.new.trail c.args.lists.now.visited c.loop-lists.lists.visited c.in-Some.clause _ _ c.loop-lists.conflict c.visit_next-conflict.result i.underway i.visited e.pending
-          (e.underway c.args.lists.now.arena c.args.trail.now (pending_of c.visit_next-conflict.new.lists.arena c.visit_next-conflict.new.lists.visited c.visit_next-conflict.new.lists.pending));
+      underway = Underway-next c.args.lists.now.arena c.loop-lists.lists.arena
+          c.visit_next-conflict.new.lists.arena c.args.trail.now c.loop-lists.trail
+          c.visit_next-conflict.new.trail c.args.lists.now.visited c.loop-lists.lists.visited
+          c.in-Some.clause _ _ c.loop-lists.conflict c.visit_next-conflict.result i.underway i.visited
+          e.pending
+          (e.underway c.args.lists.now.arena c.args.trail.now
+          (pending_of c.visit_next-conflict.new.lists.arena c.visit_next-conflict.new.lists.visited
+          c.visit_next-conflict.new.lists.pending));
     }
 
 pub returns-clause-underway : goal.returns-clause-underway
 returns-clause-underway c =
-    subst (λ (xs : List ℕ). IsUnderway c.args.lists.now.arena c.loop-lists.lists.arena c.args.trail.now c.loop-lists.trail c.args.lists.now.visited xs c.loop-lists.conflict)
-    (nothing_pending c.loop-lists.lists.arena c.loop-lists.lists.visited c.loop-lists.lists.pending (none_from c.loop-lists.lists.pending c.in_default.not-Some)) c.loop-lists.invariant.underway
+    subst (λ (xs : List ℕ). IsUnderway c.args.lists.now.arena c.loop-lists.lists.arena c.args.trail.now
+    c.loop-lists.trail c.args.lists.now.visited xs c.loop-lists.conflict)
+    (nothing_pending c.loop-lists.lists.arena c.loop-lists.lists.visited c.loop-lists.lists.pending
+    (none_from c.loop-lists.lists.pending c.in_default.not-Some)) c.loop-lists.invariant.underway

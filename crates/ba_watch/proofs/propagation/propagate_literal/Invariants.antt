@@ -7,7 +7,8 @@ abbrev pub invariant-loop-lists : goal.invariant-loop-lists
 invariant-loop-lists l = record {
   visited : l.lists.visited ≡ l.initial.lists.visited;
   heads : length l.lists.heads.items ≡ length l.initial.lists.heads.items;
-  underway : IsUnderway l.initial.lists.arena l.lists.arena l.initial.trail l.trail l.initial.lists.visited (pending_of l.lists.arena l.lists.visited l.lists.pending) l.conflict;
+  underway : IsUnderway l.initial.lists.arena l.lists.arena l.initial.trail l.trail l.initial.lists.visited
+      (pending_of l.lists.arena l.lists.visited l.lists.pending) l.conflict;
 }
 
 abbrev pub decreases-loop-lists : goal.decreases-loop-lists

@@ -3,7 +3,8 @@ use Rattle.ba_search.proofs.AnswerLaws.{assumed_within, core_reason_some, core_a
 use Rattle.ba_search.proofs.engine.Engine.assume.Goals as goal
 
 -- a value that is there and not true is false
-is_false : (o v : Option Bool) (b : Bool) → o ≡ v → is_some o ≡ not b → b ≡ false → v ≢ Some true → v ≡ Some false
+is_false : (o v : Option Bool) (b : Bool) → o ≡ v → is_some o ≡ not b → b ≡ false → v ≢ Some true →
+    v ≡ Some false
 is_false o None b e some absent untrue = absurd (step (ap is_some e ∙ refl) some absent)
   where
     step : is_some o ≡ false → is_some o ≡ not b → b ≡ false → ⊥
@@ -12,10 +13,20 @@ is_false o (Some true) b e some absent untrue = absurd (untrue refl)
 is_false o (Some false) b e some absent untrue = refl
 
 pub value-requires : goal.value-requires
-value-requires c = omega (arith, assumed_within c.args.checker.now.variables c.args.assumptions.now c.args.assumption c.requires.assumptions c.requires.one, c.requires.underway.room)
+value-requires c = omega (
+  arith,
+  assumed_within c.args.checker.now.variables c.args.assumptions.now
+      c.args.assumption c.requires.assumptions c.requires.one,
+  c.requires.underway.room,
+)
 
 pub decide_literal-requires-clause-within : goal.decide_literal-requires-clause-within
-decide_literal-requires-clause-within c = omega (arith, assumed_within c.args.checker.now.variables c.args.assumptions.now c.args.assumption c.requires.assumptions c.requires.one, c.requires.underway.room)
+decide_literal-requires-clause-within c = omega (
+  arith,
+  assumed_within c.args.checker.now.variables c.args.assumptions.now c.args.assumption
+      c.requires.assumptions c.requires.one,
+  c.requires.underway.room,
+)
 
 pub returns-then-is_none-clause-less : goal.returns-then-is_none-clause-less
 returns-then-is_none-clause-less c = c.decide_literal.ensures.less c.args.checker.now
@@ -23,20 +34,34 @@ returns-then-is_none-clause-less c = c.decide_literal.ensures.less c.args.checke
 pub returns-then-is_none-clause-underway : goal.returns-then-is_none-clause-underway
 returns-then-is_none-clause-underway c =
     c.decide_literal.ensures.underway c.args.assumptions.now c.args.checker.now
-    (record { within = assumed_within c.args.checker.now.variables c.args.assumptions.now c.args.assumption c.requires.assumptions c.requires.one; given = inl c.requires.one })
+    (record {
+      within = assumed_within c.args.checker.now.variables c.args.assumptions.now c.args.assumption
+          c.requires.assumptions c.requires.one;
+      given = inl c.requires.one;
+    })
     c.requires.underway
 
 pub core_of-requires-clause-within : goal.core_of-requires-clause-within
-core_of-requires-clause-within c = omega (arith, assumed_within c.args.checker.now.variables c.args.assumptions.now c.args.assumption c.requires.assumptions c.requires.one, c.requires.underway.room)
+core_of-requires-clause-within c = omega (
+  arith,
+  assumed_within c.args.checker.now.variables
+      c.args.assumptions.now c.args.assumption c.requires.assumptions c.requires.one,
+  c.requires.underway.room,
+)
 
 pub core_of-requires-clause-reason : goal.core_of-requires-clause-reason
 core_of-requires-clause-reason c =
-    core_reason_some c.args.assumptions.now c.args.self.now.watch c.args.self.now.numbers c.args.checker.now c.keeps_facts.ensures c.requires.underway c.requires.assumptions c.args.assumption c.requires.one
-    (is_false c.value.result _ c.is_none.result c.value.ensures c.is_none.ensures c.if-is_none.false c.requires.untrue)
+    core_reason_some c.args.assumptions.now c.args.self.now.watch c.args.self.now.numbers c.args.checker.now
+    c.keeps_facts.ensures c.requires.underway c.requires.assumptions c.args.assumption c.requires.one
+    (is_false c.value.result _ c.is_none.result c.value.ensures c.is_none.ensures c.if-is_none.false
+    c.requires.untrue)
 
 pub returns-clause-answer : goal.returns-clause-answer
 returns-clause-answer c =
-    core_answer c.args.assumptions.now c.args.self.now.watch c.args.self.now.numbers c.args.checker.now c.keeps_facts.ensures c.requires.underway c.requires.assumptions c.args.assumption c.requires.one
-    (is_false c.value.result _ c.is_none.result c.value.ensures c.is_none.ensures c.if-is_none.false c.requires.untrue)
-    c.in_ok-core.core.lits c.in_ok-core.core.hints c.in_ok-core.core.back c.in_ok-core.ensures.clause c.in_ok-core.ensures.follows c.in_ok-core.ensures.core c.in_ok-core.ensures.back
+    core_answer c.args.assumptions.now c.args.self.now.watch c.args.self.now.numbers c.args.checker.now
+    c.keeps_facts.ensures c.requires.underway c.requires.assumptions c.args.assumption c.requires.one
+    (is_false c.value.result _ c.is_none.result c.value.ensures c.is_none.ensures c.if-is_none.false
+    c.requires.untrue)
+    c.in_ok-core.core.lits c.in_ok-core.core.hints c.in_ok-core.core.back c.in_ok-core.ensures.clause
+    c.in_ok-core.ensures.follows c.in_ok-core.ensures.core c.in_ok-core.ensures.back
     (c.is_spent.ensures.left c.if-is_spent.false)

@@ -4,8 +4,10 @@ use Rattle.ba_search.proofs.engine.Engine.decide_literal.Goals as goal
 
 pub returns-clause-underway : goal.returns-clause-underway
 returns-clause-underway c assumptions checker choice u =
-    underway_decide assumptions c.args.self.now.watch c.decide.new.self c.args.self.now.numbers checker c.args.lit c.keeps_facts.ensures c.decide.ensures choice u
+    underway_decide assumptions c.args.self.now.watch c.decide.new.self c.args.self.now.numbers checker
+    c.args.lit c.keeps_facts.ensures c.decide.ensures choice u
 
 pub returns-clause-less : goal.returns-clause-less
 returns-clause-less c checker =
-    decide_less checker c.args.self.now.watch c.decide.new.self c.args.self.now.since c.args.lit c.keeps_facts-2.ensures c.decide.ensures
+    decide_less checker c.args.self.now.watch c.decide.new.self c.args.self.now.since c.args.lit
+    c.keeps_facts-2.ensures c.decide.ensures

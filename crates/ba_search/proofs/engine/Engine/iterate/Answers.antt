@@ -9,7 +9,8 @@ use Rattle.ba_search.proofs.engine.Engine.iterate.Goals as goal
 pub decide-requires-clause-underway : goal.decide-requires-clause-underway
 decide-requires-clause-underway g c =
     subst
-    (λ (k : State). IsUnderway c.args.assumptions.now c.propagate.new.self.watch c.propagate.new.self.numbers k)
+    (λ (k : State). IsUnderway c.args.assumptions.now c.propagate.new.self.watch
+    c.propagate.new.self.numbers k)
     (sym c.checker.ensures)
     (c.propagate.ensures.underway c.args.assumptions.now c.args.checked.now.checker c.requires.underway)
 
@@ -17,20 +18,23 @@ pub returns-in_default-clause-puts : goal.returns-in_default-clause-puts
 returns-in_default-clause-puts g c =
     puts_stay (g.J.RunJudge.accepts c.args.checked.now.judge)
     (λ width age kept. g.K.Fn.post c.args.keep.now (width, (age, tt)) kept) c.args.checked.now.checker
-    c.args.self.now.numbers.learnt c.decide.new.self.numbers.learnt (g.S.StepSink.logs c.args.checked.now.sink)
+    c.args.self.now.numbers.learnt c.decide.new.self.numbers.learnt
+    (g.S.StepSink.logs c.args.checked.now.sink)
     (ap (λ (n : Numbering). n.learnt) (c.decide.ensures.numbers ∙ c.propagate.ensures.numbers))
 
 pub conclude-requires-clause-underway : goal.conclude-requires-clause-underway
 conclude-requires-clause-underway g c =
     subst
-    (λ (k : State). IsUnderway c.args.assumptions.now c.propagate.new.self.watch c.propagate.new.self.numbers k)
+    (λ (k : State). IsUnderway c.args.assumptions.now c.propagate.new.self.watch
+    c.propagate.new.self.numbers k)
     (sym c.checker-2.ensures)
     (c.propagate.ensures.underway c.args.assumptions.now c.args.checked.now.checker c.requires.underway)
 
 pub returns-in-Some-2-clause-underway : goal.returns-in-Some-2-clause-underway
 returns-in-Some-2-clause-underway g c =
     underway_moved c.args.assumptions.now c.propagate.new.self.watch c.conclude.new.self.watch
-    c.propagate.new.self.numbers c.conclude.new.self.numbers c.args.checked.now.checker c.conclude.ensures.watch
+    c.propagate.new.self.numbers c.conclude.new.self.numbers c.args.checked.now.checker
+    c.conclude.ensures.watch
     c.conclude.ensures.numbers
     (c.propagate.ensures.underway c.args.assumptions.now c.args.checked.now.checker c.requires.underway)
 
@@ -38,35 +42,47 @@ pub returns-in-Some-2-clause-puts : goal.returns-in-Some-2-clause-puts
 returns-in-Some-2-clause-puts g c =
     puts_stay (g.J.RunJudge.accepts c.args.checked.now.judge)
     (λ width age kept. g.K.Fn.post c.args.keep.now (width, (age, tt)) kept) c.args.checked.now.checker
-    c.args.self.now.numbers.learnt c.conclude.new.self.numbers.learnt (g.S.StepSink.logs c.args.checked.now.sink)
+    c.args.self.now.numbers.learnt c.conclude.new.self.numbers.learnt
+    (g.S.StepSink.logs c.args.checked.now.sink)
     (ap (λ (n : Numbering). n.learnt) (c.conclude.ensures.numbers ∙ c.propagate.ensures.numbers))
 
 pub learn-requires-clause-underway : goal.learn-requires-clause-underway
 learn-requires-clause-underway g c =
     underway_moved c.args.assumptions.now c.propagate.new.self.watch c.conclude.new.self.watch
-    c.propagate.new.self.numbers c.conclude.new.self.numbers c.args.checked.now.checker c.conclude.ensures.watch
+    c.propagate.new.self.numbers c.conclude.new.self.numbers c.args.checked.now.checker
+    c.conclude.ensures.watch
     c.conclude.ensures.numbers
     (c.propagate.ensures.underway c.args.assumptions.now c.args.checked.now.checker c.requires.underway)
 
 pub returns-in_err-decide-clause-leaves : goal.returns-in_err-decide-clause-leaves
-returns-in_err-decide-clause-leaves g c = leaves_none (g.J.RunJudge.accepts c.args.checked.now.judge) (λ width age kept. g.K.Fn.post c.args.keep.now (width, (age, tt)) kept) c.args.self.now.numbers.learnt c.args.checked.now.checker (g.S.StepSink.logs c.args.checked.now.sink)
+returns-in_err-decide-clause-leaves g c = leaves_none (g.J.RunJudge.accepts c.args.checked.now.judge)
+    (λ width age kept. g.K.Fn.post c.args.keep.now (width, (age, tt)) kept) c.args.self.now.numbers.learnt
+    c.args.checked.now.checker (g.S.StepSink.logs c.args.checked.now.sink)
 
 pub returns-in_default-clause-leaves : goal.returns-in_default-clause-leaves
-returns-in_default-clause-leaves g c = leaves_none (g.J.RunJudge.accepts c.args.checked.now.judge) (λ width age kept. g.K.Fn.post c.args.keep.now (width, (age, tt)) kept) c.args.self.now.numbers.learnt c.args.checked.now.checker (g.S.StepSink.logs c.args.checked.now.sink)
+returns-in_default-clause-leaves g c = leaves_none (g.J.RunJudge.accepts c.args.checked.now.judge)
+    (λ width age kept. g.K.Fn.post c.args.keep.now (width, (age, tt)) kept) c.args.self.now.numbers.learnt
+    c.args.checked.now.checker (g.S.StepSink.logs c.args.checked.now.sink)
 
 pub returns-in_err-answer-clause-leaves : goal.returns-in_err-answer-clause-leaves
-returns-in_err-answer-clause-leaves g c = leaves_none (g.J.RunJudge.accepts c.args.checked.now.judge) (λ width age kept. g.K.Fn.post c.args.keep.now (width, (age, tt)) kept) c.args.self.now.numbers.learnt c.args.checked.now.checker (g.S.StepSink.logs c.args.checked.now.sink)
+returns-in_err-answer-clause-leaves g c = leaves_none (g.J.RunJudge.accepts c.args.checked.now.judge)
+    (λ width age kept. g.K.Fn.post c.args.keep.now (width, (age, tt)) kept) c.args.self.now.numbers.learnt
+    c.args.checked.now.checker (g.S.StepSink.logs c.args.checked.now.sink)
 
 pub returns-in-Some-2-clause-leaves : goal.returns-in-Some-2-clause-leaves
-returns-in-Some-2-clause-leaves g c = leaves_none (g.J.RunJudge.accepts c.args.checked.now.judge) (λ width age kept. g.K.Fn.post c.args.keep.now (width, (age, tt)) kept) c.args.self.now.numbers.learnt c.args.checked.now.checker (g.S.StepSink.logs c.args.checked.now.sink)
+returns-in-Some-2-clause-leaves g c = leaves_none (g.J.RunJudge.accepts c.args.checked.now.judge)
+    (λ width age kept. g.K.Fn.post c.args.keep.now (width, (age, tt)) kept) c.args.self.now.numbers.learnt
+    c.args.checked.now.checker (g.S.StepSink.logs c.args.checked.now.sink)
 
 pub restart-requires-clause-underway : goal.restart-requires-clause-underway
-restart-requires-clause-underway g c = c.propagate.ensures.underway c.args.assumptions.now c.args.checked.now.checker c.requires.underway
+restart-requires-clause-underway g c = c.propagate.ensures.underway c.args.assumptions.now
+    c.args.checked.now.checker c.requires.underway
 
 pub returns-in_err-restart-clause-leaves : goal.returns-in_err-restart-clause-leaves
 returns-in_err-restart-clause-leaves g c =
     leaves_from (g.J.RunJudge.accepts c.args.checked.now.judge)
-    (λ width age kept. g.K.Fn.post c.args.keep.now (width, (age, tt)) kept) c.propagate.new.self.numbers.learnt
+    (λ width age kept. g.K.Fn.post c.args.keep.now (width, (age, tt)) kept)
+    c.propagate.new.self.numbers.learnt
     c.args.self.now.numbers.learnt c.args.checked.now.checker c.restart.new.checked.checker
     (g.S.StepSink.logs c.args.checked.now.sink) (g.S.StepSink.logs c.restart.new.checked.sink)
     (ap (λ (n : Numbering). n.learnt) c.propagate.ensures.numbers)
@@ -78,13 +94,15 @@ returns-then-is_due-clause-puts g c =
     (λ width age kept. g.K.Fn.post c.args.keep.now (width, (age, tt)) kept) c.args.checked.now.checker
     c.restart.new.checked.checker c.propagate.new.self.numbers.learnt c.args.self.now.numbers.learnt
     c.restart.new.self.numbers.learnt (g.S.StepSink.logs c.args.checked.now.sink)
-    (g.S.StepSink.logs c.restart.new.checked.sink) (ap (λ (n : Numbering). n.learnt) c.propagate.ensures.numbers)
+    (g.S.StepSink.logs c.restart.new.checked.sink)
+    (ap (λ (n : Numbering). n.learnt) c.propagate.ensures.numbers)
     c.in_ok-restart.ensures.puts
 
 pub returns-then-is_due-clause-leaves : goal.returns-then-is_due-clause-leaves
 returns-then-is_due-clause-leaves g c =
     leaves_from (g.J.RunJudge.accepts c.args.checked.now.judge)
-    (λ width age kept. g.K.Fn.post c.args.keep.now (width, (age, tt)) kept) c.propagate.new.self.numbers.learnt
+    (λ width age kept. g.K.Fn.post c.args.keep.now (width, (age, tt)) kept)
+    c.propagate.new.self.numbers.learnt
     c.args.self.now.numbers.learnt c.args.checked.now.checker c.restart.new.checked.checker
     (g.S.StepSink.logs c.args.checked.now.sink) (g.S.StepSink.logs c.restart.new.checked.sink)
     (ap (λ (n : Numbering). n.learnt) c.propagate.ensures.numbers)

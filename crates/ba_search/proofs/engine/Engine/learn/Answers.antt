@@ -14,10 +14,13 @@ use Rattle.ba_search.proofs.StepLaws.{leaves_none}
 use Rattle.ba_search.proofs.engine.Engine.learn.Goals as goal
 
 pub returns-in_err-learnt-clause-leaves : goal.returns-in_err-learnt-clause-leaves
-returns-in_err-learnt-clause-leaves g c = leaves_none (g.J.RunJudge.accepts c.args.checked.now.judge) nothing c.args.self.now.numbers.learnt c.args.checked.now.checker (g.S.StepSink.logs c.args.checked.now.sink)
+returns-in_err-learnt-clause-leaves g c = leaves_none (g.J.RunJudge.accepts c.args.checked.now.judge)
+    nothing c.args.self.now.numbers.learnt c.args.checked.now.checker
+    (g.S.StepSink.logs c.args.checked.now.sink)
 
 pub returns-in_err-step-clause-leaves : goal.returns-in_err-step-clause-leaves
-returns-in_err-step-clause-leaves g c = leaves_none (g.J.RunJudge.accepts c.args.checked.now.judge) nothing c.args.self.now.numbers.learnt c.args.checked.now.checker (g.S.StepSink.logs c.args.checked.now.sink)
+returns-in_err-step-clause-leaves g c = leaves_none (g.J.RunJudge.accepts c.args.checked.now.judge) nothing
+    c.args.self.now.numbers.learnt c.args.checked.now.checker (g.S.StepSink.logs c.args.checked.now.sink)
 
 pub put-requires-clause-formed : goal.put-requires-clause-formed
 put-requires-clause-formed g c =
@@ -25,7 +28,9 @@ put-requires-clause-formed g c =
     let k = c.args.checked.now.checker in
     let formed : Formed k = subst (λ (x : State). Formed x) c.checker.ensures c.keeps_facts-2.ensures in
     let l = c.in_ok-learnt.ensures in
-    let step = learnt_step (g.J.RunJudge.accepts c.args.checked.now.judge) c.args.assumptions.now s c.args.self.now.numbers k c.in_ok-learnt.learnt.lits c.in_ok-learnt.learnt.hints c.in_ok-learnt.learnt.back
+    let step = learnt_step (g.J.RunJudge.accepts c.args.checked.now.judge) c.args.assumptions.now s
+    c.args.self.now.numbers k c.in_ok-learnt.learnt.lits c.in_ok-learnt.learnt.hints
+    c.in_ok-learnt.learnt.back
     c.keeps_facts.ensures formed c.requires.underway c.requires.left l.clause l.follows l.new l.backed in
     step_formed (g.J.RunJudge.accepts c.args.checked.now.judge) k c.in_ok-learnt.learnt.lits
     c.in_ok-learnt.learnt.hints c.in_ok-step.step c.in_ok-step.ensures step
@@ -36,7 +41,9 @@ put-requires-clause-allowed g c = λ fresh awake.
     let k = c.args.checked.now.checker in
     let formed : Formed k = subst (λ (x : State). Formed x) c.checker.ensures c.keeps_facts-2.ensures in
     let l = c.in_ok-learnt.ensures in
-    let step = learnt_step (g.J.RunJudge.accepts c.args.checked.now.judge) c.args.assumptions.now s c.args.self.now.numbers k c.in_ok-learnt.learnt.lits c.in_ok-learnt.learnt.hints c.in_ok-learnt.learnt.back
+    let step = learnt_step (g.J.RunJudge.accepts c.args.checked.now.judge) c.args.assumptions.now s
+    c.args.self.now.numbers k c.in_ok-learnt.learnt.lits c.in_ok-learnt.learnt.hints
+    c.in_ok-learnt.learnt.back
     c.keeps_facts.ensures formed c.requires.underway c.requires.left l.clause l.follows l.new l.backed in
     step_allowed (g.J.RunJudge.accepts c.args.checked.now.judge) k c.in_ok-learnt.learnt.lits
     c.in_ok-learnt.learnt.hints c.in_ok-step.step c.in_ok-step.ensures step
@@ -47,11 +54,14 @@ returns-in_err-put-clause-leaves g c =
     let k = c.args.checked.now.checker in
     let formed : Formed k = subst (λ (x : State). Formed x) c.checker.ensures c.keeps_facts-2.ensures in
     let l = c.in_ok-learnt.ensures in
-    let step = learnt_step (g.J.RunJudge.accepts c.args.checked.now.judge) c.args.assumptions.now s c.args.self.now.numbers k c.in_ok-learnt.learnt.lits c.in_ok-learnt.learnt.hints c.in_ok-learnt.learnt.back
+    let step = learnt_step (g.J.RunJudge.accepts c.args.checked.now.judge) c.args.assumptions.now s
+    c.args.self.now.numbers k c.in_ok-learnt.learnt.lits c.in_ok-learnt.learnt.hints
+    c.in_ok-learnt.learnt.back
     c.keeps_facts.ensures formed c.requires.underway c.requires.left l.clause l.follows l.new l.backed in
     learnt_tried (g.J.RunJudge.accepts c.args.checked.now.judge) nothing k c.put.new.self.checker
     c.args.self.now.numbers.learnt (g.S.StepSink.logs c.args.checked.now.sink)
-    (g.S.StepSink.logs c.put.new.self.sink) c.in_ok-learnt.learnt.lits c.in_ok-learnt.learnt.hints c.in_ok-step.step
+    (g.S.StepSink.logs c.put.new.self.sink) c.in_ok-learnt.learnt.lits c.in_ok-learnt.learnt.hints
+    c.in_ok-step.step
     c.in_ok-step.ensures step
     (c.in_err-put.ensures.taken_or_asleep c.requires.fresh) c.in_err-put.ensures.refused
 
@@ -61,11 +71,14 @@ returns-in_err-backjump-clause-leaves g c =
     let k = c.args.checked.now.checker in
     let formed : Formed k = subst (λ (x : State). Formed x) c.checker.ensures c.keeps_facts-2.ensures in
     let l = c.in_ok-learnt.ensures in
-    let step = learnt_step (g.J.RunJudge.accepts c.args.checked.now.judge) c.args.assumptions.now s c.args.self.now.numbers k c.in_ok-learnt.learnt.lits c.in_ok-learnt.learnt.hints c.in_ok-learnt.learnt.back
+    let step = learnt_step (g.J.RunJudge.accepts c.args.checked.now.judge) c.args.assumptions.now s
+    c.args.self.now.numbers k c.in_ok-learnt.learnt.lits c.in_ok-learnt.learnt.hints
+    c.in_ok-learnt.learnt.back
     c.keeps_facts.ensures formed c.requires.underway c.requires.left l.clause l.follows l.new l.backed in
     learnt_left (g.J.RunJudge.accepts c.args.checked.now.judge) nothing k c.put.new.self.checker
     c.args.self.now.numbers.learnt (g.S.StepSink.logs c.args.checked.now.sink)
-    (g.S.StepSink.logs c.put.new.self.sink) c.in_ok-learnt.learnt.lits c.in_ok-learnt.learnt.hints c.in_ok-step.step
+    (g.S.StepSink.logs c.put.new.self.sink) c.in_ok-learnt.learnt.lits c.in_ok-learnt.learnt.hints
+    c.in_ok-step.step
     c.in_ok-step.ensures step c.in_ok-put.ensures.taken c.in_ok-put.ensures.told
 
 pub returns-clause-underway : goal.returns-clause-underway
@@ -85,11 +98,15 @@ returns-clause-puts g c =
     let k = c.args.checked.now.checker in
     let formed : Formed k = subst (λ (x : State). Formed x) c.checker.ensures c.keeps_facts-2.ensures in
     let l = c.in_ok-learnt.ensures in
-    let step = learnt_step (g.J.RunJudge.accepts c.args.checked.now.judge) c.args.assumptions.now s c.args.self.now.numbers k c.in_ok-learnt.learnt.lits c.in_ok-learnt.learnt.hints c.in_ok-learnt.learnt.back
+    let step = learnt_step (g.J.RunJudge.accepts c.args.checked.now.judge) c.args.assumptions.now s
+    c.args.self.now.numbers k c.in_ok-learnt.learnt.lits c.in_ok-learnt.learnt.hints
+    c.in_ok-learnt.learnt.back
     c.keeps_facts.ensures formed c.requires.underway c.requires.left l.clause l.follows l.new l.backed in
     learnt_puts (g.J.RunJudge.accepts c.args.checked.now.judge) nothing k c.put.new.self.checker
-    c.args.self.now.numbers.learnt c.backjump.new.self.numbers.learnt (g.S.StepSink.logs c.args.checked.now.sink)
-    (g.S.StepSink.logs c.put.new.self.sink) c.in_ok-learnt.learnt.lits c.in_ok-learnt.learnt.hints c.in_ok-step.step
+    c.args.self.now.numbers.learnt c.backjump.new.self.numbers.learnt
+    (g.S.StepSink.logs c.args.checked.now.sink)
+    (g.S.StepSink.logs c.put.new.self.sink) c.in_ok-learnt.learnt.lits c.in_ok-learnt.learnt.hints
+    c.in_ok-step.step
     c.in_ok-step.ensures step c.in_ok-put.ensures.taken
     (c.in_ok-backjump.ensures.learns.learnt
     ∙ (ap (λ (n : Numbering). n.learnt ++ c.last.result ∷ []) c.bump.ensures.numbers
@@ -103,16 +120,20 @@ returns-clause-leaves g c =
     let k = c.args.checked.now.checker in
     let formed : Formed k = subst (λ (x : State). Formed x) c.checker.ensures c.keeps_facts-2.ensures in
     let l = c.in_ok-learnt.ensures in
-    let step = learnt_step (g.J.RunJudge.accepts c.args.checked.now.judge) c.args.assumptions.now s c.args.self.now.numbers k c.in_ok-learnt.learnt.lits c.in_ok-learnt.learnt.hints c.in_ok-learnt.learnt.back
+    let step = learnt_step (g.J.RunJudge.accepts c.args.checked.now.judge) c.args.assumptions.now s
+    c.args.self.now.numbers k c.in_ok-learnt.learnt.lits c.in_ok-learnt.learnt.hints
+    c.in_ok-learnt.learnt.back
     c.keeps_facts.ensures formed c.requires.underway c.requires.left l.clause l.follows l.new l.backed in
     learnt_left (g.J.RunJudge.accepts c.args.checked.now.judge) nothing k c.put.new.self.checker
     c.args.self.now.numbers.learnt (g.S.StepSink.logs c.args.checked.now.sink)
-    (g.S.StepSink.logs c.put.new.self.sink) c.in_ok-learnt.learnt.lits c.in_ok-learnt.learnt.hints c.in_ok-step.step
+    (g.S.StepSink.logs c.put.new.self.sink) c.in_ok-learnt.learnt.lits c.in_ok-learnt.learnt.hints
+    c.in_ok-step.step
     c.in_ok-step.ensures step c.in_ok-put.ensures.taken c.in_ok-put.ensures.told
 
 pub returns-clause-less : goal.returns-clause-less
 returns-clause-less g c =
-    learnt_less c.args.checked.now.checker c.put.new.self.checker c.args.self.now.watch c.backjump.new.self.watch
+    learnt_less c.args.checked.now.checker c.put.new.self.checker c.args.self.now.watch
+    c.backjump.new.self.watch
     (after_backtrack c.in_ok-learnt.learnt.back c.bump.new.self.watch) c.bump.new.self.numbers
     c.backjump.new.self.numbers c.last.result
     c.args.self.now.since c.saturating_add-self.result c.in_ok-learnt.learnt.back c.in_ok-learnt.learnt.lits
@@ -129,6 +150,7 @@ backjump-requires-clause-fresh g c =
     c.requires.underway.numbered c.requires.underway.live
     (c.last.ensures ∙ (ap (λ (x : State). length x.clauses) c.checker-2.ensures
     ∙ (ap (λ (x : State). length x.clauses)
-    (step_taken k c.put.new.self.checker c.in_ok-learnt.learnt.lits c.in_ok-learnt.learnt.hints c.in_ok-step.step
+    (step_taken k c.put.new.self.checker c.in_ok-learnt.learnt.lits c.in_ok-learnt.learnt.hints
+    c.in_ok-step.step
     c.in_ok-step.ensures c.in_ok-put.ensures.taken)
     ∙ length_push k.clauses (kept Learnt c.in_ok-learnt.learnt.lits)))))

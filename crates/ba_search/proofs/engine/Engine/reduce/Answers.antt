@@ -10,13 +10,19 @@ use Rattle.ba_search.proofs.ForgetLaws.{may_delete, underway_deleted}
 use Rattle.ba_search.proofs.engine.Engine.reduce.Goals as goal
 
 pub returns-in_err-numbers-clause-leaves : goal.returns-in_err-numbers-clause-leaves
-returns-in_err-numbers-clause-leaves g c = leaves_none (g.J.RunJudge.accepts c.args.checked.now.judge) (λ width age kept. g.K.Fn.post c.args.keep.now (width, (age, tt)) kept) c.args.self.now.numbers.learnt c.args.checked.now.checker (g.S.StepSink.logs c.args.checked.now.sink)
+returns-in_err-numbers-clause-leaves g c = leaves_none (g.J.RunJudge.accepts c.args.checked.now.judge)
+    (λ width age kept. g.K.Fn.post c.args.keep.now (width, (age, tt)) kept) c.args.self.now.numbers.learnt
+    c.args.checked.now.checker (g.S.StepSink.logs c.args.checked.now.sink)
 
 pub returns-then-is_empty-clause-puts : goal.returns-then-is_empty-clause-puts
-returns-then-is_empty-clause-puts g c = puts_none (g.J.RunJudge.accepts c.args.checked.now.judge) (λ width age kept. g.K.Fn.post c.args.keep.now (width, (age, tt)) kept) c.args.checked.now.checker c.args.self.now.numbers.learnt (g.S.StepSink.logs c.args.checked.now.sink)
+returns-then-is_empty-clause-puts g c = puts_none (g.J.RunJudge.accepts c.args.checked.now.judge)
+    (λ width age kept. g.K.Fn.post c.args.keep.now (width, (age, tt)) kept) c.args.checked.now.checker
+    c.args.self.now.numbers.learnt (g.S.StepSink.logs c.args.checked.now.sink)
 
 pub returns-then-is_empty-clause-leaves : goal.returns-then-is_empty-clause-leaves
-returns-then-is_empty-clause-leaves g c = leaves_none (g.J.RunJudge.accepts c.args.checked.now.judge) (λ width age kept. g.K.Fn.post c.args.keep.now (width, (age, tt)) kept) c.args.self.now.numbers.learnt c.args.checked.now.checker (g.S.StepSink.logs c.args.checked.now.sink)
+returns-then-is_empty-clause-leaves g c = leaves_none (g.J.RunJudge.accepts c.args.checked.now.judge)
+    (λ width age kept. g.K.Fn.post c.args.keep.now (width, (age, tt)) kept) c.args.self.now.numbers.learnt
+    c.args.checked.now.checker (g.S.StepSink.logs c.args.checked.now.sink)
 
 pub put-requires-clause-formed : goal.put-requires-clause-formed
 put-requires-clause-formed g c =
@@ -26,11 +32,14 @@ put-requires-clause-formed g c =
     c.in_ok-numbers.numbers.items c.from_vec.result c.from_vec.ensures
     (delete_step (g.J.RunJudge.accepts c.args.checked.now.judge)
     (λ width age kept. g.K.Fn.post c.args.keep.now (width, (age, tt)) kept) c.args.assumptions.now
-    c.args.self.now.watch c.args.self.now.numbers k c.checker-checker.result.now c.args.self.now.numbers.learnt
+    c.args.self.now.watch c.args.self.now.numbers k c.checker-checker.result.now
+    c.args.self.now.numbers.learnt
     c.learnt.result.now c.in_ok-numbers.numbers.items
-    c.requires.underway c.requires.learnt c.checker-checker.ensures c.learnt.ensures c.in_ok-numbers.ensures.numbers
+    c.requires.underway c.requires.learnt c.checker-checker.ensures c.learnt.ensures
+    c.in_ok-numbers.ensures.numbers
     c.in_ok-numbers.ensures.ascends
-    (some_items c.in_ok-numbers.numbers.items (vec_len c.in_ok-numbers.numbers) c.is_empty.result c.is_empty.ensures
+    (some_items c.in_ok-numbers.numbers.items (vec_len c.in_ok-numbers.numbers) c.is_empty.result
+    c.is_empty.ensures
     c.if-is_empty.false (omega (arith, c.in_ok-numbers.numbers.ok.0)))
     c.in_ok-numbers.ensures.may_go c.in_ok-numbers.ensures.discarded)
 
@@ -42,11 +51,14 @@ put-requires-clause-allowed g c = λ fresh awake.
     c.in_ok-numbers.numbers.items c.from_vec.result c.from_vec.ensures
     (delete_step (g.J.RunJudge.accepts c.args.checked.now.judge)
     (λ width age kept. g.K.Fn.post c.args.keep.now (width, (age, tt)) kept) c.args.assumptions.now
-    c.args.self.now.watch c.args.self.now.numbers k c.checker-checker.result.now c.args.self.now.numbers.learnt
+    c.args.self.now.watch c.args.self.now.numbers k c.checker-checker.result.now
+    c.args.self.now.numbers.learnt
     c.learnt.result.now c.in_ok-numbers.numbers.items
-    c.requires.underway c.requires.learnt c.checker-checker.ensures c.learnt.ensures c.in_ok-numbers.ensures.numbers
+    c.requires.underway c.requires.learnt c.checker-checker.ensures c.learnt.ensures
+    c.in_ok-numbers.ensures.numbers
     c.in_ok-numbers.ensures.ascends
-    (some_items c.in_ok-numbers.numbers.items (vec_len c.in_ok-numbers.numbers) c.is_empty.result c.is_empty.ensures
+    (some_items c.in_ok-numbers.numbers.items (vec_len c.in_ok-numbers.numbers) c.is_empty.result
+    c.is_empty.ensures
     c.if-is_empty.false (omega (arith, c.in_ok-numbers.numbers.ok.0)))
     c.in_ok-numbers.ensures.may_go c.in_ok-numbers.ensures.discarded)
 
@@ -59,11 +71,14 @@ returns-in_err-put-clause-leaves g c =
     (g.S.StepSink.logs c.put.new.self.sink) c.in_ok-numbers.numbers.items c.from_vec.result c.from_vec.ensures
     (delete_step (g.J.RunJudge.accepts c.args.checked.now.judge)
     (λ width age kept. g.K.Fn.post c.args.keep.now (width, (age, tt)) kept) c.args.assumptions.now
-    c.args.self.now.watch c.args.self.now.numbers k c.checker-checker.result.now c.args.self.now.numbers.learnt
+    c.args.self.now.watch c.args.self.now.numbers k c.checker-checker.result.now
+    c.args.self.now.numbers.learnt
     c.learnt.result.now c.in_ok-numbers.numbers.items
-    c.requires.underway c.requires.learnt c.checker-checker.ensures c.learnt.ensures c.in_ok-numbers.ensures.numbers
+    c.requires.underway c.requires.learnt c.checker-checker.ensures c.learnt.ensures
+    c.in_ok-numbers.ensures.numbers
     c.in_ok-numbers.ensures.ascends
-    (some_items c.in_ok-numbers.numbers.items (vec_len c.in_ok-numbers.numbers) c.is_empty.result c.is_empty.ensures
+    (some_items c.in_ok-numbers.numbers.items (vec_len c.in_ok-numbers.numbers) c.is_empty.result
+    c.is_empty.ensures
     c.if-is_empty.false (omega (arith, c.in_ok-numbers.numbers.ok.0)))
     c.in_ok-numbers.ensures.may_go c.in_ok-numbers.ensures.discarded)
     (c.in_err-put.ensures.taken_or_asleep c.requires.fresh) c.in_err-put.ensures.refused
@@ -76,17 +91,21 @@ delete-requires g c =
     subst (λ (x : State). list_all (may_go x) c.in_ok-numbers.numbers.items ≡ true) c.checker-checker.ensures
     c.in_ok-numbers.ensures.may_go in
     subst (λ (ns : List ℕ). MayDelete c.args.self.now.watch ns) (sym c.as_slice.ensures.value)
-    (may_delete c.args.self.now.watch k c.args.self.now.numbers.taken c.in_ok-numbers.numbers.items u.numbered u.live go
+    (may_delete c.args.self.now.watch k c.args.self.now.numbers.taken c.in_ok-numbers.numbers.items
+    u.numbered u.live go
     c.in_ok-numbers.ensures.no_reasons)
 
 pub returns-clause-underway : goal.returns-clause-underway
 returns-clause-underway g c =
     let d = c.put.new.self.checker in
-    underway_deleted c.args.assumptions.now c.args.self.now.watch c.delete.new.self.watch c.args.self.now.numbers
+    underway_deleted c.args.assumptions.now c.args.self.now.watch c.delete.new.self.watch
+    c.args.self.now.numbers
     c.delete.new.self.numbers c.args.checked.now.checker d c.in_ok-numbers.numbers.items
-    (delete_taken c.args.checked.now.checker d c.in_ok-numbers.numbers.items c.from_vec.result c.from_vec.ensures
+    (delete_taken c.args.checked.now.checker d c.in_ok-numbers.numbers.items c.from_vec.result
+    c.from_vec.ensures
     c.in_ok-put.ensures.taken)
-    (subst (λ (ns : List ℕ). Deletes c.args.self.now.watch c.delete.new.self.watch ns) c.as_slice.ensures.value
+    (subst (λ (ns : List ℕ). Deletes c.args.self.now.watch c.delete.new.self.watch ns)
+    c.as_slice.ensures.value
     c.delete.ensures.deletes)
     (subst (λ (ns : List ℕ). Forgets ns c.args.self.now.numbers.taken c.delete.new.self.numbers.taken)
     c.as_slice.ensures.value c.delete.ensures.forgets)
@@ -97,15 +116,19 @@ returns-clause-puts g c =
     let k = c.args.checked.now.checker in
     delete_puts (g.J.RunJudge.accepts c.args.checked.now.judge)
     (λ width age kept. g.K.Fn.post c.args.keep.now (width, (age, tt)) kept) k c.put.new.self.checker
-    c.args.self.now.numbers.learnt c.delete.new.self.numbers.learnt (g.S.StepSink.logs c.args.checked.now.sink)
+    c.args.self.now.numbers.learnt c.delete.new.self.numbers.learnt
+    (g.S.StepSink.logs c.args.checked.now.sink)
     (g.S.StepSink.logs c.put.new.self.sink) c.in_ok-numbers.numbers.items c.from_vec.result c.from_vec.ensures
     (delete_step (g.J.RunJudge.accepts c.args.checked.now.judge)
     (λ width age kept. g.K.Fn.post c.args.keep.now (width, (age, tt)) kept) c.args.assumptions.now
-    c.args.self.now.watch c.args.self.now.numbers k c.checker-checker.result.now c.args.self.now.numbers.learnt
+    c.args.self.now.watch c.args.self.now.numbers k c.checker-checker.result.now
+    c.args.self.now.numbers.learnt
     c.learnt.result.now c.in_ok-numbers.numbers.items
-    c.requires.underway c.requires.learnt c.checker-checker.ensures c.learnt.ensures c.in_ok-numbers.ensures.numbers
+    c.requires.underway c.requires.learnt c.checker-checker.ensures c.learnt.ensures
+    c.in_ok-numbers.ensures.numbers
     c.in_ok-numbers.ensures.ascends
-    (some_items c.in_ok-numbers.numbers.items (vec_len c.in_ok-numbers.numbers) c.is_empty.result c.is_empty.ensures
+    (some_items c.in_ok-numbers.numbers.items (vec_len c.in_ok-numbers.numbers) c.is_empty.result
+    c.is_empty.ensures
     c.if-is_empty.false (omega (arith, c.in_ok-numbers.numbers.ok.0)))
     c.in_ok-numbers.ensures.may_go c.in_ok-numbers.ensures.discarded)
     c.in_ok-put.ensures.taken c.delete.ensures.learnt c.in_ok-put.ensures.told
@@ -119,11 +142,14 @@ returns-clause-leaves g c =
     (g.S.StepSink.logs c.put.new.self.sink) c.in_ok-numbers.numbers.items c.from_vec.result c.from_vec.ensures
     (delete_step (g.J.RunJudge.accepts c.args.checked.now.judge)
     (λ width age kept. g.K.Fn.post c.args.keep.now (width, (age, tt)) kept) c.args.assumptions.now
-    c.args.self.now.watch c.args.self.now.numbers k c.checker-checker.result.now c.args.self.now.numbers.learnt
+    c.args.self.now.watch c.args.self.now.numbers k c.checker-checker.result.now
+    c.args.self.now.numbers.learnt
     c.learnt.result.now c.in_ok-numbers.numbers.items
-    c.requires.underway c.requires.learnt c.checker-checker.ensures c.learnt.ensures c.in_ok-numbers.ensures.numbers
+    c.requires.underway c.requires.learnt c.checker-checker.ensures c.learnt.ensures
+    c.in_ok-numbers.ensures.numbers
     c.in_ok-numbers.ensures.ascends
-    (some_items c.in_ok-numbers.numbers.items (vec_len c.in_ok-numbers.numbers) c.is_empty.result c.is_empty.ensures
+    (some_items c.in_ok-numbers.numbers.items (vec_len c.in_ok-numbers.numbers) c.is_empty.result
+    c.is_empty.ensures
     c.if-is_empty.false (omega (arith, c.in_ok-numbers.numbers.ok.0)))
     c.in_ok-numbers.ensures.may_go c.in_ok-numbers.ensures.discarded)
     c.in_ok-put.ensures.taken c.in_ok-put.ensures.told

@@ -9,16 +9,27 @@ pub iterations-init : goal.iterations-init
 iterations-init g c =
     let s = c.args.self.now.watch in
     let k = c.args.checked.now.checker in
-    let few : length k.clauses < 2 ^ 62 = omega (arith, c.last.ensures, ap (λ (x : State). length x.clauses) c.checker.ensures, c.if-last.false) in
+    let few : length k.clauses < 2 ^ 62 = omega (
+      arith,
+      c.last.ensures,
+      ap (λ (x : State). length x.clauses)
+          c.checker.ensures,
+      c.if-last.false,
+    ) in
     record {
-      underway = underway_moved c.args.assumptions.now c.backtrack.new.self.watch c.backtrack.new.self.watch c.args.self.now.numbers c.backtrack.new.self.numbers k refl (c.backtrack.ensures.numbers ∙ c.grow.ensures.numbers)
+      underway = underway_moved c.args.assumptions.now c.backtrack.new.self.watch c.backtrack.new.self.watch
+          c.args.self.now.numbers c.backtrack.new.self.numbers k refl (c.backtrack.ensures.numbers
+          ∙ c.grow.ensures.numbers)
           (underway_begin c.args.assumptions.now s c.grow.new.self.watch c.backtrack.new.self.watch
           c.args.self.now.numbers k
-          (c.in_ok-grow.ensures.ok ∙ ap (λ (v : ℕ). record s { variables = max s.variables v }) (c.variables.ensures.variables ∙ ap (λ (x : State). x.variables) c.checker-2.ensures))
+          (c.in_ok-grow.ensures.ok ∙ ap (λ (v : ℕ). record s { variables = max s.variables v })
+          (c.variables.ensures.variables ∙ ap (λ (x : State). x.variables) c.checker-2.ensures))
           c.backtrack.ensures.watch c.keeps_facts.ensures c.requires.numbered c.requires.live
           few c.requires.begun c.requires.awake);
       variables = refl;
-      puts = puts_none (g.J.RunJudge.accepts c.args.checked.now.judge) (λ width age kept. g.K.Fn.post c.args.keep.now (width, (age, tt)) kept) k c.backtrack.new.self.numbers.learnt (g.S.StepSink.logs c.args.checked.now.sink);
+      puts = puts_none (g.J.RunJudge.accepts c.args.checked.now.judge)
+          (λ width age kept. g.K.Fn.post c.args.keep.now (width, (age, tt)) kept) k
+          c.backtrack.new.self.numbers.learnt (g.S.StepSink.logs c.args.checked.now.sink);
       fresh = c.requires.fresh;
       propagated = omega (arith, c.grow.ensures.propagated, c.backtrack.ensures.propagated);
       judge = refl;
@@ -35,13 +46,15 @@ returns-in-Some-clause-puts g c =
     c.iterate.new.self.numbers.learnt (g.S.StepSink.logs c.args.checked.now.sink)
     (g.S.StepSink.logs c.iterate.new.checked.sink)
     (ap (λ (n : Numbering). n.learnt) (c.backtrack.ensures.numbers ∙ c.grow.ensures.numbers))
-    (puts_then (g.J.RunJudge.accepts c.args.checked.now.judge) (g.J.RunJudge.accepts c.iterations.checked.judge)
+    (puts_then (g.J.RunJudge.accepts c.args.checked.now.judge)
+    (g.J.RunJudge.accepts c.iterations.checked.judge)
     (λ width age kept. g.K.Fn.post c.args.keep.now (width, (age, tt)) kept) c.args.checked.now.checker
     c.iterations.checked.checker c.iterate.new.checked.checker
     c.backtrack.new.self.numbers.learnt c.iterations.self.numbers.learnt c.iterate.new.self.numbers.learnt
     (g.S.StepSink.logs c.args.checked.now.sink) (g.S.StepSink.logs c.iterations.checked.sink)
     (g.S.StepSink.logs c.iterate.new.checked.sink)
-    (ap g.J.RunJudge.accepts c.iterations.invariant.judge) c.iterations.invariant.puts c.in_ok-answer.ensures.puts)
+    (ap g.J.RunJudge.accepts c.iterations.invariant.judge) c.iterations.invariant.puts
+    c.in_ok-answer.ensures.puts)
 
 pub iterations-preserved : goal.iterations-preserved
 iterations-preserved g c =
@@ -50,8 +63,12 @@ iterations-preserved g c =
     record {
       underway = t.underway;
       variables = t.variables ∙ i.variables;
-      puts = puts_then (g.J.RunJudge.accepts c.args.checked.now.judge) (g.J.RunJudge.accepts c.iterations.checked.judge) (λ width age kept. g.K.Fn.post c.args.keep.now (width, (age, tt)) kept) c.args.checked.now.checker c.iterations.checked.checker c.iterate.new.checked.checker
-          c.backtrack.new.self.numbers.learnt c.iterations.self.numbers.learnt c.iterate.new.self.numbers.learnt
+      puts = puts_then (g.J.RunJudge.accepts c.args.checked.now.judge)
+          (g.J.RunJudge.accepts c.iterations.checked.judge)
+          (λ width age kept. g.K.Fn.post c.args.keep.now (width, (age, tt)) kept) c.args.checked.now.checker
+          c.iterations.checked.checker c.iterate.new.checked.checker
+          c.backtrack.new.self.numbers.learnt c.iterations.self.numbers.learnt
+          c.iterate.new.self.numbers.learnt
           (g.S.StepSink.logs c.args.checked.now.sink) (g.S.StepSink.logs c.iterations.checked.sink)
           (g.S.StepSink.logs c.iterate.new.checked.sink)
           (ap g.J.RunJudge.accepts i.judge) i.puts t.puts;
@@ -64,37 +81,49 @@ iterations-preserved g c =
     }
 
 pub returns-then-last-clause-leaves : goal.returns-then-last-clause-leaves
-returns-then-last-clause-leaves g c = leaves_none (g.J.RunJudge.accepts c.args.checked.now.judge) (λ width age kept. g.K.Fn.post c.args.keep.now (width, (age, tt)) kept) c.args.self.now.numbers.learnt c.args.checked.now.checker (g.S.StepSink.logs c.args.checked.now.sink)
+returns-then-last-clause-leaves g c = leaves_none (g.J.RunJudge.accepts c.args.checked.now.judge)
+    (λ width age kept. g.K.Fn.post c.args.keep.now (width, (age, tt)) kept) c.args.self.now.numbers.learnt
+    c.args.checked.now.checker (g.S.StepSink.logs c.args.checked.now.sink)
 
 pub returns-in_err-grow-clause-leaves : goal.returns-in_err-grow-clause-leaves
-returns-in_err-grow-clause-leaves g c = leaves_none (g.J.RunJudge.accepts c.args.checked.now.judge) (λ width age kept. g.K.Fn.post c.args.keep.now (width, (age, tt)) kept) c.args.self.now.numbers.learnt c.args.checked.now.checker (g.S.StepSink.logs c.args.checked.now.sink)
+returns-in_err-grow-clause-leaves g c = leaves_none (g.J.RunJudge.accepts c.args.checked.now.judge)
+    (λ width age kept. g.K.Fn.post c.args.keep.now (width, (age, tt)) kept) c.args.self.now.numbers.learnt
+    c.args.checked.now.checker (g.S.StepSink.logs c.args.checked.now.sink)
 
 pub returns-in_err-answer-clause-leaves : goal.returns-in_err-answer-clause-leaves
 returns-in_err-answer-clause-leaves g c =
     leaves_from (g.J.RunJudge.accepts c.args.checked.now.judge)
-    (λ width age kept. g.K.Fn.post c.args.keep.now (width, (age, tt)) kept) c.backtrack.new.self.numbers.learnt
+    (λ width age kept. g.K.Fn.post c.args.keep.now (width, (age, tt)) kept)
+    c.backtrack.new.self.numbers.learnt
     c.args.self.now.numbers.learnt c.args.checked.now.checker c.iterate.new.checked.checker
     (g.S.StepSink.logs c.args.checked.now.sink) (g.S.StepSink.logs c.iterate.new.checked.sink)
     (ap (λ (n : Numbering). n.learnt) (c.backtrack.ensures.numbers ∙ c.grow.ensures.numbers))
-    (leaves_then (g.J.RunJudge.accepts c.args.checked.now.judge) (g.J.RunJudge.accepts c.iterations.checked.judge)
-    (λ width age kept. g.K.Fn.post c.args.keep.now (width, (age, tt)) kept) c.backtrack.new.self.numbers.learnt
+    (leaves_then (g.J.RunJudge.accepts c.args.checked.now.judge)
+    (g.J.RunJudge.accepts c.iterations.checked.judge)
+    (λ width age kept. g.K.Fn.post c.args.keep.now (width, (age, tt)) kept)
+    c.backtrack.new.self.numbers.learnt
     c.iterations.self.numbers.learnt
     c.args.checked.now.checker c.iterations.checked.checker c.iterate.new.checked.checker
     (g.S.StepSink.logs c.args.checked.now.sink) (g.S.StepSink.logs c.iterations.checked.sink)
     (g.S.StepSink.logs c.iterate.new.checked.sink)
-    (ap g.J.RunJudge.accepts c.iterations.invariant.judge) c.iterations.invariant.puts c.iterate.ensures.leaves)
+    (ap g.J.RunJudge.accepts c.iterations.invariant.judge) c.iterations.invariant.puts
+    c.iterate.ensures.leaves)
 
 pub returns-in-Some-clause-leaves : goal.returns-in-Some-clause-leaves
 returns-in-Some-clause-leaves g c =
     leaves_from (g.J.RunJudge.accepts c.args.checked.now.judge)
-    (λ width age kept. g.K.Fn.post c.args.keep.now (width, (age, tt)) kept) c.backtrack.new.self.numbers.learnt
+    (λ width age kept. g.K.Fn.post c.args.keep.now (width, (age, tt)) kept)
+    c.backtrack.new.self.numbers.learnt
     c.args.self.now.numbers.learnt c.args.checked.now.checker c.iterate.new.checked.checker
     (g.S.StepSink.logs c.args.checked.now.sink) (g.S.StepSink.logs c.iterate.new.checked.sink)
     (ap (λ (n : Numbering). n.learnt) (c.backtrack.ensures.numbers ∙ c.grow.ensures.numbers))
-    (leaves_then (g.J.RunJudge.accepts c.args.checked.now.judge) (g.J.RunJudge.accepts c.iterations.checked.judge)
-    (λ width age kept. g.K.Fn.post c.args.keep.now (width, (age, tt)) kept) c.backtrack.new.self.numbers.learnt
+    (leaves_then (g.J.RunJudge.accepts c.args.checked.now.judge)
+    (g.J.RunJudge.accepts c.iterations.checked.judge)
+    (λ width age kept. g.K.Fn.post c.args.keep.now (width, (age, tt)) kept)
+    c.backtrack.new.self.numbers.learnt
     c.iterations.self.numbers.learnt
     c.args.checked.now.checker c.iterations.checked.checker c.iterate.new.checked.checker
     (g.S.StepSink.logs c.args.checked.now.sink) (g.S.StepSink.logs c.iterations.checked.sink)
     (g.S.StepSink.logs c.iterate.new.checked.sink)
-    (ap g.J.RunJudge.accepts c.iterations.invariant.judge) c.iterations.invariant.puts c.iterate.ensures.leaves)
+    (ap g.J.RunJudge.accepts c.iterations.invariant.judge) c.iterations.invariant.puts
+    c.iterate.ensures.leaves)

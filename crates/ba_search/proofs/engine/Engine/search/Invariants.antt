@@ -6,7 +6,10 @@ abbrev pub invariant-iterations : goal.invariant-iterations
 invariant-iterations g l = record {
   underway : IsUnderway l.assumptions l.self.watch l.self.numbers l.checked.checker;
   variables : l.checked.checker.variables ≡ l.initial.checked.checker.variables;
-  puts : Puts (g.J.RunJudge.accepts l.initial.checked.judge) (λ width age kept. g.K.Fn.post l.keep (width, (age, tt)) kept) l.initial.checked.checker l.checked.checker l.initial.self.numbers.learnt l.self.numbers.learnt (g.S.StepSink.logs l.initial.checked.sink) (g.S.StepSink.logs l.checked.sink);
+  puts : Puts (g.J.RunJudge.accepts l.initial.checked.judge)
+      (λ width age kept. g.K.Fn.post l.keep (width, (age, tt)) kept) l.initial.checked.checker
+      l.checked.checker l.initial.self.numbers.learnt l.self.numbers.learnt
+      (g.S.StepSink.logs l.initial.checked.sink) (g.S.StepSink.logs l.checked.sink);
   fresh : l.checked.refusal ≡ None;
   propagated : l.initial.self.propagated ≤ l.self.propagated;
   judge : l.checked.judge ≡ l.initial.checked.judge;

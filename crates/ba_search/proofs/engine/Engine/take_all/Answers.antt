@@ -10,7 +10,8 @@ loop-place-preserved c =
     record {
       level = t.level;
       taken = t.taken;
-      there = there_next c.take_next.new.self.watch.clauses c.loop-place.place (c.loop-place.place + 1) (clause_at c.args.checker.now.clauses) refl
+      there = there_next c.take_next.new.self.watch.clauses c.loop-place.place (c.loop-place.place + 1)
+          (clause_at c.args.checker.now.clauses) refl
           (λ k within given is. t.stays k (i.there k within given is))
           (λ given is. t.there given is);
       variables = t.variables ∙ i.variables;
@@ -21,5 +22,6 @@ loop-place-preserved c =
 
 pub returns-clause-live : goal.returns-clause-live
 returns-clause-live c =
-    taken_live c.loop-place.self.watch.clauses c.loop-place.self.numbers.taken c.args.checker.now.clauses c.loop-place.place c.loop-place.invariant.taken c.loop-place.invariant.there
+    taken_live c.loop-place.self.watch.clauses c.loop-place.self.numbers.taken c.args.checker.now.clauses
+    c.loop-place.place c.loop-place.invariant.taken c.loop-place.invariant.there
     (omega (arith, c.loop-place-test.false, c.last-place-end.ensures))

@@ -13,12 +13,18 @@ loop-place-preserved g c =
     record {
       level = ap decided adds.adds.reasons ∙ i.level;
       variables = adds.adds.variables ∙ i.variables;
-      taken = taken_more c.loop-place.engine.watch c.add.new.self.watch c.loop-place.engine.numbers c.add.new.self.numbers (c.loop-place.place + 1) c.clause.result.now (clause_at (map (kept Given) c.args.formula.now.clauses)) adds
+      taken = taken_more c.loop-place.engine.watch c.add.new.self.watch c.loop-place.engine.numbers
+          c.add.new.self.numbers (c.loop-place.place + 1) c.clause.result.now
+          (clause_at (map (kept Given) c.args.formula.now.clauses)) adds
           (i.unmarked (c.loop-place.place + 1) (omega arith)) i.taken
-          (given_next c.args.formula.now.clauses c.loop-place.place c.loop-place.place c.clause.result.now refl
+          (given_next c.args.formula.now.clauses c.loop-place.place c.loop-place.place c.clause.result.now
+          refl
           (omega (arith, c.loop-place-test.true, c.len-place-end.ensures)) c.clause.ensures.clause);
-      there = there_more c.loop-place.engine.watch c.add.new.self.watch c.loop-place.engine.numbers c.add.new.self.numbers c.loop-place.place (c.loop-place.place + 1) c.clause.result.now (clause_at (map (kept Given) c.args.formula.now.clauses)) adds refl i.there;
-      unmarked = λ k past. marks_later c.loop-place.engine.numbers.taken c.add.new.self.numbers.taken c.loop-place.place k adds.marks i.unmarked past;
+      there = there_more c.loop-place.engine.watch c.add.new.self.watch c.loop-place.engine.numbers
+          c.add.new.self.numbers c.loop-place.place (c.loop-place.place + 1) c.clause.result.now
+          (clause_at (map (kept Given) c.args.formula.now.clauses)) adds refl i.there;
+      unmarked = λ k past. marks_later c.loop-place.engine.numbers.taken c.add.new.self.numbers.taken
+          c.loop-place.place k adds.marks i.unmarked past;
       learnt = adds.learnt ∙ i.learnt;
       propagated = c.add.ensures.propagated ∙ i.propagated;
     }

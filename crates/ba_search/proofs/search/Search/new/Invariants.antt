@@ -9,7 +9,8 @@ abbrev pub invariant-loop-place : goal.invariant-loop-place
 invariant-loop-place g l = record {
   level : decided l.engine.watch.reasons ≡ 0;
   variables : l.engine.watch.variables ≡ l.formula.variables;
-  taken : AreTaken l.engine.watch.clauses l.engine.numbers.taken (clause_at (map (kept Given) l.formula.clauses));
+  taken : AreTaken l.engine.watch.clauses l.engine.numbers.taken
+      (clause_at (map (kept Given) l.formula.clauses));
   there : AreThere l.engine.watch.clauses l.place (clause_at (map (kept Given) l.formula.clauses));
   unmarked : (k : ℕ) → l.place < k → get_or l.engine.numbers.taken k false ≡ false;
   learnt : l.engine.numbers.learnt ≡ [];

@@ -8,4 +8,5 @@ lit-requires c = omega (arith, pending_long_at _ _ _ _ _ c.args.self.now.threade
 
 pub returns-else-index-self-clause-watched : goal.returns-else-index-self-clause-watched
 returns-else-index-self-clause-watched c =
-    pending_other _ _ _ _ _ c.args.self.now.threaded c.requires (λ e. c.if-index-self.false (c.index.ensures.index ∙ (ap index_of c.lit.ensures ∙ e)))
+    pending_other _ _ _ _ _ c.args.self.now.threaded c.requires
+    (λ e. c.if-index-self.false (c.index.ensures.index ∙ (ap index_of c.lit.ensures ∙ e)))

@@ -6,7 +6,12 @@ pub invariant_of-self-2 : goal.invariant_of-self-2
 invariant_of-self-2 c =
     let i = c.self.inside in (
       omega (arith, c.if-variables.false),
-      grown i.variables c.args.variables i.lits.items c.fill_up.new.items.items i.reasons.items c.fill_up-2.new.items.items i.levels.items c.fill_up-3.new.items.items i.assigned i.level i.values.items c.resize.new.self.items i.places.items c.fill_up-4.new.items.items true i.values.len c.none.result c.self.invariant.1
-          (omega arith) refl (omega (arith, i.values.ok.0)) c.none.ensures c.fill_up.ensures.front c.fill_up-2.ensures.front c.fill_up-3.ensures.front c.fill_up-4.ensures.front
-          c.in_ok-fill_up.ensures.room c.in_ok-fill_up-2.ensures.room c.in_ok-fill_up-3.ensures.room c.in_ok-fill_up-4.ensures.room c.in_ok-resize.ensures.items,
+      grown i.variables c.args.variables i.lits.items c.fill_up.new.items.items i.reasons.items
+          c.fill_up-2.new.items.items i.levels.items c.fill_up-3.new.items.items i.assigned i.level
+          i.values.items c.resize.new.self.items i.places.items c.fill_up-4.new.items.items true
+          i.values.len c.none.result c.self.invariant.1
+          (omega arith) refl (omega (arith, i.values.ok.0)) c.none.ensures c.fill_up.ensures.front
+          c.fill_up-2.ensures.front c.fill_up-3.ensures.front c.fill_up-4.ensures.front
+          c.in_ok-fill_up.ensures.room c.in_ok-fill_up-2.ensures.room c.in_ok-fill_up-3.ensures.room
+          c.in_ok-fill_up-4.ensures.room c.in_ok-resize.ensures.items,
     )
