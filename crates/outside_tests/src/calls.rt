@@ -1,6 +1,6 @@
 //! Calls of the program over worlds in memory.
 
-ghost use Rattle.std.specs.Prelude.{◌<◌, ◌≡◌, IfOk};
+ghost use Rattle.std.specs.Prelude.{◌<◌, ◌≤◌, ◌≡◌, ◌↔◌, IfOk, IsTrue};
 ghost use Rattle.std.specs.String.{string_bytes};
 
 use ba_steps::{NoSink, StepSink};
@@ -9,6 +9,8 @@ use ba_tool::status::Status;
 use ba_tool::tool::tool;
 use ba_world::{MemoryWorld, World};
 use std::alloc::{AllocError, Global};
+use std::process::Abort;
+use std::test::Fail;
 
 /// A file of this name with these bytes.
 fn file(alloc: Global, name: &str, bytes: &[u8]) -> Result<(String, Vec<u8>), AllocError>
@@ -80,6 +82,29 @@ pub fn end<W: World, D: StepSink + Drop>(
     tool(alloc, words, world, steps, Rules::new(luby, steady, keep))
 }
 
+/// Clauses of at most two literals alone are kept.
+fn keep_narrow(width: u64, _age: u64) -> bool
+    ensures { IsTrue result ↔ (width ≤ 2) }
+{
+    width <= 2
+}
+
+/// Calls the program by these words, and keeps narrow clauses alone.
+fn end_keeping_narrow<W: World, D: StepSink + Drop>(
+    alloc: Global,
+    words: &[&str],
+    world: &mut W,
+    steps: &mut D,
+) -> Status {
+    tool(
+        alloc,
+        words,
+        world,
+        steps,
+        Rules::new(luby, steady, keep_narrow),
+    )
+}
+
 /// Calls the program over a world, by a bound of 1.
 pub fn localise(alloc: Global, world: &mut MemoryWorld) -> Status {
     let words = ["localise", "p.c", "in.txt", "--bound", "1"];
@@ -98,4 +123,25 @@ pub fn call(
     let mut world = world_with(alloc, program, input, weights, &[], 4096)?;
     let ended = end(alloc, words, &mut world, &mut NoSink);
     Ok((ended, Vec::from_slice(alloc, world.printed())?))
+}
+
+/// The same, which must not change where the search keeps narrow clauses alone.
+pub fn call_by_both_rules(
+    rt: &impl Abort,
+    alloc: Global,
+    words: &[&str],
+    program: &str,
+    input: &str,
+    weights: &str,
+) -> Result<(Status, Vec<u8>), Fail> {
+    let (ended, printed) = call(alloc, words, program, input, weights)?;
+    let mut world = world_with(alloc, program, input, weights, &[], 4096)?;
+    let again = end_keeping_narrow(alloc, words, &mut world, &mut NoSink);
+    assert_eq!(rt; again, ended, "{words:?} of {program:?}");
+    assert_eq!(rt;
+        world.printed(),
+        printed.as_slice(),
+        "{words:?} of {program:?}"
+    );
+    Ok((ended, printed))
 }

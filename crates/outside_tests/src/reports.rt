@@ -1,6 +1,6 @@
 //! What is answered for programs, as definitions and papers have it.
 
-use crate::calls::{call, localise, world_of};
+use crate::calls::call_by_both_rules;
 use crate::programs::{
     BLANKS, BLANKS_REPORT, BRANCHES, BRANCHES_REPORT, COMMENTED, COMMENTED_REPORT, DIVISION,
     ENDLESS_LOOP, LARGEST, LARGEST_REPORT, LOCALISE, NO_REPAIR, NOT_FAILING, ONE_ASSERT,
@@ -151,8 +151,14 @@ const ROWS: [Row; 19] = [
 #[test]
 fn answers_straight_line_programs(rt: HostRuntime) -> Result<(), Fail> {
     for row in &ROWS {
-        let mut world = world_of(rt.alloc(), row.program, row.input, &[], 4096)?;
-        let ended = localise(rt.alloc(), &mut world);
+        let (ended, text) = call_by_both_rules(
+            &rt,
+            rt.alloc(),
+            LOCALISE,
+            row.program,
+            row.input,
+            "",
+        )?;
         assert_eq!(rt;
             ended,
             row.status,
@@ -160,7 +166,7 @@ fn answers_straight_line_programs(rt: HostRuntime) -> Result<(), Fail> {
             row.program, row.input
         );
         assert_eq!(rt;
-            world.printed(),
+            text.as_slice(),
             row.printed.as_bytes(),
             "of {:?}",
             row.program
@@ -209,7 +215,7 @@ fn runs_programs(rt: HostRuntime) -> Result<(), Fail> {
         ),
         (RUN, THREE_LOOPS, "1", Status::NotFailing, NOT_FAILING),
     ] {
-        let (ended, text) = call(rt.alloc(), words, program, input, "")?;
+        let (ended, text) = call_by_both_rules(&rt, rt.alloc(), words, program, input, "")?;
         assert_eq!(rt; ended, status, "{words:?} of {program:?} on {input:?}");
         assert_eq!(rt;
             text.as_slice(),
@@ -333,7 +339,7 @@ fn finds_the_least_sets_of_programs_with_loops_and_calls(rt: HostRuntime) -> Res
         ),
     ] {
         let words = ["localise", "p.c", "in.txt", "--weights=w.txt", bound];
-        let (ended, text) = call(rt.alloc(), &words, program, input, weights)?;
+        let (ended, text) = call_by_both_rules(&rt, rt.alloc(), &words, program, input, weights)?;
         assert_eq!(rt; ended, Status::Ok, "{program:?} by {weights:?}");
         assert_eq!(rt;
             text.as_slice(),

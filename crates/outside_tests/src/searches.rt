@@ -3,7 +3,7 @@
 ghost use Rattle.std.specs.Prelude.{◌≤◌};
 ghost use Rattle.ba_steps.specs.Sinks.{Rose};
 
-use crate::calls::{call, end, world_of};
+use crate::calls::{call_by_both_rules, end, world_of};
 use crate::programs::{
     BRANCHES, BRANCHES_REPORT, DIVISION, NO_REPAIR, ONE_ASSIGNMENT, ONE_REPORT, TWO_SIDE_BY_SIDE,
 };
@@ -129,7 +129,7 @@ const OPTIONS: [(&str, &str, &str, Status, &str); 9] = [
 fn searches_as_its_options_ask(rt: HostRuntime) -> Result<(), Fail> {
     for (option, program, input, status, printed) in OPTIONS {
         let words = ["localise", "p.c", "in.txt", "--bound=1", option];
-        let (ended, text) = call(rt.alloc(), &words, program, input, "")?;
+        let (ended, text) = call_by_both_rules(&rt, rt.alloc(), &words, program, input, "")?;
         assert_eq!(rt; ended, status, "{option} of {program:?}");
         assert_eq!(rt;
             text.as_slice(),
@@ -255,7 +255,7 @@ fn prints_nothing_where_a_certificate_or_a_sink_fails(rt: HostRuntime) -> Result
 fn finds_no_repair_in_a_narrower_type(rt: HostRuntime) -> Result<(), Fail> {
     let program = "int main(int a) {\n    short s;\n    s = a;\n    assert(s == a);\n}\n";
     let words = ["localise", "p.c", "in.txt", "--bound=1", "--cert=c"];
-    let (ended, text) = call(rt.alloc(), &words, program, "40000", "")?;
+    let (ended, text) = call_by_both_rules(&rt, rt.alloc(), &words, program, "40000", "")?;
     assert_eq!(rt; ended, Status::NoRepair);
     assert_eq!(rt; text.as_slice(), NO_REPAIR.as_bytes());
     Ok(())
