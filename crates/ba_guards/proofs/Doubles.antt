@@ -1,37 +1,22 @@
 -- Two writes of an array, one on each side of a branch, as one.
-use Rattle.std.proofs.Common.{◌≡◌, ℕ, zero, suc, ◌+◌, ◌<◌, ◌≤◌, ℤ, Bool, true, false, not, ◌&&◌, cond, Some, List, [], ◌∷◌, ◌++◌, length, get_or, take, drop, slice_get, refl, sym, ◌∙◌, ap, subst, arith, append_assoc, length-append}
+use Rattle.std.proofs.Common.{◌≡◌, ℕ, ◌+◌, ◌<◌, ◌≤◌, ℤ, Bool, true, false, not, ◌&&◌, cond, Some, List, [], ◌∷◌, ◌++◌, length, get_or, take, drop, slice_get, refl, sym, ◌∙◌, ap, arith, append_assoc, length-append}
 use Rattle.std.proofs.lemmas.Bool.{and_parts}
 use Rattle.std.proofs.lemmas.List.{drop_more, length-take-le, length_push, take-append-drop}
 use Rattle.std.proofs.lemmas.Option.{get_or_from_slice_get, slice_get_within}
-use Rattle.std.specs.List.{fold}
 use Rattle.std.specs.Prelude.{slice_set}
+use Rattle.ba_guards.proofs.Sharing.{words-at}
 use Rattle.ba_guards.proofs.Growing.{of_name, same-grown, word-later}
 use Rattle.ba_guards.specs.Making.{AreSides, Emits, EmitsArray, elements_in, holds_in, word_in}
 use Rattle.ba_guards.specs.declared.builder.Sides.{Sides}
 use Rattle.ba_numbers.specs.Numbers.{low_word}
 use Rattle.ba_wordlist.proofs.Lengths.{length-last, length-lengths, lengths-kept}
 use Rattle.ba_wordlist.proofs.Values.{elements-entry}
-use Rattle.ba_wordlist.specs.Facts.{are_words, fit_behind, fits_behind, is_name, lengths_of, more_lengths}
+use Rattle.ba_wordlist.specs.Facts.{are_words, is_name, lengths_of}
 use Rattle.ba_wordlist.specs.Meaning.{Assignment, is_nonzero}
 use Rattle.ba_wordlist.specs.declared.words.WordOp.{WordOp}
 use Rattle.ba_wordlist.specs.declared.words.WordOp.TheVariants.{Write}
 
 -- AN ENTRY THAT IS A WRITE
-
-fit-at : (ls : List ℕ) (ops : List WordOp) (w : ℕ) (op : WordOp) → fit_behind ls ops ≡ true
-    → slice_get ops w ≡ Some op → fits_behind (fold more_lengths ls (take w ops)) op ≡ true
-fit-at ls [] w op h found = absurd (cc)
-fit-at ls (first ∷ ops) zero op h found =
-    let same : first ≡ op = cc in
-    subst (λ o. fits_behind ls o ≡ true) same
-    (and_parts (fits_behind ls first) (fit_behind (more_lengths ls first) ops) h).0
-fit-at ls (first ∷ ops) (suc w) op h found = fit-at (more_lengths ls first) ops w op
-    (and_parts (fits_behind ls first) (fit_behind (more_lengths ls first) ops) h).1 found
-
-words-at : (ops : List WordOp) (w : ℕ) (op : WordOp) → are_words ops ≡ true → slice_get ops w ≡ Some op
-    → fits_behind (lengths_of (take w ops)) op ≡ true
-unfolding are_words lengths_of
-words-at ops w op fit found = fit-at [] ops w op fit found
 
 -- what it names is there, and it has what was written
 pub record IsWrite (ws : List WordOp) (k of index value when : ℕ) : Type 0 where

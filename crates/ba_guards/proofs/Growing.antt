@@ -83,7 +83,7 @@ places-more m n (p ∷ ps) le h =
     and_from (is_place n p) (list_all (is_place n) ps) (place-more m n p le both.0) (places-more m n ps le
     both.1)
 
-slice-kept : (old more : List WordOp) (k : ℕ) (op : WordOp) → slice_get old k ≡ Some op
+pub slice-kept : (old more : List WordOp) (k : ℕ) (op : WordOp) → slice_get old k ≡ Some op
     → slice_get (old ++ more) k ≡ Some op
 slice-kept old more k op found =
     let within : k < length old = slice_get_within old k op found in

@@ -1,5 +1,6 @@
 pub mod Emitting
 pub mod Growing
+pub mod Sharing
 pub mod Going
 pub mod Leaves
 pub mod Forks

@@ -1,6 +1,6 @@
 -- What is added to a list of words, and what it then says.
 
-use Rattle.std.specs.Prelude.{◌≡◌, slice_set, not, [], ◌∷◌, ℕ, ◌<◌, ◌==◌, ℤ, pos, Bool, true, false, ◌&&◌, ◌||◌, cond, Some, Ok, Err, List, ◌++◌, map, length, slice_get, slice_index_or}
+use Rattle.std.specs.Prelude.{◌≡◌, ◌⊎◌, slice_set, not, [], ◌∷◌, ℕ, ◌<◌, ◌==◌, ℤ, pos, Bool, true, false, ◌&&◌, ◌||◌, cond, Some, Ok, Err, List, ◌++◌, map, length, slice_get, slice_index_or}
 use Rattle.std.specs.List.{list_all}
 use Rattle.std.specs.Ordering.{int_eq}
 use Rattle.ba_choices.specs.declared.Choice.{Choice}
@@ -40,6 +40,11 @@ word_in ws w f = value_at (values_of f ws) w
 
 abbrev pub elements_in : List WordOp → ℕ → Assignment → List ℤ
 elements_in ws w f = elements_at (values_of f ws) w
+
+-- an entry was there, or it was added
+abbrev pub StandsAt : List WordOp → List WordOp → ℕ → WordOp → Type 0
+StandsAt old new word op = ((new ≡ old) × (slice_get old word ≡ Some op))
+    ⊎ ((word ≡ length old) × (new ≡ old ++ op ∷ []))
 
 -- words were added, and this one has this value
 pub record Emits (old new : List WordOp) (word : ℕ) (value : Assignment → ℤ) : Type 0 where

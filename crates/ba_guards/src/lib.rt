@@ -9,6 +9,7 @@
 mod builder;
 mod choices;
 mod exits;
+mod expressions;
 mod names;
 mod starting;
 mod steps;

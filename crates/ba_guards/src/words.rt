@@ -4,32 +4,41 @@ ghost use Rattle.std.specs.Prelude.{◌≡◌, ◌<◌, ℕ, ℤ, pos, true, fal
 ghost use Rattle.ba_code.specs.Operators.{converting};
 ghost use Rattle.ba_numbers.specs.Numbers.{converted, is_in, low_word, truth};
 ghost use Rattle.ba_tree.specs.Facts.{is_promoted, shifts};
-ghost use Rattle.ba_guards.specs.Making.{AreSides, Draws, Emits, EmitsArray, Merges, elements_in, holds_in, is_one, word_in};
+ghost use Rattle.ba_guards.specs.Sharing.{entry};
+ghost use Rattle.ba_guards.specs.Making.{AreSides, Draws, Emits, EmitsArray, Merges, StandsAt, elements_in, holds_in, is_one, word_in};
 ghost use Rattle.ba_wordlist.specs.Facts.{are_names, are_words, is_word_value, lengths_of, shows_type};
 ghost use Rattle.ba_wordlist.specs.Meaning.{Assignment, binary_value, element_read, is_nonzero};
 ghost use Rattle.ba_wordlist.specs.declared.words.WordOp.TheVariants.{Const, Write};
 
 use crate::builder::Sides;
+use crate::expressions::Expression;
 use crate::names::Names;
 use ba_items::Items;
 use ba_numbers::numbers::{BinOp, CType, UnOp, apply, apply_one, convert};
 use ba_wordlist::words::WordOp;
 use std::alloc::{AllocError, Global};
+use std::collections::HashMap;
 use std::marker::Model;
 
-/// Words that were made so far. Contracts see their list.
+/// Words that were made so far, with the numbers of the expressions among them. Contracts see their list.
 #[derive(Drop)]
 pub struct Words {
     items: Vec<WordOp>,
+    numbers: HashMap<Expression, u32>,
 }
 
 impl Model for Words {
     ghost use Rattle.std.specs.Prelude.{List};
+    ghost use Rattle.std.specs.HashMap.{get};
+    ghost use Rattle.ba_guards.specs.Sharing.{AreNumbered};
+    ghost use Rattle.ba_guards.specs.contracts.expressions.ExpressionPartialEq.TheImpl.{eq-value};
     ghost use Rattle.ba_wordlist.specs.declared.words.WordOp.{WordOp};
 
     ghost Value = { List WordOp };
 
     ghost view = { λ words. words.items.items };
+
+    ghost invariant = { λ words. AreNumbered words.items.items (get eq-value.it words.numbers) };
 }
 
 /// Word 0, which is the number 0.
@@ -45,6 +54,7 @@ impl Words {
     {
         Words {
             items: Vec::new(alloc),
+            numbers: HashMap::new(alloc),
         }
     }
 
@@ -52,7 +62,8 @@ impl Words {
     pub fn into_items(self) -> Items<WordOp>
         ensures { result ≡ self }
     {
-        Items::from_vec(self.items)
+        let Words { items, numbers: _ } = self;
+        Items::from_vec(items)
     }
 
     /// Adds a word and gives its number.
@@ -68,6 +79,18 @@ impl Words {
         }
         self.items.push(op)?;
         Ok(count as u32)
+    }
+
+    /// The word of an expression: the one that has it, and else a new one.
+    fn made(&mut self, expression: Expression) -> Result<u32, AllocError>
+        ensures { IfOk result (λ word. StandsAt self.old self.new word (entry expression)) }
+    {
+        if let Some(word) = self.numbers.get(&expression) {
+            return Ok(*word);
+        }
+        let word = self.push(expression.entry())?;
+        self.numbers.insert(expression, word)?;
+        Ok(word)
     }
 
     /// The number that a word always is, where it is a constant.
@@ -108,7 +131,7 @@ impl Words {
         if self.is_constant(ONE, value) {
             return Ok(ONE);
         }
-        let word = self.push(WordOp::Const(value))?;
+        let word = self.made(Expression::Const(value))?;
         Ok(word)
     }
 
@@ -154,7 +177,7 @@ impl Words {
                 Ok(word)
             }
             None => {
-                let word = self.push(WordOp::Unary { op, t, a })?;
+                let word = self.made(Expression::Unary { op, t, a })?;
                 Ok(word)
             }
         }
@@ -171,7 +194,7 @@ impl Words {
                 Ok(word)
             }
             None => {
-                let word = self.push(WordOp::Convert { t, a })?;
+                let word = self.made(Expression::Convert { t, a })?;
                 Ok(word)
             }
         }
@@ -191,7 +214,7 @@ impl Words {
                 Ok(word)
             }
             None => {
-                let word = self.push(WordOp::Binary { op, t, a, b })?;
+                let word = self.made(Expression::Binary { op, t, a, b })?;
                 Ok(word)
             }
         }
@@ -222,7 +245,7 @@ impl Words {
         match self.constant_of(which) {
             Some(value) => Ok(chosen(value, yes, no)),
             None => {
-                let word = self.push(WordOp::Select { which, yes, no })?;
+                let word = self.made(Expression::Select { which, yes, no })?;
                 Ok(word)
             }
         }
@@ -257,7 +280,7 @@ impl Words {
             → Emits self.old self.new word
             (λ f. element_read (elements_in self.old array f) (word_in self.old index f))) }
     {
-        let word = self.push(WordOp::Read { array, index })?;
+        let word = self.made(Expression::Read { array, index })?;
         Ok(word)
     }
 

@@ -1,13 +1,14 @@
 use Rattle.std.proofs.Common.{SFits, w64, to_z-of_z, subst, rules, ◌≡◌, ◌<◌, ◌&&◌, ℕ, true, refl, List, length, arith}
 use Rattle.std.proofs.lemmas.Bool.{and_from}
-use Rattle.ba_guards.proofs.Emitting.{emits-push, name-test}
+use Rattle.ba_guards.proofs.Emitting.{name-test}
+use Rattle.ba_guards.proofs.Sharing.{emits-made}
 use Rattle.ba_guards.proofs.Folding.{binary-folded}
 use Rattle.ba_guards.specs.Making.{Emits, word_in}
+use Rattle.ba_guards.specs.declared.expressions.Expression.TheVariants.{Binary}
 use Rattle.ba_tree.specs.Facts.{is_promoted}
 use Rattle.ba_wordlist.proofs.Lengths.{length-lengths}
 use Rattle.ba_wordlist.specs.Facts.{are_words, is_name, is_word_value, lengths_of}
 use Rattle.ba_wordlist.specs.Meaning.{binary_value}
-use Rattle.ba_wordlist.specs.declared.words.WordOp.TheVariants.{Binary}
 use Rattle.ba_wordlist.specs.declared.words.WordOp.{WordOp}
 use Rattle.ba_guards.proofs.words.Words.binary.Goals as goal
 
@@ -25,12 +26,12 @@ returns-in_ok-word-in-Some c = λ fit promoted below_a below_b.
     c.in_ok-word-in-Some.ensures)
 
 pub returns-in_ok-word-in-None : goal.returns-in_ok-word-in-None
-returns-in_ok-word-in-None c = λ fit promoted below_a below_b. emits-push c.args.self.now _
+returns-in_ok-word-in-None c = λ fit promoted below_a below_b. emits-made c.args.self.now _
     c.in_ok-word-in-None.word
     (Binary c.args.op c.args.t c.args.a c.args.b)
     (λ f. binary_value c.args.op c.args.t (word_in c.args.self.now c.args.a f) (word_in c.args.self.now
     c.args.b f))
-    c.in_ok-word-in-None.ensures.name c.in_ok-word-in-None.ensures.words fit
+    c.in_ok-word-in-None.ensures fit
     (and_from (is_promoted c.args.t && is_name (length (lengths_of c.args.self.now)) c.args.a)
     (is_name (length (lengths_of c.args.self.now)) c.args.b)
     (and_from (is_promoted c.args.t) (is_name (length (lengths_of c.args.self.now)) c.args.a) promoted

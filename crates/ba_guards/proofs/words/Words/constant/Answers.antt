@@ -1,5 +1,8 @@
-use Rattle.std.proofs.Common.{to_z-of_z, Some, refl, ◌∙◌, ap, [], ◌∷◌, ◌++◌}
-use Rattle.ba_guards.proofs.Emitting.{emits-constant, emits-push}
+use Rattle.std.proofs.Common.{to_z-of_z, Some, refl, ◌∙◌, ap, subst}
+use Rattle.ba_guards.proofs.Emitting.{emits-constant}
+use Rattle.ba_guards.proofs.Sharing.{emits-made}
+use Rattle.ba_guards.specs.Making.{StandsAt}
+use Rattle.ba_guards.specs.declared.expressions.Expression.TheVariants as expression
 use Rattle.ba_wordlist.specs.declared.words.WordOp.TheVariants.{Const}
 use Rattle.ba_guards.proofs.words.Words.constant.Goals as goal
 
@@ -12,7 +15,8 @@ returns-then-is_constant-2 c = λ fit range. emits-constant _ _ 1 c.args.value r
     (c.is_constant-2.ensures c.if-is_constant-2.true ∙ ap (λ v. Some (Const v)) (to_z-of_z c.ranges.value))
 
 pub returns : goal.returns
-returns c = λ fit range. emits-push c.args.self.now _ c.in_ok-word.word (Const c.args.value) (λ f.
-    c.args.value) c.in_ok-word.ensures.name
-    (c.in_ok-word.ensures.words ∙ ap (λ v. c.args.self.now ++ Const v ∷ []) (to_z-of_z c.ranges.value)) fit
-    range (λ f. refl)
+returns c = λ fit range. emits-made c.args.self.now c.made.new.self c.in_ok-word.word
+    (expression.Const c.args.value) (λ f. c.args.value)
+    (subst (λ v. StandsAt c.args.self.now c.made.new.self c.in_ok-word.word (Const v))
+    (to_z-of_z c.ranges.value) c.in_ok-word.ensures)
+    fit range (λ f. refl)

@@ -1,11 +1,12 @@
 use Rattle.std.proofs.Common.{SFits, w64, to_z-of_z, subst, rules, ◌≡◌, ◌<◌, ℕ, true, refl, ◌∙◌, ap, List, length, arith}
-use Rattle.ba_guards.proofs.Emitting.{emits-push, name-test}
+use Rattle.ba_guards.proofs.Emitting.{name-test}
+use Rattle.ba_guards.proofs.Sharing.{emits-made}
 use Rattle.ba_guards.proofs.Folding.{convert-folded}
 use Rattle.ba_guards.specs.Making.{Emits, word_in}
+use Rattle.ba_guards.specs.declared.expressions.Expression.TheVariants.{Convert}
 use Rattle.ba_numbers.specs.Numbers.{converted}
 use Rattle.ba_wordlist.proofs.Lengths.{length-lengths}
 use Rattle.ba_wordlist.specs.Facts.{are_words, is_name, is_word_value, lengths_of}
-use Rattle.ba_wordlist.specs.declared.words.WordOp.TheVariants.{Convert}
 use Rattle.ba_wordlist.specs.declared.words.WordOp.{WordOp}
 use Rattle.ba_guards.proofs.words.Words.convert.Goals as goal
 
@@ -26,7 +27,7 @@ returns-in_ok-word-in-Some c = λ fit below.
     fits_converted) c.in_ok-word-in-Some.ensures)
 
 pub returns-in_ok-word-in-None : goal.returns-in_ok-word-in-None
-returns-in_ok-word-in-None c = λ fit below. emits-push c.args.self.now _ c.in_ok-word-in-None.word (Convert
+returns-in_ok-word-in-None c = λ fit below. emits-made c.args.self.now _ c.in_ok-word-in-None.word (Convert
     c.args.t c.args.a)
-    (λ f. converted c.args.t (word_in c.args.self.now c.args.a f)) c.in_ok-word-in-None.ensures.name
-    c.in_ok-word-in-None.ensures.words fit (name c.args.self.now c.args.a below) (λ f. refl)
+    (λ f. converted c.args.t (word_in c.args.self.now c.args.a f)) c.in_ok-word-in-None.ensures fit
+    (name c.args.self.now c.args.a below) (λ f. refl)
