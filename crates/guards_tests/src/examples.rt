@@ -8,7 +8,7 @@ use ba_choices::Choice;
 use ba_interp::run;
 use ba_items::Items;
 use ba_numbers::ids::StmtId;
-use ba_numbers::numbers::CType;
+use ba_numbers::numbers::{BinOp, CType};
 use ba_tree::run::{Allowed, Bounds, Input, Outcome};
 use ba_tree::tree::{Program, StmtKind};
 use ba_wordlist::words::{WordList, WordOp};
@@ -130,11 +130,15 @@ const SUM: &str = "3 u u u  0  0  1  1 0  2 1 2  6 decl 1 decl 2 = 1 1 u 0
     for 3 1 = 2 2 u 1 u< v 2 v 0 1 = 4 2 u+ v 2 u 1 = 5 1 u+ v 1 v 2
     assert 6 u== v 1 u 6 return 7 0  7 = = ? = = ! r";
 
+/// A sum and an element, each of which two asserts compute.
+const TWICE: &str = "3 i i 2  0  0  1  1 0  2 1 2  7 decl 1 decl 2 = 1 1 v 0 []= 2 2 v 0 5
+    assert 3 == + v 1 1 2 assert 4 < + v 1 1 e 2 1 assert 5 == e 2 1 5  5 = [ ! ! !";
+
 /// An input, the bound on turns, choices, and whether the run with them is good.
 type Run = (&'static str, u32, &'static str, bool);
 
 /// Programs with runs as worked out by hand.
-const EXAMPLES: [(&str, &[Run]); 13] = [
+const EXAMPLES: [(&str, &[Run]); 14] = [
     // Five lines: a variable that gets the input, and an assert.
     (
         FIVE_LINES,
@@ -164,6 +168,16 @@ const EXAMPLES: [(&str, &[Run]); 13] = [
             ("1 3 ;", 3, "13 k k k k k k k k t 1 1 k k k k", true),
             ("1 5 ;", 3, "13 k k k k k k k k k k k k k", false),
             ("1 5 ;", 3, "13 k k k k k k k k k k k t 1 0 k", true),
+        ],
+    ),
+    // A sum and an element, each of which two asserts compute.
+    (
+        TWICE,
+        &[
+            ("1 1 ;", 1, "2 k k", true),
+            ("1 0 ;", 1, "2 k k", false),
+            ("1 0 ;", 1, "2 t 1 1 t 2 1 5", true),
+            ("1 1 ;", 1, "2 t 1 4 k", false),
         ],
     ),
     // A store, whose index is the input.
@@ -375,10 +389,26 @@ fn places_at(list: &WordList, stmt: u32) -> usize {
     count
 }
 
+/// How many entries of the list are sums, and how many are elements, where each is computed twice.
+fn sums_and_elements(alloc: Global) -> Result<(usize, usize), Fault> {
+    let case = Case::new(alloc, TWICE, "1 1 ;", 1)?;
+    let mut sums = 0usize;
+    let mut elements = 0usize;
+    for entry in case.list.words.as_slice() {
+        match entry {
+            WordOp::Binary { op: BinOp::Add, .. } => sums = sums.saturating_add(1),
+            WordOp::Read { .. } => elements = elements.saturating_add(1),
+            _ => {}
+        }
+    }
+    Ok((sums, elements))
+}
+
 #[test]
 fn lists_are_as_worked_out(rt: HostRuntime) -> Result<(), Fail> {
     assert_eq!(rt; five_lines_have_one_place(rt.alloc()), Ok(true));
     assert_eq!(rt; a_short_is_converted(rt.alloc()), Ok(true));
     assert_eq!(rt; places_of_sum(rt.alloc()), Ok((4, 3)));
+    assert_eq!(rt; sums_and_elements(rt.alloc()), Ok((1, 1)));
     Ok(())
 }
