@@ -7,6 +7,7 @@ mod Joining
 mod Values
 mod Calling
 mod Branches
+mod Leaving
 mod Picks
 mod Homes
 mod Relaxing

@@ -15,3 +15,4 @@ pub mod Calling
 pub mod Heights
 pub mod Starting
 pub mod Translating
+pub mod Leaving

@@ -9,11 +9,12 @@ ghost use Rattle.ba_inline.specs.Names.{IsFrame, IsScope};
 ghost use Rattle.ba_inline.specs.Parts.{argument_part, arguments_part, call_part, call_stmt_part, given_part};
 
 use crate::binding::begin_frame;
+use crate::blocks::add_body;
 use crate::control::statements;
 use crate::declared::Declared;
-use crate::emit::{add_beyond, add_block, add_pick, add_set};
+use crate::emit::{add_beyond, add_pick, add_set};
 use crate::expressions::{any_arg_has_call, arg_has_call, has_call};
-use crate::frames::{Exits, Frame, Given, RETURNED, Setting, Wanted, take_of};
+use crate::frames::{Exits, Frame, Given, Setting, Wanted, take_of};
 use crate::leaves::{extended, function_of};
 use crate::operands::{expression_to, kept_expression};
 use crate::scope::Scope;
@@ -161,7 +162,7 @@ fn invoke(
         &mut body,
         function.body.as_slice(),
     )?;
-    add_block(out, RETURNED, body)?;
+    add_body(out, body)?;
     Ok(Operand::Var(home))
 }
 

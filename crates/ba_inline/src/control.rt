@@ -6,9 +6,10 @@ ghost use Rattle.ba_inline.specs.Names.{IsFrame};
 ghost use Rattle.ba_inline.specs.Parts.{loop_part, optional_part, stmt_part, stmts_part};
 ghost use Rattle.ba_inline.specs.Repeating.{parts_of};
 
+use crate::blocks::add_branches;
 use crate::calls::{call_statement, given_to};
 use crate::declared::Declared;
-use crate::emit::{add_assert, add_block, add_if, add_leave, add_loop, add_set};
+use crate::emit::{add_assert, add_block, add_leave, add_loop, add_set};
 use crate::frames::{
     BROKEN, CONTINUED, Frame, RETURNED, Setting, Wanted, break_label, continue_label, in_body,
     in_step,
@@ -86,7 +87,7 @@ fn statement(
             statement(setting, scope, frame, path, declared, &mut one, yes)?;
             let mut other = Vec::new(setting.alloc);
             optional(setting, scope, frame, path, declared, &mut other, no)?;
-            add_if(out, Operand::Var(to), one, other)
+            add_branches(out, Operand::Var(to), one, other)
         }
         Stmt::While { stmt, when, body } => {
             let parts = Loop {

@@ -4,6 +4,7 @@
 #![tactic(auto)]
 
 mod binding;
+mod blocks;
 mod calls;
 mod control;
 mod declared;

@@ -5,10 +5,10 @@ ghost use Rattle.ba_code.specs.Run.{code_of_loops};
 ghost use Rattle.ba_inline.specs.Outcomes.{HasOutcomes};
 ghost use Rattle.ba_inline.specs.Translating.{IsTranslation, IsTyped, code_with};
 
+use crate::blocks::add_body;
 use crate::control::statements;
 use crate::declared::Declared;
-use crate::emit::add_block;
-use crate::frames::{Exits, Frame, RETURNED, Setting};
+use crate::frames::{Exits, Frame, Setting};
 use crate::leaves::function_of;
 use crate::scope::Scope;
 use crate::starting::{params_of, start_all};
@@ -79,7 +79,7 @@ fn translate(setting: &Setting, frames: u32) -> Result<Translation, AllocError>
         main.body.as_slice(),
     )?;
     let mut whole = Vec::new(setting.alloc);
-    add_block(&mut whole, RETURNED, body)?;
+    add_body(&mut whole, body)?;
     let params = params_of(setting, &scope, counts, &declared, main.params.as_slice())?;
     Ok(Translation {
         declared,

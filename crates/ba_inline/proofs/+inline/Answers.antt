@@ -523,12 +523,12 @@ calls::invoke-returns t c = λ scope given.
     invoke-made p names c.in_ok-inner.inner path frame here c.args.function (frame.frames - 1)
     c.in-Some.function.now
     c.args.given.now low c.begin_frame.new.declared c.variable.new.self c.statements.new.declared old
-    c.begin_frame.new.out.items c.add_set.new.out.items c.add_block.new.out.items c.new-body.result.items
+    c.begin_frame.new.out.items c.add_set.new.out.items c.add_body.new.out.items c.new-body.result.items
     c.statements.new.out.items c.in_ok-home.home c.unwrap_or.result c.as_slice.result.now frames
     c.in-Some.ensures.1
     c.as_slice.ensures c.new-body.ensures.items c.in_ok-home.ensures.0 c.in_ok-home.ensures.1
     (c.in_ok-inner.ensures scope given) c.in_ok-add_set.ensures c.in_ok-statements.ensures
-    c.in_ok-add_block.ensures
+    c.in_ok-add_body.ensures
 
 -- CHOICES
 
@@ -762,15 +762,15 @@ control::statement-returns-in_ok-optional-in-If t c =
     let low = c.args.declared.now in
     let old = c.args.out.now.items in
     let stmt = c.args.stmt.now in
-    on-ok c.add_if.result _ _ (λ added is_frame.
+    on-ok c.add_branches.result _ _ (λ added is_frame.
     if-made p names path frame low is_frame stmt c.in-If.stmt c.in-If.when c.in-If.yes c.in-If.no
     c.deref.result.now
     c.in_ok-to-in-If.to c.condition.new.declared c.statement.new.declared c.optional.new.declared old
-    c.condition.new.out.items c.add_if.new.out.items c.new-one.result.items c.statement.new.out.items
+    c.condition.new.out.items c.add_branches.new.out.items c.new-one.result.items c.statement.new.out.items
     c.new-other.result.items c.optional.new.out.items c.in-If.is c.deref.ensures c.new-one.ensures.items
     c.new-other.ensures.items c.in_ok-to-in-If.ensures c.in_ok-statement-in-If.ensures
     c.in_ok-optional-in-If.ensures added)
-    c.add_if.ensures
+    c.add_branches.ensures
 
 pub control::statement-returns-in-While : goal.control::statement-returns-in-While
 control::statement-returns-in-While t c =
