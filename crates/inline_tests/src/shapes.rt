@@ -139,27 +139,43 @@ const BEHIND: &str =
 /// An array's initialiser that reads its array.
 const OWN: &str = "1 2  0  0  1  0  1 0  3 decl 0 inits 1 0 2 5 e 0 0 assert 2 == e 0 1 0  2 i !";
 
+/// A function whose one `return` stands at its end.
+const LAST: &str = "3 i i i  0  0  2  1 0  1 1  2 init 1 1 + v 0 1 return 2 v 1
+    1 2  0  2 assert 3 == call 1 0 1 x v 2 3 return 4 0  4 i r ! r";
+
+/// A function with a `return` before its end.
+const EARLY: &str = "2 i i  0  0  2  1 0  0  2 if 1 v 0 return 2 1 return 3 2
+    1 1  0  1 return 4 call 1 0 1 x v 1  4 ? r r r";
+
+/// A function with a `return` at the end of each branch.
+const BRANCHES: &str =
+    "2 i i  0  0  2  1 0  0  1 ife 1 v 0 { 1 return 2 1 ife 3 v 0 return 4 2 return 5 3
+    1 1  0  1 return 6 call 1 0 1 x v 1  6 ? r ? r r r";
+
+/// A `return` in a loop.
+const INSIDE: &str = "1 i  0  0  1  0  1 0  3 decl 0 while 1 v 0 return 2 1 return 3 v 0  3 ? r r";
+
 #[test]
 fn nodes_stand_for_programs_as_worked_out(rt: HostRuntime) -> Result<(), Fail> {
     for (program, frames, expected) in [
-        (GLOBAL, 16, "B0(sp(sB0(p(s)p(s)^0)s)bap(s)^0)"),
-        (GLOBAL, 1, "B0(sp(xs)bap(s)^0)"),
-        (KEPT, 16, "B0(sp(ssB0(p(s)p(s)^0)bs)p(s)^0)"),
-        (INITIALISER, 1, "B0(p(bs)p(s)^0)"),
-        (
-            SUM,
-            1,
-            "B0(ssp(cs)p(cs)B1(o(p(bs)|B2(p(bs))|p(cbs)))cbap(s)^0)",
-        ),
+        (GLOBAL, 16, "sp(sp(s)p(s)s)bap(s)"),
+        (GLOBAL, 1, "sp(xs)bap(s)"),
+        (KEPT, 16, "sp(ssp(s)p(s)bs)p(s)"),
+        (INITIALISER, 1, "p(bs)p(s)"),
+        (SUM, 1, "ssp(cs)p(cs)B1(o(p(bs)|B2(p(bs))|p(cbs)))cbap(s)"),
         (
             ARRAYS,
             3,
-            "B0(fp(sfsB0(fp(s)i(p(bsfsB0(fp(s)i(p(bx)|)lbap(S)))|)lbap(S)))lba)",
+            "fp(sfsfp(s)i(p(bsfsfp(s)i(p(bx)|)lbap(S))|)lbap(S))lba",
         ),
-        (VALUES, 1, "B0(succbbap(cs)cbi(i(s|buu)uu|s)ai(s|bs)bap(b))"),
-        (JUMPS, 1, "B0(sp(s)B1(o(p(bs)|B2(p(bs)i(^1|)^2)|p(bs)))ba)"),
-        (BEHIND, 1, "B0(sB1(o(p(s)|B2(p(bs))|))ba)"),
-        (OWN, 1, "B0(fp(lf)lba)"),
+        (VALUES, 1, "succbbap(cs)cbi(i(s|buu)uu|s)ai(s|bs)bap(b)"),
+        (JUMPS, 1, "sp(s)B1(o(p(bs)|B2(p(bs)i(^1|)^2)|p(bs)))ba"),
+        (BEHIND, 1, "sB1(o(p(s)|B2(p(bs))|))ba"),
+        (OWN, 1, "fp(lf)lba"),
+        (LAST, 2, "sssp(bs)p(s)bap(s)"),
+        (EARLY, 2, "p(ssB0(p(s)i(p(s)^0|)p(s))s)"),
+        (BRANCHES, 2, "p(ssp(s)i(p(s)|p(s)i(p(s)|p(s)))s)"),
+        (INSIDE, 1, "B0(sB1(o(p(s)|B2(p(s)^0)|))p(s))"),
     ] {
         let found = has_shape(rt.alloc(), program, frames, expected);
         assert_eq!(rt; found, Ok(true));
