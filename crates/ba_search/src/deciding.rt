@@ -123,6 +123,7 @@ impl Engine {
             return Ok(Some(Answer::Spent));
         }
         let core = self.analyser.core_of(&self.watch, assumption)?;
+        self.order.set_candidates(core.lits.as_slice())?;
         Ok(Some(Answer::Core(core)))
     }
 

@@ -53,6 +53,7 @@ impl Engine {
             checked.new.checker (S.logs checked.new.sink) }
     {
         self.backtrack(0);
+        self.order.rotate_candidates();
         self.restarts = self.restarts.saturating_add(1);
         self.since = 0;
         if may_reduce(self.numbers.learnt(), checked.checker()) {
