@@ -7,7 +7,7 @@ use Rattle.std.proofs.lemmas.Option.{none-some, some_pair_parts}
 use Rattle.std.proofs.lemmas.Slice.Eq.{bytes_eq-Decides}
 use Rattle.ba_lits.specs.Literals.{Literal, IsClause, lit_at, no_literal}
 use Rattle.ba_steps.specs.Steps.{AreAbove}
-use Rattle.ba_steps.proofs.ClauseLaws.{nil_formed, cons_formed, IsClause-rest}
+use Rattle.ba_lits.proofs.ClauseLaws.{nil_formed, cons_formed, IsClause-rest}
 use Rattle.ba_cert.specs.Text.{literal_text, ended}
 use Rattle.ba_cert.specs.Reading.{◌>>=◌, counted_of, group_of, literal_of, listed, ascends, variable_of, itself}
 use Rattle.ba_cert.proofs.Binding.{bound}

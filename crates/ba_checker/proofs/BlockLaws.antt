@@ -9,7 +9,7 @@ use Rattle.std.specs.List.{slice_get}
 use Rattle.ba_lits.specs.Literals.{Literal, IsClause, lit_at}
 use Rattle.ba_lits.specs.Satisfaction.{Soft}
 use Rattle.ba_steps.specs.Steps.{AreAbove}
-use Rattle.ba_steps.proofs.ClauseLaws.{nil_formed, cons_formed, single_formed, IsClause-rest}
+use Rattle.ba_lits.proofs.ClauseLaws.{nil_formed, cons_formed, single_formed, IsClause-rest}
 use Rattle.ba_checker.specs.States.{present}
 use Rattle.ba_checker.specs.Facts.{Differs, AreDifferent, AreAmong}
 use Rattle.ba_checker.specs.Blocks.{entry_of, entry_weight, weight_at, lacks_group, placed, with_selector, block_clause}

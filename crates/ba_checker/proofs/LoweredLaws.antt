@@ -11,7 +11,7 @@ use Rattle.ba_lits.specs.Satisfaction.{Assignment, lit_true, Soft, cost, one_if}
 use Rattle.ba_lits.specs.Hints.{has_literal}
 use Rattle.ba_lits.proofs.Satisfied.{lit_true-negate}
 use Rattle.ba_lits.proofs.Members.{same_literal, negate-negate, literal_found}
-use Rattle.ba_steps.proofs.ClauseLaws.{IsClause-rest}
+use Rattle.ba_lits.proofs.ClauseLaws.{IsClause-rest}
 use Rattle.ba_checker.specs.Splits.{is_soft, lesser, lightest, lowered}
 use Rattle.ba_checker.specs.Facts.{Differs, AreDifferent}
 use Rattle.ba_checker.proofs.SplitMeaning.{count_true}

@@ -1,2 +1,1 @@
-pub mod ClauseLaws
 pub mod SinkLaws

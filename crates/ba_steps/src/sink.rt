@@ -236,12 +236,14 @@ impl<'a, A: StepSink, D: StepSink> StepSink for Both<'a, A, D> {
         ensures logs_stay { A.logs self.new.first ++ D.logs self.new.second.now
             ≡ A.logs self.old.first ++ D.logs self.old.second.now }
         ensures cause { result ≡ Err SinkError.Failed
-            → Rose (A.faults self.old.first + D.faults self.old.second.now) (A.faults self.new.first + D.faults self.new.second.now) }
+            → Rose (A.faults self.old.first + D.faults self.old.second.now)
+            (A.faults self.new.first + D.faults self.new.second.now) }
         ensures no_fall { A.faults self.old.first + D.faults self.old.second.now ≤ A.faults
             self.new.first + D.faults self.new.second.now }
         ensures same_references { self.new.second.ghost_name
             ∷ (A.references self.new.first ++ D.references self.new.second.now)
-            ≡ self.old.second.ghost_name ∷ (A.references self.old.first ++ D.references self.old.second.now) }
+            ≡ self.old.second.ghost_name
+            ∷ (A.references self.old.first ++ D.references self.old.second.now) }
     {
         self.first.begin(formula, softs)?;
         self.second.begin(formula, softs)
