@@ -150,13 +150,6 @@ brought n m d is small = omega arith
 pub power_most : (i : ℕ) → i ≤ 32 → 2 ^ i ≤ 2 ^ 32
 power_most i few = pow-le-pow_right {n = 2} (omega arith) few
 
-pub next_small : (i h d r n : ℕ) (t : Bool) → h < 2 ^ i → r ≡ h % d → n ≡ (2 * r + digit t) % 2 ^ 32 →
-    n < 2 ^ (i + 1)
-next_small i h d r n t small r_is is =
-    let less : h % d ≤ h = mod-le h d in
-    let most : (2 * r + digit t) % 2 ^ 32 ≤ 2 * r + digit t = mod-le (2 * r + digit t) (2 ^ 32) in
-    omega (arith, digit_small t, power_more i)
-
 pub next_value : (i h d r n : ℕ) (t : Bool) → i < 32 → h < 2 ^ i → r ≡ h % d →
     n ≡ (2 * r + digit t) % 2 ^ 32 → n ≡ 2 * (h % d) + digit t
 next_value i h d r n t few small r_is is =

@@ -148,7 +148,7 @@ fn long_remainder(nodes: &mut Nodes, dividend: &Word, divisor: &Word) -> Result<
 {
     let (_, rest) = upper_steps(nodes, dividend, divisor)?;
     let last = brought_down(&rest, dividend[0]);
-    let (_, left) = step(nodes, &last, divisor, 32, known_width(divisor))?;
+    let (_, left) = step(nodes, &last, divisor, width_of(&last), known_width(divisor))?;
     Ok(left)
 }
 
@@ -176,7 +176,7 @@ fn upper_steps(
     let mut rest = zero;
     for i in 0..31 {
         let next = brought_down(&rest, dividend[31 - i]);
-        let (fits, left) = step(nodes, &next, divisor, i + 1, known)?;
+        let (fits, left) = step(nodes, &next, divisor, width_of(&next), known)?;
         quotient = brought_down(&quotient, fits);
         rest = left;
     }
@@ -226,6 +226,24 @@ fn step(
     Ok((fits, left))
 }
 
+/// How many places the word takes: those above are constant zeros.
+fn width_of(word: &Word) -> usize
+    ensures few { result ≤ 32 }
+    ensures narrow { (nodes : List Node) (free : ℕ → Bool)
+        → number_of free nodes word.now < 2 ^ result }
+{
+    for i in 0..32 {
+        let bit = word[31 - i];
+        if bit.index != 0 {
+            return 32 - i;
+        }
+        if bit.negated {
+            return 32 - i;
+        }
+    }
+    0
+}
+
 /// How many places the word takes, where its highest one is a constant, and else 32.
 fn known_width(word: &Word) -> usize
     ensures few { result ≤ 32 }
@@ -234,14 +252,13 @@ fn known_width(word: &Word) -> usize
     ensures some { result < 32 → (nodes : List Node) (free : ℕ → Bool)
         → 0 < number_of free nodes word.now }
 {
-    for i in 0..32 {
-        let bit = word[31 - i];
-        if bit.index != 0 {
-            return 32;
-        }
-        if bit.negated {
-            return 32 - i;
-        }
+    let places = width_of(word);
+    if places == 0 {
+        return 32;
+    }
+    let highest = word[places - 1];
+    if highest.index == 0 && highest.negated {
+        return places;
     }
     32
 }

@@ -1,35 +1,12 @@
-use Rattle.std.proofs.Common.{◌-◌, ◌<◌, inl, inr, ap, ◌∙◌, arith}
-use Rattle.std.proofs.lemmas.Bool.{cases_eq}
-use Rattle.ba_nodes.specs.Gates.{truth}
+use Rattle.std.proofs.Common.{◌-◌, ◌<◌, ◌∙◌, arith}
 use Rattle.ba_nodes.proofs.Folding.{truth-zero}
 use Rattle.ba_words.specs.Words.{bit_at}
-use Rattle.ba_words.proofs.Circuits.{number_small}
-use Rattle.ba_muldiv.proofs.Rows.{number_low, number_positive}
+use Rattle.ba_muldiv.proofs.Rows.{number_positive}
 use Rattle.ba_muldiv.proofs.division.known_width.Goals as goal
 
-pub returns-then-bit-ne0-clause-narrow : goal.returns-then-bit-ne0-clause-narrow
-returns-then-bit-ne0-clause-narrow c nodes free = number_small free nodes c.args.word.now c.told-word
-
-pub returns-then-bit-clause-narrow : goal.returns-then-bit-clause-narrow
-returns-then-bit-clause-narrow c nodes free =
-    number_low free nodes c.args.word.now (32 - c.loop-i.i) c.told-word (omega arith)
-    (c.loop-i.invariant nodes free)
-
-pub returns-then-bit-clause-some : goal.returns-then-bit-clause-some
-returns-then-bit-clause-some c below nodes free =
-    let place : 31 - c.loop-i.i < 32 = omega arith in
-    number_positive free nodes c.args.word.now (31 - c.loop-i.i) c.told-word place
-    (truth-zero free nodes (bit_at c.args.word.now (31 - c.loop-i.i)) c.if-bit-ne0.false ∙ c.if-bit.true)
-
-pub loop-i-preserved : goal.loop-i-preserved
-loop-i-preserved c nodes free place from within =
-    elim (cases_eq place (31 - c.loop-i.i)) [
-      | inl here ↦
-          ap (λ k. truth free nodes (bit_at c.args.word.now k)) here
-          ∙ truth-zero free nodes (bit_at c.args.word.now (31 - c.loop-i.i)) c.if-bit-ne0.false
-          ∙ c.if-bit.false
-      | inr apart ↦ c.loop-i.invariant nodes free place (omega arith) within
-    ]
-
-pub returns-clause-narrow : goal.returns-clause-narrow
-returns-clause-narrow c nodes free = number_small free nodes c.args.word.now c.told-word
+pub returns-then-highest-clause-some : goal.returns-then-highest-clause-some
+returns-then-highest-clause-some c below nodes free =
+    let place : c.width_of-places.result - 1 < 32 = omega (arith, below) in
+    number_positive free nodes c.args.word.now (c.width_of-places.result - 1) c.told-word place
+    (truth-zero free nodes (bit_at c.args.word.now (c.width_of-places.result - 1)) c.if-highest-eq0.true
+    ∙ c.if-highest.true)

@@ -6,7 +6,7 @@ use Rattle.ba_words.proofs.Carries.{are_bits-replicate, number-zeros}
 use Rattle.ba_words.proofs.Places.{are_bits-extends, number_of-extends}
 use Rattle.ba_muldiv.specs.Division.{long_quotient, high_number}
 use Rattle.ba_muldiv.proofs.Rows.{high_number-more, high_number_below, next_is}
-use Rattle.ba_muldiv.proofs.Steps.{no_quotient, no_rest, next_small, next_twice, quotient_value, quotient_step, rest_step}
+use Rattle.ba_muldiv.proofs.Steps.{no_quotient, no_rest, next_twice, quotient_value, quotient_step, rest_step}
 use Rattle.ba_muldiv.proofs.division.upper_steps.Goals as goal
 
 pub loop-i-init : goal.loop-i-init
@@ -39,14 +39,7 @@ loop-i-init c =
     }
 
 pub step-requires-clause-small : goal.step-requires-clause-small
-step-requires-clause-small c free =
-    next_small c.loop-i.i (high_number free c.args.nodes.now c.args.dividend.now (32 - c.loop-i.i))
-    (number_of free c.args.nodes.now c.args.divisor.now)
-    (number_of free c.loop-i.nodes c.loop-i.rest) (number_of free c.loop-i.nodes c.brought_down-next.result)
-    (truth free c.loop-i.nodes (bit_at c.args.dividend.now (31 - c.loop-i.i)))
-    (high_number_below free c.args.nodes.now c.args.dividend.now (32 - c.loop-i.i) c.loop-i.i
-    (omega (arith, c.told-dividend)))
-    (c.loop-i.invariant.rest.holds free) (c.brought_down-next.ensures.number c.loop-i.nodes free)
+step-requires-clause-small c free = c.width_of.ensures.narrow c.loop-i.nodes free
 
 pub step-requires-clause-narrow : goal.step-requires-clause-narrow
 step-requires-clause-narrow c free = c.known_width-known.ensures.narrow c.loop-i.nodes free

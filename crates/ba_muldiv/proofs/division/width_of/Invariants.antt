@@ -2,7 +2,7 @@ use Rattle.std.proofs.Common.{◌≡◌, ℕ, ◌-◌, ◌<◌, ◌≤◌, Bool,
 use Rattle.ba_nodes.specs.declared.Node.{Node}
 use Rattle.ba_nodes.specs.Gates.{truth}
 use Rattle.ba_words.specs.Words.{bit_at}
-use Rattle.ba_muldiv.proofs.division.known_width.Given as goal
+use Rattle.ba_muldiv.proofs.division.width_of.Given as goal
 
 abbrev pub invariant-loop-i : goal.invariant-loop-i
 invariant-loop-i l = (nodes : List Node) (free : ℕ → Bool) (place : ℕ) → 32 - l.i ≤ place → place < 32 →
