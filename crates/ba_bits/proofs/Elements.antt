@@ -8,7 +8,7 @@ use Rattle.ba_bits.proofs.Laws.{low-at}
 use Rattle.ba_bits.proofs.Low.{low-pos}
 use Rattle.ba_bits.specs.Bits.{AreEntriesOf, numbers_in, value_in, values_in, word_at}
 use Rattle.ba_cells.specs.Cells.{AreCellsOf, AreWritten, IsCellRead, cell_at, place_read}
-use Rattle.ba_cells.proofs.Trees.{cells-extends}
+use Rattle.ba_cells.proofs.Places.{cells-extends}
 use Rattle.ba_nodes.specs.declared.Bit.{Bit}
 use Rattle.ba_nodes.specs.declared.Node.{Node}
 use Rattle.ba_nodes.specs.Gates.{Extends, truth}
@@ -116,7 +116,7 @@ low-digits free nodes word long =
     (low_number_below free nodes word 8 (omega (arith, long)))
 
 pub read-low : (free : ℕ → Bool) (old new : List Node) (cells : List (List Bit)) (index word : List Bit)
-    → length index ≡ 32 → length word ≡ 32 → IsCellRead 8 old cells index new word
+    → length index ≡ 32 → length word ≡ 32 → IsCellRead old cells index new word
     → number_of free new word ≡ low_word (element_read (values_in free old cells) (value_in free old index))
 read-low free old new cells index word index_long long read =
     let small = number_small free new word long in
@@ -129,8 +129,8 @@ read-low free old new cells index word index_long long read =
     sym (low-pos (number_of free new word) small)
     ∙ ap (λ n. low_word (pos n)) (read free)
     ∙ ap low_word (sym (value-cell free old cells
-    (place_read (length cells) 8 (low_number free old index 8))))
-    ∙ (λ i. low_word (get_or (values_in free old cells) (place_read (many i) 8 (here i)) (pos 0)))
+    (place_read (length cells) (low_number free old index 8))))
+    ∙ (λ i. low_word (get_or (values_in free old cells) (place_read (many i) (here i)) (pos 0)))
 
 -- A NUMBER OF 32 PLACES that is one of two
 

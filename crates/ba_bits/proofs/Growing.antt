@@ -12,7 +12,7 @@ use Rattle.ba_bits.proofs.Spelling.{low-agree}
 use Rattle.ba_bits.specs.Bits.{AgreeBelow, AreEntries, AreEntriesOf, AreOthersZero, CanTake, IsTaken, SpellEntry, SpellZero, TakingAll, elements_in, is_needed, numbers_in, value_in, values_in, word_at, words_at}
 use Rattle.ba_bits.specs.Needs.{names_of}
 use Rattle.ba_cells.specs.Cells.{AreCellsOf, cell_at}
-use Rattle.ba_cells.proofs.Trees.{cells-extends}
+use Rattle.ba_cells.proofs.Places.{cells-extends}
 use Rattle.ba_nodes.specs.declared.Bit.{Bit}
 use Rattle.ba_nodes.specs.declared.Node.{Node}
 use Rattle.ba_nodes.specs.Gates.{AreOrdered, Extends}

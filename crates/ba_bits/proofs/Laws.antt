@@ -124,9 +124,9 @@ three-same b c x y z w e f g = λ i. cond (e i) (f i) (g i)
 read-same : (ys zs : List ℤ) (i j : ℤ) → lows ys ≡ lows zs → low_word i ≡ low_word j
     → low_word (element_read ys i) ≡ low_word (element_read zs j)
 read-same ys zs i j e f =
-    low-same ys zs (place_read (length ys) 8 (low_word i % 256)) e
-    ∙ ap (λ n. low_word (get_or zs (place_read n 8 (low_word i % 256)) (pos 0))) (long-same ys zs e)
-    ∙ ap (λ n. low_word (get_or zs (place_read (length zs) 8 (n % 256)) (pos 0))) f
+    low-same ys zs (place_read (length ys) (low_word i % 256)) e
+    ∙ ap (λ n. low_word (get_or zs (place_read n (low_word i % 256)) (pos 0))) (long-same ys zs e)
+    ∙ ap (λ n. low_word (get_or zs (place_read (length zs) (n % 256)) (pos 0))) f
 
 write-same : (ys zs : List ℤ) (i j y z : ℤ) → lows ys ≡ lows zs → low_word i ≡ low_word j
     → low_word y ≡ low_word z

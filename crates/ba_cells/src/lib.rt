@@ -1,16 +1,16 @@
 //! Reading and writing one of many words at an index that is a word itself.
 //!
-//! A read is a tree of selects over the bits of the index, one select less than there are cells. A write splits
-//! its condition over the same tree, and selects in each cell. The one error is want of memory, which leaves
-//! every bit its value; further gates may have been added.
+//! Whether the index is a place is one gate, which all reads and writes at this index share. A read is a chain of selects
+//! by these, one select less than there are cells, and a write selects in each cell. The one error is want of memory,
+//! which leaves every bit its value; further gates may have been added.
 #![tactic(auto)]
 
-ghost use Rattle.std.specs.Prelude.{◌≡◌, ℕ, ◌+◌, ◌-◌, ◌*◌, ◌%◌, ◌<◌, ◌≤◌, ◌^◌, ◌==◌, ◌++◌, Bool, not, nat_lt, ◌&&◌, ◌||◌, List, [], length, IfOk, OnOk, if◌then◌else◌};
+ghost use Rattle.std.specs.Prelude.{◌≡◌, ℕ, ◌+◌, ◌*◌, ◌/◌, ◌%◌, ◌<◌, ◌≤◌, ◌^◌, ◌==◌, Bool, not, nat_lt, List, length, IfOk, if◌then◌else◌};
 ghost use Rattle.ba_nodes.specs.declared.Bit.{Bit};
 ghost use Rattle.ba_nodes.specs.declared.Node.{Node};
 ghost use Rattle.ba_nodes.specs.Gates.{truth, IsBitOf, gates_in, Extends, HasValue};
 ghost use Rattle.ba_words.specs.Words.{number_of, low_number, AreBitsOf};
-ghost use Rattle.ba_cells.specs.Cells.{cell_at, AreCellsOf, IsCellAt, IsCellRead, AreWritten, Adds};
+ghost use Rattle.ba_cells.specs.Cells.{AreCellsOf, IsCellAt, IsCellRead, AreWritten};
 
 use ba_nodes::{Bit, Nodes};
 use ba_words::{Word, select};
@@ -20,7 +20,7 @@ use std::alloc::{AllocError, Global};
 const INDEX_BITS: usize = 8;
 
 /// The cell at the index, by at most 96 gates a cell. Where that is out of range it is the cell at the low 8 bits of
-/// the index without those that, from the highest on, would lead behind the last cell.
+/// the index, or the first one where these lead behind the last.
 pub fn read_cell(nodes: &mut Nodes, cells: &[Word], index: &Word) -> Result<Word, AllocError>
     requires some { 0 < length cells.now }
     requires few { length cells.now ≤ 256 }
@@ -29,11 +29,16 @@ pub fn read_cell(nodes: &mut Nodes, cells: &[Word], index: &Word) -> Result<Word
     ensures bits { IfOk result (AreBitsOf nodes.new) }
     ensures value { IfOk result (IsCellAt (λ free. number_of free nodes.old index.now) nodes.old
         cells.now nodes.new) }
-    ensures read { IfOk result (IsCellRead 8 nodes.old cells.now index.now nodes.new) }
+    ensures read { IfOk result (IsCellRead nodes.old cells.now index.now nodes.new) }
     ensures extends { Extends nodes.old nodes.new }
     ensures count { gates_in nodes.new ≤ gates_in nodes.old + 96 * length cells.now }
 {
-    choose(nodes, cells, index, INDEX_BITS)
+    let mut word = cells[0];
+    for place in 1..cells.len() {
+        let here = is_at(nodes, index, place)?;
+        word = select(nodes, here, &cells[place], &word)?;
+    }
+    Ok(word)
 }
 
 /// The cells with `value` in place of the one at the index, where `when` is true and the index is in range, and
@@ -62,7 +67,12 @@ pub fn write_cell(
     let beyond = is_beyond(nodes, index)?;
     let hit = nodes.and(when, Nodes::not(beyond))?;
     let mut written = Vec::new(alloc);
-    scatter(nodes, cells, index, value, INDEX_BITS, hit, &mut written)?;
+    for place in 0..cells.len() {
+        let here = is_at(nodes, index, place)?;
+        let replaced = nodes.and(hit, here)?;
+        let cell = select(nodes, replaced, value, &cells[place])?;
+        written.push(cell)?;
+    }
     Ok(written)
 }
 
@@ -82,68 +92,41 @@ fn is_beyond(nodes: &mut Nodes, index: &Word) -> Result<Bit, AllocError>
     Ok(some)
 }
 
-/// Adds the cells behind those written, with `value` in place of the one at the number that the low bits of the
-/// index spell, where `hit` is true.
-fn scatter(
-    nodes: &mut Nodes,
-    cells: &[Word],
-    index: &Word,
-    value: &Word,
-    bits: usize,
-    hit: Bit,
-    written: &mut Vec<Word>,
-) -> Result<(), AllocError>
-    requires some { 0 < length cells.now }
-    requires few { length cells.now ≤ 2 ^ bits }
-    requires small { bits ≤ 8 }
-    requires cells { AreCellsOf nodes.old cells.now }
+/// Whether the low 8 bits of the index spell this place. They are compared from the highest on, so that places with the
+/// same high bits share gates.
+fn is_at(nodes: &mut Nodes, index: &Word, place: usize) -> Result<Bit, AllocError>
+    requires place { place < 256 }
     requires index { AreBitsOf nodes.old index.now }
-    requires value { AreBitsOf nodes.old value.now }
-    requires hit { IsBitOf nodes.old hit }
-    ensures written { OnOk result (Adds (λ free. truth free nodes.old hit)
-        (λ free. low_number free nodes.old index.now bits) nodes.old cells.now value.now nodes.new
-        written.old.items written.new.items) }
+    ensures value { IfOk result (λ bit.
+        HasValue nodes.new bit (λ free. low_number free nodes.old index.now 8 == place)) }
     ensures extends { Extends nodes.old nodes.new }
-    ensures count { gates_in nodes.new ≤ gates_in nodes.old + (96 + bits) * length cells.now }
+    ensures count { gates_in nodes.new ≤ gates_in nodes.old + 8 }
 {
-    if bits == 0 {
-        let cell = select(nodes, hit, value, &cells[0])?;
-        written.push(cell)?;
-        return Ok(());
+    let mut here = Nodes::constant(true);
+    for i in 0..INDEX_BITS {
+        let height = INDEX_BITS - 1 - i;
+        let same = turned(index[height], has_one(place, height));
+        here = nodes.and(here, same)?;
     }
-    let half = power_of_two(bits - 1);
-    let bit = index[bits - 1];
-    let low = nodes.and(hit, Nodes::not(bit))?;
-    if cells.len() <= half {
-        return scatter(nodes, cells, index, value, bits - 1, low, written);
-    }
-    let high = nodes.and(hit, bit)?;
-    scatter(nodes, &cells[..half], index, value, bits - 1, low, written)?;
-    scatter(nodes, &cells[half..], index, value, bits - 1, high, written)
+    Ok(here)
 }
 
-/// The cell that is read at the low bits of the index.
-fn choose(nodes: &mut Nodes, cells: &[Word], index: &Word, bits: usize) -> Result<Word, AllocError>
-    requires some { 0 < length cells.now }
-    requires few { length cells.now ≤ 2 ^ bits }
-    requires small { bits ≤ 8 }
-    requires cells { AreCellsOf nodes.old cells.now }
-    requires index { AreBitsOf nodes.old index.now }
-    ensures bits { IfOk result (AreBitsOf nodes.new) }
-    ensures value { IfOk result (IsCellRead bits nodes.old cells.now index.now nodes.new) }
-    ensures extends { Extends nodes.old nodes.new }
-    ensures count { gates_in nodes.new + 96 ≤ gates_in nodes.old + 96 * length cells.now }
+/// The bit, or its opposite where it is not wanted.
+fn turned(bit: Bit, wanted: bool) -> Bit
+    ensures index { result.index ≡ bit.index }
+    ensures value { (nodes : List Node) (free : ℕ → Bool)
+        → truth free nodes result ≡ (if wanted then truth free nodes bit
+        else not (truth free nodes bit)) }
 {
-    if bits == 0 {
-        return Ok(cells[0]);
-    }
-    let half = power_of_two(bits - 1);
-    if cells.len() <= half {
-        return choose(nodes, cells, index, bits - 1);
-    }
-    let low = choose(nodes, &cells[..half], index, bits - 1)?;
-    let high = choose(nodes, &cells[half..], index, bits - 1)?;
-    select(nodes, index[bits - 1], &high, &low)
+    if wanted { bit } else { Nodes::not(bit) }
+}
+
+/// Whether a place, as a number in base 2, has a one at this height.
+fn has_one(place: usize, height: usize) -> bool
+    requires { height < 8 }
+    ensures { result ≡ (place / 2 ^ height % 2 == 1) }
+{
+    (place / power_of_two(height)) % 2 == 1
 }
 
 /// Two to the power of `exponent`.

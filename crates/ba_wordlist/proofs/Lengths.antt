@@ -289,7 +289,7 @@ entry-in z vs ls (Select which a b) k h =
     (at-values (elements_at vs a) 0 (k a)) (at-values (elements_at vs b) 0 (k b)))
 entry-in z vs ls (Read array index) k h =
     one-value (element_read (elements_at vs array) (value_at vs index))
-    (at-values (elements_at vs array) (place_read (length (elements_at vs array)) 8
+    (at-values (elements_at vs array) (place_read (length (elements_at vs array))
     (low_word (value_at vs index) % 256))
     (k array))
 entry-in z vs ls (Zeros count) k h = zero-values count

@@ -49,9 +49,10 @@ value_or (Some z) other = z
 abbrev pub binary_value : BinOp → CType → ℤ → ℤ → ℤ
 binary_value op t a b = value_or (converting.binary op t a b) (value_at_zero op t a)
 
--- the element at an index, where it is in the array; and else the one that an array of cells is read at (`ba_cells`)
+-- the element at an index, where it is in the array; and else the one at its low 8 bits, or the first one where these lead
+-- behind the last (`ba_cells`)
 abbrev pub element_read : List ℤ → ℤ → ℤ
-element_read zs i = slice_index_or zs (place_read (length zs) 8 (low_word i % 256)) (pos 0)
+element_read zs i = slice_index_or zs (place_read (length zs) (low_word i % 256)) (pos 0)
 
 -- what an entry has, by its free number and by what those before it have
 abbrev pub entry_of : ℤ → List (List ℤ) → WordOp → List ℤ

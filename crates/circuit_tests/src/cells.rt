@@ -19,8 +19,8 @@ fn three() -> [Word; 3]
     [word(10), word(20), word(30)]
 }
 
-/// Indices with the number of the cell that is read: behind the last one, that of fewer bits of the index.
-static READ: [[u32; 2]; 5] = [[0, 10], [1, 20], [2, 30], [3, 30], [257, 20]];
+/// Indices with the number of the cell that is read: the first one's where the low 8 bits lead behind the last.
+static READ: [[u32; 2]; 5] = [[0, 10], [1, 20], [2, 30], [3, 10], [257, 20]];
 
 /// Whether each read gives its number.
 fn reads(nodes: &mut Nodes) -> Result<bool, AllocError> {

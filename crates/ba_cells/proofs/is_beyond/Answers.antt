@@ -3,8 +3,7 @@ use Rattle.ba_nodes.specs.Gates.{truth}
 use Rattle.ba_nodes.proofs.Truths.{Extends-through, Extends_refl}
 use Rattle.ba_words.specs.Words.{bit_at, low_number}
 use Rattle.ba_words.proofs.Circuits.{HasValue-same, argument-more}
-use Rattle.ba_cells.proofs.Writes.{beyond_step, never_below}
-use Rattle.ba_cells.proofs.Trees.{low_number-grows}
+use Rattle.ba_cells.proofs.Writes.{beyond_step, never_below, low_number-grows}
 use Rattle.ba_cells.proofs.is_beyond.Goals as goal
 
 pub loop-i-init : goal.loop-i-init

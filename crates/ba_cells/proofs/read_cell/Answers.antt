@@ -1,10 +1,51 @@
-use Rattle.ba_words.proofs.Outcomes.{on_ok}
-use Rattle.ba_cells.proofs.Trees.{read_in_range}
+use Rattle.std.proofs.Common.{◌≡◌, ◌+◌, ◌==◌, sym, refl, ap, ◌∙◌, arith, if◌then◌else◌}
+use Rattle.ba_nodes.proofs.Truths.{Extends-through, Extends_refl}
+use Rattle.ba_words.specs.Words.{low_number, number_of}
+use Rattle.ba_words.proofs.Places.{are_bits-extends, low_number-extends, number_of-extends}
+use Rattle.ba_cells.specs.Cells.{cell_at, place_read}
+use Rattle.ba_cells.proofs.Places.{read-one, read-more, read_in_range, cells-extends}
 use Rattle.ba_cells.proofs.read_cell.Goals as goal
 
+pub loop-place-init : goal.loop-place-init
+loop-place-init c = record {
+  extends = Extends_refl c.args.nodes.now;
+  are_bits = c.requires.cells 0;
+  holds = λ free. ap (λ k. number_of free c.args.nodes.now (cell_at c.args.cells.now k))
+      (sym (read-one (low_number free c.args.nodes.now c.args.index.now 8)));
+  count = omega arith;
+}
+
+pub loop-place-preserved : goal.loop-place-preserved
+loop-place-preserved c =
+    let first = Extends-through c.args.nodes.now c.loop-place.nodes c.is_at.new.nodes
+    c.loop-place.invariant.extends c.is_at.ensures.extends in
+    record {
+      extends = Extends-through c.args.nodes.now c.is_at.new.nodes c.select.new.nodes first
+          c.select.ensures.extends;
+      are_bits = c.in_ok-word.ensures.number.are_bits;
+      holds = λ free.
+          let n = low_number free c.args.nodes.now c.args.index.now 8 in
+          let index = low_number-extends free c.args.nodes.now c.loop-place.nodes c.args.index.now 8
+          c.loop-place.invariant.extends c.requires.index in
+          let cell = number_of-extends free c.args.nodes.now c.is_at.new.nodes
+          (cell_at c.args.cells.now c.loop-place.place) first (c.requires.cells c.loop-place.place) in
+          let before = number_of-extends free c.loop-place.nodes c.is_at.new.nodes c.loop-place.word
+          c.is_at.ensures.extends c.loop-place.invariant.are_bits ∙ c.loop-place.invariant.holds free in
+          c.in_ok-word.ensures.number.holds free
+          ∙ (λ i. if c.in_ok-here.ensures.value.holds free i then cell i else before i)
+          ∙ ap (λ k. if k == c.loop-place.place
+          then number_of free c.args.nodes.now (cell_at c.args.cells.now c.loop-place.place)
+          else number_of free c.args.nodes.now (cell_at c.args.cells.now (place_read c.loop-place.place n)))
+          index
+          ∙ read-more (λ k. number_of free c.args.nodes.now (cell_at c.args.cells.now k)) c.loop-place.place n
+          (omega arith);
+      count = omega (arith, c.select.ensures.count, c.is_at.ensures.count, c.loop-place.invariant.count);
+    }
+
 pub returns-clause-value : goal.returns-clause-value
-returns-clause-value c =
-    on_ok c.choose.result _ _
-    (λ word. read_in_range c.args.nodes.now c.choose.new.nodes c.args.cells.now c.args.index.now word
-    c.told-index c.requires.few)
-    c.choose.ensures.value
+returns-clause-value c = read_in_range c.args.nodes.now c.loop-place.nodes c.args.cells.now c.args.index.now
+    c.loop-place.word c.told-index c.requires.few (λ free.
+    let all : c.loop-place.place ≡ _ = omega arith in
+    c.loop-place.invariant.holds free
+    ∙ ap (λ n. number_of free c.args.nodes.now (cell_at c.args.cells.now
+    (place_read n (low_number free c.args.nodes.now c.args.index.now 8)))) all)

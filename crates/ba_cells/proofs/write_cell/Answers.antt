@@ -1,26 +1,92 @@
-use Rattle.std.proofs.Common.{◌≡◌, ◌&&◌, ◌++◌, not, sym, ap, subst, ◌∙◌}
-use Rattle.ba_nodes.specs.Gates.{truth, Extends}
+use Rattle.std.proofs.Common.{◌≡◌, ◌+◌, ◌<◌, ◌==◌, ◌&&◌, not, nat_lt, length, map, drop, inl, inr, sym, ap, subst, ◌∙◌, arith, if◌then◌else◌, length-append}
+use Rattle.std.proofs.lemmas.Bool.{cases_lt}
+use Rattle.ba_nodes.specs.Gates.{truth}
 use Rattle.ba_nodes.proofs.Truths.{Extends-through}
-use Rattle.ba_words.specs.Words.{number_of}
-use Rattle.ba_cells.specs.Cells.{AreWritten}
-use Rattle.ba_cells.proofs.Writes.{whole_write}
+use Rattle.ba_words.specs.Words.{low_number, number_of, spelled}
+use Rattle.ba_words.proofs.Circuits.{low_number_below}
+use Rattle.ba_words.proofs.Places.{low_number-extends, number_of-extends}
+use Rattle.ba_words.proofs.Shapes.{number-split}
+use Rattle.ba_cells.specs.Cells.{cell_at}
+use Rattle.ba_cells.proofs.Writes.{whole_choice, pushed_cells, pushed_number, pushed_last}
 use Rattle.ba_cells.proofs.write_cell.Goals as goal
 
+pub loop-place-preserved : goal.loop-place-preserved
+loop-place-preserved c =
+    let to_gate = Extends-through c.loop-place.nodes c.is_at.new.nodes c.and-in-loop-place.new.self
+    c.is_at.ensures.extends c.and-in-loop-place.ensures.extends in
+    let one = Extends-through c.loop-place.nodes c.and-in-loop-place.new.self c.select.new.nodes to_gate
+    c.select.ensures.extends in
+    let to_select = Extends-through c.args.nodes.now c.loop-place.nodes c.and-in-loop-place.new.self
+    c.loop-place.invariant.extends to_gate in
+    record {
+      extends = Extends-through c.args.nodes.now c.loop-place.nodes c.select.new.nodes
+          c.loop-place.invariant.extends one;
+      bits = Extends-through c.and.new.self c.loop-place.nodes c.select.new.nodes
+          c.loop-place.invariant.bits one;
+      long = ap length c.in_ok-push.ensures.items ∙ length-append c.loop-place.written.items _
+          ∙ ap (λ n. n + 1) c.loop-place.invariant.long;
+      are_cells = pushed_cells c.loop-place.nodes c.select.new.nodes c.loop-place.written.items
+          c.push.new.self.items c.in_ok-cell.cell one c.in_ok-push.ensures.items c.loop-place.invariant.are_cells
+          c.in_ok-cell.ensures.number.are_bits;
+      writes = λ free k within.
+          elim (cases_lt k c.loop-place.place) [
+            | inl below ↦
+                pushed_number free c.loop-place.nodes c.select.new.nodes c.loop-place.written.items
+                c.push.new.self.items c.in_ok-cell.cell k one c.in_ok-push.ensures.items
+                c.loop-place.invariant.are_cells (omega (arith, c.loop-place.invariant.long))
+                ∙ c.loop-place.invariant.writes free k below
+            | inr past ↦
+                let here : c.loop-place.place ≡ k = omega arith in
+                let hit = c.is_at.ensures.extends.keeps free c.in_ok-hit.hit
+                (omega (arith, c.in_ok-hit.ensures.value.is_bit, c.loop-place.invariant.bits.grows))
+                ∙ c.loop-place.invariant.bits.keeps free c.in_ok-hit.hit c.in_ok-hit.ensures.value.is_bit in
+                let at = c.in_ok-here.ensures.value.holds free
+                ∙ ap (λ n. n == c.loop-place.place) (low_number-extends free c.args.nodes.now
+                c.loop-place.nodes c.args.index.now 8 c.loop-place.invariant.extends c.requires.index) in
+                subst (λ k. number_of free c.select.new.nodes (cell_at c.push.new.self.items k)
+                ≡ (if truth free c.and.new.self c.in_ok-hit.hit
+                && (low_number free c.args.nodes.now c.args.index.now 8 == k)
+                then number_of free c.args.nodes.now c.args.value.now
+                else number_of free c.args.nodes.now (cell_at c.args.cells.now k))) here
+                (ap (number_of free c.select.new.nodes) (pushed_last c.loop-place.written.items
+                c.push.new.self.items c.in_ok-cell.cell c.loop-place.place c.in_ok-push.ensures.items
+                c.loop-place.invariant.long)
+                ∙ c.in_ok-cell.ensures.number.holds free
+                ∙ ap (λ b. if b then number_of free c.and-in-loop-place.new.self c.args.value.now
+                else number_of free c.and-in-loop-place.new.self
+                (cell_at c.args.cells.now c.loop-place.place))
+                (c.in_ok-replaced.ensures.value.holds free ∙ (λ i. hit i && at i))
+                ∙ (λ i. if truth free c.and.new.self c.in_ok-hit.hit
+                && (low_number free c.args.nodes.now c.args.index.now 8 == c.loop-place.place)
+                then number_of-extends free c.args.nodes.now c.and-in-loop-place.new.self c.args.value.now
+                to_select c.requires.value i
+                else number_of-extends free c.args.nodes.now c.and-in-loop-place.new.self
+                (cell_at c.args.cells.now c.loop-place.place) to_select
+                (c.requires.cells c.loop-place.place) i))
+          ];
+      count = omega (
+        arith,
+        c.select.ensures.count,
+        c.and-in-loop-place.ensures.count,
+        c.is_at.ensures.count,
+        c.loop-place.invariant.count,
+      );
+    }
+
 pub returns-clause-value : goal.returns-clause-value
-returns-clause-value c =
-    let adds = c.in_ok-scatter.ensures.written in
-    let first : Extends c.args.nodes.now c.and.new.self =
-    Extends-through c.args.nodes.now c.is_beyond.new.nodes c.and.new.self c.is_beyond.ensures.extends
-    c.and.ensures.extends in
-    let all : c.scatter.new.written.items ≡ adds.added = adds.grown
-    ∙ ap (λ xs. xs ++ adds.added) c.new-written.ensures.items in
-    subst (λ written. AreWritten (λ free. truth free c.args.nodes.now c.args.when)
-    (λ free. number_of free c.args.nodes.now c.args.index.now) c.args.nodes.now c.args.cells.now
-    c.args.value.now c.scatter.new.nodes written) (sym all)
-    (whole_write c.args.nodes.now c.and.new.self c.scatter.new.nodes c.args.cells.now adds.added
-    c.args.index.now c.args.value.now c.args.when c.in_ok-hit.hit
-    c.told-index c.requires.few c.requires.cells c.requires.index c.requires.value first
-    (λ free. c.in_ok-hit.ensures.value.holds free
+returns-clause-value c free place within =
+    let index = c.args.index.now in
+    let n = number_of free c.args.nodes.now index in
+    let l = low_number free c.args.nodes.now index 8 in
+    let hit = c.in_ok-hit.ensures.value.holds free
     ∙ (λ i. c.is_beyond.ensures.extends.keeps free c.args.when c.requires.when i
-    && (c.not.ensures.value c.is_beyond.new.nodes free ∙ ap not (c.in_ok-beyond.ensures.value.holds free)) i))
-    adds.written)
+    && (c.not.ensures.value c.is_beyond.new.nodes free ∙ ap not (c.in_ok-beyond.ensures.value.holds free)) i) in
+    c.loop-place.invariant.writes free place (omega (arith, within))
+    ∙ ap (λ b. if b && (l == place) then number_of free c.args.nodes.now c.args.value.now
+    else number_of free c.args.nodes.now (cell_at c.args.cells.now place)) hit
+    ∙ whole_choice (truth free c.args.nodes.now c.args.when) n l (spelled (drop 8 (map (truth free
+    c.args.nodes.now) index))) place (number_of free c.args.nodes.now c.args.value.now)
+    (number_of free c.args.nodes.now (cell_at c.args.cells.now place))
+    (number-split free c.args.nodes.now index 8 (omega (arith, c.told-index)))
+    (low_number_below free c.args.nodes.now index 8 (omega (arith, c.told-index)))
+    (omega (arith, within, c.requires.few))
