@@ -47,6 +47,19 @@ static COUNTS: [(Operator, [u64; 9]); 18] = [
     ),
 ];
 
+/// How many gates the quotient and the remainder of a dividend by a free word take.
+fn gates_of_dividend(alloc: Global, dividend: u32) -> Result<u64, AllocError> {
+    let mut nodes = Nodes::new(alloc);
+    let divisor = free_word(&mut nodes)?;
+    circuit(
+        &mut nodes,
+        Operator::DivAndRem(false),
+        &word(dividend),
+        &divisor,
+    )?;
+    Ok(nodes.count())
+}
+
 /// How many gates a circuit of a free word and the second operand takes.
 fn gates(alloc: Global, operator: Operator, second: Option<u32>) -> Result<u64, AllocError> {
     let mut nodes = Nodes::new(alloc);
@@ -88,5 +101,18 @@ fn first_difference(alloc: Global) -> Result<Option<usize>, AllocError> {
 #[test]
 fn takes_the_gates_of_the_table(rt: HostRuntime) -> Result<(), Fail> {
     assert_eq!(rt; first_difference(rt.alloc())?, None);
+    Ok(())
+}
+
+#[test]
+fn takes_fewer_gates_for_a_small_dividend(rt: HostRuntime) -> Result<(), Fail> {
+    let alloc = rt.alloc();
+    let counts = [
+        gates_of_dividend(alloc, 0)?,
+        gates_of_dividend(alloc, 1)?,
+        gates_of_dividend(alloc, 255)?,
+        gates_of_dividend(alloc, 4294967295)?,
+    ];
+    assert_eq!(rt; counts, [62, 62, 175, 2045]);
     Ok(())
 }
