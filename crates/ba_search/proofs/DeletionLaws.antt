@@ -12,7 +12,9 @@ use Rattle.ba_steps.specs.declared.step.CertStep.TheVariants.{Delete}
 use Rattle.ba_steps.specs.declared.step.StepError.TheVariants.{AfterEnd, DeadClause, TooSoon, Memory}
 use Rattle.ba_checker.specs.States.{Kept, State, live_lits, lits_of, is_live_origin, clause_at, is_learnt_at, is_learnt_entry, width_at, without, without_all}
 use Rattle.ba_checker.specs.Judging.{Judge, error_if, error_of, may_go, after_delete}
-use Rattle.ba_watch.specs.Propagation.{State as Watching}
+use Rattle.ba_watch.specs.Threads.{Clause}
+use Rattle.ba_watch.specs.Propagation.{State as Watching, clause_in}
+use Rattle.ba_learn.specs.Resolving.{number_of, reason_number, number_at}
 use Rattle.ba_search.specs.Searching.{IsDiscarded}
 use Rattle.ba_search.specs.Iterations.{AreDiscarded, MarksReasons, IsNoReason}
 
@@ -108,15 +110,19 @@ gathered_none gives s marks learnt numbers none =
         ascends = tt;
         go = refl;
         discarded = All-nil (IsDiscarded gives s learnt);
-        no_reasons = All-nil (λ n. get_or marks n false ≡ false);
+        no_reasons = All-nil (λ n. get_or marks n true ≡ false);
       };
       above = λ m more. (more, tt);
     })
 
+pub pushed : (b : Bool) (old new : List ℕ) (number : ℕ) →
+    new ≡ (if b then old ++ number ∷ [] else old) → b ≡ true → new ≡ old ++ number ∷ []
+pushed b old new number is there = is ∙ ap (λ (c : Bool). if c then old ++ number ∷ [] else old) there
+
 pub gathered_more : (gives : ℕ → ℕ → Bool → Type 0) (s : State) (marks : List Bool)
     (learnt numbers more : List ℕ) (last number : ℕ) →
     more ≡ numbers ++ number ∷ [] → last < number → length s.clauses < 2 ^ 62 → may_go s number ≡ true →
-    IsDiscarded gives s learnt number → get_or marks number false ≡ false →
+    IsDiscarded gives s learnt number → get_or marks number true ≡ false →
     AreGathered gives s marks learnt numbers last →
     AreGathered gives s marks learnt more number
 gathered_more gives s marks learnt numbers more last number is above few goes given unmarked g =
@@ -127,7 +133,7 @@ gathered_more gives s marks learnt numbers more last number is above few goes gi
         ascends = g.above number above;
         go = list_all_push (may_go s) numbers number g.are.go goes;
         discarded = all_push (IsDiscarded gives s learnt) numbers number g.are.discarded given;
-        no_reasons = all_push (λ n. get_or marks n false ≡ false) numbers number g.are.no_reasons unmarked;
+        no_reasons = all_push (λ n. get_or marks n true ≡ false) numbers number g.are.no_reasons unmarked;
       };
       above = λ m higher. above_push 0 numbers number m (g.above number above) higher;
     })
@@ -135,12 +141,16 @@ gathered_more gives s marks learnt numbers more last number is above few goes gi
 -- what is unmarked is no reason
 pub no_reasons_are : (s : Watching) (marks : List Bool) (numbers : List ℕ) →
     MarksReasons s (length s.reasons) marks →
-    All (λ n. get_or marks n false ≡ false) numbers → All (IsNoReason s) numbers
+    All (λ n. get_or marks n true ≡ false) numbers → All (IsNoReason s) numbers
 no_reasons_are s marks numbers marked unmarked =
-    All-weaker (λ n. get_or marks n false ≡ false) (IsNoReason s)
+    All-weaker (λ n. get_or marks n true ≡ false) (IsNoReason s)
     (λ n none p r c within is at named. cc (sym none
-    ∙ (ap (λ m. get_or marks m false) (sym named) ∙ marked p r c within is at)))
+    ∙ (ap (λ m. get_or marks m true) (sym (reason_named s p r c is at ∙ named)) ∙ marked p within)))
     numbers unmarked
+  where
+    reason_named : (s : Watching) (p r : ℕ) (c : Clause) → get_or s.reasons p None ≡ Some r →
+        clause_in s.clauses r ≡ Some c → number_at s p ≡ c.number
+    reason_named s p r c is at = ap (reason_number s) is ∙ ap number_of at
 
 -- what an allowed deletion names
 pub all_go : (good : Judge) (s : State) (numbers : List ℕ) → error_of good s (Delete numbers) ≡ None →

@@ -1,22 +1,21 @@
 -- What a deletion leaves of a search's clauses and of its marks.
 
-use Rattle.std.proofs.Common.{◌≡◌, ◌≢◌, ℕ, suc, zero, ◌+◌, ◌<◌, ◌≤◌, ◌==◌, ◌⊎◌, ◌||◌, Bool, true, false, ltb, ◌&&◌, Option, None, Some, List, [], ◌∷◌, All, length, get_or, set, map, refl, sym, ap, subst, ◌∙◌, arith, ⊎_elim, inl, inr, get_or-set_same, get_or-set_other}
-use Rattle.std.specs.List.{list_all, Contains, slice_get}
-use Rattle.std.specs.List.Sorted.{IsPermutation}
+use Rattle.std.proofs.Common.{◌≡◌, ◌≢◌, ℕ, suc, zero, ◌+◌, ◌<◌, ◌≤◌, ◌==◌, ◌||◌, Bool, true, false, ltb, Option, None, Some, List, [], ◌∷◌, All, length, get_or, set, map, refl, sym, ap, subst, ◌∙◌, arith, ⊎_elim, get_or-set_same, get_or-set_other}
+use Rattle.std.specs.List.{list_all, Contains}
 use Rattle.std.specs.Option.{option_map}
 use Rattle.std.proofs.lemmas.Bool.{and_parts, cases_eq, cases_lt}
 use Rattle.std.proofs.lemmas.Bool.Decides.{nat_tests}
 use Rattle.std.proofs.lemmas.List.{get_or_default, get_or_past}
 use Rattle.std.proofs.lemmas.List.Elements.{All-contains}
 use Rattle.std.proofs.lemmas.List.Sorted.{length_permutation}
-use Rattle.ba_lits.specs.Literals.{Literal, lit_at}
+use Rattle.ba_lits.specs.Literals.{Literal}
 use Rattle.ba_watch.specs.Threads.{Clause}
-use Rattle.ba_watch.specs.Propagation.{State as Watching, clause_in}
+use Rattle.ba_watch.specs.Propagation.{State as Watching}
 use Rattle.ba_watch.specs.Deletion.{KeepsOthers, Deletes, MayDelete, IsNamed}
-use Rattle.ba_checker.specs.States.{Kept, State, live_lits, is_learnt_at, clause_at, width_at, without, without_all}
+use Rattle.ba_checker.specs.States.{Kept, State, is_learnt_at, clause_at, width_at, without, without_all}
 use Rattle.ba_checker.specs.Judging.{may_go, after_delete}
-use Rattle.ba_learn.specs.Live.{AreLive, IsSame, HaveDistinctNumbers}
-use Rattle.ba_search.specs.Iterations.{Numbering, HasNumber, MarksLive, MarksOne, IsNoReason, Forgets, AreDecisions, IsDecision, IsUnderway}
+use Rattle.ba_learn.specs.Live.{AreLive, IsSame}
+use Rattle.ba_search.specs.Iterations.{Numbering, MarksLive, MarksOne, IsNoReason, Forgets, AreDecisions, IsUnderway}
 use Rattle.ba_search.proofs.DeletionLaws.{width_live, length-without_all, without_other}
 
 -- the marks of so many numbers are taken off

@@ -11,12 +11,11 @@ use Rattle.ba_watch.proofs.Levels.{decided-take_drop, decided-take-le, decided-t
 use Rattle.ba_learn.specs.Backjumps.{after_backtrack}
 use Rattle.ba_checker.specs.States.{State, kept as kept_as, clause_at}
 use Rattle.ba_checker.specs.declared.store.Origin.TheVariants.{Learnt}
-use Rattle.ba_checker.specs.Judging.{after_learn, after_delete}
+use Rattle.ba_checker.specs.Judging.{after_learn}
 use Rattle.ba_learn.specs.Live.{AreLive}
 use Rattle.ba_watch.specs.Threads.{Clause}
 use Rattle.ba_search.specs.Iterations.{Numbering, MarksLive, LearnsOne, IsDecision, AreDecisions, IsUnderway}
 use Rattle.ba_search.proofs.TakenLaws.{numbered_same, live_same, numbered_more, live_more, unmarked_next}
-use Rattle.ba_search.proofs.DeletionLaws.{length-without_all}
 
 -- the front of a list
 begins_at : {X : Type 0} (front xs : List X) (p : ℕ) (d : X) → Begins front xs → p < length front →

@@ -11,6 +11,7 @@ use Rattle.ba_checker.specs.States.{State, clause_at}
 use Rattle.ba_checker.specs.Judging.{Judge, may_go}
 use Rattle.ba_checker.specs.Puts.{PutsSteps}
 use Rattle.ba_learn.specs.Live.{AreLive, HaveDistinctNumbers}
+use Rattle.ba_learn.specs.Resolving.{number_at}
 use Rattle.std.specs.List.{list_all, Contains}
 use Rattle.ba_steps.specs.Steps.{AreNumbers, AreAbove}
 use Rattle.ba_search.specs.Searching.{ArePart, IsDiscarded, Searches}
@@ -38,11 +39,14 @@ pub record MarksLive (clauses : List (Option Clause)) (taken : List Bool) : Type
       get_or taken c.number false ≡ true
   pub alone : HaveDistinctNumbers clauses
 
--- the clauses of reasons of so many literals of the trail are marked by their numbers
+-- the clauses of reasons of so many literals of the trail are marked by their numbers, where there is room for their marks
 abbrev pub MarksReasons : Watching → ℕ → List Bool → Type 0
-MarksReasons s count marks =
-    (p reference : ℕ) (c : Clause) → p < count → get_or s.reasons p None ≡ Some reference →
-    clause_in s.clauses reference ≡ Some c → get_or marks c.number false ≡ true
+MarksReasons s count marks = (p : ℕ) → p < count → get_or marks (number_at s p) true ≡ true
+
+-- only the clauses of reasons of literals from one place of the trail up to another are marked
+abbrev pub MarksOnly : Watching → ℕ → ℕ → List Bool → Type 0
+MarksOnly s first last marks = (number : ℕ) → get_or marks number false ≡ true →
+    (p : ℕ) × (first ≤ p) × (p < last) × (number_at s p ≡ number)
 
 -- no literal of the trail has the clause of a number as its reason
 abbrev pub IsNoReason : Watching → ℕ → Type 0
@@ -94,7 +98,7 @@ pub record AreDiscarded (gives : ℕ → ℕ → Bool →
   pub ascends : AreAbove 0 numbers
   pub go : list_all (may_go c) numbers ≡ true
   pub discarded : All (IsDiscarded gives c learnt) numbers
-  pub no_reasons : All (λ n. get_or marks n false ≡ false) numbers
+  pub no_reasons : All (λ n. get_or marks n true ≡ false) numbers
 
 -- the literals are true under a trail
 abbrev pub AreTrue : List Literal → List Literal → Type 0

@@ -13,6 +13,7 @@ ghost use Rattle.ba_search.specs.declared.search.SearchError.{SearchError};
 
 use crate::clause_numbers::ClauseNumbers;
 use crate::order::Order;
+use crate::reduction::Reduction;
 use crate::search::SearchError;
 use ba_checker::Checker;
 use ba_learn::Analyser;
@@ -28,6 +29,7 @@ pub struct Engine {
     pub numbers: ClauseNumbers,
     pub analyser: Analyser,
     pub order: Order,
+    pub reduction: Reduction,
     pub restarts: u64,
     pub since: u64,
     /// A place of the trail where the first literal that is no assumption may have been decided.
@@ -51,6 +53,7 @@ impl Engine {
             numbers: ClauseNumbers::new(alloc),
             analyser: Analyser::new(alloc),
             order: Order::new(alloc),
+            reduction: Reduction::new(alloc),
             restarts: 0,
             since: 0,
             first_branch: 0,
@@ -102,6 +105,7 @@ impl Engine {
             return Err(AllocError);
         }
         self.watch.add_clause(lits, number)?;
+        self.reduction.make_room_for_mark(number)?;
         self.numbers.take(number)
     }
 

@@ -86,7 +86,9 @@ impl Engine {
         self.watch.keeps_facts();
         self.backtrack(learnt.back);
         self.add(learnt.lits.as_slice(), number)?;
-        self.numbers.learn(number)
+        self.numbers.learn(number)?;
+        self.reduction
+            .make_room_for_numbers(self.numbers.learnt().len())
     }
 
     /// Bumps the activities of the variables of a learnt clause, and of those above level 0 that were resolved for it.

@@ -1,17 +1,104 @@
-//! Which learnt clauses are discarded.
+//! Which learnt clauses are discarded, without taking memory.
 
-ghost use Rattle.std.specs.Prelude.{◌≡◌, ◌+◌, ◌<◌, ◌≤◌, ◌^◌, true, false, IfOk, OnOk, length, get_or, All};
+ghost use Rattle.std.specs.Prelude.{◌≡◌, ◌≢◌, ℕ, ◌+◌, ◌<◌, ◌≤◌, ◌^◌, ◌++◌, ◌∷◌, [], Bool, true, false, length, get_or, All, if◌then◌else◌};
 ghost use Rattle.std.specs.List.{list_all};
 ghost use Rattle.ba_steps.specs.Steps.{AreNumbers, AreAbove};
 ghost use Rattle.ba_checker.specs.Judging.{apart_by, may_go};
+ghost use Rattle.ba_learn.specs.Resolving.{number_at};
 ghost use Rattle.ba_search.specs.Rules.{IsKeepRule};
 ghost use Rattle.ba_search.specs.Searching.{IsDiscarded};
-ghost use Rattle.ba_search.specs.Iterations.{AreDiscarded, IsNoReason, MarksReasons};
+ghost use Rattle.ba_search.specs.Iterations.{AreDiscarded, IsNoReason, MarksReasons, MarksOnly};
 
 use ba_checker::{APART_BY, Checker};
-use ba_lits::Marks;
+use ba_items::{Items, fill_up};
+use ba_steps::CertStep;
 use ba_watch::Watch;
 use std::alloc::{AllocError, Global};
+use std::marker::Model;
+use std::mem;
+
+/// What a deletion of learnt clauses works with, so that it takes no memory: a mark for each clause, by its number, and a
+/// list whose items mean nothing. Contracts see the marks. None is set but during a deletion.
+#[derive(Drop)]
+pub struct Reduction {
+    marks: Vec<bool>,
+    numbers: Vec<u64>,
+}
+
+impl Model for Reduction {
+    ghost use Rattle.std.specs.Prelude.{◌≡◌, ℕ, List, Bool, false, get_or};
+
+    ghost Value = { List Bool };
+
+    ghost view = { λ r. r.marks.items };
+
+    ghost invariant = { λ r. (number : ℕ) → get_or r.marks.items number false ≡ false };
+}
+
+impl Reduction {
+    /// No room. It takes no memory.
+    pub fn new(alloc: Global) -> Reduction {
+        Reduction {
+            marks: Vec::new(alloc),
+            numbers: Vec::new(alloc),
+        }
+    }
+
+    /// Makes room for the mark of a clause.
+    ///
+    /// The one error is want of memory.
+    pub fn make_room_for_mark(&mut self, number: u64) -> Result<(), AllocError>
+        requires { number < 2 ^ 62 }
+    {
+        fill_up(&mut self.marks, number as usize + 1, false)
+    }
+
+    /// Makes room for so many numbers.
+    ///
+    /// The one error is want of memory.
+    pub fn make_room_for_numbers(&mut self, count: usize) -> Result<(), AllocError> {
+        self.numbers.clear();
+        self.numbers.reserve(count)
+    }
+
+    /// The numbers of the learnt clauses that the keep rule discards and that are no reasons, in their order, as many as
+    /// there is room for. The room goes with them, until [`Reduction::reuse`] takes it back.
+    pub fn discarded<K: Fn(u64, u64) -> bool + Drop>(
+        &mut self,
+        alloc: Global,
+        watch: &Watch,
+        learnt: &[u64],
+        checker: &Checker,
+        keep: &K,
+    ) -> Vec<u64>
+        requires keep { IsKeepRule (K.pre keep.now) (K.post keep.now) }
+        requires few { length checker.now.clauses < 2 ^ 62 }
+        ensures numbers { AreNumbers result.items }
+        ensures ascends { AreAbove 0 result.items }
+        ensures may_go { list_all (may_go checker.now) result.items ≡ true }
+        ensures discarded { All (IsDiscarded (K.post keep.now) checker.now learnt.now) result.items }
+        ensures no_reasons { All (IsNoReason watch.now) result.items }
+    {
+        mark_reasons(&mut self.marks, watch);
+        let room = mem::replace(&mut self.numbers, Vec::new(alloc));
+        let numbers = gather(room, self.marks.as_slice(), learnt, checker, keep);
+        unmark_reasons(&mut self.marks, watch);
+        numbers
+    }
+
+    /// Takes the list of a deletion for its room.
+    pub fn reuse(&mut self, numbers: Vec<u64>) {
+        self.numbers = numbers;
+    }
+}
+
+/// Takes the numbers out of a step that deletes clauses. It takes no memory.
+pub fn take_numbers(alloc: Global, step: &mut CertStep) -> Vec<u64> {
+    match step {
+        CertStep::Delete { clauses } => mem::replace(clauses, Items::new(alloc)).into_vec(),
+        _ => Vec::new(alloc),
+    }
+}
 
 /// Whether so many clauses were learnt since the last deletion that another may come, and some are no longer young.
 pub fn may_reduce(learnt: &[u64], checker: &Checker) -> bool
@@ -20,63 +107,49 @@ pub fn may_reduce(learnt: &[u64], checker: &Checker) -> bool
     checker.learnt() >= APART_BY && learnt.len() > youth(learnt, checker)
 }
 
-/// The numbers of the learnt clauses that the keep rule discards and that are no reasons, in their order.
-///
-/// The one error is want of memory.
-pub fn discarded<K: Fn(u64, u64) -> bool + Drop>(
-    alloc: Global,
-    watch: &Watch,
-    learnt: &[u64],
-    checker: &Checker,
-    keep: &K,
-) -> Result<Vec<u64>, AllocError>
-    requires keep { IsKeepRule (K.pre keep.now) (K.post keep.now) }
-    requires few { length checker.now.clauses < 2 ^ 62 }
-    ensures numbers { IfOk result (λ numbers. AreNumbers numbers.items) }
-    ensures ascends { IfOk result (λ numbers. AreAbove 0 numbers.items) }
-    ensures may_go { IfOk result (λ numbers. list_all (may_go checker.now) numbers.items ≡ true) }
-    ensures discarded { IfOk result (λ numbers.
-        All (IsDiscarded (K.post keep.now) checker.now learnt.now) numbers.items) }
-    ensures no_reasons { IfOk result (λ numbers. All (IsNoReason watch.now) numbers.items) }
-{
-    let reasons = reason_numbers(alloc, watch)?;
-    gather(alloc, &reasons, learnt, checker, keep)
-}
-
-/// The numbers of the learnt clauses that the keep rule discards and that aren't marked as reasons, in their order.
-///
-/// The one error is want of memory.
+/// The numbers of the learnt clauses that the keep rule discards and that aren't marked as reasons, in their order, as many
+/// as there is room for.
 fn gather<K: Fn(u64, u64) -> bool + Drop>(
-    alloc: Global,
-    reasons: &Marks,
+    room: Vec<u64>,
+    marks: &[bool],
     learnt: &[u64],
     checker: &Checker,
     keep: &K,
-) -> Result<Vec<u64>, AllocError>
+) -> Vec<u64>
     requires keep { IsKeepRule (K.pre keep.now) (K.post keep.now) }
     requires few { length checker.now.clauses < 2 ^ 62 }
-    ensures { IfOk result (λ numbers.
-        AreDiscarded (K.post keep.now) checker.now reasons.now learnt.now numbers.items) }
+    ensures { AreDiscarded (K.post keep.now) checker.now marks.now learnt.now result.items }
 {
-    let mut numbers = Vec::new(alloc);
+    let mut numbers = room;
+    numbers.clear();
     let mut last = 0;
     for place in 0..learnt.len() {
         let number = learnt[place];
         if number <= last {
             continue;
         }
-        if !is_discarded(reasons, learnt, place, checker, keep) {
+        if !is_discarded(marks, learnt, place, checker, keep) {
             continue;
         }
-        numbers.push(number)?;
+        if !push_within_room(&mut numbers, number) {
+            break;
+        }
         last = number;
     }
-    Ok(numbers)
+    numbers
+}
+
+/// Adds a number where there is room for it, and tells whether there was.
+fn push_within_room(numbers: &mut Vec<u64>, number: u64) -> bool
+    ensures { numbers.new.items
+        ≡ (if result then numbers.old.items ++ number ∷ [] else numbers.old.items) }
+{
+    numbers.len() < numbers.capacity() && numbers.push(number).is_ok()
 }
 
 /// Whether the learnt clause whose number stands at a place is discarded by the keep rule and isn't marked as a reason.
 fn is_discarded<K: Fn(u64, u64) -> bool + Drop>(
-    reasons: &Marks,
+    marks: &[bool],
     learnt: &[u64],
     place: usize,
     checker: &Checker,
@@ -87,11 +160,10 @@ fn is_discarded<K: Fn(u64, u64) -> bool + Drop>(
     ensures may_go { result ≡ true → may_go checker.now (get_or learnt.now place 0) ≡ true }
     ensures discarded { result ≡ true
         → IsDiscarded (K.post keep.now) checker.now learnt.now (get_or learnt.now place 0) }
-    ensures no_reason { result ≡ true → get_or reasons.now (get_or learnt.now place 0) false
-        ≡ false }
+    ensures no_reason { result ≡ true → get_or marks.now (get_or learnt.now place 0) true ≡ false }
 {
     let number = learnt[place];
-    if reasons.contains(number as usize) || !checker.is_learnt(number) {
+    if is_marked(marks, number) || !checker.is_learnt(number) {
         return false;
     }
     let Some(lits) = checker.clause(number) else {
@@ -110,34 +182,55 @@ fn youth(learnt: &[u64], checker: &Checker) -> usize {
     (checker.last() as usize).saturating_sub(learnt.len()) / 2
 }
 
-/// The marked numbers of the clauses because of which literals of the trail are true.
-///
-/// The one error is want of memory or of room.
-fn reason_numbers(alloc: Global, watch: &Watch) -> Result<Marks, AllocError>
-    ensures { IfOk result (λ marks. MarksReasons watch.now (length watch.now.reasons) marks) }
+/// Marks the clauses because of which literals of the trail are true, where there is room for their marks.
+fn mark_reasons(marks: &mut Vec<bool>, watch: &Watch)
+    requires { (number : ℕ) → get_or marks.old.items number false ≡ false }
+    ensures marked { MarksReasons watch.now (length watch.now.reasons) marks.new.items }
+    ensures only { MarksOnly watch.now 0 (length watch.now.reasons) marks.new.items }
 {
-    let mut marks = Marks::new(alloc);
     for place in 0..watch.reasons().len() {
-        mark_reason(&mut marks, watch, place)?;
+        set_mark(marks, reason_number(watch, place), true);
     }
-    Ok(marks)
 }
 
-/// Marks the number of the clause because of which a literal of the trail is true, if it has one.
-///
-/// The one error is want of memory or of room.
-fn mark_reason(marks: &mut Marks, watch: &Watch, place: usize) -> Result<(), AllocError>
-    requires within { place < length watch.now.reasons }
-    requires before { MarksReasons watch.now place marks.old }
-    ensures { OnOk result (MarksReasons watch.now (place + 1) marks.new) }
+/// Takes the marks of the clauses because of which literals of the trail are true off.
+fn unmark_reasons(marks: &mut Vec<bool>, watch: &Watch)
+    requires { MarksOnly watch.now 0 (length watch.now.reasons) marks.old.items }
+    ensures { (number : ℕ) → get_or marks.new.items number false ≡ false }
+{
+    for place in 0..watch.reasons().len() {
+        set_mark(marks, reason_number(watch, place), false);
+    }
+}
+
+/// The number of the clause because of which a literal of the trail is true, and 0 where it was decided.
+fn reason_number(watch: &Watch, place: usize) -> u64
+    requires { place < length watch.now.reasons }
+    ensures { result ≡ number_at watch.now place }
 {
     watch.keeps_facts();
-    let Some(clause) = watch.reasons()[place] else {
-        return Ok(());
-    };
-    let number = watch.arena().number(clause);
-    if number >= 1 << 62 {
-        return Err(AllocError);
+    match watch.reasons()[place] {
+        Some(clause) => watch.arena().number(clause),
+        None => 0,
     }
-    marks.insert(number as usize)
+}
+
+/// Whether a number is marked. One for whose mark there is no room counts as marked.
+fn is_marked(marks: &[bool], number: u64) -> bool
+    ensures { result ≡ get_or marks.now number true }
+{
+    let place = number as usize;
+    place >= marks.len() || marks[place]
+}
+
+/// Sets the mark of a number where there is room for it.
+fn set_mark(marks: &mut Vec<bool>, number: u64, mark: bool)
+    ensures this { get_or marks.new.items number mark ≡ mark }
+    ensures others { (n : ℕ) (past : Bool) → n ≢ number
+        → get_or marks.new.items n past ≡ get_or marks.old.items n past }
+{
+    let place = number as usize;
+    if place < marks.len() {
+        marks[place] = mark;
+    }
 }

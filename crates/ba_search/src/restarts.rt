@@ -9,7 +9,7 @@ ghost use Rattle.ba_search.specs.Iterations.{IsUnderway, Puts, iterations_left};
 ghost use Rattle.ba_search.specs.declared.search.SearchError.{SearchError};
 
 use crate::engine::Engine;
-use crate::reduction::{discarded, may_reduce};
+use crate::reduction::{may_reduce, take_numbers};
 use crate::search::SearchError;
 use ba_checker::Checked;
 use ba_items::Items;
@@ -99,22 +99,24 @@ impl Engine {
             self.old.numbers.learnt checked.old.checker (S.logs checked.old.sink)
             checked.new.checker (S.logs checked.new.sink) }
     {
-        let checker = checked.checker();
-        let numbers = discarded(
+        let numbers = self.reduction.discarded(
             self.alloc,
             &self.watch,
             self.numbers.learnt(),
-            checker,
+            checked.checker(),
             keep,
-        )?;
+        );
         if numbers.is_empty() {
+            self.reduction.reuse(numbers);
             return Ok(());
         }
         self.delete(numbers.as_slice());
-        let deletion = CertStep::Delete {
+        let mut deletion = CertStep::Delete {
             clauses: Items::from_vec(numbers),
         };
         checked.put(&deletion)?;
+        self.reduction
+            .reuse(take_numbers(self.alloc, &mut deletion));
         Ok(())
     }
 }

@@ -9,11 +9,6 @@ use Rattle.ba_search.proofs.DeletedSteps.{some_items, delete_step, named_formed,
 use Rattle.ba_search.proofs.ForgetLaws.{may_delete, underway_deleted}
 use Rattle.ba_search.proofs.engine.Engine.reduce.Goals as goal
 
-pub returns-in_err-numbers-clause-leaves : goal.returns-in_err-numbers-clause-leaves
-returns-in_err-numbers-clause-leaves g c = leaves_none (g.J.RunJudge.accepts c.args.checked.now.judge)
-    (λ width age kept. g.K.Fn.post c.args.keep.now (width, (age, tt)) kept) c.args.self.now.numbers.learnt
-    c.args.checked.now.checker (g.S.StepSink.logs c.args.checked.now.sink)
-
 pub returns-then-is_empty-clause-puts : goal.returns-then-is_empty-clause-puts
 returns-then-is_empty-clause-puts g c = puts_none (g.J.RunJudge.accepts c.args.checked.now.judge)
     (λ width age kept. g.K.Fn.post c.args.keep.now (width, (age, tt)) kept) c.args.checked.now.checker
@@ -29,38 +24,38 @@ put-requires-clause-formed g c =
     let k = c.args.checked.now.checker in
     named_formed (g.J.RunJudge.accepts c.args.checked.now.judge)
     (λ width age kept. g.K.Fn.post c.args.keep.now (width, (age, tt)) kept) k c.args.self.now.numbers.learnt
-    c.in_ok-numbers.numbers.items c.from_vec.result c.from_vec.ensures
+    c.discarded-numbers.result.items c.from_vec.result c.from_vec.ensures
     (delete_step (g.J.RunJudge.accepts c.args.checked.now.judge)
     (λ width age kept. g.K.Fn.post c.args.keep.now (width, (age, tt)) kept) c.args.assumptions.now
-    c.args.self.now.watch c.args.self.now.numbers k c.checker-checker.result.now
+    c.args.self.now.watch c.args.self.now.numbers k c.checker.result.now
     c.args.self.now.numbers.learnt
-    c.learnt.result.now c.in_ok-numbers.numbers.items
-    c.requires.underway c.requires.learnt c.checker-checker.ensures c.learnt.ensures
-    c.in_ok-numbers.ensures.numbers
-    c.in_ok-numbers.ensures.ascends
-    (some_items c.in_ok-numbers.numbers.items (vec_len c.in_ok-numbers.numbers) c.is_empty.result
+    c.learnt.result.now c.discarded-numbers.result.items
+    c.requires.underway c.requires.learnt c.checker.ensures c.learnt.ensures
+    c.discarded-numbers.ensures.numbers
+    c.discarded-numbers.ensures.ascends
+    (some_items c.discarded-numbers.result.items (vec_len c.discarded-numbers.result) c.is_empty.result
     c.is_empty.ensures
-    c.if-is_empty.false (omega (arith, c.in_ok-numbers.numbers.ok.0)))
-    c.in_ok-numbers.ensures.may_go c.in_ok-numbers.ensures.discarded)
+    c.if-is_empty.false (omega (arith, c.discarded-numbers.result.ok.0)))
+    c.discarded-numbers.ensures.may_go c.discarded-numbers.ensures.discarded)
 
 pub put-requires-clause-allowed : goal.put-requires-clause-allowed
 put-requires-clause-allowed g c = λ fresh awake.
     let k = c.args.checked.now.checker in
     named_allowed (g.J.RunJudge.accepts c.args.checked.now.judge)
     (λ width age kept. g.K.Fn.post c.args.keep.now (width, (age, tt)) kept) k c.args.self.now.numbers.learnt
-    c.in_ok-numbers.numbers.items c.from_vec.result c.from_vec.ensures
+    c.discarded-numbers.result.items c.from_vec.result c.from_vec.ensures
     (delete_step (g.J.RunJudge.accepts c.args.checked.now.judge)
     (λ width age kept. g.K.Fn.post c.args.keep.now (width, (age, tt)) kept) c.args.assumptions.now
-    c.args.self.now.watch c.args.self.now.numbers k c.checker-checker.result.now
+    c.args.self.now.watch c.args.self.now.numbers k c.checker.result.now
     c.args.self.now.numbers.learnt
-    c.learnt.result.now c.in_ok-numbers.numbers.items
-    c.requires.underway c.requires.learnt c.checker-checker.ensures c.learnt.ensures
-    c.in_ok-numbers.ensures.numbers
-    c.in_ok-numbers.ensures.ascends
-    (some_items c.in_ok-numbers.numbers.items (vec_len c.in_ok-numbers.numbers) c.is_empty.result
+    c.learnt.result.now c.discarded-numbers.result.items
+    c.requires.underway c.requires.learnt c.checker.ensures c.learnt.ensures
+    c.discarded-numbers.ensures.numbers
+    c.discarded-numbers.ensures.ascends
+    (some_items c.discarded-numbers.result.items (vec_len c.discarded-numbers.result) c.is_empty.result
     c.is_empty.ensures
-    c.if-is_empty.false (omega (arith, c.in_ok-numbers.numbers.ok.0)))
-    c.in_ok-numbers.ensures.may_go c.in_ok-numbers.ensures.discarded)
+    c.if-is_empty.false (omega (arith, c.discarded-numbers.result.ok.0)))
+    c.discarded-numbers.ensures.may_go c.discarded-numbers.ensures.discarded)
 
 pub returns-in_err-put-clause-leaves : goal.returns-in_err-put-clause-leaves
 returns-in_err-put-clause-leaves g c =
@@ -68,40 +63,40 @@ returns-in_err-put-clause-leaves g c =
     delete_tried (g.J.RunJudge.accepts c.args.checked.now.judge)
     (λ width age kept. g.K.Fn.post c.args.keep.now (width, (age, tt)) kept) k c.put.new.self.checker
     c.args.self.now.numbers.learnt (g.S.StepSink.logs c.args.checked.now.sink)
-    (g.S.StepSink.logs c.put.new.self.sink) c.in_ok-numbers.numbers.items c.from_vec.result c.from_vec.ensures
+    (g.S.StepSink.logs c.put.new.self.sink) c.discarded-numbers.result.items c.from_vec.result c.from_vec.ensures
     (delete_step (g.J.RunJudge.accepts c.args.checked.now.judge)
     (λ width age kept. g.K.Fn.post c.args.keep.now (width, (age, tt)) kept) c.args.assumptions.now
-    c.args.self.now.watch c.args.self.now.numbers k c.checker-checker.result.now
+    c.args.self.now.watch c.args.self.now.numbers k c.checker.result.now
     c.args.self.now.numbers.learnt
-    c.learnt.result.now c.in_ok-numbers.numbers.items
-    c.requires.underway c.requires.learnt c.checker-checker.ensures c.learnt.ensures
-    c.in_ok-numbers.ensures.numbers
-    c.in_ok-numbers.ensures.ascends
-    (some_items c.in_ok-numbers.numbers.items (vec_len c.in_ok-numbers.numbers) c.is_empty.result
+    c.learnt.result.now c.discarded-numbers.result.items
+    c.requires.underway c.requires.learnt c.checker.ensures c.learnt.ensures
+    c.discarded-numbers.ensures.numbers
+    c.discarded-numbers.ensures.ascends
+    (some_items c.discarded-numbers.result.items (vec_len c.discarded-numbers.result) c.is_empty.result
     c.is_empty.ensures
-    c.if-is_empty.false (omega (arith, c.in_ok-numbers.numbers.ok.0)))
-    c.in_ok-numbers.ensures.may_go c.in_ok-numbers.ensures.discarded)
+    c.if-is_empty.false (omega (arith, c.discarded-numbers.result.ok.0)))
+    c.discarded-numbers.ensures.may_go c.discarded-numbers.ensures.discarded)
     (c.in_err-put.ensures.taken_or_asleep c.requires.fresh) c.in_err-put.ensures.refused
 
 pub delete-requires : goal.delete-requires
 delete-requires g c =
     let k = c.args.checked.now.checker in
     let u = c.requires.underway in
-    let go : list_all (may_go k) c.in_ok-numbers.numbers.items ≡ true =
-    subst (λ (x : State). list_all (may_go x) c.in_ok-numbers.numbers.items ≡ true) c.checker-checker.ensures
-    c.in_ok-numbers.ensures.may_go in
+    let go : list_all (may_go k) c.discarded-numbers.result.items ≡ true =
+    subst (λ (x : State). list_all (may_go x) c.discarded-numbers.result.items ≡ true) c.checker.ensures
+    c.discarded-numbers.ensures.may_go in
     subst (λ (ns : List ℕ). MayDelete c.args.self.now.watch ns) (sym c.as_slice.ensures.value)
-    (may_delete c.args.self.now.watch k c.args.self.now.numbers.taken c.in_ok-numbers.numbers.items
+    (may_delete c.args.self.now.watch k c.args.self.now.numbers.taken c.discarded-numbers.result.items
     u.numbered u.live go
-    c.in_ok-numbers.ensures.no_reasons)
+    c.discarded-numbers.ensures.no_reasons)
 
 pub returns-clause-underway : goal.returns-clause-underway
 returns-clause-underway g c =
     let d = c.put.new.self.checker in
     underway_deleted c.args.assumptions.now c.args.self.now.watch c.delete.new.self.watch
     c.args.self.now.numbers
-    c.delete.new.self.numbers c.args.checked.now.checker d c.in_ok-numbers.numbers.items
-    (delete_taken c.args.checked.now.checker d c.in_ok-numbers.numbers.items c.from_vec.result
+    c.delete.new.self.numbers c.args.checked.now.checker d c.discarded-numbers.result.items
+    (delete_taken c.args.checked.now.checker d c.discarded-numbers.result.items c.from_vec.result
     c.from_vec.ensures
     c.in_ok-put.ensures.taken)
     (subst (λ (ns : List ℕ). Deletes c.args.self.now.watch c.delete.new.self.watch ns)
@@ -118,19 +113,19 @@ returns-clause-puts g c =
     (λ width age kept. g.K.Fn.post c.args.keep.now (width, (age, tt)) kept) k c.put.new.self.checker
     c.args.self.now.numbers.learnt c.delete.new.self.numbers.learnt
     (g.S.StepSink.logs c.args.checked.now.sink)
-    (g.S.StepSink.logs c.put.new.self.sink) c.in_ok-numbers.numbers.items c.from_vec.result c.from_vec.ensures
+    (g.S.StepSink.logs c.put.new.self.sink) c.discarded-numbers.result.items c.from_vec.result c.from_vec.ensures
     (delete_step (g.J.RunJudge.accepts c.args.checked.now.judge)
     (λ width age kept. g.K.Fn.post c.args.keep.now (width, (age, tt)) kept) c.args.assumptions.now
-    c.args.self.now.watch c.args.self.now.numbers k c.checker-checker.result.now
+    c.args.self.now.watch c.args.self.now.numbers k c.checker.result.now
     c.args.self.now.numbers.learnt
-    c.learnt.result.now c.in_ok-numbers.numbers.items
-    c.requires.underway c.requires.learnt c.checker-checker.ensures c.learnt.ensures
-    c.in_ok-numbers.ensures.numbers
-    c.in_ok-numbers.ensures.ascends
-    (some_items c.in_ok-numbers.numbers.items (vec_len c.in_ok-numbers.numbers) c.is_empty.result
+    c.learnt.result.now c.discarded-numbers.result.items
+    c.requires.underway c.requires.learnt c.checker.ensures c.learnt.ensures
+    c.discarded-numbers.ensures.numbers
+    c.discarded-numbers.ensures.ascends
+    (some_items c.discarded-numbers.result.items (vec_len c.discarded-numbers.result) c.is_empty.result
     c.is_empty.ensures
-    c.if-is_empty.false (omega (arith, c.in_ok-numbers.numbers.ok.0)))
-    c.in_ok-numbers.ensures.may_go c.in_ok-numbers.ensures.discarded)
+    c.if-is_empty.false (omega (arith, c.discarded-numbers.result.ok.0)))
+    c.discarded-numbers.ensures.may_go c.discarded-numbers.ensures.discarded)
     c.in_ok-put.ensures.taken c.delete.ensures.learnt c.in_ok-put.ensures.told
 
 pub returns-clause-leaves : goal.returns-clause-leaves
@@ -139,17 +134,17 @@ returns-clause-leaves g c =
     delete_left (g.J.RunJudge.accepts c.args.checked.now.judge)
     (λ width age kept. g.K.Fn.post c.args.keep.now (width, (age, tt)) kept) k c.put.new.self.checker
     c.args.self.now.numbers.learnt (g.S.StepSink.logs c.args.checked.now.sink)
-    (g.S.StepSink.logs c.put.new.self.sink) c.in_ok-numbers.numbers.items c.from_vec.result c.from_vec.ensures
+    (g.S.StepSink.logs c.put.new.self.sink) c.discarded-numbers.result.items c.from_vec.result c.from_vec.ensures
     (delete_step (g.J.RunJudge.accepts c.args.checked.now.judge)
     (λ width age kept. g.K.Fn.post c.args.keep.now (width, (age, tt)) kept) c.args.assumptions.now
-    c.args.self.now.watch c.args.self.now.numbers k c.checker-checker.result.now
+    c.args.self.now.watch c.args.self.now.numbers k c.checker.result.now
     c.args.self.now.numbers.learnt
-    c.learnt.result.now c.in_ok-numbers.numbers.items
-    c.requires.underway c.requires.learnt c.checker-checker.ensures c.learnt.ensures
-    c.in_ok-numbers.ensures.numbers
-    c.in_ok-numbers.ensures.ascends
-    (some_items c.in_ok-numbers.numbers.items (vec_len c.in_ok-numbers.numbers) c.is_empty.result
+    c.learnt.result.now c.discarded-numbers.result.items
+    c.requires.underway c.requires.learnt c.checker.ensures c.learnt.ensures
+    c.discarded-numbers.ensures.numbers
+    c.discarded-numbers.ensures.ascends
+    (some_items c.discarded-numbers.result.items (vec_len c.discarded-numbers.result) c.is_empty.result
     c.is_empty.ensures
-    c.if-is_empty.false (omega (arith, c.in_ok-numbers.numbers.ok.0)))
-    c.in_ok-numbers.ensures.may_go c.in_ok-numbers.ensures.discarded)
+    c.if-is_empty.false (omega (arith, c.discarded-numbers.result.ok.0)))
+    c.discarded-numbers.ensures.may_go c.discarded-numbers.ensures.discarded)
     c.in_ok-put.ensures.taken c.in_ok-put.ensures.told
