@@ -1,7 +1,9 @@
 -- A checker whose steps go to a sink.
 
-use Rattle.std.specs.Prelude.{◌≡◌, ◌⊎◌, true, Option, None, Some, Result, Ok, Err, List, [], ◌∷◌, ◌++◌}
+use base.Fml.{GName}
+use Rattle.std.specs.Prelude.{◌≡◌, ℕ, ◌≤◌, ◌⊎◌, true, Option, None, Some, Result, Ok, Err, List, [], ◌∷◌, ◌++◌}
 use Rattle.ba_steps.specs.Sinks.{Logs, with_step, MayAddStep}
+use Rattle.ba_steps.specs.declared.sink.Basis.{Basis}
 use Rattle.ba_steps.specs.declared.step.CertStep.{CertStep}
 use Rattle.ba_steps.specs.declared.sink.SinkError.{SinkError}
 use Rattle.ba_checker.specs.States.{State}
@@ -12,6 +14,15 @@ pub record Putting (S J : Type 0) : Type 0 where
   pub judge : J
   pub sink : S
   pub refusal : Option SinkError
+
+-- what no call changes, by what the sink tells of its formulas, its faults and its references: the judge, the formulas and the
+-- references stay the same, and the faults don't fall
+pub record Lasts {S J : Type 0} (over : S → Option (List Basis)) (faults : S → ℕ)
+    (references : S → List GName) (old new : Putting S J) : Type 0 where
+  pub judge_stays : new.judge ≡ old.judge
+  pub over_stays : over new.sink ≡ over old.sink
+  pub no_fall : faults old.sink ≤ faults new.sink
+  pub same_references : references new.sink ≡ references old.sink
 
 -- the refusal that an answer is
 abbrev pub refusal_of : Result Unit SinkError → Option SinkError

@@ -1,11 +1,11 @@
 //! A checker whose allowed steps go to a sink.
 
-ghost use Rattle.std.specs.Prelude.{◌≡◌, ◌≤◌, ◌⊎◌, true, false, None, Some, OnOk, OnErr, IfErr};
+ghost use Rattle.std.specs.Prelude.{◌≡◌, ◌⊎◌, true, false, None, Some, OnOk, OnErr, IfErr};
 ghost use Rattle.ba_steps.specs.Steps.{IsFormed};
 ghost use Rattle.ba_steps.specs.Sinks.{with_step, MayAddStep, Rose};
 ghost use Rattle.ba_steps.specs.declared.sink.SinkError.{SinkError};
 ghost use Rattle.ba_checker.specs.Judging.{error_of, after};
-ghost use Rattle.ba_checker.specs.Puts.{refusal_of, IsTakenOrAsleep};
+ghost use Rattle.ba_checker.specs.Puts.{Lasts, refusal_of, IsTakenOrAsleep};
 
 use crate::checker::Checker;
 use ba_steps::{CertStep, RunJudge, SinkError, StepSink};
@@ -95,7 +95,7 @@ impl<S: StepSink, J: RunJudge> Checked<S, J> {
         requires formed { IsFormed step.now }
         requires allowed { self.old.refusal ≡ None → self.old.checker.refused ≡ false
             → error_of (J.accepts self.old.judge) self.old.checker step.now ≡ None }
-        ensures judge_stays { self.new.judge ≡ self.old.judge }
+        ensures lasts { Lasts S.over S.faults S.references self.old self.new }
         ensures fresh { OnOk result (self.old.refusal ≡ None) }
         ensures taken { OnOk result (self.new.checker ≡ after self.old.checker step.now) }
         ensures awake { OnOk result (self.new.checker.refused ≡ false) }
@@ -111,11 +111,8 @@ impl<S: StepSink, J: RunJudge> Checked<S, J> {
         ensures keeps { IfErr result (λ error. self.new.refusal ≡ Some error) }
         ensures again { (error : SinkError) → self.old.refusal ≡ Some error → (result ≡ Err error)
             × (self.new ≡ self.old) }
-        ensures over_stays { S.over self.new.sink ≡ S.over self.old.sink }
         ensures cause { result ≡ Err SinkError.Failed
             → (self.old.refusal ≡ Some SinkError.Failed) ⊎ Rose (S.faults self.old.sink) (S.faults self.new.sink) }
-        ensures no_fall { S.faults self.old.sink ≤ S.faults self.new.sink }
-        ensures same_references { S.references self.new.sink ≡ S.references self.old.sink }
     {
         if let Some(refusal) = self.refusal {
             return Err(refusal);
@@ -130,7 +127,7 @@ impl<S: StepSink, J: RunJudge> Checked<S, J> {
         requires formed { IsFormed step.now }
         requires allowed { self.old.checker.refused ≡ false
             → error_of (J.accepts self.old.judge) self.old.checker step.now ≡ None }
-        ensures judge_stays { self.new.judge ≡ self.old.judge }
+        ensures lasts { Lasts S.over S.faults S.references self.old self.new }
         ensures refusal_stays { self.new.refusal ≡ self.old.refusal }
         ensures taken { OnOk result (self.new.checker ≡ after self.old.checker step.now) }
         ensures awake { OnOk result (self.new.checker.refused ≡ false) }
@@ -142,11 +139,8 @@ impl<S: StepSink, J: RunJudge> Checked<S, J> {
             ≡ with_step step.now (S.logs self.old.sink)) }
         ensures refused { OnErr result (MayAddStep step.now (S.logs self.old.sink)
             (S.logs self.new.sink)) }
-        ensures over_stays { S.over self.new.sink ≡ S.over self.old.sink }
         ensures cause { result ≡ Err SinkError.Failed
             → Rose (S.faults self.old.sink) (S.faults self.new.sink) }
-        ensures no_fall { S.faults self.old.sink ≤ S.faults self.new.sink }
-        ensures same_references { S.references self.new.sink ≡ S.references self.old.sink }
     {
         if !advance(&mut self.checker, step, &self.judge) {
             return Err(SinkError::Memory);
