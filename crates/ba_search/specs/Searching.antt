@@ -1,18 +1,21 @@
 -- What contracts see of a search, and the steps that it puts.
 
-use Rattle.std.specs.Prelude.{◌≡◌, ℕ, ◌+◌, ◌-◌, Bool, false, Option, None, Some, List, [], ◌∷◌, ◌++◌, ◌<◌, All, length, get_or}
+use base.Fml.{GName}
+use Rattle.std.specs.Prelude.{◌≡◌, ℕ, ◌+◌, ◌-◌, ◌⊎◌, Bool, false, Option, None, Some, Result, Err, OnOk, List, [], ◌∷◌, ◌++◌, ◌<◌, All, length, get_or}
 use Rattle.ba_lits.specs.Literals.{Literal}
 use Rattle.ba_watch.specs.Threads.{Clause}
 use Rattle.ba_watch.specs.Propagation.{clause_in}
-use Rattle.ba_learn.specs.Live.{IsSame, IsNew}
-use Rattle.ba_steps.specs.Sinks.{Logs}
+use Rattle.ba_learn.specs.Live.{AreLive, IsSame, IsNew}
+use Rattle.ba_steps.specs.Sinks.{Logs, Rose}
 use Rattle.ba_steps.specs.Steps.{IsFormed}
+use Rattle.ba_steps.specs.declared.sink.Basis.{Basis}
 use Rattle.ba_steps.specs.declared.step.CertStep.{CertStep}
 use Rattle.ba_steps.specs.declared.step.CertStep.TheVariants.{Learn, Delete}
 use Rattle.ba_checker.specs.States.{State, clause_at, width_at}
 use Rattle.ba_checker.specs.Judging.{Judge, error_of, after}
-use Rattle.ba_checker.specs.Puts.{LeavesSteps}
+use Rattle.ba_checker.specs.Puts.{Putting, Lasts, LeavesSteps}
 use Rattle.ba_search.specs.declared.search.SearchError.{SearchError}
+use Rattle.ba_search.specs.declared.search.SearchError.TheVariants.{SinkFailed}
 
 -- a search between calls: its variables, its live clauses by reference, the numbers of the clauses that it has learnt, in
 -- their order and the deleted ones too, its rules, the error that it answers from now on, and how many literals propagation
@@ -65,3 +68,28 @@ pub data Searches (good : Judge) (gives : ℕ → ℕ → Bool → Type 0) : Sta
 abbrev pub Leaves : Judge → (ℕ → ℕ → Bool → Type 0) → List ℕ → State → Logs → State → Logs → Type 0
 Leaves good gives learnt old old_logs new new_logs =
     LeavesSteps (λ steps t. (all : List ℕ) × Searches good gives old learnt steps t all) old_logs new new_logs
+
+-- what a call leaves besides its steps: the checker and its sink last; the sink failed only where its faults rose; and where
+-- the call succeeds no step was refused
+pub record Ran {S J X : Type 0} (over : S → Option (List Basis)) (faults : S → ℕ)
+    (references : S → List GName) (result : Result X SearchError) (old new : Putting S J) : Type 0 where
+  pub lasts : Lasts over faults references old new
+  pub cause : result ≡ Err SinkFailed → Rose (faults old.sink) (faults new.sink)
+  pub fresh : OnOk result (new.refusal ≡ None)
+
+-- the same of a call of a search, which keeps its rules: the sink failed only where its faults rose, or where the search had
+-- answered so before
+pub record RanSearch {S J R K X : Type 0} (over : S → Option (List Basis)) (faults : S → ℕ)
+    (references : S → List GName) (result : Result X SearchError) (before after : Searching R K)
+    (old new : Putting S J) : Type 0 where
+  pub lasts : Lasts over faults references old new
+  pub cause : result ≡ Err SinkFailed →
+      (before.failure ≡ Some SinkFailed) ⊎ Rose (faults old.sink) (faults new.sink)
+  pub restart_stays : after.restart ≡ before.restart
+  pub keep_stays : after.keep ≡ before.keep
+
+-- a search may go on with a checker: neither answers an error from now on, and the live clauses of both are the same
+pub record MayGoOn {R K S J : Type 0} (search : Searching R K) (checked : Putting S J) : Type 0 where
+  pub working : search.failure ≡ None
+  pub fresh : checked.refusal ≡ None
+  pub same : AreLive search.clauses (clause_at checked.checker.clauses)

@@ -4,14 +4,12 @@ ghost use Rattle.std.specs.Prelude.{◌≡◌, ◌<◌, ◌≤◌, None, true, f
 ghost use Rattle.ba_lits.specs.Literals.{Literal};
 ghost use Rattle.ba_watch.specs.Trails.{value_of, decided};
 ghost use Rattle.ba_watch.specs.Propagation.{clause_in, lits_in, is_false, IsComplete};
-ghost use Rattle.ba_steps.specs.Sinks.{Rose};
 ghost use Rattle.ba_checker.specs.States.{State as Checking, clause_at};
 ghost use Rattle.ba_search.specs.Rules.{IsRestartRule, IsKeepRule};
 ghost use Rattle.ba_search.specs.Answers.{AreAssumptions, IsAnswer};
-ghost use Rattle.ba_search.specs.Searching.{Leaves};
+ghost use Rattle.ba_search.specs.Searching.{Leaves, Ran};
 ghost use Rattle.ba_search.specs.Iterations.{MarksLive, IsUnderway, Puts, iterations_left};
 ghost use Rattle.ba_learn.specs.Live.{AreLive};
-ghost use Rattle.ba_search.specs.declared.search.SearchError.{SearchError};
 
 use crate::engine::Engine;
 use crate::search::{Answer, SearchError};
@@ -54,13 +52,7 @@ impl Engine {
         ensures puts { OnOk result (Puts (J.accepts checked.old.judge) (K.post keep.now)
             checked.old.checker checked.new.checker self.old.numbers.learnt self.new.numbers.learnt
             (S.logs checked.old.sink) (S.logs checked.new.sink)) }
-        ensures fresh { OnOk result (checked.new.refusal ≡ None) }
-        ensures cause { result ≡ Err SearchError.SinkFailed
-            → Rose (S.faults checked.old.sink) (S.faults checked.new.sink) }
-        ensures judge_stays { checked.new.judge ≡ checked.old.judge }
-        ensures over_stays { S.over checked.new.sink ≡ S.over checked.old.sink }
-        ensures no_fall { S.faults checked.old.sink ≤ S.faults checked.new.sink }
-        ensures same_references { S.references checked.new.sink ≡ S.references checked.old.sink }
+        ensures ran { Ran S.over S.faults S.references result checked.old checked.new }
         ensures propagated { self.old.propagated ≤ self.new.propagated }
         ensures leaves { Leaves (J.accepts checked.old.judge) (K.post keep.now)
             self.old.numbers.learnt checked.old.checker (S.logs checked.old.sink)
@@ -110,13 +102,7 @@ impl Engine {
         ensures puts { OnOk result (Puts (J.accepts checked.old.judge) (K.post keep.now)
             checked.old.checker checked.new.checker self.old.numbers.learnt self.new.numbers.learnt
             (S.logs checked.old.sink) (S.logs checked.new.sink)) }
-        ensures fresh { OnOk result (checked.new.refusal ≡ None) }
-        ensures cause { result ≡ Err SearchError.SinkFailed
-            → Rose (S.faults checked.old.sink) (S.faults checked.new.sink) }
-        ensures judge_stays { checked.new.judge ≡ checked.old.judge }
-        ensures over_stays { S.over checked.new.sink ≡ S.over checked.old.sink }
-        ensures no_fall { S.faults checked.old.sink ≤ S.faults checked.new.sink }
-        ensures same_references { S.references checked.new.sink ≡ S.references checked.old.sink }
+        ensures ran { Ran S.over S.faults S.references result checked.old checked.new }
         ensures propagated { self.old.propagated ≤ self.new.propagated }
         ensures leaves { Leaves (J.accepts checked.old.judge) (K.post keep.now)
             self.old.numbers.learnt checked.old.checker (S.logs checked.old.sink)

@@ -6,11 +6,9 @@ ghost use Rattle.ba_watch.specs.Trails.{value_of, decided};
 ghost use Rattle.ba_watch.specs.Propagation.{clause_in, lits_in, is_false};
 ghost use Rattle.ba_learn.specs.Levels.{IsBacked};
 ghost use Rattle.ba_learn.specs.Backjumps.{after_backtrack};
-ghost use Rattle.ba_steps.specs.Sinks.{Rose};
 ghost use Rattle.ba_steps.specs.declared.step.CertStep.TheVariants.{Learn};
-ghost use Rattle.ba_search.specs.Searching.{Leaves, nothing};
+ghost use Rattle.ba_search.specs.Searching.{Leaves, Ran, nothing};
 ghost use Rattle.ba_search.specs.Iterations.{IsUnderway, LearnsOne, Puts, iterations_left};
-ghost use Rattle.ba_search.specs.declared.search.SearchError.{SearchError};
 
 use crate::engine::Engine;
 use crate::search::SearchError;
@@ -48,13 +46,7 @@ impl Engine {
         ensures puts { OnOk result (Puts (J.accepts checked.old.judge) nothing checked.old.checker
             checked.new.checker self.old.numbers.learnt self.new.numbers.learnt
             (S.logs checked.old.sink) (S.logs checked.new.sink)) }
-        ensures fresh { OnOk result (checked.new.refusal ≡ None) }
-        ensures cause { result ≡ Err SearchError.SinkFailed
-            → Rose (S.faults checked.old.sink) (S.faults checked.new.sink) }
-        ensures judge_stays { checked.new.judge ≡ checked.old.judge }
-        ensures over_stays { S.over checked.new.sink ≡ S.over checked.old.sink }
-        ensures no_fall { S.faults checked.old.sink ≤ S.faults checked.new.sink }
-        ensures same_references { S.references checked.new.sink ≡ S.references checked.old.sink }
+        ensures ran { Ran S.over S.faults S.references result checked.old checked.new }
         ensures propagated { self.new.propagated ≡ self.old.propagated }
         ensures leaves { Leaves (J.accepts checked.old.judge) nothing self.old.numbers.learnt
             checked.old.checker (S.logs checked.old.sink) checked.new.checker

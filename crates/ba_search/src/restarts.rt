@@ -1,12 +1,10 @@
 //! Restarts, and the reduction of the learnt clauses.
 
 ghost use Rattle.std.specs.Prelude.{◌≡◌, ◌<◌, ◌≤◌, None, OnOk, Err};
-ghost use Rattle.ba_steps.specs.Sinks.{Rose};
 ghost use Rattle.ba_checker.specs.Judging.{apart_by};
 ghost use Rattle.ba_search.specs.Rules.{IsKeepRule};
-ghost use Rattle.ba_search.specs.Searching.{Leaves};
+ghost use Rattle.ba_search.specs.Searching.{Leaves, Ran};
 ghost use Rattle.ba_search.specs.Iterations.{IsUnderway, Puts, iterations_left};
-ghost use Rattle.ba_search.specs.declared.search.SearchError.{SearchError};
 
 use crate::engine::Engine;
 use crate::reduction::{may_reduce, take_numbers};
@@ -40,13 +38,7 @@ impl Engine {
         ensures puts { OnOk result (Puts (J.accepts checked.old.judge) (K.post keep.now)
             checked.old.checker checked.new.checker self.old.numbers.learnt self.new.numbers.learnt
             (S.logs checked.old.sink) (S.logs checked.new.sink)) }
-        ensures fresh { OnOk result (checked.new.refusal ≡ None) }
-        ensures cause { result ≡ Err SearchError.SinkFailed
-            → Rose (S.faults checked.old.sink) (S.faults checked.new.sink) }
-        ensures judge_stays { checked.new.judge ≡ checked.old.judge }
-        ensures over_stays { S.over checked.new.sink ≡ S.over checked.old.sink }
-        ensures no_fall { S.faults checked.old.sink ≤ S.faults checked.new.sink }
-        ensures same_references { S.references checked.new.sink ≡ S.references checked.old.sink }
+        ensures ran { Ran S.over S.faults S.references result checked.old checked.new }
         ensures propagated { self.new.propagated ≡ self.old.propagated }
         ensures leaves { Leaves (J.accepts checked.old.judge) (K.post keep.now)
             self.old.numbers.learnt checked.old.checker (S.logs checked.old.sink)
@@ -87,13 +79,7 @@ impl Engine {
         ensures puts { OnOk result (Puts (J.accepts checked.old.judge) (K.post keep.now)
             checked.old.checker checked.new.checker self.old.numbers.learnt self.new.numbers.learnt
             (S.logs checked.old.sink) (S.logs checked.new.sink)) }
-        ensures fresh { OnOk result (checked.new.refusal ≡ None) }
-        ensures cause { result ≡ Err SearchError.SinkFailed
-            → Rose (S.faults checked.old.sink) (S.faults checked.new.sink) }
-        ensures judge_stays { checked.new.judge ≡ checked.old.judge }
-        ensures over_stays { S.over checked.new.sink ≡ S.over checked.old.sink }
-        ensures no_fall { S.faults checked.old.sink ≤ S.faults checked.new.sink }
-        ensures same_references { S.references checked.new.sink ≡ S.references checked.old.sink }
+        ensures ran { Ran S.over S.faults S.references result checked.old checked.new }
         ensures propagated { self.new.propagated ≡ self.old.propagated }
         ensures leaves { Leaves (J.accepts checked.old.judge) (K.post keep.now)
             self.old.numbers.learnt checked.old.checker (S.logs checked.old.sink)

@@ -2,13 +2,12 @@
 
 ghost use Rattle.std.specs.Prelude.{◌≡◌, ◌≤◌, ◌⊎◌, None, Some, false, [], List, map, IfOk, IfErr, OnOk, Err};
 ghost use Rattle.ba_learn.specs.Live.{AreLive, HaveDistinctNumbers};
-ghost use Rattle.ba_steps.specs.Sinks.{Rose};
 ghost use Rattle.ba_steps.specs.declared.step.CertStep.{CertStep};
 ghost use Rattle.ba_checker.specs.States.{kept, clause_at};
 ghost use Rattle.ba_checker.specs.Puts.{with_steps};
 ghost use Rattle.ba_checker.specs.declared.store.Origin.TheVariants.{Given};
 ghost use Rattle.ba_search.specs.Rules.{IsRestartRule, IsKeepRule};
-ghost use Rattle.ba_search.specs.Searching.{ArePart, Searches, Leaves};
+ghost use Rattle.ba_search.specs.Searching.{ArePart, Searches, Leaves, MayGoOn, RanSearch};
 ghost use Rattle.ba_search.specs.Answers.{AreAssumptions, IsAnswer};
 ghost use Rattle.ba_search.specs.Iterations.{failure_of};
 
@@ -218,8 +217,7 @@ impl<R: Fn(u64) -> u64 + Drop, K: Fn(u64, u64) -> bool + Drop> Search<R, K> {
             → AreAssumptions checked.old.checker.variables assumptions.now }
         ensures answer { IfOk result (λ answer.
             IsAnswer checked.new.checker assumptions.now answer) }
-        ensures same { OnOk result (AreLive self.new.clauses
-            (clause_at checked.new.checker.clauses)) }
+        ensures goes_on { OnOk result (MayGoOn self.new checked.new) }
         ensures alone { OnOk result (HaveDistinctNumbers self.new.clauses) }
         ensures steps { OnOk result ((steps : List CertStep)
             × Searches (J.accepts checked.old.judge) (K.post self.old.keep)
@@ -229,22 +227,13 @@ impl<R: Fn(u64) -> u64 + Drop, K: Fn(u64, u64) -> bool + Drop> Search<R, K> {
             checked.old.checker (S.logs checked.old.sink) checked.new.checker
             (S.logs checked.new.sink) }
         ensures fresh { OnOk result (self.old.failure ≡ None) }
-        ensures stays_fresh { OnOk result ((self.new.failure ≡ None)
-            × (checked.new.refusal ≡ None)) }
         ensures stays_begun { OnOk result (checked.new.checker.ended ≡ false) }
         ensures awake { OnOk result (checked.new.checker.refused ≡ false) }
-        ensures restart_stays { self.new.restart ≡ self.old.restart }
-        ensures keep_stays { self.new.keep ≡ self.old.keep }
+        ensures ran { RanSearch S.over S.faults S.references result self.old self.new checked.old
+            checked.new }
         ensures keeps { IfErr result (λ error. self.new.failure ≡ Some error) }
         ensures again { (error : SearchError) → self.old.failure ≡ Some error
             → (result ≡ Err error) × (self.new ≡ self.old) × (checked.new ≡ checked.old) }
-        ensures cause { result ≡ Err SearchError.SinkFailed
-            → (self.old.failure ≡ Some SearchError.SinkFailed)
-            ⊎ Rose (S.faults checked.old.sink) (S.faults checked.new.sink) }
-        ensures judge_stays { checked.new.judge ≡ checked.old.judge }
-        ensures over_stays { S.over checked.new.sink ≡ S.over checked.old.sink }
-        ensures no_fall { S.faults checked.old.sink ≤ S.faults checked.new.sink }
-        ensures same_references { S.references checked.new.sink ≡ S.references checked.old.sink }
         ensures propagated { self.old.propagated ≤ self.new.propagated }
     {
         if let Some(failure) = self.failure {

@@ -1,5 +1,6 @@
 use Rattle.std.proofs.Common.{ℕ, ◌^◌, ◌<◌, max, length, ap, ◌∙◌, refl, arith}
 use Rattle.ba_checker.specs.States.{State}
+use Rattle.ba_checker.proofs.PutLaws.{lasts_same, lasts_then}
 use Rattle.ba_search.proofs.UnderwayLaws.{underway_moved, underway_begin}
 use Rattle.ba_search.specs.Iterations.{Numbering}
 use Rattle.ba_search.proofs.StepLaws.{puts_none, puts_then, puts_from, leaves_none, leaves_then, leaves_from}
@@ -32,10 +33,7 @@ iterations-init g c =
           c.backtrack.new.self.numbers.learnt (g.S.StepSink.logs c.args.checked.now.sink);
       fresh = c.requires.fresh;
       propagated = omega (arith, c.grow.ensures.propagated, c.backtrack.ensures.propagated);
-      judge = refl;
-      over = refl;
-      no_fall = omega arith;
-      references = refl;
+      lasts = lasts_same g.S.StepSink.over g.S.StepSink.faults g.S.StepSink.references c.args.checked.now;
     }
 
 pub returns-in-Some-clause-puts : goal.returns-in-Some-clause-puts
@@ -53,7 +51,7 @@ returns-in-Some-clause-puts g c =
     c.backtrack.new.self.numbers.learnt c.iterations.self.numbers.learnt c.iterate.new.self.numbers.learnt
     (g.S.StepSink.logs c.args.checked.now.sink) (g.S.StepSink.logs c.iterations.checked.sink)
     (g.S.StepSink.logs c.iterate.new.checked.sink)
-    (ap g.J.RunJudge.accepts c.iterations.invariant.judge) c.iterations.invariant.puts
+    (ap g.J.RunJudge.accepts c.iterations.invariant.lasts.judge_stays) c.iterations.invariant.puts
     c.in_ok-answer.ensures.puts)
 
 pub iterations-preserved : goal.iterations-preserved
@@ -71,13 +69,11 @@ iterations-preserved g c =
           c.iterate.new.self.numbers.learnt
           (g.S.StepSink.logs c.args.checked.now.sink) (g.S.StepSink.logs c.iterations.checked.sink)
           (g.S.StepSink.logs c.iterate.new.checked.sink)
-          (ap g.J.RunJudge.accepts i.judge) i.puts t.puts;
-      fresh = t.fresh;
+          (ap g.J.RunJudge.accepts i.lasts.judge_stays) i.puts t.puts;
+      fresh = t.ran.fresh;
       propagated = omega (arith, c.iterate.ensures.propagated, i.propagated);
-      judge = t.judge_stays ∙ i.judge;
-      over = t.over_stays ∙ i.over;
-      no_fall = omega (arith, t.no_fall, i.no_fall);
-      references = t.same_references ∙ i.references;
+      lasts = lasts_then g.S.StepSink.over g.S.StepSink.faults g.S.StepSink.references c.args.checked.now
+          c.iterations.checked c.iterate.new.checked i.lasts t.ran.lasts;
     }
 
 pub returns-then-last-clause-leaves : goal.returns-then-last-clause-leaves
@@ -106,7 +102,7 @@ returns-in_err-answer-clause-leaves g c =
     c.args.checked.now.checker c.iterations.checked.checker c.iterate.new.checked.checker
     (g.S.StepSink.logs c.args.checked.now.sink) (g.S.StepSink.logs c.iterations.checked.sink)
     (g.S.StepSink.logs c.iterate.new.checked.sink)
-    (ap g.J.RunJudge.accepts c.iterations.invariant.judge) c.iterations.invariant.puts
+    (ap g.J.RunJudge.accepts c.iterations.invariant.lasts.judge_stays) c.iterations.invariant.puts
     c.iterate.ensures.leaves)
 
 pub returns-in-Some-clause-leaves : goal.returns-in-Some-clause-leaves
@@ -125,5 +121,5 @@ returns-in-Some-clause-leaves g c =
     c.args.checked.now.checker c.iterations.checked.checker c.iterate.new.checked.checker
     (g.S.StepSink.logs c.args.checked.now.sink) (g.S.StepSink.logs c.iterations.checked.sink)
     (g.S.StepSink.logs c.iterate.new.checked.sink)
-    (ap g.J.RunJudge.accepts c.iterations.invariant.judge) c.iterations.invariant.puts
+    (ap g.J.RunJudge.accepts c.iterations.invariant.lasts.judge_stays) c.iterations.invariant.puts
     c.iterate.ensures.leaves)

@@ -1,4 +1,5 @@
 use Rattle.std.proofs.Common.{◌≡◌, ◌≤◌, None}
+use Rattle.ba_checker.specs.Puts.{Lasts}
 use Rattle.ba_search.specs.Iterations.{IsUnderway, Puts, iterations_left}
 use Rattle.ba_search.proofs.engine.Engine.search.Given as goal
 
@@ -12,10 +13,7 @@ invariant-iterations g l = record {
       (g.S.StepSink.logs l.initial.checked.sink) (g.S.StepSink.logs l.checked.sink);
   fresh : l.checked.refusal ≡ None;
   propagated : l.initial.self.propagated ≤ l.self.propagated;
-  judge : l.checked.judge ≡ l.initial.checked.judge;
-  over : g.S.StepSink.over l.checked.sink ≡ g.S.StepSink.over l.initial.checked.sink;
-  no_fall : g.S.StepSink.faults l.initial.checked.sink ≤ g.S.StepSink.faults l.checked.sink;
-  references : g.S.StepSink.references l.checked.sink ≡ g.S.StepSink.references l.initial.checked.sink;
+  lasts : Lasts g.S.StepSink.over g.S.StepSink.faults g.S.StepSink.references l.initial.checked l.checked;
 }
 
 abbrev pub decreases-iterations : goal.decreases-iterations

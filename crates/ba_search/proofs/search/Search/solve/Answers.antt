@@ -4,9 +4,6 @@ use Rattle.ba_search.specs.Searching.{Searching, Leaves}
 use Rattle.ba_search.proofs.StepLaws.{leaves_none}
 use Rattle.ba_search.proofs.search.Search.solve.Goals as goal
 
-pub returns-clause-same : goal.returns-clause-same
-returns-clause-same g c = on_ok_weaker c.search-result.result (λ u. u.live) c.search-result.ensures.underway
-
 pub returns-clause-stays_begun : goal.returns-clause-stays_begun
 returns-clause-stays_begun g c =
     on_ok_weaker c.search-result.result (λ u. u.begun) c.search-result.ensures.underway
