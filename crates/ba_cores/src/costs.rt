@@ -2,10 +2,10 @@
 
 ghost use Rattle.std.specs.Prelude.{◌≡◌, ◌≤◌, ◌⊎◌, [], None, Some, false, List, IfOk, OnOk, Err};
 ghost use Rattle.ba_learn.specs.Live.{AreLive};
-ghost use Rattle.ba_steps.specs.Sinks.{Rose};
 ghost use Rattle.ba_steps.specs.declared.step.CertStep.{CertStep};
 ghost use Rattle.ba_checker.specs.States.{clause_at};
 ghost use Rattle.ba_search.specs.Rules.{IsRestartRule, IsKeepRule};
+ghost use Rattle.ba_search.specs.Searching.{MayGoOn, RanSearch};
 ghost use Rattle.ba_checker.specs.Puts.{with_steps};
 ghost use Rattle.ba_search.specs.declared.search.SearchError.{SearchError};
 ghost use Rattle.ba_cores.specs.Derivations.{Derives, Leaves};
@@ -55,8 +55,7 @@ where
     requires none_blocked { search.old.failure ≡ None → checked.old.checker.sets ≡ [] }
     ensures found { IfOk result (λ found.
         IsFound (J.accepts checked.old.judge) checked.old.checker checked.new.checker found) }
-    ensures same { OnOk result (AreLive search.new.clauses
-        (clause_at checked.new.checker.clauses)) }
+    ensures goes_on { OnOk result (MayGoOn search.new checked.new) }
     ensures steps { OnOk result ((steps : List CertStep)
         × Derives (J.accepts checked.old.judge) checked.old.checker steps checked.new.checker
         × (S.logs checked.new.sink ≡ with_steps steps (S.logs checked.old.sink))) }
@@ -64,19 +63,11 @@ where
         (S.logs checked.old.sink) checked.new.checker (S.logs checked.new.sink) }
     ensures stays_begun { OnOk result (checked.new.checker.ended ≡ false) }
     ensures none_blocked { OnOk result (checked.new.checker.sets ≡ []) }
-    ensures stays_fresh { OnOk result ((search.new.failure ≡ None) × (checked.new.refusal ≡ None)) }
     ensures awake { OnOk result (checked.new.checker.refused ≡ false) }
-    ensures restart_stays { search.new.restart ≡ search.old.restart }
-    ensures keep_stays { search.new.keep ≡ search.old.keep }
     ensures again { (error : SearchError) → search.old.failure ≡ Some error
         → (result ≡ Err error) × (search.new ≡ search.old) × (checked.new ≡ checked.old) }
-    ensures cause { result ≡ Err SearchError.SinkFailed
-        → (search.old.failure ≡ Some SearchError.SinkFailed)
-        ⊎ Rose (S.faults checked.old.sink) (S.faults checked.new.sink) }
-    ensures judge_stays { checked.new.judge ≡ checked.old.judge }
-    ensures over_stays { S.over checked.new.sink ≡ S.over checked.old.sink }
-    ensures no_fall { S.faults checked.old.sink ≤ S.faults checked.new.sink }
-    ensures same_references { S.references checked.new.sink ≡ S.references checked.old.sink }
+    ensures ran { RanSearch S.over S.faults S.references result search.old search.new
+        checked.old checked.new }
 {
     search.take_new(checked)?;
     let mut weight = heaviest(checked.checker().softs());

@@ -2,12 +2,9 @@
 //! answer means.
 
 ghost use Rattle.std.specs.Prelude.{◌≡◌, ◌-◌, ◌<◌, ◌≤◌, ◌∷◌, ◌++◌, [], None, true, false, length, IfOk, IfSome, IfNone, OnOk, Err};
-ghost use Rattle.ba_learn.specs.Live.{AreLive};
-ghost use Rattle.ba_steps.specs.Sinks.{Rose};
-ghost use Rattle.ba_checker.specs.States.{clause_at};
 ghost use Rattle.ba_search.specs.Rules.{IsRestartRule, IsKeepRule};
 ghost use Rattle.ba_search.specs.Answers.{IsAnswer, IsCore, IsModel};
-ghost use Rattle.ba_search.specs.declared.search.SearchError.{SearchError};
+ghost use Rattle.ba_search.specs.Searching.{MayGoOn, RanSearch};
 ghost use Rattle.ba_cores.specs.Derivations.{Leaves};
 ghost use Rattle.ba_cores.specs.Findings.{IsFound};
 ghost use Rattle.ba_cores.specs.Rounds.{literals_of, heavy, IsReady, Puts, EndsRound};
@@ -38,28 +35,18 @@ where
     K: Fn(u64, u64) -> bool + Drop,
     requires restart { IsRestartRule (R.pre search.old.restart) (R.post search.old.restart) }
     requires keep { IsKeepRule (K.pre search.old.keep) (K.post search.old.keep) }
-    requires same { AreLive search.old.clauses (clause_at checked.old.checker.clauses) }
+    requires goes_on { MayGoOn search.old checked.old }
     requires ready { IsReady checked.old.checker }
-    requires fresh { checked.old.refusal ≡ None }
-    requires working { search.old.failure ≡ None }
     ensures found { IfOk result (λ found.
         EndsRound (J.accepts checked.old.judge) checked.old.checker checked.new.checker weight.old
         weight.new found) }
-    ensures same { OnOk result (AreLive search.new.clauses
-        (clause_at checked.new.checker.clauses)) }
+    ensures goes_on { OnOk result (MayGoOn search.new checked.new) }
     ensures puts { OnOk result (Puts (J.accepts checked.old.judge) checked.old.checker
         checked.new.checker (S.logs checked.old.sink) (S.logs checked.new.sink)) }
     ensures leaves { Leaves (J.accepts checked.old.judge) checked.old.checker
         (S.logs checked.old.sink) checked.new.checker (S.logs checked.new.sink) }
-    ensures stays_fresh { OnOk result ((search.new.failure ≡ None) × (checked.new.refusal ≡ None)) }
-    ensures restart_stays { search.new.restart ≡ search.old.restart }
-    ensures keep_stays { search.new.keep ≡ search.old.keep }
-    ensures cause { result ≡ Err SearchError.SinkFailed
-        → Rose (S.faults checked.old.sink) (S.faults checked.new.sink) }
-    ensures judge_stays { checked.new.judge ≡ checked.old.judge }
-    ensures over_stays { S.over checked.new.sink ≡ S.over checked.old.sink }
-    ensures no_fall { S.faults checked.old.sink ≤ S.faults checked.new.sink }
-    ensures same_references { S.references checked.new.sink ≡ S.references checked.old.sink }
+    ensures ran { RanSearch S.over S.faults S.references result search.old search.new
+        checked.old checked.new }
 {
     let Ok(assumptions) = heavy_literals(alloc, checked.checker().softs(), *weight) else {
         return Err(SearchError::Memory);
@@ -87,28 +74,18 @@ where
     requires keep { IsKeepRule (K.pre search.old.keep) (K.post search.old.keep) }
     requires answer { IsAnswer checked.old.checker
         (literals_of (heavy weight.old checked.old.checker.softs)) answer }
-    requires same { AreLive search.old.clauses (clause_at checked.old.checker.clauses) }
+    requires goes_on { MayGoOn search.old checked.old }
     requires ready { IsReady checked.old.checker }
-    requires fresh { checked.old.refusal ≡ None }
-    requires working { search.old.failure ≡ None }
     ensures found { IfOk result (λ found.
         EndsRound (J.accepts checked.old.judge) checked.old.checker checked.new.checker weight.old
         weight.new found) }
-    ensures same { OnOk result (AreLive search.new.clauses
-        (clause_at checked.new.checker.clauses)) }
+    ensures goes_on { OnOk result (MayGoOn search.new checked.new) }
     ensures puts { OnOk result (Puts (J.accepts checked.old.judge) checked.old.checker
         checked.new.checker (S.logs checked.old.sink) (S.logs checked.new.sink)) }
     ensures leaves { Leaves (J.accepts checked.old.judge) checked.old.checker
         (S.logs checked.old.sink) checked.new.checker (S.logs checked.new.sink) }
-    ensures stays_fresh { OnOk result ((search.new.failure ≡ None) × (checked.new.refusal ≡ None)) }
-    ensures restart_stays { search.new.restart ≡ search.old.restart }
-    ensures keep_stays { search.new.keep ≡ search.old.keep }
-    ensures cause { result ≡ Err SearchError.SinkFailed
-        → Rose (S.faults checked.old.sink) (S.faults checked.new.sink) }
-    ensures judge_stays { checked.new.judge ≡ checked.old.judge }
-    ensures over_stays { S.over checked.new.sink ≡ S.over checked.old.sink }
-    ensures no_fall { S.faults checked.old.sink ≤ S.faults checked.new.sink }
-    ensures same_references { S.references checked.new.sink ≡ S.references checked.old.sink }
+    ensures ran { RanSearch S.over S.faults S.references result search.old search.new
+        checked.old checked.new }
 {
     match answer {
         Answer::Model(model) => Ok(take_model(checked, weight, model)),
@@ -157,27 +134,17 @@ where
     K: Fn(u64, u64) -> bool + Drop,
     requires core { IsCore checked.old.checker (literals_of checked.old.checker.softs) core.lits
         core.hints core.back }
-    requires same { AreLive search.old.clauses (clause_at checked.old.checker.clauses) }
+    requires goes_on { MayGoOn search.old checked.old }
     requires ready { IsReady checked.old.checker }
-    requires fresh { checked.old.refusal ≡ None }
-    requires working { search.old.failure ≡ None }
     ensures found { IfOk result (λ found.
         EndsRound (J.accepts checked.old.judge) checked.old.checker checked.new.checker 0 0 found) }
-    ensures same { OnOk result (AreLive search.new.clauses
-        (clause_at checked.new.checker.clauses)) }
+    ensures goes_on { OnOk result (MayGoOn search.new checked.new) }
     ensures puts { OnOk result (Puts (J.accepts checked.old.judge) checked.old.checker
         checked.new.checker (S.logs checked.old.sink) (S.logs checked.new.sink)) }
     ensures leaves { Leaves (J.accepts checked.old.judge) checked.old.checker
         (S.logs checked.old.sink) checked.new.checker (S.logs checked.new.sink) }
-    ensures stays_fresh { OnOk result ((search.new.failure ≡ None) × (checked.new.refusal ≡ None)) }
-    ensures restart_stays { search.new.restart ≡ search.old.restart }
-    ensures keep_stays { search.new.keep ≡ search.old.keep }
-    ensures cause { result ≡ Err SearchError.SinkFailed
-        → Rose (S.faults checked.old.sink) (S.faults checked.new.sink) }
-    ensures judge_stays { checked.new.judge ≡ checked.old.judge }
-    ensures over_stays { S.over checked.new.sink ≡ S.over checked.old.sink }
-    ensures no_fall { S.faults checked.old.sink ≤ S.faults checked.new.sink }
-    ensures same_references { S.references checked.new.sink ≡ S.references checked.old.sink }
+    ensures ran { RanSearch S.over S.faults S.references result search.old search.new
+        checked.old checked.new }
 {
     if core.lits.is_empty() {
         return Ok(Some(Found::NoModel { hints: core.hints }));
@@ -202,27 +169,17 @@ where
     requires core { IsCore checked.old.checker (literals_of checked.old.checker.softs) core.lits
         core.hints core.back }
     requires some { 0 < length core.lits }
-    requires same { AreLive search.old.clauses (clause_at checked.old.checker.clauses) }
+    requires goes_on { MayGoOn search.old checked.old }
     requires ready { IsReady checked.old.checker }
-    requires fresh { checked.old.refusal ≡ None }
-    requires working { search.old.failure ≡ None }
     ensures puts { OnOk result (Puts (J.accepts checked.old.judge) checked.old.checker
         checked.new.checker (S.logs checked.old.sink) (S.logs checked.new.sink)) }
     ensures leaves { Leaves (J.accepts checked.old.judge) checked.old.checker
         (S.logs checked.old.sink) checked.new.checker (S.logs checked.new.sink) }
     ensures fewer { OnOk result (checked.new.checker.budget - checked.new.checker.conflicts <
         checked.old.checker.budget - checked.old.checker.conflicts) }
-    ensures same { OnOk result (AreLive search.new.clauses
-        (clause_at checked.new.checker.clauses)) }
-    ensures stays_fresh { OnOk result ((search.new.failure ≡ None) × (checked.new.refusal ≡ None)) }
-    ensures restart_stays { search.new.restart ≡ search.old.restart }
-    ensures keep_stays { search.new.keep ≡ search.old.keep }
-    ensures cause { result ≡ Err SearchError.SinkFailed
-        → Rose (S.faults checked.old.sink) (S.faults checked.new.sink) }
-    ensures judge_stays { checked.new.judge ≡ checked.old.judge }
-    ensures over_stays { S.over checked.new.sink ≡ S.over checked.old.sink }
-    ensures no_fall { S.faults checked.old.sink ≤ S.faults checked.new.sink }
-    ensures same_references { S.references checked.new.sink ≡ S.references checked.old.sink }
+    ensures goes_on { OnOk result (MayGoOn search.new checked.new) }
+    ensures ran { RanSearch S.over S.faults S.references result search.old search.new
+        checked.old checked.new }
 {
     checked.checker().keeps_facts();
     let step = CertStep::Core {

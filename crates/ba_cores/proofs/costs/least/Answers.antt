@@ -1,10 +1,15 @@
-use Rattle.std.proofs.Common.{arith, rules, refl, ap, ◌∙◌}
+use Rattle.std.proofs.Common.{rules, refl, ap, ◌∙◌}
+use Rattle.ba_checker.proofs.PutLaws.{lasts_same, lasts_then}
 use Rattle.ba_cores.proofs.DerivesLaws.{puts_none, puts_on, puts_as, puts_ready, found_later, found_as, leaves_none, leaves_on}
 use Rattle.ba_cores.proofs.costs.least.Goals as goal
 
 pub rounds-init : goal.rounds-init
 rounds-init g c = record {
-  same = search rules;
+  goes_on = record {
+    working = search rules;
+    fresh = c.requires.fresh c.in_ok-take_new.ensures.fresh;
+    same = search rules;
+  };
   ready = record {
     begun = c.requires.begun c.in_ok-take_new.ensures.fresh;
     awake =
@@ -12,16 +17,11 @@ rounds-init g c = record {
     none_blocked =
         c.requires.none_blocked c.in_ok-take_new.ensures.fresh;
   };
-  fresh = c.requires.fresh c.in_ok-take_new.ensures.fresh;
-  working = search rules;
   puts = puts_none (g.J.RunJudge.accepts c.args.checked.now.judge) c.args.checked.now.checker
       (g.S.StepSink.logs c.args.checked.now.sink);
   restart = refl;
   keep = refl;
-  judge = refl;
-  over = refl;
-  no_fall = omega arith;
-  references = refl;
+  lasts = lasts_same g.S.StepSink.over g.S.StepSink.faults g.S.StepSink.references c.args.checked.now;
 }
 
 pub returns-in-Some-clause-found : goal.returns-in-Some-clause-found
@@ -32,7 +32,7 @@ returns-in-Some-clause-found g c =
     c.in-Some.found c.rounds.invariant.puts
     (found_as (g.J.RunJudge.accepts c.rounds.checked.judge) good c.rounds.checked.checker
     c.round.new.checked.checker c.rounds.weight c.round.new.weight c.in_ok-found.field-0 c.in-Some.found
-    (ap g.J.RunJudge.accepts c.rounds.invariant.judge) c.in-Some.is c.in_ok-found.ensures.found)
+    (ap g.J.RunJudge.accepts c.rounds.invariant.lasts.judge_stays) c.in-Some.is c.in_ok-found.ensures.found)
 
 pub returns-in-Some-clause-steps : goal.returns-in-Some-clause-steps
 returns-in-Some-clause-steps g c =
@@ -43,7 +43,7 @@ returns-in-Some-clause-steps g c =
     let puts = puts_on good old.checker mid.checker new.checker (g.S.StepSink.logs old.sink)
     (g.S.StepSink.logs mid.sink) (g.S.StepSink.logs new.sink) c.rounds.invariant.puts
     (puts_as (g.J.RunJudge.accepts mid.judge) good mid.checker new.checker (g.S.StepSink.logs mid.sink)
-    (g.S.StepSink.logs new.sink) (ap g.J.RunJudge.accepts c.rounds.invariant.judge)
+    (g.S.StepSink.logs new.sink) (ap g.J.RunJudge.accepts c.rounds.invariant.lasts.judge_stays)
     c.in_ok-found.ensures.puts) in
     (puts.steps, puts.leads, puts.logs)
 
@@ -63,22 +63,18 @@ rounds-preserved g c =
     let puts = puts_on good old.checker mid.checker new.checker (g.S.StepSink.logs old.sink)
     (g.S.StepSink.logs mid.sink) (g.S.StepSink.logs new.sink) c.rounds.invariant.puts
     (puts_as (g.J.RunJudge.accepts mid.judge) good mid.checker new.checker (g.S.StepSink.logs mid.sink)
-    (g.S.StepSink.logs new.sink) (ap g.J.RunJudge.accepts c.rounds.invariant.judge)
+    (g.S.StepSink.logs new.sink) (ap g.J.RunJudge.accepts c.rounds.invariant.lasts.judge_stays)
     c.in_ok-found.ensures.puts) in
     record {
-      same = c.in_ok-found.ensures.same;
+      goes_on = c.in_ok-found.ensures.goes_on;
       ready = puts_ready (g.J.RunJudge.accepts mid.judge) mid.checker new.checker
           (g.S.StepSink.logs mid.sink) (g.S.StepSink.logs new.sink) c.in_ok-found.ensures.puts
           c.rounds.invariant.ready;
-      fresh = c.in_ok-found.ensures.stays_fresh.1;
-      working = c.in_ok-found.ensures.stays_fresh.0;
       puts = puts;
-      restart = c.round.ensures.restart_stays ∙ c.rounds.invariant.restart;
-      keep = c.round.ensures.keep_stays ∙ c.rounds.invariant.keep;
-      judge = c.round.ensures.judge_stays ∙ c.rounds.invariant.judge;
-      over = c.round.ensures.over_stays ∙ c.rounds.invariant.over;
-      no_fall = omega (arith, c.round.ensures.no_fall, c.rounds.invariant.no_fall);
-      references = c.round.ensures.same_references ∙ c.rounds.invariant.references;
+      restart = c.round.ensures.ran.restart_stays ∙ c.rounds.invariant.restart;
+      keep = c.round.ensures.ran.keep_stays ∙ c.rounds.invariant.keep;
+      lasts = lasts_then g.S.StepSink.over g.S.StepSink.faults g.S.StepSink.references old mid new
+          c.rounds.invariant.lasts c.round.ensures.ran.lasts;
     }
 
 pub returns-in-Some-clause-stays_begun : goal.returns-in-Some-clause-stays_begun
@@ -107,7 +103,7 @@ returns-in_err-found-clause-leaves g c =
     let new = c.round.new.checked in
     leaves_on good (g.J.RunJudge.accepts mid.judge) old.checker mid.checker new.checker
     (g.S.StepSink.logs old.sink) (g.S.StepSink.logs mid.sink) (g.S.StepSink.logs new.sink)
-    (ap g.J.RunJudge.accepts c.rounds.invariant.judge) c.rounds.invariant.puts c.round.ensures.leaves
+    (ap g.J.RunJudge.accepts c.rounds.invariant.lasts.judge_stays) c.rounds.invariant.puts c.round.ensures.leaves
 
 pub returns-in-Some-clause-leaves : goal.returns-in-Some-clause-leaves
 returns-in-Some-clause-leaves g c =
@@ -117,4 +113,4 @@ returns-in-Some-clause-leaves g c =
     let new = c.round.new.checked in
     leaves_on good (g.J.RunJudge.accepts mid.judge) old.checker mid.checker new.checker
     (g.S.StepSink.logs old.sink) (g.S.StepSink.logs mid.sink) (g.S.StepSink.logs new.sink)
-    (ap g.J.RunJudge.accepts c.rounds.invariant.judge) c.rounds.invariant.puts c.round.ensures.leaves
+    (ap g.J.RunJudge.accepts c.rounds.invariant.lasts.judge_stays) c.rounds.invariant.puts c.round.ensures.leaves

@@ -27,12 +27,12 @@ returns-in-Err-clause-leaves g c =
     c.requires.some)
     (core_allowed (g.J.RunJudge.accepts c.args.checked.now.judge) s c.args.core.lits c.args.core.hints
     c.args.core.back c.requires.core c.requires.ready)
-    (c.in-Err.ensures.taken_or_asleep c.requires.fresh) c.in-Err.ensures.refused
+    (c.in-Err.ensures.taken_or_asleep c.requires.goes_on.fresh) c.in-Err.ensures.refused
 
 pub take_new-requires : goal.take_new-requires
 take_new-requires g c = record {
   part = λ working. part_after_core c.args.checked.now.checker
-      c.put.new.self.checker c.args.core.lits c.args.core.hints c.in_default.ensures.taken c.requires.same;
+      c.put.new.self.checker c.args.core.lits c.args.core.hints c.in_default.ensures.taken c.requires.goes_on.same;
 }
 
 pub returns-clause-puts : goal.returns-clause-puts

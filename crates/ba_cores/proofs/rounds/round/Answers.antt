@@ -51,7 +51,7 @@ returns-clause-found g c =
     (λ found ends. round_as good (g.J.RunJudge.accepts mid.judge) old.checker mid.checker
     c.take_answer.new.checked.checker (g.S.StepSink.logs old.sink) (g.S.StepSink.logs mid.sink)
     c.args.weight.now c.take_answer.new.weight found
-    (ap g.J.RunJudge.accepts c.in_ok-answer.ensures.judge_stays) puts ends)
+    (ap g.J.RunJudge.accepts c.in_ok-answer.ensures.ran.lasts.judge_stays) puts ends)
     c.take_answer.ensures.found
 
 pub returns-clause-puts : goal.returns-clause-puts
@@ -66,7 +66,7 @@ returns-clause-puts g c =
     (λ more. puts_on good old.checker mid.checker new.checker (g.S.StepSink.logs old.sink)
     (g.S.StepSink.logs mid.sink) (g.S.StepSink.logs new.sink) puts
     (puts_as (g.J.RunJudge.accepts mid.judge) good mid.checker new.checker (g.S.StepSink.logs mid.sink)
-    (g.S.StepSink.logs new.sink) (ap g.J.RunJudge.accepts c.in_ok-answer.ensures.judge_stays) more))
+    (g.S.StepSink.logs new.sink) (ap g.J.RunJudge.accepts c.in_ok-answer.ensures.ran.lasts.judge_stays) more))
     c.take_answer.ensures.puts
 
 pub returns-in_default-clause-leaves : goal.returns-in_default-clause-leaves
@@ -89,4 +89,4 @@ returns-clause-leaves g c =
     (g.S.StepSink.logs mid.sink) c.in_ok-answer.ensures.steps in
     leaves_on good (g.J.RunJudge.accepts mid.judge) old.checker mid.checker new.checker
     (g.S.StepSink.logs old.sink) (g.S.StepSink.logs mid.sink) (g.S.StepSink.logs new.sink)
-    (ap g.J.RunJudge.accepts c.in_ok-answer.ensures.judge_stays) puts c.take_answer.ensures.leaves
+    (ap g.J.RunJudge.accepts c.in_ok-answer.ensures.ran.lasts.judge_stays) puts c.take_answer.ensures.leaves
