@@ -8,8 +8,7 @@ ghost use Rattle.ba_enum.specs.Leading.{IsNext, IsReached, IsReady, Blocks, Leav
 ghost use Rattle.ba_enum.specs.Problems.{IsReadable};
 ghost use Rattle.ba_encode.specs.Softs.{softs_of};
 ghost use Rattle.ba_lits.specs.Satisfaction.{assignment_of};
-ghost use Rattle.ba_search.specs.declared.search.SearchError.{SearchError};
-ghost use Rattle.ba_steps.specs.Sinks.{Rose};
+ghost use Rattle.ba_search.specs.Searching.{Ran};
 ghost use Rattle.ba_checker.specs.Facts.{AreAmong};
 ghost use Rattle.ba_checker.specs.States.{present};
 
@@ -50,13 +49,7 @@ where
         (S.logs checked.old.sink) (S.logs checked.new.sink)) }
     ensures leaves { Leaves (J.accepts checked.old.judge) checked.old.checker
         (S.logs checked.old.sink) checked.new.checker (S.logs checked.new.sink) }
-    ensures stays_fresh { OnOk result (checked.new.refusal ≡ None) }
-    ensures cause { result ≡ Err SearchError.SinkFailed
-        → Rose (S.faults checked.old.sink) (S.faults checked.new.sink) }
-    ensures judge_stays { checked.new.judge ≡ checked.old.judge }
-    ensures over_stays { S.over checked.new.sink ≡ S.over checked.old.sink }
-    ensures no_fall { S.faults checked.old.sink ≤ S.faults checked.new.sink }
-    ensures same_references { S.references checked.new.sink ≡ S.references checked.old.sink }
+    ensures ran { Ran S.over S.faults S.references result checked.old checked.new }
 {
     let set = found_set(alloc, task, model)?;
     let step = CertStep::Block {

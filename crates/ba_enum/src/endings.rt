@@ -7,8 +7,7 @@ ghost use Rattle.ba_derivations.specs.Derivations.{sets_of};
 ghost use Rattle.ba_enum.specs.Enumerating.{Ends, HaveSame};
 ghost use Rattle.ba_enum.specs.Turning.{IsEnd, IsLast};
 ghost use Rattle.ba_enum.specs.Leading.{IsReady, Leaves};
-ghost use Rattle.ba_search.specs.declared.search.SearchError.{SearchError};
-ghost use Rattle.ba_steps.specs.Sinks.{Rose};
+ghost use Rattle.ba_search.specs.Searching.{Ran};
 ghost use Rattle.ba_tree.specs.Least.{AreInOrder};
 
 use crate::putting::put;
@@ -54,12 +53,7 @@ where
         verdict checked.new.checker (S.logs checked.new.sink)) }
     ensures leaves { Leaves (J.accepts checked.old.judge) checked.old.checker
         (S.logs checked.old.sink) checked.new.checker (S.logs checked.new.sink) }
-    ensures cause { result ≡ Err SearchError.SinkFailed
-        → Rose (S.faults checked.old.sink) (S.faults checked.new.sink) }
-    ensures judge_stays { checked.new.judge ≡ checked.old.judge }
-    ensures over_stays { S.over checked.new.sink ≡ S.over checked.old.sink }
-    ensures no_fall { S.faults checked.old.sink ≤ S.faults checked.new.sink }
-    ensures same_references { S.references checked.new.sink ≡ S.references checked.old.sink }
+    ensures ran { Ran S.over S.faults S.references result checked.old checked.new }
 {
     let weight = checked.checker().bound();
     match end {
@@ -105,12 +99,7 @@ where
         verdict checked.new.checker (S.logs checked.new.sink)) }
     ensures leaves { Leaves (J.accepts checked.old.judge) checked.old.checker
         (S.logs checked.old.sink) checked.new.checker (S.logs checked.new.sink) }
-    ensures cause { result ≡ Err SearchError.SinkFailed
-        → Rose (S.faults checked.old.sink) (S.faults checked.new.sink) }
-    ensures judge_stays { checked.new.judge ≡ checked.old.judge }
-    ensures over_stays { S.over checked.new.sink ≡ S.over checked.old.sink }
-    ensures no_fall { S.faults checked.old.sink ≤ S.faults checked.new.sink }
-    ensures same_references { S.references checked.new.sink ≡ S.references checked.old.sink }
+    ensures ran { Ran S.over S.faults S.references result checked.old checked.new }
 {
     let sets = in_order(found)?;
     checked.checker().keeps_facts();

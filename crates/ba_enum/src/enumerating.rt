@@ -6,13 +6,11 @@ ghost use Rattle.ba_enum.specs.Enumerating.{Enumerates, Finishes};
 ghost use Rattle.ba_enum.specs.Leading.{IsNext, IsReady, IsReached, Leaves};
 ghost use Rattle.ba_enum.specs.Problems.{IsFresh, IsReadable, problem_in};
 ghost use Rattle.ba_encode.specs.Softs.{softs_of};
-ghost use Rattle.ba_learn.specs.Live.{AreLive};
 ghost use Rattle.ba_lits.specs.Satisfaction.{Soft};
 ghost use Rattle.ba_search.specs.Rules.{IsRestartRule, IsKeepRule};
 ghost use Rattle.ba_search.specs.declared.search.SearchError.{SearchError};
-ghost use Rattle.ba_steps.specs.Sinks.{Rose};
+ghost use Rattle.ba_search.specs.Searching.{MayGoOn, RanSearch};
 ghost use Rattle.ba_checker.specs.Facts.{IsStart};
-ghost use Rattle.ba_checker.specs.States.{clause_at};
 
 use crate::endings::{End, finish};
 use crate::task::Task;
@@ -59,17 +57,10 @@ where
     ensures leaves { search.old.failure ≡ None → Leaves (J.accepts checked.old.judge)
         checked.old.checker (S.logs checked.old.sink)
         checked.new.checker (S.logs checked.new.sink) }
-    ensures restart_stays { search.new.restart ≡ search.old.restart }
-    ensures keep_stays { search.new.keep ≡ search.old.keep }
     ensures again { (error : SearchError) → search.old.failure ≡ Some error
         → (result ≡ Err error) × (search.new ≡ search.old) × (checked.new ≡ checked.old) }
-    ensures cause { result ≡ Err SearchError.SinkFailed
-        → (search.old.failure ≡ Some SearchError.SinkFailed)
-        ⊎ Rose (S.faults checked.old.sink) (S.faults checked.new.sink) }
-    ensures judge_stays { checked.new.judge ≡ checked.old.judge }
-    ensures over_stays { S.over checked.new.sink ≡ S.over checked.old.sink }
-    ensures no_fall { S.faults checked.old.sink ≤ S.faults checked.new.sink }
-    ensures same_references { S.references checked.new.sink ≡ S.references checked.old.sink }
+    ensures ran { RanSearch S.over S.faults S.references result search.old search.new
+        checked.old checked.new }
 {
     match least(alloc, search, checked)? {
         Found::NoModel { hints } => finish(End::NoModel(hints), Items::new(alloc), checked),
@@ -98,7 +89,7 @@ where
     K: Fn(u64, u64) -> bool + Drop,
     requires restart { IsRestartRule (R.pre search.old.restart) (R.post search.old.restart) }
     requires keep { IsKeepRule (K.pre search.old.keep) (K.post search.old.keep) }
-    requires same { AreLive search.old.clauses (clause_at checked.old.checker.clauses) }
+    requires goes_on { MayGoOn search.old checked.old }
     requires readable { IsReadable task.now.encoded.now (J.accepts checked.old.judge) }
     requires reached { IsReached (J.accepts checked.old.judge) task.now.encoded.now.formula
         (softs_of task.now.encoded.now.groups) checked.old.checker [] }
@@ -107,21 +98,13 @@ where
     requires assumed { task.now.assumptions.items ≡ literals_of checked.old.checker.softs }
     requires listed { checked.old.checker.most_sets ≡ task.now.sets }
     requires ready { IsReady checked.old.checker }
-    requires fresh { checked.old.refusal ≡ None }
-    requires working { search.old.failure ≡ None }
     ensures finishes { IfOk result (λ verdict. Finishes (J.accepts checked.old.judge)
         task.now.encoded.now.formula (softs_of task.now.encoded.now.groups) checked.old.checker
         (S.logs checked.old.sink) verdict checked.new.checker (S.logs checked.new.sink)) }
     ensures leaves { Leaves (J.accepts checked.old.judge) checked.old.checker
         (S.logs checked.old.sink) checked.new.checker (S.logs checked.new.sink) }
-    ensures restart_stays { search.new.restart ≡ search.old.restart }
-    ensures keep_stays { search.new.keep ≡ search.old.keep }
-    ensures cause { result ≡ Err SearchError.SinkFailed
-        → Rose (S.faults checked.old.sink) (S.faults checked.new.sink) }
-    ensures judge_stays { checked.new.judge ≡ checked.old.judge }
-    ensures over_stays { S.over checked.new.sink ≡ S.over checked.old.sink }
-    ensures no_fall { S.faults checked.old.sink ≤ S.faults checked.new.sink }
-    ensures same_references { S.references checked.new.sink ≡ S.references checked.old.sink }
+    ensures ran { RanSearch S.over S.faults S.references result search.old search.new
+        checked.old checked.new }
 {
     let mut model = model;
     let mut found = Items::new(alloc);

@@ -1,8 +1,8 @@
 //! Putting a step.
 
 ghost use Rattle.std.specs.Prelude.{◌≡◌, ◌≤◌, false, None, OnOk, OnErr, Err};
-ghost use Rattle.ba_search.specs.declared.search.SearchError.{SearchError};
-ghost use Rattle.ba_steps.specs.Sinks.{MayAddStep, Rose, with_step};
+ghost use Rattle.ba_search.specs.Searching.{Ran};
+ghost use Rattle.ba_steps.specs.Sinks.{MayAddStep, with_step};
 ghost use Rattle.ba_steps.specs.Steps.{IsFormed};
 ghost use Rattle.ba_checker.specs.Judging.{error_of, after};
 ghost use Rattle.ba_checker.specs.Puts.{IsTakenOrAsleep};
@@ -25,17 +25,11 @@ where
     ensures told { OnOk result (S.logs checked.new.sink
         ≡ with_step step.now (S.logs checked.old.sink)) }
     ensures awake { OnOk result (checked.new.checker.refused ≡ false) }
-    ensures stays_fresh { OnOk result (checked.new.refusal ≡ None) }
     ensures taken_or_asleep { OnErr result
         (IsTakenOrAsleep checked.old.checker step.now checked.new.checker) }
     ensures refused { OnErr result
         (MayAddStep step.now (S.logs checked.old.sink) (S.logs checked.new.sink)) }
-    ensures cause { result ≡ Err SearchError.SinkFailed
-        → Rose (S.faults checked.old.sink) (S.faults checked.new.sink) }
-    ensures judge_stays { checked.new.judge ≡ checked.old.judge }
-    ensures over_stays { S.over checked.new.sink ≡ S.over checked.old.sink }
-    ensures no_fall { S.faults checked.old.sink ≤ S.faults checked.new.sink }
-    ensures same_references { S.references checked.new.sink ≡ S.references checked.old.sink }
+    ensures ran { Ran S.over S.faults S.references result checked.old checked.new }
 {
     if let Err(refusal) = checked.put(step) {
         return Err(SearchError::from(refusal));

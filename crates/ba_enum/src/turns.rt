@@ -6,11 +6,8 @@ ghost use Rattle.ba_enum.specs.Turning.{Comes, next_of};
 ghost use Rattle.ba_enum.specs.Leading.{Adds, IsNext, IsReached, IsReady, Leaves};
 ghost use Rattle.ba_enum.specs.Problems.{IsReadable};
 ghost use Rattle.ba_encode.specs.Softs.{softs_of};
-ghost use Rattle.ba_learn.specs.Live.{AreLive};
 ghost use Rattle.ba_search.specs.Rules.{IsRestartRule, IsKeepRule};
-ghost use Rattle.ba_search.specs.declared.search.SearchError.{SearchError};
-ghost use Rattle.ba_steps.specs.Sinks.{Rose};
-ghost use Rattle.ba_checker.specs.States.{clause_at};
+ghost use Rattle.ba_search.specs.Searching.{MayGoOn, RanSearch};
 
 use crate::blocking::block;
 use crate::endings::End;
@@ -48,7 +45,7 @@ where
     K: Fn(u64, u64) -> bool + Drop,
     requires restart { IsRestartRule (R.pre search.old.restart) (R.post search.old.restart) }
     requires keep { IsKeepRule (K.pre search.old.keep) (K.post search.old.keep) }
-    requires same { AreLive search.old.clauses (clause_at checked.old.checker.clauses) }
+    requires goes_on { MayGoOn search.old checked.old }
     requires readable { IsReadable task.now.encoded.now (J.accepts checked.old.judge) }
     requires reached { IsReached (J.accepts checked.old.judge) task.now.encoded.now.formula
         (softs_of task.now.encoded.now.groups) checked.old.checker found.old }
@@ -58,8 +55,6 @@ where
     requires listed { checked.old.checker.most_sets ≡ task.now.sets }
     requires few { length found.old ≤ task.now.sets }
     requires ready { IsReady checked.old.checker }
-    requires fresh { checked.old.refusal ≡ None }
-    requires working { search.old.failure ≡ None }
     ensures comes { IfOk result (λ next. Comes task.now.encoded.now.formula
         (softs_of task.now.encoded.now.groups) checked.new.checker found.new next) }
     ensures adds { OnOk result (Adds (J.accepts checked.old.judge)
@@ -69,19 +64,11 @@ where
     ensures one_more { OnOk result (length found.new ≡ length found.old + 1) }
     ensures leaves { Leaves (J.accepts checked.old.judge) checked.old.checker
         (S.logs checked.old.sink) checked.new.checker (S.logs checked.new.sink) }
-    ensures same { OnOk result (AreLive search.new.clauses
-        (clause_at checked.new.checker.clauses)) }
+    ensures goes_on { OnOk result (MayGoOn search.new checked.new) }
     ensures ready { OnOk result (IsReady checked.new.checker) }
     ensures softs_stay { OnOk result (checked.new.checker.softs ≡ checked.old.checker.softs) }
-    ensures stays_fresh { OnOk result ((search.new.failure ≡ None) × (checked.new.refusal ≡ None)) }
-    ensures restart_stays { search.new.restart ≡ search.old.restart }
-    ensures keep_stays { search.new.keep ≡ search.old.keep }
-    ensures cause { result ≡ Err SearchError.SinkFailed
-        → Rose (S.faults checked.old.sink) (S.faults checked.new.sink) }
-    ensures judge_stays { checked.new.judge ≡ checked.old.judge }
-    ensures over_stays { S.over checked.new.sink ≡ S.over checked.old.sink }
-    ensures no_fall { S.faults checked.old.sink ≤ S.faults checked.new.sink }
-    ensures same_references { S.references checked.new.sink ≡ S.references checked.old.sink }
+    ensures ran { RanSearch S.over S.faults S.references result search.old search.new
+        checked.old checked.new }
 {
     block(alloc, task, model, checked, found)?;
     search.take_new(checked)?;

@@ -38,7 +38,7 @@ returns-in-NoModel-clause-verdict g c =
     old.checker mid.checker c.finish.new.checked.checker c.new.result
     (g.S.StepSink.logs old.sink) (g.S.StepSink.logs mid.sink) (g.S.StepSink.logs c.finish.new.checked.sink)
     verdict
-    c.requires.clauses (ap g.J.RunJudge.accepts c.least.ensures.judge_stays)
+    c.requires.clauses (ap g.J.RunJudge.accepts c.least.ensures.ran.lasts.judge_stays)
     (fresh_start (c.requires.fresh working) good) puts c.new.ensures ends)
     c.finish.ensures.ends
 
@@ -53,7 +53,7 @@ returns-in-NoModel-clause-leaves g c = λ working.
     leaves_on good (g.J.RunJudge.accepts mid.judge) encoded.formula (softs_of encoded.groups) old.checker
     mid.checker c.finish.new.checked.checker _
     (g.S.StepSink.logs old.sink) (g.S.StepSink.logs mid.sink) (g.S.StepSink.logs c.finish.new.checked.sink)
-    (ap g.J.RunJudge.accepts c.least.ensures.judge_stays) puts c.finish.ensures.leaves
+    (ap g.J.RunJudge.accepts c.least.ensures.ran.lasts.judge_stays) puts c.finish.ensures.leaves
 
 pub returns-in-Spent-clause-verdict : goal.returns-in-Spent-clause-verdict
 returns-in-Spent-clause-verdict g c =
@@ -70,7 +70,7 @@ returns-in-Spent-clause-verdict g c =
     old.checker mid.checker c.finish-in-Spent.new.checked.checker c.new-in-Spent.result
     (g.S.StepSink.logs old.sink) (g.S.StepSink.logs mid.sink)
     (g.S.StepSink.logs c.finish-in-Spent.new.checked.sink) verdict
-    c.requires.clauses (ap g.J.RunJudge.accepts c.least.ensures.judge_stays)
+    c.requires.clauses (ap g.J.RunJudge.accepts c.least.ensures.ran.lasts.judge_stays)
     (fresh_start (c.requires.fresh working) good) puts c.new-in-Spent.ensures ends)
     c.finish-in-Spent.ensures.ends
 
@@ -86,7 +86,7 @@ returns-in-Spent-clause-leaves g c = λ working.
     mid.checker c.finish-in-Spent.new.checked.checker _
     (g.S.StepSink.logs old.sink) (g.S.StepSink.logs mid.sink)
     (g.S.StepSink.logs c.finish-in-Spent.new.checked.sink)
-    (ap g.J.RunJudge.accepts c.least.ensures.judge_stays) puts c.finish-in-Spent.ensures.leaves
+    (ap g.J.RunJudge.accepts c.least.ensures.ran.lasts.judge_stays) puts c.finish-in-Spent.ensures.leaves
 
 pub returns-in_err-task-in-Least-clause-leaves : goal.returns-in_err-task-in-Least-clause-leaves
 returns-in_err-task-in-Least-clause-leaves g c = λ working.
@@ -110,7 +110,7 @@ enumerate-requires-clause-reached g c =
     (sym c.in_ok-task-in-Least.ensures.encoded)
     (least_reached good same encoded old.checker mid.checker (g.S.StepSink.logs old.sink)
     (g.S.StepSink.logs mid.sink)
-    (ap g.J.RunJudge.accepts c.least.ensures.judge_stays) c.requires.clauses
+    (ap g.J.RunJudge.accepts c.least.ensures.ran.lasts.judge_stays) c.requires.clauses
     (fresh_start (c.requires.fresh working) good) puts)
 
 pub enumerate-requires-clause-next : goal.enumerate-requires-clause-next
@@ -157,7 +157,7 @@ returns-in_ok-task-in-Least-clause-verdict g c =
     (λ verdict finishes. enumerates_on (problem_in encoded good old.checker) same old.checker mid.checker
     last.checker
     (g.S.StepSink.logs old.sink) (g.S.StepSink.logs mid.sink) (g.S.StepSink.logs last.sink) verdict
-    c.requires.clauses (ap g.J.RunJudge.accepts c.least.ensures.judge_stays)
+    c.requires.clauses (ap g.J.RunJudge.accepts c.least.ensures.ran.lasts.judge_stays)
     (fresh_start (c.requires.fresh working) good) puts
     (subst (λ (e : Encoded). Finishes same e.formula (softs_of e.groups) mid.checker
     (g.S.StepSink.logs mid.sink) verdict last.checker (g.S.StepSink.logs last.sink))
@@ -176,4 +176,4 @@ returns-in_ok-task-in-Least-clause-leaves g c = λ working.
     mid.checker c.enumerate.new.checked.checker _
     (g.S.StepSink.logs old.sink) (g.S.StepSink.logs mid.sink)
     (g.S.StepSink.logs c.enumerate.new.checked.sink)
-    (ap g.J.RunJudge.accepts c.least.ensures.judge_stays) puts c.enumerate.ensures.leaves
+    (ap g.J.RunJudge.accepts c.least.ensures.ran.lasts.judge_stays) puts c.enumerate.ensures.leaves

@@ -1,5 +1,6 @@
 use Rattle.std.proofs.Common.{◌≡◌, [], arith, sym, ap, subst, ◌∙◌}
 use Rattle.std.proofs.lemmas.Result.{IfOk-weaker}
+use Rattle.ba_checker.proofs.PutLaws.{lasts_then}
 use Rattle.ba_cores.specs.Rounds.{literals_of}
 use Rattle.ba_enum.specs.Leading.{IsReached}
 use Rattle.ba_encode.specs.Softs.{softs_of}
@@ -13,7 +14,7 @@ pub turn-requires-clause-reached : goal.turn-requires-clause-reached
 turn-requires-clause-reached g c =
     let encoded = c.args.task.now.encoded.now in
     subst (λ j. IsReached j encoded.formula (softs_of encoded.groups) c.turns.checked.checker c.turns.found)
-    (sym (ap g.J.RunJudge.accepts c.turns.invariant.judge))
+    (sym (ap g.J.RunJudge.accepts c.turns.invariant.lasts.judge_stays))
     (adds_reached c.turns.invariant.adds c.requires.reached)
 
 pub returns-in_err-next-clause-leaves : goal.returns-in_err-next-clause-leaves
@@ -25,7 +26,7 @@ returns-in_err-next-clause-leaves g c =
     adds_leave (g.J.RunJudge.accepts old.judge) (g.J.RunJudge.accepts mid.judge) encoded.formula
     (softs_of encoded.groups) old.checker mid.checker new.checker [] c.turns.found
     (g.S.StepSink.logs old.sink) (g.S.StepSink.logs mid.sink) (g.S.StepSink.logs new.sink)
-    (ap g.J.RunJudge.accepts c.turns.invariant.judge) c.turns.invariant.adds c.turn.ensures.leaves
+    (ap g.J.RunJudge.accepts c.turns.invariant.lasts.judge_stays) c.turns.invariant.adds c.turn.ensures.leaves
 
 pub turns-preserved : goal.turns-preserved
 turns-preserved g c =
@@ -42,24 +43,20 @@ turns-preserved g c =
     ∙ c.turns.invariant.listed in
     let few = comes.1 in
     record {
-      same = turn.same;
+      goes_on = turn.goes_on;
       adds = adds_on (g.J.RunJudge.accepts old.judge) (g.J.RunJudge.accepts mid.judge) encoded.formula
           (softs_of encoded.groups) old.checker mid.checker new.checker [] c.turns.found c.turn.new.found
           (g.S.StepSink.logs old.sink) (g.S.StepSink.logs mid.sink) (g.S.StepSink.logs new.sink)
-          (ap g.J.RunJudge.accepts c.turns.invariant.judge) c.turns.invariant.adds turn.adds;
+          (ap g.J.RunJudge.accepts c.turns.invariant.lasts.judge_stays) c.turns.invariant.adds turn.adds;
       next = comes.0;
       assumed = c.turns.invariant.assumed ∙ ap literals_of (sym turn.softs_stay);
       listed = listed;
       few = omega (arith, few, listed);
       ready = turn.ready;
-      fresh = turn.stays_fresh.1;
-      working = turn.stays_fresh.0;
-      restart = c.turn.ensures.restart_stays ∙ c.turns.invariant.restart;
-      keep = c.turn.ensures.keep_stays ∙ c.turns.invariant.keep;
-      judge = c.turn.ensures.judge_stays ∙ c.turns.invariant.judge;
-      over = c.turn.ensures.over_stays ∙ c.turns.invariant.over;
-      no_fall = omega (arith, c.turn.ensures.no_fall, c.turns.invariant.no_fall);
-      references = c.turn.ensures.same_references ∙ c.turns.invariant.references;
+      restart = c.turn.ensures.ran.restart_stays ∙ c.turns.invariant.restart;
+      keep = c.turn.ensures.ran.keep_stays ∙ c.turns.invariant.keep;
+      lasts = lasts_then g.S.StepSink.over g.S.StepSink.faults g.S.StepSink.references old mid new
+          c.turns.invariant.lasts c.turn.ensures.ran.lasts;
     }
 
 pub finish-requires-clause-sets : goal.finish-requires-clause-sets
@@ -72,7 +69,7 @@ finish-requires-clause-sets g c =
     (adds_on (g.J.RunJudge.accepts old.judge) (g.J.RunJudge.accepts mid.judge) encoded.formula
     (softs_of encoded.groups) old.checker mid.checker new.checker [] c.turns.found c.turn.new.found
     (g.S.StepSink.logs old.sink) (g.S.StepSink.logs mid.sink) (g.S.StepSink.logs new.sink)
-    (ap g.J.RunJudge.accepts c.turns.invariant.judge) c.turns.invariant.adds c.in_ok-next.ensures.adds)
+    (ap g.J.RunJudge.accepts c.turns.invariant.lasts.judge_stays) c.turns.invariant.adds c.in_ok-next.ensures.adds)
     c.requires.reached)
 
 pub finish-requires-clause-differ : goal.finish-requires-clause-differ
@@ -85,7 +82,7 @@ finish-requires-clause-differ g c =
     (adds_on (g.J.RunJudge.accepts old.judge) (g.J.RunJudge.accepts mid.judge) encoded.formula
     (softs_of encoded.groups) old.checker mid.checker new.checker [] c.turns.found c.turn.new.found
     (g.S.StepSink.logs old.sink) (g.S.StepSink.logs mid.sink) (g.S.StepSink.logs new.sink)
-    (ap g.J.RunJudge.accepts c.turns.invariant.judge) c.turns.invariant.adds c.in_ok-next.ensures.adds)
+    (ap g.J.RunJudge.accepts c.turns.invariant.lasts.judge_stays) c.turns.invariant.adds c.in_ok-next.ensures.adds)
     c.requires.reached)
 
 pub finish-requires-clause-ready : goal.finish-requires-clause-ready
@@ -102,12 +99,12 @@ returns-in-End-clause-finishes g c =
     let adds = adds_on good (g.J.RunJudge.accepts mid.judge) encoded.formula (softs_of encoded.groups)
     old.checker mid.checker new.checker [] c.turns.found c.turn.new.found
     (g.S.StepSink.logs old.sink) (g.S.StepSink.logs mid.sink) (g.S.StepSink.logs new.sink)
-    (ap g.J.RunJudge.accepts c.turns.invariant.judge) c.turns.invariant.adds c.in_ok-next.ensures.adds in
+    (ap g.J.RunJudge.accepts c.turns.invariant.lasts.judge_stays) c.turns.invariant.adds c.in_ok-next.ensures.adds in
     IfOk-weaker c.finish.result _ _
     (λ verdict ends. finishes_of good (g.J.RunJudge.accepts new.judge) encoded.formula
     (softs_of encoded.groups) old.checker new.checker last.checker c.turn.new.found
     (g.S.StepSink.logs old.sink) (g.S.StepSink.logs new.sink) (g.S.StepSink.logs last.sink) verdict
-    (ap g.J.RunJudge.accepts (c.turn.ensures.judge_stays ∙ c.turns.invariant.judge)) adds ends)
+    (ap g.J.RunJudge.accepts (c.turn.ensures.ran.lasts.judge_stays ∙ c.turns.invariant.lasts.judge_stays)) adds ends)
     c.finish.ensures.ends
 
 pub returns-in-End-clause-leaves : goal.returns-in-End-clause-leaves
@@ -121,9 +118,9 @@ returns-in-End-clause-leaves g c =
     let adds = adds_on good (g.J.RunJudge.accepts mid.judge) encoded.formula (softs_of encoded.groups)
     old.checker mid.checker new.checker [] c.turns.found c.turn.new.found
     (g.S.StepSink.logs old.sink) (g.S.StepSink.logs mid.sink) (g.S.StepSink.logs new.sink)
-    (ap g.J.RunJudge.accepts c.turns.invariant.judge) c.turns.invariant.adds c.in_ok-next.ensures.adds in
+    (ap g.J.RunJudge.accepts c.turns.invariant.lasts.judge_stays) c.turns.invariant.adds c.in_ok-next.ensures.adds in
     adds_leave good (g.J.RunJudge.accepts new.judge) encoded.formula (softs_of encoded.groups) old.checker
     new.checker last.checker [] c.turn.new.found
     (g.S.StepSink.logs old.sink) (g.S.StepSink.logs new.sink) (g.S.StepSink.logs last.sink)
-    (ap g.J.RunJudge.accepts (c.turn.ensures.judge_stays ∙ c.turns.invariant.judge)) adds
+    (ap g.J.RunJudge.accepts (c.turn.ensures.ran.lasts.judge_stays ∙ c.turns.invariant.lasts.judge_stays)) adds
     c.finish.ensures.leaves

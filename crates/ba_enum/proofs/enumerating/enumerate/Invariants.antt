@@ -1,14 +1,14 @@
-use Rattle.std.proofs.Common.{◌≡◌, ◌+◌, ◌-◌, ◌≤◌, None, [], length}
+use Rattle.std.proofs.Common.{◌≡◌, ◌+◌, ◌-◌, ◌≤◌, [], length}
 use Rattle.ba_cores.specs.Rounds.{literals_of}
 use Rattle.ba_enum.specs.Leading.{IsNext, IsReady, Adds}
 use Rattle.ba_encode.specs.Softs.{softs_of}
-use Rattle.ba_learn.specs.Live.{AreLive}
-use Rattle.ba_checker.specs.States.{clause_at}
+use Rattle.ba_checker.specs.Puts.{Lasts}
+use Rattle.ba_search.specs.Searching.{MayGoOn}
 use Rattle.ba_enum.proofs.enumerating.enumerate.Given as goal
 
 abbrev pub invariant-turns : goal.invariant-turns
 invariant-turns g l = record {
-  same : AreLive l.search.clauses (clause_at l.checked.checker.clauses);
+  goes_on : MayGoOn l.search l.checked;
   adds : Adds (g.J.RunJudge.accepts l.initial.checked.judge) l.task.encoded.now.formula
       (softs_of l.task.encoded.now.groups) l.initial.checked.checker l.checked.checker
       [] l.found (g.S.StepSink.logs l.initial.checked.sink) (g.S.StepSink.logs l.checked.sink);
@@ -18,14 +18,9 @@ invariant-turns g l = record {
   listed : l.checked.checker.most_sets ≡ l.task.sets;
   few : length l.found ≤ l.task.sets;
   ready : IsReady l.checked.checker;
-  fresh : l.checked.refusal ≡ None;
-  working : l.search.failure ≡ None;
   restart : l.search.restart ≡ l.initial.search.restart;
   keep : l.search.keep ≡ l.initial.search.keep;
-  judge : l.checked.judge ≡ l.initial.checked.judge;
-  over : g.S.StepSink.over l.checked.sink ≡ g.S.StepSink.over l.initial.checked.sink;
-  no_fall : g.S.StepSink.faults l.initial.checked.sink ≤ g.S.StepSink.faults l.checked.sink;
-  references : g.S.StepSink.references l.checked.sink ≡ g.S.StepSink.references l.initial.checked.sink;
+  lasts : Lasts g.S.StepSink.over g.S.StepSink.faults g.S.StepSink.references l.initial.checked l.checked;
 }
 
 abbrev pub decreases-turns : goal.decreases-turns

@@ -11,7 +11,7 @@ use Rattle.ba_enum.proofs.turns.turn.Goals as goal
 pub take_new-requires : goal.take_new-requires
 take_new-requires g c = record {
   part = λ working. part_after_block c.in_ok-block.ensures.blocks
-      c.requires.same;
+      c.requires.goes_on.same;
 }
 
 pub solve-requires-clause-assumptions : goal.solve-requires-clause-assumptions
@@ -31,7 +31,7 @@ returns-in_err-answer-clause-leaves g c =
     adds_leave good (g.J.RunJudge.accepts mid.judge) encoded.formula (softs_of encoded.groups) old.checker
     mid.checker new.checker c.args.found.now c.block.new.found
     (g.S.StepSink.logs old.sink) (g.S.StepSink.logs mid.sink) (g.S.StepSink.logs new.sink)
-    (ap g.J.RunJudge.accepts c.block.ensures.judge_stays)
+    (ap g.J.RunJudge.accepts c.block.ensures.ran.lasts.judge_stays)
     (blocks_adds c.in_ok-block.ensures.blocks)
     (leaves_searches (g.J.RunJudge.accepts mid.judge) mid.checker new.checker (g.S.StepSink.logs mid.sink)
     (g.S.StepSink.logs new.sink) c.solve.ensures.leaves)
@@ -46,7 +46,7 @@ returns-clause-adds g c =
     adds_then good (g.J.RunJudge.accepts mid.judge) encoded.formula (softs_of encoded.groups) old.checker
     mid.checker new.checker c.args.found.now c.block.new.found
     (g.S.StepSink.logs old.sink) (g.S.StepSink.logs mid.sink) (g.S.StepSink.logs new.sink)
-    (ap g.J.RunJudge.accepts c.block.ensures.judge_stays)
+    (ap g.J.RunJudge.accepts c.block.ensures.ran.lasts.judge_stays)
     (blocks_adds c.in_ok-block.ensures.blocks)
     (puts_searched (g.J.RunJudge.accepts mid.judge) encoded.formula (softs_of encoded.groups) mid.checker
     new.checker (g.S.StepSink.logs mid.sink) (g.S.StepSink.logs new.sink) c.in_ok-answer.ensures.steps)
@@ -61,7 +61,7 @@ returns-clause-leaves g c =
     adds_leaves (adds_then good (g.J.RunJudge.accepts mid.judge) encoded.formula (softs_of encoded.groups)
     old.checker mid.checker new.checker c.args.found.now c.block.new.found
     (g.S.StepSink.logs old.sink) (g.S.StepSink.logs mid.sink) (g.S.StepSink.logs new.sink)
-    (ap g.J.RunJudge.accepts c.block.ensures.judge_stays)
+    (ap g.J.RunJudge.accepts c.block.ensures.ran.lasts.judge_stays)
     (blocks_adds c.in_ok-block.ensures.blocks)
     (puts_searched (g.J.RunJudge.accepts mid.judge) encoded.formula (softs_of encoded.groups) mid.checker
     new.checker (g.S.StepSink.logs mid.sink) (g.S.StepSink.logs new.sink) c.in_ok-answer.ensures.steps))
@@ -87,7 +87,7 @@ returns-clause-comes g c =
     let adds = adds_then good (g.J.RunJudge.accepts mid.judge) encoded.formula (softs_of encoded.groups)
     old.checker mid.checker new.checker c.args.found.now c.block.new.found
     (g.S.StepSink.logs old.sink) (g.S.StepSink.logs mid.sink) (g.S.StepSink.logs new.sink)
-    (ap g.J.RunJudge.accepts c.block.ensures.judge_stays) (blocks_adds blocks) puts in
+    (ap g.J.RunJudge.accepts c.block.ensures.ran.lasts.judge_stays) (blocks_adds blocks) puts in
     let steps = c.in_ok-answer.ensures.steps in
     let softs = puts_softs (g.J.RunJudge.accepts mid.judge) mid.checker new.checker steps.0 steps.1
     ∙ blocks_softs blocks in
