@@ -3,3 +3,4 @@ pub mod Searching
 pub mod Answers
 pub mod Values
 pub mod Iterations
+pub mod Engines

@@ -1,12 +1,13 @@
 //! Decisions where no clause is false or unit, and the answers where there is none to make.
 
-ghost use Rattle.std.specs.Prelude.{◌≡◌, ◌≢◌, ℕ, ◌<◌, ◌≤◌, ◌^◌, None, Some, true, length, IfOk, IfSome, IfNone, OnOk, List};
+ghost use Rattle.std.specs.Prelude.{◌≡◌, ◌≢◌, ℕ, ◌<◌, ◌≤◌, ◌^◌, None, Some, true, length, IfOk, IfSome, IfNone, List};
 ghost use Rattle.ba_lits.specs.Literals.{Literal, lit_at};
 ghost use Rattle.ba_lits.specs.Hints.{has_literal};
 ghost use Rattle.ba_watch.specs.Trails.{value_of};
 ghost use Rattle.ba_watch.specs.Propagation.{IsComplete};
 ghost use Rattle.ba_checker.specs.States.{State as Checking};
-ghost use Rattle.ba_search.specs.Answers.{AreAssumptions, IsAnswer};
+ghost use Rattle.ba_search.specs.Answers.{AreAssumptions};
+ghost use Rattle.ba_search.specs.Engines.{Decides, LearnsNothing};
 ghost use Rattle.ba_search.specs.Values.{positive, is_true, values_of};
 ghost use Rattle.ba_search.specs.Iterations.{AreTrue, IsDecision, IsUnderway, iterations_left};
 
@@ -32,15 +33,7 @@ impl Engine {
         requires assumptions { AreAssumptions checker.now.variables assumptions.now }
         requires settled { self.old.watch.settled ≡ true }
         requires complete { IsComplete self.old.watch.clauses self.old.watch.trail }
-        ensures answer { IfOk result (λ found.
-            IfSome found (IsAnswer checker.now assumptions.now)) }
-        ensures less { IfOk result (λ found.
-            IfNone found (iterations_left checker.now self.new.since self.new.watch
-            < iterations_left checker.now self.old.since self.old.watch)) }
-        ensures underway { OnOk result (IsUnderway assumptions.now self.new.watch self.new.numbers
-            checker.now) }
-        ensures numbers { self.new.numbers ≡ self.old.numbers }
-        ensures propagated { self.new.propagated ≡ self.old.propagated }
+        ensures { Decides assumptions.now checker.now result self.old self.new }
     {
         checker.keeps_facts();
         if self.has_branched(assumptions) {
@@ -83,7 +76,7 @@ impl Engine {
             → iterations_left checker self.new.since self.new.watch
             < iterations_left checker self.old.since self.old.watch }
         ensures numbers { self.new.numbers ≡ self.old.numbers }
-        ensures propagated { self.new.propagated ≡ self.old.propagated }
+        ensures learns_nothing { LearnsNothing self.old self.new }
     {
         self.watch.keeps_facts();
         self.watch.decide(lit);
@@ -104,15 +97,7 @@ impl Engine {
         requires settled { self.old.watch.settled ≡ true }
         requires one { has_literal assumption assumptions.now ≡ true }
         requires untrue { value_of self.old.watch.trail assumption ≢ Some true }
-        ensures answer { IfOk result (λ found.
-            IfSome found (IsAnswer checker.now assumptions.now)) }
-        ensures less { IfOk result (λ found.
-            IfNone found (iterations_left checker.now self.new.since self.new.watch
-            < iterations_left checker.now self.old.since self.old.watch)) }
-        ensures underway { OnOk result (IsUnderway assumptions.now self.new.watch self.new.numbers
-            checker.now) }
-        ensures numbers { self.new.numbers ≡ self.old.numbers }
-        ensures propagated { self.new.propagated ≡ self.old.propagated }
+        ensures { Decides assumptions.now checker.now result self.old self.new }
     {
         self.watch.keeps_facts();
         if self.watch.value(assumption).is_none() {
@@ -140,15 +125,7 @@ impl Engine {
         requires complete { IsComplete self.old.watch.clauses self.old.watch.trail }
         requires assumptions { AreAssumptions checker.now.variables assumptions.now }
         requires true_ { AreTrue self.old.watch.trail assumptions.now }
-        ensures answer { IfOk result (λ found.
-            IfSome found (IsAnswer checker.now assumptions.now)) }
-        ensures less { IfOk result (λ found.
-            IfNone found (iterations_left checker.now self.new.since self.new.watch
-            < iterations_left checker.now self.old.since self.old.watch)) }
-        ensures underway { OnOk result (IsUnderway assumptions.now self.new.watch self.new.numbers
-            checker.now) }
-        ensures numbers { self.new.numbers ≡ self.old.numbers }
-        ensures propagated { self.new.propagated ≡ self.old.propagated }
+        ensures { Decides assumptions.now checker.now result self.old self.new }
     {
         checker.keeps_facts();
         let variables = checker.variables();

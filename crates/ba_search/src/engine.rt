@@ -8,6 +8,7 @@ ghost use Rattle.ba_watch.specs.Deletion.{Deletes, MayDelete};
 ghost use Rattle.ba_learn.specs.Backjumps.{after_backtrack};
 ghost use Rattle.ba_checker.specs.States.{clause_at};
 ghost use Rattle.ba_search.specs.Iterations.{AreTaken, AddsOne, HasNumber, MarksLive, Forgets};
+ghost use Rattle.ba_search.specs.Engines.{LearnsNothing};
 ghost use Rattle.ba_learn.specs.Live.{AreLive};
 ghost use Rattle.ba_search.specs.declared.search.SearchError.{SearchError};
 
@@ -79,8 +80,7 @@ impl Engine {
         requires { level ≤ decided self.old.watch.reasons }
         ensures watch { self.new.watch ≡ after_backtrack level self.old.watch }
         ensures numbers { self.new.numbers ≡ self.old.numbers }
-        ensures since { self.new.since ≡ self.old.since }
-        ensures propagated { self.new.propagated ≡ self.old.propagated }
+        ensures learns_nothing { LearnsNothing self.old self.new }
     {
         self.order.release(&self.watch, level);
         self.watch.back_to(level);
@@ -97,9 +97,7 @@ impl Engine {
         ensures adds { OnOk result (AddsOne self.old.watch self.new.watch self.old.numbers
             self.new.numbers number lits.now) }
         ensures variables { self.new.watch.variables ≡ self.old.watch.variables }
-        ensures learnt { self.new.numbers.learnt ≡ self.old.numbers.learnt }
-        ensures since { self.new.since ≡ self.old.since }
-        ensures propagated { self.new.propagated ≡ self.old.propagated }
+        ensures learns_nothing { LearnsNothing self.old self.new }
     {
         if number >= 1 << 62 {
             return Err(AllocError);
@@ -139,9 +137,7 @@ impl Engine {
             (clause_at checker.now.clauses)) }
         ensures level { OnOk result (decided self.new.watch.reasons ≡ 0) }
         ensures variables { self.new.watch.variables ≡ self.old.watch.variables }
-        ensures learnt { self.new.numbers.learnt ≡ self.old.numbers.learnt }
-        ensures since { self.new.since ≡ self.old.since }
-        ensures propagated { self.new.propagated ≡ self.old.propagated }
+        ensures learns_nothing { LearnsNothing self.old self.new }
     {
         for place in 0..checker.last() {
             self.take_next(checker, place + 1)?;
@@ -164,9 +160,7 @@ impl Engine {
         ensures there { (given : List Literal) → clause_at checker.now.clauses number ≡ Some given
             → OnOk result (HasNumber self.new.watch.clauses number) }
         ensures variables { self.new.watch.variables ≡ self.old.watch.variables }
-        ensures learnt { self.new.numbers.learnt ≡ self.old.numbers.learnt }
-        ensures since { self.new.since ≡ self.old.since }
-        ensures propagated { self.new.propagated ≡ self.old.propagated }
+        ensures learns_nothing { LearnsNothing self.old self.new }
     {
         if self.numbers.is_taken(number) {
             return Ok(());
@@ -185,9 +179,7 @@ impl Engine {
         requires { MayDelete self.old.watch numbers.now }
         ensures deletes { Deletes self.old.watch self.new.watch numbers.now }
         ensures forgets { Forgets numbers.now self.old.numbers.taken self.new.numbers.taken }
-        ensures learnt { self.new.numbers.learnt ≡ self.old.numbers.learnt }
-        ensures since { self.new.since ≡ self.old.since }
-        ensures propagated { self.new.propagated ≡ self.old.propagated }
+        ensures learns_nothing { LearnsNothing self.old self.new }
     {
         self.watch.delete(numbers);
         self.numbers.forget(numbers);

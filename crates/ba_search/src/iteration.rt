@@ -7,6 +7,7 @@ ghost use Rattle.ba_watch.specs.Propagation.{clause_in, lits_in, is_false, IsCom
 ghost use Rattle.ba_checker.specs.States.{State as Checking, clause_at};
 ghost use Rattle.ba_search.specs.Rules.{IsRestartRule, IsKeepRule};
 ghost use Rattle.ba_search.specs.Answers.{AreAssumptions, IsAnswer};
+ghost use Rattle.ba_search.specs.Engines.{LearnsNothing};
 ghost use Rattle.ba_search.specs.Searching.{Leaves, Ran};
 ghost use Rattle.ba_search.specs.Iterations.{MarksLive, IsUnderway, Puts, iterations_left};
 ghost use Rattle.ba_learn.specs.Live.{AreLive};
@@ -168,8 +169,7 @@ impl Engine {
         ensures level { IfOk result (λ found. IfNone found (1 ≤ decided self.old.watch.reasons)) }
         ensures watch { self.new.watch ≡ self.old.watch }
         ensures numbers { self.new.numbers ≡ self.old.numbers }
-        ensures since { self.new.since ≡ self.old.since }
-        ensures propagated { self.new.propagated ≡ self.old.propagated }
+        ensures learns_nothing { LearnsNothing self.old self.new }
     {
         if is_spent(checker) {
             return Ok(Some(Answer::Spent));

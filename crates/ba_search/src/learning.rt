@@ -7,6 +7,7 @@ ghost use Rattle.ba_watch.specs.Propagation.{clause_in, lits_in, is_false};
 ghost use Rattle.ba_learn.specs.Levels.{IsBacked};
 ghost use Rattle.ba_learn.specs.Backjumps.{after_backtrack};
 ghost use Rattle.ba_steps.specs.declared.step.CertStep.TheVariants.{Learn};
+ghost use Rattle.ba_search.specs.Engines.{LearnsNothing};
 ghost use Rattle.ba_search.specs.Searching.{Leaves, Ran, nothing};
 ghost use Rattle.ba_search.specs.Iterations.{IsUnderway, LearnsOne, Puts, iterations_left};
 
@@ -87,8 +88,7 @@ impl Engine {
     fn bump(&mut self, lits: &[Lit])
         ensures watch { self.new.watch ≡ self.old.watch }
         ensures numbers { self.new.numbers ≡ self.old.numbers }
-        ensures since { self.new.since ≡ self.old.since }
-        ensures propagated { self.new.propagated ≡ self.old.propagated }
+        ensures learns_nothing { LearnsNothing self.old self.new }
     {
         self.order.bump(lits);
         self.order

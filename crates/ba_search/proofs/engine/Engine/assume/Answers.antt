@@ -1,4 +1,4 @@
-use Rattle.std.proofs.Common.{◌≡◌, ◌≢◌, Bool, true, false, not, Option, None, Some, is_some, sym, ap, ◌∙◌, arith, inl, refl}
+use Rattle.std.proofs.Common.{◌≡◌, ◌≢◌, Bool, true, false, not, Option, None, Some, is_some, sym, ap, ◌∙◌, arith, rules, inl, refl}
 use Rattle.ba_search.proofs.AnswerLaws.{assumed_within, core_reason_some, core_answer}
 use Rattle.ba_search.proofs.engine.Engine.assume.Goals as goal
 
@@ -28,18 +28,20 @@ decide_literal-requires-clause-within c = omega (
   c.requires.underway.room,
 )
 
-pub returns-then-is_none-clause-less : goal.returns-then-is_none-clause-less
-returns-then-is_none-clause-less c = c.decide_literal.ensures.less c.args.checker.now
-
-pub returns-then-is_none-clause-underway : goal.returns-then-is_none-clause-underway
-returns-then-is_none-clause-underway c =
-    c.decide_literal.ensures.underway c.args.assumptions.now c.args.checker.now
-    (record {
-      within = assumed_within c.args.checker.now.variables c.args.assumptions.now c.args.assumption
-          c.requires.assumptions c.requires.one;
-      given = inl c.requires.one;
-    })
-    c.requires.underway
+pub returns-then-is_none : goal.returns-then-is_none
+returns-then-is_none c = record {
+  answer = search rules;
+  less = c.decide_literal.ensures.less c.args.checker.now;
+  underway = c.decide_literal.ensures.underway c.args.assumptions.now c.args.checker.now
+      (record {
+        within = assumed_within c.args.checker.now.variables c.args.assumptions.now c.args.assumption
+            c.requires.assumptions c.requires.one;
+        given = inl c.requires.one;
+      })
+      c.requires.underway;
+  numbers = search rules;
+  learns_nothing = search rules;
+}
 
 pub core_of-requires-clause-within : goal.core_of-requires-clause-within
 core_of-requires-clause-within c = omega (
@@ -56,12 +58,18 @@ core_of-requires-clause-reason c =
     (is_false c.value.result _ c.is_none.result c.value.ensures c.is_none.ensures c.if-is_none.false
     c.requires.untrue)
 
-pub returns-clause-answer : goal.returns-clause-answer
-returns-clause-answer c =
-    core_answer c.args.assumptions.now c.args.self.now.watch c.args.self.now.numbers c.args.checker.now
-    c.keeps_facts.ensures c.requires.underway c.requires.assumptions c.args.assumption c.requires.one
-    (is_false c.value.result _ c.is_none.result c.value.ensures c.is_none.ensures c.if-is_none.false
-    c.requires.untrue)
-    c.in_ok-core.core.lits c.in_ok-core.core.hints c.in_ok-core.core.back c.in_ok-core.ensures.clause
-    c.in_ok-core.ensures.follows c.in_ok-core.ensures.core c.in_ok-core.ensures.back
-    (c.is_spent.ensures.left c.if-is_spent.false)
+pub returns : goal.returns
+returns c = record {
+  answer = core_answer c.args.assumptions.now c.args.self.now.watch c.args.self.now.numbers
+      c.args.checker.now c.keeps_facts.ensures c.requires.underway c.requires.assumptions c.args.assumption
+      c.requires.one
+      (is_false c.value.result _ c.is_none.result c.value.ensures c.is_none.ensures c.if-is_none.false
+      c.requires.untrue)
+      c.in_ok-core.core.lits c.in_ok-core.core.hints c.in_ok-core.core.back c.in_ok-core.ensures.clause
+      c.in_ok-core.ensures.follows c.in_ok-core.ensures.core c.in_ok-core.ensures.back
+      (c.is_spent.ensures.left c.if-is_spent.false);
+  less = search rules;
+  underway = search rules;
+  numbers = search rules;
+  learns_nothing = search rules;
+}

@@ -126,7 +126,7 @@ returns-clause-puts g c =
     c.is_empty.ensures
     c.if-is_empty.false (omega (arith, c.discarded-numbers.result.ok.0)))
     c.discarded-numbers.ensures.may_go c.discarded-numbers.ensures.discarded)
-    c.in_ok-put.ensures.taken c.delete.ensures.learnt c.in_ok-put.ensures.told
+    c.in_ok-put.ensures.taken c.delete.ensures.learns_nothing.learnt c.in_ok-put.ensures.told
 
 pub returns-clause-leaves : goal.returns-clause-leaves
 returns-clause-leaves g c =

@@ -32,7 +32,7 @@ iterations-init g c =
           (λ width age kept. g.K.Fn.post c.args.keep.now (width, (age, tt)) kept) k
           c.backtrack.new.self.numbers.learnt (g.S.StepSink.logs c.args.checked.now.sink);
       fresh = c.requires.fresh;
-      propagated = omega (arith, c.grow.ensures.propagated, c.backtrack.ensures.propagated);
+      propagated = omega (arith, c.grow.ensures.propagated, c.backtrack.ensures.learns_nothing.propagated);
       lasts = lasts_same g.S.StepSink.over g.S.StepSink.faults g.S.StepSink.references c.args.checked.now;
     }
 

@@ -15,9 +15,11 @@ loop-place-preserved c =
           (λ k within given is. t.stays k (i.there k within given is))
           (λ given is. t.there given is);
       variables = t.variables ∙ i.variables;
-      learnt = t.learnt ∙ i.learnt;
-      since = t.since ∙ i.since;
-      propagated = t.propagated ∙ i.propagated;
+      learns_nothing = record {
+        learnt = t.learns_nothing.learnt ∙ i.learns_nothing.learnt;
+        since = t.learns_nothing.since ∙ i.learns_nothing.since;
+        propagated = t.learns_nothing.propagated ∙ i.learns_nothing.propagated;
+      };
     }
 
 pub returns-clause-live : goal.returns-clause-live

@@ -1,6 +1,7 @@
 use Rattle.std.proofs.Common.{◌≡◌}
 use Rattle.ba_watch.specs.Trails.{decided}
 use Rattle.ba_checker.specs.States.{clause_at}
+use Rattle.ba_search.specs.Engines.{LearnsNothing}
 use Rattle.ba_search.specs.Iterations.{AreTaken, AreThere}
 use Rattle.ba_search.proofs.engine.Engine.take_all.Given as goal
 
@@ -10,7 +11,5 @@ invariant-loop-place l = record {
   taken : AreTaken l.self.watch.clauses l.self.numbers.taken (clause_at l.checker.clauses);
   there : AreThere l.self.watch.clauses l.place (clause_at l.checker.clauses);
   variables : l.self.watch.variables ≡ l.initial.self.watch.variables;
-  learnt : l.self.numbers.learnt ≡ l.initial.self.numbers.learnt;
-  since : l.self.since ≡ l.initial.self.since;
-  propagated : l.self.propagated ≡ l.initial.self.propagated;
+  learns_nothing : LearnsNothing l.initial.self l.self;
 }

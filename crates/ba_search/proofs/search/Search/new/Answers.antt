@@ -26,7 +26,7 @@ loop-place-preserved g c =
       unmarked = λ k past. marks_later c.loop-place.engine.numbers.taken c.add.new.self.numbers.taken
           c.loop-place.place k adds.marks i.unmarked past;
       learnt = adds.learnt ∙ i.learnt;
-      propagated = c.add.ensures.propagated ∙ i.propagated;
+      propagated = c.add.ensures.learns_nothing.propagated ∙ i.propagated;
     }
 
 pub returns-clause-clauses : goal.returns-clause-clauses
