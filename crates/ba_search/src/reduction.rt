@@ -76,7 +76,8 @@ impl Reduction {
         ensures numbers { AreNumbers result.items }
         ensures ascends { AreAbove 0 result.items }
         ensures may_go { list_all (may_go checker.now) result.items ≡ true }
-        ensures discarded { All (IsDiscarded (K.post keep.now) checker.now learnt.now) result.items }
+        ensures discarded { All (IsDiscarded (K.post keep.now) checker.now learnt.now)
+            result.items }
         ensures no_reasons { All (IsNoReason watch.now) result.items }
     {
         mark_reasons(&mut self.marks, watch);

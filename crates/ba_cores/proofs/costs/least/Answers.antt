@@ -103,7 +103,8 @@ returns-in_err-found-clause-leaves g c =
     let new = c.round.new.checked in
     leaves_on good (g.J.RunJudge.accepts mid.judge) old.checker mid.checker new.checker
     (g.S.StepSink.logs old.sink) (g.S.StepSink.logs mid.sink) (g.S.StepSink.logs new.sink)
-    (ap g.J.RunJudge.accepts c.rounds.invariant.lasts.judge_stays) c.rounds.invariant.puts c.round.ensures.leaves
+    (ap g.J.RunJudge.accepts c.rounds.invariant.lasts.judge_stays) c.rounds.invariant.puts
+    c.round.ensures.leaves
 
 pub returns-in-Some-clause-leaves : goal.returns-in-Some-clause-leaves
 returns-in-Some-clause-leaves g c =
@@ -113,4 +114,5 @@ returns-in-Some-clause-leaves g c =
     let new = c.round.new.checked in
     leaves_on good (g.J.RunJudge.accepts mid.judge) old.checker mid.checker new.checker
     (g.S.StepSink.logs old.sink) (g.S.StepSink.logs mid.sink) (g.S.StepSink.logs new.sink)
-    (ap g.J.RunJudge.accepts c.rounds.invariant.lasts.judge_stays) c.rounds.invariant.puts c.round.ensures.leaves
+    (ap g.J.RunJudge.accepts c.rounds.invariant.lasts.judge_stays) c.rounds.invariant.puts
+    c.round.ensures.leaves

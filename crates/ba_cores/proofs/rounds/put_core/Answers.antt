@@ -32,7 +32,8 @@ returns-in-Err-clause-leaves g c =
 pub take_new-requires : goal.take_new-requires
 take_new-requires g c = record {
   part = λ working. part_after_core c.args.checked.now.checker
-      c.put.new.self.checker c.args.core.lits c.args.core.hints c.in_default.ensures.taken c.requires.goes_on.same;
+      c.put.new.self.checker c.args.core.lits c.args.core.hints c.in_default.ensures.taken
+      c.requires.goes_on.same;
 }
 
 pub returns-clause-puts : goal.returns-clause-puts

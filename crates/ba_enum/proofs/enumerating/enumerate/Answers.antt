@@ -69,7 +69,8 @@ finish-requires-clause-sets g c =
     (adds_on (g.J.RunJudge.accepts old.judge) (g.J.RunJudge.accepts mid.judge) encoded.formula
     (softs_of encoded.groups) old.checker mid.checker new.checker [] c.turns.found c.turn.new.found
     (g.S.StepSink.logs old.sink) (g.S.StepSink.logs mid.sink) (g.S.StepSink.logs new.sink)
-    (ap g.J.RunJudge.accepts c.turns.invariant.lasts.judge_stays) c.turns.invariant.adds c.in_ok-next.ensures.adds)
+    (ap g.J.RunJudge.accepts c.turns.invariant.lasts.judge_stays) c.turns.invariant.adds
+    c.in_ok-next.ensures.adds)
     c.requires.reached)
 
 pub finish-requires-clause-differ : goal.finish-requires-clause-differ
@@ -82,7 +83,8 @@ finish-requires-clause-differ g c =
     (adds_on (g.J.RunJudge.accepts old.judge) (g.J.RunJudge.accepts mid.judge) encoded.formula
     (softs_of encoded.groups) old.checker mid.checker new.checker [] c.turns.found c.turn.new.found
     (g.S.StepSink.logs old.sink) (g.S.StepSink.logs mid.sink) (g.S.StepSink.logs new.sink)
-    (ap g.J.RunJudge.accepts c.turns.invariant.lasts.judge_stays) c.turns.invariant.adds c.in_ok-next.ensures.adds)
+    (ap g.J.RunJudge.accepts c.turns.invariant.lasts.judge_stays) c.turns.invariant.adds
+    c.in_ok-next.ensures.adds)
     c.requires.reached)
 
 pub finish-requires-clause-ready : goal.finish-requires-clause-ready
@@ -99,12 +101,14 @@ returns-in-End-clause-finishes g c =
     let adds = adds_on good (g.J.RunJudge.accepts mid.judge) encoded.formula (softs_of encoded.groups)
     old.checker mid.checker new.checker [] c.turns.found c.turn.new.found
     (g.S.StepSink.logs old.sink) (g.S.StepSink.logs mid.sink) (g.S.StepSink.logs new.sink)
-    (ap g.J.RunJudge.accepts c.turns.invariant.lasts.judge_stays) c.turns.invariant.adds c.in_ok-next.ensures.adds in
+    (ap g.J.RunJudge.accepts c.turns.invariant.lasts.judge_stays) c.turns.invariant.adds
+    c.in_ok-next.ensures.adds in
     IfOk-weaker c.finish.result _ _
     (λ verdict ends. finishes_of good (g.J.RunJudge.accepts new.judge) encoded.formula
     (softs_of encoded.groups) old.checker new.checker last.checker c.turn.new.found
     (g.S.StepSink.logs old.sink) (g.S.StepSink.logs new.sink) (g.S.StepSink.logs last.sink) verdict
-    (ap g.J.RunJudge.accepts (c.turn.ensures.ran.lasts.judge_stays ∙ c.turns.invariant.lasts.judge_stays)) adds ends)
+    (ap g.J.RunJudge.accepts (c.turn.ensures.ran.lasts.judge_stays ∙ c.turns.invariant.lasts.judge_stays))
+    adds ends)
     c.finish.ensures.ends
 
 pub returns-in-End-clause-leaves : goal.returns-in-End-clause-leaves
@@ -118,9 +122,11 @@ returns-in-End-clause-leaves g c =
     let adds = adds_on good (g.J.RunJudge.accepts mid.judge) encoded.formula (softs_of encoded.groups)
     old.checker mid.checker new.checker [] c.turns.found c.turn.new.found
     (g.S.StepSink.logs old.sink) (g.S.StepSink.logs mid.sink) (g.S.StepSink.logs new.sink)
-    (ap g.J.RunJudge.accepts c.turns.invariant.lasts.judge_stays) c.turns.invariant.adds c.in_ok-next.ensures.adds in
+    (ap g.J.RunJudge.accepts c.turns.invariant.lasts.judge_stays) c.turns.invariant.adds
+    c.in_ok-next.ensures.adds in
     adds_leave good (g.J.RunJudge.accepts new.judge) encoded.formula (softs_of encoded.groups) old.checker
     new.checker last.checker [] c.turn.new.found
     (g.S.StepSink.logs old.sink) (g.S.StepSink.logs new.sink) (g.S.StepSink.logs last.sink)
-    (ap g.J.RunJudge.accepts (c.turn.ensures.ran.lasts.judge_stays ∙ c.turns.invariant.lasts.judge_stays)) adds
+    (ap g.J.RunJudge.accepts (c.turn.ensures.ran.lasts.judge_stays ∙ c.turns.invariant.lasts.judge_stays))
+    adds
     c.finish.ensures.leaves

@@ -24,7 +24,8 @@ put-requires-clause-formed g c =
     let k = c.args.checked.now.checker in
     named_formed (g.J.RunJudge.accepts c.args.checked.now.judge)
     (λ width age kept. g.K.Fn.post c.args.keep.now (width, (age, tt)) kept) k c.args.self.now.numbers.learnt
-    c.discarded-numbers.result.items c.from_vec.result c.from_vec.ensures
+    c.discarded-numbers.result.items c.from_vec.result
+    c.from_vec.ensures
     (delete_step (g.J.RunJudge.accepts c.args.checked.now.judge)
     (λ width age kept. g.K.Fn.post c.args.keep.now (width, (age, tt)) kept) c.args.assumptions.now
     c.args.self.now.watch c.args.self.now.numbers k c.checker.result.now
@@ -43,7 +44,8 @@ put-requires-clause-allowed g c = λ fresh awake.
     let k = c.args.checked.now.checker in
     named_allowed (g.J.RunJudge.accepts c.args.checked.now.judge)
     (λ width age kept. g.K.Fn.post c.args.keep.now (width, (age, tt)) kept) k c.args.self.now.numbers.learnt
-    c.discarded-numbers.result.items c.from_vec.result c.from_vec.ensures
+    c.discarded-numbers.result.items c.from_vec.result
+    c.from_vec.ensures
     (delete_step (g.J.RunJudge.accepts c.args.checked.now.judge)
     (λ width age kept. g.K.Fn.post c.args.keep.now (width, (age, tt)) kept) c.args.assumptions.now
     c.args.self.now.watch c.args.self.now.numbers k c.checker.result.now
@@ -63,7 +65,8 @@ returns-in_err-put-clause-leaves g c =
     delete_tried (g.J.RunJudge.accepts c.args.checked.now.judge)
     (λ width age kept. g.K.Fn.post c.args.keep.now (width, (age, tt)) kept) k c.put.new.self.checker
     c.args.self.now.numbers.learnt (g.S.StepSink.logs c.args.checked.now.sink)
-    (g.S.StepSink.logs c.put.new.self.sink) c.discarded-numbers.result.items c.from_vec.result c.from_vec.ensures
+    (g.S.StepSink.logs c.put.new.self.sink) c.discarded-numbers.result.items c.from_vec.result
+    c.from_vec.ensures
     (delete_step (g.J.RunJudge.accepts c.args.checked.now.judge)
     (λ width age kept. g.K.Fn.post c.args.keep.now (width, (age, tt)) kept) c.args.assumptions.now
     c.args.self.now.watch c.args.self.now.numbers k c.checker.result.now
@@ -113,7 +116,8 @@ returns-clause-puts g c =
     (λ width age kept. g.K.Fn.post c.args.keep.now (width, (age, tt)) kept) k c.put.new.self.checker
     c.args.self.now.numbers.learnt c.delete.new.self.numbers.learnt
     (g.S.StepSink.logs c.args.checked.now.sink)
-    (g.S.StepSink.logs c.put.new.self.sink) c.discarded-numbers.result.items c.from_vec.result c.from_vec.ensures
+    (g.S.StepSink.logs c.put.new.self.sink) c.discarded-numbers.result.items c.from_vec.result
+    c.from_vec.ensures
     (delete_step (g.J.RunJudge.accepts c.args.checked.now.judge)
     (λ width age kept. g.K.Fn.post c.args.keep.now (width, (age, tt)) kept) c.args.assumptions.now
     c.args.self.now.watch c.args.self.now.numbers k c.checker.result.now
@@ -134,7 +138,8 @@ returns-clause-leaves g c =
     delete_left (g.J.RunJudge.accepts c.args.checked.now.judge)
     (λ width age kept. g.K.Fn.post c.args.keep.now (width, (age, tt)) kept) k c.put.new.self.checker
     c.args.self.now.numbers.learnt (g.S.StepSink.logs c.args.checked.now.sink)
-    (g.S.StepSink.logs c.put.new.self.sink) c.discarded-numbers.result.items c.from_vec.result c.from_vec.ensures
+    (g.S.StepSink.logs c.put.new.self.sink) c.discarded-numbers.result.items c.from_vec.result
+    c.from_vec.ensures
     (delete_step (g.J.RunJudge.accepts c.args.checked.now.judge)
     (λ width age kept. g.K.Fn.post c.args.keep.now (width, (age, tt)) kept) c.args.assumptions.now
     c.args.self.now.watch c.args.self.now.numbers k c.checker.result.now
