@@ -1,19 +1,16 @@
 //! Faults of programs, row by row of the table, each beside a program that is accepted; the places are worked out by hand.
 
-use crate::support::expect_answer;
-use std::alloc::{AllocError, Global};
+use crate::support::first_difference;
+use std::alloc::Global;
 use std::process::Abort;
-use std::test::Fail;
 
-fn expect_answers(rt: &impl Abort, alloc: Global, rows: &[(&str, &str)]) -> Result<(), AllocError> {
-    for (text, expected) in rows {
-        expect_answer(rt, alloc, text, expected)?;
-    }
-    Ok(())
+/// Compares the answer to each text with the one that is expected.
+fn expect_answers(rt: &impl Abort, alloc: Global, rows: &[(&str, &str)]) {
+    assert_eq!(rt; first_difference(alloc, rows), Ok(None));
 }
 
 /// Names in scope and not.
-const NAMES: [(&str, &str); 15] = [
+static NAMES: [(&str, &str); 15] = [
     ("int main(void) { int x; x = 1; }", "fits"),
     ("int main(void) { x = 1; }", "1 at 1:18"),
     ("int main(void) { int x; { int y; } y = 1; }", "1 at 1:36"),
@@ -53,7 +50,7 @@ const NAMES: [(&str, &str); 15] = [
 ];
 
 /// Names declared once and twice in a scope.
-const TWICE: [(&str, &str); 17] = [
+static TWICE: [(&str, &str); 17] = [
     ("int main(void) { int x; int x; }", "2 at 1:29"),
     ("int main(void) { int x; { int x; } }", "fits"),
     ("int main(void) { int x, x; }", "2 at 1:25"),
@@ -107,7 +104,7 @@ const TWICE: [(&str, &str); 17] = [
 ];
 
 /// Names and types that fit their uses or not.
-const KINDS: [(&str, &str); 61] = [
+static KINDS: [(&str, &str); 61] = [
     ("int main(void) { int a[2]; int x; x = a; }", "3 at 1:39"),
     ("int main(void) { int a[2]; int x; x = a[1]; }", "fits"),
     ("int main(void) { int a[2]; a = 1; }", "3 at 1:28"),
@@ -253,7 +250,7 @@ const KINDS: [(&str, &str); 61] = [
 ];
 
 /// Arguments and initial values.
-const COUNTS: [(&str, &str); 7] = [
+static COUNTS: [(&str, &str); 7] = [
     (
         "int f(int a) { return a; } int main(void) { return f(); }",
         "4 at 1:52",
@@ -276,7 +273,7 @@ const COUNTS: [(&str, &str); 7] = [
 ];
 
 /// Lengths of arrays.
-const LENGTHS: [(&str, &str); 25] = [
+static LENGTHS: [(&str, &str); 25] = [
     ("int main(void) { int a[]; }", "6 at 1:22"),
     ("int main(void) { int a[] = {1}; }", "fits"),
     ("int main(void) { int a[] = 1; }", "3 at 1:22"),
@@ -314,7 +311,7 @@ const LENGTHS: [(&str, &str); 25] = [
 ];
 
 /// `break` and `continue`.
-const JUMPS: [(&str, &str); 8] = [
+static JUMPS: [(&str, &str); 8] = [
     ("int main(void) { break; }", "7 at 1:18"),
     ("int main(void) { while (1) break; }", "fits"),
     ("int main(void) { continue; }", "7 at 1:18"),
@@ -329,7 +326,7 @@ const JUMPS: [(&str, &str); 8] = [
 ];
 
 /// Calls in indices.
-const CALLS: [(&str, &str); 5] = [
+static CALLS: [(&str, &str); 5] = [
     (
         "int f(void) { return 0; } int main(void) { int a[2]; a[f()] += 1; }",
         "8 at 1:54",
@@ -353,7 +350,7 @@ const CALLS: [(&str, &str); 5] = [
 ];
 
 /// Two faults in a text: the leftmost one is answered, at one position the one of the smaller number.
-const FIRST: [(&str, &str); 26] = [
+static FIRST: [(&str, &str); 26] = [
     (
         "int f(void) { return x; } int f(void) { return 0; } int main(void) { return 0; }",
         "1 at 1:22",
@@ -413,49 +410,41 @@ const FIRST: [(&str, &str); 26] = [
 ];
 
 #[test]
-fn names_are_looked_up_in_their_scopes(rt: HostRuntime) -> Result<(), Fail> {
-    expect_answers(&rt, rt.alloc(), &NAMES)?;
-    Ok(())
+fn names_are_looked_up_in_their_scopes(rt: HostRuntime) {
+    expect_answers(&rt, rt.alloc(), NAMES.as_slice());
 }
 
 #[test]
-fn a_name_is_declared_once_in_its_scope(rt: HostRuntime) -> Result<(), Fail> {
-    expect_answers(&rt, rt.alloc(), &TWICE)?;
-    Ok(())
+fn a_name_is_declared_once_in_its_scope(rt: HostRuntime) {
+    expect_answers(&rt, rt.alloc(), TWICE.as_slice());
 }
 
 #[test]
-fn names_and_types_fit_their_uses(rt: HostRuntime) -> Result<(), Fail> {
-    expect_answers(&rt, rt.alloc(), &KINDS)?;
-    Ok(())
+fn names_and_types_fit_their_uses(rt: HostRuntime) {
+    expect_answers(&rt, rt.alloc(), KINDS.as_slice());
 }
 
 #[test]
-fn arguments_and_values_are_counted(rt: HostRuntime) -> Result<(), Fail> {
-    expect_answers(&rt, rt.alloc(), &COUNTS)?;
-    Ok(())
+fn arguments_and_values_are_counted(rt: HostRuntime) {
+    expect_answers(&rt, rt.alloc(), COUNTS.as_slice());
 }
 
 #[test]
-fn lengths_are_constants_from_1_to_256(rt: HostRuntime) -> Result<(), Fail> {
-    expect_answers(&rt, rt.alloc(), &LENGTHS)?;
-    Ok(())
+fn lengths_are_constants_from_1_to_256(rt: HostRuntime) {
+    expect_answers(&rt, rt.alloc(), LENGTHS.as_slice());
 }
 
 #[test]
-fn break_and_continue_stand_in_loops(rt: HostRuntime) -> Result<(), Fail> {
-    expect_answers(&rt, rt.alloc(), &JUMPS)?;
-    Ok(())
+fn break_and_continue_stand_in_loops(rt: HostRuntime) {
+    expect_answers(&rt, rt.alloc(), JUMPS.as_slice());
 }
 
 #[test]
-fn an_index_that_is_used_twice_has_no_call(rt: HostRuntime) -> Result<(), Fail> {
-    expect_answers(&rt, rt.alloc(), &CALLS)?;
-    Ok(())
+fn an_index_that_is_used_twice_has_no_call(rt: HostRuntime) {
+    expect_answers(&rt, rt.alloc(), CALLS.as_slice());
 }
 
 #[test]
-fn the_leftmost_fault_is_answered(rt: HostRuntime) -> Result<(), Fail> {
-    expect_answers(&rt, rt.alloc(), &FIRST)?;
-    Ok(())
+fn the_leftmost_fault_is_answered(rt: HostRuntime) {
+    expect_answers(&rt, rt.alloc(), FIRST.as_slice());
 }

@@ -1,87 +1,104 @@
 //! Each limit reached and passed by one (limits of the profile).
 
-use crate::support::expect_answer;
+use crate::support::{first_difference, is_answer};
 use std::alloc::{AllocError, Global};
-use std::test::Fail;
 
 /// The front, the part so many times, and the back.
-fn repeated(
-    alloc: Global,
+fn add_repeated(
+    text: &mut String,
     front: &str,
     part: &str,
     count: u32,
     back: &str,
-) -> Result<String, AllocError> {
-    let mut text = String::from_str(alloc, front)?;
+) -> Result<(), AllocError> {
+    text.push_str(front)?;
     for _ in 0..count {
         text.push_str(part)?;
     }
-    text.push_str(back)?;
-    Ok(text)
+    text.push_str(back)
+}
+
+/// The front, the part, how often it stands, the back, and the answer.
+type Row<'a> = (&'a str, &'a str, u32, &'a str, &'a str);
+
+static LIMITS: [Row; 15] = [
+    ("int main(int x) {", "x=1;", 4000, "}", "fits"),
+    ("int main(int x) {", "x=1;", 4001, "}", "9 at 1:16018"),
+    ("int main(int x) {", "{int y;}", 1999, "}", "fits"),
+    ("int main(int x) {", "{int y;}", 2000, "}", "9 at 1:16015"),
+    ("int f(int", ",int", 31, ");int main(void){}", "fits"),
+    ("int f(int", ",int", 32, ");int main(void){}", "9 at 1:135"),
+    ("int main(int x) { x = 1", "+1", 99, ";}", "fits"),
+    ("int main(int x) { x += 1", "+1", 98, ";}", "fits"),
+    ("int main(int x) { x += 1", "+1", 99, ";}", "9 at 1:19"),
+    ("int main(int a[2]) { a[0] *= ", "~", 98, "1;}", "fits"),
+    ("int main(int a[2]) { a[0] *= ", "~", 99, "1;}", "9 at 1:22"),
+    ("int main(int x) { x += ", "+ ", 98, "1;}", "fits"),
+    ("int main(int x) { x += ", "+ ", 99, "1;}", "9 at 1:19"),
+    ("int x = 1", "+1", 99, "; int main(void) { }", "fits"),
+    ("int x = 1", "+1", 100, "; int main(void) { }", "9 at 1:5"),
+];
+
+fn is_limit(alloc: Global, row: &Row) -> Result<bool, AllocError> {
+    let (front, part, count, back, expected) = *row;
+    let mut text = String::new(alloc);
+    add_repeated(&mut text, front, part, count, back)?;
+    is_answer(alloc, text.as_str(), expected)
+}
+
+/// The first row whose text has another answer, if there is one.
+fn first_other_limit(alloc: Global, rows: &[Row]) -> Result<Option<usize>, AllocError> {
+    for i in 0..rows.len() {
+        if !is_limit(alloc, &rows[i])? {
+            return Ok(Some(i));
+        }
+    }
+    Ok(None)
+}
+
+#[test]
+fn limits_are_reached_and_passed_by_one(rt: HostRuntime) {
+    assert_eq!(rt; first_other_limit(rt.alloc(), LIMITS.as_slice()), Ok(None));
 }
 
 /// So many prototypes of different functions, and a main.
-fn functions(alloc: Global, count: u32) -> Result<String, AllocError> {
-    let mut text = String::new(alloc);
+fn add_functions(text: &mut String, count: u32) -> Result<(), AllocError> {
     for i in 0..count {
         write!(text, "int f{i}(void);\n")?;
     }
-    text.push_str("int main(void) { return 0; }")?;
-    Ok(text)
+    text.push_str("int main(void) { return 0; }")
 }
 
-#[test]
-fn limits_are_reached_and_passed_by_one(rt: HostRuntime) -> Result<(), Fail> {
-    let alloc = rt.alloc();
-    for (front, part, count, back, expected) in [
-        ("int main(int x) {", "x=1;", 4000, "}", "fits"),
-        ("int main(int x) {", "x=1;", 4001, "}", "9 at 1:16018"),
-        ("int main(int x) {", "{int y;}", 1999, "}", "fits"),
-        ("int main(int x) {", "{int y;}", 2000, "}", "9 at 1:16015"),
-        ("int f(int", ",int", 31, ");int main(void){}", "fits"),
-        ("int f(int", ",int", 32, ");int main(void){}", "9 at 1:135"),
-        ("int main(int x) { x = 1", "+1", 99, ";}", "fits"),
-        ("int main(int x) { x += 1", "+1", 98, ";}", "fits"),
-        ("int main(int x) { x += 1", "+1", 99, ";}", "9 at 1:19"),
-        ("int main(int a[2]) { a[0] *= ", "~", 98, "1;}", "fits"),
-        ("int main(int a[2]) { a[0] *= ", "~", 99, "1;}", "9 at 1:22"),
-        ("int main(int x) { x += ", "+ ", 98, "1;}", "fits"),
-        ("int main(int x) { x += ", "+ ", 99, "1;}", "9 at 1:19"),
-        ("int x = 1", "+1", 99, "; int main(void) { }", "fits"),
-        ("int x = 1", "+1", 100, "; int main(void) { }", "9 at 1:5"),
-    ] {
-        let text = repeated(alloc, front, part, count, back)?;
-        expect_answer(&rt, alloc, text.as_str(), expected)?;
-    }
-    Ok(())
+/// Whether the text of so many prototypes and a main has this answer.
+fn are_functions(alloc: Global, count: u32, expected: &str) -> Result<bool, AllocError> {
+    let mut text = String::new(alloc);
+    add_functions(&mut text, count)?;
+    is_answer(alloc, text.as_str(), expected)
 }
 
+static ELEMENTS: [(&str, &str); 4] = [
+    (
+        "int a[256], b[256], c[256]; int main(int d[256]) { }",
+        "fits",
+    ),
+    (
+        "int a[256], b[256], c[256], e[1]; int main(int d[256]) { }",
+        "9 at 1:48",
+    ),
+    (
+        "int a[256], b[256], c[256], d[255]; int main(void) { int e[2]; }",
+        "9 at 1:58",
+    ),
+    (
+        "int a[256], b[256], c[256], d[256]; int f(int x[9]) { return 0; } int main(void) { }",
+        "fits",
+    ),
+];
+
 #[test]
-fn functions_and_elements_are_limited(rt: HostRuntime) -> Result<(), Fail> {
+fn functions_and_elements_are_limited(rt: HostRuntime) {
     let alloc = rt.alloc();
-    let most = functions(alloc, 99)?;
-    expect_answer(&rt, alloc, most.as_str(), "fits")?;
-    let more = functions(alloc, 100)?;
-    expect_answer(&rt, alloc, more.as_str(), "9 at 101:5")?;
-    for (text, expected) in [
-        (
-            "int a[256], b[256], c[256]; int main(int d[256]) { }",
-            "fits",
-        ),
-        (
-            "int a[256], b[256], c[256], e[1]; int main(int d[256]) { }",
-            "9 at 1:48",
-        ),
-        (
-            "int a[256], b[256], c[256], d[255]; int main(void) { int e[2]; }",
-            "9 at 1:58",
-        ),
-        (
-            "int a[256], b[256], c[256], d[256]; int f(int x[9]) { return 0; } int main(void) { }",
-            "fits",
-        ),
-    ] {
-        expect_answer(&rt, alloc, text, expected)?;
-    }
-    Ok(())
+    assert_eq!(rt; are_functions(alloc, 99, "fits"), Ok(true));
+    assert_eq!(rt; are_functions(alloc, 100, "9 at 101:5"), Ok(true));
+    assert_eq!(rt; first_difference(alloc, ELEMENTS.as_slice()), Ok(None));
 }

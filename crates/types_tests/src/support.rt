@@ -1,28 +1,43 @@
 //! What typing answers for a text, as words.
 
+use ba_lex::token::Token;
 use ba_lex::{MAX_TEXT, tokens};
 use ba_numbers::ids::At;
-use ba_parse::parse;
+use ba_parse::{RawProgram, parse};
 use ba_tree::tree::Program;
 use ba_types::{TypeError, check};
 use std::alloc::{AllocError, Global};
-use std::process::Abort;
 
-/// The program of a text, or why there is none: the number of the fault and its place.
-pub fn typed(alloc: Global, text: &str) -> Result<Result<Program, String>, AllocError> {
+/// A program, or why there is none: the number of the fault and its place.
+pub type Typed = Result<Program, String>;
+
+/// The program of a text, or why there is none.
+pub fn typed(alloc: Global, text: &str) -> Result<Typed, AllocError> {
     if text.len() > MAX_TEXT {
-        return Ok(Err(String::from_str(alloc, "too long")?));
+        return refused(alloc, "too long");
     }
-    let Ok(list) = tokens(alloc, text.as_bytes()) else {
-        return Ok(Err(String::from_str(alloc, "no tokens")?));
-    };
-    let Ok(raw) = parse(alloc, list.as_slice()) else {
-        return Ok(Err(String::from_str(alloc, "no tree")?));
-    };
-    match check(alloc, &raw) {
+    match tokens(alloc, text.as_bytes()) {
+        Ok(tokens) => typed_tokens(alloc, tokens.as_slice()),
+        Err(_) => refused(alloc, "no tokens"),
+    }
+}
+
+fn typed_tokens<'a>(alloc: Global, tokens: &'a [Token<'a>]) -> Result<Typed, AllocError> {
+    match parse(alloc, tokens) {
+        Ok(raw) => typed_tree(alloc, &raw),
+        Err(_) => refused(alloc, "no tree"),
+    }
+}
+
+fn typed_tree(alloc: Global, raw: &RawProgram) -> Result<Typed, AllocError> {
+    match check(alloc, raw) {
         Ok(program) => Ok(Ok(program)),
         Err(error) => Ok(Err(fault(alloc, error)?)),
     }
+}
+
+fn refused(alloc: Global, cause: &str) -> Result<Typed, AllocError> {
+    Ok(Err(String::from_str(alloc, cause)?))
 }
 
 fn fault(alloc: Global, error: TypeError) -> Result<String, AllocError> {
@@ -44,16 +59,21 @@ fn at_place(alloc: Global, number: u32, at: At) -> Result<String, AllocError> {
     format!(in alloc; "{number} at {}:{}", at.line, at.column)
 }
 
-/// The text is accepted, where `fits` is expected, or refused so.
-pub fn expect_answer(
-    rt: &impl Abort,
-    alloc: Global,
-    text: &str,
-    expected: &str,
-) -> Result<(), AllocError> {
+/// Whether the text is accepted, where `fits` is expected, or refused so.
+pub fn is_answer(alloc: Global, text: &str, expected: &str) -> Result<bool, AllocError> {
     match typed(alloc, text)? {
-        Ok(_) => assert_eq!(rt; "fits", expected, "for {text}"),
-        Err(found) => assert_eq!(rt; found.as_str(), expected, "for {text}"),
+        Ok(_) => Ok(expected == "fits"),
+        Err(found) => Ok(found.as_str() == expected),
     }
-    Ok(())
+}
+
+/// The first text with another answer, if there is one.
+pub fn first_difference(alloc: Global, rows: &[(&str, &str)]) -> Result<Option<usize>, AllocError> {
+    for i in 0..rows.len() {
+        let (text, expected) = rows[i];
+        if !is_answer(alloc, text, expected)? {
+            return Ok(Some(i));
+        }
+    }
+    Ok(None)
 }

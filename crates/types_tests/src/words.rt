@@ -268,34 +268,58 @@ fn add_info(text: &mut String, info: &StmtInfo) -> Result<(), AllocError> {
     write!(text, " {}:{} {kind:?}", at.line, at.column)
 }
 
+fn add_variables(text: &mut String, variables: &[Variable]) -> Result<(), AllocError> {
+    for variable in variables {
+        add_variable(text, variable)?;
+    }
+    Ok(())
+}
+
+fn add_functions(text: &mut String, functions: &[Function]) -> Result<(), AllocError> {
+    for function in functions {
+        text.push_str("; ")?;
+        add_function(text, function)?;
+    }
+    Ok(())
+}
+
+fn add_infos(text: &mut String, infos: &[StmtInfo]) -> Result<(), AllocError> {
+    for info in infos {
+        add_info(text, info)?;
+    }
+    Ok(())
+}
+
+fn add_program(text: &mut String, program: &Program) -> Result<(), AllocError> {
+    text.push_str("variables")?;
+    add_variables(text, program.variables.as_slice())?;
+    text.push_str("; globals ")?;
+    add_vars(text, &program.globals)?;
+    text.push_str(" ")?;
+    add_listed(text, program.inits.as_slice())?;
+    add_functions(text, program.functions.as_slice())?;
+    write!(text, "; main f{};", program.main.0)?;
+    add_infos(text, program.statements.as_slice())
+}
+
 /// A program: variables, globals and their initialisers, the functions, `main`, and where each statement stands.
 pub fn program_words(alloc: Global, program: &Program) -> Result<String, AllocError> {
-    let mut text = String::from_str(alloc, "variables")?;
-    for variable in program.variables.as_slice() {
-        add_variable(&mut text, variable)?;
-    }
-    text.push_str("; globals ")?;
-    add_vars(&mut text, &program.globals)?;
-    text.push_str(" ")?;
-    add_listed(&mut text, program.inits.as_slice())?;
-    for function in program.functions.as_slice() {
-        text.push_str("; ")?;
-        add_function(&mut text, function)?;
-    }
-    write!(text, "; main f{};", program.main.0)?;
-    for info in program.statements.as_slice() {
-        add_info(&mut text, info)?;
-    }
+    let mut text = String::new(alloc);
+    add_program(&mut text, program)?;
     Ok(text)
 }
 
 /// The last statement of the last function, if there is one.
+fn last_statement(program: &Program) -> Option<&Stmt> {
+    let function = program.functions.as_slice().last()?;
+    function.body.as_slice().last()
+}
+
+/// The last statement of the last function as words, if there is one.
 pub fn last_words(alloc: Global, program: &Program) -> Result<String, AllocError> {
     let mut text = String::new(alloc);
-    if let Some(function) = program.functions.as_slice().last() {
-        if let Some(stmt) = function.body.as_slice().last() {
-            add_stmt(&mut text, stmt)?;
-        }
+    if let Some(stmt) = last_statement(program) {
+        add_stmt(&mut text, stmt)?;
     }
     Ok(text)
 }
