@@ -2,8 +2,6 @@
 
 use ba_bytes::decimal::decimal;
 use ba_bytes::pieces::Pieces;
-use std::process::Abort;
-use std::test::Fail;
 
 const NUMBERS: [(&str, Option<i64>); 11] = [
     ("0", Some(0)),
@@ -19,24 +17,35 @@ const NUMBERS: [(&str, Option<i64>); 11] = [
     ("--1", None),
 ];
 
-fn compare(rt: &impl Abort, rows: &[(&str, Option<i64>)]) {
-    for (text, want) in rows {
-        assert_eq!(rt; decimal(text.as_bytes()), *want, "at {text:?}");
+fn first_difference(rows: &[(&str, Option<i64>)]) -> Option<usize> {
+    for i in 0..rows.len() {
+        let (text, want) = rows[i];
+        if decimal(text.as_bytes()) != want {
+            return Some(i);
+        }
     }
+    None
 }
 
 #[test]
 fn reads_decimal_numbers(rt: HostRuntime) {
-    compare(&rt, NUMBERS.as_slice());
+    assert_eq!(rt; first_difference(NUMBERS.as_slice()), None);
 }
 
 #[test]
-fn reads_pieces_between_blanks(rt: HostRuntime) -> Result<(), Fail> {
+fn reads_pieces_between_blanks(rt: HostRuntime) {
     let mut pieces = Pieces::new(b" 12\t-3\n\r\n4");
-    for want in ["12", "-3", "4"] {
-        let piece = pieces.next_piece().ok_or("too few pieces")?;
-        assert_eq!(rt; piece, want.as_bytes());
-    }
-    assert!(rt; pieces.next_piece().is_none());
-    Ok(())
+    let read = [
+        pieces.next_piece(),
+        pieces.next_piece(),
+        pieces.next_piece(),
+        pieces.next_piece(),
+    ];
+    let wanted = [
+        Some(b"12".as_slice()),
+        Some(b"-3".as_slice()),
+        Some(b"4".as_slice()),
+        None,
+    ];
+    assert!(rt; read == wanted);
 }

@@ -7,23 +7,19 @@ use ba_numbers::ids::At;
 use ba_numbers::numbers::CType;
 use std::alloc::{AllocError, Global};
 use std::process::Abort;
-use std::test::Fail;
 
-fn position(alloc: Global, at: At) -> Result<String, AllocError> {
-    let At { line, column } = at;
-    format!(in alloc; "{line}:{column}")
+fn name_text(alloc: Global, name: &[u8]) -> Result<String, AllocError> {
+    let mut text = String::new(alloc);
+    for byte in name {
+        text.push(char::from(*byte))?;
+    }
+    Ok(text)
 }
 
 /// A name as it is, a keyword or punctuator by its variant, a constant with its type, and `""` for a string.
 fn kind_text(alloc: Global, kind: &TokenKind) -> Result<String, AllocError> {
     match kind {
-        TokenKind::Name(name) => {
-            let mut text = String::new(alloc);
-            for byte in name.as_bytes() {
-                text.push(char::from(*byte))?;
-            }
-            Ok(text)
-        }
+        TokenKind::Name(name) => name_text(alloc, name.as_bytes()),
         TokenKind::Keyword(keyword) => format!(in alloc; "{keyword:?}"),
         TokenKind::Constant { t, value } => match t {
             CType::I32 => format!(in alloc; "{value}i"),
@@ -35,8 +31,9 @@ fn kind_text(alloc: Global, kind: &TokenKind) -> Result<String, AllocError> {
     }
 }
 
-fn error_text(alloc: Global, error: LexError) -> Result<String, AllocError> {
-    let (name, at) = match error {
+/// The name of an error, and where it is.
+fn error_name(error: LexError) -> (&'static str, At) {
+    match error {
         LexError::BadByte(at) => ("BadByte", at),
         LexError::BadToken(at) => ("BadToken", at),
         LexError::NotInProfile(at) => ("NotInProfile", at),
@@ -45,27 +42,47 @@ fn error_text(alloc: Global, error: LexError) -> Result<String, AllocError> {
         LexError::Redefined(at) => ("Redefined", at),
         LexError::TooMany(at) => ("TooMany", at),
         LexError::Memory => ("Memory", At { line: 0, column: 0 }),
-    };
-    let place = position(alloc, at)?;
-    format!(in alloc; "{name} {place}")
+    }
 }
 
-/// The answer as text: each token's kind, and its position after `@`.
-fn answer_text(alloc: Global, answer: &Result<Vec<Token>, LexError>) -> Result<String, AllocError> {
-    match answer {
-        Err(error) => error_text(alloc, *error),
-        Ok(tokens) => {
-            let mut text = String::new(alloc);
-            for token in tokens {
-                if !text.is_empty() {
-                    text.push(' ')?;
-                }
-                text.push_str(kind_text(alloc, &token.kind)?.as_str())?;
-                text.push('@')?;
-                text.push_str(position(alloc, token.at)?.as_str())?;
-            }
-            Ok(text)
-        }
+fn error_text(alloc: Global, error: LexError) -> Result<String, AllocError> {
+    let (name, at) = error_name(error);
+    let At { line, column } = at;
+    format!(in alloc; "{name} {line}:{column}")
+}
+
+/// A token's kind, and its position after `@`.
+fn token_text(alloc: Global, token: &Token) -> Result<String, AllocError> {
+    let mut text = kind_text(alloc, &token.kind)?;
+    let At { line, column } = token.at;
+    write!(text, "@{line}:{column}")?;
+    Ok(text)
+}
+
+/// The text of a token, with a blank before it where it is not the first.
+fn add_token(alloc: Global, text: &mut String, token: &Token) -> Result<(), AllocError> {
+    if !text.is_empty() {
+        text.push(' ')?;
+    }
+    text.push_str(token_text(alloc, token)?.as_str())
+}
+
+fn tokens_text(alloc: Global, tokens: &[Token]) -> Result<String, AllocError> {
+    let mut text = String::new(alloc);
+    for token in tokens {
+        add_token(alloc, &mut text, token)?;
+    }
+    Ok(text)
+}
+
+/// The answer to a text as text: each token's kind, and its position after `@`.
+fn answer_text(alloc: Global, text: &str) -> Result<String, AllocError> {
+    if MAX_TEXT < text.len() {
+        return String::from_str(alloc, "longer than a text may be");
+    }
+    match tokens(alloc, text.as_bytes()) {
+        Ok(tokens) => tokens_text(alloc, tokens.as_slice()),
+        Err(error) => error_text(alloc, error),
     }
 }
 
@@ -363,8 +380,10 @@ const PROGRAMS: [(&str, &str); 4] = [
 ];
 
 /// The number of tokens, or the error.
-fn outcome(rt: &impl Abort, alloc: Global, text: &str) -> Result<String, AllocError> {
-    assert!(rt; text.len() <= MAX_TEXT);
+fn outcome(alloc: Global, text: &str) -> Result<String, AllocError> {
+    if MAX_TEXT < text.len() {
+        return String::from_str(alloc, "longer than a text may be");
+    }
     match tokens(alloc, text.as_bytes()) {
         Ok(tokens) => {
             let count = tokens.len();
@@ -374,185 +393,326 @@ fn outcome(rt: &impl Abort, alloc: Global, text: &str) -> Result<String, AllocEr
     }
 }
 
-/// The front, the middle so many times, and the end.
-fn repeated(
-    alloc: Global,
-    front: &str,
-    middle: &str,
-    count: usize,
-    end: &str,
-) -> Result<String, AllocError> {
-    let mut text = String::from_str(alloc, front)?;
-    for _ in 0..count {
-        text.push_str(middle)?;
+/// The first row whose answer is another one, if there is one.
+fn first_difference(alloc: Global, rows: &[(&str, &str)]) -> Result<Option<usize>, AllocError> {
+    for i in 0..rows.len() {
+        let (text, want) = rows[i];
+        if answer_text(alloc, text)?.as_str() != want {
+            return Ok(Some(i));
+        }
     }
-    text.push_str(end)?;
-    Ok(text)
+    Ok(None)
 }
 
 /// Compares the answer to each text with the one that is wanted.
-fn compare(rt: &impl Abort, alloc: Global, rows: &[(&str, &str)]) -> Result<(), AllocError> {
-    for (text, want) in rows {
-        assert!(rt; text.len() <= MAX_TEXT);
-        let answer = tokens(alloc, text.as_bytes());
-        let found = answer_text(alloc, &answer)?;
-        assert_eq!(rt; found.as_str(), *want, "at {text:?}");
+fn compare(rt: &impl Abort, alloc: Global, rows: &[(&str, &str)]) {
+    assert_eq!(rt; first_difference(alloc, rows), Ok(None));
+}
+
+#[test]
+fn gives_worked_texts(rt: HostRuntime) {
+    compare(&rt, rt.alloc(), WORKED.as_slice());
+}
+
+#[test]
+fn tells_words_apart(rt: HostRuntime) {
+    compare(&rt, rt.alloc(), WORDS.as_slice());
+}
+
+#[test]
+fn refuses_words(rt: HostRuntime) {
+    compare(&rt, rt.alloc(), REFUSED.as_slice());
+}
+
+#[test]
+fn takes_the_longest_punctuator(rt: HostRuntime) {
+    compare(&rt, rt.alloc(), PUNCTUATORS.as_slice());
+}
+
+#[test]
+fn counts_lines_and_columns(rt: HostRuntime) {
+    compare(&rt, rt.alloc(), BLANKS.as_slice());
+}
+
+#[test]
+fn refuses_bytes(rt: HostRuntime) {
+    compare(&rt, rt.alloc(), BYTES.as_slice());
+}
+
+#[test]
+fn reads_numbers(rt: HostRuntime) {
+    compare(&rt, rt.alloc(), NUMBERS.as_slice());
+}
+
+#[test]
+fn reads_characters(rt: HostRuntime) {
+    compare(&rt, rt.alloc(), CHARACTERS.as_slice());
+}
+
+#[test]
+fn reads_strings(rt: HostRuntime) {
+    compare(&rt, rt.alloc(), STRINGS.as_slice());
+}
+
+#[test]
+fn obeys_directives(rt: HostRuntime) {
+    compare(&rt, rt.alloc(), DIRECTIVES_FORMS.as_slice());
+}
+
+#[test]
+fn defines_macros(rt: HostRuntime) {
+    compare(&rt, rt.alloc(), MACROS.as_slice());
+}
+
+#[test]
+fn reads_programs(rt: HostRuntime) {
+    compare(&rt, rt.alloc(), PROGRAMS.as_slice());
+}
+
+/// A part of a text.
+enum Part {
+    /// A piece so many times.
+    Times(&'static str, usize),
+    /// So many macros `M0`, `M1` and so on, each its number.
+    Numbers(usize),
+    /// So many macros `M0`, `M1` and so on, each `B`.
+    Names(usize),
+}
+
+/// Adds a piece so many times.
+fn repeat(text: &mut String, piece: &str, count: usize) -> Result<(), AllocError> {
+    for _ in 0..count {
+        text.push_str(piece)?;
     }
     Ok(())
 }
 
-#[test]
-fn gives_worked_texts(rt: HostRuntime) -> Result<(), Fail> {
-    compare(&rt, rt.alloc(), WORKED.as_slice())?;
-    Ok(())
-}
-
-#[test]
-fn tells_words_apart(rt: HostRuntime) -> Result<(), Fail> {
-    compare(&rt, rt.alloc(), WORDS.as_slice())?;
-    Ok(())
-}
-
-#[test]
-fn refuses_words(rt: HostRuntime) -> Result<(), Fail> {
-    compare(&rt, rt.alloc(), REFUSED.as_slice())?;
-    Ok(())
-}
-
-#[test]
-fn takes_the_longest_punctuator(rt: HostRuntime) -> Result<(), Fail> {
-    compare(&rt, rt.alloc(), PUNCTUATORS.as_slice())?;
-    Ok(())
-}
-
-#[test]
-fn counts_lines_and_columns(rt: HostRuntime) -> Result<(), Fail> {
-    compare(&rt, rt.alloc(), BLANKS.as_slice())?;
-    Ok(())
-}
-
-#[test]
-fn refuses_bytes(rt: HostRuntime) -> Result<(), Fail> {
-    compare(&rt, rt.alloc(), BYTES.as_slice())?;
-    Ok(())
-}
-
-#[test]
-fn reads_numbers(rt: HostRuntime) -> Result<(), Fail> {
-    compare(&rt, rt.alloc(), NUMBERS.as_slice())?;
-    Ok(())
-}
-
-#[test]
-fn reads_characters(rt: HostRuntime) -> Result<(), Fail> {
-    compare(&rt, rt.alloc(), CHARACTERS.as_slice())?;
-    Ok(())
-}
-
-#[test]
-fn reads_strings(rt: HostRuntime) -> Result<(), Fail> {
-    compare(&rt, rt.alloc(), STRINGS.as_slice())?;
-    Ok(())
-}
-
-#[test]
-fn obeys_directives(rt: HostRuntime) -> Result<(), Fail> {
-    compare(&rt, rt.alloc(), DIRECTIVES_FORMS.as_slice())?;
-    Ok(())
-}
-
-#[test]
-fn defines_macros(rt: HostRuntime) -> Result<(), Fail> {
-    compare(&rt, rt.alloc(), MACROS.as_slice())?;
-    Ok(())
-}
-
-#[test]
-fn reads_programs(rt: HostRuntime) -> Result<(), Fail> {
-    compare(&rt, rt.alloc(), PROGRAMS.as_slice())?;
-    Ok(())
-}
-
-#[test]
-fn takes_the_longest_texts(rt: HostRuntime) -> Result<(), Fail> {
-    for (front, middle, count, end, want) in [
-        ("/*", "*", 65532, "*/", "0 tokens"),
-        ("//", "/", 65534, "", "0 tokens"),
-        ("", "a", 65536, "", "1 tokens"),
-        ("", "0", 65536, "", "1 tokens"),
-        ("", "9", 65536, "", "BadToken 1:1"),
-        ("\"", "x", 65534, "\"", "1 tokens"),
-        ("\"", "x", 65535, "", "BadToken 1:1"),
-        ("", " ", 65536, "", "0 tokens"),
-        ("", "\n", 65535, "@", "BadByte 65536:1"),
-        ("", " ", 65535, "@", "BadByte 1:65536"),
-        ("", "+", 65536, "", "32768 tokens"),
-        ("", "a ", 32768, "", "32768 tokens"),
-        ("", "#define A 1\n", 5461, "A", "1 tokens"),
-    ] {
-        let text = repeated(rt.alloc(), front, middle, count, end)?;
-        let found = outcome(&rt, rt.alloc(), text.as_str())?;
-        assert_eq!(rt; found.as_str(), want, "at {front:?} {middle:?}");
+/// Adds macros, each its number.
+fn add_numbers(text: &mut String, count: usize) -> Result<(), AllocError> {
+    for i in 0..count {
+        write!(text, "#define M{i} {i}\n")?;
     }
     Ok(())
 }
 
-#[test]
-fn keeps_to_the_limits(rt: HostRuntime) -> Result<(), Fail> {
-    let uses = repeated(rt.alloc(), "\n", "A\n", 100, "")?;
-    for (count, end, want) in [
-        (1000, "", "0 tokens"),
-        (1001, "", "TooMany 1:9"),
-        (1000, "\n#define B A\nB", "1000 tokens"),
-        (999, "\n#define B A x\nB", "1000 tokens"),
-        (1000, "\n#define B A x", "TooMany 2:9"),
-        (1000, "\n#define A A x", "Redefined 2:9"),
-        (1000, uses.as_str(), "100000 tokens"),
-        (999, uses.as_str(), "99900 tokens"),
-    ] {
-        let text = repeated(rt.alloc(), "#define A", " x", count, end)?;
-        let found = outcome(&rt, rt.alloc(), text.as_str())?;
-        assert_eq!(rt; found.as_str(), want, "at {count} {end:?}");
-    }
-    for (end, want) in [(" y", "TooMany 102:2"), ("\n @", "BadByte 103:2")] {
-        let mut text = repeated(rt.alloc(), "#define A", " x", 1000, uses.as_str())?;
-        text.push_str(end)?;
-        let found = outcome(&rt, rt.alloc(), text.as_str())?;
-        assert_eq!(rt; found.as_str(), want, "at {end:?}");
+/// Adds macros, each `B`.
+fn add_names(text: &mut String, count: usize) -> Result<(), AllocError> {
+    for i in 0..count {
+        write!(text, "#define M{i} B\n")?;
     }
     Ok(())
 }
 
-#[test]
-fn takes_a_thousand_macros(rt: HostRuntime) -> Result<(), Fail> {
-    let mut text = String::new(rt.alloc());
-    for i in 0..1000 {
-        text.push_str(format!(in rt.alloc(); "#define M{i} {i}\n")?.as_str())?;
-    }
-    for (end, want) in [
-        ("M0 M999", "2 tokens"),
-        ("#define M7 7", "0 tokens"),
-        ("#define M", "TooMany 1001:9"),
-        ("#define M M", "MacroOrder 1001:9"),
-    ] {
-        let whole = repeated(rt.alloc(), text.as_str(), "", 0, end)?;
-        let found = outcome(&rt, rt.alloc(), whole.as_str())?;
-        assert_eq!(rt; found.as_str(), want, "at {end:?}");
+fn add_parts(text: &mut String, parts: &[Part]) -> Result<(), AllocError> {
+    for part in parts {
+        match part {
+            Part::Times(piece, count) => repeat(text, piece, *count)?,
+            Part::Numbers(count) => add_numbers(text, *count)?,
+            Part::Names(count) => add_names(text, *count)?,
+        }
     }
     Ok(())
+}
+
+/// The outcome of the text of these parts.
+fn outcome_of(alloc: Global, parts: &[Part]) -> Result<String, AllocError> {
+    let mut text = String::new(alloc);
+    add_parts(&mut text, parts)?;
+    outcome(alloc, text.as_str())
+}
+
+/// The first row whose outcome is another one, if there is one.
+fn first_other_outcome(
+    alloc: Global,
+    rows: &[(&[Part], &str)],
+) -> Result<Option<usize>, AllocError> {
+    for i in 0..rows.len() {
+        let (parts, want) = rows[i];
+        if outcome_of(alloc, parts)?.as_str() != want {
+            return Ok(Some(i));
+        }
+    }
+    Ok(None)
+}
+
+/// Compares the outcome of each text with the one that is wanted.
+fn compare_built(rt: &impl Abort, alloc: Global, rows: &[(&[Part], &str)]) {
+    assert_eq!(rt; first_other_outcome(alloc, rows), Ok(None));
+}
+
+static LONGEST: [(&[Part], &str); 13] = [
+    (
+        &[
+            Part::Times("/*", 1),
+            Part::Times("*", 65532),
+            Part::Times("*/", 1),
+        ],
+        "0 tokens",
+    ),
+    (&[Part::Times("//", 1), Part::Times("/", 65534)], "0 tokens"),
+    (&[Part::Times("a", 65536)], "1 tokens"),
+    (&[Part::Times("0", 65536)], "1 tokens"),
+    (&[Part::Times("9", 65536)], "BadToken 1:1"),
+    (
+        &[
+            Part::Times("\"", 1),
+            Part::Times("x", 65534),
+            Part::Times("\"", 1),
+        ],
+        "1 tokens",
+    ),
+    (
+        &[Part::Times("\"", 1), Part::Times("x", 65535)],
+        "BadToken 1:1",
+    ),
+    (&[Part::Times(" ", 65536)], "0 tokens"),
+    (
+        &[Part::Times("\n", 65535), Part::Times("@", 1)],
+        "BadByte 65536:1",
+    ),
+    (
+        &[Part::Times(" ", 65535), Part::Times("@", 1)],
+        "BadByte 1:65536",
+    ),
+    (&[Part::Times("+", 65536)], "32768 tokens"),
+    (&[Part::Times("a ", 32768)], "32768 tokens"),
+    (
+        &[Part::Times("#define A 1\n", 5461), Part::Times("A", 1)],
+        "1 tokens",
+    ),
+];
+
+#[test]
+fn takes_the_longest_texts(rt: HostRuntime) {
+    compare_built(&rt, rt.alloc(), LONGEST.as_slice());
+}
+
+/// Macros of so many tokens, and their uses.
+static LIMITS: [(&[Part], &str); 10] = [
+    (
+        &[Part::Times("#define A", 1), Part::Times(" x", 1000)],
+        "0 tokens",
+    ),
+    (
+        &[Part::Times("#define A", 1), Part::Times(" x", 1001)],
+        "TooMany 1:9",
+    ),
+    (
+        &[
+            Part::Times("#define A", 1),
+            Part::Times(" x", 1000),
+            Part::Times("\n#define B A\nB", 1),
+        ],
+        "1000 tokens",
+    ),
+    (
+        &[
+            Part::Times("#define A", 1),
+            Part::Times(" x", 999),
+            Part::Times("\n#define B A x\nB", 1),
+        ],
+        "1000 tokens",
+    ),
+    (
+        &[
+            Part::Times("#define A", 1),
+            Part::Times(" x", 1000),
+            Part::Times("\n#define B A x", 1),
+        ],
+        "TooMany 2:9",
+    ),
+    (
+        &[
+            Part::Times("#define A", 1),
+            Part::Times(" x", 1000),
+            Part::Times("\n#define A A x", 1),
+        ],
+        "Redefined 2:9",
+    ),
+    (
+        &[
+            Part::Times("#define A", 1),
+            Part::Times(" x", 1000),
+            Part::Times("\n", 1),
+            Part::Times("A\n", 100),
+        ],
+        "100000 tokens",
+    ),
+    (
+        &[
+            Part::Times("#define A", 1),
+            Part::Times(" x", 999),
+            Part::Times("\n", 1),
+            Part::Times("A\n", 100),
+        ],
+        "99900 tokens",
+    ),
+    (
+        &[
+            Part::Times("#define A", 1),
+            Part::Times(" x", 1000),
+            Part::Times("\n", 1),
+            Part::Times("A\n", 100),
+            Part::Times(" y", 1),
+        ],
+        "TooMany 102:2",
+    ),
+    (
+        &[
+            Part::Times("#define A", 1),
+            Part::Times(" x", 1000),
+            Part::Times("\n", 1),
+            Part::Times("A\n", 100),
+            Part::Times("\n @", 1),
+        ],
+        "BadByte 103:2",
+    ),
+];
+
+#[test]
+fn keeps_to_the_limits(rt: HostRuntime) {
+    compare_built(&rt, rt.alloc(), LIMITS.as_slice());
+}
+
+static BEHIND: [(&[Part], &str); 4] = [
+    (
+        &[Part::Numbers(1000), Part::Times("M0 M999", 1)],
+        "2 tokens",
+    ),
+    (
+        &[Part::Numbers(1000), Part::Times("#define M7 7", 1)],
+        "0 tokens",
+    ),
+    (
+        &[Part::Numbers(1000), Part::Times("#define M", 1)],
+        "TooMany 1001:9",
+    ),
+    (
+        &[Part::Numbers(1000), Part::Times("#define M M", 1)],
+        "MacroOrder 1001:9",
+    ),
+];
+
+#[test]
+fn takes_a_thousand_macros(rt: HostRuntime) {
+    compare_built(&rt, rt.alloc(), BEHIND.as_slice());
 }
 
 /// Names of 30,000 bytes stand in 1,000 tokens of each of 999 bodies: copies of them would take 30 GB.
+static LONG_NAMES: [(&[Part], &str); 1] = [(
+    &[
+        Part::Times("#define A ", 1),
+        Part::Times("n", 30000),
+        Part::Times("\n#define B ", 1),
+        Part::Times("A ", 1000),
+        Part::Times("\n", 1),
+        Part::Names(998),
+        Part::Times("M7 ", 100),
+    ],
+    "100000 tokens",
+)];
+
 #[test]
-fn names_in_bodies_take_no_memory_of_their_own(rt: HostRuntime) -> Result<(), Fail> {
-    let alloc = rt.alloc();
-    let mut text = repeated(alloc, "#define A ", "n", 30_000, "\n")?;
-    text.push_str(repeated(alloc, "#define B ", "A ", 1000, "\n")?.as_str())?;
-    for i in 0..998 {
-        text.push_str(format!(in alloc; "#define M{i} B\n")?.as_str())?;
-    }
-    text.push_str(repeated(alloc, "", "M7 ", 100, "")?.as_str())?;
-    let found = outcome(&rt, alloc, text.as_str())?;
-    assert_eq!(rt; found.as_str(), "100000 tokens");
-    Ok(())
+fn names_in_bodies_take_no_memory_of_their_own(rt: HostRuntime) {
+    compare_built(&rt, rt.alloc(), LONG_NAMES.as_slice());
 }
