@@ -3,7 +3,6 @@
 use ba_interp::run;
 use ba_tree::run::{Bounds, Outcome};
 use std::alloc::Global;
-use std::test::Fail;
 use test_programs::examples::{EXAMPLES, Example};
 use test_programs::reader::{Fault, Reader};
 
@@ -41,10 +40,18 @@ fn ends(alloc: Global, example: &Example) -> Result<bool, Fault> {
     Ok(found == expected)
 }
 
-#[test]
-fn examples_end_as_worked_out(rt: HostRuntime) -> Result<(), Fail> {
-    for example in EXAMPLES.as_slice() {
-        assert_eq!(rt; ends(rt.alloc(), example), Ok(true));
+/// The first example that ends otherwise, if there is one.
+fn first_difference(alloc: Global, examples: &[Example]) -> Result<Option<usize>, Fault> {
+    for i in 0..examples.len() {
+        if !ends(alloc, &examples[i])? {
+            return Ok(Some(i));
+        }
     }
-    Ok(())
+    Ok(None)
+}
+
+#[test]
+fn examples_end_as_worked_out(rt: HostRuntime) {
+    let difference = first_difference(rt.alloc(), EXAMPLES.as_slice());
+    assert_eq!(rt; difference, Ok(None));
 }

@@ -6,7 +6,6 @@ use ba_numbers::ids::{At, FnId, StmtId, VarId};
 use ba_numbers::numbers::{BinOp, CType};
 use ba_tree::tree::{Expr, Function, Parts, Shape, Stmt, StmtInfo, StmtKind, Variable};
 use std::alloc::Global;
-use std::test::Fail;
 use test_programs::reader::{Fault, Reader};
 
 /// Whether the words are those of parts that make a program.
@@ -18,119 +17,128 @@ fn is_program(alloc: Global, words: &str) -> Result<bool, Fault> {
     }
 }
 
-#[test]
-fn parts_make_a_program_exactly_where_they_fit(rt: HostRuntime) -> Result<(), Fail> {
-    for (words, fits) in [
-        // a variable is owned once, and there
-        ("1 i  0  0  1  0  1 0  0  0", true),
-        ("1 i  0  0  1  1 0  1 0  0  0", false),
-        ("2 i i  0  0  1  0  1 0  0  0", false),
-        ("1 i  0  0  1  0  1 1  0  0", false),
-        ("1 i  1 0  0  1  0  1 0  0  0", false),
-        // only an array parameter of another function than main names the array of its call
-        ("1 p  0  0  2  1 0  0  0  0  0  0  0", true),
-        ("1 p  0  0  1  1 0  0  0  0", false),
-        ("1 p  0  0  2  0  1 0  0  0  0  0  0", false),
-        ("1 p  1 0  0  1  0  0  0  0", false),
-        ("1 2  0  0  1  1 0  0  0  0", true),
-        ("1 2  0  0  2  1 0  0  0  0  0  0  0", false),
-        // a statement's number stands once, with its kind
-        ("1 i  0  0  1  0  1 0  1 = 1 0 1  1 =", true),
-        ("1 i  0  0  1  0  1 0  1 = 1 0 1  1 i", false),
-        ("1 i  0  0  1  0  1 0  1 = 1 0 1  2 = =", false),
-        ("1 i  0  0  1  0  1 0  2 = 1 0 1 = 1 0 2  1 =", false),
-        ("1 i  0  0  1  0  1 0  1 = 2 0 1  1 =", false),
-        // a function names what it owns and globals
-        ("2 i i  1 1  0  1  0  1 0  1 = 1 0 v 1  1 =", true),
-        ("2 i i  0  0  2  0  1 1  0  0  1 0  1 = 1 0 v 1  1 =", false),
-        ("2 i i  1 1  0  1  0  1 0  1 decl 1  0", false),
-        // shapes
-        ("2 i 2  0  0  1  0  2 0 1  1 []= 1 1 v 0 1  1 [", true),
-        ("2 i 2  0  0  1  0  2 0 1  1 []= 1 0 v 0 1  1 [", false),
-        ("2 i 2  0  0  1  0  2 0 1  1 = 1 0 e 1 0  1 =", true),
-        ("2 i 2  0  0  1  0  2 0 1  1 = 1 0 e 0 0  1 =", false),
-        ("2 i 2  0  0  1  0  2 0 1  1 = 1 1 0  1 =", false),
-        ("2 i 2  0  0  1  0  2 0 1  1 = 1 0 v 1  1 =", false),
-        ("1 2  0  0  1  0  1 0  1 inits 1 0 2 5 6  1 i", true),
-        ("1 2  0  0  1  0  1 0  1 inits 1 0 3 5 6 7  1 i", false),
-        // types
-        ("2 i s  0  0  1  0  2 0 1  1 = 1 1 s v 0  1 =", true),
-        ("2 i s  0  0  1  0  2 0 1  1 = 1 1 v 0  1 =", false),
-        ("2 i s  0  0  1  0  2 0 1  1 = 1 0 + v 0 i v 1  1 =", true),
-        ("2 i s  0  0  1  0  2 0 1  1 = 1 0 + v 0 v 1  1 =", false),
-        ("2 i u  0  0  1  0  2 0 1  1 = 1 0 == v 0 v 1  1 =", false),
-        ("1 c  0  0  1  0  1 0  1 decl 0  0", true),
-        ("1 i  0  0  1  0  1 0  1 = 1 0 2147483647  1 =", true),
-        // calls
-        (
-            "1 i  0  0  2  1 0  0  1 return 1 v 0  0  0  1 return 2 call 1 0 1 x 3  2 r r",
-            true,
-        ),
-        (
-            "1 i  0  0  2  1 0  0  1 return 1 v 0  0  0  1 return 2 call 1 0 0  2 r r",
-            false,
-        ),
-        (
-            "1 i  0  0  2  1 0  0  1 return 1 v 0  0  0  1 return 2 call 1 1 0  2 r r",
-            false,
-        ),
-        (
-            "1 i  0  0  2  1 0  0  1 return 1 v 0  0  0  1 return 2 call 1 2 0  2 r r",
-            false,
-        ),
-        (
-            "1 i  0  0  2  1 0  0  1 return 1 v 0  0  0  1 return 2 + call 1 0 1 x 3 call 1 0 1 x 4  2 r r",
-            false,
-        ),
-        (
-            "1 i  0  0  2  1 0  0  1 return 1 v 0  0  0  1 return 2 + call 1 0 1 x 3 call 2 0 1 x 4  2 r r",
-            true,
-        ),
-        (
-            "1 i  0  0  2  1 0  0  1 return 1 v 0  0  0  1 return 2 call 1 0 1 x u 3  2 r r",
-            false,
-        ),
-        (
-            "2 p 2  0  0  2  1 0  0  1 return 1 0  0  1 1  1 return 2 call 1 0 1 a 1  2 r r",
-            true,
-        ),
-        (
-            "2 p 2  0  0  2  1 0  0  1 return 1 0  0  1 1  1 return 2 call 1 0 1 x 1  2 r r",
-            false,
-        ),
-        (
-            "2 i 2  0  0  2  1 0  0  1 return 1 0  0  1 1  1 return 2 call 1 0 1 a 1  2 r r",
-            false,
-        ),
-        // loops
-        ("1 i  0  0  1  0  1 0  1 while 1 v 0 break  1 ?", true),
-        ("1 i  0  0  1  0  1 0  1 if 1 v 0 break  1 ?", false),
-        (
-            "1 i  0  0  1  0  1 0  2 while 1 v 0 { 0 continue  1 ?",
-            false,
-        ),
-        (
-            "1 i  0  0  1  0  1 0  1 for 1 1 decl 0 v 0 0 { 0  1 ?",
-            true,
-        ),
-        ("1 i  0  0  1  0  1 0  1 for 1 1 { 0 v 0 0 { 0  1 ?", false),
-        // initialisers of globals
-        ("1 i  1 0  1 init 1 0 3  1  0  0  0  1 i", true),
-        ("2 i i  2 0 1  1 init 1 0 v 1  1  0  0  0  1 i", false),
-        ("1 i  1 0  1 = 1 0 3  1  0  0  0  1 =", false),
-        ("1 i  0  1 init 1 0 3  1  0  1 0  0  1 i", false),
-    ] {
-        let found = is_program(rt.alloc(), words);
-        assert_eq!(rt; found, Ok(fits));
+/// The words of parts, and whether they make a program.
+static PARTS: [(&str, bool); 53] = [
+    // a variable is owned once, and there
+    ("1 i  0  0  1  0  1 0  0  0", true),
+    ("1 i  0  0  1  1 0  1 0  0  0", false),
+    ("2 i i  0  0  1  0  1 0  0  0", false),
+    ("1 i  0  0  1  0  1 1  0  0", false),
+    ("1 i  1 0  0  1  0  1 0  0  0", false),
+    // only an array parameter of another function than main names the array of its call
+    ("1 p  0  0  2  1 0  0  0  0  0  0  0", true),
+    ("1 p  0  0  1  1 0  0  0  0", false),
+    ("1 p  0  0  2  0  1 0  0  0  0  0  0", false),
+    ("1 p  1 0  0  1  0  0  0  0", false),
+    ("1 2  0  0  1  1 0  0  0  0", true),
+    ("1 2  0  0  2  1 0  0  0  0  0  0  0", false),
+    // a statement's number stands once, with its kind
+    ("1 i  0  0  1  0  1 0  1 = 1 0 1  1 =", true),
+    ("1 i  0  0  1  0  1 0  1 = 1 0 1  1 i", false),
+    ("1 i  0  0  1  0  1 0  1 = 1 0 1  2 = =", false),
+    ("1 i  0  0  1  0  1 0  2 = 1 0 1 = 1 0 2  1 =", false),
+    ("1 i  0  0  1  0  1 0  1 = 2 0 1  1 =", false),
+    // a function names what it owns and globals
+    ("2 i i  1 1  0  1  0  1 0  1 = 1 0 v 1  1 =", true),
+    ("2 i i  0  0  2  0  1 1  0  0  1 0  1 = 1 0 v 1  1 =", false),
+    ("2 i i  1 1  0  1  0  1 0  1 decl 1  0", false),
+    // shapes
+    ("2 i 2  0  0  1  0  2 0 1  1 []= 1 1 v 0 1  1 [", true),
+    ("2 i 2  0  0  1  0  2 0 1  1 []= 1 0 v 0 1  1 [", false),
+    ("2 i 2  0  0  1  0  2 0 1  1 = 1 0 e 1 0  1 =", true),
+    ("2 i 2  0  0  1  0  2 0 1  1 = 1 0 e 0 0  1 =", false),
+    ("2 i 2  0  0  1  0  2 0 1  1 = 1 1 0  1 =", false),
+    ("2 i 2  0  0  1  0  2 0 1  1 = 1 0 v 1  1 =", false),
+    ("1 2  0  0  1  0  1 0  1 inits 1 0 2 5 6  1 i", true),
+    ("1 2  0  0  1  0  1 0  1 inits 1 0 3 5 6 7  1 i", false),
+    // types
+    ("2 i s  0  0  1  0  2 0 1  1 = 1 1 s v 0  1 =", true),
+    ("2 i s  0  0  1  0  2 0 1  1 = 1 1 v 0  1 =", false),
+    ("2 i s  0  0  1  0  2 0 1  1 = 1 0 + v 0 i v 1  1 =", true),
+    ("2 i s  0  0  1  0  2 0 1  1 = 1 0 + v 0 v 1  1 =", false),
+    ("2 i u  0  0  1  0  2 0 1  1 = 1 0 == v 0 v 1  1 =", false),
+    ("1 c  0  0  1  0  1 0  1 decl 0  0", true),
+    ("1 i  0  0  1  0  1 0  1 = 1 0 2147483647  1 =", true),
+    // calls
+    (
+        "1 i  0  0  2  1 0  0  1 return 1 v 0  0  0  1 return 2 call 1 0 1 x 3  2 r r",
+        true,
+    ),
+    (
+        "1 i  0  0  2  1 0  0  1 return 1 v 0  0  0  1 return 2 call 1 0 0  2 r r",
+        false,
+    ),
+    (
+        "1 i  0  0  2  1 0  0  1 return 1 v 0  0  0  1 return 2 call 1 1 0  2 r r",
+        false,
+    ),
+    (
+        "1 i  0  0  2  1 0  0  1 return 1 v 0  0  0  1 return 2 call 1 2 0  2 r r",
+        false,
+    ),
+    (
+        "1 i  0  0  2  1 0  0  1 return 1 v 0  0  0  1 return 2 + call 1 0 1 x 3 call 1 0 1 x 4  2 r r",
+        false,
+    ),
+    (
+        "1 i  0  0  2  1 0  0  1 return 1 v 0  0  0  1 return 2 + call 1 0 1 x 3 call 2 0 1 x 4  2 r r",
+        true,
+    ),
+    (
+        "1 i  0  0  2  1 0  0  1 return 1 v 0  0  0  1 return 2 call 1 0 1 x u 3  2 r r",
+        false,
+    ),
+    (
+        "2 p 2  0  0  2  1 0  0  1 return 1 0  0  1 1  1 return 2 call 1 0 1 a 1  2 r r",
+        true,
+    ),
+    (
+        "2 p 2  0  0  2  1 0  0  1 return 1 0  0  1 1  1 return 2 call 1 0 1 x 1  2 r r",
+        false,
+    ),
+    (
+        "2 i 2  0  0  2  1 0  0  1 return 1 0  0  1 1  1 return 2 call 1 0 1 a 1  2 r r",
+        false,
+    ),
+    // loops
+    ("1 i  0  0  1  0  1 0  1 while 1 v 0 break  1 ?", true),
+    ("1 i  0  0  1  0  1 0  1 if 1 v 0 break  1 ?", false),
+    (
+        "1 i  0  0  1  0  1 0  2 while 1 v 0 { 0 continue  1 ?",
+        false,
+    ),
+    (
+        "1 i  0  0  1  0  1 0  1 for 1 1 decl 0 v 0 0 { 0  1 ?",
+        true,
+    ),
+    ("1 i  0  0  1  0  1 0  1 for 1 1 { 0 v 0 0 { 0  1 ?", false),
+    // initialisers of globals
+    ("1 i  1 0  1 init 1 0 3  1  0  0  0  1 i", true),
+    ("2 i i  2 0 1  1 init 1 0 v 1  1  0  0  0  1 i", false),
+    ("1 i  1 0  1 = 1 0 3  1  0  0  0  1 =", false),
+    ("1 i  0  1 init 1 0 3  1  0  1 0  0  1 i", false),
+];
+
+/// The first row that is otherwise, if there is one.
+fn first_difference(alloc: Global, rows: &[(&str, bool)]) -> Result<Option<usize>, Fault> {
+    for i in 0..rows.len() {
+        let (words, fits) = rows[i];
+        if is_program(alloc, words)? != fits {
+            return Ok(Some(i));
+        }
     }
-    Ok(())
+    Ok(None)
 }
 
 #[test]
-fn main_is_there(rt: HostRuntime) -> Result<(), Fail> {
-    let found = is_program(rt.alloc(), "0  0  0  0  0");
-    assert_eq!(rt; found, Ok(false));
-    Ok(())
+fn parts_make_a_program_exactly_where_they_fit(rt: HostRuntime) {
+    let difference = first_difference(rt.alloc(), PARTS.as_slice());
+    assert_eq!(rt; difference, Ok(None));
+}
+
+#[test]
+fn main_is_there(rt: HostRuntime) {
+    assert_eq!(rt; is_program(rt.alloc(), "0  0  0  0  0"), Ok(false));
 }
 
 /// A variable of this shape.
@@ -141,42 +149,87 @@ fn variable(shape: Shape) -> Variable {
     }
 }
 
-/// A program of one `main`, with so many variables of this shape as locals, and so many statements that assign 0 to the first.
-fn of_size(alloc: Global, count: u32, shape: Shape, stmts: u32) -> Result<Parts, Fault> {
+/// So many variables of this shape.
+fn variables(alloc: Global, count: u32, shape: Shape) -> Result<Items<Variable>, Fault> {
     let mut variables = Items::new(alloc);
+    for _ in 0..count {
+        variables.push(variable(shape))?;
+    }
+    Ok(variables)
+}
+
+/// The numbers of so many variables.
+fn locals(alloc: Global, count: u32) -> Result<Items<VarId>, Fault> {
     let mut locals = Items::new(alloc);
     for number in 0..count {
-        variables.push(variable(shape))?;
         locals.push(VarId(number))?;
     }
-    let mut statements = Items::new(alloc);
+    Ok(locals)
+}
+
+/// An assignment in the first line.
+const ASSIGNMENT: StmtInfo = StmtInfo {
+    at: At { line: 1, column: 1 },
+    kind: StmtKind::Assignment,
+};
+
+/// So many assignments.
+fn infos(alloc: Global, count: u32) -> Result<Items<StmtInfo>, Fault> {
+    let mut infos = Items::new(alloc);
+    for _ in 0..count {
+        infos.push(ASSIGNMENT)?;
+    }
+    Ok(infos)
+}
+
+/// So many statements that assign 0 to the first variable.
+fn assignments(alloc: Global, count: u32) -> Result<Items<Stmt>, Fault> {
     let mut body = Items::new(alloc);
-    for number in 0..stmts {
-        statements.push(StmtInfo {
-            at: At { line: 1, column: 1 },
-            kind: StmtKind::Assignment,
-        })?;
+    for number in 0..count {
         body.push(Stmt::Assign {
             stmt: StmtId(number.saturating_add(1)),
             var: VarId(0),
             value: zero(),
         })?;
     }
-    let mut functions = Items::new(alloc);
-    functions.push(Function {
+    Ok(body)
+}
+
+/// `main` alone, with so many locals and this body.
+fn functions(alloc: Global, count: u32, body: Items<Stmt>) -> Result<Items<Function>, Fault> {
+    let main = Function {
         result: Some(CType::I32),
         params: Items::new(alloc),
-        locals,
+        locals: locals(alloc, count)?,
         body,
-    })?;
-    Ok(Parts {
-        variables,
+    };
+    let mut functions = Items::new(alloc);
+    functions.push(main)?;
+    Ok(functions)
+}
+
+/// Whether a `main` with so many locals of this shape and this body makes a program.
+fn is_main(
+    alloc: Global,
+    count: u32,
+    shape: Shape,
+    body: Items<Stmt>,
+    statements: Items<StmtInfo>,
+) -> Result<bool, Fault> {
+    let functions = functions(alloc, count, body)?;
+    let parts = Parts {
+        variables: variables(alloc, count, shape)?,
         globals: Items::new(alloc),
         inits: Items::new(alloc),
         functions,
         main: FnId(0),
         statements,
-    })
+    };
+    match program_of(alloc, parts) {
+        Ok(_) => Ok(true),
+        Err(ProgramError::Unfit) => Ok(false),
+        Err(ProgramError::Memory) => Err(Fault::Memory),
+    }
 }
 
 fn zero() -> Expr {
@@ -186,32 +239,43 @@ fn zero() -> Expr {
     }
 }
 
-/// Whether parts of this size make a program.
+/// Whether a `main` with so many locals of this shape, and so many assignments of 0 to the first, makes a program.
 fn is_small(alloc: Global, count: u32, shape: Shape, stmts: u32) -> Result<bool, Fault> {
-    match program_of(alloc, of_size(alloc, count, shape, stmts)?) {
-        Ok(_) => Ok(true),
-        Err(ProgramError::Unfit) => Ok(false),
-        Err(ProgramError::Memory) => Err(Fault::Memory),
+    let statements = infos(alloc, stmts)?;
+    let body = assignments(alloc, stmts)?;
+    is_main(alloc, count, shape, body, statements)
+}
+
+/// How many locals of which shape, how many assignments, and whether they make a program.
+static SIZES: [(u32, Shape, u32, bool); 9] = [
+    (1, Shape::Value, 4000, true),
+    (1, Shape::Value, 4001, false),
+    (2000, Shape::Value, 0, true),
+    (2001, Shape::Value, 0, false),
+    (1, Shape::Array(256), 0, true),
+    (1, Shape::Array(257), 0, false),
+    (1, Shape::Array(0), 0, false),
+    (4, Shape::Array(256), 0, true),
+    (5, Shape::Array(205), 0, false),
+];
+
+/// The first row that is otherwise, if there is one.
+fn first_other_size(
+    alloc: Global,
+    rows: &[(u32, Shape, u32, bool)],
+) -> Result<Option<usize>, Fault> {
+    for i in 0..rows.len() {
+        let (count, shape, stmts, fits) = rows[i];
+        if is_small(alloc, count, shape, stmts)? != fits {
+            return Ok(Some(i));
+        }
     }
+    Ok(None)
 }
 
 #[test]
-fn sizes_have_their_limits(rt: HostRuntime) -> Result<(), Fail> {
-    for (count, shape, stmts, fits) in [
-        (1, Shape::Value, 4000, true),
-        (1, Shape::Value, 4001, false),
-        (2000, Shape::Value, 0, true),
-        (2001, Shape::Value, 0, false),
-        (1, Shape::Array(256), 0, true),
-        (1, Shape::Array(257), 0, false),
-        (1, Shape::Array(0), 0, false),
-        (4, Shape::Array(256), 0, true),
-        (5, Shape::Array(205), 0, false),
-    ] {
-        let found = is_small(rt.alloc(), count, shape, stmts);
-        assert_eq!(rt; found, Ok(fits));
-    }
-    Ok(())
+fn sizes_have_their_limits(rt: HostRuntime) {
+    assert_eq!(rt; first_other_size(rt.alloc(), SIZES.as_slice()), Ok(None));
 }
 
 /// A sum of this height.
@@ -239,55 +303,34 @@ fn nest(alloc: Global, depth: u32) -> Result<Stmt, Fault> {
     Ok(inner)
 }
 
-/// Whether a `main` with this body makes a program.
-fn is_body(alloc: Global, stmt: Stmt, statements: &[StmtInfo]) -> Result<bool, Fault> {
-    let mut parts = of_size(alloc, 1, Shape::Value, 0)?;
+/// Whether a `main` with this statement as its body makes a program.
+fn is_body(alloc: Global, stmt: Stmt, statements: Items<StmtInfo>) -> Result<bool, Fault> {
     let mut body = Items::new(alloc);
     body.push(stmt)?;
-    let mut functions = Items::new(alloc);
-    functions.push(Function {
-        result: Some(CType::I32),
-        params: Items::new(alloc),
-        locals: Items::from_slice(alloc, &[VarId(0)])?,
-        body,
-    })?;
-    parts.functions = functions;
-    parts.statements = Items::from_slice(alloc, statements)?;
-    match program_of(alloc, parts) {
-        Ok(_) => Ok(true),
-        Err(ProgramError::Unfit) => Ok(false),
-        Err(ProgramError::Memory) => Err(Fault::Memory),
-    }
+    is_main(alloc, 1, Shape::Value, body, statements)
 }
 
 /// Whether an assignment of a sum of this height makes a program.
 fn is_low(alloc: Global, height: u32) -> Result<bool, Fault> {
+    let statements = infos(alloc, 1)?;
     let stmt = Stmt::Assign {
         stmt: StmtId(1),
         var: VarId(0),
         value: tower(alloc, height)?,
     };
-    let info = StmtInfo {
-        at: At { line: 1, column: 1 },
-        kind: StmtKind::Assignment,
-    };
-    is_body(alloc, stmt, &[info])
+    is_body(alloc, stmt, statements)
 }
 
 /// Whether statements so deep in one another make a program.
 fn is_flat(alloc: Global, depth: u32) -> Result<bool, Fault> {
-    is_body(alloc, nest(alloc, depth)?, &[])
+    let stmt = nest(alloc, depth)?;
+    is_body(alloc, stmt, Items::new(alloc))
 }
 
 #[test]
-fn heights_and_depths_have_their_limits(rt: HostRuntime) -> Result<(), Fail> {
-    let low = is_low(rt.alloc(), 100);
-    let high = is_low(rt.alloc(), 101);
-    let flat = is_flat(rt.alloc(), 100);
-    let deep = is_flat(rt.alloc(), 101);
-    assert_eq!(rt; low, Ok(true));
-    assert_eq!(rt; high, Ok(false));
-    assert_eq!(rt; flat, Ok(true));
-    assert_eq!(rt; deep, Ok(false));
-    Ok(())
+fn heights_and_depths_have_their_limits(rt: HostRuntime) {
+    assert_eq!(rt; is_low(rt.alloc(), 100), Ok(true));
+    assert_eq!(rt; is_low(rt.alloc(), 101), Ok(false));
+    assert_eq!(rt; is_flat(rt.alloc(), 100), Ok(true));
+    assert_eq!(rt; is_flat(rt.alloc(), 101), Ok(false));
 }

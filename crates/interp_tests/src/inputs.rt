@@ -5,7 +5,6 @@ use ba_items::Items;
 use ba_tree::run::Input;
 use ba_tree::tree::Program;
 use std::alloc::Global;
-use std::test::Fail;
 use test_programs::reader::{Fault, Reader};
 
 fn same(values: &[Items<i64>], others: &[Items<i64>]) -> bool {
@@ -62,61 +61,86 @@ const UNSIGNED: &str = "1 u  0  0  1  1 0  0  0  0";
 /// `main` with an `int`, a `short`, an array of three `int`s and an `unsigned`.
 const FOUR: &str = "4 i s 3 u  0  0  1  4 0 1 2 3  0  0  0";
 
-#[test]
-fn numbers_go_to_their_parameters(rt: HostRuntime) -> Result<(), Fail> {
-    for (program, text, values) in [
-        (NONE, "", "0"),
-        (NONE, " \n\t", "0"),
-        (CHAR, "-128", "1 -128 ;"),
-        (CHAR, "127", "1 127 ;"),
-        (INT, "-2147483648\n", "1 -2147483648 ;"),
-        (INT, "-0", "1 0 ;"),
-        (INT, "007", "1 7 ;"),
-        (UNSIGNED, "4294967295", "1 4294967295 ;"),
-        (FOUR, "1 2 3 4 5 6", "4 1 ; 2 ; 3 4 5 ; 6 ;"),
-        (
-            FOUR,
-            "\t-1\n-2\u{b}-3\u{c}-4\r-5  6 ",
-            "4 -1 ; -2 ; -3 -4 -5 ; 6 ;",
-        ),
-    ] {
-        let read = has_values(rt.alloc(), program, text.as_bytes(), values);
-        assert_eq!(rt; read, Ok(true));
+/// Programs, texts and the values that they have.
+static VALUES: [(&str, &str, &str); 10] = [
+    (NONE, "", "0"),
+    (NONE, " \n\t", "0"),
+    (CHAR, "-128", "1 -128 ;"),
+    (CHAR, "127", "1 127 ;"),
+    (INT, "-2147483648\n", "1 -2147483648 ;"),
+    (INT, "-0", "1 0 ;"),
+    (INT, "007", "1 7 ;"),
+    (UNSIGNED, "4294967295", "1 4294967295 ;"),
+    (FOUR, "1 2 3 4 5 6", "4 1 ; 2 ; 3 4 5 ; 6 ;"),
+    (
+        FOUR,
+        "\t-1\n-2\u{b}-3\u{c}-4\r-5  6 ",
+        "4 -1 ; -2 ; -3 -4 -5 ; 6 ;",
+    ),
+];
+
+/// The first text with other values, if there is one.
+fn first_other_values(alloc: Global, rows: &[(&str, &str, &str)]) -> Result<Option<usize>, Fault> {
+    for i in 0..rows.len() {
+        let (program, text, values) = rows[i];
+        if !has_values(alloc, program, text.as_bytes(), values)? {
+            return Ok(Some(i));
+        }
     }
-    Ok(())
+    Ok(None)
 }
 
 #[test]
-fn each_error_comes_at_its_piece(rt: HostRuntime) -> Result<(), Fail> {
-    for (program, text, error) in [
-        (INT, "1 x", InputError::NotANumber(2)),
-        (INT, "2147483648", InputError::OutOfRange(1)),
-        (INT, "", InputError::WrongCount),
-        (INT, "1 2", InputError::WrongCount),
-        (NONE, "0", InputError::WrongCount),
-        (NONE, "-", InputError::NotANumber(1)),
-        (CHAR, "128", InputError::OutOfRange(1)),
-        (CHAR, "-129", InputError::OutOfRange(1)),
-        (UNSIGNED, "4294967296", InputError::OutOfRange(1)),
-        (UNSIGNED, "-1", InputError::OutOfRange(1)),
-        (INT, "18446744073709551617", InputError::OutOfRange(1)),
-        (INT, "-18446744073709551615", InputError::OutOfRange(1)),
-        (INT, "+1", InputError::NotANumber(1)),
-        (INT, "--1", InputError::NotANumber(1)),
-        (INT, "1-", InputError::NotANumber(1)),
-        (INT, "0x1", InputError::NotANumber(1)),
-        (INT, "1\u{8}", InputError::NotANumber(1)),
-        (FOUR, "1 2 3 4 5", InputError::WrongCount),
-        (FOUR, "1 40000 3 -4 5 -6", InputError::OutOfRange(2)),
-        (FOUR, "1 2 3 4 5 -6", InputError::OutOfRange(6)),
-        (FOUR, "1 40000 3 4 y z", InputError::NotANumber(5)),
-        (FOUR, "1 40000 3 4 5 6 z", InputError::NotANumber(7)),
-        (FOUR, "1 40000 3 4 5 6 7", InputError::WrongCount),
-    ] {
-        let found = error_of(rt.alloc(), program, text.as_bytes());
-        assert_eq!(rt; found, Ok(Some(error)));
+fn numbers_go_to_their_parameters(rt: HostRuntime) {
+    let other = first_other_values(rt.alloc(), VALUES.as_slice());
+    assert_eq!(rt; other, Ok(None));
+}
+
+/// Programs, texts and their errors.
+static ERRORS: [(&str, &str, InputError); 23] = [
+    (INT, "1 x", InputError::NotANumber(2)),
+    (INT, "2147483648", InputError::OutOfRange(1)),
+    (INT, "", InputError::WrongCount),
+    (INT, "1 2", InputError::WrongCount),
+    (NONE, "0", InputError::WrongCount),
+    (NONE, "-", InputError::NotANumber(1)),
+    (CHAR, "128", InputError::OutOfRange(1)),
+    (CHAR, "-129", InputError::OutOfRange(1)),
+    (UNSIGNED, "4294967296", InputError::OutOfRange(1)),
+    (UNSIGNED, "-1", InputError::OutOfRange(1)),
+    (INT, "18446744073709551617", InputError::OutOfRange(1)),
+    (INT, "-18446744073709551615", InputError::OutOfRange(1)),
+    (INT, "+1", InputError::NotANumber(1)),
+    (INT, "--1", InputError::NotANumber(1)),
+    (INT, "1-", InputError::NotANumber(1)),
+    (INT, "0x1", InputError::NotANumber(1)),
+    (INT, "1\u{8}", InputError::NotANumber(1)),
+    (FOUR, "1 2 3 4 5", InputError::WrongCount),
+    (FOUR, "1 40000 3 -4 5 -6", InputError::OutOfRange(2)),
+    (FOUR, "1 2 3 4 5 -6", InputError::OutOfRange(6)),
+    (FOUR, "1 40000 3 4 y z", InputError::NotANumber(5)),
+    (FOUR, "1 40000 3 4 5 6 z", InputError::NotANumber(7)),
+    (FOUR, "1 40000 3 4 5 6 7", InputError::WrongCount),
+];
+
+/// The first text with another error or none, if there is one.
+fn first_other_error(
+    alloc: Global,
+    rows: &[(&str, &str, InputError)],
+) -> Result<Option<usize>, Fault> {
+    for i in 0..rows.len() {
+        let (program, text, error) = rows[i];
+        if error_of(alloc, program, text.as_bytes())? != Some(error) {
+            return Ok(Some(i));
+        }
     }
-    Ok(())
+    Ok(None)
+}
+
+#[test]
+fn each_error_comes_at_its_piece(rt: HostRuntime) {
+    let other = first_other_error(rt.alloc(), ERRORS.as_slice());
+    assert_eq!(rt; other, Ok(None));
 }
 
 /// So many equal digits, and then one.
@@ -129,13 +153,21 @@ fn digits(alloc: Global, count: usize, digit: u8, last: u8) -> Result<Vec<u8>, F
     Ok(text)
 }
 
+/// Whether 4,999 zeros and a 7 are read as 7.
+fn reads_zeros(alloc: Global) -> Result<bool, Fault> {
+    let zeros = digits(alloc, 4_999, b'0', b'7')?;
+    has_values(alloc, INT, zeros.as_slice(), "1 7 ;")
+}
+
+/// The error of 5,000 nines.
+fn error_of_nines(alloc: Global) -> Result<Option<InputError>, Fault> {
+    let nines = digits(alloc, 4_999, b'9', b'9')?;
+    error_of(alloc, INT, nines.as_slice())
+}
+
 #[test]
-fn a_number_may_have_thousands_of_digits(rt: HostRuntime) -> Result<(), Fail> {
-    let zeros = digits(rt.alloc(), 4_999, b'0', b'7')?;
-    let nines = digits(rt.alloc(), 4_999, b'9', b'9')?;
-    let read = has_values(rt.alloc(), INT, zeros.as_slice(), "1 7 ;");
-    let found = error_of(rt.alloc(), INT, nines.as_slice());
-    assert_eq!(rt; read, Ok(true));
-    assert_eq!(rt; found, Ok(Some(InputError::OutOfRange(1))));
-    Ok(())
+fn a_number_may_have_thousands_of_digits(rt: HostRuntime) {
+    assert_eq!(rt; reads_zeros(rt.alloc()), Ok(true));
+    let error = error_of_nines(rt.alloc());
+    assert_eq!(rt; error, Ok(Some(InputError::OutOfRange(1))));
 }
