@@ -4,27 +4,38 @@
 //! numbered statement begins with its number.
 
 use ba_items::Items;
-use ba_numbers::ids::VarId;
+use ba_numbers::ids::{CallId, FnId, StmtId, VarId};
 use ba_numbers::numbers::CType;
 use ba_tree::tree::{Arg, Expr, Function, Program, Shape, Stmt, StmtInfo, Variable};
 use std::alloc::{AllocError, Global};
 
-/// The operands of a form, each behind a blank.
+/// An expression, with texts before and behind it.
 #[cycle(expression)]
-fn add_operand(text: &mut String, expr: &Expr) -> Result<(), AllocError> {
-    text.push_str(" ")?;
-    add_expr(text, expr)
+fn add_between(
+    text: &mut String,
+    before: &str,
+    expr: &Expr,
+    behind: &str,
+) -> Result<(), AllocError> {
+    text.push_str(before)?;
+    add_expr(text, expr)?;
+    text.push_str(behind)
+}
+
+/// An argument, behind a blank.
+#[cycle(expression)]
+fn add_arg(text: &mut String, arg: &Arg) -> Result<(), AllocError> {
+    match arg {
+        Arg::Value(value) => add_between(text, " ", value, ""),
+        Arg::Array(var) => write!(text, " &v{}", var.0),
+    }
 }
 
 #[cycle(expression)]
 fn add_args(text: &mut String, args: &[Arg]) -> Result<(), AllocError> {
     text.push_str("(")?;
     for arg in args {
-        text.push_str(" ")?;
-        match arg {
-            Arg::Value(value) => add_expr(text, value)?,
-            Arg::Array(var) => write!(text, "&v{}", var.0)?,
-        }
+        add_arg(text, arg)?;
     }
     text.push_str(" )")
 }
@@ -40,44 +51,35 @@ pub fn add_expr(text: &mut String, expr: &Expr) -> Result<(), AllocError> {
         Expr::Const { t, value } => write!(text, "{value}:{t:?}"),
         Expr::Var { var } => write!(text, "v{}", var.0),
         Expr::Element { array, index } => {
-            write!(text, "v{}[", array.0)?;
-            add_expr(text, index)?;
-            text.push_str("]")
+            write!(text, "v{}", array.0)?;
+            add_between(text, "[", index, "]")
         }
         Expr::Unary { op, t, a } => {
             write!(text, "({op:?} {t:?}")?;
-            add_operand(text, a)?;
-            text.push_str(")")
+            add_between(text, " ", a, ")")
         }
         Expr::Binary { op, t, a, b } => {
             write!(text, "({op:?} {t:?}")?;
-            add_operand(text, a)?;
-            add_operand(text, b)?;
-            text.push_str(")")
+            add_between(text, " ", a, "")?;
+            add_between(text, " ", b, ")")
         }
         Expr::AndAlso { a, b } => {
-            text.push_str("(&&")?;
-            add_operand(text, a)?;
-            add_operand(text, b)?;
-            text.push_str(")")
+            add_between(text, "(&& ", a, "")?;
+            add_between(text, " ", b, ")")
         }
         Expr::OrElse { a, b } => {
-            text.push_str("(||")?;
-            add_operand(text, a)?;
-            add_operand(text, b)?;
-            text.push_str(")")
+            add_between(text, "(|| ", a, "")?;
+            add_between(text, " ", b, ")")
         }
         Expr::Select { t, when, yes, no } => {
             write!(text, "(? {t:?}")?;
-            add_operand(text, when)?;
-            add_operand(text, yes)?;
-            add_operand(text, no)?;
-            text.push_str(")")
+            add_between(text, " ", when, "")?;
+            add_between(text, " ", yes, "")?;
+            add_between(text, " ", no, ")")
         }
         Expr::Convert { t, a } => {
             write!(text, "({t:?}")?;
-            add_operand(text, a)?;
-            text.push_str(")")
+            add_between(text, " ", a, ")")
         }
         Expr::Call {
             call,
@@ -93,36 +95,91 @@ pub fn add_expr(text: &mut String, expr: &Expr) -> Result<(), AllocError> {
 fn add_exprs(text: &mut String, exprs: &[Expr]) -> Result<(), AllocError> {
     text.push_str("(")?;
     for expr in exprs {
-        add_operand(text, expr)?;
+        add_between(text, " ", expr, "")?;
     }
     text.push_str(" )")
 }
 
-/// A numbered form with one expression behind it.
+/// A numbered form with one expression behind it, and a text behind that.
 fn add_with_value(
     text: &mut String,
-    stmt: u32,
+    stmt: StmtId,
     form: &str,
     value: &Expr,
+    behind: &str,
 ) -> Result<(), AllocError> {
-    write!(text, "{stmt}: {form}")?;
-    add_operand(text, value)
+    write!(text, "{}: {form}", stmt.0)?;
+    add_between(text, " ", value, behind)
 }
 
-/// Statements, each behind a blank, in brackets.
+/// An assignment or an initialiser of a variable.
+fn add_set(
+    text: &mut String,
+    stmt: StmtId,
+    form: &str,
+    var: VarId,
+    value: &Expr,
+) -> Result<(), AllocError> {
+    write!(text, "{}: {form}v{} =", stmt.0, var.0)?;
+    add_between(text, " ", value, ";")
+}
+
+fn add_init_array(
+    text: &mut String,
+    stmt: StmtId,
+    array: VarId,
+    values: &[Expr],
+) -> Result<(), AllocError> {
+    write!(text, "{}: init v{} = ", stmt.0, array.0)?;
+    add_exprs(text, values)?;
+    text.push_str(";")
+}
+
+fn add_store(
+    text: &mut String,
+    stmt: StmtId,
+    array: VarId,
+    index: &Expr,
+    value: &Expr,
+) -> Result<(), AllocError> {
+    write!(text, "{}: v{}", stmt.0, array.0)?;
+    add_between(text, "[", index, "] =")?;
+    add_between(text, " ", value, ";")
+}
+
+fn add_call(
+    text: &mut String,
+    stmt: StmtId,
+    call: CallId,
+    function: FnId,
+    args: &[Arg],
+) -> Result<(), AllocError> {
+    write!(text, "{}: call {} f{}", stmt.0, call.0, function.0)?;
+    add_args(text, args)?;
+    text.push_str(";")
+}
+
+fn add_print(text: &mut String, stmt: StmtId, args: &[Expr]) -> Result<(), AllocError> {
+    write!(text, "{}: print", stmt.0)?;
+    add_exprs(text, args)?;
+    text.push_str(";")
+}
+
+/// Statements, each behind a blank, in brackets, with a text before them.
 #[cycle(statement)]
-fn add_listed(text: &mut String, stmts: &[Stmt]) -> Result<(), AllocError> {
+fn add_listed(text: &mut String, before: &str, stmts: &[Stmt]) -> Result<(), AllocError> {
+    text.push_str(before)?;
     text.push_str("{")?;
     for stmt in stmts {
-        text.push_str(" ")?;
-        add_stmt(text, stmt)?;
+        add_body(text, " ", stmt)?;
     }
     text.push_str(" }")
 }
 
+/// A statement, with a text before it.
 #[cycle(statement)]
-fn add_body(text: &mut String, body: &Stmt) -> Result<(), AllocError> {
-    text.push_str(" ")?;
+fn add_body(text: &mut String, before: &str, body: &Stmt) -> Result<(), AllocError> {
+    text.push_str(before)?;
     add_stmt(text, body)
 }
 
@@ -130,65 +187,42 @@ fn add_body(text: &mut String, body: &Stmt) -> Result<(), AllocError> {
 #[cycle(statement)]
 pub fn add_stmt(text: &mut String, stmt: &Stmt) -> Result<(), AllocError> {
     match stmt {
-        Stmt::Block { body } => add_listed(text, body),
+        Stmt::Block { body } => add_listed(text, "", body),
         Stmt::Declare { var } => write!(text, "declare v{};", var.0),
-        Stmt::Init { stmt, var, value } => {
-            write!(text, "{}: init v{} =", stmt.0, var.0)?;
-            add_operand(text, value)?;
-            text.push_str(";")
-        }
+        Stmt::Init { stmt, var, value } => add_set(text, *stmt, "init ", *var, value),
         Stmt::InitArray {
             stmt,
             array,
             values,
-        } => {
-            write!(text, "{}: init v{} = ", stmt.0, array.0)?;
-            add_exprs(text, values)?;
-            text.push_str(";")
-        }
-        Stmt::Assign { stmt, var, value } => {
-            write!(text, "{}: v{} =", stmt.0, var.0)?;
-            add_operand(text, value)?;
-            text.push_str(";")
-        }
+        } => add_init_array(text, *stmt, *array, values),
+        Stmt::Assign { stmt, var, value } => add_set(text, *stmt, "", *var, value),
         Stmt::Store {
             stmt,
             array,
             index,
             value,
-        } => {
-            write!(text, "{}: v{}[", stmt.0, array.0)?;
-            add_expr(text, index)?;
-            text.push_str("] =")?;
-            add_operand(text, value)?;
-            text.push_str(";")
-        }
+        } => add_store(text, *stmt, *array, index, value),
         Stmt::If {
             stmt,
             when,
             yes,
             no,
         } => {
-            add_with_value(text, stmt.0, "if", when)?;
-            add_body(text, yes)?;
+            add_with_value(text, *stmt, "if", when, "")?;
+            add_body(text, " ", yes)?;
             match no {
                 None => Ok(()),
-                Some(no) => {
-                    text.push_str(" else")?;
-                    add_body(text, no)
-                }
+                Some(no) => add_body(text, " else ", no),
             }
         }
         Stmt::While { stmt, when, body } => {
-            add_with_value(text, stmt.0, "while", when)?;
-            add_body(text, body)
+            add_with_value(text, *stmt, "while", when, "")?;
+            add_body(text, " ", body)
         }
         Stmt::DoWhile { stmt, when, body } => {
-            text.push_str("do")?;
-            add_body(text, body)?;
+            add_body(text, "do ", body)?;
             text.push_str(" ")?;
-            add_with_value(text, stmt.0, "while", when)?;
-            text.push_str(";")
+            add_with_value(text, *stmt, "while", when, ";")
         }
         Stmt::For {
             stmt,
@@ -197,40 +231,24 @@ pub fn add_stmt(text: &mut String, stmt: &Stmt) -> Result<(), AllocError> {
             step,
             body,
         } => {
-            text.push_str("for ")?;
-            add_listed(text, first)?;
+            add_listed(text, "for ", first)?;
             text.push_str(" ")?;
-            add_with_value(text, stmt.0, "while", when)?;
-            text.push_str(" ")?;
-            add_listed(text, step)?;
-            add_body(text, body)
+            add_with_value(text, *stmt, "while", when, " ")?;
+            add_listed(text, "", step)?;
+            add_body(text, " ", body)
         }
         Stmt::Break => text.push_str("break;"),
         Stmt::Continue => text.push_str("continue;"),
-        Stmt::Return { stmt, value } => {
-            add_with_value(text, stmt.0, "return", value)?;
-            text.push_str(";")
-        }
+        Stmt::Return { stmt, value } => add_with_value(text, *stmt, "return", value, ";"),
         Stmt::ReturnNone => text.push_str("return;"),
         Stmt::CallStmt {
             stmt,
             call,
             function,
             args,
-        } => {
-            write!(text, "{}: call {} f{}", stmt.0, call.0, function.0)?;
-            add_args(text, args)?;
-            text.push_str(";")
-        }
-        Stmt::Print { stmt, args } => {
-            write!(text, "{}: print", stmt.0)?;
-            add_exprs(text, args)?;
-            text.push_str(";")
-        }
-        Stmt::Assert { stmt, when } => {
-            add_with_value(text, stmt.0, "assert", when)?;
-            text.push_str(";")
-        }
+        } => add_call(text, *stmt, *call, *function, args),
+        Stmt::Print { stmt, args } => add_print(text, *stmt, args),
+        Stmt::Assert { stmt, when } => add_with_value(text, *stmt, "assert", when, ";"),
     }
 }
 
@@ -259,8 +277,7 @@ fn add_function(text: &mut String, function: &Function) -> Result<(), AllocError
     add_vars(text, &function.params)?;
     text.push_str(" locals ")?;
     add_vars(text, &function.locals)?;
-    text.push_str(" ")?;
-    add_listed(text, function.body.as_slice())
+    add_listed(text, " ", function.body.as_slice())
 }
 
 fn add_info(text: &mut String, info: &StmtInfo) -> Result<(), AllocError> {
@@ -295,8 +312,7 @@ fn add_program(text: &mut String, program: &Program) -> Result<(), AllocError> {
     add_variables(text, program.variables.as_slice())?;
     text.push_str("; globals ")?;
     add_vars(text, &program.globals)?;
-    text.push_str(" ")?;
-    add_listed(text, program.inits.as_slice())?;
+    add_listed(text, " ", program.inits.as_slice())?;
     add_functions(text, program.functions.as_slice())?;
     write!(text, "; main f{};", program.main.0)?;
     add_infos(text, program.statements.as_slice())
