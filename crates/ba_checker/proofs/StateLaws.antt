@@ -1,6 +1,6 @@
 -- The state of a checker after its first state is made and after a core is split.
 
-use Rattle.std.proofs.Common.{◌≡◌, ℕ, suc, zero, ◌+◌, ◌-◌, ◌^◌, ◌<◌, ◌≤◌, Bool, true, false, not, ◌&&◌, ◌||◌, ltb, unwrap_or, None, List, [], ◌∷◌, ◌++◌, map, length, All, refl, ap, ◌∙◌, arith}
+use Rattle.std.proofs.Common.{◌≡◌, ℕ, suc, zero, ◌+◌, ◌-◌, ◌^◌, ◌<◌, ◌≤◌, ◌==◌, Bool, true, false, not, ◌&&◌, ◌||◌, ltb, unwrap_or, None, List, [], ◌∷◌, ◌++◌, map, length, All, refl, ap, ◌∙◌, arith}
 use Rattle.std.proofs.lemmas.Bool.{or_parts}
 use Rattle.std.proofs.lemmas.Bool.Decides.{nat_tests}
 use Rattle.std.proofs.lemmas.List.Elements.{All-append, All-weaker}
@@ -11,10 +11,12 @@ use Rattle.ba_lits.specs.Hints.{has_literal}
 use Rattle.ba_steps.specs.Steps.{AreFormedLits, AreAbove}
 use Rattle.ba_checker.specs.Splits.{split_clauses, fresh_count, late_softs, is_soft, lightest, lowered}
 use Rattle.ba_checker.specs.States.{Kept, kept, State, is_learnt_at, width_at, without_all, present}
-use Rattle.ba_checker.specs.Judging.{lacks_variable, lacks_soft, learn_error}
+use Rattle.ba_checker.specs.Judging.{error_if, lacks_variable, is_spent, lacks_soft, hint_error, learn_error}
+use Rattle.ba_checker.specs.Parts.{holds_clause}
+use Rattle.ba_steps.specs.declared.step.StepError.TheVariants.{NotNew, WrongCount, BadVariable}
 use Rattle.ba_checker.specs.Facts.{AreSelectors, IsState}
 use Rattle.ba_checker.specs.declared.store.Origin.TheVariants as origins
-use Rattle.ba_checker.proofs.FactLaws.{lowered-all, late-all, lowered-different, lowered-below, apart, among-below, lightest_weighty, present_weighty}
+use Rattle.ba_checker.proofs.FactLaws.{no_error, lowered-all, late-all, lowered-different, lowered-below, apart, among-below, lightest_weighty, present_weighty}
 use Rattle.ba_checker.proofs.FormedLaws.{exist_formed, core_formed, one_formed, kept_formed, without_all_formed}
 use Rattle.ba_checker.proofs.LastingLaws.{given_implied, core_implied, learn_implied, blocked_implied, deleted_implied}
 use Rattle.ba_checker.specs.Blocks.{lacks_group, block_clause}
@@ -131,6 +133,17 @@ pub first_state_as : (n variables : ℕ) (cs : List (List Literal)) (softs given
 first_state_as n variables cs softs given clauses conflicts is few formed selectors clauses_is softs_is =
     rw is (first_state_holds n cs softs given clauses conflicts (rw (← is) few) formed selectors clauses_is
     softs_is)
+
+-- the variables of a clause that may be learnt exist, and the conflicts aren't spent
+pub may_be_learnt : (s : State) (lits : List Literal) (hints : List ℕ) → learn_error s lits hints ≡ None →
+    (lacks_variable s lits ≡ false) × (is_spent s ≡ false)
+may_be_learnt s lits hints none =
+    let later = error_if (holds_clause s.clauses lits) NotNew (hint_error s lits hints) in
+    let exists = no_error (lacks_variable s lits) BadVariable (error_if (is_spent s) WrongCount later) none in
+    (exists.0, (no_error (is_spent s) WrongCount later exists.1).0)
+
+pub some_left : (a b : ℕ) → a ≤ b → (a == b) ≡ false → a < b
+some_left a b most apart = grind (arith, nat_tests)
 
 -- a clause is learnt
 pub learnt_state : (seen : State) (variables : ℕ) (clauses grown : List Kept) (groups softs : List Soft)

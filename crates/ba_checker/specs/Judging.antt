@@ -77,6 +77,10 @@ learn_error s lits hints =
     (error_if (holds_clause s.clauses lits) NotNew
     (hint_error s lits hints)))
 
+-- a clause may be learnt, by some hints
+abbrev pub MayBeLearnt : State → List Literal → Type 0
+MayBeLearnt s lits = (hints : List ℕ) × (learn_error s lits hints ≡ None)
+
 abbrev pub core_error : State → List Literal → List ℕ → Option StepError
 core_error s lits hints =
     error_if (lacks_variable s lits) BadVariable

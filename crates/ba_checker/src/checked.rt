@@ -158,7 +158,7 @@ fn advance<J: RunJudge>(checker: &mut Checker, step: &CertStep, judge: &J) -> bo
     ensures awake { result ≡ true → checker.new.refused ≡ false }
     ensures asleep { result ≡ false → checker.new.refused ≡ true }
 {
-    checker.step(step, judge).is_ok()
+    checker.accept(step, judge).is_ok()
 }
 
 /// The refusal that an answer is.

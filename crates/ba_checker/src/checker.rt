@@ -8,7 +8,7 @@ ghost use Rattle.ba_lits.specs.Satisfaction.{Soft};
 ghost use Rattle.ba_steps.specs.Steps.{IsFormed, AreFormedLits, AreAbove};
 ghost use Rattle.ba_checker.specs.States.{first_state, present, clause_at, is_learnt_at, kept};
 ghost use Rattle.ba_checker.specs.Facts.{AreSelectors, AreAmong, AreDifferent, IsState};
-ghost use Rattle.ba_checker.specs.Judging.{Answers, Finds, Does, KeepsMemory, is_memory, is_spent, are_too_many, lacks_variable, lacks_soft, error_before_end, after};
+ghost use Rattle.ba_checker.specs.Judging.{Answers, Finds, Does, KeepsMemory, is_memory, is_spent, are_too_many, lacks_variable, lacks_soft, error_of, error_before_end, after, MayBeLearnt};
 ghost use Rattle.ba_checker.specs.Judging.{learn_error, core_error, delete_error, block_error, located_error, no_repair_error, too_many_error, spent_error};
 ghost use Rattle.ba_checker.specs.Judging.{after_learn, after_core, after_delete, after_block};
 ghost use Rattle.ba_checker.specs.Blocks.{lacks_group};
@@ -151,6 +151,25 @@ impl Checker {
         result
     }
 
+    /// Takes a step that is known to be allowed, as `step` does. What is known of a clause to learn is not tested again:
+    /// that it is new, and that it follows by its hints.
+    ///
+    /// The one error is `Memory`, which is the answer to every step from then on. A Delete step takes no memory.
+    pub fn accept<J: RunJudge>(&mut self, step: &CertStep, judge: &J) -> Result<(), StepError>
+        requires formed { IsFormed step.now }
+        requires allowed { self.old.refused ≡ false
+            → error_of (J.accepts judge.now) self.old step.now ≡ None }
+        ensures exactly { Answers (J.accepts judge.now) self.old step.now self.new result }
+        ensures deletes { self.old.refused ≡ false → KeepsMemory step.now result }
+    {
+        if self.refused {
+            return Err(StepError::Memory);
+        }
+        let result = self.attempt_allowed(step, judge);
+        self.refused = is_memory(&result);
+        result
+    }
+
     /// The present soft literals, of different variables, with their weights, all at least 1.
     pub fn softs(&self) -> &[(Lit, u32)]
         ensures softs { result.now ≡ self.now.softs }
@@ -268,6 +287,20 @@ impl Checker {
         }
     }
 
+    /// Takes a step before the end that is allowed.
+    fn attempt_allowed<J: RunJudge>(&mut self, step: &CertStep, judge: &J) -> Result<(), StepError>
+        requires formed { IsFormed step.now }
+        requires awake { self.old.refused ≡ false }
+        requires allowed { error_of (J.accepts judge.now) self.old step.now ≡ None }
+        ensures does { Does self.old self.new None (after self.old step.now) result }
+        ensures deletes { KeepsMemory step.now result }
+    {
+        match step {
+            CertStep::Learn { lits, hints: _ } => self.add_learnt(lits.as_slice()),
+            _ => self.attempt(step, judge),
+        }
+    }
+
     /// Takes a Learn step.
     fn learn(&mut self, lits: &[Lit], hints: &[u64]) -> Result<(), StepError>
         requires { AreFormedLits lits.now }
@@ -275,6 +308,15 @@ impl Checker {
             (after_learn self.old lits.now) result }
     {
         self.learn_error(lits, hints)?;
+        self.add_learnt(lits)
+    }
+
+    /// Adds a clause that may be learnt.
+    fn add_learnt(&mut self, lits: &[Lit]) -> Result<(), StepError>
+        requires formed { AreFormedLits lits.now }
+        requires allowed { MayBeLearnt self.old lits.now }
+        ensures { Does self.old self.new None (after_learn self.old lits.now) result }
+    {
         self.clauses.add(lits, Origin::Learnt)?;
         self.conflicts += 1;
         self.learnt += 1;
