@@ -1,12 +1,12 @@
 -- Products, quotients and remainders of words, as numbers and as numbers of C.
 
-use Rattle.std.specs.Prelude.{◌≡◌, ℕ, ◌+◌, ◌-◌, ◌/◌, ◌%◌, ◌^◌, ◌==◌, Bool, true, ◌&&◌, nat_lt, nat_le, List, map, drop, Some, ℤ, if◌then◌else◌}
+use Rattle.std.specs.Prelude.{◌≡◌, ℕ, ◌+◌, ◌-◌, ◌/◌, ◌%◌, ◌^◌, ◌<◌, ◌==◌, Bool, true, false, ◌&&◌, nat_lt, nat_le, List, map, drop, Some, ℤ, if◌then◌else◌}
 use Rattle.ba_nodes.specs.declared.Bit.{Bit}
 use Rattle.ba_nodes.specs.declared.Node.{Node}
 use Rattle.ba_nodes.specs.Gates.{bool_xor, truth}
 use Rattle.ba_numbers.specs.declared.numbers.BinOp.{BinOp}
 use Rattle.ba_numbers.specs.Numbers.{value_of}
-use Rattle.ba_words.specs.Words.{digit, spelled, shifted_down, word_type, word_value}
+use Rattle.ba_words.specs.Words.{digit, spelled, bit_at, shifted_down, word_type, word_value}
 
 -- a number of 32 places is negative, where it is read as signed
 abbrev pub is_negative : Bool → ℕ → Bool
@@ -47,6 +47,11 @@ IsValueWhereDefined op signed old a b new word =
 -- the number that the places of a word spell from this place on
 abbrev pub high_number : (ℕ → Bool) → List Node → List Bit → ℕ → ℕ
 high_number free nodes word place = spelled (drop place (map (truth free nodes) word))
+
+-- under an assignment, a number below two to the power of each place whose bound is false
+abbrev pub IsBounded : (ℕ → Bool) → List Node → List Bit → ℕ → Type 0
+IsBounded free nodes bounds n =
+    (place : ℕ) → place < 32 → truth free nodes (bit_at bounds place) ≡ false → n < 2 ^ place
 
 -- a sum of words, or a difference
 abbrev pub sum_or_difference : Bool → ℕ → ℕ → ℕ

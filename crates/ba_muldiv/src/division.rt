@@ -7,7 +7,7 @@ ghost use Rattle.ba_nodes.specs.declared.Bit.{Bit};
 ghost use Rattle.ba_nodes.specs.declared.Node.{Node};
 ghost use Rattle.ba_nodes.specs.Gates.{bool_xor, truth, IsBitOf, gates_in, Extends, HasValue};
 ghost use Rattle.ba_words.specs.Words.{digit, spelled, number_of, bit_at, AreBitsOf, HasNumber, IsValueOf};
-ghost use Rattle.ba_muldiv.specs.Division.{negated_where, long_quotient, quotient_of, remainder_of, IsValueWhereDefined, high_number, sum_or_difference};
+ghost use Rattle.ba_muldiv.specs.Division.{negated_where, long_quotient, quotient_of, remainder_of, IsValueWhereDefined, IsBounded, high_number, sum_or_difference};
 
 use crate::powers::{constant_power, quotient_by_power, remainder_by_power};
 use ba_nodes::{Bit, Nodes};
@@ -100,7 +100,7 @@ fn remainder_by_magnitudes(
 }
 
 /// The word, with the opposite sign where the bit is true: then the places above its lowest one are turned.
-fn negated_where(nodes: &mut Nodes, negative: Bit, a: &Word) -> Result<Word, AllocError>
+pub(crate) fn negated_where(nodes: &mut Nodes, negative: Bit, a: &Word) -> Result<Word, AllocError>
     requires first { IsBitOf nodes.old negative }
     requires second { AreBitsOf nodes.old a.now }
     ensures number { IfOk result (λ word.
@@ -128,12 +128,14 @@ fn long_quotient(nodes: &mut Nodes, dividend: &Word, divisor: &Word) -> Result<W
         long_quotient 32 (number_of free nodes.old dividend.now)
         (number_of free nodes.old divisor.now))) }
     ensures extends { Extends nodes.old nodes.new }
-    ensures count { gates_in nodes.new ≤ gates_in nodes.old + 162 * 32 }
+    ensures count { gates_in nodes.new ≤ gates_in nodes.old + 229 * 32 }
 {
-    let (quotient, rest) = upper_steps(nodes, dividend, divisor)?;
+    let (quotient, rest, bounds) = upper_steps(nodes, dividend, divisor)?;
     let last = brought_down(&rest, dividend[0]);
+    let last_bounds = next_bounds(nodes, &bounds, dividend[0])?;
     let exceeds = less(nodes, &last, divisor, false)?;
-    Ok(brought_down(&quotient, Nodes::not(exceeds)))
+    let fits = fits_into_nonzero(nodes, Nodes::not(exceeds), last_bounds[0], divisor)?;
+    Ok(brought_down(&quotient, fits))
 }
 
 /// The remainder of two unsigned words.
@@ -144,20 +146,23 @@ fn long_remainder(nodes: &mut Nodes, dividend: &Word, divisor: &Word) -> Result<
         HasNumber nodes.new word (λ free.
         number_of free nodes.old dividend.now % number_of free nodes.old divisor.now)) }
     ensures extends { Extends nodes.old nodes.new }
-    ensures count { gates_in nodes.new ≤ gates_in nodes.old + 162 * 32 }
+    ensures count { gates_in nodes.new ≤ gates_in nodes.old + 229 * 32 }
 {
-    let (_, rest) = upper_steps(nodes, dividend, divisor)?;
+    let (_, rest, bounds) = upper_steps(nodes, dividend, divisor)?;
     let last = brought_down(&rest, dividend[0]);
-    let (_, left) = step(nodes, &last, divisor, width_of(&last), known_width(divisor))?;
+    let last_bounds = next_bounds(nodes, &bounds, dividend[0])?;
+    let (_, left) = bounded_step(nodes, &last, &last_bounds, divisor, known_width(divisor))?;
     Ok(left)
 }
 
-/// The quotient and the remainder of all places of the dividend but the lowest.
+/// The quotient and the remainder of all places of the dividend but the lowest, and bounds of the remainder: a place
+/// of it is false where its bound is. Where the highest place of the divisor is known, or the divisor is 0, unit
+/// propagation sees that without them, and all bounds are true.
 fn upper_steps(
     nodes: &mut Nodes,
     dividend: &Word,
     divisor: &Word,
-) -> Result<(Word, Word), AllocError>
+) -> Result<(Word, Word, Word), AllocError>
     requires first { AreBitsOf nodes.old dividend.now }
     requires second { AreBitsOf nodes.old divisor.now }
     ensures quotient { IfOk result (λ r.
@@ -167,20 +172,120 @@ fn upper_steps(
     ensures rest { IfOk result (λ r.
         HasNumber nodes.new r.1 (λ free.
         high_number free nodes.old dividend.now 1 % number_of free nodes.old divisor.now)) }
+    ensures long { IfOk result (λ r. length r.2 ≡ 32) }
+    ensures bits { IfOk result (λ r. AreBitsOf nodes.new r.2) }
+    ensures bounds { IfOk result (λ r. (free : ℕ → Bool)
+        → IsBounded free nodes.new r.2 (number_of free nodes.new r.1)) }
     ensures extends { Extends nodes.old nodes.new }
-    ensures count { gates_in nodes.new ≤ gates_in nodes.old + 162 * 31 }
+    ensures count { gates_in nodes.new ≤ gates_in nodes.old + 229 * 31 }
 {
     let known = known_width(divisor);
     let zero = [Nodes::constant(false); 32];
     let mut quotient = zero;
     let mut rest = zero;
+    let width = width_of(divisor);
+    let settled = width == 0 || is_surely_wider(divisor, width - 1);
+    let any = Nodes::constant(settled);
+    let mut bounds = [any; 32];
     for i in 0..31 {
         let next = brought_down(&rest, dividend[31 - i]);
-        let (fits, left) = step(nodes, &next, divisor, width_of(&next), known)?;
+        bounds = next_bounds(nodes, &bounds, dividend[31 - i])?;
+        let (fits, left) = bounded_step(nodes, &next, &bounds, divisor, known)?;
         quotient = brought_down(&quotient, fits);
         rest = left;
     }
-    Ok((quotient, rest))
+    Ok((quotient, rest, bounds))
+}
+
+/// The bounds of what is left with one more place of the dividend brought down.
+fn next_bounds(nodes: &mut Nodes, bounds: &Word, bit: Bit) -> Result<Word, AllocError>
+    requires first { AreBitsOf nodes.old bounds.now }
+    requires second { IsBitOf nodes.old bit }
+    ensures long { IfOk result (λ word. length word ≡ 32) }
+    ensures bits { IfOk result (λ word. AreBitsOf nodes.new word) }
+    ensures more { IfOk result (λ word. (free : ℕ → Bool) (n : ℕ)
+        → IsBounded free nodes.old bounds.now n
+        → IsBounded free nodes.new word (2 * n + digit (truth free nodes.old bit))) }
+    ensures extends { Extends nodes.old nodes.new }
+    ensures count { gates_in nodes.new ≤ gates_in nodes.old + 1 }
+{
+    let some = nodes.or(bounds[0], bit)?;
+    Ok(brought_down(bounds, some))
+}
+
+/// A step where bounds of what is left are known: unit propagation sees that a place is false where its bound is,
+/// and where the lowest bound is, that a divisor with a true bit doesn't fit.
+fn bounded_step(
+    nodes: &mut Nodes,
+    rest: &Word,
+    bounds: &Word,
+    divisor: &Word,
+    known: usize,
+) -> Result<(Bit, Word), AllocError>
+    requires first { AreBitsOf nodes.old rest.now }
+    requires second { AreBitsOf nodes.old divisor.now }
+    requires third { AreBitsOf nodes.old bounds.now }
+    requires bounds { (free : ℕ → Bool)
+        → IsBounded free nodes.old bounds.now (number_of free nodes.old rest.now) }
+    requires known { known ≤ 32 }
+    requires narrow { (free : ℕ → Bool) → number_of free nodes.old divisor.now < 2 ^ known }
+    requires twice { known < 32 → (free : ℕ → Bool)
+        → number_of free nodes.old rest.now < 2 * number_of free nodes.old divisor.now }
+    ensures fits { IfOk result (λ r.
+        HasValue nodes.new r.0 (λ free.
+        nat_le (number_of free nodes.old divisor.now) (number_of free nodes.old rest.now))) }
+    ensures left { IfOk result (λ r. HasNumber nodes.new r.1 (λ free.
+        if nat_le (number_of free nodes.old divisor.now) (number_of free nodes.old rest.now)
+        then number_of free nodes.old rest.now - number_of free nodes.old divisor.now
+        else number_of free nodes.old rest.now)) }
+    ensures extends { Extends nodes.old nodes.new }
+    ensures count { gates_in nodes.new ≤ gates_in nodes.old + 228 }
+{
+    let (enough, difference) = step(nodes, rest, divisor, width_of(rest), known)?;
+    let fits = fits_into_nonzero(nodes, enough, bounds[0], divisor)?;
+    let left = bounded(nodes, &difference, bounds)?;
+    Ok((fits, left))
+}
+
+/// The bit again, that tells whether the divisor fits: unit propagation sees that it is false where nothing is left
+/// and a bit of the divisor is true, since only a divisor of zero fits then.
+fn fits_into_nonzero(
+    nodes: &mut Nodes,
+    fits: Bit,
+    some: Bit,
+    divisor: &Word,
+) -> Result<Bit, AllocError>
+    requires first { IsBitOf nodes.old fits }
+    requires second { IsBitOf nodes.old some }
+    requires third { AreBitsOf nodes.old divisor.now }
+    requires none { (free : ℕ → Bool) → truth free nodes.old some ≡ false
+        → truth free nodes.old fits ≡ true → number_of free nodes.old divisor.now ≡ 0 }
+    ensures value { IfOk result (λ bit.
+        HasValue nodes.new bit (λ free. truth free nodes.old fits)) }
+    ensures extends { Extends nodes.old nodes.new }
+    ensures count { gates_in nodes.new ≤ gates_in nodes.old + 34 }
+{
+    let divides = is_wider(nodes, divisor, 0)?;
+    let possible = nodes.or(some, Nodes::not(divides))?;
+    nodes.and(fits, possible)
+}
+
+/// The word again, each place of which is false by unit propagation where its bound is.
+fn bounded(nodes: &mut Nodes, word: &Word, bounds: &Word) -> Result<Word, AllocError>
+    requires first { AreBitsOf nodes.old word.now }
+    requires second { AreBitsOf nodes.old bounds.now }
+    requires small { (free : ℕ → Bool)
+        → IsBounded free nodes.old bounds.now (number_of free nodes.old word.now) }
+    ensures number { IfOk result (λ out.
+        HasNumber nodes.new out (λ free. number_of free nodes.old word.now)) }
+    ensures extends { Extends nodes.old nodes.new }
+    ensures count { gates_in nodes.new ≤ gates_in nodes.old + 32 }
+{
+    let mut out = *word;
+    for place in 0..32 {
+        out[place] = nodes.and(word[place], bounds[place])?;
+    }
+    Ok(out)
 }
 
 /// Whether the divisor fits into what is left, of this width, and what is left then. Where the width of the
@@ -319,6 +424,9 @@ fn brought_down(word: &Word, bit: Bit) -> Word
         → AreBitsOf nodes result }
     ensures number { (nodes : List Node) (free : ℕ → Bool) → number_of free nodes result
         ≡ (2 * number_of free nodes word.now + digit (truth free nodes bit)) % 2 ^ 32 }
+    ensures lowest { bit_at result 0 ≡ bit }
+    ensures places { (place : ℕ) → 0 < place → place < 32
+        → bit_at result place ≡ bit_at word.now (place - 1) }
     ensures long { length result ≡ 32 }
 {
     let mut down = moved_up(word, 1);

@@ -9,11 +9,13 @@ ghost use Rattle.ba_words.specs.Words.{digit, spelled, number_of, bit_at, AreBit
 ghost use Rattle.ba_muldiv.specs.Division.{negated_where, long_quotient, quotient_of, remainder_of, IsValueWhereDefined, high_number, sum_or_difference};
 
 use crate::constants::{constant_of, constant_word, known_bits};
+use crate::division::negated_where;
 use ba_nodes::{Bit, Nodes};
 use ba_words::{Word, add, moved_up, select, sub};
 use std::alloc::AllocError;
 
-/// The product of two words modulo 2^32 (C90 6.3.5), by at most 5,000 gates.
+/// The product of two words modulo 2^32 (C90 6.3.5), by at most 5,000 gates. Where neither sign is known it is made of
+/// the magnitudes, so that small numbers take few places whatever their signs are.
 pub fn mul(nodes: &mut Nodes, a: &Word, b: &Word) -> Result<Word, AllocError>
     requires first { AreBitsOf nodes.old a.now }
     requires second { AreBitsOf nodes.old b.now }
@@ -24,6 +26,53 @@ pub fn mul(nodes: &mut Nodes, a: &Word, b: &Word) -> Result<Word, AllocError>
         → IsValueOf BinOp.Mul signed nodes.old a.now b.now nodes.new word) }
     ensures extends { Extends nodes.old nodes.new }
     ensures count { gates_in nodes.new ≤ gates_in nodes.old + 5000 }
+{
+    any_product(nodes, a, b)
+}
+
+/// The product of two words, by their magnitudes where neither sign is known.
+fn any_product(nodes: &mut Nodes, a: &Word, b: &Word) -> Result<Word, AllocError>
+    requires first { AreBitsOf nodes.old a.now }
+    requires second { AreBitsOf nodes.old b.now }
+    ensures number { IfOk result (λ word.
+        HasNumber nodes.new word (λ free.
+        (number_of free nodes.old a.now * number_of free nodes.old b.now) % 2 ^ 32)) }
+    ensures extends { Extends nodes.old nodes.new }
+    ensures count { gates_in nodes.new ≤ gates_in nodes.old + 5000 }
+{
+    if a[31].index != 0 && b[31].index != 0 {
+        product_by_magnitudes(nodes, a, b)
+    } else {
+        plain_product(nodes, a, b)
+    }
+}
+
+/// The product of two words, by that of their magnitudes.
+fn product_by_magnitudes(nodes: &mut Nodes, a: &Word, b: &Word) -> Result<Word, AllocError>
+    requires first { AreBitsOf nodes.old a.now }
+    requires second { AreBitsOf nodes.old b.now }
+    ensures number { IfOk result (λ word.
+        HasNumber nodes.new word (λ free.
+        (number_of free nodes.old a.now * number_of free nodes.old b.now) % 2 ^ 32)) }
+    ensures extends { Extends nodes.old nodes.new }
+    ensures count { gates_in nodes.new ≤ gates_in nodes.old + 5000 }
+{
+    let first = negated_where(nodes, a[31], a)?;
+    let second = negated_where(nodes, b[31], b)?;
+    let product = plain_product(nodes, &first, &second)?;
+    let negative = nodes.xor(a[31], b[31])?;
+    negated_where(nodes, negative, &product)
+}
+
+/// The product of two words, of which that with fewer known bits is moved up.
+fn plain_product(nodes: &mut Nodes, a: &Word, b: &Word) -> Result<Word, AllocError>
+    requires first { AreBitsOf nodes.old a.now }
+    requires second { AreBitsOf nodes.old b.now }
+    ensures number { IfOk result (λ word.
+        HasNumber nodes.new word (λ free.
+        (number_of free nodes.old a.now * number_of free nodes.old b.now) % 2 ^ 32)) }
+    ensures extends { Extends nodes.old nodes.new }
+    ensures count { gates_in nodes.new ≤ gates_in nodes.old + 4200 }
 {
     if known_bits(a) > known_bits(b) {
         times(nodes, b, a)
@@ -40,7 +89,7 @@ fn times(nodes: &mut Nodes, a: &Word, factor: &Word) -> Result<Word, AllocError>
         HasNumber nodes.new word (λ free.
         (number_of free nodes.old a.now * number_of free nodes.old factor.now) % 2 ^ 32)) }
     ensures extends { Extends nodes.old nodes.new }
-    ensures count { gates_in nodes.new ≤ gates_in nodes.old + 5000 }
+    ensures count { gates_in nodes.new ≤ gates_in nodes.old + 4200 }
 {
     let minus = taken_digits(factor);
     let plus = add(nodes, factor, &constant_word(&minus))?;

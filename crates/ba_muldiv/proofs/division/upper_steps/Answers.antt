@@ -1,11 +1,12 @@
-use Rattle.std.proofs.Common.{◌<◌, ◌≡◌, ℕ, Bool, ◌+◌, ◌-◌, ◌*◌, ◌%◌, ◌^◌, ◌≤◌, nat_le, refl, sym, ap, subst, ◌∙◌, arith, if◌then◌else◌}
-use Rattle.ba_nodes.specs.Gates.{truth}
+use Rattle.std.proofs.Common.{◌<◌, ◌≡◌, ℕ, Bool, ◌+◌, ◌-◌, ◌*◌, ◌%◌, ◌^◌, ◌≤◌, nat_le, replicate, refl, sym, ap, subst, ◌∙◌, arith, if◌then◌else◌}
+use Rattle.ba_nodes.specs.Gates.{truth, Extends}
 use Rattle.ba_nodes.proofs.Truths.{Extends-through, Extends_refl}
 use Rattle.ba_words.specs.Words.{digit, number_of, bit_at}
 use Rattle.ba_words.proofs.Carries.{are_bits-replicate, number-zeros}
 use Rattle.ba_words.proofs.Places.{are_bits-extends, number_of-extends}
 use Rattle.ba_muldiv.specs.Division.{long_quotient, high_number}
-use Rattle.ba_muldiv.proofs.Rows.{high_number-more, high_number_below, next_is}
+use Rattle.ba_muldiv.proofs.Bounds.{bounded_zero, bounded_later, left_below, later_is, later_bounded}
+use Rattle.ba_muldiv.proofs.Rows.{high_number-more, high_number_below}
 use Rattle.ba_muldiv.proofs.Steps.{no_quotient, no_rest, next_twice, quotient_value, quotient_step, rest_step}
 use Rattle.ba_muldiv.proofs.division.upper_steps.Goals as goal
 
@@ -35,34 +36,50 @@ loop-i-init c =
             (number_of free c.args.nodes.now c.args.divisor.now)
             (high_number_below free c.args.nodes.now c.args.dividend.now 32 0 c.told-dividend);
       };
+      bounds_long = refl;
+      bounds_bits = are_bits-replicate c.args.nodes.now 32 c.constant-any.result
+          (c.constant-any.ensures.value c.args.nodes.now).is_bit;
+      bounded = λ free.
+          bounded_zero free c.args.nodes.now (replicate 32 c.constant-any.result)
+          (number_of free c.args.nodes.now (replicate 32 c.constant-zero.result))
+          (number-zeros free c.args.nodes.now 32 c.constant-zero.result
+          ((c.constant-zero.ensures.value c.args.nodes.now).holds free));
       gates = omega arith;
     }
 
-pub step-requires-clause-small : goal.step-requires-clause-small
-step-requires-clause-small c free = c.width_of.ensures.narrow c.loop-i.nodes free
+pub bounded_step-requires-clause-bounds : goal.bounded_step-requires-clause-bounds
+bounded_step-requires-clause-bounds c free =
+    later_bounded free c.args.nodes.now c.loop-i.nodes c.next_bounds.new.nodes
+    c.args.dividend.now c.loop-i.rest c.brought_down-next.result c.loop-i.i (omega arith)
+    c.requires.first c.loop-i.invariant.rest.are_bits c.loop-i.invariant.extends
+    c.next_bounds.ensures.extends
+    (c.brought_down-next.ensures.number c.next_bounds.new.nodes free)
+    c.in_ok-bounds.bounds
+    (c.in_ok-bounds.ensures.more free (number_of free c.loop-i.nodes c.loop-i.rest)
+    (c.loop-i.invariant.bounded free))
 
-pub step-requires-clause-narrow : goal.step-requires-clause-narrow
-step-requires-clause-narrow c free = c.known_width-known.ensures.narrow c.loop-i.nodes free
+pub bounded_step-requires-clause-narrow : goal.bounded_step-requires-clause-narrow
+bounded_step-requires-clause-narrow c free =
+    c.known_width-known.ensures.narrow c.next_bounds.new.nodes free
 
-pub step-requires-clause-twice : goal.step-requires-clause-twice
-step-requires-clause-twice c below free =
-    let place : 31 - c.loop-i.i + 1 ≡ 32 - c.loop-i.i = omega arith in
-    let whole : 31 - c.loop-i.i + 1 + c.loop-i.i ≡ 32 = omega arith in
-    let kept = number_of-extends free c.args.nodes.now c.loop-i.nodes c.args.divisor.now
-    c.loop-i.invariant.extends c.requires.second in
-    subst (λ d. number_of free c.loop-i.nodes c.brought_down-next.result < 2 * d) (sym kept)
+pub bounded_step-requires-clause-twice : goal.bounded_step-requires-clause-twice
+bounded_step-requires-clause-twice c below free =
+    let kept = number_of-extends free c.args.nodes.now c.next_bounds.new.nodes c.args.divisor.now
+    (Extends-through c.args.nodes.now c.loop-i.nodes c.next_bounds.new.nodes c.loop-i.invariant.extends
+    c.next_bounds.ensures.extends) c.requires.second in
+    subst (λ d. number_of free c.next_bounds.new.nodes c.brought_down-next.result < 2 * d)
+    (sym kept)
     (next_twice (high_number free c.args.nodes.now c.args.dividend.now (31 - c.loop-i.i + 1))
     (number_of free c.args.nodes.now c.args.divisor.now)
-    (number_of free c.loop-i.nodes c.brought_down-next.result)
+    (number_of free c.next_bounds.new.nodes c.brought_down-next.result)
     (truth free c.args.nodes.now (bit_at c.args.dividend.now (31 - c.loop-i.i)))
     (c.known_width-known.ensures.some below c.args.nodes.now free)
-    (next_is free c.args.nodes.now c.loop-i.nodes c.args.dividend.now (31 - c.loop-i.i) c.loop-i.i
-    (number_of free c.args.nodes.now c.args.divisor.now)
-    (number_of free c.loop-i.nodes c.loop-i.rest) (number_of free c.loop-i.nodes c.brought_down-next.result)
-    c.told-dividend c.requires.first c.loop-i.invariant.extends whole
-    (c.loop-i.invariant.rest.holds free ∙ ap (λ j. high_number free c.args.nodes.now c.args.dividend.now j %
-    number_of free c.args.nodes.now c.args.divisor.now) (sym place))
-    (c.brought_down-next.ensures.number c.loop-i.nodes free)))
+    (later_is free c.args.nodes.now c.loop-i.nodes c.next_bounds.new.nodes c.args.dividend.now c.loop-i.rest
+    c.brought_down-next.result c.loop-i.i (omega arith) c.requires.first c.loop-i.invariant.rest.are_bits
+    c.loop-i.invariant.extends c.next_bounds.ensures.extends
+    (c.brought_down-next.ensures.number c.next_bounds.new.nodes free)
+    (number_of free c.args.nodes.now c.args.divisor.now) c.told-dividend
+    (c.loop-i.invariant.rest.holds free)))
 
 pub loop-i-preserved : goal.loop-i-preserved
 loop-i-preserved c =
@@ -70,49 +87,56 @@ loop-i-preserved c =
     let place : 31 - c.loop-i.i + 1 ≡ 32 - c.loop-i.i = omega arith in
     let next : 32 - (c.loop-i.i + 1) ≡ 31 - c.loop-i.i = omega arith in
     let whole : 31 - c.loop-i.i + 1 + c.loop-i.i ≡ 32 = omega arith in
-    let now_is : (free : ℕ → Bool) → number_of free c.loop-i.nodes c.brought_down-next.result
+    let upper : Extends c.loop-i.nodes c.bounded_step.new.nodes = Extends-through c.loop-i.nodes
+    c.next_bounds.new.nodes c.bounded_step.new.nodes c.next_bounds.ensures.extends
+    c.bounded_step.ensures.extends in
+    let extended : Extends c.args.nodes.now c.next_bounds.new.nodes = Extends-through c.args.nodes.now
+    c.loop-i.nodes c.next_bounds.new.nodes c.loop-i.invariant.extends c.next_bounds.ensures.extends in
+    let kept : (free : ℕ → Bool) → number_of free c.next_bounds.new.nodes c.args.divisor.now
+    ≡ number_of free c.args.nodes.now c.args.divisor.now =
+    λ free.
+    number_of-extends free c.args.nodes.now c.next_bounds.new.nodes c.args.divisor.now extended
+    c.requires.second in
+    let now_is : (free : ℕ → Bool) → number_of free c.next_bounds.new.nodes c.brought_down-next.result
     ≡ 2 * (high_number free c.args.nodes.now c.args.dividend.now (31 - c.loop-i.i + 1) % number_of free
     c.args.nodes.now c.args.divisor.now) + digit (truth free c.args.nodes.now
     (bit_at c.args.dividend.now (31 - c.loop-i.i))) =
     λ free.
-    next_is free c.args.nodes.now c.loop-i.nodes c.args.dividend.now (31 - c.loop-i.i) c.loop-i.i
-    (number_of free c.args.nodes.now c.args.divisor.now)
-    (number_of free c.loop-i.nodes c.loop-i.rest) (number_of free c.loop-i.nodes c.brought_down-next.result)
-    c.told-dividend c.requires.first c.loop-i.invariant.extends whole
-    (c.loop-i.invariant.rest.holds free ∙ ap (λ j. high_number free c.args.nodes.now c.args.dividend.now j %
-    number_of free c.args.nodes.now c.args.divisor.now) (sym place))
-    (c.brought_down-next.ensures.number c.loop-i.nodes free) in
+    later_is free c.args.nodes.now c.loop-i.nodes c.next_bounds.new.nodes c.args.dividend.now c.loop-i.rest
+    c.brought_down-next.result c.loop-i.i (omega arith) c.requires.first c.loop-i.invariant.rest.are_bits
+    c.loop-i.invariant.extends c.next_bounds.ensures.extends
+    (c.brought_down-next.ensures.number c.next_bounds.new.nodes free)
+    (number_of free c.args.nodes.now c.args.divisor.now) c.told-dividend
+    (c.loop-i.invariant.rest.holds free) in
     record {
-      extends = Extends-through c.args.nodes.now c.loop-i.nodes c.step.new.nodes c.loop-i.invariant.extends
-          c.step.ensures.extends;
+      extends = Extends-through c.args.nodes.now c.next_bounds.new.nodes c.bounded_step.new.nodes extended
+          c.bounded_step.ensures.extends;
       quotient = record {
         long = c.brought_down-quotient.ensures.long;
-        are_bits = c.brought_down-quotient.ensures.bits c.step.new.nodes
-            (are_bits-extends c.loop-i.nodes c.step.new.nodes c.loop-i.quotient c.step.ensures.extends
+        are_bits = c.brought_down-quotient.ensures.bits c.bounded_step.new.nodes
+            (are_bits-extends c.loop-i.nodes c.bounded_step.new.nodes c.loop-i.quotient upper
             c.loop-i.invariant.quotient.are_bits) c.in_ok-fits.ensures.fits.is_bit;
         holds = λ free.
-            let kept = number_of-extends free c.args.nodes.now c.loop-i.nodes c.args.divisor.now
-            c.loop-i.invariant.extends c.requires.second in
             quotient_value c.loop-i.i (high_number free c.args.nodes.now c.args.dividend.now
             (31 - c.loop-i.i + 1)) (number_of free c.args.nodes.now c.args.divisor.now)
-            (number_of free c.step.new.nodes c.loop-i.quotient)
-            (number_of free c.step.new.nodes c.brought_down-quotient.result)
+            (number_of free c.bounded_step.new.nodes c.loop-i.quotient)
+            (number_of free c.bounded_step.new.nodes c.brought_down-quotient.result)
             (nat_le (number_of free c.args.nodes.now c.args.divisor.now)
-            (number_of free c.loop-i.nodes c.brought_down-next.result)) (omega arith)
+            (number_of free c.next_bounds.new.nodes c.brought_down-next.result)) (omega arith)
             (high_number_below free c.args.nodes.now c.args.dividend.now (31 - c.loop-i.i + 1) c.loop-i.i
             (c.told-dividend ∙ sym whole))
-            (number_of-extends free c.loop-i.nodes c.step.new.nodes c.loop-i.quotient c.step.ensures.extends
+            (number_of-extends free c.loop-i.nodes c.bounded_step.new.nodes c.loop-i.quotient upper
             c.loop-i.invariant.quotient.are_bits
             ∙ c.loop-i.invariant.quotient.holds free
             ∙ ap (λ j. long_quotient c.loop-i.i (high_number free c.args.nodes.now c.args.dividend.now j)
             (number_of free c.args.nodes.now c.args.divisor.now)) (sym place))
-            (c.brought_down-quotient.ensures.number c.step.new.nodes free
-            ∙ ap (λ b. (2 * number_of free c.step.new.nodes c.loop-i.quotient + digit b) % 2 ^ 32)
+            (c.brought_down-quotient.ensures.number c.bounded_step.new.nodes free
+            ∙ ap (λ b. (2 * number_of free c.bounded_step.new.nodes c.loop-i.quotient + digit b) % 2 ^ 32)
             (c.in_ok-fits.ensures.fits.holds free ∙ ap (λ d. nat_le d
-            (number_of free c.loop-i.nodes c.brought_down-next.result)) kept))
+            (number_of free c.next_bounds.new.nodes c.brought_down-next.result)) (kept free)))
             ∙ quotient_step c.loop-i.i (high_number free c.args.nodes.now c.args.dividend.now
             (31 - c.loop-i.i + 1)) (number_of free c.args.nodes.now c.args.divisor.now)
-            (number_of free c.loop-i.nodes c.brought_down-next.result)
+            (number_of free c.next_bounds.new.nodes c.brought_down-next.result)
             (truth free c.args.nodes.now (bit_at c.args.dividend.now (31 - c.loop-i.i))) (now_is free)
             ∙ ap (λ h. long_quotient (c.loop-i.i + 1) h (number_of free c.args.nodes.now
             c.args.divisor.now)) (sym (high_number-more free c.args.nodes.now c.args.dividend.now
@@ -124,15 +148,13 @@ loop-i-preserved c =
         long = c.in_ok-fits.ensures.left.long;
         are_bits = c.in_ok-fits.ensures.left.are_bits;
         holds = λ free.
-            let kept = number_of-extends free c.args.nodes.now c.loop-i.nodes c.args.divisor.now
-            c.loop-i.invariant.extends c.requires.second in
             c.in_ok-fits.ensures.left.holds free
-            ∙ ap (λ d. if nat_le d (number_of free c.loop-i.nodes c.brought_down-next.result) then number_of
-            free c.loop-i.nodes c.brought_down-next.result - d else number_of free c.loop-i.nodes
-            c.brought_down-next.result) kept
+            ∙ ap (λ d. if nat_le d (number_of free c.next_bounds.new.nodes c.brought_down-next.result) then
+            number_of free c.next_bounds.new.nodes c.brought_down-next.result - d else number_of free
+            c.next_bounds.new.nodes c.brought_down-next.result) (kept free)
             ∙ rest_step (high_number free c.args.nodes.now c.args.dividend.now (31 - c.loop-i.i + 1))
             (number_of free c.args.nodes.now c.args.divisor.now)
-            (number_of free c.loop-i.nodes c.brought_down-next.result)
+            (number_of free c.next_bounds.new.nodes c.brought_down-next.result)
             (truth free c.args.nodes.now (bit_at c.args.dividend.now (31 - c.loop-i.i))) (now_is free)
             ∙ ap (λ h. h % number_of free c.args.nodes.now c.args.divisor.now)
             (sym (high_number-more free c.args.nodes.now c.args.dividend.now (31 - c.loop-i.i)
@@ -140,5 +162,23 @@ loop-i-preserved c =
             ∙ ap (λ j. high_number free c.args.nodes.now c.args.dividend.now j % number_of free
             c.args.nodes.now c.args.divisor.now) (sym next);
       };
+      bounds_long = c.in_ok-bounds.ensures.long;
+      bounds_bits = are_bits-extends c.next_bounds.new.nodes c.bounded_step.new.nodes c.in_ok-bounds.bounds
+          c.bounded_step.ensures.extends c.in_ok-bounds.ensures.bits;
+      bounded = λ free.
+          let n = number_of free c.next_bounds.new.nodes c.brought_down-next.result in
+          let d = number_of free c.next_bounds.new.nodes c.args.divisor.now in
+          bounded_later free c.next_bounds.new.nodes c.bounded_step.new.nodes c.in_ok-bounds.bounds
+          (number_of free c.bounded_step.new.nodes c.in_ok-fits.left) n c.bounded_step.ensures.extends
+          c.in_ok-bounds.ensures.bits
+          (subst (λ m. m ≤ n) (sym (c.in_ok-fits.ensures.left.holds free)) (left_below (nat_le d n) n d))
+          (later_bounded free c.args.nodes.now c.loop-i.nodes c.next_bounds.new.nodes
+          c.args.dividend.now c.loop-i.rest c.brought_down-next.result c.loop-i.i (omega arith)
+          c.requires.first c.loop-i.invariant.rest.are_bits c.loop-i.invariant.extends
+          c.next_bounds.ensures.extends
+          (c.brought_down-next.ensures.number c.next_bounds.new.nodes free)
+          c.in_ok-bounds.bounds
+          (c.in_ok-bounds.ensures.more free (number_of free c.loop-i.nodes c.loop-i.rest)
+          (c.loop-i.invariant.bounded free)));
       gates = omega arith;
     }

@@ -1,7 +1,7 @@
-use Rattle.std.proofs.Common.{◌+◌, ◌-◌, ◌*◌, ◌%◌, ◌≤◌}
+use Rattle.std.proofs.Common.{◌≡◌, ℕ, Bool, length, ◌+◌, ◌-◌, ◌*◌, ◌%◌, ◌≤◌}
 use Rattle.ba_nodes.specs.Gates.{gates_in, Extends}
-use Rattle.ba_words.specs.Words.{number_of, HasNumber}
-use Rattle.ba_muldiv.specs.Division.{long_quotient, high_number}
+use Rattle.ba_words.specs.Words.{number_of, AreBitsOf, HasNumber}
+use Rattle.ba_muldiv.specs.Division.{long_quotient, high_number, IsBounded}
 use Rattle.ba_muldiv.proofs.division.upper_steps.Given as goal
 
 abbrev pub invariant-loop-i : goal.invariant-loop-i
@@ -11,5 +11,8 @@ invariant-loop-i l = record {
       (high_number free l.fn.nodes l.dividend (32 - l.i)) (number_of free l.fn.nodes l.divisor));
   rest : HasNumber l.nodes l.rest (λ free. high_number free l.fn.nodes l.dividend (32 - l.i) % number_of
       free l.fn.nodes l.divisor);
-  gates : gates_in l.nodes ≤ gates_in l.fn.nodes + 162 * l.i;
+  bounds_long : length l.bounds ≡ 32;
+  bounds_bits : AreBitsOf l.nodes l.bounds;
+  bounded : (free : ℕ → Bool) → IsBounded free l.nodes l.bounds (number_of free l.nodes l.rest);
+  gates : gates_in l.nodes ≤ gates_in l.fn.nodes + 229 * l.i;
 }

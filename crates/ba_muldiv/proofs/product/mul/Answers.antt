@@ -1,4 +1,4 @@
-use Rattle.std.proofs.Common.{◌%◌, ◌^◌, Some, sym, ap, ◌∙◌, mul_comm}
+use Rattle.std.proofs.Common.{Some, sym, ap, ◌∙◌}
 use Rattle.ba_words.specs.Words.{number_of}
 use Rattle.ba_words.proofs.Outcomes.{on_ok}
 use Rattle.ba_words.proofs.Circuits.{number_small}
@@ -6,26 +6,13 @@ use Rattle.ba_words.proofs.Values.{read}
 use Rattle.ba_muldiv.proofs.Values.{mul_value}
 use Rattle.ba_muldiv.proofs.product.mul.Goals as goal
 
-pub returns-then-known_bits-clause-value : goal.returns-then-known_bits-clause-value
-returns-then-known_bits-clause-value c =
-    on_ok c.times.result _ _
-    (λ word has signed free.
-    mul_value signed (number_of free c.args.nodes.now c.args.a.now)
-    (number_of free c.args.nodes.now c.args.b.now)
-    (number_small free c.args.nodes.now c.args.a.now c.told-a)
-    (number_small free c.args.nodes.now c.args.b.now c.told-b)
-    ∙ ap (λ n. Some (read signed (n % 2 ^ 32))) (mul_comm (number_of free c.args.nodes.now c.args.a.now)
-    (number_of free c.args.nodes.now c.args.b.now))
-    ∙ ap (λ n. Some (read signed n)) (sym (has.holds free)))
-    c.times.ensures.number
-
-pub returns-else-known_bits-clause-value : goal.returns-else-known_bits-clause-value
-returns-else-known_bits-clause-value c =
-    on_ok c.times-else-known_bits.result _ _
+pub returns-clause-value : goal.returns-clause-value
+returns-clause-value c =
+    on_ok c.any_product.result _ _
     (λ word has signed free.
     mul_value signed (number_of free c.args.nodes.now c.args.a.now)
     (number_of free c.args.nodes.now c.args.b.now)
     (number_small free c.args.nodes.now c.args.a.now c.told-a)
     (number_small free c.args.nodes.now c.args.b.now c.told-b)
     ∙ ap (λ n. Some (read signed n)) (sym (has.holds free)))
-    c.times-else-known_bits.ensures.number
+    c.any_product.ensures.number
