@@ -32,7 +32,7 @@ static COUNTS: [(Operator, [u64; 9]); 18] = [
     (Operator::Shl, [160, 0, 0, 0, 0, 0, 0, 0, 0]),
     (Operator::Shr(true), [155, 0, 0, 0, 0, 0, 0, 0, 0]),
     (Operator::Shr(false), [160, 0, 0, 0, 0, 0, 0, 0, 0]),
-    (Operator::Mul, [2077, 0, 0, 0, 88, 85, 0, 55, 61]),
+    (Operator::Mul, [2141, 0, 0, 0, 88, 85, 0, 55, 61]),
     (Operator::Div(true), [2825, 62, 0, 64, 355, 670, 57, 62, 63]),
     (Operator::Div(false), [2638, 0, 0, 0, 234, 559, 0, 28, 31]),
     (Operator::Rem(true), [2951, 123, 0, 1, 306, 651, 8, 3, 0]),

@@ -32,7 +32,7 @@ enum Circuit {
 /// ones, two for each place, and one over all.
 static SIZES: [(Circuit, u64, u64); 5] = [
     (Circuit::Sum, 158, 435),
-    (Circuit::Product, 2018, 8128),
+    (Circuit::Product, 2205, 8873),
     (Circuit::Less, 95, 95),
     (Circuit::Equal, 96, 96),
     (Circuit::Different, 96, 65),
