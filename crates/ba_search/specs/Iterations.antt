@@ -1,6 +1,6 @@
 -- A search on its way.
 
-use Rattle.std.specs.Prelude.{◌≡◌, ◌≢◌, ℕ, ◌+◌, ◌-◌, ◌*◌, ◌^◌, ◌<◌, ◌≤◌, ◌==◌, ◌||◌, Bool, true, false, ltb, Option, None, Some, Result, Ok, Err, ◌⊎◌, List, [], ◌∷◌, ◌++◌, All, length, get_or, take, if◌then◌else◌}
+use Rattle.std.specs.Prelude.{◌≡◌, ◌≢◌, ℕ, ◌+◌, ◌-◌, ◌*◌, ◌^◌, ◌<◌, ◌≤◌, ◌==◌, ◌||◌, Bool, true, false, Option, None, Some, Result, Ok, Err, ◌⊎◌, List, [], ◌∷◌, ◌++◌, All, length, get_or, take}
 use Rattle.ba_lits.specs.Literals.{Literal, lit_at}
 use Rattle.ba_lits.specs.Hints.{has_literal}
 use Rattle.ba_watch.specs.Threads.{Clause}
@@ -131,13 +131,10 @@ abbrev pub Puts : Judge → (ℕ → ℕ → Bool → Type 0) → State → Stat
 Puts good gives old new learnt all old_logs new_logs =
     PutsSteps (λ steps. Searches good gives old learnt steps new all) old_logs new_logs
 
--- a conflict counts for two iterations, one of which a restart may take later; a decision is an iteration on the way to the next
--- conflict
-abbrev pub owed : ℕ → ℕ
-owed since = if ltb 0 since then 1 else 0
-
+-- a conflict counts for 1001 iterations, of which 1000 may take decisions back later; a decision is an iteration on the
+-- way to the next conflict
 abbrev pub iterations_left : State → ℕ → Watching → ℕ
-iterations_left c since s = (2 * (c.budget - c.conflicts) + owed since) * (s.variables + 1)
+iterations_left c backtracks s = (1001 * (c.budget - c.conflicts) + backtracks) * (s.variables + 1)
     + (s.variables - length s.trail)
 
 -- the error that an answer is

@@ -1,19 +1,21 @@
 //! Decisions where no clause is false or unit, and the answers where there is none to make.
 
-ghost use Rattle.std.specs.Prelude.{◌≡◌, ◌≢◌, ℕ, ◌<◌, ◌≤◌, ◌^◌, None, Some, true, length, IfOk, IfSome, IfNone, List};
+ghost use Rattle.std.specs.Prelude.{◌≡◌, ◌≢◌, ℕ, ◌<◌, ◌≤◌, ◌^◌, None, Some, true, false, is_none, length, IfOk, IfSome, IfNone, List};
 ghost use Rattle.ba_lits.specs.Literals.{Literal, lit_at};
 ghost use Rattle.ba_lits.specs.Hints.{has_literal};
-ghost use Rattle.ba_watch.specs.Trails.{value_of};
+ghost use Rattle.ba_watch.specs.Trails.{value_of, decided};
 ghost use Rattle.ba_watch.specs.Propagation.{IsComplete};
 ghost use Rattle.ba_checker.specs.States.{State as Checking};
 ghost use Rattle.ba_search.specs.Answers.{AreAssumptions};
 ghost use Rattle.ba_search.specs.Engines.{Decides, LearnsNothing};
-ghost use Rattle.ba_search.specs.Values.{positive, is_true, values_of};
+ghost use Rattle.ba_search.specs.Values.{positive, is_true, values_of, IsUnassigned};
 ghost use Rattle.ba_search.specs.Iterations.{AreTrue, IsDecision, IsUnderway, iterations_left};
 
 use crate::engine::Engine;
 use crate::iteration::is_spent;
+use crate::order::Order;
 use crate::search::Answer;
+use crate::sweep::Sweep;
 use ba_checker::Checker;
 use ba_items::Items;
 use ba_lits::{Lit, Model as Assignment};
@@ -73,8 +75,8 @@ impl Engine {
             → IsUnderway assumptions self.old.watch self.old.numbers checker
             → IsUnderway assumptions self.new.watch self.new.numbers checker }
         ensures less { (checker : Checking)
-            → iterations_left checker self.new.since self.new.watch
-            < iterations_left checker self.old.since self.old.watch }
+            → iterations_left checker self.new.backtracks_left self.new.watch
+            < iterations_left checker self.old.backtracks_left self.old.watch }
         ensures numbers { self.new.numbers ≡ self.old.numbers }
         ensures learns_nothing { LearnsNothing self.old self.new }
     {
@@ -128,8 +130,16 @@ impl Engine {
         ensures { Decides assumptions.now checker.now result self.old self.new }
     {
         checker.keeps_facts();
+        let left = self.backtracks_left;
+        if let Some(level) = self.sweep.level_after_trial(&self.watch, left) {
+            self.leave_trial(level);
+            return Ok(None);
+        }
         let variables = checker.variables();
-        if let Some(variable) = self.order.pick(&self.watch, variables) {
+        let order = &mut self.order;
+        let sweep = &mut self.sweep;
+        let picked = pick(self.alloc, order, sweep, &self.watch, checker, variables)?;
+        if let Some(variable) = picked {
             let lit = literal(variable, self.order.phase(variable));
             self.decide_literal(lit);
             return Ok(None);
@@ -137,6 +147,48 @@ impl Engine {
         let model = model_of(self.alloc, &self.watch, variables)?;
         Ok(Some(Answer::Model(model)))
     }
+
+    /// Takes the decisions of a trial of a sweep back.
+    fn leave_trial(&mut self, level: usize)
+        requires level { level ≤ decided self.old.watch.reasons }
+        requires left { 1 ≤ self.old.backtracks_left }
+        ensures underway { (assumptions : List Literal) (checker : Checking)
+            → IsUnderway assumptions self.old.watch self.old.numbers checker
+            → IsUnderway assumptions self.new.watch self.new.numbers checker }
+        ensures less { (checker : Checking)
+            → iterations_left checker self.new.backtracks_left self.new.watch
+            < iterations_left checker self.old.backtracks_left self.old.watch }
+        ensures numbers { self.new.numbers ≡ self.old.numbers }
+        ensures propagated { self.new.propagated ≡ self.old.propagated }
+    {
+        self.backtrack(level);
+        self.backtracks_left -= 1;
+    }
+}
+
+/// The variable without a value up to a limit that is decided next, with its phase: a candidate, or one that a sweep asks
+/// for, or the most active one; None exactly where all have values.
+///
+/// The one error is want of memory.
+fn pick(
+    alloc: Global,
+    order: &mut Order,
+    sweep: &mut Sweep,
+    watch: &Watch,
+    checker: &Checker,
+    limit: u64,
+) -> Result<Option<u64>, AllocError>
+    requires { limit ≤ watch.now.variables }
+    ensures some { IfOk result (λ picked. IfSome picked (IsUnassigned watch.now.trail limit)) }
+    ensures none { IfOk result (λ picked. IfNone picked ((variable : ℕ) → 1 ≤ variable
+        → variable ≤ limit → is_none (value_of watch.now.trail (positive variable)) ≡ false)) }
+{
+    if let Some(variable) = order.pick_candidate(watch, limit) {
+        return Ok(Some(variable));
+    }
+    sweep.prepare(alloc, watch, checker)?;
+    let wanted = sweep.literal_to_try(watch);
+    Ok(order.pick(watch, limit, wanted))
 }
 
 /// The first assumption that isn't true.

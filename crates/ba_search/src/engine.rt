@@ -16,6 +16,7 @@ use crate::clause_numbers::ClauseNumbers;
 use crate::order::Order;
 use crate::reduction::Reduction;
 use crate::search::SearchError;
+use crate::sweep::Sweep;
 use ba_checker::Checker;
 use ba_learn::Analyser;
 use ba_lits::{Lit, is_clause};
@@ -31,8 +32,12 @@ pub struct Engine {
     pub analyser: Analyser,
     pub order: Order,
     pub reduction: Reduction,
+    pub sweep: Sweep,
     pub restarts: u64,
+    /// How many clauses were learnt since the last restart.
     pub since: u64,
+    /// How many times decisions may be taken back before the next clause is learnt.
+    pub backtracks_left: u64,
     /// A place of the trail where the first literal that is no assumption may have been decided.
     pub first_branch: usize,
     /// How many literals were assigned by propagation.
@@ -55,8 +60,10 @@ impl Engine {
             analyser: Analyser::new(alloc),
             order: Order::new(alloc),
             reduction: Reduction::new(alloc),
+            sweep: Sweep::new(alloc),
             restarts: 0,
             since: 0,
+            backtracks_left: 0,
             first_branch: 0,
             propagated: 0,
         }

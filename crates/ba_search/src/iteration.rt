@@ -7,7 +7,7 @@ ghost use Rattle.ba_watch.specs.Propagation.{clause_in, lits_in, is_false, IsCom
 ghost use Rattle.ba_checker.specs.States.{State as Checking, clause_at};
 ghost use Rattle.ba_search.specs.Rules.{IsRestartRule, IsKeepRule};
 ghost use Rattle.ba_search.specs.Answers.{AreAssumptions, IsAnswer};
-ghost use Rattle.ba_search.specs.Engines.{LearnsNothing};
+ghost use Rattle.ba_search.specs.Engines.{GoesOn, LearnsNothing};
 ghost use Rattle.ba_search.specs.Searching.{Leaves, Ran};
 ghost use Rattle.ba_search.specs.Iterations.{MarksLive, IsUnderway, Puts, iterations_left};
 ghost use Rattle.ba_learn.specs.Live.{AreLive};
@@ -64,6 +64,7 @@ impl Engine {
         }
         self.grow(checked.checker().variables())?;
         self.backtrack(0);
+        self.sweep.reset();
         self.watch.keeps_facts();
         'iterations: loop {
             if let Some(answer) = self.iterate(assumptions, checked, restart, keep)? {
@@ -94,14 +95,10 @@ impl Engine {
         ensures answer { IfOk result (λ found.
             IfSome found (IsAnswer checked.new.checker assumptions.now)) }
         ensures less { IfOk result (λ found.
-            IfNone found (iterations_left checked.new.checker self.new.since self.new.watch
-            < iterations_left checked.old.checker self.old.since self.old.watch)) }
-        ensures underway { OnOk result (IsUnderway assumptions.now self.new.watch self.new.numbers
-            checked.new.checker) }
-        ensures variables { OnOk result (checked.new.checker.variables
-            ≡ checked.old.checker.variables) }
-        ensures puts { OnOk result (Puts (J.accepts checked.old.judge) (K.post keep.now)
-            checked.old.checker checked.new.checker self.old.numbers.learnt self.new.numbers.learnt
+            IfNone found (iterations_left checked.new.checker self.new.backtracks_left self.new.watch
+            < iterations_left checked.old.checker self.old.backtracks_left self.old.watch)) }
+        ensures goes_on { OnOk result (GoesOn (J.accepts checked.old.judge) (K.post keep.now)
+            assumptions.now checked.old.checker checked.new.checker self.old self.new
             (S.logs checked.old.sink) (S.logs checked.new.sink)) }
         ensures ran { Ran S.over S.faults S.references result checked.old checked.new }
         ensures propagated { self.old.propagated ≤ self.new.propagated }
@@ -110,7 +107,7 @@ impl Engine {
             checked.new.checker (S.logs checked.new.sink) }
     {
         let Some(conflict) = self.propagate() else {
-            if is_due(restart, self.restarts, self.since) {
+            if self.backtracks_left > 0 && is_due(restart, self.restarts, self.since) {
                 self.restart(assumptions, checked, keep)?;
                 return Ok(None);
             }
@@ -129,8 +126,8 @@ impl Engine {
             → IsUnderway assumptions self.old.watch self.old.numbers checker
             → IsUnderway assumptions self.new.watch self.new.numbers checker }
         ensures less { (checker : Checking)
-            → iterations_left checker self.new.since self.new.watch
-            ≤ iterations_left checker self.old.since self.old.watch }
+            → iterations_left checker self.new.backtracks_left self.new.watch
+            ≤ iterations_left checker self.old.backtracks_left self.old.watch }
         ensures none { IfNone result ((self.new.watch.settled ≡ true)
             × IsComplete self.new.watch.clauses self.new.watch.trail) }
         ensures some { IfSome result (λ clause. IsSome (clause_in self.new.watch.clauses clause)
@@ -197,7 +194,6 @@ pub fn is_spent(checker: &Checker) -> bool
 /// Whether a restart is due.
 fn is_due<R: Fn(u64) -> u64 + Drop>(restart: &R, restarts: u64, since: u64) -> bool
     requires { IsRestartRule (R.pre restart.now) (R.post restart.now) }
-    ensures { result ≡ true → 1 ≤ since }
 {
     since >= restart(restarts)
 }

@@ -7,9 +7,9 @@ ghost use Rattle.ba_watch.specs.Propagation.{clause_in, lits_in, is_false};
 ghost use Rattle.ba_learn.specs.Levels.{IsBacked};
 ghost use Rattle.ba_learn.specs.Backjumps.{after_backtrack};
 ghost use Rattle.ba_steps.specs.declared.step.CertStep.TheVariants.{Learn};
-ghost use Rattle.ba_search.specs.Engines.{LearnsNothing};
+ghost use Rattle.ba_search.specs.Engines.{GoesOn, LearnsNothing};
 ghost use Rattle.ba_search.specs.Searching.{Leaves, Ran, nothing};
-ghost use Rattle.ba_search.specs.Iterations.{IsUnderway, LearnsOne, Puts, iterations_left};
+ghost use Rattle.ba_search.specs.Iterations.{IsUnderway, LearnsOne, iterations_left};
 
 use crate::engine::Engine;
 use crate::search::SearchError;
@@ -20,6 +20,9 @@ use ba_learn::Learnt;
 use ba_lits::Lit;
 use ba_steps::{CertStep, RunJudge, StepSink};
 use std::alloc::{AllocError, Global};
+
+/// How many times decisions may be taken back from one learnt clause to the next.
+const MOST_BACKTRACKS: u64 = 1000;
 
 impl Engine {
     /// Learns a clause from one that is false, puts it as a step, and goes back to where it is unit.
@@ -38,14 +41,10 @@ impl Engine {
         requires level { 1 ≤ decided self.old.watch.reasons }
         requires left { checked.old.checker.conflicts < checked.old.checker.budget }
         ensures less { OnOk result (
-            iterations_left checked.new.checker self.new.since self.new.watch
-            < iterations_left checked.old.checker self.old.since self.old.watch) }
-        ensures underway { OnOk result (IsUnderway assumptions.now self.new.watch self.new.numbers
-            checked.new.checker) }
-        ensures variables { OnOk result (checked.new.checker.variables
-            ≡ checked.old.checker.variables) }
-        ensures puts { OnOk result (Puts (J.accepts checked.old.judge) nothing checked.old.checker
-            checked.new.checker self.old.numbers.learnt self.new.numbers.learnt
+            iterations_left checked.new.checker self.new.backtracks_left self.new.watch
+            < iterations_left checked.old.checker self.old.backtracks_left self.old.watch) }
+        ensures goes_on { OnOk result (GoesOn (J.accepts checked.old.judge) nothing
+            assumptions.now checked.old.checker checked.new.checker self.old self.new
             (S.logs checked.old.sink) (S.logs checked.new.sink)) }
         ensures ran { Ran S.over S.faults S.references result checked.old checked.new }
         ensures propagated { self.new.propagated ≡ self.old.propagated }
@@ -61,6 +60,8 @@ impl Engine {
         checked.put(&step)?;
         self.backjump(&learnt, checked.checker().last())?;
         self.since = self.since.saturating_add(1);
+        self.backtracks_left = MOST_BACKTRACKS;
+        self.sweep.note_conflict();
         Ok(())
     }
 
@@ -73,7 +74,6 @@ impl Engine {
         requires fresh { get_or self.old.numbers.taken number false ≡ false }
         ensures learns { OnOk result (LearnsOne (after_backtrack learnt.now.back self.old.watch)
             self.new.watch self.old.numbers self.new.numbers number learnt.now.lits) }
-        ensures since { self.new.since ≡ self.old.since }
         ensures propagated { self.new.propagated ≡ self.old.propagated }
     {
         self.watch.keeps_facts();

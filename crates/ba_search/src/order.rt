@@ -91,20 +91,34 @@ impl Order {
         self.phases.get(variable as usize).copied().unwrap_or(true)
     }
 
-    /// A variable without a value up to a limit; None exactly where all have values.
-    pub fn pick(&mut self, watch: &Watch, limit: u64) -> Option<u64>
+    /// A variable without a value up to a limit, that of the wanted literal if it is one; None exactly where all have values.
+    pub fn pick(&mut self, watch: &Watch, limit: u64, wanted: Option<Lit>) -> Option<u64>
         requires { limit ≤ watch.now.variables }
         ensures some { IfSome result (λ variable. IsUnassigned watch.now.trail limit variable) }
         ensures none { IfNone result ((variable : ℕ) → 1 ≤ variable → variable ≤ limit
             → is_none (value_of watch.now.trail (positive variable)) ≡ false) }
     {
-        if let Some(variable) = self.pick_candidate(watch, limit) {
+        if let Some(variable) = self.take(watch, limit, wanted) {
             return Some(variable);
         }
         if let Some(variable) = self.pop_unassigned(watch, limit) {
             return Some(variable);
         }
         first_unassigned(watch, limit)
+    }
+
+    /// The variable of a wanted literal, if it has no value; its phase is then that of the literal.
+    fn take(&mut self, watch: &Watch, limit: u64, wanted: Option<Lit>) -> Option<u64>
+        requires { limit ≤ watch.now.variables }
+        ensures { IfSome result (λ variable. IsUnassigned watch.now.trail limit variable) }
+    {
+        let lit = wanted?;
+        let variable = lit.variable();
+        if variable > limit || !is_unassigned(watch, variable) {
+            return None;
+        }
+        self.set_phase(lit);
+        Some(variable)
     }
 
     /// Begins with the next candidate from now on, so that none keeps the others waiting.
@@ -114,7 +128,7 @@ impl Order {
     }
 
     /// The variable of the next candidate without a value, whose phase is then that of the candidate.
-    fn pick_candidate(&mut self, watch: &Watch, limit: u64) -> Option<u64>
+    pub fn pick_candidate(&mut self, watch: &Watch, limit: u64) -> Option<u64>
         requires { limit ≤ watch.now.variables }
         ensures { IfSome result (λ variable. IsUnassigned watch.now.trail limit variable) }
     {

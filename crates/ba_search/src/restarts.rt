@@ -2,9 +2,10 @@
 
 ghost use Rattle.std.specs.Prelude.{◌≡◌, ◌<◌, ◌≤◌, None, OnOk, Err};
 ghost use Rattle.ba_checker.specs.Judging.{apart_by};
+ghost use Rattle.ba_search.specs.Engines.{GoesOn, LearnsNothing};
 ghost use Rattle.ba_search.specs.Rules.{IsKeepRule};
 ghost use Rattle.ba_search.specs.Searching.{Leaves, Ran};
-ghost use Rattle.ba_search.specs.Iterations.{IsUnderway, Puts, iterations_left};
+ghost use Rattle.ba_search.specs.Iterations.{IsUnderway, iterations_left};
 
 use crate::engine::Engine;
 use crate::reduction::{may_reduce, take_numbers};
@@ -23,20 +24,16 @@ impl Engine {
         checked: &mut Checked<S, J>,
         keep: &K,
     ) -> Result<(), SearchError>
-        requires due { 1 ≤ self.old.since }
+        requires left { 1 ≤ self.old.backtracks_left }
         requires keep { IsKeepRule (K.pre keep.now) (K.post keep.now) }
         requires underway { IsUnderway assumptions.now self.old.watch self.old.numbers
             checked.old.checker }
         requires fresh { checked.old.refusal ≡ None }
         ensures less { OnOk result (
-            iterations_left checked.new.checker self.new.since self.new.watch
-            < iterations_left checked.old.checker self.old.since self.old.watch) }
-        ensures underway { OnOk result (IsUnderway assumptions.now self.new.watch self.new.numbers
-            checked.new.checker) }
-        ensures variables { OnOk result (checked.new.checker.variables
-            ≡ checked.old.checker.variables) }
-        ensures puts { OnOk result (Puts (J.accepts checked.old.judge) (K.post keep.now)
-            checked.old.checker checked.new.checker self.old.numbers.learnt self.new.numbers.learnt
+            iterations_left checked.new.checker self.new.backtracks_left self.new.watch
+            < iterations_left checked.old.checker self.old.backtracks_left self.old.watch) }
+        ensures goes_on { OnOk result (GoesOn (J.accepts checked.old.judge) (K.post keep.now)
+            assumptions.now checked.old.checker checked.new.checker self.old self.new
             (S.logs checked.old.sink) (S.logs checked.new.sink)) }
         ensures ran { Ran S.over S.faults S.references result checked.old checked.new }
         ensures propagated { self.new.propagated ≡ self.old.propagated }
@@ -45,13 +42,25 @@ impl Engine {
             checked.new.checker (S.logs checked.new.sink) }
     {
         self.backtrack(0);
-        self.order.rotate_candidates();
+        self.note_restart();
+        self.backtracks_left -= 1;
+        if may_reduce(self.numbers.learnt(), checked.checker()) {
+            self.reduce(assumptions, checked, keep)?;
+        }
+        Ok(())
+    }
+
+    /// Counts a restart. The next candidate comes first then, but in a sweep, which is under one.
+    fn note_restart(&mut self)
+        ensures watch { self.new.watch ≡ self.old.watch }
+        ensures numbers { self.new.numbers ≡ self.old.numbers }
+        ensures learns_nothing { LearnsNothing self.old self.new }
+    {
         self.restarts = self.restarts.saturating_add(1);
         self.since = 0;
-        if may_reduce(self.numbers.learnt(), checked.checker()) {
-            self.reduce(assumptions, checked, keep)
-        } else {
-            Ok(())
+        self.sweep.note_restart();
+        if !self.sweep.is_running() {
+            self.order.rotate_candidates();
         }
     }
 
@@ -67,18 +76,14 @@ impl Engine {
             checked.old.checker }
         requires learnt { apart_by ≤ checked.old.checker.learnt }
         requires fresh { checked.old.refusal ≡ None }
-        ensures underway { OnOk result (IsUnderway assumptions.now self.new.watch self.new.numbers
-            checked.new.checker) }
-        ensures since { self.new.since ≡ self.old.since }
+        ensures goes_on { OnOk result (GoesOn (J.accepts checked.old.judge) (K.post keep.now)
+            assumptions.now checked.old.checker checked.new.checker self.old self.new
+            (S.logs checked.old.sink) (S.logs checked.new.sink)) }
+        ensures backtracks { self.new.backtracks_left ≡ self.old.backtracks_left }
         ensures room { OnOk result (self.new.watch.variables ≡ self.old.watch.variables) }
-        ensures variables { OnOk result (checked.new.checker.variables
-            ≡ checked.old.checker.variables) }
         ensures conflicts { OnOk result (checked.new.checker.conflicts
             ≡ checked.old.checker.conflicts) }
         ensures budget { OnOk result (checked.new.checker.budget ≡ checked.old.checker.budget) }
-        ensures puts { OnOk result (Puts (J.accepts checked.old.judge) (K.post keep.now)
-            checked.old.checker checked.new.checker self.old.numbers.learnt self.new.numbers.learnt
-            (S.logs checked.old.sink) (S.logs checked.new.sink)) }
         ensures ran { Ran S.over S.faults S.references result checked.old checked.new }
         ensures propagated { self.new.propagated ≡ self.old.propagated }
         ensures leaves { Leaves (J.accepts checked.old.judge) (K.post keep.now)

@@ -40,7 +40,7 @@ returns-then-is_none c = record {
       })
       c.requires.underway;
   numbers = search rules;
-  learns_nothing = search rules;
+  propagated = search rules;
 }
 
 pub core_of-requires-clause-within : goal.core_of-requires-clause-within
@@ -71,5 +71,5 @@ returns c = record {
   less = search rules;
   underway = search rules;
   numbers = search rules;
-  learns_nothing = search rules;
+  propagated = search rules;
 }

@@ -9,5 +9,5 @@ returns-clause-underway c assumptions checker choice u =
 
 pub returns-clause-less : goal.returns-clause-less
 returns-clause-less c checker =
-    decide_less checker c.args.self.now.watch c.decide.new.self c.args.self.now.since c.args.lit
+    decide_less checker c.args.self.now.watch c.decide.new.self c.args.self.now.backtracks_left c.args.lit
     c.keeps_facts-2.ensures c.decide.ensures

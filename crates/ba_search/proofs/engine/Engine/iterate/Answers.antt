@@ -1,4 +1,4 @@
-use Rattle.std.proofs.Common.{sym, ap, subst, ◌∙◌}
+use Rattle.std.proofs.Common.{sym, ap, subst, ◌∙◌, refl}
 use Rattle.ba_checker.specs.States.{State}
 use Rattle.ba_search.specs.Iterations.{Numbering, IsUnderway}
 use Rattle.ba_search.proofs.UnderwayLaws.{underway_moved}
@@ -14,13 +14,17 @@ decide-requires-clause-underway g c =
     (sym c.checker.ensures)
     (c.propagate.ensures.underway c.args.assumptions.now c.args.checked.now.checker c.requires.underway)
 
-pub returns-in_default-clause-puts : goal.returns-in_default-clause-puts
-returns-in_default-clause-puts g c =
-    puts_stay (g.J.RunJudge.accepts c.args.checked.now.judge)
-    (λ width age kept. g.K.Fn.post c.args.keep.now (width, (age, tt)) kept) c.args.checked.now.checker
-    c.args.self.now.numbers.learnt c.decide.new.self.numbers.learnt
-    (g.S.StepSink.logs c.args.checked.now.sink)
-    (ap (λ (n : Numbering). n.learnt) (c.decide.ensures.numbers ∙ c.propagate.ensures.numbers))
+pub returns-in_default-clause-goes_on : goal.returns-in_default-clause-goes_on
+returns-in_default-clause-goes_on g c = record {
+  underway = subst (λ (k : State). IsUnderway c.args.assumptions.now c.decide.new.self.watch
+      c.decide.new.self.numbers k) c.checker.ensures c.in_ok-decide.ensures.underway;
+  variables = refl;
+  puts = puts_stay (g.J.RunJudge.accepts c.args.checked.now.judge)
+      (λ width age kept. g.K.Fn.post c.args.keep.now (width, (age, tt)) kept) c.args.checked.now.checker
+      c.args.self.now.numbers.learnt c.decide.new.self.numbers.learnt
+      (g.S.StepSink.logs c.args.checked.now.sink)
+      (ap (λ (n : Numbering). n.learnt) (c.decide.ensures.numbers ∙ c.propagate.ensures.numbers));
+}
 
 pub conclude-requires-clause-underway : goal.conclude-requires-clause-underway
 conclude-requires-clause-underway g c =
@@ -30,21 +34,20 @@ conclude-requires-clause-underway g c =
     (sym c.checker-2.ensures)
     (c.propagate.ensures.underway c.args.assumptions.now c.args.checked.now.checker c.requires.underway)
 
-pub returns-in-Some-2-clause-underway : goal.returns-in-Some-2-clause-underway
-returns-in-Some-2-clause-underway g c =
-    underway_moved c.args.assumptions.now c.propagate.new.self.watch c.conclude.new.self.watch
-    c.propagate.new.self.numbers c.conclude.new.self.numbers c.args.checked.now.checker
-    c.conclude.ensures.watch
-    c.conclude.ensures.numbers
-    (c.propagate.ensures.underway c.args.assumptions.now c.args.checked.now.checker c.requires.underway)
-
-pub returns-in-Some-2-clause-puts : goal.returns-in-Some-2-clause-puts
-returns-in-Some-2-clause-puts g c =
-    puts_stay (g.J.RunJudge.accepts c.args.checked.now.judge)
-    (λ width age kept. g.K.Fn.post c.args.keep.now (width, (age, tt)) kept) c.args.checked.now.checker
-    c.args.self.now.numbers.learnt c.conclude.new.self.numbers.learnt
-    (g.S.StepSink.logs c.args.checked.now.sink)
-    (ap (λ (n : Numbering). n.learnt) (c.conclude.ensures.numbers ∙ c.propagate.ensures.numbers))
+pub returns-in-Some-2-clause-goes_on : goal.returns-in-Some-2-clause-goes_on
+returns-in-Some-2-clause-goes_on g c = record {
+  underway = underway_moved c.args.assumptions.now c.propagate.new.self.watch c.conclude.new.self.watch
+      c.propagate.new.self.numbers c.conclude.new.self.numbers c.args.checked.now.checker
+      c.conclude.ensures.watch
+      c.conclude.ensures.numbers
+      (c.propagate.ensures.underway c.args.assumptions.now c.args.checked.now.checker c.requires.underway);
+  variables = refl;
+  puts = puts_stay (g.J.RunJudge.accepts c.args.checked.now.judge)
+      (λ width age kept. g.K.Fn.post c.args.keep.now (width, (age, tt)) kept) c.args.checked.now.checker
+      c.args.self.now.numbers.learnt c.conclude.new.self.numbers.learnt
+      (g.S.StepSink.logs c.args.checked.now.sink)
+      (ap (λ (n : Numbering). n.learnt) (c.conclude.ensures.numbers ∙ c.propagate.ensures.numbers));
+}
 
 pub learn-requires-clause-underway : goal.learn-requires-clause-underway
 learn-requires-clause-underway g c =
@@ -88,15 +91,18 @@ returns-in_err-restart-clause-leaves g c =
     (ap (λ (n : Numbering). n.learnt) c.propagate.ensures.numbers)
     c.restart.ensures.leaves
 
-pub returns-then-is_due-clause-puts : goal.returns-then-is_due-clause-puts
-returns-then-is_due-clause-puts g c =
-    puts_from (g.J.RunJudge.accepts c.args.checked.now.judge)
-    (λ width age kept. g.K.Fn.post c.args.keep.now (width, (age, tt)) kept) c.args.checked.now.checker
-    c.restart.new.checked.checker c.propagate.new.self.numbers.learnt c.args.self.now.numbers.learnt
-    c.restart.new.self.numbers.learnt (g.S.StepSink.logs c.args.checked.now.sink)
-    (g.S.StepSink.logs c.restart.new.checked.sink)
-    (ap (λ (n : Numbering). n.learnt) c.propagate.ensures.numbers)
-    c.in_ok-restart.ensures.puts
+pub returns-then-is_due-clause-goes_on : goal.returns-then-is_due-clause-goes_on
+returns-then-is_due-clause-goes_on g c = record {
+  underway = c.in_ok-restart.ensures.goes_on.underway;
+  variables = c.in_ok-restart.ensures.goes_on.variables;
+  puts = puts_from (g.J.RunJudge.accepts c.args.checked.now.judge)
+      (λ width age kept. g.K.Fn.post c.args.keep.now (width, (age, tt)) kept) c.args.checked.now.checker
+      c.restart.new.checked.checker c.propagate.new.self.numbers.learnt c.args.self.now.numbers.learnt
+      c.restart.new.self.numbers.learnt (g.S.StepSink.logs c.args.checked.now.sink)
+      (g.S.StepSink.logs c.restart.new.checked.sink)
+      (ap (λ (n : Numbering). n.learnt) c.propagate.ensures.numbers)
+      c.in_ok-restart.ensures.goes_on.puts;
+}
 
 pub returns-then-is_due-clause-leaves : goal.returns-then-is_due-clause-leaves
 returns-then-is_due-clause-leaves g c =
@@ -120,18 +126,21 @@ returns-in_err-learn-clause-leaves g c =
     (ap (λ (n : Numbering). n.learnt) (c.conclude.ensures.numbers ∙ c.propagate.ensures.numbers))
     c.learn.ensures.leaves)
 
-pub returns-clause-puts : goal.returns-clause-puts
-returns-clause-puts g c =
-    puts_any (g.J.RunJudge.accepts c.args.checked.now.judge)
-    (λ width age kept. g.K.Fn.post c.args.keep.now (width, (age, tt)) kept) c.args.checked.now.checker
-    c.learn.new.checked.checker c.args.self.now.numbers.learnt c.learn.new.self.numbers.learnt
-    (g.S.StepSink.logs c.args.checked.now.sink) (g.S.StepSink.logs c.learn.new.checked.sink)
-    (puts_from (g.J.RunJudge.accepts c.args.checked.now.judge) nothing c.args.checked.now.checker
-    c.learn.new.checked.checker c.conclude.new.self.numbers.learnt c.args.self.now.numbers.learnt
-    c.learn.new.self.numbers.learnt (g.S.StepSink.logs c.args.checked.now.sink) (g.S.StepSink.logs
-    c.learn.new.checked.sink)
-    (ap (λ (n : Numbering). n.learnt) (c.conclude.ensures.numbers ∙ c.propagate.ensures.numbers))
-    c.in_ok-learn.ensures.puts)
+pub returns-clause-goes_on : goal.returns-clause-goes_on
+returns-clause-goes_on g c = record {
+  underway = c.in_ok-learn.ensures.goes_on.underway;
+  variables = c.in_ok-learn.ensures.goes_on.variables;
+  puts = puts_any (g.J.RunJudge.accepts c.args.checked.now.judge)
+      (λ width age kept. g.K.Fn.post c.args.keep.now (width, (age, tt)) kept) c.args.checked.now.checker
+      c.learn.new.checked.checker c.args.self.now.numbers.learnt c.learn.new.self.numbers.learnt
+      (g.S.StepSink.logs c.args.checked.now.sink) (g.S.StepSink.logs c.learn.new.checked.sink)
+      (puts_from (g.J.RunJudge.accepts c.args.checked.now.judge) nothing c.args.checked.now.checker
+      c.learn.new.checked.checker c.conclude.new.self.numbers.learnt c.args.self.now.numbers.learnt
+      c.learn.new.self.numbers.learnt (g.S.StepSink.logs c.args.checked.now.sink) (g.S.StepSink.logs
+      c.learn.new.checked.sink)
+      (ap (λ (n : Numbering). n.learnt) (c.conclude.ensures.numbers ∙ c.propagate.ensures.numbers))
+      c.in_ok-learn.ensures.goes_on.puts);
+}
 
 pub returns-clause-leaves : goal.returns-clause-leaves
 returns-clause-leaves g c =

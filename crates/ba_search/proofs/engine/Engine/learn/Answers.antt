@@ -81,19 +81,8 @@ returns-in_err-backjump-clause-leaves g c =
     c.in_ok-step.step
     c.in_ok-step.ensures step c.in_ok-put.ensures.taken c.in_ok-put.ensures.told
 
-pub returns-clause-underway : goal.returns-clause-underway
-returns-clause-underway g c =
-    underway_jump c.args.assumptions.now c.args.self.now.watch c.bump.new.self.watch c.backjump.new.self.watch
-    c.args.self.now.numbers c.bump.new.self.numbers c.backjump.new.self.numbers
-    c.last.result c.args.checked.now.checker c.put.new.self.checker c.in_ok-learnt.learnt.lits
-    c.in_ok-learnt.learnt.back c.bump.ensures.watch c.bump.ensures.numbers c.in_ok-backjump.ensures.learns
-    (c.last.ensures ∙ ap (λ (x : State). length x.clauses) c.checker-2.ensures)
-    (step_taken c.args.checked.now.checker c.put.new.self.checker c.in_ok-learnt.learnt.lits
-    c.in_ok-learnt.learnt.hints c.in_ok-step.step c.in_ok-step.ensures c.in_ok-put.ensures.taken)
-    c.requires.underway
-
-pub returns-clause-puts : goal.returns-clause-puts
-returns-clause-puts g c =
+pub returns-clause-goes_on : goal.returns-clause-goes_on
+returns-clause-goes_on g c =
     let s = c.args.self.now.watch in
     let k = c.args.checked.now.checker in
     let formed : Formed k = subst (λ (x : State). Formed x) c.checker.ensures c.keeps_facts-2.ensures in
@@ -102,17 +91,30 @@ returns-clause-puts g c =
     c.args.self.now.numbers k c.in_ok-learnt.learnt.lits c.in_ok-learnt.learnt.hints
     c.in_ok-learnt.learnt.back
     c.keeps_facts.ensures formed c.requires.underway c.requires.left l.clause l.follows l.new l.backed in
-    learnt_puts (g.J.RunJudge.accepts c.args.checked.now.judge) nothing k c.put.new.self.checker
-    c.args.self.now.numbers.learnt c.backjump.new.self.numbers.learnt
-    (g.S.StepSink.logs c.args.checked.now.sink)
-    (g.S.StepSink.logs c.put.new.self.sink) c.in_ok-learnt.learnt.lits c.in_ok-learnt.learnt.hints
-    c.in_ok-step.step
-    c.in_ok-step.ensures step c.in_ok-put.ensures.taken
-    (c.in_ok-backjump.ensures.learns.learnt
-    ∙ (ap (λ (n : Numbering). n.learnt ++ c.last.result ∷ []) c.bump.ensures.numbers
-    ∙ ap (λ (m : ℕ). c.args.self.now.numbers.learnt ++ m ∷ [])
-    (c.last.ensures ∙ ap (λ (x : State). length x.clauses) c.checker-2.ensures)))
-    c.in_ok-put.ensures.told
+    let taken = step_taken c.args.checked.now.checker c.put.new.self.checker c.in_ok-learnt.learnt.lits
+    c.in_ok-learnt.learnt.hints c.in_ok-step.step c.in_ok-step.ensures c.in_ok-put.ensures.taken in
+    record {
+      underway = underway_jump c.args.assumptions.now c.args.self.now.watch c.bump.new.self.watch c.backjump.new.self.watch
+          c.args.self.now.numbers c.bump.new.self.numbers c.backjump.new.self.numbers
+          c.last.result c.args.checked.now.checker c.put.new.self.checker c.in_ok-learnt.learnt.lits
+          c.in_ok-learnt.learnt.back c.bump.ensures.watch c.bump.ensures.numbers c.in_ok-backjump.ensures.learns
+          (c.last.ensures ∙ ap (λ (x : State). length x.clauses) c.checker-2.ensures)
+          (step_taken c.args.checked.now.checker c.put.new.self.checker c.in_ok-learnt.learnt.lits
+          c.in_ok-learnt.learnt.hints c.in_ok-step.step c.in_ok-step.ensures c.in_ok-put.ensures.taken)
+          c.requires.underway;
+      variables = ap (λ (x : State). x.variables) taken;
+      puts = learnt_puts (g.J.RunJudge.accepts c.args.checked.now.judge) nothing k c.put.new.self.checker
+          c.args.self.now.numbers.learnt c.backjump.new.self.numbers.learnt
+          (g.S.StepSink.logs c.args.checked.now.sink)
+          (g.S.StepSink.logs c.put.new.self.sink) c.in_ok-learnt.learnt.lits c.in_ok-learnt.learnt.hints
+          c.in_ok-step.step
+          c.in_ok-step.ensures step c.in_ok-put.ensures.taken
+          (c.in_ok-backjump.ensures.learns.learnt
+          ∙ (ap (λ (n : Numbering). n.learnt ++ c.last.result ∷ []) c.bump.ensures.numbers
+          ∙ ap (λ (m : ℕ). c.args.self.now.numbers.learnt ++ m ∷ [])
+          (c.last.ensures ∙ ap (λ (x : State). length x.clauses) c.checker-2.ensures)))
+          c.in_ok-put.ensures.told;
+    }
 
 pub returns-clause-leaves : goal.returns-clause-leaves
 returns-clause-leaves g c =
@@ -136,11 +138,11 @@ returns-clause-less g c =
     c.backjump.new.self.watch
     (after_backtrack c.in_ok-learnt.learnt.back c.bump.new.self.watch) c.bump.new.self.numbers
     c.backjump.new.self.numbers c.last.result
-    c.args.self.now.since c.saturating_add-self.result c.in_ok-learnt.learnt.back c.in_ok-learnt.learnt.lits
+    c.args.self.now.backtracks_left 1000 c.in_ok-learnt.learnt.back c.in_ok-learnt.learnt.lits
     (step_taken c.args.checked.now.checker c.put.new.self.checker c.in_ok-learnt.learnt.lits
     c.in_ok-learnt.learnt.hints c.in_ok-step.step c.in_ok-step.ensures c.in_ok-put.ensures.taken)
     (ap (after_backtrack c.in_ok-learnt.learnt.back) c.bump.ensures.watch) c.in_ok-backjump.ensures.learns
-    (omega (arith, c.saturating_add-self.ensures)) c.requires.left
+    (omega arith) c.requires.left
 
 pub backjump-requires-clause-fresh : goal.backjump-requires-clause-fresh
 backjump-requires-clause-fresh g c =

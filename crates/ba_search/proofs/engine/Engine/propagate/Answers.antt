@@ -9,5 +9,5 @@ returns-clause-underway c assumptions checker u =
 
 pub returns-clause-less : goal.returns-clause-less
 returns-clause-less c checker =
-    extends_less checker c.args.self.now.watch c.propagate-conflict.new.self c.args.self.now.since
+    extends_less checker c.args.self.now.watch c.propagate-conflict.new.self c.args.self.now.backtracks_left
     c.propagate-conflict.ensures.extends

@@ -1,4 +1,4 @@
-use Rattle.std.proofs.Common.{◌≡◌, ℕ, true, List, vec_len, sym, subst, arith}
+use Rattle.std.proofs.Common.{◌≡◌, ℕ, true, List, vec_len, sym, ap, subst, arith, refl}
 use Rattle.std.specs.List.{list_all}
 use Rattle.ba_watch.specs.Deletion.{Deletes, MayDelete}
 use Rattle.ba_checker.specs.States.{State}
@@ -9,10 +9,14 @@ use Rattle.ba_search.proofs.DeletedSteps.{some_items, delete_step, named_formed,
 use Rattle.ba_search.proofs.ForgetLaws.{may_delete, underway_deleted}
 use Rattle.ba_search.proofs.engine.Engine.reduce.Goals as goal
 
-pub returns-then-is_empty-clause-puts : goal.returns-then-is_empty-clause-puts
-returns-then-is_empty-clause-puts g c = puts_none (g.J.RunJudge.accepts c.args.checked.now.judge)
-    (λ width age kept. g.K.Fn.post c.args.keep.now (width, (age, tt)) kept) c.args.checked.now.checker
-    c.args.self.now.numbers.learnt (g.S.StepSink.logs c.args.checked.now.sink)
+pub returns-then-is_empty-clause-goes_on : goal.returns-then-is_empty-clause-goes_on
+returns-then-is_empty-clause-goes_on g c = record {
+  underway = c.requires.underway;
+  variables = refl;
+  puts = puts_none (g.J.RunJudge.accepts c.args.checked.now.judge)
+      (λ width age kept. g.K.Fn.post c.args.keep.now (width, (age, tt)) kept) c.args.checked.now.checker
+      c.args.self.now.numbers.learnt (g.S.StepSink.logs c.args.checked.now.sink);
+}
 
 pub returns-then-is_empty-clause-leaves : goal.returns-then-is_empty-clause-leaves
 returns-then-is_empty-clause-leaves g c = leaves_none (g.J.RunJudge.accepts c.args.checked.now.judge)
@@ -93,44 +97,46 @@ delete-requires g c =
     u.numbered u.live go
     c.discarded-numbers.ensures.no_reasons)
 
-pub returns-clause-underway : goal.returns-clause-underway
-returns-clause-underway g c =
-    let d = c.put.new.self.checker in
-    underway_deleted c.args.assumptions.now c.args.self.now.watch c.delete.new.self.watch
-    c.args.self.now.numbers
-    c.delete.new.self.numbers c.args.checked.now.checker d c.discarded-numbers.result.items
-    (delete_taken c.args.checked.now.checker d c.discarded-numbers.result.items c.from_vec.result
-    c.from_vec.ensures
-    c.in_ok-put.ensures.taken)
-    (subst (λ (ns : List ℕ). Deletes c.args.self.now.watch c.delete.new.self.watch ns)
-    c.as_slice.ensures.value
-    c.delete.ensures.deletes)
-    (subst (λ (ns : List ℕ). Forgets ns c.args.self.now.numbers.taken c.delete.new.self.numbers.taken)
-    c.as_slice.ensures.value c.delete.ensures.forgets)
-    c.requires.underway
-
-pub returns-clause-puts : goal.returns-clause-puts
-returns-clause-puts g c =
+pub returns-clause-goes_on : goal.returns-clause-goes_on
+returns-clause-goes_on g c =
     let k = c.args.checked.now.checker in
-    delete_puts (g.J.RunJudge.accepts c.args.checked.now.judge)
-    (λ width age kept. g.K.Fn.post c.args.keep.now (width, (age, tt)) kept) k c.put.new.self.checker
-    c.args.self.now.numbers.learnt c.delete.new.self.numbers.learnt
-    (g.S.StepSink.logs c.args.checked.now.sink)
-    (g.S.StepSink.logs c.put.new.self.sink) c.discarded-numbers.result.items c.from_vec.result
-    c.from_vec.ensures
-    (delete_step (g.J.RunJudge.accepts c.args.checked.now.judge)
-    (λ width age kept. g.K.Fn.post c.args.keep.now (width, (age, tt)) kept) c.args.assumptions.now
-    c.args.self.now.watch c.args.self.now.numbers k c.checker.result.now
-    c.args.self.now.numbers.learnt
-    c.learnt.result.now c.discarded-numbers.result.items
-    c.requires.underway c.requires.learnt c.checker.ensures c.learnt.ensures
-    c.discarded-numbers.ensures.numbers
-    c.discarded-numbers.ensures.ascends
-    (some_items c.discarded-numbers.result.items (vec_len c.discarded-numbers.result) c.is_empty.result
-    c.is_empty.ensures
-    c.if-is_empty.false (omega (arith, c.discarded-numbers.result.ok.0)))
-    c.discarded-numbers.ensures.may_go c.discarded-numbers.ensures.discarded)
-    c.in_ok-put.ensures.taken c.delete.ensures.learns_nothing.learnt c.in_ok-put.ensures.told
+    let d = c.put.new.self.checker in
+    let taken = delete_taken c.args.checked.now.checker d c.discarded-numbers.result.items c.from_vec.result
+    c.from_vec.ensures c.in_ok-put.ensures.taken in
+    record {
+      underway = underway_deleted c.args.assumptions.now c.args.self.now.watch c.delete.new.self.watch
+          c.args.self.now.numbers
+          c.delete.new.self.numbers c.args.checked.now.checker d c.discarded-numbers.result.items
+          (delete_taken c.args.checked.now.checker d c.discarded-numbers.result.items c.from_vec.result
+          c.from_vec.ensures
+          c.in_ok-put.ensures.taken)
+          (subst (λ (ns : List ℕ). Deletes c.args.self.now.watch c.delete.new.self.watch ns)
+          c.as_slice.ensures.value
+          c.delete.ensures.deletes)
+          (subst (λ (ns : List ℕ). Forgets ns c.args.self.now.numbers.taken c.delete.new.self.numbers.taken)
+          c.as_slice.ensures.value c.delete.ensures.forgets)
+          c.requires.underway;
+      variables = ap (λ (x : State). x.variables) taken;
+      puts = delete_puts (g.J.RunJudge.accepts c.args.checked.now.judge)
+          (λ width age kept. g.K.Fn.post c.args.keep.now (width, (age, tt)) kept) k c.put.new.self.checker
+          c.args.self.now.numbers.learnt c.delete.new.self.numbers.learnt
+          (g.S.StepSink.logs c.args.checked.now.sink)
+          (g.S.StepSink.logs c.put.new.self.sink) c.discarded-numbers.result.items c.from_vec.result
+          c.from_vec.ensures
+          (delete_step (g.J.RunJudge.accepts c.args.checked.now.judge)
+          (λ width age kept. g.K.Fn.post c.args.keep.now (width, (age, tt)) kept) c.args.assumptions.now
+          c.args.self.now.watch c.args.self.now.numbers k c.checker.result.now
+          c.args.self.now.numbers.learnt
+          c.learnt.result.now c.discarded-numbers.result.items
+          c.requires.underway c.requires.learnt c.checker.ensures c.learnt.ensures
+          c.discarded-numbers.ensures.numbers
+          c.discarded-numbers.ensures.ascends
+          (some_items c.discarded-numbers.result.items (vec_len c.discarded-numbers.result) c.is_empty.result
+          c.is_empty.ensures
+          c.if-is_empty.false (omega (arith, c.discarded-numbers.result.ok.0)))
+          c.discarded-numbers.ensures.may_go c.discarded-numbers.ensures.discarded)
+          c.in_ok-put.ensures.taken c.delete.ensures.learns_nothing.learnt c.in_ok-put.ensures.told;
+    }
 
 pub returns-clause-leaves : goal.returns-clause-leaves
 returns-clause-leaves g c =

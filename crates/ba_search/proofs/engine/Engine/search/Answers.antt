@@ -52,15 +52,15 @@ returns-in-Some-clause-puts g c =
     (g.S.StepSink.logs c.args.checked.now.sink) (g.S.StepSink.logs c.iterations.checked.sink)
     (g.S.StepSink.logs c.iterate.new.checked.sink)
     (ap g.J.RunJudge.accepts c.iterations.invariant.lasts.judge_stays) c.iterations.invariant.puts
-    c.in_ok-answer.ensures.puts)
+    c.in_ok-answer.ensures.goes_on.puts)
 
 pub iterations-preserved : goal.iterations-preserved
 iterations-preserved g c =
     let i = c.iterations.invariant in
     let t = c.in_ok-answer.ensures in
     record {
-      underway = t.underway;
-      variables = t.variables ∙ i.variables;
+      underway = t.goes_on.underway;
+      variables = t.goes_on.variables ∙ i.variables;
       puts = puts_then (g.J.RunJudge.accepts c.args.checked.now.judge)
           (g.J.RunJudge.accepts c.iterations.checked.judge)
           (λ width age kept. g.K.Fn.post c.args.keep.now (width, (age, tt)) kept) c.args.checked.now.checker
@@ -69,7 +69,7 @@ iterations-preserved g c =
           c.iterate.new.self.numbers.learnt
           (g.S.StepSink.logs c.args.checked.now.sink) (g.S.StepSink.logs c.iterations.checked.sink)
           (g.S.StepSink.logs c.iterate.new.checked.sink)
-          (ap g.J.RunJudge.accepts i.lasts.judge_stays) i.puts t.puts;
+          (ap g.J.RunJudge.accepts i.lasts.judge_stays) i.puts t.goes_on.puts;
       fresh = t.ran.fresh;
       propagated = omega (arith, c.iterate.ensures.propagated, i.propagated);
       lasts = lasts_then g.S.StepSink.over g.S.StepSink.faults g.S.StepSink.references c.args.checked.now

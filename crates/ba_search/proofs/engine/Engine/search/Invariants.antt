@@ -17,4 +17,4 @@ invariant-iterations g l = record {
 }
 
 abbrev pub decreases-iterations : goal.decreases-iterations
-decreases-iterations g l = iterations_left l.checked.checker l.self.since l.self.watch
+decreases-iterations g l = iterations_left l.checked.checker l.self.backtracks_left l.self.watch

@@ -17,7 +17,7 @@ loop-place-preserved c =
       variables = t.variables ∙ i.variables;
       learns_nothing = record {
         learnt = t.learns_nothing.learnt ∙ i.learns_nothing.learnt;
-        since = t.learns_nothing.since ∙ i.learns_nothing.since;
+        backtracks = t.learns_nothing.backtracks ∙ i.learns_nothing.backtracks;
         propagated = t.learns_nothing.propagated ∙ i.learns_nothing.propagated;
       };
     }
