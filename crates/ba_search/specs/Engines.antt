@@ -10,7 +10,7 @@ use Rattle.ba_search.specs.Iterations.{IsUnderway, Puts, iterations_left}
 use Rattle.ba_search.specs.declared.engine.Engine.{Engine}
 use Rattle.ba_search.specs.declared.search.Answer.{Answer}
 
--- no clause was learnt, no conflict counted and no literal propagated
+-- no clause was learnt, no step back counted and no literal propagated
 pub record LearnsNothing (old new : Engine) : Type 0 where
   pub learnt : new.numbers.learnt ≡ old.numbers.learnt
   pub backtracks : new.backtracks_left ≡ old.backtracks_left

@@ -11,6 +11,7 @@ ghost use Rattle.ba_search.specs.Engines.{Decides, LearnsNothing};
 ghost use Rattle.ba_search.specs.Values.{positive, is_true, values_of, IsUnassigned};
 ghost use Rattle.ba_search.specs.Iterations.{AreTrue, IsDecision, IsUnderway, iterations_left};
 
+use crate::candidates::Candidates;
 use crate::engine::Engine;
 use crate::iteration::is_spent;
 use crate::order::Order;
@@ -45,6 +46,7 @@ impl Engine {
             Some(assumption) => self.assume(assumptions, checker, assumption),
             None => {
                 self.first_branch = self.watch.trail().len();
+                self.assumption_level = self.watch.level();
                 self.branch(assumptions, checker)
             }
         }
@@ -110,7 +112,7 @@ impl Engine {
             return Ok(Some(Answer::Spent));
         }
         let core = self.analyser.core_of(&self.watch, assumption)?;
-        self.order.set_candidates(core.lits.as_slice())?;
+        self.candidates.set(core.lits.as_slice())?;
         Ok(Some(Answer::Core(core)))
     }
 
@@ -131,25 +133,38 @@ impl Engine {
     {
         checker.keeps_facts();
         let left = self.backtracks_left;
-        if let Some(level) = self.sweep.level_after_trial(&self.watch, left) {
-            self.leave_trial(level);
+        let sweep = &mut self.sweep;
+        let candidates = &mut self.candidates;
+        let over = level_to_leave(sweep, candidates, &self.watch, self.assumption_level, left);
+        if let Some(level) = over {
+            self.leave(level);
             return Ok(None);
         }
         let variables = checker.variables();
         let order = &mut self.order;
+        let candidates = &mut self.candidates;
         let sweep = &mut self.sweep;
-        let picked = pick(self.alloc, order, sweep, &self.watch, checker, variables)?;
+        let picked = pick(
+            self.alloc,
+            order,
+            candidates,
+            sweep,
+            &self.watch,
+            checker,
+            variables,
+        )?;
         if let Some(variable) = picked {
             let lit = literal(variable, self.order.phase(variable));
             self.decide_literal(lit);
             return Ok(None);
         }
+        self.candidates.note_model();
         let model = model_of(self.alloc, &self.watch, variables)?;
         Ok(Some(Answer::Model(model)))
     }
 
-    /// Takes the decisions of a trial of a sweep back.
-    fn leave_trial(&mut self, level: usize)
+    /// Takes the decisions above a level back, of a trial of a sweep or of a candidate's turn.
+    fn leave(&mut self, level: usize)
         requires level { level ≤ decided self.old.watch.reasons }
         requires left { 1 ≤ self.old.backtracks_left }
         ensures underway { (assumptions : List Literal) (checker : Checking)
@@ -166,6 +181,29 @@ impl Engine {
     }
 }
 
+/// The level to go back to: that at which the trial of a hypothesis that is over began, or that of the assumptions where a
+/// candidate's turn is over. None where they go on, or where no decisions may be taken back. A sweep is under one candidate,
+/// so that its turn doesn't end then.
+fn level_to_leave(
+    sweep: &mut Sweep,
+    candidates: &mut Candidates,
+    watch: &Watch,
+    assumption_level: usize,
+    backtracks_left: u64,
+) -> Option<usize>
+    ensures level { IfSome result (λ level. level ≤ decided watch.now.reasons) }
+    ensures left { IfSome result (λ level. 1 ≤ backtracks_left) }
+{
+    if let Some(level) = sweep.level_after_trial(watch, backtracks_left) {
+        return Some(level);
+    }
+    if backtracks_left == 0 || sweep.is_running() || !candidates.ends_turn() {
+        return None;
+    }
+    sweep.note_restart();
+    Some(assumption_level.min(watch.level()))
+}
+
 /// The variable without a value up to a limit that is decided next, with its phase: a candidate, or one that a sweep asks
 /// for, or the most active one; None exactly where all have values.
 ///
@@ -173,6 +211,7 @@ impl Engine {
 fn pick(
     alloc: Global,
     order: &mut Order,
+    candidates: &mut Candidates,
     sweep: &mut Sweep,
     watch: &Watch,
     checker: &Checker,
@@ -183,8 +222,9 @@ fn pick(
     ensures none { IfOk result (λ picked. IfNone picked ((variable : ℕ) → 1 ≤ variable
         → variable ≤ limit → is_none (value_of watch.now.trail (positive variable)) ≡ false)) }
 {
-    if let Some(variable) = order.pick_candidate(watch, limit) {
-        return Ok(Some(variable));
+    if let Some(lit) = candidates.next(watch, limit) {
+        order.set_phase(lit);
+        return Ok(Some(lit.variable()));
     }
     sweep.prepare(alloc, watch, checker)?;
     let wanted = sweep.literal_to_try(watch);

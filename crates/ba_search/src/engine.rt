@@ -12,6 +12,7 @@ ghost use Rattle.ba_search.specs.Engines.{LearnsNothing};
 ghost use Rattle.ba_learn.specs.Live.{AreLive};
 ghost use Rattle.ba_search.specs.declared.search.SearchError.{SearchError};
 
+use crate::candidates::Candidates;
 use crate::clause_numbers::ClauseNumbers;
 use crate::order::Order;
 use crate::reduction::Reduction;
@@ -31,6 +32,7 @@ pub struct Engine {
     pub numbers: ClauseNumbers,
     pub analyser: Analyser,
     pub order: Order,
+    pub candidates: Candidates,
     pub reduction: Reduction,
     pub sweep: Sweep,
     pub restarts: u64,
@@ -40,6 +42,8 @@ pub struct Engine {
     pub backtracks_left: u64,
     /// A place of the trail where the first literal that is no assumption may have been decided.
     pub first_branch: usize,
+    /// The level of the assumptions where that place was noted.
+    pub assumption_level: usize,
     /// How many literals were assigned by propagation.
     pub propagated: u64,
 }
@@ -59,12 +63,14 @@ impl Engine {
             numbers: ClauseNumbers::new(alloc),
             analyser: Analyser::new(alloc),
             order: Order::new(alloc),
+            candidates: Candidates::new(alloc),
             reduction: Reduction::new(alloc),
             sweep: Sweep::new(alloc),
             restarts: 0,
             since: 0,
             backtracks_left: 0,
             first_branch: 0,
+            assumption_level: 0,
             propagated: 0,
         }
     }
@@ -89,6 +95,7 @@ impl Engine {
         ensures numbers { self.new.numbers ≡ self.old.numbers }
         ensures learns_nothing { LearnsNothing self.old self.new }
     {
+        self.candidates.note_backtrack();
         self.order.release(&self.watch, level);
         self.watch.back_to(level);
     }

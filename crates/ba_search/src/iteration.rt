@@ -65,6 +65,7 @@ impl Engine {
         self.grow(checked.checker().variables())?;
         self.backtrack(0);
         self.sweep.reset();
+        self.candidates.reset();
         self.watch.keeps_facts();
         'iterations: loop {
             if let Some(answer) = self.iterate(assumptions, checked, restart, keep)? {

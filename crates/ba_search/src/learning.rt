@@ -62,6 +62,7 @@ impl Engine {
         self.since = self.since.saturating_add(1);
         self.backtracks_left = MOST_BACKTRACKS;
         self.sweep.note_conflict();
+        self.candidates.note_conflict();
         Ok(())
     }
 

@@ -29,9 +29,6 @@ pub struct Order {
     places: Vec<usize>,
     phases: Vec<bool>,
     increment: u64,
-    candidates: Vec<Lit>,
-    first_candidate: usize,
-    candidates_passed: usize,
 }
 
 impl Order {
@@ -44,23 +41,7 @@ impl Order {
             places: Vec::new(alloc),
             phases: Vec::new(alloc),
             increment: FIRST_INCREMENT,
-            candidates: Vec::new(alloc),
-            first_candidate: 0,
-            candidates_passed: 0,
         }
-    }
-
-    /// Notes literals of which one has to be true. They are decided before other variables, and true.
-    ///
-    /// The one error is want of memory.
-    pub fn set_candidates(&mut self, lits: &[Lit]) -> Result<(), AllocError> {
-        self.candidates.clear();
-        self.first_candidate = 0;
-        self.candidates_passed = 0;
-        for lit in lits {
-            self.candidates.push(*lit)?;
-        }
-        Ok(())
     }
 
     /// Takes the variables up to a number.
@@ -121,33 +102,8 @@ impl Order {
         Some(variable)
     }
 
-    /// Begins with the next candidate from now on, so that none keeps the others waiting.
-    pub fn rotate_candidates(&mut self) {
-        self.first_candidate = self.first_candidate.saturating_add(1);
-        self.candidates_passed = 0;
-    }
-
-    /// The variable of the next candidate without a value, whose phase is then that of the candidate.
-    pub fn pick_candidate(&mut self, watch: &Watch, limit: u64) -> Option<u64>
-        requires { limit ≤ watch.now.variables }
-        ensures { IfSome result (λ variable. IsUnassigned watch.now.trail limit variable) }
-    {
-        let count = self.candidates.len();
-        for passed in self.candidates_passed..count {
-            let candidate = self.candidates[self.first_candidate.saturating_add(passed) % count];
-            let variable = candidate.variable();
-            if 1 <= variable && variable <= limit && is_unassigned(watch, variable) {
-                self.candidates_passed = passed;
-                self.set_phase(candidate);
-                return Some(variable);
-            }
-        }
-        self.candidates_passed = count;
-        None
-    }
-
     /// Makes the value under which a literal is true the phase of its variable.
-    fn set_phase(&mut self, lit: Lit) {
+    pub fn set_phase(&mut self, lit: Lit) {
         if let Some(phase) = self.phases.get_mut(lit.variable() as usize) {
             *phase = !lit.is_negated();
         }
@@ -181,7 +137,6 @@ impl Order {
 
     /// Keeps the values of the variables of the levels above one, and puts these variables back onto the heap.
     pub fn release(&mut self, watch: &Watch, level: usize) {
-        self.candidates_passed = 0;
         let trail = watch.trail();
         let reasons = watch.reasons();
         let mut left = watch.level().saturating_sub(level);
@@ -330,7 +285,7 @@ impl Order {
 }
 
 /// Whether a variable has no value.
-fn is_unassigned(watch: &Watch, variable: u64) -> bool
+pub fn is_unassigned(watch: &Watch, variable: u64) -> bool
     requires counted { 1 ≤ variable }
     requires within { variable ≤ watch.now.variables }
     ensures { result ≡ is_none (value_of watch.now.trail (positive variable)) }

@@ -50,7 +50,7 @@ impl Engine {
         Ok(())
     }
 
-    /// Counts a restart. The next candidate comes first then, but in a sweep, which is under one.
+    /// Counts a restart.
     fn note_restart(&mut self)
         ensures watch { self.new.watch ≡ self.old.watch }
         ensures numbers { self.new.numbers ≡ self.old.numbers }
@@ -59,9 +59,6 @@ impl Engine {
         self.restarts = self.restarts.saturating_add(1);
         self.since = 0;
         self.sweep.note_restart();
-        if !self.sweep.is_running() {
-            self.order.rotate_candidates();
-        }
     }
 
     /// Deletes the clauses that the keep rule discards.

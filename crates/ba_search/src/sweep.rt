@@ -13,7 +13,8 @@ use ba_watch::Watch;
 use std::alloc::{AllocError, Global};
 use std::mem;
 
-/// How many conflicts a search has before its first sweep. Before each further one it has twice as many as before the last.
+/// How many conflicts a search has before its first sweep. Before each further one it has twice as many as before the last,
+/// those of a last one that tried all its hypotheses among them.
 const FIRST_PATIENCE: u64 = 10_000;
 
 /// How many times the conflicts that came before it a sweep takes at most.
@@ -29,7 +30,7 @@ pub struct Sweep {
     base: Option<usize>,
     /// Whether a conflict came in its trial.
     is_tried: bool,
-    /// How many conflicts came in this sweep, or since the last.
+    /// How many conflicts came since the last sweep began, or since it was given up.
     conflicts: u64,
     /// After how many conflicts a sweep comes.
     patience: u64,

@@ -7,8 +7,8 @@ use Rattle.ba_search.proofs.engine.Engine.branch.Goals as goal
 pub returns-in-Some : goal.returns-in-Some
 returns-in-Some c = record {
   answer = search rules;
-  less = c.leave_trial.ensures.less c.args.checker.now;
-  underway = c.leave_trial.ensures.underway c.args.assumptions.now c.args.checker.now c.requires.underway;
+  less = c.leave.ensures.less c.args.checker.now;
+  underway = c.leave.ensures.underway c.args.assumptions.now c.args.checker.now c.requires.underway;
   numbers = search rules;
   propagated = search rules;
 }

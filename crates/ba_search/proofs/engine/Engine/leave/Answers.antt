@@ -2,7 +2,7 @@ use Rattle.std.proofs.Common.{◌-◌, ap, arith, refl}
 use Rattle.ba_watch.specs.Propagation.{State as Watching}
 use Rattle.ba_search.proofs.UnderwayLaws.{underway_back, underway_moved}
 use Rattle.ba_search.proofs.IterationLaws.{backtrack_less}
-use Rattle.ba_search.proofs.engine.Engine.leave_trial.Goals as goal
+use Rattle.ba_search.proofs.engine.Engine.leave.Goals as goal
 
 pub returns-clause-underway : goal.returns-clause-underway
 returns-clause-underway c assumptions checker u =
