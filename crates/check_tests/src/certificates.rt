@@ -5,8 +5,8 @@ use ba_check::{CheckError, Confirmed};
 use ba_items::Items;
 use ba_numbers::ids::StmtId;
 use std::alloc::Global;
+use std::panic::Expect;
 use std::process::Abort;
-use std::test::Fail;
 use test_programs::reader::Fault;
 
 /// What a text says, or the line at which it is refused and the code.
@@ -76,46 +76,58 @@ fn refused_line(told: &Result<Confirmed, CheckError>) -> Option<u64> {
 type Row = (&'static str, &'static str, u64, u32, Answer);
 
 /// A text behind the head line.
-fn behind_head(alloc: Global, body: &str) -> Result<Vec<u8>, Fault> {
+fn behind_head(rt: &impl Abort, alloc: Global, body: &str) -> Vec<u8> {
     let mut text = Vec::new(alloc);
-    text.extend_from_slice(HEAD.as_bytes())?;
-    text.extend_from_slice(body.as_bytes())?;
-    Ok(text)
+    text.extend_from_slice(HEAD.as_bytes()).expect(rt, "memory");
+    text.extend_from_slice(body.as_bytes()).expect(rt, "memory");
+    text
 }
 
 /// Whether a text is answered so as a whole, and in pieces of 1, 7 and 4,096 bytes.
 fn are_answered(
+    rt: &impl Abort,
     alloc: Global,
     problem: &Problem,
     text: &[u8],
     conflicts: u64,
     sets: u32,
     answer: Answer,
-) -> Result<bool, Fault> {
+) -> bool {
     for size in [None, Some(1), Some(7), Some(4096)] {
-        let told = judge(alloc, problem, settings(conflicts, sets), text, size)?;
+        let told = judge(alloc, problem, settings(conflicts, sets), text, size).expect(
+            rt, "memory",
+        );
         if answer_of(&told) != answer {
-            return Ok(false);
+            return false;
         }
     }
-    Ok(true)
+    true
 }
 
 /// The first row that is answered otherwise.
 fn first_wrong(
+    rt: &impl Abort,
     alloc: Global,
     clauses: &[&[i64]],
     rows: &[Row],
-) -> Result<Option<&'static str>, Fault> {
-    let problem = array_example(alloc, clauses)?;
+) -> Option<&'static str> {
+    let problem = array_example(alloc, clauses).expect(rt, "memory");
     for row in rows {
         let (shown, body, conflicts, sets, answer) = row;
-        let text = behind_head(alloc, body)?;
-        if !are_answered(alloc, &problem, text.as_slice(), *conflicts, *sets, *answer)? {
-            return Ok(Some(*shown));
+        let text = behind_head(rt, alloc, body);
+        if !are_answered(
+            rt,
+            alloc,
+            &problem,
+            text.as_slice(),
+            *conflicts,
+            *sets,
+            *answer,
+        ) {
+            return Some(*shown);
         }
     }
-    Ok(None)
+    None
 }
 
 const ROWS: [Row; 36] = [
@@ -284,10 +296,9 @@ const ROWS: [Row; 36] = [
 ];
 
 #[test]
-fn certificates_are_answered_by_the_table(rt: HostRuntime) -> Result<(), Fail> {
-    let wrong = first_wrong(rt.alloc(), SOME, &ROWS)?;
+fn certificates_are_answered_by_the_table(rt: HostRuntime) {
+    let wrong = first_wrong(&rt, rt.alloc(), SOME, &ROWS);
     assert_eq!(rt; wrong, None);
-    Ok(())
 }
 
 const WITHOUT_MODEL: [Row; 2] = [
@@ -302,15 +313,14 @@ const WITHOUT_MODEL: [Row; 2] = [
 ];
 
 #[test]
-fn no_model_is_no_repair(rt: HostRuntime) -> Result<(), Fail> {
-    let wrong = first_wrong(rt.alloc(), NONE, &WITHOUT_MODEL)?;
+fn no_model_is_no_repair(rt: HostRuntime) {
+    let wrong = first_wrong(&rt, rt.alloc(), NONE, &WITHOUT_MODEL);
     assert_eq!(rt; wrong, None);
-    Ok(())
 }
 
 /// Whether texts without a right head line are answered so.
-fn are_headless(alloc: Global) -> Result<bool, Fault> {
-    let problem = array_example(alloc, SOME)?;
+fn are_headless(rt: &impl Abort, alloc: Global) -> bool {
+    let problem = array_example(alloc, SOME).expect(rt, "memory");
     let texts: [(&str, Answer); 6] = [
         ("", Refused(1, 21)),
         ("bugassist 1", Refused(1, 21)),
@@ -320,18 +330,17 @@ fn are_headless(alloc: Global) -> Result<bool, Fault> {
         ("\n", Refused(1, 20)),
     ];
     for (text, answer) in texts {
-        if !are_answered(alloc, &problem, text.as_bytes(), 0, 9, answer)? {
-            return Ok(false);
+        if !are_answered(rt, alloc, &problem, text.as_bytes(), 0, 9, answer) {
+            return false;
         }
     }
-    Ok(true)
+    true
 }
 
 #[test]
-fn the_head_line_is_the_first(rt: HostRuntime) -> Result<(), Fail> {
-    let are_right = are_headless(rt.alloc())?;
+fn the_head_line_is_the_first(rt: HostRuntime) {
+    let are_right = are_headless(&rt, rt.alloc());
     assert!(rt; are_right);
-    Ok(())
 }
 
 /// The number of the line in which what follows these bytes stands.
@@ -346,61 +355,63 @@ fn line_behind(bytes: &[u8]) -> u64 {
 }
 
 /// Whether each part of the example's certificate that is cut off ends too early, in its last line.
-fn end_too_early(alloc: Global) -> Result<bool, Fault> {
-    let problem = array_example(alloc, SOME)?;
-    let text = behind_head(alloc, WHOLE)?;
+fn end_too_early(rt: &impl Abort, alloc: Global) -> bool {
+    let problem = array_example(alloc, SOME).expect(rt, "memory");
+    let text = behind_head(rt, alloc, WHOLE);
     for count in 0..text.len() {
         let front = &text.as_slice()[..count];
         let answer = Refused(line_behind(front), 21);
-        if !are_answered(alloc, &problem, front, 5, 9, answer)? {
-            return Ok(false);
+        if !are_answered(rt, alloc, &problem, front, 5, 9, answer) {
+            return false;
         }
     }
-    Ok(true)
+    true
 }
 
 #[test]
-fn a_certificate_that_is_cut_off_ends_too_early(rt: HostRuntime) -> Result<(), Fail> {
-    let are_right = end_too_early(rt.alloc())?;
+fn a_certificate_that_is_cut_off_ends_too_early(rt: HostRuntime) {
+    let are_right = end_too_early(&rt, rt.alloc());
     assert!(rt; are_right);
-    Ok(())
 }
 
 /// Whether the example's certificate is refused where one of its bytes is a `9` in its place, in the line of that byte.
-fn are_refused_in_their_lines(alloc: Global) -> Result<bool, Fault> {
-    let problem = array_example(alloc, SOME)?;
-    let mut text = behind_head(alloc, WHOLE)?;
+fn are_refused_in_their_lines(rt: &impl Abort, alloc: Global) -> bool {
+    let problem = array_example(alloc, SOME).expect(rt, "memory");
+    let mut text = behind_head(rt, alloc, WHOLE);
     for place in 0..text.len() {
         let byte = text[place];
         text[place] = b'9';
-        let told = judge(alloc, &problem, settings(5, 9), text.as_slice(), None)?;
+        let told = judge(alloc, &problem, settings(5, 9), text.as_slice(), None).expect(
+            rt, "memory",
+        );
         if refused_line(&told) != Some(line_behind(&text.as_slice()[..place])) {
-            return Ok(false);
+            return false;
         }
         text[place] = byte;
     }
-    Ok(true)
+    true
 }
 
 #[test]
-fn a_byte_that_is_changed_is_refused_in_its_line(rt: HostRuntime) -> Result<(), Fail> {
-    let are_right = are_refused_in_their_lines(rt.alloc())?;
+fn a_byte_that_is_changed_is_refused_in_its_line(rt: HostRuntime) {
+    let are_right = are_refused_in_their_lines(&rt, rt.alloc());
     assert!(rt; are_right);
-    Ok(())
 }
 
 /// What each piece is answered, and in the end the text.
 type Pieces = (&'static [(&'static str, Option<(u64, u8)>)], Answer);
 
 /// Whether the pieces are answered so, one after the other.
-fn are_fed(alloc: Global, pieces: &Pieces) -> Result<bool, Fault> {
-    let problem = array_example(alloc, SOME)?;
+fn are_fed(rt: &impl Abort, alloc: Global, pieces: &Pieces) -> bool {
+    let problem = array_example(alloc, SOME).expect(rt, "memory");
     let mut refusals = Vec::new(alloc);
     let mut texts = Vec::new(alloc);
     let mut expected = Vec::new(alloc);
     for (text, refusal) in pieces.0 {
-        texts.push(*text)?;
-        expected.push(refusal.map(|(line, code)| CheckError::Line { line, code }))?;
+        texts.push(*text).expect(rt, "memory");
+        expected
+            .push(refusal.map(|(line, code)| CheckError::Line { line, code }))
+            .expect(rt, "memory");
     }
     let told = feed_all(
         alloc,
@@ -408,8 +419,9 @@ fn are_fed(alloc: Global, pieces: &Pieces) -> Result<bool, Fault> {
         settings(5, 9),
         texts.as_slice(),
         &mut refusals,
-    )?;
-    Ok(answer_of(&told) == pieces.1 && refusals.as_slice() == expected.as_slice())
+    )
+    .expect(rt, "memory");
+    answer_of(&told) == pieces.1 && refusals.as_slice() == expected.as_slice()
 }
 
 const FED: [Pieces; 4] = [
@@ -445,18 +457,17 @@ const FED: [Pieces; 4] = [
 ];
 
 /// The first of these that is answered otherwise.
-fn first_misfed(alloc: Global) -> Result<Option<usize>, Fault> {
+fn first_misfed(rt: &impl Abort, alloc: Global) -> Option<usize> {
     for (place, pieces) in FED.iter().enumerate() {
-        if !are_fed(alloc, pieces)? {
-            return Ok(Some(place));
+        if !are_fed(rt, alloc, pieces) {
+            return Some(place);
         }
     }
-    Ok(None)
+    None
 }
 
 #[test]
-fn pieces_are_answered_one_after_the_other(rt: HostRuntime) -> Result<(), Fail> {
-    let wrong = first_misfed(rt.alloc())?;
+fn pieces_are_answered_one_after_the_other(rt: HostRuntime) {
+    let wrong = first_misfed(&rt, rt.alloc());
     assert_eq!(rt; wrong, None);
-    Ok(())
 }

@@ -4,8 +4,9 @@ use crate::problems::{array_example, settings};
 use ba_choices::{Choice, Values};
 use ba_judge::ProgramJudge;
 use ba_steps::RunJudge;
-use std::alloc::{AllocError, Global};
-use std::test::Fail;
+use std::alloc::Global;
+use std::panic::Expect;
+use std::process::Abort;
 
 /// Runs of the array example on the input 1: the relaxed statements, the values that their executions take one after the
 /// other, and whether the run is good.
@@ -19,25 +20,29 @@ pub static RUNS: [(&[u32], &[i64], bool); 6] = [
 ];
 
 /// Choices that take these values.
-fn taking(alloc: Global, values: &[i64]) -> Result<Vec<Choice>, AllocError> {
+fn taking(rt: &impl Abort, alloc: Global, values: &[i64]) -> Vec<Choice> {
     let mut choices = Vec::new(alloc);
     for value in values {
         let mut taken = Values::new(alloc);
-        taken.push(*value)?;
-        choices.push(Choice::Take(taken))?;
+        taken.push(*value).expect(rt, "memory");
+        choices.push(Choice::Take(taken)).expect(rt, "memory");
     }
-    Ok(choices)
+    choices
 }
 
 #[test]
-fn a_run_is_good_where_the_program_is_done(rt: HostRuntime) -> Result<(), Fail> {
+fn a_run_is_good_where_the_program_is_done(rt: HostRuntime) {
     let alloc = rt.alloc();
-    let problem = array_example(alloc, &[]).map_err(|_| "no problem")?;
+    let problem = array_example(alloc, &[])
+        .map_err(|_| "no problem")
+        .expect(&rt, "memory");
     let bounds = settings(1, 1).bounds;
     let judge = ProgramJudge::new(alloc, &problem.program, &problem.input, bounds);
     for (groups, values, good) in &RUNS {
-        let choices = taking(alloc, values)?;
-        assert_eq!(rt; judge.good(groups, choices.as_slice())?, *good);
+        let choices = taking(&rt, alloc, values);
+        assert_eq!(rt;
+            judge.good(groups, choices.as_slice()).expect(&rt, "memory"),
+            *good
+        );
     }
-    Ok(())
 }

@@ -5,9 +5,9 @@ use crate::searching::has_model;
 use ba_encode::Encoded;
 use ba_lits::Lit;
 use ba_numbers::ids::StmtId;
-use std::alloc::{AllocError, Global};
+use std::alloc::Global;
+use std::panic::Expect;
 use std::process::Abort;
-use std::test::Fail;
 use test_programs::examples::{DIVISION, GLOBAL, P1, P2, P3, P5, STORE, TWO};
 
 /// A parameter and an assert.
@@ -178,43 +178,45 @@ static ROWS: [Row; 13] = [
 ];
 
 /// The groups of a formula as statements with their weights. None where a group is not that of the statement of its number.
-fn groups_of(alloc: Global, encoded: &Encoded) -> Result<Option<Vec<(u32, u32)>>, AllocError> {
+fn groups_of(rt: &impl Abort, alloc: Global, encoded: &Encoded) -> Option<Vec<(u32, u32)>> {
     let mut groups = Vec::new(alloc);
     for group in 0..encoded.groups() {
         let number = encoded.number(group);
         if encoded.statement(group) != StmtId(number) {
-            return Ok(None);
+            return None;
         }
-        groups.push((number, encoded.weight(group)))?;
+        groups
+            .push((number, encoded.weight(group)))
+            .expect(rt, "memory");
     }
-    Ok(Some(groups))
+    Some(groups)
 }
 
 /// The statements of the groups whose bits are set in a number.
-fn set_of(alloc: Global, groups: &[(u32, u32)], bits: u32) -> Result<Vec<u32>, AllocError> {
+fn set_of(rt: &impl Abort, alloc: Global, groups: &[(u32, u32)], bits: u32) -> Vec<u32> {
     let mut set = Vec::new(alloc);
     let mut rest = bits;
     for (number, _) in groups {
         if rest % 2 == 1 {
-            set.push(*number)?;
+            set.push(*number).expect(rt, "memory");
         }
         rest /= 2;
     }
-    Ok(set)
+    set
 }
 
 /// The literals that say that exactly the selectors of a set of groups are false.
-fn exactly(alloc: Global, encoded: &Encoded, set: &[u32]) -> Result<Vec<Lit>, AllocError> {
+fn exactly(rt: &impl Abort, alloc: Global, encoded: &Encoded, set: &[u32]) -> Vec<Lit> {
     let mut lits = Vec::new(alloc);
     for group in 0..encoded.groups() {
         let selector = encoded.selector(group);
         if set.contains(&encoded.number(group)) {
-            lits.push(selector.negated())?;
+            lits.push(selector.negated()).expect(rt, "memory");
         } else {
-            lits.push(selector)?;
+            lits.push(selector).expect(rt, "memory");
         }
     }
-    Ok(lits)
+    lits
 }
 
 /// Whether one of these repairs is among a set.
@@ -225,20 +227,17 @@ fn repairs(repairs: &[&[u32]], set: &[u32]) -> bool {
 }
 
 /// Whether a formula has a model whose false selectors are exactly those of a set of groups.
-fn has_repair(
-    rt: &impl Abort,
-    alloc: Global,
-    encoded: &Encoded,
-    set: &[u32],
-) -> Result<bool, Fail> {
-    let lits = exactly(alloc, encoded, set)?;
+fn has_repair(rt: &impl Abort, alloc: Global, encoded: &Encoded, set: &[u32]) -> bool {
+    let lits = exactly(rt, alloc, encoded, set);
     has_model(rt, alloc, encoded.formula(), lits.as_slice())
 }
 
 /// Tries all sets of groups of a row's formula.
-fn check(rt: &impl Abort, alloc: Global, row: &Row) -> Result<(), Fail> {
-    let encoded = encoded_of(alloc, row.program, row.input, row.turns, row.weights)?;
-    let groups = groups_of(alloc, &encoded)?.ok_or("a group of another statement")?;
+fn check(rt: &impl Abort, alloc: Global, row: &Row) {
+    let encoded = encoded_of(alloc, row.program, row.input, row.turns, row.weights).expect(
+        rt, "memory",
+    );
+    let groups = groups_of(rt, alloc, &encoded).expect(rt, "a group of another statement");
     assert!(rt;
         groups.as_slice() == row.groups,
         "the groups of {}",
@@ -246,8 +245,8 @@ fn check(rt: &impl Abort, alloc: Global, row: &Row) -> Result<(), Fail> {
     );
     assert!(rt; groups.len() <= 5);
     for bits in 0..1u32 << groups.len() {
-        let set = set_of(alloc, groups.as_slice(), bits)?;
-        let found = has_repair(rt, alloc, &encoded, set.as_slice())?;
+        let set = set_of(rt, alloc, groups.as_slice(), bits);
+        let found = has_repair(rt, alloc, &encoded, set.as_slice());
         assert_eq!(rt;
             found,
             repairs(row.repairs, set.as_slice()),
@@ -255,28 +254,25 @@ fn check(rt: &impl Abort, alloc: Global, row: &Row) -> Result<(), Fail> {
             row.program
         );
     }
-    Ok(())
 }
 
 #[test]
-fn exactly_the_sets_that_could_repair_have_models(rt: HostRuntime) -> Result<(), Fail> {
+fn exactly_the_sets_that_could_repair_have_models(rt: HostRuntime) {
     for row in &ROWS {
-        check(&rt, rt.alloc(), row)?;
+        check(&rt, rt.alloc(), row);
     }
-    Ok(())
 }
 
 #[test]
-fn thirteen_groups_have_their_smallest_repairs(rt: HostRuntime) -> Result<(), Fail> {
+fn thirteen_groups_have_their_smallest_repairs(rt: HostRuntime) {
     let alloc = rt.alloc();
-    let encoded = encoded_of(alloc, GREATEST, "3 1 2 9", 4, "3 10\n10 20")?;
-    let groups = groups_of(alloc, &encoded)?.ok_or("a group of another statement")?;
+    let encoded = encoded_of(alloc, GREATEST, "3 1 2 9", 4, "3 10\n10 20").expect(&rt, "memory");
+    let groups = groups_of(&rt, alloc, &encoded).expect(&rt, "a group of another statement");
     assert!(rt; groups.as_slice() == GREATEST_GROUPS.as_slice());
     for set in GREATEST_REPAIRS {
-        assert!(rt; has_repair(&rt, alloc, &encoded, set)?, "set {set:?}");
+        assert!(rt; has_repair(&rt, alloc, &encoded, set), "set {set:?}");
     }
     for set in GREATEST_OTHERS {
-        assert!(rt; !has_repair(&rt, alloc, &encoded, set)?, "set {set:?}");
+        assert!(rt; !has_repair(&rt, alloc, &encoded, set), "set {set:?}");
     }
-    Ok(())
 }

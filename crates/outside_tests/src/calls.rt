@@ -9,8 +9,8 @@ use ba_tool::status::Status;
 use ba_tool::tool::tool;
 use ba_world::{MemoryWorld, World};
 use std::alloc::{AllocError, Global};
+use std::panic::Expect;
 use std::process::Abort;
-use std::test::Fail;
 
 /// A file of this name with these bytes.
 fn file(alloc: Global, name: &str, bytes: &[u8]) -> Result<(String, Vec<u8>), AllocError>
@@ -114,15 +114,19 @@ pub fn localise(alloc: Global, world: &mut MemoryWorld) -> Status {
 /// Calls the program by these words over a program, an input and weights: how it ends, and what it
 /// prints.
 pub fn call(
+    rt: &impl Abort,
     alloc: Global,
     words: &[&str],
     program: &str,
     input: &str,
     weights: &str,
-) -> Result<(Status, Vec<u8>), AllocError> {
-    let mut world = world_with(alloc, program, input, weights, &[], 4096)?;
+) -> (Status, Vec<u8>) {
+    let mut world = world_with(alloc, program, input, weights, &[], 4096).expect(rt, "memory");
     let ended = end(alloc, words, &mut world, &mut NoSink);
-    Ok((ended, Vec::from_slice(alloc, world.printed())?))
+    (
+        ended,
+        Vec::from_slice(alloc, world.printed()).expect(rt, "memory"),
+    )
 }
 
 /// The same, which must not change where the search keeps narrow clauses alone.
@@ -133,9 +137,9 @@ pub fn call_by_both_rules(
     program: &str,
     input: &str,
     weights: &str,
-) -> Result<(Status, Vec<u8>), Fail> {
-    let (ended, printed) = call(alloc, words, program, input, weights)?;
-    let mut world = world_with(alloc, program, input, weights, &[], 4096)?;
+) -> (Status, Vec<u8>) {
+    let (ended, printed) = call(rt, alloc, words, program, input, weights);
+    let mut world = world_with(alloc, program, input, weights, &[], 4096).expect(rt, "memory");
     let again = end_keeping_narrow(alloc, words, &mut world, &mut NoSink);
     assert_eq!(rt; again, ended, "{words:?} of {program:?}");
     assert_eq!(rt;
@@ -143,5 +147,5 @@ pub fn call_by_both_rules(
         printed.as_slice(),
         "{words:?} of {program:?}"
     );
-    Ok((ended, printed))
+    (ended, printed)
 }

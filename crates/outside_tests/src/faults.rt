@@ -6,22 +6,27 @@ use crate::programs::{ONE_ASSIGNMENT, ONE_REPORT};
 use ba_steps::NoSink;
 use ba_tool::status::Status;
 use ba_world::MemoryWorld;
-use std::alloc::{AllocError, Global};
-use std::test::Fail;
+use std::alloc::Global;
+use std::panic::Expect;
+use std::process::Abort;
 
 /// How the call ends, and what it prints, where these calls of the world fail.
-fn end_where(alloc: Global, fails: &[u64]) -> Result<(Status, Vec<u8>), AllocError> {
-    let mut world = world_of(alloc, ONE_ASSIGNMENT, "1", fails, 4096)?;
+fn end_where(rt: &impl Abort, alloc: Global, fails: &[u64]) -> (Status, Vec<u8>) {
+    let mut world = world_of(alloc, ONE_ASSIGNMENT, "1", fails, 4096).expect(rt, "memory");
     let ended = localise(alloc, &mut world);
-    Ok((ended, Vec::from_slice(alloc, world.printed())?))
+    (
+        ended,
+        Vec::from_slice(alloc, world.printed()).expect(rt, "memory"),
+    )
 }
 
 #[test]
-fn calls_nothing_but_print_after_a_fault(rt: HostRuntime) -> Result<(), Fail> {
+fn calls_nothing_but_print_after_a_fault(rt: HostRuntime) {
     // The call after the one that fails may print a refusal. One more call would fail too.
     for call in 0..7 {
-        let (status, printed) = end_where(rt.alloc(), &[call])?;
+        let (status, printed) = end_where(&rt, rt.alloc(), &[call]);
         let (again, printed_again) = end_where(
+            &rt,
             rt.alloc(),
             &[
                 call,
@@ -37,7 +42,7 @@ fn calls_nothing_but_print_after_a_fault(rt: HostRuntime) -> Result<(), Fail> {
                 call + 11,
                 call + 12,
             ],
-        )?;
+        );
         assert_eq!(rt; again, status, "after call {call}");
         assert_eq!(rt;
             printed_again.as_slice(),
@@ -45,11 +50,10 @@ fn calls_nothing_but_print_after_a_fault(rt: HostRuntime) -> Result<(), Fail> {
             "after call {call}"
         );
     }
-    Ok(())
 }
 
 #[test]
-fn says_which_call_of_the_world_failed(rt: HostRuntime) -> Result<(), Fail> {
+fn says_which_call_of_the_world_failed(rt: HostRuntime) {
     // Calls 0 to 2 read the program, 3 to 5 read the input, and call 6 prints.
     let no_program = "refused: program cannot be read\n";
     let no_input = "refused: input cannot be read\n";
@@ -82,30 +86,36 @@ fn says_which_call_of_the_world_failed(rt: HostRuntime) -> Result<(), Fail> {
         ),
         ("2\n", [6].as_slice(), Status::WriteFault, "not fa"),
     ] {
-        let mut world = world_of(rt.alloc(), ONE_ASSIGNMENT, input, fails, 4096)?;
+        let mut world = world_of(rt.alloc(), ONE_ASSIGNMENT, input, fails, 4096).expect(
+            &rt, "memory",
+        );
         let ended = localise(rt.alloc(), &mut world);
         assert_eq!(rt; ended, status, "where {fails:?} fail");
         assert_eq!(rt; world.printed(), printed.as_bytes(), "where {fails:?} fail");
     }
     for piece in [1, 7] {
-        let mut world = world_of(rt.alloc(), ONE_ASSIGNMENT, "1", &[], piece)?;
+        let mut world = world_of(rt.alloc(), ONE_ASSIGNMENT, "1", &[], piece).expect(&rt, "memory");
         assert_eq!(rt; localise(rt.alloc(), &mut world), Status::Ok, "by {piece}");
         assert_eq!(rt; world.printed(), ONE_REPORT.as_bytes(), "by {piece}");
     }
-    Ok(())
 }
 
 #[test]
-fn names_the_file_that_is_absent_or_too_long(rt: HostRuntime) -> Result<(), Fail> {
+fn names_the_file_that_is_absent_or_too_long(rt: HostRuntime) {
     let alloc = rt.alloc();
-    let mut empty = MemoryWorld::new(alloc, Vec::new(alloc), Vec::new(alloc), 1)?;
+    let mut empty = MemoryWorld::new(alloc, Vec::new(alloc), Vec::new(alloc), 1).expect(
+        &rt, "memory",
+    );
     assert_eq!(rt; localise(alloc, &mut empty), Status::ReadFault);
     assert_eq!(rt;
         empty.printed(),
         b"refused: program cannot be read\n".as_slice()
     );
 
-    let long = String::from_utf8(vec![in alloc; b' '; 65_537]?).expect(&rt, "blanks are text");
+    let long = String::from_utf8(vec![in alloc; b' '; 65_537].expect(&rt, "memory")).expect(
+        &rt,
+        "blanks are text",
+    );
     let long = long.as_str();
     let too_long_program = "refused: program is longer than 65536 bytes\n";
     let too_long_input = "refused: input is longer than 65536 bytes\n";
@@ -128,11 +138,10 @@ fn names_the_file_that_is_absent_or_too_long(rt: HostRuntime) -> Result<(), Fail
             "refused: input, error 3\n",
         ),
     ] {
-        let mut world = world_of(alloc, program, input, &[], 4096)?;
+        let mut world = world_of(alloc, program, input, &[], 4096).expect(&rt, "memory");
         assert_eq!(rt; localise(alloc, &mut world), status);
         assert_eq!(rt; world.printed(), printed.as_bytes());
     }
-    Ok(())
 }
 
 #[test]
@@ -147,7 +156,7 @@ fn refuses_a_program_that_never_ends(rt: HostRuntime) {
 }
 
 #[test]
-fn reads_the_weights_after_the_input(rt: HostRuntime) -> Result<(), Fail> {
+fn reads_the_weights_after_the_input(rt: HostRuntime) {
     let alloc = rt.alloc();
     let words = [
         "localise",
@@ -165,17 +174,18 @@ fn reads_the_weights_after_the_input(rt: HostRuntime) -> Result<(), Fail> {
         (6, Status::ReadFault, "refused: weights cannot be read\n"),
         (8, Status::ReadFault, "refused: weights cannot be read\n"),
     ] {
-        let mut world = world_with(alloc, ONE_ASSIGNMENT, "1", "3 1", &[fails], 4096)?;
+        let mut world = world_with(alloc, ONE_ASSIGNMENT, "1", "3 1", &[fails], 4096).expect(
+            &rt, "memory",
+        );
         let ended = end(alloc, &words, &mut world, &mut NoSink);
         assert_eq!(rt; ended, status, "where {fails} fails");
         assert_eq!(rt; world.printed(), printed.as_bytes(), "where {fails} fails");
     }
     let absent = ["localise", "p.c", "in.txt", "--weights=none", "--bound=1"];
-    let (ended, text) = call(alloc, &absent, ONE_ASSIGNMENT, "1", "")?;
+    let (ended, text) = call(&rt, alloc, &absent, ONE_ASSIGNMENT, "1", "");
     assert_eq!(rt; ended, Status::ReadFault);
     assert_eq!(rt;
         text.as_slice(),
         b"refused: weights cannot be read\n".as_slice()
     );
-    Ok(())
 }

@@ -7,28 +7,29 @@ use crate::programs::{
 use ba_steps::NoSink;
 use ba_tool::status::Status;
 use ba_world::MemoryWorld;
-use std::alloc::{AllocError, Global};
-use std::test::Fail;
+use std::alloc::Global;
+use std::panic::Expect;
+use std::process::Abort;
 
 /// The most pairs of parentheses around a token of the body of a function.
 const NINETY_NINE: usize = 99;
 
 /// `int main(void) { return (..(1)..); }` with so many pairs of parentheses.
-fn nested(alloc: Global, pairs: usize) -> Result<String, AllocError> {
-    let mut text = String::from_str(alloc, "int main(void) { return ")?;
+fn nested(rt: &impl Abort, alloc: Global, pairs: usize) -> String {
+    let mut text = String::from_str(alloc, "int main(void) { return ").expect(rt, "memory");
     for _ in 0..pairs {
-        text.push_str("(")?;
+        text.push_str("(").expect(rt, "memory");
     }
-    text.push_str("1")?;
+    text.push_str("1").expect(rt, "memory");
     for _ in 0..pairs {
-        text.push_str(")")?;
+        text.push_str(")").expect(rt, "memory");
     }
-    text.push_str("; }")?;
-    Ok(text)
+    text.push_str("; }").expect(rt, "memory");
+    text
 }
 
 #[test]
-fn refuses_texts_that_are_no_programs(rt: HostRuntime) -> Result<(), Fail> {
+fn refuses_texts_that_are_no_programs(rt: HostRuntime) {
     let alloc = rt.alloc();
     for (program, status, printed) in [
         (
@@ -82,25 +83,24 @@ fn refuses_texts_that_are_no_programs(rt: HostRuntime) -> Result<(), Fail> {
             NOT_FAILING,
         ),
     ] {
-        let mut world = world_of(alloc, program, "1", &[], 4096)?;
+        let mut world = world_of(alloc, program, "1", &[], 4096).expect(&rt, "memory");
         assert_eq!(rt; localise(alloc, &mut world), status, "{program}");
         assert_eq!(rt; world.printed(), printed.as_bytes(), "{program}");
     }
-    let deep = nested(alloc, NINETY_NINE)?;
-    let mut world = world_of(alloc, deep.as_str(), "", &[], 4096)?;
+    let deep = nested(&rt, alloc, NINETY_NINE);
+    let mut world = world_of(alloc, deep.as_str(), "", &[], 4096).expect(&rt, "memory");
     assert_eq!(rt; localise(alloc, &mut world), Status::NotFailing);
-    let too_deep = nested(alloc, NINETY_NINE + 1)?;
-    let mut world = world_of(alloc, too_deep.as_str(), "", &[], 4096)?;
+    let too_deep = nested(&rt, alloc, NINETY_NINE + 1);
+    let mut world = world_of(alloc, too_deep.as_str(), "", &[], 4096).expect(&rt, "memory");
     assert_eq!(rt; localise(alloc, &mut world), Status::BadProgram);
     assert_eq!(rt;
         world.printed(),
         b"refused: program, error 2.2 at 1:125\n".as_slice()
     );
-    Ok(())
 }
 
 #[test]
-fn refuses_inputs_and_weights(rt: HostRuntime) -> Result<(), Fail> {
+fn refuses_inputs_and_weights(rt: HostRuntime) {
     let no_number = "refused: input, error 1 at number 2\n";
     let out_of_range = "refused: input, error 2 at number 1\n";
     let wrong_count = "refused: input, error 3\n";
@@ -217,7 +217,7 @@ fn refuses_inputs_and_weights(rt: HostRuntime) -> Result<(), Fail> {
             "located: weight 1, sets 1\nset 1:\n  5:5 assignment | y = x;\n",
         ),
     ] {
-        let (ended, text) = call(rt.alloc(), words, program, input, weights)?;
+        let (ended, text) = call(&rt, rt.alloc(), words, program, input, weights);
         assert_eq!(rt; ended, status, "{program:?} on {input:?} by {weights:?}");
         assert_eq!(rt;
             text.as_slice(),
@@ -225,11 +225,10 @@ fn refuses_inputs_and_weights(rt: HostRuntime) -> Result<(), Fail> {
             "{program:?} by {weights:?}"
         );
     }
-    Ok(())
 }
 
 #[test]
-fn answers_words_before_it_reads(rt: HostRuntime) -> Result<(), Fail> {
+fn answers_words_before_it_reads(rt: HostRuntime) {
     let alloc = rt.alloc();
     for (words, status) in [
         ([].as_slice(), Status::BadWords),
@@ -294,7 +293,9 @@ fn answers_words_before_it_reads(rt: HostRuntime) -> Result<(), Fail> {
             Status::BadWords,
         ),
     ] {
-        let mut world = MemoryWorld::new(alloc, Vec::new(alloc), Vec::new(alloc), 1)?;
+        let mut world = MemoryWorld::new(alloc, Vec::new(alloc), Vec::new(alloc), 1).expect(
+            &rt, "memory",
+        );
         let ended = end(alloc, words, &mut world, &mut NoSink);
         assert_eq!(rt; ended, status, "of {words:?}");
         let printed = match status {
@@ -303,5 +304,4 @@ fn answers_words_before_it_reads(rt: HostRuntime) -> Result<(), Fail> {
         };
         assert_eq!(rt; world.printed(), printed.as_bytes(), "of {words:?}");
     }
-    Ok(())
 }

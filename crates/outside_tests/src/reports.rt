@@ -10,7 +10,6 @@ use crate::programs::{
     TWO_OF_ELEVEN_REPORT, TWO_SIDE_BY_SIDE, TWO_SIDE_BY_SIDE_REPORT,
 };
 use ba_tool::status::Status;
-use std::test::Fail;
 
 /// A program and an input, how the call ends on them, and what it prints.
 struct Row {
@@ -149,7 +148,7 @@ const ROWS: [Row; 19] = [
 ];
 
 #[test]
-fn answers_straight_line_programs(rt: HostRuntime) -> Result<(), Fail> {
+fn answers_straight_line_programs(rt: HostRuntime) {
     for row in &ROWS {
         let (ended, text) = call_by_both_rules(
             &rt,
@@ -158,7 +157,7 @@ fn answers_straight_line_programs(rt: HostRuntime) -> Result<(), Fail> {
             row.program,
             row.input,
             "",
-        )?;
+        );
         assert_eq!(rt;
             ended,
             row.status,
@@ -172,11 +171,10 @@ fn answers_straight_line_programs(rt: HostRuntime) -> Result<(), Fail> {
             row.program
         );
     }
-    Ok(())
 }
 
 #[test]
-fn runs_programs(rt: HostRuntime) -> Result<(), Fail> {
+fn runs_programs(rt: HostRuntime) {
     let deep = ["run", "p.c", "in.txt", "--bound=1", "--depth=17"];
     let most_turns = ["run", "p.c", "in.txt", "--bound", "64"];
     let beyond_call = "beyond bound at 4:5\n";
@@ -215,7 +213,7 @@ fn runs_programs(rt: HostRuntime) -> Result<(), Fail> {
         ),
         (RUN, THREE_LOOPS, "1", Status::NotFailing, NOT_FAILING),
     ] {
-        let (ended, text) = call_by_both_rules(&rt, rt.alloc(), words, program, input, "")?;
+        let (ended, text) = call_by_both_rules(&rt, rt.alloc(), words, program, input, "");
         assert_eq!(rt; ended, status, "{words:?} of {program:?} on {input:?}");
         assert_eq!(rt;
             text.as_slice(),
@@ -223,7 +221,6 @@ fn runs_programs(rt: HostRuntime) -> Result<(), Fail> {
             "{words:?} of {program:?}"
         );
     }
-    Ok(())
 }
 
 const CALL: &str = "int up(int x) {
@@ -322,7 +319,7 @@ set 1:
 ";
 
 #[test]
-fn finds_the_least_sets_of_programs_with_loops_and_calls(rt: HostRuntime) -> Result<(), Fail> {
+fn finds_the_least_sets_of_programs_with_loops_and_calls(rt: HostRuntime) {
     let fixed = "10 fixed\n11 fixed\n";
     for (bound, program, input, weights, printed) in [
         ("--bound=1", CALL, "4", "", CALL_REPORT),
@@ -339,7 +336,7 @@ fn finds_the_least_sets_of_programs_with_loops_and_calls(rt: HostRuntime) -> Res
         ),
     ] {
         let words = ["localise", "p.c", "in.txt", "--weights=w.txt", bound];
-        let (ended, text) = call_by_both_rules(&rt, rt.alloc(), &words, program, input, weights)?;
+        let (ended, text) = call_by_both_rules(&rt, rt.alloc(), &words, program, input, weights);
         assert_eq!(rt; ended, Status::Ok, "{program:?} by {weights:?}");
         assert_eq!(rt;
             text.as_slice(),
@@ -347,5 +344,4 @@ fn finds_the_least_sets_of_programs_with_loops_and_calls(rt: HostRuntime) -> Res
             "{program:?} by {weights:?}"
         );
     }
-    Ok(())
 }

@@ -11,7 +11,7 @@ use ba_cert::{read_line, step_text};
 use ba_lits::{Formula, Lit};
 use ba_steps::{CertStep, ListSink, NoSink, SinkError, StepSink};
 use ba_tool::status::Status;
-use std::test::Fail;
+use std::panic::Expect;
 
 /// A sink whose calls fail from the one of a number on. It tells nothing.
 #[derive(Drop)]
@@ -126,10 +126,10 @@ const OPTIONS: [(&str, &str, &str, Status, &str); 9] = [
 ];
 
 #[test]
-fn searches_as_its_options_ask(rt: HostRuntime) -> Result<(), Fail> {
+fn searches_as_its_options_ask(rt: HostRuntime) {
     for (option, program, input, status, printed) in OPTIONS {
         let words = ["localise", "p.c", "in.txt", "--bound=1", option];
-        let (ended, text) = call_by_both_rules(&rt, rt.alloc(), &words, program, input, "")?;
+        let (ended, text) = call_by_both_rules(&rt, rt.alloc(), &words, program, input, "");
         assert_eq!(rt; ended, status, "{option} of {program:?}");
         assert_eq!(rt;
             text.as_slice(),
@@ -137,7 +137,6 @@ fn searches_as_its_options_ask(rt: HostRuntime) -> Result<(), Fail> {
             "{option} of {program:?}"
         );
     }
-    Ok(())
 }
 
 fn is_conflict(step: &CertStep) -> bool {
@@ -149,9 +148,9 @@ fn is_spent(step: &CertStep) -> bool {
 }
 
 #[test]
-fn hands_on_the_steps_that_spend_the_conflicts(rt: HostRuntime) -> Result<(), Fail> {
+fn hands_on_the_steps_that_spend_the_conflicts(rt: HostRuntime) {
     let alloc = rt.alloc();
-    let mut world = world_of(alloc, BRANCHES, "1", &[], 4096)?;
+    let mut world = world_of(alloc, BRANCHES, "1", &[], 4096).expect(&rt, "memory");
     let mut steps = ListSink::new(alloc);
     let words = ["localise", "p.c", "in.txt", "--bound=1", "--conflicts=1"];
     let ended = end(alloc, &words, &mut world, &mut steps);
@@ -165,13 +164,12 @@ fn hands_on_the_steps_that_spend_the_conflicts(rt: HostRuntime) -> Result<(), Fa
     let ends = steps.steps().iter().filter(|step| is_spent(step)).count();
     assert_eq!(rt; conflicts, 1);
     assert_eq!(rt; ends, 1);
-    Ok(())
 }
 
 #[test]
-fn writes_the_certificate_before_the_report(rt: HostRuntime) -> Result<(), Fail> {
+fn writes_the_certificate_before_the_report(rt: HostRuntime) {
     let alloc = rt.alloc();
-    let mut world = world_of(alloc, BRANCHES, "1", &[], 4096)?;
+    let mut world = world_of(alloc, BRANCHES, "1", &[], 4096).expect(&rt, "memory");
     let mut steps = ListSink::new(alloc);
     let words = ["localise", "p.c", "in.txt", "--bound=1", "--cert=c"];
     let ended = end(alloc, &words, &mut world, &mut steps);
@@ -179,23 +177,30 @@ fn writes_the_certificate_before_the_report(rt: HostRuntime) -> Result<(), Fail>
     assert_eq!(rt; world.printed(), BRANCHES_REPORT.as_bytes());
     let mut lines = world
         .file("c")
-        .ok_or("no certificate")?
+        .expect(&rt, "no certificate")
         .split(|byte| *byte == b'\n');
-    assert_eq!(rt; lines.next().ok_or("no line")?, b"bugassist 1".as_slice());
+    assert_eq!(rt;
+        lines.next().expect(&rt, "no line"),
+        b"bugassist 1".as_slice()
+    );
     // Each step that was handed on has a line, which is read as it is written, and nothing stands
     // behind the last.
     for _ in steps.steps() {
-        let line = lines.next().ok_or("a line lacks")?;
-        let step = read_line(alloc, line)?;
-        assert!(rt; step_text(alloc, &step)?.as_slice().starts_with(line));
+        let line = lines.next().expect(&rt, "a line lacks");
+        let step = read_line(alloc, line).expect(&rt, "memory");
+        assert!(rt;
+            step_text(alloc, &step)
+                .expect(&rt, "memory")
+                .as_slice()
+                .starts_with(line)
+        );
     }
-    assert_eq!(rt; lines.next().ok_or("no end")?, b"".as_slice());
+    assert_eq!(rt; lines.next().expect(&rt, "no end"), b"".as_slice());
     assert!(rt; lines.next().is_none());
-    Ok(())
 }
 
 #[test]
-fn begins_no_certificate_without_a_search(rt: HostRuntime) -> Result<(), Fail> {
+fn begins_no_certificate_without_a_search(rt: HostRuntime) {
     let alloc = rt.alloc();
     let words = ["localise", "p.c", "in.txt", "--bound=1", "--cert=c"];
     for (program, input, status) in [
@@ -203,22 +208,21 @@ fn begins_no_certificate_without_a_search(rt: HostRuntime) -> Result<(), Fail> {
         (BRANCHES, "x", Status::BadInput),
         ("int", "1", Status::BadProgram),
     ] {
-        let mut world = world_of(alloc, program, input, &[], 4096)?;
+        let mut world = world_of(alloc, program, input, &[], 4096).expect(&rt, "memory");
         let ended = end(alloc, &words, &mut world, &mut NoSink);
         assert_eq!(rt; ended, status);
         assert!(rt; world.file("c").is_none());
     }
-    Ok(())
 }
 
 #[test]
-fn prints_nothing_where_a_certificate_or_a_sink_fails(rt: HostRuntime) -> Result<(), Fail> {
+fn prints_nothing_where_a_certificate_or_a_sink_fails(rt: HostRuntime) {
     let alloc = rt.alloc();
     let words = ["localise", "p.c", "in.txt", "--bound=1", "--cert=c"];
     // Calls 0 to 5 read the files, 6 begins the certificate, 7 adds its head line and 8 the first
     // step.
     for (fails, held) in [(6, None), (7, Some("bugass")), (8, Some("bugassist 1\n"))] {
-        let mut world = world_of(alloc, ONE_ASSIGNMENT, "1", &[fails], 4096)?;
+        let mut world = world_of(alloc, ONE_ASSIGNMENT, "1", &[fails], 4096).expect(&rt, "memory");
         let ended = end(alloc, &words, &mut world, &mut NoSink);
         assert_eq!(rt; ended, Status::WriteFault, "where {fails} fails");
         assert_eq!(rt; world.printed(), b"".as_slice(), "where {fails} fails");
@@ -226,7 +230,7 @@ fn prints_nothing_where_a_certificate_or_a_sink_fails(rt: HostRuntime) -> Result
             Some(held) => assert!(rt;
                 world
                     .file("c")
-                    .ok_or("no file")?
+                    .expect(&rt, "no file")
                     .starts_with(held.as_bytes())
             ),
             None => assert!(rt; world.file("c").is_none()),
@@ -234,13 +238,13 @@ fn prints_nothing_where_a_certificate_or_a_sink_fails(rt: HostRuntime) -> Result
     }
     let words = ["localise", "p.c", "in.txt", "--bound=1"];
     for first in 0..3 {
-        let mut world = world_of(alloc, ONE_ASSIGNMENT, "1", &[], 4096)?;
+        let mut world = world_of(alloc, ONE_ASSIGNMENT, "1", &[], 4096).expect(&rt, "memory");
         let mut steps = Failing { calls: 0, first };
         let ended = end(alloc, &words, &mut world, &mut steps);
         assert_eq!(rt; ended, Status::WriteFault, "from call {first} on");
         assert_eq!(rt; world.printed(), b"".as_slice(), "from call {first} on");
     }
-    let mut world = world_of(alloc, ONE_ASSIGNMENT, "1", &[], 4096)?;
+    let mut world = world_of(alloc, ONE_ASSIGNMENT, "1", &[], 4096).expect(&rt, "memory");
     let mut steps = Failing {
         calls: 0,
         first: 1000,
@@ -248,15 +252,13 @@ fn prints_nothing_where_a_certificate_or_a_sink_fails(rt: HostRuntime) -> Result
     let ended = end(alloc, &words, &mut world, &mut steps);
     assert_eq!(rt; ended, Status::Ok);
     assert_eq!(rt; world.printed(), ONE_REPORT.as_bytes());
-    Ok(())
 }
 
 #[test]
-fn finds_no_repair_in_a_narrower_type(rt: HostRuntime) -> Result<(), Fail> {
+fn finds_no_repair_in_a_narrower_type(rt: HostRuntime) {
     let program = "int main(int a) {\n    short s;\n    s = a;\n    assert(s == a);\n}\n";
     let words = ["localise", "p.c", "in.txt", "--bound=1", "--cert=c"];
-    let (ended, text) = call_by_both_rules(&rt, rt.alloc(), &words, program, "40000", "")?;
+    let (ended, text) = call_by_both_rules(&rt, rt.alloc(), &words, program, "40000", "");
     assert_eq!(rt; ended, Status::NoRepair);
     assert_eq!(rt; text.as_slice(), NO_REPAIR.as_bytes());
-    Ok(())
 }

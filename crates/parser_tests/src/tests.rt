@@ -5,13 +5,13 @@ use ba_lex::{MAX_TEXT, tokens};
 use ba_parse::tree::declarations::{Declarators, Initialiser};
 use ba_parse::tree::statements::{ExternalForm, RawProgram};
 use ba_parse::{ParseError, parse};
-use std::alloc::{AllocError, Global};
+use std::alloc::Global;
+use std::panic::Expect;
 use std::process::Abort;
-use std::test::Fail;
 
-fn answer(alloc: Global, text: &str) -> Result<String, AllocError> {
+fn answer(rt: &impl Abort, alloc: Global, text: &str) -> String {
     if text.len() > MAX_TEXT {
-        return String::from_str(alloc, "too long");
+        return String::from_str(alloc, "too long").expect(rt, "memory");
     }
     match tokens(alloc, text.as_bytes()) {
         Ok(list) => match parse(alloc, list.as_slice()) {
@@ -22,40 +22,35 @@ fn answer(alloc: Global, text: &str) -> Result<String, AllocError> {
         },
         Err(_) => String::from_str(alloc, "no tokens"),
     }
+    .expect(rt, "memory")
 }
 
-fn expect_answer(
-    rt: &impl Abort,
-    alloc: Global,
-    text: &str,
-    expected: &str,
-) -> Result<(), AllocError> {
-    let found = answer(alloc, text)?;
+fn expect_answer(rt: &impl Abort, alloc: Global, text: &str, expected: &str) {
+    let found = answer(rt, alloc, text);
     assert_eq!(rt; found.as_str(), expected, "for {text}");
-    Ok(())
 }
 
-fn expect_answers(rt: &impl Abort, alloc: Global, rows: &[(&str, &str)]) -> Result<(), AllocError> {
+fn expect_answers(rt: &impl Abort, alloc: Global, rows: &[(&str, &str)]) {
     for (text, expected) in rows {
-        expect_answer(rt, alloc, text, expected)?;
+        expect_answer(rt, alloc, text, expected);
     }
-    Ok(())
 }
 
 /// The front, the part so many times, and the back.
 fn repeated(
+    rt: &impl Abort,
     alloc: Global,
     front: &str,
     part: &str,
     count: u32,
     back: &str,
-) -> Result<String, AllocError> {
-    let mut text = String::from_str(alloc, front)?;
+) -> String {
+    let mut text = String::from_str(alloc, front).expect(rt, "memory");
     for _ in 0..count {
-        text.push_str(part)?;
+        text.push_str(part).expect(rt, "memory");
     }
-    text.push_str(back)?;
-    Ok(text)
+    text.push_str(back).expect(rt, "memory");
+    text
 }
 
 const PARSED_FILES: [(&str, &str); 16] = [
@@ -259,117 +254,143 @@ const REFUSED_OTHERS: [(&str, &str); 26] = [
 ];
 
 #[test]
-fn declarations_and_functions_parse(rt: HostRuntime) -> Result<(), Fail> {
-    expect_answers(&rt, rt.alloc(), &PARSED_FILES)?;
-    Ok(())
+fn declarations_and_functions_parse(rt: HostRuntime) {
+    expect_answers(&rt, rt.alloc(), &PARSED_FILES);
 }
 
 #[test]
-fn statements_and_expressions_parse(rt: HostRuntime) -> Result<(), Fail> {
-    expect_answers(&rt, rt.alloc(), &PARSED_STATEMENTS)?;
-    Ok(())
+fn statements_and_expressions_parse(rt: HostRuntime) {
+    expect_answers(&rt, rt.alloc(), &PARSED_STATEMENTS);
 }
 
 #[test]
-fn declarations_are_refused_at_the_first_token_that_cannot_stand(
-    rt: HostRuntime,
-) -> Result<(), Fail> {
-    expect_answers(&rt, rt.alloc(), &REFUSED_FILES)?;
-    Ok(())
+fn declarations_are_refused_at_the_first_token_that_cannot_stand(rt: HostRuntime) {
+    expect_answers(&rt, rt.alloc(), &REFUSED_FILES);
 }
 
 #[test]
-fn statements_are_refused_at_the_first_token_that_cannot_stand(
-    rt: HostRuntime,
-) -> Result<(), Fail> {
-    expect_answers(&rt, rt.alloc(), &REFUSED_STATEMENTS)?;
-    Ok(())
+fn statements_are_refused_at_the_first_token_that_cannot_stand(rt: HostRuntime) {
+    expect_answers(&rt, rt.alloc(), &REFUSED_STATEMENTS);
 }
 
 #[test]
-fn other_statements_are_refused_so_too(rt: HostRuntime) -> Result<(), Fail> {
-    expect_answers(&rt, rt.alloc(), &REFUSED_OTHERS)?;
-    Ok(())
+fn other_statements_are_refused_so_too(rt: HostRuntime) {
+    expect_answers(&rt, rt.alloc(), &REFUSED_OTHERS);
 }
 
 #[test]
-fn a_hundred_levels_of_parentheses_are_accepted(rt: HostRuntime) -> Result<(), Fail> {
+fn a_hundred_levels_of_parentheses_are_accepted(rt: HostRuntime) {
     let alloc = rt.alloc();
-    let most = repeated(alloc, "1", ")", 99, " ; }")?;
-    let over = repeated(alloc, "1", ")", 100, " ; }")?;
-    let accepted = repeated(alloc, "int main(void) { return ", "(", 99, most.as_str())?;
-    let refused = repeated(alloc, "int main(void) { return ", "(", 100, over.as_str())?;
-    expect_answer(&rt, alloc, accepted.as_str(), "parses")?;
-    expect_answer(&rt, alloc, refused.as_str(), "TooDeep 107")?;
-    Ok(())
+    let most = repeated(&rt, alloc, "1", ")", 99, " ; }");
+    let over = repeated(&rt, alloc, "1", ")", 100, " ; }");
+    let accepted = repeated(
+        &rt,
+        alloc,
+        "int main(void) { return ",
+        "(",
+        99,
+        most.as_str(),
+    );
+    let refused = repeated(
+        &rt,
+        alloc,
+        "int main(void) { return ",
+        "(",
+        100,
+        over.as_str(),
+    );
+    expect_answer(&rt, alloc, accepted.as_str(), "parses");
+    expect_answer(&rt, alloc, refused.as_str(), "TooDeep 107");
 }
 
 #[test]
-fn a_hundred_levels_of_blocks_are_accepted(rt: HostRuntime) -> Result<(), Fail> {
+fn a_hundred_levels_of_blocks_are_accepted(rt: HostRuntime) {
     let alloc = rt.alloc();
-    let most = repeated(alloc, ";", "}", 100, "")?;
-    let over = repeated(alloc, ";", "}", 101, "")?;
-    let accepted = repeated(alloc, "int main(void) ", "{", 100, most.as_str())?;
-    let refused = repeated(alloc, "int main(void) ", "{", 101, over.as_str())?;
-    expect_answer(&rt, alloc, accepted.as_str(), "parses")?;
-    expect_answer(&rt, alloc, refused.as_str(), "TooDeep 106")?;
-    Ok(())
+    let most = repeated(&rt, alloc, ";", "}", 100, "");
+    let over = repeated(&rt, alloc, ";", "}", 101, "");
+    let accepted = repeated(&rt, alloc, "int main(void) ", "{", 100, most.as_str());
+    let refused = repeated(&rt, alloc, "int main(void) ", "{", 101, over.as_str());
+    expect_answer(&rt, alloc, accepted.as_str(), "parses");
+    expect_answer(&rt, alloc, refused.as_str(), "TooDeep 106");
 }
 
 #[test]
-fn a_hundred_levels_of_prefix_operators_are_accepted(rt: HostRuntime) -> Result<(), Fail> {
+fn a_hundred_levels_of_prefix_operators_are_accepted(rt: HostRuntime) {
     let alloc = rt.alloc();
-    let accepted = repeated(alloc, "int main(void) { return ", "- ", 99, "1 ; }")?;
-    let refused = repeated(alloc, "int main(void) { return ", "- ", 100, "1 ; }")?;
-    expect_answer(&rt, alloc, accepted.as_str(), "parses")?;
-    expect_answer(&rt, alloc, refused.as_str(), "TooDeep 107")?;
-    Ok(())
+    let accepted = repeated(&rt, alloc, "int main(void) { return ", "- ", 99, "1 ; }");
+    let refused = repeated(&rt, alloc, "int main(void) { return ", "- ", 100, "1 ; }");
+    expect_answer(&rt, alloc, accepted.as_str(), "parses");
+    expect_answer(&rt, alloc, refused.as_str(), "TooDeep 107");
 }
 
 #[test]
-fn a_hundred_levels_of_a_chain_are_accepted(rt: HostRuntime) -> Result<(), Fail> {
+fn a_hundred_levels_of_a_chain_are_accepted(rt: HostRuntime) {
     let alloc = rt.alloc();
-    let accepted = repeated(alloc, "int main(void) { return 1", "+ 1", 99, " ; }")?;
-    let refused = repeated(alloc, "int main(void) { return 1", "+ 1", 100, " ; }")?;
-    expect_answer(&rt, alloc, accepted.as_str(), "parses")?;
-    expect_answer(&rt, alloc, refused.as_str(), "TooDeep 207")?;
-    Ok(())
+    let accepted = repeated(&rt, alloc, "int main(void) { return 1", "+ 1", 99, " ; }");
+    let refused = repeated(&rt, alloc, "int main(void) { return 1", "+ 1", 100, " ; }");
+    expect_answer(&rt, alloc, accepted.as_str(), "parses");
+    expect_answer(&rt, alloc, refused.as_str(), "TooDeep 207");
 }
 
 #[test]
-fn a_hundred_levels_of_casts_are_accepted(rt: HostRuntime) -> Result<(), Fail> {
+fn a_hundred_levels_of_casts_are_accepted(rt: HostRuntime) {
     let alloc = rt.alloc();
-    let accepted = repeated(alloc, "int main(void) { return ", "(int) ", 99, "1 ; }")?;
-    let refused = repeated(alloc, "int main(void) { return ", "(int) ", 100, "1 ; }")?;
-    expect_answer(&rt, alloc, accepted.as_str(), "parses")?;
-    expect_answer(&rt, alloc, refused.as_str(), "TooDeep 305")?;
-    Ok(())
+    let accepted = repeated(
+        &rt,
+        alloc,
+        "int main(void) { return ",
+        "(int) ",
+        99,
+        "1 ; }",
+    );
+    let refused = repeated(
+        &rt,
+        alloc,
+        "int main(void) { return ",
+        "(int) ",
+        100,
+        "1 ; }",
+    );
+    expect_answer(&rt, alloc, accepted.as_str(), "parses");
+    expect_answer(&rt, alloc, refused.as_str(), "TooDeep 305");
 }
 
 #[test]
-fn a_hundred_levels_of_controlled_statements_are_accepted(rt: HostRuntime) -> Result<(), Fail> {
+fn a_hundred_levels_of_controlled_statements_are_accepted(rt: HostRuntime) {
     let alloc = rt.alloc();
-    let accepted = repeated(alloc, "int main(void) { ", "if (1) ", 99, "; }")?;
-    let refused = repeated(alloc, "int main(void) { ", "if (1) ", 100, "; }")?;
-    expect_answer(&rt, alloc, accepted.as_str(), "parses")?;
-    expect_answer(&rt, alloc, refused.as_str(), "TooDeep 404")?;
-    Ok(())
+    let accepted = repeated(&rt, alloc, "int main(void) { ", "if (1) ", 99, "; }");
+    let refused = repeated(&rt, alloc, "int main(void) { ", "if (1) ", 100, "; }");
+    expect_answer(&rt, alloc, accepted.as_str(), "parses");
+    expect_answer(&rt, alloc, refused.as_str(), "TooDeep 404");
 }
 
 #[test]
-fn a_hundred_levels_of_branches_are_accepted(rt: HostRuntime) -> Result<(), Fail> {
+fn a_hundred_levels_of_branches_are_accepted(rt: HostRuntime) {
     let alloc = rt.alloc();
-    let accepted = repeated(alloc, "int main(void) { return ", "1 ? 1 : ", 99, "1 ; }")?;
-    let refused = repeated(alloc, "int main(void) { return ", "1 ? 1 : ", 100, "1 ; }")?;
-    expect_answer(&rt, alloc, accepted.as_str(), "parses")?;
-    expect_answer(&rt, alloc, refused.as_str(), "TooDeep 405")?;
-    Ok(())
+    let accepted = repeated(
+        &rt,
+        alloc,
+        "int main(void) { return ",
+        "1 ? 1 : ",
+        99,
+        "1 ; }",
+    );
+    let refused = repeated(
+        &rt,
+        alloc,
+        "int main(void) { return ",
+        "1 ? 1 : ",
+        100,
+        "1 ; }",
+    );
+    expect_answer(&rt, alloc, accepted.as_str(), "parses");
+    expect_answer(&rt, alloc, refused.as_str(), "TooDeep 405");
 }
 
 /// Whether the expression that the file's first variable begins with is made of constants alone.
-fn initial_value(alloc: Global, text: &str) -> Result<String, AllocError> {
+fn initial_value(rt: &impl Abort, alloc: Global, text: &str) -> String {
     if text.len() > MAX_TEXT {
-        return String::from_str(alloc, "too long");
+        return String::from_str(alloc, "too long").expect(rt, "memory");
     }
     match tokens(alloc, text.as_bytes()) {
         Ok(list) => match parse(alloc, list.as_slice()) {
@@ -378,6 +399,7 @@ fn initial_value(alloc: Global, text: &str) -> Result<String, AllocError> {
         },
         Err(_) => String::from_str(alloc, "no tokens"),
     }
+    .expect(rt, "memory")
 }
 
 fn in_words(is_constant: Option<bool>) -> &'static str {
@@ -416,30 +438,18 @@ const INITIAL_VALUES: [(&str, &str); 11] = [
     ("int f ( void ) ;", "no expression"),
 ];
 
-fn expect_initial_value(
-    rt: &impl Abort,
-    alloc: Global,
-    text: &str,
-    expected: &str,
-) -> Result<(), AllocError> {
-    let found = initial_value(alloc, text)?;
+fn expect_initial_value(rt: &impl Abort, alloc: Global, text: &str, expected: &str) {
+    let found = initial_value(rt, alloc, text);
     assert_eq!(rt; found.as_str(), expected, "for {text}");
-    Ok(())
 }
 
-fn expect_initial_values(
-    rt: &impl Abort,
-    alloc: Global,
-    rows: &[(&str, &str)],
-) -> Result<(), AllocError> {
+fn expect_initial_values(rt: &impl Abort, alloc: Global, rows: &[(&str, &str)]) {
     for (text, expected) in rows {
-        expect_initial_value(rt, alloc, text, expected)?;
+        expect_initial_value(rt, alloc, text, expected);
     }
-    Ok(())
 }
 
 #[test]
-fn a_fold_from_above_tells_constants(rt: HostRuntime) -> Result<(), Fail> {
-    expect_initial_values(&rt, rt.alloc(), &INITIAL_VALUES)?;
-    Ok(())
+fn a_fold_from_above_tells_constants(rt: HostRuntime) {
+    expect_initial_values(&rt, rt.alloc(), &INITIAL_VALUES);
 }

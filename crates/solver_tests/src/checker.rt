@@ -9,9 +9,9 @@ use ba_choices::{Choice, Values};
 use ba_items::{Items, TryClone};
 use ba_lits::{Formula, Lit, is_clause};
 use ba_steps::{CertStep, GoodRun, ListJudge};
-use std::alloc::{AllocError, Global};
+use std::alloc::Global;
+use std::panic::Expect;
 use std::process::Abort;
-use std::test::Fail;
 use test_formulas::{add, are_numbers, are_selectors, formula_of, lit, lits, without_clauses};
 
 /// Whether literals are those of a formed step.
@@ -145,53 +145,55 @@ enum Kind {
 type Row<'a> = (Kind, &'a [i64], &'a [u64], u8);
 
 /// The step of a row, which is a clone.
-fn step_of(alloc: Global, row: &Row) -> Result<CertStep, AllocError> {
-    let hints = Items::from_slice(alloc, row.2)?;
-    let lits = Items::from_vec(lits(alloc, row.1)?);
+fn step_of(rt: &impl Abort, alloc: Global, row: &Row) -> CertStep {
+    let hints = Items::from_slice(alloc, row.2).expect(rt, "memory");
+    let lits = Items::from_vec(lits(alloc, row.1).expect(rt, "memory"));
     let step = match row.0 {
         Kind::Learn => CertStep::Learn { lits, hints },
         Kind::Core => CertStep::Core { lits, hints },
         Kind::Delete => CertStep::Delete { clauses: hints },
-        Kind::Block => block_of(alloc, row)?,
+        Kind::Block => block_of(rt, alloc, row),
         Kind::Located => CertStep::EndLocated { lits, hints },
         Kind::NoRepair => CertStep::EndNoRepair { hints },
         Kind::TooMany => CertStep::EndTooMany,
         Kind::Spent => CertStep::EndSpent,
     };
-    step.try_clone(alloc)
+    step.try_clone(alloc).expect(rt, "memory")
 }
 
 /// The Block step of a row.
-fn block_of(alloc: Global, row: &Row) -> Result<CertStep, AllocError> {
+fn block_of(rt: &impl Abort, alloc: Global, row: &Row) -> CertStep {
     let mut groups = Items::new(alloc);
     for number in row.2 {
-        groups.push(u32::try_from(*number).unwrap_or(0))?;
+        groups
+            .push(u32::try_from(*number).unwrap_or(0))
+            .expect(rt, "memory");
     }
-    let run = run_of(alloc, row.1)?;
-    Ok(CertStep::Block { groups, run })
+    let run = run_of(rt, alloc, row.1);
+    CertStep::Block { groups, run }
 }
 
 /// The run that keeps one execution, and then takes values, one each.
-fn run_of(alloc: Global, values: &[i64]) -> Result<Items<Choice>, AllocError> {
+fn run_of(rt: &impl Abort, alloc: Global, values: &[i64]) -> Items<Choice> {
     let mut run = Items::new(alloc);
-    run.push(Choice::Keep)?;
+    run.push(Choice::Keep).expect(rt, "memory");
     for value in values {
         let mut taken = Values::new(alloc);
-        taken.push(*value)?;
-        run.push(Choice::Take(taken))?;
+        taken.push(*value).expect(rt, "memory");
+        run.push(Choice::Take(taken)).expect(rt, "memory");
     }
-    Ok(run)
+    run
 }
 
 /// A judge to whom the run that takes 7 is good for each of the first two groups alone.
-fn judge(alloc: Global) -> Result<ListJudge, AllocError> {
+fn judge(rt: &impl Abort, alloc: Global) -> ListJudge {
     let mut judge = ListJudge::new(alloc);
     for group in [1, 2] {
-        let groups = Items::from_slice(alloc, [group].as_slice())?;
-        let run = run_of(alloc, [7].as_slice())?;
-        judge.add(GoodRun { groups, run })?;
+        let groups = Items::from_slice(alloc, [group].as_slice()).expect(rt, "memory");
+        let run = run_of(rt, alloc, [7].as_slice());
+        judge.add(GoodRun { groups, run }).expect(rt, "memory");
     }
-    Ok(judge)
+    judge
 }
 
 /// Puts a step through a checker, and answers the number of the error, 0 where it was allowed, and 99 for want of memory
@@ -207,18 +209,14 @@ fn put(checker: &mut Checker, step: &CertStep, judge: &ListJudge) -> u8 {
 }
 
 /// Puts the steps of the rows one after the other. The place of the first that ends otherwise than its row says, or none.
-fn put_all(
-    alloc: Global,
-    checker: &mut Checker,
-    rows: &[Row],
-) -> Result<Option<usize>, AllocError> {
-    let judge = judge(alloc)?;
+fn put_all(rt: &impl Abort, alloc: Global, checker: &mut Checker, rows: &[Row]) -> Option<usize> {
+    let judge = judge(rt, alloc);
     for (place, row) in rows.iter().enumerate() {
-        if put(checker, &step_of(alloc, row)?, &judge) != row.3 {
-            return Ok(Some(place));
+        if put(checker, &step_of(rt, alloc, row), &judge) != row.3 {
+            return Some(place);
         }
     }
-    Ok(None)
+    None
 }
 
 /// Whether literals are those of numbers.
@@ -272,28 +270,27 @@ fn start(
     formula: &Formula,
     softs: &[(i64, u32)],
     conflicts: u64,
-) -> Result<Checker, AllocError> {
+) -> Checker {
     let mut list = Vec::new(alloc);
     for (code, weight) in softs {
-        list.push((lit(*code), *weight))?;
+        list.push((lit(*code), *weight)).expect(rt, "memory");
     }
     assert!(rt; are_selectors(formula.variables(), list.as_slice()));
-    Checker::new(alloc, formula, list.as_slice(), conflicts, 1)
+    Checker::new(alloc, formula, list.as_slice(), conflicts, 1).expect(rt, "memory")
 }
 
 /// Puts the steps of a case, and compares the checker with what is expected then.
-fn check(rt: &impl Abort, alloc: Global, case: &Case) -> Result<(), Fail> {
+fn check(rt: &impl Abort, alloc: Global, case: &Case) {
     let (variables, clauses, softs, conflicts, rows, bound, first, after, left) = *case;
-    let formula = formula_of(alloc, variables, clauses)?;
-    let mut checker = start(rt, alloc, &formula, softs, conflicts)?;
-    assert_eq!(rt; put_all(alloc, &mut checker, rows)?, None);
+    let formula = formula_of(alloc, variables, clauses).expect(rt, "memory");
+    let mut checker = start(rt, alloc, &formula, softs, conflicts);
+    assert_eq!(rt; put_all(rt, alloc, &mut checker, rows), None);
     assert_eq!(rt; checker.bound(), bound);
     assert!(rt; clauses_are(&checker, first, after) && softs_are(&checker, left));
-    Ok(())
 }
 
 #[test]
-fn cores_are_split(rt: HostRuntime) -> Result<(), Fail> {
+fn cores_are_split(rt: HostRuntime) {
     let cases: [Case; 3] = [
         (
             2,
@@ -341,13 +338,12 @@ fn cores_are_split(rt: HostRuntime) -> Result<(), Fail> {
         ),
     ];
     for case in &cases {
-        check(&rt, rt.alloc(), case)?;
+        check(&rt, rt.alloc(), case);
     }
-    Ok(())
 }
 
 #[test]
-fn each_error_comes_where_it_must(rt: HostRuntime) -> Result<(), Fail> {
+fn each_error_comes_where_it_must(rt: HostRuntime) {
     let cases: [Case; 4] = [
         (
             4,
@@ -450,13 +446,12 @@ fn each_error_comes_where_it_must(rt: HostRuntime) -> Result<(), Fail> {
         ),
     ];
     for case in &cases {
-        check(&rt, rt.alloc(), case)?;
+        check(&rt, rt.alloc(), case);
     }
-    Ok(())
 }
 
 #[test]
-fn sets_are_blocked(rt: HostRuntime) -> Result<(), Fail> {
+fn sets_are_blocked(rt: HostRuntime) {
     let cases: [Case; 3] = [
         (
             4,
@@ -530,59 +525,54 @@ fn sets_are_blocked(rt: HostRuntime) -> Result<(), Fail> {
         ),
     ];
     for case in &cases {
-        check(&rt, rt.alloc(), case)?;
+        check(&rt, rt.alloc(), case);
     }
-    Ok(())
 }
 
 /// The formula of the clauses "not i, or i + 1, or 61" for i from 1 to 59, each with the number i.
-fn row(alloc: Global) -> Result<Formula, AllocError> {
-    let mut formula = without_clauses(alloc, 61)?;
+fn row(rt: &impl Abort, alloc: Global) -> Formula {
+    let mut formula = without_clauses(alloc, 61).expect(rt, "memory");
     for i in 1u32..60 {
         let code = i64::from(i);
         add(
             &mut formula,
             [lit(-code), lit(code + 1), lit(61)].as_slice(),
-        )?;
+        )
+        .expect(rt, "memory");
     }
-    Ok(formula)
+    formula
 }
 
 /// The step that learns "not i, or j, or 61" by the clauses from i to j - 1 of the row.
-fn along(alloc: Global, i: u32, j: u32) -> Result<CertStep, AllocError> {
+fn along(rt: &impl Abort, alloc: Global, i: u32, j: u32) -> CertStep {
     let mut hints = Items::new(alloc);
     for number in i..j {
-        hints.push(u64::from(number))?;
+        hints.push(u64::from(number)).expect(rt, "memory");
     }
     let codes = [-i64::from(i), i64::from(j), 61];
-    let lits = Items::from_vec(lits(alloc, codes.as_slice())?);
-    Ok(CertStep::Learn { lits, hints })
+    let lits = Items::from_vec(lits(alloc, codes.as_slice()).expect(rt, "memory"));
+    CertStep::Learn { lits, hints }
 }
 
 /// Learns "not i, or j, or 61" for j from i + 2 to 60 and i in this order, from one place to another. How many steps were
 /// allowed.
-fn learn_along(
-    alloc: Global,
-    checker: &mut Checker,
-    from: u32,
-    to: u32,
-) -> Result<u32, AllocError> {
+fn learn_along(rt: &impl Abort, alloc: Global, checker: &mut Checker, from: u32, to: u32) -> u32 {
     let judge = ListJudge::new(alloc);
     let mut place = 0u32;
     let mut allowed = 0u32;
     for i in 1..59 {
         for j in i + 2..61 {
-            if from <= place && place < to && put(checker, &along(alloc, i, j)?, &judge) == 0 {
+            if from <= place && place < to && put(checker, &along(rt, alloc, i, j), &judge) == 0 {
                 allowed = allowed.saturating_add(1);
             }
             place = place.saturating_add(1);
         }
     }
-    Ok(allowed)
+    allowed
 }
 
 #[test]
-fn a_learnt_clause_is_deleted_after_a_thousand(rt: HostRuntime) -> Result<(), Fail> {
+fn a_learnt_clause_is_deleted_after_a_thousand(rt: HostRuntime) {
     let early: [Row; 4] = [
         (Kind::Delete, &[], &[60], 11),
         (Kind::Delete, &[], &[59, 60], 5),
@@ -599,11 +589,10 @@ fn a_learnt_clause_is_deleted_after_a_thousand(rt: HostRuntime) -> Result<(), Fa
         (Kind::Learn, &[-1, 3, 61], &[1, 2], 10),
     ];
     let alloc = rt.alloc();
-    let mut checker = start(&rt, alloc, &row(alloc)?, &[], 2000)?;
-    assert_eq!(rt; learn_along(alloc, &mut checker, 0, 999)?, 999);
-    assert_eq!(rt; put_all(alloc, &mut checker, &early)?, None);
-    assert_eq!(rt; learn_along(alloc, &mut checker, 999, 1000)?, 1);
-    assert_eq!(rt; put_all(alloc, &mut checker, &late)?, None);
+    let mut checker = start(&rt, alloc, &row(&rt, alloc), &[], 2000);
+    assert_eq!(rt; learn_along(&rt, alloc, &mut checker, 0, 999), 999);
+    assert_eq!(rt; put_all(&rt, alloc, &mut checker, &early), None);
+    assert_eq!(rt; learn_along(&rt, alloc, &mut checker, 999, 1000), 1);
+    assert_eq!(rt; put_all(&rt, alloc, &mut checker, &late), None);
     assert!(rt; checker.clause(60).is_none() && checker.learnt() == 1 && checker.is_learnt(1060));
-    Ok(())
 }

@@ -6,18 +6,20 @@ use ba_cores::{Found, least};
 use ba_lits::{Formula, Lit};
 use ba_search::Search;
 use ba_steps::NoSink;
-use std::alloc::{AllocError, Global};
+use std::alloc::Global;
+use std::panic::Expect;
 use std::process::Abort;
-use std::test::Fail;
 use test_formulas::{NoRuns, Source, are_selectors, formula_of, literal, random};
 
 /// Soft literals, one a variable from 1 on, with these weights.
-fn softs_of(alloc: Global, weights: &[u32]) -> Result<Vec<(Lit, u32)>, AllocError> {
+fn softs_of(rt: &impl Abort, alloc: Global, weights: &[u32]) -> Vec<(Lit, u32)> {
     let mut softs = Vec::new(alloc);
     for (place, weight) in weights.iter().enumerate() {
-        softs.push((literal(place as u64 + 1, false), *weight))?;
+        softs
+            .push((literal(place as u64 + 1, false), *weight))
+            .expect(rt, "memory");
     }
-    Ok(softs)
+    softs
 }
 
 /// What is found for a formula with soft literals, by a search that keeps the last 400 learnt clauses alone.
@@ -27,17 +29,18 @@ fn find(
     formula: &Formula,
     softs: &[(Lit, u32)],
     conflicts: u64,
-) -> Result<Found, Fail> {
+) -> Found {
     assert!(rt; are_selectors(formula.variables(), softs));
-    let checker = Checker::new(alloc, formula, softs, conflicts, 0)?;
+    let checker = Checker::new(alloc, formula, softs, conflicts, 0).expect(rt, "memory");
     let mut checked = Checked::new(checker, NoRuns, NoSink);
     let mut search = Search::new(
         alloc,
         formula,
         |_: u64| 10,
         |width: u64, age: u64| width <= 2 || age < 400,
-    )?;
-    Ok(least(alloc, &mut search, &mut checked)?)
+    )
+    .expect(rt, "memory");
+    least(alloc, &mut search, &mut checked).expect(rt, "memory")
 }
 
 /// How a search for the least cost ends.
@@ -80,17 +83,16 @@ fn end_of(formula: &Formula, softs: &[(Lit, u32)], found: &Found) -> End {
 type Row<'a> = (u64, &'a [&'a [i64]], &'a [u32], u64, End);
 
 /// Finds the least cost of a row's formula.
-fn check(rt: &impl Abort, alloc: Global, row: &Row) -> Result<(), Fail> {
+fn check(rt: &impl Abort, alloc: Global, row: &Row) {
     let (variables, clauses, weights, conflicts, end) = *row;
-    let formula = formula_of(alloc, variables, clauses)?;
-    let softs = softs_of(alloc, weights)?;
-    let found = find(rt, alloc, &formula, softs.as_slice(), conflicts)?;
+    let formula = formula_of(alloc, variables, clauses).expect(rt, "memory");
+    let softs = softs_of(rt, alloc, weights);
+    let found = find(rt, alloc, &formula, softs.as_slice(), conflicts);
     assert_eq!(rt; end_of(&formula, softs.as_slice(), &found), end);
-    Ok(())
 }
 
 #[test]
-fn small_formulas_have_their_least_cost(rt: HostRuntime) -> Result<(), Fail> {
+fn small_formulas_have_their_least_cost(rt: HostRuntime) {
     let rows: [Row; 8] = [
         (2, &[&[-1, -2]], &[3, 1], 99, End::Cost(1)),
         (2, &[&[-1, -2], &[1], &[-1]], &[3, 1], 99, End::NoModel),
@@ -120,19 +122,19 @@ fn small_formulas_have_their_least_cost(rt: HostRuntime) -> Result<(), Fail> {
         (4, &[&[-1, -2], &[-3, -4]], &[1, 1, 1, 1], 9, End::Cost(2)),
     ];
     for row in &rows {
-        check(&rt, rt.alloc(), row)?;
+        check(&rt, rt.alloc(), row);
     }
-    Ok(())
 }
 
 /// Random weights below a number, of six soft literals.
-fn weights(alloc: Global, below: u64, seed: u64) -> Result<Vec<u32>, AllocError> {
+fn weights(rt: &impl Abort, alloc: Global, below: u64, seed: u64) -> Vec<u32> {
     let mut source = Source::new(seed);
     let mut list = Vec::new(alloc);
     for _ in 0..6 {
-        list.push(u32::try_from(source.below(below)).unwrap_or(1))?;
+        list.push(u32::try_from(source.below(below)).unwrap_or(1))
+            .expect(rt, "memory");
     }
-    Ok(list)
+    list
 }
 
 /// The least cost of a formula's models over seven variables, by trying all values.
@@ -156,25 +158,24 @@ fn lesser(least: End, cost: u64) -> End {
 
 /// Finds the least cost of random formulas with so many clauses, and compares it with that by enumeration. How many have
 /// a model.
-fn try_random(rt: &impl Abort, alloc: Global, clauses: u64, below: u64) -> Result<u64, Fail> {
+fn try_random(rt: &impl Abort, alloc: Global, clauses: u64, below: u64) -> u64 {
     let mut models = 0u64;
     for seed in 1..41 {
-        let formula = random(alloc, 7, clauses, seed)?;
-        let softs = softs_of(alloc, weights(alloc, below, seed)?.as_slice())?;
+        let formula = random(alloc, 7, clauses, seed).expect(rt, "memory");
+        let softs = softs_of(rt, alloc, weights(rt, alloc, below, seed).as_slice());
         let want = by_enumeration(&formula, softs.as_slice());
-        let found = find(rt, alloc, &formula, softs.as_slice(), 100_000)?;
+        let found = find(rt, alloc, &formula, softs.as_slice(), 100_000);
         let got = end_of(&formula, softs.as_slice(), &found);
         assert_eq!(rt; got, want, "{clauses} clauses from {seed}");
         models = models.saturating_add(u64::from(got != End::NoModel));
     }
-    Ok(models)
+    models
 }
 
 #[test]
-fn random_formulas_cost_what_enumeration_says(rt: HostRuntime) -> Result<(), Fail> {
-    let few = try_random(&rt, rt.alloc(), 12, 1_000)?;
-    let some = try_random(&rt, rt.alloc(), 28, 4)?;
-    let many = try_random(&rt, rt.alloc(), 50, 40)?;
+fn random_formulas_cost_what_enumeration_says(rt: HostRuntime) {
+    let few = try_random(&rt, rt.alloc(), 12, 1_000);
+    let some = try_random(&rt, rt.alloc(), 28, 4);
+    let many = try_random(&rt, rt.alloc(), 50, 40);
     assert!(rt; few > some && some > many);
-    Ok(())
 }

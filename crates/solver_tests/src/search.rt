@@ -9,8 +9,8 @@ use ba_lits::{Formula, Lit, is_clause};
 use ba_search::{Answer, Search};
 use ba_steps::NoSink;
 use std::alloc::Global;
+use std::panic::Expect;
 use std::process::Abort;
-use std::test::Fail;
 use test_formulas::{NoRuns, formula_of, literal, lits, pigeons, random};
 
 /// Whether literals of ascending variables are assumptions over so many variables.
@@ -56,32 +56,36 @@ fn ends(
     formula: &Formula,
     assumptions: &[Lit],
     conflicts: u64,
-) -> Result<(End, u64, u64), Fail> {
-    let checker = Checker::new(alloc, formula, &[], conflicts, 0)?;
+) -> (End, u64, u64) {
+    let checker = Checker::new(alloc, formula, &[], conflicts, 0).expect(rt, "memory");
     let mut checked = Checked::new(checker, NoRuns, NoSink);
-    let mut search = Search::new(alloc, formula, |_: u64| 10, |width: u64, _: u64| width <= 2)?;
-    search.take_new(&checked)?;
+    let mut search = Search::new(
+        alloc,
+        formula,
+        |_: u64| 10,
+        |width: u64, _: u64| width <= 2,
+    ).expect(rt, "memory");
+    search.take_new(&checked).expect(rt, "memory");
     assert!(rt; are_assumptions(checked.checker().variables(), assumptions));
-    let answer = search.solve(assumptions, &mut checked)?;
+    let answer = search.solve(assumptions, &mut checked).expect(rt, "memory");
     let checker = checked.checker();
-    Ok((end_of(&answer), checker.conflicts(), deleted(checker)))
+    (end_of(&answer), checker.conflicts(), deleted(checker))
 }
 
 /// Variables, clauses, assumptions, the stated number of conflicts, how the search ends, and how many conflicts there were.
 type Row<'a> = (u64, &'a [&'a [i64]], &'a [i64], u64, (End, u64));
 
 /// Searches in a row's formula.
-fn check(rt: &impl Abort, alloc: Global, row: &Row) -> Result<(), Fail> {
+fn check(rt: &impl Abort, alloc: Global, row: &Row) {
     let (variables, clauses, codes, conflicts, want) = *row;
-    let formula = formula_of(alloc, variables, clauses)?;
-    let assumptions = lits(alloc, codes)?;
-    let (end, count, _) = ends(rt, alloc, &formula, assumptions.as_slice(), conflicts)?;
+    let formula = formula_of(alloc, variables, clauses).expect(rt, "memory");
+    let assumptions = lits(alloc, codes).expect(rt, "memory");
+    let (end, count, _) = ends(rt, alloc, &formula, assumptions.as_slice(), conflicts);
     assert_eq!(rt; (end, count), want);
-    Ok(())
 }
 
 #[test]
-fn small_formulas_end_as_they_must(rt: HostRuntime) -> Result<(), Fail> {
+fn small_formulas_end_as_they_must(rt: HostRuntime) {
     let all: &[&[i64]] = &[
         &[1, 2, 3],
         &[1, 2, -3],
@@ -103,23 +107,21 @@ fn small_formulas_end_as_they_must(rt: HostRuntime) -> Result<(), Fail> {
         (0, &[], &[], 0, (End::Model(0), 0)),
     ];
     for row in &rows {
-        check(&rt, rt.alloc(), row)?;
+        check(&rt, rt.alloc(), row);
     }
-    Ok(())
 }
 
 #[test]
-fn clauses_are_deleted_after_a_thousand_conflicts(rt: HostRuntime) -> Result<(), Fail> {
+fn clauses_are_deleted_after_a_thousand_conflicts(rt: HostRuntime) {
     for (count, deletes) in [(5, false), (7, true)] {
-        let formula = pigeons(rt.alloc(), count, count - 1)?;
-        let (end, _, gone) = ends(&rt, rt.alloc(), &formula, &[], 100_000)?;
+        let formula = pigeons(rt.alloc(), count, count - 1).expect(&rt, "memory");
+        let (end, _, gone) = ends(&rt, rt.alloc(), &formula, &[], 100_000);
         assert_eq!(rt;
             (end, gone > 0),
             (End::Core(0), deletes),
             "with {count} pigeons"
         );
     }
-    Ok(())
 }
 
 /// Whether a search ended with a model, which has to be as enumeration says.
@@ -139,24 +141,23 @@ fn has_model(formula: &Formula, assumptions: &[Lit], end: End) -> Option<bool> {
 
 /// Searches in random formulas of eight variables with so many clauses, each under one assumption. How many times there
 /// was a model.
-fn try_random(rt: &impl Abort, alloc: Global, clauses: u64) -> Result<u64, Fail> {
+fn try_random(rt: &impl Abort, alloc: Global, clauses: u64) -> u64 {
     let mut models = 0u64;
     for seed in 1..21 {
-        let formula = random(alloc, 8, clauses, seed)?;
+        let formula = random(alloc, 8, clauses, seed).expect(rt, "memory");
         let assumptions = [literal(seed % 8 + 1, seed % 2 == 1)];
-        let (end, _, _) = ends(rt, alloc, &formula, assumptions.as_slice(), 100_000)?;
+        let (end, _, _) = ends(rt, alloc, &formula, assumptions.as_slice(), 100_000);
         let found = has_model(&formula, assumptions.as_slice(), end);
         assert!(rt; found.is_some(), "{clauses} clauses from {seed}");
         models = models.saturating_add(u64::from(found == Some(true)));
     }
-    Ok(models)
+    models
 }
 
 #[test]
-fn random_formulas_end_as_enumeration_says(rt: HostRuntime) -> Result<(), Fail> {
-    let few = try_random(&rt, rt.alloc(), 20)?;
-    let some = try_random(&rt, rt.alloc(), 34)?;
-    let many = try_random(&rt, rt.alloc(), 60)?;
+fn random_formulas_end_as_enumeration_says(rt: HostRuntime) {
+    let few = try_random(&rt, rt.alloc(), 20);
+    let some = try_random(&rt, rt.alloc(), 34);
+    let many = try_random(&rt, rt.alloc(), 60);
     assert!(rt; few > some && some > many);
-    Ok(())
 }

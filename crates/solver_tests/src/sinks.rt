@@ -1,6 +1,6 @@
 //! Tests of sinks, of a checker with a sink, and of the judge that holds a list.
 
-ghost use Rattle.std.specs.Prelude.{◌≡◌, [], None, IfOk};
+ghost use Rattle.std.specs.Prelude.{◌≡◌, [], None};
 ghost use Rattle.ba_checker.specs.States.{first_state};
 
 use ba_checker::{Checked, Checker};
@@ -10,9 +10,9 @@ use ba_lits::{Formula, Lit};
 use ba_steps::{
     Both, CertStep, GoodRun, ListJudge, ListSink, NoSink, RunJudge, SinkError, StepSink,
 };
-use std::alloc::{AllocError, Global};
+use std::alloc::Global;
+use std::panic::Expect;
 use std::process::Abort;
-use std::test::Fail;
 use test_formulas::{NoRuns, without_clauses};
 
 /// A sink that takes so many steps and then fails.
@@ -72,8 +72,8 @@ fn feed<S: StepSink>(sink: &mut S, formula: &Formula) -> Result<(), SinkError> {
 }
 
 #[test]
-fn both_sinks_take_what_the_first_takes(rt: HostRuntime) -> Result<(), Fail> {
-    let formula = without_clauses(rt.alloc(), 1)?;
+fn both_sinks_take_what_the_first_takes(rt: HostRuntime) {
+    let formula = without_clauses(rt.alloc(), 1).expect(&rt, "memory");
     let mut second = ListSink::new(rt.alloc());
     let mut both = Both {
         first: fails_after(1),
@@ -84,60 +84,60 @@ fn both_sinks_take_what_the_first_takes(rt: HostRuntime) -> Result<(), Fail> {
     assert_eq!(rt; (both.first.begun, both.first.failed), (2, 1));
     has(&rt, &second, 2, 1);
     assert_eq!(rt; feed(&mut NoSink, &formula), Ok(()));
-    Ok(())
 }
 
 /// A checker over no variables whose conflicts are spent.
-fn spent(alloc: Global) -> Result<Checker, AllocError>
-    ensures { IfOk result (λ checker. checker
-        ≡ first_state (record { variables = 0; clauses = [] }) [] 0 1) }
+fn spent(rt: &impl Abort, alloc: Global) -> Checker
+    ensures { result ≡ first_state (record { variables = 0; clauses = [] }) [] 0 1 }
 {
-    Checker::new(alloc, &Formula::new(alloc), &[], 0, 1)
+    Checker::new(alloc, &Formula::new(alloc), &[], 0, 1).expect(rt, "memory")
 }
 
 #[test]
-fn an_allowed_step_is_handed_on(rt: HostRuntime) -> Result<(), Fail> {
-    let mut checked = Checked::new(spent(rt.alloc())?, NoRuns, ListSink::new(rt.alloc()));
-    checked.put(&CertStep::EndSpent)?;
+fn an_allowed_step_is_handed_on(rt: HostRuntime) {
+    let mut checked = Checked::new(spent(&rt, rt.alloc()), NoRuns, ListSink::new(rt.alloc()));
+    checked.put(&CertStep::EndSpent).expect(&rt, "memory");
     let (_, sink) = checked.finish();
     has(&rt, &sink, 0, 1);
-    Ok(())
 }
 
 #[test]
-fn a_refusal_is_answered(rt: HostRuntime) -> Result<(), Fail> {
-    let mut checked = Checked::new(spent(rt.alloc())?, NoRuns, fails_after(0));
+fn a_refusal_is_answered(rt: HostRuntime) {
+    let mut checked = Checked::new(spent(&rt, rt.alloc()), NoRuns, fails_after(0));
     assert_eq!(rt; checked.put(&CertStep::EndSpent), Err(SinkError::Failed));
-    Ok(())
 }
 
 /// A run of values: 100 stands for a choice that keeps the statement.
-fn run_of(alloc: Global, values: &[i64]) -> Result<Items<Choice>, AllocError> {
+fn run_of(rt: &impl Abort, alloc: Global, values: &[i64]) -> Items<Choice> {
     let mut run = Items::new(alloc);
     for value in values {
         if *value == 100 {
-            run.push(Choice::Keep)?;
+            run.push(Choice::Keep).expect(rt, "memory");
         } else {
             let mut taken = Values::new(alloc);
-            taken.push(*value)?;
-            run.push(Choice::Take(taken))?;
+            taken.push(*value).expect(rt, "memory");
+            run.push(Choice::Take(taken)).expect(rt, "memory");
         }
     }
-    Ok(run)
+    run
 }
 
 #[test]
-fn exactly_the_listed_runs_are_good(rt: HostRuntime) -> Result<(), Fail> {
+fn exactly_the_listed_runs_are_good(rt: HostRuntime) {
     let alloc = rt.alloc();
     let mut judge = ListJudge::new(alloc);
-    judge.add(GoodRun {
-        groups: Items::from_slice(alloc, &[2, 3])?,
-        run: run_of(alloc, &[100, -7])?,
-    })?;
-    judge.add(GoodRun {
-        groups: Items::new(alloc),
-        run: run_of(alloc, &[])?,
-    })?;
+    judge
+        .add(GoodRun {
+            groups: Items::from_slice(alloc, &[2, 3]).expect(&rt, "memory"),
+            run: run_of(&rt, alloc, &[100, -7]),
+        })
+        .expect(&rt, "memory");
+    judge
+        .add(GoodRun {
+            groups: Items::new(alloc),
+            run: run_of(&rt, alloc, &[]),
+        })
+        .expect(&rt, "memory");
     let table: [(&[u32], &[i64], bool); 8] = [
         (&[2, 3], &[100, -7], true),
         (&[], &[], true),
@@ -149,7 +149,11 @@ fn exactly_the_listed_runs_are_good(rt: HostRuntime) -> Result<(), Fail> {
         (&[2, 3], &[0, -7], false),
     ];
     for (groups, run, good) in table {
-        assert_eq!(rt; judge.good(groups, run_of(alloc, run)?.as_slice())?, good);
+        assert_eq!(rt;
+            judge
+                .good(groups, run_of(&rt, alloc, run).as_slice())
+                .expect(&rt, "memory"),
+            good
+        );
     }
-    Ok(())
 }

@@ -2,19 +2,25 @@
 
 use ba_lits::Lit;
 use ba_watch::Watch;
-use std::alloc::{AllocError, Global};
-use std::test::Fail;
+use std::alloc::Global;
+use std::panic::Expect;
+use std::process::Abort;
 use test_formulas::{add_clause, lit, lits};
 
 /// Watch lists over clauses that are written as numbers, each under its place from 1 on.
-fn watch_of(alloc: Global, variables: u64, clauses: &[&[i64]]) -> Result<Watch, AllocError> {
+fn watch_of(rt: &impl Abort, alloc: Global, variables: u64, clauses: &[&[i64]]) -> Watch {
     let mut watch = Watch::new(alloc);
-    watch.grow(variables)?;
+    watch.grow(variables).expect(rt, "memory");
     for (place, codes) in clauses.iter().enumerate() {
         let number = (place as u64).saturating_add(1);
-        let _ = add_clause(&mut watch, lits(alloc, codes)?.as_slice(), number)?;
+        let _ = add_clause(
+            &mut watch,
+            lits(alloc, codes).expect(rt, "memory").as_slice(),
+            number,
+        )
+        .expect(rt, "memory");
     }
-    Ok(watch)
+    watch
 }
 
 /// Propagates, and decides a literal where no clause is false and it has no value.
@@ -33,16 +39,17 @@ fn decide(watch: &mut Watch, lit: Lit) {
 
 /// Watch lists after literals were decided in turn.
 pub fn decided(
+    rt: &impl Abort,
     alloc: Global,
     variables: u64,
     clauses: &[&[i64]],
     decisions: &[i64],
-) -> Result<Watch, AllocError> {
-    let mut watch = watch_of(alloc, variables, clauses)?;
+) -> Watch {
+    let mut watch = watch_of(rt, alloc, variables, clauses);
     for code in decisions {
         decide(&mut watch, lit(*code));
     }
-    Ok(watch)
+    watch
 }
 
 /// How many literals are true after propagation; None where a clause is false.
@@ -57,7 +64,7 @@ fn propagated(watch: &mut Watch) -> Option<usize> {
 type Row<'a> = (u64, &'a [&'a [i64]], &'a [i64], Option<usize>);
 
 #[test]
-fn propagation_ends_as_it_must(rt: HostRuntime) -> Result<(), Fail> {
+fn propagation_ends_as_it_must(rt: HostRuntime) {
     let rows: [Row; 7] = [
         (2, &[&[1, 2], &[-1, 2]], &[-2], None),
         (3, &[&[-1, 2], &[-2, 3], &[-1, -3]], &[1], None),
@@ -68,8 +75,7 @@ fn propagation_ends_as_it_must(rt: HostRuntime) -> Result<(), Fail> {
         (5, &[&[-1, -2, -3, 4], &[-4, 5]], &[2, 1, 3], Some(5)),
     ];
     for (variables, clauses, decisions, want) in rows {
-        let mut watch = decided(rt.alloc(), variables, clauses, decisions)?;
+        let mut watch = decided(&rt, rt.alloc(), variables, clauses, decisions);
         assert_eq!(rt; propagated(&mut watch), want);
     }
-    Ok(())
 }
