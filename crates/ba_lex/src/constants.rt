@@ -101,7 +101,7 @@ fn has_u(suffix: &[u8]) -> bool
     suffix.iter().any(|byte| is_u(*byte))
 }
 
-fn number_of(base: u8, digits: &[u8], suffix: &[u8]) -> Option<TokenKind<'static>>
+fn number_of(base: u8, digits: &[u8], suffix: &[u8]) -> Option<TokenKind>
     requires { 0 < base }
     ensures { result ≡ number_of base digits.now suffix.now }
 {
@@ -129,7 +129,7 @@ fn digit_count(base: u8, text: &[u8]) -> usize
         .count()
 }
 
-fn number_with(base: u8, text: &[u8]) -> Option<TokenKind<'static>>
+fn number_with(base: u8, text: &[u8]) -> Option<TokenKind>
     requires { 0 < base }
     ensures { result ≡ number_with base text.now }
 {
@@ -139,7 +139,7 @@ fn number_with(base: u8, text: &[u8]) -> Option<TokenKind<'static>>
 
 /// The constant that a number is, if it keeps its form and its value fits 32 bits.
 #[tactic(auto, unfolding(crate::specs::Constants::number_kind))]
-pub(crate) fn number_kind(number: &[u8]) -> Option<TokenKind<'static>>
+pub(crate) fn number_kind(number: &[u8]) -> Option<TokenKind>
     ensures { result ≡ number_kind number.now }
 {
     number_with(base_of(number), without_prefix(number))
@@ -229,7 +229,7 @@ fn signed_char(byte: u8) -> i64
 
 /// The constant that a character constant is, by the bytes between its quotes.
 #[tactic(auto, unfolding(crate::specs::Constants::character_kind))]
-pub(crate) fn character_kind(text: &[u8]) -> Option<TokenKind<'static>>
+pub(crate) fn character_kind(text: &[u8]) -> Option<TokenKind>
     ensures { result ≡ character_kind text.now }
 {
     let byte = character_value(text)?;

@@ -84,7 +84,7 @@ fn is_parenthesis_next(at: At, name: &[u8], body: &[Token]) -> bool
 }
 
 /// Whether more tokens than so many stand for these.
-fn is_longer<'a>(macros: &Macros<'a>, tokens: &[Token<'a>], limit: usize) -> bool
+fn is_longer(macros: &Macros, tokens: &[Token], limit: usize) -> bool
     ensures { result ≡ nat_lt limit (length (body_from macros.now tokens.now)) }
 {
     let mut room = limit;
@@ -106,15 +106,15 @@ fn has_name(tokens: &[Token], name: &[u8]) -> bool
 }
 
 /// The table with a new macro, unless it comes too late or is too much.
-fn with_new<'a>(
+fn with_new(
     alloc: Global,
-    macros: Macros<'a>,
+    macros: Macros,
     at: At,
     name: &[u8],
-    body: &[Token<'a>],
-) -> Result<Macros<'a>, LexError>
+    body: &[Token],
+) -> Result<Macros, LexError>
     requires { body_of macros name.now ≡ None }
-    ensures { Gives (λ m. m) result (with_new macros.entry at name.now body.now) }
+    ensures { Gives (λ m. m) result (with_new macros at name.now body.now) }
 {
     if has_name(body, name) || macros.is_mentioned(name) {
         return Err(LexError::MacroOrder(at));
@@ -126,11 +126,11 @@ fn with_new<'a>(
 }
 
 /// Whether the same tokens as the old ones stand for these.
-fn is_same<'a>(
+fn is_same(
     alloc: Global,
-    macros: &Macros<'a>,
-    old: &[TokenKind<'a>],
-    body: &[Token<'a>],
+    macros: &Macros,
+    old: &[TokenKind],
+    body: &[Token],
 ) -> Result<bool, AllocError>
     ensures { IfOk result (λ same. same
         ≡ pointwise same_kind old.now (body_from macros.now body.now)) }
@@ -142,7 +142,7 @@ fn is_same<'a>(
     Ok(are_same(old, kinds.as_slice()))
 }
 
-fn are_same<'a>(old: &[TokenKind<'a>], new: &[TokenKind<'a>]) -> bool
+fn are_same(old: &[TokenKind], new: &[TokenKind]) -> bool
     ensures { result ≡ pointwise same_kind old.now new.now }
 {
     if old.len() != new.len() {
@@ -157,15 +157,15 @@ fn are_same<'a>(old: &[TokenKind<'a>], new: &[TokenKind<'a>]) -> bool
 }
 
 /// The table after the definition of a macro.
-fn with_macro<'a>(
+fn with_macro(
     alloc: Global,
-    macros: Macros<'a>,
+    macros: Macros,
     at: At,
     name: &[u8],
-    body: &[Token<'a>],
-) -> Result<Macros<'a>, LexError>
+    body: &[Token],
+) -> Result<Macros, LexError>
     ensures { Gives (λ m. m) result
-        (with_macro macros.entry at name.now body.now (body_of macros.entry name.now)) }
+        (with_macro macros at name.now body.now (body_of macros name.now)) }
 {
     if let Some(old) = macros.body(name) {
         if !is_same(alloc, &macros, old.as_slice(), body)? {
@@ -177,13 +177,8 @@ fn with_macro<'a>(
 }
 
 /// The table after a `#define` with these tokens.
-fn define<'a>(
-    alloc: Global,
-    macros: Macros<'a>,
-    hash: At,
-    tokens: &[Token<'a>],
-) -> Result<Macros<'a>, LexError>
-    ensures { Gives (λ m. m) result (definition macros.entry hash tokens.now) }
+fn define(alloc: Global, macros: Macros, hash: At, tokens: &[Token]) -> Result<Macros, LexError>
+    ensures { Gives (λ m. m) result (definition macros hash tokens.now) }
 {
     let [first, body @ ..] = tokens else {
         return Err(LexError::BadDirective(hash));
@@ -198,13 +193,8 @@ fn define<'a>(
 }
 
 /// The table after a directive with these tokens after its `#`.
-fn obey<'a>(
-    alloc: Global,
-    macros: Macros<'a>,
-    hash: At,
-    tokens: &[Token<'a>],
-) -> Result<Macros<'a>, LexError>
-    ensures { Gives (λ m. m) result (table_after macros.entry hash tokens.now) }
+fn obey(alloc: Global, macros: Macros, hash: At, tokens: &[Token]) -> Result<Macros, LexError>
+    ensures { Gives (λ m. m) result (table_after macros hash tokens.now) }
 {
     let [first, rest @ ..] = tokens else {
         return Ok(macros);
@@ -219,13 +209,13 @@ fn obey<'a>(
 }
 
 /// The table after the directive of this line.
-pub fn directive<'a>(
+pub fn directive(
     alloc: Global,
-    macros: Macros<'a>,
+    macros: Macros,
     hash: At,
-    line: &[Piece<'a>],
-) -> Result<Macros<'a>, LexError>
-    ensures { Gives (λ m. m) result (directive macros.entry hash line.now) }
+    line: &[Piece],
+) -> Result<Macros, LexError>
+    ensures { Gives (λ m. m) result (directive macros hash line.now) }
 {
     let tokens = line_tokens(alloc, line)?;
     obey(alloc, macros, hash, tokens.as_slice())

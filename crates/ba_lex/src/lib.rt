@@ -31,11 +31,11 @@ pub const MAX_TEXT: usize = 65536;
 /// The tokens of a text, with its macros replaced; or its first error.
 ///
 /// The text has at most 65,536 bytes. The answer is that of the definition of a text's tokens, in each of its
-/// cases: the tokens with their positions, or the first error at its position. A token's name shares the bytes of
-/// the text.
+/// cases: the tokens with their positions, or the first error at its position. Tokens of one name that come from
+/// one macro share its bytes.
 /// [`LexError::Memory`] alone is free.
 #[tactic(auto, unfolding(crate::specs::Lines::tokens_of))]
-pub fn tokens<'a>(alloc: Global, text: &'a [u8]) -> Result<Vec<Token<'a>>, LexError>
+pub fn tokens(alloc: Global, text: &[u8]) -> Result<Vec<Token>, LexError>
     requires { length text.now ≤ MAX_TEXT }
     ensures { Gives (λ v. v.items) result (tokens_of text.now) }
 {
@@ -44,7 +44,7 @@ pub fn tokens<'a>(alloc: Global, text: &'a [u8]) -> Result<Vec<Token<'a>>, LexEr
 }
 
 /// The tokens of the lines that are made of these pieces.
-fn read_lines<'a>(alloc: Global, pieces: &[Piece<'a>]) -> Result<Vec<Token<'a>>, LexError>
+fn read_lines(alloc: Global, pieces: &[Piece]) -> Result<Vec<Token>, LexError>
     ensures { Gives (λ v. v.items) result (answer (reading [] (lines_of pieces.now))) }
 {
     let mut macros = Macros::new(alloc);

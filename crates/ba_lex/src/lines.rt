@@ -32,7 +32,7 @@ fn fault_of(piece: &Piece) -> Option<LexError>
     }
 }
 
-fn push_token<'a>(out: &mut Vec<Token<'a>>, kind: &TokenKind<'a>, at: At) -> Result<(), LexError>
+fn push_token(out: &mut Vec<Token>, kind: &TokenKind, at: At) -> Result<(), LexError>
     requires { length out.old.items ≤ MAX_TOKENS }
     ensures ok { OnOk result ((out.new.items ≡ out.old.items ++ tokens_at at (kind.now ∷ []))
         × (length out.new.items ≤ MAX_TOKENS)) }
@@ -43,18 +43,14 @@ fn push_token<'a>(out: &mut Vec<Token<'a>>, kind: &TokenKind<'a>, at: At) -> Res
         return Err(LexError::TooMany(at));
     }
     out.push(Token {
-        kind: kind.copy(),
+        kind: kind.copy()?,
         at,
     })?;
     Ok(())
 }
 
 /// Adds tokens of these kinds, all at this position.
-fn push_tokens<'a>(
-    out: &mut Vec<Token<'a>>,
-    kinds: &[TokenKind<'a>],
-    at: At,
-) -> Result<(), LexError>
+fn push_tokens(out: &mut Vec<Token>, kinds: &[TokenKind], at: At) -> Result<(), LexError>
     requires { length out.old.items ≤ MAX_TOKENS }
     ensures ok { OnOk result ((out.new.items ≡ out.old.items ++ tokens_at at kinds.now)
         × (length out.new.items ≤ MAX_TOKENS)) }
@@ -68,11 +64,7 @@ fn push_tokens<'a>(
 }
 
 /// Adds the tokens of a line of the program, whose macros are replaced.
-fn text_line<'a>(
-    macros: &Macros<'a>,
-    out: &mut Vec<Token<'a>>,
-    line: &[Piece<'a>],
-) -> Result<(), LexError>
+fn text_line(macros: &Macros, out: &mut Vec<Token>, line: &[Piece]) -> Result<(), LexError>
     requires { length out.old.items ≤ MAX_TOKENS }
     ensures ok { OnOk result ((reading_so_far macros.now out.old.items line.now
         ≡ only_tokens out.new.items)
@@ -92,7 +84,7 @@ fn text_line<'a>(
 }
 
 /// The tokens of a line, or its first fault.
-pub fn line_tokens<'a>(alloc: Global, line: &[Piece<'a>]) -> Result<Vec<Token<'a>>, LexError>
+pub fn line_tokens(alloc: Global, line: &[Piece]) -> Result<Vec<Token>, LexError>
     ensures { Gives (λ v. v.items) result (tokens_in line.now) }
 {
     let mut tokens = Vec::new(alloc);
@@ -102,7 +94,7 @@ pub fn line_tokens<'a>(alloc: Global, line: &[Piece<'a>]) -> Result<Vec<Token<'a
         }
         if let Form::Token(kind) = &piece.form {
             tokens.push(Token {
-                kind: kind.copy(),
+                kind: kind.copy()?,
                 at: piece.at,
             })?;
         }
@@ -149,19 +141,19 @@ pub fn line_length(pieces: &[Piece]) -> usize
 }
 
 /// Reads a line: adds the tokens of a line of the program, or gives the table after a directive.
-pub fn read_line<'a>(
+pub fn read_line(
     alloc: Global,
-    macros: Macros<'a>,
-    out: &mut Vec<Token<'a>>,
-    line: &[Piece<'a>],
-) -> Result<Macros<'a>, LexError>
+    macros: Macros,
+    out: &mut Vec<Token>,
+    line: &[Piece],
+) -> Result<Macros, LexError>
     requires { length out.old.items ≤ MAX_TOKENS }
     ensures ok { IfOk result (λ next. (lines : List (List Piece)) →
-        sequence (only_tokens out.old.items) (reading macros.entry (line.now ∷ lines))
+        sequence (only_tokens out.old.items) (reading macros (line.now ∷ lines))
         ≡ sequence (only_tokens out.new.items) (reading next lines)) }
     ensures room { OnOk result (length out.new.items ≤ MAX_TOKENS) }
     ensures err { IfErr result (λ e. (lines : List (List Piece)) →
-        Fails e (answer (sequence (only_tokens out.old.items) (reading macros.entry (line.now ∷ lines))))) }
+        Fails e (answer (sequence (only_tokens out.old.items) (reading macros (line.now ∷ lines))))) }
 {
     if begins_directive(line) {
         return directive(alloc, macros, line[0].at, &line[1..]);

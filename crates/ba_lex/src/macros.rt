@@ -14,13 +14,13 @@ use std::marker::Model;
 
 /// The macros defined so far, in their order: each name with its body. Contracts see the list of these pairs.
 #[derive(Drop)]
-pub struct Macros<'a> {
-    bodies: IndexMap<Vec<u8>, Items<TokenKind<'a>>>,
+pub struct Macros {
+    bodies: IndexMap<Vec<u8>, Items<TokenKind>>,
     /// The names that stand in bodies.
     mentioned: IndexSet<Vec<u8>>,
 }
 
-impl<'a> Model for Macros<'a> {
+impl Model for Macros {
     ghost use Rattle.std.specs.Prelude.{List, ℕ};
     ghost use Rattle.ba_lex.specs.declared.token.TokenKind.{TokenKind};
 
@@ -34,9 +34,9 @@ impl<'a> Model for Macros<'a> {
         (table_of macros.bodies.entries) };
 }
 
-impl<'a> Macros<'a> {
+impl Macros {
     /// The table without macros.
-    pub fn new(alloc: Global) -> Macros<'a>
+    pub fn new(alloc: Global) -> Macros
         ensures { result ≡ [] }
     {
         Macros {
@@ -53,7 +53,7 @@ impl<'a> Macros<'a> {
     }
 
     /// The body of the macro of this name, if there is one.
-    pub fn body(&self, name: &[u8]) -> Option<&Items<TokenKind<'a>>>
+    pub fn body(&self, name: &[u8]) -> Option<&Items<TokenKind>>
         ensures { option_copied result ≡ body_of self.now name.now }
     {
         self.bodies.get(name)
@@ -69,15 +69,10 @@ impl<'a> Macros<'a> {
     /// The table with one more macro, whose body is what stands for these tokens.
     ///
     /// The one error is want of memory.
-    pub fn with(
-        self,
-        alloc: Global,
-        name: &[u8],
-        tokens: &[Token<'a>],
-    ) -> Result<Macros<'a>, AllocError>
+    pub fn with(self, alloc: Global, name: &[u8], tokens: &[Token]) -> Result<Macros, AllocError>
         requires { body_of self name.now ≡ None }
-        ensures { IfOk result (λ table. table ≡ self.entry
-            ++ (name.now, body_from self.entry tokens.now) ∷ []) }
+        ensures { IfOk result (λ table. table ≡ self
+            ++ (name.now, body_from self tokens.now) ∷ []) }
     {
         let body = body_from(alloc, &self, tokens)?;
         let Macros {
@@ -91,7 +86,7 @@ impl<'a> Macros<'a> {
 }
 
 /// What stands for a token of this kind.
-pub fn replacement<'a, 'm>(macros: &'m Macros<'a>, kind: &'m TokenKind<'a>) -> &'m [TokenKind<'a>]
+pub fn replacement<'m>(macros: &'m Macros, kind: &'m TokenKind) -> &'m [TokenKind]
     ensures { result.now ≡ replacement macros.now kind.now }
 {
     let body = match kind {
@@ -116,11 +111,11 @@ fn mention(alloc: Global, mentioned: &mut IndexSet<Vec<u8>>, name: &[u8]) -> Res
 }
 
 /// Adds the name to the set that stands for the token, if one does. The names in bodies are there already.
-fn mention_token<'a>(
+fn mention_token(
     alloc: Global,
     mentioned: &mut IndexSet<Vec<u8>>,
-    bodies: &IndexMap<Vec<u8>, Items<TokenKind<'a>>>,
-    token: &Token<'a>,
+    bodies: &IndexMap<Vec<u8>, Items<TokenKind>>,
+    token: &Token,
 ) -> Result<(), AllocError>
     requires { HaveNamesOf mentioned.old.keys (table_of bodies.now.entries) }
     ensures { OnOk result ((name : List ℕ) →
@@ -137,11 +132,11 @@ fn mention_token<'a>(
 }
 
 /// Adds the names that stand in what stands for these tokens to the set.
-fn mention_all<'a>(
+fn mention_all(
     alloc: Global,
     mentioned: &mut IndexSet<Vec<u8>>,
-    bodies: &IndexMap<Vec<u8>, Items<TokenKind<'a>>>,
-    tokens: &[Token<'a>],
+    bodies: &IndexMap<Vec<u8>, Items<TokenKind>>,
+    tokens: &[Token],
 ) -> Result<(), AllocError>
     requires { HaveNamesOf mentioned.old.keys (table_of bodies.now.entries) }
     ensures { OnOk result ((name : List ℕ) →
@@ -154,14 +149,11 @@ fn mention_all<'a>(
     Ok(())
 }
 
-fn push_kinds<'a>(
-    body: &mut Items<TokenKind<'a>>,
-    kinds: &[TokenKind<'a>],
-) -> Result<(), AllocError>
+fn push_kinds(body: &mut Items<TokenKind>, kinds: &[TokenKind]) -> Result<(), AllocError>
     ensures { OnOk result (body.new ≡ body.old ++ kinds.now) }
 {
     for kind in kinds {
-        body.push(kind.copy())?;
+        body.push(kind.copy()?)?;
     }
     Ok(())
 }
@@ -169,11 +161,11 @@ fn push_kinds<'a>(
 /// What stands for these tokens.
 ///
 /// The one error is want of memory.
-pub fn body_from<'a>(
+pub fn body_from(
     alloc: Global,
-    macros: &Macros<'a>,
-    tokens: &[Token<'a>],
-) -> Result<Items<TokenKind<'a>>, AllocError>
+    macros: &Macros,
+    tokens: &[Token],
+) -> Result<Items<TokenKind>, AllocError>
     ensures { IfOk result (λ body. body ≡ body_from macros.now tokens.now) }
 {
     let mut body = Items::new(alloc);

@@ -9,18 +9,18 @@ ghost use Rattle.ba_lex.specs.declared.piece.Piece.{Piece};
 use crate::MAX_TEXT;
 use crate::constants::{begins_with, character_kind, number_kind};
 use crate::spelling::{in_one, in_three, in_two, is_refused, keyword_of};
-use crate::token::{Punct, Text, TokenKind};
+use crate::token::{Name, Punct, TokenKind};
 use ba_bytes::classes::{is_blank, is_letter, is_line_end, is_number_byte, is_word_byte};
 use ba_numbers::ids::At;
 use std::alloc::{AllocError, Global};
 
 /// What a piece of a text is; the definition of a text's tokens speaks of these forms too. A comment is a blank.
 #[derive(Debug, Drop)]
-pub enum Form<'a> {
+pub enum Form {
     Blank,
     LineEnd,
     Hash,
-    Token(TokenKind<'a>),
+    Token(TokenKind),
     /// A byte that begins no piece.
     BadByte,
     /// A piece that is unfinished, or breaks its form or its value.
@@ -31,8 +31,8 @@ pub enum Form<'a> {
 
 /// A piece of a text and the position of its first byte.
 #[derive(Debug, Drop)]
-pub struct Piece<'a> {
-    pub form: Form<'a>,
+pub struct Piece {
+    pub form: Form,
     pub at: At,
 }
 
@@ -59,8 +59,8 @@ fn line_count(text: &[u8]) -> usize
     text.iter().take_while(|byte| !is_line_end(**byte)).count()
 }
 
-fn form_of(kind: Option<TokenKind<'static>>) -> Form<'static>
-    ensures { result ≡ form_of kind.entry }
+fn form_of(kind: Option<TokenKind>) -> Form
+    ensures { result ≡ form_of kind }
 {
     match kind {
         Some(kind) => Form::Token(kind),
@@ -68,26 +68,26 @@ fn form_of(kind: Option<TokenKind<'static>>) -> Form<'static>
     }
 }
 
-fn word_form(word: &[u8]) -> Form<'_>
-    ensures { result ≡ word_form word.now }
+fn word_form(alloc: Global, word: &[u8]) -> Result<Form, AllocError>
+    ensures { IfOk result (λ form. form ≡ word_form word.now) }
 {
     if is_refused(word) {
-        return Form::NotInProfile;
+        return Ok(Form::NotInProfile);
     }
     match keyword_of(word) {
-        Some(keyword) => Form::Token(TokenKind::Keyword(keyword)),
-        None => Form::Token(TokenKind::Name(Text::new(word))),
+        Some(keyword) => Ok(Form::Token(TokenKind::Keyword(keyword))),
+        None => Ok(Form::Token(TokenKind::Name(Name::new(alloc, word)?))),
     }
 }
 
-fn word_at(word: &[u8]) -> (Form<'_>, usize)
-    ensures value { result ≡ word_at word.now }
-    ensures within { result.1 ≡ length word.now }
+fn word_at(alloc: Global, word: &[u8]) -> Result<(Form, usize), AllocError>
+    ensures value { IfOk result (λ piece. piece ≡ word_at word.now) }
+    ensures within { IfOk result (λ piece. piece.1 ≡ length word.now) }
 {
-    (word_form(word), word.len())
+    Ok((word_form(alloc, word)?, word.len()))
 }
 
-fn number_at(number: &[u8]) -> (Form<'static>, usize)
+fn number_at(number: &[u8]) -> (Form, usize)
     ensures value { result ≡ number_at number.now }
     ensures within { result.1 ≡ length number.now }
 {
@@ -111,7 +111,7 @@ fn after_quote(quote: u8, text: &[u8]) -> Option<usize>
     None
 }
 
-fn character_at(rest: &[u8]) -> (Form<'static>, usize)
+fn character_at(rest: &[u8]) -> (Form, usize)
     requires { length rest.now ≤ MAX_TEXT }
     ensures value { result ≡ character_at rest.now }
     ensures within { (1 ≤ result.1) × (result.1 ≤ length rest.now + 1) }
@@ -122,7 +122,7 @@ fn character_at(rest: &[u8]) -> (Form<'static>, usize)
     }
 }
 
-fn string_at(rest: &[u8]) -> (Form<'static>, usize)
+fn string_at(rest: &[u8]) -> (Form, usize)
     requires { length rest.now ≤ MAX_TEXT }
     ensures value { result ≡ string_at rest.now }
     ensures within { (1 ≤ result.1) × (result.1 ≤ length rest.now + 1) }
@@ -154,7 +154,7 @@ fn after_open(text: &[u8]) -> Option<usize>
     None
 }
 
-fn comment_at(rest: &[u8]) -> (Form<'static>, usize)
+fn comment_at(rest: &[u8]) -> (Form, usize)
     requires { length rest.now ≤ MAX_TEXT }
     ensures value { result ≡ comment_at rest.now }
     ensures within { (1 ≤ result.1) × (result.1 ≤ length rest.now + 2) }
@@ -165,13 +165,9 @@ fn comment_at(rest: &[u8]) -> (Form<'static>, usize)
     }
 }
 
-fn punctuator_or(
-    punct: Option<Punct>,
-    count: usize,
-    other: (Form<'static>, usize),
-) -> (Form<'static>, usize)
-    ensures value { result ≡ punctuator_or punct count other.entry }
-    ensures which { MatchOption punct (result.1 ≡ other.entry.1) (λ p. result.1 ≡ count) }
+fn punctuator_or(punct: Option<Punct>, count: usize, other: (Form, usize)) -> (Form, usize)
+    ensures value { result ≡ punctuator_or punct count other }
+    ensures which { MatchOption punct (result.1 ≡ other.1) (λ p. result.1 ≡ count) }
 {
     match punct {
         Some(punct) => (Form::Token(TokenKind::Punct(punct)), count),
@@ -179,7 +175,7 @@ fn punctuator_or(
     }
 }
 
-fn punctuator_at(text: &[u8]) -> (Form<'static>, usize)
+fn punctuator_at(text: &[u8]) -> (Form, usize)
     requires { 0 < length text.now }
     ensures value { result ≡ punctuator_at text.now }
     ensures within { (1 ≤ result.1) × (result.1 ≤ length text.now) }
@@ -190,7 +186,7 @@ fn punctuator_at(text: &[u8]) -> (Form<'static>, usize)
 }
 
 /// The first piece of a text that begins with no blank, letter or digit.
-fn mark_at(first: u8, rest: &[u8], text: &[u8]) -> (Form<'static>, usize)
+fn mark_at(first: u8, rest: &[u8], text: &[u8]) -> (Form, usize)
     requires parts { text.now ≡ first ∷ rest.now }
     requires short { length text.now ≤ MAX_TEXT }
     ensures value { result ≡ mark_at first rest.now }
@@ -209,36 +205,36 @@ fn mark_at(first: u8, rest: &[u8], text: &[u8]) -> (Form<'static>, usize)
     }
 }
 
-fn piece_at<'a>(first: u8, rest: &[u8], text: &'a [u8]) -> (Form<'a>, usize)
+fn piece_at(alloc: Global, first: u8, rest: &[u8], text: &[u8]) -> Result<(Form, usize), AllocError>
     requires parts { text.now ≡ first ∷ rest.now }
     requires short { length text.now ≤ MAX_TEXT }
-    ensures value { result ≡ piece_at first rest.now }
-    ensures within { (1 ≤ result.1) × (result.1 ≤ length text.now) }
+    ensures value { IfOk result (λ piece. piece ≡ piece_at first rest.now) }
+    ensures within { IfOk result (λ piece. (1 ≤ piece.1) × (piece.1 ≤ length text.now)) }
 {
     if is_line_end(first) {
-        (Form::LineEnd, 1)
+        Ok((Form::LineEnd, 1))
     } else if is_blank(first) {
-        (Form::Blank, 1)
+        Ok((Form::Blank, 1))
     } else if first == b'#' {
-        (Form::Hash, 1)
+        Ok((Form::Hash, 1))
     } else if is_letter(first) {
-        word_at(&text[..1 + word_count(rest)])
+        word_at(alloc, &text[..1 + word_count(rest)])
     } else if first.is_ascii_digit() {
-        number_at(&text[..1 + number_count(rest)])
+        Ok(number_at(&text[..1 + number_count(rest)]))
     } else {
-        mark_at(first, rest, text)
+        Ok(mark_at(first, rest, text))
     }
 }
 
 /// The first piece of a text, and how many bytes it has.
 #[tactic(auto, unfolding(crate::specs::Pieces::first_piece), using(crate::proofs::CutLemmas::front))]
-fn first_piece(text: &[u8]) -> (Form<'_>, usize)
+fn first_piece(alloc: Global, text: &[u8]) -> Result<(Form, usize), AllocError>
     requires some { 0 < length text.now }
     requires short { length text.now ≤ MAX_TEXT }
-    ensures value { result ≡ first_piece text.now }
-    ensures within { (1 ≤ result.1) × (result.1 ≤ length text.now) }
+    ensures value { IfOk result (λ piece. piece ≡ first_piece text.now) }
+    ensures within { IfOk result (λ piece. (1 ≤ piece.1) × (piece.1 ≤ length text.now)) }
 {
-    piece_at(text[0], &text[1..], text)
+    piece_at(alloc, text[0], &text[1..], text)
 }
 
 /// The position after a byte that stands here.
@@ -276,9 +272,9 @@ fn position_after(at: At, piece: &[u8]) -> At
 }
 
 /// Adds a piece, unless it is a blank, and says whether the text is read on.
-fn push_piece<'a>(pieces: &mut Vec<Piece<'a>>, form: Form<'a>, at: At) -> Result<bool, AllocError>
+fn push_piece(pieces: &mut Vec<Piece>, form: Form, at: At) -> Result<bool, AllocError>
     ensures { IfOk result (λ goes_on. (rest : List Piece) →
-        pieces.old.items ++ with_piece form.entry at rest
+        pieces.old.items ++ with_piece form at rest
         ≡ pieces.new.items ++ (if goes_on then rest else [])) }
 {
     let goes_on = match form {
@@ -297,7 +293,7 @@ fn push_piece<'a>(pieces: &mut Vec<Piece<'a>>, form: Form<'a>, at: At) -> Result
 /// The pieces of a text, up to the first at fault.
 ///
 /// The one error is want of memory.
-pub fn pieces<'a>(alloc: Global, text: &'a [u8]) -> Result<Vec<Piece<'a>>, AllocError>
+pub fn pieces(alloc: Global, text: &[u8]) -> Result<Vec<Piece>, AllocError>
     requires { length text.now ≤ MAX_TEXT }
     ensures { IfOk result (λ pieces. pieces.items ≡ pieces_of text.now) }
 {
@@ -305,7 +301,7 @@ pub fn pieces<'a>(alloc: Global, text: &'a [u8]) -> Result<Vec<Piece<'a>>, Alloc
     let mut at = At { line: 1, column: 1 };
     let mut rest = text;
     while !rest.is_empty() {
-        let (form, count) = first_piece(rest);
+        let (form, count) = first_piece(alloc, rest)?;
         let (piece, others) = rest.split_at(count);
         if !push_piece(&mut pieces, form, at)? {
             break;

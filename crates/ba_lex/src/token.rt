@@ -1,50 +1,63 @@
 //! The tokens of a program.
 
-ghost use Rattle.std.specs.Prelude.{◌≡◌};
+ghost use Rattle.std.specs.Prelude.{◌≡◌, IfOk};
 
 use ba_numbers::ids::At;
 use ba_numbers::numbers::CType;
+use std::alloc::{AllocError, Global};
 use std::marker::Model;
+use std::rc::Rc;
 
-/// A name of the program: bytes that stand in its text, and take no memory of their own. Contracts see the list of
-/// the bytes and nothing else.
+/// A name of the program. It owns its bytes, and its copies share them. Contracts see the list of the bytes and
+/// nothing else.
 #[derive(Debug, Drop)]
-pub struct Text<'a> {
-    bytes: &'a [u8],
+pub struct Name {
+    bytes: Rc<Vec<u8>>,
 }
 
-impl<'a> Model for Text<'a> {
+impl Model for Name {
     ghost use Rattle.std.specs.Prelude.{List, ℕ};
 
     ghost Value = { List ℕ };
 
-    ghost view = { λ text. text.bytes.now };
+    ghost view = { λ name. name.bytes.value.items };
 }
 
-impl<'a> Text<'a> {
-    /// The text of these bytes.
-    pub fn new(bytes: &'a [u8]) -> Text<'a>
-        ensures { result ≡ bytes.now }
+impl Name {
+    /// The name of these bytes, copied once.
+    ///
+    /// # Errors
+    ///
+    /// Want of memory alone.
+    pub fn new(alloc: Global, bytes: &[u8]) -> Result<Name, AllocError>
+        ensures { IfOk result (λ name. name ≡ bytes.now) }
     {
-        Text { bytes }
+        let copied = Vec::from_slice(alloc, bytes)?;
+        let bytes = Rc::new(alloc, copied)?;
+        Ok(Name { bytes })
     }
 
     /// The bytes in their order.
-    pub fn as_bytes(&self) -> &'a [u8]
+    pub fn as_bytes(&self) -> &[u8]
         ensures { result.now ≡ self.now }
     {
-        self.bytes
+        self.bytes.as_slice()
     }
 
-    /// The same text again, of the same bytes in memory.
-    pub fn copy(&self) -> Text<'a>
-        ensures { result ≡ self.now }
+    /// The same name again, of the same bytes in memory.
+    ///
+    /// # Errors
+    ///
+    /// Want of memory alone, where there are as many copies as can be counted.
+    pub fn copy(&self) -> Result<Name, AllocError>
+        ensures { IfOk result (λ name. name ≡ self.now) }
     {
-        Text { bytes: self.bytes }
+        let bytes = self.bytes.clone()?;
+        Ok(Name { bytes })
     }
 }
 
-impl<'a> PartialEq for Text<'a> {
+impl PartialEq for Name {
     ghost use Rattle.std.specs.Prelude.{nat_eq};
     ghost use Rattle.std.specs.Cmp.Lexicographic.{pointwise};
     ghost use Rattle.std.specs.Cmp.Rules.{comparing};
@@ -54,12 +67,12 @@ impl<'a> PartialEq for Text<'a> {
 
     ghost laws = { Prim.search (comparing, rules) };
 
-    fn eq(&self, other: &Text<'a>) -> bool {
+    fn eq(&self, other: &Name) -> bool {
         self.as_bytes() == other.as_bytes()
     }
 }
 
-impl<'a> Eq for Text<'a> {
+impl Eq for Name {
     ghost use Rattle.std.specs.Cmp.Rules.{comparing};
     ghost use Rattle.std.proofs.Common.{rules};
 
@@ -189,9 +202,9 @@ pub enum Punct {
 
 /// What a token is.
 #[derive(Debug, PartialEq, Eq, Drop)]
-pub enum TokenKind<'a> {
+pub enum TokenKind {
     /// A name, which is no keyword.
-    Name(Text<'a>),
+    Name(Name),
     /// A keyword.
     Keyword(Keyword),
     /// A constant of the type `t`; a character constant has type `I32`.
@@ -202,13 +215,17 @@ pub enum TokenKind<'a> {
     Punct(Punct),
 }
 
-impl<'a> TokenKind<'a> {
+impl TokenKind {
     /// The same kind of token again. A name's bytes are not copied.
-    pub fn copy(&self) -> TokenKind<'a>
-        ensures { result ≡ self.now }
+    ///
+    /// # Errors
+    ///
+    /// Want of memory alone, where there are as many copies of a name as can be counted.
+    pub fn copy(&self) -> Result<TokenKind, AllocError>
+        ensures { IfOk result (λ kind. kind ≡ self.now) }
     {
-        match self {
-            TokenKind::Name(name) => TokenKind::Name(name.copy()),
+        Ok(match self {
+            TokenKind::Name(name) => TokenKind::Name(name.copy()?),
             TokenKind::Keyword(keyword) => TokenKind::Keyword(*keyword),
             TokenKind::Constant { t, value } => TokenKind::Constant {
                 t: *t,
@@ -216,13 +233,27 @@ impl<'a> TokenKind<'a> {
             },
             TokenKind::Quoted => TokenKind::Quoted,
             TokenKind::Punct(punct) => TokenKind::Punct(*punct),
-        }
+        })
     }
 }
 
 /// A token, and the position of its first byte; one that comes from a macro has the position of the macro's use.
 #[derive(Debug, PartialEq, Eq, Drop)]
-pub struct Token<'a> {
-    pub kind: TokenKind<'a>,
+pub struct Token {
+    pub kind: TokenKind,
     pub at: At,
+}
+
+impl Token {
+    /// The same token again. A name's bytes are not copied.
+    ///
+    /// # Errors
+    ///
+    /// Want of memory alone, where there are as many copies of a name as can be counted.
+    pub fn copy(&self) -> Result<Token, AllocError>
+        ensures { IfOk result (λ token. token ≡ self.now) }
+    {
+        let kind = self.kind.copy()?;
+        Ok(Token { kind, at: self.at })
+    }
 }

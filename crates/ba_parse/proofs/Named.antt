@@ -1,6 +1,6 @@
 -- Parameters without a name, and `void` alone.
 
-use Rattle.std.proofs.Common.{◌≡◌, Bool, true, false, not, ◌||◌, ◌&&◌, List, [], ◌∷◌, ◌++◌, length, map, Bor, Option, None, Some, length-append, refl, sym, ap, ◌∙◌, arith}
+use Rattle.std.proofs.Common.{◌≡◌, Bool, true, false, not, ◌||◌, ◌&&◌, List, [], ◌∷◌, ◌++◌, length, map, Option, None, Some, length-append, refl, sym, ap, ◌∙◌, arith}
 use Rattle.std.specs.Option.{is_some}
 use Rattle.std.specs.List.{list_all}
 use Rattle.ba_lex.specs.declared.token.Token.{Token}
@@ -18,11 +18,11 @@ or_false : (b : Bool) → (b || false) ≡ b
 or_false true = refl
 or_false false = refl
 
-name_is : (name : Option (Bor Token)) → not (has_unnamed (name_marks name)) ≡ is_some name
+name_is : (name : Option Token) → not (has_unnamed (name_marks name)) ≡ is_some name
 name_is None = refl
 name_is (Some t) = refl
 
-pub parameter_named : (words size : List Mark) (name : Option (Bor Token)) → has_unnamed words ≡ false →
+pub parameter_named : (words size : List Mark) (name : Option Token) → has_unnamed words ≡ false →
     has_unnamed size ≡ false → not (has_unnamed (node_of parameter ((words ++ name_marks name) ++ size)))
     ≡ is_some name
 parameter_named words size name w l =

@@ -1,6 +1,6 @@
 -- Strings, which are read as often as they begin.
 
-use Rattle.std.proofs.Common.{◌≡◌, Bool, List, [], ◌∷◌, ◌++◌, Bor, ap, ◌∙◌}
+use Rattle.std.proofs.Common.{◌≡◌, Bool, List, [], ◌∷◌, ◌++◌, ap, ◌∙◌}
 use Rattle.std.proofs.lemmas.List.{map-append}
 use Rattle.ba_lex.specs.declared.token.Token.{Token}
 use Rattle.ba_parse.specs.declared.class.TokenClass.TheVariants as class
@@ -15,6 +15,6 @@ string = next_is (only class.Quoted)
 abbrev pub a_string : Reading
 a_string = read_token (only class.Quoted)
 
-pub leaves-push : (ws all : List (Bor Token)) (w : Bor Token) → all ≡ ws ++ w ∷ [] → leaves all ≡ leaves ws
-    ++ leaf w.now ∷ []
-leaves-push ws all w push = ap leaves push ∙ map-append (λ (x : Bor Token). leaf x.now) ws (w ∷ [])
+pub leaves-push : (ws all : List Token) (w : Token) → all ≡ ws ++ w ∷ [] → leaves all ≡ leaves ws
+    ++ leaf w ∷ []
+leaves-push ws all w push = ap leaves push ∙ map-append leaf ws (w ∷ [])

@@ -1,6 +1,6 @@
 -- No node without a name stands in the words of a type, nor in an array's length.
 
-use Rattle.std.proofs.Common.{◌≡◌, Bool, true, false, ◌||◌, List, [], ◌∷◌, ◌++◌, map, Option, None, Some, option_map, refl, sym, ap, ◌∙◌, subst, Bor, Box, Global}
+use Rattle.std.proofs.Common.{◌≡◌, Bool, true, false, ◌||◌, List, [], ◌∷◌, ◌++◌, map, Option, None, Some, option_map, refl, sym, ap, ◌∙◌, subst, Box, Global}
 use Rattle.ba_lex.specs.declared.token.Token.{Token}
 use Rattle.ba_parse.specs.Grammar.{has_unnamed, is_no_name}
 use Rattle.ba_parse.specs.Marks.{Rule, Mark, leaf, enter, leave, down, up, node_of, one_deeper, type_name, array_length, arguments, conditional, chain, unary, primary}
@@ -47,7 +47,7 @@ none = record { named = refl }
 both : {f g : List Mark} → IsQuiet f → IsQuiet g → IsQuiet (f ++ g)
 both {f} {g} p q = record { named = unnamed_append f g ∙ ap (λ b. b || has_unnamed g) p.named ∙ q.named }
 
-front : (t : Bor Token) → {f : List Mark} → IsQuiet f → IsQuiet (leaf t.now ∷ f)
+front : (t : Token) → {f : List Mark} → IsQuiet f → IsQuiet (leaf t ∷ f)
 front t {f} p = record { named = p.named }
 
 inside : (r : Rule) → is_no_name r ≡ false → {f : List Mark} → IsQuiet f → IsQuiet (node_of r f)
@@ -59,7 +59,7 @@ deeper : {f : List Mark} → IsQuiet f → IsQuiet (one_deeper f)
 deeper {f} p = let end : IsQuiet (f ++ up ∷ []) = both p (record { named = refl }) in
     record { named = end.named }
 
-words : (ts : List (Bor Token)) → IsQuiet (map (λ t. leaf t.now) ts)
+words : (ts : List Token) → IsQuiet (map leaf ts)
 words [] = none
 words (t ∷ ts) = front t (words ts)
 

@@ -1,6 +1,6 @@
 -- The marks of an `if` and of a `for`, by those of their parts.
 
-use Rattle.std.proofs.Common.{◌≡◌, ◌∷◌, ◌++◌, ◌∙◌, Bor, Option, None, Some, option_map}
+use Rattle.std.proofs.Common.{◌≡◌, ◌∷◌, ◌++◌, ◌∙◌, Option, None, Some, option_map}
 use Rattle.ba_lex.specs.declared.token.Token.{Token}
 use Rattle.ba_parse.specs.Marks.{leaf, one_deeper}
 use Rattle.ba_parse.specs.ExpressionMarks.{M}
@@ -20,9 +20,9 @@ use Rattle.ba_parse.specs.declared.tree.statements.BlockItem.TheViews.{If, roll-
 use Rattle.ba_parse.specs.declared.tree.statements.BlockItem.TheBlock.{For}
 use Rattle.ba_parse.specs.declared.tree.statements.BlockItem.TheFolds.{fold-roll-StatementForm, fold-roll-For}
 
-pub if_marks : (keyword : Bor Token) (condition : Condition) (holds : Controlled) (fails : Option Else) →
+pub if_marks : (keyword : Token) (condition : Condition) (holds : Controlled) (fails : Option Else) →
     form_marks (If keyword condition holds fails)
-    ≡ leaf keyword.now ∷ condition_marks condition ++ controlled_marks holds ++ or_no_else
+    ≡ leaf keyword ∷ condition_marks condition ++ controlled_marks holds ++ or_no_else
     (option_map else_marks fails)
 unfolding roll-StatementForm denote.Hole.Carrier.roll
 if_marks keyword condition holds None =
@@ -36,8 +36,8 @@ if_marks keyword condition holds (Some e) =
 
 pub for_marks : (f : For-F BlockItem StatementForm Block Controlled DoWhile Else ForLoop Statement) →
     form_marks (For (roll-For f))
-    ≡ leaf f.keyword.now ∷ leaf f.«open».now ∷ one_deeper (for_head_marks f.head.value)
-    ++ leaf f.close.now ∷ controlled_marks f.body
+    ≡ leaf f.keyword ∷ leaf f.«open» ∷ one_deeper (for_head_marks f.head.value)
+    ++ leaf f.close ∷ controlled_marks f.body
 unfolding roll-StatementForm denote.Hole.Carrier.roll
 for_marks f =
     fold-roll-StatementForm M M M M M M M M item_step form_step block_step controlled_step do_step else_step

@@ -1,6 +1,6 @@
 -- The words of a type, one after another.
 
-use Rattle.std.proofs.Common.{◌≡◌, ◌<◌, Bool, true, false, List, [], ◌∷◌, ◌++◌, length, map, Bor, Err, append_assoc, refl, sym, ap, ◌∙◌, arith}
+use Rattle.std.proofs.Common.{◌≡◌, ◌<◌, Bool, true, false, List, [], ◌∷◌, ◌++◌, length, map, Err, append_assoc, refl, sym, ap, ◌∙◌, arith}
 use Rattle.std.proofs.lemmas.List.{append-nil, map-append}
 use Rattle.std.specs.List.{list_any}
 use Rattle.ba_lex.specs.declared.token.Token.{Token}
@@ -12,15 +12,15 @@ use Rattle.ba_parse.specs.Marks.{Mark, leaf, node_of, type_name}
 use Rattle.ba_parse.specs.Readings.{Answer, done, syntax, too_deep, with_front, next_is, words_after, after_words, around}
 use Rattle.ba_parse.specs.Telling.{Told, next_word, agrees_with}
 
-abbrev pub leaves : List (Bor Token) → List Mark
-leaves ws = map (λ w. leaf w.now) ws
+abbrev pub leaves : List Token → List Mark
+leaves ws = map leaf ws
 
-abbrev pub classes : List (Bor Token) → List TokenClass
-classes ws = map (λ w. class_of w.now) ws
+abbrev pub classes : List Token → List TokenClass
+classes ws = map class_of ws
 
-pub classes-push : (ws : List (Bor Token)) (w : Bor Token) → classes (ws ++ w ∷ []) ≡ classes ws ++ class_of
-    w.now ∷ []
-classes-push ws w = map-append (λ (x : Bor Token). class_of x.now) ws (w ∷ [])
+pub classes-push : (ws : List Token) (w : Token) → classes (ws ++ w ∷ []) ≡ classes ws ++ class_of
+    w ∷ []
+classes-push ws w = map-append class_of ws (w ∷ [])
 
 with_front-twice : (f g : List Mark) (a : Answer) → with_front f (with_front g a) ≡ with_front (f ++ g) a
 with_front-twice f g (done h rest) = ap (λ x. done x rest) (sym (append_assoc f g h))
@@ -28,9 +28,9 @@ with_front-twice f g (syntax rest) = refl
 with_front-twice f g (too_deep rest) = refl
 
 -- the next word is read
-word-done : (static : Bool) (ws : List (Bor Token)) (ts mid : List Token) (w : Bor Token) →
-    next_word static (classes ws) ts ≡ done (leaf w.now ∷ []) mid → words_after static (classes ws) ts
-    ≡ with_front (leaf w.now ∷ []) (words_after static (classes ws ++ class_of w.now ∷ []) mid)
+word-done : (static : Bool) (ws : List Token) (ts mid : List Token) (w : Token) →
+    next_word static (classes ws) ts ≡ done (leaf w ∷ []) mid → words_after static (classes ws) ts
+    ≡ with_front (leaf w ∷ []) (words_after static (classes ws ++ class_of w ∷ []) mid)
 unfolding words_after
 word-done static ws [] mid w e = absurd cc
 word-done static ws (t ∷ ts) mid w e = by (agrees_with (classes ws) (t ∷ ts)) refl
@@ -38,17 +38,17 @@ word-done static ws (t ∷ ts) mid w e = by (agrees_with (classes ws) (t ∷ ts)
   where
     by : (b : Bool) → agrees_with (classes ws) (t ∷ ts) ≡ b → (d : Bool) →
         declaration_word static (class_of t) ≡ d → words_after static (classes ws) (t ∷ ts) ≡ with_front
-        (leaf w.now ∷ []) (words_after static (classes ws ++ class_of w.now ∷ []) mid)
+        (leaf w ∷ []) (words_after static (classes ws ++ class_of w ∷ []) mid)
     by true agrees true is =
         let h = rw (agrees, is) at e in
-        let t_is : t ≡ w.now = cc in
+        let t_is : t ≡ w = cc in
         let ts_is : ts ≡ mid = cc in
         rw (is, agrees, t_is, ts_is) refl
     by true agrees false is = let h = rw (agrees, is) at e in absurd cc
     by false agrees d is = let h = rw agrees at e in absurd cc
 
 -- it does not agree
-word-stop : (static : Bool) (ws : List (Bor Token)) (ts rest : List Token) → next_is (declaration_word static)
+word-stop : (static : Bool) (ws : List Token) (ts rest : List Token) → next_is (declaration_word static)
     ts ≡ true → next_word static (classes ws) ts ≡ syntax rest → words_after static (classes ws) ts ≡ syntax
     rest
 unfolding words_after
@@ -60,7 +60,7 @@ word-stop static ws (t ∷ ts) rest next e = by (agrees_with (classes ws) (t ∷
     by true agrees = let h = rw (agrees, next) at e in absurd cc
     by false agrees = let h = rw agrees at e in rw (next, agrees) h
 
-never_deep : (static : Bool) (ws : List (Bor Token)) (ts rest : List Token) → next_word static (classes ws) ts
+never_deep : (static : Bool) (ws : List Token) (ts rest : List Token) → next_word static (classes ws) ts
     ≡ too_deep rest → ⊥
 never_deep static ws [] rest e = cc
 never_deep static ws (t ∷ ts) rest e = by (agrees_with (classes ws) (t ∷ ts)) refl
@@ -78,8 +78,8 @@ unfolding words_after
 words-end static before [] next = refl
 words-end static before (t ∷ ts) next = rw next refl
 
-pub word-shorter : (static : Bool) (ws : List (Bor Token)) (ts mid : List Token) (w : Bor Token) →
-    next_word static (classes ws) ts ≡ done (leaf w.now ∷ []) mid → length mid < length ts
+pub word-shorter : (static : Bool) (ws : List Token) (ts mid : List Token) (w : Token) →
+    next_word static (classes ws) ts ≡ done (leaf w ∷ []) mid → length mid < length ts
 word-shorter static ws [] mid w e = absurd cc
 word-shorter static ws (t ∷ ts) mid w e = by (agrees_with (classes ws) (t ∷ ts)) refl
     (declaration_word static (class_of t)) refl
@@ -91,19 +91,19 @@ word-shorter static ws (t ∷ ts) mid w e = by (agrees_with (classes ws) (t ∷ 
     by false agrees d is = let h = rw agrees at e in absurd cc
 
 -- The whole is the words that were read, and then what is read after them. So it goes on,
-pub words-turn : (whole : Answer) (static : Bool) (ws all : List (Bor Token)) (w : Bor Token)
+pub words-turn : (whole : Answer) (static : Bool) (ws all : List Token) (w : Token)
     (ts mid : List Token) → whole ≡ with_front (leaves ws) (words_after static (classes ws) ts) →
-    next_word static (classes ws) ts ≡ done (leaf w.now ∷ []) mid → all ≡ ws ++ w ∷ [] →
+    next_word static (classes ws) ts ≡ done (leaf w ∷ []) mid → all ≡ ws ++ w ∷ [] →
     whole ≡ with_front (leaves all) (words_after static (classes all) mid)
 words-turn whole static ws all w ts mid h d push =
-    let more : leaves (ws ++ w ∷ []) ≡ leaves ws ++ leaf w.now ∷ [] =
-    map-append (λ (x : Bor Token). leaf x.now) ws (w ∷ []) in
+    let more : leaves (ws ++ w ∷ []) ≡ leaves ws ++ leaf w ∷ [] =
+    map-append leaf ws (w ∷ []) in
     rw (push, more, classes-push ws w) (h ∙ ap (with_front (leaves ws)) (word-done static ws ts mid w d)
-    ∙ with_front-twice (leaves ws) (leaf w.now ∷ [])
-    (words_after static (classes ws ++ class_of w.now ∷ []) mid))
+    ∙ with_front-twice (leaves ws) (leaf w ∷ [])
+    (words_after static (classes ws ++ class_of w ∷ []) mid))
 
 -- stops,
-pub words-stop : (s : Stop) (whole : Answer) (static : Bool) (ws : List (Bor Token)) (ts rest : List Token) →
+pub words-stop : (s : Stop) (whole : Answer) (static : Bool) (ws : List Token) (ts rest : List Token) →
     whole ≡ with_front (leaves ws) (words_after static (classes ws) ts) → next_is (declaration_word static) ts
     ≡ true → Told {A = List Mark} (λ f. f) (Err s) (next_word static (classes ws) ts) rest →
     Told {A = List Mark} (λ f. f) (Err s) (around type_name whole) rest
@@ -112,7 +112,7 @@ words-stop stop.TooDeep whole static ws ts rest h next d = absurd (never_deep st
 words-stop stop.Memory whole static ws ts rest h next d = tt
 
 -- or ends.
-pub words-all : (whole : Answer) (static : Bool) (ws : List (Bor Token)) (ts : List Token) →
+pub words-all : (whole : Answer) (static : Bool) (ws : List Token) (ts : List Token) →
     whole ≡ with_front (leaves ws) (words_after static (classes ws) ts) → next_is (declaration_word static) ts
     ≡ false → list_any type_word (classes ws) ≡ true → around type_name whole
     ≡ done (node_of type_name (leaves ws)) ts
@@ -123,7 +123,7 @@ words-all whole static ws ts h next some = rw (
   append-nil (leaves ws),
 ) refl
 
-pub words-none : (whole : Answer) (static : Bool) (ws : List (Bor Token)) (ts : List Token) →
+pub words-none : (whole : Answer) (static : Bool) (ws : List Token) (ts : List Token) →
     whole ≡ with_front (leaves ws) (words_after static (classes ws) ts) → next_is (declaration_word static) ts
     ≡ false → list_any type_word (classes ws) ≡ false → around type_name whole ≡ syntax ts
 words-none whole static ws ts h next some = rw (h, words-end static (classes ws) ts next, some) refl

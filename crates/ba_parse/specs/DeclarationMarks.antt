@@ -19,21 +19,21 @@ use Rattle.ba_parse.specs.ExpressionMarks.{type_name_marks, conditional_marks, n
 
 abbrev pub array_length_marks : ArrayLength → List Mark
 array_length_marks a =
-    node_of array_length (leaf a.«open».now ∷ one_deeper (optional (option_map conditional_marks a.length))
-    ++ leaf a.close.now ∷ [])
+    node_of array_length (leaf a.«open» ∷ one_deeper (optional (option_map conditional_marks a.length))
+    ++ leaf a.close ∷ [])
 
 abbrev pub braced_marks : Braced → List Mark
 braced_marks b = node_of braced
-    (leaf b.«open».now ∷ conditional_marks b.first ++ joined (map next_expression_marks b.rest.items)
-    ++ optional_leaf b.comma ++ leaf b.close.now ∷ [])
+    (leaf b.«open» ∷ conditional_marks b.first ++ joined (map next_expression_marks b.rest.items)
+    ++ optional_leaf b.comma ++ leaf b.close ∷ [])
 
 abbrev pub initialiser_marks : Initialiser → List Mark
-initialiser_marks (initialiser.Expression assign value) = leaf assign.now ∷ conditional_marks value
-initialiser_marks (initialiser.Braced assign values) = leaf assign.now ∷ braced_marks values
+initialiser_marks (initialiser.Expression assign value) = leaf assign ∷ conditional_marks value
+initialiser_marks (initialiser.Braced assign values) = leaf assign ∷ braced_marks values
 
 abbrev pub declarator_marks : Declarator → List Mark
 declarator_marks d = node_of declarator
-    (leaf d.name.now ∷ optional (option_map array_length_marks d.length) ++ optional
+    (leaf d.name ∷ optional (option_map array_length_marks d.length) ++ optional
     (option_map initialiser_marks d.initialiser))
 
 abbrev pub listed_declarator_marks : ListedDeclarator → List Mark
@@ -44,7 +44,7 @@ declarators_marks d = node_of declarators (joined (map listed_declarator_marks d
 
 abbrev pub declaration_marks : Declaration → List Mark
 declaration_marks d = node_of declaration (type_name_marks d.name ++ declarators_marks d.declarators
-    ++ leaf d.semicolon.now ∷ [])
+    ++ leaf d.semicolon ∷ [])
 
 abbrev pub parameter_marks : Parameter → List Mark
 parameter_marks p =
@@ -52,7 +52,7 @@ parameter_marks p =
     (option_map array_length_marks p.length))
 
 abbrev pub next_parameter_marks : NextParameter → List Mark
-next_parameter_marks n = leaf n.comma.now ∷ parameter_marks n.parameter
+next_parameter_marks n = leaf n.comma ∷ parameter_marks n.parameter
 
 abbrev pub parameter_list_marks : ParameterList → List Mark
 parameter_list_marks p = parameter_marks p.first ++ joined (map next_parameter_marks p.rest.items)

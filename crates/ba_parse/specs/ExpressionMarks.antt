@@ -17,7 +17,7 @@ use Rattle.ba_parse.specs.Marks.{Mark, leaf, node_of, one_deeper, type_name, arg
 use Rattle.ba_parse.specs.Views.{joined, optional}
 
 abbrev pub type_name_marks : TypeName → List Mark
-type_name_marks t = node_of type_name (map (λ word. leaf word.now) t.words.items)
+type_name_marks t = node_of type_name (map leaf t.words.items)
 
 -- WHAT A TYPE ADDS, where its parts are written out
 
@@ -25,19 +25,19 @@ abbrev pub M : Type 0
 M = List Mark
 
 abbrev pub primary_step : Primary-F M M M M M M M M M → M
-primary_step (Primary-F.Name name) = node_of primary (leaf name.now ∷ [])
+primary_step (Primary-F.Name name) = node_of primary (leaf name ∷ [])
 primary_step (Primary-F.Element name opener index closer) =
-    node_of primary (leaf name.now ∷ leaf opener.now ∷ one_deeper index.value ++ leaf closer.now ∷ [])
+    node_of primary (leaf name ∷ leaf opener ∷ one_deeper index.value ++ leaf closer ∷ [])
 primary_step (Primary-F.Call name opener values closer) =
-    node_of primary (leaf name.now ∷ leaf opener.now ∷ one_deeper values ++ leaf closer.now ∷ [])
-primary_step (Primary-F.Constant constant) = node_of primary (leaf constant.now ∷ [])
+    node_of primary (leaf name ∷ leaf opener ∷ one_deeper values ++ leaf closer ∷ [])
+primary_step (Primary-F.Constant constant) = node_of primary (leaf constant ∷ [])
 primary_step (Primary-F.Parenthesized opener expression closer) =
-    node_of primary (leaf opener.now ∷ one_deeper expression.value ++ leaf closer.now ∷ [])
+    node_of primary (leaf opener ∷ one_deeper expression.value ++ leaf closer ∷ [])
 
 abbrev pub unary_step : Unary-F M M M M M M M M M → M
-unary_step (Unary-F.Prefix operator operand) = node_of unary (leaf operator.now ∷ one_deeper operand.value)
+unary_step (Unary-F.Prefix operator operand) = node_of unary (leaf operator ∷ one_deeper operand.value)
 unary_step (Unary-F.Cast opener name closer operand) =
-    node_of unary (leaf opener.now ∷ one_deeper (type_name_marks name) ++ leaf closer.now ∷ one_deeper
+    node_of unary (leaf opener ∷ one_deeper (type_name_marks name) ++ leaf closer ∷ one_deeper
     operand.value)
 unary_step (Unary-F.Primary p) = node_of unary p
 
@@ -45,11 +45,11 @@ abbrev pub arguments_step : Arguments-F M M M M M M M M M → M
 arguments_step a = node_of arguments (optional a.values)
 
 abbrev pub branches_step : Branches-F M M M M M M M M M → M
-branches_step b = leaf b.question.now ∷ one_deeper b.holds.value ++ leaf b.colon.now ∷ one_deeper
+branches_step b = leaf b.question ∷ one_deeper b.holds.value ++ leaf b.colon ∷ one_deeper
     b.fails.value
 
 abbrev pub chain_step : Chain-F M M M M M M M M M → M
-chain_step c = node_of (chain c.level) (leaf c.operator.now ∷ one_deeper
+chain_step c = node_of (chain c.level) (leaf c.operator ∷ one_deeper
     (c.operand ++ optional (option_map (λ r. r.value) c.rest)))
 
 abbrev pub conditional_step : Conditional-F M M M M M M M M M → M
@@ -59,7 +59,7 @@ abbrev pub expressions_step : Expressions-F M M M M M M M M M → M
 expressions_step e = e.first.value ++ joined e.rest.items
 
 abbrev pub next_expression_step : NextExpression-F M M M M M M M M M → M
-next_expression_step n = leaf n.comma.now ∷ n.expression
+next_expression_step n = leaf n.comma ∷ n.expression
 
 abbrev pub operand_step : Operand-F M M M M M M M M M → M
 operand_step o = o.first ++ joined o.chains.items

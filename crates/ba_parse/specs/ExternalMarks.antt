@@ -13,13 +13,13 @@ use Rattle.ba_parse.specs.StatementMarks.{block_marks}
 
 abbrev pub end_marks : FunctionEnd → List Mark
 end_marks (Body b) = block_marks b
-end_marks (Prototype semicolon) = leaf semicolon.now ∷ []
+end_marks (Prototype semicolon) = leaf semicolon ∷ []
 
 abbrev pub external_form_marks : ExternalForm → List Mark
-external_form_marks (Variables declarators semicolon) = declarators_marks declarators ++ leaf semicolon.now
+external_form_marks (Variables declarators semicolon) = declarators_marks declarators ++ leaf semicolon
     ∷ []
 external_form_marks (Function name opener parameters closer end) =
-    leaf name.now ∷ leaf opener.now ∷ one_deeper (parameters_marks parameters) ++ leaf closer.now ∷ end_marks
+    leaf name ∷ leaf opener ∷ one_deeper (parameters_marks parameters) ++ leaf closer ∷ end_marks
     end
 
 abbrev pub external_marks : External → List Mark

@@ -19,19 +19,19 @@ use Rattle.ba_parse.specs.ExpressionMarks.{type_name_marks, conditional_marks, a
 use Rattle.ba_parse.specs.DeclarationMarks.{declarators_marks}
 
 abbrev pub index_marks : Index → List Mark
-index_marks i = leaf i.«open».now ∷ one_deeper (conditional_marks i.value.value) ++ leaf i.close.now ∷ []
+index_marks i = leaf i.«open» ∷ one_deeper (conditional_marks i.value.value) ++ leaf i.close ∷ []
 
 abbrev pub target_marks : Target → List Mark
-target_marks t = node_of target (leaf t.name.now ∷ optional (option_map index_marks t.index))
+target_marks t = node_of target (leaf t.name ∷ optional (option_map index_marks t.index))
 
 abbrev pub simple_marks : Simple → List Mark
-simple_marks (form.Assign place operator value) = node_of simple (target_marks place ++ leaf operator.now
+simple_marks (form.Assign place operator value) = node_of simple (target_marks place ++ leaf operator
     ∷ conditional_marks value)
-simple_marks (form.Step place operator) = node_of simple (target_marks place ++ leaf operator.now ∷ [])
-simple_marks (form.PrefixStep operator place) = node_of simple (leaf operator.now ∷ target_marks place)
+simple_marks (form.Step place operator) = node_of simple (target_marks place ++ leaf operator ∷ [])
+simple_marks (form.PrefixStep operator place) = node_of simple (leaf operator ∷ target_marks place)
 simple_marks (form.Call name opener arguments closer) =
-    node_of simple (leaf name.now ∷ leaf opener.now ∷ one_deeper (arguments_marks arguments)
-    ++ leaf closer.now ∷ [])
+    node_of simple (leaf name ∷ leaf opener ∷ one_deeper (arguments_marks arguments)
+    ++ leaf closer ∷ [])
 
 abbrev pub listed_simple_marks : ListedSimple → List Mark
 listed_simple_marks l = optional_leaf l.comma ++ simple_marks l.simple
@@ -40,7 +40,7 @@ abbrev pub simples_marks : Simples → List Mark
 simples_marks s = node_of simples (joined (map listed_simple_marks s.all.items))
 
 abbrev pub condition_marks : Condition → List Mark
-condition_marks c = leaf c.«open».now ∷ one_deeper (conditional_marks c.test.value) ++ leaf c.close.now ∷ []
+condition_marks c = leaf c.«open» ∷ one_deeper (conditional_marks c.test.value) ++ leaf c.close ∷ []
 
 abbrev pub for_first_marks : ForFirst → List Mark
 for_first_marks (first.Declaration name declarators) =
@@ -50,9 +50,9 @@ for_first_marks first.Nothing = node_of for_first []
 
 abbrev pub for_head_marks : ForHead → List Mark
 for_head_marks f =
-    for_first_marks f.first ++ leaf f.first_semicolon.now ∷ optional (option_map conditional_marks f.test)
-    ++ leaf f.second_semicolon.now ∷ optional (option_map simples_marks f.step)
+    for_first_marks f.first ++ leaf f.first_semicolon ∷ optional (option_map conditional_marks f.test)
+    ++ leaf f.second_semicolon ∷ optional (option_map simples_marks f.step)
 
 abbrev pub printed_marks : Printed → List Mark
-printed_marks p = leaf p.first.now ∷ map (λ t. leaf t.now) p.rest.items ++ joined
+printed_marks p = leaf p.first ∷ map leaf p.rest.items ++ joined
     (map next_expression_marks p.values.items)

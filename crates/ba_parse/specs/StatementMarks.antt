@@ -28,40 +28,40 @@ item_step (BlockItem-F.Statement s) = s
 
 abbrev pub form_step : StatementForm-F M M M M M M M M → M
 form_step (StatementForm-F.Block b) = b
-form_step (StatementForm-F.Empty semicolon) = leaf semicolon.now ∷ []
-form_step (StatementForm-F.Simple simple semicolon) = simple_marks simple ++ leaf semicolon.now ∷ []
-form_step (StatementForm-F.If keyword condition holds fails) = leaf keyword.now ∷ condition_marks condition
+form_step (StatementForm-F.Empty semicolon) = leaf semicolon ∷ []
+form_step (StatementForm-F.Simple simple semicolon) = simple_marks simple ++ leaf semicolon ∷ []
+form_step (StatementForm-F.If keyword condition holds fails) = leaf keyword ∷ condition_marks condition
     ++ holds ++ or_no_else fails
-form_step (StatementForm-F.While keyword condition body) = leaf keyword.now ∷ condition_marks condition
+form_step (StatementForm-F.While keyword condition body) = leaf keyword ∷ condition_marks condition
     ++ body
 form_step (StatementForm-F.DoWhile d) = d
 form_step (StatementForm-F.For f) = f
-form_step (StatementForm-F.Break keyword semicolon) = leaf keyword.now ∷ leaf semicolon.now ∷ []
-form_step (StatementForm-F.Continue keyword semicolon) = leaf keyword.now ∷ leaf semicolon.now ∷ []
-form_step (StatementForm-F.Return keyword value semicolon) = leaf keyword.now ∷ optional
-    (option_map conditional_marks value) ++ leaf semicolon.now ∷ []
-form_step (StatementForm-F.Assert keyword condition semicolon) = leaf keyword.now ∷ condition_marks condition
-    ++ leaf semicolon.now ∷ []
+form_step (StatementForm-F.Break keyword semicolon) = leaf keyword ∷ leaf semicolon ∷ []
+form_step (StatementForm-F.Continue keyword semicolon) = leaf keyword ∷ leaf semicolon ∷ []
+form_step (StatementForm-F.Return keyword value semicolon) = leaf keyword ∷ optional
+    (option_map conditional_marks value) ++ leaf semicolon ∷ []
+form_step (StatementForm-F.Assert keyword condition semicolon) = leaf keyword ∷ condition_marks condition
+    ++ leaf semicolon ∷ []
 form_step (StatementForm-F.Printf keyword opener printed closer semicolon) =
-    leaf keyword.now ∷ leaf opener.now ∷ one_deeper (printed_marks printed) ++ leaf closer.now
-    ∷ leaf semicolon.now ∷ []
+    leaf keyword ∷ leaf opener ∷ one_deeper (printed_marks printed) ++ leaf closer
+    ∷ leaf semicolon ∷ []
 
 abbrev pub block_step : Block-F M M M M M M M M → M
-block_step b = node_of block (leaf b.«open».now ∷ one_deeper (joined b.items.items) ++ leaf b.close.now ∷ [])
+block_step b = node_of block (leaf b.«open» ∷ one_deeper (joined b.items.items) ++ leaf b.close ∷ [])
 
 abbrev pub controlled_step : Controlled-F M M M M M M M M → M
 controlled_step c = one_deeper c.statement.value
 
 abbrev pub do_step : DoWhile-F M M M M M M M M → M
-do_step d = leaf d.keyword.now ∷ d.body ++ leaf d.while_keyword.now ∷ condition_marks d.condition
-    ++ leaf d.semicolon.now ∷ []
+do_step d = leaf d.keyword ∷ d.body ++ leaf d.while_keyword ∷ condition_marks d.condition
+    ++ leaf d.semicolon ∷ []
 
 abbrev pub else_step : Else-F M M M M M M M M → M
-else_step e = leaf e.keyword.now ∷ e.statement
+else_step e = leaf e.keyword ∷ e.statement
 
 abbrev pub for_step : For-F M M M M M M M M → M
-for_step f = leaf f.keyword.now ∷ leaf f.«open».now ∷ one_deeper (for_head_marks f.head.value)
-    ++ leaf f.close.now ∷ f.body
+for_step f = leaf f.keyword ∷ leaf f.«open» ∷ one_deeper (for_head_marks f.head.value)
+    ++ leaf f.close ∷ f.body
 
 abbrev pub statement_step : Statement-F M M M M M M M M → M
 statement_step s = node_of statement s.form

@@ -1,7 +1,6 @@
 -- What all trees share when they are written out: parts that may be left out, and parts in a row.
 
 use Rattle.std.specs.Prelude.{List, [], ◌∷◌, ◌++◌, Option, None, Some}
-use Rattle.std.specs.Borrow.{Bor}
 use Rattle.ba_lex.specs.declared.token.Token.{Token}
 use Rattle.ba_parse.specs.Marks.{Mark, leaf, node_of, no_name}
 
@@ -16,10 +15,10 @@ joined [] = []
 joined (f ∷ fs) = f ++ joined fs
 
 -- a token that may be left out; the name of a parameter, where the node without a name stands for none
-abbrev pub optional_leaf : Option (Bor Token) → List Mark
+abbrev pub optional_leaf : Option Token → List Mark
 optional_leaf None = []
-optional_leaf (Some t) = leaf t.now ∷ []
+optional_leaf (Some t) = leaf t ∷ []
 
-abbrev pub name_marks : Option (Bor Token) → List Mark
+abbrev pub name_marks : Option Token → List Mark
 name_marks None = node_of no_name []
-name_marks (Some t) = leaf t.now ∷ []
+name_marks (Some t) = leaf t ∷ []

@@ -35,11 +35,11 @@ const DECLARATION_WORD: TokenSet = TokenSet::DeclarationWord { with_static: fals
 /// # Errors
 ///
 /// The reading's own, and want of memory.
-pub fn maybe_expression<'a>(
+pub fn maybe_expression(
     alloc: Global,
-    reader: &mut Reader<'a>,
+    reader: &mut Reader,
     levels: u32,
-) -> Result<Option<Conditional<'a>>, Stop>
+) -> Result<Option<Conditional>, Stop>
     ensures { Told (λ e. optional (option_map conditional_marks e)) result
         (maybe_expression (levels_left levels) reader.old) reader.new }
 {
@@ -50,11 +50,11 @@ pub fn maybe_expression<'a>(
     Ok(Some(expression))
 }
 
-fn maybe_length<'a>(
+fn maybe_length(
     alloc: Global,
-    reader: &mut Reader<'a>,
+    reader: &mut Reader,
     levels: u32,
-) -> Result<Option<ArrayLength<'a>>, Stop>
+) -> Result<Option<ArrayLength>, Stop>
     ensures { Told (λ l. optional (option_map array_length_marks l)) result
         (maybe_length (levels_left levels) reader.old) reader.new }
 {
@@ -72,11 +72,11 @@ fn maybe_length<'a>(
 }
 
 /// What stands between the brackets of an array, if anything.
-fn inner_length<'a>(
+fn inner_length(
     alloc: Global,
-    reader: &mut Reader<'a>,
+    reader: &mut Reader,
     levels: u32,
-) -> Result<Option<Conditional<'a>>, Stop>
+) -> Result<Option<Conditional>, Stop>
     ensures { Told (λ e. optional (option_map conditional_marks e)) result
         (levels_left levels in_length reader.old) reader.new }
 {
@@ -87,7 +87,7 @@ fn inner_length<'a>(
 }
 
 /// The length where no level is left: none, or refused.
-fn no_length<'a>(reader: &Reader<'a>) -> Result<Option<Conditional<'a>>, Stop>
+fn no_length(reader: &Reader) -> Result<Option<Conditional>, Stop>
     ensures { Told (λ e. optional (option_map conditional_marks e)) result
         (shallow in_length reader.now) reader.now }
 {
@@ -97,7 +97,7 @@ fn no_length<'a>(reader: &Reader<'a>) -> Result<Option<Conditional<'a>>, Stop>
     Ok(None)
 }
 
-fn braced<'a>(alloc: Global, reader: &mut Reader<'a>, levels: u32) -> Result<Braced<'a>, Stop>
+fn braced(alloc: Global, reader: &mut Reader, levels: u32) -> Result<Braced, Stop>
     ensures { Told braced_marks result (read_braced (levels_left levels) reader.old) reader.new }
 {
     let open = reader.take(TokenSet::Punct(Punct::OpenBrace))?;
@@ -114,7 +114,7 @@ fn braced<'a>(alloc: Global, reader: &mut Reader<'a>, levels: u32) -> Result<Bra
     })
 }
 
-fn maybe_comma<'a>(reader: &mut Reader<'a>) -> Result<Option<&'a Token<'a>>, Stop>
+fn maybe_comma(reader: &mut Reader) -> Result<Option<Token>, Stop>
     ensures { Told optional_leaf result
         (read_maybe (mark punct.Comma) (read_sign punct.Comma) reader.old) reader.new }
 {
@@ -126,11 +126,7 @@ fn maybe_comma<'a>(reader: &mut Reader<'a>) -> Result<Option<&'a Token<'a>>, Sto
 }
 
 /// Expressions, each after a comma; a comma before the closing brace is the last.
-fn next_values<'a>(
-    alloc: Global,
-    reader: &mut Reader<'a>,
-    levels: u32,
-) -> Result<Vec<NextExpression<'a>>, Stop>
+fn next_values(alloc: Global, reader: &mut Reader, levels: u32) -> Result<Vec<NextExpression>, Stop>
     ensures { Told (λ v. joined (map next_expression_marks v.items)) result
         (read_many is_next_value (read_sign punct.Comma ▹ read_expression (levels_left levels))
         reader.old) reader.new }
@@ -146,11 +142,11 @@ fn next_values<'a>(
     Ok(rest)
 }
 
-fn maybe_initialiser<'a>(
+fn maybe_initialiser(
     alloc: Global,
-    reader: &mut Reader<'a>,
+    reader: &mut Reader,
     levels: u32,
-) -> Result<Option<Initialiser<'a>>, Stop>
+) -> Result<Option<Initialiser>, Stop>
     ensures { Told (λ i. optional (option_map initialiser_marks i)) result
         (read_maybe (mark punct.Assign) (read_initialiser (levels_left levels)) reader.old)
         reader.new }
@@ -162,11 +158,7 @@ fn maybe_initialiser<'a>(
     Ok(Some(given))
 }
 
-fn initialiser<'a>(
-    alloc: Global,
-    reader: &mut Reader<'a>,
-    levels: u32,
-) -> Result<Initialiser<'a>, Stop>
+fn initialiser(alloc: Global, reader: &mut Reader, levels: u32) -> Result<Initialiser, Stop>
     ensures { Told initialiser_marks result (read_initialiser (levels_left levels) reader.old)
         reader.new }
 {
@@ -180,11 +172,7 @@ fn initialiser<'a>(
     }
 }
 
-fn declarator<'a>(
-    alloc: Global,
-    reader: &mut Reader<'a>,
-    levels: u32,
-) -> Result<Declarator<'a>, Stop>
+fn declarator(alloc: Global, reader: &mut Reader, levels: u32) -> Result<Declarator, Stop>
     ensures { Told declarator_marks result (read_declarator (levels_left levels) reader.old)
         reader.new }
 {
@@ -198,11 +186,11 @@ fn declarator<'a>(
     })
 }
 
-fn next_declarator<'a>(
+fn next_declarator(
     alloc: Global,
-    reader: &mut Reader<'a>,
+    reader: &mut Reader,
     levels: u32,
-) -> Result<ListedDeclarator<'a>, Stop>
+) -> Result<ListedDeclarator, Stop>
     ensures { Told listed_declarator_marks result
         ((read_sign punct.Comma ▹ read_declarator (levels_left levels)) reader.old) reader.new }
 {
@@ -214,11 +202,11 @@ fn next_declarator<'a>(
     })
 }
 
-fn next_declarators<'a>(
+fn next_declarators(
     alloc: Global,
-    reader: &mut Reader<'a>,
+    reader: &mut Reader,
     levels: u32,
-) -> Result<Vec<ListedDeclarator<'a>>, Stop>
+) -> Result<Vec<ListedDeclarator>, Stop>
     ensures { Told (λ v. joined (map listed_declarator_marks v.items)) result
         (read_many (next_is (mark punct.Comma))
         (read_sign punct.Comma ▹ read_declarator (levels_left levels)) reader.old) reader.new }
@@ -239,11 +227,7 @@ fn next_declarators<'a>(
 /// # Errors
 ///
 /// The reading's own, and want of memory.
-pub fn declarators<'a>(
-    alloc: Global,
-    reader: &mut Reader<'a>,
-    levels: u32,
-) -> Result<Declarators<'a>, Stop>
+pub fn declarators(alloc: Global, reader: &mut Reader, levels: u32) -> Result<Declarators, Stop>
     ensures { Told declarators_marks result (read_declarators (levels_left levels) reader.old)
         reader.new }
 {
@@ -254,9 +238,9 @@ pub fn declarators<'a>(
 }
 
 #[tactic(auto, using(crate::proofs::Repeats::each_front))]
-fn put_first<'a>(all: &mut Vec<ListedDeclarator<'a>>, first: Declarator<'a>) -> Result<(), Stop>
+fn put_first(all: &mut Vec<ListedDeclarator>, first: Declarator) -> Result<(), Stop>
     ensures { MatchResult result (λ _. joined (map listed_declarator_marks all.new.items)
-        ≡ declarator_marks first.entry ++ joined (map listed_declarator_marks all.old.items))
+        ≡ declarator_marks first ++ joined (map listed_declarator_marks all.old.items))
         (λ stop. stop ≡ Memory) }
 {
     all.insert(
@@ -274,11 +258,7 @@ fn put_first<'a>(all: &mut Vec<ListedDeclarator<'a>>, first: Declarator<'a>) -> 
 /// # Errors
 ///
 /// The reading's own, and want of memory.
-pub fn declaration<'a>(
-    alloc: Global,
-    reader: &mut Reader<'a>,
-    levels: u32,
-) -> Result<Declaration<'a>, Stop>
+pub fn declaration(alloc: Global, reader: &mut Reader, levels: u32) -> Result<Declaration, Stop>
     ensures { Told declaration_marks result (read_declaration (levels_left levels) reader.old)
         reader.new }
 {
@@ -292,7 +272,7 @@ pub fn declaration<'a>(
     })
 }
 
-fn maybe_name<'a>(reader: &mut Reader<'a>) -> Result<Option<&'a Token<'a>>, Stop>
+fn maybe_name(reader: &mut Reader) -> Result<Option<Token>, Stop>
     ensures { Told name_marks result
         (read_either (next_is (only class.Name)) read_name (read_node no_name read_nothing)
         reader.old) reader.new }
@@ -304,7 +284,7 @@ fn maybe_name<'a>(reader: &mut Reader<'a>) -> Result<Option<&'a Token<'a>>, Stop
     Ok(Some(name))
 }
 
-fn parameter<'a>(alloc: Global, reader: &mut Reader<'a>, levels: u32) -> Result<Parameter<'a>, Stop>
+fn parameter(alloc: Global, reader: &mut Reader, levels: u32) -> Result<Parameter, Stop>
     ensures { Told parameter_marks result (read_parameter (levels_left levels) reader.old)
         reader.new }
 {
@@ -318,11 +298,7 @@ fn parameter<'a>(alloc: Global, reader: &mut Reader<'a>, levels: u32) -> Result<
     })
 }
 
-fn next_parameter<'a>(
-    alloc: Global,
-    reader: &mut Reader<'a>,
-    levels: u32,
-) -> Result<NextParameter<'a>, Stop>
+fn next_parameter(alloc: Global, reader: &mut Reader, levels: u32) -> Result<NextParameter, Stop>
     ensures { Told next_parameter_marks result
         ((read_sign punct.Comma ▹ read_parameter (levels_left levels)) reader.old) reader.new }
 {
@@ -334,11 +310,11 @@ fn next_parameter<'a>(
     })
 }
 
-fn next_parameters<'a>(
+fn next_parameters(
     alloc: Global,
-    reader: &mut Reader<'a>,
+    reader: &mut Reader,
     levels: u32,
-) -> Result<Vec<NextParameter<'a>>, Stop>
+) -> Result<Vec<NextParameter>, Stop>
     ensures { Told (λ v. joined (map next_parameter_marks v.items)) result
         (read_many (next_is (mark punct.Comma))
         (read_sign punct.Comma ▹ read_parameter (levels_left levels)) reader.old) reader.new }
@@ -354,11 +330,7 @@ fn next_parameters<'a>(
     Ok(rest)
 }
 
-fn parameter_list<'a>(
-    alloc: Global,
-    reader: &mut Reader<'a>,
-    levels: u32,
-) -> Result<ParameterList<'a>, Stop>
+fn parameter_list(alloc: Global, reader: &mut Reader, levels: u32) -> Result<ParameterList, Stop>
     ensures { Told parameter_list_marks result
         (read_listed (read_parameter (levels_left levels)) reader.old) reader.new }
 {
@@ -367,11 +339,7 @@ fn parameter_list<'a>(
     Ok(ParameterList { first, rest })
 }
 
-fn parameters<'a>(
-    alloc: Global,
-    reader: &mut Reader<'a>,
-    levels: u32,
-) -> Result<Parameters<'a>, Stop>
+fn parameters(alloc: Global, reader: &mut Reader, levels: u32) -> Result<Parameters, Stop>
     ensures { Told parameters_marks result (read_parameters (levels_left levels) reader.old)
         reader.new }
 {
@@ -387,11 +355,7 @@ fn parameters<'a>(
 /// # Errors
 ///
 /// The reading's own, and want of memory.
-pub fn inner_parameters<'a>(
-    alloc: Global,
-    reader: &mut Reader<'a>,
-    levels: u32,
-) -> Result<Parameters<'a>, Stop>
+pub fn inner_parameters(alloc: Global, reader: &mut Reader, levels: u32) -> Result<Parameters, Stop>
     ensures { Told parameters_marks result (levels_left levels in_parameters reader.old)
         reader.new }
 {
@@ -402,7 +366,7 @@ pub fn inner_parameters<'a>(
 }
 
 /// The parameters where no level is left: none, or refused.
-fn no_parameters<'a>(reader: &Reader<'a>) -> Result<Parameters<'a>, Stop>
+fn no_parameters(reader: &Reader) -> Result<Parameters, Stop>
     ensures { Told parameters_marks result (shallow in_parameters reader.now) reader.now }
 {
     if reader.next_is(DECLARATION_WORD) {

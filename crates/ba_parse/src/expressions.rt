@@ -37,11 +37,7 @@ const CLOSE: TokenSet = TokenSet::Punct(Punct::CloseParenthesis);
 ///
 /// The reading's own, and want of memory.
 #[cycle(expression)]
-pub fn conditional<'a>(
-    alloc: Global,
-    reader: &mut Reader<'a>,
-    levels: u32,
-) -> Result<Conditional<'a>, Stop>
+pub fn conditional(alloc: Global, reader: &mut Reader, levels: u32) -> Result<Conditional, Stop>
     ensures { Told conditional_marks result (read_expression (levels_left levels) reader.old)
         reader.new }
 {
@@ -51,11 +47,7 @@ pub fn conditional<'a>(
 }
 
 #[cycle(expression)]
-fn maybe_branches<'a>(
-    alloc: Global,
-    reader: &mut Reader<'a>,
-    levels: u32,
-) -> Result<Option<Branches<'a>>, Stop>
+fn maybe_branches(alloc: Global, reader: &mut Reader, levels: u32) -> Result<Option<Branches>, Stop>
     ensures { Told (λ b. optional (option_map branches_marks b)) result
         (read_maybe (mark punct.Question) (read_branches (levels_left levels)) reader.old)
         reader.new }
@@ -77,11 +69,11 @@ fn maybe_branches<'a>(
 
 /// An expression inside one more construct.
 #[cycle(expression)]
-pub fn inner_expression<'a>(
+pub fn inner_expression(
     alloc: Global,
-    reader: &mut Reader<'a>,
+    reader: &mut Reader,
     levels: u32,
-) -> Result<Box<Conditional<'a>>, Stop>
+) -> Result<Box<Conditional>, Stop>
     ensures { Told (λ e. conditional_marks e.value) result
         (levels_left levels in_expression reader.old) reader.new }
 {
@@ -104,12 +96,7 @@ pub fn refusal(reader: &Reader, starts: TokenSet) -> Stop
 }
 
 #[cycle(expression)]
-fn operand<'a>(
-    alloc: Global,
-    reader: &mut Reader<'a>,
-    levels: u32,
-    loosest: u32,
-) -> Result<Operand<'a>, Stop>
+fn operand(alloc: Global, reader: &mut Reader, levels: u32, loosest: u32) -> Result<Operand, Stop>
     ensures { Told operand_marks result (read_operand (levels_left levels) loosest reader.old)
         reader.new }
 {
@@ -123,10 +110,10 @@ fn operand<'a>(
 }
 
 #[tactic(auto, using(crate::proofs::Repeats::each_push))]
-fn push_some<'a>(chains: &mut Vec<Chain<'a>>, added: Option<Chain<'a>>) -> Result<(), Stop>
+fn push_some(chains: &mut Vec<Chain>, added: Option<Chain>) -> Result<(), Stop>
     ensures { MatchResult result (λ _. joined (map chain_marks chains.new.items)
         ≡ joined (map chain_marks chains.old.items)
-        ++ optional (option_map chain_marks added.entry)) (λ stop. stop ≡ Memory) }
+        ++ optional (option_map chain_marks added)) (λ stop. stop ≡ Memory) }
 {
     if let Some(chain) = added {
         chains.push(chain)?;
@@ -135,12 +122,12 @@ fn push_some<'a>(chains: &mut Vec<Chain<'a>>, added: Option<Chain<'a>>) -> Resul
 }
 
 #[cycle(expression)]
-fn maybe_chain<'a>(
+fn maybe_chain(
     alloc: Global,
-    reader: &mut Reader<'a>,
+    reader: &mut Reader,
     levels: u32,
     level: u32,
-) -> Result<Option<Chain<'a>>, Stop>
+) -> Result<Option<Chain>, Stop>
     requires { 0 < level }
     ensures { Told (λ c. optional (option_map chain_marks c)) result
         (read_maybe (operator level) (read_chain (levels_left levels) level) reader.old)
@@ -161,12 +148,12 @@ fn maybe_chain<'a>(
 
 /// The right operand of an operator of this level, and the rest of its chain, inside one more construct.
 #[cycle(expression)]
-fn chained<'a>(
+fn chained(
     alloc: Global,
-    reader: &mut Reader<'a>,
+    reader: &mut Reader,
     levels: u32,
     level: u32,
-) -> Result<(Operand<'a>, Option<Box<Chain<'a>>>), Stop>
+) -> Result<(Operand, Option<Box<Chain>>), Stop>
     requires { 0 < level }
     ensures { Told (λ p. operand_marks p.0 ++ optional (option_map (λ c. chain_marks c.value) p.1))
         result (levels_left levels (in_chained level) reader.old) reader.new }
@@ -182,7 +169,7 @@ fn chained<'a>(
 }
 
 #[cycle(expression)]
-fn unary<'a>(alloc: Global, reader: &mut Reader<'a>, levels: u32) -> Result<Unary<'a>, Stop>
+fn unary(alloc: Global, reader: &mut Reader, levels: u32) -> Result<Unary, Stop>
     ensures { Told unary_marks result (read_unary (levels_left levels) reader.old) reader.new }
 {
     if reader.next_is(TokenSet::PrefixSign) {
@@ -196,7 +183,7 @@ fn unary<'a>(alloc: Global, reader: &mut Reader<'a>, levels: u32) -> Result<Unar
 }
 
 #[cycle(expression)]
-fn prefixed<'a>(alloc: Global, reader: &mut Reader<'a>, levels: u32) -> Result<Unary<'a>, Stop>
+fn prefixed(alloc: Global, reader: &mut Reader, levels: u32) -> Result<Unary, Stop>
     ensures { Told unary_marks result
         (read_node unary (read_token prefix_sign ▹ deeper_in (levels_left levels) in_unary)
         reader.old) reader.new }
@@ -207,7 +194,7 @@ fn prefixed<'a>(alloc: Global, reader: &mut Reader<'a>, levels: u32) -> Result<U
 }
 
 #[cycle(expression)]
-fn cast<'a>(alloc: Global, reader: &mut Reader<'a>, levels: u32) -> Result<Unary<'a>, Stop>
+fn cast(alloc: Global, reader: &mut Reader, levels: u32) -> Result<Unary, Stop>
     ensures { Told unary_marks result
         (read_node unary (read_parenthesized (levels_left levels) in_cast ▹ deeper_in
         (levels_left levels) in_unary) reader.old) reader.new }
@@ -225,11 +212,7 @@ fn cast<'a>(alloc: Global, reader: &mut Reader<'a>, levels: u32) -> Result<Unary
 }
 
 #[cycle(expression)]
-fn inner_unary<'a>(
-    alloc: Global,
-    reader: &mut Reader<'a>,
-    levels: u32,
-) -> Result<Box<Unary<'a>>, Stop>
+fn inner_unary(alloc: Global, reader: &mut Reader, levels: u32) -> Result<Box<Unary>, Stop>
     ensures { Told (λ u. unary_marks u.value) result (levels_left levels in_unary reader.old)
         reader.new }
 {
@@ -240,11 +223,7 @@ fn inner_unary<'a>(
     Ok(Box::new(alloc, operand)?)
 }
 
-fn inner_type_name<'a>(
-    alloc: Global,
-    reader: &mut Reader<'a>,
-    levels: u32,
-) -> Result<TypeName<'a>, Stop>
+fn inner_type_name(alloc: Global, reader: &mut Reader, levels: u32) -> Result<TypeName, Stop>
     ensures { Told type_name_marks result (levels_left levels in_cast reader.old) reader.new }
 {
     if levels == 0 {
@@ -254,7 +233,7 @@ fn inner_type_name<'a>(
 }
 
 #[cycle(expression)]
-fn primary<'a>(alloc: Global, reader: &mut Reader<'a>, levels: u32) -> Result<Primary<'a>, Stop>
+fn primary(alloc: Global, reader: &mut Reader, levels: u32) -> Result<Primary, Stop>
     ensures { Told primary_marks result (read_primary (levels_left levels) reader.old) reader.new }
 {
     if reader.next_is(TokenSet::Name) {
@@ -268,11 +247,7 @@ fn primary<'a>(alloc: Global, reader: &mut Reader<'a>, levels: u32) -> Result<Pr
 }
 
 #[cycle(expression)]
-fn parenthesized<'a>(
-    alloc: Global,
-    reader: &mut Reader<'a>,
-    levels: u32,
-) -> Result<Primary<'a>, Stop>
+fn parenthesized(alloc: Global, reader: &mut Reader, levels: u32) -> Result<Primary, Stop>
     ensures { Told primary_marks result
         (read_node primary (read_parenthesized (levels_left levels) in_expression) reader.old)
         reader.new }
@@ -289,7 +264,7 @@ fn parenthesized<'a>(
 
 /// A name, an element of an array or a call.
 #[cycle(expression)]
-fn named<'a>(alloc: Global, reader: &mut Reader<'a>, levels: u32) -> Result<Primary<'a>, Stop>
+fn named(alloc: Global, reader: &mut Reader, levels: u32) -> Result<Primary, Stop>
     ensures { Told primary_marks result
         (read_node primary (read_name ▹ after_name (levels_left levels)) reader.old) reader.new }
 {
@@ -320,11 +295,7 @@ fn named<'a>(alloc: Global, reader: &mut Reader<'a>, levels: u32) -> Result<Prim
 }
 
 #[cycle(expression)]
-pub fn inner_arguments<'a>(
-    alloc: Global,
-    reader: &mut Reader<'a>,
-    levels: u32,
-) -> Result<Arguments<'a>, Stop>
+pub fn inner_arguments(alloc: Global, reader: &mut Reader, levels: u32) -> Result<Arguments, Stop>
     ensures { Told arguments_marks result (levels_left levels in_arguments reader.old) reader.new }
 {
     if levels == 0 {
@@ -334,7 +305,7 @@ pub fn inner_arguments<'a>(
 }
 
 /// The arguments where no level is left: none, or refused.
-fn no_arguments<'a>(reader: &Reader<'a>) -> Result<Arguments<'a>, Stop>
+fn no_arguments(reader: &Reader) -> Result<Arguments, Stop>
     ensures { Told arguments_marks result (shallow in_arguments reader.now) reader.now }
 {
     if reader.next_is(TokenSet::OperandStart) {
@@ -344,7 +315,7 @@ fn no_arguments<'a>(reader: &Reader<'a>) -> Result<Arguments<'a>, Stop>
 }
 
 #[cycle(expression)]
-fn arguments<'a>(alloc: Global, reader: &mut Reader<'a>, levels: u32) -> Result<Arguments<'a>, Stop>
+fn arguments(alloc: Global, reader: &mut Reader, levels: u32) -> Result<Arguments, Stop>
     ensures { Told arguments_marks result (read_arguments (levels_left levels) reader.old)
         reader.new }
 {
@@ -359,11 +330,7 @@ fn arguments<'a>(alloc: Global, reader: &mut Reader<'a>, levels: u32) -> Result<
 
 /// One expression or more, with commas between.
 #[cycle(expression)]
-fn expressions<'a>(
-    alloc: Global,
-    reader: &mut Reader<'a>,
-    levels: u32,
-) -> Result<Expressions<'a>, Stop>
+fn expressions(alloc: Global, reader: &mut Reader, levels: u32) -> Result<Expressions, Stop>
     ensures { Told expressions_marks result
         (read_listed (read_expression (levels_left levels)) reader.old) reader.new }
 {
@@ -375,11 +342,11 @@ fn expressions<'a>(
 
 /// Expressions, each after a comma.
 #[cycle(expression)]
-pub fn next_expressions<'a>(
+pub fn next_expressions(
     alloc: Global,
-    reader: &mut Reader<'a>,
+    reader: &mut Reader,
     levels: u32,
-) -> Result<Vec<NextExpression<'a>>, Stop>
+) -> Result<Vec<NextExpression>, Stop>
     ensures { Told (λ v. joined (map next_expression_marks v.items)) result
         (read_many (next_is (mark punct.Comma))
         (read_sign punct.Comma ▹ read_expression (levels_left levels)) reader.old) reader.new }
@@ -397,11 +364,11 @@ pub fn next_expressions<'a>(
 
 /// A comma and an expression.
 #[cycle(expression)]
-pub fn next_expression<'a>(
+pub fn next_expression(
     alloc: Global,
-    reader: &mut Reader<'a>,
+    reader: &mut Reader,
     levels: u32,
-) -> Result<NextExpression<'a>, Stop>
+) -> Result<NextExpression, Stop>
     ensures { Told next_expression_marks result
         ((read_sign punct.Comma ▹ read_expression (levels_left levels)) reader.old) reader.new }
 {

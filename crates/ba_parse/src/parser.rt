@@ -50,7 +50,7 @@ const EXTERNAL_WORD: TokenSet = TokenSet::DeclarationWord { with_static: true };
 ///   the end, the list begins a file's tokens and is no file's.
 /// - [`ParseError::TooDeep`]: the least number of a token with more than [`MAX_LEVEL`] constructs around it.
 /// - [`ParseError::Memory`]: want of memory.
-pub fn parse<'a>(alloc: Global, tokens: &'a [Token<'a>]) -> Result<RawProgram<'a>, ParseError>
+pub fn parse(alloc: Global, tokens: &[Token]) -> Result<RawProgram, ParseError>
     ensures told { IsTold tokens.now (written result) }
     ensures only { (verdict : Verdict) → Says tokens.now verdict
         → (written result ≡ result_of verdict) ⊎ (result ≡ Err Memory) }
@@ -59,7 +59,7 @@ pub fn parse<'a>(alloc: Global, tokens: &'a [Token<'a>]) -> Result<RawProgram<'a
 }
 
 /// The tree of a file, or where its reading stops.
-fn whole_file<'a>(alloc: Global, tokens: &'a [Token<'a>]) -> Result<RawProgram<'a>, ParseError>
+fn whole_file(alloc: Global, tokens: &[Token]) -> Result<RawProgram, ParseError>
     ensures { (result ≡ Err Memory)
         ⊎ (written result ≡ outcome_of tokens.now (read_file (levels_left 100) tokens.now)) }
 {
@@ -73,14 +73,10 @@ fn whole_file<'a>(alloc: Global, tokens: &'a [Token<'a>]) -> Result<RawProgram<'
 }
 
 /// The file, where nothing is left after what was read.
-fn file_of<'a>(
-    all: Vec<External<'a>>,
-    tokens: &[Token],
-    rest: &[Token],
-) -> Result<RawProgram<'a>, ParseError>
+fn file_of(all: Vec<External>, tokens: &[Token], rest: &[Token]) -> Result<RawProgram, ParseError>
     requires { has_accepted_levels (node_of file (joined (map external_marks all.items))) ≡ true }
     ensures { written result ≡ outcome_of tokens.now
-        (done (node_of file (joined (map external_marks all.entry.items))) rest.now) }
+        (done (node_of file (joined (map external_marks all.items))) rest.now) }
 {
     match rest.split_first() {
         Some(_) => Err(ParseError::Syntax(place_of(tokens, rest))),
@@ -95,11 +91,7 @@ fn place_of(tokens: &[Token], rest: &[Token]) -> usize
     tokens.len().saturating_sub(rest.len())
 }
 
-fn externals<'a>(
-    alloc: Global,
-    reader: &mut Reader<'a>,
-    levels: u32,
-) -> Result<Vec<External<'a>>, Stop>
+fn externals(alloc: Global, reader: &mut Reader, levels: u32) -> Result<Vec<External>, Stop>
     ensures { Told (λ v. joined (map external_marks v.items)) result
         (read_many (next_is (declaration_word true)) (read_external (levels_left levels))
         reader.old) reader.new }
@@ -115,7 +107,7 @@ fn externals<'a>(
     Ok(all)
 }
 
-fn external<'a>(alloc: Global, reader: &mut Reader<'a>, levels: u32) -> Result<External<'a>, Stop>
+fn external(alloc: Global, reader: &mut Reader, levels: u32) -> Result<External, Stop>
     ensures { Told external_marks result (read_external (levels_left levels) reader.old)
         reader.new }
 {
@@ -128,11 +120,7 @@ fn external<'a>(alloc: Global, reader: &mut Reader<'a>, levels: u32) -> Result<E
     Ok(External { name, form })
 }
 
-fn variables<'a>(
-    alloc: Global,
-    reader: &mut Reader<'a>,
-    levels: u32,
-) -> Result<ExternalForm<'a>, Stop>
+fn variables(alloc: Global, reader: &mut Reader, levels: u32) -> Result<ExternalForm, Stop>
     ensures { Told external_form_marks result
         ((read_declarators (levels_left levels) ▹ read_semicolon) reader.old) reader.new }
 {
@@ -144,11 +132,7 @@ fn variables<'a>(
     })
 }
 
-fn function<'a>(
-    alloc: Global,
-    reader: &mut Reader<'a>,
-    levels: u32,
-) -> Result<ExternalForm<'a>, Stop>
+fn function(alloc: Global, reader: &mut Reader, levels: u32) -> Result<ExternalForm, Stop>
     ensures { Told external_form_marks result (read_function_tail (levels_left levels) reader.old)
         reader.new }
 {
@@ -187,12 +171,12 @@ fn is_void(before: &[Token], after: &[Token]) -> bool
     }
 }
 
-fn function_end<'a>(
+fn function_end(
     alloc: Global,
-    reader: &mut Reader<'a>,
+    reader: &mut Reader,
     levels: u32,
     with_block: bool,
-) -> Result<FunctionEnd<'a>, Stop>
+) -> Result<FunctionEnd, Stop>
     ensures { Told end_marks result (read_function_end (levels_left levels) with_block reader.old)
         reader.new }
 {

@@ -49,7 +49,7 @@ impl<T: Drop> From<AllocFailed<T>> for Stop {
 /// A reader of tokens. Contracts see the tokens that are left.
 #[derive(Drop)]
 pub struct Reader<'a> {
-    rest: &'a [Token<'a>],
+    rest: &'a [Token],
 }
 
 impl<'a> Model for Reader<'a> {
@@ -63,14 +63,14 @@ impl<'a> Model for Reader<'a> {
 
 impl<'a> Reader<'a> {
     /// A reader of these tokens.
-    pub fn new(tokens: &'a [Token<'a>]) -> Reader<'a>
+    pub fn new(tokens: &'a [Token]) -> Reader<'a>
         ensures { result ≡ tokens.now }
     {
         Reader { rest: tokens }
     }
 
     /// The tokens that are left.
-    pub fn rest(&self) -> &'a [Token<'a>]
+    pub fn rest(&self) -> &'a [Token]
         ensures { result.now ≡ self.now }
     {
         self.rest
@@ -107,14 +107,14 @@ impl<'a> Reader<'a> {
     }
 
     /// The next token, which has to be in the set.
-    pub fn take(&mut self, set: TokenSet) -> Result<&'a Token<'a>, Stop>
-        ensures { Told (λ token. leaf token.now ∷ []) result (read_token (classes set) self.old)
+    pub fn take(&mut self, set: TokenSet) -> Result<Token, Stop>
+        ensures { Told (λ token. leaf token ∷ []) result (read_token (classes set) self.old)
             self.new }
     {
         match self.rest {
             [token, rest @ ..] if set.contains(class_of(token)) => {
                 self.rest = rest;
-                Ok(token)
+                Ok(token.copy()?)
             }
             _ => Err(Stop::Syntax),
         }

@@ -35,7 +35,7 @@ const COMMA: TokenSet = TokenSet::Punct(Punct::Comma);
 
 const SEMICOLON: TokenSet = TokenSet::Punct(Punct::Semicolon);
 
-fn target<'a>(alloc: Global, reader: &mut Reader<'a>, levels: u32) -> Result<Target<'a>, Stop>
+fn target(alloc: Global, reader: &mut Reader, levels: u32) -> Result<Target, Stop>
     ensures { Told target_marks result (read_target (levels_left levels) reader.old) reader.new }
 {
     let name = reader.take(TokenSet::Name)?;
@@ -43,11 +43,7 @@ fn target<'a>(alloc: Global, reader: &mut Reader<'a>, levels: u32) -> Result<Tar
     Ok(Target { name, index })
 }
 
-fn maybe_index<'a>(
-    alloc: Global,
-    reader: &mut Reader<'a>,
-    levels: u32,
-) -> Result<Option<Index<'a>>, Stop>
+fn maybe_index(alloc: Global, reader: &mut Reader, levels: u32) -> Result<Option<Index>, Stop>
     ensures { Told (λ i. optional (option_map index_marks i)) result
         (read_maybe (mark punct.OpenBracket) (read_bracketed (levels_left levels) in_expression)
         reader.old) reader.new }
@@ -66,7 +62,7 @@ fn maybe_index<'a>(
 /// # Errors
 ///
 /// The reading's own, and want of memory.
-pub fn simple<'a>(alloc: Global, reader: &mut Reader<'a>, levels: u32) -> Result<Simple<'a>, Stop>
+pub fn simple(alloc: Global, reader: &mut Reader, levels: u32) -> Result<Simple, Stop>
     ensures { Told simple_marks result (read_simple (levels_left levels) reader.old) reader.new }
 {
     if reader.next_is(TokenSet::StepSign) {
@@ -78,7 +74,7 @@ pub fn simple<'a>(alloc: Global, reader: &mut Reader<'a>, levels: u32) -> Result
     }
 }
 
-fn prefix_step<'a>(alloc: Global, reader: &mut Reader<'a>, levels: u32) -> Result<Simple<'a>, Stop>
+fn prefix_step(alloc: Global, reader: &mut Reader, levels: u32) -> Result<Simple, Stop>
     ensures { Told simple_marks result
         (read_node simple (read_token step_sign ▹ read_target (levels_left levels)) reader.old)
         reader.new }
@@ -91,7 +87,7 @@ fn prefix_step<'a>(alloc: Global, reader: &mut Reader<'a>, levels: u32) -> Resul
     })
 }
 
-fn called<'a>(alloc: Global, reader: &mut Reader<'a>, levels: u32) -> Result<Simple<'a>, Stop>
+fn called(alloc: Global, reader: &mut Reader, levels: u32) -> Result<Simple, Stop>
     ensures { Told simple_marks result
         (read_node simple (read_name ▹ read_parenthesized (levels_left levels) in_arguments)
         reader.old) reader.new }
@@ -108,7 +104,7 @@ fn called<'a>(alloc: Global, reader: &mut Reader<'a>, levels: u32) -> Result<Sim
     })
 }
 
-fn assigned<'a>(alloc: Global, reader: &mut Reader<'a>, levels: u32) -> Result<Simple<'a>, Stop>
+fn assigned(alloc: Global, reader: &mut Reader, levels: u32) -> Result<Simple, Stop>
     ensures { Told simple_marks result
         (read_node simple (read_target (levels_left levels) ▹ read_either (next_is step_sign)
         (read_token step_sign) (read_token assign_sign ▹ read_expression (levels_left levels)))
@@ -132,11 +128,7 @@ fn assigned<'a>(alloc: Global, reader: &mut Reader<'a>, levels: u32) -> Result<S
     }
 }
 
-fn next_simple<'a>(
-    alloc: Global,
-    reader: &mut Reader<'a>,
-    levels: u32,
-) -> Result<ListedSimple<'a>, Stop>
+fn next_simple(alloc: Global, reader: &mut Reader, levels: u32) -> Result<ListedSimple, Stop>
     ensures { Told listed_simple_marks result
         ((read_sign punct.Comma ▹ read_simple (levels_left levels)) reader.old) reader.new }
 {
@@ -148,11 +140,7 @@ fn next_simple<'a>(
     })
 }
 
-fn next_simples<'a>(
-    alloc: Global,
-    reader: &mut Reader<'a>,
-    levels: u32,
-) -> Result<Vec<ListedSimple<'a>>, Stop>
+fn next_simples(alloc: Global, reader: &mut Reader, levels: u32) -> Result<Vec<ListedSimple>, Stop>
     ensures { Told (λ v. joined (map listed_simple_marks v.items)) result
         (read_many (next_is (mark punct.Comma))
         (read_sign punct.Comma ▹ read_simple (levels_left levels)) reader.old) reader.new }
@@ -168,7 +156,7 @@ fn next_simples<'a>(
     Ok(rest)
 }
 
-fn simples<'a>(alloc: Global, reader: &mut Reader<'a>, levels: u32) -> Result<Simples<'a>, Stop>
+fn simples(alloc: Global, reader: &mut Reader, levels: u32) -> Result<Simples, Stop>
     ensures { Told simples_marks result (read_simples (levels_left levels) reader.old) reader.new }
 {
     let first = simple(alloc, reader, levels)?;
@@ -178,9 +166,9 @@ fn simples<'a>(alloc: Global, reader: &mut Reader<'a>, levels: u32) -> Result<Si
 }
 
 #[tactic(auto, using(crate::proofs::Repeats::each_front))]
-fn put_first<'a>(all: &mut Vec<ListedSimple<'a>>, first: Simple<'a>) -> Result<(), Stop>
+fn put_first(all: &mut Vec<ListedSimple>, first: Simple) -> Result<(), Stop>
     ensures { MatchResult result (λ _. joined (map listed_simple_marks all.new.items)
-        ≡ simple_marks first.entry ++ joined (map listed_simple_marks all.old.items)) (λ stop. stop
+        ≡ simple_marks first ++ joined (map listed_simple_marks all.old.items)) (λ stop. stop
         ≡ Memory) }
 {
     all.insert(
@@ -193,11 +181,7 @@ fn put_first<'a>(all: &mut Vec<ListedSimple<'a>>, first: Simple<'a>) -> Result<(
     Ok(())
 }
 
-fn maybe_simples<'a>(
-    alloc: Global,
-    reader: &mut Reader<'a>,
-    levels: u32,
-) -> Result<Option<Simples<'a>>, Stop>
+fn maybe_simples(alloc: Global, reader: &mut Reader, levels: u32) -> Result<Option<Simples>, Stop>
     ensures { Told (λ s. optional (option_map simples_marks s)) result
         (read_maybe simple_start (read_simples (levels_left levels)) reader.old) reader.new }
 {
@@ -213,11 +197,7 @@ fn maybe_simples<'a>(
 /// # Errors
 ///
 /// The reading's own, and want of memory.
-pub fn condition<'a>(
-    alloc: Global,
-    reader: &mut Reader<'a>,
-    levels: u32,
-) -> Result<Condition<'a>, Stop>
+pub fn condition(alloc: Global, reader: &mut Reader, levels: u32) -> Result<Condition, Stop>
     ensures { Told condition_marks result (read_condition (levels_left levels) reader.old)
         reader.new }
 {
@@ -227,7 +207,7 @@ pub fn condition<'a>(
     Ok(Condition { open, test, close })
 }
 
-fn for_first<'a>(alloc: Global, reader: &mut Reader<'a>, levels: u32) -> Result<ForFirst<'a>, Stop>
+fn for_first(alloc: Global, reader: &mut Reader, levels: u32) -> Result<ForFirst, Stop>
     ensures { Told for_first_marks result (read_for_first (levels_left levels) reader.old)
         reader.new }
 {
@@ -243,7 +223,7 @@ fn for_first<'a>(alloc: Global, reader: &mut Reader<'a>, levels: u32) -> Result<
     }
 }
 
-fn for_head<'a>(alloc: Global, reader: &mut Reader<'a>, levels: u32) -> Result<ForHead<'a>, Stop>
+fn for_head(alloc: Global, reader: &mut Reader, levels: u32) -> Result<ForHead, Stop>
     ensures { Told for_head_marks result (read_for_head (levels_left levels) reader.old)
         reader.new }
 {
@@ -266,11 +246,7 @@ fn for_head<'a>(alloc: Global, reader: &mut Reader<'a>, levels: u32) -> Result<F
 /// # Errors
 ///
 /// The reading's own, and want of memory.
-pub fn inner_for_head<'a>(
-    alloc: Global,
-    reader: &mut Reader<'a>,
-    levels: u32,
-) -> Result<ForHead<'a>, Stop>
+pub fn inner_for_head(alloc: Global, reader: &mut Reader, levels: u32) -> Result<ForHead, Stop>
     ensures { Told for_head_marks result (levels_left levels in_for reader.old) reader.new }
 {
     if levels == 0 {
@@ -279,8 +255,8 @@ pub fn inner_for_head<'a>(
     for_head(alloc, reader, levels - 1)
 }
 
-fn next_strings<'a>(alloc: Global, reader: &mut Reader<'a>) -> Result<Vec<&'a Token<'a>>, Stop>
-    ensures { Told (λ v. map (λ t. leaf t.now) v.items) result
+fn next_strings(alloc: Global, reader: &mut Reader) -> Result<Vec<Token>, Stop>
+    ensures { Told (λ v. map leaf v.items) result
         (read_many (next_is (only class.Quoted)) (read_token (only class.Quoted)) reader.old)
         reader.new }
 {
@@ -296,7 +272,7 @@ fn next_strings<'a>(alloc: Global, reader: &mut Reader<'a>) -> Result<Vec<&'a To
     Ok(rest)
 }
 
-fn printed<'a>(alloc: Global, reader: &mut Reader<'a>, levels: u32) -> Result<Printed<'a>, Stop>
+fn printed(alloc: Global, reader: &mut Reader, levels: u32) -> Result<Printed, Stop>
     ensures { Told printed_marks result (read_printed (levels_left levels) reader.old) reader.new }
 {
     let first = reader.take(TokenSet::Quoted)?;
@@ -314,11 +290,7 @@ fn printed<'a>(alloc: Global, reader: &mut Reader<'a>, levels: u32) -> Result<Pr
 /// # Errors
 ///
 /// The reading's own, and want of memory.
-pub fn inner_printed<'a>(
-    alloc: Global,
-    reader: &mut Reader<'a>,
-    levels: u32,
-) -> Result<Printed<'a>, Stop>
+pub fn inner_printed(alloc: Global, reader: &mut Reader, levels: u32) -> Result<Printed, Stop>
     ensures { Told printed_marks result (levels_left levels in_printf reader.old) reader.new }
 {
     if levels == 0 {

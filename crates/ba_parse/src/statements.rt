@@ -36,7 +36,7 @@ const SEMICOLON: TokenSet = TokenSet::Punct(Punct::Semicolon);
 ///
 /// The reading's own, and want of memory.
 #[cycle(statement)]
-pub fn block<'a>(alloc: Global, reader: &mut Reader<'a>, levels: u32) -> Result<Block<'a>, Stop>
+pub fn block(alloc: Global, reader: &mut Reader, levels: u32) -> Result<Block, Stop>
     ensures { Told block_marks result (read_block (levels_left levels) reader.old) reader.new }
 {
     let open = reader.take(TokenSet::Punct(Punct::OpenBrace))?;
@@ -47,11 +47,7 @@ pub fn block<'a>(alloc: Global, reader: &mut Reader<'a>, levels: u32) -> Result<
 
 /// What stands between the braces of a block.
 #[cycle(statement)]
-fn inner_items<'a>(
-    alloc: Global,
-    reader: &mut Reader<'a>,
-    levels: u32,
-) -> Result<Vec<BlockItem<'a>>, Stop>
+fn inner_items(alloc: Global, reader: &mut Reader, levels: u32) -> Result<Vec<BlockItem>, Stop>
     ensures { Told (λ v. joined (map item_marks v.items)) result
         (levels_left levels in_block reader.old) reader.new }
 {
@@ -62,7 +58,7 @@ fn inner_items<'a>(
 }
 
 /// The items where no level is left: none, or refused.
-fn no_items<'a>(alloc: Global, reader: &Reader<'a>) -> Result<Vec<BlockItem<'a>>, Stop>
+fn no_items(alloc: Global, reader: &Reader) -> Result<Vec<BlockItem>, Stop>
     ensures { Told (λ v. joined (map item_marks v.items)) result (shallow in_block reader.now)
         reader.now }
 {
@@ -73,11 +69,7 @@ fn no_items<'a>(alloc: Global, reader: &Reader<'a>) -> Result<Vec<BlockItem<'a>>
 }
 
 #[cycle(statement)]
-fn items<'a>(
-    alloc: Global,
-    reader: &mut Reader<'a>,
-    levels: u32,
-) -> Result<Vec<BlockItem<'a>>, Stop>
+fn items(alloc: Global, reader: &mut Reader, levels: u32) -> Result<Vec<BlockItem>, Stop>
     ensures { Told (λ v. joined (map item_marks v.items)) result
         (read_many (next_is item_start) (read_item (levels_left levels)) reader.old) reader.new }
 {
@@ -94,7 +86,7 @@ fn items<'a>(
 }
 
 #[cycle(statement)]
-fn item<'a>(alloc: Global, reader: &mut Reader<'a>, levels: u32) -> Result<BlockItem<'a>, Stop>
+fn item(alloc: Global, reader: &mut Reader, levels: u32) -> Result<BlockItem, Stop>
     ensures { Told item_marks result (read_item (levels_left levels) reader.old) reader.new }
 {
     if reader.next_is(TokenSet::DeclarationWord { with_static: false }) {
@@ -108,11 +100,7 @@ fn item<'a>(alloc: Global, reader: &mut Reader<'a>, levels: u32) -> Result<Block
 
 /// A statement that another one controls.
 #[cycle(statement)]
-fn controlled<'a>(
-    alloc: Global,
-    reader: &mut Reader<'a>,
-    levels: u32,
-) -> Result<Controlled<'a>, Stop>
+fn controlled(alloc: Global, reader: &mut Reader, levels: u32) -> Result<Controlled, Stop>
     ensures { Told controlled_marks result (deeper_in (levels_left levels) in_statement reader.old)
         reader.new }
 {
@@ -123,8 +111,8 @@ fn controlled<'a>(
     controlled_by_another(alloc, body)
 }
 
-fn controlled_by_another<'a>(alloc: Global, body: Statement<'a>) -> Result<Controlled<'a>, Stop>
-    ensures { MatchResult result (λ c. controlled_marks c ≡ one_deeper (statement_marks body.entry))
+fn controlled_by_another(alloc: Global, body: Statement) -> Result<Controlled, Stop>
+    ensures { MatchResult result (λ c. controlled_marks c ≡ one_deeper (statement_marks body))
         (λ stop. stop ≡ Memory) }
 {
     let statement = Box::new(alloc, body)?;
@@ -132,7 +120,7 @@ fn controlled_by_another<'a>(alloc: Global, body: Statement<'a>) -> Result<Contr
 }
 
 #[cycle(statement)]
-fn statement<'a>(alloc: Global, reader: &mut Reader<'a>, levels: u32) -> Result<Statement<'a>, Stop>
+fn statement(alloc: Global, reader: &mut Reader, levels: u32) -> Result<Statement, Stop>
     ensures { Told statement_marks result (read_statement (levels_left levels) reader.old)
         reader.new }
 {
@@ -141,11 +129,7 @@ fn statement<'a>(alloc: Global, reader: &mut Reader<'a>, levels: u32) -> Result<
 }
 
 #[cycle(statement)]
-fn statement_form<'a>(
-    alloc: Global,
-    reader: &mut Reader<'a>,
-    levels: u32,
-) -> Result<StatementForm<'a>, Stop>
+fn statement_form(alloc: Global, reader: &mut Reader, levels: u32) -> Result<StatementForm, Stop>
     ensures { Told form_marks result (read_statement_form (levels_left levels) reader.old)
         reader.new }
 {
@@ -162,11 +146,7 @@ fn statement_form<'a>(
     }
 }
 
-fn simple_statement<'a>(
-    alloc: Global,
-    reader: &mut Reader<'a>,
-    levels: u32,
-) -> Result<StatementForm<'a>, Stop>
+fn simple_statement(alloc: Global, reader: &mut Reader, levels: u32) -> Result<StatementForm, Stop>
     ensures { Told form_marks result
         ((read_simple (levels_left levels) ▹ read_semicolon) reader.old) reader.new }
 {
@@ -179,11 +159,7 @@ fn simple_statement<'a>(
 }
 
 #[cycle(statement)]
-fn keyword_statement<'a>(
-    alloc: Global,
-    reader: &mut Reader<'a>,
-    levels: u32,
-) -> Result<StatementForm<'a>, Stop>
+fn keyword_statement(alloc: Global, reader: &mut Reader, levels: u32) -> Result<StatementForm, Stop>
     ensures { Told form_marks result (read_keyword_statement (levels_left levels) reader.old)
         reader.new }
 {
@@ -201,11 +177,7 @@ fn keyword_statement<'a>(
 }
 
 #[cycle(statement)]
-fn if_statement<'a>(
-    alloc: Global,
-    reader: &mut Reader<'a>,
-    levels: u32,
-) -> Result<StatementForm<'a>, Stop>
+fn if_statement(alloc: Global, reader: &mut Reader, levels: u32) -> Result<StatementForm, Stop>
     ensures { Told form_marks result (read_if (levels_left levels) reader.old) reader.new }
 {
     let keyword = reader.take(TokenSet::Keyword(Keyword::If))?;
@@ -221,11 +193,7 @@ fn if_statement<'a>(
 }
 
 #[cycle(statement)]
-fn maybe_else<'a>(
-    alloc: Global,
-    reader: &mut Reader<'a>,
-    levels: u32,
-) -> Result<Option<Else<'a>>, Stop>
+fn maybe_else(alloc: Global, reader: &mut Reader, levels: u32) -> Result<Option<Else>, Stop>
     ensures { Told (λ e. or_no_else (option_map else_marks e)) result
         (read_else (levels_left levels) reader.old) reader.new }
 {
@@ -241,11 +209,7 @@ fn maybe_else<'a>(
 }
 
 #[cycle(statement)]
-fn while_statement<'a>(
-    alloc: Global,
-    reader: &mut Reader<'a>,
-    levels: u32,
-) -> Result<StatementForm<'a>, Stop>
+fn while_statement(alloc: Global, reader: &mut Reader, levels: u32) -> Result<StatementForm, Stop>
     ensures { Told form_marks result (read_while (levels_left levels) reader.old) reader.new }
 {
     let keyword = reader.take(TokenSet::Keyword(Keyword::While))?;
@@ -259,11 +223,7 @@ fn while_statement<'a>(
 }
 
 #[cycle(statement)]
-fn do_statement<'a>(
-    alloc: Global,
-    reader: &mut Reader<'a>,
-    levels: u32,
-) -> Result<StatementForm<'a>, Stop>
+fn do_statement(alloc: Global, reader: &mut Reader, levels: u32) -> Result<StatementForm, Stop>
     ensures { Told form_marks result (read_do (levels_left levels) reader.old) reader.new }
 {
     let keyword = reader.take(TokenSet::Keyword(Keyword::Do))?;
@@ -280,11 +240,7 @@ fn do_statement<'a>(
     }))
 }
 
-fn boxed_head<'a>(
-    alloc: Global,
-    reader: &mut Reader<'a>,
-    levels: u32,
-) -> Result<Box<ForHead<'a>>, Stop>
+fn boxed_head(alloc: Global, reader: &mut Reader, levels: u32) -> Result<Box<ForHead>, Stop>
     ensures { Told (λ h. for_head_marks h.value) result (levels_left levels in_for reader.old)
         reader.new }
 {
@@ -293,11 +249,7 @@ fn boxed_head<'a>(
 }
 
 #[cycle(statement)]
-fn for_statement<'a>(
-    alloc: Global,
-    reader: &mut Reader<'a>,
-    levels: u32,
-) -> Result<StatementForm<'a>, Stop>
+fn for_statement(alloc: Global, reader: &mut Reader, levels: u32) -> Result<StatementForm, Stop>
     ensures { Told form_marks result (read_for (levels_left levels) reader.old) reader.new }
 {
     let keyword = reader.take(TokenSet::Keyword(Keyword::For))?;
@@ -315,11 +267,7 @@ fn for_statement<'a>(
 }
 
 /// A statement of a keyword that has no statement in it (C90 6.6.6, 7.2).
-fn jump_statement<'a>(
-    alloc: Global,
-    reader: &mut Reader<'a>,
-    levels: u32,
-) -> Result<StatementForm<'a>, Stop>
+fn jump_statement(alloc: Global, reader: &mut Reader, levels: u32) -> Result<StatementForm, Stop>
     ensures { Told form_marks result (read_jump (levels_left levels) reader.old) reader.new }
 {
     if reader.next_is(TokenSet::Keyword(Keyword::Break)) {
@@ -338,11 +286,8 @@ fn jump_statement<'a>(
 }
 
 /// A keyword and the semicolon after it.
-fn keyword_alone<'a>(
-    reader: &mut Reader<'a>,
-    kind: Keyword,
-) -> Result<(&'a Token<'a>, &'a Token<'a>), Stop>
-    ensures { Told (λ p. leaf p.0.now ∷ leaf p.1.now
+fn keyword_alone(reader: &mut Reader, kind: Keyword) -> Result<(Token, Token), Stop>
+    ensures { Told (λ p. leaf p.0 ∷ leaf p.1
         ∷ []) result ((read_key kind ▹ read_semicolon) reader.old) reader.new }
 {
     let keyword = reader.take(TokenSet::Keyword(kind))?;
@@ -350,11 +295,7 @@ fn keyword_alone<'a>(
     Ok((keyword, semicolon))
 }
 
-fn return_statement<'a>(
-    alloc: Global,
-    reader: &mut Reader<'a>,
-    levels: u32,
-) -> Result<StatementForm<'a>, Stop>
+fn return_statement(alloc: Global, reader: &mut Reader, levels: u32) -> Result<StatementForm, Stop>
     ensures { Told form_marks result
         ((read_key keyword.Return ▹ maybe_expression (levels_left levels) ▹ read_semicolon)
         reader.old) reader.new }
@@ -369,11 +310,7 @@ fn return_statement<'a>(
     })
 }
 
-fn assert_statement<'a>(
-    alloc: Global,
-    reader: &mut Reader<'a>,
-    levels: u32,
-) -> Result<StatementForm<'a>, Stop>
+fn assert_statement(alloc: Global, reader: &mut Reader, levels: u32) -> Result<StatementForm, Stop>
     ensures { Told form_marks result
         ((read_key keyword.Assert ▹ read_condition (levels_left levels) ▹ read_semicolon)
         reader.old) reader.new }
@@ -388,11 +325,7 @@ fn assert_statement<'a>(
     })
 }
 
-fn printf_statement<'a>(
-    alloc: Global,
-    reader: &mut Reader<'a>,
-    levels: u32,
-) -> Result<StatementForm<'a>, Stop>
+fn printf_statement(alloc: Global, reader: &mut Reader, levels: u32) -> Result<StatementForm, Stop>
     ensures { Told form_marks result (read_printf (levels_left levels) reader.old) reader.new }
 {
     let keyword = reader.take(TokenSet::Keyword(Keyword::Printf))?;

@@ -22,18 +22,14 @@ use std::alloc::Global;
 ///
 /// `Syntax` at the first word that does not agree with those before it, or after the words where none names a type;
 /// want of memory.
-pub fn type_name<'a>(
-    alloc: Global,
-    reader: &mut Reader<'a>,
-    with_static: bool,
-) -> Result<TypeName<'a>, Stop>
+pub fn type_name(alloc: Global, reader: &mut Reader, with_static: bool) -> Result<TypeName, Stop>
     ensures { Told type_name_marks result (read_type_words with_static reader.old) reader.new }
 {
     let mut words = Vec::new(alloc);
     let mut classes = Vec::new(alloc);
     while reader.next_is(TokenSet::DeclarationWord { with_static }) {
         let word = next_word(reader, classes.as_slice(), with_static)?;
-        classes.push(class_of(word))?;
+        classes.push(class_of(&word))?;
         words.push(word)?;
     }
     if !some_names_type(classes.as_slice()) {
@@ -43,12 +39,8 @@ pub fn type_name<'a>(
 }
 
 /// The next word, which has to agree with those of these classes before it.
-fn next_word<'a>(
-    reader: &mut Reader<'a>,
-    before: &[TokenClass],
-    with_static: bool,
-) -> Result<&'a Token<'a>, Stop>
-    ensures { Told (λ token. leaf token.now
+fn next_word(reader: &mut Reader, before: &[TokenClass], with_static: bool) -> Result<Token, Stop>
+    ensures { Told (λ token. leaf token
         ∷ []) result (next_word with_static before.now reader.old) reader.new }
 {
     if !agrees_with(before, reader.rest()) {

@@ -110,15 +110,15 @@ element-target-is at name_at name op typing scope old first second new v t u m j
 -- what is assigned to as an expression
 abbrev value_at : Target → Scope → ℕ → Option Index → Typed
 value_at target scope calls o =
-    (typed_target target.name.now.at (name_of target.name.now) (index_typing o) scope calls).expression
+    (typed_target target.name.at (name_of target.name) (index_typing o) scope calls).expression
 
 module _ {E : Type 0} (target : Target) (scope : Scope) (calls : ℕ) (name : List ℕ) (m : Meaning)
     (r : Result Judged E) where
-  pub name-value : name ≡ name_of target.name.now → m ≡ meaning_of scope name → target.index ≡ None
-      → IfOk r (λ j. Judges j (typed_name target.name.now.at name m))
+  pub name-value : name ≡ name_of target.name → m ≡ meaning_of scope name → target.index ≡ None
+      → IfOk r (λ j. Judges j (typed_name target.name.at name m))
       → IfOk r (λ j. Judges j (typed_target_of target scope calls).expression)
   name-value names means none gives =
-      let at = target.name.now.at in
+      let at = target.name.at in
       subst (λ o. IfOk r (λ j. Judges j (value_at target scope calls o))) (sym none)
       (subst (λ n. IfOk r (λ j. Judges j (typed_name at n (meaning_of scope n)))) names
       (subst (λ m. IfOk r (λ j. Judges j (typed_name at name m))) means gives))
@@ -188,7 +188,7 @@ one-stands at scope j t judges = (judges, after-nothing t)
 
 pub assignment-is : (at : At) (target : Target) (op : Option BinOp) (typing : Typing) (scope : Scope)
     (w u : Work) (olds news : List StmtTree) (j : JudgedTarget) (e whole : Judged) (mid new : Tally)
-    → GivesTarget at target.name.now.at op (typed_target_of target scope w.tally.calls) w.tally mid j
+    → GivesTarget at target.name.at op (typed_target_of target scope w.tally.calls) w.tally mid j
     → Stands e (typing scope mid.calls) mid new
     → ((s : Typed) → Judges e s →
     Judges whole (changed op (typed_target_of target scope w.tally.calls).expression s))
@@ -201,7 +201,7 @@ assignment-is at target op typing scope w u olds news j e whole mid new targets 
     let stands : Stands e s mid new = subst (λ n. Stands e (typing scope n) mid new)
     (ap (λ (t : Tally). t.calls) targets.1) stands in
     let all = changed op place.expression s in
-    let before = place.expression.faults ++ index_faults at target.name.now.at (is_some op) place.index in
+    let before = place.expression.faults ++ index_faults at target.name.at (is_some op) place.index in
     let low = limit_faults height_limit all.height at in
     let put = puts place all targets.0 (changes s stands.0) in
     numbered-is (add_assignment at target op typing) scope w (record w { tally = with_faults new low }) u

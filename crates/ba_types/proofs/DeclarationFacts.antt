@@ -292,7 +292,7 @@ module _ (p : Parts) (owned : List VarId) (f : Function) (inside : Bool) where
 
   module _ (functions : List Signature) (t : Option CType) (d : Declarator) (scope : Scope) (n : Before) where
     abbrev pub at_name : At
-    at_name = d.name.now.at
+    at_name = d.name.at
 
     abbrev pub number : VarId
     number = record { 0 = n.variables }
@@ -314,7 +314,7 @@ module _ (p : Parts) (owned : List VarId) (f : Function) (inside : Bool) where
         d.initialiser then void_part)
 
     abbrev pub behind_length : Part
-    behind_length = add_variable functions at_name (name_of d.name.now) declared then behind_variable
+    behind_length = add_variable functions at_name (name_of d.name) declared then behind_variable
 
     abbrev length_added : Added
     length_added = add_length at_name len scope n
@@ -370,9 +370,9 @@ module _ (p : Parts) (owned : List VarId) (f : Function) (inside : Bool) where
       }
 
       pub variable_has : HasPiece p owned f inside (add_variable functions at_name
-          (name_of d.name.now) declared)
+          (name_of d.name) declared)
       variable_has = record {
-        by = λ scope in_scope. variable_at functions at_name (name_of d.name.now) declared scope;
+        by = λ scope in_scope. variable_at functions at_name (name_of d.name) declared scope;
       }
 
       pub declare_has : HasPiece p owned f inside (add_declare number)
@@ -381,7 +381,7 @@ module _ (p : Parts) (owned : List VarId) (f : Function) (inside : Bool) where
       whole : HasPiece p owned f inside (add_length at_name len then behind_length)
       whole = piece_then p owned f inside (add_length at_name len) behind_length length_has
           (piece_then p owned f inside (add_variable functions at_name
-          (name_of d.name.now) declared) behind_variable
+          (name_of d.name) declared) behind_variable
           variable_has (piece_then p owned f inside (add_declare number) _ declare_has initialised))
 
       declarator_piece : IsPiece p owned f inside scope.in_loop n (add_declarator functions t d scope n)
@@ -399,13 +399,13 @@ module _ (p : Parts) (owned : List VarId) (f : Function) (inside : Bool) where
     own_shape (Some l) = refl
 
     abbrev declare_scope : Scope
-    declare_scope = knowing (add_variable functions at_name (name_of d.name.now) declared
+    declare_scope = knowing (add_variable functions at_name (name_of d.name) declared
         (knowing length_added.entries scope) (behind n length_added)).entries
         (knowing length_added.entries scope)
 
     abbrev declare_before : Before
     declare_before = behind (behind n length_added) (add_variable functions at_name
-        (name_of d.name.now) declared
+        (name_of d.name) declared
         (knowing length_added.entries scope) (behind n length_added))
 
     abbrev initialiser_added : Added

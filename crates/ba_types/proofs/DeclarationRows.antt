@@ -1,5 +1,5 @@
 -- Declarations and what stands between the parentheses of a statement, read back.
-use Rattle.std.proofs.Common.{◌≡◌, Option, None, Some, List, [], ◌∷◌, ◌++◌, map, refl, ◌∙◌, ap, Bor}
+use Rattle.std.proofs.Common.{◌≡◌, Option, None, Some, List, [], ◌∷◌, ◌++◌, map, refl, ◌∙◌, ap}
 use Rattle.std.specs.Prelude.{option_map}
 use Rattle.std.proofs.lemmas.List.{append-nil}
 use Rattle.ba_lex.specs.declared.token.Token.{Token}
@@ -63,16 +63,16 @@ all_of pick marks what each (x ∷ xs) = let one = each x in let rest = all_of p
 
 -- tokens that may be left out
 
-abbrev comma_items : Option (Bor Token) → Row
+abbrev comma_items : Option Token → Row
 comma_items None = []
-comma_items (Some t) = token t.now ∷ []
+comma_items (Some t) = token t ∷ []
 
-comma_row : (o : Option (Bor Token)) → Reads (optional_leaf o) (comma_items o)
+comma_row : (o : Option Token) → Reads (optional_leaf o) (comma_items o)
 comma_row None = none
-comma_row (Some t) = front t.now none
+comma_row (Some t) = front t none
 
 -- an item of the kind behind a comma
-behind_comma : {A : Type 0} (pick : Item → Option A) (o : Option (Bor Token)) (m : M) (i : Item) (x : A)
+behind_comma : {A : Type 0} (pick : Item → Option A) (o : Option Token) (m : M) (i : Item) (x : A)
     → ((t : Token) → pick (token t) ≡ None) → pick i ≡ Some x → Reads m (i ∷ []) →
     AllOf pick (optional_leaf o ++ m) (x ∷ [])
 behind_comma pick o m i x other is reads = record {
@@ -83,9 +83,9 @@ behind_comma pick o m i x other is reads = record {
   one : items_of pick (i ∷ []) ≡ x ∷ []
   one = ap (λ y. with_item y []) is
 
-  from : (o : Option (Bor Token)) → items_of pick (comma_items o ++ i ∷ []) ≡ x ∷ []
+  from : (o : Option Token) → items_of pick (comma_items o ++ i ∷ []) ≡ x ∷ []
   from None = one
-  from (Some t) = ap (λ y. with_item y (items_of pick (i ∷ []))) (other t.now) ∙ one
+  from (Some t) = ap (λ y. with_item y (items_of pick (i ∷ []))) (other t) ∙ one
 
 -- LENGTHS
 
@@ -112,9 +112,9 @@ bracketed opener closer None = refl
 bracketed opener closer (Some e) = refl
 
 length_row : (a : ArrayLength) → Reads (array_length_marks a) (array_length (optional_typing a.length) ∷ [])
-length_row a = as_row (ap (λ l. array_length l ∷ []) (bracketed a.«open».now a.close.now (optional_typing
+length_row a = as_row (ap (λ l. array_length l ∷ []) (bracketed a.«open» a.close (optional_typing
     a.length)))
-    (inside rule.array_length (front a.«open».now (both (deeper (optional_row a.length)) (front a.close.now
+    (inside rule.array_length (front a.«open» (both (deeper (optional_row a.length)) (front a.close
     none))))
 
 lengths_row : (o : Option ArrayLength) →
@@ -129,32 +129,32 @@ braced_row b =
     let rest = nexts_row b.rest.items in
     let first = typed_conditional b.first in
     let values : items_of as_conditional ((conditional first ∷ rest.row) ++ comma_items b.comma ++ token
-    b.close.now ∷ [])
+    b.close ∷ [])
     ≡ braced_values b
     = items_append as_conditional ((conditional first ∷ rest.row) ++ comma_items b.comma) (token
-    b.close.now ∷ [])
+    b.close ∷ [])
     ∙ append-nil (items_of as_conditional ((conditional first ∷ rest.row) ++ comma_items b.comma))
     ∙ items_append as_conditional (conditional first ∷ rest.row) (comma_items b.comma)
     ∙ ap (λ es. (first ∷ items_of as_conditional rest.row) ++ es) (no_commas b.comma)
     ∙ append-nil (first ∷ items_of as_conditional rest.row)
     ∙ ap (λ es. first ∷ es) rest.are in
-    as_row (ap (λ es. braced es ∷ []) values) (inside rule.braced (front b.«open».now
-    (both (both (both (conditional_row b.first) rest.reads) (comma_row b.comma)) (front b.close.now none))))
+    as_row (ap (λ es. braced es ∷ []) values) (inside rule.braced (front b.«open»
+    (both (both (both (conditional_row b.first) rest.reads) (comma_row b.comma)) (front b.close none))))
   where
-    no_commas : (o : Option (Bor Token)) → items_of as_conditional (comma_items o) ≡ []
+    no_commas : (o : Option Token) → items_of as_conditional (comma_items o) ≡ []
     no_commas None = refl
     no_commas (Some t) = refl
 
 abbrev initial_items : Option Initialiser → Row
 initial_items None = []
-initial_items (Some (initialiser.Expression assign e)) = token assign.now ∷ conditional (typed_conditional
+initial_items (Some (initialiser.Expression assign e)) = token assign ∷ conditional (typed_conditional
     e) ∷ []
-initial_items (Some (initialiser.Braced assign b)) = token assign.now ∷ braced (braced_values b) ∷ []
+initial_items (Some (initialiser.Braced assign b)) = token assign ∷ braced (braced_values b) ∷ []
 
 initial_row : (o : Option Initialiser) → Reads (optional (option_map initialiser_marks o)) (initial_items o)
 initial_row None = none
-initial_row (Some (initialiser.Expression assign e)) = front assign.now (conditional_row e)
-initial_row (Some (initialiser.Braced assign b)) = front assign.now (braced_row b)
+initial_row (Some (initialiser.Expression assign e)) = front assign (conditional_row e)
+initial_row (Some (initialiser.Braced assign b)) = front assign (braced_row b)
 
 -- what the row of a declarator declares
 abbrev declared : Token → Row → Declaring
@@ -164,8 +164,8 @@ declared name is = declaring name (first_of (items_of as_length is))
 abbrev adds : Declarator → Declaring
 adds d functions t = add_declarator functions t d
 
-declared_plain : (name : Bor Token) (o : Option Initialiser)
-    → declared name.now (length_items None ++ initial_items o) ≡ adds (record {
+declared_plain : (name : Token) (o : Option Initialiser)
+    → declared name (length_items None ++ initial_items o) ≡ adds (record {
       name = name;
       length = None;
       initialiser = o;
@@ -174,8 +174,8 @@ declared_plain name None = refl
 declared_plain name (Some (initialiser.Expression assign e)) = refl
 declared_plain name (Some (initialiser.Braced assign b)) = refl
 
-declared_array : (name opener closer : Bor Token) (l : Option Conditional) (o : Option Initialiser)
-    → declared name.now (length_items (Some (optional_typing l)) ++ initial_items o)
+declared_array : (name opener closer : Token) (l : Option Conditional) (o : Option Initialiser)
+    → declared name (length_items (Some (optional_typing l)) ++ initial_items o)
     ≡ adds (record {
       name = name;
       length = Some (record { «open» = opener; length = l; close = closer });
@@ -188,8 +188,8 @@ declared_array name opener closer (Some c) None = refl
 declared_array name opener closer (Some c) (Some (initialiser.Expression assign e)) = refl
 declared_array name opener closer (Some c) (Some (initialiser.Braced assign b)) = refl
 
-declared_is : (name : Bor Token) (l : Option ArrayLength) (o : Option Initialiser)
-    → declared name.now (length_items (lengths l) ++ initial_items o) ≡ adds (record {
+declared_is : (name : Token) (l : Option ArrayLength) (o : Option Initialiser)
+    → declared name (length_items (lengths l) ++ initial_items o) ≡ adds (record {
       name = name;
       length
           = l;
@@ -200,7 +200,7 @@ declared_is name (Some a) o = declared_array name a.«open» a.close a.length o
 
 declarator_row : (d : Declarator) → Reads (declarator_marks d) (declarator (adds d) ∷ [])
 declarator_row d = as_row (ap (λ x. declarator x ∷ []) (declared_is d.name d.length d.initialiser))
-    (inside rule.declarator (front d.name.now (both (lengths_row d.length) (initial_row d.initialiser))))
+    (inside rule.declarator (front d.name (both (lengths_row d.length) (initial_row d.initialiser))))
 
 declarators_at : (functions : List Signature) (t : Option CType) (ls : List ListedDeclarator)
     → map (λ (d : Declaring). d functions t) (map (λ (l : ListedDeclarator). adds l.declarator) ls)
@@ -225,26 +225,26 @@ declarators_row ds =
 pub declaration_row : (d : Declaration)
     → Reads (declaration_marks d) (declaration (add_declarators [] (type_named d.name) d.declarators) ∷ [])
 declaration_row d = inside rule.declaration (both (both (type_row d.name) (declarators_row d.declarators))
-    (front d.semicolon.now none))
+    (front d.semicolon none))
 
 -- PARAMETERS
 
 abbrev pub param_item : Parameter → ParamItem
 param_item p = record {
   words = words_of p.type_name;
-  name = option_map (λ (t : Bor Token). t.now) p.name;
+  name = p.name;
   length = lengths p.length;
 }
 
-abbrev name_item : Option (Bor Token) → Item
+abbrev name_item : Option Token → Item
 name_item None = absent
-name_item (Some t) = token t.now
+name_item (Some t) = token t
 
-name_row : (o : Option (Bor Token)) → Reads (name_marks o) (name_item o ∷ [])
+name_row : (o : Option Token) → Reads (name_marks o) (name_item o ∷ [])
 name_row None = inside rule.no_name none
-name_row (Some t) = front t.now none
+name_row (Some t) = front t none
 
-name_is : (o : Option (Bor Token)) → named_by (name_item o) ≡ option_map (λ (t : Bor Token). t.now) o
+name_is : (o : Option Token) → named_by (name_item o) ≡ o
 name_is None = refl
 name_is (Some t) = refl
 
@@ -261,8 +261,7 @@ parameter_row p = as_row
     }) ∷ []) (name_is p.name)
     ∙ ap (λ l. parameter (record {
       words = words_of p.type_name;
-      name = option_map (λ (t : Bor Token).
-          t.now) p.name;
+      name = p.name;
       length = l;
     }) ∷ []) (length_is (lengths p.length)))
     (inside rule.parameter (both (both (type_row p.type_name) (name_row p.name)) (lengths_row p.length)))
@@ -272,8 +271,8 @@ parameter_all p = record { row = parameter (param_item p) ∷ []; reads = parame
 
 next_all : (n : NextParameter) → AllOf as_parameter (next_parameter_marks n) (param_item n.parameter ∷ [])
 next_all n = record {
-  row = token n.comma.now ∷ parameter (param_item n.parameter) ∷ [];
-  reads = front n.comma.now (parameter_row n.parameter);
+  row = token n.comma ∷ parameter (param_item n.parameter) ∷ [];
+  reads = front n.comma (parameter_row n.parameter);
   are = refl;
 }
 
@@ -302,16 +301,16 @@ parameters_row ps = let all = list_all_of ps.list in
 -- ASSIGNMENTS, STEPS AND CALLS
 
 abbrev target_item : Target → Item
-target_item t = target t.name.now (index_typing t.index)
+target_item t = target t.name (index_typing t.index)
 
 abbrev index_items : Option Index → Row
 index_items None = []
-index_items (Some i) = token i.«open».now ∷ conditional (typed_conditional i.value.value) ∷ token
-    i.close.now ∷ []
+index_items (Some i) = token i.«open» ∷ conditional (typed_conditional i.value.value) ∷ token
+    i.close ∷ []
 
 index_row : (o : Option Index) → Reads (optional (option_map index_marks o)) (index_items o)
 index_row None = none
-index_row (Some i) = front i.«open».now (both (deeper (conditional_row i.value.value)) (front i.close.now
+index_row (Some i) = front i.«open» (both (deeper (conditional_row i.value.value)) (front i.close
     none))
 
 index_is : (o : Option Index) → first_of (items_of as_conditional (index_items o)) ≡ index_typing o
@@ -319,17 +318,17 @@ index_is None = refl
 index_is (Some i) = refl
 
 target_row : (t : Target) → Reads (target_marks t) (target_item t ∷ [])
-target_row t = as_row (ap (λ i. target t.name.now i ∷ []) (index_is t.index))
-    (inside rule.target (front t.name.now (index_row t.index)))
+target_row t = as_row (ap (λ i. target t.name i ∷ []) (index_is t.index))
+    (inside rule.target (front t.name (index_row t.index)))
 
 pub simple_row : (s : Simple) → Reads (simple_marks s) (simple (add_simple s) ∷ [])
 simple_row (form.Assign place operator value) =
-    inside rule.simple (both (target_row place) (front operator.now (conditional_row value)))
-simple_row (form.Step place operator) = inside rule.simple (both (target_row place) (front operator.now none))
-simple_row (form.PrefixStep operator place) = inside rule.simple (front operator.now (target_row place))
+    inside rule.simple (both (target_row place) (front operator (conditional_row value)))
+simple_row (form.Step place operator) = inside rule.simple (both (target_row place) (front operator none))
+simple_row (form.PrefixStep operator place) = inside rule.simple (front operator (target_row place))
 simple_row (form.Call name opener values closer) =
-    inside rule.simple (front name.now (front opener.now (both (deeper (arguments_row values)) (front
-    closer.now none))))
+    inside rule.simple (front name (front opener (both (deeper (arguments_row values)) (front
+    closer none))))
 
 pub simples_row : (s : Simples) → Reads (simples_marks s) (simples (add_simples s) ∷ [])
 simples_row s =
@@ -342,8 +341,8 @@ simples_row s =
 -- PARTS OF STATEMENTS
 
 pub condition_row : (c : Condition)
-    → Reads (condition_marks c) (token c.«open».now ∷ conditional (test_of c) ∷ token c.close.now ∷ [])
-condition_row c = front c.«open».now (both (deeper (conditional_row c.test.value)) (front c.close.now none))
+    → Reads (condition_marks c) (token c.«open» ∷ conditional (test_of c) ∷ token c.close ∷ [])
+condition_row c = front c.«open» (both (deeper (conditional_row c.test.value)) (front c.close none))
 
 pub first_row : (f : ForFirst) → Reads (for_first_marks f) (for_first (for_scope f) (add_first f) ∷ [])
 first_row (first.Declaration name ds) = inside rule.for_first (both (type_row name) (declarators_row ds))
@@ -365,19 +364,19 @@ pub record ArePrinted (m : M) (s : List Typing) : Type 0 where
   pub reads : Reads m (token string ∷ row)
   pub are : items_of as_conditional row ≡ s
 
-strings : (ts : List (Bor Token)) → AllOf as_conditional (map (λ (t : Bor Token). leaf t.now) ts) []
+strings : (ts : List Token) → AllOf as_conditional (map (λ (t : Token). leaf t) ts) []
 strings [] = record { row = []; reads = none; are = refl }
 strings (t ∷ ts) = let rest = strings ts in record {
-  row = token t.now ∷ rest.row;
-  reads = front t.now rest.reads;
+  row = token t ∷ rest.row;
+  reads = front t rest.reads;
   are = rest.are;
 }
 
 pub printed_row : (p : Printed) → ArePrinted (printed_marks p) (printed_typings p)
 printed_row p = let rest = strings p.rest.items in let values = nexts_row p.values.items in record {
-  string = p.first.now;
+  string = p.first;
   row = rest.row ++ values.row;
-  reads = front p.first.now (both rest.reads values.reads);
+  reads = front p.first (both rest.reads values.reads);
   are = items_append as_conditional rest.row values.row ∙ ap (λ es. es ++ items_of as_conditional
       values.row) rest.are
       ∙ values.are;

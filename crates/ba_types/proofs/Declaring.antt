@@ -1,7 +1,6 @@
 -- What declarations add, from what their parts add.
 use Rattle.std.proofs.Common.{◌≡◌, ℕ, ◌+◌, pos, Bool, true, false, not, ◌&&◌, ◌==◌, cond, Option, None, Some, List, [], ◌∷◌, ◌++◌, map, length, refl, sym, ◌∙◌, ap, subst, append_assoc, add-zero, append-nil, arith}
 use Rattle.std.specs.Prelude.{unwrap_or, flat_map, option_map, MatchOption}
-use Rattle.std.specs.Borrow.{Bor}
 use Rattle.std.specs.Option.{is_some}
 use Rattle.std.proofs.lemmas.Bool.Decides.{nat_tests}
 use Rattle.std.proofs.lemmas.List.{length-map, map-append}
@@ -119,7 +118,7 @@ length-part at (Some s) scope w u stmts is =
 
 module _ (functions : List Signature) (t : Option CType) (d : Declarator) (s0 s1 s2 s3 s4 s5 : State) where
   abbrev place : At
-  place = d.name.now.at
+  place = d.name.at
 
   abbrev var : VarId
   var = record { 0 = length s0.work.variables }
@@ -128,7 +127,7 @@ module _ (functions : List Signature) (t : Option CType) (d : Declarator) (s0 s1
   expression = typed_array_length place (count_of_values d.initialiser) s0.scope s0.work.tally.calls d.length
 
   pub declarator-is : s1 ≡ behind_part (add_length place expression) s0
-      → s2 ≡ behind_part (add_variable functions place (name_of d.name.now)
+      → s2 ≡ behind_part (add_variable functions place (name_of d.name)
       (record { t = unwrap_or t I32; shape = shape_of expression })) s1
       → s3 ≡ behind_part (add_declare var) s2
       → s4 ≡ behind_part (add_optional_initialiser place var (unwrap_or t I32) expression d.initialiser) s3
@@ -137,7 +136,7 @@ module _ (functions : List Signature) (t : Option CType) (d : Declarator) (s0 s1
   unfolding behind_part
   declarator-is a b c e f =
       let one = add_length place expression in
-      let two = add_variable functions place (name_of d.name.now) (record {
+      let two = add_variable functions place (name_of d.name) (record {
         t = unwrap_or t I32;
         shape =
             shape_of expression;
@@ -151,7 +150,7 @@ module _ (functions : List Signature) (t : Option CType) (d : Declarator) (s0 s1
       (and-then four five s3 s4 s5 e f)))
 
   -- the same by the names that the code has for these
-  pub declarator-from : (name : List ℕ) (v : VarId) (x : CType) (k : Shape) → name ≡ name_of d.name.now → v
+  pub declarator-from : (name : List ℕ) (v : VarId) (x : CType) (k : Shape) → name ≡ name_of d.name → v
       ≡ var
       → x ≡ unwrap_or t I32 → k ≡ shape_of expression
       → s1 ≡ behind_part (add_length place expression) s0
@@ -164,12 +163,12 @@ module _ (functions : List Signature) (t : Option CType) (d : Declarator) (s0 s1
       declarator-is a
       (b ∙ ap (λ (n : List ℕ). behind_part (add_variable functions place n (record { t = x; shape = k }))
       s1) names
-      ∙ ap (λ (x : CType). behind_part (add_variable functions place (name_of d.name.now) (record {
+      ∙ ap (λ (x : CType). behind_part (add_variable functions place (name_of d.name) (record {
         t =
             x;
         shape = k;
       })) s1) types
-      ∙ ap (λ (k : Shape). behind_part (add_variable functions place (name_of d.name.now)
+      ∙ ap (λ (k : Shape). behind_part (add_variable functions place (name_of d.name)
       (record { t = unwrap_or t I32; shape = k })) s1) shapes)
       (c ∙ ap (λ v. behind_part (add_declare v) s2) vars)
       (e ∙ ap (λ v. behind_part (add_optional_initialiser place v x expression d.initialiser) s3) vars
@@ -259,12 +258,12 @@ count-is (Some c) init h = h
 -- THE VALUES OF AN INITIALISER
 
 module _ (how : Keeping) (scope : Scope) (init : Initialiser) (k new : Kept) where
-  pub values-expression : (assign : Bor Token) (e : Conditional) → init ≡ initialiser.Expression assign e
+  pub values-expression : (assign : Token) (e : Conditional) → init ≡ initialiser.Expression assign e
       → new ≡ keep_one how (typed_conditional e scope k.tally.calls) k → new ≡ keep_each how scope (values_of
       init) k
   values-expression assign e is one = one ∙ ap (λ i. keep_each how scope (values_of i) k) (sym is)
 
-  pub values-braced : (assign : Bor Token) (b : Braced) → init ≡ initialiser.Braced assign b
+  pub values-braced : (assign : Token) (b : Braced) → init ≡ initialiser.Braced assign b
       → new ≡ keep_each how scope (braced_values b) k → new ≡ keep_each how scope (values_of init) k
   values-braced assign b is all = all ∙ ap (λ i. keep_each how scope (values_of i) k) (sym is)
 

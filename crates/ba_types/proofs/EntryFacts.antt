@@ -71,7 +71,7 @@ declarator_entries : (functions : List Signature) (t : Option CType) (d : Declar
     → HasEntries (add_declarator functions t d)
 declarator_entries functions t d = record {
   by = λ scope n.
-      let at = d.name.now.at in
+      let at = d.name.at in
       let v : VarId = record { 0 = n.variables } in
       let s = unwrap_or t I32 in
       let l = typed_array_length at (count_of_values d.initialiser) scope n.calls d.length in
@@ -82,10 +82,10 @@ declarator_entries functions t d = record {
       void_part)
       (record { by = λ scope n. refl }) initialised in
       let w : Variable = record { t = s; shape = shape_of l } in
-      let known = entries_then (add_variable functions at (name_of d.name.now) w)
+      let known = entries_then (add_variable functions at (name_of d.name) w)
       (add_declare v then (add_optional_initialiser at v s l d.initialiser then void_part))
-      (variable_entries functions at (name_of d.name.now) w) declared in
-      (entries_then (add_length at l) (add_variable functions at (name_of d.name.now) w
+      (variable_entries functions at (name_of d.name) w) declared in
+      (entries_then (add_length at l) (add_variable functions at (name_of d.name) w
       then (add_declare v then (add_optional_initialiser at v s l d.initialiser then void_part)))
       (length_entries at l) known).by scope n;
 }

@@ -277,28 +277,28 @@ module _ (p : Parts) (owned : List VarId) where
 
   primary_form : (y : Pieces Primary-F) →
       IsWellTyping p owned (primary_step (attributes_primary (bare_primary y)))
-  primary_form (Primary-F.Name name) = token_form name.now.at name.now.kind
+  primary_form (Primary-F.Name name) = token_form name.at name.kind
   primary_form (Primary-F.Element name opener index closer) = record {
-    by = λ scope sound before. element_typed p owned before name.now.at (meaning_of scope (name_of name.now))
-        (typed_conditional index.value.0 scope before) (meaning_is p owned scope sound (name_of name.now))
+    by = λ scope sound before. element_typed p owned before name.at (meaning_of scope (name_of name))
+        (typed_conditional index.value.0 scope before) (meaning_is p owned scope sound (name_of name))
         (index.value.1.by scope sound before);
   }
   primary_form (Primary-F.Call name opener arguments closer) = record {
-    by = λ scope sound before. called_typed p owned scope sound name.now.at (name_of name.now)
+    by = λ scope sound before. called_typed p owned scope sound name.at (name_of name)
         (typed_arguments arguments.0) arguments.1 before;
   }
-  primary_form (Primary-F.Constant constant) = token_form constant.now.at constant.now.kind
-  primary_form (Primary-F.Parenthesized opener e closer) = inside opener.now.at
+  primary_form (Primary-F.Constant constant) = token_form constant.at constant.kind
+  primary_form (Primary-F.Parenthesized opener e closer) = inside opener.at
       (typed_conditional e.value.0) e.value.1
 
   unary_form : (y : Pieces Unary-F) → IsWellTyping p owned (unary_step (attributes_unary (bare_unary y)))
   unary_form (Unary-F.Prefix operator operand) = record {
-    by = λ scope sound before. unary_typed p owned before operator.now.at (unary_operator
-        (punct_of operator.now))
+    by = λ scope sound before. unary_typed p owned before operator.at (unary_operator
+        (punct_of operator))
         (typed_unary_expression operand.value.0 scope before) (operand.value.1.by scope sound before);
   }
   unary_form (Unary-F.Cast opener name closer operand) = record {
-    by = λ scope sound before. cast_typed p owned before opener.now.at (type_named name)
+    by = λ scope sound before. cast_typed p owned before opener.at (type_named name)
         (typed_unary_expression operand.value.0 scope before) (operand.value.1.by scope sound before);
   }
   unary_form (Unary-F.Primary e) = e.1
@@ -374,7 +374,7 @@ module _ (p : Parts) (owned : List VarId) where
   chain_form y = let o = typed_operand y.operand.0 in
       let rest = rest_of_chain (former-Chain-rest.map Chain ChainTyping typed_chain
       (former-Chain-rest.map OfChain Chain (λ e. e.0) y.rest)) in
-      chain_whole y.level (binary_operator (punct_of y.operator.now)) o.first (o.chains ++ rest)
+      chain_whole y.level (binary_operator (punct_of y.operator)) o.first (o.chains ++ rest)
       y.operand.1.0 (all_chains o.chains rest y.operand.1.1 (rest_form y.rest))
 
   select_form : (test : Typing) (b : BranchTypings) → IsWellTyping p owned test → AreBranches b

@@ -1,5 +1,5 @@
 -- Expressions, read back: the row of each type of the parser's trees, by induction on the trees.
-use Rattle.std.proofs.Common.{◌≡◌, Option, None, Some, List, [], ◌∷◌, ◌++◌, map, refl, sym, ◌∙◌, ap, subst, Box, Global, Bor}
+use Rattle.std.proofs.Common.{◌≡◌, Option, None, Some, List, [], ◌∷◌, ◌++◌, map, refl, sym, ◌∙◌, ap, subst, Box, Global}
 use Rattle.std.specs.Prelude.{option_map, unwrap_or}
 use Rattle.std.proofs.lemmas.List.{append-nil}
 use Rattle.ba_lex.specs.declared.token.Token.{Token}
@@ -28,15 +28,15 @@ use Rattle.ba_types.proofs.Rows.{Row, Reads, token, words, primary, unary, condi
 
 -- WORDS OF A TYPE
 
-leaves : (ts : List (Bor Token)) →
-    Reads (map (λ (t : Bor Token). leaf t.now) ts) (map (λ (t : Bor Token). token t.now) ts)
+leaves : (ts : List Token) →
+    Reads (map leaf ts) (map token ts)
 leaves [] = none
-leaves (t ∷ ts) = front t.now (leaves ts)
+leaves (t ∷ ts) = front t (leaves ts)
 
-words_all : (ts : List (Bor Token)) →
-    items_of as_token (map (λ (t : Bor Token). token t.now) ts) ≡ map (λ (t : Bor Token). t.now) ts
+words_all : (ts : List Token) →
+    items_of as_token (map token ts) ≡ ts
 words_all [] = refl
-words_all (t ∷ ts) = ap (λ us. t.now ∷ us) (words_all ts)
+words_all (t ∷ ts) = ap (λ us. t ∷ us) (words_all ts)
 
 pub type_row : (t : TypeName) → Reads (type_name_marks t) (words (words_of t) ∷ [])
 type_row t = as_row (ap (λ ws. words ws ∷ []) (words_all t.words.items)) (inside rule.type_name (leaves
@@ -319,21 +319,21 @@ typings_operand = map-Operand Primary Unary Arguments Branches Chain Conditional
 primary_form : (y : Pieces Primary-F)
     → IsPrimary (marks.primary_step (marked_primary (bare_primary y))) (primary_step (typings_primary
     (bare_primary y)))
-primary_form (Primary-F.Name name) = inside rule.primary (front name.now none)
+primary_form (Primary-F.Name name) = inside rule.primary (front name none)
 primary_form (Primary-F.Element name opener index closer) =
-    inside rule.primary (front name.now (front opener.now (both (deeper index.value.1) (front closer.now
+    inside rule.primary (front name (front opener (both (deeper index.value.1) (front closer
     none))))
 primary_form (Primary-F.Call name opener values closer) =
-    inside rule.primary (front name.now (front opener.now (both (deeper values.1) (front closer.now none))))
-primary_form (Primary-F.Constant constant) = inside rule.primary (front constant.now none)
+    inside rule.primary (front name (front opener (both (deeper values.1) (front closer none))))
+primary_form (Primary-F.Constant constant) = inside rule.primary (front constant none)
 primary_form (Primary-F.Parenthesized opener e closer) =
-    inside rule.primary (front opener.now (both (deeper e.value.1) (front closer.now none)))
+    inside rule.primary (front opener (both (deeper e.value.1) (front closer none)))
 
 unary_form : (y : Pieces Unary-F)
     → IsUnary (marks.unary_step (marked_unary (bare_unary y))) (unary_step (typings_unary (bare_unary y)))
-unary_form (Unary-F.Prefix operator e) = inside rule.unary (front operator.now (deeper e.value.1))
+unary_form (Unary-F.Prefix operator e) = inside rule.unary (front operator (deeper e.value.1))
 unary_form (Unary-F.Cast opener name closer e) =
-    inside rule.unary (front opener.now (both (deeper (type_row name)) (front closer.now (deeper e.value.1))))
+    inside rule.unary (front opener (both (deeper (type_row name)) (front closer (deeper e.value.1))))
 unary_form (Unary-F.Primary p) = inside rule.unary p.1
 
 -- nothing, or expressions
@@ -355,9 +355,9 @@ branches_form : (y : Pieces Branches-F) →
     AreBranches (marks.branches_step (marked_branches (bare_branches y)))
     (branches_step (typings_branches (bare_branches y)))
 branches_form y = record {
-  question = y.question.now;
-  colon = y.colon.now;
-  reads = front y.question.now (both (deeper y.holds.value.1) (front y.colon.now (deeper y.fails.value.1)));
+  question = y.question;
+  colon = y.colon;
+  reads = front y.question (both (deeper y.holds.value.1) (front y.colon (deeper y.fails.value.1)));
 }
 
 rest_form : (o : Option (Box OfChain Global)) → Reads
@@ -381,9 +381,9 @@ chain_form y =
     = items_append as_chain (map chain o.chains) (map chain rest)
     ∙ ap (λ cs. cs ++ items_of as_chain (map chain rest)) (chains_are o.chains)
     ∙ ap (λ cs. o.chains ++ cs) (chains_are rest) in
-    as_row (ap (λ cs. chain (chain_of y.level (binary_operator (punct_of y.operator.now)) o.first cs) ∷ [])
+    as_row (ap (λ cs. chain (chain_of y.level (binary_operator (punct_of y.operator)) o.first cs) ∷ [])
     are)
-    (inside (rule.chain y.level) (front y.operator.now (deeper (both y.operand.1 (rest_form y.rest)))))
+    (inside (rule.chain y.level) (front y.operator (deeper (both y.operand.1 (rest_form y.rest)))))
 
 -- behind the operand, nothing or the two branches
 record AreMaybe (m : M) (s : Option BranchTypings) : Type 0 where
@@ -450,7 +450,7 @@ expressions_form y = let rest = nexts y.rest.items in record {
 
 next_form : (y : Pieces NextExpression-F) → IsNext (marks.next_expression_step (marked_next (bare_next y)))
     (next_expression_step (typings_next (bare_next y)))
-next_form y = record { comma = y.comma.now; reads = front y.comma.now y.expression.1 }
+next_form y = record { comma = y.comma; reads = front y.comma y.expression.1 }
 
 chains_row : (cs : List OfChain) → Reads (joined (map chain_marks (map (λ e. e.0) cs)))
     (map chain (map typed_chain (map (λ e. e.0) cs)))

@@ -262,31 +262,31 @@ module _ (p : Parts) where
   form_is d t (form.Function name opener params closer (end.Prototype semicolon)) file earlier n file_scope
       none stands main =
       let s = declared_as d t name params (end.Prototype semicolon) in
-      prototype_file d n (prototype p name.now.at s (params_of params) file earlier n file_scope) refl refl
+      prototype_file d n (prototype p name.at s (params_of params) file earlier n file_scope) refl refl
       refl
-      (prototype_vars p name.now.at s (params_of params) file earlier n file_scope)
-      (prototype_is p name.now.at s (params_of params) file earlier n file_scope d none)
+      (prototype_vars p name.at s (params_of params) file earlier n file_scope)
+      (prototype_is p name.at s (params_of params) file earlier n file_scope d none)
   form_is d t (form.Function name opener params closer (end.Body b)) file earlier n file_scope none stands
       main =
       let s = declared_as d t name params (end.Body b) in
-      let tree = FunctionFacts.t p name.now.at s (params_of params) file earlier n file_scope b d in
-      let x = defined p name.now.at s (params_of params) file earlier n file_scope b d in
+      let tree = FunctionFacts.t p name.at s (params_of params) file earlier n file_scope b d in
+      let x = defined p name.at s (params_of params) file earlier n file_scope b d in
       let is_tree = tree_at p d tree stands.2.0 in
       let is_main = main s refl refl in
-      let added = definition_added p name.now.at s (params_of params) file earlier n file_scope b d stands.0
+      let added = definition_added p name.at s (params_of params) file earlier n file_scope b d stands.0
       stands.1 is_tree none is_main in record {
         few = added.few;
         sized = added.sized;
         entries = tt;
         told = added.told;
         owned = each_is (ap (var_numbers p) (append-nil (tree.params ++ tree.locals)
-            ∙ definition_vars p name.now.at s (params_of params) file earlier n file_scope b d stands.0
+            ∙ definition_vars p name.at s (params_of params) file earlier n file_scope b d stands.0
             stands.1 is_tree none is_main)
             ∙ numbers_from n.variables (length x.added.variables));
         inits = refl;
         globals = refl;
         good = (
-          definition_good p name.now.at s (params_of params) file earlier n file_scope b d stands.0
+          definition_good p name.at s (params_of params) file earlier n file_scope b d stands.0
               stands.1 is_tree none is_main,
           tt,
         );

@@ -50,7 +50,7 @@ module _ (p : program.Parts) (f : Function) where
   form_shallow d t (form.Function name opener params closer (end.Prototype semicolon)) file earlier n h = refl
   form_shallow d t (form.Function name opener params closer (end.Body b)) file earlier n h =
       let scope = function_scope t file in
-      let a = add_params (is_main_name (name_of name.now)) true name.now.at 1 (params_of params) scope n in
+      let a = add_params (is_main_name (name_of name)) true name.at 1 (params_of params) scope n in
       let body = in_order (parts_of_block b) (knowing a.entries scope) (behind n a) in
       let few = leb-true (block_nesting b) 100 h in
       let nested = body_nested p f b (knowing a.entries scope) (behind n a) in

@@ -1,5 +1,5 @@
 -- Files, read back: what typing makes of a file is a function of its tree written out.
-use Rattle.std.proofs.Common.{◌≡◌, ℕ, ◌+◌, Bool, true, false, not, ◌&&◌, cond, Option, None, Some, List, [], ◌∷◌, ◌++◌, map, length, refl, sym, ◌∙◌, ap, Bor}
+use Rattle.std.proofs.Common.{◌≡◌, ℕ, ◌+◌, Bool, true, false, not, ◌&&◌, cond, Option, None, Some, List, [], ◌∷◌, ◌++◌, map, length, refl, sym, ◌∙◌, ap}
 use Rattle.std.specs.Prelude.{option_map, unwrap_or}
 use Rattle.std.specs.Option.{is_some}
 use Rattle.std.proofs.lemmas.List.{append-nil}
@@ -45,29 +45,29 @@ end_item (end.Prototype semicolon) = None
 abbrev form_item : List Token → ExternalForm → ExternalItem
 form_item ws (form.Variables ds semicolon) = variables ws (add_all ds)
 form_item ws (form.Function name opener ps closer e) =
-    function ws name.now (map param_item (params_of_list ps.list)) (end_item e)
+    function ws name (map param_item (params_of_list ps.list)) (end_item e)
 
 abbrev external_item : External → ExternalItem
 external_item x = form_item (words_of x.name) x.form
 
 abbrev end_items : FunctionEnd → Row
 end_items (end.Body b) = block (parts_of_block b) ∷ []
-end_items (end.Prototype semicolon) = token semicolon.now ∷ []
+end_items (end.Prototype semicolon) = token semicolon ∷ []
 
 end_row : (e : FunctionEnd) → Reads (end_marks e) (end_items e)
 end_row (end.Body b) = block_row b
-end_row (end.Prototype semicolon) = front semicolon.now none
+end_row (end.Prototype semicolon) = front semicolon none
 
 abbrev form_items : ExternalForm → Row
-form_items (form.Variables ds semicolon) = declarators (add_all ds) ∷ token semicolon.now ∷ []
+form_items (form.Variables ds semicolon) = declarators (add_all ds) ∷ token semicolon ∷ []
 form_items (form.Function name opener ps closer e) =
-    token name.now ∷ token opener.now ∷ parameters (map param_item (params_of_list ps.list)) ∷ token
-    closer.now ∷ end_items e
+    token name ∷ token opener ∷ parameters (map param_item (params_of_list ps.list)) ∷ token
+    closer ∷ end_items e
 
 form_row : (f : ExternalForm) → Reads (external_form_marks f) (form_items f)
-form_row (form.Variables ds semicolon) = both (declarators_row ds) (front semicolon.now none)
+form_row (form.Variables ds semicolon) = both (declarators_row ds) (front semicolon none)
 form_row (form.Function name opener ps closer e) =
-    front name.now (front opener.now (both (deeper (parameters_row ps)) (front closer.now (end_row e))))
+    front name (front opener (both (deeper (parameters_row ps)) (front closer (end_row e))))
 
 form_is : (ws : List Token) (f : ExternalForm) → external_of (words ws ∷ form_items f) ≡ form_item ws f
 form_is ws (form.Variables ds semicolon) = refl
@@ -111,18 +111,13 @@ lengths_some : (o : Option ArrayLength) → is_some (lengths o) ≡ is_some o
 lengths_some None = refl
 lengths_some (Some l) = refl
 
-named_some : (o : Option (Bor Token)) → is_some (option_map (λ (t : Bor Token). t.now) o) ≡ is_some o
-named_some None = refl
-named_some (Some t) = refl
-
 type_is : (p : Parameter) → type_by (param_item p) ≡ type_of_param p
 type_is p = ap (λ b. record { t = type_of_words (words_of p.type_name); is_array = b }) (lengths_some
     p.length)
 
 void_is : (p : Parameter) → is_void_item (param_item p) ≡ is_void_parameter p
-void_is p = ap (λ b. is_void_word (words_of p.type_name) && not b && not (is_some (lengths p.length)))
-    (named_some p.name)
-    ∙ ap (λ b. is_void_word (words_of p.type_name) && not (is_some p.name) && not b) (lengths_some p.length)
+void_is p = ap (λ b. is_void_word (words_of p.type_name) && not (is_some p.name) && not b)
+    (lengths_some p.length)
 
 without_is : (ps : List Parameter) → without_void_item (map param_item ps) ≡ map param_item (without_void ps)
 without_is [] = refl
@@ -166,7 +161,7 @@ add_param_by is_main defined function_at number p scope n =
     }) l
     then (λ scope n. faults_added (void_faults t at ++ limit_faults parameter_limit number at))) scope n
 
-param_plain : (is_main defined : Bool) (at : At) (number : ℕ) (kind : TypeName) (name : Option (Bor Token))
+param_plain : (is_main defined : Bool) (at : At) (number : ℕ) (kind : TypeName) (name : Option Token)
     → add_param is_main defined at number (record { type_name = kind; name = name; length = None })
     ≡ add_param_by is_main defined at number (param_item (record {
       type_name = kind;
@@ -179,8 +174,8 @@ param_plain true defined at number kind (Some name) = refl
 param_plain false defined at number kind None = refl
 param_plain false defined at number kind (Some name) = refl
 
-param_array : (is_main defined : Bool) (at : At) (number : ℕ) (kind : TypeName) (name : Option (Bor Token))
-    (opener closer : Bor Token) (l : Option Conditional)
+param_array : (is_main defined : Bool) (at : At) (number : ℕ) (kind : TypeName) (name : Option Token)
+    (opener closer : Token) (l : Option Conditional)
     → (let p : Parameter = record {
       type_name = kind;
       name = name;
@@ -194,7 +189,7 @@ param_array true defined at number kind (Some name) opener closer (Some e) = ref
 param_array false defined at number kind None opener closer l = refl
 param_array false defined at number kind (Some name) opener closer l = refl
 
-param_at : (is_main defined : Bool) (at : At) (number : ℕ) (kind : TypeName) (name : Option (Bor Token)) (l
+param_at : (is_main defined : Bool) (at : At) (number : ℕ) (kind : TypeName) (name : Option Token) (l
     : Option ArrayLength)
     → add_param is_main defined at number (record { type_name = kind; name = name; length = l })
     ≡ add_param_by is_main defined at number (param_item (record {
@@ -255,7 +250,7 @@ form_signature d ws (form.Function name opener ps closer e) =
     let qs = params_of_list ps.list in
     let sign : Option (List ParamType) → Bool → Option Signature
     = λ params defined. Some (record {
-      name = name_of name.now;
+      name = name_of name;
       result = type_of_words ws;
       params = params;
       is_definition = defined;
@@ -325,7 +320,7 @@ form_added ws (form.Variables ds semicolon) s outer earlier n = refl
 form_added ws (form.Function name opener ps closer e) None outer earlier n = refl
 form_added ws (form.Function name opener ps closer e) (Some s) outer earlier n =
     let qs = params_of_list ps.list in
-    let at = name.now.at in
+    let at = name.at in
     let main = is_main_name s.name in
     ap (λ part. add_function_by part (body_parts e) at s outer earlier n)
     (params_are main s.is_definition at 1 (params_of ps)

@@ -1,7 +1,7 @@
 -- The declarations of functions in a file without faults: their numbers, that no name is defined twice, how
 -- many there are, and that
 -- the functions of the program are those that they declare.
-use Rattle.std.proofs.Common.{◌≡◌, ℕ, ◌+◌, ◌≤◌, Bool, true, false, ◌&&◌, ◌||◌, ◌==◌, cond, Option, None, Some, List, [], ◌∷◌, ◌++◌, map, filter, length, append_assoc, append-nil, refl, sym, ◌∙◌, ap, subst, arith, slice_get, unwrap_or, Bor}
+use Rattle.std.proofs.Common.{◌≡◌, ℕ, ◌+◌, ◌≤◌, Bool, true, false, ◌&&◌, ◌||◌, ◌==◌, cond, Option, None, Some, List, [], ◌∷◌, ◌++◌, map, filter, length, append_assoc, append-nil, refl, sym, ◌∙◌, ap, subst, arith, slice_get, unwrap_or}
 use Rattle.std.specs.List.{list_any}
 use Rattle.std.proofs.lemmas.Bool.{eqb-true, eq-eqb, true≢false, false_from_ne_true}
 use Rattle.std.proofs.lemmas.Option.{same_Some}
@@ -35,9 +35,9 @@ use Rattle.ba_types.proofs.SignatureFacts.{same_name-equal, same_name-self, foun
 use Rattle.ba_types.proofs.ScopeFacts.{FitParams, IsFunction}
 
 -- the signature of a declaration behind so many definitions
-abbrev pub declared_as : ℕ → Option CType → Bor Token → Parameters → FunctionEnd → Signature
+abbrev pub declared_as : ℕ → Option CType → Token → Parameters → FunctionEnd → Signature
 declared_as d t name params e = record {
-  name = name_of name.now;
+  name = name_of name;
   result = t;
   params = cond (says_params e params) (Some (map type_of_param (params_of params))) None;
   is_definition = is_definition e;
@@ -153,11 +153,11 @@ form_step : (d : ℕ) (t : Option CType) (f : ExternalForm) (file : Scope) (earl
 form_step d t (form.Variables declarators semicolon) file earlier n none few = no_step earlier few
 form_step d t (form.Function name opener params closer e) file earlier n none few =
     let s = declared_as d t name params e in
-    let a = add_params (is_main_name s.name) s.is_definition name.now.at 1 (params_of params)
+    let a = add_params (is_main_name s.name) s.is_definition name.at 1 (params_of params)
     (function_scope t file) n in
     let b = in_order (body_parts e) (knowing a.entries (function_scope t file)) (behind n a) in
-    one_step file earlier s name.now.at
-    (nil_left (signature_faults file earlier s name.now.at) (a.faults ++ b.faults) none)
+    one_step file earlier s name.at
+    (nil_left (signature_faults file earlier s name.at) (a.faults ++ b.faults) none)
 
 pub record AreNewIn (earlier ss : List Signature) : Type 0 where
   pub new : AreNew earlier ss
@@ -280,17 +280,17 @@ module _ (p : Parts) where
         (λ is other.
             let s = declared_as d t name params (end.Body b) in
             let scope = function_scope t file in
-            let added = add_params (is_main_name s.name) true name.now.at 1 (params_of params) scope n in
+            let added = add_params (is_main_name s.name) true name.at 1 (params_of params) scope n in
             let body = in_order (parts_of_block b) (knowing added.entries scope) (behind n added) in
             let tree = tree_at p d (function_tree n t added body) functions.0 in
-            let inside = nil_right (signature_faults file earlier s name.now.at)
+            let inside = nil_right (signature_faults file earlier s name.at)
             (added.faults ++ body.faults) none in record {
               definition = function_at p d;
               place = tree.place;
               result = ap (λ (t : FunctionTree). t.result) tree.tree;
               params = subst (λ vs. FitParams p vs (map type_of_param (params_of params)))
                   (sym (ap (λ (t : FunctionTree). t.params) tree.tree))
-                  (fit_from (is_main_name s.name) other name.now.at (params_of params) scope n
+                  (fit_from (is_main_name s.name) other name.at (params_of params) scope n
                   (has_left p.variables n.variables added.variables body.variables variables)
                   (nil_left added.faults body.faults inside));
             }),

@@ -120,7 +120,7 @@ filed-as x f o p earlier s t is says added =
 pub variables-filed : (x : External) (o : Option Signature) (earlier : List Signature)
     (s0 s1 : Scope) (w0 w1 : Work) (i0 i1 : Vec Stmt) (fs : Vec Function) (t : Option CType)
     (ds : Declarators)
-    (semicolon : Bor Token) → x.form ≡ form.Variables ds semicolon → t ≡ type_named x.name
+    (semicolon : Token) → x.form ≡ form.Variables ds semicolon → t ≡ type_named x.name
     → state s1 w1 i1 ≡ behind_part (add_declarators earlier t ds) (state s0 w0 i0)
     → file_state s1 w1 i1 fs ≡ with_part (file_state s0 w0 i0 fs) (add_external x o s0 earlier (before_of w0))
 unfolding behind_part

@@ -91,7 +91,7 @@ module _ (p : Parts) (f : Function) where
       → HasSimple (add_declarator functions t d)
   declarator_simple functions t d = record {
     by = λ scope n.
-        let at = d.name.now.at in
+        let at = d.name.at in
         let v : VarId = record { 0 = n.variables } in
         let s = unwrap_or t I32 in
         let l = typed_array_length at (count_of_values d.initialiser) scope n.calls d.length in
@@ -102,10 +102,10 @@ module _ (p : Parts) (f : Function) where
         void_part)
         (record { by = λ scope n. declare_simple (scope.depth == 0) v }) initialised in
         let w : Variable = record { t = s; shape = shape_of l } in
-        let known = simple_then (add_variable functions at (name_of d.name.now) w)
+        let known = simple_then (add_variable functions at (name_of d.name) w)
         (add_declare v then (add_optional_initialiser at v s l d.initialiser then void_part))
         (record { by = λ scope n. refl }) declared in
-        (simple_then (add_length at l) (add_variable functions at (name_of d.name.now) w
+        (simple_then (add_length at l) (add_variable functions at (name_of d.name) w
         then (add_declare v then (add_optional_initialiser at v s l d.initialiser then void_part)))
         (length_simple at l) known).by scope n;
   }
@@ -127,14 +127,14 @@ module _ (p : Parts) (f : Function) where
       → HasSimple (add_assignment at target op typing)
   assignment_simple at target op typing = record {
     by = λ scope n. assign_simple _ _ _
-        (typed_target target.name.now.at (name_of target.name.now) (index_typing target.index) scope
+        (typed_target target.name.at (name_of target.name) (index_typing target.index) scope
         n.calls).index;
   }
 
   pub simple_simple : (s : Simple) → HasSimple (add_simple s)
   simple_simple (form.Assign target operator value) = assignment_simple _ target _ (typed_conditional value)
-  simple_simple (form.Step target operator) = assignment_simple _ target _ (one operator.now.at)
-  simple_simple (form.PrefixStep operator target) = assignment_simple _ target _ (one operator.now.at)
+  simple_simple (form.Step target operator) = assignment_simple _ target _ (one operator.at)
+  simple_simple (form.PrefixStep operator target) = assignment_simple _ target _ (one operator.at)
   simple_simple (form.Call name opener arguments closer) = record { by = λ scope n. refl }
 
   simples_simple : (ss : List ListedSimple)
@@ -308,7 +308,7 @@ module _ (p : Parts) (owned : List VarId) (f : Function) where
           (are_simple fronts && are_simple steps)
           (and_from _ _ ((first_simple p f head.first).by scope n) ((step_simple p f head.step).by inside
           (behind n (front and c))))
-          ((test_typing head.second_semicolon.now.at head.test).by inside in_inside.sound
+          ((test_typing head.second_semicolon.at head.test).by inside in_inside.sound
           (behind n front).calls)
           (stands_left p owned f true (behind n front) c (s and a) behind_front).1
 

@@ -169,7 +169,7 @@ module _ (p : Parts) (globals : List VarId) (f : Function) where
       (stands : Stands p globals f false n (add_declarator functions t d scope n))
       (none : (add_declarator functions t d scope n).faults ≡ []) where
     abbrev name_at : At
-    name_at = d.name.now.at
+    name_at = d.name.at
 
     abbrev var : VarId
     var = number p globals f false functions t d scope n
@@ -188,7 +188,7 @@ module _ (p : Parts) (globals : List VarId) (f : Function) where
     declarator_inits =
         let h = inits_then (add_length name_at l) (behind_length p globals f false functions t d scope n)
         (length_has p globals f false functions t d scope n in_scope stands none) (length_inits name_at l)
-        (inits_then (add_variable functions name_at (name_of d.name.now)
+        (inits_then (add_variable functions name_at (name_of d.name)
         (declared p globals f false functions t d scope n))
         (behind_variable p globals f false functions t d scope n)
         (variable_has p globals f false functions t d scope n in_scope stands none)

@@ -1,5 +1,5 @@
 -- The levels of the parser's tree bound how deep statements nest in it.
-use Rattle.std.proofs.Common.{◌≡◌, ℕ, suc, ◌-◌, Option, None, Some, List, [], ◌∷◌, ◌++◌, map, option_map, append_assoc, append-nil, refl, sym, ◌∙◌, ap, subst, arith, Bor, Box, Global}
+use Rattle.std.proofs.Common.{◌≡◌, ℕ, suc, ◌-◌, Option, None, Some, List, [], ◌∷◌, ◌++◌, map, option_map, append_assoc, append-nil, refl, sym, ◌∙◌, ap, subst, arith, Box, Global}
 use Rattle.ba_lex.specs.declared.token.Token.{Token}
 use Rattle.ba_parse.specs.Marks.{Rule, Mark, leaf, enter, leave, down, up, node_of, one_deeper, levels}
 use Rattle.ba_parse.specs.Views.{joined, optional}
@@ -55,9 +55,9 @@ deeper {f} h = record {
       ∙ ap (λ ns. ns ++ levels d g) (sym (deep_levels h d));
 }
 
-words : (ts : List (Bor Token)) → IsEven (map (λ t. leaf t.now) ts)
+words : (ts : List Token) → IsEven (map (λ t. leaf t) ts)
 words [] = none
-words (t ∷ ts) = front t.now (words ts)
+words (t ∷ ts) = front t (words ts)
 
 pub type_even : (t : TypeName) → IsEven (type_name_marks t)
 type_even t = inside Rattle.ba_parse.specs.Marks.type_name (words t.words.items)
@@ -120,25 +120,25 @@ unary_parts y = map-Unary Primary Unary Arguments Branches Chain Conditional Exp
     (λ e. e.0) (λ e. e.0) (λ e. e.0) (λ e. e.0) (λ e. e.0) (λ e. e.0) (λ e. e.0) (λ e. e.0) (λ e. e.0) y)
 
 primary_even : (y : PrimaryParts) → IsEven (primary_step (primary_parts y))
-primary_even (Primary-F.Name name) = inside Rattle.ba_parse.specs.Marks.primary (front name.now none)
+primary_even (Primary-F.Name name) = inside Rattle.ba_parse.specs.Marks.primary (front name none)
 primary_even (Primary-F.Element name opener index closer) =
-    inside Rattle.ba_parse.specs.Marks.primary (front name.now (front opener.now (both
-    (deeper index.value.1) (front closer.now none))))
+    inside Rattle.ba_parse.specs.Marks.primary (front name (front opener (both
+    (deeper index.value.1) (front closer none))))
 primary_even (Primary-F.Call name opener values closer) =
-    inside Rattle.ba_parse.specs.Marks.primary (front name.now (front opener.now (both (deeper values.1)
-    (front closer.now none))))
+    inside Rattle.ba_parse.specs.Marks.primary (front name (front opener (both (deeper values.1)
+    (front closer none))))
 primary_even (Primary-F.Constant constant) = inside Rattle.ba_parse.specs.Marks.primary
-    (front constant.now none)
+    (front constant none)
 primary_even (Primary-F.Parenthesized opener e closer) =
-    inside Rattle.ba_parse.specs.Marks.primary (front opener.now (both (deeper e.value.1)
-    (front closer.now none)))
+    inside Rattle.ba_parse.specs.Marks.primary (front opener (both (deeper e.value.1)
+    (front closer none)))
 
 unary_even : (y : UnaryParts) → IsEven (unary_step (unary_parts y))
-unary_even (Unary-F.Prefix operator e) = inside Rattle.ba_parse.specs.Marks.unary (front operator.now
+unary_even (Unary-F.Prefix operator e) = inside Rattle.ba_parse.specs.Marks.unary (front operator
     (deeper e.value.1))
 unary_even (Unary-F.Cast opener name closer e) =
-    inside Rattle.ba_parse.specs.Marks.unary (front opener.now (both (deeper (type_even name))
-    (front closer.now (deeper e.value.1))))
+    inside Rattle.ba_parse.specs.Marks.unary (front opener (both (deeper (type_even name))
+    (front closer (deeper e.value.1))))
 unary_even (Unary-F.Primary p) = inside Rattle.ba_parse.specs.Marks.unary p.1
 
 pub conditional_even : (c : Conditional) → IsEven (conditional_marks c)
@@ -168,11 +168,11 @@ conditional_even =
     (λ x y is. by_step branches_marks roll-Branches _ (fold-roll-Branches M M M M M M M M M primary_step
     unary_step arguments_step branches_step chain_step conditional_step expressions_step
     next_expression_step operand_step) _ x is
-    (front y.question.now (both (deeper y.holds.value.1) (front y.colon.now (deeper y.fails.value.1)))))
+    (front y.question (both (deeper y.holds.value.1) (front y.colon (deeper y.fails.value.1)))))
     (λ x y is. by_step chain_marks roll-Chain _ (fold-roll-Chain M M M M M M M M M primary_step unary_step
     arguments_step branches_step chain_step conditional_step expressions_step
     next_expression_step operand_step) _ x is
-    (inside (Rattle.ba_parse.specs.Marks.chain y.level) (front y.operator.now (deeper (both y.operand.1
+    (inside (Rattle.ba_parse.specs.Marks.chain y.level) (front y.operator (deeper (both y.operand.1
     (rest y.rest))))))
     (λ x y is. by_step conditional_marks roll-Conditional _ (fold-roll-Conditional M M M M M M M M M
     primary_step unary_step arguments_step branches_step chain_step conditional_step expressions_step
@@ -186,7 +186,7 @@ conditional_even =
     (fold-roll-NextExpression M M M M M M M M M primary_step unary_step arguments_step branches_step
     chain_step conditional_step expressions_step
     next_expression_step operand_step) _ x is
-    (front y.comma.now y.expression.1))
+    (front y.comma y.expression.1))
     (λ x y is. by_step operand_marks roll-Operand _ (fold-roll-Operand M M M M M M M M M primary_step
     unary_step arguments_step branches_step chain_step conditional_step expressions_step
     next_expression_step operand_step) _ x is
@@ -219,11 +219,11 @@ arguments_even =
     (λ x y is. by_step branches_marks roll-Branches _ (fold-roll-Branches M M M M M M M M M primary_step
     unary_step arguments_step branches_step chain_step conditional_step expressions_step
     next_expression_step operand_step) _ x is
-    (front y.question.now (both (deeper y.holds.value.1) (front y.colon.now (deeper y.fails.value.1)))))
+    (front y.question (both (deeper y.holds.value.1) (front y.colon (deeper y.fails.value.1)))))
     (λ x y is. by_step chain_marks roll-Chain _ (fold-roll-Chain M M M M M M M M M primary_step unary_step
     arguments_step branches_step chain_step conditional_step expressions_step
     next_expression_step operand_step) _ x is
-    (inside (Rattle.ba_parse.specs.Marks.chain y.level) (front y.operator.now (deeper (both y.operand.1
+    (inside (Rattle.ba_parse.specs.Marks.chain y.level) (front y.operator (deeper (both y.operand.1
     (rest y.rest))))))
     (λ x y is. by_step conditional_marks roll-Conditional _ (fold-roll-Conditional M M M M M M M M M
     primary_step unary_step arguments_step branches_step chain_step conditional_step expressions_step
@@ -237,7 +237,7 @@ arguments_even =
     (fold-roll-NextExpression M M M M M M M M M primary_step unary_step arguments_step branches_step
     chain_step conditional_step expressions_step
     next_expression_step operand_step) _ x is
-    (front y.comma.now y.expression.1))
+    (front y.comma y.expression.1))
     (λ x y is. by_step operand_marks roll-Operand _ (fold-roll-Operand M M M M M M M M M primary_step
     unary_step arguments_step branches_step chain_step conditional_step expressions_step
     next_expression_step operand_step) _ x is
@@ -270,11 +270,11 @@ next_even =
     (λ x y is. by_step branches_marks roll-Branches _ (fold-roll-Branches M M M M M M M M M primary_step
     unary_step arguments_step branches_step chain_step conditional_step expressions_step
     next_expression_step operand_step) _ x is
-    (front y.question.now (both (deeper y.holds.value.1) (front y.colon.now (deeper y.fails.value.1)))))
+    (front y.question (both (deeper y.holds.value.1) (front y.colon (deeper y.fails.value.1)))))
     (λ x y is. by_step chain_marks roll-Chain _ (fold-roll-Chain M M M M M M M M M primary_step unary_step
     arguments_step branches_step chain_step conditional_step expressions_step
     next_expression_step operand_step) _ x is
-    (inside (Rattle.ba_parse.specs.Marks.chain y.level) (front y.operator.now (deeper (both y.operand.1
+    (inside (Rattle.ba_parse.specs.Marks.chain y.level) (front y.operator (deeper (both y.operand.1
     (rest y.rest))))))
     (λ x y is. by_step conditional_marks roll-Conditional _ (fold-roll-Conditional M M M M M M M M M
     primary_step unary_step arguments_step branches_step chain_step conditional_step expressions_step
@@ -288,7 +288,7 @@ next_even =
     (fold-roll-NextExpression M M M M M M M M M primary_step unary_step arguments_step branches_step
     chain_step conditional_step expressions_step
     next_expression_step operand_step) _ x is
-    (front y.comma.now y.expression.1))
+    (front y.comma y.expression.1))
     (λ x y is. by_step operand_marks roll-Operand _ (fold-roll-Operand M M M M M M M M M primary_step
     unary_step arguments_step branches_step chain_step conditional_step expressions_step
     next_expression_step operand_step) _ x is

@@ -212,7 +212,7 @@ items_row (x ∷ xs) = reach_both x.1 (items_row xs)
 item_form : (y : Pieces BlockItem-F)
     → Reaches (item_depth (deep_item (bare_item y))) (item_step (written_item (bare_item y)))
 item_form (BlockItem-F.Declaration d) = reach_inside Rattle.ba_parse.specs.Marks.declaration
-    (reach_right (both (type_even d.name) (declarators_even d.declarators)) (reach_leaf d.semicolon.now none))
+    (reach_right (both (type_even d.name) (declarators_even d.declarators)) (reach_leaf d.semicolon none))
 item_form (BlockItem-F.Statement s) = s.1.reaches
 
 form_form : (y : Pieces StatementForm-F)
@@ -221,41 +221,41 @@ form_form (StatementForm-F.Block items) = record {
   reaches = record { even = items.1.even; deep = λ d. let inner = items.1.deep d in omega (arith, inner) };
   one = omega arith;
 }
-form_form (StatementForm-F.Empty semicolon) = leaf_stated (reach_leaf semicolon.now none)
+form_form (StatementForm-F.Empty semicolon) = leaf_stated (reach_leaf semicolon none)
 form_form (StatementForm-F.Simple s semicolon) = leaf_stated (reach_right (simple_even s)
-    (reach_leaf semicolon.now none))
+    (reach_leaf semicolon none))
 form_form (StatementForm-F.If keyword condition holds None) = record {
-  reaches = reach_front keyword.now (reach_left (reach_right (condition_even condition) (no_fails
+  reaches = reach_front keyword (reach_left (reach_right (condition_even condition) (no_fails
       (controlled_nesting holds.0) holds.1.reaches))
       (inside Rattle.ba_parse.specs.Marks.no_else none));
   one = omega arith;
 }
 form_form (StatementForm-F.If keyword condition holds (Some fails)) = record {
-  reaches = reach_front keyword.now (both_fails (controlled_nesting holds.0) (else_nesting fails.0)
+  reaches = reach_front keyword (both_fails (controlled_nesting holds.0) (else_nesting fails.0)
       (reach_right (condition_even condition) holds.1.reaches) fails.1.reaches);
   one = omega arith;
 }
 form_form (StatementForm-F.While keyword condition body) = record {
-  reaches = reach_front keyword.now (reach_right (condition_even condition) body.1.reaches);
+  reaches = reach_front keyword (reach_right (condition_even condition) body.1.reaches);
   one = omega arith;
 }
 form_form (StatementForm-F.DoWhile d) = d.1
 form_form (StatementForm-F.For s) = s.1
-form_form (StatementForm-F.Break keyword semicolon) = leaf_stated (reach_leaf keyword.now
-    (front semicolon.now none))
-form_form (StatementForm-F.Continue keyword semicolon) = leaf_stated (reach_leaf keyword.now
-    (front semicolon.now none))
-form_form (StatementForm-F.Return keyword value semicolon) = leaf_stated (reach_leaf keyword.now
-    (both (maybe conditional_marks conditional_even value) (front semicolon.now none)))
-form_form (StatementForm-F.Assert keyword condition semicolon) = leaf_stated (reach_leaf keyword.now
-    (both (condition_even condition) (front semicolon.now none)))
+form_form (StatementForm-F.Break keyword semicolon) = leaf_stated (reach_leaf keyword
+    (front semicolon none))
+form_form (StatementForm-F.Continue keyword semicolon) = leaf_stated (reach_leaf keyword
+    (front semicolon none))
+form_form (StatementForm-F.Return keyword value semicolon) = leaf_stated (reach_leaf keyword
+    (both (maybe conditional_marks conditional_even value) (front semicolon none)))
+form_form (StatementForm-F.Assert keyword condition semicolon) = leaf_stated (reach_leaf keyword
+    (both (condition_even condition) (front semicolon none)))
 form_form (StatementForm-F.Printf keyword opener printed closer semicolon) = leaf_stated
-    (reach_leaf keyword.now
-    (front opener.now (both (deeper (printed_even printed)) (front closer.now (front semicolon.now none)))))
+    (reach_leaf keyword
+    (front opener (both (deeper (printed_even printed)) (front closer (front semicolon none)))))
 
 block_form : (y : Pieces Block-F)
     → IsBlock (block_depth (deep_block (bare_block y))) (block_step (written_block (bare_block y)))
-block_form y = block_is y.«open».now y.close.now (items_row y.items.items)
+block_form y = block_is y.«open» y.close (items_row y.items.items)
 
 controlled_form : (y : Pieces Controlled-F)
     → IsControlled (controlled_depth (deep_controlled (bare_controlled y))) (controlled_step
@@ -268,20 +268,20 @@ controlled_form y = record {
 do_form : (y : Pieces DoWhile-F)
     → IsStated (do_depth (deep_do (bare_do y))) (do_step (written_do (bare_do y)))
 do_form y = record {
-  reaches = reach_front y.keyword.now (reach_left (reach_left y.body.1.reaches
-      (front y.while_keyword.now (condition_even y.condition))) (front y.semicolon.now none));
+  reaches = reach_front y.keyword (reach_left (reach_left y.body.1.reaches
+      (front y.while_keyword (condition_even y.condition))) (front y.semicolon none));
   one = omega arith;
 }
 
 else_form : (y : Pieces Else-F)
     → IsControlled (else_depth (deep_else (bare_else y))) (else_step (written_else (bare_else y)))
-else_form y = record { reaches = reach_front y.keyword.now y.statement.1.reaches; one = y.statement.1.one }
+else_form y = record { reaches = reach_front y.keyword y.statement.1.reaches; one = y.statement.1.one }
 
 for_form : (y : Pieces For-F)
     → IsStated (for_depth (deep_for (bare_for y))) (for_step (written_for (bare_for y)))
 for_form y = record {
-  reaches = reach_front y.keyword.now (reach_front y.«open».now (reach_right (deeper (head_even y.head.value))
-      (reach_front y.close.now y.body.1.reaches)));
+  reaches = reach_front y.keyword (reach_front y.«open» (reach_right (deeper (head_even y.head.value))
+      (reach_front y.close y.body.1.reaches)));
   one = omega arith;
 }
 
@@ -414,19 +414,19 @@ blocks_are = ind-Block
 
 form_even : (x : ExternalForm) → IsEven (external_form_marks x)
 form_even (form.Variables declarators semicolon) = both (declarators_even declarators)
-    (front semicolon.now none)
-form_even (form.Function name opener params closer (end.Prototype semicolon)) = front name.now
-    (front opener.now
-    (both (deeper (parameters_even params)) (front closer.now (front semicolon.now none))))
-form_even (form.Function name opener params closer (end.Body b)) = front name.now (front opener.now
-    (both (deeper (parameters_even params)) (front closer.now (blocks_are b).even)))
+    (front semicolon none)
+form_even (form.Function name opener params closer (end.Prototype semicolon)) = front name
+    (front opener
+    (both (deeper (parameters_even params)) (front closer (front semicolon none))))
+form_even (form.Function name opener params closer (end.Body b)) = front name (front opener
+    (both (deeper (parameters_even params)) (front closer (blocks_are b).even)))
 
 form_deep : (x : ExternalForm) (d : ℕ) → form_of_nesting x ≤ greatest (levels d (external_form_marks x))
 form_deep (form.Variables declarators semicolon) d = omega arith
 form_deep (form.Function name opener params closer (end.Prototype semicolon)) d = omega arith
 form_deep (form.Function name opener params closer (end.Body b)) d =
     let body = (blocks_are b).deep d in
-    let all = split (leaf closer.now ∷ block_marks b) (deeper (parameters_even params)) d in omega
+    let all = split (leaf closer ∷ block_marks b) (deeper (parameters_even params)) d in omega
     (arith, body, all)
 
 external_even : (x : External) → IsEven (external_marks x)

@@ -267,11 +267,11 @@ module _ (p : program.Parts) (f : Function) where
   }
   form_form (StatementForm-F.DoWhile d) = d.1
   form_form (StatementForm-F.For s) = s.1
-  form_form (StatementForm-F.Break keyword semicolon) = leaf_statement p f _ (jump_with_flat keyword.now None)
-  form_form (StatementForm-F.Continue keyword semicolon) = leaf_statement p f _ (jump_with_flat keyword.now
+  form_form (StatementForm-F.Break keyword semicolon) = leaf_statement p f _ (jump_with_flat keyword None)
+  form_form (StatementForm-F.Continue keyword semicolon) = leaf_statement p f _ (jump_with_flat keyword
       None)
   form_form (StatementForm-F.Return keyword value semicolon) =
-      leaf_statement p f _ (jump_with_flat keyword.now (optional_typing value))
+      leaf_statement p f _ (jump_with_flat keyword (optional_typing value))
   form_form (StatementForm-F.Assert keyword condition semicolon) = leaf_statement p f _
       (record { by = λ scope n. omega arith })
   form_form (StatementForm-F.Printf keyword opener printed closer semicolon) =

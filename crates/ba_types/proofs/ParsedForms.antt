@@ -5,7 +5,6 @@ use Rattle.std.specs.List.{list_all}
 use Rattle.std.proofs.lemmas.Bool.{and_parts}
 use Rattle.std.proofs.lemmas.Bool.Decides.{nat_tests}
 use Rattle.std.proofs.lemmas.List.{append-nil}
-use Rattle.std.specs.Borrow.{Bor}
 use Rattle.std.specs.Global.{Box}
 use Rattle.ba_lex.specs.declared.token.Token.{Token}
 use Rattle.ba_parse.specs.declared.tree.expressions.Primary.TheFolds.{
@@ -64,8 +63,8 @@ typed_expressions = fold-Expressions Typing Typing Typings BranchTypings ChainTy
 
 -- PRIMARY EXPRESSIONS
 
-pub name-is : (name : Bor Token) (scope : Scope) (calls : ℕ)
-    → typed_primary (primary.Name name) scope calls ≡ typed_token name.now scope calls
+pub name-is : (name : Token) (scope : Scope) (calls : ℕ)
+    → typed_primary (primary.Name name) scope calls ≡ typed_token name scope calls
 unfolding typed_primary typed_unary_expression typed_arguments typed_chain typed_conditional typed_next
     typed_operand
     primary.roll-Primary denote.Hole.Carrier.roll
@@ -74,10 +73,10 @@ name-is name scope calls = ap (λ (f : Typing). f scope calls) (fold-roll-Primar
     branches_step chain_step conditional_step expressions_step next_expression_step operand_step
     (Primary-F.Name name))
 
-pub element-is : (name opener : Bor Token) (index : Box Conditional) (closer : Bor Token) (scope : Scope)
+pub element-is : (name opener : Token) (index : Box Conditional) (closer : Token) (scope : Scope)
     (calls : ℕ)
     → typed_primary (primary.Element name opener index closer) scope calls
-    ≡ typed_element name.now.at (meaning_of scope (name_of name.now)) (typed_conditional index.value scope
+    ≡ typed_element name.at (meaning_of scope (name_of name)) (typed_conditional index.value scope
     calls)
 unfolding typed_primary typed_unary_expression typed_arguments typed_chain typed_conditional typed_next
     typed_operand
@@ -88,9 +87,9 @@ element-is name opener index closer scope calls = ap (λ (f : Typing). f scope c
     branches_step chain_step conditional_step expressions_step next_expression_step operand_step
     (Primary-F.Element name opener index closer))
 
-pub call-is : (name opener : Bor Token) (a : Arguments) (closer : Bor Token) (scope : Scope) (calls : ℕ)
+pub call-is : (name opener : Token) (a : Arguments) (closer : Token) (scope : Scope) (calls : ℕ)
     → typed_primary (primary.Call name opener a closer) scope calls
-    ≡ typed_called name.now.at (typed_call true name.now.at (name_of name.now) (typed_arguments a) scope
+    ≡ typed_called name.at (typed_call true name.at (name_of name) (typed_arguments a) scope
     calls)
 unfolding typed_primary typed_unary_expression typed_arguments typed_chain typed_conditional typed_next
     typed_operand
@@ -101,8 +100,8 @@ call-is name opener a closer scope calls = ap (λ (f : Typing). f scope calls) (
     branches_step chain_step conditional_step expressions_step next_expression_step operand_step
     (Primary-F.Call name opener a closer))
 
-pub constant-is : (constant : Bor Token) (scope : Scope) (calls : ℕ)
-    → typed_primary (primary.Constant constant) scope calls ≡ typed_token constant.now scope calls
+pub constant-is : (constant : Token) (scope : Scope) (calls : ℕ)
+    → typed_primary (primary.Constant constant) scope calls ≡ typed_token constant scope calls
 unfolding typed_primary typed_unary_expression typed_arguments typed_chain typed_conditional typed_next
     typed_operand
     primary.roll-Primary denote.Hole.Carrier.roll
@@ -111,10 +110,10 @@ constant-is constant scope calls = ap (λ (f : Typing). f scope calls) (fold-rol
     branches_step chain_step conditional_step expressions_step next_expression_step operand_step
     (Primary-F.Constant constant))
 
-pub parenthesized-is : (opener : Bor Token) (e : Box Conditional) (closer : Bor Token) (scope : Scope)
+pub parenthesized-is : (opener : Token) (e : Box Conditional) (closer : Token) (scope : Scope)
     (calls : ℕ)
     → typed_primary (primary.Parenthesized opener e closer) scope calls ≡ record (typed_conditional e.value
-    scope calls) { first = opener.now.at }
+    scope calls) { first = opener.at }
 unfolding typed_primary typed_unary_expression typed_arguments typed_chain typed_conditional typed_next
     typed_operand
     primary.roll-Primary denote.Hole.Carrier.roll
@@ -126,9 +125,9 @@ parenthesized-is opener e closer scope calls = ap (λ (f : Typing). f scope call
 
 -- UNARY EXPRESSIONS
 
-pub prefix-is : (operator : Bor Token) (a : Box Unary) (scope : Scope) (calls : ℕ)
+pub prefix-is : (operator : Token) (a : Box Unary) (scope : Scope) (calls : ℕ)
     → typed_unary_expression (unary.Prefix operator a) scope calls
-    ≡ typed_unary operator.now.at (unary_operator (punct_of operator.now)) (typed_unary_expression a.value
+    ≡ typed_unary operator.at (unary_operator (punct_of operator)) (typed_unary_expression a.value
     scope calls)
 unfolding typed_primary typed_unary_expression typed_arguments typed_chain typed_conditional typed_next
     typed_operand
@@ -138,10 +137,10 @@ prefix-is operator a scope calls = ap (λ (f : Typing). f scope calls) (fold-rol
     branches_step chain_step conditional_step expressions_step next_expression_step operand_step
     (Unary-F.Prefix operator a))
 
-pub cast-is : (opener : Bor Token) (name : TypeName) (closer : Bor Token) (a : Box Unary) (scope : Scope)
+pub cast-is : (opener : Token) (name : TypeName) (closer : Token) (a : Box Unary) (scope : Scope)
     (calls : ℕ)
     → typed_unary_expression (unary.Cast opener name closer a) scope calls
-    ≡ typed_cast opener.now.at (type_named name) (typed_unary_expression a.value scope calls)
+    ≡ typed_cast opener.at (type_named name) (typed_unary_expression a.value scope calls)
 unfolding typed_primary typed_unary_expression typed_arguments typed_chain typed_conditional typed_next
     typed_operand
     unary.roll-Unary denote.Hole.Carrier.roll
@@ -177,7 +176,7 @@ operand-is o = fold_out-Operand Typing Typing Typings
 
 module _ (c : Chain) where
   abbrev operator-of : Operator
-  operator-of = binary_operator (punct_of (out-Chain c).operator.now)
+  operator-of = binary_operator (punct_of (out-Chain c).operator)
 
   abbrev operand-of : OperandTyping
   operand-of = typed_operand (out-Chain c).operand

@@ -1,7 +1,6 @@
 -- What each form of the parser's statements adds, one equation a form. The code has the statements that a
 -- form holds as values of its own.
 use Rattle.std.proofs.Common.{◌≡◌, Option, None, Some, [], map, sym, ◌∙◌, ap}
-use Rattle.std.specs.Borrow.{Bor}
 use Rattle.ba_lex.specs.declared.token.Token.{Token}
 use Rattle.ba_parse.specs.declared.tree.declarations.Declaration.{Declaration}
 use Rattle.ba_parse.specs.declared.tree.expressions.Conditional.{Conditional}
@@ -149,13 +148,13 @@ block-form b = fold-roll-StatementForm Part Part PartList Part Part Part Part Pa
     block_step
     controlled_step do_step else_step for_step statement_step (StatementForm-F.Block b)
 
-pub empty-form : (semicolon : Bor Token) → add_statement_form (form.Empty semicolon) ≡ nothing
+pub empty-form : (semicolon : Token) → add_statement_form (form.Empty semicolon) ≡ nothing
 unfolding add_item add_statement_form add_statement parts_of_block form.roll-StatementForm
     denote.Hole.Carrier.roll
 empty-form semicolon = fold-roll-StatementForm Part Part PartList Part Part Part Part Part item_step form_step
     block_step controlled_step do_step else_step for_step statement_step (StatementForm-F.Empty semicolon)
 
-pub simple-form : (s : Simple) (semicolon : Bor Token) →
+pub simple-form : (s : Simple) (semicolon : Token) →
     add_statement_form (form.Simple s semicolon) ≡ add_simple s
 unfolding add_item add_statement_form add_statement parts_of_block form.roll-StatementForm
     denote.Hole.Carrier.roll
@@ -163,7 +162,7 @@ simple-form s semicolon = fold-roll-StatementForm Part Part PartList Part Part P
     form_step
     block_step controlled_step do_step else_step for_step statement_step (StatementForm-F.Simple s semicolon)
 
-pub if-form : (keyword : Bor Token) (condition : Condition) (holds : Controlled) (fails : Option Else)
+pub if-form : (keyword : Token) (condition : Condition) (holds : Controlled) (fails : Option Else)
     (s : Statement) → s ≡ held holds → fails ≡ None
     → add_statement_form (form.If keyword condition holds fails) ≡ add_if (test_of condition)
     (add_statement s) None
@@ -176,7 +175,7 @@ if-form keyword condition holds fails s is none =
     (StatementForm-F.If keyword condition holds None)
     ∙ ap (λ part. add_if (test_of condition) part None) (controlled-is holds s is)
 
-pub if_else-form : (keyword : Bor Token) (condition : Condition) (holds : Controlled) (fails : Option Else)
+pub if_else-form : (keyword : Token) (condition : Condition) (holds : Controlled) (fails : Option Else)
     (e : Else) (s t : Statement) → s ≡ held holds → fails ≡ Some e → t ≡ held (out-Else e).statement
     → add_statement_form (form.If keyword condition holds fails)
     ≡ add_if (test_of condition) (add_statement s) (Some (add_statement t))
@@ -190,7 +189,7 @@ if_else-form keyword condition holds fails e s t is some other =
     ∙ ap (λ part. add_if (test_of condition) part (Some (add_else e))) (controlled-is holds s is)
     ∙ ap (λ part. add_if (test_of condition) (add_statement s) (Some part)) (else-is e t other)
 
-pub while-form : (keyword : Bor Token) (condition : Condition) (body : Controlled) (s : Statement)
+pub while-form : (keyword : Token) (condition : Condition) (body : Controlled) (s : Statement)
     → s ≡ held body
     → add_statement_form (form.While keyword condition body) ≡ add_while (test_of condition) (add_statement s)
 unfolding add_item add_statement_form add_statement parts_of_block form.roll-StatementForm
@@ -222,16 +221,16 @@ for-form f head s head_is is =
     ∙ for-is f ∙ ap (λ (h : ForHead). statements.add_for h (add_controlled (out-For f).body)) (sym head_is)
     ∙ ap (statements.add_for head) (controlled-is (out-For f).body s is)
 
-pub break-form : (keyword semicolon : Bor Token)
-    → add_statement_form (form.Break keyword semicolon) ≡ add_jump keyword.now.at (jump_of keyword.now)
+pub break-form : (keyword semicolon : Token)
+    → add_statement_form (form.Break keyword semicolon) ≡ add_jump keyword.at (jump_of keyword)
 unfolding add_item add_statement_form add_statement parts_of_block form.roll-StatementForm
     denote.Hole.Carrier.roll
 break-form keyword semicolon = fold-roll-StatementForm Part Part PartList Part Part Part Part Part item_step
     form_step block_step controlled_step do_step else_step for_step statement_step
     (StatementForm-F.Break keyword semicolon)
 
-pub continue-form : (keyword semicolon : Bor Token)
-    → add_statement_form (form.Continue keyword semicolon) ≡ add_jump keyword.now.at (jump_of keyword.now)
+pub continue-form : (keyword semicolon : Token)
+    → add_statement_form (form.Continue keyword semicolon) ≡ add_jump keyword.at (jump_of keyword)
 unfolding add_item add_statement_form add_statement parts_of_block form.roll-StatementForm
     denote.Hole.Carrier.roll
 continue-form keyword semicolon = fold-roll-StatementForm Part Part PartList Part Part Part Part Part
@@ -239,8 +238,8 @@ continue-form keyword semicolon = fold-roll-StatementForm Part Part PartList Par
     form_step block_step controlled_step do_step else_step for_step statement_step
     (StatementForm-F.Continue keyword semicolon)
 
-pub return-form : (keyword : Bor Token) (value : Option Conditional) (semicolon : Bor Token)
-    → add_statement_form (form.Return keyword value semicolon) ≡ add_jump_with keyword.now (optional_typing
+pub return-form : (keyword : Token) (value : Option Conditional) (semicolon : Token)
+    → add_statement_form (form.Return keyword value semicolon) ≡ add_jump_with keyword (optional_typing
     value)
 unfolding add_item add_statement_form add_statement parts_of_block form.roll-StatementForm
     denote.Hole.Carrier.roll
@@ -248,8 +247,8 @@ return-form keyword value semicolon = fold-roll-StatementForm Part Part PartList
     item_step form_step block_step controlled_step do_step else_step for_step statement_step
     (StatementForm-F.Return keyword value semicolon)
 
-pub assert-form : (keyword : Bor Token) (condition : Condition) (semicolon : Bor Token)
-    → add_statement_form (form.Assert keyword condition semicolon) ≡ add_assert keyword.now.at (test_of
+pub assert-form : (keyword : Token) (condition : Condition) (semicolon : Token)
+    → add_statement_form (form.Assert keyword condition semicolon) ≡ add_assert keyword.at (test_of
     condition)
 unfolding add_item add_statement_form add_statement parts_of_block form.roll-StatementForm
     denote.Hole.Carrier.roll
@@ -257,9 +256,9 @@ assert-form keyword condition semicolon = fold-roll-StatementForm Part Part Part
     item_step form_step block_step controlled_step do_step else_step for_step statement_step
     (StatementForm-F.Assert keyword condition semicolon)
 
-pub printf-form : (keyword opener : Bor Token) (printed : Printed) (closer semicolon : Bor Token)
+pub printf-form : (keyword opener : Token) (printed : Printed) (closer semicolon : Token)
     → add_statement_form (form.Printf keyword opener printed closer semicolon)
-    ≡ add_printf keyword.now.at (printed_typings printed)
+    ≡ add_printf keyword.at (printed_typings printed)
 unfolding add_item add_statement_form add_statement parts_of_block form.roll-StatementForm
     denote.Hole.Carrier.roll
 printf-form keyword opener printed closer semicolon = fold-roll-StatementForm Part Part PartList Part Part

@@ -1,6 +1,6 @@
 -- The marks of what holds no statements go as often up as down.
 -- the limit.
-use Rattle.std.proofs.Common.{Option, None, Some, List, [], ◌∷◌, map, option_map, Bor}
+use Rattle.std.proofs.Common.{Option, None, Some, List, [], ◌∷◌, map, option_map}
 use Rattle.ba_lex.specs.declared.token.Token.{Token}
 use Rattle.ba_parse.specs.Marks.{Rule, Mark, leaf, enter, leave, down, up, node_of, one_deeper, levels}
 use Rattle.ba_parse.specs.Views.{joined, optional, optional_leaf, name_marks}
@@ -42,28 +42,28 @@ pub maybe : {A : Type 0} (marks : A → M) → ((x : A) → IsEven (marks x)) �
 maybe marks h None = none
 maybe marks h (Some x) = h x
 
-pub maybe_leaf : (o : Option (Bor Token)) → IsEven (optional_leaf o)
+pub maybe_leaf : (o : Option Token) → IsEven (optional_leaf o)
 maybe_leaf None = none
-maybe_leaf (Some t) = front t.now none
+maybe_leaf (Some t) = front t none
 
-pub words : (ts : List (Bor Token)) → IsEven (map (λ t. leaf t.now) ts)
+pub words : (ts : List Token) → IsEven (map (λ t. leaf t) ts)
 words [] = none
-words (t ∷ ts) = front t.now (words ts)
+words (t ∷ ts) = front t (words ts)
 
 pub length_even : (a : ArrayLength) → IsEven (array_length_marks a)
-length_even a = inside Rattle.ba_parse.specs.Marks.array_length (front a.«open».now (both (deeper
+length_even a = inside Rattle.ba_parse.specs.Marks.array_length (front a.«open» (both (deeper
     (maybe conditional_marks conditional_even a.length))
-    (front a.close.now none)))
+    (front a.close none)))
 
 pub initialiser_even : (i : Initialiser) → IsEven (initialiser_marks i)
-initialiser_even (initialiser.Expression assign value) = front assign.now (conditional_even value)
-initialiser_even (initialiser.Braced assign b) = front assign.now (inside Rattle.ba_parse.specs.Marks.braced
-    (front b.«open».now
+initialiser_even (initialiser.Expression assign value) = front assign (conditional_even value)
+initialiser_even (initialiser.Braced assign b) = front assign (inside Rattle.ba_parse.specs.Marks.braced
+    (front b.«open»
     (both (both (both (conditional_even b.first) (row next_expression_marks next_even b.rest.items))
-    (maybe_leaf b.comma)) (front b.close.now none))))
+    (maybe_leaf b.comma)) (front b.close none))))
 
 pub declarator_even : (d : Declarator) → IsEven (declarator_marks d)
-declarator_even d = inside Rattle.ba_parse.specs.Marks.declarator (front d.name.now (both
+declarator_even d = inside Rattle.ba_parse.specs.Marks.declarator (front d.name (both
     (maybe array_length_marks length_even d.length)
     (maybe initialiser_marks initialiser_even d.initialiser)))
 
@@ -74,9 +74,9 @@ pub declarators_even : (d : Declarators) → IsEven (declarators_marks d)
 declarators_even d = inside Rattle.ba_parse.specs.Marks.declarators
     (row listed_declarator_marks listed_even d.all.items)
 
-pub name_even : (o : Option (Bor Token)) → IsEven (name_marks o)
+pub name_even : (o : Option Token) → IsEven (name_marks o)
 name_even None = inside Rattle.ba_parse.specs.Marks.no_name none
-name_even (Some t) = front t.now none
+name_even (Some t) = front t none
 
 pub parameter_even : (q : Parameter) → IsEven (parameter_marks q)
 parameter_even q = inside Rattle.ba_parse.specs.Marks.parameter (both (both (type_even q.type_name)
@@ -84,7 +84,7 @@ parameter_even q = inside Rattle.ba_parse.specs.Marks.parameter (both (both (typ
     (maybe array_length_marks length_even q.length))
 
 pub next_parameter_even : (n : NextParameter) → IsEven (next_parameter_marks n)
-next_parameter_even n = front n.comma.now (parameter_even n.parameter)
+next_parameter_even n = front n.comma (parameter_even n.parameter)
 
 pub list_even : (l : ParameterList) → IsEven (parameter_list_marks l)
 list_even l = both (parameter_even l.first) (row next_parameter_marks next_parameter_even l.rest.items)
@@ -94,23 +94,23 @@ parameters_even ps = inside Rattle.ba_parse.specs.Marks.parameters
     (maybe parameter_list_marks list_even ps.list)
 
 pub index_even : (i : Index) → IsEven (index_marks i)
-index_even i = front i.«open».now (both (deeper (conditional_even i.value.value)) (front i.close.now none))
+index_even i = front i.«open» (both (deeper (conditional_even i.value.value)) (front i.close none))
 
 pub target_even : (t : Target) → IsEven (target_marks t)
-target_even t = inside Rattle.ba_parse.specs.Marks.target (front t.name.now
+target_even t = inside Rattle.ba_parse.specs.Marks.target (front t.name
     (maybe index_marks index_even t.index))
 
 pub simple_even : (s : Simple) → IsEven (simple_marks s)
 simple_even (simple.Assign place operator value) = inside Rattle.ba_parse.specs.Marks.simple (both
-    (target_even place) (front operator.now
+    (target_even place) (front operator
     (conditional_even value)))
 simple_even (simple.Step place operator) = inside Rattle.ba_parse.specs.Marks.simple (both
-    (target_even place) (front operator.now none))
+    (target_even place) (front operator none))
 simple_even (simple.PrefixStep operator place) = inside Rattle.ba_parse.specs.Marks.simple
-    (front operator.now (target_even place))
+    (front operator (target_even place))
 simple_even (simple.Call name opener arguments closer) = inside Rattle.ba_parse.specs.Marks.simple
-    (front name.now (front opener.now
-    (both (deeper (arguments_even arguments)) (front closer.now none))))
+    (front name (front opener
+    (both (deeper (arguments_even arguments)) (front closer none))))
 
 pub listed_simple_even : (l : ListedSimple) → IsEven (listed_simple_marks l)
 listed_simple_even l = both (maybe_leaf l.comma) (simple_even l.simple)
@@ -120,7 +120,7 @@ simples_even s = inside Rattle.ba_parse.specs.Marks.simples (row listed_simple_m
     s.all.items)
 
 pub condition_even : (c : Condition) → IsEven (condition_marks c)
-condition_even c = front c.«open».now (both (deeper (conditional_even c.test.value)) (front c.close.now none))
+condition_even c = front c.«open» (both (deeper (conditional_even c.test.value)) (front c.close none))
 
 pub first_even : (f : ForFirst) → IsEven (for_first_marks f)
 first_even (first.Declaration name declarators) = inside Rattle.ba_parse.specs.Marks.for_first (both
@@ -129,10 +129,10 @@ first_even (first.Simples s) = inside Rattle.ba_parse.specs.Marks.for_first (sim
 first_even first.Nothing = inside Rattle.ba_parse.specs.Marks.for_first none
 
 pub head_even : (f : ForHead) → IsEven (for_head_marks f)
-head_even f = both (both (first_even f.first) (front f.first_semicolon.now
-    (maybe conditional_marks conditional_even f.test))) (front f.second_semicolon.now
+head_even f = both (both (first_even f.first) (front f.first_semicolon
+    (maybe conditional_marks conditional_even f.test))) (front f.second_semicolon
     (maybe simples_marks simples_even f.step))
 
 pub printed_even : (q : Printed) → IsEven (printed_marks q)
-printed_even q = front q.first.now (both (words q.rest.items)
+printed_even q = front q.first (both (words q.rest.items)
     (row next_expression_marks next_even q.values.items))

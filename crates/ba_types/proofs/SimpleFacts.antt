@@ -66,8 +66,8 @@ module _ (p : Parts) (owned : List VarId) (f : Function) (inside : Bool) where
       → IsPart p owned f inside (add_assignment at target op typing)
   assignment_part at target op typing h = record {
     piece = record {
-      by = λ scope in_scope n. assigned p owned f inside at target.name.now.at
-          (name_of target.name.now) op typing h scope
+      by = λ scope in_scope n. assigned p owned f inside at target.name.at
+          (name_of target.name) op typing h scope
           in_scope n (index_typing target.index) (index_is target.index);
     };
     counted = λ scope n none. none_counted _ refl refl;
@@ -109,13 +109,13 @@ module _ (p : Parts) (owned : List VarId) (f : Function) (inside : Bool) where
   }
 
   pub simple_part : (s : Simple) → IsPart p owned f inside (add_simple s)
-  simple_part (form.Assign target operator value) = assignment_part target.name.now.at target
-      (operator_at operator.now) (typed_conditional value) (conditional_typing p owned value)
-  simple_part (form.Step target operator) = assignment_part target.name.now.at target
-      (operator_at operator.now) (one operator.now.at) (one_typing operator.now.at)
-  simple_part (form.PrefixStep operator target) = assignment_part operator.now.at target
-      (operator_at operator.now) (one operator.now.at) (one_typing operator.now.at)
-  simple_part (form.Call name opener arguments closer) = call_part name.now.at (name_of name.now)
+  simple_part (form.Assign target operator value) = assignment_part target.name.at target
+      (operator_at operator) (typed_conditional value) (conditional_typing p owned value)
+  simple_part (form.Step target operator) = assignment_part target.name.at target
+      (operator_at operator) (one operator.at) (one_typing operator.at)
+  simple_part (form.PrefixStep operator target) = assignment_part operator.at target
+      (operator_at operator) (one operator.at) (one_typing operator.at)
+  simple_part (form.Call name opener arguments closer) = call_part name.at (name_of name)
       (typed_arguments arguments) (arguments_typing p owned arguments)
 
   simple_parts : (ss : List ListedSimple)

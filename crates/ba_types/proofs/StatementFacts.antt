@@ -222,16 +222,16 @@ module _ (p : program.Parts) (owned : List VarId) (f : Function) where
       while_part p owned f (test_of condition) (test_typing condition) (add_controlled body.0) body.1
   form_form (StatementForm-F.DoWhile d) = d.1
   form_form (StatementForm-F.For s) = s.1
-  form_form (StatementForm-F.Break keyword semicolon) = jump_statement keyword.now None tt
-  form_form (StatementForm-F.Continue keyword semicolon) = jump_statement keyword.now None tt
+  form_form (StatementForm-F.Break keyword semicolon) = jump_statement keyword None tt
+  form_form (StatementForm-F.Continue keyword semicolon) = jump_statement keyword None tt
   form_form (StatementForm-F.Return keyword value semicolon) =
-      jump_statement keyword.now (optional_typing value) (value_typing value)
+      jump_statement keyword (optional_typing value) (value_typing value)
   form_form (StatementForm-F.Assert keyword condition semicolon) = record {
-    fits = assert_part p owned f true keyword.now.at (test_of condition) (test_typing condition);
+    fits = assert_part p owned f true keyword.at (test_of condition) (test_typing condition);
     single = λ scope n. omega arith;
   }
   form_form (StatementForm-F.Printf keyword opener printed closer semicolon) = record {
-    fits = printf_part p owned f true keyword.now.at (printed_typings printed)
+    fits = printf_part p owned f true keyword.at (printed_typings printed)
         (next_typings printed.values.items);
     single = λ scope n. omega arith;
   }

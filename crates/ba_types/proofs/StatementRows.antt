@@ -1,5 +1,5 @@
 -- Statements, read back: the row of each type of the parser's trees, by induction on the trees.
-use Rattle.std.proofs.Common.{◌≡◌, Option, None, Some, List, [], ◌∷◌, ◌++◌, map, refl, sym, ◌∙◌, ap, subst, Bor}
+use Rattle.std.proofs.Common.{◌≡◌, Option, None, Some, List, [], ◌∷◌, ◌++◌, map, refl, sym, ◌∙◌, ap, subst}
 use Rattle.std.proofs.lemmas.List.{append-nil}
 use Rattle.ba_lex.specs.declared.token.Token.{Token}
 use Rattle.ba_parse.specs.Marks.{Mark, leaf}
@@ -245,56 +245,56 @@ item_form : (y : Pieces BlockItem-F) →
 item_form (BlockItem-F.Declaration d) = record { item = _; reads = declaration_row d; is = refl }
 item_form (BlockItem-F.Statement s) = record { item = _; reads = s.1; is = refl }
 
-returned : (keyword semicolon : Bor Token) (o : Option Conditional)
-    → statement_of (token keyword.now ∷ conditional_items (optional_typing o) ++ token semicolon.now ∷ [])
-    ≡ statements.add_jump_with keyword.now (optional_typing o)
+returned : (keyword semicolon : Token) (o : Option Conditional)
+    → statement_of (token keyword ∷ conditional_items (optional_typing o) ++ token semicolon ∷ [])
+    ≡ statements.add_jump_with keyword (optional_typing o)
 returned keyword semicolon None = refl
 returned keyword semicolon (Some c) = refl
 
 form_form : (y : Pieces StatementForm-F) →
     IsForm (marks.form_step (marked_form (bare_form y))) (form_step (added_form (bare_form y)))
 form_form (StatementForm-F.Block items) = record { row = _; reads = items.1; is = refl }
-form_form (StatementForm-F.Empty semicolon) = record { row = _; reads = front semicolon.now none; is = refl }
+form_form (StatementForm-F.Empty semicolon) = record { row = _; reads = front semicolon none; is = refl }
 form_form (StatementForm-F.Simple s semicolon) =
-    record { row = _; reads = both (simple_row s) (front semicolon.now none); is = refl }
+    record { row = _; reads = both (simple_row s) (front semicolon none); is = refl }
 form_form (StatementForm-F.If keyword condition holds None) = record {
   row = _;
-  reads = front keyword.now (both (both (condition_row condition) holds.1) (inside rule.no_else none));
+  reads = front keyword (both (both (condition_row condition) holds.1) (inside rule.no_else none));
   is = refl;
 }
 form_form (StatementForm-F.If keyword condition holds (Some fails)) = record {
   row = _;
-  reads = front keyword.now (both (both (condition_row condition) holds.1) fails.1.reads);
+  reads = front keyword (both (both (condition_row condition) holds.1) fails.1.reads);
   is = refl;
 }
 form_form (StatementForm-F.While keyword condition body) = record {
   row = _;
-  reads = front keyword.now (both (condition_row condition) body.1);
+  reads = front keyword (both (condition_row condition) body.1);
   is = refl;
 }
 form_form (StatementForm-F.DoWhile d) = d.1
 form_form (StatementForm-F.For s) = s.1
 form_form (StatementForm-F.Break keyword semicolon) =
-    record { row = _; reads = front keyword.now (front semicolon.now none); is = refl }
+    record { row = _; reads = front keyword (front semicolon none); is = refl }
 form_form (StatementForm-F.Continue keyword semicolon) =
-    record { row = _; reads = front keyword.now (front semicolon.now none); is = refl }
+    record { row = _; reads = front keyword (front semicolon none); is = refl }
 form_form (StatementForm-F.Return keyword value semicolon) = record {
   row = _;
-  reads = front keyword.now (both (optional_row value) (front semicolon.now none));
+  reads = front keyword (both (optional_row value) (front semicolon none));
   is = returned keyword semicolon value;
 }
 form_form (StatementForm-F.Assert keyword condition semicolon) = record {
   row = _;
-  reads = front keyword.now (both (condition_row condition) (front semicolon.now none));
+  reads = front keyword (both (condition_row condition) (front semicolon none));
   is = refl;
 }
 form_form (StatementForm-F.Printf keyword opener printed closer semicolon) =
     let p = printed_row printed in
-    let end = token closer.now ∷ token semicolon.now ∷ [] in record {
+    let end = token closer ∷ token semicolon ∷ [] in record {
       row = _;
-      reads = front keyword.now (front opener.now (both (deeper p.reads) (front closer.now (front
-          semicolon.now none))));
-      is = ap (add_printf keyword.now.at) (items_append as_conditional p.row end
+      reads = front keyword (front opener (both (deeper p.reads) (front closer (front
+          semicolon none))));
+      is = ap (add_printf keyword.at) (items_append as_conditional p.row end
           ∙ append-nil (items_of as_conditional p.row) ∙ p.are);
     }
 
@@ -311,9 +311,9 @@ items_row (x ∷ xs) = let rest = items_row xs in record {
 block_form : (y : Pieces Block-F) →
     IsBlock (marks.block_step (marked_block (bare_block y))) (block_step (added_block (bare_block y)))
 block_form y = let all = items_row y.items.items in
-    as_row (ap (λ ps. block ps ∷ []) (items_append as_block_item all.row (token y.close.now ∷ [])
+    as_row (ap (λ ps. block ps ∷ []) (items_append as_block_item all.row (token y.close ∷ [])
     ∙ append-nil (items_of as_block_item all.row) ∙ all.are))
-    (inside rule.block (front y.«open».now (both (deeper all.reads) (front y.close.now none))))
+    (inside rule.block (front y.«open» (both (deeper all.reads) (front y.close none))))
 
 controlled_form : (y : Pieces Controlled-F) →
     IsStatement (marks.controlled_step (marked_controlled (bare_controlled y)))
@@ -324,26 +324,26 @@ do_form : (y : Pieces DoWhile-F) →
     IsForm (marks.do_step (marked_do (bare_do y))) (do_step (added_do (bare_do y)))
 do_form y = record {
   row = _;
-  reads = front y.keyword.now (both (both y.body.1 (front y.while_keyword.now (condition_row y.condition)))
-      (front y.semicolon.now none));
+  reads = front y.keyword (both (both y.body.1 (front y.while_keyword (condition_row y.condition)))
+      (front y.semicolon none));
   is = refl;
 }
 
 else_form : (y : Pieces Else-F) →
     IsElse (marks.else_step (marked_else (bare_else y))) (else_step (added_else (bare_else y)))
-else_form y = record { keyword = y.keyword.now; reads = front y.keyword.now y.statement.1 }
+else_form y = record { keyword = y.keyword; reads = front y.keyword y.statement.1 }
 
 -- the row of a head, and of the body behind it
-abbrev head_items : ForFirst → Bor Token → Option Conditional → Bor Token → Option Simples → Row
+abbrev head_items : ForFirst → Token → Option Conditional → Token → Option Simples → Row
 head_items f first test second step = ((for_first (for_scope f) (add_first f) ∷ [])
-    ++ (token first.now ∷ conditional_items (optional_typing test))) ++ (token second.now ∷ simples_items
+    ++ (token first ∷ conditional_items (optional_typing test))) ++ (token second ∷ simples_items
     step)
 
-looped : (keyword opener : Bor Token) (f : ForFirst) (first : Bor Token) (test : Option Conditional)
-    (second : Bor Token)
-    (step : Option Simples) (closer : Bor Token) (body : Part)
-    → statement_of (token keyword.now ∷ token opener.now ∷ (head_items f first test second step
-    ++ token closer.now ∷ statement body ∷ []))
+looped : (keyword opener : Token) (f : ForFirst) (first : Token) (test : Option Conditional)
+    (second : Token)
+    (step : Option Simples) (closer : Token) (body : Part)
+    → statement_of (token keyword ∷ token opener ∷ (head_items f first test second step
+    ++ token closer ∷ statement body ∷ []))
     ≡ statements.add_for (record {
       first = f;
       first_semicolon = first;
@@ -359,14 +359,14 @@ looped keyword opener f first (Some c) second (Some s) closer body = refl
 
 head_row : (h : ForHead) →
     Reads (for_head_marks h) (head_items h.first h.first_semicolon h.test h.second_semicolon h.step)
-head_row h = both (both (first_row h.first) (front h.first_semicolon.now (optional_row h.test)))
-    (front h.second_semicolon.now (step_row h.step))
+head_row h = both (both (first_row h.first) (front h.first_semicolon (optional_row h.test)))
+    (front h.second_semicolon (step_row h.step))
 
 for_form : (y : Pieces For-F) →
     IsForm (marks.for_step (marked_for (bare_for y))) (for_step (added_for (bare_for y)))
 for_form y = let h = y.head.value in record {
   row = _;
-  reads = front y.keyword.now (front y.«open».now (both (deeper (head_row h)) (front y.close.now y.body.1)));
+  reads = front y.keyword (front y.«open» (both (deeper (head_row h)) (front y.close y.body.1)));
   is = looped y.keyword y.«open» h.first h.first_semicolon h.test h.second_semicolon h.step y.close
       (add_controlled y.body.0);
 }

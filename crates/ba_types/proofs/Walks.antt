@@ -7,10 +7,6 @@ use Rattle.std.proofs.Common.{
   ◌+◌,
   ◌<◌,
   ◌≤◌,
-  Bool,
-  true,
-  false,
-  ◌||◌,
   List,
   [],
   ◌∷◌,
@@ -23,12 +19,10 @@ use Rattle.std.proofs.Common.{
   sym,
   ◌∙◌,
   ap,
-  subst,
   arith,
   append_assoc,
   append-nil,
 }
-use Rattle.std.specs.List.{list_any}
 use Rattle.std.proofs.Math.Seq.{drop-cons}
 
 -- the item at a place begins what is left from there
@@ -36,20 +30,6 @@ pub next_item : {A : Type 0} (xs : List A) (i : ℕ) (x : A) → i < length xs �
     → drop i xs ≡ x ∷ drop (i + 1) xs
 next_item xs i x within is = let next : suc i ≡ i + 1 = omega arith in
     drop-cons xs i x within ∙ ap (λ y. y ∷ drop (suc i) xs) (sym is) ∙ ap (λ j. x ∷ drop j xs) next
-
--- a test of each item, from a place
-module _ {A B : Type 0} (view : A → B) (test : B → Bool) (xs : List A) (i : ℕ) (x : A)
-    (within : i < length xs) (is : x ≡ get_or xs i x) (whole : Bool)
-    (rest : list_any test (map view (drop i xs)) ≡ whole) where
-  from_here : (b : Bool) → test (view x) ≡ b → (b || list_any test (map view (drop (i + 1) xs))) ≡ whole
-  from_here b tested = subst (λ c. (c || list_any test (map view (drop (i + 1) xs))) ≡ whole) tested
-      (subst (λ ys. list_any test (map view ys) ≡ whole) (next_item xs i x within is) rest)
-
-  pub found_here : test (view x) ≡ true → true ≡ whole
-  found_here found = from_here true found
-
-  pub not_here : test (view x) ≡ false → list_any test (map view (drop (i + 1) xs)) ≡ whole
-  not_here none = from_here false none
 
 -- nothing is left at the end
 pub none_left : {A : Type 0} (xs : List A) (i : ℕ) → length xs ≤ i → drop i xs ≡ []

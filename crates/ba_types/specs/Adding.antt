@@ -181,7 +181,7 @@ GivesTest s scope old new t = (t.stmt ≡ next_stmt (before_of old)) × (tree_of
 
 -- what there is to say of it in a scope, behind so many calls
 abbrev pub typed_target_of : Target → Scope → ℕ → TypedTarget
-typed_target_of target = typed_target target.name.now.at (name_of target.name.now) (index_typing target.index)
+typed_target_of target = typed_target target.name.at (name_of target.name) (index_typing target.index)
 
 -- the tree of an index, which is promoted
 abbrev pub index_tree : Typed → ExprTree

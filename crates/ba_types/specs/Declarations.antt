@@ -268,12 +268,12 @@ count_of_values = option_map (λ init. length (values_of init))
 -- A declarator, of a type; `void` is at fault. The variable is known from the end of its declarator on, in its initialiser too.
 abbrev pub add_declarator : List Signature → Option CType → Declarator → Part
 add_declarator functions t d scope n =
-    let at = d.name.now.at in
+    let at = d.name.at in
     let v : VarId = record { 0 = n.variables } in
     let s = unwrap_or t I32 in
     let l = typed_array_length at (count_of_values d.initialiser) scope n.calls d.length in
     (add_length at l
-    then add_variable functions at (name_of d.name.now) (record { t = s; shape = shape_of l })
+    then add_variable functions at (name_of d.name) (record { t = s; shape = shape_of l })
     then add_declare v
     then add_optional_initialiser at v s l d.initialiser
     then (λ scope n. faults_added (void_faults t at))) scope n

@@ -343,21 +343,21 @@ pub record OperandTyping : Type 0 where
 
 abbrev pub primary_step : Primary-F Typing Typing Typings BranchTypings ChainTyping Typing Typings Typing
     OperandTyping → Typing
-primary_step (Primary-F.Name name) scope calls = typed_token name.now scope calls
+primary_step (Primary-F.Name name) scope calls = typed_token name scope calls
 primary_step (Primary-F.Element name opener index closer) scope calls =
-    typed_element name.now.at (meaning_of scope (name_of name.now)) (index.value scope calls)
+    typed_element name.at (meaning_of scope (name_of name)) (index.value scope calls)
 primary_step (Primary-F.Call name opener arguments closer) scope calls =
-    typed_called name.now.at (typed_call true name.now.at (name_of name.now) arguments scope calls)
-primary_step (Primary-F.Constant constant) scope calls = typed_token constant.now scope calls
+    typed_called name.at (typed_call true name.at (name_of name) arguments scope calls)
+primary_step (Primary-F.Constant constant) scope calls = typed_token constant scope calls
 primary_step (Primary-F.Parenthesized opener expression closer) scope calls =
-    parenthesized opener.now.at expression.value scope calls
+    parenthesized opener.at expression.value scope calls
 
 abbrev pub unary_step : Unary-F Typing Typing Typings BranchTypings ChainTyping Typing Typings Typing
     OperandTyping → Typing
 unary_step (Unary-F.Prefix operator operand) scope calls =
-    typed_unary operator.now.at (unary_operator (punct_of operator.now)) (operand.value scope calls)
+    typed_unary operator.at (unary_operator (punct_of operator)) (operand.value scope calls)
 unary_step (Unary-F.Cast opener name closer operand) scope calls =
-    typed_cast opener.now.at (type_named name) (operand.value scope calls)
+    typed_cast opener.at (type_named name) (operand.value scope calls)
 unary_step (Unary-F.Primary p) scope calls = p scope calls
 
 abbrev pub arguments_step : Arguments-F Typing Typing Typings BranchTypings ChainTyping Typing Typings
@@ -402,7 +402,7 @@ rest_of_chain (Some rest) = rest.value ∷ []
 
 abbrev pub chain_step : Chain-F Typing Typing Typings BranchTypings ChainTyping Typing Typings Typing
     OperandTyping → ChainTyping
-chain_step c = chain_of c.level (binary_operator (punct_of c.operator.now)) c.operand.first
+chain_step c = chain_of c.level (binary_operator (punct_of c.operator)) c.operand.first
     (c.operand.chains ++ rest_of_chain c.rest)
 
 abbrev pub with_branches : Typing → Option BranchTypings → Typing

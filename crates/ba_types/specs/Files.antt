@@ -1,7 +1,6 @@
 -- Functions and files (C90 6.7), and the typed program of a tree.
 
 use Rattle.std.specs.Prelude.{◌≡◌, ℕ, ◌+◌, Bool, true, false, not, ◌&&◌, ◌||◌, cond, Option, None, Some, option_map, unwrap_or, List, [], ◌∷◌, ◌++◌, map, filter, length, Result, Ok, Err}
-use Rattle.std.specs.Borrow.{Bor}
 use Rattle.std.specs.List.{list_all, list_any, range_with_len}
 use Rattle.std.specs.Option.{is_some}
 use Rattle.ba_lex.specs.declared.token.Token.{Token}
@@ -81,7 +80,7 @@ says_params e ps = is_definition e || is_some ps.list
 abbrev pub signature_of_form : ℕ → Option CType → ExternalForm → Option Signature
 signature_of_form definitions result (form.Variables declarators semicolon) = None
 signature_of_form definitions result (form.Function name opener params closer e) = Some (record {
-  name = name_of name.now;
+  name = name_of name;
   result = result;
   params = cond (says_params e params) (Some (map type_of_param (params_of params))) None;
   is_definition = is_definition e;
@@ -162,13 +161,13 @@ abbrev pub first_at : List Token → At → At
 first_at [] other = other
 first_at (w ∷ ws) other = w.at
 
-abbrev pub place_of_name : At → Option (Bor Token) → At
+abbrev pub place_of_name : At → Option Token → At
 place_of_name other None = other
-place_of_name other (Some name) = name.now.at
+place_of_name other (Some name) = name.at
 
-abbrev pub name_of_param : Option (Bor Token) → List ℕ
+abbrev pub name_of_param : Option Token → List ℕ
 name_of_param None = []
-name_of_param (Some name) = name_of name.now
+name_of_param (Some name) = name_of name
 
 abbrev pub place_of_param : At → Parameter → At
 place_of_param other p = place_of_name (first_at (words_of p.type_name) other) p.name
@@ -270,7 +269,7 @@ add_external_form t (form.Variables declarators semicolon) s file earlier n =
 add_external_form t (form.Function name opener params closer e) None file earlier n =
     record { added = nothing_added; functions = [] }
 add_external_form t (form.Function name opener params closer e) (Some s) file earlier n =
-    add_function name.now.at s (params_of params) e file earlier n
+    add_function name.at s (params_of params) e file earlier n
 
 abbrev pub add_external : External → Option Signature → Scope → List Signature → Before → FileAdded
 add_external x s = add_external_form (type_named x.name) x.form s

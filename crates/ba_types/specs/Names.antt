@@ -1,7 +1,6 @@
 -- What the names, words and operators of a program mean.
 
 use Rattle.std.specs.Prelude.{ℕ, Bool, true, ◌&&◌, ◌==◌, cond, nat_eq, ◌+◌, ◌++◌, Option, None, Some, List, [], ◌∷◌, map}
-use Rattle.std.specs.Borrow.{Bor}
 use Rattle.std.specs.List.{list_any}
 use Rattle.std.specs.Cmp.Lexicographic.{pointwise}
 use Rattle.ba_lex.specs.declared.token.Token.{Token}
@@ -61,7 +60,7 @@ type_of_words words = let is_unsigned = has_word words keyword.Unsigned in
     (cond (has_word words keyword.Short) (by_sign is_unsigned I16 U16) (by_sign is_unsigned I32 U32))))
 
 abbrev pub words_of : TypeName → List Token
-words_of name = map (λ (w : Bor Token). w.now) name.words.items
+words_of name = name.words.items
 
 abbrev pub type_named : TypeName → Option CType
 type_named name = type_of_words (words_of name)

@@ -92,8 +92,8 @@ kind_of_target (Some index) = kind.Store
 -- an assignment whose statement begins at `at` and whose variable's name stands at `name_at`
 abbrev pub add_assignment : At → Target → Option BinOp → Typing → Part
 add_assignment at target op typing scope n =
-    let name_at = target.name.now.at in
-    let place = typed_target name_at (name_of target.name.now) (index_typing target.index) scope n.calls in
+    let name_at = target.name.at in
+    let place = typed_target name_at (name_of target.name) (index_typing target.index) scope n.calls in
     let e = typing scope (n.calls + place.expression.calls) in
     let whole = changed op place.expression e in
     numbered n at (kind_of_target place.index) (assigned_tree (next_stmt n) place whole)
@@ -116,13 +116,13 @@ operator_at token = changing_operator (punct_of token)
 
 abbrev pub add_simple : Simple → Part
 add_simple (form.Assign target operator value) =
-    add_assignment target.name.now.at target (operator_at operator.now) (typed_conditional value)
-add_simple (form.Step target operator) = add_assignment target.name.now.at target (operator_at operator.now)
-    (one operator.now.at)
+    add_assignment target.name.at target (operator_at operator) (typed_conditional value)
+add_simple (form.Step target operator) = add_assignment target.name.at target (operator_at operator)
+    (one operator.at)
 add_simple (form.PrefixStep operator target) =
-    add_assignment operator.now.at target (operator_at operator.now) (one operator.now.at)
+    add_assignment operator.at target (operator_at operator) (one operator.at)
 add_simple (form.Call name opener arguments closer) =
-    add_call name.now.at (name_of name.now) (typed_arguments arguments)
+    add_call name.at (name_of name) (typed_arguments arguments)
 
 abbrev pub add_simples : Simples → Part
 add_simples s = in_order (map (λ (l : ListedSimple). add_simple l.simple) s.all.items)
@@ -196,7 +196,7 @@ for_test_or at None = one at
 for_test_or at (Some e) = typed_conditional e
 
 abbrev pub for_test : ForHead → Typing
-for_test head = for_test_or head.second_semicolon.now.at head.test
+for_test head = for_test_or head.second_semicolon.at head.test
 
 abbrev pub add_for : ForHead → Part → Part
 add_for head body outside n =
@@ -285,12 +285,12 @@ form_step (StatementForm-F.If keyword condition holds fails) = add_if (test_of c
 form_step (StatementForm-F.While keyword condition body) = add_while (test_of condition) body
 form_step (StatementForm-F.DoWhile d) = d
 form_step (StatementForm-F.For f) = f
-form_step (StatementForm-F.Break keyword semicolon) = add_jump_with keyword.now None
-form_step (StatementForm-F.Continue keyword semicolon) = add_jump_with keyword.now None
-form_step (StatementForm-F.Return keyword value semicolon) = add_jump_with keyword.now (optional_typing value)
-form_step (StatementForm-F.Assert keyword condition semicolon) = add_assert keyword.now.at (test_of condition)
+form_step (StatementForm-F.Break keyword semicolon) = add_jump_with keyword None
+form_step (StatementForm-F.Continue keyword semicolon) = add_jump_with keyword None
+form_step (StatementForm-F.Return keyword value semicolon) = add_jump_with keyword (optional_typing value)
+form_step (StatementForm-F.Assert keyword condition semicolon) = add_assert keyword.at (test_of condition)
 form_step (StatementForm-F.Printf keyword opener printed closer semicolon) =
-    add_printf keyword.now.at (printed_typings printed)
+    add_printf keyword.at (printed_typings printed)
 
 abbrev pub block_step : Block-F Part Part PartList Part Part Part Part Part → PartList
 block_step b = b.items.items

@@ -55,7 +55,7 @@ fn var_of(meaning: &Meaning) -> VarId
 }
 
 /// A variable as what is assigned to.
-fn variable_target<'a>(scope: &Scope<'a>, name: &Token<'a>, tally: &mut Tally) -> JudgedTarget
+fn variable_target<'a>(scope: &Scope<'a>, name: &'a Token, tally: &mut Tally) -> JudgedTarget
     ensures { GivesTarget name.now.at name.now.at None
         (typed_target name.now.at (name_of name.now) None scope.now tally.old.calls)
         tally.old tally.new result }
@@ -93,8 +93,8 @@ fn element_target<'a>(
     scope: &Scope<'a>,
     at: At,
     op: Option<BinOp>,
-    name: &Token<'a>,
-    index: &Conditional<'a>,
+    name: &'a Token,
+    index: &'a Conditional,
     tally: &mut Tally,
 ) -> Result<JudgedTarget, AllocError>
     ensures { IfOk result (λ j. GivesTarget at name.now.at op
@@ -124,15 +124,15 @@ fn target_of<'a>(
     scope: &Scope<'a>,
     at: At,
     op: Option<BinOp>,
-    target: &Target<'a>,
+    target: &'a Target,
     tally: &mut Tally,
 ) -> Result<JudgedTarget, AllocError>
-    ensures { IfOk result (λ j. GivesTarget at target.now.name.now.at op
+    ensures { IfOk result (λ j. GivesTarget at target.now.name.at op
         (typed_target_of target.now scope.now tally.old.calls) tally.old tally.new j) }
 {
     match &target.index {
-        None => Ok(variable_target(scope, target.name, tally)),
-        Some(index) => element_target(alloc, scope, at, op, target.name, &index.value, tally),
+        None => Ok(variable_target(scope, &target.name, tally)),
+        Some(index) => element_target(alloc, scope, at, op, &target.name, &index.value, tally),
     }
 }
 
@@ -143,13 +143,13 @@ fn target_of<'a>(
 fn target_value<'a>(
     alloc: Global,
     scope: &Scope<'a>,
-    target: &Target<'a>,
+    target: &'a Target,
     mut tally: Tally,
 ) -> Result<Judged<'a>, AllocError>
     ensures { IfOk result (λ j. Judges j
         (typed_target_of target.now scope.now tally.calls).expression) }
 {
-    let name = name_of(target.name);
+    let name = name_of(&target.name);
     let meaning = scope.meaning_of(&name);
     match &target.index {
         None => judged::name(target.name.at, name, &meaning),
@@ -167,7 +167,7 @@ fn changed<'a>(
     alloc: Global,
     scope: &Scope<'a>,
     op: Option<BinOp>,
-    target: &Target<'a>,
+    target: &'a Target,
     before: Tally,
     value: Judged<'a>,
 ) -> Result<Judged<'a>, AllocError>
@@ -238,15 +238,15 @@ fn put_assignment<'a>(
 /// The one error is want of memory, which also stands for want of numbers.
 fn add_assign<'a>(
     alloc: Global,
-    target: &Target<'a>,
-    operator: &Token<'a>,
-    value: &Conditional<'a>,
+    target: &'a Target,
+    operator: &'a Token,
+    value: &'a Conditional,
     scope: &Scope<'a>,
     work: &mut Work,
     stmts: &mut Vec<Stmt>,
 ) -> Result<(), AllocError>
     ensures { OnOk result (state scope.now work.new stmts.new
-        ≡ behind_part (add_assignment target.now.name.now.at target.now (operator_at operator.now)
+        ≡ behind_part (add_assignment target.now.name.at target.now (operator_at operator.now)
         (typed_conditional value.now)) (state scope.now work.old stmts.old)) }
 {
     let at = target.name.at;
@@ -264,8 +264,8 @@ fn add_assign<'a>(
 fn add_step<'a>(
     alloc: Global,
     at: At,
-    target: &Target<'a>,
-    operator: &Token<'a>,
+    target: &'a Target,
+    operator: &'a Token,
     scope: &Scope<'a>,
     work: &mut Work,
     stmts: &mut Vec<Stmt>,
@@ -287,8 +287,8 @@ fn add_step<'a>(
 /// The one error is want of memory, which also stands for want of numbers.
 fn add_call<'a>(
     alloc: Global,
-    name: &Token<'a>,
-    arguments: &Arguments<'a>,
+    name: &'a Token,
+    arguments: &'a Arguments,
     scope: &Scope<'a>,
     work: &mut Work,
     stmts: &mut Vec<Stmt>,
@@ -315,7 +315,7 @@ fn add_call<'a>(
 /// The one error is want of memory, which also stands for want of numbers.
 pub(crate) fn add_simple<'a>(
     alloc: Global,
-    simple: &Simple<'a>,
+    simple: &'a Simple,
     scope: &Scope<'a>,
     work: &mut Work,
     stmts: &mut Vec<Stmt>,
@@ -348,7 +348,7 @@ pub(crate) fn add_simple<'a>(
 /// The one error is want of memory, which also stands for want of numbers.
 pub(crate) fn add_simples<'a>(
     alloc: Global,
-    simples: &Simples<'a>,
+    simples: &'a Simples,
     scope: &Scope<'a>,
     work: &mut Work,
     stmts: &mut Vec<Stmt>,

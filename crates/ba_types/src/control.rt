@@ -50,7 +50,7 @@ pub struct Head {
 /// The one error is want of memory, which also stands for want of numbers.
 fn add_test<'a>(
     alloc: Global,
-    c: &Conditional<'a>,
+    c: &'a Conditional,
     scope: &Scope<'a>,
     work: &mut Work,
 ) -> Result<Test, AllocError>
@@ -67,7 +67,7 @@ fn add_test<'a>(
 /// The same, in its parentheses.
 pub(crate) fn add_condition<'a>(
     alloc: Global,
-    condition: &Condition<'a>,
+    condition: &'a Condition,
     scope: &Scope<'a>,
     work: &mut Work,
 ) -> Result<Test, AllocError>
@@ -96,7 +96,7 @@ fn add_absent_test(at: At, work: &mut Work) -> Result<Test, AllocError>
 /// The one error is want of memory, which also stands for want of numbers.
 fn for_test<'a>(
     alloc: Global,
-    head: &ForHead<'a>,
+    head: &'a ForHead,
     scope: &Scope<'a>,
     work: &mut Work,
 ) -> Result<Test, AllocError>
@@ -115,7 +115,7 @@ fn for_test<'a>(
 /// The one error is want of memory, which also stands for want of numbers.
 fn add_first<'a>(
     alloc: Global,
-    first: &ForFirst<'a>,
+    first: &'a ForFirst,
     scope: &mut Scope<'a>,
     work: &mut Work,
     stmts: &mut Vec<Stmt>,
@@ -140,7 +140,7 @@ fn add_first<'a>(
 /// The one error is want of memory, which also stands for want of numbers.
 fn add_step<'a>(
     alloc: Global,
-    step: &Option<Simples<'a>>,
+    step: &'a Option<Simples>,
     scope: &Scope<'a>,
     work: &mut Work,
     stmts: &mut Vec<Stmt>,
@@ -159,7 +159,7 @@ fn add_step<'a>(
 /// The one error is want of memory, which also stands for want of numbers.
 pub(crate) fn add_head<'a>(
     alloc: Global,
-    head: &ForHead<'a>,
+    head: &'a ForHead,
     scope: &mut Scope<'a>,
     work: &mut Work,
 ) -> Result<Head, AllocError>

@@ -14,8 +14,8 @@ use crate::judged::{Judged, placeholder};
 use crate::names::name_of;
 use crate::scopes::{Entry, Functions, Scope};
 use crate::tally::{HEIGHT_LIMIT, Tally};
+use crate::text::Text;
 use crate::work::{Work, put};
-use ba_lex::token::Text;
 use ba_numbers::ids::{At, StmtId, VarId};
 use ba_numbers::numbers::CType;
 use ba_parse::tree::declarations::{ArrayLength, Braced, Declarator, Declarators, Initialiser};
@@ -46,7 +46,7 @@ pub(crate) fn whole<'a>(
     alloc: Global,
     scope: &Scope<'a>,
     at: At,
-    c: &Conditional<'a>,
+    c: &'a Conditional,
     tally: &mut Tally,
 ) -> Result<Judged<'a>, AllocError>
     ensures { GivesWhole at (typed_conditional c.now scope.now tally.old.calls) tally.old tally.new
@@ -99,7 +99,7 @@ pub(crate) fn array_length<'a>(
     alloc: Global,
     at: At,
     values: Option<usize>,
-    length: &Option<ArrayLength<'a>>,
+    length: &'a Option<ArrayLength>,
     scope: &Scope<'a>,
     tally: &mut Tally,
 ) -> Result<Option<Length>, AllocError>
@@ -147,7 +147,7 @@ pub(crate) fn add_length<'a>(
     alloc: Global,
     at: At,
     values: Option<usize>,
-    length: &Option<ArrayLength<'a>>,
+    length: &'a Option<ArrayLength>,
     scope: &Scope<'a>,
     work: &mut Work,
 ) -> Result<Option<Length>, AllocError>
@@ -232,7 +232,7 @@ fn is_unfit(scope: &Scope, j: &Judged) -> bool
 fn add_value<'a>(
     alloc: Global,
     d: Declared,
-    c: &Conditional<'a>,
+    c: &'a Conditional,
     scope: &Scope<'a>,
     tally: &mut Tally,
     values: &mut Vec<Expr>,
@@ -254,7 +254,7 @@ fn add_value<'a>(
 fn initial_values<'a>(
     alloc: Global,
     d: Declared,
-    init: &Initialiser<'a>,
+    init: &'a Initialiser,
     scope: &Scope<'a>,
     tally: &mut Tally,
 ) -> Result<Vec<Expr>, AllocError>
@@ -279,7 +279,7 @@ fn initial_values<'a>(
 fn add_braced<'a>(
     alloc: Global,
     d: Declared,
-    braced: &Braced<'a>,
+    braced: &'a Braced,
     scope: &Scope<'a>,
     tally: &mut Tally,
     values: &mut Vec<Expr>,
@@ -385,7 +385,7 @@ fn first_value(mut values: Vec<Expr>) -> Expr
 fn add_initialiser<'a>(
     alloc: Global,
     d: Declared,
-    init: &Initialiser<'a>,
+    init: &'a Initialiser,
     scope: &Scope<'a>,
     work: &mut Work,
     stmts: &mut Vec<Stmt>,
@@ -407,7 +407,7 @@ fn add_initialiser<'a>(
 fn add_optional_initialiser<'a>(
     alloc: Global,
     d: Declared,
-    init: &Option<Initialiser<'a>>,
+    init: &'a Option<Initialiser>,
     scope: &Scope<'a>,
     work: &mut Work,
     stmts: &mut Vec<Stmt>,
@@ -429,7 +429,7 @@ fn add_declarator<'a>(
     alloc: Global,
     functions: &Functions<'a>,
     t: Option<CType>,
-    declarator: &Declarator<'a>,
+    declarator: &'a Declarator,
     scope: &mut Scope<'a>,
     work: &mut Work,
     stmts: &mut Vec<Stmt>,
@@ -454,7 +454,7 @@ fn add_declarator<'a>(
     add_variable(
         functions,
         at,
-        name_of(declarator.name),
+        name_of(&declarator.name),
         variable,
         scope,
         work,
@@ -472,7 +472,7 @@ pub(crate) fn add_declarators<'a>(
     alloc: Global,
     functions: &Functions<'a>,
     t: Option<CType>,
-    declarators: &Declarators<'a>,
+    declarators: &'a Declarators,
     scope: &mut Scope<'a>,
     work: &mut Work,
     stmts: &mut Vec<Stmt>,

@@ -31,7 +31,7 @@ use std::alloc::{AllocError, Global};
 pub(crate) fn conditional<'a>(
     alloc: Global,
     scope: &Scope<'a>,
-    c: &Conditional<'a>,
+    c: &'a Conditional,
     tally: &mut Tally,
 ) -> Result<Judged<'a>, AllocError>
     ensures { Gives (typed_conditional c.now scope.now tally.old.calls) tally.old tally.new result }
@@ -52,7 +52,7 @@ pub(crate) fn conditional<'a>(
 fn operand<'a>(
     alloc: Global,
     scope: &Scope<'a>,
-    o: &Operand<'a>,
+    o: &'a Operand,
     tally: &mut Tally,
 ) -> Result<Judged<'a>, AllocError>
     ensures { Gives (whole_operand (typed_operand o.now) scope.now tally.old.calls)
@@ -99,7 +99,7 @@ fn is_left_to_right(c: &Chain) -> bool
 fn chain<'a>(
     alloc: Global,
     scope: &Scope<'a>,
-    c: &Chain<'a>,
+    c: &'a Chain,
     left: Judged<'a>,
     tally: &mut Tally,
 ) -> Result<Judged<'a>, AllocError>
@@ -110,7 +110,7 @@ fn chain<'a>(
         return Err(AllocError);
     }
     let right = operand(alloc, scope, &c.operand, tally)?;
-    let operator = binary_operator(punct_of(c.operator));
+    let operator = binary_operator(punct_of(&c.operator));
     let left = judged::binary(alloc, operator, left, right)?;
     match &c.rest {
         None => Ok(left),
@@ -123,7 +123,7 @@ fn chain<'a>(
 fn unary<'a>(
     alloc: Global,
     scope: &Scope<'a>,
-    u: &Unary<'a>,
+    u: &'a Unary,
     tally: &mut Tally,
 ) -> Result<Judged<'a>, AllocError>
     ensures { Gives (typed_unary_expression u.now scope.now tally.old.calls)
@@ -154,7 +154,7 @@ fn unary<'a>(
 fn primary<'a>(
     alloc: Global,
     scope: &Scope<'a>,
-    p: &Primary<'a>,
+    p: &'a Primary,
     tally: &mut Tally,
 ) -> Result<Judged<'a>, AllocError>
     ensures { Gives (typed_primary p.now scope.now tally.old.calls) tally.old tally.new result }
@@ -190,7 +190,7 @@ fn primary<'a>(
 /// A name where a value is wanted.
 fn named<'a>(
     scope: &Scope<'a>,
-    name: &Token<'a>,
+    name: &'a Token,
     tally: &mut Tally,
 ) -> Result<Judged<'a>, AllocError>
     ensures { Gives
@@ -206,7 +206,7 @@ fn named<'a>(
 /// A name or a constant, by the kind of its token.
 fn token_value<'a>(
     scope: &Scope<'a>,
-    token: &Token<'a>,
+    token: &'a Token,
     tally: &mut Tally,
 ) -> Result<Judged<'a>, AllocError>
     ensures { Gives (typed_token token.now scope.now tally.old.calls) tally.old tally.new result }
@@ -218,7 +218,7 @@ fn token_value<'a>(
 }
 
 /// A constant token.
-fn constant_of<'a>(constant: &Token<'a>) -> Result<Judged<'a>, AllocError>
+fn constant_of<'a>(constant: &'a Token) -> Result<Judged<'a>, AllocError>
     ensures { IfOk result (λ j. Judges j (typed_constant_kind constant.now.at constant.now.kind)) }
 {
     match &constant.kind {
@@ -236,8 +236,8 @@ pub(crate) fn call<'a>(
     alloc: Global,
     scope: &Scope<'a>,
     as_value: bool,
-    name: &Token<'a>,
-    a: &Arguments<'a>,
+    name: &'a Token,
+    a: &'a Arguments,
     tally: &mut Tally,
 ) -> Result<JudgedCall, AllocError>
     ensures { GivesCall (record { as_value = as_value; at = name.now.at })
@@ -280,7 +280,7 @@ fn arguments<'a>(
     scope: &Scope<'a>,
     usage: CallUse,
     definition: Option<&Signature<'a>>,
-    a: &Arguments<'a>,
+    a: &'a Arguments,
     tally: &mut Tally,
 ) -> Result<JudgedArgs, AllocError>
     ensures { GivesArgs usage (typed_args scope.now tally.old.calls
@@ -313,7 +313,7 @@ fn argument<'a>(
     scope: &Scope<'a>,
     usage: CallUse,
     param: Option<ParamType>,
-    c: &Conditional<'a>,
+    c: &'a Conditional,
     tally: &mut Tally,
 ) -> Result<JudgedArg, AllocError>
     ensures { GivesArg usage

@@ -20,10 +20,10 @@ use crate::signatures::{
     add_signature, add_signature_faults, definitions_behind, functions, signature,
 };
 use crate::statements::add_items;
+use crate::text::Text;
 use crate::uses::is_main;
 use crate::work::Work;
 use ba_items::Items;
-use ba_lex::token::Text;
 use ba_numbers::ids::{At, FnId, VarId};
 use ba_numbers::numbers::CType;
 use ba_parse::tree::declarations::Parameters;
@@ -36,7 +36,7 @@ use std::alloc::{AllocError, Global};
 /// The one error is want of memory, which also stands for want of numbers.
 fn add_body<'a>(
     alloc: Global,
-    end: &FunctionEnd<'a>,
+    end: &'a FunctionEnd,
     scope: &mut Scope<'a>,
     work: &mut Work,
     stmts: &mut Vec<Stmt>,
@@ -68,8 +68,8 @@ fn add_inside<'a>(
     alloc: Global,
     owner: Owner,
     result_type: Option<CType>,
-    parameters: &Parameters<'a>,
-    end: &FunctionEnd<'a>,
+    parameters: &'a Parameters,
+    end: &'a FunctionEnd,
     scope: &mut Scope<'a>,
     work: &mut Work,
 ) -> Result<Function, AllocError>
@@ -117,8 +117,8 @@ fn add_function<'a>(
     alloc: Global,
     at: At,
     signature: &Signature<'a>,
-    parameters: &Parameters<'a>,
-    end: &FunctionEnd<'a>,
+    parameters: &'a Parameters,
+    end: &'a FunctionEnd,
     earlier: &Functions<'a>,
     scope: &mut Scope<'a>,
     work: &mut Work,
@@ -149,7 +149,7 @@ fn add_function<'a>(
 /// The one error is want of memory, which also stands for want of numbers.
 fn add_external<'a>(
     alloc: Global,
-    external: &External<'a>,
+    external: &'a External,
     signature: &Option<Signature<'a>>,
     earlier: &Functions<'a>,
     scope: &mut Scope<'a>,
@@ -187,7 +187,7 @@ fn add_external<'a>(
 /// The one error is want of memory, which also stands for want of numbers.
 fn add_each<'a>(
     alloc: Global,
-    externals: &[External<'a>],
+    externals: &'a [External],
     earlier: &mut Functions<'a>,
     scope: &mut Scope<'a>,
     work: &mut Work,
@@ -215,7 +215,7 @@ fn add_each<'a>(
 /// The one error is want of memory, which also stands for want of numbers.
 fn add_externals<'a>(
     alloc: Global,
-    externals: &[External<'a>],
+    externals: &'a [External],
     scope: &mut Scope<'a>,
     work: &mut Work,
     inits: &mut Vec<Stmt>,
@@ -261,7 +261,7 @@ pub struct TypedFile {
 /// A whole file.
 ///
 /// The one error is want of memory, which also stands for want of numbers.
-fn typed_file<'a>(alloc: Global, externals: &[External<'a>]) -> Result<TypedFile, AllocError>
+fn typed_file(alloc: Global, externals: &[External]) -> Result<TypedFile, AllocError>
     ensures { IfOk result (λ file. IsTyped file externals.now) }
 {
     let declared = functions(alloc, externals)?;

@@ -12,12 +12,12 @@ ghost use Rattle.ba_types.specs.declared.names.Operator.TheVariants.{AndAlso, Or
 
 use crate::names::Operator;
 use crate::scopes::{Entry, Meaning};
+use crate::text::Text;
 use crate::values::{
     promoted, right_type, same_type, type_of_binary, type_of_unary, usual, value_as, value_of,
     value_of_one, working_type,
 };
 use crate::{trees, values};
-use ba_lex::token::Text;
 use ba_numbers::ids::{At, CallId, FnId, VarId};
 use ba_numbers::numbers::{BinOp, CType, UnOp};
 use ba_tree::tree::{Arg, Expr, Shape};

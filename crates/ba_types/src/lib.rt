@@ -18,6 +18,7 @@ pub mod scopes;
 mod signatures;
 mod statements;
 mod tally;
+mod text;
 mod trees;
 mod uses;
 mod values;

@@ -4,7 +4,8 @@ ghost use Rattle.std.specs.Prelude.{◌≡◌, is_some, not};
 ghost use Rattle.ba_parse.specs.Classes.{class_of, word};
 ghost use Rattle.ba_types.specs.Names.{binary_operator, by_sign, changing_operator, has_word, jump_of, name_of, punct_of, type_named, unary_operator, words_of};
 
-use ba_lex::token::{Keyword, Punct, Text, Token, TokenKind};
+use crate::text::Text;
+use ba_lex::token::{Keyword, Punct, Token, TokenKind};
 use ba_numbers::numbers::{BinOp, CType, UnOp};
 use ba_parse::tree::expressions::TypeName;
 
@@ -25,11 +26,11 @@ pub enum Jump {
 }
 
 /// The name that a token is, without bytes where it is none.
-pub(crate) fn name_of<'a>(token: &Token<'a>) -> Text<'a>
+pub(crate) fn name_of<'a>(token: &'a Token) -> Text<'a>
     ensures { result ≡ name_of token.now }
 {
     match &token.kind {
-        TokenKind::Name(name) => name.copy(),
+        TokenKind::Name(name) => Text::new(name.as_bytes()),
         _ => Text::new(b""),
     }
 }
@@ -48,12 +49,7 @@ pub(crate) fn punct_of(token: &Token) -> Option<Punct>
 fn has_word(name: &TypeName, keyword: Keyword) -> bool
     ensures { result ≡ has_word (words_of name.now) keyword }
 {
-    for i in 0..name.words.len() {
-        if is_keyword(name.words[i], keyword) {
-            return true;
-        }
-    }
-    false
+    name.words.iter().any(|word| is_keyword(word, keyword))
 }
 
 /// Whether a token is this keyword.

@@ -16,8 +16,8 @@ use crate::names::{is_void, name_of, type_named};
 use crate::scopes::{Functions, Scope};
 use crate::signatures::{listed, number_behind};
 use crate::tally::Tally;
+use crate::text::Text;
 use crate::work::Work;
-use ba_lex::token::Text;
 use ba_numbers::ids::At;
 use ba_numbers::numbers::CType;
 use ba_parse::tree::declarations::{ArrayLength, NextParameter, Parameter, Parameters};
@@ -50,17 +50,17 @@ fn first_at(name: &TypeName, other: At) -> At
 fn place_of_param(other: At, parameter: &Parameter) -> At
     ensures { result ≡ place_of_param other parameter.now }
 {
-    match parameter.name {
+    match &parameter.name {
         None => first_at(&parameter.type_name, other),
         Some(name) => name.at,
     }
 }
 
 /// The name of a parameter, without bytes where it has none.
-fn name_of_param<'a>(parameter: &Parameter<'a>) -> Text<'a>
+fn name_of_param<'a>(parameter: &'a Parameter) -> Text<'a>
     ensures { result ≡ name_of_param parameter.now.name }
 {
-    match parameter.name {
+    match &parameter.name {
         None => Text::new(b""),
         Some(name) => name_of(name),
     }
@@ -88,7 +88,7 @@ fn add_own_length<'a>(
     alloc: Global,
     is_main: bool,
     at: At,
-    length: &Option<ArrayLength<'a>>,
+    length: &'a Option<ArrayLength>,
     scope: &Scope<'a>,
     work: &mut Work,
 ) -> Result<Option<Length>, AllocError>
@@ -110,7 +110,7 @@ fn add_own<'a>(
     is_main: bool,
     at: At,
     t: Option<CType>,
-    parameter: &Parameter<'a>,
+    parameter: &'a Parameter,
     scope: &mut Scope<'a>,
     work: &mut Work,
 ) -> Result<(), AllocError>
@@ -135,7 +135,7 @@ fn length_of_param<'a>(
     alloc: Global,
     is_main: bool,
     at: At,
-    length: &Option<ArrayLength<'a>>,
+    length: &'a Option<ArrayLength>,
     scope: &Scope<'a>,
     tally: &mut Tally,
 ) -> Result<Option<Length>, AllocError>
@@ -165,7 +165,7 @@ fn check_length<'a>(
     alloc: Global,
     is_main: bool,
     at: At,
-    length: &Option<ArrayLength<'a>>,
+    length: &'a Option<ArrayLength>,
     scope: &Scope<'a>,
     work: &mut Work,
 ) -> Result<(), AllocError>
@@ -186,7 +186,7 @@ fn declare_param<'a>(
     owner: Owner,
     at: At,
     t: Option<CType>,
-    parameter: &Parameter<'a>,
+    parameter: &'a Parameter,
     scope: &mut Scope<'a>,
     work: &mut Work,
 ) -> Result<(), AllocError>
@@ -217,7 +217,7 @@ fn add_param<'a>(
     alloc: Global,
     owner: Owner,
     number: u32,
-    parameter: &Parameter<'a>,
+    parameter: &'a Parameter,
     scope: &mut Scope<'a>,
     work: &mut Work,
 ) -> Result<(), AllocError>
@@ -238,7 +238,7 @@ fn add_param<'a>(
 fn add_next_params<'a>(
     alloc: Global,
     owner: Owner,
-    rest: &[NextParameter<'a>],
+    rest: &'a [NextParameter],
     scope: &mut Scope<'a>,
     work: &mut Work,
 ) -> Result<(), AllocError>
@@ -261,7 +261,7 @@ fn add_next_params<'a>(
 pub(crate) fn add_params<'a>(
     alloc: Global,
     owner: Owner,
-    parameters: &Parameters<'a>,
+    parameters: &'a Parameters,
     scope: &mut Scope<'a>,
     work: &mut Work,
 ) -> Result<(), AllocError>

@@ -4,7 +4,7 @@ ghost use Rattle.std.specs.Prelude.{◌≡◌, ◌&&◌, is_some, ℕ, List, Non
 ghost use Rattle.ba_types.specs.Names.{same_name};
 ghost use Rattle.ba_types.specs.Storage.{HaveSamePlaces, place_in};
 
-use ba_lex::token::Text;
+use crate::text::Text;
 use std::alloc::{AllocError, Global};
 use std::collections::HashMap;
 

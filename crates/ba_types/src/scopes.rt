@@ -13,8 +13,8 @@ ghost use Rattle.ba_types.specs.Marks.{back_to, mark_of};
 ghost use Rattle.ba_types.specs.Names.{definition_in, inner, is_declared_here, is_declared_in, knowing, last_entry, meaning_of, same_name};
 
 use crate::places::Places;
+use crate::text::Text;
 use ba_items::Items;
-use ba_lex::token::Text;
 use ba_numbers::ids::{FnId, VarId};
 use ba_numbers::numbers::CType;
 use ba_tree::tree::Variable;

@@ -14,10 +14,11 @@ use crate::fault::Cause;
 use crate::names::{is_keyword, name_of, type_named};
 use crate::scopes::{Functions, ParamType, Scope, Signature};
 use crate::tally::Tally;
+use crate::text::Text;
 use crate::uses::is_main;
 use crate::values::same_type;
 use ba_items::Items;
-use ba_lex::token::{Keyword, Text};
+use ba_lex::token::Keyword;
 use ba_numbers::ids::{At, FnId};
 use ba_numbers::numbers::CType;
 use ba_parse::tree::declarations::{NextParameter, Parameter, ParameterList, Parameters};
@@ -35,7 +36,7 @@ fn is_void_word(name: &TypeName) -> bool
     if name.words.len() != 1 {
         return false;
     }
-    is_keyword(name.words[0], Keyword::Void)
+    is_keyword(&name.words[0], Keyword::Void)
 }
 
 /// Whether a parameter is the word `void`, without a name or a length.
@@ -60,7 +61,7 @@ fn is_void_alone(list: &ParameterList) -> bool
 }
 
 /// The list of a function's parameters, `None` where it has none; a list that is `void` alone has none (C90 6.5.4.3).
-pub(crate) fn listed<'b, 'a>(parameters: &'b Parameters<'a>) -> Option<&'b ParameterList<'a>>
+pub(crate) fn listed(parameters: &Parameters) -> Option<&ParameterList>
     ensures { params_of_list (option_map (λ l. l.now) result) ≡ params_of parameters.now }
 {
     match &parameters.list {
@@ -86,7 +87,7 @@ fn type_of_param(parameter: &Parameter) -> ParamType
 }
 
 /// The types of these parameters are put behind those. The one error is want of memory.
-fn add_types<'a>(types: &mut Vec<ParamType>, rest: &[NextParameter<'a>]) -> Result<(), AllocError>
+fn add_types(types: &mut Vec<ParamType>, rest: &[NextParameter]) -> Result<(), AllocError>
     ensures { OnOk result (types.new.items
         ≡ types.old.items ++ map (λ (n : NextParameter). type_of_param n.parameter) rest.now) }
 {
@@ -97,10 +98,7 @@ fn add_types<'a>(types: &mut Vec<ParamType>, rest: &[NextParameter<'a>]) -> Resu
 }
 
 /// The types of a function's parameters. The one error is want of memory.
-fn param_types<'a>(
-    alloc: Global,
-    parameters: &Parameters<'a>,
-) -> Result<Items<ParamType>, AllocError>
+fn param_types(alloc: Global, parameters: &Parameters) -> Result<Items<ParamType>, AllocError>
     ensures { IfOk result (λ types. types ≡ map type_of_param (params_of parameters.now)) }
 {
     let Some(list) = listed(parameters) else {
@@ -127,10 +125,10 @@ fn says_params(end: &FunctionEnd, parameters: &Parameters) -> bool
 }
 
 /// The types of the parameters, `None` where the declaration says nothing of them. The one error is want of memory.
-fn said_types<'a>(
+fn said_types(
     alloc: Global,
-    parameters: &Parameters<'a>,
-    end: &FunctionEnd<'a>,
+    parameters: &Parameters,
+    end: &FunctionEnd,
 ) -> Result<Option<Items<ParamType>>, AllocError>
     ensures { IfOk result (λ types. types ≡ cond (says_params end.now parameters.now)
         (Some (map type_of_param (params_of parameters.now))) None) }
@@ -148,7 +146,7 @@ fn said_types<'a>(
 pub(crate) fn signature<'a>(
     alloc: Global,
     definitions: u32,
-    external: &External<'a>,
+    external: &'a External,
 ) -> Result<Option<Signature<'a>>, AllocError>
     ensures { IfOk result (λ s. s ≡ signature_of definitions external.now) }
 {
@@ -219,7 +217,7 @@ pub(crate) fn add_signature<'a>(
 /// The one error is want of memory, which also stands for want of numbers.
 fn add_signatures<'a>(
     alloc: Global,
-    externals: &[External<'a>],
+    externals: &'a [External],
     functions: &mut Functions<'a>,
 ) -> Result<(), AllocError>
     ensures { OnOk result (functions.new ≡ functions.old ++ signatures externals.now) }
@@ -238,7 +236,7 @@ fn add_signatures<'a>(
 /// The one error is want of memory, which also stands for want of numbers.
 pub(crate) fn functions<'a>(
     alloc: Global,
-    externals: &[External<'a>],
+    externals: &'a [External],
 ) -> Result<Functions<'a>, AllocError>
     ensures { IfOk result (λ functions. functions ≡ signatures externals.now) }
 {

@@ -36,7 +36,7 @@ use std::alloc::{AllocError, Global};
 fn add_return<'a>(
     alloc: Global,
     at: At,
-    c: &Conditional<'a>,
+    c: &'a Conditional,
     scope: &Scope<'a>,
     work: &mut Work,
     stmts: &mut Vec<Stmt>,
@@ -58,7 +58,7 @@ fn add_return<'a>(
 fn add_assert<'a>(
     alloc: Global,
     at: At,
-    condition: &Condition<'a>,
+    condition: &'a Condition,
     scope: &Scope<'a>,
     work: &mut Work,
     stmts: &mut Vec<Stmt>,
@@ -77,7 +77,7 @@ fn add_assert<'a>(
 fn add_printed<'a>(
     alloc: Global,
     at: At,
-    c: &Conditional<'a>,
+    c: &'a Conditional,
     scope: &Scope<'a>,
     tally: &mut Tally,
     values: &mut Vec<Expr>,
@@ -97,7 +97,7 @@ fn add_printed<'a>(
 fn printed_values<'a>(
     alloc: Global,
     at: At,
-    printed: &Printed<'a>,
+    printed: &'a Printed,
     scope: &Scope<'a>,
     tally: &mut Tally,
 ) -> Result<Vec<Expr>, AllocError>
@@ -118,7 +118,7 @@ fn printed_values<'a>(
 fn add_printf<'a>(
     alloc: Global,
     at: At,
-    printed: &Printed<'a>,
+    printed: &'a Printed,
     scope: &Scope<'a>,
     work: &mut Work,
     stmts: &mut Vec<Stmt>,
@@ -169,7 +169,7 @@ fn add_continue<'a>(
 ///
 /// The one error is want of memory.
 fn add_jump<'a>(
-    keyword: &Token<'a>,
+    keyword: &'a Token,
     scope: &Scope<'a>,
     work: &mut Work,
     stmts: &mut Vec<Stmt>,
@@ -189,8 +189,8 @@ fn add_jump<'a>(
 /// The one error is want of memory, which also stands for want of numbers.
 fn add_jump_with<'a>(
     alloc: Global,
-    keyword: &Token<'a>,
-    value: &Option<Conditional<'a>>,
+    keyword: &'a Token,
+    value: &'a Option<Conditional>,
     scope: &Scope<'a>,
     work: &mut Work,
     stmts: &mut Vec<Stmt>,
@@ -211,7 +211,7 @@ fn add_jump_with<'a>(
 #[cycle(statement)]
 pub(crate) fn add_statement<'a>(
     alloc: Global,
-    s: &Statement<'a>,
+    s: &'a Statement,
     scope: &mut Scope<'a>,
     work: &mut Work,
     stmts: &mut Vec<Stmt>,
@@ -278,7 +278,7 @@ pub(crate) fn add_statement<'a>(
 #[cycle(statement)]
 pub(crate) fn add_items<'a>(
     alloc: Global,
-    block: &Block<'a>,
+    block: &'a Block,
     scope: &mut Scope<'a>,
     work: &mut Work,
     stmts: &mut Vec<Stmt>,
@@ -296,7 +296,7 @@ pub(crate) fn add_items<'a>(
 #[cycle(statement)]
 fn add_item<'a>(
     alloc: Global,
-    item: &BlockItem<'a>,
+    item: &'a BlockItem,
     scope: &mut Scope<'a>,
     work: &mut Work,
     stmts: &mut Vec<Stmt>,
@@ -318,7 +318,7 @@ fn add_item<'a>(
 #[cycle(statement)]
 fn add_block<'a>(
     alloc: Global,
-    block: &Block<'a>,
+    block: &'a Block,
     scope: &mut Scope<'a>,
     work: &mut Work,
     stmts: &mut Vec<Stmt>,
@@ -339,7 +339,7 @@ fn add_block<'a>(
 #[cycle(statement)]
 fn add_controlled<'a>(
     alloc: Global,
-    body: &Statement<'a>,
+    body: &'a Statement,
     scope: &mut Scope<'a>,
     work: &mut Work,
 ) -> Result<Stmt, AllocError>
@@ -357,7 +357,7 @@ fn add_controlled<'a>(
 #[cycle(statement)]
 fn add_loop_body<'a>(
     alloc: Global,
-    body: &Statement<'a>,
+    body: &'a Statement,
     scope: &mut Scope<'a>,
     work: &mut Work,
 ) -> Result<Stmt, AllocError>
@@ -376,8 +376,8 @@ fn add_loop_body<'a>(
 #[cycle(statement)]
 fn add_guarded<'a>(
     alloc: Global,
-    condition: &Condition<'a>,
-    holds: &Statement<'a>,
+    condition: &'a Condition,
+    holds: &'a Statement,
     scope: &mut Scope<'a>,
     work: &mut Work,
 ) -> Result<Guarded, AllocError>
@@ -395,7 +395,7 @@ fn add_guarded<'a>(
 #[cycle(statement)]
 fn add_else<'a>(
     alloc: Global,
-    other: &Statement<'a>,
+    other: &'a Statement,
     guarded: Guarded,
     scope: &mut Scope<'a>,
     work: &mut Work,
@@ -415,8 +415,8 @@ fn add_else<'a>(
 #[cycle(statement)]
 fn add_while<'a>(
     alloc: Global,
-    condition: &Condition<'a>,
-    body: &Statement<'a>,
+    condition: &'a Condition,
+    body: &'a Statement,
     scope: &mut Scope<'a>,
     work: &mut Work,
     stmts: &mut Vec<Stmt>,
@@ -435,8 +435,8 @@ fn add_while<'a>(
 #[cycle(statement)]
 fn add_do<'a>(
     alloc: Global,
-    condition: &Condition<'a>,
-    body: &Statement<'a>,
+    condition: &'a Condition,
+    body: &'a Statement,
     scope: &mut Scope<'a>,
     work: &mut Work,
     stmts: &mut Vec<Stmt>,
@@ -455,8 +455,8 @@ fn add_do<'a>(
 #[cycle(statement)]
 fn add_for<'a>(
     alloc: Global,
-    head: &ForHead<'a>,
-    body: &Statement<'a>,
+    head: &'a ForHead,
+    body: &'a Statement,
     scope: &mut Scope<'a>,
     work: &mut Work,
     stmts: &mut Vec<Stmt>,

@@ -10,8 +10,8 @@ use crate::fault::Cause;
 use crate::judged::is_array;
 use crate::scopes::{Meaning, ParamType, Scope, Signature};
 use crate::tally::{HEIGHT_LIMIT, Tally};
+use crate::text::Text;
 use crate::values::same_type;
-use ba_lex::token::Text;
 use ba_numbers::ids::{At, FnId, VarId};
 use ba_numbers::numbers::CType;
 

@@ -9,15 +9,15 @@ use crate::tree::expressions::{Conditional, NextExpression, TypeName};
 use ba_lex::token::Token;
 
 /// The length of an array behind its name: `[ ]`, with an expression or without.
-pub struct ArrayLength<'a> {
+pub struct ArrayLength {
     /// `[`
-    pub open: &'a Token<'a>,
-    pub length: Option<Conditional<'a>>,
+    pub open: Token,
+    pub length: Option<Conditional>,
     /// `]`
-    pub close: &'a Token<'a>,
+    pub close: Token,
 }
 
-impl<'a> Drop for ArrayLength<'a> {
+impl Drop for ArrayLength {
     fn drop(self) {
         let ArrayLength {
             open: _,
@@ -28,18 +28,18 @@ impl<'a> Drop for ArrayLength<'a> {
 }
 
 /// Initial values in braces (C90 6.5.7).
-pub struct Braced<'a> {
+pub struct Braced {
     /// `{`
-    pub open: &'a Token<'a>,
-    pub first: Conditional<'a>,
-    pub rest: Vec<NextExpression<'a>>,
+    pub open: Token,
+    pub first: Conditional,
+    pub rest: Vec<NextExpression>,
     /// The comma before the `}`, if there is one.
-    pub comma: Option<&'a Token<'a>>,
+    pub comma: Option<Token>,
     /// `}`
-    pub close: &'a Token<'a>,
+    pub close: Token,
 }
 
-impl<'a> Drop for Braced<'a> {
+impl Drop for Braced {
     fn drop(self) {
         let Braced {
             open: _,
@@ -52,20 +52,14 @@ impl<'a> Drop for Braced<'a> {
 }
 
 /// `=` and what a variable begins with (C90 6.5.7): an expression, or values in braces.
-pub enum Initialiser<'a> {
+pub enum Initialiser {
     /// `=` and an expression.
-    Expression {
-        assign: &'a Token<'a>,
-        value: Conditional<'a>,
-    },
+    Expression { assign: Token, value: Conditional },
     /// `=` and values in braces.
-    Braced {
-        assign: &'a Token<'a>,
-        values: Braced<'a>,
-    },
+    Braced { assign: Token, values: Braced },
 }
 
-impl<'a> Drop for Initialiser<'a> {
+impl Drop for Initialiser {
     fn drop(self) {
         match self {
             Initialiser::Expression {
@@ -81,13 +75,13 @@ impl<'a> Drop for Initialiser<'a> {
 }
 
 /// A declared name, with its length if it is an array, and its initialiser (C90 6.5.4).
-pub struct Declarator<'a> {
-    pub name: &'a Token<'a>,
-    pub length: Option<ArrayLength<'a>>,
-    pub initialiser: Option<Initialiser<'a>>,
+pub struct Declarator {
+    pub name: Token,
+    pub length: Option<ArrayLength>,
+    pub initialiser: Option<Initialiser>,
 }
 
-impl<'a> Drop for Declarator<'a> {
+impl Drop for Declarator {
     fn drop(self) {
         let Declarator {
             name: _,
@@ -98,12 +92,12 @@ impl<'a> Drop for Declarator<'a> {
 }
 
 /// A declarator in a list, and the comma before it, if it is not the first.
-pub struct ListedDeclarator<'a> {
-    pub comma: Option<&'a Token<'a>>,
-    pub declarator: Declarator<'a>,
+pub struct ListedDeclarator {
+    pub comma: Option<Token>,
+    pub declarator: Declarator,
 }
 
-impl<'a> Drop for ListedDeclarator<'a> {
+impl Drop for ListedDeclarator {
     fn drop(self) {
         let ListedDeclarator {
             comma: _,
@@ -113,24 +107,24 @@ impl<'a> Drop for ListedDeclarator<'a> {
 }
 
 /// One declarator or more, with commas between: each but the first has the comma before it.
-pub struct Declarators<'a> {
-    pub all: Vec<ListedDeclarator<'a>>,
+pub struct Declarators {
+    pub all: Vec<ListedDeclarator>,
 }
 
-impl<'a> Drop for Declarators<'a> {
+impl Drop for Declarators {
     fn drop(self) {
         let Declarators { all: _ } = self;
     }
 }
 
 /// A declaration in a block (C90 6.5).
-pub struct Declaration<'a> {
-    pub name: TypeName<'a>,
-    pub declarators: Declarators<'a>,
-    pub semicolon: &'a Token<'a>,
+pub struct Declaration {
+    pub name: TypeName,
+    pub declarators: Declarators,
+    pub semicolon: Token,
 }
 
-impl<'a> Drop for Declaration<'a> {
+impl Drop for Declaration {
     fn drop(self) {
         let Declaration {
             name: _,
@@ -141,13 +135,13 @@ impl<'a> Drop for Declaration<'a> {
 }
 
 /// A parameter of a function (C90 6.5.4.3).
-pub struct Parameter<'a> {
-    pub type_name: TypeName<'a>,
-    pub name: Option<&'a Token<'a>>,
-    pub length: Option<ArrayLength<'a>>,
+pub struct Parameter {
+    pub type_name: TypeName,
+    pub name: Option<Token>,
+    pub length: Option<ArrayLength>,
 }
 
-impl<'a> Drop for Parameter<'a> {
+impl Drop for Parameter {
     fn drop(self) {
         let Parameter {
             type_name: _,
@@ -157,7 +151,7 @@ impl<'a> Drop for Parameter<'a> {
     }
 }
 
-impl<'a> Parameter<'a> {
+impl Parameter {
     /// Whether it has a name.
     pub fn is_named(&self) -> bool
         ensures { result ≡ not (has_unnamed (parameter_marks self.now)) }
@@ -167,12 +161,12 @@ impl<'a> Parameter<'a> {
 }
 
 /// A comma and the parameter after it.
-pub struct NextParameter<'a> {
-    pub comma: &'a Token<'a>,
-    pub parameter: Parameter<'a>,
+pub struct NextParameter {
+    pub comma: Token,
+    pub parameter: Parameter,
 }
 
-impl<'a> Drop for NextParameter<'a> {
+impl Drop for NextParameter {
     fn drop(self) {
         let NextParameter {
             comma: _,
@@ -181,7 +175,7 @@ impl<'a> Drop for NextParameter<'a> {
     }
 }
 
-impl<'a> NextParameter<'a> {
+impl NextParameter {
     fn is_named(&self) -> bool
         ensures { result ≡ not (has_unnamed (next_parameter_marks self.now)) }
     {
@@ -196,18 +190,18 @@ fn each_is_named(rest: &[NextParameter]) -> bool
 }
 
 /// One parameter or more, with commas between.
-pub struct ParameterList<'a> {
-    pub first: Parameter<'a>,
-    pub rest: Vec<NextParameter<'a>>,
+pub struct ParameterList {
+    pub first: Parameter,
+    pub rest: Vec<NextParameter>,
 }
 
-impl<'a> Drop for ParameterList<'a> {
+impl Drop for ParameterList {
     fn drop(self) {
         let ParameterList { first: _, rest: _ } = self;
     }
 }
 
-impl<'a> ParameterList<'a> {
+impl ParameterList {
     fn is_named(&self) -> bool
         ensures { result ≡ not (has_unnamed (parameter_list_marks self.now)) }
     {
@@ -216,17 +210,17 @@ impl<'a> ParameterList<'a> {
 }
 
 /// The parameters of a function, none or more; `void` alone is one without a name.
-pub struct Parameters<'a> {
-    pub list: Option<ParameterList<'a>>,
+pub struct Parameters {
+    pub list: Option<ParameterList>,
 }
 
-impl<'a> Drop for Parameters<'a> {
+impl Drop for Parameters {
     fn drop(self) {
         let Parameters { list: _ } = self;
     }
 }
 
-impl<'a> Parameters<'a> {
+impl Parameters {
     /// Whether each has a name.
     pub fn is_named(&self) -> bool
         ensures { result ≡ not (has_unnamed (parameters_marks self.now)) }

@@ -3,11 +3,11 @@
 use ba_lex::token::Token;
 
 /// The words that name a type (C90 6.5.1, 6.5.2, 6.5.3), in the order of the text.
-pub struct TypeName<'a> {
-    pub words: Vec<&'a Token<'a>>,
+pub struct TypeName {
+    pub words: Vec<Token>,
 }
 
-impl<'a> Drop for TypeName<'a> {
+impl Drop for TypeName {
     fn drop(self) {
         let TypeName { words: _ } = self;
     }
@@ -15,13 +15,13 @@ impl<'a> Drop for TypeName<'a> {
 
 /// A conditional expression (C90 6.3.15), the widest expression of the profile.
 #[cycle(expression)]
-pub struct Conditional<'a> {
+pub struct Conditional {
     /// What stands before the `?`, or the whole.
-    pub test: Operand<'a>,
-    pub branches: Option<Branches<'a>>,
+    pub test: Operand,
+    pub branches: Option<Branches>,
 }
 
-impl<'a> Drop for Conditional<'a> {
+impl Drop for Conditional {
     #[cycle(expression)]
     fn drop(self) {
         let Conditional {
@@ -33,16 +33,16 @@ impl<'a> Drop for Conditional<'a> {
 
 /// The branches of a conditional expression: `? expression : expression`.
 #[cycle(expression)]
-pub struct Branches<'a> {
+pub struct Branches {
     /// `?`
-    pub question: &'a Token<'a>,
-    pub holds: Box<Conditional<'a>>,
+    pub question: Token,
+    pub holds: Box<Conditional>,
     /// `:`
-    pub colon: &'a Token<'a>,
-    pub fails: Box<Conditional<'a>>,
+    pub colon: Token,
+    pub fails: Box<Conditional>,
 }
 
-impl<'a> Drop for Branches<'a> {
+impl Drop for Branches {
     #[cycle(expression)]
     fn drop(self) {
         let Branches {
@@ -57,12 +57,12 @@ impl<'a> Drop for Branches<'a> {
 /// A unary expression and the chains of binary operators that follow it, those that bind tighter first (C90 6.3.5 to
 /// 6.3.14): each chain takes all that stands before it as its leftmost operand.
 #[cycle(expression)]
-pub struct Operand<'a> {
-    pub first: Unary<'a>,
-    pub chains: Vec<Chain<'a>>,
+pub struct Operand {
+    pub first: Unary,
+    pub chains: Vec<Chain>,
 }
 
-impl<'a> Drop for Operand<'a> {
+impl Drop for Operand {
     #[cycle(expression)]
     fn drop(self) {
         let Operand {
@@ -75,15 +75,15 @@ impl<'a> Drop for Operand<'a> {
 /// What follows the leftmost operand in a chain of binary operators of one level: an operator, its right operand, and the
 /// rest of the chain. So `a - b - c` is `a` and then the chain `- b` with `- c` as its rest; it leans left.
 #[cycle(expression)]
-pub struct Chain<'a> {
+pub struct Chain {
     /// The level of the operators, from 1 for `*` to 10 for `||`.
     pub level: u32,
-    pub operator: &'a Token<'a>,
-    pub operand: Operand<'a>,
-    pub rest: Option<Box<Chain<'a>>>,
+    pub operator: Token,
+    pub operand: Operand,
+    pub rest: Option<Box<Chain>>,
 }
 
-impl<'a> Drop for Chain<'a> {
+impl Drop for Chain {
     #[cycle(expression)]
     fn drop(self) {
         let Chain {
@@ -97,24 +97,24 @@ impl<'a> Drop for Chain<'a> {
 
 /// A unary expression (C90 6.3.3, 6.3.4).
 #[cycle(expression)]
-pub enum Unary<'a> {
+pub enum Unary {
     /// `+`, `-`, `~` or `!` before its operand.
     Prefix {
-        operator: &'a Token<'a>,
-        operand: Box<Unary<'a>>,
+        operator: Token,
+        operand: Box<Unary>,
     },
     /// A cast before its operand.
     Cast {
-        open: &'a Token<'a>,
-        name: TypeName<'a>,
-        close: &'a Token<'a>,
-        operand: Box<Unary<'a>>,
+        open: Token,
+        name: TypeName,
+        close: Token,
+        operand: Box<Unary>,
     },
     /// A primary expression, or one with `[ ]` or `( )` behind it.
-    Primary(Primary<'a>),
+    Primary(Primary),
 }
 
-impl<'a> Drop for Unary<'a> {
+impl Drop for Unary {
     #[cycle(expression)]
     fn drop(self) {
         match self {
@@ -135,38 +135,38 @@ impl<'a> Drop for Unary<'a> {
 
 /// A name, an element of an array, a call, a constant or an expression in parentheses (C90 6.3.1, 6.3.2).
 #[cycle(expression)]
-pub enum Primary<'a> {
+pub enum Primary {
     /// An identifier.
     Name {
-        name: &'a Token<'a>,
+        name: Token,
     },
     /// An element of an array (C90 6.3.2.1).
     Element {
-        name: &'a Token<'a>,
-        open: &'a Token<'a>,
-        index: Box<Conditional<'a>>,
-        close: &'a Token<'a>,
+        name: Token,
+        open: Token,
+        index: Box<Conditional>,
+        close: Token,
     },
     /// A function call (C90 6.3.2.2).
     Call {
-        name: &'a Token<'a>,
-        open: &'a Token<'a>,
-        arguments: Arguments<'a>,
-        close: &'a Token<'a>,
+        name: Token,
+        open: Token,
+        arguments: Arguments,
+        close: Token,
     },
     /// A constant (C90 6.1.3).
     Constant {
-        constant: &'a Token<'a>,
+        constant: Token,
     },
     /// An expression in parentheses.
     Parenthesized {
-        open: &'a Token<'a>,
-        expression: Box<Conditional<'a>>,
-        close: &'a Token<'a>,
+        open: Token,
+        expression: Box<Conditional>,
+        close: Token,
     },
 }
 
-impl<'a> Drop for Primary<'a> {
+impl Drop for Primary {
     #[cycle(expression)]
     fn drop(self) {
         match self {
@@ -195,11 +195,11 @@ impl<'a> Drop for Primary<'a> {
 
 /// The arguments of a call, none or more (C90 6.3.2.2).
 #[cycle(expression)]
-pub struct Arguments<'a> {
-    pub values: Option<Expressions<'a>>,
+pub struct Arguments {
+    pub values: Option<Expressions>,
 }
 
-impl<'a> Drop for Arguments<'a> {
+impl Drop for Arguments {
     #[cycle(expression)]
     fn drop(self) {
         let Arguments { values: _ } = self;
@@ -208,12 +208,12 @@ impl<'a> Drop for Arguments<'a> {
 
 /// One expression or more, with commas between.
 #[cycle(expression)]
-pub struct Expressions<'a> {
-    pub first: Box<Conditional<'a>>,
-    pub rest: Vec<NextExpression<'a>>,
+pub struct Expressions {
+    pub first: Box<Conditional>,
+    pub rest: Vec<NextExpression>,
 }
 
-impl<'a> Drop for Expressions<'a> {
+impl Drop for Expressions {
     #[cycle(expression)]
     fn drop(self) {
         let Expressions { first: _, rest: _ } = self;
@@ -222,12 +222,12 @@ impl<'a> Drop for Expressions<'a> {
 
 /// A comma and the expression after it.
 #[cycle(expression)]
-pub struct NextExpression<'a> {
-    pub comma: &'a Token<'a>,
-    pub expression: Conditional<'a>,
+pub struct NextExpression {
+    pub comma: Token,
+    pub expression: Conditional,
 }
 
-impl<'a> Drop for NextExpression<'a> {
+impl Drop for NextExpression {
     #[cycle(expression)]
     fn drop(self) {
         let NextExpression {

@@ -11,27 +11,27 @@ use crate::tree::expressions::{Arguments, Conditional, NextExpression, TypeName}
 use ba_lex::token::Token;
 
 /// A variable or an element that is assigned to.
-pub struct Target<'a> {
-    pub name: &'a Token<'a>,
-    pub index: Option<Index<'a>>,
+pub struct Target {
+    pub name: Token,
+    pub index: Option<Index>,
 }
 
-impl<'a> Drop for Target<'a> {
+impl Drop for Target {
     fn drop(self) {
         let Target { name: _, index: _ } = self;
     }
 }
 
 /// An index in brackets.
-pub struct Index<'a> {
+pub struct Index {
     /// `[`
-    pub open: &'a Token<'a>,
-    pub value: Box<Conditional<'a>>,
+    pub open: Token,
+    pub value: Box<Conditional>,
     /// `]`
-    pub close: &'a Token<'a>,
+    pub close: Token,
 }
 
-impl<'a> Drop for Index<'a> {
+impl Drop for Index {
     fn drop(self) {
         let Index {
             open: _,
@@ -42,33 +42,33 @@ impl<'a> Drop for Index<'a> {
 }
 
 /// An assignment, a step or a call, as it stands in a statement or in the head of a `for`.
-pub enum Simple<'a> {
+pub enum Simple {
     /// `=` or a compound assignment (C90 6.3.16).
     Assign {
-        target: Target<'a>,
-        operator: &'a Token<'a>,
-        value: Conditional<'a>,
+        target: Target,
+        operator: Token,
+        value: Conditional,
     },
     /// `++` or `--` behind (C90 6.3.2.4).
     Step {
-        target: Target<'a>,
-        operator: &'a Token<'a>,
+        target: Target,
+        operator: Token,
     },
     /// `++` or `--` before (C90 6.3.3.1).
     PrefixStep {
-        operator: &'a Token<'a>,
-        target: Target<'a>,
+        operator: Token,
+        target: Target,
     },
     /// A call as a statement of its own (C90 6.3.2.2).
     Call {
-        name: &'a Token<'a>,
-        open: &'a Token<'a>,
-        arguments: Arguments<'a>,
-        close: &'a Token<'a>,
+        name: Token,
+        open: Token,
+        arguments: Arguments,
+        close: Token,
     },
 }
 
-impl<'a> Drop for Simple<'a> {
+impl Drop for Simple {
     fn drop(self) {
         match self {
             Simple::Assign {
@@ -95,12 +95,12 @@ impl<'a> Drop for Simple<'a> {
 }
 
 /// An assignment or the like in a list, and the comma before it, if it is not the first.
-pub struct ListedSimple<'a> {
-    pub comma: Option<&'a Token<'a>>,
-    pub simple: Simple<'a>,
+pub struct ListedSimple {
+    pub comma: Option<Token>,
+    pub simple: Simple,
 }
 
-impl<'a> Drop for ListedSimple<'a> {
+impl Drop for ListedSimple {
     fn drop(self) {
         let ListedSimple {
             comma: _,
@@ -110,26 +110,26 @@ impl<'a> Drop for ListedSimple<'a> {
 }
 
 /// One or more, with commas between: each but the first has the comma before it.
-pub struct Simples<'a> {
-    pub all: Vec<ListedSimple<'a>>,
+pub struct Simples {
+    pub all: Vec<ListedSimple>,
 }
 
-impl<'a> Drop for Simples<'a> {
+impl Drop for Simples {
     fn drop(self) {
         let Simples { all: _ } = self;
     }
 }
 
 /// The controlling expression of a statement, in its parentheses (C90 6.6.4, 6.6.5).
-pub struct Condition<'a> {
+pub struct Condition {
     /// `(`
-    pub open: &'a Token<'a>,
-    pub test: Box<Conditional<'a>>,
+    pub open: Token,
+    pub test: Box<Conditional>,
     /// `)`
-    pub close: &'a Token<'a>,
+    pub close: Token,
 }
 
-impl<'a> Drop for Condition<'a> {
+impl Drop for Condition {
     fn drop(self) {
         let Condition {
             open: _,
@@ -140,19 +140,19 @@ impl<'a> Drop for Condition<'a> {
 }
 
 /// What a `for` begins with (C90 6.6.5.3).
-pub enum ForFirst<'a> {
+pub enum ForFirst {
     /// A declaration of variables of the loop, which the profile has beyond C90.
     Declaration {
-        name: TypeName<'a>,
-        declarators: Declarators<'a>,
+        name: TypeName,
+        declarators: Declarators,
     },
     /// One or more assignments, steps or calls.
-    Simples(Simples<'a>),
+    Simples(Simples),
     /// Neither.
     Nothing,
 }
 
-impl<'a> Drop for ForFirst<'a> {
+impl Drop for ForFirst {
     fn drop(self) {
         match self {
             ForFirst::Declaration {
@@ -166,18 +166,18 @@ impl<'a> Drop for ForFirst<'a> {
 }
 
 /// The head of a `for`, between its parentheses.
-pub struct ForHead<'a> {
+pub struct ForHead {
     /// What is done once, before the loop.
-    pub first: ForFirst<'a>,
-    pub first_semicolon: &'a Token<'a>,
+    pub first: ForFirst,
+    pub first_semicolon: Token,
     /// The controlling expression, if there is one.
-    pub test: Option<Conditional<'a>>,
-    pub second_semicolon: &'a Token<'a>,
+    pub test: Option<Conditional>,
+    pub second_semicolon: Token,
     /// What is done after each turn.
-    pub step: Option<Simples<'a>>,
+    pub step: Option<Simples>,
 }
 
-impl<'a> Drop for ForHead<'a> {
+impl Drop for ForHead {
     fn drop(self) {
         let ForHead {
             first: _,
@@ -190,15 +190,15 @@ impl<'a> Drop for ForHead<'a> {
 }
 
 /// What a `printf` prints, between its parentheses: a string in one part or more, and values.
-pub struct Printed<'a> {
+pub struct Printed {
     /// The first part of the string.
-    pub first: &'a Token<'a>,
+    pub first: Token,
     /// The parts that follow it with nothing between (C90 6.1.4).
-    pub rest: Vec<&'a Token<'a>>,
-    pub values: Vec<NextExpression<'a>>,
+    pub rest: Vec<Token>,
+    pub values: Vec<NextExpression>,
 }
 
-impl<'a> Drop for Printed<'a> {
+impl Drop for Printed {
     fn drop(self) {
         let Printed {
             first: _,
@@ -210,15 +210,15 @@ impl<'a> Drop for Printed<'a> {
 
 /// Declarations and statements in braces (C90 6.6.2).
 #[cycle(statement)]
-pub struct Block<'a> {
+pub struct Block {
     /// `{`
-    pub open: &'a Token<'a>,
-    pub items: Vec<BlockItem<'a>>,
+    pub open: Token,
+    pub items: Vec<BlockItem>,
     /// `}`
-    pub close: &'a Token<'a>,
+    pub close: Token,
 }
 
-impl<'a> Drop for Block<'a> {
+impl Drop for Block {
     #[cycle(statement)]
     fn drop(self) {
         let Block {
@@ -231,12 +231,12 @@ impl<'a> Drop for Block<'a> {
 
 /// What stands in a block: the profile lets declarations stand among the statements (C90 6.6.2 has them first).
 #[cycle(statement)]
-pub enum BlockItem<'a> {
-    Declaration(Declaration<'a>),
-    Statement(Statement<'a>),
+pub enum BlockItem {
+    Declaration(Declaration),
+    Statement(Statement),
 }
 
-impl<'a> Drop for BlockItem<'a> {
+impl Drop for BlockItem {
     #[cycle(statement)]
     fn drop(self) {
         match self {
@@ -248,11 +248,11 @@ impl<'a> Drop for BlockItem<'a> {
 
 /// A statement (C90 6.6).
 #[cycle(statement)]
-pub struct Statement<'a> {
-    pub form: StatementForm<'a>,
+pub struct Statement {
+    pub form: StatementForm,
 }
 
-impl<'a> Drop for Statement<'a> {
+impl Drop for Statement {
     #[cycle(statement)]
     fn drop(self) {
         let Statement { form: _ } = self;
@@ -261,68 +261,68 @@ impl<'a> Drop for Statement<'a> {
 
 /// The forms of a statement. `assert` and `printf` are among them.
 #[cycle(statement)]
-pub enum StatementForm<'a> {
+pub enum StatementForm {
     /// A compound statement (C90 6.6.2).
-    Block(Block<'a>),
+    Block(Block),
     /// A null statement (C90 6.6.3).
     Empty {
-        semicolon: &'a Token<'a>,
+        semicolon: Token,
     },
     /// An assignment, a step or a call (C90 6.6.3).
     Simple {
-        simple: Simple<'a>,
-        semicolon: &'a Token<'a>,
+        simple: Simple,
+        semicolon: Token,
     },
     /// C90 6.6.4.1.
     If {
-        keyword: &'a Token<'a>,
-        condition: Condition<'a>,
-        holds: Controlled<'a>,
-        fails: Option<Else<'a>>,
+        keyword: Token,
+        condition: Condition,
+        holds: Controlled,
+        fails: Option<Else>,
     },
     /// C90 6.6.5.1.
     While {
-        keyword: &'a Token<'a>,
-        condition: Condition<'a>,
-        body: Controlled<'a>,
+        keyword: Token,
+        condition: Condition,
+        body: Controlled,
     },
     /// C90 6.6.5.2.
-    DoWhile(DoWhile<'a>),
+    DoWhile(DoWhile),
     /// C90 6.6.5.3.
-    For(For<'a>),
+    For(For),
     /// C90 6.6.6.3.
     Break {
-        keyword: &'a Token<'a>,
-        semicolon: &'a Token<'a>,
+        keyword: Token,
+        semicolon: Token,
     },
     /// C90 6.6.6.2.
     Continue {
-        keyword: &'a Token<'a>,
-        semicolon: &'a Token<'a>,
+        keyword: Token,
+        semicolon: Token,
     },
     /// C90 6.6.6.4.
     Return {
-        keyword: &'a Token<'a>,
-        value: Option<Conditional<'a>>,
-        semicolon: &'a Token<'a>,
+        keyword: Token,
+        value: Option<Conditional>,
+        semicolon: Token,
     },
     /// C90 7.2.1.1.
     Assert {
-        keyword: &'a Token<'a>,
-        condition: Condition<'a>,
-        semicolon: &'a Token<'a>,
+        keyword: Token,
+        condition: Condition,
+        semicolon: Token,
     },
     /// C90 7.9.6.3.
     Printf {
-        keyword: &'a Token<'a>,
-        open: &'a Token<'a>,
-        printed: Printed<'a>,
-        close: &'a Token<'a>,
-        semicolon: &'a Token<'a>,
+        keyword: Token,
+        open: Token,
+        printed: Printed,
+        close: Token,
+        semicolon: Token,
     },
 }
 
-impl<'a> Drop for StatementForm<'a> {
+impl Drop for StatementForm {
     #[cycle(statement)]
     fn drop(self) {
         match self {
@@ -377,11 +377,11 @@ impl<'a> Drop for StatementForm<'a> {
 /// The substatement or loop body that another statement controls (C90 6.6.4, 6.6.5): one more construct is around its
 /// tokens.
 #[cycle(statement)]
-pub struct Controlled<'a> {
-    pub statement: Box<Statement<'a>>,
+pub struct Controlled {
+    pub statement: Box<Statement>,
 }
 
-impl<'a> Drop for Controlled<'a> {
+impl Drop for Controlled {
     #[cycle(statement)]
     fn drop(self) {
         let Controlled { statement: _ } = self;
@@ -390,12 +390,12 @@ impl<'a> Drop for Controlled<'a> {
 
 /// `else` and its statement.
 #[cycle(statement)]
-pub struct Else<'a> {
-    pub keyword: &'a Token<'a>,
-    pub statement: Controlled<'a>,
+pub struct Else {
+    pub keyword: Token,
+    pub statement: Controlled,
 }
 
-impl<'a> Drop for Else<'a> {
+impl Drop for Else {
     #[cycle(statement)]
     fn drop(self) {
         let Else {
@@ -407,17 +407,17 @@ impl<'a> Drop for Else<'a> {
 
 /// A `do` loop (C90 6.6.5.2).
 #[cycle(statement)]
-pub struct DoWhile<'a> {
+pub struct DoWhile {
     /// `do`
-    pub keyword: &'a Token<'a>,
-    pub body: Controlled<'a>,
+    pub keyword: Token,
+    pub body: Controlled,
     /// `while`
-    pub while_keyword: &'a Token<'a>,
-    pub condition: Condition<'a>,
-    pub semicolon: &'a Token<'a>,
+    pub while_keyword: Token,
+    pub condition: Condition,
+    pub semicolon: Token,
 }
 
-impl<'a> Drop for DoWhile<'a> {
+impl Drop for DoWhile {
     #[cycle(statement)]
     fn drop(self) {
         let DoWhile {
@@ -432,18 +432,18 @@ impl<'a> Drop for DoWhile<'a> {
 
 /// A `for` loop (C90 6.6.5.3).
 #[cycle(statement)]
-pub struct For<'a> {
+pub struct For {
     /// `for`
-    pub keyword: &'a Token<'a>,
+    pub keyword: Token,
     /// `(`
-    pub open: &'a Token<'a>,
-    pub head: Box<ForHead<'a>>,
+    pub open: Token,
+    pub head: Box<ForHead>,
     /// `)`
-    pub close: &'a Token<'a>,
-    pub body: Controlled<'a>,
+    pub close: Token,
+    pub body: Controlled,
 }
 
-impl<'a> Drop for For<'a> {
+impl Drop for For {
     #[cycle(statement)]
     fn drop(self) {
         let For {
@@ -457,35 +457,35 @@ impl<'a> Drop for For<'a> {
 }
 
 /// What stands at the level of the file: variables or a function (C90 6.7).
-pub struct External<'a> {
-    pub name: TypeName<'a>,
-    pub form: ExternalForm<'a>,
+pub struct External {
+    pub name: TypeName,
+    pub form: ExternalForm,
 }
 
-impl<'a> Drop for External<'a> {
+impl Drop for External {
     fn drop(self) {
         let External { name: _, form: _ } = self;
     }
 }
 
 /// The forms of what stands at the level of the file.
-pub enum ExternalForm<'a> {
+pub enum ExternalForm {
     /// Variables of the file (C90 6.7.2).
     Variables {
-        declarators: Declarators<'a>,
-        semicolon: &'a Token<'a>,
+        declarators: Declarators,
+        semicolon: Token,
     },
     /// A function's definition or prototype (C90 6.7.1, 6.5.4.3).
     Function {
-        name: &'a Token<'a>,
-        open: &'a Token<'a>,
-        parameters: Parameters<'a>,
-        close: &'a Token<'a>,
-        end: FunctionEnd<'a>,
+        name: Token,
+        open: Token,
+        parameters: Parameters,
+        close: Token,
+        end: FunctionEnd,
     },
 }
 
-impl<'a> Drop for ExternalForm<'a> {
+impl Drop for ExternalForm {
     fn drop(self) {
         match self {
             ExternalForm::Variables {
@@ -504,14 +504,14 @@ impl<'a> Drop for ExternalForm<'a> {
 }
 
 /// A function's body, or the end of its prototype.
-pub enum FunctionEnd<'a> {
+pub enum FunctionEnd {
     /// The body of a definition (C90 6.7.1).
-    Body(Block<'a>),
+    Body(Block),
     /// The semicolon of a prototype.
-    Prototype { semicolon: &'a Token<'a> },
+    Prototype { semicolon: Token },
 }
 
-impl<'a> Drop for FunctionEnd<'a> {
+impl Drop for FunctionEnd {
     fn drop(self) {
         match self {
             FunctionEnd::Body(_) => {}
@@ -521,13 +521,13 @@ impl<'a> Drop for FunctionEnd<'a> {
 }
 
 /// The tree of a file, a translation unit (C90 6.7). No token in it has more than a hundred constructs around it.
-pub struct RawProgram<'a> {
-    pub externals: Vec<External<'a>>,
+pub struct RawProgram {
+    pub externals: Vec<External>,
     pub ghost accepted: { IsTrue (has_accepted_levels
         (node_of file (joined (map external_marks externals.items)))) },
 }
 
-impl<'a> Drop for RawProgram<'a> {
+impl Drop for RawProgram {
     fn drop(self) {
         let RawProgram { externals: _ } = self;
     }

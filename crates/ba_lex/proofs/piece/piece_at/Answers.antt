@@ -1,4 +1,4 @@
-use Rattle.std.proofs.Common.{◌≡◌, ◌∷◌, false, take, arith, sym, ap, ◌∙◌}
+use Rattle.std.proofs.Common.{◌≡◌, ◌∷◌, IfOk, false, take, arith, sym, ap, subst, ◌∙◌}
 use Rattle.std.specs.Prelude.{◌==◌}
 use Rattle.std.proofs.lemmas.Bool.Decides.{nat_tests}
 use Rattle.ba_lex.specs.Pieces.{word_at, number_at}
@@ -13,7 +13,8 @@ returns-then-is_letter-clause-value c =
     let taken = front_taken c.args.text.now b c.word_count.result bs c.requires.parts in
     let counted = ap (λ n. word_at (b ∷ take n bs)) c.word_count.ensures.count in
     let is = piece_at-letter b bs (sym c.is_line_end.ensures ∙ c.if-is_line_end.false) (sym c.is_blank.ensures ∙ c.if-is_blank.false) hash (sym c.is_letter.ensures ∙ c.if-is_letter.true) in
-    c.word_at.ensures.value ∙ ap word_at taken ∙ counted ∙ sym is
+    subst (λ piece. IfOk c.word_at.result (λ found. found ≡ piece)) (ap word_at taken ∙ counted ∙ sym is)
+    c.word_at.ensures.value
 
 pub returns-then-is_ascii_digit-clause-value : goal.returns-then-is_ascii_digit-clause-value
 returns-then-is_ascii_digit-clause-value c =

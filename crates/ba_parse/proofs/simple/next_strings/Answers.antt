@@ -31,6 +31,6 @@ loop-read-preserved c =
     let one : length c.args.reader.now - c.loop-read._read ≡ length c.args.reader.now
     - (c.loop-read._read + 1) + 1 = omega (arith, ap length c.rest-most.ensures) in
     repeat-next _ _ _ string a_string c.loop-read.reader c.take.new.self (leaves c.loop-read.rest.items)
-    (leaves c.push.new.self.items) (leaf c.in_ok-string.string.now ∷ []) c.loop-read.invariant some one
+    (leaves c.push.new.self.items) (leaf c.in_ok-string.string ∷ []) c.loop-read.invariant some one
     c.in_ok-string.ensures (leaves-push c.loop-read.rest.items c.push.new.self.items c.in_ok-string.string
     c.in_ok-push.ensures.items)

@@ -88,7 +88,7 @@ if_statement-returns t c =
     c.take.new.self _ _ _ _ c.in_ok-test.ensures
     (both-read (deeper_in inner in_statement) (read_else inner)
     _ _ _ _ _ c.in_ok-holds.ensures c.in_ok-fails.ensures))
-    ∙ ap (λ f. done (leaf c.in_ok-keyword.keyword.now ∷ f) after) (sym (append_assoc condition holds fails))
+    ∙ ap (λ f. done (leaf c.in_ok-keyword.keyword ∷ f) after) (sym (append_assoc condition holds fails))
     ∙ ap (λ f. done f after)
     (sym (if_marks c.in_ok-keyword.keyword c.in_ok-test.test c.in_ok-holds.holds c.in_ok-fails.fails))
 
@@ -97,7 +97,7 @@ for_statement-returns t c =
     let inner : Inner = levels_left c.args.levels in
     let after : List Token = c.controlled.new.reader in
     let head : List Mark = one_deeper (for_head_marks c.in_ok-head.head.value) in
-    let close : List Mark = leaf c.in_ok-close.close.now ∷ [] in
+    let close : List Mark = leaf c.in_ok-close.close ∷ [] in
     let body : List Mark = controlled_marks c.in_ok-body.body in
     both-read (read_key keyword.For) (read_parenthesized inner in_for ▹ deeper_in inner in_statement)
     c.args.reader.now _ _ _ _ c.in_ok-keyword.ensures
@@ -108,7 +108,7 @@ for_statement-returns t c =
     (both-read (deeper_in inner in_for) (read_sign punct.CloseParenthesis)
     _ _ _ _ _ (ap lowered c.in_ok-head.ensures) c.in_ok-close.ensures))
     c.in_ok-body.ensures)
-    ∙ ap (λ f. done (leaf c.in_ok-keyword.keyword.now ∷ leaf c.in_ok-open.«open».now ∷ f) after)
+    ∙ ap (λ f. done (leaf c.in_ok-keyword.keyword ∷ leaf c.in_ok-open.«open» ∷ f) after)
     (append_assoc head close body)
     ∙ ap (λ f. done f after) (sym (for_marks record {
       keyword = c.in_ok-keyword.keyword;

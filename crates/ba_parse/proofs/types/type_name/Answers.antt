@@ -24,7 +24,7 @@ returns-in_err-word c =
 pub loop-reader-preserved : goal.loop-reader-preserved
 loop-reader-preserved c =
     let told : next_word c.args.with_static c.as_slice.result.now c.loop-reader.reader
-    ≡ done (leaf c.in_ok-word.word.now ∷ []) c.next_word.new.reader = c.in_ok-word.ensures in
+    ≡ done (leaf c.in_ok-word.word ∷ []) c.next_word.new.reader = c.in_ok-word.ensures in
     let told_here = rw (c.as_slice.ensures.value, c.loop-reader.invariant.seen) at told in
     let ws = c.loop-reader.words.items in
     record {

@@ -10,7 +10,7 @@ use Rattle.ba_types.proofs.assignments.add_assign.Goals as goal
 
 pub returns : goal.returns
 returns c = let w = c.args.work.now in let scope = c.args.scope.now in
-    let target = c.args.target.now in let at = target.name.now.at in
+    let target = c.args.target.now in let at = target.name.at in
     let typing = typed_conditional c.args.value.now in
     on_ok_weaker c.put_assignment.result (λ puts.
     assignment-is at target c.operator_at-op.result typing scope w c.put_assignment.new.work

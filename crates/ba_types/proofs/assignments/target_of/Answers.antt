@@ -10,7 +10,7 @@ use Rattle.ba_types.proofs.assignments.target_of.Goals as goal
 
 pub returns-in-None : goal.returns-in-None
 returns-in-None c = let scope = c.args.scope.now in let old = c.args.tally.now in
-    let name = c.args.target.now.name.now in
+    let name = c.args.target.now.name in
     subst (λ (o : Option Index). GivesTarget c.args.at name.at c.args.op
     (typed_target name.at (name_of name) (index_typing o) scope old.calls) old c.variable_target.new.tally
     c.variable_target.result)
@@ -18,7 +18,7 @@ returns-in-None c = let scope = c.args.scope.now in let old = c.args.tally.now i
 
 pub returns-in-Some : goal.returns-in-Some
 returns-in-Some c = let scope = c.args.scope.now in let old = c.args.tally.now in
-    let name = c.args.target.now.name.now in
+    let name = c.args.target.now.name in
     subst (λ (o : Option Typing). IfOk c.element_target.result (λ j. GivesTarget c.args.at name.at c.args.op
     (typed_target name.at (name_of name) o scope old.calls) old c.element_target.new.tally j))
     (ap (λ (e : Conditional). Some (typed_conditional e)) c.deref.ensures ∙ sym (ap index_typing

@@ -13,7 +13,7 @@ use Rattle.ba_types.proofs.declarations.add_declarator.Goals as goal
 
 pub returns : goal.returns
 returns c =
-    let d = c.args.declarator.now in let at = d.name.now.at in let w = c.args.work.now in let scope =
+    let d = c.args.declarator.now in let at = d.name.at in let w = c.args.work.now in let scope =
     c.args.scope.now in
     let stmts = map tree_of_stmt c.args.stmts.now.items in
     let expression = typed_array_length at (count_of_values d.initialiser) scope w.tally.calls d.length in

@@ -109,7 +109,7 @@ chain-returns-in-None t c base s stands =
     let which = c.binary_operator-operator.ensures ∙ ap binary_operator c.punct_of.ensures in
     subst (λ x. Stands c.in_ok-left.left x base c.operand.new.tally)
     (sym (forms.chain-last c.args.c.now ordered scope base.calls s c.in-None.is))
-    (chain-step (binary_operator (punct_of (out-Chain c.args.c.now).operator.now)) (whole_operand
+    (chain-step (binary_operator (punct_of (out-Chain c.args.c.now).operator)) (whole_operand
     (typed_operand (out-Chain
     c.args.c.now).operand) scope) base c.args.tally.now
     c.operand.new.tally s c.args.left c.in_ok-right.right c.in_ok-left.left stands c.in_ok-right.ensures
@@ -121,14 +121,14 @@ chain-returns-in-Some t c base s stands =
     let scope = c.args.scope.now in
     let ordered = sym c.is_left_to_right.ensures ∙ c.if-not-is_left_to_right.false in
     let which = c.binary_operator-operator.ensures ∙ ap binary_operator c.punct_of.ensures in
-    let u = typed_binary (binary_operator (punct_of (out-Chain c.args.c.now).operator.now)) s
+    let u = typed_binary (binary_operator (punct_of (out-Chain c.args.c.now).operator)) s
     (whole_operand (typed_operand (out-Chain c.args.c.now).operand) scope (base.calls + s.calls)) in
     subst (λ x. Gives x base c.chain.new.tally c.chain.result)
     (sym (forms.chain-more c.args.c.now ordered scope base.calls s c.in-Some.rest c.in-Some.is))
     (subst (λ rest. Gives ((typed_chain rest).over scope base.calls u) base c.chain.new.tally c.chain.result)
     c.deref.ensures
     (c.chain.ensures base u
-    (chain-step (binary_operator (punct_of (out-Chain c.args.c.now).operator.now)) (whole_operand
+    (chain-step (binary_operator (punct_of (out-Chain c.args.c.now).operator)) (whole_operand
     (typed_operand (out-Chain
     c.args.c.now).operand) scope) base c.args.tally.now
     c.operand.new.tally s c.args.left c.in_ok-right.right c.in_ok-left.left stands c.in_ok-right.ensures
@@ -140,7 +140,7 @@ chain-returns-in-Some t c base s stands =
 pub unary-returns-in_ok-a-in-Prefix : goal.unary-returns-in_ok-a-in-Prefix
 unary-returns-in_ok-a-in-Prefix t c =
     let scope = c.args.scope.now in let old = c.args.tally.now in let new = c.unary.new.tally in
-    let at = c.in-Prefix.operator.now.at in
+    let at = c.in-Prefix.operator.at in
     let op = c.unary_operator.result in
     let which = c.unary_operator.ensures ∙ ap unary_operator c.punct_of.ensures in
     let typing = λ (n : ℕ). typed_unary_expression c.in-Prefix.operand.value scope n in
@@ -158,7 +158,7 @@ unary-returns-in_ok-a-in-Prefix t c =
 pub unary-returns-in_ok-a-in-Cast : goal.unary-returns-in_ok-a-in-Cast
 unary-returns-in_ok-a-in-Cast t c =
     let scope = c.args.scope.now in let old = c.args.tally.now in let new = c.unary-in-Cast.new.tally in
-    let at = c.in-Cast.«open».now.at in
+    let at = c.in-Cast.«open».at in
     let to = c.type_named-to.result in
     let mid = c.add_if.new.self in
     let typing = λ (n : ℕ). typed_unary_expression c.in-Cast.operand.value scope n in
@@ -190,7 +190,7 @@ primary-returns-in-Name t c =
 pub primary-returns-in_ok-index-in-Element : goal.primary-returns-in_ok-index-in-Element
 primary-returns-in_ok-index-in-Element t c =
     let scope = c.args.scope.now in let old = c.args.tally.now in
-    let name = c.in-Element.name.now in
+    let name = c.in-Element.name in
     let m = c.meaning_of-meaning.result in
     let means = c.meaning_of-meaning.ensures ∙ ap (meaning_of scope) c.name_of.ensures in
     let typing = λ (n : ℕ). typed_conditional c.in-Element.index.value scope n in
@@ -210,7 +210,7 @@ primary-returns-in_ok-index-in-Element t c =
 pub primary-returns-in_ok-j-in-Call : goal.primary-returns-in_ok-j-in-Call
 primary-returns-in_ok-j-in-Call t c =
     let scope = c.args.scope.now in let old = c.args.tally.now in
-    let name = c.in-Call.name.now in
+    let name = c.in-Call.name in
     subst (λ s. Gives s old c.call.new.tally c.called.result)
     (sym (ap (λ p. typed_primary p scope old.calls) c.in-Call.is
     ∙ forms.call-is c.in-Call.name c.in-Call.«open» c.in-Call.arguments c.in-Call.close scope old.calls))
@@ -230,7 +230,7 @@ pub primary-returns-in_ok-j-in-Parenthesized : goal.primary-returns-in_ok-j-in-P
 primary-returns-in_ok-j-in-Parenthesized t c =
     let scope = c.args.scope.now in let old = c.args.tally.now in let new =
     c.conditional-in-Parenthesized.new.tally in
-    let at = c.in-Parenthesized.«open».now.at in
+    let at = c.in-Parenthesized.«open».at in
     let j = c.in_ok-j-in-Parenthesized.j in
     subst (λ s. Stands c.beginning_at.result s old new)
     (sym (ap (λ p. typed_primary p scope old.calls) c.in-Parenthesized.is
