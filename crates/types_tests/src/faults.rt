@@ -6,7 +6,7 @@ use std::process::Abort;
 
 /// Compares the answer to each text with the one that is expected.
 fn expect_answers(rt: &impl Abort, alloc: Global, rows: &[(&str, &str)]) {
-    assert_eq!(rt; first_difference(alloc, rows), Ok(None));
+    assert_eq!(rt; first_difference(rt, alloc, rows), None);
 }
 
 /// Names in scope and not.

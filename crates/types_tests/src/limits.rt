@@ -1,21 +1,24 @@
 //! Each limit reached and passed by one (limits of the profile).
 
 use crate::support::{first_difference, is_answer};
-use std::alloc::{AllocError, Global};
+use std::alloc::Global;
+use std::panic::Expect;
+use std::process::Abort;
 
 /// The front, the part so many times, and the back.
 fn add_repeated(
+    rt: &impl Abort,
     text: &mut String,
     front: &str,
     part: &str,
     count: u32,
     back: &str,
-) -> Result<(), AllocError> {
-    text.push_str(front)?;
+) {
+    text.push_str(front).expect(rt, "memory");
     for _ in 0..count {
-        text.push_str(part)?;
+        text.push_str(part).expect(rt, "memory");
     }
-    text.push_str(back)
+    text.push_str(back).expect(rt, "memory");
 }
 
 /// The front, the part, how often it stands, the back, and the answer.
@@ -39,41 +42,42 @@ static LIMITS: [Row; 15] = [
     ("int x = 1", "+1", 100, "; int main(void) { }", "9 at 1:5"),
 ];
 
-fn is_limit(alloc: Global, row: &Row) -> Result<bool, AllocError> {
+fn is_limit(rt: &impl Abort, alloc: Global, row: &Row) -> bool {
     let (front, part, count, back, expected) = *row;
     let mut text = String::new(alloc);
-    add_repeated(&mut text, front, part, count, back)?;
-    is_answer(alloc, text.as_str(), expected)
+    add_repeated(rt, &mut text, front, part, count, back);
+    is_answer(rt, alloc, text.as_str(), expected)
 }
 
 /// The first row whose text has another answer, if there is one.
-fn first_other_limit(alloc: Global, rows: &[Row]) -> Result<Option<usize>, AllocError> {
+fn first_other_limit(rt: &impl Abort, alloc: Global, rows: &[Row]) -> Option<usize> {
     for i in 0..rows.len() {
-        if !is_limit(alloc, &rows[i])? {
-            return Ok(Some(i));
+        if !is_limit(rt, alloc, &rows[i]) {
+            return Some(i);
         }
     }
-    Ok(None)
+    None
 }
 
 #[test]
 fn limits_are_reached_and_passed_by_one(rt: HostRuntime) {
-    assert_eq!(rt; first_other_limit(rt.alloc(), LIMITS.as_slice()), Ok(None));
+    assert_eq!(rt; first_other_limit(&rt, rt.alloc(), LIMITS.as_slice()), None);
 }
 
 /// So many prototypes of different functions, and a main.
-fn add_functions(text: &mut String, count: u32) -> Result<(), AllocError> {
+fn add_functions(rt: &impl Abort, text: &mut String, count: u32) {
     for i in 0..count {
-        write!(text, "int f{i}(void);\n")?;
+        write!(text, "int f{i}(void);\n").expect(rt, "memory");
     }
     text.push_str("int main(void) { return 0; }")
+        .expect(rt, "memory");
 }
 
 /// Whether the text of so many prototypes and a main has this answer.
-fn are_functions(alloc: Global, count: u32, expected: &str) -> Result<bool, AllocError> {
+fn are_functions(rt: &impl Abort, alloc: Global, count: u32, expected: &str) -> bool {
     let mut text = String::new(alloc);
-    add_functions(&mut text, count)?;
-    is_answer(alloc, text.as_str(), expected)
+    add_functions(rt, &mut text, count);
+    is_answer(rt, alloc, text.as_str(), expected)
 }
 
 static ELEMENTS: [(&str, &str); 4] = [
@@ -98,7 +102,7 @@ static ELEMENTS: [(&str, &str); 4] = [
 #[test]
 fn functions_and_elements_are_limited(rt: HostRuntime) {
     let alloc = rt.alloc();
-    assert_eq!(rt; are_functions(alloc, 99, "fits"), Ok(true));
-    assert_eq!(rt; are_functions(alloc, 100, "9 at 101:5"), Ok(true));
-    assert_eq!(rt; first_difference(alloc, ELEMENTS.as_slice()), Ok(None));
+    assert!(rt; are_functions(&rt, alloc, 99, "fits"));
+    assert!(rt; are_functions(&rt, alloc, 100, "9 at 101:5"));
+    assert_eq!(rt; first_difference(&rt, alloc, ELEMENTS.as_slice()), None);
 }

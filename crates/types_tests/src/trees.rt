@@ -3,7 +3,9 @@
 use crate::support::typed;
 use crate::words::{last_words, program_words};
 use ba_bytes::pieces::Pieces;
-use std::alloc::{AllocError, Global};
+use std::alloc::Global;
+use std::panic::Expect;
+use std::process::Abort;
 
 /// An array, `if` and `else`, an assert, an element returned.
 const P1: &str = "int Array[3];
@@ -196,30 +198,36 @@ fn are_the_same(found: &str, expected: &str) -> bool {
 }
 
 /// Whether a program has this tree.
-fn has_tree(alloc: Global, text: &str, expected: &str) -> Result<bool, AllocError> {
-    match typed(alloc, text)? {
-        Ok(program) => Ok(are_the_same(program_words(alloc, &program)?.as_str(), expected)),
-        Err(_) => Ok(false),
+fn has_tree(rt: &impl Abort, alloc: Global, text: &str, expected: &str) -> bool {
+    match typed(rt, alloc, text) {
+        Ok(program) => {
+            let words = program_words(alloc, &program).expect(rt, "memory");
+            are_the_same(words.as_str(), expected)
+        }
+        Err(_) => false,
     }
 }
 
 /// Whether the last statement of a program has this tree.
-fn ends_with(alloc: Global, text: &str, expected: &str) -> Result<bool, AllocError> {
-    match typed(alloc, text)? {
-        Ok(program) => Ok(are_the_same(last_words(alloc, &program)?.as_str(), expected)),
-        Err(_) => Ok(false),
+fn ends_with(rt: &impl Abort, alloc: Global, text: &str, expected: &str) -> bool {
+    match typed(rt, alloc, text) {
+        Ok(program) => {
+            let words = last_words(alloc, &program).expect(rt, "memory");
+            are_the_same(words.as_str(), expected)
+        }
+        Err(_) => false,
     }
 }
 
 /// The first program with another tree, if there is one.
-fn first_other_program(alloc: Global, rows: &[(&str, &str)]) -> Result<Option<usize>, AllocError> {
+fn first_other_program(rt: &impl Abort, alloc: Global, rows: &[(&str, &str)]) -> Option<usize> {
     for i in 0..rows.len() {
         let (text, expected) = rows[i];
-        if !has_tree(alloc, text, expected)? {
-            return Ok(Some(i));
+        if !has_tree(rt, alloc, text, expected) {
+            return Some(i);
         }
     }
-    Ok(None)
+    None
 }
 
 static PROGRAMS: [(&str, &str); 5] = [
@@ -232,32 +240,29 @@ static PROGRAMS: [(&str, &str); 5] = [
 
 #[test]
 fn programs_have_these_trees(rt: HostRuntime) {
-    let other = first_other_program(rt.alloc(), PROGRAMS.as_slice());
-    assert_eq!(rt; other, Ok(None));
+    let other = first_other_program(&rt, rt.alloc(), PROGRAMS.as_slice());
+    assert_eq!(rt; other, None);
 }
 
 /// Whether a statement has this tree.
-fn is_statement(alloc: Global, statement: &str, expected: &str) -> Result<bool, AllocError> {
-    let text = format!(in alloc; "{VARIABLES}{statement} }}")?;
-    ends_with(alloc, text.as_str(), expected)
+fn is_statement(rt: &impl Abort, alloc: Global, statement: &str, expected: &str) -> bool {
+    let text = format!(in alloc; "{VARIABLES}{statement} }}").expect(rt, "memory");
+    ends_with(rt, alloc, text.as_str(), expected)
 }
 
 /// The first statement with another tree, if there is one.
-fn first_other_statement(
-    alloc: Global,
-    rows: &[(&str, &str)],
-) -> Result<Option<usize>, AllocError> {
+fn first_other_statement(rt: &impl Abort, alloc: Global, rows: &[(&str, &str)]) -> Option<usize> {
     for i in 0..rows.len() {
         let (statement, expected) = rows[i];
-        if !is_statement(alloc, statement, expected)? {
-            return Ok(Some(i));
+        if !is_statement(rt, alloc, statement, expected) {
+            return Some(i);
         }
     }
-    Ok(None)
+    None
 }
 
 #[test]
 fn statements_have_these_trees(rt: HostRuntime) {
-    let other = first_other_statement(rt.alloc(), STATEMENTS.as_slice());
-    assert_eq!(rt; other, Ok(None));
+    let other = first_other_statement(&rt, rt.alloc(), STATEMENTS.as_slice());
+    assert_eq!(rt; other, None);
 }
