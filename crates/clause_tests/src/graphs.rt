@@ -1,13 +1,14 @@
 //! Small graphs of gates: what their formulas say is what the gates' truth tables say.
 
-ghost use Rattle.std.specs.Prelude.{◌<◌, ◌≤◌, length, IfOk};
+ghost use Rattle.std.specs.Prelude.{◌<◌, ◌≤◌, length};
 ghost use Rattle.ba_nodes.specs.Gates.{IsBitOf};
 
 use ba_clauses::{Encoding, Reading, clauses_of};
 use ba_lits::Lit;
 use ba_nodes::{Bit, Node, Nodes};
-use std::alloc::{AllocError, Global};
-use std::test::Fail;
+use std::alloc::Global;
+use std::panic::Expect;
+use std::process::Abort;
 
 /// Numbers that look random (the generator of D. E. Knuth's MMIX).
 #[derive(Drop)]
@@ -40,34 +41,34 @@ impl Dice {
 }
 
 /// Adds a gate of bits that were made before.
-fn add_gate(nodes: &mut Nodes, dice: &mut Dice) -> Result<(), AllocError>
+fn add_gate(rt: &impl Abort, nodes: &mut Nodes, dice: &mut Dice)
     ensures { length nodes.old ≤ length nodes.new }
 {
     let a = dice.bit(nodes);
     let b = dice.bit(nodes);
     let c = dice.bit(nodes);
-    let _ = match dice.roll(8) {
-        0 => nodes.xor(a, b)?,
-        1 => nodes.mux(a, b, c)?,
-        2 => nodes.majority(a, b, c)?,
-        3 => nodes.or(a, b)?,
-        _ => nodes.and(a, b)?,
+    let gate = match dice.roll(8) {
+        0 => nodes.xor(a, b),
+        1 => nodes.mux(a, b, c),
+        2 => nodes.majority(a, b, c),
+        3 => nodes.or(a, b),
+        _ => nodes.and(a, b),
     };
-    Ok(())
+    gate.expect(rt, "memory");
 }
 
 /// Three free bits and so many gates.
-fn graph(alloc: Global, dice: &mut Dice, gates: u64) -> Result<Nodes, AllocError>
-    ensures { IfOk result (λ nodes. 3 ≤ length nodes) }
+fn graph(rt: &impl Abort, alloc: Global, dice: &mut Dice, gates: u64) -> Nodes
+    ensures { 3 ≤ length result }
 {
     let mut nodes = Nodes::new(alloc);
-    nodes.free()?;
-    nodes.free()?;
-    nodes.free()?;
+    nodes.free().expect(rt, "memory");
+    nodes.free().expect(rt, "memory");
+    nodes.free().expect(rt, "memory");
     for _ in 0..gates {
-        add_gate(&mut nodes, dice)?;
+        add_gate(rt, &mut nodes, dice);
     }
-    Ok(nodes)
+    nodes
 }
 
 /// A binary digit of a number.
@@ -76,13 +77,13 @@ fn digit(number: u64, place: u64) -> bool {
 }
 
 /// The values of the constant and of the nodes, where the free bits are the digits of a row.
-fn values(alloc: Global, nodes: &[Node], row: u64) -> Result<Vec<bool>, AllocError> {
-    let mut values = vec![in alloc; false]?;
+fn values(rt: &impl Abort, alloc: Global, nodes: &[Node], row: u64) -> Vec<bool> {
+    let mut values = vec![in alloc; false].expect(rt, "memory");
     for node in nodes {
         let value = value_of(values.as_slice(), *node, row);
-        values.push(value)?;
+        values.push(value).expect(rt, "memory");
     }
-    Ok(values)
+    values
 }
 
 /// The value of a node.
@@ -109,21 +110,25 @@ fn value_in(values: &[bool], bit: Bit) -> bool {
 
 /// Whether some row of the truth table has all required bits true and these values of the bits that are read.
 fn gates_give(
+    rt: &impl Abort,
     alloc: Global,
     nodes: &Nodes,
     required: &[Bit],
     read: &[Bit],
     wanted: u64,
-) -> Result<bool, AllocError> {
+) -> bool {
     for row in 0..8 {
-        let values = values(alloc, nodes.as_slice(), row)?;
-        if required.iter().all(|bit| value_in(values.as_slice(), *bit))
-            && are_values(values.as_slice(), read, wanted)
-        {
-            return Ok(true);
+        let values = values(rt, alloc, nodes.as_slice(), row);
+        if row_gives(values.as_slice(), required, read, wanted) {
+            return true;
         }
     }
-    Ok(false)
+    false
+}
+
+/// Whether the values of a row are true for all required bits, and these for the bits that are read.
+fn row_gives(values: &[bool], required: &[Bit], read: &[Bit], wanted: u64) -> bool {
+    required.iter().all(|bit| value_in(values, *bit)) && are_values(values, read, wanted)
 }
 
 /// Whether bits have the digits of a number as values.
@@ -186,25 +191,37 @@ fn are_read(encoding: &Encoding, row: u64, wanted: u64) -> bool {
 
 /// Whether a graph of this number and its formula say the same: of the three free bits and another, where two bits are
 /// required.
-fn agrees(alloc: Global, number: u64) -> Result<bool, AllocError> {
+fn agrees(rt: &impl Abort, alloc: Global, number: u64) -> bool {
     let mut dice = Dice { state: number };
     let gates = dice.roll(6);
-    let nodes = graph(alloc, &mut dice, gates)?;
+    let nodes = graph(rt, alloc, &mut dice, gates);
     let required = [dice.bit(&nodes), dice.bit(&nodes)];
     let read = [free_bit(0), free_bit(1), free_bit(2), dice.bit(&nodes)];
-    let encoding = clauses_of(alloc, &nodes, &required, &read)?;
+    let encoding = clauses_of(alloc, &nodes, &required, &read).expect(rt, "memory");
+    say_the_same(rt, alloc, &nodes, &required, &read, &encoding)
+}
+
+/// Whether the truth table and the formula give the same values of the bits that are read.
+fn say_the_same(
+    rt: &impl Abort,
+    alloc: Global,
+    nodes: &Nodes,
+    required: &[Bit],
+    read: &[Bit],
+    encoding: &Encoding,
+) -> bool {
     let variables = encoding.formula.variables();
     if variables > 8 {
-        return Ok(false);
+        return false;
     }
     for wanted in 0..16 {
-        if gates_give(alloc, &nodes, &required, &read, wanted)?
-            != formula_gives(&encoding, 1 << variables, wanted)
+        if gates_give(rt, alloc, nodes, required, read, wanted)
+            != formula_gives(encoding, 1 << variables, wanted)
         {
-            return Ok(false);
+            return false;
         }
     }
-    Ok(true)
+    true
 }
 
 /// One of the three free bits.
@@ -219,19 +236,16 @@ fn free_bit(number: u32) -> Bit
 }
 
 /// Whether all graphs of numbers up to one agree with their formulas.
-fn all_agree(alloc: Global, count: u64) -> Result<bool, AllocError> {
+fn all_agree(rt: &impl Abort, alloc: Global, count: u64) -> bool {
     for number in 0..count {
-        if !agrees(alloc, number)? {
-            return Ok(false);
+        if !agrees(rt, alloc, number) {
+            return false;
         }
     }
-    Ok(true)
+    true
 }
 
 #[test]
-fn models_are_the_assignments_under_which_the_required_bits_are_true(
-    rt: HostRuntime,
-) -> Result<(), Fail> {
-    assert!(rt; all_agree(rt.alloc(), 150)?);
-    Ok(())
+fn models_are_the_assignments_under_which_the_required_bits_are_true(rt: HostRuntime) {
+    assert!(rt; all_agree(&rt, rt.alloc(), 150));
 }

@@ -1,6 +1,5 @@
 //! How many variables and clauses circuits take.
 
-ghost use Rattle.std.specs.Prelude.{IfOk};
 ghost use Rattle.ba_nodes.specs.Gates.{Extends, IsBitOf};
 ghost use Rattle.ba_words.specs.Words.{AreBitsOf};
 
@@ -8,8 +7,9 @@ use ba_clauses::{Encoding, clauses_of};
 use ba_muldiv::mul;
 use ba_nodes::{Bit, Nodes};
 use ba_words::{Word, add, equal, less};
-use std::alloc::{AllocError, Global};
-use std::test::Fail;
+use std::alloc::Global;
+use std::panic::Expect;
+use std::process::Abort;
 
 /// A circuit of two free words, with what is said of it.
 #[derive(Clone, Copy)]
@@ -39,83 +39,77 @@ static SIZES: [(Circuit, u64, u64); 5] = [
 ];
 
 /// A word of free bits.
-fn free_word(nodes: &mut Nodes) -> Result<Word, AllocError>
-    ensures bits { IfOk result (AreBitsOf nodes.new) }
+fn free_word(rt: &impl Abort, nodes: &mut Nodes) -> Word
+    ensures bits { AreBitsOf nodes.new result }
     ensures extends { Extends nodes.old nodes.new }
 {
     let mut word = [Nodes::constant(false); 32];
     for i in 0..32 {
-        word[i] = nodes.free()?;
+        word[i] = nodes.free().expect(rt, "memory");
     }
-    Ok(word)
+    word
 }
 
 /// What is said of a circuit of two free words.
-fn encoding(alloc: Global, circuit: Circuit) -> Result<Encoding, AllocError> {
+fn encoding(rt: &impl Abort, alloc: Global, circuit: Circuit) -> Encoding {
     let mut nodes = Nodes::new(alloc);
-    let a = free_word(&mut nodes)?;
-    let b = free_word(&mut nodes)?;
+    let a = free_word(rt, &mut nodes);
+    let b = free_word(rt, &mut nodes);
     match circuit {
         Circuit::Sum => {
-            let word = add(&mut nodes, &a, &b)?;
-            word_read(alloc, &nodes, &word)
+            let word = add(&mut nodes, &a, &b).expect(rt, "memory");
+            word_read(rt, alloc, &nodes, &word)
         }
         Circuit::Product => {
-            let word = mul(&mut nodes, &a, &b)?;
-            word_read(alloc, &nodes, &word)
+            let word = mul(&mut nodes, &a, &b).expect(rt, "memory");
+            word_read(rt, alloc, &nodes, &word)
         }
         Circuit::Less => {
-            let bit = less(&mut nodes, &a, &b, false)?;
-            bit_required(alloc, &nodes, bit)
+            let bit = less(&mut nodes, &a, &b, false).expect(rt, "memory");
+            bit_required(rt, alloc, &nodes, bit)
         }
         Circuit::Equal => {
-            let bit = equal(&mut nodes, &a, &b)?;
-            bit_required(alloc, &nodes, bit)
+            let bit = equal(&mut nodes, &a, &b).expect(rt, "memory");
+            bit_required(rt, alloc, &nodes, bit)
         }
         Circuit::Different => {
-            let bit = equal(&mut nodes, &a, &b)?;
-            bit_required(alloc, &nodes, Nodes::not(bit))
+            let bit = equal(&mut nodes, &a, &b).expect(rt, "memory");
+            bit_required(rt, alloc, &nodes, Nodes::not(bit))
         }
     }
 }
 
 /// A word is read.
-fn word_read(alloc: Global, nodes: &Nodes, word: &Word) -> Result<Encoding, AllocError>
+fn word_read(rt: &impl Abort, alloc: Global, nodes: &Nodes, word: &Word) -> Encoding
     requires { AreBitsOf nodes.now word.now }
 {
-    clauses_of(alloc, nodes, &[], word)
+    clauses_of(alloc, nodes, &[], word).expect(rt, "memory")
 }
 
 /// A bit is required.
-fn bit_required(alloc: Global, nodes: &Nodes, bit: Bit) -> Result<Encoding, AllocError>
+fn bit_required(rt: &impl Abort, alloc: Global, nodes: &Nodes, bit: Bit) -> Encoding
     requires { IsBitOf nodes.now bit }
 {
-    clauses_of(alloc, nodes, &[bit], &[])
+    clauses_of(alloc, nodes, &[bit], &[]).expect(rt, "memory")
 }
 
 /// Whether a circuit takes so many variables and clauses.
-fn takes(
-    alloc: Global,
-    circuit: Circuit,
-    variables: u64,
-    clauses: u64,
-) -> Result<bool, AllocError> {
-    let encoding = encoding(alloc, circuit)?;
-    Ok(encoding.formula.variables() == variables && encoding.formula.len() == clauses)
+fn takes(rt: &impl Abort, alloc: Global, circuit: Circuit, variables: u64, clauses: u64) -> bool {
+    let encoding = encoding(rt, alloc, circuit);
+    encoding.formula.variables() == variables && encoding.formula.len() == clauses
 }
 
 /// Whether all circuits take what they are to take.
-fn all_take(alloc: Global) -> Result<bool, AllocError> {
+fn all_take(rt: &impl Abort, alloc: Global) -> bool {
     for (circuit, variables, clauses) in SIZES {
-        if !takes(alloc, circuit, variables, clauses)? {
-            return Ok(false);
+        if !takes(rt, alloc, circuit, variables, clauses) {
+            return false;
         }
     }
-    Ok(true)
+    true
 }
 
 #[test]
-fn circuits_take_few_clauses(rt: HostRuntime) -> Result<(), Fail> {
-    assert!(rt; all_take(rt.alloc())?);
-    Ok(())
+fn circuits_take_few_clauses(rt: HostRuntime) {
+    assert!(rt; all_take(&rt, rt.alloc()));
 }
