@@ -1,11 +1,11 @@
 //! Products, quotients and remainders at the borders, as a C compiler computes them.
 
 use crate::operators::{Operator, at_constants, circuit};
-use crate::support::{free_word, number, values};
+use crate::support::{free_word, number_at};
 use ba_nodes::Nodes;
 use ba_words::Word;
-use std::alloc::{AllocError, Global};
-use std::test::Fail;
+use std::alloc::Global;
+use std::process::Abort;
 
 /// The first operands, one for each row of a table.
 static FIRST: [u32; 20] = [
@@ -311,58 +311,60 @@ static REMAINDERS: [[u32; 10]; 20] = [
 
 /// The first operand at which the circuits of constants and of free words differ from a table, if there is one.
 fn first_difference(
+    rt: &impl Abort,
     alloc: Global,
     operator: Operator,
     second: &[u32; 10],
     table: &[[u32; 10]; 20],
-) -> Result<Option<u32>, AllocError> {
+) -> Option<u32> {
     let mut nodes = Nodes::new(alloc);
-    first_wrong_row(alloc, &mut nodes, operator, second, table)
+    first_wrong_row(rt, alloc, &mut nodes, operator, second, table)
 }
 
 /// The same, with the nodes of the free words.
 fn first_wrong_row(
+    rt: &impl Abort,
     alloc: Global,
     nodes: &mut Nodes,
     operator: Operator,
     second: &[u32; 10],
     table: &[[u32; 10]; 20],
-) -> Result<Option<u32>, AllocError> {
-    let word = on_free_words(nodes, operator)?;
+) -> Option<u32> {
+    let word = on_free_words(rt, nodes, operator);
     for (a, row) in FIRST.iter().zip(table) {
         for (b, expected) in second.iter().zip(row) {
-            if differs(alloc, nodes, operator, &word, [*a, *b], *expected)? {
-                return Ok(Some(*a));
+            if differs(rt, alloc, nodes, operator, &word, [*a, *b], *expected) {
+                return Some(*a);
             }
         }
     }
-    Ok(None)
+    None
 }
 
 /// The word of an operator at two free words.
-fn on_free_words(nodes: &mut Nodes, operator: Operator) -> Result<Word, AllocError> {
-    let a = free_word(nodes)?;
-    let b = free_word(nodes)?;
-    circuit(nodes, operator, &a, &b)
+fn on_free_words(rt: &impl Abort, nodes: &mut Nodes, operator: Operator) -> Word {
+    let a = free_word(rt, nodes);
+    let b = free_word(rt, nodes);
+    circuit(rt, nodes, operator, &a, &b)
 }
 
 /// Whether the word of free words, or that of constants, has another value at these operands.
 fn differs(
+    rt: &impl Abort,
     alloc: Global,
     nodes: &Nodes,
     operator: Operator,
     word: &Word,
     operands: [u32; 2],
     expected: u32,
-) -> Result<bool, AllocError> {
+) -> bool {
     let [a, b] = operands;
-    let constant = at_constants(alloc, operator, a, b)?;
-    let values = values(alloc, nodes, a, b)?;
-    Ok(constant != Some(expected) || number(values.as_slice(), word) != expected)
+    let constant = at_constants(rt, alloc, operator, a, b);
+    constant != Some(expected) || number_at(rt, alloc, nodes, word, a, b) != expected
 }
 
 #[test]
-fn computes_as_a_compiler_does(rt: HostRuntime) -> Result<(), Fail> {
+fn computes_as_a_compiler_does(rt: HostRuntime) {
     let tables = [
         (Operator::Mul, &SECOND, &PRODUCTS),
         (Operator::Mul, &FURTHER, &FURTHER_PRODUCTS),
@@ -373,9 +375,8 @@ fn computes_as_a_compiler_does(rt: HostRuntime) -> Result<(), Fail> {
     ];
     for (operator, second, table) in tables {
         assert_eq!(rt;
-            first_difference(rt.alloc(), operator, second, table)?,
+            first_difference(&rt, rt.alloc(), operator, second, table),
             None
         );
     }
-    Ok(())
 }

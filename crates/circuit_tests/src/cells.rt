@@ -8,8 +8,9 @@ use crate::support::word;
 use ba_cells::{read_cell, write_cell};
 use ba_nodes::Nodes;
 use ba_words::Word;
-use std::alloc::{AllocError, Global};
-use std::test::Fail;
+use std::alloc::Global;
+use std::panic::Expect;
+use std::process::Abort;
 
 /// Cells of three constants.
 fn three() -> [Word; 3]
@@ -23,14 +24,14 @@ fn three() -> [Word; 3]
 static READ: [[u32; 2]; 5] = [[0, 10], [1, 20], [2, 30], [3, 10], [257, 20]];
 
 /// Whether each read gives its number.
-fn reads(nodes: &mut Nodes) -> Result<bool, AllocError> {
+fn reads(rt: &impl Abort, nodes: &mut Nodes) -> bool {
     let cells = three();
     for [index, expected] in &READ {
-        if read_cell(nodes, &cells, &word(*index))? != word(*expected) {
-            return Ok(false);
+        if read_cell(nodes, &cells, &word(*index)).expect(rt, "memory") != word(*expected) {
+            return false;
         }
     }
-    Ok(true)
+    true
 }
 
 /// Writes of a 7 by index and condition, with the numbers of the cells behind them.
@@ -43,41 +44,43 @@ static WRITTEN: [(u32, bool, [u32; 3]); 4] = [
 
 /// Whether a write leaves cells of these numbers.
 fn leaves(
+    rt: &impl Abort,
     alloc: Global,
     nodes: &mut Nodes,
     index: u32,
     when: bool,
     expected: &[u32; 3],
-) -> Result<bool, AllocError> {
+) -> bool {
     let condition = Nodes::constant(when);
-    let cells = write_cell(alloc, nodes, &three(), &word(index), &word(7), condition)?;
+    let cells = write_cell(alloc, nodes, &three(), &word(index), &word(7), condition).expect(
+        rt, "memory",
+    );
     let [first, second, third] = expected;
-    Ok(cells.as_slice() == [word(*first), word(*second), word(*third)].as_slice())
+    cells.as_slice() == [word(*first), word(*second), word(*third)].as_slice()
 }
 
 /// Whether each write leaves its cells.
-fn writes(alloc: Global, nodes: &mut Nodes) -> Result<bool, AllocError> {
+fn writes(rt: &impl Abort, alloc: Global, nodes: &mut Nodes) -> bool {
     for (index, when, expected) in &WRITTEN {
-        if !leaves(alloc, nodes, *index, *when, expected)? {
-            return Ok(false);
+        if !leaves(rt, alloc, nodes, *index, *when, expected) {
+            return false;
         }
     }
-    Ok(true)
+    true
 }
 
 /// Whether reads and writes have their values without a gate.
-fn reads_then_writes(alloc: Global, nodes: &mut Nodes) -> Result<bool, AllocError> {
-    Ok(reads(nodes)? && writes(alloc, nodes)? && nodes.count() == 0)
+fn reads_then_writes(rt: &impl Abort, alloc: Global, nodes: &mut Nodes) -> bool {
+    reads(rt, nodes) && writes(rt, alloc, nodes) && nodes.count() == 0
 }
 
 /// The same from no nodes on.
-fn has_the_values(alloc: Global) -> Result<bool, AllocError> {
+fn has_the_values(rt: &impl Abort, alloc: Global) -> bool {
     let mut nodes = Nodes::new(alloc);
-    reads_then_writes(alloc, &mut nodes)
+    reads_then_writes(rt, alloc, &mut nodes)
 }
 
 #[test]
-fn reads_and_writes(rt: HostRuntime) -> Result<(), Fail> {
-    assert!(rt; has_the_values(rt.alloc())?);
-    Ok(())
+fn reads_and_writes(rt: HostRuntime) {
+    assert!(rt; has_the_values(&rt, rt.alloc()));
 }

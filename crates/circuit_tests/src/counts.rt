@@ -3,8 +3,8 @@
 use crate::operators::{Operator, circuit};
 use crate::support::{free_word, word};
 use ba_nodes::Nodes;
-use std::alloc::{AllocError, Global};
-use std::test::Fail;
+use std::alloc::Global;
+use std::process::Abort;
 
 /// The second operands that are counted, where nothing stands for a free word.
 static SECOND: [Option<u32>; 9] = [
@@ -48,71 +48,70 @@ static COUNTS: [(Operator, [u64; 9]); 18] = [
 ];
 
 /// How many gates the quotient and the remainder of a dividend by a free word take.
-fn gates_of_dividend(alloc: Global, dividend: u32) -> Result<u64, AllocError> {
+fn gates_of_dividend(rt: &impl Abort, alloc: Global, dividend: u32) -> u64 {
     let mut nodes = Nodes::new(alloc);
-    let divisor = free_word(&mut nodes)?;
+    let divisor = free_word(rt, &mut nodes);
     circuit(
+        rt,
         &mut nodes,
         Operator::DivAndRem(false),
         &word(dividend),
         &divisor,
-    )?;
-    Ok(nodes.count())
+    );
+    nodes.count()
 }
 
 /// How many gates a circuit of a free word and the second operand takes.
-fn gates(alloc: Global, operator: Operator, second: Option<u32>) -> Result<u64, AllocError> {
+fn gates(rt: &impl Abort, alloc: Global, operator: Operator, second: Option<u32>) -> u64 {
     let mut nodes = Nodes::new(alloc);
-    added(&mut nodes, operator, second)
+    added(rt, &mut nodes, operator, second)
 }
 
 /// The gates that there are behind that circuit.
-fn added(nodes: &mut Nodes, operator: Operator, second: Option<u32>) -> Result<u64, AllocError> {
-    let a = free_word(nodes)?;
+fn added(rt: &impl Abort, nodes: &mut Nodes, operator: Operator, second: Option<u32>) -> u64 {
+    let a = free_word(rt, nodes);
     let b = match second {
         Some(value) => word(value),
-        None => free_word(nodes)?,
+        None => free_word(rt, nodes),
     };
-    circuit(nodes, operator, &a, &b)?;
-    Ok(nodes.count())
+    circuit(rt, nodes, operator, &a, &b);
+    nodes.count()
 }
 
 /// Whether a circuit takes these gates.
-fn takes(alloc: Global, operator: Operator, counts: &[u64; 9]) -> Result<bool, AllocError> {
+fn takes(rt: &impl Abort, alloc: Global, operator: Operator, counts: &[u64; 9]) -> bool {
     for (second, expected) in SECOND.iter().zip(counts) {
-        if gates(alloc, operator, *second)? != *expected {
-            return Ok(false);
+        if gates(rt, alloc, operator, *second) != *expected {
+            return false;
         }
     }
-    Ok(true)
+    true
 }
 
 /// The first row of the table that is not so, if there is one.
-fn first_difference(alloc: Global) -> Result<Option<usize>, AllocError> {
+fn first_difference(rt: &impl Abort, alloc: Global) -> Option<usize> {
     for i in 0..COUNTS.len() {
         let (operator, counts) = &COUNTS[i];
-        if !takes(alloc, *operator, counts)? {
-            return Ok(Some(i));
+        if !takes(rt, alloc, *operator, counts) {
+            return Some(i);
         }
     }
-    Ok(None)
+    None
 }
 
 #[test]
-fn takes_the_gates_of_the_table(rt: HostRuntime) -> Result<(), Fail> {
-    assert_eq!(rt; first_difference(rt.alloc())?, None);
-    Ok(())
+fn takes_the_gates_of_the_table(rt: HostRuntime) {
+    assert_eq!(rt; first_difference(&rt, rt.alloc()), None);
 }
 
 #[test]
-fn takes_fewer_gates_for_a_small_dividend(rt: HostRuntime) -> Result<(), Fail> {
+fn takes_fewer_gates_for_a_small_dividend(rt: HostRuntime) {
     let alloc = rt.alloc();
     let counts = [
-        gates_of_dividend(alloc, 0)?,
-        gates_of_dividend(alloc, 1)?,
-        gates_of_dividend(alloc, 255)?,
-        gates_of_dividend(alloc, 4294967295)?,
+        gates_of_dividend(&rt, alloc, 0),
+        gates_of_dividend(&rt, alloc, 1),
+        gates_of_dividend(&rt, alloc, 255),
+        gates_of_dividend(&rt, alloc, 4294967295),
     ];
     assert_eq!(rt; counts, [63, 62, 175, 2046]);
-    Ok(())
 }

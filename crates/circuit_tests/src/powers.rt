@@ -1,10 +1,10 @@
 //! Signed quotients and remainders by constant powers of two and their opposites, as a C compiler computes them.
 
 use crate::operators::{Operator, circuit};
-use crate::support::{free_word, number, values, word};
+use crate::support::{free_word, number_at, word};
 use ba_nodes::Nodes;
-use std::alloc::{AllocError, Global};
-use std::test::Fail;
+use std::alloc::Global;
+use std::process::Abort;
 
 /// The dividends, one for each column of a table.
 static DIVIDENDS: [u32; 16] = [
@@ -80,46 +80,46 @@ static REMAINDERS: [[u32; 16]; 8] = [
 
 /// The first divisor at which the circuit of a free word differs from a table, if there is one.
 fn first_difference(
+    rt: &impl Abort,
     alloc: Global,
     operator: Operator,
     table: &[[u32; 16]; 8],
-) -> Result<Option<u32>, AllocError> {
+) -> Option<u32> {
     for (divisor, row) in DIVISORS.iter().zip(table) {
         let mut nodes = Nodes::new(alloc);
-        if differs(alloc, &mut nodes, operator, *divisor, row)? {
-            return Ok(Some(*divisor));
+        if differs(rt, alloc, &mut nodes, operator, *divisor, row) {
+            return Some(*divisor);
         }
     }
-    Ok(None)
+    None
 }
 
 /// Whether the circuit of a free word and a divisor has another value at some dividend.
 fn differs(
+    rt: &impl Abort,
     alloc: Global,
     nodes: &mut Nodes,
     operator: Operator,
     divisor: u32,
     row: &[u32; 16],
-) -> Result<bool, AllocError> {
-    let dividend = free_word(nodes)?;
-    let result = circuit(nodes, operator, &dividend, &word(divisor))?;
+) -> bool {
+    let dividend = free_word(rt, nodes);
+    let result = circuit(rt, nodes, operator, &dividend, &word(divisor));
     for (a, expected) in DIVIDENDS.iter().zip(row) {
-        let values = values(alloc, nodes, *a, 0)?;
-        if number(values.as_slice(), &result) != *expected {
-            return Ok(true);
+        if number_at(rt, alloc, nodes, &result, *a, 0) != *expected {
+            return true;
         }
     }
-    Ok(false)
+    false
 }
 
 #[test]
-fn divides_by_powers_as_a_compiler_does(rt: HostRuntime) -> Result<(), Fail> {
+fn divides_by_powers_as_a_compiler_does(rt: HostRuntime) {
     let tables = [
         (Operator::Div(true), &QUOTIENTS),
         (Operator::Rem(true), &REMAINDERS),
     ];
     for (operator, table) in tables {
-        assert_eq!(rt; first_difference(rt.alloc(), operator, table)?, None);
+        assert_eq!(rt; first_difference(&rt, rt.alloc(), operator, table), None);
     }
-    Ok(())
 }

@@ -1,13 +1,15 @@
 //! Constant words, free words, and their numbers under an assignment.
 
-ghost use Rattle.std.specs.Prelude.{◌≡◌, List, length, IfOk};
+ghost use Rattle.std.specs.Prelude.{◌≡◌, List, length};
 ghost use Rattle.ba_nodes.specs.declared.Node.{Node};
 ghost use Rattle.ba_nodes.specs.Gates.{Extends};
 ghost use Rattle.ba_words.specs.Words.{AreBitsOf};
 
 use ba_nodes::{Bit, Node, Nodes};
 use ba_words::Word;
-use std::alloc::{AllocError, Global};
+use std::alloc::Global;
+use std::panic::Expect;
+use std::process::Abort;
 
 /// The word of a constant.
 pub fn word(value: u32) -> Word
@@ -21,15 +23,15 @@ pub fn word(value: u32) -> Word
 }
 
 /// A word of free bits.
-pub fn free_word(nodes: &mut Nodes) -> Result<Word, AllocError>
-    ensures bits { IfOk result (AreBitsOf nodes.new) }
+pub fn free_word(rt: &impl Abort, nodes: &mut Nodes) -> Word
+    ensures bits { AreBitsOf nodes.new result }
     ensures extends { Extends nodes.old nodes.new }
 {
     let mut word = [Nodes::constant(false); 32];
     for i in 0..32 {
-        word[i] = nodes.free()?;
+        word[i] = nodes.free().expect(rt, "memory");
     }
-    Ok(word)
+    word
 }
 
 /// The value of a bit, by the values of the constant and of the nodes.
@@ -39,13 +41,13 @@ pub fn value_in(values: &[bool], bit: Bit) -> bool {
 
 /// The values of the constant and of the nodes, where the first 32 nodes are free bits with the digits of `a`, and
 /// the next 32 with those of `b`.
-pub fn values(alloc: Global, nodes: &Nodes, a: u32, b: u32) -> Result<Vec<bool>, AllocError> {
-    let mut values = vec![in alloc; false]?;
+pub fn values(rt: &impl Abort, alloc: Global, nodes: &Nodes, a: u32, b: u32) -> Vec<bool> {
+    let mut values = vec![in alloc; false].expect(rt, "memory");
     for node in nodes.as_slice() {
         let value = value_of(values.as_slice(), *node, a, b);
-        values.push(value)?;
+        values.push(value).expect(rt, "memory");
     }
-    Ok(values)
+    values
 }
 
 /// The value of a node.
@@ -85,4 +87,18 @@ pub fn number(values: &[bool], word: &Word) -> u32 {
         }
     }
     number
+}
+
+/// The number of a word of circuits, where the first 32 nodes are free bits with the digits of `a`, and the next 32 with those of
+/// `b`.
+pub fn number_at(
+    rt: &impl Abort,
+    alloc: Global,
+    nodes: &Nodes,
+    word: &Word,
+    a: u32,
+    b: u32,
+) -> u32 {
+    let values = values(rt, alloc, nodes, a, b);
+    number(values.as_slice(), word)
 }

@@ -5,8 +5,9 @@ use crate::support::word;
 use ba_nodes::Nodes;
 use ba_numbers::numbers::CType;
 use ba_words::{add_with_carry, convert_word, flip, neg, nonzero, select};
-use std::alloc::{AllocError, Global};
-use std::test::Fail;
+use std::alloc::Global;
+use std::panic::Expect;
+use std::process::Abort;
 
 /// Values of the operators at two constants.
 static VALUES: [(Operator, [u32; 2], u32); 18] = [
@@ -31,31 +32,31 @@ static VALUES: [(Operator, [u32; 2], u32); 18] = [
 ];
 
 /// The first row of the table that is not so, if there is one.
-fn first_difference(alloc: Global) -> Result<Option<usize>, AllocError> {
+fn first_difference(rt: &impl Abort, alloc: Global) -> Option<usize> {
     for i in 0..VALUES.len() {
         let (operator, [a, b], expected) = &VALUES[i];
-        if at_constants(alloc, *operator, *a, *b)? != Some(*expected) {
-            return Ok(Some(i));
+        if at_constants(rt, alloc, *operator, *a, *b) != Some(*expected) {
+            return Some(i);
         }
     }
-    Ok(None)
+    None
 }
 
 /// Whether a sum with a carry, an opposite, a test and a choice have their values without a gate.
-fn adds_and_chooses(nodes: &mut Nodes) -> Result<bool, AllocError> {
+fn adds_and_chooses(rt: &impl Abort, nodes: &mut Nodes) -> bool {
     let yes = Nodes::constant(true);
-    let (low, carry) = add_with_carry(nodes, &word(4294967295), &word(1), yes)?;
-    let opposite = neg(nodes, &word(46341))?;
-    let some = nonzero(nodes, &word(2147483648))?;
-    let chosen = select(nodes, yes, &word(5), &word(6))?;
+    let (low, carry) = add_with_carry(nodes, &word(4294967295), &word(1), yes).expect(rt, "memory");
+    let opposite = neg(nodes, &word(46341)).expect(rt, "memory");
+    let some = nonzero(nodes, &word(2147483648)).expect(rt, "memory");
+    let chosen = select(nodes, yes, &word(5), &word(6)).expect(rt, "memory");
     let sums = low == word(1) && carry == yes && opposite == word(4294920955);
-    Ok(sums && some == yes && chosen == word(5) && nodes.count() == 0)
+    sums && some == yes && chosen == word(5) && nodes.count() == 0
 }
 
 /// The same from no nodes on.
-fn has_the_others(alloc: Global) -> Result<bool, AllocError> {
+fn has_the_others(rt: &impl Abort, alloc: Global) -> bool {
     let mut nodes = Nodes::new(alloc);
-    adds_and_chooses(&mut nodes)
+    adds_and_chooses(rt, &mut nodes)
 }
 
 /// Whether words converted and turned over have their values.
@@ -66,8 +67,7 @@ fn converts() -> bool {
 }
 
 #[test]
-fn has_the_values_of_the_operators(rt: HostRuntime) -> Result<(), Fail> {
-    assert_eq!(rt; first_difference(rt.alloc())?, None);
-    assert!(rt; has_the_others(rt.alloc())? && converts());
-    Ok(())
+fn has_the_values_of_the_operators(rt: HostRuntime) {
+    assert_eq!(rt; first_difference(&rt, rt.alloc()), None);
+    assert!(rt; has_the_others(&rt, rt.alloc()) && converts());
 }

@@ -4,7 +4,7 @@ use Rattle.ba_words.specs.Words.{AreBitsOf}
 use Rattle.circuit_tests.proofs.support.free_word.Given as goal
 
 abbrev pub invariant-loop-i : goal.invariant-loop-i
-invariant-loop-i l = record {
+invariant-loop-i g l = record {
   long : length l.word ≡ 32;
   bits : AreBitsOf l.nodes l.word;
   extends : Extends l.fn.nodes l.nodes;
