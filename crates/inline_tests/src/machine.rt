@@ -6,6 +6,8 @@ use ba_numbers::ids::StmtId;
 use ba_numbers::numbers::{CType, apply, apply_one, convert};
 use ba_tree::run::{Allowed, Flow, Input, Outcome, Place, Step};
 use std::alloc::{AllocError, AllocFailed, Global};
+use std::panic::Expect;
+use std::process::Abort;
 
 /// How a part ends the whole run: with this outcome, or for want of memory.
 #[derive(Clone, Copy, Debug, PartialEq, Eq)]
@@ -44,6 +46,7 @@ pub struct Machine<'a> {
 impl<'a> Machine<'a> {
     /// All variables and elements are 0, but for those of the parameters.
     pub fn new(
+        rt: &impl Abort,
         alloc: Global,
         vars: u32,
         infos: &'a [ArrayInfo],
@@ -52,7 +55,7 @@ impl<'a> Machine<'a> {
         bound: u32,
         allowed: &'a Allowed,
         choices: &'a [Choice],
-    ) -> Result<Machine<'a>, AllocError> {
+    ) -> Machine<'a> {
         let mut machine = Machine {
             alloc,
             vars: Vec::new(alloc),
@@ -63,16 +66,16 @@ impl<'a> Machine<'a> {
             allowed,
             choices,
         };
-        machine.vars.resize(vars as usize, 0)?;
+        machine.vars.resize(vars as usize, 0).expect(rt, "memory");
         for info in infos {
             let mut array = Vec::new(alloc);
-            array.resize(info.len as usize, 0)?;
-            machine.arrays.push(array)?;
+            array.resize(info.len as usize, 0).expect(rt, "memory");
+            machine.arrays.push(array).expect(rt, "memory");
         }
         for (param, values) in params.iter().zip(input.values.as_slice()) {
             machine.give(*param, values.as_slice());
         }
-        Ok(machine)
+        machine
     }
 
     /// Gives a parameter its values.

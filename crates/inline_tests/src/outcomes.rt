@@ -5,13 +5,15 @@ use ba_code::nodes::{ArrayInfo, Node, Param};
 use ba_inline::inline;
 use ba_loops::unroll;
 use ba_tree::run::{Allowed, Input, Outcome};
-use std::alloc::{AllocError, Global};
-use std::test::Fail;
+use std::alloc::Global;
+use std::panic::Expect;
+use std::process::Abort;
 use test_programs::examples::{EXAMPLES, Example};
-use test_programs::reader::{Fault, Reader};
+use test_programs::reader::Reader;
 
 /// The outcomes of a run that is written as words: of the program without calls, and of that without loops.
 fn outcomes(
+    rt: &impl Abort,
     alloc: Global,
     program: &str,
     input: &str,
@@ -19,14 +21,23 @@ fn outcomes(
     frames: u32,
     allowed: &str,
     choices: &str,
-) -> Result<(Outcome, Outcome), Fault> {
-    let program = Reader::new(alloc, program.as_bytes()).program()?;
-    let input = Reader::new(alloc, input.as_bytes()).input()?;
-    let allowed = Reader::new(alloc, allowed.as_bytes()).allowed()?;
-    let choices = Reader::new(alloc, choices.as_bytes()).choices()?;
-    let tree = inline(alloc, &program, frames)?;
-    let bound = unroll(alloc, &tree, turns)?;
+) -> (Outcome, Outcome) {
+    let program = Reader::new(alloc, program.as_bytes())
+        .program()
+        .expect(rt, "a program");
+    let input = Reader::new(alloc, input.as_bytes())
+        .input()
+        .expect(rt, "an input");
+    let allowed = Reader::new(alloc, allowed.as_bytes())
+        .allowed()
+        .expect(rt, "allowed places");
+    let choices = Reader::new(alloc, choices.as_bytes())
+        .choices()
+        .expect(rt, "choices");
+    let tree = inline(alloc, &program, frames).expect(rt, "memory");
+    let bound = unroll(alloc, &tree, turns).expect(rt, "memory");
     let looping = Machine::new(
+        rt,
         alloc,
         tree.vars,
         tree.arrays.as_slice(),
@@ -35,9 +46,11 @@ fn outcomes(
         turns,
         &allowed,
         choices.as_slice(),
-    )?
-    .run(tree.body.as_slice())?;
+    )
+    .run(tree.body.as_slice())
+    .expect(rt, "memory");
     let straight = Machine::new(
+        rt,
         alloc,
         bound.vars,
         bound.arrays.as_slice(),
@@ -46,22 +59,22 @@ fn outcomes(
         0,
         &allowed,
         choices.as_slice(),
-    )?
-    .run(bound.body.as_slice())?;
-    Ok((looping, straight))
+    )
+    .run(bound.body.as_slice())
+    .expect(rt, "memory");
+    (looping, straight)
 }
 
 /// Whether both outcomes are the one that was worked out.
-fn are_kept(alloc: Global, example: &Example) -> Result<bool, Fault> {
+fn are_kept(rt: &impl Abort, alloc: Global, example: &Example) -> bool {
     let (program, input, turns, frames, allowed, choices, expected) = *example;
-    let found = outcomes(alloc, program, input, turns, frames, allowed, choices)?;
-    Ok(found == (expected, expected))
+    let found = outcomes(rt, alloc, program, input, turns, frames, allowed, choices);
+    found == (expected, expected)
 }
 
 #[test]
-fn programs_keep_their_outcomes(rt: HostRuntime) -> Result<(), Fail> {
+fn programs_keep_their_outcomes(rt: HostRuntime) {
     for example in EXAMPLES.as_slice() {
-        assert_eq!(rt; are_kept(rt.alloc(), example), Ok(true));
+        assert!(rt; are_kept(&rt, rt.alloc(), example));
     }
-    Ok(())
 }

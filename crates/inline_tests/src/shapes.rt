@@ -3,9 +3,10 @@
 use ba_code::nodes::Node;
 use ba_inline::inline;
 use std::alloc::{AllocError, Global};
-use std::test::Fail;
+use std::panic::Expect;
+use std::process::Abort;
 use test_programs::examples::P5;
-use test_programs::reader::{Fault, Reader};
+use test_programs::reader::Reader;
 
 /// Writes a node: a letter for what it does, and in brackets the nodes in it.
 #[cycle(shapes)]
@@ -77,30 +78,30 @@ fn write_label(shape: &mut String, letter: &str, label: u32) -> Result<(), Alloc
 }
 
 /// The nodes that stand for a program that is written as words.
-fn shape_of(alloc: Global, program: &str, frames: u32) -> Result<String, Fault> {
-    let program = Reader::new(alloc, program.as_bytes()).program()?;
-    let tree = inline(alloc, &program, frames)?;
+fn shape_of(rt: &impl Abort, alloc: Global, program: &str, frames: u32) -> String {
+    let program = Reader::new(alloc, program.as_bytes())
+        .program()
+        .expect(rt, "a program");
+    let tree = inline(alloc, &program, frames).expect(rt, "memory");
     let mut shape = String::new(alloc);
-    write_nodes(&mut shape, tree.body.as_slice())?;
-    Ok(shape)
+    write_nodes(&mut shape, tree.body.as_slice()).expect(rt, "memory");
+    shape
 }
 
 /// Whether these nodes stand for a program that is written as words.
-fn has_shape(alloc: Global, program: &str, frames: u32, expected: &str) -> Result<bool, Fault> {
-    let shape = shape_of(alloc, program, frames)?;
-    Ok(shape.as_str() == expected)
+fn has_shape(rt: &impl Abort, alloc: Global, program: &str, frames: u32, expected: &str) -> bool {
+    let shape = shape_of(rt, alloc, program, frames);
+    shape.as_str() == expected
 }
 
 /// How many calls of a program that is written as words go past so many frames.
-fn calls_beyond(alloc: Global, program: &str, frames: u32) -> Result<usize, Fault> {
-    let shape = shape_of(alloc, program, frames)?;
-    Ok(
-        shape
-            .as_bytes()
-            .iter()
-            .filter(|byte| **byte == b'x')
-            .count(),
-    )
+fn calls_beyond(rt: &impl Abort, alloc: Global, program: &str, frames: u32) -> usize {
+    let shape = shape_of(rt, alloc, program, frames);
+    shape
+        .as_bytes()
+        .iter()
+        .filter(|byte| **byte == b'x')
+        .count()
 }
 
 /// A call that changes a global.
@@ -156,7 +157,7 @@ const BRANCHES: &str =
 const INSIDE: &str = "1 i  0  0  1  0  1 0  3 decl 0 while 1 v 0 return 2 1 return 3 v 0  3 ? r r";
 
 #[test]
-fn nodes_stand_for_programs_as_worked_out(rt: HostRuntime) -> Result<(), Fail> {
+fn nodes_stand_for_programs_as_worked_out(rt: HostRuntime) {
     for (program, frames, expected) in [
         (GLOBAL, 16, "sp(sp(s)p(s)s)bap(s)"),
         (GLOBAL, 1, "sp(xs)bap(s)"),
@@ -177,19 +178,13 @@ fn nodes_stand_for_programs_as_worked_out(rt: HostRuntime) -> Result<(), Fail> {
         (BRANCHES, 2, "p(ssp(s)i(p(s)|p(s)i(p(s)|p(s)))s)"),
         (INSIDE, 1, "B0(sB1(o(p(s)|B2(p(s)^0)|))p(s))"),
     ] {
-        let found = has_shape(rt.alloc(), program, frames, expected);
-        assert_eq!(rt; found, Ok(true));
+        assert!(rt; has_shape(&rt, rt.alloc(), program, frames, expected));
     }
-    Ok(())
 }
 
 #[test]
-fn a_function_that_calls_itself_once_goes_past_the_depth_at_one_call(
-    rt: HostRuntime,
-) -> Result<(), Fail> {
+fn a_function_that_calls_itself_once_goes_past_the_depth_at_one_call(rt: HostRuntime) {
     for frames in [1, 2, 16] {
-        let found = calls_beyond(rt.alloc(), P5, frames);
-        assert_eq!(rt; found, Ok(1));
+        assert_eq!(rt; calls_beyond(&rt, rt.alloc(), P5, frames), 1);
     }
-    Ok(())
 }
