@@ -1,9 +1,9 @@
 //! Formulas of small lists, with all assignments of their variables.
 
-ghost use Rattle.std.specs.Prelude.{◌≡◌, true, length, IfOk};
+ghost use Rattle.std.specs.Prelude.{◌≡◌, true, length};
 ghost use Rattle.ba_encode.specs.Groups.{are_apart};
 
-use crate::lists::word_list;
+use crate::lists::{row, word_list};
 use ba_choices::Choice;
 use ba_encode::{Encoded, Grouping, choices_of, encode};
 use ba_items::Items;
@@ -12,21 +12,21 @@ use ba_numbers::ids::StmtId;
 use ba_numbers::numbers::{BinOp, CType};
 use ba_tree::run::{Place, Weights};
 use ba_wordlist::words::{PlaceWords, WordList, WordOp};
-use std::alloc::{AllocError, Global};
+use std::alloc::Global;
+use std::panic::Expect;
 use std::process::Abort;
-use std::test::Fail;
 
 /// The assignment whose values are the digits of a number.
-fn model_of(alloc: Global, variables: u64, number: u64) -> Result<Model, AllocError>
-    ensures { IfOk result (λ model. length model.values ≡ variables) }
+fn model_of(rt: &impl Abort, alloc: Global, variables: u64, number: u64) -> Model
+    ensures { length result.values ≡ variables }
 {
     let mut values = Items::new(alloc);
     let mut rest = number;
     while (values.len() as u64) < variables {
-        values.push(rest % 2 == 1)?;
+        values.push(rest % 2 == 1).expect(rt, "memory");
         rest /= 2;
     }
-    Ok(Model { values })
+    Model { values }
 }
 
 /// Whether a literal is true in a model.
@@ -51,7 +51,7 @@ fn choices_in(
     alloc: Global,
     encoded: &Encoded,
     selector: bool,
-) -> Result<Vec<Items<Choice>>, AllocError> {
+) -> Vec<Items<Choice>> {
     let formula = encoded.formula();
     let variables = formula.variables();
     assert!(rt; variables <= 16, "{variables} variables");
@@ -59,12 +59,14 @@ fn choices_in(
     let first = encoded.selector(0);
     let mut choices = Vec::new(alloc);
     for number in 0..1u64 << variables {
-        let model = model_of(alloc, variables, number)?;
+        let model = model_of(rt, alloc, variables, number);
         if is_true(&model, first) == selector && satisfies(formula, &model) {
-            choices.push(choices_of(alloc, encoded, &model)?)?;
+            choices
+                .push(choices_of(alloc, encoded, &model).expect(rt, "memory"))
+                .expect(rt, "memory");
         }
     }
-    Ok(choices)
+    choices
 }
 
 /// Whether the one choice is to take this value.
@@ -77,23 +79,24 @@ fn takes(choices: &Items<Choice>, value: i64) -> bool {
 
 /// A list of one requirement and one place, of statement 5, whose words are keep, guard and one value.
 fn list_of(
+    rt: &impl Abort,
     alloc: Global,
-    words: Items<WordOp>,
+    words: Vec<WordOp>,
     required: u32,
     value: u32,
-) -> Result<Option<WordList>, AllocError> {
-    let mut require = Items::new(alloc);
-    require.push(required)?;
-    let mut values = Items::new(alloc);
-    values.push(value)?;
+) -> WordList {
+    let require = Items::from_slice(alloc, &[required]).expect(rt, "memory");
+    let values = Items::from_slice(alloc, &[value]).expect(rt, "memory");
     let mut places = Items::new(alloc);
-    places.push(PlaceWords {
-        place: place(alloc),
-        guard: 0,
-        keep: 1,
-        values,
-    })?;
-    word_list(alloc, words, require, places)
+    places
+        .push(PlaceWords {
+            place: place(alloc),
+            guard: 0,
+            keep: 1,
+            values,
+        })
+        .expect(rt, "memory");
+    word_list(rt, alloc, Items::from_vec(words), require, places)
 }
 
 fn place(alloc: Global) -> Place {
@@ -104,95 +107,123 @@ fn place(alloc: Global) -> Place {
 }
 
 /// Statement 5 alone has a weight, 3.
-fn weights(alloc: Global) -> Result<Grouping, AllocError>
-    ensures { IfOk result (λ grouping. are_apart grouping ≡ true) }
+fn weights(rt: &impl Abort, alloc: Global) -> Grouping
+    ensures { are_apart result ≡ true }
 {
-    let of = Items::from_slice(alloc, [None, None, None, None, Some(3)].as_slice())?;
-    Ok(Grouping::ByStatement(Weights { of }))
+    let of = Items::from_slice(alloc, [None, None, None, None, Some(3)].as_slice()).expect(
+        rt, "memory",
+    );
+    Grouping::ByStatement(Weights { of })
 }
 
-#[test]
-fn a_group_is_given_up_where_its_value_has_to_change(rt: HostRuntime) -> Result<(), Fail> {
-    let alloc = rt.alloc();
-    let mut words = Items::new(alloc);
-    words.push(WordOp::Const(1))?;
-    words.push(WordOp::Flag)?;
-    words.push(WordOp::Flag)?;
-    words.push(WordOp::Const(0))?;
-    words.push(WordOp::Select {
-        which: 1,
-        yes: 3,
-        no: 2,
-    })?;
-    let list = list_of(alloc, words, 4, 2)?.ok_or("no word list")?;
-    let encoded = encode(alloc, &list, &weights(alloc)?)?;
+/// There is one group, of statement 5, with this number and weight.
+fn expect_group(rt: &impl Abort, encoded: &Encoded, number: u32, weight: u32) {
     assert_eq!(rt; encoded.groups(), 1);
-    assert_eq!(rt; encoded.number(0), 5);
+    assert_eq!(rt; encoded.number(0), number);
     assert_eq!(rt; encoded.statement(0), StmtId(5));
-    assert_eq!(rt; encoded.weight(0), 3);
-    assert!(rt; choices_in(&rt, alloc, &encoded, true)?.is_empty());
-    let relaxed = choices_in(&rt, alloc, &encoded, false)?;
-    assert!(rt; !relaxed.is_empty());
-    assert!(rt; relaxed.iter().all(|choices| takes(choices, 1)));
-    Ok(())
+    assert_eq!(rt; encoded.weight(0), weight);
 }
 
-#[test]
-fn a_value_is_read_as_its_type(rt: HostRuntime) -> Result<(), Fail> {
-    let alloc = rt.alloc();
-    let mut words = Items::new(alloc);
-    words.push(WordOp::Const(1))?;
-    words.push(WordOp::Flag)?;
-    words.push(WordOp::Free)?;
-    words.push(WordOp::Convert { t: CType::I8, a: 2 })?;
-    words.push(WordOp::Const(-5))?;
-    words.push(WordOp::Select {
-        which: 1,
-        yes: 0,
-        no: 3,
-    })?;
-    words.push(WordOp::Binary {
-        op: BinOp::Eq,
-        t: CType::I32,
-        a: 5,
-        b: 4,
-    })?;
-    let list = list_of(alloc, words, 6, 3)?.ok_or("no word list")?;
-    let mut places = Items::new(alloc);
-    places.push(place(alloc))?;
-    let encoded = encode(alloc, &list, &Grouping::ByPlace(places))?;
-    assert_eq!(rt; encoded.groups(), 1);
-    assert_eq!(rt; encoded.number(0), 1);
-    assert_eq!(rt; encoded.weight(0), 1);
-    assert!(rt; choices_in(&rt, alloc, &encoded, true)?.is_empty());
-    let relaxed = choices_in(&rt, alloc, &encoded, false)?;
-    assert!(rt; !relaxed.is_empty());
-    assert!(rt; relaxed.iter().all(|choices| takes(choices, -5)));
-    Ok(())
+/// Each model gives the first group up and has the one choice take this value, and there is one.
+fn expect_choice(rt: &impl Abort, alloc: Global, encoded: &Encoded, value: i64) {
+    let kept = choices_in(rt, alloc, encoded, true);
+    assert!(rt; kept.is_empty());
+    let relaxed = choices_in(rt, alloc, encoded, false);
+    assert!(rt; all_take(relaxed.as_slice(), value));
 }
 
-#[test]
-fn what_no_group_holds_is_kept(rt: HostRuntime) -> Result<(), Fail> {
-    let alloc = rt.alloc();
-    let mut words = Items::new(alloc);
-    words.push(WordOp::Const(1))?;
-    words.push(WordOp::Flag)?;
-    words.push(WordOp::Flag)?;
-    words.push(WordOp::Const(0))?;
-    words.push(WordOp::Select {
-        which: 1,
-        yes: 3,
-        no: 2,
-    })?;
-    let list = list_of(alloc, words, 4, 2)?.ok_or("no word list")?;
-    let encoded = encode(alloc, &list, &Grouping::ByPlace(Items::new(alloc)))?;
-    assert_eq!(rt; encoded.groups(), 0);
-    let formula = encoded.formula();
+/// Whether there are choices, each of which takes this value.
+fn all_take(all: &[Items<Choice>], value: i64) -> bool {
+    !all.is_empty() && all.iter().all(|choices| takes(choices, value))
+}
+
+/// No assignment satisfies a formula.
+fn expect_no_model(rt: &impl Abort, alloc: Global, formula: &Formula) {
     let variables = formula.variables();
-    assert!(rt; variables <= 16);
+    assert!(rt; variables <= 16, "{variables} variables");
     for number in 0..1u64 << variables {
-        let model = model_of(alloc, variables, number)?;
+        let model = model_of(rt, alloc, variables, number);
         assert!(rt; !satisfies(formula, &model));
     }
-    Ok(())
+}
+
+#[test]
+fn a_group_is_given_up_where_its_value_has_to_change(rt: HostRuntime) {
+    let alloc = rt.alloc();
+    let words = row(
+        &rt,
+        alloc,
+        [
+            WordOp::Const(1),
+            WordOp::Flag,
+            WordOp::Flag,
+            WordOp::Const(0),
+            WordOp::Select {
+                which: 1,
+                yes: 3,
+                no: 2,
+            },
+        ],
+    );
+    let list = list_of(&rt, alloc, words, 4, 2);
+    let encoded = encode(alloc, &list, &weights(&rt, alloc)).expect(&rt, "memory");
+    expect_group(&rt, &encoded, 5, 3);
+    expect_choice(&rt, alloc, &encoded, 1);
+}
+
+#[test]
+fn a_value_is_read_as_its_type(rt: HostRuntime) {
+    let alloc = rt.alloc();
+    let words = row(
+        &rt,
+        alloc,
+        [
+            WordOp::Const(1),
+            WordOp::Flag,
+            WordOp::Free,
+            WordOp::Convert { t: CType::I8, a: 2 },
+            WordOp::Const(-5),
+            WordOp::Select {
+                which: 1,
+                yes: 0,
+                no: 3,
+            },
+            WordOp::Binary {
+                op: BinOp::Eq,
+                t: CType::I32,
+                a: 5,
+                b: 4,
+            },
+        ],
+    );
+    let list = list_of(&rt, alloc, words, 6, 3);
+    let mut places = Items::new(alloc);
+    places.push(place(alloc)).expect(&rt, "memory");
+    let encoded = encode(alloc, &list, &Grouping::ByPlace(places)).expect(&rt, "memory");
+    expect_group(&rt, &encoded, 1, 1);
+    expect_choice(&rt, alloc, &encoded, -5);
+}
+
+#[test]
+fn what_no_group_holds_is_kept(rt: HostRuntime) {
+    let alloc = rt.alloc();
+    let words = row(
+        &rt,
+        alloc,
+        [
+            WordOp::Const(1),
+            WordOp::Flag,
+            WordOp::Flag,
+            WordOp::Const(0),
+            WordOp::Select {
+                which: 1,
+                yes: 3,
+                no: 2,
+            },
+        ],
+    );
+    let list = list_of(&rt, alloc, words, 4, 2);
+    let encoded = encode(alloc, &list, &Grouping::ByPlace(Items::new(alloc))).expect(&rt, "memory");
+    assert_eq!(rt; encoded.groups(), 0);
+    expect_no_model(&rt, alloc, encoded.formula());
 }

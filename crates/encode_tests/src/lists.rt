@@ -1,6 +1,6 @@
 //! Word lists of tests, which are lists only if their parts make one.
 
-ghost use Rattle.std.specs.Prelude.{◌≡◌, ◌<◌, ◌==◌, true, length, slice_get, slice_index_or, IfOk};
+ghost use Rattle.std.specs.Prelude.{◌≡◌, ◌<◌, ◌==◌, true, length, slice_get, slice_index_or};
 ghost use Rattle.std.specs.List.{list_all};
 ghost use Rattle.ba_tree.specs.Facts.{is_promoted};
 ghost use Rattle.ba_wordlist.specs.Facts.{are_names, are_typed, are_words, fits_behind, is_name, is_place, is_typed, is_word_value, length_of, shows_type};
@@ -8,49 +8,49 @@ ghost use Rattle.ba_wordlist.specs.Facts.{are_names, are_typed, are_words, fits_
 use ba_items::Items;
 use ba_numbers::numbers::CType;
 use ba_wordlist::words::{PlaceWords, WordList, WordOp};
-use std::alloc::{AllocError, Global};
+use std::alloc::Global;
+use std::panic::Expect;
+use std::process::Abort;
 
-/// The word list of these parts, if they make one.
+/// The word list of these parts, which make one.
 #[tactic(auto, unfolding(ba_wordlist::specs::Facts::is_word_list))]
 pub fn word_list(
+    rt: &impl Abort,
     alloc: Global,
     words: Items<WordOp>,
     require: Items<u32>,
     places: Items<PlaceWords>,
-) -> Result<Option<WordList>, AllocError> {
+) -> WordList {
     let count = words.len();
-    if !are_words(alloc, words.as_slice())? {
-        return Ok(None);
-    }
-    if !are_names(count, require.as_slice()) {
-        return Ok(None);
-    }
-    if !are_places(count, places.as_slice()) {
-        return Ok(None);
-    }
-    if !are_typed(words.as_slice(), places.as_slice()) {
-        return Ok(None);
-    }
-    Ok(Some(WordList {
+    assert!(rt; are_words(rt, alloc, words.as_slice()));
+    assert!(rt; are_names(count, require.as_slice()));
+    assert!(rt; are_places(count, places.as_slice()));
+    assert!(rt; are_typed(words.as_slice(), places.as_slice()));
+    WordList {
         words,
         require,
         places,
-    }))
+    }
+}
+
+/// These entries in a row.
+pub fn row<const N: usize>(rt: &impl Abort, alloc: Global, words: [WordOp; N]) -> Vec<WordOp> {
+    Vec::from_array(alloc, words).expect(rt, "memory")
 }
 
 /// Whether each entry fits behind those before it.
-pub fn are_words(alloc: Global, words: &[WordOp]) -> Result<bool, AllocError>
-    ensures { IfOk result (λ fit. fit ≡ true → are_words words.now ≡ true) }
+pub fn are_words(rt: &impl Abort, alloc: Global, words: &[WordOp]) -> bool
+    ensures { result ≡ true → are_words words.now ≡ true }
 {
     let mut lengths = Vec::new(alloc);
     for op in words {
         if !fits_behind(lengths.as_slice(), op) {
-            return Ok(false);
+            return false;
         }
         let length = length_of(lengths.as_slice(), op);
-        lengths.push(length)?;
+        lengths.push(length).expect(rt, "memory");
     }
-    Ok(true)
+    true
 }
 
 /// Whether an entry fits behind others of these lengths.

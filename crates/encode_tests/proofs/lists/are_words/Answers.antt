@@ -5,5 +5,5 @@ use Rattle.encode_tests.proofs.lists.are_words.Goals as goal
 
 pub returns : goal.returns
 unfolding are_words
-returns c = λ _. sym c.loop-op.invariant
+returns g c = λ _. sym c.loop-op.invariant
     ∙ ap (fit_behind c.loop-op.lengths.items) (drop_all c.loop-op.op-index c.args.words.now (omega arith))
