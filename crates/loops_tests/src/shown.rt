@@ -3,60 +3,77 @@
 use ba_code::nodes::Node;
 use ba_tree::run::{Place, Step};
 use std::alloc::{AllocError, Global};
+use std::panic::Expect;
+use std::process::Abort;
+
+/// A call by its number, or a loop's statement and the number of its turn.
+fn show_step(out: &mut String, step: &Step) -> Result<(), AllocError> {
+    match step {
+        Step::Call(call) => write!(out, " c{}", call.0),
+        Step::Turn(stmt, turn) => write!(out, " {}.{turn}", stmt.0),
+    }
+}
 
 /// A place: its statement, and the calls and turns around it, as `5(3.1 c2)` for statement 5 in turn 1 of loop 3 and call 2.
-fn show_place(alloc: Global, out: &mut String, place: &Place) -> Result<(), AllocError> {
-    out.push_str(format!(in alloc; "{}(", place.stmt.0)?.as_str())?;
+fn show_place(out: &mut String, place: &Place) -> Result<(), AllocError> {
+    write!(out, "{}(", place.stmt.0)?;
     for step in place.path.as_slice() {
-        let text = match step {
-            Step::Call(call) => format!(in alloc; " c{}", call.0)?,
-            Step::Turn(stmt, turn) => format!(in alloc; " {}.{}", stmt.0, turn)?,
-        };
-        out.push_str(text.as_str())?;
+        show_step(out, step)?;
     }
     out.push_str(" ) ")
 }
 
+/// Puts a word and a number behind the text.
+fn show_number(out: &mut String, word: &str, number: u32) -> Result<(), AllocError> {
+    write!(out, "{word} {number} ")
+}
+
 /// Puts the node behind the text: places with what Keep does there, blocks, branches, and ends.
-fn show(alloc: Global, out: &mut String, node: &Node) -> Result<(), AllocError> {
+#[cycle(nodes)]
+fn show(out: &mut String, node: &Node) -> Result<(), AllocError> {
     match node {
         Node::Pick { place, keep, .. } => {
-            show_place(alloc, out, place)?;
-            for node in keep {
-                show(alloc, out, node)?;
-            }
-            Ok(())
+            show_place(out, place)?;
+            show_row(out, keep.as_slice())
         }
         Node::If { yes, no, .. } => {
-            out.push_str("if { ")?;
-            for node in yes {
-                show(alloc, out, node)?;
-            }
-            out.push_str("} { ")?;
-            for node in no {
-                show(alloc, out, node)?;
-            }
-            out.push_str("} ")
+            out.push_str("if ")?;
+            show_braced(out, yes.as_slice())?;
+            show_braced(out, no.as_slice())
         }
         Node::Block { label, body } => {
-            out.push_str(format!(in alloc; "block {label} {{ ")?.as_str())?;
-            for node in body {
-                show(alloc, out, node)?;
-            }
-            out.push_str("} ")
+            show_number(out, "block", *label)?;
+            show_braced(out, body.as_slice())
         }
-        Node::Leave { label } => out.push_str(format!(in alloc; "leave {label} ")?.as_str()),
+        Node::Leave { label } => show_number(out, "leave", *label),
         Node::Loop { .. } => out.push_str("loop "),
-        Node::Beyond { stmt } => out.push_str(format!(in alloc; "beyond {} ", stmt.0)?.as_str()),
+        Node::Beyond { stmt } => show_number(out, "beyond", stmt.0),
         _ => out.push_str("step "),
     }
 }
 
-/// The nodes as words.
-pub fn shown(alloc: Global, nodes: &[Node]) -> Result<String, AllocError> {
-    let mut out = String::new(alloc);
+/// Puts nodes behind the text.
+#[cycle(nodes)]
+fn show_row(out: &mut String, nodes: &[Node]) -> Result<(), AllocError> {
     for node in nodes {
-        show(alloc, &mut out, node)?;
+        show(out, node)?;
     }
-    Ok(out)
+    Ok(())
+}
+
+/// Puts nodes in braces behind the text.
+#[cycle(nodes)]
+fn show_braced(out: &mut String, nodes: &[Node]) -> Result<(), AllocError> {
+    out.push_str("{ ")?;
+    for node in nodes {
+        show(out, node)?;
+    }
+    out.push_str("} ")
+}
+
+/// The nodes as words.
+pub fn shown(rt: &impl Abort, alloc: Global, nodes: &[Node]) -> String {
+    let mut out = String::new(alloc);
+    show_row(&mut out, nodes).expect(rt, "memory");
+    out
 }

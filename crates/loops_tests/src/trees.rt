@@ -8,30 +8,31 @@ use ba_items::Items;
 use ba_loops::unroll;
 use ba_numbers::ids::{CallId, StmtId};
 use ba_tree::run::{Place, Step};
-use std::alloc::{AllocError, Global};
+use std::alloc::Global;
+use std::panic::Expect;
 use std::process::Abort;
-use std::test::Fail;
 
 /// An execution of a statement in the present turns of these loops, outermost first, behind call 1.
-fn execution(alloc: Global, loops: &[u32], stmt: u32) -> Result<Node, AllocError> {
+fn execution(rt: &impl Abort, alloc: Global, loops: &[u32], stmt: u32) -> Node {
     let mut path = Items::new(alloc);
-    path.push(Step::Call(CallId(1)))?;
+    path.push(Step::Call(CallId(1))).expect(rt, "memory");
     for number in loops {
-        path.push(Step::Turn(StmtId(*number), 0))?;
+        path.push(Step::Turn(StmtId(*number), 0))
+            .expect(rt, "memory");
     }
-    Ok(Node::Pick {
+    Node::Pick {
         place: Place {
             path,
             stmt: StmtId(stmt),
         },
         take: Take::Nothing,
         keep: Vec::new(alloc),
-    })
+    }
 }
 
 /// Nodes in a row.
-fn row<const N: usize>(alloc: Global, nodes: [Node; N]) -> Result<Vec<Node>, AllocError> {
-    Ok(Vec::from_array(alloc, nodes)?)
+fn row<const N: usize>(rt: &impl Abort, alloc: Global, nodes: [Node; N]) -> Vec<Node> {
+    Vec::from_array(alloc, nodes).expect(rt, "memory")
 }
 
 /// A loop that goes on while variable 0 isn't 0.
@@ -47,37 +48,32 @@ fn repeat(after: bool, head: Vec<Node>, body: Vec<Node>, step: Vec<Node>, stmt: 
 }
 
 /// The tree of one variable with this body is, with so many turns, the tree that is written so.
-fn expect_turns(
-    rt: &impl Abort,
-    alloc: Global,
-    body: Vec<Node>,
-    turns: u32,
-    expected: &str,
-) -> Result<(), AllocError> {
+fn expect_turns(rt: &impl Abort, alloc: Global, body: Vec<Node>, turns: u32, expected: &str) {
     let code = Code {
         vars: 1,
         arrays: Items::new(alloc),
         params: Items::new(alloc),
         body: Items::from_vec(body),
     };
-    let tree = loop_tree_of(alloc, code)?.ok_or(AllocError)?;
-    let made = unroll(alloc, &tree, turns)?;
+    let tree = loop_tree_of(alloc, code)
+        .expect(rt, "memory")
+        .expect(rt, "a loop tree");
+    let made = unroll(alloc, &tree, turns).expect(rt, "memory");
     assert_eq!(rt; made.vars, 1);
-    assert_eq!(rt; shown(alloc, made.body.as_slice())?.as_str(), expected);
-    Ok(())
+    assert_eq!(rt; shown(rt, alloc, made.body.as_slice()).as_str(), expected);
 }
 
 /// The sum of the numbers from 1 to n in a `for`: condition 3, body 5, step 4.
-fn sum(alloc: Global) -> Result<Vec<Node>, AllocError> {
-    let head = row(alloc, [execution(alloc, &[3], 3)?])?;
-    let body = row(alloc, [execution(alloc, &[3], 5)?])?;
-    let step = row(alloc, [execution(alloc, &[3], 4)?])?;
-    row(alloc, [repeat(false, head, body, step, 3)])
+fn sum(rt: &impl Abort, alloc: Global) -> Vec<Node> {
+    let head = row(rt, alloc, [execution(rt, alloc, &[3], 3)]);
+    let body = row(rt, alloc, [execution(rt, alloc, &[3], 5)]);
+    let step = row(rt, alloc, [execution(rt, alloc, &[3], 4)]);
+    row(rt, alloc, [repeat(false, head, body, step, 3)])
 }
 
 #[test]
-fn three_turns_have_three_bodies_and_four_conditions(rt: HostRuntime) -> Result<(), Fail> {
-    let body = sum(rt.alloc())?;
+fn three_turns_have_three_bodies_and_four_conditions(rt: HostRuntime) {
+    let body = sum(&rt, rt.alloc());
     expect_turns(
         &rt,
         rt.alloc(),
@@ -85,35 +81,33 @@ fn three_turns_have_three_bodies_and_four_conditions(rt: HostRuntime) -> Result<
         3,
         "3( c1 3.1 ) if { 5( c1 3.1 ) 4( c1 3.1 ) 3( c1 3.2 ) if { 5( c1 3.2 ) 4( c1 3.2 ) \
         3( c1 3.3 ) if { 5( c1 3.3 ) 4( c1 3.3 ) 3( c1 3.4 ) if { beyond 3 } { } } { } } { } } { } ",
-    )?;
-    Ok(())
+    );
 }
 
 #[test]
-fn a_do_tests_behind_each_turn(rt: HostRuntime) -> Result<(), Fail> {
+fn a_do_tests_behind_each_turn(rt: HostRuntime) {
     let alloc = rt.alloc();
-    let head = row(alloc, [execution(alloc, &[2], 2)?])?;
-    let body = row(alloc, [execution(alloc, &[2], 1)?])?;
-    let nodes = row(alloc, [repeat(true, head, body, Vec::new(alloc), 2)])?;
+    let head = row(&rt, alloc, [execution(&rt, alloc, &[2], 2)]);
+    let body = row(&rt, alloc, [execution(&rt, alloc, &[2], 1)]);
+    let nodes = row(&rt, alloc, [repeat(true, head, body, Vec::new(alloc), 2)]);
     expect_turns(
         &rt,
         alloc,
         nodes,
         2,
         "1( c1 2.1 ) 2( c1 2.1 ) if { 1( c1 2.2 ) 2( c1 2.2 ) if { beyond 2 } { } } { } ",
-    )?;
-    Ok(())
+    );
 }
 
 #[test]
-fn each_loop_has_its_own_turns(rt: HostRuntime) -> Result<(), Fail> {
+fn each_loop_has_its_own_turns(rt: HostRuntime) {
     let alloc = rt.alloc();
-    let head = row(alloc, [execution(alloc, &[1, 2], 2)?])?;
-    let body = row(alloc, [execution(alloc, &[1, 2], 3)?])?;
+    let head = row(&rt, alloc, [execution(&rt, alloc, &[1, 2], 2)]);
+    let body = row(&rt, alloc, [execution(&rt, alloc, &[1, 2], 3)]);
     let inner = repeat(false, head, body, Vec::new(alloc), 2);
-    let head = row(alloc, [execution(alloc, &[1], 1)?])?;
-    let body = row(alloc, [inner])?;
-    let nodes = row(alloc, [repeat(false, head, body, Vec::new(alloc), 1)])?;
+    let head = row(&rt, alloc, [execution(&rt, alloc, &[1], 1)]);
+    let body = row(&rt, alloc, [inner]);
+    let nodes = row(&rt, alloc, [repeat(false, head, body, Vec::new(alloc), 1)]);
     expect_turns(
         &rt,
         alloc,
@@ -121,26 +115,25 @@ fn each_loop_has_its_own_turns(rt: HostRuntime) -> Result<(), Fail> {
         1,
         "1( c1 1.1 ) if { 2( c1 1.1 2.1 ) if { 3( c1 1.1 2.1 ) 2( c1 1.1 2.2 ) if { beyond 2 } { } \
         } { } 1( c1 1.2 ) if { beyond 1 } { } } { } ",
-    )?;
-    Ok(())
+    );
 }
 
 #[test]
-fn a_leave_keeps_its_block(rt: HostRuntime) -> Result<(), Fail> {
+fn a_leave_keeps_its_block(rt: HostRuntime) {
     let alloc = rt.alloc();
-    let leave = row(alloc, [Node::Leave { label: 1 }])?;
+    let leave = row(&rt, alloc, [Node::Leave { label: 1 }]);
     let branch = Node::If {
         when: Operand::Var(0),
         yes: leave,
         no: Vec::new(alloc),
     };
-    let head = row(alloc, [execution(alloc, &[1], 1)?])?;
-    let body = row(alloc, [branch, execution(alloc, &[1], 2)?])?;
+    let head = row(&rt, alloc, [execution(&rt, alloc, &[1], 1)]);
+    let body = row(&rt, alloc, [branch, execution(&rt, alloc, &[1], 2)]);
     let block = Node::Block {
         label: 1,
-        body: row(alloc, [repeat(false, head, body, Vec::new(alloc), 1)])?,
+        body: row(&rt, alloc, [repeat(false, head, body, Vec::new(alloc), 1)]),
     };
-    let nodes = row(alloc, [block])?;
+    let nodes = row(&rt, alloc, [block]);
     expect_turns(
         &rt,
         alloc,
@@ -148,6 +141,5 @@ fn a_leave_keeps_its_block(rt: HostRuntime) -> Result<(), Fail> {
         1,
         "block 1 { 1( c1 1.1 ) if { if { leave 1 } { } 2( c1 1.1 ) 1( c1 1.2 ) if { beyond 1 } { } \
         } { } } ",
-    )?;
-    Ok(())
+    );
 }
