@@ -1,5 +1,10 @@
 //! Tests of all least sets.
 
+ghost use Rattle.std.specs.Prelude.{◌≡◌};
+ghost use Rattle.ba_encode.specs.Softs.{softs_of};
+ghost use Rattle.ba_checker.specs.Facts.{AreSelectors};
+ghost use Rattle.ba_checker.specs.States.{first_state};
+
 use crate::conditions::may_begin;
 use crate::judge::EmptyRuns;
 use ba_checker::{Checked, Checker};
@@ -11,9 +16,9 @@ use ba_lits::{Formula, Lit};
 use ba_numbers::ids::StmtId;
 use ba_search::Search;
 use ba_steps::NoSink;
-use std::alloc::{AllocError, Global};
+use std::alloc::Global;
+use std::panic::Expect;
 use std::process::Abort;
-use std::test::Fail;
 use test_formulas::{add, formula_of, literal, without_clauses};
 
 /// How a search for all least sets ends.
@@ -28,18 +33,42 @@ enum End<'a> {
 }
 
 /// Groups with these weights, by ascending numbers from 1; the selector of each is the variable of its number.
-fn groups_of(alloc: Global, weights: &[u32]) -> Result<Items<Group>, AllocError> {
+fn groups_of(rt: &impl Abort, alloc: Global, weights: &[u32]) -> Items<Group> {
     let mut groups = Items::new(alloc);
     for (place, weight) in weights.iter().enumerate() {
         let number = u32::try_from(place + 1).unwrap_or(0);
-        groups.push(Group {
-            number,
-            statement: StmtId(number),
-            weight: *weight,
-            selector: literal(u64::from(number), false),
-        })?;
+        groups
+            .push(Group {
+                number,
+                statement: StmtId(number),
+                weight: *weight,
+                selector: literal(u64::from(number), false),
+            })
+            .expect(rt, "memory");
     }
-    Ok(groups)
+    groups
+}
+
+/// The soft literals of an encoding.
+fn softs_in(rt: &impl Abort, alloc: Global, encoded: &Encoded) -> Vec<(Lit, u32)>
+    ensures { result.items ≡ softs_of encoded.now.groups }
+{
+    softs_of(alloc, encoded).expect(rt, "memory")
+}
+
+/// The checker of a formula before the first step.
+fn checker_of(
+    rt: &impl Abort,
+    alloc: Global,
+    formula: &Formula,
+    softs: &[(Lit, u32)],
+    conflicts: u64,
+    sets: u32,
+) -> Checker
+    requires { AreSelectors formula.now.variables softs.now }
+    ensures { result ≡ first_state formula.now softs.now conflicts sets }
+{
+    Checker::new(alloc, formula, softs, conflicts, sets).expect(rt, "memory")
 }
 
 /// What the search says of a formula whose groups have these weights.
@@ -50,21 +79,29 @@ fn find(
     weights: &[u32],
     conflicts: u64,
     sets: u32,
-) -> Result<Verdict, Fail> {
-    let groups = groups_of(alloc, weights)?;
+) -> Verdict {
+    let groups = groups_of(rt, alloc, weights);
     assert!(rt; groups.len() < 1 << 32);
     let encoded = Encoded::without_places(alloc, formula, groups);
-    let softs = softs_of(alloc, &encoded)?;
+    let softs = softs_in(rt, alloc, &encoded);
     assert!(rt; may_begin(&encoded, softs.as_slice()));
-    let checker = Checker::new(alloc, encoded.formula(), softs.as_slice(), conflicts, sets)?;
+    let checker = checker_of(
+        rt,
+        alloc,
+        encoded.formula(),
+        softs.as_slice(),
+        conflicts,
+        sets,
+    );
     let mut checked = Checked::new(checker, EmptyRuns, NoSink);
     let mut search = Search::new(
         alloc,
         encoded.formula(),
         |_: u64| 10,
         |width: u64, age: u64| width <= 2 || age < 400,
-    )?;
-    Ok(all_sets(alloc, &encoded, sets, &mut search, &mut checked)?)
+    )
+    .expect(rt, "memory");
+    all_sets(alloc, &encoded, sets, &mut search, &mut checked).expect(rt, "memory")
 }
 
 /// Whether the sets are these, in this order.
@@ -100,16 +137,15 @@ fn ends_so(verdict: &Verdict, end: &End) -> bool {
 type Row<'a> = (&'a str, u64, &'a [&'a [i64]], &'a [u32], u64, u32, End<'a>);
 
 /// Searches for the sets of a row's formula.
-fn check(rt: &impl Abort, alloc: Global, row: &Row) -> Result<(), Fail> {
+fn check(rt: &impl Abort, alloc: Global, row: &Row) {
     let (shown, variables, clauses, weights, conflicts, sets, end) = row;
-    let formula = formula_of(alloc, *variables, clauses)?;
-    let verdict = find(rt, alloc, formula, weights, *conflicts, *sets)?;
+    let formula = formula_of(alloc, *variables, clauses).expect(rt, "memory");
+    let verdict = find(rt, alloc, formula, weights, *conflicts, *sets);
     assert!(rt; ends_so(&verdict, end), "{shown}");
-    Ok(())
 }
 
 #[test]
-fn small_formulas_have_their_sets(rt: HostRuntime) -> Result<(), Fail> {
+fn small_formulas_have_their_sets(rt: HostRuntime) {
     let any_of_three: &[&[i64]] = &[&[-1, -2, -3]];
     let rows: [Row; 9] = [
         (
@@ -187,37 +223,38 @@ fn small_formulas_have_their_sets(rt: HostRuntime) -> Result<(), Fail> {
         ),
     ];
     for row in &rows {
-        check(&rt, rt.alloc(), row)?;
+        check(&rt, rt.alloc(), row);
     }
-    Ok(())
 }
 
 /// The formula with so many variables that says that one of them is false.
-fn some_false(alloc: Global, variables: u64) -> Result<Formula, AllocError> {
-    let mut formula = without_clauses(alloc, variables)?;
+fn some_false(rt: &impl Abort, alloc: Global, variables: u64) -> Formula {
+    let mut formula = without_clauses(alloc, variables).expect(rt, "memory");
     let mut lits = Vec::new(alloc);
     for variable in 1..=variables {
-        lits.push(literal(variable, true))?;
+        lits.push(literal(variable, true)).expect(rt, "memory");
     }
-    add(&mut formula, lits.as_slice())?;
-    Ok(formula)
+    add(&mut formula, lits.as_slice()).expect(rt, "memory");
+    formula
 }
 
-#[test]
-fn two_hundred_sets_of_weight_1_are_found_in_order(rt: HostRuntime) -> Result<(), Fail> {
-    let mut weights = Vec::new(rt.alloc());
-    for _ in 0..200 {
-        weights.push(1u32)?;
-    }
-    let formula = some_false(rt.alloc(), 200)?;
-    let verdict = find(&rt, rt.alloc(), formula, weights.as_slice(), 9_999, 200)?;
-    let Verdict::Located { weight, sets } = &verdict else {
+/// The sets of weight 1 are those of one group alone, of so many groups, in order.
+fn expect_single_groups(rt: &impl Abort, verdict: &Verdict, count: usize) {
+    let Verdict::Located { weight, sets } = verdict else {
         panic!(rt; "not located");
     };
     assert_eq!(rt; *weight, 1);
-    assert_eq!(rt; sets.len(), 200);
-    for (place, set) in sets.as_slice().iter().enumerate() {
-        assert_eq!(rt; set.groups.as_slice(), [place as u32 + 1].as_slice());
+    assert_eq!(rt; sets.len(), count);
+    let mut number = 0u32;
+    for set in sets.as_slice() {
+        number = number.saturating_add(1);
+        assert_eq!(rt; set.groups.as_slice(), [number].as_slice());
     }
-    Ok(())
+}
+
+#[test]
+fn two_hundred_sets_of_weight_1_are_found_in_order(rt: HostRuntime) {
+    let formula = some_false(&rt, rt.alloc(), 200);
+    let verdict = find(&rt, rt.alloc(), formula, &[1; 200], 9_999, 200);
+    expect_single_groups(&rt, &verdict, 200);
 }

@@ -1,4 +1,4 @@
-use Rattle.std.proofs.Common.{◌≡◌, List, map, ap, sym, subst, ◌∙◌}
+use Rattle.std.proofs.Common.{◌≡◌, List, IfOk, map, ap, sym, subst, ◌∙◌}
 use Rattle.ba_encode.specs.Softs.{softs_of}
 use Rattle.ba_learn.specs.Live.{AreLive}
 use Rattle.ba_lits.specs.Formulas.{Cnf}
@@ -14,19 +14,21 @@ all_sets-requires-clause-fresh g c = λ working.
     let softs = softs_of encoded.groups in
     let conflicts = c.args.conflicts in
     let sets = c.args.sets in
-    let made : c.in_ok-checker.checker ≡ first_state formula softs conflicts sets =
-    c.in_ok-checker.ensures
-    ∙ (ap (λ (f : Cnf). first_state f c.as_slice-2.result.now conflicts sets) c.formula-2.ensures
+    let made : c.checker_of-checker.result ≡ first_state formula softs conflicts sets =
+    c.checker_of-checker.ensures
+    ∙ (ap (λ (f : Cnf). first_state f c.as_slice-2.result.now conflicts sets) c.formula.ensures
     ∙ ap (λ (ss : List Soft). first_state formula ss conflicts sets)
-    (c.as_slice-2.ensures.value ∙ c.in_ok-softs.ensures)) in
+    (c.as_slice-2.ensures.value ∙ c.softs_in-softs.ensures)) in
     let begins : c.new-checked.result.checker ≡ first_state formula softs conflicts sets =
     ap (λ x. x.checker) c.new-checked.ensures ∙ made in
-    let clauses : map (kept Given) c.formula-3.result.now.clauses ≡ c.new-checked.result.checker.clauses =
-    ap (λ (f : Cnf). map (kept Given) f.clauses) c.formula-3.ensures
+    let clauses : map (kept Given) c.formula-2.result.now.clauses ≡ c.new-checked.result.checker.clauses =
+    ap (λ (f : Cnf). map (kept Given) f.clauses) c.formula-2.ensures
     ∙ sym (ap (λ (s : State). s.clauses) begins) in
+    let live : AreLive c.expect-search.result.clauses (clause_at (map (kept Given) c.formula-2.result.now.clauses)) =
+    subst (λ made. IfOk made (λ search. AreLive search.clauses (clause_at (map (kept Given) c.formula-2.result.now.clauses))))
+    c.expect-search.ensures c.new.ensures.clauses in
     record {
-      same = subst (λ (cs : List Kept). AreLive c.in_ok-search.search.clauses (clause_at cs)) clauses
-          c.in_ok-search.ensures.clauses;
+      same = subst (λ (cs : List Kept). AreLive c.expect-search.result.clauses (clause_at cs)) clauses live;
       starts = begins ∙ ap (λ n. first_state formula softs n sets) (sym (ap (λ (s : State). s.budget) begins));
       accepted = ap (λ x. x.refusal) c.new-checked.ensures;
     }
