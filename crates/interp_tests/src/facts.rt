@@ -6,14 +6,18 @@ use ba_numbers::ids::{At, FnId, StmtId, VarId};
 use ba_numbers::numbers::{BinOp, CType};
 use ba_tree::tree::{Expr, Function, Parts, Shape, Stmt, StmtInfo, StmtKind, Variable};
 use std::alloc::Global;
+use std::panic::Expect;
+use std::process::Abort;
 use test_programs::reader::{Fault, Reader};
 
 /// Whether the words are those of parts that make a program.
-fn is_program(alloc: Global, words: &str) -> Result<bool, Fault> {
+fn is_program(rt: &impl Abort, alloc: Global, words: &str) -> bool {
     match Reader::new(alloc, words.as_bytes()).program() {
-        Ok(_) => Ok(true),
-        Err(Fault::Unfit) => Ok(false),
-        Err(fault) => Err(fault),
+        Ok(_) => true,
+        Err(fault) => {
+            assert_eq!(rt; fault, Fault::Unfit);
+            false
+        }
     }
 }
 
@@ -120,25 +124,25 @@ static PARTS: [(&str, bool); 53] = [
 ];
 
 /// The first row that is otherwise, if there is one.
-fn first_difference(alloc: Global, rows: &[(&str, bool)]) -> Result<Option<usize>, Fault> {
+fn first_difference(rt: &impl Abort, alloc: Global, rows: &[(&str, bool)]) -> Option<usize> {
     for i in 0..rows.len() {
         let (words, fits) = rows[i];
-        if is_program(alloc, words)? != fits {
-            return Ok(Some(i));
+        if is_program(rt, alloc, words) != fits {
+            return Some(i);
         }
     }
-    Ok(None)
+    None
 }
 
 #[test]
 fn parts_make_a_program_exactly_where_they_fit(rt: HostRuntime) {
-    let difference = first_difference(rt.alloc(), PARTS.as_slice());
-    assert_eq!(rt; difference, Ok(None));
+    let difference = first_difference(&rt, rt.alloc(), PARTS.as_slice());
+    assert_eq!(rt; difference, None);
 }
 
 #[test]
 fn main_is_there(rt: HostRuntime) {
-    assert_eq!(rt; is_program(rt.alloc(), "0  0  0  0  0"), Ok(false));
+    assert!(rt; !is_program(&rt, rt.alloc(), "0  0  0  0  0"));
 }
 
 /// A variable of this shape.
@@ -150,21 +154,21 @@ fn variable(shape: Shape) -> Variable {
 }
 
 /// So many variables of this shape.
-fn variables(alloc: Global, count: u32, shape: Shape) -> Result<Items<Variable>, Fault> {
+fn variables(rt: &impl Abort, alloc: Global, count: u32, shape: Shape) -> Items<Variable> {
     let mut variables = Items::new(alloc);
     for _ in 0..count {
-        variables.push(variable(shape))?;
+        variables.push(variable(shape)).expect(rt, "memory");
     }
-    Ok(variables)
+    variables
 }
 
 /// The numbers of so many variables.
-fn locals(alloc: Global, count: u32) -> Result<Items<VarId>, Fault> {
+fn locals(rt: &impl Abort, alloc: Global, count: u32) -> Items<VarId> {
     let mut locals = Items::new(alloc);
     for number in 0..count {
-        locals.push(VarId(number))?;
+        locals.push(VarId(number)).expect(rt, "memory");
     }
-    Ok(locals)
+    locals
 }
 
 /// An assignment in the first line.
@@ -174,51 +178,53 @@ const ASSIGNMENT: StmtInfo = StmtInfo {
 };
 
 /// So many assignments.
-fn infos(alloc: Global, count: u32) -> Result<Items<StmtInfo>, Fault> {
+fn infos(rt: &impl Abort, alloc: Global, count: u32) -> Items<StmtInfo> {
     let mut infos = Items::new(alloc);
     for _ in 0..count {
-        infos.push(ASSIGNMENT)?;
+        infos.push(ASSIGNMENT).expect(rt, "memory");
     }
-    Ok(infos)
+    infos
 }
 
 /// So many statements that assign 0 to the first variable.
-fn assignments(alloc: Global, count: u32) -> Result<Items<Stmt>, Fault> {
+fn assignments(rt: &impl Abort, alloc: Global, count: u32) -> Items<Stmt> {
     let mut body = Items::new(alloc);
     for number in 0..count {
         body.push(Stmt::Assign {
             stmt: StmtId(number.saturating_add(1)),
             var: VarId(0),
             value: zero(),
-        })?;
+        })
+        .expect(rt, "memory");
     }
-    Ok(body)
+    body
 }
 
 /// `main` alone, with so many locals and this body.
-fn functions(alloc: Global, count: u32, body: Items<Stmt>) -> Result<Items<Function>, Fault> {
+fn functions(rt: &impl Abort, alloc: Global, count: u32, body: Items<Stmt>) -> Items<Function> {
     let main = Function {
         result: Some(CType::I32),
         params: Items::new(alloc),
-        locals: locals(alloc, count)?,
+        locals: locals(rt, alloc, count),
         body,
     };
     let mut functions = Items::new(alloc);
-    functions.push(main)?;
-    Ok(functions)
+    functions.push(main).expect(rt, "memory");
+    functions
 }
 
 /// Whether a `main` with so many locals of this shape and this body makes a program.
 fn is_main(
+    rt: &impl Abort,
     alloc: Global,
     count: u32,
     shape: Shape,
     body: Items<Stmt>,
     statements: Items<StmtInfo>,
-) -> Result<bool, Fault> {
-    let functions = functions(alloc, count, body)?;
+) -> bool {
+    let functions = functions(rt, alloc, count, body);
     let parts = Parts {
-        variables: variables(alloc, count, shape)?,
+        variables: variables(rt, alloc, count, shape),
         globals: Items::new(alloc),
         inits: Items::new(alloc),
         functions,
@@ -226,9 +232,11 @@ fn is_main(
         statements,
     };
     match program_of(alloc, parts) {
-        Ok(_) => Ok(true),
-        Err(ProgramError::Unfit) => Ok(false),
-        Err(ProgramError::Memory) => Err(Fault::Memory),
+        Ok(_) => true,
+        Err(error) => {
+            assert_eq!(rt; error, ProgramError::Unfit);
+            false
+        }
     }
 }
 
@@ -240,10 +248,10 @@ fn zero() -> Expr {
 }
 
 /// Whether a `main` with so many locals of this shape, and so many assignments of 0 to the first, makes a program.
-fn is_small(alloc: Global, count: u32, shape: Shape, stmts: u32) -> Result<bool, Fault> {
-    let statements = infos(alloc, stmts)?;
-    let body = assignments(alloc, stmts)?;
-    is_main(alloc, count, shape, body, statements)
+fn is_small(rt: &impl Abort, alloc: Global, count: u32, shape: Shape, stmts: u32) -> bool {
+    let statements = infos(rt, alloc, stmts);
+    let body = assignments(rt, alloc, stmts);
+    is_main(rt, alloc, count, shape, body, statements)
 }
 
 /// How many locals of which shape, how many assignments, and whether they make a program.
@@ -261,76 +269,78 @@ static SIZES: [(u32, Shape, u32, bool); 9] = [
 
 /// The first row that is otherwise, if there is one.
 fn first_other_size(
+    rt: &impl Abort,
     alloc: Global,
     rows: &[(u32, Shape, u32, bool)],
-) -> Result<Option<usize>, Fault> {
+) -> Option<usize> {
     for i in 0..rows.len() {
         let (count, shape, stmts, fits) = rows[i];
-        if is_small(alloc, count, shape, stmts)? != fits {
-            return Ok(Some(i));
+        if is_small(rt, alloc, count, shape, stmts) != fits {
+            return Some(i);
         }
     }
-    Ok(None)
+    None
 }
 
 #[test]
 fn sizes_have_their_limits(rt: HostRuntime) {
-    assert_eq!(rt; first_other_size(rt.alloc(), SIZES.as_slice()), Ok(None));
+    let other = first_other_size(&rt, rt.alloc(), SIZES.as_slice());
+    assert_eq!(rt; other, None);
 }
 
 /// A sum of this height.
-fn tower(alloc: Global, height: u32) -> Result<Expr, Fault> {
+fn tower(rt: &impl Abort, alloc: Global, height: u32) -> Expr {
     let mut sum = zero();
     for _ in 1..height {
         sum = Expr::Binary {
             op: BinOp::Add,
             t: CType::I32,
-            a: Box::new(alloc, sum)?,
-            b: Box::new(alloc, zero())?,
+            a: Box::new(alloc, sum).expect(rt, "memory"),
+            b: Box::new(alloc, zero()).expect(rt, "memory"),
         };
     }
-    Ok(sum)
+    sum
 }
 
 /// Statements so deep in one another.
-fn nest(alloc: Global, depth: u32) -> Result<Stmt, Fault> {
+fn nest(rt: &impl Abort, alloc: Global, depth: u32) -> Stmt {
     let mut inner = Stmt::ReturnNone;
     for _ in 1..depth {
         let mut body = Vec::new(alloc);
-        body.push(inner)?;
+        body.push(inner).expect(rt, "memory");
         inner = Stmt::Block { body };
     }
-    Ok(inner)
+    inner
 }
 
 /// Whether a `main` with this statement as its body makes a program.
-fn is_body(alloc: Global, stmt: Stmt, statements: Items<StmtInfo>) -> Result<bool, Fault> {
+fn is_body(rt: &impl Abort, alloc: Global, stmt: Stmt, statements: Items<StmtInfo>) -> bool {
     let mut body = Items::new(alloc);
-    body.push(stmt)?;
-    is_main(alloc, 1, Shape::Value, body, statements)
+    body.push(stmt).expect(rt, "memory");
+    is_main(rt, alloc, 1, Shape::Value, body, statements)
 }
 
 /// Whether an assignment of a sum of this height makes a program.
-fn is_low(alloc: Global, height: u32) -> Result<bool, Fault> {
-    let statements = infos(alloc, 1)?;
+fn is_low(rt: &impl Abort, alloc: Global, height: u32) -> bool {
+    let statements = infos(rt, alloc, 1);
     let stmt = Stmt::Assign {
         stmt: StmtId(1),
         var: VarId(0),
-        value: tower(alloc, height)?,
+        value: tower(rt, alloc, height),
     };
-    is_body(alloc, stmt, statements)
+    is_body(rt, alloc, stmt, statements)
 }
 
 /// Whether statements so deep in one another make a program.
-fn is_flat(alloc: Global, depth: u32) -> Result<bool, Fault> {
-    let stmt = nest(alloc, depth)?;
-    is_body(alloc, stmt, Items::new(alloc))
+fn is_flat(rt: &impl Abort, alloc: Global, depth: u32) -> bool {
+    let stmt = nest(rt, alloc, depth);
+    is_body(rt, alloc, stmt, Items::new(alloc))
 }
 
 #[test]
 fn heights_and_depths_have_their_limits(rt: HostRuntime) {
-    assert_eq!(rt; is_low(rt.alloc(), 100), Ok(true));
-    assert_eq!(rt; is_low(rt.alloc(), 101), Ok(false));
-    assert_eq!(rt; is_flat(rt.alloc(), 100), Ok(true));
-    assert_eq!(rt; is_flat(rt.alloc(), 101), Ok(false));
+    assert!(rt; is_low(&rt, rt.alloc(), 100));
+    assert!(rt; !is_low(&rt, rt.alloc(), 101));
+    assert!(rt; is_flat(&rt, rt.alloc(), 100));
+    assert!(rt; !is_flat(&rt, rt.alloc(), 101));
 }

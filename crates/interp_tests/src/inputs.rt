@@ -5,7 +5,9 @@ use ba_items::Items;
 use ba_tree::run::Input;
 use ba_tree::tree::Program;
 use std::alloc::Global;
-use test_programs::reader::{Fault, Reader};
+use std::panic::Expect;
+use std::process::Abort;
+use test_programs::reader::Reader;
 
 fn same(values: &[Items<i64>], others: &[Items<i64>]) -> bool {
     if values.len() != others.len() {
@@ -20,33 +22,32 @@ fn same(values: &[Items<i64>], others: &[Items<i64>]) -> bool {
 }
 
 /// Whether the text is read as this input.
-fn gives(alloc: Global, program: &Program, text: &[u8], expected: &Input) -> Result<bool, Fault> {
-    if 65_536 < text.len() {
-        return Err(Fault::Word);
-    }
+fn gives(rt: &impl Abort, alloc: Global, program: &Program, text: &[u8], expected: &Input) -> bool {
+    assert!(rt; text.len() <= 65_536);
     match read_input(alloc, program, text) {
-        Ok(input) => Ok(same(input.values.as_slice(), expected.values.as_slice())),
-        Err(_) => Ok(false),
+        Ok(input) => same(input.values.as_slice(), expected.values.as_slice()),
+        Err(_) => false,
     }
 }
 
 /// Whether the text has the values that are written as words.
-fn has_values(alloc: Global, program: &str, text: &[u8], values: &str) -> Result<bool, Fault> {
-    let program = Reader::new(alloc, program.as_bytes()).program()?;
-    let expected = Reader::new(alloc, values.as_bytes()).input()?;
-    gives(alloc, &program, text, &expected)
+fn has_values(rt: &impl Abort, alloc: Global, program: &str, text: &[u8], values: &str) -> bool {
+    let program = Reader::new(alloc, program.as_bytes())
+        .program()
+        .expect(rt, "a program");
+    let expected = Reader::new(alloc, values.as_bytes())
+        .input()
+        .expect(rt, "an input");
+    gives(rt, alloc, &program, text, &expected)
 }
 
 /// The error of a text, if it has one.
-fn error_of(alloc: Global, program: &str, text: &[u8]) -> Result<Option<InputError>, Fault> {
-    if 65_536 < text.len() {
-        return Err(Fault::Word);
-    }
-    let program = Reader::new(alloc, program.as_bytes()).program()?;
-    match read_input(alloc, &program, text) {
-        Ok(_) => Ok(None),
-        Err(error) => Ok(Some(error)),
-    }
+fn error_of(rt: &impl Abort, alloc: Global, program: &str, text: &[u8]) -> Option<InputError> {
+    assert!(rt; text.len() <= 65_536);
+    let program = Reader::new(alloc, program.as_bytes())
+        .program()
+        .expect(rt, "a program");
+    read_input(alloc, &program, text).err()
 }
 
 /// `main` without parameters.
@@ -80,20 +81,24 @@ static VALUES: [(&str, &str, &str); 10] = [
 ];
 
 /// The first text with other values, if there is one.
-fn first_other_values(alloc: Global, rows: &[(&str, &str, &str)]) -> Result<Option<usize>, Fault> {
+fn first_other_values(
+    rt: &impl Abort,
+    alloc: Global,
+    rows: &[(&str, &str, &str)],
+) -> Option<usize> {
     for i in 0..rows.len() {
         let (program, text, values) = rows[i];
-        if !has_values(alloc, program, text.as_bytes(), values)? {
-            return Ok(Some(i));
+        if !has_values(rt, alloc, program, text.as_bytes(), values) {
+            return Some(i);
         }
     }
-    Ok(None)
+    None
 }
 
 #[test]
 fn numbers_go_to_their_parameters(rt: HostRuntime) {
-    let other = first_other_values(rt.alloc(), VALUES.as_slice());
-    assert_eq!(rt; other, Ok(None));
+    let other = first_other_values(&rt, rt.alloc(), VALUES.as_slice());
+    assert_eq!(rt; other, None);
 }
 
 /// Programs, texts and their errors.
@@ -125,49 +130,50 @@ static ERRORS: [(&str, &str, InputError); 23] = [
 
 /// The first text with another error or none, if there is one.
 fn first_other_error(
+    rt: &impl Abort,
     alloc: Global,
     rows: &[(&str, &str, InputError)],
-) -> Result<Option<usize>, Fault> {
+) -> Option<usize> {
     for i in 0..rows.len() {
         let (program, text, error) = rows[i];
-        if error_of(alloc, program, text.as_bytes())? != Some(error) {
-            return Ok(Some(i));
+        if error_of(rt, alloc, program, text.as_bytes()) != Some(error) {
+            return Some(i);
         }
     }
-    Ok(None)
+    None
 }
 
 #[test]
 fn each_error_comes_at_its_piece(rt: HostRuntime) {
-    let other = first_other_error(rt.alloc(), ERRORS.as_slice());
-    assert_eq!(rt; other, Ok(None));
+    let other = first_other_error(&rt, rt.alloc(), ERRORS.as_slice());
+    assert_eq!(rt; other, None);
 }
 
 /// So many equal digits, and then one.
-fn digits(alloc: Global, count: usize, digit: u8, last: u8) -> Result<Vec<u8>, Fault> {
+fn digits(rt: &impl Abort, alloc: Global, count: usize, digit: u8, last: u8) -> Vec<u8> {
     let mut text = Vec::new(alloc);
     for _ in 0..count {
-        text.push(digit)?;
+        text.push(digit).expect(rt, "memory");
     }
-    text.push(last)?;
-    Ok(text)
+    text.push(last).expect(rt, "memory");
+    text
 }
 
 /// Whether 4,999 zeros and a 7 are read as 7.
-fn reads_zeros(alloc: Global) -> Result<bool, Fault> {
-    let zeros = digits(alloc, 4_999, b'0', b'7')?;
-    has_values(alloc, INT, zeros.as_slice(), "1 7 ;")
+fn reads_zeros(rt: &impl Abort, alloc: Global) -> bool {
+    let zeros = digits(rt, alloc, 4_999, b'0', b'7');
+    has_values(rt, alloc, INT, zeros.as_slice(), "1 7 ;")
 }
 
 /// The error of 5,000 nines.
-fn error_of_nines(alloc: Global) -> Result<Option<InputError>, Fault> {
-    let nines = digits(alloc, 4_999, b'9', b'9')?;
-    error_of(alloc, INT, nines.as_slice())
+fn error_of_nines(rt: &impl Abort, alloc: Global) -> Option<InputError> {
+    let nines = digits(rt, alloc, 4_999, b'9', b'9');
+    error_of(rt, alloc, INT, nines.as_slice())
 }
 
 #[test]
 fn a_number_may_have_thousands_of_digits(rt: HostRuntime) {
-    assert_eq!(rt; reads_zeros(rt.alloc()), Ok(true));
-    let error = error_of_nines(rt.alloc());
-    assert_eq!(rt; error, Ok(Some(InputError::OutOfRange(1))));
+    assert!(rt; reads_zeros(&rt, rt.alloc()));
+    let error = error_of_nines(&rt, rt.alloc());
+    assert_eq!(rt; error, Some(InputError::OutOfRange(1)));
 }

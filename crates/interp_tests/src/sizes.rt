@@ -3,19 +3,21 @@
 use ba_tree::run::Bounds;
 use ba_unroll::units;
 use std::alloc::Global;
+use std::panic::Expect;
+use std::process::Abort;
 use test_programs::examples::{
     ARGUMENTS, ARRAYS, BEHIND, DIVISION, ENDLESS, GLOBAL, INITIALISER, JUMPS, OWN, P1, P2, P3, P5,
     STORE, TURNS, VALUES,
 };
-use test_programs::reader::{Fault, Reader};
+use test_programs::reader::Reader;
 
 /// The units of a program that is written as words.
-fn counted(alloc: Global, program: &str, turns: u32, frames: u32) -> Result<u32, Fault> {
-    if turns < 1 || 64 < turns || frames < 1 || 32 < frames {
-        return Err(Fault::Word);
-    }
-    let program = Reader::new(alloc, program.as_bytes()).program()?;
-    Ok(units(&program, Bounds { turns, frames }))
+fn counted(rt: &impl Abort, alloc: Global, program: &str, turns: u32, frames: u32) -> u32 {
+    assert!(rt; 1 <= turns && turns <= 64 && 1 <= frames && frames <= 32);
+    let program = Reader::new(alloc, program.as_bytes())
+        .program()
+        .expect(rt, "a program");
+    units(&program, Bounds { turns, frames })
 }
 
 /// Three loops in one another.
@@ -54,14 +56,14 @@ const TWO_OVER: &str =
 type Row<'a> = (&'a str, u32, u32, u32);
 
 /// The first row whose program has other units, if there is one.
-fn first_difference(alloc: Global, rows: &[Row]) -> Result<Option<usize>, Fault> {
+fn first_difference(rt: &impl Abort, alloc: Global, rows: &[Row]) -> Option<usize> {
     for i in 0..rows.len() {
         let (program, turns, frames, expected) = rows[i];
-        if counted(alloc, program, turns, frames)? != expected {
-            return Ok(Some(i));
+        if counted(rt, alloc, program, turns, frames) != expected {
+            return Some(i);
         }
     }
-    Ok(None)
+    None
 }
 
 static UNITS: [Row; 40] = [
@@ -109,5 +111,6 @@ static UNITS: [Row; 40] = [
 
 #[test]
 fn units_are_as_counted(rt: HostRuntime) {
-    assert_eq!(rt; first_difference(rt.alloc(), UNITS.as_slice()), Ok(None));
+    let difference = first_difference(&rt, rt.alloc(), UNITS.as_slice());
+    assert_eq!(rt; difference, None);
 }
