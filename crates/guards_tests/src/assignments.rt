@@ -3,29 +3,55 @@
 use crate::values::Values;
 use ba_choices::Choice;
 use ba_wordlist::words::{PlaceWords, WordList, WordOp};
-use std::alloc::{AllocError, Global};
+use std::alloc::Global;
+use std::panic::Expect;
+use std::process::Abort;
 
 /// An assignment for these choices, one behind another at the places whose guard isn't 0, or none where there are more or fewer of them.
 pub fn spelling(
+    rt: &impl Abort,
     alloc: Global,
     list: &WordList,
     choices: &[Choice],
-) -> Result<Option<Vec<i64>>, AllocError> {
-    let mut free = vec![in alloc; 0; list.words.len()]?;
+) -> Option<Vec<i64>> {
+    let mut free = vec![in alloc; 0; list.words.len()].expect(rt, "memory");
+    if spell(rt, alloc, list, choices, &mut free) {
+        Some(free)
+    } else {
+        None
+    }
+}
+
+/// Gives the places whose guard isn't 0 these choices, one behind another. Whether there are as many of them.
+fn spell(
+    rt: &impl Abort,
+    alloc: Global,
+    list: &WordList,
+    choices: &[Choice],
+    free: &mut Vec<i64>,
+) -> bool {
     let mut left = choices.iter();
     for place in list.places.as_slice() {
-        let values = Values::of(alloc, list.words.as_slice(), free.as_slice())?;
-        if values.at(place.guard) != 0 {
+        if is_guarded(rt, alloc, list, place, free.as_slice()) {
             match left.next() {
-                Some(choice) => choose(list.words.as_slice(), place, choice, &mut free),
-                None => return Ok(None),
+                Some(choice) => choose(list.words.as_slice(), place, choice, free),
+                None => return false,
             }
         }
     }
-    match left.next() {
-        Some(_) => Ok(None),
-        None => Ok(Some(free)),
-    }
+    left.next().is_none()
+}
+
+/// Whether a place's guard isn't 0 under an assignment.
+fn is_guarded(
+    rt: &impl Abort,
+    alloc: Global,
+    list: &WordList,
+    place: &PlaceWords,
+    free: &[i64],
+) -> bool {
+    let values = Values::of(rt, alloc, list.words.as_slice(), free);
+    values.at(place.guard) != 0
 }
 
 /// Gives a place its choice.
@@ -78,15 +104,15 @@ impl Random {
     }
 
     /// An assignment of small numbers, under which most choices are Keep.
-    pub fn assignment(&mut self, alloc: Global, list: &WordList) -> Result<Vec<i64>, AllocError> {
+    pub fn assignment(&mut self, rt: &impl Abort, alloc: Global, list: &WordList) -> Vec<i64> {
         let mut free = Vec::new(alloc);
         for op in list.words.as_slice() {
             let value = match op {
                 WordOp::Flag => i64::from(self.below(8) != 0),
                 _ => i64::from(self.below(8)) - 2,
             };
-            free.push(value)?;
+            free.push(value).expect(rt, "memory");
         }
-        Ok(free)
+        free
     }
 }

@@ -12,10 +12,10 @@ use ba_numbers::numbers::{BinOp, CType};
 use ba_tree::run::{Allowed, Bounds, Input, Outcome};
 use ba_tree::tree::{Program, StmtKind};
 use ba_wordlist::words::{WordList, WordOp};
-use std::alloc::{AllocError, Global};
+use std::alloc::Global;
+use std::panic::Expect;
 use std::process::Abort;
-use std::test::Fail;
-use test_programs::reader::{Fault, Reader};
+use test_programs::reader::Reader;
 
 /// A program with an input, bounds, its list, and all statements that may be relaxed.
 #[derive(Drop)]
@@ -29,27 +29,28 @@ struct Case {
 
 impl Case {
     /// The case of a program and an input that are written as words.
-    fn new(alloc: Global, program: &str, input: &str, turns: u32) -> Result<Case, Fault> {
-        let program = Reader::new(alloc, program.as_bytes()).program()?;
-        let input = Reader::new(alloc, input.as_bytes()).input()?;
+    fn new(rt: &impl Abort, alloc: Global, program: &str, input: &str, turns: u32) -> Case {
+        let program = Reader::new(alloc, program.as_bytes())
+            .program()
+            .expect(rt, "a program");
+        let input = Reader::new(alloc, input.as_bytes())
+            .input()
+            .expect(rt, "an input");
         let bounds = Bounds { turns, frames: 4 };
-        match list_of(alloc, &program, &input, bounds)? {
-            Some(list) => Ok(Case {
-                allowed: everything(alloc, &program)?,
-                program,
-                input,
-                turns,
-                list,
-            }),
-            None => Err(Fault::Word),
+        let list = list_of(rt, alloc, &program, &input, bounds);
+        let allowed = everything(rt, alloc, &program);
+        Case {
+            program,
+            input,
+            turns,
+            list,
+            allowed,
         }
     }
 
     /// Whether the run with these choices is good.
-    fn is_good(&self, alloc: Global, choices: &[Choice]) -> Result<bool, Fault> {
-        if self.turns < 1 || 64 < self.turns {
-            return Err(Fault::Word);
-        }
+    fn is_good(&self, rt: &impl Abort, alloc: Global, choices: &[Choice]) -> bool {
+        assert!(rt; 1 <= self.turns && self.turns <= 64);
         let bounds = Bounds {
             turns: self.turns,
             frames: 4,
@@ -61,46 +62,46 @@ impl Case {
             bounds,
             &self.allowed,
             choices,
-        )?;
-        Ok(outcome == Outcome::Done)
+        );
+        outcome.expect(rt, "memory") == Outcome::Done
     }
 
     /// Whether an assignment that spells these choices holds.
-    fn is_spelled(&self, alloc: Global, choices: &[Choice]) -> Result<bool, Fault> {
-        match spelling(alloc, &self.list, choices)? {
-            Some(free) => self.holds_with(alloc, free.as_slice(), choices),
-            None => Ok(false),
+    fn is_spelled(&self, rt: &impl Abort, alloc: Global, choices: &[Choice]) -> bool {
+        match spelling(rt, alloc, &self.list, choices) {
+            Some(free) => self.holds_with(rt, alloc, free.as_slice(), choices),
+            None => false,
         }
     }
 
     /// Whether an assignment holds and spells these choices.
-    fn holds_with(&self, alloc: Global, free: &[i64], choices: &[Choice]) -> Result<bool, Fault> {
-        let values = Values::of(alloc, self.list.words.as_slice(), free)?;
-        let others = spelled(alloc, &values, &self.list)?;
-        Ok(holds(&values, &self.list) && are_same(choices, others.as_slice()))
+    fn holds_with(&self, rt: &impl Abort, alloc: Global, free: &[i64], choices: &[Choice]) -> bool {
+        let values = Values::of(rt, alloc, self.list.words.as_slice(), free);
+        let others = spelled(rt, alloc, &values, &self.list);
+        holds(&values, &self.list) && are_same(choices, others.as_slice())
     }
 
     /// Whether some assignment holds exactly where the run with the choices that it spells is good.
-    fn is_told(&self, alloc: Global, random: &mut Random) -> Result<bool, Fault> {
-        let free = random.assignment(alloc, &self.list)?;
-        let values = Values::of(alloc, self.list.words.as_slice(), free.as_slice())?;
-        let choices = spelled(alloc, &values, &self.list)?;
-        let good = self.is_good(alloc, choices.as_slice())?;
-        Ok(holds(&values, &self.list) == good)
+    fn is_told(&self, rt: &impl Abort, alloc: Global, random: &mut Random) -> bool {
+        let free = random.assignment(rt, alloc, &self.list);
+        let values = Values::of(rt, alloc, self.list.words.as_slice(), free.as_slice());
+        let choices = spelled(rt, alloc, &values, &self.list);
+        let good = self.is_good(rt, alloc, choices.as_slice());
+        holds(&values, &self.list) == good
     }
 }
 
 /// All statements but the asserts.
-fn everything(alloc: Global, program: &Program) -> Result<Allowed, AllocError> {
+fn everything(rt: &impl Abort, alloc: Global, program: &Program) -> Allowed {
     let mut stmts = Items::new(alloc);
     let mut number = 0u32;
     for statement in program.statements.as_slice() {
         number = number.saturating_add(1);
         if statement.kind != StmtKind::Assert {
-            stmts.push(StmtId(number))?;
+            stmts.push(StmtId(number)).expect(rt, "memory");
         }
     }
-    Ok(Allowed::Statements(stmts))
+    Allowed::Statements(stmts)
 }
 
 fn are_same(choices: &[Choice], others: &[Choice]) -> bool {
@@ -295,54 +296,41 @@ fn expect_case(
     case: &Case,
     choices: &[Choice],
     good: bool,
-) -> Result<(), Fault> {
-    assert_eq!(rt; case.is_good(alloc, choices)?, good);
-    assert_eq!(rt; case.is_spelled(alloc, choices)?, good);
+) {
+    assert_eq!(rt; case.is_good(rt, alloc, choices), good);
+    assert_eq!(rt; case.is_spelled(rt, alloc, choices), good);
     for _ in 0..TRIES {
-        assert!(rt; case.is_told(alloc, random)?);
+        assert!(rt; case.is_told(rt, alloc, random));
     }
-    Ok(())
 }
 
-fn expect_run(
-    rt: &impl Abort,
-    alloc: Global,
-    random: &mut Random,
-    program: &str,
-    run: &Run,
-) -> Result<(), Fault> {
+fn expect_run(rt: &impl Abort, alloc: Global, random: &mut Random, program: &str, run: &Run) {
     let (input, turns, choices, good) = *run;
-    let choices = Reader::new(alloc, choices.as_bytes()).choices()?;
-    let case = Case::new(alloc, program, input, turns)?;
-    expect_case(rt, alloc, random, &case, choices.as_slice(), good)
+    let choices = Reader::new(alloc, choices.as_bytes())
+        .choices()
+        .expect(rt, "choices");
+    let case = Case::new(rt, alloc, program, input, turns);
+    expect_case(rt, alloc, random, &case, choices.as_slice(), good);
 }
 
-fn expect_runs(
-    rt: &impl Abort,
-    alloc: Global,
-    random: &mut Random,
-    program: &str,
-    runs: &[Run],
-) -> Result<(), Fault> {
+fn expect_runs(rt: &impl Abort, alloc: Global, random: &mut Random, program: &str, runs: &[Run]) {
     for run in runs {
-        expect_run(rt, alloc, random, program, run)?;
+        expect_run(rt, alloc, random, program, run);
     }
-    Ok(())
 }
 
 #[test]
-fn lists_hold_exactly_where_runs_are_good(rt: HostRuntime) -> Result<(), Fail> {
+fn lists_hold_exactly_where_runs_are_good(rt: HostRuntime) {
     let mut random = Random::new(1);
     for (program, runs) in EXAMPLES {
-        expect_runs(&rt, rt.alloc(), &mut random, program, runs)?;
+        expect_runs(&rt, rt.alloc(), &mut random, program, runs);
     }
-    Ok(())
 }
 
 /// Whether the list of the five lines has one place, with an empty path, and one value.
-fn five_lines_have_one_place(alloc: Global) -> Result<bool, Fault> {
-    let case = Case::new(alloc, FIVE_LINES, "1 1 ;", 1)?;
-    Ok(has_one_place(&case.list))
+fn five_lines_have_one_place(rt: &impl Abort, alloc: Global) -> bool {
+    let case = Case::new(rt, alloc, FIVE_LINES, "1 1 ;", 1);
+    has_one_place(&case.list)
 }
 
 fn has_one_place(list: &WordList) -> bool {
@@ -353,9 +341,9 @@ fn has_one_place(list: &WordList) -> bool {
 }
 
 /// Whether the value of a `short` is a conversion to it.
-fn a_short_is_converted(alloc: Global) -> Result<bool, Fault> {
-    let case = Case::new(alloc, SHORT, "1 40000 ;", 1)?;
-    Ok(is_converted(&case.list))
+fn a_short_is_converted(rt: &impl Abort, alloc: Global) -> bool {
+    let case = Case::new(rt, alloc, SHORT, "1 40000 ;", 1);
+    is_converted(&case.list)
 }
 
 fn is_converted(list: &WordList) -> bool {
@@ -373,9 +361,9 @@ fn first_value(list: &WordList) -> Option<&WordOp> {
 }
 
 /// How many places the condition and the body of the sum have within three turns.
-fn places_of_sum(alloc: Global) -> Result<(usize, usize), Fault> {
-    let case = Case::new(alloc, SUM, "1 3 ;", 3)?;
-    Ok((places_at(&case.list, 3), places_at(&case.list, 5)))
+fn places_of_sum(rt: &impl Abort, alloc: Global) -> (usize, usize) {
+    let case = Case::new(rt, alloc, SUM, "1 3 ;", 3);
+    (places_at(&case.list, 3), places_at(&case.list, 5))
 }
 
 /// How many places of the list stand at a statement.
@@ -390,8 +378,8 @@ fn places_at(list: &WordList, stmt: u32) -> usize {
 }
 
 /// How many entries of the list are sums, and how many are elements, where each is computed twice.
-fn sums_and_elements(alloc: Global) -> Result<(usize, usize), Fault> {
-    let case = Case::new(alloc, TWICE, "1 1 ;", 1)?;
+fn sums_and_elements(rt: &impl Abort, alloc: Global) -> (usize, usize) {
+    let case = Case::new(rt, alloc, TWICE, "1 1 ;", 1);
     let mut sums = 0usize;
     let mut elements = 0usize;
     for entry in case.list.words.as_slice() {
@@ -401,14 +389,13 @@ fn sums_and_elements(alloc: Global) -> Result<(usize, usize), Fault> {
             _ => {}
         }
     }
-    Ok((sums, elements))
+    (sums, elements)
 }
 
 #[test]
-fn lists_are_as_worked_out(rt: HostRuntime) -> Result<(), Fail> {
-    assert_eq!(rt; five_lines_have_one_place(rt.alloc()), Ok(true));
-    assert_eq!(rt; a_short_is_converted(rt.alloc()), Ok(true));
-    assert_eq!(rt; places_of_sum(rt.alloc()), Ok((4, 3)));
-    assert_eq!(rt; sums_and_elements(rt.alloc()), Ok((1, 1)));
-    Ok(())
+fn lists_are_as_worked_out(rt: HostRuntime) {
+    assert!(rt; five_lines_have_one_place(&rt, rt.alloc()));
+    assert!(rt; a_short_is_converted(&rt, rt.alloc()));
+    assert_eq!(rt; places_of_sum(&rt, rt.alloc()), (4, 3));
+    assert_eq!(rt; sums_and_elements(&rt, rt.alloc()), (1, 1));
 }

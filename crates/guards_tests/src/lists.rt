@@ -14,21 +14,22 @@ use ba_numbers::numbers::CType;
 use ba_tree::run::{Bounds, Input};
 use ba_tree::tree::Program;
 use ba_wordlist::words::{PlaceWords, WordList};
-use std::alloc::{AllocError, Global};
+use std::alloc::Global;
+use std::panic::Expect;
+use std::process::Abort;
 
-/// The list of a program and an input, or none where a number of the input has more than 32 bits.
+/// The list of a program and an input, none of whose numbers has more than 32 bits.
 pub fn list_of(
+    rt: &impl Abort,
     alloc: Global,
     program: &Program,
     input: &Input,
     bounds: Bounds,
-) -> Result<Option<WordList>, AllocError> {
-    if !are_words(input.values.as_slice()) {
-        return Ok(None);
-    }
-    let loops = inline(alloc, program, bounds.frames)?;
-    let tree = unroll(alloc, &loops, bounds.turns)?;
-    Ok(Some(guard(alloc, &tree, input)?))
+) -> WordList {
+    assert!(rt; are_words(input.values.as_slice()));
+    let loops = inline(alloc, program, bounds.frames).expect(rt, "memory");
+    let tree = unroll(alloc, &loops, bounds.turns).expect(rt, "memory");
+    guard(alloc, &tree, input).expect(rt, "memory")
 }
 
 fn are_words(values: &[Items<i64>]) -> bool
@@ -60,23 +61,25 @@ pub fn holds(values: &Values, list: &WordList) -> bool {
 }
 
 /// The choices at the places whose guard isn't 0.
-pub fn spelled(alloc: Global, values: &Values, list: &WordList) -> Result<Vec<Choice>, AllocError> {
+pub fn spelled(rt: &impl Abort, alloc: Global, values: &Values, list: &WordList) -> Vec<Choice> {
     let mut choices = Vec::new(alloc);
     for place in list.places.as_slice() {
         if values.at(place.guard) != 0 {
-            choices.push(choice_at(alloc, values, place)?)?;
+            choices
+                .push(choice_at(rt, alloc, values, place))
+                .expect(rt, "memory");
         }
     }
-    Ok(choices)
+    choices
 }
 
-fn choice_at(alloc: Global, values: &Values, place: &PlaceWords) -> Result<Choice, AllocError> {
+fn choice_at(rt: &impl Abort, alloc: Global, values: &Values, place: &PlaceWords) -> Choice {
     if values.at(place.keep) != 0 {
-        return Ok(Choice::Keep);
+        return Choice::Keep;
     }
     let mut taken = Taken::new(alloc);
     for word in place.values.as_slice() {
-        taken.push(values.at(*word))?;
+        taken.push(values.at(*word)).expect(rt, "memory");
     }
-    Ok(Choice::Take(taken))
+    Choice::Take(taken)
 }

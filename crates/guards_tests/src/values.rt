@@ -2,7 +2,9 @@
 
 use ba_numbers::numbers::{BinOp, CType, apply, apply_one, convert};
 use ba_wordlist::words::WordOp;
-use std::alloc::{AllocError, Global};
+use std::alloc::Global;
+use std::panic::Expect;
+use std::process::Abort;
 
 /// The elements of each entry of a list: a word has one.
 #[derive(Drop)]
@@ -12,15 +14,15 @@ pub struct Values {
 
 impl Values {
     /// The values under an assignment, which has a number for each entry.
-    pub fn of(alloc: Global, words: &[WordOp], free: &[i64]) -> Result<Values, AllocError> {
+    pub fn of(rt: &impl Abort, alloc: Global, words: &[WordOp], free: &[i64]) -> Values {
         let mut values = Values {
             entries: Vec::new(alloc),
         };
         for (number, op) in words.iter().enumerate() {
-            let entry = values.entry(alloc, op, at_or_zero(free, number))?;
-            values.entries.push(entry)?;
+            let entry = values.entry(rt, alloc, op, at_or_zero(free, number));
+            values.entries.push(entry).expect(rt, "memory");
         }
-        Ok(values)
+        values
     }
 
     /// The value of a word.
@@ -29,12 +31,12 @@ impl Values {
     }
 
     /// The values of words.
-    pub fn all_at(&self, alloc: Global, words: &[u32]) -> Result<Vec<i64>, AllocError> {
+    pub fn all_at(&self, rt: &impl Abort, alloc: Global, words: &[u32]) -> Vec<i64> {
         let mut values = Vec::new(alloc);
         for word in words {
-            values.push(self.at(*word))?;
+            values.push(self.at(*word)).expect(rt, "memory");
         }
-        Ok(values)
+        values
     }
 
     fn elements(&self, word: u32) -> &[i64] {
@@ -45,14 +47,14 @@ impl Values {
     }
 
     /// What an entry has, by its number in the assignment.
-    fn entry(&self, alloc: Global, op: &WordOp, free: i64) -> Result<Vec<i64>, AllocError> {
+    fn entry(&self, rt: &impl Abort, alloc: Global, op: &WordOp, free: i64) -> Vec<i64> {
         match op {
-            WordOp::Zeros(count) => Ok(vec![in alloc; 0; *count as usize]?),
+            WordOp::Zeros(count) => vec![in alloc; 0; *count as usize].expect(rt, "memory"),
             WordOp::Fill { of, values, when } => {
                 if self.at(*when) != 0 {
-                    self.all_at(alloc, values.as_slice())
+                    self.all_at(rt, alloc, values.as_slice())
                 } else {
-                    Ok(Vec::from_slice(alloc, self.elements(*of))?)
+                    Vec::from_slice(alloc, self.elements(*of)).expect(rt, "memory")
                 }
             }
             WordOp::Write {
@@ -61,14 +63,14 @@ impl Values {
                 value,
                 when,
             } => {
-                let mut elements = Vec::from_slice(alloc, self.elements(*of))?;
+                let mut elements = Vec::from_slice(alloc, self.elements(*of)).expect(rt, "memory");
                 let index = self.at(*index);
                 if self.at(*when) != 0 && 0 <= index && index < elements.len() as i64 {
                     elements[index as usize] = self.at(*value);
                 }
-                Ok(elements)
+                elements
             }
-            _ => Ok(Vec::from_slice(alloc, &[self.word(op, free)])?),
+            _ => Vec::from_slice(alloc, &[self.word(op, free)]).expect(rt, "memory"),
         }
     }
 
