@@ -7,6 +7,8 @@ use ba_numbers::ids::{At, FnId, StmtId, VarId};
 use ba_numbers::numbers::CType;
 use ba_tree::tree::{Expr, Function, Parts, Program, Shape, Stmt, StmtInfo, StmtKind, Variable};
 use std::alloc::{AllocError, Global};
+use std::panic::Expect;
+use std::process::Abort;
 
 /// A constant of type `int`.
 fn one() -> Expr {
@@ -45,66 +47,68 @@ static STATEMENTS: [(u32, StmtKind); 6] = [
     (100_000, StmtKind::Return),
 ];
 
-fn body(alloc: Global, rows: &[(u32, StmtKind)]) -> Result<Items<Stmt>, AllocError> {
+fn body(rt: &impl Abort, alloc: Global, rows: &[(u32, StmtKind)]) -> Items<Stmt> {
     let mut body = Items::new(alloc);
     let mut number = 0u32;
     for (_, kind) in rows {
         number = number.saturating_add(1);
-        body.push(statement(number, *kind))?;
+        body.push(statement(number, *kind)).expect(rt, "memory");
     }
-    Ok(body)
+    body
 }
 
-fn infos(alloc: Global, rows: &[(u32, StmtKind)]) -> Result<Items<StmtInfo>, AllocError> {
+fn infos(rt: &impl Abort, alloc: Global, rows: &[(u32, StmtKind)]) -> Items<StmtInfo> {
     let mut infos = Items::new(alloc);
     for (line, kind) in rows {
-        infos.push(StmtInfo {
-            at: At {
-                line: *line,
-                column: 5,
-            },
-            kind: *kind,
-        })?;
+        infos
+            .push(StmtInfo {
+                at: At {
+                    line: *line,
+                    column: 5,
+                },
+                kind: *kind,
+            })
+            .expect(rt, "memory");
     }
-    Ok(infos)
+    infos
 }
 
 /// `main`, with one variable and the statements.
-fn main(alloc: Global) -> Result<Function, AllocError> {
-    let locals = Items::from_slice(alloc, &[VarId(0)])?;
-    let body = body(alloc, STATEMENTS.as_slice())?;
-    Ok(Function {
+fn main(rt: &impl Abort, alloc: Global) -> Function {
+    let locals = Items::from_slice(alloc, &[VarId(0)]).expect(rt, "memory");
+    let body = body(rt, alloc, STATEMENTS.as_slice());
+    Function {
         result: Some(CType::I32),
         params: Items::new(alloc),
         locals,
         body,
-    })
+    }
 }
 
-fn functions(alloc: Global) -> Result<Items<Function>, AllocError> {
+fn functions(rt: &impl Abort, alloc: Global) -> Items<Function> {
     let mut functions = Items::new(alloc);
-    functions.push(main(alloc)?)?;
-    Ok(functions)
+    functions.push(main(rt, alloc)).expect(rt, "memory");
+    functions
 }
 
 /// The parts of a program whose statements begin in lines 2, 3, 3, 4, 99,999 and 100,000; the fourth is an
 /// assert.
-fn parts(alloc: Global) -> Result<Parts, AllocError> {
+fn parts(rt: &impl Abort, alloc: Global) -> Parts {
     let variable = Variable {
         t: CType::I32,
         shape: Shape::Value,
     };
-    let variables = Items::from_slice(alloc, &[variable])?;
-    let functions = functions(alloc)?;
-    let statements = infos(alloc, STATEMENTS.as_slice())?;
-    Ok(Parts {
+    let variables = Items::from_slice(alloc, &[variable]).expect(rt, "memory");
+    let functions = functions(rt, alloc);
+    let statements = infos(rt, alloc, STATEMENTS.as_slice());
+    Parts {
         variables,
         globals: Items::new(alloc),
         inits: Items::new(alloc),
         functions,
         main: FnId(0),
         statements,
-    })
+    }
 }
 
 /// The weights as text, with `-` for none.
@@ -119,42 +123,41 @@ fn add_weights(text: &mut String, weights: &[Option<u32>]) -> Result<(), AllocEr
 }
 
 /// The weights as a line of text.
-fn shown(alloc: Global, weights: &[Option<u32>]) -> Result<String, AllocError> {
+fn shown(rt: &impl Abort, alloc: Global, weights: &[Option<u32>]) -> String {
     let mut text = String::new(alloc);
-    add_weights(&mut text, weights)?;
-    Ok(text)
+    add_weights(&mut text, weights).expect(rt, "memory");
+    text
 }
 
 /// What a text is for the program.
-fn read(alloc: Global, program: &Program, text: &str) -> Result<String, AllocError> {
+fn read(rt: &impl Abort, alloc: Global, program: &Program, text: &str) -> String {
     match read_weights(alloc, program, text.as_bytes()) {
-        Ok(weights) => shown(alloc, weights.of.as_slice()),
-        Err(WeightsError::Line(number)) => format!(in alloc; "line {number}"),
-        Err(WeightsError::Memory) => Err(AllocError),
+        Ok(weights) => shown(rt, alloc, weights.of.as_slice()),
+        Err(WeightsError::Line(number)) => format!(in alloc; "line {number}").expect(rt, "memory"),
+        Err(WeightsError::Memory) => panic!(rt; "memory"),
     }
 }
 
 /// The first row whose text is something else for the program, if there is one.
 fn first_other(
+    rt: &impl Abort,
     alloc: Global,
     program: &Program,
     rows: &[(&str, &str)],
-) -> Result<Option<usize>, AllocError> {
+) -> Option<usize> {
     for i in 0..rows.len() {
         let (text, want) = rows[i];
-        if read(alloc, program, text)?.as_str() != want {
-            return Ok(Some(i));
+        if read(rt, alloc, program, text).as_str() != want {
+            return Some(i);
         }
     }
-    Ok(None)
+    None
 }
 
-/// The first row that differs, and the first of all where the parts make no program.
-fn first_difference(alloc: Global, rows: &[(&str, &str)]) -> Result<Option<usize>, AllocError> {
-    match program_of(alloc, parts(alloc)?) {
-        Ok(program) => first_other(alloc, &program, rows),
-        Err(_) => Ok(Some(0)),
-    }
+/// The first row whose text is something else for the program of the parts, if there is one.
+fn first_difference(rt: &impl Abort, alloc: Global, rows: &[(&str, &str)]) -> Option<usize> {
+    let program = program_of(alloc, parts(rt, alloc)).expect(rt, "a program");
+    first_other(rt, alloc, &program, rows)
 }
 
 /// Texts with the weights of the statements.
@@ -181,8 +184,8 @@ static WEIGHED: [(&str, &str); 12] = [
 
 #[test]
 fn each_statement_has_the_weight_of_its_line(rt: HostRuntime) {
-    let difference = first_difference(rt.alloc(), WEIGHED.as_slice());
-    assert_eq!(rt; difference, Ok(None));
+    let difference = first_difference(&rt, rt.alloc(), WEIGHED.as_slice());
+    assert_eq!(rt; difference, None);
 }
 
 /// Texts with the line that is wrong.
@@ -222,6 +225,6 @@ static WRONG: [(&str, &str); 26] = [
 
 #[test]
 fn the_first_wrong_line_is_refused(rt: HostRuntime) {
-    let difference = first_difference(rt.alloc(), WRONG.as_slice());
-    assert_eq!(rt; difference, Ok(None));
+    let difference = first_difference(&rt, rt.alloc(), WRONG.as_slice());
+    assert_eq!(rt; difference, None);
 }

@@ -3,17 +3,18 @@
 use ba_commands::{Command, Text, WordsError, read_words};
 use ba_tree::run::Bounds;
 use std::alloc::{AllocError, Global};
+use std::panic::Expect;
+use std::process::Abort;
 
 /// The words of a text, with `|` between them; no words where it is empty.
-fn words_of(alloc: Global, text: &str) -> Result<Vec<&str>, AllocError> {
+fn words_of<'a>(rt: &impl Abort, alloc: Global, text: &'a str) -> Vec<&'a str> {
     let mut words = Vec::new(alloc);
-    if text.is_empty() {
-        return Ok(words);
+    if !text.is_empty() {
+        for word in text.split('|') {
+            words.push(word).expect(rt, "memory");
+        }
     }
-    for word in text.split('|') {
-        words.push(word)?;
-    }
-    Ok(words)
+    words
 }
 
 /// A file's name, or `-` where there is none.
@@ -128,46 +129,46 @@ fn add_command(text: &mut String, command: &Command<'_>) -> Result<(), AllocErro
 }
 
 /// A command as a line of text.
-fn shown(alloc: Global, command: &Command<'_>) -> Result<String, AllocError> {
+fn shown(rt: &impl Abort, alloc: Global, command: &Command<'_>) -> String {
     let mut text = String::new(alloc);
-    add_command(&mut text, command)?;
-    Ok(text)
+    add_command(&mut text, command).expect(rt, "memory");
+    text
 }
 
 /// What these words are.
-fn command_text(alloc: Global, words: &[&str]) -> Result<String, AllocError> {
+fn command_text(rt: &impl Abort, alloc: Global, words: &[&str]) -> String {
     match read_words(alloc, words) {
-        Ok(command) => shown(alloc, &command),
-        Err(WordsError::Bad) => String::from_str(alloc, "refused"),
-        Err(WordsError::Memory) => Err(AllocError),
+        Ok(command) => shown(rt, alloc, &command),
+        Err(WordsError::Bad) => String::from_str(alloc, "refused").expect(rt, "memory"),
+        Err(WordsError::Memory) => panic!(rt; "memory"),
     }
 }
 
 /// What the words of a text are.
-fn read(alloc: Global, text: &str) -> Result<String, AllocError> {
-    let words = words_of(alloc, text)?;
-    command_text(alloc, words.as_slice())
+fn read(rt: &impl Abort, alloc: Global, text: &str) -> String {
+    let words = words_of(rt, alloc, text);
+    command_text(rt, alloc, words.as_slice())
 }
 
 /// The first row whose words are something else, if there is one.
-fn first_difference(alloc: Global, rows: &[(&str, &str)]) -> Result<Option<usize>, AllocError> {
+fn first_difference(rt: &impl Abort, alloc: Global, rows: &[(&str, &str)]) -> Option<usize> {
     for i in 0..rows.len() {
         let (words, want) = rows[i];
-        if read(alloc, words)?.as_str() != want {
-            return Ok(Some(i));
+        if read(rt, alloc, words).as_str() != want {
+            return Some(i);
         }
     }
-    Ok(None)
+    None
 }
 
 /// The first row whose words are a command, if there is one.
-fn first_command(alloc: Global, rows: &[&str]) -> Result<Option<usize>, AllocError> {
+fn first_command(rt: &impl Abort, alloc: Global, rows: &[&str]) -> Option<usize> {
     for i in 0..rows.len() {
-        if read(alloc, rows[i])?.as_str() != "refused" {
-            return Ok(Some(i));
+        if read(rt, alloc, rows[i]).as_str() != "refused" {
+            return Some(i);
         }
     }
-    Ok(None)
+    None
 }
 
 static COMMANDS: [(&str, &str); 14] = [
@@ -216,8 +217,8 @@ static COMMANDS: [(&str, &str); 14] = [
 
 #[test]
 fn words_are_commands(rt: HostRuntime) {
-    let difference = first_difference(rt.alloc(), COMMANDS.as_slice());
-    assert_eq!(rt; difference, Ok(None));
+    let difference = first_difference(&rt, rt.alloc(), COMMANDS.as_slice());
+    assert_eq!(rt; difference, None);
 }
 
 static REFUSED: [&str; 67] = [
@@ -298,6 +299,6 @@ static REFUSED: [&str; 67] = [
 
 #[test]
 fn other_words_are_refused(rt: HostRuntime) {
-    let command = first_command(rt.alloc(), REFUSED.as_slice());
-    assert_eq!(rt; command, Ok(None));
+    let command = first_command(&rt, rt.alloc(), REFUSED.as_slice());
+    assert_eq!(rt; command, None);
 }
