@@ -1,16 +1,17 @@
 //! Programs with statements of given kinds and positions, and verdicts on them.
 
-ghost use Rattle.std.specs.Prelude.{IfOk};
 ghost use Rattle.ba_report.specs.Report.{IsLocated};
 
 use ba_choices::{Choice, Values};
 use ba_derivations::{FoundSet, Verdict};
-use ba_facts::{ProgramError, program_of};
+use ba_facts::program_of;
 use ba_items::Items;
 use ba_numbers::ids::{At, FnId, StmtId, VarId};
 use ba_numbers::numbers::CType;
 use ba_tree::tree::{Expr, Function, Parts, Program, Shape, Stmt, StmtInfo, StmtKind, Variable};
-use std::alloc::{AllocError, Global};
+use std::alloc::Global;
+use std::panic::Expect;
+use std::process::Abort;
 
 /// Stands in place of the values of a choice that keeps its statement.
 pub(crate) const KEEP: i64 = 1000;
@@ -30,142 +31,147 @@ fn one() -> Expr {
 }
 
 /// The condition of an `if` with an empty body.
-fn condition(alloc: Global, stmt: StmtId) -> Result<Stmt, AllocError> {
+fn condition(rt: &impl Abort, alloc: Global, stmt: StmtId) -> Stmt {
     let body = Vec::new(alloc);
-    Ok(Stmt::If {
+    Stmt::If {
         stmt,
         when: one(),
-        yes: Box::new(alloc, Stmt::Block { body })?,
+        yes: Box::new(alloc, Stmt::Block { body }).expect(rt, "memory"),
         no: None,
-    })
+    }
 }
 
 /// A statement of this kind and number, over a variable and an array.
-fn statement(alloc: Global, kind: StmtKind, stmt: StmtId) -> Result<Stmt, AllocError> {
+fn statement(rt: &impl Abort, alloc: Global, kind: StmtKind, stmt: StmtId) -> Stmt {
     let var = VarId(0);
     let array = VarId(1);
     let value = one();
     match kind {
-        StmtKind::Initialiser => Ok(Stmt::Init { stmt, var, value }),
-        StmtKind::Assignment => Ok(Stmt::Assign { stmt, var, value }),
-        StmtKind::Store => Ok(Stmt::Store {
+        StmtKind::Initialiser => Stmt::Init { stmt, var, value },
+        StmtKind::Assignment => Stmt::Assign { stmt, var, value },
+        StmtKind::Store => Stmt::Store {
             stmt,
             array,
             index: one(),
             value,
-        }),
-        StmtKind::Condition => condition(alloc, stmt),
-        StmtKind::Return => Ok(Stmt::Return { stmt, value }),
-        StmtKind::Call => Ok(Stmt::Print {
+        },
+        StmtKind::Condition => condition(rt, alloc, stmt),
+        StmtKind::Return => Stmt::Return { stmt, value },
+        StmtKind::Call => Stmt::Print {
             stmt,
             args: Vec::new(alloc),
-        }),
-        StmtKind::Assert => Ok(Stmt::Assert { stmt, when: value }),
+        },
+        StmtKind::Assert => Stmt::Assert { stmt, when: value },
     }
 }
 
 /// Variables of type `int`, a value and an array.
-fn variables(alloc: Global) -> Result<Items<Variable>, AllocError> {
+fn variables(rt: &impl Abort, alloc: Global) -> Items<Variable> {
     let mut variables = Items::new(alloc);
     for shape in [Shape::Value, Shape::Array(2)] {
-        variables.push(Variable {
-            t: CType::I32,
-            shape,
-        })?;
+        variables
+            .push(Variable {
+                t: CType::I32,
+                shape,
+            })
+            .expect(rt, "memory");
     }
-    Ok(variables)
+    variables
 }
 
 /// The statements, numbered from 1.
-fn body(alloc: Global, written: &[Written]) -> Result<Items<Stmt>, AllocError> {
+fn body(rt: &impl Abort, alloc: Global, written: &[Written]) -> Items<Stmt> {
     let mut body = Items::new(alloc);
     let mut number = 0u32;
     for (_, _, kind) in written {
         number = number.saturating_add(1);
-        body.push(statement(alloc, *kind, StmtId(number))?)?;
+        body.push(statement(rt, alloc, *kind, StmtId(number)))
+            .expect(rt, "memory");
     }
-    Ok(body)
+    body
 }
 
 /// Their kinds and positions.
-fn infos(alloc: Global, written: &[Written]) -> Result<Items<StmtInfo>, AllocError> {
+fn infos(rt: &impl Abort, alloc: Global, written: &[Written]) -> Items<StmtInfo> {
     let mut statements = Items::new(alloc);
     for (line, column, kind) in written {
-        statements.push(StmtInfo {
-            at: At {
-                line: *line,
-                column: *column,
-            },
-            kind: *kind,
-        })?;
+        statements
+            .push(StmtInfo {
+                at: At {
+                    line: *line,
+                    column: *column,
+                },
+                kind: *kind,
+            })
+            .expect(rt, "memory");
     }
-    Ok(statements)
+    statements
 }
 
 /// A function `main` of these statements.
-fn main_of(alloc: Global, body: Items<Stmt>) -> Result<Items<Function>, AllocError> {
+fn main_of(rt: &impl Abort, alloc: Global, body: Items<Stmt>) -> Items<Function> {
     let mut functions = Items::new(alloc);
-    functions.push(Function {
-        result: Some(CType::I32),
-        params: Items::new(alloc),
-        locals: Items::from_slice(alloc, &[VarId(0), VarId(1)])?,
-        body,
-    })?;
-    Ok(functions)
+    functions
+        .push(Function {
+            result: Some(CType::I32),
+            params: Items::new(alloc),
+            locals: Items::from_slice(alloc, &[VarId(0), VarId(1)]).expect(rt, "memory"),
+            body,
+        })
+        .expect(rt, "memory");
+    functions
 }
 
 /// A program whose `main` has these statements.
-pub(crate) fn program(alloc: Global, written: &[Written]) -> Result<Program, ProgramError> {
+pub(crate) fn program(rt: &impl Abort, alloc: Global, written: &[Written]) -> Program {
     let parts = Parts {
-        variables: variables(alloc)?,
+        variables: variables(rt, alloc),
         globals: Items::new(alloc),
         inits: Items::new(alloc),
-        functions: main_of(alloc, body(alloc, written)?)?,
+        functions: main_of(rt, alloc, body(rt, alloc, written)),
         main: FnId(0),
-        statements: infos(alloc, written)?,
+        statements: infos(rt, alloc, written),
     };
-    program_of(alloc, parts)
+    program_of(alloc, parts).expect(rt, "a program")
 }
 
 /// These values.
-fn values_of(alloc: Global, spelled: &[i64]) -> Result<Values, AllocError> {
+fn values_of(rt: &impl Abort, alloc: Global, spelled: &[i64]) -> Values {
     let mut values = Values::new(alloc);
     for value in spelled {
-        values.push(*value)?;
+        values.push(*value).expect(rt, "memory");
     }
-    Ok(values)
+    values
 }
 
 /// A choice that takes these values, or keeps its statement.
-fn choice_of(alloc: Global, spelled: &[i64]) -> Result<Choice, AllocError> {
+fn choice_of(rt: &impl Abort, alloc: Global, spelled: &[i64]) -> Choice {
     if spelled.first() == Some(&KEEP) {
-        return Ok(Choice::Keep);
+        return Choice::Keep;
     }
-    Ok(Choice::Take(values_of(alloc, spelled)?))
+    Choice::Take(values_of(rt, alloc, spelled))
 }
 
 /// The choices of a run.
-pub(crate) fn run_of(
-    alloc: Global,
-    spelled: &[&'static [i64]],
-) -> Result<Items<Choice>, AllocError> {
+pub(crate) fn run_of(rt: &impl Abort, alloc: Global, spelled: &[&'static [i64]]) -> Items<Choice> {
     let mut run = Items::new(alloc);
     for choice in spelled {
-        run.push(choice_of(alloc, choice)?)?;
+        run.push(choice_of(rt, alloc, choice)).expect(rt, "memory");
     }
-    Ok(run)
+    run
 }
 
 /// A verdict that names these sets.
-pub(crate) fn located(alloc: Global, weight: u64, found: &[Found]) -> Result<Verdict, AllocError>
-    ensures { IfOk result IsLocated }
+pub(crate) fn located(rt: &impl Abort, alloc: Global, weight: u64, found: &[Found]) -> Verdict
+    ensures { IsLocated result }
 {
     let mut sets = Items::new(alloc);
     for (groups, run) in found {
         sets.push(FoundSet {
-            groups: Items::from_slice(alloc, groups)?,
-            run: run_of(alloc, run)?,
-        })?;
+            groups: Items::from_slice(alloc, groups).expect(rt, "memory"),
+            run: run_of(rt, alloc, run),
+        })
+        .expect(rt, "memory");
     }
-    Ok(Verdict::Located { weight, sets })
+    Verdict::Located { weight, sets }
 }

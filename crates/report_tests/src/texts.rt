@@ -4,8 +4,8 @@ use crate::programs::{Found, KEEP, Written, located, program};
 use ba_report::report;
 use ba_tree::tree::StmtKind;
 use std::alloc::Global;
+use std::panic::Expect;
 use std::process::Abort;
-use std::test::Fail;
 
 /// Compares the report with a text.
 fn compare(
@@ -14,12 +14,11 @@ fn compare(
     case: (&str, &[Written]),
     verdict: (u64, &[Found]),
     wanted: (bool, &str),
-) -> Result<(), Fail> {
-    let program = program(alloc, case.1).map_err(|_| "no program")?;
-    let verdict = located(alloc, verdict.0, verdict.1)?;
-    let text = report(alloc, case.0.as_bytes(), &program, &verdict, wanted.0)?;
+) {
+    let program = program(rt, alloc, case.1);
+    let verdict = located(rt, alloc, verdict.0, verdict.1);
+    let text = report(alloc, case.0.as_bytes(), &program, &verdict, wanted.0).expect(rt, "memory");
     assert_eq!(rt; text.as_slice(), wanted.1.as_bytes());
-    Ok(())
 }
 
 const OFF_BY_ONE: &str =
@@ -35,7 +34,7 @@ const OFF_BY_ONE_STATEMENTS: [Written; 6] = [
 ];
 
 #[test]
-fn each_set_has_a_line_for_each_statement(rt: HostRuntime) -> Result<(), Fail> {
+fn each_set_has_a_line_for_each_statement(rt: HostRuntime) {
     let sets: [Found; 3] = [(&[1], &[&[0]]), (&[3], &[&[2]]), (&[4], &[&[0]])];
     compare(
         &rt,
@@ -46,11 +45,11 @@ fn each_set_has_a_line_for_each_statement(rt: HostRuntime) -> Result<(), Fail> {
             false,
             "located: weight 1, sets 3\nset 1:\n  4:9 condition | if (index != 1)\nset 2:\n  7:9 assignment | index = index + 2;\nset 3:\n  8:5 assignment | i = index;\n",
         ),
-    )
+    );
 }
 
 #[test]
-fn a_run_is_shown_below_its_set(rt: HostRuntime) -> Result<(), Fail> {
+fn a_run_is_shown_below_its_set(rt: HostRuntime) {
     let store: [Found; 1] = [(&[1], &[&[0, 1]])];
     compare(
         &rt,
@@ -68,11 +67,11 @@ fn a_run_is_shown_below_its_set(rt: HostRuntime) -> Result<(), Fail> {
             true,
             "located: weight 1, sets 1\nset 1:\n  3:5 store | a[k] = 1;\n  run: t 0 1\n",
         ),
-    )
+    );
 }
 
 #[test]
-fn two_statements_of_a_set_stand_in_order(rt: HostRuntime) -> Result<(), Fail> {
+fn two_statements_of_a_set_stand_in_order(rt: HostRuntime) {
     let both: [Found; 1] = [(&[1, 2], &[&[2], &[2]])];
     compare(
         &rt,
@@ -92,7 +91,7 @@ fn two_statements_of_a_set_stand_in_order(rt: HostRuntime) -> Result<(), Fail> {
             true,
             "located: weight 2, sets 1\nset 1:\n  3:5 assignment | x = 1;\n  4:5 assignment | y = 1;\n  run: t 2 t 2\n",
         ),
-    )
+    );
 }
 
 // blanks of each kind at both ends of a line, two statements in one line, and a last line without a line feed
@@ -107,7 +106,7 @@ const BLANKS_STATEMENTS: [Written; 4] = [
 ];
 
 #[test]
-fn a_source_line_has_no_blanks_at_its_ends(rt: HostRuntime) -> Result<(), Fail> {
+fn a_source_line_has_no_blanks_at_its_ends(rt: HostRuntime) {
     let sets: [Found; 2] = [
         (&[1, 3], &[&[KEEP], &[], &[-2_147_483_648, 0]]),
         (&[2, 4], &[&[], &[KEEP], &[4_294_967_295]]),
@@ -121,5 +120,5 @@ fn a_source_line_has_no_blanks_at_its_ends(rt: HostRuntime) -> Result<(), Fail> 
             true,
             "located: weight 12, sets 2\nset 1:\n  3:22 initialiser | int main(void) { int a = 3;\n  4:10 call | f(); f();\n  run: k t t -2147483648 0\nset 2:\n  4:5 call | f(); f();\n  6:4 return | return a; }\n  run: t k t 4294967295\n",
         ),
-    )
+    );
 }
