@@ -4,9 +4,9 @@ use ba_cert::{CertError, head_text, read_line, step_text};
 use ba_choices::Choice;
 use ba_lits::Lit;
 use ba_steps::CertStep;
-use std::alloc::{AllocError, Global};
+use std::alloc::Global;
+use std::panic::Expect;
 use std::process::Abort;
-use std::test::Fail;
 
 /// A step without its types: its kind, and two lists of numbers. A literal is its variable with its sign; in a run, 1000 stands
 /// for a choice that keeps the statement and 2000 begins one that takes the values after it.
@@ -26,88 +26,96 @@ fn signed(lit: Lit) -> i64 {
     }
 }
 
-fn signed_all(alloc: Global, lits: &[Lit]) -> Result<Vec<i64>, AllocError> {
+fn signed_all(rt: &impl Abort, alloc: Global, lits: &[Lit]) -> Vec<i64> {
     let mut numbers = Vec::new(alloc);
     for lit in lits {
-        numbers.push(signed(*lit))?;
+        numbers.push(signed(*lit)).expect(rt, "memory");
     }
-    Ok(numbers)
+    numbers
 }
 
-fn numbers_of(alloc: Global, numbers: &[u64]) -> Result<Vec<i64>, AllocError> {
+fn numbers_of(rt: &impl Abort, alloc: Global, numbers: &[u64]) -> Vec<i64> {
     let mut all = Vec::new(alloc);
     for number in numbers {
-        all.push(i64::try_from(*number).unwrap_or(-1))?;
+        all.push(i64::try_from(*number).unwrap_or(-1))
+            .expect(rt, "memory");
     }
-    Ok(all)
+    all
 }
 
-fn groups_of(alloc: Global, groups: &[u32]) -> Result<Vec<i64>, AllocError> {
+fn groups_of(rt: &impl Abort, alloc: Global, groups: &[u32]) -> Vec<i64> {
     let mut all = Vec::new(alloc);
     for group in groups {
-        all.push(i64::from(*group))?;
+        all.push(i64::from(*group)).expect(rt, "memory");
     }
-    Ok(all)
+    all
 }
 
-fn add_choice(choice: &Choice, all: &mut Vec<i64>) -> Result<(), AllocError> {
+fn add_choice(rt: &impl Abort, choice: &Choice, all: &mut Vec<i64>) {
     match choice {
-        Choice::Keep => all.push(1000)?,
+        Choice::Keep => all.push(1000).expect(rt, "memory"),
         Choice::Take(values) => {
-            all.push(2000)?;
-            all.extend_from_slice(values.as_slice())?;
+            all.push(2000).expect(rt, "memory");
+            all.extend_from_slice(values.as_slice())
+                .expect(rt, "memory");
         }
     }
-    Ok(())
 }
 
-fn run_of(alloc: Global, run: &[Choice]) -> Result<Vec<i64>, AllocError> {
+fn run_of(rt: &impl Abort, alloc: Global, run: &[Choice]) -> Vec<i64> {
     let mut all = Vec::new(alloc);
     for choice in run {
-        add_choice(choice, &mut all)?;
+        add_choice(rt, choice, &mut all);
     }
-    Ok(all)
+    all
 }
 
 fn clause(
+    rt: &impl Abort,
     alloc: Global,
     kind: &'static str,
     lits: &[Lit],
     hints: &[u64],
-) -> Result<Plain, AllocError> {
-    Ok(Plain {
+) -> Plain {
+    Plain {
         kind,
-        first: signed_all(alloc, lits)?,
-        second: numbers_of(alloc, hints)?,
-    })
+        first: signed_all(rt, alloc, lits),
+        second: numbers_of(rt, alloc, hints),
+    }
 }
 
-fn list(alloc: Global, kind: &'static str, numbers: &[u64]) -> Result<Plain, AllocError> {
-    Ok(Plain {
+fn list(rt: &impl Abort, alloc: Global, kind: &'static str, numbers: &[u64]) -> Plain {
+    Plain {
         kind,
-        first: numbers_of(alloc, numbers)?,
+        first: numbers_of(rt, alloc, numbers),
         second: Vec::new(alloc),
-    })
+    }
 }
 
-fn plain_of(alloc: Global, step: &CertStep) -> Result<Plain, AllocError> {
+fn plain_of(rt: &impl Abort, alloc: Global, step: &CertStep) -> Plain {
     match step {
         CertStep::Learn { lits, hints } => {
-            clause(alloc, "learn", lits.as_slice(), hints.as_slice())
+            clause(rt, alloc, "learn", lits.as_slice(), hints.as_slice())
         }
-        CertStep::Core { lits, hints } => clause(alloc, "core", lits.as_slice(), hints.as_slice()),
-        CertStep::Delete { clauses } => list(alloc, "delete", clauses.as_slice()),
-        CertStep::Block { groups, run } => Ok(Plain {
+        CertStep::Core { lits, hints } => clause(
+            rt,
+            alloc,
+            "core",
+            lits.as_slice(),
+            hints.as_slice(),
+        ),
+        CertStep::Delete { clauses } => list(rt, alloc, "delete", clauses.as_slice()),
+        CertStep::Block { groups, run } => Plain {
             kind: "block",
-            first: groups_of(alloc, groups.as_slice())?,
-            second: run_of(alloc, run.as_slice())?,
-        }),
+            first: groups_of(rt, alloc, groups.as_slice()),
+            second: run_of(rt, alloc, run.as_slice()),
+        },
         CertStep::EndLocated { lits, hints } => {
-            clause(alloc, "located", lits.as_slice(), hints.as_slice())
+            clause(rt, alloc, "located", lits.as_slice(), hints.as_slice())
         }
-        CertStep::EndNoRepair { hints } => list(alloc, "no repair", hints.as_slice()),
-        CertStep::EndTooMany => list(alloc, "too many", &[]),
-        CertStep::EndSpent => list(alloc, "spent", &[]),
+        CertStep::EndNoRepair { hints } => list(rt, alloc, "no repair", hints.as_slice()),
+        CertStep::EndTooMany => list(rt, alloc, "too many", &[]),
+        CertStep::EndSpent => list(rt, alloc, "spent", &[]),
     }
 }
 
@@ -140,34 +148,41 @@ const STEPS: [(&str, &str, &[i64], &[i64]); 16] = [
     ("e b", "spent", &[], &[]),
 ];
 
-/// Reads a line and compares the step, and writes the step and compares the line.
-fn compare(
+/// Whether a step is of this kind and has these numbers.
+fn is_plain(step: &Plain, kind: &str, first: &[i64], second: &[i64]) -> bool {
+    step.kind == kind && step.first.as_slice() == first && step.second.as_slice() == second
+}
+
+/// Whether a text is this line with a line feed behind it.
+fn is_line(text: &[u8], line: &str) -> bool {
+    match text.split_last() {
+        Some((feed, front)) => *feed == b'\n' && front == line.as_bytes(),
+        None => false,
+    }
+}
+
+/// Whether a line is read as this step, and the step is written as the line.
+fn is_read_and_written(
     rt: &impl Abort,
     alloc: Global,
     line: &str,
     kind: &str,
     first: &[i64],
     second: &[i64],
-) -> Result<(), Fail> {
-    let step = read_line(alloc, line.as_bytes())?;
-    let read = plain_of(alloc, &step)?;
-    let text = step_text(alloc, &step)?;
-    assert_eq!(rt; read.kind, kind, "at {line}");
-    assert_eq!(rt; read.first.as_slice(), first, "at {line}");
-    assert_eq!(rt; read.second.as_slice(), second, "at {line}");
-    let (feed, front) = text.as_slice().split_last().ok_or("an empty text")?;
-    assert_eq!(rt; front, line.as_bytes(), "at {line}");
-    assert_eq!(rt; *feed, b'\n', "at {line}");
-    Ok(())
+) -> bool {
+    let step = read_line(alloc, line.as_bytes()).expect(rt, "a step");
+    let read = plain_of(rt, alloc, &step);
+    let text = step_text(alloc, &step).expect(rt, "memory");
+    is_plain(&read, kind, first, second) && is_line(text.as_slice(), line)
 }
 
 #[test]
-fn each_form_of_a_line_is_read_and_written(rt: HostRuntime) -> Result<(), Fail> {
+fn each_form_of_a_line_is_read_and_written(rt: HostRuntime) {
     for (line, kind, first, second) in STEPS.as_slice() {
-        compare(&rt, rt.alloc(), line, kind, first, second)?;
+        let is_so = is_read_and_written(&rt, rt.alloc(), line, kind, first, second);
+        assert!(rt; is_so, "at {line}");
     }
     assert_eq!(rt; head_text(), b"bugassist 1\n".as_slice());
-    Ok(())
 }
 
 const BAD_LISTS: [&str; 36] = [

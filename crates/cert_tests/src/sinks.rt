@@ -1,21 +1,22 @@
 //! Certificates in a world of files, with and without faults.
 
-ghost use Rattle.std.specs.Prelude.{◌≡◌, All, IfOk, codes};
+ghost use Rattle.std.specs.Prelude.{◌≡◌, All, codes};
 ghost use Rattle.ba_steps.specs.Steps.{IsFormed};
 
-use ba_cert::{CertError, CertSink, Start, TextSink, begin_text, read_line, write_text};
+use ba_cert::{CertSink, Start, TextSink, begin_text, read_line, write_text};
 use ba_items::Items;
 use ba_lits::Formula;
 use ba_steps::{CertStep, ListSink, SinkError, StepSink};
 use ba_world::{MemoryWorld, World};
-use std::alloc::{AllocError, Global};
+use std::alloc::Global;
 use std::marker::Brand;
+use std::panic::Expect;
 use std::process::Abort;
-use std::test::Fail;
 
 /// A world without files, whose calls of these numbers fail.
-fn world_of(alloc: Global, fails: &[u64]) -> Result<MemoryWorld, AllocError> {
-    MemoryWorld::new(alloc, Vec::new(alloc), Vec::from_slice(alloc, fails)?, 1)
+fn world_of(rt: &impl Abort, alloc: Global, fails: &[u64]) -> MemoryWorld {
+    let fails = Vec::from_slice(alloc, fails).expect(rt, "memory");
+    MemoryWorld::new(alloc, Vec::new(alloc), fails, 1).expect(rt, "memory")
 }
 
 /// What a sink answered to the last of some steps, and whether its file was whole then.
@@ -28,59 +29,60 @@ struct Written {
 /// Begins a certificate in the file `c` and hands the steps of these lines to a sink that writes
 /// them, and then to `next`.
 fn write_from<S: Start, W: World, D: StepSink + Drop>(
+    rt: &impl Abort,
     alloc: Global,
     world: &mut W,
     lines: &[&[u8]],
     next: &mut D,
-) -> Result<Written, Fail>
+) -> Written
     requires named { S.name ≡ codes "c" }
     requires start { W.outside world.old ≡ S.outside }
     requires faults { D.faults next.old ≡ S.faults }
 {
-    begin_text(world, "c")?;
+    begin_text(world, "c").expect(rt, "a head line");
     let text: TextSink<W, S> = TextSink::new(alloc, world, "c");
     let mut sink = CertSink { text, next };
-    sink.begin(&Formula::new(alloc), &[])?;
+    sink.begin(&Formula::new(alloc), &[])
+        .expect(rt, "a formula");
     let mut last = Ok(());
     for line in lines {
-        last = sink.take(&read_line(alloc, line)?);
+        last = sink.take(&read_line(alloc, line).expect(rt, "a step"));
     }
     let whole = sink.text.is_whole("c") && !sink.text.is_whole("another");
-    Ok(Written { last, whole })
+    Written { last, whole }
 }
 
 /// The same from this moment of the world on.
 fn write<W: World, D: StepSink + Drop>(
+    rt: &impl Abort,
     alloc: Global,
     world: &mut W,
     lines: &[&[u8]],
     next: &mut D,
-) -> Result<Written, Fail> {
-    write_from::<Brand, W, D>(alloc, world, lines, next)
+) -> Written {
+    write_from::<Brand, W, D>(rt, alloc, world, lines, next)
 }
 
-fn holds(rt: &impl Abort, world: &MemoryWorld, name: &str, text: &str) -> Result<(), Fail> {
-    assert_eq!(rt; world.file(name).ok_or("no file")?, text.as_bytes());
-    Ok(())
+fn holds(rt: &impl Abort, world: &MemoryWorld, name: &str, text: &str) {
+    assert_eq!(rt; world.file(name).expect(rt, "no file"), text.as_bytes());
 }
 
 #[test]
-fn steps_are_written_as_they_are_made(rt: HostRuntime) -> Result<(), Fail> {
+fn steps_are_written_as_they_are_made(rt: HostRuntime) {
     let alloc = rt.alloc();
-    let mut world = world_of(alloc, &[])?;
+    let mut world = world_of(&rt, alloc, &[]);
     let mut next = ListSink::new(alloc);
     let lines = [b"c -1 -2 0 1 0".as_slice(), b"e b".as_slice()];
-    let written = write(alloc, &mut world, &lines, &mut next)?;
+    let written = write(&rt, alloc, &mut world, &lines, &mut next);
     assert_eq!(rt; written.last, Ok(()));
     assert!(rt; written.whole);
-    holds(&rt, &world, "c", "bugassist 1\nc -1 -2 0 1 0\ne b\n")?;
+    holds(&rt, &world, "c", "bugassist 1\nc -1 -2 0 1 0\ne b\n");
     assert_eq!(rt; next.steps().len(), 2);
     assert_eq!(rt; next.over().len(), 1);
-    Ok(())
 }
 
 #[test]
-fn a_refused_sink_refuses_from_then_on(rt: HostRuntime) -> Result<(), Fail> {
+fn a_refused_sink_refuses_from_then_on(rt: HostRuntime) {
     let alloc = rt.alloc();
     let learn = b"l 1 0 0".as_slice();
     let end = b"e l 0 0".as_slice();
@@ -90,46 +92,46 @@ fn a_refused_sink_refuses_from_then_on(rt: HostRuntime) -> Result<(), Fail> {
         ([learn, end].as_slice(), SinkError::Failed),
         ([learn, end, learn].as_slice(), SinkError::Memory),
     ] {
-        let mut world = world_of(alloc, &[3])?;
+        let mut world = world_of(&rt, alloc, &[3]);
         let mut next = ListSink::new(alloc);
-        let written = write(alloc, &mut world, lines, &mut next)?;
+        let written = write(&rt, alloc, &mut world, lines, &mut next);
         assert_eq!(rt; written.last, Err(last));
         assert!(rt; !written.whole);
-        holds(&rt, &world, "c", "bugassist 1\nl 1 0 0\ne l ")?;
+        holds(&rt, &world, "c", "bugassist 1\nl 1 0 0\ne l ");
         assert_eq!(rt; next.steps().len(), 1);
     }
-    Ok(())
 }
 
 #[test]
-fn a_fault_in_the_head_line_is_answered(rt: HostRuntime) -> Result<(), Fail> {
+fn a_fault_in_the_head_line_is_answered(rt: HostRuntime) {
     for call in 0..2 {
-        let mut world = world_of(rt.alloc(), &[call])?;
+        let mut world = world_of(&rt, rt.alloc(), &[call]);
         let answer = begin_text(&mut world, "c");
         assert_eq!(rt; answer, Err(SinkError::Failed), "call {call}");
     }
-    Ok(())
 }
 
 /// The steps of two lines.
-fn steps_of(alloc: Global, first: &str, second: &str) -> Result<Items<CertStep>, CertError>
-    ensures { IfOk result (λ steps. All IsFormed steps) }
+fn steps_of(rt: &impl Abort, alloc: Global, first: &str, second: &str) -> Items<CertStep>
+    ensures { All IsFormed result }
 {
+    let first = read_line(alloc, first.as_bytes()).expect(rt, "a step");
+    let second = read_line(alloc, second.as_bytes()).expect(rt, "a step");
     let mut steps = Items::new(alloc);
-    steps.push(read_line(alloc, first.as_bytes())?)?;
-    steps.push(read_line(alloc, second.as_bytes())?)?;
-    Ok(steps)
+    steps.push(first).expect(rt, "memory");
+    steps.push(second).expect(rt, "memory");
+    steps
 }
 
 #[test]
-fn a_list_of_steps_is_written_in_place_of_another(rt: HostRuntime) -> Result<(), Fail> {
+fn a_list_of_steps_is_written_in_place_of_another(rt: HostRuntime) {
     let alloc = rt.alloc();
-    let mut world = world_of(alloc, &[7])?;
-    let long = steps_of(alloc, "c -1 -2 0 1 0", "e n 2 0")?;
-    write_text(alloc, &mut world, "c", long.as_slice())?;
-    holds(&rt, &world, "c", "bugassist 1\nc -1 -2 0 1 0\ne n 2 0\n")?;
-    let short = steps_of(alloc, "l 1 0 0", "e b")?;
+    let mut world = world_of(&rt, alloc, &[7]);
+    let long = steps_of(&rt, alloc, "c -1 -2 0 1 0", "e n 2 0");
+    write_text(alloc, &mut world, "c", long.as_slice()).expect(&rt, "a text");
+    holds(&rt, &world, "c", "bugassist 1\nc -1 -2 0 1 0\ne n 2 0\n");
+    let short = steps_of(&rt, alloc, "l 1 0 0", "e b");
     let answer = write_text(alloc, &mut world, "c", short.as_slice());
     assert_eq!(rt; answer, Err(SinkError::Failed));
-    holds(&rt, &world, "c", "bugassist 1\nl 1 0 0\ne ")
+    holds(&rt, &world, "c", "bugassist 1\nl 1 0 0\ne ");
 }
