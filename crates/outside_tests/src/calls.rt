@@ -111,6 +111,62 @@ pub fn localise(alloc: Global, world: &mut MemoryWorld) -> Status {
     end(alloc, &words, world, &mut NoSink)
 }
 
+/// The words of a call, a program, an input and weights; how the call ends, and what it prints.
+pub type Row = (
+    &'static [&'static str],
+    &'static str,
+    &'static str,
+    &'static str,
+    Status,
+    &'static str,
+);
+
+/// Asserts that a call ended and printed as its row says.
+fn assert_answer(rt: &impl Abort, row: &Row, ended: Status, text: &[u8]) {
+    let (words, program, input, weights, status, printed) = *row;
+    assert_eq!(rt;
+        ended,
+        status,
+        "{words:?} of {program:?} on {input:?} by {weights:?}"
+    );
+    assert_eq!(rt;
+        text,
+        printed.as_bytes(),
+        "{words:?} of {program:?} on {input:?} by {weights:?}"
+    );
+}
+
+/// Asserts that the call of each row ends and prints as the row says.
+pub fn assert_rows(rt: &impl Abort, alloc: Global, rows: &[Row]) {
+    for row in rows {
+        let (words, program, input, weights, _, _) = *row;
+        let (ended, text) = call(rt, alloc, words, program, input, weights);
+        assert_answer(rt, row, ended, text.as_slice());
+    }
+}
+
+/// The same, which must not change where the search keeps narrow clauses alone.
+pub fn assert_rows_by_both_rules(rt: &impl Abort, alloc: Global, rows: &[Row]) {
+    for row in rows {
+        let (words, program, input, weights, _, _) = *row;
+        let (ended, text) = call_by_both_rules(rt, alloc, words, program, input, weights);
+        assert_answer(rt, row, ended, text.as_slice());
+    }
+}
+
+/// Asserts that a call over a world ended and printed so.
+pub fn assert_end(
+    rt: &impl Abort,
+    world: &MemoryWorld,
+    ended: Status,
+    status: Status,
+    printed: &str,
+    of: &str,
+) {
+    assert_eq!(rt; ended, status, "{of:?}");
+    assert_eq!(rt; world.printed(), printed.as_bytes(), "{of:?}");
+}
+
 /// Calls the program by these words over a program, an input and weights: how it ends, and what it
 /// prints.
 pub fn call(

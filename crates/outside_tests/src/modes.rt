@@ -11,17 +11,17 @@ use std::alloc::Global;
 use std::panic::Expect;
 use std::process::Abort;
 
-/// Certificates that are refused, with the error and the line.
-const REFUSED: [(&str, &str); 9] = [
-    ("", "error 21 at line 1"),
-    ("bugassist 1\n", "error 21 at line 2"),
-    ("bugassist 2\n", "error 20 at line 1"),
-    ("bugassist 1\nl 01 0 1 0\n", "error 20 at line 2"),
-    ("bugassist 1\ne b\n", "error 13 at line 2"),
-    ("bugassist 1\ne n 0\n", "error 3 at line 2"),
-    ("bugassist 1\ns 3 0 t 2\n", "error 8 at line 2"),
-    ("bugassist 1\ns 5 0 k\n", "error 14 at line 2"),
-    ("bugassist 1\nd 1 0\n", "error 5 at line 2"),
+/// Certificates that are refused, with the number of the error and the line.
+static REFUSED: [(&str, u32, usize); 9] = [
+    ("", 21, 1),
+    ("bugassist 1\n", 21, 2),
+    ("bugassist 2\n", 20, 1),
+    ("bugassist 1\nl 01 0 1 0\n", 20, 2),
+    ("bugassist 1\ne b\n", 13, 2),
+    ("bugassist 1\ne n 0\n", 3, 2),
+    ("bugassist 1\ns 3 0 t 2\n", 8, 2),
+    ("bugassist 1\ns 5 0 k\n", 14, 2),
+    ("bugassist 1\nd 1 0\n", 5, 2),
 ];
 
 /// Checks a certificate of the program with branches: how the call ends, and what it prints.
@@ -55,6 +55,65 @@ fn certificate(rt: &impl Abort, alloc: Global, option: &str) -> Vec<u8> {
     Vec::from_slice(alloc, world.file("c").expect(rt, "no certificate")).expect(rt, "memory")
 }
 
+/// Asserts that a check refuses a certificate so.
+fn assert_refused(
+    rt: &impl Abort,
+    alloc: Global,
+    certificate: &[u8],
+    option: &str,
+    weights: &str,
+    piece: usize,
+    code: u32,
+    line: usize,
+)
+    requires { 0 < piece }
+{
+    let (ended, printed) = check(rt, alloc, certificate, option, weights, &[], piece);
+    assert_eq!(rt;
+        ended,
+        Status::BadCertificate,
+        "error {code} at line {line}"
+    );
+    let wanted = format!(in alloc; "refused: certificate, error {code} at line {line}\n").expect(
+        rt, "memory",
+    );
+    assert_eq!(rt; printed.as_slice(), wanted.as_bytes());
+}
+
+/// Asserts how a check of a certificate ends, and what it prints, where a call of the world fails.
+fn assert_checked(
+    rt: &impl Abort,
+    alloc: Global,
+    certificate: &[u8],
+    fails: u64,
+    status: Status,
+    wanted: &str,
+) {
+    let (ended, printed) = check(rt, alloc, certificate, "--sets=3", "", &[fails], 512);
+    assert_eq!(rt; ended, status, "where {fails} fails");
+    assert_eq!(rt;
+        printed.as_slice(),
+        wanted.as_bytes(),
+        "where {fails} fails"
+    );
+}
+
+/// Asserts that a check by this option accepts a certificate, in pieces of so many bytes.
+fn assert_accepted(
+    rt: &impl Abort,
+    alloc: Global,
+    certificate: &[u8],
+    option: &str,
+    piece: usize,
+    claim: &str,
+)
+    requires { 0 < piece }
+{
+    let (ended, printed) = check(rt, alloc, certificate, option, "", &[], piece);
+    assert_eq!(rt; ended, Status::Ok, "by {option:?}");
+    assert_eq!(rt; printed.as_slice(), claim.as_bytes(), "by {option:?}");
+}
+
 /// How many line feeds there are.
 fn lines_in(bytes: &[u8]) -> usize {
     bytes.iter().filter(|byte| **byte == b'\n').count()
@@ -79,30 +138,38 @@ fn are_same(one: &Basis, other: &Basis) -> bool {
 
 #[test]
 fn refuses_certificates_in_any_pieces(rt: HostRuntime) {
-    let alloc = rt.alloc();
-    for (text, fault) in REFUSED {
+    for row in &REFUSED {
+        let (text, code, line) = *row;
         for piece in [1, 7, 4096] {
-            let (ended, printed) = check(&rt, alloc, text.as_bytes(), "--sets=3", "", &[], piece);
-            assert_eq!(rt; ended, Status::BadCertificate, "of {text:?}");
-            let wanted = format!(in alloc; "refused: certificate, {fault}\n").expect(&rt, "memory");
-            assert_eq!(rt; printed.as_slice(), wanted.as_bytes(), "of {text:?}");
+            assert_refused(
+                &rt,
+                rt.alloc(),
+                text.as_bytes(),
+                "--sets=3",
+                "",
+                piece,
+                code,
+                line,
+            );
         }
     }
 }
 
+/// Options of a search, and what is said of the certificate that it writes.
+static ACCEPTED: [(&str, &str); 3] = [
+    ("--sets=3", "accepted: located\n"),
+    ("--conflicts=1", "accepted: budget spent\n"),
+    ("--sets=2", "accepted: too many sets\n"),
+];
+
 #[test]
 fn accepts_the_certificate_that_a_search_wrote(rt: HostRuntime) {
     let alloc = rt.alloc();
-    for (option, claim) in [
-        ("--sets=3", "accepted: located\n"),
-        ("--conflicts=1", "accepted: budget spent\n"),
-        ("--sets=2", "accepted: too many sets\n"),
-    ] {
+    for row in &ACCEPTED {
+        let (option, claim) = *row;
         let text = certificate(&rt, alloc, option);
         for piece in [1, 7, 4096] {
-            let (ended, printed) = check(&rt, alloc, text.as_slice(), option, "", &[], piece);
-            assert_eq!(rt; ended, Status::Ok, "by {option:?}");
-            assert_eq!(rt; printed.as_slice(), claim.as_bytes(), "by {option:?}");
+            assert_accepted(&rt, alloc, text.as_slice(), option, piece, claim);
         }
     }
 }
@@ -124,71 +191,82 @@ fn hands_on_the_formula_of_the_search(rt: HostRuntime) {
     }
 }
 
+/// How many lines stand before the first step of statement 3.
+fn lines_before_statement_three(certificate: &[u8]) -> usize {
+    certificate
+        .split(|byte| *byte == b'\n')
+        .take_while(|line| !line.starts_with(b"s 3 "))
+        .count()
+}
+
 #[test]
 fn refuses_a_certificate_by_other_settings(rt: HostRuntime) {
     let alloc = rt.alloc();
     let spent = certificate(&rt, alloc, "--conflicts=1");
-    let last = lines_in(spent.as_slice());
-    let (ended, printed) = check(&rt, alloc, spent.as_slice(), "--sets=3", "", &[], 4096);
-    assert_eq!(rt; ended, Status::BadCertificate);
-    let wanted = format!(in alloc; "refused: certificate, error 13 at line {last}\n").expect(
-        &rt, "memory",
-    );
-    assert_eq!(rt; printed.as_slice(), wanted.as_bytes());
+    let spent = spent.as_slice();
+    assert_refused(&rt, alloc, spent, "--sets=3", "", 4096, 13, lines_in(spent));
     // Statement 3 stands in line 7, and its set then doesn't have the least weight.
     let located = certificate(&rt, alloc, "--sets=3");
-    let before = located
-        .as_slice()
-        .split(|byte| *byte == b'\n')
-        .take_while(|line| !line.starts_with(b"s 3 "))
-        .count();
-    let (ended, printed) = check(
-        &rt,
-        alloc,
-        located.as_slice(),
-        "--weights=w.txt",
-        "7 3",
-        &[],
-        4096,
-    );
-    assert_eq!(rt; ended, Status::BadCertificate);
-    let line = before.saturating_add(1);
-    let wanted = format!(in alloc; "refused: certificate, error 8 at line {line}\n").expect(
-        &rt, "memory",
-    );
-    assert_eq!(rt; printed.as_slice(), wanted.as_bytes());
+    let located = located.as_slice();
+    let line = lines_before_statement_three(located).saturating_add(1);
+    assert_refused(&rt, alloc, located, "--weights=w.txt", "7 3", 4096, 8, line);
 }
 
 #[test]
-fn refuses_a_certificate_that_is_cut_or_goes_on(rt: HostRuntime) {
+fn refuses_a_certificate_that_is_cut(rt: HostRuntime) {
     let alloc = rt.alloc();
     let whole = certificate(&rt, alloc, "--sets=3");
     for count in 0..whole.len() {
         if count % 31 == 0 || whole[count] == b'\n' {
             let part = &whole.as_slice()[..count];
-            let (ended, printed) = check(&rt, alloc, part, "--sets=3", "", &[], 4096);
-            assert_eq!(rt; ended, Status::BadCertificate, "of {count} bytes");
             let line = lines_in(part).saturating_add(1);
-            let wanted = format!(in alloc;
-                "refused: certificate, error 21 at line {line}\n"
-            ).expect(&rt, "memory");
-            assert_eq!(rt; printed.as_slice(), wanted.as_bytes(), "of {count} bytes");
+            assert_refused(&rt, alloc, part, "--sets=3", "", 4096, 21, line);
         }
     }
-    let line = lines_in(whole.as_slice()).saturating_add(1);
+}
+
+/// Asserts that a whole certificate with more bytes behind it is refused.
+fn assert_longer_is_refused(rt: &impl Abort, alloc: Global, whole: &[u8], more: &str, code: u32) {
+    let mut longer = Vec::from_slice(alloc, whole).expect(rt, "memory");
+    longer
+        .extend_from_slice(more.as_bytes())
+        .expect(rt, "memory");
+    let line = lines_in(whole).saturating_add(1);
+    assert_refused(
+        rt,
+        alloc,
+        longer.as_slice(),
+        "--sets=3",
+        "",
+        4096,
+        code,
+        line,
+    );
+}
+
+#[test]
+fn refuses_a_certificate_that_goes_on(rt: HostRuntime) {
+    let alloc = rt.alloc();
+    let whole = certificate(&rt, alloc, "--sets=3");
     for (more, code) in [("x", 21), ("x\n", 20), ("e b\n", 9)] {
-        let mut longer = Vec::from_slice(alloc, whole.as_slice()).expect(&rt, "memory");
-        longer
-            .extend_from_slice(more.as_bytes())
-            .expect(&rt, "memory");
-        let (ended, printed) = check(&rt, alloc, longer.as_slice(), "--sets=3", "", &[], 4096);
-        assert_eq!(rt; ended, Status::BadCertificate, "with {more:?}");
-        let wanted = format!(in alloc;
-            "refused: certificate, error {code} at line {line}\n"
-        ).expect(&rt, "memory");
-        assert_eq!(rt; printed.as_slice(), wanted.as_bytes(), "with {more:?}");
+        assert_longer_is_refused(&rt, alloc, whole.as_slice(), more, code);
     }
 }
+
+const UNREAD: &str = "refused: certificate cannot be read\n";
+
+/// The call of the world that fails, how the check ends, and what it prints. Calls 0 to 5 read the program and the input,
+/// 6 opens the certificate, 7 reads its first piece, with the refused line, and 8 prints.
+static FAILING: [(u64, Status, &str); 4] = [
+    (6, Status::ReadFault, UNREAD),
+    (7, Status::ReadFault, UNREAD),
+    (8, Status::WriteFault, "refused: certificate"),
+    (
+        9,
+        Status::BadCertificate,
+        "refused: certificate, error 20 at line 2\n",
+    ),
+];
 
 #[test]
 fn reads_a_certificate_up_to_its_first_refused_line(rt: HostRuntime) {
@@ -197,19 +275,9 @@ fn reads_a_certificate_up_to_its_first_refused_line(rt: HostRuntime) {
     for _ in 0..2000 {
         text.push(b'x').expect(&rt, "memory");
     }
-    // Calls 0 to 5 read the program and the input, 6 opens the certificate, 7 reads its first piece, with
-    // the refused line, and 8 prints.
-    let unread = b"refused: certificate cannot be read\n".as_slice();
-    let refused = b"refused: certificate, error 20 at line 2\n".as_slice();
-    for (fails, status, wanted) in [
-        (6, Status::ReadFault, unread),
-        (7, Status::ReadFault, unread),
-        (8, Status::WriteFault, b"refused: certificate".as_slice()),
-        (9, Status::BadCertificate, refused),
-    ] {
-        let (ended, printed) = check(&rt, alloc, text.as_slice(), "--sets=3", "", &[fails], 512);
-        assert_eq!(rt; ended, status, "where {fails} fails");
-        assert_eq!(rt; printed.as_slice(), wanted, "where {fails} fails");
+    for row in &FAILING {
+        let (fails, status, wanted) = *row;
+        assert_checked(&rt, alloc, text.as_slice(), fails, status, wanted);
     }
 }
 
@@ -228,6 +296,13 @@ fn a_certificate_that_is_absent_cannot_be_read(rt: HostRuntime) {
     assert_eq!(rt; ended, Status::NotFailing);
 }
 
+/// Asserts what a call for a sample prints.
+fn assert_sample(rt: &impl Abort, alloc: Global, additions: &str, wanted: &str) {
+    let (ended, printed) = call(rt, alloc, &["sample", additions], "", "", "");
+    assert_eq!(rt; ended, Status::Ok);
+    assert_eq!(rt; printed.as_slice(), wanted.as_bytes());
+}
+
 #[test]
 fn makes_samples(rt: HostRuntime) {
     let alloc = rt.alloc();
@@ -240,12 +315,6 @@ fn makes_samples(rt: HostRuntime) {
 }
 ";
     assert_eq!(rt; text.as_slice(), wanted.as_bytes());
-    for (additions, wanted) in [
-        ("1", "sample 1: weight 1, sets 2\n"),
-        ("200", "sample 200: weight 1, sets 201\n"),
-    ] {
-        let (ended, printed) = call(&rt, alloc, &["sample", additions], "", "", "");
-        assert_eq!(rt; ended, Status::Ok);
-        assert_eq!(rt; printed.as_slice(), wanted.as_bytes());
-    }
+    assert_sample(&rt, alloc, "1", "sample 1: weight 1, sets 2\n");
+    assert_sample(&rt, alloc, "200", "sample 200: weight 1, sets 201\n");
 }

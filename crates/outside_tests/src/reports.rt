@@ -1,6 +1,6 @@
 //! What is answered for programs, as definitions and papers have it.
 
-use crate::calls::call_by_both_rules;
+use crate::calls::{Row, assert_rows_by_both_rules};
 use crate::programs::{
     BLANKS, BLANKS_REPORT, BRANCHES, BRANCHES_REPORT, COMMENTED, COMMENTED_REPORT, DIVISION,
     ENDLESS_LOOP, LARGEST, LARGEST_REPORT, LOCALISE, NO_REPAIR, NOT_FAILING, ONE_ASSERT,
@@ -11,216 +11,207 @@ use crate::programs::{
 };
 use ba_tool::status::Status;
 
-/// A program and an input, how the call ends on them, and what it prints.
-struct Row {
-    program: &'static str,
-    input: &'static str,
-    status: Status,
-    printed: &'static str,
-}
-
-const ROWS: [Row; 19] = [
-    Row {
-        program: ONE_ASSIGNMENT,
-        input: "1",
-        status: Status::Ok,
-        printed: ONE_REPORT,
-    },
-    Row {
-        program: ONE_ASSIGNMENT,
-        input: "2",
-        status: Status::NotFailing,
-        printed: "not failing\n",
-    },
-    Row {
-        program: ONE_ASSIGNMENT,
-        input: "x",
-        status: Status::BadInput,
-        printed: "refused: input, error 1 at number 1\n",
-    },
-    Row {
-        program: ONE_ASSERT,
-        input: "1",
-        status: Status::NoRepair,
-        printed: NO_REPAIR,
-    },
-    Row {
-        program: "int main(void) { return 0; }",
-        input: "",
-        status: Status::NotFailing,
-        printed: NOT_FAILING,
-    },
-    Row {
-        program: "",
-        input: "",
-        status: Status::BadProgram,
-        printed: "refused: program, error 3.5 at end\n",
-    },
+/// Straight-line programs.
+static STRAIGHT: [Row; 19] = [
+    (LOCALISE, ONE_ASSIGNMENT, "1", "", Status::Ok, ONE_REPORT),
+    (
+        LOCALISE,
+        ONE_ASSIGNMENT,
+        "2",
+        "",
+        Status::NotFailing,
+        "not failing\n",
+    ),
+    (
+        LOCALISE,
+        ONE_ASSIGNMENT,
+        "x",
+        "",
+        Status::BadInput,
+        "refused: input, error 1 at number 1\n",
+    ),
+    (LOCALISE, ONE_ASSERT, "1", "", Status::NoRepair, NO_REPAIR),
+    (
+        LOCALISE,
+        "int main(void) { return 0; }",
+        "",
+        "",
+        Status::NotFailing,
+        NOT_FAILING,
+    ),
+    (
+        LOCALISE,
+        "",
+        "",
+        "",
+        Status::BadProgram,
+        "refused: program, error 3.5 at end\n",
+    ),
     // Two statements on the way to one assertion: each of them alone could repair it.
-    Row {
-        program: TWO_IN_A_ROW,
-        input: "1",
-        status: Status::Ok,
-        printed: TWO_IN_A_ROW_REPORT,
-    },
+    (
+        LOCALISE,
+        TWO_IN_A_ROW,
+        "1",
+        "",
+        Status::Ok,
+        TWO_IN_A_ROW_REPORT,
+    ),
     // An assertion in between rules out the first.
-    Row {
-        program: TWO_IN_A_ROW_CHECKED,
-        input: "1",
-        status: Status::Ok,
-        printed: TWO_IN_A_ROW_CHECKED_REPORT,
-    },
+    (
+        LOCALISE,
+        TWO_IN_A_ROW_CHECKED,
+        "1",
+        "",
+        Status::Ok,
+        TWO_IN_A_ROW_CHECKED_REPORT,
+    ),
     // Two assertions on two variables, both assigned wrongly.
-    Row {
-        program: TWO_SIDE_BY_SIDE,
-        input: "",
-        status: Status::Ok,
-        printed: TWO_SIDE_BY_SIDE_REPORT,
-    },
+    (
+        LOCALISE,
+        TWO_SIDE_BY_SIDE,
+        "",
+        "",
+        Status::Ok,
+        TWO_SIDE_BY_SIDE_REPORT,
+    ),
     // The text of a line stands without the blanks around it, a carriage return among them.
-    Row {
-        program: BLANKS,
-        input: "1",
-        status: Status::Ok,
-        printed: BLANKS_REPORT,
-    },
+    (LOCALISE, BLANKS, "1", "", Status::Ok, BLANKS_REPORT),
     // Twelve parameters, twelve declarations and twelve statements: each assignment of the chain
     // could repair it.
-    Row {
-        program: LARGEST,
-        input: "0 0 0 0 0 0 0 0 0 0 0 0",
-        status: Status::Ok,
-        printed: LARGEST_REPORT,
-    },
+    (
+        LOCALISE,
+        LARGEST,
+        "0 0 0 0 0 0 0 0 0 0 0 0",
+        "",
+        Status::Ok,
+        LARGEST_REPORT,
+    ),
     // Of the eleven assignments two could, each alone.
-    Row {
-        program: TWO_OF_ELEVEN,
-        input: "1",
-        status: Status::Ok,
-        printed: TWO_OF_ELEVEN_REPORT,
-    },
+    (
+        LOCALISE,
+        TWO_OF_ELEVEN,
+        "1",
+        "",
+        Status::Ok,
+        TWO_OF_ELEVEN_REPORT,
+    ),
     // Of the ten assignments only the last ones of the two variables could, both together.
-    Row {
-        program: PAIR_OF_TEN,
-        input: "",
-        status: Status::Ok,
-        printed: PAIR_OF_TEN_REPORT,
-    },
+    (
+        LOCALISE,
+        PAIR_OF_TEN,
+        "",
+        "",
+        Status::Ok,
+        PAIR_OF_TEN_REPORT,
+    ),
     // Asserts alone can't be repaired; a run that meets every assertion need not be.
-    Row {
-        program: TWELVE_ASSERTS,
-        input: "1",
-        status: Status::NoRepair,
-        printed: NO_REPAIR,
-    },
-    Row {
-        program: THIRTEEN_ASSERTS,
-        input: "1",
-        status: Status::NoRepair,
-        printed: NO_REPAIR,
-    },
-    Row {
-        program: THIRTEEN_PARAMETERS,
-        input: "0 0 0 0 0 0 0 0 0 0 0 0 0",
-        status: Status::NotFailing,
-        printed: NOT_FAILING,
-    },
-    Row {
-        program: THIRTEEN_DECLARATIONS,
-        input: "",
-        status: Status::NotFailing,
-        printed: NOT_FAILING,
-    },
+    (
+        LOCALISE,
+        TWELVE_ASSERTS,
+        "1",
+        "",
+        Status::NoRepair,
+        NO_REPAIR,
+    ),
+    (
+        LOCALISE,
+        THIRTEEN_ASSERTS,
+        "1",
+        "",
+        Status::NoRepair,
+        NO_REPAIR,
+    ),
+    (
+        LOCALISE,
+        THIRTEEN_PARAMETERS,
+        "0 0 0 0 0 0 0 0 0 0 0 0 0",
+        "",
+        Status::NotFailing,
+        NOT_FAILING,
+    ),
+    (
+        LOCALISE,
+        THIRTEEN_DECLARATIONS,
+        "",
+        "",
+        Status::NotFailing,
+        NOT_FAILING,
+    ),
     // Comments, macros and other writings of constants are those of the lexer.
-    Row {
-        program: COMMENTED,
-        input: "1",
-        status: Status::Ok,
-        printed: COMMENTED_REPORT,
-    },
+    (LOCALISE, COMMENTED, "1", "", Status::Ok, COMMENTED_REPORT),
     // A number of the input has to be one of int.
-    Row {
-        program: ONE_ASSERT,
-        input: "2147483648",
-        status: Status::BadInput,
-        printed: "refused: input, error 2 at number 1\n",
-    },
+    (
+        LOCALISE,
+        ONE_ASSERT,
+        "2147483648",
+        "",
+        Status::BadInput,
+        "refused: input, error 2 at number 1\n",
+    ),
 ];
 
 #[test]
 fn answers_straight_line_programs(rt: HostRuntime) {
-    for row in &ROWS {
-        let (ended, text) = call_by_both_rules(
-            &rt,
-            rt.alloc(),
-            LOCALISE,
-            row.program,
-            row.input,
-            "",
-        );
-        assert_eq!(rt;
-            ended,
-            row.status,
-            "of {:?} on {:?}",
-            row.program, row.input
-        );
-        assert_eq!(rt;
-            text.as_slice(),
-            row.printed.as_bytes(),
-            "of {:?}",
-            row.program
-        );
-    }
+    assert_rows_by_both_rules(&rt, rt.alloc(), &STRAIGHT);
 }
+
+const DEEP: &[&str] = &["run", "p.c", "in.txt", "--bound=1", "--depth=17"];
+
+const MOST_TURNS: &[&str] = &["run", "p.c", "in.txt", "--bound", "64"];
+
+const BEYOND_CALL: &str = "beyond bound at 4:5\n";
+
+const BEYOND_LOOP: &str = "beyond bound at 2:12\n";
+
+/// Runs, and searches that end as a run does.
+static RUNS: [Row; 14] = [
+    (RUN, BRANCHES, "0", "", Status::NotFailing, NOT_FAILING),
+    (RUN, DIVISION, "0", "", Status::Ok, "trap at 3:5\n"),
+    (
+        RUN,
+        DIVISION,
+        "1",
+        "",
+        Status::Ok,
+        "assertion fails at 4:5\n",
+    ),
+    (RUN, DIVISION, "3", "", Status::NotFailing, NOT_FAILING),
+    (RUN, ENDLESS_LOOP, "1", "", Status::BeyondBound, BEYOND_LOOP),
+    (
+        LOCALISE,
+        ENDLESS_LOOP,
+        "1",
+        "",
+        Status::BeyondBound,
+        BEYOND_LOOP,
+    ),
+    (RUN, RECURSION, "15", "", Status::BeyondBound, BEYOND_CALL),
+    (
+        LOCALISE,
+        RECURSION,
+        "15",
+        "",
+        Status::BeyondBound,
+        BEYOND_CALL,
+    ),
+    (RUN, RECURSION, "14", "", Status::NotFailing, NOT_FAILING),
+    (DEEP, RECURSION, "15", "", Status::NotFailing, NOT_FAILING),
+    (LOCALISE, BRANCHES, "0", "", Status::NotFailing, NOT_FAILING),
+    (LOCALISE, BRANCHES, "1", "", Status::Ok, BRANCHES_REPORT),
+    (
+        MOST_TURNS,
+        THREE_LOOPS,
+        "1",
+        "",
+        Status::TooLarge,
+        "refused: too large\n",
+    ),
+    (RUN, THREE_LOOPS, "1", "", Status::NotFailing, NOT_FAILING),
+];
 
 #[test]
 fn runs_programs(rt: HostRuntime) {
-    let deep = ["run", "p.c", "in.txt", "--bound=1", "--depth=17"];
-    let most_turns = ["run", "p.c", "in.txt", "--bound", "64"];
-    let beyond_call = "beyond bound at 4:5\n";
-    let beyond_loop = "beyond bound at 2:12\n";
-    for (words, program, input, status, printed) in [
-        (RUN, BRANCHES, "0", Status::NotFailing, NOT_FAILING),
-        (RUN, DIVISION, "0", Status::Ok, "trap at 3:5\n"),
-        (RUN, DIVISION, "1", Status::Ok, "assertion fails at 4:5\n"),
-        (RUN, DIVISION, "3", Status::NotFailing, NOT_FAILING),
-        (RUN, ENDLESS_LOOP, "1", Status::BeyondBound, beyond_loop),
-        (
-            LOCALISE,
-            ENDLESS_LOOP,
-            "1",
-            Status::BeyondBound,
-            beyond_loop,
-        ),
-        (RUN, RECURSION, "15", Status::BeyondBound, beyond_call),
-        (LOCALISE, RECURSION, "15", Status::BeyondBound, beyond_call),
-        (RUN, RECURSION, "14", Status::NotFailing, NOT_FAILING),
-        (
-            deep.as_slice(),
-            RECURSION,
-            "15",
-            Status::NotFailing,
-            NOT_FAILING,
-        ),
-        (LOCALISE, BRANCHES, "0", Status::NotFailing, NOT_FAILING),
-        (LOCALISE, BRANCHES, "1", Status::Ok, BRANCHES_REPORT),
-        (
-            most_turns.as_slice(),
-            THREE_LOOPS,
-            "1",
-            Status::TooLarge,
-            "refused: too large\n",
-        ),
-        (RUN, THREE_LOOPS, "1", Status::NotFailing, NOT_FAILING),
-    ] {
-        let (ended, text) = call_by_both_rules(&rt, rt.alloc(), words, program, input, "");
-        assert_eq!(rt; ended, status, "{words:?} of {program:?} on {input:?}");
-        assert_eq!(rt;
-            text.as_slice(),
-            printed.as_bytes(),
-            "{words:?} of {program:?}"
-        );
-    }
+    assert_rows_by_both_rules(&rt, rt.alloc(), &RUNS);
 }
 
 const CALL: &str = "int up(int x) {
@@ -318,30 +309,46 @@ set 1:
   7:9 assignment | index = index + 2;
 ";
 
+const FIXED: &str = "10 fixed\n11 fixed\n";
+
+const BOUND_1: &[&str] = &["localise", "p.c", "in.txt", "--weights=w.txt", "--bound=1"];
+
+const BOUND_3: &[&str] = &["localise", "p.c", "in.txt", "--weights=w.txt", "--bound=3"];
+
+const BOUND_4: &[&str] = &["localise", "p.c", "in.txt", "--weights=w.txt", "--bound=4"];
+
+/// Programs with loops and calls, by bounds and weights.
+static LOOPS_AND_CALLS: [Row; 6] = [
+    (BOUND_1, CALL, "4", "", Status::Ok, CALL_REPORT),
+    (BOUND_3, SUM, "3", "", Status::Ok, SUM_IN_THREE_TURNS),
+    (BOUND_4, SUM, "3", "", Status::Ok, SUM_IN_FOUR_TURNS),
+    (
+        BOUND_4,
+        GREATEST,
+        "3 1 2 9",
+        FIXED,
+        Status::Ok,
+        GREATEST_REPORT,
+    ),
+    (
+        BOUND_1,
+        BRANCHES,
+        "1",
+        "7 3\n",
+        Status::Ok,
+        TWO_BRANCHES_REPORT,
+    ),
+    (
+        BOUND_1,
+        BRANCHES,
+        "1",
+        "4 fixed\n8 fixed\n",
+        Status::Ok,
+        ONE_BRANCH_REPORT,
+    ),
+];
+
 #[test]
 fn finds_the_least_sets_of_programs_with_loops_and_calls(rt: HostRuntime) {
-    let fixed = "10 fixed\n11 fixed\n";
-    for (bound, program, input, weights, printed) in [
-        ("--bound=1", CALL, "4", "", CALL_REPORT),
-        ("--bound=3", SUM, "3", "", SUM_IN_THREE_TURNS),
-        ("--bound=4", SUM, "3", "", SUM_IN_FOUR_TURNS),
-        ("--bound=4", GREATEST, "3 1 2 9", fixed, GREATEST_REPORT),
-        ("--bound=1", BRANCHES, "1", "7 3\n", TWO_BRANCHES_REPORT),
-        (
-            "--bound=1",
-            BRANCHES,
-            "1",
-            "4 fixed\n8 fixed\n",
-            ONE_BRANCH_REPORT,
-        ),
-    ] {
-        let words = ["localise", "p.c", "in.txt", "--weights=w.txt", bound];
-        let (ended, text) = call_by_both_rules(&rt, rt.alloc(), &words, program, input, weights);
-        assert_eq!(rt; ended, Status::Ok, "{program:?} by {weights:?}");
-        assert_eq!(rt;
-            text.as_slice(),
-            printed.as_bytes(),
-            "{program:?} by {weights:?}"
-        );
-    }
+    assert_rows_by_both_rules(&rt, rt.alloc(), &LOOPS_AND_CALLS);
 }
