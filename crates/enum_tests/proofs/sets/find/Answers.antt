@@ -21,11 +21,12 @@ all_sets-requires-clause-fresh g c = λ working.
     (c.as_slice-2.ensures.value ∙ c.softs_in-softs.ensures)) in
     let begins : c.new-checked.result.checker ≡ first_state formula softs conflicts sets =
     ap (λ x. x.checker) c.new-checked.ensures ∙ made in
-    let clauses : map (kept Given) c.formula-2.result.now.clauses ≡ c.new-checked.result.checker.clauses =
+    let given : List Kept = map (kept Given) c.formula-2.result.now.clauses in
+    let clauses : given ≡ c.new-checked.result.checker.clauses =
     ap (λ (f : Cnf). map (kept Given) f.clauses) c.formula-2.ensures
     ∙ sym (ap (λ (s : State). s.clauses) begins) in
-    let live : AreLive c.expect-search.result.clauses (clause_at (map (kept Given) c.formula-2.result.now.clauses)) =
-    subst (λ made. IfOk made (λ search. AreLive search.clauses (clause_at (map (kept Given) c.formula-2.result.now.clauses))))
+    let live : AreLive c.expect-search.result.clauses (clause_at given) =
+    subst (λ made. IfOk made (λ search. AreLive search.clauses (clause_at given)))
     c.expect-search.ensures c.new.ensures.clauses in
     record {
       same = subst (λ (cs : List Kept). AreLive c.expect-search.result.clauses (clause_at cs)) clauses live;
