@@ -78,26 +78,3 @@ impl TryClone for Choice {
         }
     }
 }
-
-#[cfg(test)]
-mod tests {
-    use super::*;
-    use ba_items::Items;
-    use std::test::Fail;
-
-    #[test]
-    fn a_list_of_choices_is_cloned(rt: HostRuntime) -> Result<(), Fail> {
-        let mut values = Values::new(rt.alloc());
-        for value in [3, -1, 4] {
-            values.push(value)?;
-        }
-        let mut choices = Items::new(rt.alloc());
-        choices.push(Choice::Keep)?;
-        choices.push(Choice::Take(values))?;
-        let clones = choices.try_clone(rt.alloc())?;
-        assert!(rt;
-            matches!(clones.as_slice(), [Choice::Keep, Choice::Take(taken)] if taken.as_slice() == [3, -1, 4].as_slice())
-        );
-        Ok(())
-    }
-}

@@ -128,32 +128,3 @@ pub fn fill_up<T: Copy>(items: &mut Vec<T>, count: usize, filler: T) -> Result<(
     }
     Ok(())
 }
-
-#[cfg(test)]
-mod tests {
-    use super::*;
-    use std::test::Fail;
-
-    #[test]
-    fn keeps_its_items_in_order(rt: HostRuntime) -> Result<(), Fail> {
-        let mut list = Items::<u32>::new(rt.alloc());
-        assert!(rt; list.is_empty());
-        list.push(7)?;
-        list.push(3)?;
-        let copy = Items::from_slice(rt.alloc(), list.as_slice())?;
-        let again = Items::from_vec(copy.into_vec());
-        assert_eq!(rt; again.as_slice(), [7, 3].as_slice());
-        assert_eq!(rt; again.len(), 2);
-        Ok(())
-    }
-
-    #[test]
-    fn a_vector_is_filled_up_and_never_cut(rt: HostRuntime) -> Result<(), Fail> {
-        let mut items = [7u8].to_vec(rt.alloc())?;
-        fill_up(&mut items, 3, 5)?;
-        assert_eq!(rt; items.as_slice(), [7, 5, 5].as_slice());
-        fill_up(&mut items, 2, 5)?;
-        assert_eq!(rt; items.len(), 3);
-        Ok(())
-    }
-}

@@ -13,9 +13,6 @@ ghost use Rattle.ba_tree.specs.declared.run.Input.{Input};
 ghost use Rattle.ba_tree.specs.declared.run.Outcome.TheVariants.{WrongChoices};
 ghost use Rattle.ba_tree.specs.declared.tree.Program.{Program};
 
-#[cfg(test)]
-mod tests;
-
 /// Statements that could repair a run still could with more statements beside them: where a statement is listed and
 /// needs no change, it may run as written.
 pub fn more_statements_stay_feasible()

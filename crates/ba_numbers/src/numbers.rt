@@ -228,6 +228,3 @@ fn shift_factor(count: i64) -> i64
 {
     1 << (low_word(count) % 32)
 }
-
-#[cfg(test)]
-mod tests;

@@ -10,9 +10,6 @@ ghost use Rattle.ba_types.specs.Spelling.{Spells};
 ghost use Rattle.ba_types.specs.Trees.{tree_of};
 ghost use Rattle.ba_tree_laws.specs.Equivalent.{AreEquivalent};
 
-#[cfg(test)]
-mod tests;
-
 /// Programs with the same tree are equivalent.
 pub fn same_meaning()
     ensures { (p q : Program) → tree_of p ≡ tree_of q → AreEquivalent p q }

@@ -1,1 +1,2 @@
 pub mod Assumptions
+pub mod SomeLaws

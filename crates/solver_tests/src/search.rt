@@ -1,24 +1,15 @@
 //! Tests of the search.
 
-ghost use Rattle.std.specs.Prelude.{◌≡◌, true};
-ghost use Rattle.ba_search.specs.Answers.{AreAssumptions};
-
+use crate::models::are_assumptions;
 use crate::values::{bits_of, satisfies};
 use ba_checker::{Checked, Checker};
-use ba_lits::{Formula, Lit, is_clause};
+use ba_lits::{Formula, Lit};
 use ba_search::{Answer, Search};
 use ba_steps::NoSink;
 use std::alloc::Global;
 use std::panic::Expect;
 use std::process::Abort;
 use test_formulas::{NoRuns, formula_of, literal, lits, pigeons, random};
-
-/// Whether literals of ascending variables are assumptions over so many variables.
-fn are_assumptions(variables: u64, lits: &[Lit]) -> bool
-    ensures { result ≡ true → AreAssumptions variables lits.now }
-{
-    is_clause(variables, lits)
-}
 
 /// How a search ends: with the values of a model as the bits of a number, a core with so many literals, or spent.
 #[derive(Clone, Copy, Debug, PartialEq, Eq)]

@@ -1,0 +1,401 @@
+//! Programs, inputs, bounds and choices, where each execution of a statement may be relaxed, and whether the run is good, as worked out by
+//! hand.
+
+use crate::assignments::{Random, spelling};
+use crate::word_lists::{holds, list_of, spelled};
+use crate::word_values::Values;
+use ba_choices::Choice;
+use ba_interp::run;
+use ba_items::Items;
+use ba_numbers::ids::StmtId;
+use ba_numbers::numbers::{BinOp, CType};
+use ba_tree::run::{Allowed, Bounds, Input, Outcome};
+use ba_tree::tree::{Program, StmtKind};
+use ba_wordlist::words::{WordList, WordOp};
+use std::alloc::Global;
+use std::panic::Expect;
+use std::process::Abort;
+use test_programs::reader::Reader;
+
+/// A program with an input, bounds, its list, and all statements that may be relaxed.
+#[derive(Drop)]
+struct Case {
+    program: Program,
+    input: Input,
+    turns: u32,
+    list: WordList,
+    allowed: Allowed,
+}
+
+impl Case {
+    /// The case of a program and an input that are written as words.
+    fn new(rt: &impl Abort, alloc: Global, program: &str, input: &str, turns: u32) -> Case {
+        let program = Reader::new(alloc, program.as_bytes())
+            .program()
+            .expect(rt, "a program");
+        let input = Reader::new(alloc, input.as_bytes())
+            .input()
+            .expect(rt, "an input");
+        let bounds = Bounds { turns, frames: 4 };
+        let list = list_of(rt, alloc, &program, &input, bounds);
+        let allowed = everything(rt, alloc, &program);
+        Case {
+            program,
+            input,
+            turns,
+            list,
+            allowed,
+        }
+    }
+
+    /// Whether the run with these choices is good.
+    fn is_good(&self, rt: &impl Abort, alloc: Global, choices: &[Choice]) -> bool {
+        assert!(rt; 1 <= self.turns && self.turns <= 64);
+        let bounds = Bounds {
+            turns: self.turns,
+            frames: 4,
+        };
+        let outcome = run(
+            alloc,
+            &self.program,
+            &self.input,
+            bounds,
+            &self.allowed,
+            choices,
+        );
+        outcome.expect(rt, "memory") == Outcome::Done
+    }
+
+    /// Whether an assignment that spells these choices holds.
+    fn is_spelled(&self, rt: &impl Abort, alloc: Global, choices: &[Choice]) -> bool {
+        match spelling(rt, alloc, &self.list, choices) {
+            Some(free) => self.holds_with(rt, alloc, free.as_slice(), choices),
+            None => false,
+        }
+    }
+
+    /// Whether an assignment holds and spells these choices.
+    fn holds_with(&self, rt: &impl Abort, alloc: Global, free: &[i64], choices: &[Choice]) -> bool {
+        let values = Values::of(rt, alloc, self.list.words.as_slice(), free);
+        let others = spelled(rt, alloc, &values, &self.list);
+        holds(&values, &self.list) && are_same(choices, others.as_slice())
+    }
+
+    /// Whether some assignment holds exactly where the run with the choices that it spells is good.
+    fn is_told(&self, rt: &impl Abort, alloc: Global, random: &mut Random) -> bool {
+        let free = random.assignment(rt, alloc, &self.list);
+        let values = Values::of(rt, alloc, self.list.words.as_slice(), free.as_slice());
+        let choices = spelled(rt, alloc, &values, &self.list);
+        let good = self.is_good(rt, alloc, choices.as_slice());
+        holds(&values, &self.list) == good
+    }
+}
+
+/// All statements but the asserts.
+fn everything(rt: &impl Abort, alloc: Global, program: &Program) -> Allowed {
+    let mut stmts = Items::new(alloc);
+    let mut number = 0u32;
+    for statement in program.statements.as_slice() {
+        number = number.saturating_add(1);
+        if statement.kind != StmtKind::Assert {
+            stmts.push(StmtId(number)).expect(rt, "memory");
+        }
+    }
+    Allowed::Statements(stmts)
+}
+
+fn are_same(choices: &[Choice], others: &[Choice]) -> bool {
+    choices.len() == others.len()
+        && choices
+            .iter()
+            .zip(others.iter())
+            .all(|(a, b)| is_same(a, b))
+}
+
+fn is_same(choice: &Choice, other: &Choice) -> bool {
+    match (choice, other) {
+        (Choice::Keep, Choice::Keep) => true,
+        (Choice::Take(values), Choice::Take(others)) => values.as_slice() == others.as_slice(),
+        _ => false,
+    }
+}
+
+/// Five lines: a variable that gets the input, and an assert.
+const FIVE_LINES: &str = "2 i i  0  0  1  1 0  1 1  3 decl 1 = 1 1 v 0 assert 2 == v 1 2  2 = !";
+
+/// The same with a `short`.
+const SHORT: &str = "2 i s  0  0  1  1 0  1 1  3 decl 1 = 1 1 s v 0 assert 2 == i v 1 v 0  2 = !";
+
+/// A sum in a `for`.
+const SUM: &str = "3 u u u  0  0  1  1 0  2 1 2  6 decl 1 decl 2 = 1 1 u 0
+    for 3 1 = 2 2 u 1 u< v 2 v 0 1 = 4 2 u+ v 2 u 1 = 5 1 u+ v 1 v 2
+    assert 6 u== v 1 u 6 return 7 0  7 = = ? = = ! r";
+
+/// A sum and an element, each of which two asserts compute.
+const TWICE: &str = "3 i i 2  0  0  1  1 0  2 1 2  7 decl 1 decl 2 = 1 1 v 0 []= 2 2 v 0 5
+    assert 3 == + v 1 1 2 assert 4 < + v 1 1 e 2 1 assert 5 == e 2 1 5  5 = [ ! ! !";
+
+/// An input, the bound on turns, choices, and whether the run with them is good.
+type Run = (&'static str, u32, &'static str, bool);
+
+/// Programs with runs as worked out by hand.
+const EXAMPLES: [(&str, &[Run]); 14] = [
+    // Five lines: a variable that gets the input, and an assert.
+    (
+        FIVE_LINES,
+        &[
+            ("1 1 ;", 1, "1 k", false),
+            ("1 2 ;", 1, "1 k", true),
+            ("1 1 ;", 1, "1 t 1 2", true),
+            ("1 1 ;", 1, "0", false),
+            ("1 2 ;", 1, "2 k k", false),
+        ],
+    ),
+    // The same with a `short`.
+    (
+        SHORT,
+        &[
+            ("1 40000 ;", 1, "1 k", false),
+            ("1 40000 ;", 1, "1 t 1 40000", false),
+            ("1 -5 ;", 1, "1 t 1 -5", true),
+        ],
+    ),
+    // A sum in a `for`.
+    (
+        SUM,
+        &[
+            ("1 3 ;", 3, "10 k k k k k k k k k k", false),
+            ("1 4 ;", 3, "13 k k k k k k k k k k k k k", true),
+            ("1 3 ;", 3, "13 k k k k k k k k t 1 1 k k k k", true),
+            ("1 5 ;", 3, "13 k k k k k k k k k k k k k", false),
+            ("1 5 ;", 3, "13 k k k k k k k k k k k t 1 0 k", true),
+        ],
+    ),
+    // A sum and an element, each of which two asserts compute.
+    (
+        TWICE,
+        &[
+            ("1 1 ;", 1, "2 k k", true),
+            ("1 0 ;", 1, "2 k k", false),
+            ("1 0 ;", 1, "2 t 1 1 t 2 1 5", true),
+            ("1 1 ;", 1, "2 t 1 4 k", false),
+        ],
+    ),
+    // A store, whose index is the input.
+    (
+        "2 i 2  0  0  1  1 0  1 1  4 decl 1 []= 1 1 v 0 1 assert 2 == e 1 0 1 return 3 0  3 [ ! r",
+        &[
+            ("1 2 ;", 1, "2 k k", false),
+            ("1 2 ;", 1, "2 t 2 0 1 k", true),
+            ("1 2 ;", 1, "2 t 2 1 1 k", false),
+            ("1 2 ;", 1, "2 t 2 2 1 k", false),
+            ("1 0 ;", 1, "2 k t 1 9", true),
+            ("1 -1 ;", 1, "2 k k", false),
+        ],
+    ),
+    // A division by the input.
+    (
+        "2 i i  0  0  1  1 0  1 1  4 decl 1 = 1 1 / 6 v 0 assert 2 == v 1 2 return 3 0  3 = ! r",
+        &[
+            ("1 0 ;", 1, "2 k k", false),
+            ("1 0 ;", 1, "2 t 1 2 k", true),
+            ("1 3 ;", 1, "2 k k", true),
+        ],
+    ),
+    // A call that changes a global.
+    (
+        "2 i i  1 0  0  2  0  0  2 = 1 0 1 return 2 0
+    0  1 1  4 decl 1 = 3 1 call 1 0 0 assert 4 == v 0 0 return 5 v 1  5 = r = ! r",
+        &[
+            ("0", 1, "4 k k k k", false),
+            ("0", 1, "4 k t 1 0 k k", true),
+            ("0", 1, "2 t 1 7 k", true),
+        ],
+    ),
+    // A function that returns from inside a branch.
+    (
+        "3 i i i  0  0  2  1 0  0  2 if 1 v 0 return 2 1 return 3 2
+    1 1  1 2  4 decl 2 = 4 2 call 1 0 1 x v 1 assert 5 == v 2 1 return 6 0  6 ? r r = ! r",
+        &[
+            ("1 5 ;", 1, "4 k k k k", true),
+            ("1 0 ;", 1, "4 k k k k", false),
+            ("1 0 ;", 1, "4 k t 1 1 k k", true),
+            ("1 0 ;", 1, "4 k k t 1 1 k", true),
+        ],
+    ),
+    // A store in a branch.
+    (
+        "2 i 2  0  0  1  1 0  1 1  3 decl 1 if 1 v 0 []= 2 1 0 1
+    assert 3 == e 1 0 1  3 ? [ !",
+        &[
+            ("1 1 ;", 1, "2 k k", true),
+            ("1 0 ;", 1, "1 k", false),
+            ("1 0 ;", 1, "2 t 1 1 k", true),
+            ("1 1 ;", 1, "1 t 1 0", false),
+            ("1 1 ;", 1, "2 k t 2 1 1", false),
+            ("1 0 ;", 1, "2 k k", false),
+        ],
+    ),
+    // An array's initialiser that reads its array.
+    (
+        "1 2  0  0  1  0  1 0  3 decl 0 inits 1 0 2 5 e 0 0 assert 2 == e 0 1 0  2 i !",
+        &[
+            ("0", 1, "1 k", true),
+            ("0", 1, "1 t 2 4 0", true),
+            ("0", 1, "1 t 2 4 1", false),
+            ("0", 1, "1 t 1 4", false),
+        ],
+    ),
+    // `break` and `continue`.
+    (
+        "1 i  0  0  1  0  1 0  3 decl 0 for 2 1 = 1 0 0 < v 0 5 1 = 3 0 + v 0 1
+    { 2 if 4 == v 0 3 break continue assert 5 == v 0 3  5 = ? = ? !",
+        &[
+            ("0", 4, "12 k k k k k k k k k k k k", true),
+            ("0", 3, "12 k k k k k k k k k k k k", false),
+            ("0", 4, "6 k k k k k t 1 1", false),
+        ],
+    ),
+    // A `do` whose condition is the input.
+    (
+        "2 i i  0  0  1  1 0  1 1  3 decl 1 do 2 v 0 = 1 1 + v 1 1 assert 3 == v 1 1  3 = ? !",
+        &[
+            ("1 0 ;", 1, "2 k k", true),
+            ("1 1 ;", 1, "2 k k", false),
+            ("1 1 ;", 1, "2 k t 1 0", true),
+        ],
+    ),
+    // A comparison as unsigned, a short variable, the operators that evaluate one side.
+    (
+        "2 i s  0  0  1  1 0  1 1  6 decl 1 assert 1 == u< u neg 1 u 1 0 = 2 1 s v 0
+    assert 3 && == i v 1 v 0 || 1 / 1 0 assert 4 == ? v 0 7 / 1 0 7 print 5 1 / 1 v 0  5 ! = ! ! c",
+        &[
+            ("1 5 ;", 1, "2 k k", true),
+            ("1 0 ;", 1, "2 k k", false),
+            ("1 5 ;", 1, "2 t 1 6 k", false),
+            ("1 5 ;", 1, "2 t 1 40000 k", false),
+        ],
+    ),
+    // A function that calls itself with its own array, and writes to the one that it was given.
+    (
+        "4 p i 2 2  0  0  2  2 0 1  1 2
+    4 decl 2 if 1 v 1 calls 2 1 0 2 a 2 x - v 1 1 assert 3 == e 2 0 v 1 []= 4 0 0 1
+    0  1 3  3 decl 3 calls 5 2 0 2 a 3 x 1 assert 6 == e 3 0 1  6 ? c ! [ c !",
+        &[("0", 1, "6 k k k k k k", true), ("0", 1, "1 t 0", false)],
+    ),
+];
+
+/// How many assignments are tried at each run.
+const TRIES: u32 = 10;
+
+/// An assignment that spells the choices holds exactly where the run is good; and so do others with the choices that they spell.
+fn expect_case(
+    rt: &impl Abort,
+    alloc: Global,
+    random: &mut Random,
+    case: &Case,
+    choices: &[Choice],
+    good: bool,
+) {
+    assert_eq!(rt; case.is_good(rt, alloc, choices), good);
+    assert_eq!(rt; case.is_spelled(rt, alloc, choices), good);
+    for _ in 0..TRIES {
+        assert!(rt; case.is_told(rt, alloc, random));
+    }
+}
+
+fn expect_run(rt: &impl Abort, alloc: Global, random: &mut Random, program: &str, run: &Run) {
+    let (input, turns, choices, good) = *run;
+    let choices = Reader::new(alloc, choices.as_bytes())
+        .choices()
+        .expect(rt, "choices");
+    let case = Case::new(rt, alloc, program, input, turns);
+    expect_case(rt, alloc, random, &case, choices.as_slice(), good);
+}
+
+fn expect_runs(rt: &impl Abort, alloc: Global, random: &mut Random, program: &str, runs: &[Run]) {
+    for run in runs {
+        expect_run(rt, alloc, random, program, run);
+    }
+}
+
+#[test]
+fn lists_hold_exactly_where_runs_are_good(rt: HostRuntime) {
+    let mut random = Random::new(1);
+    for (program, runs) in EXAMPLES {
+        expect_runs(&rt, rt.alloc(), &mut random, program, runs);
+    }
+}
+
+/// Whether the list of the five lines has one place, with an empty path, and one value.
+fn five_lines_have_one_place(rt: &impl Abort, alloc: Global) -> bool {
+    let case = Case::new(rt, alloc, FIVE_LINES, "1 1 ;", 1);
+    has_one_place(&case.list)
+}
+
+fn has_one_place(list: &WordList) -> bool {
+    match list.places.as_slice() {
+        [only] => only.place.path.is_empty() && only.values.len() == 1,
+        _ => false,
+    }
+}
+
+/// Whether the value of a `short` is a conversion to it.
+fn a_short_is_converted(rt: &impl Abort, alloc: Global) -> bool {
+    let case = Case::new(rt, alloc, SHORT, "1 40000 ;", 1);
+    is_converted(&case.list)
+}
+
+fn is_converted(list: &WordList) -> bool {
+    match first_value(list) {
+        Some(WordOp::Convert { t, .. }) => *t == CType::I16,
+        _ => false,
+    }
+}
+
+/// The entry of the first value of the first place.
+fn first_value(list: &WordList) -> Option<&WordOp> {
+    let place = list.places.as_slice().first()?;
+    let word = place.values.as_slice().first()?;
+    list.words.as_slice().get(*word as usize)
+}
+
+/// How many places the condition and the body of the sum have within three turns.
+fn places_of_sum(rt: &impl Abort, alloc: Global) -> (usize, usize) {
+    let case = Case::new(rt, alloc, SUM, "1 3 ;", 3);
+    (places_at(&case.list, 3), places_at(&case.list, 5))
+}
+
+/// How many places of the list stand at a statement.
+fn places_at(list: &WordList, stmt: u32) -> usize {
+    let mut count = 0usize;
+    for place in list.places.as_slice() {
+        if place.place.stmt == StmtId(stmt) {
+            count = count.saturating_add(1);
+        }
+    }
+    count
+}
+
+/// How many entries of the list are sums, and how many are elements, where each is computed twice.
+fn sums_and_elements(rt: &impl Abort, alloc: Global) -> (usize, usize) {
+    let case = Case::new(rt, alloc, TWICE, "1 1 ;", 1);
+    let mut sums = 0usize;
+    let mut elements = 0usize;
+    for entry in case.list.words.as_slice() {
+        match entry {
+            WordOp::Binary { op: BinOp::Add, .. } => sums = sums.saturating_add(1),
+            WordOp::Read { .. } => elements = elements.saturating_add(1),
+            _ => {}
+        }
+    }
+    (sums, elements)
+}
+
+#[test]
+fn lists_are_as_worked_out(rt: HostRuntime) {
+    assert!(rt; five_lines_have_one_place(&rt, rt.alloc()));
+    assert!(rt; a_short_is_converted(&rt, rt.alloc()));
+    assert_eq!(rt; places_of_sum(&rt, rt.alloc()), (4, 3));
+    assert_eq!(rt; sums_and_elements(&rt, rt.alloc()), (1, 1));
+}

@@ -1,0 +1,12 @@
+//! That the laws can be called.
+
+use ba_laws::{
+    keep_choices_can_be_left_out, more_statements_stay_feasible, plain_runs_make_no_choices,
+};
+
+#[test]
+fn laws_of_runs_return(_rt: HostRuntime) {
+    more_statements_stay_feasible();
+    keep_choices_can_be_left_out();
+    plain_runs_make_no_choices();
+}

@@ -1,0 +1,39 @@
+//! Tests by examples: whole programs as trees, with the outcomes and the units that were worked out by hand, texts of inputs, and what runs
+//! stand on; the nodes that stand for programs, without calls and then without loops; and lists of words, read by a plain evaluator,
+//! beside the runs of programs.
+#![tactic(auto)]
+
+#[cfg(test)]
+mod assignments;
+#[cfg(test)]
+mod facts;
+#[cfg(test)]
+mod guarded;
+#[cfg(test)]
+mod inputs;
+#[cfg(test)]
+mod laws;
+#[cfg(test)]
+mod lists;
+#[cfg(test)]
+mod loops;
+#[cfg(test)]
+mod machine;
+#[cfg(test)]
+mod numbers;
+#[cfg(test)]
+mod outcomes;
+#[cfg(test)]
+mod runs;
+#[cfg(test)]
+mod shapes;
+#[cfg(test)]
+mod shown;
+#[cfg(test)]
+mod units;
+#[cfg(test)]
+mod word_laws;
+#[cfg(test)]
+mod word_lists;
+#[cfg(test)]
+mod word_values;
