@@ -3,16 +3,16 @@ use Rattle.std.proofs.Common.{◌≡◌, ℕ, zero, suc, ◌+◌, ◌-◌, ◌*�
 use Rattle.std.proofs.lemmas.Bool.{and_parts, cases_eq}
 use Rattle.std.proofs.lemmas.Bool.Decides.{nat_tests}
 use Rattle.std.proofs.lemmas.Grind.{get_or-set_at}
-use Rattle.std.proofs.lemmas.List.{ext_get_or, get_or-map, get_or-set_other, get_or_read, length-map, length-set, length-take-le, length_push, map_push, take-append-drop, take_more}
+use Rattle.std.proofs.lemmas.List.{ext_get_or, get_or-map, get_or-set_other, get_or_read, length-map, length-set, length-take-le, length_push, map_push, take-append-drop, take_all, take_more}
 use Rattle.ba_bits.proofs.Laws.{low-at}
 use Rattle.ba_bits.proofs.Low.{low-pos}
-use Rattle.ba_bits.specs.Bits.{AreEntriesOf, numbers_in, value_in, values_in, word_at}
+use Rattle.ba_bits.specs.Bits.{AreEntriesOf, firsts_in, numbers_in, value_in, values_in, word_at}
 use Rattle.ba_cells.specs.Cells.{AreCellsOf, AreWritten, IsCellRead, cell_at, place_read}
 use Rattle.ba_cells.proofs.Places.{cells-extends}
 use Rattle.ba_nodes.specs.declared.Bit.{Bit}
 use Rattle.ba_nodes.specs.declared.Node.{Node}
 use Rattle.ba_nodes.specs.Gates.{Extends, truth}
-use Rattle.ba_nodes.proofs.Truths.{Extends-through}
+use Rattle.ba_nodes.proofs.Truths.{Extends-through, Extends_refl}
 use Rattle.ba_numbers.specs.Numbers.{low_word}
 use Rattle.ba_bits.proofs.Spelled.{of_name}
 use Rattle.ba_wordlist.specs.Facts.{are_names, is_name}
@@ -252,6 +252,35 @@ pub record AreSelected (old nodes : List Node) (entries : List (List (List Bit))
   pub are_cells : AreCellsOf nodes words
   pub numbers : (free : ℕ → Bool) → numbers_in free nodes words
       ≡ numbers_chosen free old entries values cells which i
+
+-- before the first word
+pub selected-none : (old : List Node) (entries : List (List (List Bit))) (values : List ℕ)
+    (cells : List (List Bit)) (which : Bit) → AreSelected old old entries values cells which [] 0
+selected-none old entries values cells which = record {
+  extends = Extends_refl old;
+  long = refl;
+  are_cells = λ place inner. omega arith;
+  numbers = λ free. none (truth free old which);
+}
+  where
+    none : (t : Bool) → ◌≡◌ {A = List ℕ} [] (map low_word (cond t [] []))
+    none true = refl
+    none false = refl
+
+-- and after the last
+pub selected-all : (free : ℕ → Bool) (nodes : List Node) (entries : List (List (List Bit))) (values : List ℕ)
+    (cells : List (List Bit)) (which : Bit) (i : ℕ) → length values ≤ i → length cells ≤ i
+    → numbers_chosen free nodes entries values cells which i ≡ map low_word (cond (truth free nodes which)
+    (firsts_in free nodes entries values) (values_in free nodes cells))
+selected-all free nodes entries values cells which i values_past cells_past =
+    let firsts = take_all i (firsts_in free nodes entries values)
+    (omega (arith, length-map values (λ w. value_in free nodes (word_at entries w)))) in
+    let others = take_all i (values_in free nodes cells) (omega (
+      arith,
+      length-map cells
+          (value_in free nodes),
+    )) in
+    λ j. map low_word (cond (truth free nodes which) (firsts j) (others j))
 
 module _ (old nodes new : List Node) (entries : List (List (List Bit))) (values : List ℕ)
     (cells : List (List Bit))

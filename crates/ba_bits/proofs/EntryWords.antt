@@ -12,11 +12,14 @@ use Rattle.ba_nodes.specs.declared.Node.{Node}
 use Rattle.ba_nodes.specs.Gates.{HasValue, truth}
 use Rattle.ba_numbers.specs.declared.numbers.BinOp.{BinOp}
 use Rattle.ba_numbers.specs.declared.numbers.CType.{CType}
+use Rattle.ba_numbers.specs.declared.numbers.UnOp.{UnOp}
+use Rattle.ba_code.specs.Operators.{converting}
 use Rattle.ba_numbers.specs.declared.numbers.CType.TheVariants.{I32}
 use Rattle.ba_numbers.specs.Numbers.{converted, low_word, truth as number_of_truth}
 use Rattle.ba_words.specs.Words.{HasNumber, digit, number_of}
 use Rattle.ba_words.proofs.Circuits.{number_small}
-use Rattle.ba_wordlist.specs.Meaning.{binary_value, entry_of, is_nonzero, value_at}
+use Rattle.ba_wordlist.specs.Facts.{length_of}
+use Rattle.ba_wordlist.specs.Meaning.{binary_value, element_read, entry_of, is_nonzero, value_at}
 use Rattle.ba_wordlist.specs.declared.words.WordOp.{WordOp}
 use Rattle.ba_wordlist.specs.declared.words.WordOp.TheVariants.{Const, Free, Flag, Unary, Binary, Convert, Select, Read, Zeros, Fill, Write}
 
@@ -92,6 +95,54 @@ module _ (old new : List Node) (entries : List (List (List Bit))) (op : WordOp) 
         let right = value-word free old entries r ∙ ap (value_in free old) (sym second_is) in
         ap (entry_of x (elements_in free old entries)) is ∙ (λ i. binary_value b t (left i) (right i) ∷ []))
 
+    pub spell-unary : (o : UnOp) (t : CType) (a : ℕ) (first word : List Bit) → op ≡ Unary o t a
+        → first ≡ word_at entries a → words ≡ word ∷ []
+        → HasLowBits new word (λ free. converting.unary o t (value_in free old first))
+        → SpellEntry old entries op new words
+    spell-unary o t a first word is first_is are has =
+        one-spelled word (λ free. converting.unary o t (value_in free old first)) are has
+        (λ free x.
+        let only = value-word free old entries a ∙ ap (value_in free old) (sym first_is) in
+        ap (entry_of x (elements_in free old entries)) is ∙ (λ i. converting.unary o t (only i) ∷ []))
+
+    pub spell-convert : (t : CType) (a : ℕ) (first word : List Bit) → op ≡ Convert t a
+        → first ≡ word_at entries a → words ≡ word ∷ []
+        → HasLowBits new word (λ free. converted t (value_in free old first))
+        → SpellEntry old entries op new words
+    spell-convert t a first word is first_is are has =
+        one-spelled word (λ free. converted t (value_in free old first)) are has
+        (λ free x.
+        let only = value-word free old entries a ∙ ap (value_in free old) (sym first_is) in
+        ap (entry_of x (elements_in free old entries)) is ∙ (λ i. converted t (only i) ∷ []))
+
+    pub spell-select : (which a b : ℕ) (chooser first second word : List Bit) → op ≡ Select which a b
+        → chooser ≡ word_at entries which → first ≡ word_at entries a → second ≡ word_at entries b
+        → words ≡ word ∷ []
+        → HasLowBits new word (λ free. cond (is_nonzero (value_in free old chooser)) (value_in free old first)
+        (value_in free old second))
+        → SpellEntry old entries op new words
+    spell-select which a b chooser first second word is chooser_is first_is second_is are has =
+        one-spelled word (λ free. cond (is_nonzero (value_in free old chooser)) (value_in free old first)
+        (value_in free old second)) are has
+        (λ free x.
+        let test = value-word free old entries which ∙ ap (value_in free old) (sym chooser_is) in
+        let left = value-word free old entries a ∙ ap (value_in free old) (sym first_is) in
+        let right = value-word free old entries b ∙ ap (value_in free old) (sym second_is) in
+        ap (entry_of x (elements_in free old entries)) is
+        ∙ (λ i. cond (is_nonzero (test i)) (left i) (right i) ∷ []))
+
+    pub spell-read : (array index : ℕ) (cells : List (List Bit)) (at_word word : List Bit) → op ≡ Read array
+        index
+        → cells ≡ words_at entries array → at_word ≡ word_at entries index → words ≡ word ∷ []
+        → HasLowBits new word (λ free. element_read (values_in free old cells) (value_in free old at_word))
+        → SpellEntry old entries op new words
+    spell-read array index cells at_word word is cells_is at_is are has =
+        one-spelled word (λ free. element_read (values_in free old cells) (value_in free old at_word)) are has
+        (λ free x.
+        let elements = elements-words free old entries array ∙ ap (values_in free old) (sym cells_is) in
+        let place = value-word free old entries index ∙ ap (value_in free old) (sym at_is) in
+        ap (entry_of x (elements_in free old entries)) is ∙ (λ i. element_read (elements i) (place i) ∷ []))
+
     zero-lows : (n : ℕ) → replicate n 0 ≡ map low_word (replicate n (pos 0))
     zero-lows zero = refl
     zero-lows (suc n) =
@@ -153,6 +204,12 @@ module _ (old new : List Node) (entries : List (List (List Bit))) (op : WordOp) 
         written free
         ∙ sym (ap (λ o. map low_word (entry_of (value_in free new (cell_at words 0))
         (elements_in free old entries) o)) is ∙ both)
+
+-- a single word is one
+pub one-long : (lengths : List ℕ) (op : WordOp) (words : List (List Bit)) (word : List Bit) → words ≡ word ∷
+    []
+    → length_of lengths op ≡ 1 → length words ≡ length_of lengths op
+one-long lengths op words word are one = ap length are ∙ sym one
 
 -- WHICH NUMBERS an entry can have
 

@@ -33,7 +33,7 @@ pub enum Confirmed {
 }
 
 /// Which step ended a certificate.
-#[derive(Clone, Copy, Debug)]
+#[derive(Clone, Copy)]
 pub(crate) enum Ending {
     Located,
     NoRepair,

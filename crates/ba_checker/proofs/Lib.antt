@@ -5,9 +5,11 @@ pub mod ListedLaws
 pub mod SplitMeaning
 pub mod LoweredLaws
 pub mod FactLaws
+pub mod FreshLaws
 pub mod FormedLaws
 pub mod BlockLaws
 pub mod LastingLaws
 pub mod StateLaws
 pub mod PutLaws
 pub mod OnceLaws
+pub mod DropSteps

@@ -779,3 +779,16 @@ rest_found all clauses seen lits members first rest listed view same first_is fa
 pub after_ok : {E P : Type 0} (r : Result Unit E) (b : Bool) → b ≡ is_err r → b ≡ false → OnOk r P → P
 after_ok (Ok u) b is not_err h = h
 after_ok (Err e) b is not_err h = absurd (cc)
+
+-- once each clause is listed
+pub linked_end : (n : ℕ) (nodes : List Node) (heads : List ℕ) (clauses : List Kept) →
+    AreLinkedBelow n (all_keys nodes) heads (links nodes) clauses → n ≡ length nodes →
+    AreLinks (firsts (all_keys nodes)) heads (links nodes)
+linked_end n nodes heads clauses h whole =
+    let keys = length-firsts (all_keys nodes) in
+    let all : n ≡ length (firsts (all_keys nodes)) = whole ∙ sym (keys ∙ length-keys nodes) in record {
+      same = h.same ∙ sym keys;
+      few = omega (arith, keys, h.few);
+      heads_are = λ key. h.heads_are key ∙ ap (latest (firsts (all_keys nodes)) key) all;
+      earlier_are = λ place below. h.earlier_are place (omega (arith, all, below));
+    }

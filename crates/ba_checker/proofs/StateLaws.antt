@@ -1,7 +1,7 @@
 -- The state of a checker after its first state is made and after a core is split.
 
 use Rattle.std.proofs.Common.{◌≡◌, ℕ, suc, zero, ◌+◌, ◌-◌, ◌^◌, ◌<◌, ◌≤◌, ◌==◌, Bool, true, false, not, ◌&&◌, ◌||◌, ltb, unwrap_or, None, List, [], ◌∷◌, ◌++◌, map, length, All, refl, ap, ◌∙◌, arith}
-use Rattle.std.proofs.lemmas.Bool.{or_parts}
+use Rattle.std.proofs.lemmas.Bool.{or_parts, true≢false}
 use Rattle.std.proofs.lemmas.Bool.Decides.{nat_tests}
 use Rattle.std.proofs.lemmas.List.Elements.{All-append, All-weaker}
 use Rattle.std.specs.List.{list_any, list_all}
@@ -212,3 +212,21 @@ blocked_state variables clauses grown groups softs conflicts budget learnt refus
       within = h.within;
       learnt_within = h.learnt_within;
     }
+
+-- a state that refuses each step may have any clauses
+pub refused_state : (variables : ℕ) (clauses clauses' : List Kept) (groups softs : List Soft)
+    (conflicts budget learnt : ℕ) (refused : Bool)
+    → IsState variables clauses groups softs conflicts budget learnt refused
+    → IsState variables clauses' groups softs conflicts budget learnt true
+refused_state variables clauses clauses' groups softs conflicts budget learnt refused h = record {
+  few = h.few;
+  formed = λ e. absurd (true≢false e);
+  implied = λ e. absurd (true≢false e);
+  groups_among = h.groups_among;
+  groups_differ = h.groups_differ;
+  among = h.among;
+  differ = h.differ;
+  weighty = h.weighty;
+  within = h.within;
+  learnt_within = h.learnt_within;
+}

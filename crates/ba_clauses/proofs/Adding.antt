@@ -5,12 +5,14 @@ use Rattle.std.proofs.lemmas.List.Elements.{All-append, All-map, All-weaker}
 use Rattle.std.specs.List.{list_any}
 use mathlib.Core.Bool.{and_assoc, or_assoc}
 use Rattle.ba_nodes.specs.declared.Bit.{Bit}
-use Rattle.ba_nodes.specs.Gates.{opposite}
+use Rattle.ba_nodes.specs.Gates.{opposite, bool_xor, bool_majority}
 use Rattle.ba_lits.specs.Formulas.{Cnf}
 use Rattle.ba_lits.specs.Literals.{Literal, literal_at, index_of}
 use Rattle.ba_lits.specs.Satisfaction.{Assignment, signed, lit_true, any_true, all_true}
 use Rattle.ba_lits.proofs.Satisfied.{all_true-append}
-use Rattle.ba_clauses.specs.Clauses.{Adds, all_of, any_of, literal_of, literal_value, code_true, IsLiteralOf, IsCodeOf, HasVariable}
+use Rattle.ba_clauses.specs.declared.gates.Gate.{Gate}
+use Rattle.ba_clauses.specs.declared.gates.Gate.TheVariants.{Xor, Mux, Majority}
+use Rattle.ba_clauses.specs.Clauses.{Adds, all_of, any_of, gate_value, literal_of, literal_value, code_true, IsLiteralOf, IsCodeOf, HasVariable}
 use Rattle.ba_clauses.proofs.Ordered.{literal_at-index_of, any_true-codes}
 
 and_true : (b : Bool) → (b && true) ≡ b
@@ -119,3 +121,93 @@ clause_says old new codes second all lits shown two made is same pushed =
     (Adds-one old shown (λ v. list_any (code_true v) all)
     (λ v. ap (any_true v) (is ∙ made) ∙ any_true-codes v second ∙ ap (list_any (code_true v)) two ∙ same
     (code_true v)))
+
+-- ---- the gates
+
+-- clauses that are added one after the other
+pub Adds-then : (old mid new : Cnf) (first second both : Assignment → Bool) → Adds old mid first →
+    Adds mid new second → ((v : Assignment) → (first v && second v) ≡ both v) → Adds old new both
+Adds-then old mid new first second both one two same = record {
+  variables = two.variables ∙ one.variables;
+  holds = λ v. two.holds v ∙ (ap (λ b. b && second v) (one.holds v)
+      ∙ (and_assoc (all_true v old.clauses) (first v) (second v)
+      ∙ ap (λ b. all_true v old.clauses && b) (same v)));
+}
+
+pub says_xor : (h a b : Bool) → ((h || (a || (b || false))) && (h || (not a || (not b || false))))
+    ≡ (h || bool_xor a b)
+says_xor true a b = refl
+says_xor false true true = refl
+says_xor false true false = refl
+says_xor false false true = refl
+says_xor false false false = refl
+
+pub says_mux : (h a b c : Bool) → ((h || (not a || (b || false))) && (h || (a || (c || false))))
+    ≡ (h || (if a then b else c))
+says_mux true a b c = refl
+says_mux false true true c = refl
+says_mux false true false c = refl
+says_mux false false b true = refl
+says_mux false false b false = refl
+
+pub says_majority : (h a b c : Bool) → (((h || (a || (b || false))) && (h || (a || (c || false))))
+    && (h || (b || (c || false)))) ≡ (h || bool_majority a b c)
+says_majority true a b c = refl
+says_majority false true true true = refl
+says_majority false true true false = refl
+says_majority false true false true = refl
+says_majority false true false false = refl
+says_majority false false true true = refl
+says_majority false false true false = refl
+says_majority false false false true = refl
+says_majority false false false false = refl
+
+module _ (variables : List ℕ) (old mid new : Cnf) (head : List Literal) (gate : Gate) where
+  pub gate_xor : (a b not_a not_b : Bit) → gate ≡ Xor a b → not_a ≡ opposite a → not_b ≡ opposite b
+      → Adds old mid (λ v. any_true v head || any_of (literal_value variables v) (a ∷ b ∷ []))
+      → Adds mid new (λ v. any_true v head || any_of (literal_value variables v) (not_a ∷ not_b ∷ []))
+      → Adds old new (λ v. any_true v head || gate_value (literal_value variables v) gate)
+  gate_xor a b not_a not_b is first_is second_is one two = Adds-then old mid new
+      (λ v. any_true v head || any_of (literal_value variables v) (a ∷ b ∷ []))
+      (λ v. any_true v head || any_of (literal_value variables v) (not_a ∷ not_b ∷ []))
+      (λ v. any_true v head || gate_value (literal_value variables v) gate) one two
+      (λ v.
+      let value : Bit → Bool = literal_value variables v in
+      let first = ap value first_is ∙ literal_value-opposite variables v a in
+      let second = ap value second_is ∙ literal_value-opposite variables v b in
+      (λ i. (any_true v head || (value a || (value b || false)))
+      && (any_true v head || (first i || (second i || false))))
+      ∙ (says_xor (any_true v head) (value a) (value b)
+      ∙ ap (λ g. any_true v head || gate_value value g) (sym is)))
+
+  pub gate_mux : (a b c not_a : Bit) → gate ≡ Mux a b c → not_a ≡ opposite a
+      → Adds old mid (λ v. any_true v head || any_of (literal_value variables v) (not_a ∷ b ∷ []))
+      → Adds mid new (λ v. any_true v head || any_of (literal_value variables v) (a ∷ c ∷ []))
+      → Adds old new (λ v. any_true v head || gate_value (literal_value variables v) gate)
+  gate_mux a b c not_a is first_is one two = Adds-then old mid new
+      (λ v. any_true v head || any_of (literal_value variables v) (not_a ∷ b ∷ []))
+      (λ v. any_true v head || any_of (literal_value variables v) (a ∷ c ∷ []))
+      (λ v. any_true v head || gate_value (literal_value variables v) gate) one two
+      (λ v.
+      let value : Bit → Bool = literal_value variables v in
+      let first = ap value first_is ∙ literal_value-opposite variables v a in
+      (λ i. (any_true v head || (first i || (value b || false)))
+      && (any_true v head || (value a || (value c || false))))
+      ∙ (says_mux (any_true v head) (value a) (value b) (value c)
+      ∙ ap (λ g. any_true v head || gate_value value g) (sym is)))
+
+  pub gate_majority : (last : Cnf) (a b c : Bit) → gate ≡ Majority a b c
+      → Adds old mid (λ v. any_true v head || any_of (literal_value variables v) (a ∷ b ∷ []))
+      → Adds mid new (λ v. any_true v head || any_of (literal_value variables v) (a ∷ c ∷ []))
+      → Adds new last (λ v. any_true v head || any_of (literal_value variables v) (b ∷ c ∷ []))
+      → Adds old last (λ v. any_true v head || gate_value (literal_value variables v) gate)
+  gate_majority last a b c is one two three =
+      let says : Bit → Bit → Assignment → Bool = λ x y v.
+      any_true v head || any_of (literal_value variables v) (x ∷ y ∷ []) in
+      Adds-then old new last (λ v. says a b v && says a c v) (says b c)
+      (λ v. any_true v head || gate_value (literal_value variables v) gate)
+      (Adds-then old mid new (says a b) (says a c) (λ v. says a b v && says a c v) one two (λ v. refl)) three
+      (λ v.
+      let value : Bit → Bool = literal_value variables v in
+      says_majority (any_true v head) (value a) (value b) (value c)
+      ∙ ap (λ g. any_true v head || gate_value value g) (sym is))

@@ -1,5 +1,6 @@
 pub mod Ordered
 pub mod Adding
+pub mod Mapped
 pub mod Needs
 pub mod Monotone
 pub mod Telling

@@ -130,6 +130,15 @@ IsPassedOn-more number k old new node le more passed = step (use_at old k) (use_
 
 -- ---- bits that are asked for
 
+-- nothing is asked of no bits
+pub Asks-none : (uses : List Use) → Asks [] uses uses
+Asks-none uses = record {
+  size = refl;
+  keeps = λ number negated asked. asked;
+  only = λ number negated asked. inl asked;
+  all_asked = λ k bit within. absurd (omega (arith, within));
+}
+
 pub Asks-more : (bits : List Bit) (i : ℕ) (bit : Bit) (old middle new : List Use) → i < length bits →
     bit ≡ get_or bits i bit →
     Asks (take i bits) old middle → Asks (bit ∷ []) middle new → Asks (take (i + 1) bits) old new

@@ -5,7 +5,7 @@ ghost use Rattle.ba_commands.specs.Modes.{usage_of};
 ghost use Rattle.ba_commands.specs.Words.{mode_of};
 
 /// A mode of the program.
-#[derive(Clone, Copy, Debug, PartialEq, Eq)]
+#[derive(Clone, Copy)]
 pub enum Mode {
     /// Find the least sets of statements whose change could repair the run.
     Localise,

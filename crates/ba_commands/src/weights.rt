@@ -52,7 +52,7 @@ impl<T: Drop> From<AllocFailed<T>> for WeightsError {
 }
 
 /// What the weights say of the statements of a line.
-#[derive(Clone, Copy, Debug, PartialEq, Eq)]
+#[derive(Clone, Copy)]
 pub enum LineWeight {
     /// They may not be relaxed.
     Fixed,
@@ -61,7 +61,7 @@ pub enum LineWeight {
 }
 
 /// What a line of the weights is.
-#[derive(Clone, Copy, Debug, PartialEq, Eq)]
+#[derive(Clone, Copy)]
 pub enum LineContent {
     /// A blank line or a comment.
     Skipped,

@@ -17,7 +17,7 @@ use ba_tree::tree::{Arg, Expr, Parts};
 use std::alloc::{AllocError, Global};
 
 /// What is kept of an expression: its type, its height up to 101, and whether it meets the constraints.
-#[derive(Clone, Copy, Debug, PartialEq, Eq)]
+#[derive(Clone, Copy)]
 pub struct ExprSummary {
     pub t: CType,
     pub height: u32,
@@ -25,7 +25,7 @@ pub struct ExprSummary {
 }
 
 /// What is kept of an argument: whether it gives an array, and what is kept of it as an expression.
-#[derive(Clone, Copy, Debug, PartialEq, Eq)]
+#[derive(Clone, Copy)]
 pub struct ArgSummary {
     pub is_array: bool,
     pub given: ExprSummary,

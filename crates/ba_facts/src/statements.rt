@@ -22,7 +22,7 @@ use std::alloc::{AllocError, Global};
 /// What is kept of a statement: how deep statements nest in it, up to 102; the variable that it initialises, where it is an
 /// initialiser; whether it may stand in the head of a `for`; whether a `break` or `continue` in it belongs to a loop around it; and
 /// whether it meets the constraints.
-#[derive(Clone, Copy, Debug, PartialEq, Eq)]
+#[derive(Clone, Copy)]
 pub struct StmtSummary {
     pub depth: u32,
     pub initialises: Option<VarId>,
@@ -32,7 +32,7 @@ pub struct StmtSummary {
 }
 
 /// What is kept of statements in a row.
-#[derive(Clone, Copy, Debug, PartialEq, Eq)]
+#[derive(Clone, Copy)]
 pub struct RowSummary {
     pub depth: u32,
     pub are_simple: bool,

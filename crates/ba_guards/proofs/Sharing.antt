@@ -1,6 +1,6 @@
 -- Expressions: which are equal, what they have in a list, and the table of their numbers.
 use Rattle.std.proofs.Common.{rules, ◌≡◌, ℕ, zero, suc, ◌<◌, ℤ, pos, Bool, true, false, ◌&&◌, cond, Option, Some, List, [], ◌∷◌, ◌++◌, length, get_or, take, drop, slice_get, eqb, inl, inr, refl, sym, ◌∙◌, ap, subst, arith}
-use Rattle.std.proofs.lemmas.Bool.{and_parts, eqb-true}
+use Rattle.std.proofs.lemmas.Bool.{and_parts, eqb-true, false≢true}
 use Rattle.std.proofs.lemmas.Bool.Decides.{Decides-int_eq}
 use Rattle.std.proofs.lemmas.List.{get_or_at, length-take-le, length_push, take-append-drop}
 use Rattle.std.proofs.lemmas.Option.{slice_get_within, slice_get-get_or}
@@ -76,7 +76,7 @@ same-expression (Read a x) (Read a' x') h =
     let array : a ≡ a' = eqb-true a a' all.0 in
     let index : x ≡ x' = eqb-true x x' all.1 in
     λ i. Read (array i) (index i)
-same-expression e f h = absurd (cc)
+same-expression e f h = absurd (false≢true h)
 
 -- WHAT AN EXPRESSION HAS
 

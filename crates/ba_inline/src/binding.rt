@@ -13,7 +13,7 @@ ghost use Rattle.ba_tree.specs.Run.{begin_all, begin_frame, begin_shape, bind_al
 ghost use Rattle.ba_tree.specs.State.{State};
 
 use crate::declared::Declared;
-use crate::emit::{add_fill, add_set};
+use crate::emit::add;
 use crate::expressions::variable_of;
 use crate::frames::{Given, Setting};
 use crate::scope::Scope;
@@ -51,7 +51,13 @@ fn bind_one(
     match (given, variable.shape) {
         (Given::Value(value), Shape::Value) => {
             let number = declared.variable(variable.t)?;
-            add_set(out, number, value)?;
+            add(
+                out,
+                Node::Set {
+                    to: number,
+                    from: value,
+                },
+            )?;
             scope.set_value(param, number);
             Ok(())
         }
@@ -84,12 +90,24 @@ fn begin_one(
     match variable.shape {
         Shape::Value => {
             let number = declared.variable(variable.t)?;
-            add_set(out, number, Operand::Const(0))?;
+            add(
+                out,
+                Node::Set {
+                    to: number,
+                    from: Operand::Const(0),
+                },
+            )?;
             scope.set_value(var, number);
         }
         Shape::Array(len) => {
             let number = declared.array(ArrayInfo { len, t: variable.t })?;
-            add_fill(out, number, zeros(setting.alloc, len)?)?;
+            add(
+                out,
+                Node::Fill {
+                    array: number,
+                    values: zeros(setting.alloc, len)?,
+                },
+            )?;
             let location = scope.add_array(number)?;
             scope.set_location(var, location);
         }

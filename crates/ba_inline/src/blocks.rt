@@ -6,7 +6,7 @@ ghost use Rattle.ba_inline.specs.Adding.{block_act, if_act};
 ghost use Rattle.ba_inline.specs.Leaving.{AreSameBlock, EndsInReturn, never_leaves, none_leaves};
 ghost use Rattle.ba_inline.specs.Making.{Adds, return_label};
 
-use crate::emit::{add_block, add_if, add_leave};
+use crate::emit::add;
 use crate::frames::RETURNED;
 use ba_code::nodes::{Node, Operand};
 use std::alloc::AllocError;
@@ -85,7 +85,13 @@ pub fn add_body(out: &mut Vec<Node>, body: Vec<Node>) -> Result<(), AllocError>
 {
     let mut nodes = without_last_return(body);
     if !none_leaves(RETURNED, nodes.as_slice()) {
-        return add_block(out, RETURNED, nodes);
+        return add(
+            out,
+            Node::Block {
+                label: RETURNED,
+                body: nodes,
+            },
+        );
     }
     out.append(&mut nodes)?;
     Ok(())
@@ -101,10 +107,10 @@ pub fn add_branches(
     ensures { OnOk result (Adds out.old.items out.new.items (if_act when yes.items no.items)) }
 {
     if !ends_in_return(yes.as_slice()) || !ends_in_return(no.as_slice()) {
-        return add_if(out, when, yes, no);
+        return add(out, Node::If { when, yes, no });
     }
     yes.pop();
     no.pop();
-    add_if(out, when, yes, no)?;
-    add_leave(out, RETURNED)
+    add(out, Node::If { when, yes, no })?;
+    add(out, Node::Leave { label: RETURNED })
 }

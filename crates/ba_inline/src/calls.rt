@@ -12,7 +12,7 @@ use crate::binding::begin_frame;
 use crate::blocks::add_body;
 use crate::control::statements;
 use crate::declared::Declared;
-use crate::emit::{add_beyond, add_pick, add_set};
+use crate::emit::{add, add_pick};
 use crate::expressions::{any_arg_has_call, arg_has_call, has_call};
 use crate::frames::{Exits, Frame, Given, Setting, Wanted, take_of};
 use crate::leaves::{extended, function_of};
@@ -134,7 +134,7 @@ fn invoke(
         operand declared.old declared.new out.old.items out.new.items) }
 {
     if frame.frames == 0 {
-        add_beyond(out, here)?;
+        add(out, Node::Beyond { stmt: here })?;
         return Ok(Operand::Const(0));
     }
     let Some(function) = function_of(setting.program, function) else {
@@ -142,7 +142,13 @@ fn invoke(
     };
     let inner = begin_frame(setting, scope, declared, out, function, given)?;
     let home = declared.variable(function.result.unwrap_or(CType::I32))?;
-    add_set(out, home, Operand::Const(0))?;
+    add(
+        out,
+        Node::Set {
+            to: home,
+            from: Operand::Const(0),
+        },
+    )?;
     let inside = Frame {
         home,
         exits: Exits {

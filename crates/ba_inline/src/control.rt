@@ -9,7 +9,7 @@ ghost use Rattle.ba_inline.specs.Repeating.{parts_of};
 use crate::blocks::add_branches;
 use crate::calls::{call_statement, given_to};
 use crate::declared::Declared;
-use crate::emit::{add_assert, add_block, add_leave, add_loop, add_set};
+use crate::emit::add;
 use crate::frames::{
     BROKEN, CONTINUED, Frame, RETURNED, Setting, Wanted, break_label, continue_label, in_body,
     in_step,
@@ -126,8 +126,18 @@ fn statement(
             };
             repeat(setting, scope, frame, path, declared, out, &parts)
         }
-        Stmt::Break => add_leave(out, break_label(frame.exits)),
-        Stmt::Continue => add_leave(out, continue_label(frame.exits)),
+        Stmt::Break => add(
+            out,
+            Node::Leave {
+                label: break_label(frame.exits),
+            },
+        ),
+        Stmt::Continue => add(
+            out,
+            Node::Leave {
+                label: continue_label(frame.exits),
+            },
+        ),
         Stmt::Return { stmt, value } => {
             let t = frame.result.unwrap_or(CType::I32);
             given_to(
@@ -142,11 +152,17 @@ fn statement(
                 out,
                 value,
             )?;
-            add_leave(out, RETURNED)
+            add(out, Node::Leave { label: RETURNED })
         }
         Stmt::ReturnNone => {
-            add_set(out, frame.home, Operand::Const(0))?;
-            add_leave(out, RETURNED)
+            add(
+                out,
+                Node::Set {
+                    to: frame.home,
+                    from: Operand::Const(0),
+                },
+            )?;
+            add(out, Node::Leave { label: RETURNED })
         }
         Stmt::CallStmt {
             stmt,
@@ -177,7 +193,13 @@ fn statement(
         ),
         Stmt::Assert { stmt, when } => {
             let value = expression(setting, scope, frame, path, *stmt, declared, out, when)?;
-            add_assert(out, value, *stmt)
+            add(
+                out,
+                Node::Assert {
+                    when: value,
+                    stmt: *stmt,
+                },
+            )
         }
     }
 }
@@ -278,7 +300,13 @@ fn repeat(
         parts.body,
     )?;
     let mut turn = Vec::new(setting.alloc);
-    add_block(&mut turn, CONTINUED, body)?;
+    add(
+        &mut turn,
+        Node::Block {
+            label: CONTINUED,
+            body,
+        },
+    )?;
     let mut step = Vec::new(setting.alloc);
     statements(
         setting,
@@ -290,14 +318,22 @@ fn repeat(
         parts.step,
     )?;
     let mut whole = Vec::new(setting.alloc);
-    add_loop(
+    add(
         &mut whole,
-        parts.after,
-        head,
-        Operand::Var(to),
-        turn,
-        step,
-        parts.stmt,
+        Node::Loop {
+            after: parts.after,
+            head,
+            when: Operand::Var(to),
+            body: turn,
+            step,
+            stmt: parts.stmt,
+        },
     )?;
-    add_block(out, BROKEN, whole)
+    add(
+        out,
+        Node::Block {
+            label: BROKEN,
+            body: whole,
+        },
+    )
 }

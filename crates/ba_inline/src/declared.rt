@@ -27,7 +27,7 @@ impl Model for Declared {
 }
 
 /// How many variables and arrays are declared.
-#[derive(Clone, Copy, Debug, PartialEq, Eq)]
+#[derive(Clone, Copy)]
 pub struct Counts {
     pub vars: usize,
     pub arrays: usize,

@@ -17,7 +17,7 @@ pub struct Setting<'a> {
 }
 
 /// Which loop around a statement a `break` leaves, if any, and whether there is one with which a `continue` goes on.
-#[derive(Clone, Copy, Debug, PartialEq, Eq)]
+#[derive(Clone, Copy)]
 pub struct Exits {
     pub breaks: bool,
     pub continues: bool,
@@ -34,14 +34,14 @@ pub struct Frame {
 }
 
 /// What a call gives to a parameter: a value, or the location of an array.
-#[derive(Clone, Copy, Debug, PartialEq, Eq)]
+#[derive(Clone, Copy)]
 pub enum Given {
     Value(Operand),
     Array(u32),
 }
 
 /// What has to stand in place of an expression: a value of a type, or the value of a condition.
-#[derive(Clone, Copy, Debug, PartialEq, Eq)]
+#[derive(Clone, Copy)]
 pub enum Wanted {
     Value(CType),
     Truth,

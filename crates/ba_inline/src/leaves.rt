@@ -11,7 +11,7 @@ ghost use Rattle.ba_tree.specs.Run.{function_of};
 
 use crate::binding::zeros;
 use crate::declared::Declared;
-use crate::emit::{add_fill, add_set};
+use crate::emit::add;
 use crate::expressions::variable_of;
 use crate::frames::Setting;
 use crate::scope::Scope;
@@ -85,10 +85,22 @@ pub fn declare(
         declared.old declared.new out.old.items out.new.items) }
 {
     match variable_of(setting.program, var).shape {
-        Shape::Value => add_set(out, scope.variable(var)?, Operand::Const(0)),
+        Shape::Value => add(
+            out,
+            Node::Set {
+                to: scope.variable(var)?,
+                from: Operand::Const(0),
+            },
+        ),
         Shape::Array(len) => {
             let number = scope.array(var)?;
-            add_fill(out, number, zeros(setting.alloc, len)?)
+            add(
+                out,
+                Node::Fill {
+                    array: number,
+                    values: zeros(setting.alloc, len)?,
+                },
+            )
         }
         Shape::Passed => Ok(()),
     }

@@ -9,7 +9,7 @@ ghost use Rattle.ba_inline.specs.Parts.{given_part, truth_part, value_part, valu
 
 use crate::calls::{call_value, given_to};
 use crate::declared::Declared;
-use crate::emit::{add_binary, add_convert, add_if, add_load, add_set, add_unary};
+use crate::emit::add;
 use crate::expressions::{any_has_call, has_call, tested_in, type_of, variable_of};
 use crate::frames::{Frame, Setting, Wanted};
 use crate::scope::Scope;
@@ -45,13 +45,29 @@ pub fn expression(
             let number = scope.array(*array)?;
             let index = expression(setting, scope, frame, path, here, declared, out, index)?;
             let to = declared.variable(variable_of(setting.program, *array).t)?;
-            add_load(out, to, number, index, here)?;
+            add(
+                out,
+                Node::Load {
+                    to,
+                    array: number,
+                    index,
+                    stmt: here,
+                },
+            )?;
             Ok(Operand::Var(to))
         }
         Expr::Unary { op, t, a } => {
             let a = expression(setting, scope, frame, path, here, declared, out, a)?;
             let to = declared.variable(type_of_unary(*op, *t))?;
-            add_unary(out, to, *op, *t, a)?;
+            add(
+                out,
+                Node::Unary {
+                    to,
+                    op: *op,
+                    t: *t,
+                    a,
+                },
+            )?;
             Ok(Operand::Var(to))
         }
         Expr::Binary { op, t, a, b } => {
@@ -59,7 +75,17 @@ pub fn expression(
             let a = kept_expression(setting, scope, frame, path, here, declared, out, a, keep)?;
             let b = expression(setting, scope, frame, path, here, declared, out, b)?;
             let to = declared.variable(type_of_binary(*op, *t))?;
-            add_binary(out, to, *op, *t, a, b, here)?;
+            add(
+                out,
+                Node::Binary {
+                    to,
+                    op: *op,
+                    t: *t,
+                    a,
+                    b,
+                    stmt: here,
+                },
+            )?;
             Ok(Operand::Var(to))
         }
         Expr::AndAlso { a, b } => {
@@ -68,18 +94,30 @@ pub fn expression(
             let mut yes = Vec::new(setting.alloc);
             truth_to(setting, scope, frame, path, here, declared, &mut yes, b, to)?;
             let mut no = Vec::new(setting.alloc);
-            add_set(&mut no, to, Operand::Const(0))?;
-            add_if(out, a, yes, no)?;
+            add(
+                &mut no,
+                Node::Set {
+                    to,
+                    from: Operand::Const(0),
+                },
+            )?;
+            add(out, Node::If { when: a, yes, no })?;
             Ok(Operand::Var(to))
         }
         Expr::OrElse { a, b } => {
             let a = expression(setting, scope, frame, path, here, declared, out, a)?;
             let to = declared.variable(CType::I32)?;
             let mut yes = Vec::new(setting.alloc);
-            add_set(&mut yes, to, Operand::Const(1))?;
+            add(
+                &mut yes,
+                Node::Set {
+                    to,
+                    from: Operand::Const(1),
+                },
+            )?;
             let mut no = Vec::new(setting.alloc);
             truth_to(setting, scope, frame, path, here, declared, &mut no, b, to)?;
-            add_if(out, a, yes, no)?;
+            add(out, Node::If { when: a, yes, no })?;
             Ok(Operand::Var(to))
         }
         Expr::Select {
@@ -94,13 +132,13 @@ pub fn expression(
             expression_to(setting, scope, frame, path, here, declared, &mut yes, a, to)?;
             let mut no = Vec::new(setting.alloc);
             expression_to(setting, scope, frame, path, here, declared, &mut no, b, to)?;
-            add_if(out, when, yes, no)?;
+            add(out, Node::If { when, yes, no })?;
             Ok(Operand::Var(to))
         }
         Expr::Convert { t, a } => {
             let a = expression(setting, scope, frame, path, here, declared, out, a)?;
             let to = declared.variable(*t)?;
-            add_convert(out, to, *t, a)?;
+            add(out, Node::Convert { to, t: *t, a })?;
             Ok(Operand::Var(to))
         }
         Expr::Call {
@@ -148,7 +186,7 @@ pub fn kept_expression(
         Operand::Const(_) => Ok(operand),
         Operand::Var(_) => {
             let to = declared.variable(type_of(setting.program, expr))?;
-            add_set(out, to, operand)?;
+            add(out, Node::Set { to, from: operand })?;
             Ok(Operand::Var(to))
         }
     }
@@ -174,7 +212,7 @@ pub fn expression_to(
         declared.old declared.new out.old.items out.new.items) }
 {
     let operand = expression(setting, scope, frame, path, here, declared, out, expr)?;
-    add_set(out, to, operand)
+    add(out, Node::Set { to, from: operand })
 }
 
 /// The code that puts into a variable whether the value of an expression isn't 0.
@@ -199,8 +237,24 @@ fn truth_to(
     let operand = expression(setting, scope, frame, path, here, declared, out, expr)?;
     let between = declared.variable(CType::I32)?;
     let t = tested_in(type_of(setting.program, expr));
-    add_unary(out, between, UnOp::IsZero, t, operand)?;
-    add_unary(out, to, UnOp::IsZero, CType::I32, Operand::Var(between))
+    add(
+        out,
+        Node::Unary {
+            to: between,
+            op: UnOp::IsZero,
+            t,
+            a: operand,
+        },
+    )?;
+    add(
+        out,
+        Node::Unary {
+            to,
+            op: UnOp::IsZero,
+            t: CType::I32,
+            a: Operand::Var(between),
+        },
+    )
 }
 
 /// The code of values, from the left to the right, and the operands that have them behind it.

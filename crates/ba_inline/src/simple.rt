@@ -8,7 +8,7 @@ ghost use Rattle.ba_inline.specs.Parts.{assign_part, init_array_part, print_part
 
 use crate::calls::given_to;
 use crate::declared::Declared;
-use crate::emit::{add_fill, add_pick, add_save};
+use crate::emit::{add, add_pick};
 use crate::expressions::{has_call, variable_of};
 use crate::frames::{Frame, Setting, Wanted};
 use crate::leaves::{array_of, filled_up};
@@ -84,7 +84,15 @@ pub fn store(
     let value = expression(
         setting, scope, frame, path, stmt, declared, &mut keep, value,
     )?;
-    add_save(&mut keep, number, index, value, stmt)?;
+    add(
+        &mut keep,
+        Node::Save {
+            array: number,
+            index,
+            value,
+            stmt,
+        },
+    )?;
     add_pick(
         setting.alloc,
         out,
@@ -120,7 +128,13 @@ pub fn init_array(
         setting, scope, frame, path, stmt, declared, &mut keep, values,
     )?;
     let filled = filled_up(values, len)?;
-    add_fill(&mut keep, number, filled)?;
+    add(
+        &mut keep,
+        Node::Fill {
+            array: number,
+            values: filled,
+        },
+    )?;
     add_pick(
         setting.alloc,
         out,

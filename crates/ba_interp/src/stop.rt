@@ -4,7 +4,7 @@ use ba_tree::run::Halt;
 use std::alloc::{AllocError, AllocFailed};
 
 /// Why a part of a run gives no value.
-#[derive(Clone, Copy, Debug, PartialEq, Eq)]
+#[derive(Clone, Copy)]
 pub enum Stop {
     /// The run has ended.
     Halts(Halt),

@@ -13,11 +13,19 @@ use std::alloc::{AllocError, Global};
 use std::marker::Model;
 
 /// The macros defined so far, in their order: each name with its body. Contracts see the list of these pairs.
-#[derive(Drop)]
 pub struct Macros {
     bodies: IndexMap<Vec<u8>, Items<TokenKind>>,
     /// The names that stand in bodies.
     mentioned: IndexSet<Vec<u8>>,
+}
+
+impl Drop for Macros {
+    fn drop(self) {
+        let Macros {
+            bodies: _,
+            mentioned: _,
+        } = self;
+    }
 }
 
 impl Model for Macros {

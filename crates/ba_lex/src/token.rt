@@ -10,9 +10,15 @@ use std::rc::Rc;
 
 /// A name of the program. It owns its bytes, and its copies share them. Contracts see the list of the bytes and
 /// nothing else.
-#[derive(Debug, Drop)]
+#[derive(Debug)]
 pub struct Name {
     bytes: Rc<Vec<u8>>,
+}
+
+impl Drop for Name {
+    fn drop(self) {
+        let Name { bytes: _ } = self;
+    }
 }
 
 impl Model for Name {
@@ -201,7 +207,7 @@ pub enum Punct {
 }
 
 /// What a token is.
-#[derive(Debug, PartialEq, Eq, Drop)]
+#[derive(Debug, PartialEq, Eq)]
 pub enum TokenKind {
     /// A name, which is no keyword.
     Name(Name),
@@ -213,6 +219,18 @@ pub enum TokenKind {
     Quoted,
     /// A punctuator.
     Punct(Punct),
+}
+
+impl Drop for TokenKind {
+    fn drop(self) {
+        match self {
+            TokenKind::Name(_) => {}
+            TokenKind::Keyword(_) => {}
+            TokenKind::Constant { t: _, value: _ } => {}
+            TokenKind::Quoted => {}
+            TokenKind::Punct(_) => {}
+        }
+    }
 }
 
 impl TokenKind {
@@ -238,10 +256,16 @@ impl TokenKind {
 }
 
 /// A token, and the position of its first byte; one that comes from a macro has the position of the macro's use.
-#[derive(Debug, PartialEq, Eq, Drop)]
+#[derive(Debug, PartialEq, Eq)]
 pub struct Token {
     pub kind: TokenKind,
     pub at: At,
+}
+
+impl Drop for Token {
+    fn drop(self) {
+        let Token { kind: _, at: _ } = self;
+    }
 }
 
 impl Token {

@@ -2,7 +2,7 @@
 
 use Rattle.std.proofs.Common.{◌≡◌, ℕ, Bool, true, false, ◌&&◌, List, [], ◌∷◌, ◌++◌, get_or, Some, slice_get, position, if◌then◌else◌, inl, inr, refl, sym, ap, ◌∙◌, eqb, eq-eqb}
 use mathlib.Core.Bool.{beq}
-use Rattle.std.proofs.lemmas.Bool.{eqb-true}
+use Rattle.std.proofs.lemmas.Bool.{eqb-true, false≢true}
 use Rattle.std.specs.List.{list_any}
 use Rattle.std.proofs.lemmas.Map.Keys.{any_passes_from_place}
 use Rattle.std.proofs.lemmas.List.Quantifiers.{position-Some}
@@ -33,7 +33,7 @@ first_of_both false b holds = holds
 
 second_of_both : (a b : Bool) → (a && b) ≡ true → b ≡ true
 second_of_both true b holds = holds
-second_of_both false b holds = absurd (cc)
+second_of_both false b holds = absurd (false≢true holds)
 
 three : (a b c : Bool) → a ≡ true → b ≡ true → c ≡ true → (a && (b && c)) ≡ true
 three a b c first second third = both a (b && c) first (both b c second third)
@@ -88,7 +88,7 @@ eq_same (Majority a b c) (Majority x y z) equal =
     let second : b ≡ y = bit_same b y parts.1 in
     let third : c ≡ z = bit_same c z parts.2 in
     λ i. Majority (first i) (second i) (third i)
-eq_same one other equal = absurd (cc)
+eq_same one other equal = absurd (false≢true equal)
 
 -- ---- a set without the node
 

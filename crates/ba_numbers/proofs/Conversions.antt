@@ -76,12 +76,12 @@ rem_high : (m : ℕ) (z : ℤ) → 0 < m → int_rem_euclid z (pos m) <ℤ pos m
 rem_high m (pos a) positive = let below : a % m < m = mod_below a m positive in omega (arith, ints)
 rem_high m (negsuc a) positive = omega (arith, ints)
 
-centred_low : (half : ℕ) (z : ℤ) → neg_ℤ (pos half) ≤ℤ centred half z
+pub centred_low : (half : ℕ) (z : ℤ) → neg_ℤ (pos half) ≤ℤ centred half z
 centred_low half z =
     let low : pos 0 ≤ℤ int_rem_euclid (z +ℤ pos half) (pos (2 * half)) = rem_low (2 * half) (z +ℤ pos half) in
     omega (arith, ints)
 
-centred_high : (half : ℕ) (z : ℤ) → 0 < half → centred half z <ℤ pos half
+pub centred_high : (half : ℕ) (z : ℤ) → 0 < half → centred half z <ℤ pos half
 centred_high half z positive =
     let twice : 0 < 2 * half = omega arith in
     let high : int_rem_euclid (z +ℤ pos half) (pos (2 * half)) <ℤ pos (2 * half) =

@@ -1,6 +1,6 @@
 //! The whole numbers of C: types, operators and their values.
 
-ghost use Rattle.std.specs.Prelude.{◌≡◌, ℕ, ◌+◌, ◌*◌, ◌^◌, ◌<◌, ◌≤◌, ◌↔◌, ◌⊎◌, ℤ, pos, neg_ℤ, ◌-ℤ◌, ◌≤ℤ◌, ◌<ℤ◌, IsTrue, IsNone, IfSome, unsigned_abs};
+ghost use Rattle.std.specs.Prelude.{◌≡◌, ℕ, ◌+◌, ◌*◌, ◌^◌, ◌<◌, ◌≤◌, ◌↔◌, ◌⊎◌, ℤ, pos, neg_ℤ, ◌-ℤ◌, ◌*ℤ◌, ◌≤ℤ◌, ◌<ℤ◌, IsTrue, IsNone, IfSome, unsigned_abs};
 ghost use Rattle.std.specs.Int.{int_rem_euclid};
 ghost use Rattle.ba_numbers.specs.declared.numbers.CType.{CType};
 ghost use Rattle.ba_numbers.specs.declared.numbers.BinOp.{BinOp};
@@ -173,12 +173,12 @@ fn plain(op: BinOp, a: i64, b: i64) -> Option<i128>
     ensures small { IfSome result (λ value. unsigned_abs value ≤ 2 ^ 126) }
 {
     match op {
-        BinOp::Mul => Some(i128::from(a) * i128::from(b)),
+        BinOp::Mul => Some(product(a, b)),
         BinOp::Div => quotient(a, b),
         BinOp::Rem => remainder(a, b),
         BinOp::Add => Some(i128::from(a) + i128::from(b)),
         BinOp::Sub => Some(i128::from(a) - i128::from(b)),
-        BinOp::Shl => Some(i128::from(a) * i128::from(shift_factor(b))),
+        BinOp::Shl => Some(product(a, shift_factor(b))),
         BinOp::Shr => Some(i128::from(a.div_euclid(shift_factor(b)))),
         BinOp::And => Some(i128::from(low_word(a) & low_word(b))),
         BinOp::Xor => Some(i128::from(low_word(a) ^ low_word(b))),
@@ -190,6 +190,14 @@ fn plain(op: BinOp, a: i64, b: i64) -> Option<i128>
         BinOp::Eq => Some(i128::from(a == b)),
         BinOp::Ne => Some(i128::from(a != b)),
     }
+}
+
+/// The product of two numbers, which has room in 128 bits.
+fn product(a: i64, b: i64) -> i128
+    ensures value { result ≡ a *ℤ b }
+    ensures small { unsigned_abs result ≤ 2 ^ 126 }
+{
+    i128::from(a) * i128::from(b)
 }
 
 /// The quotient rounded towards zero, `None` for a zero divisor.

@@ -27,3 +27,4 @@ pub mod StatementForms
 pub mod Quiet
 pub mod Named
 pub mod ToldOutcomes
+pub mod Sequences

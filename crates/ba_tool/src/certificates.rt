@@ -32,7 +32,7 @@ use ba_world::{ReadFileError, World, WorldError};
 use std::alloc::{AllocError, Global};
 
 /// Why a certificate wasn't read to its end.
-#[derive(Clone, Copy, Debug, PartialEq, Eq)]
+#[derive(Clone, Copy)]
 pub enum Unfed {
     /// Its file can't be read, or is too long.
     Unread(ReadFileError),

@@ -15,7 +15,7 @@ use ba_types::{TypeError, check};
 use std::alloc::Global;
 
 /// What is wrong: the errors of the tokens, then those of their tree, then those of typing.
-#[derive(Clone, Copy, Debug, PartialEq, Eq)]
+#[derive(Clone, Copy)]
 pub enum Cause {
     BadByte,
     BadToken,
@@ -39,7 +39,7 @@ pub enum Cause {
 
 /// What is wrong with the text of a program, and where: at no place where more had to follow the
 /// last token, and where there is no `main`.
-#[derive(Clone, Copy, Debug, PartialEq, Eq)]
+#[derive(Clone, Copy)]
 pub struct Fault {
     pub cause: Cause,
     pub at: Option<At>,

@@ -13,7 +13,7 @@ use ba_world::{ReadFileError, World, read_whole};
 use std::alloc::Global;
 
 /// A file that the words name.
-#[derive(Clone, Copy, Debug, PartialEq, Eq)]
+#[derive(Clone, Copy)]
 pub enum File {
     Program,
     Input,
@@ -58,7 +58,7 @@ const LIMIT: u64 = 65536;
 pub const CERTIFICATE_LIMIT: u64 = 4_611_686_018_427_387_904;
 
 /// Why the files of a job weren't read: which of them wasn't, and why.
-#[derive(Clone, Copy, Debug, PartialEq, Eq)]
+#[derive(Clone, Copy)]
 pub struct Unread {
     pub file: File,
     pub error: ReadFileError,

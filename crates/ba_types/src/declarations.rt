@@ -24,14 +24,14 @@ use ba_tree::tree::{Expr, Shape, Stmt, StmtKind, Variable};
 use std::alloc::{AllocError, Global};
 
 /// The length of an array: how many elements, `None` where it is bad, and whether it is written.
-#[derive(Clone, Copy, Debug, PartialEq, Eq)]
+#[derive(Clone, Copy)]
 pub struct Length {
     pub count: Option<u32>,
     pub is_written: bool,
 }
 
 /// A variable that is declared: the position of its name, its number and its type, and its length if it is an array.
-#[derive(Clone, Copy, Debug, PartialEq, Eq)]
+#[derive(Clone, Copy)]
 pub struct Declared {
     pub at: At,
     pub var: VarId,

@@ -47,7 +47,7 @@ pub struct JudgedCall {
 }
 
 /// What an operator has from its operands: the greatest height of one, and whether all are constant.
-#[derive(Clone, Copy, Debug, PartialEq, Eq)]
+#[derive(Clone, Copy)]
 pub struct Operands {
     pub tallest: u32,
     pub are_constant: bool,

@@ -10,7 +10,7 @@ use ba_numbers::numbers::{BinOp, CType, UnOp};
 use ba_parse::tree::expressions::TypeName;
 
 /// A binary operator: one with a value of two operands, or one whose left operand may decide alone.
-#[derive(Clone, Copy, Debug, PartialEq, Eq)]
+#[derive(Clone, Copy)]
 pub enum Operator {
     Value(BinOp),
     AndAlso,
@@ -18,7 +18,7 @@ pub enum Operator {
 }
 
 /// A jump without a value (C90 6.6.6).
-#[derive(Clone, Copy, Debug, PartialEq, Eq)]
+#[derive(Clone, Copy)]
 pub enum Jump {
     Break,
     Continue,

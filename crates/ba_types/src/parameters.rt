@@ -29,7 +29,7 @@ use std::alloc::{AllocError, Global};
 const PARAMETER_LIMIT: u32 = 32;
 
 /// Whose parameter it is: whether of `main`, whether of a definition, and the position of the function's name.
-#[derive(Clone, Copy, Debug, PartialEq, Eq)]
+#[derive(Clone, Copy)]
 pub struct Owner {
     pub is_main: bool,
     pub is_defined: bool,

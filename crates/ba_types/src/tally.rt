@@ -13,7 +13,7 @@ use std::alloc::AllocError;
 pub(crate) const HEIGHT_LIMIT: u32 = 100;
 
 /// How many calls stand before, and the least fault so far.
-#[derive(Clone, Copy, Debug, PartialEq, Eq)]
+#[derive(Clone, Copy)]
 pub struct Tally {
     pub calls: u32,
     pub least: Option<Fault>,

@@ -6,7 +6,7 @@ use std::marker::Model;
 
 /// A name of the program: bytes that stand in its tree, and take no memory of their own. Contracts see the list of
 /// the bytes and nothing else.
-#[derive(Debug, Drop)]
+#[derive(Drop)]
 pub struct Text<'a> {
     bytes: &'a [u8],
 }

@@ -16,7 +16,7 @@ use ba_numbers::ids::{At, FnId, VarId};
 use ba_numbers::numbers::CType;
 
 /// How a call is used: as a value or as a statement, and the position of the name that is called.
-#[derive(Clone, Copy, Debug, PartialEq, Eq)]
+#[derive(Clone, Copy)]
 pub struct CallUse {
     pub as_value: bool,
     pub at: At,

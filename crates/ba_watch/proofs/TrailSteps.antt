@@ -1,9 +1,9 @@
 -- A literal that is put on the trail, or taken off.
 
-use Rattle.std.proofs.Common.{◌≡◌, ◌≢◌, ℕ, suc, zero, ◌+◌, ◌-◌, ◌<◌, ◌≤◌, Bool, true, false, not, Option, None, Some, is_some, List, [], ◌∷◌, ◌++◌, length, get_or, set, take, replicate, eqb, ltb, cond, refl, sym, ap, subst, ◌∙◌, arith, ⊎_elim, get_or-set_same, get_or-set_other}
+use Rattle.std.proofs.Common.{append-nil, ◌≡◌, ◌≢◌, ℕ, suc, zero, ◌+◌, ◌-◌, ◌<◌, ◌≤◌, Bool, true, false, not, Option, None, Some, is_some, List, [], ◌∷◌, ◌++◌, length, get_or, set, take, replicate, eqb, ltb, cond, refl, sym, ap, subst, ◌∙◌, arith, ⊎_elim, get_or-set_same, get_or-set_other}
 use Rattle.std.specs.List.{count_by}
 use Rattle.std.proofs.lemmas.Bool.{cases_eq, cases_lt}
-use Rattle.std.proofs.lemmas.List.{length-set, length-take-le, length-append, length_push, take_more_set, take_more, take-take, take-append-le, take_at, take_all, get_or_append_left, get_or_push, get_or-take, get_or_past, get_or_read, get_or-replicate, length-replicate}
+use Rattle.std.proofs.lemmas.List.{length-set, length-take-le, length-append, length_push, take_more_set, take_more, take-take, take-append-le, take_at, take_all, length-take, get_or_append_left, get_or_push, get_or-take, get_or_past, get_or_read, get_or-replicate, length-replicate}
 use Rattle.std.proofs.lemmas.Bool.Decides.{nat_tests}
 use Rattle.std.proofs.lemmas.List.Sums.{sum_by-set, sum_by-append, count_by-le-length}
 use Rattle.ba_lits.specs.Literals.{Literal, lit_at, no_literal}
@@ -342,6 +342,37 @@ grown variables variables' lits lits' reasons reasons' levels levels' n level va
           ∙ value_of-outside variables (take n lits) l h.trail.within above))
           (cases_lt l.variable (variables + 1));
     }
+
+-- the whole of a list is its front
+pub whole : {X : Type 0} (xs : List X) → take (length xs) xs ≡ xs
+whole xs = take_all (length xs) xs (omega arith)
+
+front_fits : {X : Type 0} (n : ℕ) (xs ys : List X) → take (length xs) ys ≡ xs → n ≤ length xs → n ≤ length ys
+front_fits n xs ys front le = omega (arith, ap length front, length-take (length xs) ys)
+
+none_more : (n : ℕ) (values : List (Option Bool)) → length values ≡ n →
+    values ≡ take n values ++ replicate (n - length values) None
+none_more n values e =
+    let none : n - length values ≡ 0 = omega arith in
+    sym (ap (λ k. take n values ++ replicate k None) none ∙ (append-nil (take n values)
+    ∙ take_all n values (omega arith)))
+
+-- lists that begin with those of a trail hold it too
+pub filled : (variables : ℕ) (lits lits' : List Literal) (reasons reasons' : List (Option ℕ))
+    (levels levels' : List ℕ) (n level : ℕ) (values values' : List (Option Bool)) (places places' : List ℕ)
+    → Holds variables lits reasons levels n level values places
+    → take (length lits) lits' ≡ lits → take (length reasons) reasons' ≡ reasons →
+    take (length levels) levels' ≡ levels → take (length places) places' ≡ places → values' ≡ values
+    → Holds variables lits' reasons' levels' n level values' places'
+filled variables lits lits' reasons reasons' levels levels' n level values values' places places' h lits_front
+    reasons_front levels_front places_front same =
+    grown variables variables lits lits' reasons reasons' levels levels' n level values values' places places'
+    true (length values) None h (omega arith) refl refl refl lits_front reasons_front levels_front
+    places_front (front_fits variables lits lits' lits_front h.lits_room)
+    (front_fits variables reasons reasons' reasons_front h.reasons_room)
+    (front_fits variables levels levels' levels_front h.levels_room)
+    (front_fits variables places places' places_front h.places_room)
+    (same ∙ none_more variables values h.values_room)
 
 -- the same, of what contracts see
 module _ (variables : ℕ) (lits : List Literal) (reasons : List (Option ℕ)) (levels : List ℕ) (n level : ℕ)

@@ -43,21 +43,36 @@ fn report_on<R: AllocGlobal + Print>(rt: &R, instance: Instance) -> Result<()> {
     Ok(())
 }
 
-/// Does what the words of the call ask for.
-fn run<R: Env + AllocGlobal + Print>(rt: &R) -> Result<()> {
+/// Solves the small formulas, and reports on each.
+fn report_on_small<R: AllocGlobal + Print>(rt: &R) -> Result<()> {
+    for instance in SMALL {
+        report_on(rt, instance)?;
+    }
+    Ok(())
+}
+
+/// Prints a formula.
+fn print<R: AllocGlobal + Print>(rt: &R, instance: Instance) -> Result<()> {
+    let formula = instance.formula(rt.alloc())?;
+    print_formula(rt, &formula)?;
+    Ok(())
+}
+
+/// The task that the words of the call ask for.
+fn asked<R: Env + AllocGlobal>(rt: &R) -> Result<Task> {
     let alloc = rt.alloc();
     let words = without_name(alloc, env::args(rt)?.collect(alloc)?)?;
     let texts = texts(alloc, words.as_slice())?;
-    match task_of(texts.as_slice()).context("the words name no formula")? {
-        Task::SolveSmall => {
-            for instance in SMALL {
-                report_on(rt, instance)?;
-            }
-        }
-        Task::Solve(instance) => report_on(rt, instance)?,
-        Task::Print(instance) => print_formula(rt, &instance.formula(alloc)?)?,
+    task_of(texts.as_slice()).context("the words name no formula")
+}
+
+/// Does what the words of the call ask for.
+fn run<R: Env + AllocGlobal + Print>(rt: &R) -> Result<()> {
+    match asked(rt)? {
+        Task::SolveSmall => report_on_small(rt),
+        Task::Solve(instance) => report_on(rt, instance),
+        Task::Print(instance) => print(rt, instance),
     }
-    Ok(())
 }
 
 fn main(rt: HostRuntime) -> Result<()> {

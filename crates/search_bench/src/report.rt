@@ -3,7 +3,7 @@
 use std::fmt;
 
 /// What a search comes to, and how that was tried.
-#[derive(Clone, Copy, Debug, PartialEq, Eq, Drop)]
+#[derive(Clone, Copy, Drop)]
 pub enum Verdict {
     /// There is a model, which satisfies each clause of the formula or doesn't.
     Satisfiable { holds: bool },
@@ -28,7 +28,7 @@ impl fmt::Display for Verdict {
 }
 
 /// A verdict with the work that it took.
-#[derive(Clone, Copy, Debug, PartialEq, Eq, Drop)]
+#[derive(Clone, Copy, Drop)]
 pub struct Report {
     pub verdict: Verdict,
     pub conflicts: u64,

@@ -2,6 +2,7 @@ use Rattle.std.proofs.Common.{rules, true, false, ◌≡◌, ◌+◌, ◌-◌, �
 use Rattle.std.proofs.lemmas.List.{take_all}
 use Rattle.std.specs.List.{list_any}
 use Rattle.ba_code.specs.declared.nodes.Operand.TheVariants.{Const, Var}
+use Rattle.ba_inline.proofs.Adding.{adds-assert, adds-beyond, adds-binary, adds-block, adds-convert, adds-fill, adds-if, adds-leave, adds-load, adds-loop, adds-save, adds-set, adds-unary}
 use Rattle.ba_inline.proofs.Arms.{adds-old, argument-array, argument-value, call-made, if-made, init-made, invoke-made, loop-made, makes-high, makes-old, scope-var, store-made, to-low, value-called, value-high}
 use Rattle.ba_inline.proofs.Branches.{adds-then, makes-and, makes-copy, makes-or, makes-select, makes-to, makes-truth}
 use Rattle.ba_inline.proofs.Effects.{makes-call_stmt, makes-print}
@@ -59,9 +60,9 @@ operands::expression-returns-in-Var t c = λ scope.
     makes-variable p names path frame here e low old c.in-Var.var c.value.result c.in-Var.is
     c.value.ensures scope.naming
 
-pub operands::expression-returns-in_ok-add_load-in-Element :
-    goal.operands::expression-returns-in_ok-add_load-in-Element
-operands::expression-returns-in_ok-add_load-in-Element t c = λ scope.
+pub operands::expression-returns-in_ok-add-in-Element :
+    goal.operands::expression-returns-in_ok-add-in-Element
+operands::expression-returns-in_ok-add-in-Element t c = λ scope.
     let p = c.args.setting.now.program.now in
     let names = c.args.scope.now in
     let path = c.args.path.now in
@@ -73,16 +74,16 @@ operands::expression-returns-in_ok-add_load-in-Element t c = λ scope.
     value-high c.in_ok-to-in-Element.ensures.1
     (makes-element p names path frame here e c.deref.result.now low c.expression.new.declared old
     c.expression.new.out.items
-    c.add_load.new.out.items c.in_ok-index-in-Element.index c.in_ok-to-in-Element.to c.variable_of.result.t
+    c.add.new.out.items c.in_ok-index-in-Element.index c.in_ok-to-in-Element.to c.variable_of.result.t
     false scope.naming
     (c.in_ok-index-in-Element.ensures scope) c.in_ok-to-in-Element.ensures.0 c.in-Element.array
     c.in_ok-number-in-Element.number c.in-Element.index c.in-Element.is c.deref.ensures
     c.in_ok-number-in-Element.ensures
-    c.in_ok-add_load-in-Element.ensures)
+    (adds-load _ _ _ _ _ _ c.in_ok-add-in-Element.ensures))
 
-pub operands::expression-returns-in_ok-add_unary-in-Unary :
-    goal.operands::expression-returns-in_ok-add_unary-in-Unary
-operands::expression-returns-in_ok-add_unary-in-Unary t c = λ scope.
+pub operands::expression-returns-in_ok-add-in-Unary :
+    goal.operands::expression-returns-in_ok-add-in-Unary
+operands::expression-returns-in_ok-add-in-Unary t c = λ scope.
     let p = c.args.setting.now.program.now in
     let names = c.args.scope.now in
     let path = c.args.path.now in
@@ -94,14 +95,15 @@ operands::expression-returns-in_ok-add_unary-in-Unary t c = λ scope.
     value-high c.in_ok-to-in-Unary.ensures.1
     (makes-unary p names path frame here e c.deref-in-Unary.result.now low
     c.expression-in-Unary.new.declared old
-    c.expression-in-Unary.new.out.items c.add_unary.new.out.items c.in_ok-a-in-Unary.a c.in_ok-to-in-Unary.to
+    c.expression-in-Unary.new.out.items c.add-in-Unary.new.out.items c.in_ok-a-in-Unary.a
+    c.in_ok-to-in-Unary.to
     c.type_of_unary.result false scope.naming (c.in_ok-a-in-Unary.ensures scope) c.in_ok-to-in-Unary.ensures.0
     c.in-Unary.op c.in-Unary.t c.in-Unary.a c.in-Unary.is c.deref-in-Unary.ensures
-    c.in_ok-add_unary-in-Unary.ensures)
+    (adds-unary _ _ _ _ _ _ c.in_ok-add-in-Unary.ensures))
 
-pub operands::expression-returns-in_ok-add_convert-in-Convert :
-    goal.operands::expression-returns-in_ok-add_convert-in-Convert
-operands::expression-returns-in_ok-add_convert-in-Convert t c = λ scope.
+pub operands::expression-returns-in_ok-add-in-Convert :
+    goal.operands::expression-returns-in_ok-add-in-Convert
+operands::expression-returns-in_ok-add-in-Convert t c = λ scope.
     let p = c.args.setting.now.program.now in
     let names = c.args.scope.now in
     let path = c.args.path.now in
@@ -113,15 +115,15 @@ operands::expression-returns-in_ok-add_convert-in-Convert t c = λ scope.
     value-high c.in_ok-to-in-Convert.ensures.1
     (makes-convert p names path frame here e c.deref-in-Convert.result.now low
     c.expression-in-Convert.new.declared old
-    c.expression-in-Convert.new.out.items c.add_convert.new.out.items c.in_ok-a-in-Convert.a
+    c.expression-in-Convert.new.out.items c.add-in-Convert.new.out.items c.in_ok-a-in-Convert.a
     c.in_ok-to-in-Convert.to
     c.in-Convert.t false scope.naming (c.in_ok-a-in-Convert.ensures scope) c.in_ok-to-in-Convert.ensures.0
     c.in-Convert.t c.in-Convert.a c.in-Convert.is c.deref-in-Convert.ensures
-    c.in_ok-add_convert-in-Convert.ensures)
+    (adds-convert _ _ _ _ _ c.in_ok-add-in-Convert.ensures))
 
-pub operands::expression-returns-in_ok-add_binary-in-Binary :
-    goal.operands::expression-returns-in_ok-add_binary-in-Binary
-operands::expression-returns-in_ok-add_binary-in-Binary t c = λ scope.
+pub operands::expression-returns-in_ok-add-in-Binary :
+    goal.operands::expression-returns-in_ok-add-in-Binary
+operands::expression-returns-in_ok-add-in-Binary t c = λ scope.
     let p = c.args.setting.now.program.now in
     let names = c.args.scope.now in
     let path = c.args.path.now in
@@ -142,16 +144,17 @@ operands::expression-returns-in_ok-add_binary-in-Binary t c = λ scope.
     (c.in_ok-a-in-Binary.ensures scope) in
     value-high c.in_ok-to-in-Binary.ensures.1
     (makes-binary p names path frame here e x y low mid c.expression-in-Binary.new.declared old out
-    c.expression-in-Binary.new.out.items c.add_binary.new.out.items a c.in_ok-b-in-Binary.b
+    c.expression-in-Binary.new.out.items c.add-in-Binary.new.out.items a c.in_ok-b-in-Binary.b
     c.in_ok-to-in-Binary.to
     c.type_of_binary.result scope.naming first
     (c.in_ok-b-in-Binary.ensures (scope-later p names low mid first.makes.grows scope))
     c.in_ok-to-in-Binary.ensures.0 c.in-Binary.op c.in-Binary.t c.in-Binary.a c.in-Binary.b c.in-Binary.is
-    c.deref-in-Binary-2.ensures c.deref-in-Binary-3.ensures c.in_ok-add_binary-in-Binary.ensures)
+    c.deref-in-Binary-2.ensures c.deref-in-Binary-3.ensures (adds-binary _ _ _ _ _ _ _ _
+    c.in_ok-add-in-Binary.ensures))
 
-pub operands::expression-returns-in_ok-add_if-in-AndAlso :
-    goal.operands::expression-returns-in_ok-add_if-in-AndAlso
-operands::expression-returns-in_ok-add_if-in-AndAlso t c = λ scope.
+pub operands::expression-returns-in_ok-add-in-AndAlso-2 :
+    goal.operands::expression-returns-in_ok-add-in-AndAlso-2
+operands::expression-returns-in_ok-add-in-AndAlso-2 t c = λ scope.
     let p = c.args.setting.now.program.now in
     let names = c.args.scope.now in
     let path = c.args.path.now in
@@ -170,18 +173,18 @@ operands::expression-returns-in_ok-add_if-in-AndAlso t c = λ scope.
     scope-var p names low mid c.variable-in-AndAlso.new.self I32 c.in_ok-to-in-AndAlso.ensures.1
     made.makes.grows scope in
     makes-and p names path frame here e x y false c.in_ok-a-in-AndAlso.a c.in_ok-to-in-AndAlso.to I32 low mid
-    c.truth_to.new.declared old c.expression-in-AndAlso.new.out.items c.add_if.new.out.items
+    c.truth_to.new.declared old c.expression-in-AndAlso.new.out.items c.add-in-AndAlso-2.new.out.items
     c.truth_to.new.out.items
-    c.add_set.new.out.items scope.naming made c.in_ok-to-in-AndAlso.ensures.0
-    c.in_ok-add_if-in-AndAlso.ensures
+    c.add-in-AndAlso.new.out.items scope.naming made c.in_ok-to-in-AndAlso.ensures.0
+    (adds-if _ _ _ _ _ c.in_ok-add-in-AndAlso-2.ensures)
     c.in-AndAlso.a c.in-AndAlso.b c.in-AndAlso.is c.deref-in-AndAlso.ensures c.deref-in-AndAlso-2.ensures
     (to-low c.in_ok-to-in-AndAlso.ensures.1 (makes-old c.new-yes.ensures.items
     (c.in_ok-truth_to-in-AndAlso.ensures inner)))
-    (adds-old c.new-no.ensures.items c.in_ok-add_set-in-AndAlso.ensures)
+    (adds-old c.new-no.ensures.items (adds-set _ _ _ _ c.in_ok-add-in-AndAlso.ensures))
 
-pub operands::expression-returns-in_ok-add_if-in-OrElse :
-    goal.operands::expression-returns-in_ok-add_if-in-OrElse
-operands::expression-returns-in_ok-add_if-in-OrElse t c = λ scope.
+pub operands::expression-returns-in_ok-add-in-OrElse-2 :
+    goal.operands::expression-returns-in_ok-add-in-OrElse-2
+operands::expression-returns-in_ok-add-in-OrElse-2 t c = λ scope.
     let p = c.args.setting.now.program.now in
     let names = c.args.scope.now in
     let path = c.args.path.now in
@@ -201,17 +204,19 @@ operands::expression-returns-in_ok-add_if-in-OrElse t c = λ scope.
     made.makes.grows scope in
     makes-or p names path frame here e x y false c.in_ok-a-in-OrElse.a c.in_ok-to-in-OrElse.to I32 low mid
     c.truth_to-in-OrElse.new.declared old c.expression-in-OrElse.new.out.items
-    c.add_if-in-OrElse.new.out.items
-    c.add_set-in-OrElse.new.out.items c.truth_to-in-OrElse.new.out.items scope.naming made
+    c.add-in-OrElse-2.new.out.items
+    c.add-in-OrElse.new.out.items c.truth_to-in-OrElse.new.out.items scope.naming made
     c.in_ok-to-in-OrElse.ensures.0
-    c.in_ok-add_if-in-OrElse.ensures c.in-OrElse.a c.in-OrElse.b c.in-OrElse.is c.deref-in-OrElse.ensures
-    c.deref-in-OrElse-2.ensures (adds-old c.new-yes-in-OrElse.ensures.items c.in_ok-add_set-in-OrElse.ensures)
+    (adds-if _ _ _ _ _ c.in_ok-add-in-OrElse-2.ensures) c.in-OrElse.a c.in-OrElse.b c.in-OrElse.is
+    c.deref-in-OrElse.ensures
+    c.deref-in-OrElse-2.ensures (adds-old c.new-yes-in-OrElse.ensures.items (adds-set _ _ _ _
+    c.in_ok-add-in-OrElse.ensures))
     (to-low c.in_ok-to-in-OrElse.ensures.1 (makes-old c.new-no-in-OrElse.ensures.items
     (c.in_ok-truth_to-in-OrElse.ensures inner)))
 
-pub operands::expression-returns-in_ok-add_if-in-Select :
-    goal.operands::expression-returns-in_ok-add_if-in-Select
-operands::expression-returns-in_ok-add_if-in-Select t c = λ scope.
+pub operands::expression-returns-in_ok-add-in-Select :
+    goal.operands::expression-returns-in_ok-add-in-Select
+operands::expression-returns-in_ok-add-in-Select t c = λ scope.
     let p = c.args.setting.now.program.now in
     let names = c.args.scope.now in
     let path = c.args.path.now in
@@ -243,9 +248,10 @@ operands::expression-returns-in_ok-add_if-in-Select t c = λ scope.
     (subst (IsScope p names) c.in_ok-to-in-Select.ensures.1 inner) in
     makes-select p names path frame here e x y false c.in_ok-when-in-Select.when to ty low mid
     c.expression_to-in-Select.new.declared old c.expression-in-Select.new.out.items
-    c.add_if-in-Select.new.out.items yeses
+    c.add-in-Select.new.out.items yeses
     c.expression_to-in-Select.new.out.items scope.naming made c.in_ok-to-in-Select.ensures.0
-    c.in_ok-add_if-in-Select.ensures z two ty c.in-Select.when c.in-Select.a c.in-Select.b c.in-Select.is
+    (adds-if _ _ _ _ _ c.in_ok-add-in-Select.ensures) z two ty c.in-Select.when c.in-Select.a c.in-Select.b
+    c.in-Select.is
     c.deref-in-Select.ensures c.deref-in-Select-2.ensures c.deref-in-Select-3.ensures first
     (makes-old c.new-no-in-Select.ensures.items (c.in_ok-expression_to-in-Select-2.ensures later))
 
@@ -266,9 +272,9 @@ operands::expression-returns-in-Call t c =
     scope))
     c.call_value.ensures
 
-pub operands::kept_expression-returns-in_ok-add_set-in-Var :
-    goal.operands::kept_expression-returns-in_ok-add_set-in-Var
-operands::kept_expression-returns-in_ok-add_set-in-Var t c = λ scope.
+pub operands::kept_expression-returns-in_ok-add-in-Var :
+    goal.operands::kept_expression-returns-in_ok-add-in-Var
+operands::kept_expression-returns-in_ok-add-in-Var t c = λ scope.
     let p = c.args.setting.now.program.now in
     let names = c.args.scope.now in
     let path = c.args.path.now in
@@ -281,13 +287,13 @@ operands::kept_expression-returns-in_ok-add_set-in-Var t c = λ scope.
     let yes : true ≡ c.args.keep = search rules in
     subst (λ keep. MakesValue p names path (value_part p frame here e) (has_call e) keep (Var
     c.in_ok-to-in-Var.to) low
-    c.variable.new.self old c.add_set.new.out.items) yes
+    c.variable.new.self old c.add.new.out.items) yes
     (value-high c.in_ok-to-in-Var.ensures.1
     (makes-copy p names path (λ w back. eval (context_in_frame p frame w) back here e) (has_call e)
     c.in_ok-operand.operand
-    low mid old c.expression.new.out.items c.add_set.new.out.items (c.in_ok-operand.ensures scope)
+    low mid old c.expression.new.out.items c.add.new.out.items (c.in_ok-operand.ensures scope)
     c.in_ok-to-in-Var.to
-    c.type_of.result scope.naming c.in_ok-to-in-Var.ensures.0 c.in_ok-add_set-in-Var.ensures))
+    c.type_of.result scope.naming c.in_ok-to-in-Var.ensures.0 (adds-set _ _ _ _ c.in_ok-add-in-Var.ensures)))
 
 pub operands::expression_to-returns : goal.operands::expression_to-returns
 operands::expression_to-returns t c =
@@ -299,12 +305,12 @@ operands::expression_to-returns t c =
     let old = c.args.out.now.items in
     let here = c.args.here in
     let e = c.args.expr.now in
-    on-ok c.add_set.result _ _ (λ added scope.
+    on-ok c.add.result _ _ (λ added scope.
     makes-to p names path (λ w back. eval (context_in_frame p frame w) back here e) (has_call e)
     c.in_ok-operand.operand
-    low c.expression.new.declared old c.expression.new.out.items c.add_set.new.out.items
+    low c.expression.new.declared old c.expression.new.out.items c.add.new.out.items
     (c.in_ok-operand.ensures scope)
-    c.args.to added) c.add_set.ensures
+    c.args.to (adds-set _ _ _ _ added)) c.add.ensures
 
 pub operands::truth_to-returns : goal.operands::truth_to-returns
 operands::truth_to-returns t c =
@@ -319,15 +325,15 @@ operands::truth_to-returns t c =
     let mid = c.expression.new.declared in
     let out = c.expression.new.out.items in
     let between = c.in_ok-between.between in
-    on-ok c.add_unary-2.result _ _ (λ added scope.
+    on-ok c.add-2.result _ _ (λ added scope.
     makes-high c.in_ok-between.ensures.1
     (makes-truth p names path frame here e c.in_ok-operand.operand low mid old out
-    c.add_unary-2.new.out.items scope.naming
+    c.add-2.new.out.items scope.naming
     (c.in_ok-operand.ensures scope) between c.args.to c.in_ok-between.ensures.0 c.tested_in-t.result I32
-    (adds-then out c.add_unary.new.out.items c.add_unary-2.new.out.items
+    (adds-then out c.add.new.out.items c.add-2.new.out.items
     (unary_act between IsZero c.tested_in-t.result c.in_ok-operand.operand) (unary_act c.args.to IsZero I32
     (Var between))
-    c.in_ok-add_unary.ensures added))) c.add_unary-2.ensures
+    (adds-unary _ _ _ _ _ _ c.in_ok-add.ensures) (adds-unary _ _ _ _ _ _ added)))) c.add-2.ensures
 
 -- ROWS of values and of arguments
 
@@ -497,7 +503,7 @@ calls::invoke-returns-then-frame-eq0 t c = λ scope given.
     record {
       settled = tt;
       makes = makes-beyond p names path frame here c.args.function c.args.given.now low (Const (pos 0)) old
-          c.add_beyond.new.out.items (search rules) c.in_ok-add_beyond.ensures;
+          c.add.new.out.items (search rules) (adds-beyond _ _ _ c.in_ok-add.ensures);
     }
 
 pub calls::invoke-statements-requires : goal.calls::invoke-statements-requires
@@ -523,11 +529,11 @@ calls::invoke-returns t c = λ scope given.
     invoke-made p names c.in_ok-inner.inner path frame here c.args.function (frame.frames - 1)
     c.in-Some.function.now
     c.args.given.now low c.begin_frame.new.declared c.variable.new.self c.statements.new.declared old
-    c.begin_frame.new.out.items c.add_set.new.out.items c.add_body.new.out.items c.new-body.result.items
+    c.begin_frame.new.out.items c.add-2.new.out.items c.add_body.new.out.items c.new-body.result.items
     c.statements.new.out.items c.in_ok-home.home c.unwrap_or.result c.as_slice.result.now frames
     c.in-Some.ensures.1
     c.as_slice.ensures c.new-body.ensures.items c.in_ok-home.ensures.0 c.in_ok-home.ensures.1
-    (c.in_ok-inner.ensures scope given) c.in_ok-add_set.ensures c.in_ok-statements.ensures
+    (c.in_ok-inner.ensures scope given) (adds-set _ _ _ _ c.in_ok-add-2.ensures) c.in_ok-statements.ensures
     c.in_ok-add_body.ensures
 
 -- CHOICES
@@ -599,8 +605,9 @@ simple::store-returns t c =
     c.has_call-settled.result c.in_ok-index.index c.in_ok-value.value c.kept_expression.new.declared
     c.expression.new.declared old c.add_pick.new.out.items c.new-keep.result.items
     c.kept_expression.new.out.items
-    c.expression.new.out.items c.add_save.new.out.items c.in_ok-number.ensures c.new-keep.ensures.items
-    c.has_call-settled.ensures c.in_ok-index.ensures c.in_ok-value.ensures c.in_ok-add_save.ensures added)
+    c.expression.new.out.items c.add.new.out.items c.in_ok-number.ensures c.new-keep.ensures.items
+    c.has_call-settled.ensures c.in_ok-index.ensures c.in_ok-value.ensures
+    (adds-save _ _ _ _ _ _ c.in_ok-add.ensures) added)
     c.add_pick.ensures
 
 pub simple::init_array-returns : goal.simple::init_array-returns
@@ -617,8 +624,9 @@ simple::init_array-returns t c =
     (list_any has_call c.args.values.now) (list_any has_call c.args.values.now) c.in_ok-values.values.items
     c.in_ok-filled.filled.items c.expressions.new.declared old c.add_pick.new.out.items
     c.new-keep.result.items
-    c.expressions.new.out.items c.add_fill.new.out.items c.in_ok-number.ensures c.new-keep.ensures.items
-    c.in_ok-filled.ensures c.in_ok-values.ensures c.in_ok-add_fill.ensures added) c.add_pick.ensures
+    c.expressions.new.out.items c.add.new.out.items c.in_ok-number.ensures c.new-keep.ensures.items
+    c.in_ok-filled.ensures c.in_ok-values.ensures (adds-fill _ _ _ _ c.in_ok-add.ensures) added)
+    c.add_pick.ensures
 
 pub calls::call_statement-returns : goal.calls::call_statement-returns
 calls::call_statement-returns t c =
@@ -875,10 +883,11 @@ control::statement-returns-in-Break t c =
     let low = c.args.declared.now in
     let old = c.args.out.now.items in
     let stmt = c.args.stmt.now in
-    on-ok c.add_leave.result _ _ (λ added is_frame.
-    makes-break p names path frame low is_frame.naming stmt old c.add_leave.new.out.items c.in-Break.is
-    (subst (λ label. Adds old c.add_leave.new.out.items (leave_act label)) c.break_label.ensures added))
-    c.add_leave.ensures
+    on-ok c.add.result _ _ (λ added is_frame.
+    makes-break p names path frame low is_frame.naming stmt old c.add.new.out.items c.in-Break.is
+    (subst (λ label. Adds old c.add.new.out.items (leave_act label)) c.break_label.ensures (adds-leave _ _ _
+    added)))
+    c.add.ensures
 
 pub control::statement-returns-in-Continue : goal.control::statement-returns-in-Continue
 control::statement-returns-in-Continue t c =
@@ -889,12 +898,12 @@ control::statement-returns-in-Continue t c =
     let low = c.args.declared.now in
     let old = c.args.out.now.items in
     let stmt = c.args.stmt.now in
-    on-ok c.add_leave-in-Continue.result _ _ (λ added is_frame.
-    makes-continue p names path frame low is_frame.naming stmt old c.add_leave-in-Continue.new.out.items
+    on-ok c.add-in-Continue.result _ _ (λ added is_frame.
+    makes-continue p names path frame low is_frame.naming stmt old c.add-in-Continue.new.out.items
     c.in-Continue.is
-    (subst (λ label. Adds old c.add_leave-in-Continue.new.out.items (leave_act label))
-    c.continue_label.ensures added))
-    c.add_leave-in-Continue.ensures
+    (subst (λ label. Adds old c.add-in-Continue.new.out.items (leave_act label))
+    c.continue_label.ensures (adds-leave _ _ _ added)))
+    c.add-in-Continue.ensures
 
 pub control::statement-returns-in_ok-given_to-in-Return :
     goal.control::statement-returns-in_ok-given_to-in-Return
@@ -909,17 +918,17 @@ control::statement-returns-in_ok-given_to-in-Return t c =
     let high = c.given_to.new.declared in
     let out = c.given_to.new.out.items in
     let e = c.in-Return.value in
-    on-ok c.add_leave-in-Return.result _ _ (λ added is_frame.
+    on-ok c.add-in-Return.result _ _ (λ added is_frame.
     makes-return p names path frame low is_frame.naming stmt c.in-Return.stmt e (has_call e) high old out
-    c.add_leave-in-Return.new.out.items c.in-Return.is
+    c.add-in-Return.new.out.items c.in-Return.is
     (subst (λ ty. Makes p names path (given_part p frame c.in-Return.stmt (wanted.Value ty) e)
     (GivesTo names (has_call e) low frame.home) low high old out) c.unwrap_or-t.ensures
-    (c.in_ok-given_to-in-Return.ensures (scope-of p frame.home names low is_frame))) added)
-    c.add_leave-in-Return.ensures
+    (c.in_ok-given_to-in-Return.ensures (scope-of p frame.home names low is_frame))) (adds-leave _ _ _ added))
+    c.add-in-Return.ensures
 
-pub control::statement-returns-in_ok-add_set-in-ReturnNone :
-    goal.control::statement-returns-in_ok-add_set-in-ReturnNone
-control::statement-returns-in_ok-add_set-in-ReturnNone t c =
+pub control::statement-returns-in_ok-add-in-ReturnNone :
+    goal.control::statement-returns-in_ok-add-in-ReturnNone
+control::statement-returns-in_ok-add-in-ReturnNone t c =
     let p = c.args.setting.now.program.now in
     let names = c.args.scope.now in
     let path = c.args.path.now in
@@ -927,10 +936,11 @@ control::statement-returns-in_ok-add_set-in-ReturnNone t c =
     let low = c.args.declared.now in
     let old = c.args.out.now.items in
     let stmt = c.args.stmt.now in
-    on-ok c.add_leave-in-ReturnNone.result _ _ (λ added is_frame.
-    makes-return-none p names path frame low is_frame.naming stmt old c.add_set.new.out.items
-    c.add_leave-in-ReturnNone.new.out.items c.in-ReturnNone.is c.in_ok-add_set-in-ReturnNone.ensures added)
-    c.add_leave-in-ReturnNone.ensures
+    on-ok c.add-in-ReturnNone-2.result _ _ (λ added is_frame.
+    makes-return-none p names path frame low is_frame.naming stmt old c.add-in-ReturnNone.new.out.items
+    c.add-in-ReturnNone-2.new.out.items c.in-ReturnNone.is (adds-set _ _ _ _
+    c.in_ok-add-in-ReturnNone.ensures) (adds-leave _ _ _ added))
+    c.add-in-ReturnNone-2.ensures
 
 pub control::statement-returns-in-CallStmt : goal.control::statement-returns-in-CallStmt
 control::statement-returns-in-CallStmt t c =
@@ -978,13 +988,14 @@ control::statement-returns-in_ok-value-in-Assert t c =
     let low = c.args.declared.now in
     let old = c.args.out.now.items in
     let stmt = c.args.stmt.now in
-    on-ok c.add_assert.result _ _ (λ added is_frame.
+    on-ok c.add-in-Assert.result _ _ (λ added is_frame.
     makes-assert p names path frame low is_frame.naming stmt c.in-Assert.stmt c.in-Assert.when (has_call
     c.in-Assert.when)
     false c.in_ok-value-in-Assert.value c.expression.new.declared old c.expression.new.out.items
-    c.add_assert.new.out.items
-    c.in-Assert.is (c.in_ok-value-in-Assert.ensures (scope-of p frame.home names low is_frame)) added)
-    c.add_assert.ensures
+    c.add-in-Assert.new.out.items
+    c.in-Assert.is (c.in_ok-value-in-Assert.ensures (scope-of p frame.home names low is_frame))
+    (adds-assert _ _ _ _ added))
+    c.add-in-Assert.ensures
 
 pub control::optional-returns-in-None : goal.control::optional-returns-in-None
 control::optional-returns-in-None t c = λ is_frame.
@@ -1050,16 +1061,17 @@ control::repeat-returns t c =
     let frame = c.args.frame in
     let low = c.args.declared.now in
     let old = c.args.out.now.items in
-    on-ok c.add_block-2.result _ _ (λ added is_frame.
+    on-ok c.add-3.result _ _ (λ added is_frame.
     loop-made p names path frame low is_frame (parts_of c.args.parts.now) c.in_body.result c.in_step.result
     c.as_slice.result.now c.as_slice-2.result.now c.as_slice-3.result.now c.in_ok-to.to
     c.condition.new.declared
-    c.statement.new.declared c.statements.new.declared old c.add_block-2.new.out.items c.new-head.result.items
+    c.statement.new.declared c.statements.new.declared old c.add-3.new.out.items c.new-head.result.items
     c.condition.new.out.items c.new-body.result.items c.statement.new.out.items c.new-turn.result.items
-    c.add_block.new.out.items c.new-step.result.items c.statements.new.out.items c.new-whole.result.items
-    c.add_loop.new.out.items (c.as_slice.ensures.value ∙ c.in_ok-inside.ensures)
+    c.add.new.out.items c.new-step.result.items c.statements.new.out.items c.new-whole.result.items
+    c.add-2.new.out.items (c.as_slice.ensures.value ∙ c.in_ok-inside.ensures)
     (c.as_slice-2.ensures.value ∙ c.in_ok-inside.ensures) (c.as_slice-3.ensures.value ∙
     c.in_ok-inside.ensures)
     c.new-head.ensures.items c.new-body.ensures.items c.new-turn.ensures.items c.new-step.ensures.items
     c.new-whole.ensures.items c.in_body.ensures c.in_step.ensures c.in_ok-to.ensures c.in_ok-statement.ensures
-    c.in_ok-add_block.ensures c.in_ok-statements.ensures c.in_ok-add_loop.ensures added) c.add_block-2.ensures
+    (adds-block _ _ _ _ c.in_ok-add.ensures) c.in_ok-statements.ensures
+    (adds-loop _ _ _ _ _ _ _ _ c.in_ok-add-2.ensures) (adds-block _ _ _ _ added)) c.add-3.ensures

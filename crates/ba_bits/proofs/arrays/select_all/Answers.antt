@@ -1,6 +1,7 @@
-use Rattle.std.proofs.Common.{◌+◌, ◌<◌, get_or, subst, sym, ap, arith, if◌then◌else◌, length}
+use Rattle.std.proofs.Common.{◌+◌, ◌<◌, ◌∙◌, get_or, subst, sym, ap, arith, if◌then◌else◌, length}
 use Rattle.ba_bits.proofs.Computing.{number-same}
-use Rattle.ba_bits.proofs.Elements.{AreSelected, name-at, named-first, selected-more}
+use Rattle.ba_bits.proofs.Elements.{AreSelected, name-at, named-first, selected-none, selected-more, selected-all}
+use Rattle.ba_nodes.proofs.Truths.{Extends-through}
 use Rattle.ba_bits.specs.Bits.{word_at}
 use Rattle.ba_cells.specs.Cells.{cell_at}
 use Rattle.ba_nodes.specs.Gates.{truth}
@@ -36,3 +37,41 @@ loop-i-preserved c =
     else number_of free c.loop-i.nodes (cell_at c.args.cells.now c.loop-i.i))
     (named-first c.args.entries.now (get_or c.args.values.now c.loop-i.i 0) c.index-entries-values.result
     c.first.result.now named c.index-entries-values.is c.first.ensures))))
+
+pub loop-i-init : goal.loop-i-init
+loop-i-init c =
+    subst (λ words. AreSelected c.args.nodes.now c.args.nodes.now c.args.entries.now c.args.values.now
+    c.args.cells.now c.args.which words 0)
+    (sym c.new-words.ensures.items)
+    (selected-none c.args.nodes.now c.args.entries.now c.args.values.now c.args.cells.now c.args.which)
+
+pub bounds-entries-values : goal.bounds-entries-values
+bounds-entries-values c =
+    name-at (length c.args.entries.now) c.args.values.now c.loop-i.i c.requires.names
+    (omega (arith, c.requires.many, c.loop-i-test.true))
+
+pub select-requires-clause-second : goal.select-requires-clause-second
+select-requires-clause-second c =
+    are_bits-extends c.args.nodes.now c.loop-i.nodes (cell_at c.args.cells.now c.loop-i.i)
+    c.loop-i.invariant.extends (c.requires.cells c.loop-i.i)
+
+pub returns-in_err-push-clause-extends : goal.returns-in_err-push-clause-extends
+returns-in_err-push-clause-extends c =
+    Extends-through c.args.nodes.now c.loop-i.nodes c.select.new.nodes c.loop-i.invariant.extends
+    c.select.ensures.extends
+
+pub returns-clause-cells : goal.returns-clause-cells
+returns-clause-cells c = c.loop-i.invariant.are_cells
+
+pub returns-clause-length : goal.returns-clause-length
+returns-clause-length c =
+    c.loop-i.invariant.long ∙ omega (arith, c.loop-i-test.false, c.loop-i.auto.i-end)
+
+pub returns-clause-numbers : goal.returns-clause-numbers
+returns-clause-numbers c = λ free.
+    c.loop-i.invariant.numbers free
+    ∙ selected-all free c.args.nodes.now c.args.entries.now c.args.values.now c.args.cells.now c.args.which
+    c.loop-i.i (omega (arith, c.requires.many, c.loop-i-test.false)) c.loop-i-test.false
+
+pub returns-clause-extends : goal.returns-clause-extends
+returns-clause-extends c = c.loop-i.invariant.extends

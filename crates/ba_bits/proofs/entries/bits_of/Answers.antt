@@ -1,6 +1,7 @@
 use Rattle.std.proofs.Common.{[], ◌+◌, take, refl, subst, sym}
 use Rattle.ba_bits.proofs.Growing.{entries-none, entries-step, fits-step, others-step}
-use Rattle.ba_bits.specs.Bits.{AreEntries, AreOthersZero}
+use Rattle.std.proofs.lemmas.List.{take_all}
+use Rattle.ba_bits.specs.Bits.{AreEntries, AreEntriesOf, AreOthersZero}
 use Rattle.ba_nodes.proofs.Truths.{Extends-through, Extends_refl}
 use Rattle.ba_bits.proofs.entries.bits_of.Goals as goal
 
@@ -47,3 +48,29 @@ loop-i-preserved c = record {
       c.loop-i.entries.items c.in_ok-cells.cells c.loop-i-test.true c.loop-i.invariant.are_entries
       c.loop-i.invariant.zeros c.in_ok-cells.ensures.zeros);
 }
+
+pub next_entry-requires-clause-entries : goal.next_entry-requires-clause-entries
+next_entry-requires-clause-entries c =
+    subst (AreEntriesOf c.loop-i.nodes) (sym c.as_slice-in-loop-i.ensures.value)
+    c.loop-i.invariant.are_entries.are_cells
+
+pub returns-in_err-cells-clause-extends : goal.returns-in_err-cells-clause-extends
+returns-in_err-cells-clause-extends c =
+    Extends-through c.args.nodes.now c.loop-i.nodes c.next_entry.new.nodes c.loop-i.invariant.extends
+    c.next_entry.ensures.extends
+
+pub returns-in_err-push-clause-extends : goal.returns-in_err-push-clause-extends
+returns-in_err-push-clause-extends c =
+    Extends-through c.args.nodes.now c.loop-i.nodes c.next_entry.new.nodes c.loop-i.invariant.extends
+    c.next_entry.ensures.extends
+
+pub returns-clause-entries : goal.returns-clause-entries
+returns-clause-entries c =
+    subst (λ words. AreEntries c.args.nodes.now words c.args.needed.now c.loop-i.nodes c.loop-i.entries.items)
+    (take_all c.loop-i.i c.args.words.now c.loop-i-test.false) c.loop-i.invariant.are_entries
+
+pub returns-clause-zeros : goal.returns-clause-zeros
+returns-clause-zeros c = c.loop-i.invariant.zeros
+
+pub returns-clause-extends : goal.returns-clause-extends
+returns-clause-extends c = c.loop-i.invariant.extends

@@ -1,10 +1,11 @@
-use Rattle.std.proofs.Common.{rules, sym, ap, subst, ◌∙◌, w64, FitsSigned}
+use Rattle.std.proofs.Common.{map, length, rules, sym, ap, subst, ◌∙◌, w64, FitsSigned}
 use Rattle.std.proofs.lemmas.Int.{to_z-of_z}
 use Rattle.ba_bits.specs.Bits.{HasLowBits}
+use Rattle.ba_wordlist.specs.Facts.{length_of}
 use Rattle.ba_wordlist.specs.declared.words.WordOp.TheVariants.{Fill}
 use Rattle.ba_words.proofs.Outcomes.{on_ok}
 use Rattle.ba_bits.proofs.Elements.{cells-one}
-use Rattle.ba_bits.proofs.EntryWords.{is_open, spell-binary, spell-const, spell-fill, spell-flag, spell-free, spell-write, spell-zeros, take-flag, take-free, take-nothing}
+use Rattle.ba_bits.proofs.EntryWords.{is_open, one-long, spell-binary, spell-const, spell-convert, spell-read, spell-select, spell-unary, spell-fill, spell-flag, spell-free, spell-write, spell-zeros, take-flag, take-free, take-nothing}
 use Rattle.ba_bits.proofs.entries.entry.Goals as goal
 
 pub returns-in-Const-clause-cells : goal.returns-in-Const-clause-cells
@@ -151,3 +152,130 @@ returns-in-Write-clause-take c =
     on_ok c.write.result _ _
     (λ words long. take-nothing c.args.nodes.now c.write.new.nodes c.args.op.now words
     (ap is_open c.in-Write.is)) c.write.ensures.length
+
+pub returns-in_ok-word-in-Unary-clause-cells : goal.returns-in_ok-word-in-Unary-clause-cells
+returns-in_ok-word-in-Unary-clause-cells c =
+    on_ok c.one-in-Unary.result _ _
+    (λ words are. cells-one c.unary.new.nodes words c.in_ok-word-in-Unary.word are
+    c.in_ok-word-in-Unary.ensures.value.are_bits)
+    c.one-in-Unary.ensures
+
+pub returns-in_ok-word-in-Unary-clause-length : goal.returns-in_ok-word-in-Unary-clause-length
+returns-in_ok-word-in-Unary-clause-length c =
+    on_ok c.one-in-Unary.result _ _
+    (λ words are. one-long (map length c.args.entries.now) c.args.op.now words c.in_ok-word-in-Unary.word are
+    (ap (length_of (map length c.args.entries.now)) c.in-Unary.is))
+    c.one-in-Unary.ensures
+
+pub returns-in_ok-word-in-Binary-clause-cells : goal.returns-in_ok-word-in-Binary-clause-cells
+returns-in_ok-word-in-Binary-clause-cells c =
+    on_ok c.one-in-Binary.result _ _
+    (λ words are. cells-one c.binary.new.nodes words c.in_ok-word-in-Binary.word are
+    c.in_ok-word-in-Binary.ensures.value.are_bits)
+    c.one-in-Binary.ensures
+
+pub returns-in_ok-word-in-Binary-clause-length : goal.returns-in_ok-word-in-Binary-clause-length
+returns-in_ok-word-in-Binary-clause-length c =
+    on_ok c.one-in-Binary.result _ _
+    (λ words are. one-long (map length c.args.entries.now) c.args.op.now words c.in_ok-word-in-Binary.word are
+    (ap (length_of (map length c.args.entries.now)) c.in-Binary.is))
+    c.one-in-Binary.ensures
+
+pub returns-in-Convert-clause-cells : goal.returns-in-Convert-clause-cells
+returns-in-Convert-clause-cells c =
+    on_ok c.one-in-Convert.result _ _
+    (λ words are. cells-one c.args.nodes.now words c.convert-word.result are
+    c.convert-word.ensures.are_bits)
+    c.one-in-Convert.ensures
+
+pub returns-in-Convert-clause-length : goal.returns-in-Convert-clause-length
+returns-in-Convert-clause-length c =
+    on_ok c.one-in-Convert.result _ _
+    (λ words are. one-long (map length c.args.entries.now) c.args.op.now words c.convert-word.result are
+    (ap (length_of (map length c.args.entries.now)) c.in-Convert.is))
+    c.one-in-Convert.ensures
+
+pub returns-in_ok-word-in-Select-clause-cells : goal.returns-in_ok-word-in-Select-clause-cells
+returns-in_ok-word-in-Select-clause-cells c =
+    on_ok c.one-in-Select.result _ _
+    (λ words are. cells-one c.choose.new.nodes words c.in_ok-word-in-Select.word are
+    c.in_ok-word-in-Select.ensures.value.are_bits)
+    c.one-in-Select.ensures
+
+pub returns-in_ok-word-in-Select-clause-length : goal.returns-in_ok-word-in-Select-clause-length
+returns-in_ok-word-in-Select-clause-length c =
+    on_ok c.one-in-Select.result _ _
+    (λ words are. one-long (map length c.args.entries.now) c.args.op.now words c.in_ok-word-in-Select.word are
+    (ap (length_of (map length c.args.entries.now)) c.in-Select.is))
+    c.one-in-Select.ensures
+
+pub returns-in_ok-word-in-Read-clause-cells : goal.returns-in_ok-word-in-Read-clause-cells
+returns-in_ok-word-in-Read-clause-cells c =
+    on_ok c.one-in-Read.result _ _
+    (λ words are. cells-one c.read.new.nodes words c.in_ok-word-in-Read.word are
+    c.in_ok-word-in-Read.ensures.value.are_bits)
+    c.one-in-Read.ensures
+
+pub returns-in_ok-word-in-Read-clause-length : goal.returns-in_ok-word-in-Read-clause-length
+returns-in_ok-word-in-Read-clause-length c =
+    on_ok c.one-in-Read.result _ _
+    (λ words are. one-long (map length c.args.entries.now) c.args.op.now words c.in_ok-word-in-Read.word are
+    (ap (length_of (map length c.args.entries.now)) c.in-Read.is))
+    c.one-in-Read.ensures
+
+pub returns-in_ok-free-in-Flag-clause-cells : goal.returns-in_ok-free-in-Flag-clause-cells
+returns-in_ok-free-in-Flag-clause-cells c =
+    on_ok c.one-in-Flag.result _ _
+    (λ words are. cells-one c.free.new.self words c.truth_word.result are
+    (c.truth_word.ensures c.free.new.self c.in_ok-free-in-Flag.ensures.value.is_bit).are_bits)
+    c.one-in-Flag.ensures
+
+pub returns-in_ok-free-in-Flag-clause-length : goal.returns-in_ok-free-in-Flag-clause-length
+returns-in_ok-free-in-Flag-clause-length c =
+    on_ok c.one-in-Flag.result _ _
+    (λ words are. one-long (map length c.args.entries.now) c.args.op.now words c.truth_word.result are
+    (ap (length_of (map length c.args.entries.now)) c.in-Flag.is))
+    c.one-in-Flag.ensures
+
+pub returns-in_ok-free_word-in-Free-clause-length : goal.returns-in_ok-free_word-in-Free-clause-length
+returns-in_ok-free_word-in-Free-clause-length c =
+    on_ok c.one-in-Free.result _ _
+    (λ words are. one-long (map length c.args.entries.now) c.args.op.now words
+    c.in_ok-free_word-in-Free.field-0 are
+    (ap (length_of (map length c.args.entries.now)) c.in-Free.is))
+    c.one-in-Free.ensures
+
+pub returns-in_ok-word-in-Unary-clause-spell : goal.returns-in_ok-word-in-Unary-clause-spell
+returns-in_ok-word-in-Unary-clause-spell c =
+    on_ok c.one-in-Unary.result _ _
+    (λ words are. spell-unary c.args.nodes.now c.unary.new.nodes c.args.entries.now c.args.op.now words
+    c.in-Unary.op c.in-Unary.t c.in-Unary.a c.first_word.result.now c.in_ok-word-in-Unary.word c.in-Unary.is
+    c.first_word.ensures are c.in_ok-word-in-Unary.ensures.value)
+    c.one-in-Unary.ensures
+
+pub returns-in-Convert-clause-spell : goal.returns-in-Convert-clause-spell
+returns-in-Convert-clause-spell c =
+    on_ok c.one-in-Convert.result _ _
+    (λ words are. spell-convert c.args.nodes.now c.args.nodes.now c.args.entries.now c.args.op.now words
+    c.in-Convert.t c.in-Convert.a c.first_word-in-Convert.result.now c.convert-word.result c.in-Convert.is
+    c.first_word-in-Convert.ensures are c.convert-word.ensures)
+    c.one-in-Convert.ensures
+
+pub returns-in_ok-word-in-Select-clause-spell : goal.returns-in_ok-word-in-Select-clause-spell
+returns-in_ok-word-in-Select-clause-spell c =
+    on_ok c.one-in-Select.result _ _
+    (λ words are. spell-select c.args.nodes.now c.choose.new.nodes c.args.entries.now c.args.op.now words
+    c.in-Select.which c.in-Select.yes c.in-Select.no c.first_word-chooser.result.now
+    c.first_word-first-in-Select.result.now c.first_word-in-Select.result.now c.in_ok-word-in-Select.word
+    c.in-Select.is c.first_word-chooser.ensures c.first_word-first-in-Select.ensures
+    c.first_word-in-Select.ensures are c.in_ok-word-in-Select.ensures.value)
+    c.one-in-Select.ensures
+
+pub returns-in_ok-word-in-Read-clause-spell : goal.returns-in_ok-word-in-Read-clause-spell
+returns-in_ok-word-in-Read-clause-spell c =
+    on_ok c.one-in-Read.result _ _
+    (λ words are. spell-read c.args.nodes.now c.read.new.nodes c.args.entries.now c.args.op.now words
+    c.in-Read.array c.in-Read.index c.all_words.result.now c.first_word-index.result.now
+    c.in_ok-word-in-Read.word c.in-Read.is c.all_words.ensures.words c.first_word-index.ensures are
+    c.in_ok-word-in-Read.ensures.value)
+    c.one-in-Read.ensures

@@ -2,7 +2,7 @@ use Rattle.std.proofs.Common.{arith, ap, ◌∙◌, ◌||◌, ltb, length, refl}
 use Rattle.std.proofs.lemmas.List.{length-set}
 use Rattle.ba_checker.specs.States.{is_live_at}
 use Rattle.ba_checker.specs.Listed.{all_keys, anew}
-use Rattle.ba_checker.proofs.ListedLaws.{AreListed-length, length-keys, linked_start, linked_step}
+use Rattle.ba_checker.proofs.ListedLaws.{AreListed-length, length-keys, linked_start, linked_step, linked_end}
 use Rattle.ba_checker.proofs.index.link_all.Goals as goal
 
 pub loop-place-init : goal.loop-place-init
@@ -31,3 +31,12 @@ loop-place-preserved c = (
       (c.anew-node.ensures ∙ ap (anew c.keeps_key-keeps.result c.index.result.now)
       c.as_slice-in-loop-place.ensures.value) refl c.relink.ensures,
 )
+
+pub returns-clause-links : goal.returns-clause-links
+returns-clause-links c =
+    linked_end c.loop-place.place c.loop-place.nodes.items c.loop-place.heads.items c.args.store.now
+    c.loop-place.invariant.1 (omega
+    (arith, c.loop-place.invariant.0, c.loop-place-test.false, c.loop-place.auto.place-end))
+
+pub returns-clause-listed : goal.returns-clause-listed
+returns-clause-listed c = c.loop-place.invariant.1.listed

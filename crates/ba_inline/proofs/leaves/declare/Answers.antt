@@ -1,6 +1,7 @@
 use Rattle.std.proofs.Common.{List, ◌∙◌, Ok, ap, map, sym}
 use Rattle.ba_code.specs.State.{operand_value}
 use Rattle.ba_code.specs.declared.nodes.Operand.{Operand}
+use Rattle.ba_inline.proofs.Adding.{adds-fill, adds-set}
 use Rattle.ba_inline.proofs.FrameArms.{constants-zero}
 use Rattle.ba_inline.proofs.Results.{on-ok}
 use Rattle.ba_inline.proofs.Statements.{makes-no-code, makes-zeroed}
@@ -12,22 +13,24 @@ use Rattle.ba_tree.specs.declared.tree.Variable.{Variable}
 use Rattle.ba_inline.proofs.leaves.declare.Goals as goal
 
 pub returns-in_ok-variable-in-Value : goal.returns-in_ok-variable-in-Value
-returns-in_ok-variable-in-Value c = on-ok c.add_set.result _ _ (λ added frame path is_frame.
+returns-in_ok-variable-in-Value c = on-ok c.add.result _ _ (λ added frame path is_frame.
     makes-zeroed c.args.setting.now.program.now c.args.scope.now path frame c.args.declared.now
     is_frame.naming c.args.var
-    c.in_ok-variable-in-Value.field-0 c.args.out.now.items c.add_set.new.out.items
+    c.in_ok-variable-in-Value.field-0 c.args.out.now.items c.add.new.out.items
     c.in_ok-variable-in-Value.ensures
-    (ap (λ (v : Variable). v.shape) (sym c.variable_of.ensures) ∙ c.in-Value.is) added) c.add_set.ensures
+    (ap (λ (v : Variable). v.shape) (sym c.variable_of.ensures) ∙ c.in-Value.is) (adds-set _ _ _ _ added))
+    c.add.ensures
 
 pub returns-in_ok-zeros-in-Array : goal.returns-in_ok-zeros-in-Array
-returns-in_ok-zeros-in-Array c = on-ok c.add_fill.result _ _ (λ added frame path is_frame.
+returns-in_ok-zeros-in-Array c = on-ok c.add-in-Array.result _ _ (λ added frame path is_frame.
     let zeros : List Operand = c.in_ok-zeros-in-Array.field-0.items in
     makes-declared c.args.setting.now.program.now c.args.scope.now path frame c.args.declared.now
     is_frame.naming c.args.var
     c.in_ok-number-in-Array.number c.in_ok-number-in-Array.ensures c.in-Array.len c.in-Array.len zeros
     (λ t. ap (map (operand_value t)) c.in_ok-zeros-in-Array.ensures ∙ constants-zero t c.in-Array.len)
-    c.args.out.now.items c.add_fill.new.out.items
-    (ap (λ (v : Variable). v.shape) (sym c.variable_of.ensures) ∙ c.in-Array.is) added) c.add_fill.ensures
+    c.args.out.now.items c.add-in-Array.new.out.items
+    (ap (λ (v : Variable). v.shape) (sym c.variable_of.ensures) ∙ c.in-Array.is) (adds-fill _ _ _ _ added))
+    c.add-in-Array.ensures
 
 pub returns-in-Passed : goal.returns-in-Passed
 returns-in-Passed c = λ frame path is_frame.

@@ -1,5 +1,5 @@
 use Rattle.std.proofs.Common.{arith, true, refl}
-use Rattle.ba_watch.proofs.TrailSteps.{grown}
+use Rattle.ba_watch.proofs.TrailSteps.{grown, filled, whole}
 use Rattle.ba_watch.proofs.trail.Trail.grow.Goals as goal
 
 pub invariant_of-self-2 : goal.invariant_of-self-2
@@ -14,4 +14,50 @@ invariant_of-self-2 c =
           c.fill_up-2.ensures.front c.fill_up-3.ensures.front c.fill_up-4.ensures.front
           c.in_ok-fill_up.ensures.room c.in_ok-fill_up-2.ensures.room c.in_ok-fill_up-3.ensures.room
           c.in_ok-fill_up-4.ensures.room c.in_ok-resize.ensures.items,
+    )
+
+pub invariant_of-self : goal.invariant_of-self
+invariant_of-self c =
+    let i = c.self.inside in (
+      c.self.invariant.0,
+      filled i.variables i.lits.items _ i.reasons.items _ i.levels.items _ i.assigned i.level
+          i.values.items _ i.places.items _ c.self.invariant.1 c.fill_up.ensures.front
+          (whole i.reasons.items) (whole i.levels.items) (whole i.places.items) refl,
+    )
+
+pub invariant_of-self-in_err-fill_up-2 : goal.invariant_of-self-in_err-fill_up-2
+invariant_of-self-in_err-fill_up-2 c =
+    let i = c.self.inside in (
+      c.self.invariant.0,
+      filled i.variables i.lits.items _ i.reasons.items _ i.levels.items _ i.assigned i.level
+          i.values.items _ i.places.items _ c.self.invariant.1 c.fill_up.ensures.front
+          c.fill_up-2.ensures.front (whole i.levels.items) (whole i.places.items) refl,
+    )
+
+pub invariant_of-self-in_err-fill_up-3 : goal.invariant_of-self-in_err-fill_up-3
+invariant_of-self-in_err-fill_up-3 c =
+    let i = c.self.inside in (
+      c.self.invariant.0,
+      filled i.variables i.lits.items _ i.reasons.items _ i.levels.items _ i.assigned i.level
+          i.values.items _ i.places.items _ c.self.invariant.1 c.fill_up.ensures.front
+          c.fill_up-2.ensures.front c.fill_up-3.ensures.front (whole i.places.items) refl,
+    )
+
+pub invariant_of-self-in_err-fill_up-4 : goal.invariant_of-self-in_err-fill_up-4
+invariant_of-self-in_err-fill_up-4 c =
+    let i = c.self.inside in (
+      c.self.invariant.0,
+      filled i.variables i.lits.items _ i.reasons.items _ i.levels.items _ i.assigned i.level
+          i.values.items _ i.places.items _ c.self.invariant.1 c.fill_up.ensures.front
+          c.fill_up-2.ensures.front c.fill_up-3.ensures.front c.fill_up-4.ensures.front refl,
+    )
+
+pub invariant_of-self-in_err-resize : goal.invariant_of-self-in_err-resize
+invariant_of-self-in_err-resize c =
+    let i = c.self.inside in (
+      c.self.invariant.0,
+      filled i.variables i.lits.items _ i.reasons.items _ i.levels.items _ i.assigned i.level
+          i.values.items _ i.places.items _ c.self.invariant.1 c.fill_up.ensures.front
+          c.fill_up-2.ensures.front c.fill_up-3.ensures.front c.fill_up-4.ensures.front
+          c.in_err-resize.ensures.items,
     )
