@@ -2,6 +2,7 @@
 //! hand.
 
 use crate::assignments::{Random, spelling};
+use crate::programs::{choices_of, input_of, program_of};
 use crate::word_lists::{holds, list_of, spelled};
 use crate::word_values::Values;
 use ba_choices::Choice;
@@ -15,7 +16,7 @@ use ba_wordlist::words::{WordList, WordOp};
 use std::alloc::Global;
 use std::panic::Expect;
 use std::process::Abort;
-use test_programs::reader::Reader;
+use test_programs::examples::{ARRAYS, BEHIND, DIVISION, GLOBAL, JUMPS, OWN, STORE, SUM, VALUES};
 
 /// A program with an input, bounds, its list, and all statements that may be relaxed.
 #[derive(Drop)]
@@ -28,14 +29,10 @@ struct Case {
 }
 
 impl Case {
-    /// The case of a program and an input that are written as words.
+    /// The case of the program and the input that texts have.
     fn new(rt: &impl Abort, alloc: Global, program: &str, input: &str, turns: u32) -> Case {
-        let program = Reader::new(alloc, program.as_bytes())
-            .program()
-            .expect(rt, "a program");
-        let input = Reader::new(alloc, input.as_bytes())
-            .input()
-            .expect(rt, "an input");
+        let program = program_of(rt, alloc, program);
+        let input = input_of(rt, alloc, &program, input);
         let bounds = Bounds { turns, frames: 4 };
         let list = list_of(rt, alloc, &program, &input, bounds);
         let allowed = everything(rt, alloc, &program);
@@ -121,167 +118,181 @@ fn is_same(choice: &Choice, other: &Choice) -> bool {
 }
 
 /// Five lines: a variable that gets the input, and an assert.
-const FIVE_LINES: &str = "2 i i  0  0  1  1 0  1 1  3 decl 1 = 1 1 v 0 assert 2 == v 1 2  2 = !";
+const FIVE_LINES: &str = "int main(int a) {
+    int x;
+    x = a;
+    assert(x == 2);
+}
+";
 
-/// The same with a `short`.
-const SHORT: &str = "2 i s  0  0  1  1 0  1 1  3 decl 1 = 1 1 s v 0 assert 2 == i v 1 v 0  2 = !";
-
-/// A sum in a `for`.
-const SUM: &str = "3 u u u  0  0  1  1 0  2 1 2  6 decl 1 decl 2 = 1 1 u 0
-    for 3 1 = 2 2 u 1 u< v 2 v 0 1 = 4 2 u+ v 2 u 1 = 5 1 u+ v 1 v 2
-    assert 6 u== v 1 u 6 return 7 0  7 = = ? = = ! r";
+/// The same with a `short`, which is compared with the input.
+const SHORT: &str = "int main(int a) {
+    short s;
+    s = a;
+    assert(s == a);
+}
+";
 
 /// A sum and an element, each of which two asserts compute.
-const TWICE: &str = "3 i i 2  0  0  1  1 0  2 1 2  7 decl 1 decl 2 = 1 1 v 0 []= 2 2 v 0 5
-    assert 3 == + v 1 1 2 assert 4 < + v 1 1 e 2 1 assert 5 == e 2 1 5  5 = [ ! ! !";
+const TWICE: &str = "int main(int x) {
+    int y, a[2];
+    y = x;
+    a[x] = 5;
+    assert(y + 1 == 2);
+    assert(y + 1 < a[1]);
+    assert(a[1] == 5);
+}
+";
+
+/// A function that returns from inside a branch.
+const EARLY: &str = "int f(int x) {
+    if (x)
+        return 1;
+    return 2;
+}
+int main(int x) {
+    int y;
+    y = f(x);
+    assert(y == 1);
+    return 0;
+}
+";
+
+/// A store in a branch.
+const BRANCH: &str = "int main(int x) {
+    int a[2];
+    if (x)
+        a[0] = 1;
+    assert(a[0] == 1);
+}
+";
 
 /// An input, the bound on turns, choices, and whether the run with them is good.
 type Run = (&'static str, u32, &'static str, bool);
 
 /// Programs with runs as worked out by hand.
 const EXAMPLES: [(&str, &[Run]); 14] = [
-    // Five lines: a variable that gets the input, and an assert.
     (
         FIVE_LINES,
         &[
-            ("1 1 ;", 1, "1 k", false),
-            ("1 2 ;", 1, "1 k", true),
-            ("1 1 ;", 1, "1 t 1 2", true),
-            ("1 1 ;", 1, "0", false),
-            ("1 2 ;", 1, "2 k k", false),
+            ("1", 1, "k", false),
+            ("2", 1, "k", true),
+            ("1", 1, "t 2", true),
+            ("1", 1, "", false),
+            ("2", 1, "k k", false),
         ],
     ),
-    // The same with a `short`.
     (
         SHORT,
         &[
-            ("1 40000 ;", 1, "1 k", false),
-            ("1 40000 ;", 1, "1 t 1 40000", false),
-            ("1 -5 ;", 1, "1 t 1 -5", true),
+            ("40000", 1, "k", false),
+            ("40000", 1, "t 40000", false),
+            ("-5", 1, "t -5", true),
         ],
     ),
-    // A sum in a `for`.
     (
         SUM,
         &[
-            ("1 3 ;", 3, "10 k k k k k k k k k k", false),
-            ("1 4 ;", 3, "13 k k k k k k k k k k k k k", true),
-            ("1 3 ;", 3, "13 k k k k k k k k t 1 1 k k k k", true),
-            ("1 5 ;", 3, "13 k k k k k k k k k k k k k", false),
-            ("1 5 ;", 3, "13 k k k k k k k k k k k t 1 0 k", true),
+            ("3", 3, "k k k k k k k k k k", false),
+            ("4", 3, "k k k k k k k k k k k k k", true),
+            ("3", 3, "k k k k k k k k t 1 k k k k", true),
+            ("5", 3, "k k k k k k k k k k k k k", false),
+            ("5", 3, "k k k k k k k k k k k t 0 k", true),
         ],
     ),
-    // A sum and an element, each of which two asserts compute.
     (
         TWICE,
         &[
-            ("1 1 ;", 1, "2 k k", true),
-            ("1 0 ;", 1, "2 k k", false),
-            ("1 0 ;", 1, "2 t 1 1 t 2 1 5", true),
-            ("1 1 ;", 1, "2 t 1 4 k", false),
+            ("1", 1, "k k", true),
+            ("0", 1, "k k", false),
+            ("0", 1, "t 1 t 1 5", true),
+            ("1", 1, "t 4 k", false),
         ],
     ),
-    // A store, whose index is the input.
     (
-        "2 i 2  0  0  1  1 0  1 1  4 decl 1 []= 1 1 v 0 1 assert 2 == e 1 0 1 return 3 0  3 [ ! r",
+        STORE,
         &[
-            ("1 2 ;", 1, "2 k k", false),
-            ("1 2 ;", 1, "2 t 2 0 1 k", true),
-            ("1 2 ;", 1, "2 t 2 1 1 k", false),
-            ("1 2 ;", 1, "2 t 2 2 1 k", false),
-            ("1 0 ;", 1, "2 k t 1 9", true),
-            ("1 -1 ;", 1, "2 k k", false),
+            ("2", 1, "k k", false),
+            ("2", 1, "t 0 1 k", true),
+            ("2", 1, "t 1 1 k", false),
+            ("2", 1, "t 2 1 k", false),
+            ("0", 1, "k t 9", true),
+            ("-1", 1, "k k", false),
         ],
     ),
-    // A division by the input.
     (
-        "2 i i  0  0  1  1 0  1 1  4 decl 1 = 1 1 / 6 v 0 assert 2 == v 1 2 return 3 0  3 = ! r",
+        DIVISION,
         &[
-            ("1 0 ;", 1, "2 k k", false),
-            ("1 0 ;", 1, "2 t 1 2 k", true),
-            ("1 3 ;", 1, "2 k k", true),
+            ("0", 1, "k k", false),
+            ("0", 1, "t 2 k", true),
+            ("3", 1, "k k", true),
         ],
     ),
-    // A call that changes a global.
     (
-        "2 i i  1 0  0  2  0  0  2 = 1 0 1 return 2 0
-    0  1 1  4 decl 1 = 3 1 call 1 0 0 assert 4 == v 0 0 return 5 v 1  5 = r = ! r",
+        GLOBAL,
         &[
-            ("0", 1, "4 k k k k", false),
-            ("0", 1, "4 k t 1 0 k k", true),
-            ("0", 1, "2 t 1 7 k", true),
+            ("", 1, "k k k k", false),
+            ("", 1, "k t 0 k k", true),
+            ("", 1, "t 7 k", true),
         ],
     ),
-    // A function that returns from inside a branch.
     (
-        "3 i i i  0  0  2  1 0  0  2 if 1 v 0 return 2 1 return 3 2
-    1 1  1 2  4 decl 2 = 4 2 call 1 0 1 x v 1 assert 5 == v 2 1 return 6 0  6 ? r r = ! r",
+        EARLY,
         &[
-            ("1 5 ;", 1, "4 k k k k", true),
-            ("1 0 ;", 1, "4 k k k k", false),
-            ("1 0 ;", 1, "4 k t 1 1 k k", true),
-            ("1 0 ;", 1, "4 k k t 1 1 k", true),
+            ("5", 1, "k k k k", true),
+            ("0", 1, "k k k k", false),
+            ("0", 1, "k t 1 k k", true),
+            ("0", 1, "k k t 1 k", true),
         ],
     ),
-    // A store in a branch.
     (
-        "2 i 2  0  0  1  1 0  1 1  3 decl 1 if 1 v 0 []= 2 1 0 1
-    assert 3 == e 1 0 1  3 ? [ !",
+        BRANCH,
         &[
-            ("1 1 ;", 1, "2 k k", true),
-            ("1 0 ;", 1, "1 k", false),
-            ("1 0 ;", 1, "2 t 1 1 k", true),
-            ("1 1 ;", 1, "1 t 1 0", false),
-            ("1 1 ;", 1, "2 k t 2 1 1", false),
-            ("1 0 ;", 1, "2 k k", false),
+            ("1", 1, "k k", true),
+            ("0", 1, "k", false),
+            ("0", 1, "t 1 k", true),
+            ("1", 1, "t 0", false),
+            ("1", 1, "k t 1 1", false),
+            ("0", 1, "k k", false),
         ],
     ),
-    // An array's initialiser that reads its array.
     (
-        "1 2  0  0  1  0  1 0  3 decl 0 inits 1 0 2 5 e 0 0 assert 2 == e 0 1 0  2 i !",
+        OWN,
         &[
-            ("0", 1, "1 k", true),
-            ("0", 1, "1 t 2 4 0", true),
-            ("0", 1, "1 t 2 4 1", false),
-            ("0", 1, "1 t 1 4", false),
+            ("", 1, "k", true),
+            ("", 1, "t 4 0", true),
+            ("", 1, "t 4 1", false),
+            ("", 1, "t 4", false),
         ],
     ),
-    // `break` and `continue`.
     (
-        "1 i  0  0  1  0  1 0  3 decl 0 for 2 1 = 1 0 0 < v 0 5 1 = 3 0 + v 0 1
-    { 2 if 4 == v 0 3 break continue assert 5 == v 0 3  5 = ? = ? !",
+        JUMPS,
         &[
-            ("0", 4, "12 k k k k k k k k k k k k", true),
-            ("0", 3, "12 k k k k k k k k k k k k", false),
-            ("0", 4, "6 k k k k k t 1 1", false),
+            ("", 4, "k k k k k k k k k k k k", true),
+            ("", 3, "k k k k k k k k k k k k", false),
+            ("", 4, "k k k k k t 1", false),
         ],
     ),
-    // A `do` whose condition is the input.
     (
-        "2 i i  0  0  1  1 0  1 1  3 decl 1 do 2 v 0 = 1 1 + v 1 1 assert 3 == v 1 1  3 = ? !",
+        BEHIND,
         &[
-            ("1 0 ;", 1, "2 k k", true),
-            ("1 1 ;", 1, "2 k k", false),
-            ("1 1 ;", 1, "2 k t 1 0", true),
+            ("0", 1, "k k", true),
+            ("1", 1, "k k", false),
+            ("1", 1, "k t 0", true),
         ],
     ),
-    // A comparison as unsigned, a short variable, the operators that evaluate one side.
     (
-        "2 i s  0  0  1  1 0  1 1  6 decl 1 assert 1 == u< u neg 1 u 1 0 = 2 1 s v 0
-    assert 3 && == i v 1 v 0 || 1 / 1 0 assert 4 == ? v 0 7 / 1 0 7 print 5 1 / 1 v 0  5 ! = ! ! c",
+        VALUES,
         &[
-            ("1 5 ;", 1, "2 k k", true),
-            ("1 0 ;", 1, "2 k k", false),
-            ("1 5 ;", 1, "2 t 1 6 k", false),
-            ("1 5 ;", 1, "2 t 1 40000 k", false),
+            ("5", 1, "k k", true),
+            ("0", 1, "k k", false),
+            ("5", 1, "t 6 k", false),
+            ("5", 1, "t 40000 k", false),
         ],
     ),
-    // A function that calls itself with its own array, and writes to the one that it was given.
     (
-        "4 p i 2 2  0  0  2  2 0 1  1 2
-    4 decl 2 if 1 v 1 calls 2 1 0 2 a 2 x - v 1 1 assert 3 == e 2 0 v 1 []= 4 0 0 1
-    0  1 3  3 decl 3 calls 5 2 0 2 a 3 x 1 assert 6 == e 3 0 1  6 ? c ! [ c !",
-        &[("0", 1, "6 k k k k k k", true), ("0", 1, "1 t 0", false)],
+        ARRAYS,
+        &[("", 1, "k k k k k k", true), ("", 1, "t ", false)],
     ),
 ];
 
@@ -306,9 +317,7 @@ fn expect_case(
 
 fn expect_run(rt: &impl Abort, alloc: Global, random: &mut Random, program: &str, run: &Run) {
     let (input, turns, choices, good) = *run;
-    let choices = Reader::new(alloc, choices.as_bytes())
-        .choices()
-        .expect(rt, "choices");
+    let choices = choices_of(rt, alloc, choices);
     let case = Case::new(rt, alloc, program, input, turns);
     expect_case(rt, alloc, random, &case, choices.as_slice(), good);
 }
@@ -329,7 +338,7 @@ fn lists_hold_exactly_where_runs_are_good(rt: HostRuntime) {
 
 /// Whether the list of the five lines has one place, with an empty path, and one value.
 fn five_lines_have_one_place(rt: &impl Abort, alloc: Global) -> bool {
-    let case = Case::new(rt, alloc, FIVE_LINES, "1 1 ;", 1);
+    let case = Case::new(rt, alloc, FIVE_LINES, "1", 1);
     has_one_place(&case.list)
 }
 
@@ -342,7 +351,7 @@ fn has_one_place(list: &WordList) -> bool {
 
 /// Whether the value of a `short` is a conversion to it.
 fn a_short_is_converted(rt: &impl Abort, alloc: Global) -> bool {
-    let case = Case::new(rt, alloc, SHORT, "1 40000 ;", 1);
+    let case = Case::new(rt, alloc, SHORT, "40000", 1);
     is_converted(&case.list)
 }
 
@@ -362,7 +371,7 @@ fn first_value(list: &WordList) -> Option<&WordOp> {
 
 /// How many places the condition and the body of the sum have within three turns.
 fn places_of_sum(rt: &impl Abort, alloc: Global) -> (usize, usize) {
-    let case = Case::new(rt, alloc, SUM, "1 3 ;", 3);
+    let case = Case::new(rt, alloc, SUM, "3", 3);
     (places_at(&case.list, 3), places_at(&case.list, 5))
 }
 
@@ -379,7 +388,7 @@ fn places_at(list: &WordList, stmt: u32) -> usize {
 
 /// How many entries of the list are sums, and how many are elements, where each is computed twice.
 fn sums_and_elements(rt: &impl Abort, alloc: Global) -> (usize, usize) {
-    let case = Case::new(rt, alloc, TWICE, "1 1 ;", 1);
+    let case = Case::new(rt, alloc, TWICE, "1", 1);
     let mut sums = 0usize;
     let mut elements = 0usize;
     for entry in case.list.words.as_slice() {

@@ -1,91 +1,77 @@
 //! Texts of inputs, with the values or the error that each has.
 
+use crate::programs::program_of;
 use ba_interp::{InputError, read_input};
-use ba_items::Items;
 use ba_tree::run::Input;
-use ba_tree::tree::Program;
 use std::alloc::Global;
 use std::panic::Expect;
 use std::process::Abort;
-use test_programs::reader::Reader;
 
-fn same(values: &[Items<i64>], others: &[Items<i64>]) -> bool {
-    if values.len() != others.len() {
-        return false;
-    }
-    for (list, other) in values.iter().zip(others.iter()) {
-        if list.as_slice() != other.as_slice() {
-            return false;
-        }
-    }
-    true
+/// Whether an input has these values for each parameter.
+fn has(input: &Input, values: &[&[i64]]) -> bool {
+    let lists = input.values.as_slice();
+    lists.len() == values.len()
+        && lists
+            .iter()
+            .zip(values.iter())
+            .all(|(list, other)| list.as_slice() == *other)
 }
 
-/// Whether the text is read as this input.
-fn gives(rt: &impl Abort, alloc: Global, program: &Program, text: &[u8], expected: &Input) -> bool {
+/// Whether the text is read as these values for each parameter.
+fn has_values(
+    rt: &impl Abort,
+    alloc: Global,
+    program: &str,
+    text: &[u8],
+    values: &[&[i64]],
+) -> bool {
     assert!(rt; text.len() <= 65_536);
-    match read_input(alloc, program, text) {
-        Ok(input) => same(input.values.as_slice(), expected.values.as_slice()),
+    let program = program_of(rt, alloc, program);
+    match read_input(alloc, &program, text) {
+        Ok(input) => has(&input, values),
         Err(_) => false,
     }
-}
-
-/// Whether the text has the values that are written as words.
-fn has_values(rt: &impl Abort, alloc: Global, program: &str, text: &[u8], values: &str) -> bool {
-    let program = Reader::new(alloc, program.as_bytes())
-        .program()
-        .expect(rt, "a program");
-    let expected = Reader::new(alloc, values.as_bytes())
-        .input()
-        .expect(rt, "an input");
-    gives(rt, alloc, &program, text, &expected)
 }
 
 /// The error of a text, if it has one.
 fn error_of(rt: &impl Abort, alloc: Global, program: &str, text: &[u8]) -> Option<InputError> {
     assert!(rt; text.len() <= 65_536);
-    let program = Reader::new(alloc, program.as_bytes())
-        .program()
-        .expect(rt, "a program");
+    let program = program_of(rt, alloc, program);
     read_input(alloc, &program, text).err()
 }
 
-/// `main` without parameters.
-const NONE: &str = "0  0  0  1  0  0  0  0";
+const NONE: &str = "int main(void) { }";
 
-const CHAR: &str = "1 c  0  0  1  1 0  0  0  0";
+const CHAR: &str = "int main(char c) { }";
 
-const INT: &str = "1 i  0  0  1  1 0  0  0  0";
+const INT: &str = "int main(int i) { }";
 
-const UNSIGNED: &str = "1 u  0  0  1  1 0  0  0  0";
+const UNSIGNED: &str = "int main(unsigned u) { }";
 
-/// `main` with an `int`, a `short`, an array of three `int`s and an `unsigned`.
-const FOUR: &str = "4 i s 3 u  0  0  1  4 0 1 2 3  0  0  0";
+const FOUR: &str = "int main(int i, short s, int a[3], unsigned u) { }";
 
-/// Programs, texts and the values that they have.
-static VALUES: [(&str, &str, &str); 10] = [
-    (NONE, "", "0"),
-    (NONE, " \n\t", "0"),
-    (CHAR, "-128", "1 -128 ;"),
-    (CHAR, "127", "1 127 ;"),
-    (INT, "-2147483648\n", "1 -2147483648 ;"),
-    (INT, "-0", "1 0 ;"),
-    (INT, "007", "1 7 ;"),
-    (UNSIGNED, "4294967295", "1 4294967295 ;"),
-    (FOUR, "1 2 3 4 5 6", "4 1 ; 2 ; 3 4 5 ; 6 ;"),
+/// A program, a text, and the values of each parameter that it has.
+type Row = (&'static str, &'static str, &'static [&'static [i64]]);
+
+static VALUES: [Row; 10] = [
+    (NONE, "", &[]),
+    (NONE, " \n\t", &[]),
+    (CHAR, "-128", &[&[-128]]),
+    (CHAR, "127", &[&[127]]),
+    (INT, "-2147483648\n", &[&[-2147483648]]),
+    (INT, "-0", &[&[0]]),
+    (INT, "007", &[&[7]]),
+    (UNSIGNED, "4294967295", &[&[4294967295]]),
+    (FOUR, "1 2 3 4 5 6", &[&[1], &[2], &[3, 4, 5], &[6]]),
     (
         FOUR,
         "\t-1\n-2\u{b}-3\u{c}-4\r-5  6 ",
-        "4 -1 ; -2 ; -3 -4 -5 ; 6 ;",
+        &[&[-1], &[-2], &[-3, -4, -5], &[6]],
     ),
 ];
 
 /// The first text with other values, if there is one.
-fn first_other_values(
-    rt: &impl Abort,
-    alloc: Global,
-    rows: &[(&str, &str, &str)],
-) -> Option<usize> {
+fn first_other_values(rt: &impl Abort, alloc: Global, rows: &[Row]) -> Option<usize> {
     for i in 0..rows.len() {
         let (program, text, values) = rows[i];
         if !has_values(rt, alloc, program, text.as_bytes(), values) {
@@ -162,7 +148,7 @@ fn digits(rt: &impl Abort, alloc: Global, count: usize, digit: u8, last: u8) -> 
 /// Whether 4,999 zeros and a 7 are read as 7.
 fn reads_zeros(rt: &impl Abort, alloc: Global) -> bool {
     let zeros = digits(rt, alloc, 4_999, b'0', b'7');
-    has_values(rt, alloc, INT, zeros.as_slice(), "1 7 ;")
+    has_values(rt, alloc, INT, zeros.as_slice(), &[&[7]])
 }
 
 /// The error of 5,000 nines.

@@ -1,12 +1,10 @@
-//! Tests by examples: whole programs as trees, with the outcomes and the units that were worked out by hand, texts of inputs, and what runs
-//! stand on; the nodes that stand for programs, without calls and then without loops; and lists of words, read by a plain evaluator,
-//! beside the runs of programs.
+//! Tests by examples: C programs with the outcomes and the units that were worked out by hand, texts of inputs, and what runs stand on;
+//! the nodes that stand for programs, without calls and then without loops; and lists of words, read by a plain evaluator, beside the
+//! runs of programs.
 #![tactic(auto)]
 
 #[cfg(test)]
 mod assignments;
-#[cfg(test)]
-mod facts;
 #[cfg(test)]
 mod guarded;
 #[cfg(test)]
@@ -22,7 +20,7 @@ mod machine;
 #[cfg(test)]
 mod numbers;
 #[cfg(test)]
-mod outcomes;
+mod programs;
 #[cfg(test)]
 mod runs;
 #[cfg(test)]

@@ -1,53 +1,64 @@
-//! Runs beside their outcomes, which were worked out by hand.
+//! Runs beside their outcomes, which were worked out by hand: of the program, of what stands for it without calls, and of that without
+//! loops.
 
+use crate::machine::Machine;
+use crate::programs::{choices_of, input_of, program_of};
+use ba_code::nodes::{ArrayInfo, Node, Param};
+use ba_inline::inline;
 use ba_interp::run;
+use ba_loops::unroll;
 use ba_tree::run::{Bounds, Outcome};
 use std::alloc::Global;
 use std::panic::Expect;
 use std::process::Abort;
 use test_programs::examples::{EXAMPLES, Example};
-use test_programs::reader::Reader;
 
-/// The outcome of a run that is written as words.
-fn outcome(
-    rt: &impl Abort,
-    alloc: Global,
-    program: &str,
-    input: &str,
-    turns: u32,
-    frames: u32,
-    allowed: &str,
-    choices: &str,
-) -> Outcome {
+/// The outcomes of a run: of the program, without calls, and without loops.
+fn outcomes(rt: &impl Abort, alloc: Global, example: &Example) -> (Outcome, Outcome, Outcome) {
+    let (program, input, turns, frames, relaxed, choices, _) = *example;
     assert!(rt; 1 <= turns && turns <= 64 && 1 <= frames && frames <= 32);
-    let program = Reader::new(alloc, program.as_bytes())
-        .program()
-        .expect(rt, "a program");
-    let input = Reader::new(alloc, input.as_bytes())
-        .input()
-        .expect(rt, "an input");
-    let allowed = Reader::new(alloc, allowed.as_bytes())
-        .allowed()
-        .expect(rt, "allowed places");
-    let choices = Reader::new(alloc, choices.as_bytes())
-        .choices()
-        .expect(rt, "choices");
-    run(
+    let program = program_of(rt, alloc, program);
+    let input = input_of(rt, alloc, &program, input);
+    let allowed = relaxed.allowed(alloc).expect(rt, "memory");
+    let choices = choices_of(rt, alloc, choices);
+    let choices = choices.as_slice();
+    let bounds = Bounds { turns, frames };
+    let whole = run(alloc, &program, &input, bounds, &allowed, choices).expect(rt, "memory");
+    let tree = inline(alloc, &program, frames).expect(rt, "memory");
+    let bound = unroll(alloc, &tree, turns).expect(rt, "memory");
+    let looping = Machine::new(
+        rt,
         alloc,
-        &program,
+        tree.vars,
+        tree.arrays.as_slice(),
+        tree.params.as_slice(),
         &input,
-        Bounds { turns, frames },
+        turns,
         &allowed,
-        choices.as_slice(),
+        choices,
     )
-    .expect(rt, "memory")
+    .run(tree.body.as_slice())
+    .expect(rt, "memory");
+    let straight = Machine::new(
+        rt,
+        alloc,
+        bound.vars,
+        bound.arrays.as_slice(),
+        bound.params.as_slice(),
+        &input,
+        0,
+        &allowed,
+        choices,
+    )
+    .run(bound.body.as_slice())
+    .expect(rt, "memory");
+    (whole, looping, straight)
 }
 
-/// Whether a run ends as it was worked out.
+/// Whether all three outcomes are the one that was worked out.
 fn ends(rt: &impl Abort, alloc: Global, example: &Example) -> bool {
-    let (program, input, turns, frames, allowed, choices, expected) = *example;
-    let found = outcome(rt, alloc, program, input, turns, frames, allowed, choices);
-    found == expected
+    let (_, _, _, _, _, _, expected) = *example;
+    outcomes(rt, alloc, example) == (expected, expected, expected)
 }
 
 /// The first example that ends otherwise, if there is one.

@@ -1,56 +1,94 @@
 //! Programs with their units within some bounds, which were counted by hand.
 
+use crate::programs::program_of;
 use ba_tree::run::Bounds;
 use ba_unroll::units;
 use std::alloc::Global;
-use std::panic::Expect;
 use std::process::Abort;
 use test_programs::examples::{
-    ARGUMENTS, ARRAYS, BEHIND, DIVISION, ENDLESS, GLOBAL, INITIALISER, JUMPS, OWN, P1, P2, P3, P5,
-    STORE, TURNS, VALUES,
+    ARGUMENTS, ARRAYS, BEHIND, CALL, DIVISION, DOWN, ELEMENT, ENDLESS, GLOBAL, INITIALISER, JUMPS,
+    OWN, STORE, SUM, TURNS, VALUES,
 };
-use test_programs::reader::Reader;
 
-/// The units of a program that is written as words.
+/// The units of a program.
 fn counted(rt: &impl Abort, alloc: Global, program: &str, turns: u32, frames: u32) -> u32 {
     assert!(rt; 1 <= turns && turns <= 64 && 1 <= frames && frames <= 32);
-    let program = Reader::new(alloc, program.as_bytes())
-        .program()
-        .expect(rt, "a program");
+    let program = program_of(rt, alloc, program);
     units(&program, Bounds { turns, frames })
 }
 
 /// Three loops in one another.
-const LOOPS: &str = "1 i  0  0  1  1 0  0  2 for 1 0 v 0 0 for 2 0 v 0 0 for 3 0 v 0 0 { 0
-    return 4 0  4 ? ? ? r";
+const LOOPS: &str = "int main(int n) {
+    for (; n;)
+        for (; n;)
+            for (; n;) { }
+    return 0;
+}
+";
 
 /// A function that calls itself twice.
-const TWICE: &str = "1 i  0  0  2  1 0  0  2 calls 1 1 0 1 x v 0 calls 2 2 0 1 x v 0
-    0  0  1 calls 3 3 0 1 x 1  3 c c c";
+const TWICE: &str = "void f(int n) {
+    f(n);
+    f(n);
+}
+int main(void) {
+    f(1);
+}
+";
 
 /// An array of 256 elements, which a function passes on to another one that reads an element.
-const PASSED: &str =
-    "3 p p 256  0  0  3  1 0  0  1 return 1 e 0 0  1 1  0  1 return 2 call 1 0 1 a 1
-    0  1 2  2 decl 2 return 3 call 2 1 1 a 2  3 r r r";
+const PASSED: &str = "int first(int p[]) {
+    return p[0];
+}
+int on(int p[]) {
+    return first(p);
+}
+int main(void) {
+    int a[256];
+    return on(a);
+}
+";
 
 /// A function that reads an element of its first array, and calls itself with its two arrays exchanged.
-const EXCHANGED: &str = "4 p p 1 256  0  0  2  2 0 1  0  2 assert 1 e 0 0 calls 2 1 0 2 a 1 a 0
-    0  2 2 3  3 decl 2 decl 3 calls 3 2 0 2 a 2 a 3  3 ! c c";
+const EXCHANGED: &str = "void f(int p[], int q[]) {
+    assert(p[0]);
+    f(q, p);
+}
+int main(void) {
+    int a[1], b[256];
+    f(a, b);
+}
+";
 
 /// Two loops in one another and a row of divisions: 20,000 units for 57 turns.
-const FULL: &str =
-    "1 i  0  0  1  1 0  0  2 while 1 + v 0 + 1 1 while 2 + v 0 + 1 1 = 3 0 + v 0 + 1 1
-    = 4 0 / 1 / 1 / 1 / 1 1  4 ? ? = =";
+const FULL: &str = "int main(int n) {
+    while (n + (1 + 1))
+        while (n + (1 + 1))
+            n = n + (1 + 1);
+    n = 1 / (1 / (1 / (1 / 1)));
+}
+";
 
 /// The same and a `return`.
-const ONE_OVER: &str =
-    "1 i  0  0  1  1 0  0  3 while 1 + v 0 + 1 1 while 2 + v 0 + 1 1 = 3 0 + v 0 + 1 1
-    = 4 0 / 1 / 1 / 1 / 1 1 end  4 ? ? = =";
+const ONE_OVER: &str = "int main(int n) {
+    while (n + (1 + 1))
+        while (n + (1 + 1))
+            n = n + (1 + 1);
+    n = 1 / (1 / (1 / (1 / 1)));
+    return;
+}
+";
 
 /// The same and two.
-const TWO_OVER: &str =
-    "1 i  0  0  1  1 0  0  4 while 1 + v 0 + 1 1 while 2 + v 0 + 1 1 = 3 0 + v 0 + 1 1
-    = 4 0 / 1 / 1 / 1 / 1 1 end end  4 ? ? = =";
+const TWO_OVER: &str = "int main(int n) {
+    while (n + (1 + 1))
+        while (n + (1 + 1))
+            n = n + (1 + 1);
+    n = 1 / (1 / (1 / (1 / 1)));
+    return;
+    return;
+}
+";
 
 /// A program, the bounds on turns and on frames, and the units.
 type Row<'a> = (&'a str, u32, u32, u32);
@@ -67,15 +105,15 @@ fn first_difference(rt: &impl Abort, alloc: Global, rows: &[Row]) -> Option<usiz
 }
 
 static UNITS: [Row; 40] = [
-    (P1, 1, 16, 17),
-    (P1, 64, 32, 17),
-    (P2, 1, 16, 9),
-    (P2, 1, 1, 7),
-    (P3, 3, 16, 27),
-    (P3, 4, 16, 33),
-    (P5, 1, 1, 3),
-    (P5, 1, 16, 108),
-    (P5, 1, 32, 220),
+    (ELEMENT, 1, 16, 17),
+    (ELEMENT, 64, 32, 17),
+    (CALL, 1, 16, 9),
+    (CALL, 1, 1, 7),
+    (SUM, 3, 16, 27),
+    (SUM, 4, 16, 33),
+    (DOWN, 1, 1, 3),
+    (DOWN, 1, 16, 108),
+    (DOWN, 1, 32, 220),
     (STORE, 1, 16, 10),
     (DIVISION, 1, 16, 45),
     (GLOBAL, 1, 16, 9),

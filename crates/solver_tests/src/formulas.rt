@@ -8,24 +8,61 @@ use ba_numbers::ids::StmtId;
 use std::alloc::Global;
 use std::panic::Expect;
 use std::process::Abort;
-use test_programs::examples::{DIVISION, GLOBAL, P1, P2, P3, P5, STORE, TWO};
+use test_programs::examples::{CALL, DIVISION, DOWN, ELEMENT, GLOBAL, STORE, SUM, TWO};
 
 /// A parameter and an assert.
-const ASSERT: &str = "1 i  0  0  1  1 0  0  1 assert 1 == v 0 2  1 !";
+const ASSERT: &str = "int main(int a) {
+    assert(a == 2);
+}
+";
 
 /// A variable that gets the input, and an assert.
-const FIVE_LINES: &str = "2 i i  0  0  1  1 0  1 1  3 decl 1 = 1 1 v 0 assert 2 == v 1 2  2 = !";
+const FIVE_LINES: &str = "int main(int a) {
+    int x;
+    x = a;
+    assert(x == 2);
+}
+";
 
-/// The same with a `short`.
-const SHORT: &str = "2 i s  0  0  1  1 0  1 1  3 decl 1 = 1 1 s v 0 assert 2 == i v 1 v 0  2 = !";
+/// The same with a `short`, which is compared with the input.
+const SHORT: &str = "int main(int a) {
+    short s;
+    s = a;
+    assert(s == a);
+}
+";
 
-/// A greatest element that is sought up to the last but one, and asserted over all. `main` has the statements 1 to 7.
-const GREATEST: &str = "7 p i i i 4 i i  0  0  2
-    2 0 1  2 2 3  5 decl 2 decl 3 init 8 3 e 0 0
-    for 10 1 = 9 2 1 < v 2 - v 1 1 1 = 11 2 + v 2 1 if 12 < v 3 e 0 v 2 = 13 3 e 0 v 2 return 14 v 3
-    1 4  2 5 6  6 decl 5 decl 6 = 1 6 call 1 0 2 a 4 x 4
-    for 3 1 = 2 5 0 < v 5 4 1 = 4 5 + v 5 1 assert 5 >= v 6 e 4 v 5 print 6 1 v 6 return 7 0
-    14 = = ? = ! c r i = ? = ? = r";
+/// A greatest element that is sought up to the last but one, and asserted over all. The conditions of its loops, the statements 3 and 10,
+/// stand in the lines 9 and 23.
+const GREATEST: &str = "#include <assert.h>
+#include <stdio.h>
+
+int largest(const int a[], int n);
+int main(int a[4]) {
+    int i, m;
+    m = largest(a, 4);
+    for (i = 0;
+         i < 4;
+         i++) {
+        assert(m >= a[i]);
+    }
+    printf(\"%d\\n\", m);
+    return 0;
+}
+
+/* the greatest of the first n elements */
+int largest(const int a[], int n) {
+    int i;
+    int m = a[0];
+    for (
+        i = 1;
+        i < n - 1;
+        i++)
+        if (a[i] > m)
+            m = a[i];
+    return m;
+}
+";
 
 /// The groups of its formula, with the weights 10 and 20 for the two conditions of its loops.
 const GREATEST_GROUPS: [(u32, u32); 13] = [
@@ -92,23 +129,23 @@ static ROWS: [Row; 13] = [
     },
     // The assignment in the other branch doesn't take place, and the assert fails before the `return`.
     Row {
-        program: P1,
+        program: ELEMENT,
         input: "1",
         turns: 1,
-        weights: "3 3",
+        weights: "7 3",
         groups: &[(1, 1), (2, 1), (3, 3), (4, 1), (6, 1)],
         repairs: &[&[1], &[3], &[4]],
     },
     Row {
-        program: P1,
+        program: ELEMENT,
         input: "1",
         turns: 1,
-        weights: "1 fixed\n4 fixed",
+        weights: "4 fixed\n8 fixed",
         groups: &[(2, 1), (3, 1), (6, 1)],
         repairs: &[&[3]],
     },
     Row {
-        program: P2,
+        program: CALL,
         input: "4",
         turns: 1,
         weights: "",
@@ -117,7 +154,7 @@ static ROWS: [Row; 13] = [
     },
     // Within three turns steps alone come to 1 + 2 + 2, and with another start to 2 + 2 + 2.
     Row {
-        program: P3,
+        program: SUM,
         input: "3",
         turns: 3,
         weights: "7 fixed",
@@ -126,7 +163,7 @@ static ROWS: [Row; 13] = [
     },
     // Within four turns steps alone come to 1 + 2 + 2 + 1.
     Row {
-        program: P3,
+        program: SUM,
         input: "3",
         turns: 4,
         weights: "7 fixed",
@@ -151,7 +188,7 @@ static ROWS: [Row; 13] = [
     },
     // The function calls itself past the depth; its `return` without a call isn't reached.
     Row {
-        program: P5,
+        program: DOWN,
         input: "15",
         turns: 1,
         weights: "",
@@ -171,7 +208,7 @@ static ROWS: [Row; 13] = [
         program: TWO,
         input: "",
         turns: 1,
-        weights: "5 1000",
+        weights: "7 1000",
         groups: &[(1, 1), (2, 1), (5, 1000)],
         repairs: &[&[1, 2]],
     },
@@ -234,9 +271,7 @@ fn has_repair(rt: &impl Abort, alloc: Global, encoded: &Encoded, set: &[u32]) ->
 
 /// Tries all sets of groups of a row's formula.
 fn check(rt: &impl Abort, alloc: Global, row: &Row) {
-    let encoded = encoded_of(alloc, row.program, row.input, row.turns, row.weights).expect(
-        rt, "memory",
-    );
+    let encoded = encoded_of(rt, alloc, row.program, row.input, row.turns, row.weights);
     let groups = groups_of(rt, alloc, &encoded).expect(rt, "a group of another statement");
     assert!(rt;
         groups.as_slice() == row.groups,
@@ -266,7 +301,7 @@ fn exactly_the_sets_that_could_repair_have_models(rt: HostRuntime) {
 #[test]
 fn thirteen_groups_have_their_smallest_repairs(rt: HostRuntime) {
     let alloc = rt.alloc();
-    let encoded = encoded_of(alloc, GREATEST, "3 1 2 9", 4, "3 10\n10 20").expect(&rt, "memory");
+    let encoded = encoded_of(&rt, alloc, GREATEST, "3 1 2 9", 4, "9 10\n23 20");
     let groups = groups_of(&rt, alloc, &encoded).expect(&rt, "a group of another statement");
     assert!(rt; groups.as_slice() == GREATEST_GROUPS.as_slice());
     for set in GREATEST_REPAIRS {

@@ -1,7 +1,8 @@
-//! Runs that are written as words, with the outcomes that were worked out by hand.
+//! Programs, and runs of them with the outcomes that were worked out by hand.
 
-use ba_numbers::ids::StmtId;
-use ba_tree::run::Outcome;
+use crate::Relaxed;
+use ba_numbers::ids::{CallId, StmtId};
+use ba_tree::run::{Outcome, Step};
 
 /// A program, an input, the bounds on turns and on frames, what may be relaxed, choices, and the outcome of the run.
 pub type Example = (
@@ -9,333 +10,507 @@ pub type Example = (
     &'static str,
     u32,
     u32,
-    &'static str,
+    Relaxed,
     &'static str,
     Outcome,
 );
+
+const NONE: Relaxed = Relaxed::Statements(&[]);
 
 const DONE: Outcome = Outcome::Done;
 
 const WRONG: Outcome = Outcome::WrongChoices;
 
 /// An array, `if` and `else`, an assert, an element returned.
-pub const P1: &str = "3 3 i i  1 0  0  1  1 1  1 2  5
-    decl 2  ife 1 != v 1 1 = 2 1 2 = 3 1 + v 1 2  = 4 2 v 1
-    assert 5 && >= v 2 0 < v 2 3  return 6 e 0 v 2  6 ? = = = ! r";
+pub const ELEMENT: &str = "int Array[3];
+int main(int index) {
+    int i;
+    if (index != 1)
+        index = 2;
+    else
+        index = index + 2;
+    i = index;
+    assert(i >= 0 && i < 3);
+    return Array[i];
+}
+";
 
 /// A call whose function returns a wrong value.
-pub const P2: &str = "3 i i i  0  0  2  1 0  0  1 return 1 + v 0 1
-    1 1  1 2  4 decl 2 = 2 2 call 1 0 1 x v 1 assert 3 == v 2 v 1 return 4 0  4 r = ! r";
+pub const CALL: &str = "int up(int x) {
+    return x + 1;
+}
+int main(int a) {
+    int y;
+    y = up(a);
+    assert(y == a);
+    return 0;
+}
+";
 
 /// A sum in a `for`.
-pub const P3: &str = "3 u u u  0  0  1  1 0  2 1 2  6 decl 1 decl 2 = 1 1 u 0
-    for 3 1 = 2 2 u 1 u< v 2 v 0 1 = 4 2 u+ v 2 u 1 = 5 1 u+ v 1 v 2
-    assert 6 u== v 1 u 6 return 7 0  7 = = ? = = ! r";
+pub const SUM: &str = "int main(unsigned n) {
+    unsigned s, i;
+    s = 0;
+    for (i = 1; i < n; i++)
+        s = s + i;
+    assert(s == 6);
+    return 0;
+}
+";
 
 /// A function that calls itself down to 0.
-pub const P5: &str =
-    "2 i i  0  0  2  1 0  0  2 if 1 == v 0 0 return 2 0 return 3 call 1 0 1 x - v 0 1
-    1 1  0  1 return 4 call 2 0 1 x v 1  4 ? r r r";
+pub const DOWN: &str = "int f(int n) {
+    if (n == 0)
+        return 0;
+    return f(n - 1);
+}
+int main(int n) {
+    return f(n);
+}
+";
 
 /// A store, whose index is the input.
-pub const STORE: &str =
-    "2 i 2  0  0  1  1 0  1 1  4 decl 1 []= 1 1 v 0 1 assert 2 == e 1 0 1 return 3 0  3 [ ! r";
+pub const STORE: &str = "int main(int k) {
+    int a[2];
+    a[k] = 1;
+    assert(a[0] == 1);
+    return 0;
+}
+";
 
 /// A division by the input.
-pub const DIVISION: &str =
-    "2 i i  0  0  1  1 0  1 1  4 decl 1 = 1 1 / 6 v 0 assert 2 == v 1 2 return 3 0  3 = ! r";
+pub const DIVISION: &str = "int main(int d) {
+    int q;
+    q = 6 / d;
+    assert(q == 2);
+    return 0;
+}
+";
 
 /// A call that changes a global.
-pub const GLOBAL: &str = "2 i i  1 0  0  2  0  0  2 = 1 0 1 return 2 0
-    0  1 1  4 decl 1 = 3 1 call 1 0 0 assert 4 == v 0 0 return 5 v 1  5 = r = ! r";
+pub const GLOBAL: &str = "int g;
+int f(void) {
+    g = 1;
+    return 0;
+}
+int main(void) {
+    int a;
+    a = f();
+    assert(g == 0);
+    return a;
+}
+";
 
 /// Two wrong assignments.
-pub const TWO: &str = "2 i i  0  0  1  0  2 0 1  7 decl 0 decl 1 = 1 0 1 = 2 1 1
-    assert 3 == v 0 2 assert 4 == v 1 2 return 5 0  5 = = ! ! r";
+pub const TWO: &str = "int main(void) {
+    int x, y;
+    x = 1;
+    y = 1;
+    assert(x == 2);
+    assert(y == 2);
+    return 0;
+}
+";
 
 /// A loop for ever.
-pub const ENDLESS: &str = "1 i  0  0  1  1 0  0  2 while 1 v 0 { 0 return 2 0  2 ? r";
+pub const ENDLESS: &str = "int main(int a) {
+    while (a) { }
+    return 0;
+}
+";
 
 /// An array's initialiser that reads its array.
-pub const OWN: &str =
-    "1 2  0  0  1  0  1 0  3 decl 0 inits 1 0 2 5 e 0 0 assert 2 == e 0 1 0  2 i !";
+pub const OWN: &str = "int main(void) {
+    int a[2] = {5, a[0]};
+    assert(a[1] == 0);
+}
+";
 
 /// A global's initialiser that divides by 0.
-pub const INITIALISER: &str = "1 i  1 0  1 init 1 0 / 1 0  1  0  0  1 return 2 v 0  2 i r";
+pub const INITIALISER: &str = "int g = 1 / 0;
+int main(void) {
+    return g;
+}
+";
 
 /// The arguments of a call make calls: one divides by the input, and the next one fails.
-pub const ARGUMENTS: &str =
-    "4 i i i i  0  0  4  2 0 1  0  1 return 1 v 0  1 2  0  1 return 2 / 6 v 2
-    0  0  2 assert 3 0 return 4 0  1 3  0  1 return 5 call 1 0 2 x call 2 1 1 x v 3 x call 3 2 0  5 r r ! r r";
+pub const ARGUMENTS: &str = "int first(int a, int b) {
+    return a;
+}
+int part(int d) {
+    return 6 / d;
+}
+int fail(void) {
+    assert(0);
+    return 0;
+}
+int main(int d) {
+    return first(part(d), fail());
+}
+";
 
 /// A function that calls itself with its own array, and writes to the one that it was given.
-pub const ARRAYS: &str = "4 p i 2 2  0  0  2  2 0 1  1 2
-    4 decl 2 if 1 v 1 calls 2 1 0 2 a 2 x - v 1 1 assert 3 == e 2 0 v 1 []= 4 0 0 1
-    0  1 3  3 decl 3 calls 5 2 0 2 a 3 x 1 assert 6 == e 3 0 1  6 ? c ! [ c !";
+pub const ARRAYS: &str = "void f(int p[], int n) {
+    int a[2];
+    if (n)
+        f(a, n - 1);
+    assert(a[0] == n);
+    p[0] = 1;
+}
+int main(void) {
+    int a[2];
+    f(a, 1);
+    assert(a[0] == 1);
+}
+";
 
 /// As many turns as the input says.
-pub const TURNS: &str =
-    "2 i i  0  0  1  1 0  1 1  2 decl 1 for 2 1 = 1 1 0 < v 1 v 0 1 = 3 1 + v 1 1 { 0  3 = ? =";
+pub const TURNS: &str = "int main(int n) {
+    int i;
+    for (i = 0; i < n; i++) { }
+}
+";
 
 /// `break` and `continue`.
-pub const JUMPS: &str = "1 i  0  0  1  0  1 0  3 decl 0 for 2 1 = 1 0 0 < v 0 5 1 = 3 0 + v 0 1
-    { 2 if 4 == v 0 3 break continue assert 5 == v 0 3  5 = ? = ? !";
+pub const JUMPS: &str = "int main(void) {
+    int i;
+    for (i = 0; i < 5; i++) {
+        if (i == 3)
+            break;
+        continue;
+    }
+    assert(i == 3);
+}
+";
 
 /// A `do` whose condition is the input.
-pub const BEHIND: &str =
-    "2 i i  0  0  1  1 0  1 1  3 decl 1 do 2 v 0 = 1 1 + v 1 1 assert 3 == v 1 1  3 = ? !";
+pub const BEHIND: &str = "int main(int a) {
+    int n;
+    do
+        n = n + 1;
+    while (a);
+    assert(n == 1);
+}
+";
 
 /// A comparison as unsigned, a short variable, the operators that evaluate one side.
-pub const VALUES: &str =
-    "2 i s  0  0  1  1 0  1 1  6 decl 1 assert 1 == u< u neg 1 u 1 0 = 2 1 s v 0
-    assert 3 && == i v 1 v 0 || 1 / 1 0 assert 4 == ? v 0 7 / 1 0 7 print 5 1 / 1 v 0  5 ! = ! ! c";
+pub const VALUES: &str = "int main(int a) {
+    short s;
+    assert(((unsigned)-1 < (unsigned)1) == 0);
+    s = a;
+    assert(s == a && (1 || 1 / 0));
+    assert((a ? 7 : 1 / 0) == 7);
+    printf(\"%d\", 1 / a);
+}
+";
 
 /// A local of a loop's body, which is 0 again in each turn.
-pub const AGAIN: &str = "3 i i i  0  0  1  0  3 0 1 2  4 decl 0 decl 1
-    for 2 1 = 1 0 0 < v 0 2 1 = 3 0 + v 0 1 { 3 decl 2 = 4 1 + v 1 v 2 = 5 2 5
-    assert 6 == v 1 0  6 = ? = = = !";
+pub const AGAIN: &str = "int main(void) {
+    int i, s;
+    for (i = 0; i < 2; i++) {
+        int x;
+        s = s + x;
+        x = 5;
+    }
+    assert(s == 0);
+}
+";
 
 /// A `return` out of two loops in one another.
-pub const INNER: &str = "1 i  0  0  2  1 0  0  2 while 1 1 while 2 1 { 2 if 3 v 0 return 4 3 = 5 0 1
-    return 6 4  0  0  2 assert 7 == call 1 0 1 x 0 3 return 8 0  8 ? ? ? r = r ! r";
+pub const INNER: &str = "int f(int n) {
+    while (1)
+        while (1) {
+            if (n)
+                return 3;
+            n = 1;
+        }
+    return 4;
+}
+int main(void) {
+    assert(f(0) == 3);
+    return 0;
+}
+";
 
 /// Calls on the right of the operators that evaluate one side.
-pub const SIDES: &str = "1 i  1 0  0  2  0  0  2 = 1 0 1 return 2 1
-    0  0  3 assert 3 == && 0 call 1 0 0 v 0 assert 4 == || 0 call 2 0 0 v 0 return 5 0  5 = r ! ! r";
+pub const SIDES: &str = "int g;
+int f(void) {
+    g = 1;
+    return 1;
+}
+int main(void) {
+    assert((0 && f()) == g);
+    assert((0 || f()) == g);
+    return 0;
+}
+";
 
 /// An array that a function passes on to another one, which writes to it.
-pub const HANDED: &str = "3 p p 2  0  0  3  1 0  0  2 []= 1 0 1 7 return 2 e 0 1
-    1 1  0  1 return 3 call 1 0 1 a 1
-    0  1 2  3 decl 2 assert 4 == call 2 1 1 a 2 7 assert 5 == e 2 1 7  5 [ r r ! !";
+pub const HANDED: &str = "int set(int p[]) {
+    p[1] = 7;
+    return p[1];
+}
+int on(int p[]) {
+    return set(p);
+}
+int main(void) {
+    int a[2];
+    assert(on(a) == 7);
+    assert(a[1] == 7);
+}
+";
 
 /// Runs of these programs, with each way to end.
 pub static EXAMPLES: [Example; 76] = [
-    (AGAIN, "0", 2, 16, ";", "0", DONE),
-    (AGAIN, "0", 1, 16, ";", "0", Outcome::Beyond(StmtId(2))),
+    (AGAIN, "", 2, 16, NONE, "", DONE),
+    (AGAIN, "", 1, 16, NONE, "", Outcome::Beyond(StmtId(2))),
     (
         AGAIN,
-        "0",
+        "",
         2,
         16,
-        "4 ;",
-        "2 k t 1 7",
+        Relaxed::Statements(&[4]),
+        "k t 7",
         Outcome::AssertFails(StmtId(6)),
     ),
-    (AGAIN, "0", 2, 16, "5 ;", "2 t 1 3 t 1 4", DONE),
-    (INNER, "0", 2, 16, ";", "0", DONE),
-    (INNER, "0", 1, 16, ";", "0", Outcome::Beyond(StmtId(2))),
-    (INNER, "0", 2, 16, "3 ;", "1 t 1 1", DONE),
-    (INNER, "0", 2, 16, "2 ;", "1 t 1 0", WRONG),
-    (INNER, "0", 2, 16, "2 ;", "3 t 1 0 k k", DONE),
+    (AGAIN, "", 2, 16, Relaxed::Statements(&[5]), "t 3 t 4", DONE),
+    (INNER, "", 2, 16, NONE, "", DONE),
+    (INNER, "", 1, 16, NONE, "", Outcome::Beyond(StmtId(2))),
+    (INNER, "", 2, 16, Relaxed::Statements(&[3]), "t 1", DONE),
+    (INNER, "", 2, 16, Relaxed::Statements(&[2]), "t 0", WRONG),
+    (INNER, "", 2, 16, Relaxed::Statements(&[2]), "t 0 k k", DONE),
     (
         INNER,
-        "0",
+        "",
         2,
         16,
-        "at 1 4 3 call 1 turn 1 1 turn 2 2 ;",
-        "1 t 1 4",
+        Relaxed::Place(
+            &[
+                Step::Call(CallId(1)),
+                Step::Turn(StmtId(1), 1),
+                Step::Turn(StmtId(2), 2),
+            ],
+            4,
+        ),
+        "t 4",
         Outcome::AssertFails(StmtId(7)),
     ),
-    (SIDES, "0", 1, 16, ";", "0", DONE),
+    (SIDES, "", 1, 16, NONE, "", DONE),
     (
         SIDES,
-        "0",
+        "",
         1,
         16,
-        "1 ;",
-        "1 t 1 5",
+        Relaxed::Statements(&[1]),
+        "t 5",
         Outcome::AssertFails(StmtId(4)),
     ),
-    (SIDES, "0", 1, 1, ";", "0", Outcome::Beyond(StmtId(4))),
-    (HANDED, "0", 1, 16, ";", "0", DONE),
+    (SIDES, "", 1, 1, NONE, "", Outcome::Beyond(StmtId(4))),
+    (HANDED, "", 1, 16, NONE, "", DONE),
     (
         HANDED,
-        "0",
+        "",
         1,
         16,
-        "1 ;",
-        "1 t 2 0 7",
+        Relaxed::Statements(&[1]),
+        "t 0 7",
         Outcome::AssertFails(StmtId(4)),
     ),
     (
         HANDED,
-        "0",
+        "",
         1,
         16,
-        "3 ;",
-        "1 t 1 7",
+        Relaxed::Statements(&[3]),
+        "t 7",
         Outcome::AssertFails(StmtId(5)),
     ),
     (
-        P1,
-        "1 1 ;",
+        ELEMENT,
+        "1",
         1,
         16,
-        ";",
-        "0",
+        NONE,
+        "",
         Outcome::AssertFails(StmtId(5)),
     ),
-    (P1, "1 0 ;", 1, 16, ";", "0", DONE),
-    (P1, "1 1 ;", 1, 16, "1 ;", "1 t 1 1", DONE),
-    (P1, "1 1 ;", 1, 16, "1 ;", "1 t 1 2", WRONG),
-    (P1, "1 1 ;", 1, 16, "4 ;", "1 t 1 2", DONE),
+    (ELEMENT, "0", 1, 16, NONE, "", DONE),
+    (ELEMENT, "1", 1, 16, Relaxed::Statements(&[1]), "t 1", DONE),
+    (ELEMENT, "1", 1, 16, Relaxed::Statements(&[1]), "t 2", WRONG),
+    (ELEMENT, "1", 1, 16, Relaxed::Statements(&[4]), "t 2", DONE),
     (
-        P1,
-        "1 1 ;",
+        ELEMENT,
+        "1",
         1,
         16,
-        "4 ;",
-        "1 k",
+        Relaxed::Statements(&[4]),
+        "k",
         Outcome::AssertFails(StmtId(5)),
     ),
-    (P1, "1 1 ;", 1, 16, "5 ;", "1 k", WRONG),
+    (ELEMENT, "1", 1, 16, Relaxed::Statements(&[5]), "k", WRONG),
+    (CALL, "4", 1, 16, NONE, "", Outcome::AssertFails(StmtId(3))),
+    (CALL, "4", 1, 16, Relaxed::Statements(&[1]), "t 4", DONE),
     (
-        P2,
-        "1 4 ;",
+        CALL,
+        "4",
         1,
         16,
-        ";",
-        "0",
-        Outcome::AssertFails(StmtId(3)),
+        Relaxed::Place(&[Step::Call(CallId(1))], 1),
+        "t 4",
+        DONE,
     ),
-    (P2, "1 4 ;", 1, 16, "1 ;", "1 t 1 4", DONE),
-    (P2, "1 4 ;", 1, 16, "at 1 1 1 call 1 ;", "1 t 1 4", DONE),
-    (P2, "1 4 ;", 1, 16, "at 1 1 0 ;", "1 t 1 4", WRONG),
-    (P2, "1 4 ;", 1, 16, "2 ;", "1 t 1 4", DONE),
-    (P2, "1 4 ;", 1, 1, ";", "0", Outcome::Beyond(StmtId(2))),
+    (CALL, "4", 1, 16, Relaxed::Place(&[], 1), "t 4", WRONG),
+    (CALL, "4", 1, 16, Relaxed::Statements(&[2]), "t 4", DONE),
+    (CALL, "4", 1, 1, NONE, "", Outcome::Beyond(StmtId(2))),
+    (SUM, "3", 3, 16, NONE, "", Outcome::AssertFails(StmtId(6))),
+    (SUM, "4", 3, 16, NONE, "", DONE),
+    (SUM, "5", 3, 16, NONE, "", Outcome::Beyond(StmtId(3))),
     (
-        P3,
-        "1 3 ;",
+        SUM,
+        "3",
         3,
         16,
-        ";",
-        "0",
-        Outcome::AssertFails(StmtId(6)),
+        Relaxed::Statements(&[3]),
+        "k k t 1 t 0",
+        DONE,
     ),
-    (P3, "1 4 ;", 3, 16, ";", "0", DONE),
-    (P3, "1 5 ;", 3, 16, ";", "0", Outcome::Beyond(StmtId(3))),
-    (P3, "1 3 ;", 3, 16, "3 ;", "4 k k t 1 1 t 1 0", DONE),
-    (P3, "1 3 ;", 3, 16, "at 1 3 1 turn 3 3 ;", "1 t 1 1", DONE),
     (
-        P3,
-        "1 4 ;",
+        SUM,
+        "3",
         3,
         16,
-        "at 1 3 1 turn 3 4 ;",
-        "1 t 1 1",
+        Relaxed::Place(&[Step::Turn(StmtId(3), 3)], 3),
+        "t 1",
+        DONE,
+    ),
+    (
+        SUM,
+        "4",
+        3,
+        16,
+        Relaxed::Place(&[Step::Turn(StmtId(3), 4)], 3),
+        "t 1",
         Outcome::Beyond(StmtId(3)),
     ),
-    (P5, "1 14 ;", 1, 16, ";", "0", DONE),
-    (P5, "1 15 ;", 1, 16, ";", "0", Outcome::Beyond(StmtId(3))),
-    (P5, "1 30 ;", 1, 32, ";", "0", DONE),
-    (P5, "1 31 ;", 1, 32, ";", "0", Outcome::Beyond(StmtId(3))),
-    (STORE, "1 2 ;", 1, 16, ";", "0", Outcome::Trap(StmtId(1))),
-    (STORE, "1 0 ;", 1, 16, ";", "0", DONE),
-    (STORE, "1 2 ;", 1, 16, "1 ;", "1 t 2 0 1", DONE),
-    (STORE, "1 2 ;", 1, 16, "1 ;", "1 t 2 2 1", WRONG),
-    (STORE, "1 2 ;", 1, 16, "1 ;", "1 t 1 0", WRONG),
-    (DIVISION, "1 0 ;", 1, 16, ";", "0", Outcome::Trap(StmtId(1))),
-    (DIVISION, "1 0 ;", 1, 16, "1 ;", "1 t 1 2", DONE),
+    (DOWN, "14", 1, 16, NONE, "", DONE),
+    (DOWN, "15", 1, 16, NONE, "", Outcome::Beyond(StmtId(3))),
+    (DOWN, "30", 1, 32, NONE, "", DONE),
+    (DOWN, "31", 1, 32, NONE, "", Outcome::Beyond(StmtId(3))),
+    (STORE, "2", 1, 16, NONE, "", Outcome::Trap(StmtId(1))),
+    (STORE, "0", 1, 16, NONE, "", DONE),
+    (STORE, "2", 1, 16, Relaxed::Statements(&[1]), "t 0 1", DONE),
+    (STORE, "2", 1, 16, Relaxed::Statements(&[1]), "t 2 1", WRONG),
+    (STORE, "2", 1, 16, Relaxed::Statements(&[1]), "t 0", WRONG),
+    (DIVISION, "0", 1, 16, NONE, "", Outcome::Trap(StmtId(1))),
+    (DIVISION, "0", 1, 16, Relaxed::Statements(&[1]), "t 2", DONE),
+    (GLOBAL, "", 1, 16, NONE, "", Outcome::AssertFails(StmtId(4))),
+    (GLOBAL, "", 1, 16, Relaxed::Statements(&[1]), "t 0", DONE),
+    (GLOBAL, "", 1, 16, Relaxed::Statements(&[3]), "t 7", DONE),
     (
-        GLOBAL,
-        "0",
+        TWO,
+        "",
         1,
         16,
-        ";",
-        "0",
-        Outcome::AssertFails(StmtId(4)),
-    ),
-    (GLOBAL, "0", 1, 16, "1 ;", "1 t 1 0", DONE),
-    (GLOBAL, "0", 1, 16, "3 ;", "1 t 1 7", DONE),
-    (TWO, "0", 1, 16, "1 2 ;", "2 t 1 2 t 1 2", DONE),
-    (TWO, "0", 1, 16, "1 2 ;", "1 t 1 2", WRONG),
-    (TWO, "0", 1, 16, "1 2 ;", "3 t 1 2 t 1 2 k", WRONG),
-    (
-        ENDLESS,
-        "1 1 ;",
-        5,
-        16,
-        ";",
-        "0",
-        Outcome::Beyond(StmtId(1)),
-    ),
-    (
-        ENDLESS,
-        "1 1 ;",
-        5,
-        16,
-        "at 1 1 1 turn 1 6 ;",
-        "1 t 1 0",
+        Relaxed::Statements(&[1, 2]),
+        "t 2 t 2",
         DONE,
     ),
-    (OWN, "0", 1, 16, ";", "0", DONE),
-    (OWN, "0", 1, 16, "1 ;", "1 t 2 4 0", DONE),
-    (OWN, "0", 1, 16, "1 ;", "1 t 1 4", WRONG),
-    (INITIALISER, "0", 1, 16, ";", "0", Outcome::Trap(StmtId(1))),
-    (INITIALISER, "0", 1, 16, "1 ;", "1 t 1 3", DONE),
+    (TWO, "", 1, 16, Relaxed::Statements(&[1, 2]), "t 2", WRONG),
     (
-        ARGUMENTS,
-        "1 0 ;",
+        TWO,
+        "",
         1,
         16,
-        ";",
-        "0",
-        Outcome::Trap(StmtId(2)),
+        Relaxed::Statements(&[1, 2]),
+        "t 2 t 2 k",
+        WRONG,
     ),
+    (ENDLESS, "1", 5, 16, NONE, "", Outcome::Beyond(StmtId(1))),
     (
-        ARGUMENTS,
-        "1 1 ;",
+        ENDLESS,
+        "1",
+        5,
+        16,
+        Relaxed::Place(&[Step::Turn(StmtId(1), 6)], 1),
+        "t 0",
+        DONE,
+    ),
+    (OWN, "", 1, 16, NONE, "", DONE),
+    (OWN, "", 1, 16, Relaxed::Statements(&[1]), "t 4 0", DONE),
+    (OWN, "", 1, 16, Relaxed::Statements(&[1]), "t 4", WRONG),
+    (INITIALISER, "", 1, 16, NONE, "", Outcome::Trap(StmtId(1))),
+    (
+        INITIALISER,
+        "",
         1,
         16,
-        ";",
-        "0",
+        Relaxed::Statements(&[1]),
+        "t 3",
+        DONE,
+    ),
+    (ARGUMENTS, "0", 1, 16, NONE, "", Outcome::Trap(StmtId(2))),
+    (
+        ARGUMENTS,
+        "1",
+        1,
+        16,
+        NONE,
+        "",
         Outcome::AssertFails(StmtId(3)),
     ),
-    (ARGUMENTS, "1 1 ;", 1, 16, "3 ;", "1 k", WRONG),
-    (ARGUMENTS, "1 1 ;", 1, 16, "5 ;", "1 t 1 0", DONE),
-    (ARRAYS, "0", 1, 16, ";", "0", DONE),
+    (ARGUMENTS, "1", 1, 16, Relaxed::Statements(&[3]), "k", WRONG),
     (
-        ARRAYS,
-        "0",
+        ARGUMENTS,
+        "1",
         1,
         16,
-        "5 ;",
-        "1 t 0",
-        Outcome::AssertFails(StmtId(6)),
-    ),
-    (TURNS, "1 64 ;", 64, 16, ";", "0", DONE),
-    (
-        TURNS,
-        "1 65 ;",
-        64,
-        16,
-        ";",
-        "0",
-        Outcome::Beyond(StmtId(2)),
-    ),
-    (JUMPS, "0", 4, 16, ";", "0", DONE),
-    (JUMPS, "0", 3, 16, ";", "0", Outcome::Beyond(StmtId(2))),
-    (BEHIND, "1 0 ;", 1, 16, ";", "0", DONE),
-    (BEHIND, "1 1 ;", 1, 16, ";", "0", Outcome::Beyond(StmtId(2))),
-    (
-        BEHIND,
-        "1 1 ;",
-        1,
-        16,
-        "at 1 2 1 turn 2 1 ;",
-        "1 t 1 0",
+        Relaxed::Statements(&[5]),
+        "t 0",
         DONE,
     ),
-    (VALUES, "1 5 ;", 1, 16, ";", "0", DONE),
-    (VALUES, "1 0 ;", 1, 16, ";", "0", Outcome::Trap(StmtId(4))),
-    (VALUES, "1 5 ;", 1, 16, "2 ;", "1 t 1 40000", WRONG),
+    (ARRAYS, "", 1, 16, NONE, "", DONE),
     (
-        VALUES,
-        "1 5 ;",
+        ARRAYS,
+        "",
         1,
         16,
-        "2 ;",
-        "1 t 1 6",
+        Relaxed::Statements(&[5]),
+        "t",
+        Outcome::AssertFails(StmtId(6)),
+    ),
+    (TURNS, "64", 64, 16, NONE, "", DONE),
+    (TURNS, "65", 64, 16, NONE, "", Outcome::Beyond(StmtId(2))),
+    (JUMPS, "", 4, 16, NONE, "", DONE),
+    (JUMPS, "", 3, 16, NONE, "", Outcome::Beyond(StmtId(2))),
+    (BEHIND, "0", 1, 16, NONE, "", DONE),
+    (BEHIND, "1", 1, 16, NONE, "", Outcome::Beyond(StmtId(2))),
+    (
+        BEHIND,
+        "1",
+        1,
+        16,
+        Relaxed::Place(&[Step::Turn(StmtId(2), 1)], 2),
+        "t 0",
+        DONE,
+    ),
+    (VALUES, "5", 1, 16, NONE, "", DONE),
+    (VALUES, "0", 1, 16, NONE, "", Outcome::Trap(StmtId(4))),
+    (
+        VALUES,
+        "5",
+        1,
+        16,
+        Relaxed::Statements(&[2]),
+        "t 40000",
+        WRONG,
+    ),
+    (
+        VALUES,
+        "5",
+        1,
+        16,
+        Relaxed::Statements(&[2]),
+        "t 6",
         Outcome::AssertFails(StmtId(3)),
     ),
 ];

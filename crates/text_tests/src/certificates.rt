@@ -7,7 +7,7 @@ use ba_numbers::ids::StmtId;
 use std::alloc::Global;
 use std::panic::Expect;
 use std::process::Abort;
-use test_programs::reader::Fault;
+use test_programs::Fault;
 
 /// What a text says, or the line at which it is refused and the code.
 #[derive(Clone, Copy, Debug, PartialEq, Eq)]

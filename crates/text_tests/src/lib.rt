@@ -13,11 +13,11 @@ mod parts;
 #[cfg(test)]
 mod problems;
 #[cfg(test)]
-mod programs;
-#[cfg(test)]
 mod sinks;
 #[cfg(test)]
 mod texts;
+#[cfg(test)]
+mod verdicts;
 #[cfg(test)]
 mod weights;
 #[cfg(test)]

@@ -1,8 +1,8 @@
 //! Numbers and choices as parts of texts.
 
-use crate::programs::{KEEP, run_of};
 use ba_text::{push_choices, push_number, push_value};
 use std::panic::Expect;
+use test_programs::choices_of;
 
 #[test]
 fn numbers_stand_in_decimal_digits(rt: HostRuntime) {
@@ -21,7 +21,7 @@ fn numbers_stand_in_decimal_digits(rt: HostRuntime) {
 
 #[test]
 fn each_choice_stands_behind_a_space(rt: HostRuntime) {
-    let run = run_of(&rt, rt.alloc(), &[&[KEEP], &[-2, 3], &[]]);
+    let run = choices_of(rt.alloc(), "k t -2 3 t").expect(&rt, "choices");
     let mut text = Vec::new(rt.alloc());
     push_choices(run.as_slice(), &mut text).expect(&rt, "memory");
     assert_eq!(rt; text.as_slice(), " k t -2 3 t".as_bytes());

@@ -13,8 +13,8 @@ use ba_tree::run::{Bounds, Input};
 use ba_tree::tree::Program;
 use std::alloc::{AllocError, Global};
 use test_formulas::{are_selectors, formula_of, literal};
-use test_programs::examples::P1;
-use test_programs::reader::{Fault, Reader};
+use test_programs::examples::ELEMENT;
+use test_programs::{Fault, program_of};
 
 /// How many statements are relaxable: those with the numbers from 1 on.
 const STATEMENTS: u32 = 4;
@@ -66,11 +66,11 @@ fn groups(alloc: Global) -> Result<Items<Group>, AllocError> {
 
 /// The program that reads an array at a wrong place, with these clauses over its selectors.
 pub fn array_example(alloc: Global, clauses: &[&[i64]]) -> Result<Problem, Fault> {
-    let program = Reader::new(alloc, P1.as_bytes()).program()?;
+    let program = program_of(alloc, ELEMENT)?;
     let formula = formula_of(alloc, u64::from(STATEMENTS), clauses)?;
     let groups = groups(alloc)?;
     if groups.len() >= 1 << 32 {
-        return Err(Fault::Unfit);
+        return Err(Fault::NoProgram);
     }
     Ok(Problem {
         program,
@@ -116,7 +116,7 @@ pub fn judge(
 {
     let softs = softs_of(alloc, &problem.encoded)?;
     if !are_selectors(problem.encoded.formula().variables(), softs.as_slice()) {
-        return Err(Fault::Unfit);
+        return Err(Fault::NoProgram);
     }
     Ok(match size {
         Some(size) => by_pieces(alloc, problem, settings, text, size),
@@ -168,7 +168,7 @@ pub fn feed_all(
 {
     let softs = softs_of(alloc, &problem.encoded)?;
     if !are_selectors(problem.encoded.formula().variables(), softs.as_slice()) {
-        return Err(Fault::Unfit);
+        return Err(Fault::NoProgram);
     }
     answers(alloc, problem, settings, pieces, refusals)
 }

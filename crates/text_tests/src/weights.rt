@@ -1,115 +1,23 @@
 //! Texts of weights, with the weights of a program's statements or the line that is wrong.
 
 use ba_commands::{WeightsError, read_weights};
-use ba_facts::program_of;
-use ba_items::Items;
-use ba_numbers::ids::{At, FnId, StmtId, VarId};
-use ba_numbers::numbers::CType;
-use ba_tree::tree::{Expr, Function, Parts, Program, Shape, Stmt, StmtInfo, StmtKind, Variable};
+use ba_tree::tree::Program;
 use std::alloc::{AllocError, Global};
 use std::panic::Expect;
 use std::process::Abort;
+use test_programs::program_of;
 
-/// A constant of type `int`.
-fn one() -> Expr {
-    Expr::Const {
-        t: CType::I32,
-        value: 1,
-    }
-}
+/// Its statements begin in the lines 2, 3, 3, 4, 8 and 9; the fourth is an assert.
+const PROGRAM: &str = "int main(void) { int a;
+a = 1;
+a = 2; a = 3;
+assert(a);
 
-/// A statement of this number and kind: an assignment, an assert or a `return`.
-fn statement(number: u32, kind: StmtKind) -> Stmt {
-    match kind {
-        StmtKind::Assert => Stmt::Assert {
-            stmt: StmtId(number),
-            when: one(),
-        },
-        StmtKind::Return => Stmt::Return {
-            stmt: StmtId(number),
-            value: one(),
-        },
-        _ => Stmt::Assign {
-            stmt: StmtId(number),
-            var: VarId(0),
-            value: one(),
-        },
-    }
-}
 
-/// The lines and kinds of the statements, by their numbers.
-static STATEMENTS: [(u32, StmtKind); 6] = [
-    (2, StmtKind::Assignment),
-    (3, StmtKind::Assignment),
-    (3, StmtKind::Assignment),
-    (4, StmtKind::Assert),
-    (99_999, StmtKind::Assignment),
-    (100_000, StmtKind::Return),
-];
-
-fn body(rt: &impl Abort, alloc: Global, rows: &[(u32, StmtKind)]) -> Items<Stmt> {
-    let mut body = Items::new(alloc);
-    let mut number = 0u32;
-    for (_, kind) in rows {
-        number = number.saturating_add(1);
-        body.push(statement(number, *kind)).expect(rt, "memory");
-    }
-    body
-}
-
-fn infos(rt: &impl Abort, alloc: Global, rows: &[(u32, StmtKind)]) -> Items<StmtInfo> {
-    let mut infos = Items::new(alloc);
-    for (line, kind) in rows {
-        infos
-            .push(StmtInfo {
-                at: At {
-                    line: *line,
-                    column: 5,
-                },
-                kind: *kind,
-            })
-            .expect(rt, "memory");
-    }
-    infos
-}
-
-/// `main`, with one variable and the statements.
-fn main(rt: &impl Abort, alloc: Global) -> Function {
-    let locals = Items::from_slice(alloc, &[VarId(0)]).expect(rt, "memory");
-    let body = body(rt, alloc, STATEMENTS.as_slice());
-    Function {
-        result: Some(CType::I32),
-        params: Items::new(alloc),
-        locals,
-        body,
-    }
-}
-
-fn functions(rt: &impl Abort, alloc: Global) -> Items<Function> {
-    let mut functions = Items::new(alloc);
-    functions.push(main(rt, alloc)).expect(rt, "memory");
-    functions
-}
-
-/// The parts of a program whose statements begin in lines 2, 3, 3, 4, 99,999 and 100,000; the fourth is an
-/// assert.
-fn parts(rt: &impl Abort, alloc: Global) -> Parts {
-    let variable = Variable {
-        t: CType::I32,
-        shape: Shape::Value,
-    };
-    let variables = Items::from_slice(alloc, &[variable]).expect(rt, "memory");
-    let functions = functions(rt, alloc);
-    let statements = infos(rt, alloc, STATEMENTS.as_slice());
-    Parts {
-        variables,
-        globals: Items::new(alloc),
-        inits: Items::new(alloc),
-        functions,
-        main: FnId(0),
-        statements,
-    }
-}
+/* nothing here */
+a = 5;
+return a; }
+";
 
 /// The weights as text, with `-` for none.
 fn add_weights(text: &mut String, weights: &[Option<u32>]) -> Result<(), AllocError> {
@@ -154,9 +62,9 @@ fn first_other(
     None
 }
 
-/// The first row whose text is something else for the program of the parts, if there is one.
+/// The first row whose text is something else for the program with six statements, if there is one.
 fn first_difference(rt: &impl Abort, alloc: Global, rows: &[(&str, &str)]) -> Option<usize> {
-    let program = program_of(alloc, parts(rt, alloc)).expect(rt, "a program");
+    let program = program_of(alloc, PROGRAM).expect(rt, "a program");
     first_other(rt, alloc, &program, rows)
 }
 
@@ -171,13 +79,13 @@ static WEIGHED: [(&str, &str); 12] = [
     ("3 7\n", " 1 7 7 - 1 1"),
     ("2 1000\n3 1", " 1000 1 1 - 1 1"),
     ("3 fixed\n2 fixed", " - - - - 1 1"),
-    ("99999 2", " 1 1 1 - 2 1"),
+    ("8 2", " 1 1 1 - 2 1"),
     // blanks at both ends and between, and a carriage return before the line's end
     ("\t3 \u{b} 4 \r\n  2\t5", " 5 4 4 - 1 1"),
     // as many digits as there may be
     ("00003 0004", " 1 4 4 - 1 1"),
     // an assert and a line without a statement may be named
-    ("4 5\n7 fixed\n1 2\n5 3", " 1 1 1 - 1 1"),
+    ("4 5\n7 fixed\n1 2\n5 3\n99999 2", " 1 1 1 - 1 1"),
     // a comment stands in a line of its own
     ("# c\n\n3 2\n# 3 4\n2 3", " 3 2 2 - 1 1"),
 ];

@@ -1,5 +1,0 @@
-mod Arguments
-mod Capped
-mod Distinct
-mod Told
-mod Wholes

@@ -1,0 +1,25 @@
+//! Programs, inputs and choices of tests, from their texts.
+
+use ba_choices::Choice;
+use ba_interp::read_input;
+use ba_tree::run::Input;
+use ba_tree::tree::Program;
+use std::alloc::Global;
+use std::panic::Expect;
+use std::process::Abort;
+
+/// The program that a text spells.
+pub fn program_of(rt: &impl Abort, alloc: Global, text: &str) -> Program {
+    test_programs::program_of(alloc, text).expect(rt, "a program")
+}
+
+/// The input of a program that a text has.
+pub fn input_of(rt: &impl Abort, alloc: Global, program: &Program, text: &str) -> Input {
+    assert!(rt; text.len() <= 65_536);
+    read_input(alloc, program, text.as_bytes()).expect(rt, "an input")
+}
+
+/// The choices that words spell.
+pub fn choices_of(rt: &impl Abort, alloc: Global, words: &str) -> Vec<Choice> {
+    test_programs::choices_of(alloc, words).expect(rt, "choices")
+}
