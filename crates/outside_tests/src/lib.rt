@@ -1,5 +1,5 @@
-//! What no clause of the outside and of the top call says: that calls succeed with ample memory,
-//! how real files behave, and that the definitions mean what they should.
+//! What no clause of the outside and of the top call says: that calls succeed with ample memory, how real files and calls that fail
+//! behave, and what a search hands on. What the program answers to whole calls is shown by the scripts of `trials`.
 #![tactic(auto)]
 
 #[cfg(test)]
@@ -12,10 +12,6 @@ mod faults;
 mod modes;
 #[cfg(test)]
 mod programs;
-#[cfg(test)]
-mod refusals;
-#[cfg(test)]
-mod reports;
 #[cfg(test)]
 mod rules;
 #[cfg(test)]

@@ -2,7 +2,7 @@
 
 ghost use Rattle.std.specs.Prelude.{◌<◌};
 
-use crate::calls::{call, end, world_of, world_to_check};
+use crate::calls::{end, world_of, world_to_check};
 use crate::programs::BRANCHES;
 use ba_steps::{Basis, ListSink, NoSink};
 use ba_tool::samples::sample_text;
@@ -10,19 +10,6 @@ use ba_tool::status::Status;
 use std::alloc::Global;
 use std::panic::Expect;
 use std::process::Abort;
-
-/// Certificates that are refused, with the number of the error and the line.
-static REFUSED: [(&str, u32, usize); 9] = [
-    ("", 21, 1),
-    ("bugassist 1\n", 21, 2),
-    ("bugassist 2\n", 20, 1),
-    ("bugassist 1\nl 01 0 1 0\n", 20, 2),
-    ("bugassist 1\ne b\n", 13, 2),
-    ("bugassist 1\ne n 0\n", 3, 2),
-    ("bugassist 1\ns 3 0 t 2\n", 8, 2),
-    ("bugassist 1\ns 5 0 k\n", 14, 2),
-    ("bugassist 1\nd 1 0\n", 5, 2),
-];
 
 /// Checks a certificate of the program with branches: how the call ends, and what it prints.
 fn check(
@@ -134,25 +121,6 @@ fn are_same(one: &Basis, other: &Basis) -> bool {
         }
     }
     true
-}
-
-#[test]
-fn refuses_certificates_in_any_pieces(rt: HostRuntime) {
-    for row in &REFUSED {
-        let (text, code, line) = *row;
-        for piece in [1, 7, 4096] {
-            assert_refused(
-                &rt,
-                rt.alloc(),
-                text.as_bytes(),
-                "--sets=3",
-                "",
-                piece,
-                code,
-                line,
-            );
-        }
-    }
 }
 
 /// Options of a search, and what is said of the certificate that it writes.
@@ -282,28 +250,6 @@ fn reads_a_certificate_up_to_its_first_refused_line(rt: HostRuntime) {
 }
 
 #[test]
-fn a_certificate_that_is_absent_cannot_be_read(rt: HostRuntime) {
-    let alloc = rt.alloc();
-    let words = ["check", "p.c", "in.txt", "c", "--bound=1"];
-    let (ended, printed) = call(&rt, alloc, &words, BRANCHES, "1", "");
-    assert_eq!(rt; ended, Status::ReadFault);
-    assert_eq!(rt;
-        printed.as_slice(),
-        b"refused: certificate cannot be read\n".as_slice()
-    );
-    // A run that doesn't fail is answered before the certificate is opened.
-    let (ended, _) = call(&rt, alloc, &words, BRANCHES, "0", "");
-    assert_eq!(rt; ended, Status::NotFailing);
-}
-
-/// Asserts what a call for a sample prints.
-fn assert_sample(rt: &impl Abort, alloc: Global, additions: &str, wanted: &str) {
-    let (ended, printed) = call(rt, alloc, &["sample", additions], "", "", "");
-    assert_eq!(rt; ended, Status::Ok);
-    assert_eq!(rt; printed.as_slice(), wanted.as_bytes());
-}
-
-#[test]
 fn makes_samples(rt: HostRuntime) {
     let alloc = rt.alloc();
     let text = sample_text(alloc, 1).expect(&rt, "memory");
@@ -315,6 +261,4 @@ fn makes_samples(rt: HostRuntime) {
 }
 ";
     assert_eq!(rt; text.as_slice(), wanted.as_bytes());
-    assert_sample(&rt, alloc, "1", "sample 1: weight 1, sets 2\n");
-    assert_sample(&rt, alloc, "200", "sample 200: weight 1, sets 201\n");
 }

@@ -1,12 +1,10 @@
-//! Searches: the options of `localise`, what is handed to a sink, and certificates.
+//! Searches: what is handed to a sink, and certificates.
 
 ghost use Rattle.std.specs.Prelude.{◌≤◌};
 ghost use Rattle.ba_steps.specs.Sinks.{Rose};
 
-use crate::calls::{call_by_both_rules, end, world_of};
-use crate::programs::{
-    BRANCHES, BRANCHES_REPORT, DIVISION, NO_REPAIR, ONE_ASSIGNMENT, ONE_REPORT, TWO_SIDE_BY_SIDE,
-};
+use crate::calls::{end, world_of};
+use crate::programs::{BRANCHES, BRANCHES_REPORT, ONE_ASSIGNMENT, ONE_REPORT};
 use ba_cert::{read_line, step_text};
 use ba_lits::{Formula, Lit};
 use ba_steps::{CertStep, ListSink, NoSink, SinkError, StepSink};
@@ -52,90 +50,6 @@ impl StepSink for Failing {
 
     fn take(&mut self, _step: &CertStep) -> Result<(), SinkError> {
         self.call()
-    }
-}
-
-const TWO_SIDE_BY_SIDE_WITH_RUN: &str = "located: weight 2, sets 1
-set 1:
-  4:5 assignment | x = 1;
-  5:5 assignment | y = 1;
-  run: t 2 t 2
-";
-
-const STORE: &str = "int main(int k) {
-    int a[2];
-    a[k] = 1;
-    assert(a[0] == 1);
-    return 0;
-}
-";
-
-const STORE_WITH_RUN: &str = "located: weight 1, sets 1
-set 1:
-  3:5 store | a[k] = 1;
-  run: t 0 1
-";
-
-const DIVISION_WITH_RUN: &str = "located: weight 1, sets 1
-set 1:
-  3:5 assignment | q = 6 / d;
-  run: t 2
-";
-
-/// The rest of the words of a call of `localise` by a bound of 1.
-const OPTIONS: [(&str, &str, &str, Status, &str); 9] = [
-    (
-        "--restart=steady",
-        BRANCHES,
-        "1",
-        Status::Ok,
-        BRANCHES_REPORT,
-    ),
-    ("--restart=luby", BRANCHES, "1", Status::Ok, BRANCHES_REPORT),
-    (
-        "--conflicts=20000",
-        BRANCHES,
-        "1",
-        Status::Ok,
-        BRANCHES_REPORT,
-    ),
-    ("--sets=3", BRANCHES, "1", Status::Ok, BRANCHES_REPORT),
-    (
-        "--sets=2",
-        BRANCHES,
-        "1",
-        Status::TooManySets,
-        "too many sets: weight 1, more than 2\n",
-    ),
-    (
-        "--conflicts=1",
-        BRANCHES,
-        "1",
-        Status::BudgetSpent,
-        "budget spent: 1 conflicts\n",
-    ),
-    ("--runs", STORE, "2", Status::Ok, STORE_WITH_RUN),
-    ("--runs", DIVISION, "0", Status::Ok, DIVISION_WITH_RUN),
-    (
-        "--runs",
-        TWO_SIDE_BY_SIDE,
-        "",
-        Status::Ok,
-        TWO_SIDE_BY_SIDE_WITH_RUN,
-    ),
-];
-
-#[test]
-fn searches_as_its_options_ask(rt: HostRuntime) {
-    for (option, program, input, status, printed) in OPTIONS {
-        let words = ["localise", "p.c", "in.txt", "--bound=1", option];
-        let (ended, text) = call_by_both_rules(&rt, rt.alloc(), &words, program, input, "");
-        assert_eq!(rt; ended, status, "{option} of {program:?}");
-        assert_eq!(rt;
-            text.as_slice(),
-            printed.as_bytes(),
-            "{option} of {program:?}"
-        );
     }
 }
 
@@ -252,13 +166,4 @@ fn prints_nothing_where_a_certificate_or_a_sink_fails(rt: HostRuntime) {
     let ended = end(alloc, &words, &mut world, &mut steps);
     assert_eq!(rt; ended, Status::Ok);
     assert_eq!(rt; world.printed(), ONE_REPORT.as_bytes());
-}
-
-#[test]
-fn finds_no_repair_in_a_narrower_type(rt: HostRuntime) {
-    let program = "int main(int a) {\n    short s;\n    s = a;\n    assert(s == a);\n}\n";
-    let words = ["localise", "p.c", "in.txt", "--bound=1", "--cert=c"];
-    let (ended, text) = call_by_both_rules(&rt, rt.alloc(), &words, program, "40000", "");
-    assert_eq!(rt; ended, Status::NoRepair);
-    assert_eq!(rt; text.as_slice(), NO_REPAIR.as_bytes());
 }
