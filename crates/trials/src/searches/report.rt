@@ -3,7 +3,7 @@
 use std::fmt;
 
 /// What a search comes to, and how that was tried.
-#[derive(Clone, Copy, Drop)]
+#[derive(Drop)]
 pub enum Verdict {
     /// There is a model, which satisfies each clause of the formula or doesn't.
     Satisfiable { holds: bool },
@@ -28,22 +28,12 @@ impl fmt::Display for Verdict {
 }
 
 /// A verdict with the work that it took.
-#[derive(Clone, Copy, Drop)]
+#[derive(Drop)]
 pub struct Report {
+    /// The verdict.
     pub verdict: Verdict,
+    /// How many conflicts the search had.
     pub conflicts: u64,
     /// How many literals propagation assigned.
     pub propagated: u64,
-}
-
-impl fmt::Display for Report {
-    fn fmt<W: fmt::Write>(&self, f: &mut fmt::Formatter<W>) -> fmt::Result {
-        let verdict = self.verdict;
-        let conflicts = self.conflicts;
-        let propagated = self.propagated;
-        write!(
-            f,
-            "{verdict}: {conflicts} conflicts, {propagated} literals propagated"
-        )
-    }
 }

@@ -1,12 +1,12 @@
 //! Solving a formula, with a checker.
 
-use crate::report::{Report, Verdict};
-use crate::rules::{keep, luby};
+use crate::searches::report::{Report, Verdict};
 use ba_checker::{Checked, Checker};
 use ba_items::Items;
 use ba_lits::{Formula, Lit, Model};
 use ba_search::{Answer, Search, SearchError};
 use ba_steps::{CertStep, NoSink};
+use ba_tool::rules::{keep, luby};
 use std::alloc::Global;
 use test_formulas::{NoRuns, are_numbers};
 

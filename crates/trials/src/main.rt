@@ -1,0 +1,67 @@
+//! Trials of the program and of its parts.
+//!
+//! `trials SCRIPT ..` makes the trials of scripts, which are files. A line of a script is a trial, whose words stand between
+//! single blanks; blank lines and those that begin with `#` are none. Each trial tells its line, and then what it comes to:
+//!
+//! - `bugassist WORDS ..`: the program called by these words, over the files of the current folder, with its status where that
+//!   is not 0;
+//! - `formula PROGRAM INPUT BOUND [DEPTH]`: the formula of a C program on an input, where each statement weighs 1, as weighted
+//!   CNF in the format of the MaxSAT evaluations since 2022, with the sizes of what it was made from as comments, and on
+//!   standard error how long each step took;
+//! - `search NAME`, `search file FILE`: the search over the formula of a name, or over one in a file, with each learnt clause
+//!   put through a checker: the answer, the conflicts and the literals that propagation assigned;
+//! - `search dimacs NAME`: the formula of a name, so that other programs can solve it.
+#![tactic(auto)]
+
+mod calls;
+mod clauses;
+mod formulas;
+mod searches;
+
+use anyhow::{Result, bail};
+use calls::call;
+use formulas::try_formula;
+use searches::try_search;
+use std::rt::{Env, Files};
+use std::time::Clock;
+use std::{env, fs};
+
+/// Makes the trial of a line.
+fn make_trial<R: AllocGlobal + Clock + Eprint + Files + Print>(rt: &R, line: &str) -> Result<()> {
+    let words: Vec<&str> = line.split(' ').collect(rt.alloc())?;
+    match words.as_slice() {
+        ["bugassist", words @ ..] => call(rt, words),
+        ["formula", words @ ..] => try_formula(rt, words),
+        ["search", words @ ..] => try_search(rt, words),
+        _ => bail!("there is no such trial"),
+    }
+}
+
+/// Whether a line of a script is a trial.
+fn is_trial(line: &str) -> bool {
+    !line.trim().is_empty() && !line.starts_with('#')
+}
+
+/// Makes the trials of a script, and tells each behind its line.
+fn make_trials<R: AllocGlobal + Clock + Eprint + Files + Print>(rt: &R, name: &str) -> Result<()> {
+    let script = fs::read_to_string(rt, name)?;
+    for line in script.lines() {
+        if is_trial(line) {
+            println!(rt; "$ {line}")?;
+            make_trial(rt, line)?;
+        }
+    }
+    Ok(())
+}
+
+/// Makes the trials of all scripts that the words of the call name.
+fn run<R: AllocGlobal + Clock + Env + Eprint + Files + Print>(rt: &R) -> Result<()> {
+    for name in env::args(rt)?.skip(1) {
+        make_trials(rt, name.as_str())?;
+    }
+    Ok(())
+}
+
+fn main(rt: HostRuntime) -> Result<()> {
+    run(&rt)
+}
