@@ -1,0 +1,1 @@
+int main(void) { int a[2]; a[0] = a; }

@@ -1,0 +1,3 @@
+int main(int a) {
+	 a = 1 ; assert(a == 2); 	
+}

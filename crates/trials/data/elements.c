@@ -1,0 +1,1 @@
+int main(char a[2], unsigned u) { return a[0]; }

@@ -1,0 +1,4 @@
+int main(int a) {
+    while (a) { }
+    return 0;
+}

@@ -1,0 +1,5 @@
+int main(int a) {
+    short s;
+    s = a;
+    assert(s == a);
+}

@@ -1,0 +1,1 @@
+int main(int a) { assert(a == 2); }

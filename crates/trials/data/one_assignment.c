@@ -1,0 +1,5 @@
+int main(int a) {
+    int x;
+    x = a;
+    assert(x == 2);
+}

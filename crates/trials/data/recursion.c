@@ -1,0 +1,8 @@
+int f(int n) {
+    if (n == 0)
+        return 0;
+    return f(n - 1);
+}
+int main(int n) {
+    return f(n);
+}

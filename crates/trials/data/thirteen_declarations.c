@@ -1,0 +1,3 @@
+int main(void) {
+    int a; int b; int c; int d; int e; int f; int g; int h; int i; int j; int k; int l; int m;
+}

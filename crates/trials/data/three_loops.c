@@ -1,0 +1,1 @@
+int main(int n) { int i, j, k; for (i = 0; i < n; i++) for (j = 0; j < n; j++) for (k = 0; k < n; k++) ; return 0; }

@@ -1,0 +1,4 @@
+int main(int a) {
+    assert(a == 0); assert(a == 0); assert(a == 0); assert(a == 0); assert(a == 0); assert(a == 0);
+    assert(a == 0); assert(a == 0); assert(a == 0); assert(a == 0); assert(a == 0); assert(a == 0);
+}

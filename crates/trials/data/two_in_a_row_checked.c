@@ -1,0 +1,8 @@
+int main(int a) {
+    int x;
+    int y;
+    x = a;
+    y = x;
+    assert(y == 2);
+    assert(x == 1);
+}
