@@ -3,7 +3,7 @@
 use ba_bytes::decimal::decimal;
 use ba_bytes::pieces::Pieces;
 
-const NUMBERS: [(&str, Option<i64>); 11] = [
+static NUMBERS: [(&str, Option<i64>); 11] = [
     ("0", Some(0)),
     ("-0", Some(0)),
     ("007", Some(7)),

@@ -1,11 +1,9 @@
-//! What no clause of the front end says: texts with their tokens or their first error; texts that the parser accepts or refuses, and
-//! that a crate above recurses over its trees; programs that typing accepts, with the trees that they have, and those that it refuses,
-//! with the fault and its place.
+//! What no clause of the front end says: texts with their tokens or their first error; texts that the parser accepts or refuses;
+//! programs that typing accepts, with the trees that they have, and those that it refuses, with the fault and its place.
 #![tactic(auto)]
 
 #[cfg(test)]
 mod bytes;
-pub mod constant;
 #[cfg(test)]
 mod faults;
 #[cfg(test)]

@@ -1,28 +1,28 @@
 //! Texts with the place where they are refused, worked out from the grammar.
 
-use crate::constant;
+use ba_lex::token::Token;
 use ba_lex::{MAX_TEXT, tokens};
-use ba_parse::tree::declarations::{Declarators, Initialiser};
-use ba_parse::tree::statements::{ExternalForm, RawProgram};
 use ba_parse::{ParseError, parse};
 use std::alloc::Global;
 use std::panic::Expect;
 use std::process::Abort;
 
+/// What the parser says of tokens.
+fn verdict(rt: &impl Abort, alloc: Global, tokens: &[Token]) -> String {
+    let text = match parse(alloc, tokens).err() {
+        None => String::from_str(alloc, "parses"),
+        Some(ParseError::Syntax(place)) => format!(in alloc; "Syntax {place}"),
+        Some(ParseError::TooDeep(place)) => format!(in alloc; "TooDeep {place}"),
+        Some(ParseError::Memory) => String::from_str(alloc, "Memory"),
+    };
+    text.expect(rt, "memory")
+}
+
+/// What the parser says of the tokens of a text.
 fn answer(rt: &impl Abort, alloc: Global, text: &str) -> String {
-    if text.len() > MAX_TEXT {
-        return String::from_str(alloc, "too long").expect(rt, "memory");
-    }
-    match tokens(alloc, text.as_bytes()) {
-        Ok(list) => match parse(alloc, list.as_slice()) {
-            Ok(_) => String::from_str(alloc, "parses"),
-            Err(ParseError::Syntax(place)) => format!(in alloc; "Syntax {place}"),
-            Err(ParseError::TooDeep(place)) => format!(in alloc; "TooDeep {place}"),
-            Err(ParseError::Memory) => String::from_str(alloc, "Memory"),
-        },
-        Err(_) => String::from_str(alloc, "no tokens"),
-    }
-    .expect(rt, "memory")
+    assert!(rt; text.len() <= MAX_TEXT);
+    let tokens = tokens(alloc, text.as_bytes()).expect(rt, "tokens");
+    verdict(rt, alloc, tokens.as_slice())
 }
 
 fn expect_answer(rt: &impl Abort, alloc: Global, text: &str, expected: &str) {
@@ -53,7 +53,7 @@ fn repeated(
     text
 }
 
-const PARSED_FILES: [(&str, &str); 16] = [
+static PARSED_FILES: [(&str, &str); 16] = [
     ("", "parses"),
     ("int x ;", "parses"),
     ("int x = 1 , y , z [ 3 ] = { 1 , 2 , } ;", "parses"),
@@ -78,7 +78,7 @@ const PARSED_FILES: [(&str, &str); 16] = [
     ("int a ; int b ; int f ( int x ) { } int c ;", "parses"),
 ];
 
-const PARSED_STATEMENTS: [(&str, &str); 24] = [
+static PARSED_STATEMENTS: [(&str, &str); 24] = [
     ("int main ( void ) { return 0 ; }", "parses"),
     (
         "int main ( void ) { int i ; i = 1 ; { const int j = 2 , k ; j = 2 ; } ; }",
@@ -144,7 +144,7 @@ const PARSED_STATEMENTS: [(&str, &str); 24] = [
     ("int main ( void ) { { { { } } } }", "parses"),
 ];
 
-const REFUSED_FILES: [(&str, &str); 30] = [
+static REFUSED_FILES: [(&str, &str); 30] = [
     ("x ;", "Syntax 0"),
     ("int", "Syntax 1"),
     ("const x ;", "Syntax 1"),
@@ -177,7 +177,7 @@ const REFUSED_FILES: [(&str, &str); 30] = [
     ("int f ( void", "Syntax 4"),
 ];
 
-const REFUSED_STATEMENTS: [(&str, &str); 26] = [
+static REFUSED_STATEMENTS: [(&str, &str); 26] = [
     ("int main ( void ) { x + 1 ; }", "Syntax 7"),
     ("int main ( void ) { if ( 1 ) ; else", "Syntax 12"),
     ("int main ( void ) {", "Syntax 6"),
@@ -209,7 +209,7 @@ const REFUSED_STATEMENTS: [(&str, &str); 26] = [
     ("int main ( void ) { do ; x ; }", "Syntax 8"),
 ];
 
-const REFUSED_OTHERS: [(&str, &str); 26] = [
+static REFUSED_OTHERS: [(&str, &str); 26] = [
     ("int main ( void ) { for ( 1 ; ; ) ; }", "Syntax 8"),
     ("int main ( void ) { for ( ; ; 1 ) ; }", "Syntax 10"),
     ("int main ( void ) { for ( ; ) ; }", "Syntax 9"),
@@ -385,71 +385,4 @@ fn a_hundred_levels_of_branches_are_accepted(rt: HostRuntime) {
     );
     expect_answer(&rt, alloc, accepted.as_str(), "parses");
     expect_answer(&rt, alloc, refused.as_str(), "TooDeep 405");
-}
-
-/// Whether the expression that the file's first variable begins with is made of constants alone.
-fn initial_value(rt: &impl Abort, alloc: Global, text: &str) -> String {
-    if text.len() > MAX_TEXT {
-        return String::from_str(alloc, "too long").expect(rt, "memory");
-    }
-    match tokens(alloc, text.as_bytes()) {
-        Ok(list) => match parse(alloc, list.as_slice()) {
-            Ok(program) => String::from_str(alloc, in_words(first_is_constant(&program))),
-            Err(_) => String::from_str(alloc, "no tree"),
-        },
-        Err(_) => String::from_str(alloc, "no tokens"),
-    }
-    .expect(rt, "memory")
-}
-
-fn in_words(is_constant: Option<bool>) -> &'static str {
-    match is_constant {
-        Some(true) => "constant",
-        Some(false) => "not constant",
-        None => "no expression",
-    }
-}
-
-fn first_is_constant(program: &RawProgram) -> Option<bool> {
-    match &program.externals.first()?.form {
-        ExternalForm::Variables { declarators, .. } => first_declared(declarators),
-        ExternalForm::Function { .. } => None,
-    }
-}
-
-fn first_declared(declarators: &Declarators) -> Option<bool> {
-    match &declarators.all.first()?.declarator.initialiser {
-        Some(Initialiser::Expression { value, .. }) => Some(constant::conditional(value)),
-        _ => None,
-    }
-}
-
-const INITIAL_VALUES: [(&str, &str); 11] = [
-    ("int x = 1 ;", "constant"),
-    ("int x = - ( 1 + 2 ) * 3 ;", "constant"),
-    ("int x = 1 ? 2 : ( char ) 3 ;", "constant"),
-    ("int x = 1 - 2 - 3 < 4 ;", "constant"),
-    ("int x = y ;", "not constant"),
-    ("int x = 1 + f ( 2 ) ;", "not constant"),
-    ("int x = a [ 1 ] ;", "not constant"),
-    ("int x = 1 ? 2 : y ;", "not constant"),
-    ("int x = 1 - 2 - ( char ) ~ y ;", "not constant"),
-    ("int x [ ] = { 1 } ;", "no expression"),
-    ("int f ( void ) ;", "no expression"),
-];
-
-fn expect_initial_value(rt: &impl Abort, alloc: Global, text: &str, expected: &str) {
-    let found = initial_value(rt, alloc, text);
-    assert_eq!(rt; found.as_str(), expected, "for {text}");
-}
-
-fn expect_initial_values(rt: &impl Abort, alloc: Global, rows: &[(&str, &str)]) {
-    for (text, expected) in rows {
-        expect_initial_value(rt, alloc, text, expected);
-    }
-}
-
-#[test]
-fn a_fold_from_above_tells_constants(rt: HostRuntime) {
-    expect_initial_values(&rt, rt.alloc(), &INITIAL_VALUES);
 }

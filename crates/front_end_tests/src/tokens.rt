@@ -5,29 +5,46 @@ use ba_lex::token::{Token, TokenKind};
 use ba_lex::{MAX_TEXT, tokens};
 use ba_numbers::ids::At;
 use ba_numbers::numbers::CType;
-use std::alloc::{AllocError, Global};
+use std::alloc::Global;
+use std::panic::Expect;
 use std::process::Abort;
 
-fn name_text(alloc: Global, name: &[u8]) -> Result<String, AllocError> {
-    let mut text = String::new(alloc);
+/// Writes the bytes of a name.
+fn write_name(rt: &impl Abort, text: &mut String, name: &[u8]) {
     for byte in name {
-        text.push(char::from(*byte))?;
+        text.push(char::from(*byte)).expect(rt, "memory");
     }
-    Ok(text)
 }
 
-/// A name as it is, a keyword or punctuator by its variant, a constant with its type, and `""` for a string.
-fn kind_text(alloc: Global, kind: &TokenKind) -> Result<String, AllocError> {
+/// Writes a constant with a letter for its type.
+fn write_constant(rt: &impl Abort, text: &mut String, t: CType, value: i64) {
+    let letter = match t {
+        CType::I32 => 'i',
+        CType::U32 => 'u',
+        _ => '?',
+    };
+    write!(text, "{value}{letter}").expect(rt, "memory");
+}
+
+/// Writes a name as it is, a keyword or punctuator by its variant, a constant with its type, and `""` for a string.
+fn write_kind(rt: &impl Abort, text: &mut String, kind: &TokenKind) {
     match kind {
-        TokenKind::Name(name) => name_text(alloc, name.as_bytes()),
-        TokenKind::Keyword(keyword) => format!(in alloc; "{keyword:?}"),
-        TokenKind::Constant { t, value } => match t {
-            CType::I32 => format!(in alloc; "{value}i"),
-            CType::U32 => format!(in alloc; "{value}u"),
-            _ => format!(in alloc; "{value}?"),
-        },
-        TokenKind::Quoted => String::from_str(alloc, "\"\""),
-        TokenKind::Punct(punct) => format!(in alloc; "{punct:?}"),
+        TokenKind::Name(name) => write_name(rt, text, name.as_bytes()),
+        TokenKind::Keyword(keyword) => write!(text, "{keyword:?}").expect(rt, "memory"),
+        TokenKind::Constant { t, value } => write_constant(rt, text, *t, *value),
+        TokenKind::Quoted => text.push_str("\"\"").expect(rt, "memory"),
+        TokenKind::Punct(punct) => write!(text, "{punct:?}").expect(rt, "memory"),
+    }
+}
+
+/// Writes each token's kind, and its position after `@`.
+fn write_tokens(rt: &impl Abort, text: &mut String, tokens: &[Token]) {
+    for token in tokens {
+        if !text.is_empty() {
+            text.push(' ').expect(rt, "memory");
+        }
+        write_kind(rt, text, &token.kind);
+        write!(text, "@{}:{}", token.at.line, token.at.column).expect(rt, "memory");
     }
 }
 
@@ -45,48 +62,29 @@ fn error_name(error: LexError) -> (&'static str, At) {
     }
 }
 
-fn error_text(alloc: Global, error: LexError) -> Result<String, AllocError> {
+/// Writes an error and where it is.
+fn write_error(rt: &impl Abort, text: &mut String, error: LexError) {
     let (name, at) = error_name(error);
-    let At { line, column } = at;
-    format!(in alloc; "{name} {line}:{column}")
+    write!(text, "{name} {}:{}", at.line, at.column).expect(rt, "memory");
 }
 
-/// A token's kind, and its position after `@`.
-fn token_text(alloc: Global, token: &Token) -> Result<String, AllocError> {
-    let mut text = kind_text(alloc, &token.kind)?;
-    let At { line, column } = token.at;
-    write!(text, "@{line}:{column}")?;
-    Ok(text)
+/// The tokens of a text, which is no longer than it may be.
+fn tokens_of(rt: &impl Abort, alloc: Global, text: &str) -> Result<Vec<Token>, LexError> {
+    assert!(rt; text.len() <= MAX_TEXT);
+    tokens(alloc, text.as_bytes())
 }
 
-/// The text of a token, with a blank before it where it is not the first.
-fn add_token(alloc: Global, text: &mut String, token: &Token) -> Result<(), AllocError> {
-    if !text.is_empty() {
-        text.push(' ')?;
+/// The answer to a text as text: its tokens, or its error.
+fn answer_text(rt: &impl Abort, alloc: Global, text: &str) -> String {
+    let mut answer = String::new(alloc);
+    match tokens_of(rt, alloc, text) {
+        Ok(tokens) => write_tokens(rt, &mut answer, tokens.as_slice()),
+        Err(error) => write_error(rt, &mut answer, error),
     }
-    text.push_str(token_text(alloc, token)?.as_str())
+    answer
 }
 
-fn tokens_text(alloc: Global, tokens: &[Token]) -> Result<String, AllocError> {
-    let mut text = String::new(alloc);
-    for token in tokens {
-        add_token(alloc, &mut text, token)?;
-    }
-    Ok(text)
-}
-
-/// The answer to a text as text: each token's kind, and its position after `@`.
-fn answer_text(alloc: Global, text: &str) -> Result<String, AllocError> {
-    if MAX_TEXT < text.len() {
-        return String::from_str(alloc, "longer than a text may be");
-    }
-    match tokens(alloc, text.as_bytes()) {
-        Ok(tokens) => tokens_text(alloc, tokens.as_slice()),
-        Err(error) => error_text(alloc, error),
-    }
-}
-
-const WORKED: [(&str, &str); 8] = [
+static WORKED: [(&str, &str); 8] = [
     ("a+++b", "a@1:1 Increment@1:2 Plus@1:4 b@1:5"),
     ("#define A B\n#define B 1", "MacroOrder 2:9"),
     ("4294967296", "BadToken 1:1"),
@@ -100,7 +98,7 @@ const WORKED: [(&str, &str); 8] = [
     ("\n\n", ""),
 ];
 
-const WORDS: [(&str, &str); 2] = [
+static WORDS: [(&str, &str); 2] = [
     (
         "char\nshort\nint\nlong\nsigned\nunsigned\nvoid\nconst\nstatic\nif\nelse\nwhile\ndo\nfor\nbreak\ncontinue\nreturn\nassert\nprintf",
         "Char@1:1 Short@2:1 Int@3:1 Long@4:1 Signed@5:1 Unsigned@6:1 Void@7:1 Const@8:1 Static@9:1 If@10:1 Else@11:1 While@12:1 Do@13:1 For@14:1 Break@15:1 Continue@16:1 Return@17:1 Assert@18:1 Printf@19:1",
@@ -111,7 +109,7 @@ const WORDS: [(&str, &str); 2] = [
     ),
 ];
 
-const REFUSED: [(&str, &str); 16] = [
+static REFUSED: [(&str, &str); 16] = [
     ("x auto; y", "NotInProfile 1:3"),
     ("x case; y", "NotInProfile 1:3"),
     ("x default; y", "NotInProfile 1:3"),
@@ -130,7 +128,7 @@ const REFUSED: [(&str, &str); 16] = [
     ("autos Auto _float", "autos@1:1 Auto@1:7 _float@1:12"),
 ];
 
-const PUNCTUATORS: [(&str, &str); 8] = [
+static PUNCTUATORS: [(&str, &str); 8] = [
     (
         "{ } ( ) [ ] ; , ? : ~ ! + - * / % & | ^ = < > .",
         "OpenBrace@1:1 CloseBrace@1:3 OpenParenthesis@1:5 CloseParenthesis@1:7 OpenBracket@1:9 CloseBracket@1:11 Semicolon@1:13 Comma@1:15 Question@1:17 Colon@1:19 Tilde@1:21 Exclamation@1:23 Plus@1:25 Minus@1:27 Star@1:29 Slash@1:31 Percent@1:33 Ampersand@1:35 Bar@1:37 Caret@1:39 Assign@1:41 Less@1:43 Greater@1:45 Dot@1:47",
@@ -156,7 +154,7 @@ const PUNCTUATORS: [(&str, &str); 8] = [
     ("===", "Equal@1:1 Assign@1:3"),
 ];
 
-const BLANKS: [(&str, &str); 11] = [
+static BLANKS: [(&str, &str); 11] = [
     ("a\x0b\x0c\r\t b", "a@1:1 b@1:7"),
     ("a\n  b\n\n c", "a@1:1 b@2:3 c@4:2"),
     ("x /* y\nz */ w", "x@1:1 w@2:6"),
@@ -170,7 +168,7 @@ const BLANKS: [(&str, &str); 11] = [
     ("a*/b", "a@1:1 Star@1:2 Slash@1:3 b@1:4"),
 ];
 
-const BYTES: [(&str, &str); 7] = [
+static BYTES: [(&str, &str); 7] = [
     ("a @", "BadByte 1:3"),
     ("a\n$", "BadByte 2:1"),
     ("a\\\nb", "BadByte 1:2"),
@@ -180,7 +178,7 @@ const BYTES: [(&str, &str); 7] = [
     ("\x7f", "BadByte 1:1"),
 ];
 
-const NUMBERS: [(&str, &str); 25] = [
+static NUMBERS: [(&str, &str); 25] = [
     (
         "0 7 42 017 0x1F 0XaB",
         "0i@1:1 7i@1:3 42i@1:5 15i@1:8 31i@1:12 171i@1:17",
@@ -223,7 +221,7 @@ const NUMBERS: [(&str, &str); 25] = [
     ("-1", "Minus@1:1 1i@1:2"),
 ];
 
-const CHARACTERS: [(&str, &str); 24] = [
+static CHARACTERS: [(&str, &str); 24] = [
     ("'a' ' ' '~' '\"'", "97i@1:1 32i@1:5 126i@1:9 34i@1:13"),
     (
         "'\\n' '\\t' '\\r' '\\a' '\\b' '\\f' '\\v'",
@@ -262,7 +260,7 @@ const CHARACTERS: [(&str, &str); 24] = [
     ("x '\\'", "BadToken 1:3"),
 ];
 
-const STRINGS: [(&str, &str); 7] = [
+static STRINGS: [(&str, &str); 7] = [
     (
         "\"\" \"a\" \"a\\\"b\" \"\\\\\"",
         "\"\"@1:1 \"\"@1:4 \"\"@1:8 \"\"@1:15",
@@ -275,7 +273,7 @@ const STRINGS: [(&str, &str); 7] = [
     ("x \"a\\\n\"", "BadToken 1:3"),
 ];
 
-const DIRECTIVES_FORMS: [(&str, &str); 37] = [
+static DIRECTIVES_FORMS: [(&str, &str); 37] = [
     ("#", ""),
     ("  # // nothing\n#/* */", ""),
     ("x # y", "BadToken 1:3"),
@@ -324,7 +322,7 @@ const DIRECTIVES_FORMS: [(&str, &str); 37] = [
     ("#define if 1", "BadDirective 1:1"),
 ];
 
-const MACROS: [(&str, &str); 29] = [
+static MACROS: [(&str, &str); 29] = [
     ("#define printf", "BadDirective 1:1"),
     ("#define 1 2", "BadDirective 1:1"),
     ("#define \"a\"", "BadDirective 1:1"),
@@ -360,7 +358,7 @@ const MACROS: [(&str, &str); 29] = [
 ];
 
 /// Whole programs with their tokens.
-const PROGRAMS: [(&str, &str); 4] = [
+static PROGRAMS: [(&str, &str); 4] = [
     (
         "int Array[3];\nint main(int index) {\n    int i;\n    if (index != 1)\n        index = 2;\n    else\n        index = index + 2;\n    i = index;\n    assert(i >= 0 && i < 3);\n    return Array[i];\n}\n",
         "Int@1:1 Array@1:5 OpenBracket@1:10 3i@1:11 CloseBracket@1:12 Semicolon@1:13 Int@2:1 main@2:5 OpenParenthesis@2:9 Int@2:10 index@2:14 CloseParenthesis@2:19 OpenBrace@2:21 Int@3:5 i@3:9 Semicolon@3:10 If@4:5 OpenParenthesis@4:8 index@4:9 NotEqual@4:15 1i@4:18 CloseParenthesis@4:19 index@5:9 Assign@5:15 2i@5:17 Semicolon@5:18 Else@6:5 index@7:9 Assign@7:15 index@7:17 Plus@7:23 2i@7:25 Semicolon@7:26 i@8:5 Assign@8:7 index@8:9 Semicolon@8:14 Assert@9:5 OpenParenthesis@9:11 i@9:12 GreaterEqual@9:14 0i@9:17 AndAnd@9:19 i@9:22 Less@9:24 3i@9:26 CloseParenthesis@9:27 Semicolon@9:28 Return@10:5 Array@10:12 OpenBracket@10:17 i@10:18 CloseBracket@10:19 Semicolon@10:20 CloseBrace@11:1",
@@ -380,33 +378,26 @@ const PROGRAMS: [(&str, &str); 4] = [
 ];
 
 /// The number of tokens, or the error.
-fn outcome(alloc: Global, text: &str) -> Result<String, AllocError> {
-    if MAX_TEXT < text.len() {
-        return String::from_str(alloc, "longer than a text may be");
+fn outcome(rt: &impl Abort, alloc: Global, text: &str) -> String {
+    let mut answer = String::new(alloc);
+    match tokens_of(rt, alloc, text) {
+        Ok(tokens) => write!(answer, "{} tokens", tokens.len()).expect(rt, "memory"),
+        Err(error) => write_error(rt, &mut answer, error),
     }
-    match tokens(alloc, text.as_bytes()) {
-        Ok(tokens) => {
-            let count = tokens.len();
-            format!(in alloc; "{count} tokens")
-        }
-        Err(error) => error_text(alloc, error),
-    }
+    answer
 }
 
-/// The first row whose answer is another one, if there is one.
-fn first_difference(alloc: Global, rows: &[(&str, &str)]) -> Result<Option<usize>, AllocError> {
-    for i in 0..rows.len() {
-        let (text, want) = rows[i];
-        if answer_text(alloc, text)?.as_str() != want {
-            return Ok(Some(i));
-        }
-    }
-    Ok(None)
+/// Compares the answer to a text with the one that is wanted.
+fn compare_answer(rt: &impl Abort, alloc: Global, text: &str, wanted: &str) {
+    let answer = answer_text(rt, alloc, text);
+    assert_eq!(rt; answer.as_str(), wanted);
 }
 
 /// Compares the answer to each text with the one that is wanted.
 fn compare(rt: &impl Abort, alloc: Global, rows: &[(&str, &str)]) {
-    assert_eq!(rt; first_difference(alloc, rows), Ok(None));
+    for (text, wanted) in rows {
+        compare_answer(rt, alloc, text, wanted);
+    }
 }
 
 #[test]
@@ -479,65 +470,59 @@ enum Part {
     Names(usize),
 }
 
-/// Adds a piece so many times.
-fn repeat(text: &mut String, piece: &str, count: usize) -> Result<(), AllocError> {
-    for _ in 0..count {
-        text.push_str(piece)?;
+impl Part {
+    /// Adds the part to a text.
+    fn add(&self, rt: &impl Abort, text: &mut String) {
+        match self {
+            Part::Times(piece, count) => add_pieces(rt, text, piece, *count),
+            Part::Numbers(count) => add_numbers(rt, text, *count),
+            Part::Names(count) => add_names(rt, text, *count),
+        }
     }
-    Ok(())
+}
+
+/// Adds a piece so many times.
+fn add_pieces(rt: &impl Abort, text: &mut String, piece: &str, count: usize) {
+    for _ in 0..count {
+        text.push_str(piece).expect(rt, "memory");
+    }
 }
 
 /// Adds macros, each its number.
-fn add_numbers(text: &mut String, count: usize) -> Result<(), AllocError> {
+fn add_numbers(rt: &impl Abort, text: &mut String, count: usize) {
     for i in 0..count {
-        write!(text, "#define M{i} {i}\n")?;
+        write!(text, "#define M{i} {i}\n").expect(rt, "memory");
     }
-    Ok(())
 }
 
 /// Adds macros, each `B`.
-fn add_names(text: &mut String, count: usize) -> Result<(), AllocError> {
+fn add_names(rt: &impl Abort, text: &mut String, count: usize) {
     for i in 0..count {
-        write!(text, "#define M{i} B\n")?;
+        write!(text, "#define M{i} B\n").expect(rt, "memory");
     }
-    Ok(())
 }
 
-fn add_parts(text: &mut String, parts: &[Part]) -> Result<(), AllocError> {
-    for part in parts {
-        match part {
-            Part::Times(piece, count) => repeat(text, piece, *count)?,
-            Part::Numbers(count) => add_numbers(text, *count)?,
-            Part::Names(count) => add_names(text, *count)?,
-        }
-    }
-    Ok(())
-}
-
-/// The outcome of the text of these parts.
-fn outcome_of(alloc: Global, parts: &[Part]) -> Result<String, AllocError> {
+/// The text of these parts.
+fn text_of(rt: &impl Abort, alloc: Global, parts: &[Part]) -> String {
     let mut text = String::new(alloc);
-    add_parts(&mut text, parts)?;
-    outcome(alloc, text.as_str())
+    for part in parts {
+        part.add(rt, &mut text);
+    }
+    text
 }
 
-/// The first row whose outcome is another one, if there is one.
-fn first_other_outcome(
-    alloc: Global,
-    rows: &[(&[Part], &str)],
-) -> Result<Option<usize>, AllocError> {
-    for i in 0..rows.len() {
-        let (parts, want) = rows[i];
-        if outcome_of(alloc, parts)?.as_str() != want {
-            return Ok(Some(i));
-        }
-    }
-    Ok(None)
+/// Compares the outcome of the text of these parts with the one that is wanted.
+fn compare_outcome(rt: &impl Abort, alloc: Global, parts: &[Part], wanted: &str) {
+    let text = text_of(rt, alloc, parts);
+    let found = outcome(rt, alloc, text.as_str());
+    assert_eq!(rt; found.as_str(), wanted);
 }
 
 /// Compares the outcome of each text with the one that is wanted.
 fn compare_built(rt: &impl Abort, alloc: Global, rows: &[(&[Part], &str)]) {
-    assert_eq!(rt; first_other_outcome(alloc, rows), Ok(None));
+    for (parts, wanted) in rows {
+        compare_outcome(rt, alloc, parts, wanted);
+    }
 }
 
 static LONGEST: [(&[Part], &str); 13] = [

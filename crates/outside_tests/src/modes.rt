@@ -212,12 +212,15 @@ fn assert_longer_is_refused(rt: &impl Abort, alloc: Global, whole: &[u8], more: 
     );
 }
 
+/// What stands behind a whole certificate, and the number of the error.
+static LONGER: [(&str, u32); 3] = [("x", 21), ("x\n", 20), ("e b\n", 9)];
+
 #[test]
 fn refuses_a_certificate_that_goes_on(rt: HostRuntime) {
     let alloc = rt.alloc();
     let whole = certificate(&rt, alloc, "--sets=3");
-    for (more, code) in [("x", 21), ("x\n", 20), ("e b\n", 9)] {
-        assert_longer_is_refused(&rt, alloc, whole.as_slice(), more, code);
+    for (more, code) in &LONGER {
+        assert_longer_is_refused(&rt, alloc, whole.as_slice(), more, *code);
     }
 }
 

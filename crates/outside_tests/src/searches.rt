@@ -9,7 +9,9 @@ use ba_cert::{read_line, step_text};
 use ba_lits::{Formula, Lit};
 use ba_steps::{CertStep, ListSink, NoSink, SinkError, StepSink};
 use ba_tool::status::Status;
+use std::alloc::Global;
 use std::panic::Expect;
+use std::process::Abort;
 
 /// A sink whose calls fail from the one of a number on. It tells nothing.
 #[derive(Drop)]
@@ -53,6 +55,9 @@ impl StepSink for Failing {
     }
 }
 
+/// The words of a call that writes a certificate.
+const CERTIFIED: &[&str] = &["localise", "p.c", "in.txt", "--bound=1", "--cert=c"];
+
 fn is_conflict(step: &CertStep) -> bool {
     matches!(step, CertStep::Learn { .. } | CertStep::Core { .. })
 }
@@ -85,8 +90,7 @@ fn writes_the_certificate_before_the_report(rt: HostRuntime) {
     let alloc = rt.alloc();
     let mut world = world_of(alloc, BRANCHES, "1", &[], 4096).expect(&rt, "memory");
     let mut steps = ListSink::new(alloc);
-    let words = ["localise", "p.c", "in.txt", "--bound=1", "--cert=c"];
-    let ended = end(alloc, &words, &mut world, &mut steps);
+    let ended = end(alloc, CERTIFIED, &mut world, &mut steps);
     assert_eq!(rt; ended, Status::Ok);
     assert_eq!(rt; world.printed(), BRANCHES_REPORT.as_bytes());
     let mut lines = world
@@ -113,57 +117,59 @@ fn writes_the_certificate_before_the_report(rt: HostRuntime) {
     assert!(rt; lines.next().is_none());
 }
 
-#[test]
-fn begins_no_certificate_without_a_search(rt: HostRuntime) {
-    let alloc = rt.alloc();
-    let words = ["localise", "p.c", "in.txt", "--bound=1", "--cert=c"];
-    for (program, input, status) in [
-        (BRANCHES, "0", Status::NotFailing),
-        (BRANCHES, "x", Status::BadInput),
-        ("int", "1", Status::BadProgram),
-    ] {
-        let mut world = world_of(alloc, program, input, &[], 4096).expect(&rt, "memory");
-        let ended = end(alloc, &words, &mut world, &mut NoSink);
-        assert_eq!(rt; ended, status);
-        assert!(rt; world.file("c").is_none());
-    }
+/// Asserts that a call that ends before its search begins no certificate.
+fn assert_not_begun(rt: &impl Abort, alloc: Global, program: &str, input: &str, status: Status) {
+    let mut world = world_of(alloc, program, input, &[], 4096).expect(rt, "memory");
+    let ended = end(alloc, CERTIFIED, &mut world, &mut NoSink);
+    assert_eq!(rt; ended, status);
+    assert!(rt; world.file("c").is_none());
 }
 
 #[test]
-fn prints_nothing_where_a_certificate_or_a_sink_fails(rt: HostRuntime) {
+fn begins_no_certificate_without_a_search(rt: HostRuntime) {
     let alloc = rt.alloc();
-    let words = ["localise", "p.c", "in.txt", "--bound=1", "--cert=c"];
-    // Calls 0 to 5 read the files, 6 begins the certificate, 7 adds its head line and 8 the first
-    // step.
-    for (fails, held) in [(6, None), (7, Some("bugass")), (8, Some("bugassist 1\n"))] {
-        let mut world = world_of(alloc, ONE_ASSIGNMENT, "1", &[fails], 4096).expect(&rt, "memory");
-        let ended = end(alloc, &words, &mut world, &mut NoSink);
-        assert_eq!(rt; ended, Status::WriteFault, "where {fails} fails");
-        assert_eq!(rt; world.printed(), b"".as_slice(), "where {fails} fails");
-        match held {
-            Some(held) => assert!(rt;
-                world
-                    .file("c")
-                    .expect(&rt, "no file")
-                    .starts_with(held.as_bytes())
-            ),
-            None => assert!(rt; world.file("c").is_none()),
-        }
-    }
-    let words = ["localise", "p.c", "in.txt", "--bound=1"];
-    for first in 0..3 {
-        let mut world = world_of(alloc, ONE_ASSIGNMENT, "1", &[], 4096).expect(&rt, "memory");
-        let mut steps = Failing { calls: 0, first };
-        let ended = end(alloc, &words, &mut world, &mut steps);
-        assert_eq!(rt; ended, Status::WriteFault, "from call {first} on");
-        assert_eq!(rt; world.printed(), b"".as_slice(), "from call {first} on");
-    }
-    let mut world = world_of(alloc, ONE_ASSIGNMENT, "1", &[], 4096).expect(&rt, "memory");
-    let mut steps = Failing {
-        calls: 0,
-        first: 1000,
+    assert_not_begun(&rt, alloc, BRANCHES, "0", Status::NotFailing);
+    assert_not_begun(&rt, alloc, BRANCHES, "x", Status::BadInput);
+    assert_not_begun(&rt, alloc, "int", "1", Status::BadProgram);
+}
+
+/// Asserts that nothing is printed where a call of the world fails while the certificate is written, and with which
+/// bytes the certificate then begins, if it is begun.
+fn assert_cut_off(rt: &impl Abort, alloc: Global, fails: u64, held: Option<&str>) {
+    let mut world = world_of(alloc, ONE_ASSIGNMENT, "1", &[fails], 4096).expect(rt, "memory");
+    let ended = end(alloc, CERTIFIED, &mut world, &mut NoSink);
+    assert_eq!(rt; ended, Status::WriteFault);
+    assert!(rt; world.printed().is_empty());
+    let begins = match (world.file("c"), held) {
+        (Some(bytes), Some(held)) => bytes.starts_with(held.as_bytes()),
+        (bytes, held) => bytes.is_none() && held.is_none(),
     };
+    assert!(rt; begins, "where {fails} fails");
+}
+
+#[test]
+fn prints_nothing_where_a_certificate_fails(rt: HostRuntime) {
+    // Calls 0 to 5 read the files, 6 begins the certificate, 7 adds its head line and 8 the first step.
+    let alloc = rt.alloc();
+    assert_cut_off(&rt, alloc, 6, None);
+    assert_cut_off(&rt, alloc, 7, Some("bugass"));
+    assert_cut_off(&rt, alloc, 8, Some("bugassist 1\n"));
+}
+
+/// Asserts how a call ends whose sink fails from a call on, and what it prints.
+fn assert_handed(rt: &impl Abort, alloc: Global, first: u64, status: Status, printed: &str) {
+    let mut world = world_of(alloc, ONE_ASSIGNMENT, "1", &[], 4096).expect(rt, "memory");
+    let mut steps = Failing { calls: 0, first };
+    let words = ["localise", "p.c", "in.txt", "--bound=1"];
     let ended = end(alloc, &words, &mut world, &mut steps);
-    assert_eq!(rt; ended, Status::Ok);
-    assert_eq!(rt; world.printed(), ONE_REPORT.as_bytes());
+    assert_eq!(rt; ended, status);
+    assert_eq!(rt; world.printed(), printed.as_bytes());
+}
+
+#[test]
+fn prints_nothing_where_a_sink_fails(rt: HostRuntime) {
+    for first in 0..3 {
+        assert_handed(&rt, rt.alloc(), first, Status::WriteFault, "");
+    }
+    assert_handed(&rt, rt.alloc(), 1000, Status::Ok, ONE_REPORT);
 }

@@ -171,7 +171,7 @@ const BRANCH: &str = "int main(int x) {
 type Run = (&'static str, u32, &'static str, bool);
 
 /// Programs with runs as worked out by hand.
-const EXAMPLES: [(&str, &[Run]); 14] = [
+static EXAMPLES: [(&str, &[Run]); 14] = [
     (
         FIVE_LINES,
         &[
@@ -331,7 +331,8 @@ fn expect_runs(rt: &impl Abort, alloc: Global, random: &mut Random, program: &st
 #[test]
 fn lists_hold_exactly_where_runs_are_good(rt: HostRuntime) {
     let mut random = Random::new(1);
-    for (program, runs) in EXAMPLES {
+    for example in &EXAMPLES {
+        let (program, runs) = *example;
         expect_runs(&rt, rt.alloc(), &mut random, program, runs);
     }
 }

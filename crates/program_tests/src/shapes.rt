@@ -160,28 +160,32 @@ const INSIDE: &str = "int main(void) {
 }
 ";
 
+/// Programs with bounds on frames, and the nodes that stand for them.
+static SHAPES: [(&str, u32, &str); 14] = [
+    (GLOBAL, 16, "sp(sp(s)p(s)s)bap(s)"),
+    (GLOBAL, 1, "sp(xs)bap(s)"),
+    (KEPT, 16, "sp(ssp(s)p(s)bs)p(s)"),
+    (INITIALISER, 1, "p(bs)p(s)"),
+    (SUM, 1, "ssp(cs)p(cs)B1(o(p(bs)|B2(p(bs))|p(cbs)))cbap(s)"),
+    (
+        ARRAYS,
+        3,
+        "fp(sfsfp(s)i(p(bsfsfp(s)i(p(bx)|)lbap(S))|)lbap(S))lba",
+    ),
+    (VALUES, 1, "succbbap(cs)cbi(i(s|buu)uu|s)ai(s|bs)bap(b)"),
+    (JUMPS, 1, "sp(s)B1(o(p(bs)|B2(p(bs)i(^1|)^2)|p(bs)))ba"),
+    (BEHIND, 1, "sB1(o(p(s)|B2(p(bs))|))ba"),
+    (OWN, 1, "fp(lf)lba"),
+    (LAST, 2, "ssssp(bs)p(s)bap(s)"),
+    (EARLY, 2, "p(ssB0(p(s)i(p(s)^0|)p(s))s)"),
+    (BRANCHES, 2, "p(ssp(s)i(p(s)|p(s)i(p(s)|p(s)))s)"),
+    (INSIDE, 1, "B0(sB1(o(p(s)|B2(p(s)^0)|))p(s))"),
+];
+
 #[test]
 fn nodes_stand_for_programs_as_worked_out(rt: HostRuntime) {
-    for (program, frames, expected) in [
-        (GLOBAL, 16, "sp(sp(s)p(s)s)bap(s)"),
-        (GLOBAL, 1, "sp(xs)bap(s)"),
-        (KEPT, 16, "sp(ssp(s)p(s)bs)p(s)"),
-        (INITIALISER, 1, "p(bs)p(s)"),
-        (SUM, 1, "ssp(cs)p(cs)B1(o(p(bs)|B2(p(bs))|p(cbs)))cbap(s)"),
-        (
-            ARRAYS,
-            3,
-            "fp(sfsfp(s)i(p(bsfsfp(s)i(p(bx)|)lbap(S))|)lbap(S))lba",
-        ),
-        (VALUES, 1, "succbbap(cs)cbi(i(s|buu)uu|s)ai(s|bs)bap(b)"),
-        (JUMPS, 1, "sp(s)B1(o(p(bs)|B2(p(bs)i(^1|)^2)|p(bs)))ba"),
-        (BEHIND, 1, "sB1(o(p(s)|B2(p(bs))|))ba"),
-        (OWN, 1, "fp(lf)lba"),
-        (LAST, 2, "ssssp(bs)p(s)bap(s)"),
-        (EARLY, 2, "p(ssB0(p(s)i(p(s)^0|)p(s))s)"),
-        (BRANCHES, 2, "p(ssp(s)i(p(s)|p(s)i(p(s)|p(s)))s)"),
-        (INSIDE, 1, "B0(sB1(o(p(s)|B2(p(s)^0)|))p(s))"),
-    ] {
+    for row in &SHAPES {
+        let (program, frames, expected) = *row;
         assert!(rt; has_shape(&rt, rt.alloc(), program, frames, expected));
     }
 }

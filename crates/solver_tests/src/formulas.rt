@@ -65,7 +65,7 @@ int largest(const int a[], int n) {
 ";
 
 /// The groups of its formula, with the weights 10 and 20 for the two conditions of its loops.
-const GREATEST_GROUPS: [(u32, u32); 13] = [
+static GREATEST_GROUPS: [(u32, u32); 13] = [
     (1, 1),
     (2, 1),
     (3, 10),
@@ -83,10 +83,10 @@ const GREATEST_GROUPS: [(u32, u32); 13] = [
 
 /// The smallest sets that could repair its run: a greater element is found, or asserts are left out. The assignment in the branch
 /// repairs where the branch is taken too.
-const GREATEST_REPAIRS: [&[u32]; 8] = [&[1], &[2], &[3], &[4], &[8], &[10], &[14], &[12, 13]];
+static GREATEST_REPAIRS: [&[u32]; 8] = [&[1], &[2], &[3], &[4], &[8], &[10], &[14], &[12, 13]];
 
 /// The largest sets that couldn't.
-const GREATEST_OTHERS: [&[u32]; 2] = [&[6, 7, 9, 11, 12], &[6, 7, 9, 11, 13]];
+static GREATEST_OTHERS: [&[u32]; 2] = [&[6, 7, 9, 11, 12], &[6, 7, 9, 11, 13]];
 
 /// A program, an input, the bound on turns, weights, the groups of the formula as statements with their weights, and the repairs: a set of
 /// statements could repair the run exactly where one of these is among it.
@@ -304,10 +304,10 @@ fn thirteen_groups_have_their_smallest_repairs(rt: HostRuntime) {
     let encoded = encoded_of(&rt, alloc, GREATEST, "3 1 2 9", 4, "9 10\n23 20");
     let groups = groups_of(&rt, alloc, &encoded).expect(&rt, "a group of another statement");
     assert!(rt; groups.as_slice() == GREATEST_GROUPS.as_slice());
-    for set in GREATEST_REPAIRS {
+    for set in &GREATEST_REPAIRS {
         assert!(rt; has_repair(&rt, alloc, &encoded, set), "set {set:?}");
     }
-    for set in GREATEST_OTHERS {
+    for set in &GREATEST_OTHERS {
         assert!(rt; !has_repair(&rt, alloc, &encoded, set), "set {set:?}");
     }
 }

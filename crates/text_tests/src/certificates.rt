@@ -130,7 +130,7 @@ fn first_wrong(
     None
 }
 
-const ROWS: [Row; 36] = [
+static ROWS: [Row; 36] = [
     ("all sets", WHOLE, 5, 9, Located),
     (
         "more than two sets",
@@ -301,7 +301,7 @@ fn certificates_are_answered_by_the_table(rt: HostRuntime) {
     assert_eq!(rt; wrong, None);
 }
 
-const WITHOUT_MODEL: [Row; 2] = [
+static WITHOUT_MODEL: [Row; 2] = [
     ("no model", "e n 1 2 0\n", 1, 9, NoRepair),
     (
         "the conflicts are spent",
@@ -424,7 +424,7 @@ fn are_fed(rt: &impl Abort, alloc: Global, pieces: &Pieces) -> bool {
     answer_of(&told) == pieces.1 && refusals.as_slice() == expected.as_slice()
 }
 
-const FED: [Pieces; 4] = [
+static FED: [Pieces; 4] = [
     (&[("bugassist 1", None), ("\n", None)], Refused(2, 21)),
     (
         &[

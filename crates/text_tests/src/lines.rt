@@ -119,7 +119,7 @@ fn plain_of(rt: &impl Abort, alloc: Global, step: &CertStep) -> Plain {
     }
 }
 
-const STEPS: [(&str, &str, &[i64], &[i64]); 16] = [
+static STEPS: [(&str, &str, &[i64], &[i64]); 16] = [
     ("l 1 0 0", "learn", &[1], &[]),
     ("l -1 2 -3 0 7 7 10 0", "learn", &[-1, 2, -3], &[7, 7, 10]),
     (
@@ -185,7 +185,7 @@ fn each_form_of_a_line_is_read_and_written(rt: HostRuntime) {
     assert_eq!(rt; head_text(), b"bugassist 1\n".as_slice());
 }
 
-const BAD_LISTS: [&str; 36] = [
+static BAD_LISTS: [&str; 36] = [
     "l 01 0 1 0",
     "l 1 0 01 0",
     "l 00 0 0",
@@ -224,7 +224,7 @@ const BAD_LISTS: [&str; 36] = [
     "e l 2 1 0 0",
 ];
 
-const BAD_RUNS: [&str; 22] = [
+static BAD_RUNS: [&str; 22] = [
     "s 0 k",
     "s 3 t 2",
     "s 3",
@@ -249,7 +249,7 @@ const BAD_RUNS: [&str; 22] = [
     "s 3 0 t 2 0x1",
 ];
 
-const BAD_FORMS: [&str; 28] = [
+static BAD_FORMS: [&str; 28] = [
     "",
     " ",
     "  ",
