@@ -16,7 +16,7 @@ use ba_nodes::{Bit, Nodes};
 use std::alloc::{AllocError, Global};
 
 /// How the value of a bit is read from a model.
-#[derive(Clone, Copy, PartialEq, Eq, Debug)]
+#[derive(Clone, Copy)]
 pub enum Reading {
     /// It is this value in each model.
     Constant(bool),

@@ -2,16 +2,15 @@
 
 ghost use Rattle.std.specs.Prelude.{◌≡◌, ◌≤◌, ◌++◌, true, length, map, IfOk, OnOk};
 ghost use Rattle.std.specs.List.{list_all};
-ghost use Rattle.ba_encode.specs.Readings.{choices_at, choices_read, choice_read, is_relaxed_in, number_read, of_model, is_in_range, is_readable, is_readable_place, is_readable_value, is_counted};
+ghost use Rattle.ba_encode.specs.Readings.{choices_at, choices_read, choice_read, is_relaxed_in, number_read, of_model, is_in_range, is_readable, is_readable_place, is_readable_value};
 ghost use Rattle.ba_clauses.specs.Encodings.{value_read};
-ghost use Rattle.ba_lits.specs.Satisfaction.{lit_true};
 ghost use Rattle.ba_words.specs.Words.{spelled};
 
 use crate::encoded::{Encoded, PlaceReading, ValueReading};
 use ba_choices::{Choice, Values};
 use ba_clauses::Reading;
 use ba_items::Items;
-use ba_lits::{Lit, Model};
+use ba_lits::Model;
 use ba_numbers::numbers::{CType, convert};
 use std::alloc::{AllocError, Global};
 
@@ -115,14 +114,6 @@ fn value_read(model: &Model, reading: Reading) -> bool
 {
     match reading {
         Reading::Constant(value) => value,
-        Reading::Variable(lit) => is_true(model, lit),
+        Reading::Variable(lit) => model.value(lit.variable()) != lit.is_negated(),
     }
-}
-
-/// Whether a literal is true.
-fn is_true(model: &Model, lit: Lit) -> bool
-    requires { is_counted (length model.now.values) lit ≡ true }
-    ensures { result ≡ lit_true (of_model model.now) lit }
-{
-    model.value(lit.variable()) != lit.is_negated()
 }

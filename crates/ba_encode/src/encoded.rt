@@ -11,7 +11,7 @@ use std::alloc::Global;
 
 /// A group: its written number, the statement that it belongs to, its weight, and its selector, which in an encoding that
 /// [`encode`](crate::encode) made is true where the group runs as written.
-#[derive(Clone, Copy, Debug, PartialEq, Eq)]
+#[derive(Clone, Copy)]
 pub struct Group {
     pub number: u32,
     pub statement: StmtId,

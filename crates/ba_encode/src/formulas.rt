@@ -28,20 +28,27 @@ pub fn encode(alloc: Global, words: &WordList, grouping: &Grouping) -> Result<En
     ensures { IfOk result (IsEncodingOf words.now grouping.now) }
 {
     let mut nodes = Nodes::new(alloc);
+    encode_by(alloc, &mut nodes, words, grouping)
+}
+
+/// The formula of a word list, made by way of gates that are added to these nodes.
+fn encode_by(
+    alloc: Global,
+    nodes: &mut Nodes,
+    words: &WordList,
+    grouping: &Grouping,
+) -> Result<Encoded, AllocError>
+    requires { are_apart grouping.now ≡ true }
+    ensures { IfOk result (IsEncodingOf words.now grouping.now) }
+{
     let groups = groups_of(alloc, grouping)?;
-    let selectors = free_bits(alloc, &mut nodes, groups.len())?;
+    let selectors = free_bits(alloc, nodes, groups.len())?;
     let places = words.places.as_slice();
     let found = groups_of_places(alloc, grouping, groups.as_slice(), places)?;
-    let built = build(
-        alloc,
-        &mut nodes,
-        words,
-        found.as_slice(),
-        selectors.as_slice(),
-    )?;
+    let built = build(alloc, nodes, words, found.as_slice(), selectors.as_slice())?;
     let places = built.places.as_slice();
     let read = bits_read(alloc, selectors.as_slice(), places)?;
-    let encoding = clauses_of(alloc, &nodes, built.required.as_slice(), read.as_slice())?;
+    let encoding = clauses_of(alloc, nodes, built.required.as_slice(), read.as_slice())?;
     let readings = encoding.readings.as_slice();
     let named = with_selectors(alloc, groups.as_slice(), readings)?;
     let (_, others) = readings.split_at(groups.len());
@@ -54,10 +61,18 @@ pub fn encode(alloc: Global, words: &WordList, grouping: &Grouping) -> Result<En
 }
 
 /// What a formula is made from: the bits that have to be true, and the executions.
-#[derive(Drop)]
 struct Built {
     required: Vec<Bit>,
     places: Vec<PlaceBits>,
+}
+
+impl Drop for Built {
+    fn drop(self) {
+        let Built {
+            required: _,
+            places: _,
+        } = self;
+    }
 }
 
 /// The bits of a word list, by the positions of the groups of its executions.

@@ -18,7 +18,7 @@ pub enum Grouping {
 }
 
 /// A group without its selector: its written number, from 1 on, the statement that it belongs to, and its weight.
-#[derive(Clone, Copy, Debug, PartialEq, Eq)]
+#[derive(Clone, Copy)]
 pub struct Numbered {
     pub number: u32,
     pub statement: StmtId,

@@ -1,5 +1,5 @@
 -- Nodes with parts, each from the calls that make its words.
-use Rattle.std.proofs.Common.{append_assoc, ◌&&◌, ◌≡◌, ℕ, ◌<◌, ◌≤◌, ℤ, pos, Bool, true, false, not, cond, List, [], ◌∷◌, ◌++◌, length, refl, sym, ◌∙◌, ap, subst, arith, append-nil, length-append}
+use Rattle.std.proofs.Common.{Result, Ok, Err, OnOk, append_assoc, ◌&&◌, ◌≡◌, ℕ, ◌<◌, ◌≤◌, ℤ, pos, Bool, true, false, not, cond, List, [], ◌∷◌, ◌++◌, length, refl, sym, ◌∙◌, ap, subst, arith, append-nil, length-append}
 use Rattle.std.specs.Ordering.{int_eq}
 use Rattle.ba_choices.specs.declared.Choice.{Choice}
 use Rattle.ba_code.proofs.Rows.{in_order-one}
@@ -29,6 +29,11 @@ use Rattle.ba_tree.specs.declared.run.Halt.TheVariants.{WrongChoices}
 use Rattle.ba_wordlist.specs.Facts.{are_names}
 use Rattle.ba_wordlist.specs.Meaning.{Assignment, is_nonzero, values_of}
 use Rattle.ba_wordlist.specs.declared.words.WordOp.{WordOp}
+
+-- what is said of a success follows from what is known of it
+pub on-ok : {A E : Type 0} (result : Result A E) (P Q : Type 0) → (P → Q) → OnOk result P → OnOk result Q
+on-ok (Ok a) P Q more held = more held
+on-ok (Err e) P Q more held = held
 
 -- NODES IN A ROW
 

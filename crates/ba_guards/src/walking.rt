@@ -55,14 +55,8 @@ fn guard_node(
         return Ok(());
     }
     match node {
-        Node::Set { to, from } => {
-            set(b, *to, *from)?;
-            Ok(())
-        }
-        Node::Unary { to, op, t, a } => {
-            unary(b, *to, *op, *t, *a)?;
-            Ok(())
-        }
+        Node::Set { to, from } => set(b, *to, *from),
+        Node::Unary { to, op, t, a } => unary(b, *to, *op, *t, *a),
         Node::Binary {
             to,
             op,
@@ -70,36 +64,21 @@ fn guard_node(
             a,
             b: right,
             stmt,
-        } => {
-            binary(b, *to, *op, *t, *a, *right, *stmt)?;
-            Ok(())
-        }
-        Node::Convert { to, t, a } => {
-            convert(b, *to, *t, *a)?;
-            Ok(())
-        }
+        } => binary(b, *to, *op, *t, *a, *right, *stmt),
+        Node::Convert { to, t, a } => convert(b, *to, *t, *a),
         Node::Load {
             to,
             array,
             index,
             stmt,
-        } => {
-            load(b, arrays, *to, *array, *index, *stmt)?;
-            Ok(())
-        }
+        } => load(b, arrays, *to, *array, *index, *stmt),
         Node::Save {
             array,
             index,
             value,
             stmt,
-        } => {
-            save(b, arrays, *array, *index, *value, *stmt)?;
-            Ok(())
-        }
-        Node::Fill { array, values } => {
-            fill(alloc, b, *array, values.as_slice())?;
-            Ok(())
-        }
+        } => save(b, arrays, *array, *index, *value, *stmt),
+        Node::Fill { array, values } => fill(alloc, b, *array, values.as_slice()),
         Node::Pick { place, take, keep } => {
             let offer = offered(alloc, arrays, &mut b.words, *take)?;
             b.add_place(alloc, place, &offer)?;
@@ -107,45 +86,31 @@ fn guard_node(
             guard_nodes(alloc, arrays, b, keep.as_slice())?;
             let sides = b.switch(fork)?;
             take_values(arrays, b, *take, offer.values, &sides)?;
-            b.join(alloc, sides)?;
-            Ok(())
+            b.join(alloc, sides)
         }
         Node::If { when, yes, no } => {
             let which = b.operand(*when)?;
             if b.words.is_met(which) {
-                guard_nodes(alloc, arrays, b, yes.as_slice())?;
-                return Ok(());
+                return guard_nodes(alloc, arrays, b, yes.as_slice());
             }
             if b.words.is_zero(which) {
-                guard_nodes(alloc, arrays, b, no.as_slice())?;
-                return Ok(());
+                return guard_nodes(alloc, arrays, b, no.as_slice());
             }
             let fork = b.open(alloc, which)?;
             guard_nodes(alloc, arrays, b, yes.as_slice())?;
             let sides = b.switch(fork)?;
             guard_nodes(alloc, arrays, b, no.as_slice())?;
-            b.join(alloc, sides)?;
-            Ok(())
+            b.join(alloc, sides)
         }
         Node::Block { label, body } => {
             b.begin_block(alloc, *label)?;
             guard_nodes(alloc, arrays, b, body.as_slice())?;
-            b.end_block(alloc)?;
-            Ok(())
+            b.end_block(alloc)
         }
-        Node::Leave { label } => {
-            b.leave(alloc, *label)?;
-            Ok(())
-        }
+        Node::Leave { label } => b.leave(alloc, *label),
         Node::Loop { .. } => Ok(()),
-        Node::Assert { when, stmt } => {
-            assert_nonzero(b, *when, *stmt)?;
-            Ok(())
-        }
-        Node::Beyond { stmt } => {
-            beyond(b, *stmt)?;
-            Ok(())
-        }
+        Node::Assert { when, stmt } => assert_nonzero(b, *when, *stmt),
+        Node::Beyond { stmt } => beyond(b, *stmt),
     }
 }
 

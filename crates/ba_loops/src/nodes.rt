@@ -1,6 +1,6 @@
 //! Nodes whose loops become turns.
 
-ghost use Rattle.std.specs.Prelude.{ℕ, OnOk, IfOk, [], List};
+ghost use Rattle.std.specs.Prelude.{◌≡◌, ◌++◌, ◌∷◌, ℕ, OnOk, IfOk, [], List};
 ghost use Rattle.ba_code.specs.Meaning.{Setting};
 ghost use Rattle.ba_code.specs.State.{CodeExecution};
 ghost use Rattle.ba_loops.specs.Unrolling.{Adds, all_inside, loop_act, loop_inside, node_act, nodes_act, node_inside, turn_act, turns_act};
@@ -9,6 +9,14 @@ use crate::places::place_in;
 use crate::turns::{Parts, turn_behind, with_turn};
 use ba_code::nodes::Node;
 use std::alloc::{AllocError, Global};
+
+/// Puts a node behind the others.
+fn add(out: &mut Vec<Node>, node: Node) -> Result<(), AllocError>
+    ensures { OnOk result (out.new.items ≡ out.old.items ++ node ∷ []) }
+{
+    out.push(node)?;
+    Ok(())
+}
 
 /// Adds what the node does in these turns of the loops around, innermost first, where each entry of a loop has at most so many turns.
 #[cycle(unroll)]
@@ -23,20 +31,22 @@ fn add_node(
         out.old.items out.new.items) }
 {
     match node {
-        Node::Set { to, from } => {
-            out.push(Node::Set {
+        Node::Set { to, from } => add(
+            out,
+            Node::Set {
                 to: *to,
                 from: *from,
-            })?;
-        }
-        Node::Unary { to, op, t, a } => {
-            out.push(Node::Unary {
+            },
+        ),
+        Node::Unary { to, op, t, a } => add(
+            out,
+            Node::Unary {
                 to: *to,
                 op: *op,
                 t: *t,
                 a: *a,
-            })?;
-        }
+            },
+        ),
         Node::Binary {
             to,
             op,
@@ -44,88 +54,102 @@ fn add_node(
             a,
             b,
             stmt,
-        } => {
-            out.push(Node::Binary {
+        } => add(
+            out,
+            Node::Binary {
                 to: *to,
                 op: *op,
                 t: *t,
                 a: *a,
                 b: *b,
                 stmt: *stmt,
-            })?;
-        }
-        Node::Convert { to, t, a } => {
-            out.push(Node::Convert {
+            },
+        ),
+        Node::Convert { to, t, a } => add(
+            out,
+            Node::Convert {
                 to: *to,
                 t: *t,
                 a: *a,
-            })?;
-        }
+            },
+        ),
         Node::Load {
             to,
             array,
             index,
             stmt,
-        } => {
-            out.push(Node::Load {
+        } => add(
+            out,
+            Node::Load {
                 to: *to,
                 array: *array,
                 index: *index,
                 stmt: *stmt,
-            })?;
-        }
+            },
+        ),
         Node::Save {
             array,
             index,
             value,
             stmt,
-        } => {
-            out.push(Node::Save {
+        } => add(
+            out,
+            Node::Save {
                 array: *array,
                 index: *index,
                 value: *value,
                 stmt: *stmt,
-            })?;
-        }
+            },
+        ),
         Node::Fill { array, values } => {
             let values = Vec::from_slice(alloc, values.as_slice())?;
-            out.push(Node::Fill {
-                array: *array,
-                values,
-            })?;
+            add(
+                out,
+                Node::Fill {
+                    array: *array,
+                    values,
+                },
+            )
         }
         Node::Pick { place, take, keep } => {
             let place = place_in(alloc, turns, place)?;
             let mut made = Vec::new(alloc);
             add_nodes(alloc, bound, turns, keep.as_slice(), &mut made)?;
-            out.push(Node::Pick {
-                place,
-                take: *take,
-                keep: made,
-            })?;
+            add(
+                out,
+                Node::Pick {
+                    place,
+                    take: *take,
+                    keep: made,
+                },
+            )
         }
         Node::If { when, yes, no } => {
             let mut first = Vec::new(alloc);
             add_nodes(alloc, bound, turns, yes.as_slice(), &mut first)?;
             let mut second = Vec::new(alloc);
             add_nodes(alloc, bound, turns, no.as_slice(), &mut second)?;
-            out.push(Node::If {
-                when: *when,
-                yes: first,
-                no: second,
-            })?;
+            add(
+                out,
+                Node::If {
+                    when: *when,
+                    yes: first,
+                    no: second,
+                },
+            )
         }
         Node::Block { label, body } => {
             let mut made = Vec::new(alloc);
             add_nodes(alloc, bound, turns, body.as_slice(), &mut made)?;
-            out.push(Node::Block {
-                label: *label,
-                body: made,
-            })?;
+            add(
+                out,
+                Node::Block {
+                    label: *label,
+                    body: made,
+                },
+            )
         }
-        Node::Leave { label } => {
-            out.push(Node::Leave { label: *label })?;
-        }
+        Node::Leave { label } => add(out, Node::Leave { label: *label }),
         Node::Loop {
             after,
             head,
@@ -142,19 +166,17 @@ fn add_node(
                 step: step.as_slice(),
                 stmt: *stmt,
             };
-            add_loop(alloc, bound, turns, &parts, out)?;
+            add_loop(alloc, bound, turns, &parts, out)
         }
-        Node::Assert { when, stmt } => {
-            out.push(Node::Assert {
+        Node::Assert { when, stmt } => add(
+            out,
+            Node::Assert {
                 when: *when,
                 stmt: *stmt,
-            })?;
-        }
-        Node::Beyond { stmt } => {
-            out.push(Node::Beyond { stmt: *stmt })?;
-        }
+            },
+        ),
+        Node::Beyond { stmt } => add(out, Node::Beyond { stmt: *stmt }),
     }
-    Ok(())
 }
 
 /// Adds what the nodes do, one after the other.
@@ -196,11 +218,14 @@ fn turn_before(
     add_nodes(alloc, bound, inner.as_slice(), parts.body, &mut made)?;
     add_nodes(alloc, bound, inner.as_slice(), parts.step, &mut made)?;
     add_nodes(alloc, bound, behind.as_slice(), parts.head, &mut made)?;
-    made.push(Node::If {
-        when: parts.when,
-        yes: rest,
-        no: Vec::new(alloc),
-    })?;
+    add(
+        &mut made,
+        Node::If {
+            when: parts.when,
+            yes: rest,
+            no: Vec::new(alloc),
+        },
+    )?;
     Ok(made)
 }
 
@@ -216,7 +241,7 @@ fn all_turns(
         (loop_inside parts.now) [] made.items) }
 {
     let mut rest = Vec::new(alloc);
-    rest.push(Node::Beyond { stmt: parts.stmt })?;
+    add(&mut rest, Node::Beyond { stmt: parts.stmt })?;
     for left in 0..bound {
         rest = turn_before(alloc, bound, turns, parts, bound - left, rest)?;
     }
@@ -242,10 +267,12 @@ fn add_loop(
     }
     let first = with_turn(alloc, 1, turns)?;
     add_nodes(alloc, bound, first.as_slice(), parts.head, out)?;
-    out.push(Node::If {
-        when: parts.when,
-        yes: rest,
-        no: Vec::new(alloc),
-    })?;
-    Ok(())
+    add(
+        out,
+        Node::If {
+            when: parts.when,
+            yes: rest,
+            no: Vec::new(alloc),
+        },
+    )
 }

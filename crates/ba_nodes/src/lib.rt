@@ -41,10 +41,15 @@ pub enum Node {
 }
 
 /// The nodes in their order. Contracts see the list of the nodes.
-#[derive(Drop)]
 pub struct Nodes {
     nodes: IndexSet<Node>,
     gates: u64,
+}
+
+impl Drop for Nodes {
+    fn drop(self) {
+        let Nodes { nodes: _, gates: _ } = self;
+    }
 }
 
 impl Model for Nodes {

@@ -1,7 +1,8 @@
-use Rattle.std.proofs.Common.{◌≡◌, ◌++◌, take}
+use Rattle.std.proofs.Common.{◌≡◌, ◌++◌, drop}
 use Rattle.std.specs.List.{flat_map}
 use Rattle.ba_encode.specs.Parts.{bits_of}
 use Rattle.ba_encode.proofs.reading.bits_read.Given as goal
 
 abbrev pub invariant-loop-place : goal.invariant-loop-place
-invariant-loop-place l = l.read.items ≡ l.selectors ++ flat_map bits_of (take l.place-index l.places)
+invariant-loop-place l = l.read.items ++ flat_map bits_of (drop l.place-index l.places)
+    ≡ l.selectors ++ flat_map bits_of l.places

@@ -10,108 +10,110 @@ use Rattle.ba_guards.proofs.Choosing.{pick-arm}
 use Rattle.ba_guards.proofs.Fitting.{body-fit, first-fit, fit-Assert, fit-Binary, fit-Convert, fit-Fill, fit-Load, fit-Save, fit-Set, fit-Unary, keep-fit, rest-fit, sides-fit, unrolled-Loop}
 use Rattle.ba_guards.proofs.Going.{means-as, traced_of}
 use Rattle.ba_guards.proofs.Scopes.{leave-means, scoped}
-use Rattle.ba_guards.proofs.Walks.{block-arm, fork_part, if-arm, never-means, nodes-more, nodes-none, one-arm, sides-arm}
+use Rattle.ba_guards.proofs.Walks.{block-arm, fork_part, if-arm, never-means, nodes-more, nodes-none, on-ok, one-arm, sides-arm}
 use Rattle.ba_guards.specs.Making.{AreFit, IsFit, Means}
 use Rattle.ba_guards.specs.Parts.{assert_part, beyond_part, binary_part, convert_part, declared, fill_part, leave_part, load_part, save_part, set_part, unary_part}
 use Rattle.ba_tree.specs.Acts.{then_do}
 use Rattle.ba_guards.proofs.walking.+walk.Goals as goal
 
-pub guard_node-returns-in_ok-set-in-Set : goal.guard_node-returns-in_ok-set-in-Set
-guard_node-returns-in_ok-set-in-Set t c = λ vars infos fits fit.
+pub guard_node-returns-in-Set : goal.guard_node-returns-in-Set
+guard_node-returns-in-Set t c = on-ok c.set.result _ _ (λ made vars infos fits fit.
     let d = declared vars c.args.arrays.now in
     let n = c.args.node.now in
     let h = sym (fit-Set d n fit.labels c.in-Set.to c.in-Set.from c.in-Set.is) ∙ fit.fit in
     means-as d (λ f r. set_part c.in-Set.to c.in-Set.from) (λ f r. trace_node r d.arrays n) c.args.b.now _
-    (c.in_ok-set-in-Set.ensures d fits h)
+    (made d fits h)
     (λ f r cs. sym (trace-Set r d.arrays n (traced_of f c.args.b.now cs) c.in-Set.to c.in-Set.from
-    c.in-Set.is))
+    c.in-Set.is))) c.set.ensures
 
-pub guard_node-returns-in_ok-unary-in-Unary : goal.guard_node-returns-in_ok-unary-in-Unary
-guard_node-returns-in_ok-unary-in-Unary t c = λ vars infos fits fit.
+pub guard_node-returns-in-Unary : goal.guard_node-returns-in-Unary
+guard_node-returns-in-Unary t c = on-ok c.unary.result _ _ (λ made vars infos fits fit.
     let d = declared vars c.args.arrays.now in
     let n = c.args.node.now in
     let h = sym (fit-Unary d n fit.labels c.in-Unary.to c.in-Unary.op c.in-Unary.t c.in-Unary.a
     c.in-Unary.is) ∙ fit.fit in
     means-as d (λ f r. unary_part c.in-Unary.to c.in-Unary.op c.in-Unary.t c.in-Unary.a) (λ f r. trace_node
     r d.arrays n) c.args.b.now _
-    (c.in_ok-unary-in-Unary.ensures d fits h)
+    (made d fits h)
     (λ f r cs. sym (trace-Unary r d.arrays n (traced_of f c.args.b.now cs) c.in-Unary.to c.in-Unary.op
-    c.in-Unary.t c.in-Unary.a c.in-Unary.is))
+    c.in-Unary.t c.in-Unary.a c.in-Unary.is))) c.unary.ensures
 
-pub guard_node-returns-in_ok-convert-in-Convert : goal.guard_node-returns-in_ok-convert-in-Convert
-guard_node-returns-in_ok-convert-in-Convert t c = λ vars infos fits fit.
+pub guard_node-returns-in-Convert : goal.guard_node-returns-in-Convert
+guard_node-returns-in-Convert t c = on-ok c.convert.result _ _ (λ made vars infos fits fit.
     let d = declared vars c.args.arrays.now in
     let n = c.args.node.now in
     let h = sym (fit-Convert d n fit.labels c.in-Convert.to c.in-Convert.t c.in-Convert.a c.in-Convert.is)
     ∙ fit.fit in
     means-as d (λ f r. convert_part c.in-Convert.to c.in-Convert.t c.in-Convert.a) (λ f r. trace_node r
     d.arrays n) c.args.b.now _
-    (c.in_ok-convert-in-Convert.ensures d fits h)
+    (made d fits h)
     (λ f r cs. sym (trace-Convert r d.arrays n (traced_of f c.args.b.now cs) c.in-Convert.to c.in-Convert.t
-    c.in-Convert.a c.in-Convert.is))
+    c.in-Convert.a c.in-Convert.is))) c.convert.ensures
 
-pub guard_node-returns-in_ok-load-in-Load : goal.guard_node-returns-in_ok-load-in-Load
-guard_node-returns-in_ok-load-in-Load t c = λ vars infos fits fit.
+pub guard_node-returns-in-Load : goal.guard_node-returns-in-Load
+guard_node-returns-in-Load t c = on-ok c.load.result _ _ (λ made vars infos fits fit.
     let d = declared vars c.args.arrays.now in
     let n = c.args.node.now in
     let h = sym (fit-Load d n fit.labels c.in-Load.to c.in-Load.array c.in-Load.index c.in-Load.stmt
     c.in-Load.is) ∙ fit.fit in
     means-as d (λ f r. load_part c.in-Load.to c.in-Load.array c.in-Load.index c.in-Load.stmt) (λ f r.
     trace_node r d.arrays n) c.args.b.now _
-    (c.in_ok-load-in-Load.ensures vars infos fits h)
+    (made vars infos fits h)
     (λ f r cs. sym (trace-Load r d.arrays n (traced_of f c.args.b.now cs) c.in-Load.to c.in-Load.array
-    c.in-Load.index c.in-Load.stmt c.in-Load.is))
+    c.in-Load.index c.in-Load.stmt c.in-Load.is))) c.load.ensures
 
-pub guard_node-returns-in_ok-save-in-Save : goal.guard_node-returns-in_ok-save-in-Save
-guard_node-returns-in_ok-save-in-Save t c = λ vars infos fits fit.
+pub guard_node-returns-in-Save : goal.guard_node-returns-in-Save
+guard_node-returns-in-Save t c = on-ok c.save.result _ _ (λ made vars infos fits fit.
     let d = declared vars c.args.arrays.now in
     let n = c.args.node.now in
     let h = sym (fit-Save d n fit.labels c.in-Save.array c.in-Save.index c.in-Save.value c.in-Save.stmt
     c.in-Save.is) ∙ fit.fit in
     means-as d (λ f r. save_part c.in-Save.array c.in-Save.index c.in-Save.value c.in-Save.stmt) (λ f r.
     trace_node r d.arrays n) c.args.b.now _
-    (c.in_ok-save-in-Save.ensures vars infos fits h)
+    (made vars infos fits h)
     (λ f r cs. sym (trace-Save r d.arrays n (traced_of f c.args.b.now cs) c.in-Save.array c.in-Save.index
-    c.in-Save.value c.in-Save.stmt c.in-Save.is))
+    c.in-Save.value c.in-Save.stmt c.in-Save.is))) c.save.ensures
 
-pub guard_node-returns-in_ok-assert_nonzero-in-Assert : goal.guard_node-returns-in_ok-assert_nonzero-in-Assert
-guard_node-returns-in_ok-assert_nonzero-in-Assert t c = λ vars infos fits fit.
+pub guard_node-returns-in-Assert : goal.guard_node-returns-in-Assert
+guard_node-returns-in-Assert t c = on-ok c.assert_nonzero.result _ _ (λ made vars infos fits fit.
     let d = declared vars c.args.arrays.now in
     let n = c.args.node.now in
     let h = sym (fit-Assert d n fit.labels c.in-Assert.when c.in-Assert.stmt c.in-Assert.is) ∙ fit.fit in
     means-as d (λ f r. assert_part c.in-Assert.when c.in-Assert.stmt) (λ f r. trace_node r d.arrays n)
     c.args.b.now _
-    (c.in_ok-assert_nonzero-in-Assert.ensures d fits h)
+    (made d fits h)
     (λ f r cs. sym (trace-Assert r d.arrays n (traced_of f c.args.b.now cs) c.in-Assert.when
-    c.in-Assert.stmt c.in-Assert.is))
+    c.in-Assert.stmt c.in-Assert.is))) c.assert_nonzero.ensures
 
-pub guard_node-returns-in_ok-binary-in-Binary : goal.guard_node-returns-in_ok-binary-in-Binary
-guard_node-returns-in_ok-binary-in-Binary t c = λ vars infos fits fit.
+pub guard_node-returns-in-Binary : goal.guard_node-returns-in-Binary
+guard_node-returns-in-Binary t c = on-ok c.binary.result _ _ (λ made vars infos fits fit.
     let d = declared vars c.args.arrays.now in
     let n = c.args.node.now in
     let h = sym (fit-Binary d n fit.labels c.in-Binary.to c.in-Binary.op c.in-Binary.t c.in-Binary.a
     c.in-Binary.right c.in-Binary.stmt c.in-Binary.is) ∙ fit.fit in
     means-as d (λ f r. binary_part c.in-Binary.to c.in-Binary.op c.in-Binary.t c.in-Binary.a
     c.in-Binary.right c.in-Binary.stmt) (λ f r. trace_node r d.arrays n) c.args.b.now _
-    (c.in_ok-binary-in-Binary.ensures d fits h)
+    (made d fits h)
     (λ f r cs. sym (trace-Binary r d.arrays n (traced_of f c.args.b.now cs) c.in-Binary.to c.in-Binary.op
-    c.in-Binary.t c.in-Binary.a c.in-Binary.right c.in-Binary.stmt c.in-Binary.is))
+    c.in-Binary.t c.in-Binary.a c.in-Binary.right c.in-Binary.stmt c.in-Binary.is))) c.binary.ensures
 
-pub guard_node-returns-in_ok-beyond-in-Beyond : goal.guard_node-returns-in_ok-beyond-in-Beyond
-guard_node-returns-in_ok-beyond-in-Beyond t c = λ vars infos fits fit.
+pub guard_node-returns-in-Beyond : goal.guard_node-returns-in-Beyond
+guard_node-returns-in-Beyond t c = on-ok c.beyond.result _ _ (λ made vars infos fits fit.
     let d = declared vars c.args.arrays.now in
     let n = c.args.node.now in
     means-as d (λ f r. beyond_part c.in-Beyond.stmt) (λ f r. trace_node r d.arrays n) c.args.b.now _
-    (c.in_ok-beyond-in-Beyond.ensures d fits)
-    (λ f r cs. sym (trace-Beyond r d.arrays n (traced_of f c.args.b.now cs) c.in-Beyond.stmt c.in-Beyond.is))
+    (made d fits)
+    (λ f r cs. sym (trace-Beyond r d.arrays n (traced_of f c.args.b.now cs) c.in-Beyond.stmt c.in-Beyond.is)))
+    c.beyond.ensures
 
-pub guard_node-returns-in_ok-leave-in-Leave : goal.guard_node-returns-in_ok-leave-in-Leave
-guard_node-returns-in_ok-leave-in-Leave t c = λ vars infos fits fit.
+pub guard_node-returns-in-Leave : goal.guard_node-returns-in-Leave
+guard_node-returns-in-Leave t c = on-ok c.leave.result _ _ (λ made vars infos fits fit.
     let d = declared vars c.args.arrays.now in
     let n = c.args.node.now in
     means-as d (λ f r. leave_part c.in-Leave.label) (λ f r. trace_node r d.arrays n) c.args.b.now _
-    (leave-means d c.in-Leave.label c.args.b.now _ fits (c.in_ok-leave-in-Leave.ensures d fits))
-    (λ f r cs. sym (trace-Leave r d.arrays n (traced_of f c.args.b.now cs) c.in-Leave.label c.in-Leave.is))
+    (leave-means d c.in-Leave.label c.args.b.now _ fits (made d fits))
+    (λ f r cs. sym (trace-Leave r d.arrays n (traced_of f c.args.b.now cs) c.in-Leave.label c.in-Leave.is)))
+    c.leave.ensures
 
 pub guard_node-returns-in-Loop : goal.guard_node-returns-in-Loop
 guard_node-returns-in-Loop t c = λ vars infos fits fit.
@@ -152,8 +154,8 @@ guard_nodes-returns t c = λ vars infos fits fit.
     (take_all c.loop-node.node-index c.args.nodes.now (omega arith)) (c.loop-node.invariant vars infos fits
     fit)
 
-pub guard_node-returns-in_ok-join-in-If : goal.guard_node-returns-in_ok-join-in-If
-guard_node-returns-in_ok-join-in-If t c = λ vars infos fits fit.
+pub guard_node-returns-in_ok-guard_nodes-in-If-2 : goal.guard_node-returns-in_ok-guard_nodes-in-If-2
+guard_node-returns-in_ok-guard_nodes-in-If-2 t c = on-ok c.join-in-If.result _ _ (λ made vars infos fits fit.
     let d = declared vars c.args.arrays.now in
     let n = c.args.node.now in
     let yes = c.in-If.yes.items in
@@ -173,20 +175,20 @@ guard_node-returns-in_ok-join-in-If t c = λ vars infos fits fit.
     c.in_ok-sides-in-If.sides fits1 below c.in_ok-fork-in-If.ensures.fork c.in_ok-fork-in-If.ensures.opens
     (λ fits2. subst (λ ns. Means d (λ f r. trace_nodes r d.arrays ns) c.open-in-If.new.self
     c.guard_nodes-in-If.new.b) c.as_slice-in-If.ensures.value
-    (c.in_ok-guard_nodes-in-If-3.ensures vars infos fits2 (subst (AreFit d) (sym
+    (c.in_ok-guard_nodes-in-If.ensures vars infos fits2 (subst (AreFit d) (sym
     c.as_slice-in-If.ensures.value) parts.1)))
     c.in_ok-sides-in-If.ensures.sides c.in_ok-sides-in-If.ensures.switches
     (λ fits4. subst (λ ns. Means d (λ f r. trace_nodes r d.arrays ns) c.switch-in-If.new.self
     c.guard_nodes-in-If-2.new.b)
     c.as_slice-in-If-2.ensures.value
-    (c.in_ok-guard_nodes-in-If-4.ensures vars infos fits4 (subst (AreFit d) (sym
+    (c.in_ok-guard_nodes-in-If-2.ensures vars infos fits4 (subst (AreFit d) (sym
     c.as_slice-in-If-2.ensures.value) parts.2)))
-    c.in_ok-join-in-If.ensures))
+    made))
     (λ f r cs. sym (trace-If r d.arrays n (traced_of f c.args.b.now cs) c.in-If.when c.in-If.yes c.in-If.no
-    c.in-If.is))
+    c.in-If.is))) c.join-in-If.ensures
 
-pub guard_node-returns-in_ok-end_block-in-Block : goal.guard_node-returns-in_ok-end_block-in-Block
-guard_node-returns-in_ok-end_block-in-Block t c = λ vars infos fits fit.
+pub guard_node-returns-in_ok-guard_nodes-in-Block : goal.guard_node-returns-in_ok-guard_nodes-in-Block
+guard_node-returns-in_ok-guard_nodes-in-Block t c = on-ok c.end_block.result _ _ (λ made vars infos fits fit.
     let d = declared vars c.args.arrays.now in
     let n = c.args.node.now in
     let body = c.in-Block.body.items in
@@ -201,25 +203,26 @@ guard_node-returns-in_ok-end_block-in-Block t c = λ vars infos fits fit.
     (c.in_ok-guard_nodes-in-Block.ensures vars infos fits1 (subst (AreFit d) (sym
     c.as_slice-in-Block.ensures.value)
     (body-fit d n c.in-Block.label c.in-Block.body c.in-Block.is fit))))
-    c.in_ok-end_block-in-Block.ensures)
+    made)
     (λ f r cs. sym (trace-Block r d.arrays n (traced_of f c.args.b.now cs) c.in-Block.label c.in-Block.body
-    c.in-Block.is))
+    c.in-Block.is))) c.end_block.ensures
 
-pub guard_node-returns-in_ok-fill-in-Fill : goal.guard_node-returns-in_ok-fill-in-Fill
-guard_node-returns-in_ok-fill-in-Fill t c = λ vars infos fits fit.
+pub guard_node-returns-in-Fill : goal.guard_node-returns-in-Fill
+guard_node-returns-in-Fill t c = on-ok c.fill.result _ _ (λ made vars infos fits fit.
     let d = declared vars c.args.arrays.now in
     let n = c.args.node.now in
     let a = c.in-Fill.array in
     let h = sym (fit-Fill d n fit.labels a c.in-Fill.values c.in-Fill.is) ∙ fit.fit in
     means-as d (λ f r. fill_part a c.in-Fill.values.items) (λ f r. trace_node r d.arrays n) c.args.b.now _
     (subst (λ os. Means d (λ f r. fill_part a os) c.args.b.now c.fill.new.b) c.as_slice.ensures.value
-    (c.in_ok-fill-in-Fill.ensures d fits
+    (made d fits
     (ap (λ os. is_array d a && list_all (is_operand d) os && (length os == (info_at d.arrays a).len))
     c.as_slice.ensures.value ∙ h)))
-    (λ f r cs. sym (trace-Fill r d.arrays n (traced_of f c.args.b.now cs) a c.in-Fill.values c.in-Fill.is))
+    (λ f r cs. sym (trace-Fill r d.arrays n (traced_of f c.args.b.now cs) a c.in-Fill.values c.in-Fill.is)))
+    c.fill.ensures
 
-pub guard_node-returns-in_ok-join-in-Pick : goal.guard_node-returns-in_ok-join-in-Pick
-guard_node-returns-in_ok-join-in-Pick t c = λ vars infos fits fit.
+pub guard_node-returns-in_ok-take_values-in-Pick : goal.guard_node-returns-in_ok-take_values-in-Pick
+guard_node-returns-in_ok-take_values-in-Pick t c = on-ok c.join.result _ _ (λ made vars infos fits fit.
     let d = declared vars c.args.arrays.now in
     let n = c.args.node.now in
     let b = c.args.b.now in
@@ -243,8 +246,9 @@ guard_node-returns-in_ok-join-in-Pick t c = λ vars infos fits fit.
     c.in_ok-sides-in-Pick.ensures.sides c.in_ok-sides-in-Pick.ensures.switches
     (λ fits4 sides second names right. c.in_ok-take_values-in-Pick.ensures vars infos fits4 parts.0 sides
     second names right)
-    c.in_ok-join-in-Pick.ensures)
-    (λ f r cs. sym (trace-Pick r d.arrays n (traced_of f b cs) place take c.in-Pick.keep c.in-Pick.is))
+    made)
+    (λ f r cs. sym (trace-Pick r d.arrays n (traced_of f b cs) place take c.in-Pick.keep c.in-Pick.is)))
+    c.join.ensures
 
 -- where the run never comes, and where a condition is a constant
 
@@ -255,7 +259,7 @@ guard_node-returns-then-is_zero t c = λ vars infos fits fit.
     (c.is_zero.ensures c.if-is_zero.true)
 
 pub guard_node-returns-then-is_met : goal.guard_node-returns-then-is_met
-guard_node-returns-then-is_met t c = λ vars infos fits fit.
+guard_node-returns-then-is_met t c = on-ok c.guard_nodes-then-is_met.result _ _ (λ made vars infos fits fit.
     let d = declared vars c.args.arrays.now in
     let n = c.args.node.now in
     let yes = c.in-If.yes.items in
@@ -272,13 +276,14 @@ guard_node-returns-then-is_met t c = λ vars infos fits fit.
     (λ fits1. subst (λ ns. Means d (λ f r. trace_nodes r d.arrays ns) c.operand.new.self
     c.guard_nodes-then-is_met.new.b)
     c.as_slice-then-is_met.ensures.value
-    (c.in_ok-guard_nodes-in-If.ensures vars infos fits1 (subst (AreFit d) (sym
+    (made vars infos fits1 (subst (AreFit d) (sym
     c.as_slice-then-is_met.ensures.value) parts.1))))
     (λ f r cs. sym (trace-If r d.arrays n (traced_of f c.args.b.now cs) c.in-If.when c.in-If.yes c.in-If.no
-    c.in-If.is))
+    c.in-If.is))) c.guard_nodes-then-is_met.ensures
 
 pub guard_node-returns-then-is_zero-2 : goal.guard_node-returns-then-is_zero-2
-guard_node-returns-then-is_zero-2 t c = λ vars infos fits fit.
+guard_node-returns-then-is_zero-2 t c =
+    on-ok c.guard_nodes-then-is_zero-2.result _ _ (λ made vars infos fits fit.
     let d = declared vars c.args.arrays.now in
     let n = c.args.node.now in
     let yes = c.in-If.yes.items in
@@ -295,7 +300,7 @@ guard_node-returns-then-is_zero-2 t c = λ vars infos fits fit.
     (λ fits1. subst (λ ns. Means d (λ f r. trace_nodes r d.arrays ns) c.operand.new.self
     c.guard_nodes-then-is_zero-2.new.b)
     c.as_slice-then-is_zero-2.ensures.value
-    (c.in_ok-guard_nodes-in-If-2.ensures vars infos fits1 (subst (AreFit d) (sym
+    (made vars infos fits1 (subst (AreFit d) (sym
     c.as_slice-then-is_zero-2.ensures.value) parts.2))))
     (λ f r cs. sym (trace-If r d.arrays n (traced_of f c.args.b.now cs) c.in-If.when c.in-If.yes c.in-If.no
-    c.in-If.is))
+    c.in-If.is))) c.guard_nodes-then-is_zero-2.ensures

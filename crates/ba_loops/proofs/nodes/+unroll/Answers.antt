@@ -5,54 +5,70 @@ use Rattle.ba_loops.proofs.Branches as branches
 use Rattle.ba_loops.proofs.Heights.{height, heights, item-below}
 use Rattle.ba_loops.proofs.Leaves as leaves
 use Rattle.ba_loops.proofs.Rounds as rounds
-use Rattle.ba_loops.proofs.Rows.{row-in, row-made, row-more, row-none}
+use Rattle.ba_loops.proofs.Rows.{on-ok, row-in, row-made, row-more, row-none}
 use Rattle.ba_loops.proofs.nodes.+unroll.Goals as goal
 use Rattle.ba_loops.specs.Unrolling.{Acts, Adds, beyond_act, loop_inside, turn_of_head, turns_act}
 
 -- A NODE
 
-pub add_node-returns-in_ok-push-in-Set : goal.add_node-returns-in_ok-push-in-Set
-add_node-returns-in_ok-push-in-Set t c = leaves.adds-Set c.args.bound c.args.turns.now
+pub add_node-returns-in-Set : goal.add_node-returns-in-Set
+add_node-returns-in-Set t c =
+    on-ok c.add.result _ _ (λ put.
+    leaves.adds-Set c.args.bound c.args.turns.now
     c.args.node.now c.args.out.now.items c.in-Set.to c.in-Set.from c.in-Set.is
-    c.push.new.self.items c.in_ok-push-in-Set.ensures.items
+    c.add.new.out.items put) c.add.ensures
 
-pub add_node-returns-in_ok-push-in-Unary : goal.add_node-returns-in_ok-push-in-Unary
-add_node-returns-in_ok-push-in-Unary t c = leaves.adds-Unary c.args.bound c.args.turns.now
+pub add_node-returns-in-Unary : goal.add_node-returns-in-Unary
+add_node-returns-in-Unary t c =
+    on-ok c.add-in-Unary.result _ _ (λ put.
+    leaves.adds-Unary c.args.bound c.args.turns.now
     c.args.node.now c.args.out.now.items c.in-Unary.to c.in-Unary.op c.in-Unary.t c.in-Unary.a c.in-Unary.is
-    c.push-in-Unary.new.self.items c.in_ok-push-in-Unary.ensures.items
+    c.add-in-Unary.new.out.items put) c.add-in-Unary.ensures
 
-pub add_node-returns-in_ok-push-in-Binary : goal.add_node-returns-in_ok-push-in-Binary
-add_node-returns-in_ok-push-in-Binary t c = leaves.adds-Binary c.args.bound c.args.turns.now
+pub add_node-returns-in-Binary : goal.add_node-returns-in-Binary
+add_node-returns-in-Binary t c =
+    on-ok c.add-in-Binary.result _ _ (λ put.
+    leaves.adds-Binary c.args.bound c.args.turns.now
     c.args.node.now c.args.out.now.items c.in-Binary.to c.in-Binary.op c.in-Binary.t c.in-Binary.a
     c.in-Binary.b c.in-Binary.stmt c.in-Binary.is
-    c.push-in-Binary.new.self.items c.in_ok-push-in-Binary.ensures.items
+    c.add-in-Binary.new.out.items put) c.add-in-Binary.ensures
 
-pub add_node-returns-in_ok-push-in-Convert : goal.add_node-returns-in_ok-push-in-Convert
-add_node-returns-in_ok-push-in-Convert t c = leaves.adds-Convert c.args.bound c.args.turns.now
+pub add_node-returns-in-Convert : goal.add_node-returns-in-Convert
+add_node-returns-in-Convert t c =
+    on-ok c.add-in-Convert.result _ _ (λ put.
+    leaves.adds-Convert c.args.bound c.args.turns.now
     c.args.node.now c.args.out.now.items c.in-Convert.to c.in-Convert.t c.in-Convert.a c.in-Convert.is
-    c.push-in-Convert.new.self.items c.in_ok-push-in-Convert.ensures.items
+    c.add-in-Convert.new.out.items put) c.add-in-Convert.ensures
 
-pub add_node-returns-in_ok-push-in-Load : goal.add_node-returns-in_ok-push-in-Load
-add_node-returns-in_ok-push-in-Load t c = leaves.adds-Load c.args.bound c.args.turns.now
+pub add_node-returns-in-Load : goal.add_node-returns-in-Load
+add_node-returns-in-Load t c =
+    on-ok c.add-in-Load.result _ _ (λ put.
+    leaves.adds-Load c.args.bound c.args.turns.now
     c.args.node.now c.args.out.now.items c.in-Load.to c.in-Load.array c.in-Load.index c.in-Load.stmt
     c.in-Load.is
-    c.push-in-Load.new.self.items c.in_ok-push-in-Load.ensures.items
+    c.add-in-Load.new.out.items put) c.add-in-Load.ensures
 
-pub add_node-returns-in_ok-push-in-Save : goal.add_node-returns-in_ok-push-in-Save
-add_node-returns-in_ok-push-in-Save t c = leaves.adds-Save c.args.bound c.args.turns.now
+pub add_node-returns-in-Save : goal.add_node-returns-in-Save
+add_node-returns-in-Save t c =
+    on-ok c.add-in-Save.result _ _ (λ put.
+    leaves.adds-Save c.args.bound c.args.turns.now
     c.args.node.now c.args.out.now.items c.in-Save.array c.in-Save.index c.in-Save.value c.in-Save.stmt
     c.in-Save.is
-    c.push-in-Save.new.self.items c.in_ok-push-in-Save.ensures.items
+    c.add-in-Save.new.out.items put) c.add-in-Save.ensures
 
-pub add_node-returns-in_ok-push-in-Fill : goal.add_node-returns-in_ok-push-in-Fill
-add_node-returns-in_ok-push-in-Fill t c = leaves.adds-Fill c.args.bound c.args.turns.now
+pub add_node-returns-in_ok-values-in-Fill : goal.add_node-returns-in_ok-values-in-Fill
+add_node-returns-in_ok-values-in-Fill t c =
+    on-ok c.add-in-Fill.result _ _ (λ put.
+    leaves.adds-Fill c.args.bound c.args.turns.now
     c.args.node.now c.args.out.now.items c.in-Fill.array c.in-Fill.values c.in_ok-values-in-Fill.values
     c.in-Fill.is
     (c.in_ok-values-in-Fill.ensures.items ∙ c.as_slice.ensures.value)
-    c.push-in-Fill.new.self.items c.in_ok-push-in-Fill.ensures.items
+    c.add-in-Fill.new.out.items put) c.add-in-Fill.ensures
 
-pub add_node-returns-in_ok-push-in-Pick : goal.add_node-returns-in_ok-push-in-Pick
-add_node-returns-in_ok-push-in-Pick t c = branches.adds-Pick c.args.bound c.args.turns.now
+pub add_node-returns-in_ok-add_nodes-in-Pick : goal.add_node-returns-in_ok-add_nodes-in-Pick
+add_node-returns-in_ok-add_nodes-in-Pick t c =
+    on-ok c.add-in-Pick.result _ _ (λ put.
+    branches.adds-Pick c.args.bound c.args.turns.now
     c.args.node.now c.args.out.now.items c.in-Pick.place c.in_ok-place-in-Pick.place c.in-Pick.take
     c.in-Pick.keep c.add_nodes.new.out c.in-Pick.is c.in_ok-place-in-Pick.ensures.path
     c.in_ok-place-in-Pick.ensures.stmt c.in_ok-place-in-Pick.ensures.counted
@@ -60,10 +76,12 @@ add_node-returns-in_ok-push-in-Pick t c = branches.adds-Pick c.args.bound c.args
     c.new-made.result.items
     c.add_nodes.new.out.items c.as_slice-in-Pick.ensures.value c.new-made.ensures.items
     c.in_ok-add_nodes-in-Pick.ensures)
-    c.push-in-Pick.new.self.items c.in_ok-push-in-Pick.ensures.items
+    c.add-in-Pick.new.out.items put) c.add-in-Pick.ensures
 
-pub add_node-returns-in_ok-push-in-If : goal.add_node-returns-in_ok-push-in-If
-add_node-returns-in_ok-push-in-If t c = branches.adds-If c.args.bound c.args.turns.now
+pub add_node-returns-in_ok-add_nodes-in-If-2 : goal.add_node-returns-in_ok-add_nodes-in-If-2
+add_node-returns-in_ok-add_nodes-in-If-2 t c =
+    on-ok c.add-in-If.result _ _ (λ put.
+    branches.adds-If c.args.bound c.args.turns.now
     c.args.node.now c.args.out.now.items c.in-If.when c.in-If.yes c.in-If.no c.add_nodes-in-If.new.out
     c.add_nodes-in-If-2.new.out c.in-If.is
     (row-made c.args.bound c.args.turns.now c.as_slice-in-If.result.now c.in-If.yes.items
@@ -74,24 +92,30 @@ add_node-returns-in_ok-push-in-If t c = branches.adds-If c.args.bound c.args.tur
     c.new-second.result.items
     c.add_nodes-in-If-2.new.out.items c.as_slice-in-If-2.ensures.value c.new-second.ensures.items
     c.in_ok-add_nodes-in-If-2.ensures)
-    c.push-in-If.new.self.items c.in_ok-push-in-If.ensures.items
+    c.add-in-If.new.out.items put) c.add-in-If.ensures
 
-pub add_node-returns-in_ok-push-in-Block : goal.add_node-returns-in_ok-push-in-Block
-add_node-returns-in_ok-push-in-Block t c = branches.adds-Block c.args.bound c.args.turns.now
+pub add_node-returns-in_ok-add_nodes-in-Block : goal.add_node-returns-in_ok-add_nodes-in-Block
+add_node-returns-in_ok-add_nodes-in-Block t c =
+    on-ok c.add-in-Block.result _ _ (λ put.
+    branches.adds-Block c.args.bound c.args.turns.now
     c.args.node.now c.args.out.now.items c.in-Block.label c.in-Block.body c.add_nodes-in-Block.new.out
     c.in-Block.is
     (row-made c.args.bound c.args.turns.now c.as_slice-in-Block.result.now c.in-Block.body.items
     c.new-made-in-Block.result.items c.add_nodes-in-Block.new.out.items c.as_slice-in-Block.ensures.value
     c.new-made-in-Block.ensures.items c.in_ok-add_nodes-in-Block.ensures)
-    c.push-in-Block.new.self.items c.in_ok-push-in-Block.ensures.items
+    c.add-in-Block.new.out.items put) c.add-in-Block.ensures
 
-pub add_node-returns-in_ok-push-in-Leave : goal.add_node-returns-in_ok-push-in-Leave
-add_node-returns-in_ok-push-in-Leave t c = leaves.adds-Leave c.args.bound c.args.turns.now
+pub add_node-returns-in-Leave : goal.add_node-returns-in-Leave
+add_node-returns-in-Leave t c =
+    on-ok c.add-in-Leave.result _ _ (λ put.
+    leaves.adds-Leave c.args.bound c.args.turns.now
     c.args.node.now c.args.out.now.items c.in-Leave.label c.in-Leave.is
-    c.push-in-Leave.new.self.items c.in_ok-push-in-Leave.ensures.items
+    c.add-in-Leave.new.out.items put) c.add-in-Leave.ensures
 
-pub add_node-returns-in_ok-add_loop-in-Loop : goal.add_node-returns-in_ok-add_loop-in-Loop
-add_node-returns-in_ok-add_loop-in-Loop t c = rounds.adds-Loop c.args.bound c.args.turns.now c.args.node.now
+pub add_node-returns-in-Loop : goal.add_node-returns-in-Loop
+add_node-returns-in-Loop t c =
+    on-ok c.add_loop.result _ _ (λ put.
+    rounds.adds-Loop c.args.bound c.args.turns.now c.args.node.now
     c.in-Loop.head c.in-Loop.when c.in-Loop.body c.in-Loop.step c.in-Loop.stmt
     (record {
       after = c.in-Loop.after;
@@ -104,17 +128,21 @@ add_node-returns-in_ok-add_loop-in-Loop t c = rounds.adds-Loop c.args.bound c.ar
     c.in-Loop.after c.args.out.now.items c.add_loop.new.out.items c.in-Loop.is refl
     c.as_slice-in-Loop.ensures.value refl
     c.as_slice-in-Loop-2.ensures.value c.as_slice-in-Loop-3.ensures.value refl
-    c.in_ok-add_loop-in-Loop.ensures
+    put) c.add_loop.ensures
 
-pub add_node-returns-in_ok-push-in-Assert : goal.add_node-returns-in_ok-push-in-Assert
-add_node-returns-in_ok-push-in-Assert t c = leaves.adds-Assert c.args.bound c.args.turns.now
+pub add_node-returns-in-Assert : goal.add_node-returns-in-Assert
+add_node-returns-in-Assert t c =
+    on-ok c.add-in-Assert.result _ _ (λ put.
+    leaves.adds-Assert c.args.bound c.args.turns.now
     c.args.node.now c.args.out.now.items c.in-Assert.when c.in-Assert.stmt c.in-Assert.is
-    c.push-in-Assert.new.self.items c.in_ok-push-in-Assert.ensures.items
+    c.add-in-Assert.new.out.items put) c.add-in-Assert.ensures
 
-pub add_node-returns-in_ok-push-in-Beyond : goal.add_node-returns-in_ok-push-in-Beyond
-add_node-returns-in_ok-push-in-Beyond t c = leaves.adds-Beyond c.args.bound c.args.turns.now
+pub add_node-returns-in-Beyond : goal.add_node-returns-in-Beyond
+add_node-returns-in-Beyond t c =
+    on-ok c.add-in-Beyond.result _ _ (λ put.
+    leaves.adds-Beyond c.args.bound c.args.turns.now
     c.args.node.now c.args.out.now.items c.in-Beyond.stmt c.in-Beyond.is
-    c.push-in-Beyond.new.self.items c.in_ok-push-in-Beyond.ensures.items
+    c.add-in-Beyond.new.out.items put) c.add-in-Beyond.ensures
 
 -- NODES
 
@@ -156,12 +184,12 @@ turn_before-returns t c = λ left made. rounds.made-turn c.args.bound c.args.tur
     (c.as_slice-3.ensures.value ∙ c.in_ok-behind.ensures
     ∙ ap (λ (k : ℕ). k ∷ c.args.turns.now) c.in_ok-turn_behind.ensures)
     c.in_ok-add_nodes-3.ensures)
-    c.new.ensures.items made c.push.new.self.items c.in_ok-push.ensures.items
+    c.new.ensures.items made c.add.new.out.items c.in_ok-add.ensures
 
 pub all_turns-loop-left-init : goal.all_turns-loop-left-init
 all_turns-loop-left-init t c =
     subst (λ (new : List Node). Adds (beyond_act c.args.parts.now.stmt) (loop_inside c.args.parts.now) [] new)
-    (sym (c.in_ok-push.ensures.items
+    (sym (c.in_ok-add.ensures
     ∙ ap (λ (ns : List Node). ns ++ node.Beyond c.args.parts.now.stmt ∷ []) c.new-rest.ensures.items))
     (branches.made-beyond c.args.parts.now.stmt (loop_inside c.args.parts.now))
 
@@ -179,10 +207,12 @@ add_loop-returns-then-parts t c = rounds.adds-tail-loop c.args.bound c.args.turn
     c.append.new.self.items c.in_ok-append.ensures.items
 
 pub add_loop-returns : goal.add_loop-returns
-add_loop-returns t c = rounds.adds-head-loop c.args.bound c.args.turns.now c.args.parts.now
+add_loop-returns t c =
+    on-ok c.add.result _ _ (λ put.
+    rounds.adds-head-loop c.args.bound c.args.turns.now c.args.parts.now
     c.args.out.now.items c.add_nodes.new.out.items c.in_ok-rest.rest c.new.result c.if-parts.false
     c.in_ok-rest.ensures
     (row-in c.args.bound c.as_slice.result.now (1 ∷ c.args.turns.now) c.args.parts.now.head.now
     c.args.out.now.items c.add_nodes.new.out.items (c.as_slice.ensures.value ∙ c.in_ok-first.ensures)
     c.in_ok-add_nodes.ensures)
-    c.new.ensures.items c.push.new.self.items c.in_ok-push.ensures.items
+    c.new.ensures.items c.add.new.out.items put) c.add.ensures

@@ -10,7 +10,7 @@ use Rattle.ba_encode.specs.Selectors.{with_selectors}
 use Rattle.ba_nodes.proofs.Truths.{Extends-through}
 use Rattle.ba_nodes.specs.Gates.{IsBitOf}
 use Rattle.ba_nodes.specs.declared.Bit.{Bit}
-use Rattle.ba_encode.proofs.formulas.encode.Goals as goal
+use Rattle.ba_encode.proofs.formulas.encode_by.Goals as goal
 
 pub clauses_of-requires-clause-read : goal.clauses_of-requires-clause-read
 clauses_of-requires-clause-read c =
