@@ -1,10 +1,12 @@
 -- The call on words that are lent.
-use Rattle.std.proofs.Common.{◌≡◌, ◌<◌, ◌≤◌, Bool, true, false, Option, None, Some, Ok, Err, List, [], ◌∷◌, length, drop, get_or, map, refl, sym, ap, ◌∙◌, arith}
+use Rattle.std.proofs.Common.{◌≡◌, ◌<◌, ◌≤◌, Bool, true, false, Option, None, Some, Result, Ok, Err, List, [], ◌∷◌, length, drop, get_or, map, refl, sym, ap, ◌∙◌, arith}
 use Rattle.std.specs.Prelude.{option_and_then}
+use Rattle.std.specs.Option.{ok_or}
 use Rattle.std.specs.Borrow.{Bor}
 use Rattle.std.specs.List.{list_all}
 use Rattle.clap.specs.Matches.{first_value, found_of}
 use Rattle.clap.specs.declared.parser.matches.ArgMatches.{ArgMatches}
+use Rattle.ba_commands.specs.declared.commands.Command.{Command}
 use Rattle.ba_commands.specs.declared.modes.Mode.{Mode}
 use Rattle.ba_commands.specs.declared.words.WordsError.{WordsError}
 use Rattle.ba_commands.specs.declared.words.WordsError.TheVariants.{Bad, Memory}
@@ -73,3 +75,9 @@ found_command (word ∷ words) d mode matches runs some is read parsed flag =
     ∙ answered mode word.now (bytes words) (found_of matches) runs
     (list_all-map (is_readable (usage_of mode)) (λ (word : Bor Word). word.now) words ∙ read) parsed.0
     parsed.1 flag
+
+-- what was found is what is read
+pub read_found : (said found : Option Command) (answer : Result Command WordsError)
+    → answer ≡ ok_or found Bad → said ≡ found → Reads answer said
+read_found said None answer is same = rw is same
+read_found said (Some command) answer is same = rw is same

@@ -7,7 +7,7 @@ use std::marker::Model;
 
 /// A text that stands in the words of the call, and takes no memory of its own: the name of a file. Contracts
 /// see the list of its bytes and nothing else.
-#[derive(Debug, Drop)]
+#[derive(Drop)]
 pub struct Text<'a> {
     text: &'a str,
 }
@@ -38,7 +38,7 @@ impl<'a> Text<'a> {
 
 /// What the words of a call ask for. Files are named as the words name them; what is left out has its
 /// default.
-#[derive(Debug, Drop)]
+#[derive(Drop)]
 pub enum Command<'a> {
     /// Find the least sets of statements whose change could repair the run.
     Localise {

@@ -18,7 +18,7 @@ use std::alloc::{AllocError, AllocFailed, Global};
 use thiserror::Error;
 
 /// Why a text gives no weights, or want of memory.
-#[derive(Clone, Copy, Debug, PartialEq, Eq, Error)]
+#[derive(Clone, Copy, Debug, Error)]
 pub enum WeightsError {
     /// The line of this number, counted from 1, is the first that is wrong: it says nothing that a line may
     /// say, or names a line that an earlier one names.

@@ -14,7 +14,7 @@ use std::alloc::Global;
 use thiserror::Error;
 
 /// Why words are no command, or want of memory.
-#[derive(Clone, Copy, Debug, PartialEq, Eq, Error)]
+#[derive(Clone, Copy, Debug, Error)]
 pub enum WordsError {
     /// The words are no command.
     #[error("the words are no command")]
@@ -139,13 +139,11 @@ pub fn read_words<'a>(alloc: Global, words: &'a [&str]) -> Result<Command<'a>, W
     if !are_readable(mode, others) {
         return Err(WordsError::Bad);
     }
-    let matches = match matches_in(alloc, mode, words) {
-        Ok(matches) => matches,
-        Err(error) => return Err(error),
-    };
-    let runs = matches.get_flag("runs");
-    match command_in(mode, &matches, runs) {
-        Some(command) => Ok(command),
-        None => Err(WordsError::Bad),
+    match matches_in(alloc, mode, words) {
+        Ok(matches) => {
+            let runs = matches.get_flag("runs");
+            command_in(mode, &matches, runs).ok_or(WordsError::Bad)
+        }
+        Err(error) => Err(error),
     }
 }

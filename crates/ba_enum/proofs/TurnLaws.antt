@@ -1,6 +1,6 @@
 -- What a turn comes to.
 
-use Rattle.std.proofs.Common.{◌≡◌, ◌+◌, ◌<◌, ◌≤◌, Option, List, [], ◌∷◌, ◌++◌, length, refl, sym, ap, ◌∙◌, subst, arith}
+use Rattle.std.proofs.Common.{◌≡◌, ◌+◌, ◌<◌, ◌≤◌, ℕ, ◌⊎◌, inl, inr, Option, None, Some, List, [], ◌∷◌, ◌++◌, length, refl, sym, ap, ◌∙◌, subst, arith}
 use Rattle.std.proofs.lemmas.List.{append-nil, append_assoc}
 use Rattle.ba_cores.specs.Rounds.{literals_of}
 use Rattle.ba_cores.proofs.CoreLaws.{softs_assumed}
@@ -18,7 +18,9 @@ use Rattle.ba_search.specs.Searching.{ArePart}
 use Rattle.ba_search.specs.declared.search.Answer.{Answer}
 use Rattle.ba_search.specs.declared.search.Answer.TheVariants.{Model, Core, Spent}
 use Rattle.ba_search.proofs.TakenLaws.{clause_at-more, number_le}
-use Rattle.ba_steps.specs.Sinks.{Logs}
+use Rattle.ba_search.specs.declared.search.SearchError.{SearchError}
+use Rattle.ba_search.specs.declared.search.SearchError.TheVariants.{SinkFailed}
+use Rattle.ba_steps.specs.Sinks.{Logs, Rose}
 use Rattle.ba_checker.specs.Blocks.{block_clause}
 use Rattle.ba_checker.specs.Judging.{Judge}
 use Rattle.ba_checker.specs.States.{kept, State, clause_at}
@@ -153,3 +155,15 @@ comes_of good formula softs s found lits answer reached is answers some few =
     by_case (Model m) h = (next_of_model good formula softs s found m.values reached h, few)
     by_case (Core core) h = record { core = h; some = some; few = few }
     by_case Spent h = h
+
+-- FAULTS that rose in a later call rose in the whole
+pub rose_later : (a b c : ℕ) → a ≤ b → Rose b c → Rose a c
+rose_later a b c later (inl rose) = inl (omega (arith, later, rose))
+rose_later a b c later (inr most) = inr most
+
+pub cause_later : {X : Type 0} (failure : Option SearchError) (a b c : ℕ) → failure ≡ None → a ≤ b →
+    (failure ≡ Some SinkFailed) ⊎ Rose b c → X ⊎ Rose a c
+cause_later failure a b c working later (inl failed) =
+    let both : None ≡ Some SinkFailed = sym working ∙ failed in
+    absurd (cc)
+cause_later failure a b c working later (inr rose) = inr (rose_later a b c later rose)

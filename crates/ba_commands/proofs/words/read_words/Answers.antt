@@ -5,7 +5,7 @@ use Rattle.ba_commands.specs.declared.modes.Mode.{Mode}
 use Rattle.ba_commands.specs.Modes.{usage_of}
 use Rattle.ba_commands.specs.Parsing.{is_readable}
 use Rattle.std.specs.Borrow.{Bor}
-use Rattle.ba_commands.proofs.Calling.{found_command, first_command, none_command, refused_command, unread_command}
+use Rattle.ba_commands.proofs.Calling.{found_command, first_command, none_command, read_found, refused_command, unread_command}
 use Rattle.ba_commands.proofs.words.read_words.Goals as goal
 
 abbrev no_word : Bor (List ℕ)
@@ -39,20 +39,12 @@ returns-in-Err c =
     (others c.args.words.now c.in-Some.mode ∙ sym c.are_readable.ensures ∙ c.if-not-are_readable.false)
     c.in-Err.ensures
 
-pub returns-in-Some-command_in : goal.returns-in-Some-command_in
-returns-in-Some-command_in c =
-    found_command c.args.words.now no_word c.in-Some.mode c.in-Ok.matches c.get_flag-runs.result
+pub returns-in-Ok : goal.returns-in-Ok
+returns-in-Ok c =
+    read_found _ c.command_in.result c.ok_or.result c.ok_or.ensures.value
+    (found_command c.args.words.now no_word c.in-Some.mode c.in-Ok.matches c.get_flag-runs.result
     c.in-len1-up.len_at_least c.in-Some.ensures
     (others c.args.words.now c.in-Some.mode ∙ sym c.are_readable.ensures ∙ c.if-not-are_readable.false)
     c.in-Ok.ensures
     (record { on = c.get_flag-runs.ensures.value; off = c.get_flag-runs.ensures.other })
-    ∙ sym c.in-Some-command_in.ensures
-
-pub returns : goal.returns
-returns c =
-    found_command c.args.words.now no_word c.in-Some.mode c.in-Ok.matches c.get_flag-runs.result
-    c.in-len1-up.len_at_least c.in-Some.ensures
-    (others c.args.words.now c.in-Some.mode ∙ sym c.are_readable.ensures ∙ c.if-not-are_readable.false)
-    c.in-Ok.ensures
-    (record { on = c.get_flag-runs.ensures.value; off = c.get_flag-runs.ensures.other })
-    ∙ sym c.command_in.ensures ∙ c.in-None.is
+    ∙ sym c.command_in.ensures)

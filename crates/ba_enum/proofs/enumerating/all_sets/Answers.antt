@@ -1,11 +1,15 @@
-use Rattle.std.proofs.Common.{[], ap, sym, subst, ◌∙◌}
+use Rattle.std.proofs.Common.{◌≡◌, inr, None, Some, [], ap, sym, subst, ◌∙◌}
 use Rattle.std.proofs.lemmas.Result.{IfOk-weaker}
 use Rattle.ba_encode.specs.declared.encoded.Encoded.{Encoded}
 use Rattle.ba_enum.specs.Enumerating.{Finishes}
 use Rattle.ba_enum.specs.Leading.{IsReached, IsNext}
-use Rattle.ba_enum.specs.Problems.{problem_in}
+use Rattle.ba_enum.specs.Problems.{problem_in, IsReadable}
 use Rattle.ba_encode.specs.Softs.{softs_of}
 use Rattle.ba_enum.proofs.EndingLaws.{none_differ, fresh_sets, fresh_start, enumerates_on, enumerates_end, was_working, least_reached, least_next}
+use Rattle.ba_checker.specs.States.{State}
+use Rattle.ba_checker.proofs.PutLaws.{lasts_then}
+use Rattle.ba_search.specs.Rules.{IsRestartRule, IsKeepRule}
+use Rattle.ba_enum.proofs.TurnLaws.{rose_later, cause_later}
 use Rattle.ba_enum.proofs.LeadLaws.{puts_most, leaves_on}
 use Rattle.ba_enum.proofs.SearchLaws.{puts_derived, leaves_derived}
 use Rattle.ba_enum.proofs.enumerating.all_sets.Goals as goal
@@ -177,3 +181,121 @@ returns-in_ok-task-in-Least-clause-leaves g c = λ working.
     (g.S.StepSink.logs old.sink) (g.S.StepSink.logs mid.sink)
     (g.S.StepSink.logs c.enumerate.new.checked.sink)
     (ap g.J.RunJudge.accepts c.least.ensures.ran.lasts.judge_stays) puts c.enumerate.ensures.leaves
+
+pub least-requires-clause-restart : goal.least-requires-clause-restart
+least-requires-clause-restart g c = c.requires.restart
+
+pub least-requires-clause-keep : goal.least-requires-clause-keep
+least-requires-clause-keep g c = c.requires.keep
+
+pub least-requires-clause-same : goal.least-requires-clause-same
+least-requires-clause-same g c = λ working. (c.requires.fresh working).same
+
+pub least-requires-clause-begun : goal.least-requires-clause-begun
+least-requires-clause-begun g c = λ working. ap (λ (s : State). s.ended) (c.requires.fresh working).starts
+
+pub least-requires-clause-awake : goal.least-requires-clause-awake
+least-requires-clause-awake g c = λ working. ap (λ (s : State). s.refused) (c.requires.fresh working).starts
+
+pub least-requires-clause-none_blocked : goal.least-requires-clause-none_blocked
+least-requires-clause-none_blocked g c = λ working. ap (λ (s : State). s.sets) (c.requires.fresh working).starts
+
+pub least-requires-clause-fresh : goal.least-requires-clause-fresh
+least-requires-clause-fresh g c = λ working. (c.requires.fresh working).accepted
+
+pub enumerate-requires-clause-goes_on : goal.enumerate-requires-clause-goes_on
+enumerate-requires-clause-goes_on g c = c.in_ok-hints.ensures.goes_on
+
+pub enumerate-requires-clause-ready : goal.enumerate-requires-clause-ready
+enumerate-requires-clause-ready g c =
+    record { begun = c.in_ok-hints.ensures.stays_begun; awake = c.in_ok-hints.ensures.awake }
+
+pub enumerate-requires-clause-restart : goal.enumerate-requires-clause-restart
+enumerate-requires-clause-restart g c = subst (λ r. IsRestartRule (λ x. g.R.Fn.pre r (x, tt)) (λ x a. g.R.Fn.post r (x, tt) a))
+    (sym c.least.ensures.ran.restart_stays) c.requires.restart
+
+pub enumerate-requires-clause-keep : goal.enumerate-requires-clause-keep
+enumerate-requires-clause-keep g c = subst (λ k. IsKeepRule (λ x y. g.K.Fn.pre k (x, (y, tt))) (λ x y a. g.K.Fn.post k (x, (y, tt)) a))
+    (sym c.least.ensures.ran.keep_stays) c.requires.keep
+
+pub enumerate-requires-clause-readable : goal.enumerate-requires-clause-readable
+enumerate-requires-clause-readable g c =
+    subst (λ (e : Encoded). IsReadable e (g.J.RunJudge.accepts c.least.new.checked.judge))
+    (sym c.in_ok-task-in-Least.ensures.encoded)
+    (subst (λ j. IsReadable c.args.encoded.now j)
+    (sym (ap g.J.RunJudge.accepts c.least.ensures.ran.lasts.judge_stays)) c.requires.readable)
+
+pub finish-requires-clause-fresh : goal.finish-requires-clause-fresh
+finish-requires-clause-fresh g c = c.in_ok-hints.ensures.goes_on.fresh
+
+pub finish-requires-clause-ready : goal.finish-requires-clause-ready
+finish-requires-clause-ready g c =
+    record { begun = c.in_ok-hints.ensures.stays_begun; awake = c.in_ok-hints.ensures.awake }
+
+pub finish-requires-in-Spent-clause-fresh : goal.finish-requires-in-Spent-clause-fresh
+finish-requires-in-Spent-clause-fresh g c = c.in_ok-hints.ensures.goes_on.fresh
+
+pub finish-requires-in-Spent-clause-ready : goal.finish-requires-in-Spent-clause-ready
+finish-requires-in-Spent-clause-ready g c =
+    record { begun = c.in_ok-hints.ensures.stays_begun; awake = c.in_ok-hints.ensures.awake }
+
+pub returns-in-NoModel-clause-ran : goal.returns-in-NoModel-clause-ran
+returns-in-NoModel-clause-ran g c =
+    record {
+      lasts = lasts_then g.S.StepSink.over g.S.StepSink.faults g.S.StepSink.references c.args.checked.now
+          c.least.new.checked c.finish.new.checked c.least.ensures.ran.lasts c.finish.ensures.ran.lasts;
+      cause = λ failed. inr (rose_later _ _ _ c.least.ensures.ran.lasts.no_fall
+          (c.finish.ensures.ran.cause failed));
+      restart_stays = c.least.ensures.ran.restart_stays;
+      keep_stays = c.least.ensures.ran.keep_stays;
+    }
+
+pub returns-in-Spent-clause-ran : goal.returns-in-Spent-clause-ran
+returns-in-Spent-clause-ran g c =
+    record {
+      lasts = lasts_then g.S.StepSink.over g.S.StepSink.faults g.S.StepSink.references c.args.checked.now
+          c.least.new.checked c.finish-in-Spent.new.checked c.least.ensures.ran.lasts c.finish-in-Spent.ensures.ran.lasts;
+      cause = λ failed. inr (rose_later _ _ _ c.least.ensures.ran.lasts.no_fall
+          (c.finish-in-Spent.ensures.ran.cause failed));
+      restart_stays = c.least.ensures.ran.restart_stays;
+      keep_stays = c.least.ensures.ran.keep_stays;
+    }
+
+pub returns-in_ok-task-in-Least-clause-ran : goal.returns-in_ok-task-in-Least-clause-ran
+returns-in_ok-task-in-Least-clause-ran g c =
+    record {
+      lasts = lasts_then g.S.StepSink.over g.S.StepSink.faults g.S.StepSink.references c.args.checked.now
+          c.least.new.checked c.enumerate.new.checked c.least.ensures.ran.lasts c.enumerate.ensures.ran.lasts;
+      cause = λ failed. cause_later _ _ _ _ c.in_ok-hints.ensures.goes_on.working
+          c.least.ensures.ran.lasts.no_fall (c.enumerate.ensures.ran.cause failed);
+      restart_stays = c.enumerate.ensures.ran.restart_stays ∙ c.least.ensures.ran.restart_stays;
+      keep_stays = c.enumerate.ensures.ran.keep_stays ∙ c.least.ensures.ran.keep_stays;
+    }
+
+pub returns-in-NoModel-clause-again : goal.returns-in-NoModel-clause-again
+returns-in-NoModel-clause-again g c = λ error failed.
+    let working = was_working c.args.search.now.failure c.least.result c.in_ok-hints.field-0
+    c.in_ok-hints.was (λ e is. (c.least.ensures.again e is).0) in
+    let both : None ≡ Some error = sym working ∙ failed in
+    absurd (cc)
+
+pub returns-in-Spent-clause-again : goal.returns-in-Spent-clause-again
+returns-in-Spent-clause-again g c = λ error failed.
+    let working = was_working c.args.search.now.failure c.least.result c.in_ok-hints.field-0
+    c.in_ok-hints.was (λ e is. (c.least.ensures.again e is).0) in
+    let both : None ≡ Some error = sym working ∙ failed in
+    absurd (cc)
+
+pub returns-in_err-task-in-Least-clause-again : goal.returns-in_err-task-in-Least-clause-again
+returns-in_err-task-in-Least-clause-again g c = λ error failed.
+    let working = was_working c.args.search.now.failure c.least.result c.in_ok-hints.field-0
+    c.in_ok-hints.was (λ e is. (c.least.ensures.again e is).0) in
+    let both : None ≡ Some error = sym working ∙ failed in
+    absurd (cc)
+
+pub returns-in_ok-task-in-Least-clause-again : goal.returns-in_ok-task-in-Least-clause-again
+returns-in_ok-task-in-Least-clause-again g c = λ error failed.
+    let working = was_working c.args.search.now.failure c.least.result c.in_ok-hints.field-0
+    c.in_ok-hints.was (λ e is. (c.least.ensures.again e is).0) in
+    let both : None ≡ Some error = sym working ∙ failed in
+    absurd (cc)

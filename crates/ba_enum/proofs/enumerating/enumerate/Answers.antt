@@ -1,4 +1,4 @@
-use Rattle.std.proofs.Common.{◌≡◌, [], arith, sym, ap, subst, ◌∙◌}
+use Rattle.std.proofs.Common.{inr, ◌≡◌, [], arith, sym, ap, subst, ◌∙◌}
 use Rattle.std.proofs.lemmas.Result.{IfOk-weaker}
 use Rattle.ba_checker.proofs.PutLaws.{lasts_then}
 use Rattle.ba_cores.specs.Rounds.{literals_of}
@@ -6,8 +6,10 @@ use Rattle.ba_enum.specs.Leading.{IsReached}
 use Rattle.ba_encode.specs.Softs.{softs_of}
 use Rattle.ba_enum.specs.Turning.{Comes}
 use Rattle.ba_enum.proofs.EndingLaws.{reached_differ, finishes_of}
+use Rattle.ba_enum.specs.Problems.{IsReadable}
+use Rattle.ba_search.specs.Rules.{IsRestartRule, IsKeepRule}
 use Rattle.ba_enum.proofs.LeadLaws.{puts_most, reached_sets}
-use Rattle.ba_enum.proofs.TurnLaws.{adds_on, adds_reached, adds_leave}
+use Rattle.ba_enum.proofs.TurnLaws.{adds_on, adds_reached, adds_leave, rose_later}
 use Rattle.ba_enum.proofs.enumerating.enumerate.Goals as goal
 
 pub turn-requires-clause-reached : goal.turn-requires-clause-reached
@@ -130,3 +132,54 @@ returns-in-End-clause-leaves g c =
     (ap g.J.RunJudge.accepts (c.turn.ensures.ran.lasts.judge_stays ∙ c.turns.invariant.lasts.judge_stays))
     adds
     c.finish.ensures.leaves
+
+pub turn-requires-clause-restart : goal.turn-requires-clause-restart
+turn-requires-clause-restart g c = subst (λ r. IsRestartRule (λ x. g.R.Fn.pre r (x, tt)) (λ x a. g.R.Fn.post r (x, tt) a))
+    (sym c.turns.invariant.restart) c.requires.restart
+
+pub turn-requires-clause-keep : goal.turn-requires-clause-keep
+turn-requires-clause-keep g c = subst (λ k. IsKeepRule (λ x y. g.K.Fn.pre k (x, (y, tt))) (λ x y a. g.K.Fn.post k (x, (y, tt)) a))
+    (sym c.turns.invariant.keep) c.requires.keep
+
+pub turn-requires-clause-goes_on : goal.turn-requires-clause-goes_on
+turn-requires-clause-goes_on g c = c.turns.invariant.goes_on
+
+pub turn-requires-clause-readable : goal.turn-requires-clause-readable
+turn-requires-clause-readable g c = subst (λ j. IsReadable c.args.task.now.encoded.now j)
+    (sym (ap g.J.RunJudge.accepts c.turns.invariant.lasts.judge_stays)) c.requires.readable
+
+pub turn-requires-clause-next : goal.turn-requires-clause-next
+turn-requires-clause-next g c = c.turns.invariant.next
+
+pub turn-requires-clause-assumed : goal.turn-requires-clause-assumed
+turn-requires-clause-assumed g c = c.turns.invariant.assumed
+
+pub turn-requires-clause-listed : goal.turn-requires-clause-listed
+turn-requires-clause-listed g c = c.turns.invariant.listed
+
+pub turn-requires-clause-few : goal.turn-requires-clause-few
+turn-requires-clause-few g c = c.turns.invariant.few
+
+pub turn-requires-clause-ready : goal.turn-requires-clause-ready
+turn-requires-clause-ready g c = c.turns.invariant.ready
+
+pub finish-requires-clause-end : goal.finish-requires-clause-end
+finish-requires-clause-end g c =
+    let encoded = c.args.task.now.encoded.now in
+    subst (Comes encoded.formula (softs_of encoded.groups) c.turn.new.checked.checker c.turn.new.found)
+    c.in-End.is c.in_ok-next.ensures.comes
+
+pub finish-requires-clause-fresh : goal.finish-requires-clause-fresh
+finish-requires-clause-fresh g c = c.in_ok-next.ensures.goes_on.fresh
+
+pub returns-in-End-clause-ran : goal.returns-in-End-clause-ran
+returns-in-End-clause-ran g c =
+    let first = lasts_then g.S.StepSink.over g.S.StepSink.faults g.S.StepSink.references c.args.checked.now
+    c.turns.checked c.turn.new.checked c.turns.invariant.lasts c.turn.ensures.ran.lasts in
+    record {
+      lasts = lasts_then g.S.StepSink.over g.S.StepSink.faults g.S.StepSink.references c.args.checked.now
+          c.turn.new.checked c.finish.new.checked first c.finish.ensures.ran.lasts;
+      cause = λ failed. inr (rose_later _ _ _ first.no_fall (c.finish.ensures.ran.cause failed));
+      restart_stays = c.turn.ensures.ran.restart_stays ∙ c.turns.invariant.restart;
+      keep_stays = c.turn.ensures.ran.keep_stays ∙ c.turns.invariant.keep;
+    }

@@ -1,11 +1,13 @@
-use Rattle.std.proofs.Common.{arith, sym, ap, subst, ◌∙◌}
+use Rattle.std.proofs.Common.{arith, rules, sym, ap, subst, ◌∙◌}
+use Rattle.ba_checker.proofs.PutLaws.{lasts_then}
 use Rattle.ba_cores.specs.Rounds.{literals_of}
 use Rattle.ba_cores.proofs.DerivesLaws.{puts_softs}
 use Rattle.ba_encode.specs.Softs.{softs_of}
 use Rattle.ba_enum.specs.Turning.{Comes}
+use Rattle.ba_search.specs.Rules.{IsRestartRule, IsKeepRule}
 use Rattle.ba_enum.proofs.LeadLaws.{puts_most}
 use Rattle.ba_enum.proofs.SearchLaws.{puts_searched, leaves_searches}
-use Rattle.ba_enum.proofs.TurnLaws.{part_after_block, blocks_softs, blocks_most, blocks_reached, blocks_longer, blocks_adds, adds_then, adds_reached, adds_leaves, adds_leave, reached_assumed, comes_of}
+use Rattle.ba_enum.proofs.TurnLaws.{part_after_block, blocks_ready, blocks_softs, blocks_most, blocks_reached, blocks_longer, blocks_adds, adds_then, adds_reached, adds_leaves, adds_leave, reached_assumed, comes_of}
 use Rattle.ba_enum.proofs.turns.turn.Goals as goal
 
 pub take_new-requires : goal.take_new-requires
@@ -102,3 +104,77 @@ returns-clause-comes g c =
     (adds_reached adds c.requires.reached) (c.as_slice.ensures.value
     ∙ (c.requires.assumed ∙ ap literals_of (sym softs))) c.in_ok-answer.ensures.answer
     (omega (arith, longer)) (omega (arith, most, c.len.ensures, c.if-len-task.false)))
+
+pub solve-requires-clause-same : goal.solve-requires-clause-same
+solve-requires-clause-same g c = λ working. c.in_ok-take_new.ensures.same
+
+pub solve-requires-clause-begun : goal.solve-requires-clause-begun
+solve-requires-clause-begun g c = λ working. (blocks_ready c.in_ok-block.ensures.blocks c.requires.ready).begun
+
+pub solve-requires-clause-awake : goal.solve-requires-clause-awake
+solve-requires-clause-awake g c = λ working. (blocks_ready c.in_ok-block.ensures.blocks c.requires.ready).awake
+
+pub solve-requires-clause-fresh : goal.solve-requires-clause-fresh
+solve-requires-clause-fresh g c = λ working. c.in_ok-block.ensures.ran.fresh
+
+pub returns-then-len-task-clause-adds : goal.returns-then-len-task-clause-adds
+returns-then-len-task-clause-adds g c = blocks_adds c.in_ok-block.ensures.blocks
+
+pub returns-then-len-task-clause-one_more : goal.returns-then-len-task-clause-one_more
+returns-then-len-task-clause-one_more g c = blocks_longer c.in_ok-block.ensures.blocks
+
+pub returns-then-len-task-clause-leaves : goal.returns-then-len-task-clause-leaves
+returns-then-len-task-clause-leaves g c = c.block.ensures.leaves
+
+pub returns-then-len-task-clause-goes_on : goal.returns-then-len-task-clause-goes_on
+returns-then-len-task-clause-goes_on g c = record {
+  working = c.in_ok-take_new.ensures.stays_fresh;
+  fresh = c.in_ok-block.ensures.ran.fresh;
+  same = c.in_ok-take_new.ensures.same;
+}
+
+pub returns-then-len-task-clause-ready : goal.returns-then-len-task-clause-ready
+returns-then-len-task-clause-ready g c = blocks_ready c.in_ok-block.ensures.blocks c.requires.ready
+
+pub returns-then-len-task-clause-softs_stay : goal.returns-then-len-task-clause-softs_stay
+returns-then-len-task-clause-softs_stay g c = blocks_softs c.in_ok-block.ensures.blocks
+
+pub returns-then-len-task-clause-ran : goal.returns-then-len-task-clause-ran
+returns-then-len-task-clause-ran g c = record {
+  lasts = c.block.ensures.ran.lasts;
+  cause = search rules;
+  restart_stays = c.take_new.ensures.restart_stays;
+  keep_stays = c.take_new.ensures.keep_stays;
+}
+
+pub returns-clause-one_more : goal.returns-clause-one_more
+returns-clause-one_more g c = blocks_longer c.in_ok-block.ensures.blocks
+
+pub returns-clause-goes_on : goal.returns-clause-goes_on
+returns-clause-goes_on g c = c.in_ok-answer.ensures.goes_on
+
+pub returns-clause-ready : goal.returns-clause-ready
+returns-clause-ready g c = record { begun = c.in_ok-answer.ensures.stays_begun; awake = c.in_ok-answer.ensures.awake }
+
+pub returns-clause-ran : goal.returns-clause-ran
+returns-clause-ran g c = record {
+  lasts = lasts_then g.S.StepSink.over g.S.StepSink.faults g.S.StepSink.references c.args.checked.now
+      c.block.new.checked c.solve.new.checked c.block.ensures.ran.lasts c.solve.ensures.ran.lasts;
+  cause = search rules;
+  restart_stays = c.solve.ensures.ran.restart_stays ∙ c.take_new.ensures.restart_stays;
+  keep_stays = c.solve.ensures.ran.keep_stays ∙ c.take_new.ensures.keep_stays;
+}
+
+pub returns-in_err-block-clause-leaves : goal.returns-in_err-block-clause-leaves
+returns-in_err-block-clause-leaves g c = c.block.ensures.leaves
+
+pub returns-in_err-take_new-clause-leaves : goal.returns-in_err-take_new-clause-leaves
+returns-in_err-take_new-clause-leaves g c = c.block.ensures.leaves
+
+pub solve-requires-clause-restart : goal.solve-requires-clause-restart
+solve-requires-clause-restart g c = subst (λ r. IsRestartRule (λ x. g.R.Fn.pre r (x, tt)) (λ x a. g.R.Fn.post r (x, tt) a))
+    (sym c.take_new.ensures.restart_stays) c.requires.restart
+
+pub solve-requires-clause-keep : goal.solve-requires-clause-keep
+solve-requires-clause-keep g c = subst (λ k. IsKeepRule (λ x y. g.K.Fn.pre k (x, (y, tt))) (λ x y a. g.K.Fn.post k (x, (y, tt)) a))
+    (sym c.take_new.ensures.keep_stays) c.requires.keep

@@ -1,4 +1,4 @@
-use Rattle.std.proofs.Common.{◌≡◌, List, sym, ◌∙◌, ap, subst}
+use Rattle.std.proofs.Common.{◌≡◌, ℕ, List, map, arith, sym, ◌∙◌, ap, subst}
 use Rattle.std.proofs.lemmas.Result.{IfOk-weaker}
 use Rattle.ba_derivations.specs.Encodings.{IsFaithful}
 use Rattle.ba_encode.specs.Softs.{softs_of}
@@ -8,7 +8,11 @@ use Rattle.ba_lits.specs.Satisfaction.{Soft}
 use Rattle.ba_localise.proofs.Concluding.{finds, left, rose-after, same-judge}
 use Rattle.ba_localise.specs.Verdicts.{leaves_formula, told}
 use Rattle.ba_steps.specs.Sinks.{basis, with_told}
-use Rattle.ba_checker.specs.States.{first_state}
+use Rattle.ba_search.specs.Rules.{IsRestartRule, IsKeepRule}
+use Rattle.ba_learn.specs.Live.{AreLive}
+use Rattle.ba_checker.specs.Facts.{AreSelectors}
+use Rattle.ba_checker.specs.States.{State, clause_at, kept, first_state}
+use Rattle.ba_checker.specs.declared.store.Origin.TheVariants.{Given}
 use Rattle.ba_tree.specs.Least.{judge_of}
 use Rattle.ba_localise.proofs.search.localise.Goals as goal
 
@@ -121,3 +125,57 @@ returns-clause-leaves g c =
 pub returns-clause-cause : goal.returns-clause-cause
 returns-clause-cause g c = λ is.
     rose-after _ _ _ c.in_ok-begin.ensures.no_fall (c.all_sets_into-answer.ensures.cause is)
+
+pub new-requires : goal.new-requires
+new-requires g c =
+    let encoded = c.in_ok-encoded.encoded in
+    let selectors = subst (λ (f : Cnf). AreSelectors f.variables c.as_slice.result.now) (sym c.formula.ensures)
+    (subst (λ (ss : List Soft). AreSelectors encoded.formula.variables ss)
+    (sym (c.as_slice.ensures.value ∙ c.in_ok-softs.ensures)) c.in_ok-encoded.ensures.faithful.selectors) in
+    record { selectors = selectors }
+
+pub all_sets_into-answer-requires-clause-working : goal.all_sets_into-answer-requires-clause-working
+all_sets_into-answer-requires-clause-working g c = c.in_ok-search.ensures.fresh
+
+pub all_sets_into-answer-requires-clause-restart : goal.all_sets_into-answer-requires-clause-restart
+all_sets_into-answer-requires-clause-restart g c = subst (λ r. IsRestartRule (λ x. g.R.Fn.pre r (x, tt)) (λ x a. g.R.Fn.post r (x, tt) a))
+    (sym c.in_ok-search.ensures.restart) c.requires.restart
+
+pub all_sets_into-answer-requires-clause-keep : goal.all_sets_into-answer-requires-clause-keep
+all_sets_into-answer-requires-clause-keep g c = subst (λ k. IsKeepRule (λ x y. g.K.Fn.pre k (x, (y, tt))) (λ x y a. g.K.Fn.post k (x, (y, tt)) a))
+    (sym c.in_ok-search.ensures.keep) c.requires.keep
+
+pub all_sets_into-answer-requires-clause-starts : goal.all_sets_into-answer-requires-clause-starts
+all_sets_into-answer-requires-clause-starts g c =
+    let encoded = c.in_ok-encoded.encoded in
+    let softs = softs_of encoded.groups in
+    let starts : c.in_ok-checker.checker ≡ first_state encoded.formula softs c.args.conflicts c.args.sets =
+    c.in_ok-checker.ensures
+    ∙ (ap (λ (f : Cnf). first_state f c.as_slice.result.now c.args.conflicts c.args.sets) c.formula.ensures
+    ∙ ap (λ (ss : List Soft). first_state encoded.formula ss c.args.conflicts c.args.sets)
+    (c.as_slice.ensures.value ∙ c.in_ok-softs.ensures)) in
+    subst (λ (n : ℕ). c.in_ok-checker.checker ≡ first_state encoded.formula softs n c.args.sets)
+    (sym (ap (λ (s : State). s.budget) starts)) starts
+
+pub all_sets_into-answer-requires-clause-same : goal.all_sets_into-answer-requires-clause-same
+all_sets_into-answer-requires-clause-same g c =
+    let encoded = c.in_ok-encoded.encoded in
+    let softs = softs_of encoded.groups in
+    let starts : c.in_ok-checker.checker ≡ first_state encoded.formula softs c.args.conflicts c.args.sets =
+    c.in_ok-checker.ensures
+    ∙ (ap (λ (f : Cnf). first_state f c.as_slice.result.now c.args.conflicts c.args.sets) c.formula.ensures
+    ∙ ap (λ (ss : List Soft). first_state encoded.formula ss c.args.conflicts c.args.sets)
+    (c.as_slice.ensures.value ∙ c.in_ok-softs.ensures)) in
+    subst (λ kepts. AreLive c.in_ok-search.search.clauses (clause_at kepts))
+    (ap (λ (f : Cnf). map (kept Given) f.clauses) c.formula-2.ensures
+    ∙ sym (ap (λ (s : State). s.clauses) starts)) c.in_ok-search.ensures.clauses
+
+pub returns-clause-no_fall : goal.returns-clause-no_fall
+returns-clause-no_fall g c =
+    let first = c.in_ok-begin.ensures.no_fall in
+    let later = c.all_sets_into-answer.ensures.no_fall in
+    omega (arith, first, later)
+
+pub returns-clause-same_references : goal.returns-clause-same_references
+returns-clause-same_references g c =
+    c.all_sets_into-answer.ensures.same_references ∙ c.in_ok-begin.ensures.same_references
