@@ -89,32 +89,35 @@ fn only(rt: &impl Abort, numbers: &[Option<u32>]) -> Option<u32> {
     numbers[0]
 }
 
+/// Operators, types, operands and values.
+static OPERATIONS: [(BinOp, CType, i64, i64, i64); 21] = [
+    (BinOp::Mul, CType::I32, 7, -3, -21),
+    (BinOp::Div, CType::I32, 7, -3, -2),
+    (BinOp::Div, CType::U32, 7, -3, 0),
+    (BinOp::Rem, CType::I32, -7, 3, -1),
+    (BinOp::Rem, CType::I32, -7, 0, -7),
+    (BinOp::Add, CType::I32, 2147483647, 1, -2147483648),
+    (BinOp::Sub, CType::U32, 0, 1, 4294967295),
+    (BinOp::Shl, CType::I32, 3, 33, 6),
+    (BinOp::Shr, CType::I32, -3, 1, -2),
+    (BinOp::Shr, CType::U32, -3, 1, 2147483646),
+    (BinOp::Lt, CType::I32, -1, 0, 1),
+    (BinOp::Lt, CType::U32, -1, 0, 0),
+    (BinOp::Gt, CType::I32, 5, 4, 1),
+    (BinOp::Le, CType::I32, 5, 4, 0),
+    (BinOp::Le, CType::U32, 4, 4, 1),
+    (BinOp::Ge, CType::I32, 4, 5, 0),
+    (BinOp::Eq, CType::U32, -1, 4294967295, 1),
+    (BinOp::Ne, CType::I32, 4, 4, 0),
+    (BinOp::And, CType::I32, 12, 10, 8),
+    (BinOp::Xor, CType::I32, 12, 10, 6),
+    (BinOp::Or, CType::I32, 12, 10, 14),
+];
+
 #[test]
 fn binary_operators(rt: HostRuntime) {
-    let cases = [
-        (BinOp::Mul, CType::I32, 7, -3, -21),
-        (BinOp::Div, CType::I32, 7, -3, -2),
-        (BinOp::Div, CType::U32, 7, -3, 0),
-        (BinOp::Rem, CType::I32, -7, 3, -1),
-        (BinOp::Rem, CType::I32, -7, 0, -7),
-        (BinOp::Add, CType::I32, 2147483647, 1, -2147483648),
-        (BinOp::Sub, CType::U32, 0, 1, 4294967295),
-        (BinOp::Shl, CType::I32, 3, 33, 6),
-        (BinOp::Shr, CType::I32, -3, 1, -2),
-        (BinOp::Shr, CType::U32, -3, 1, 2147483646),
-        (BinOp::Lt, CType::I32, -1, 0, 1),
-        (BinOp::Lt, CType::U32, -1, 0, 0),
-        (BinOp::Gt, CType::I32, 5, 4, 1),
-        (BinOp::Le, CType::I32, 5, 4, 0),
-        (BinOp::Le, CType::U32, 4, 4, 1),
-        (BinOp::Ge, CType::I32, 4, 5, 0),
-        (BinOp::Eq, CType::U32, -1, 4294967295, 1),
-        (BinOp::Ne, CType::I32, 4, 4, 0),
-        (BinOp::And, CType::I32, 12, 10, 8),
-        (BinOp::Xor, CType::I32, 12, 10, 6),
-        (BinOp::Or, CType::I32, 12, 10, 14),
-    ];
-    for (op, t, a, b, value) in cases {
+    for case in &OPERATIONS {
+        let (op, t, a, b, value) = *case;
         let wanted = i64::rem_euclid(value, 4294967296);
         let got = value_of(&rt, rt.alloc(), op, t, a, b).map(i64::from);
         assert_eq!(rt; got, Some(wanted), "{op:?} in {t:?} of {a} and {b}");

@@ -17,35 +17,14 @@ static NUMBERS: [(&str, Option<i64>); 11] = [
     ("--1", None),
 ];
 
-fn first_difference(rows: &[(&str, Option<i64>)]) -> Option<usize> {
-    for i in 0..rows.len() {
-        let (text, want) = rows[i];
-        if decimal(text.as_bytes()) != want {
-            return Some(i);
-        }
+#[test]
+fn texts_are_read_as_numbers_and_pieces(rt: HostRuntime) {
+    for (text, wanted) in &NUMBERS {
+        assert!(rt; decimal(text.as_bytes()) == *wanted, "{text}");
     }
-    None
-}
-
-#[test]
-fn reads_decimal_numbers(rt: HostRuntime) {
-    assert_eq!(rt; first_difference(NUMBERS.as_slice()), None);
-}
-
-#[test]
-fn reads_pieces_between_blanks(rt: HostRuntime) {
     let mut pieces = Pieces::new(b" 12\t-3\n\r\n4");
-    let read = [
-        pieces.next_piece(),
-        pieces.next_piece(),
-        pieces.next_piece(),
-        pieces.next_piece(),
-    ];
-    let wanted = [
-        Some(b"12".as_slice()),
-        Some(b"-3".as_slice()),
-        Some(b"4".as_slice()),
-        None,
-    ];
-    assert!(rt; read == wanted);
+    assert!(rt; pieces.next_piece() == Some(b"12".as_slice()));
+    assert!(rt; pieces.next_piece() == Some(b"-3".as_slice()));
+    assert!(rt; pieces.next_piece() == Some(b"4".as_slice()));
+    assert!(rt; pieces.next_piece().is_none());
 }

@@ -4,11 +4,6 @@ use crate::support::first_difference;
 use std::alloc::Global;
 use std::process::Abort;
 
-/// Compares the answer to each text with the one that is expected.
-fn expect_answers(rt: &impl Abort, alloc: Global, rows: &[(&str, &str)]) {
-    assert_eq!(rt; first_difference(rt, alloc, rows), None);
-}
-
 /// Names in scope and not.
 static NAMES: [(&str, &str); 15] = [
     ("int main(void) { int x; x = 1; }", "fits"),
@@ -409,42 +404,25 @@ static FIRST: [(&str, &str); 26] = [
     ("int f(void) { return x; }", "1 at 1:22"),
 ];
 
-#[test]
-fn names_are_looked_up_in_their_scopes(rt: HostRuntime) {
-    expect_answers(&rt, rt.alloc(), NAMES.as_slice());
+/// Compares the answer to each text with the one that is expected.
+fn expect_answers(rt: &impl Abort, alloc: Global, rows: &[(&str, &str)]) {
+    assert_eq!(rt; first_difference(rt, alloc, rows), None);
 }
 
 #[test]
-fn a_name_is_declared_once_in_its_scope(rt: HostRuntime) {
-    expect_answers(&rt, rt.alloc(), TWICE.as_slice());
-}
-
-#[test]
-fn names_and_types_fit_their_uses(rt: HostRuntime) {
-    expect_answers(&rt, rt.alloc(), KINDS.as_slice());
-}
-
-#[test]
-fn arguments_and_values_are_counted(rt: HostRuntime) {
-    expect_answers(&rt, rt.alloc(), COUNTS.as_slice());
-}
-
-#[test]
-fn lengths_are_constants_from_1_to_256(rt: HostRuntime) {
-    expect_answers(&rt, rt.alloc(), LENGTHS.as_slice());
-}
-
-#[test]
-fn break_and_continue_stand_in_loops(rt: HostRuntime) {
-    expect_answers(&rt, rt.alloc(), JUMPS.as_slice());
-}
-
-#[test]
-fn an_index_that_is_used_twice_has_no_call(rt: HostRuntime) {
-    expect_answers(&rt, rt.alloc(), CALLS.as_slice());
-}
-
-#[test]
-fn the_leftmost_fault_is_answered(rt: HostRuntime) {
-    expect_answers(&rt, rt.alloc(), FIRST.as_slice());
+fn faults_are_answered_at_their_places(rt: HostRuntime) {
+    let alloc = rt.alloc();
+    // Names are looked up in their scopes, and declared once there.
+    expect_answers(&rt, alloc, NAMES.as_slice());
+    expect_answers(&rt, alloc, TWICE.as_slice());
+    // Names and types fit their uses; arguments and values are counted.
+    expect_answers(&rt, alloc, KINDS.as_slice());
+    expect_answers(&rt, alloc, COUNTS.as_slice());
+    // Lengths are constants from 1 to 256.
+    expect_answers(&rt, alloc, LENGTHS.as_slice());
+    // `break` and `continue` stand in loops; an index that is used twice has no call.
+    expect_answers(&rt, alloc, JUMPS.as_slice());
+    expect_answers(&rt, alloc, CALLS.as_slice());
+    // The leftmost fault is answered.
+    expect_answers(&rt, alloc, FIRST.as_slice());
 }

@@ -36,23 +36,6 @@ fn expect_answers(rt: &impl Abort, alloc: Global, rows: &[(&str, &str)]) {
     }
 }
 
-/// The front, the part so many times, and the back.
-fn repeated(
-    rt: &impl Abort,
-    alloc: Global,
-    front: &str,
-    part: &str,
-    count: u32,
-    back: &str,
-) -> String {
-    let mut text = String::from_str(alloc, front).expect(rt, "memory");
-    for _ in 0..count {
-        text.push_str(part).expect(rt, "memory");
-    }
-    text.push_str(back).expect(rt, "memory");
-    text
-}
-
 static PARSED_FILES: [(&str, &str); 16] = [
     ("", "parses"),
     ("int x ;", "parses"),
@@ -254,135 +237,158 @@ static REFUSED_OTHERS: [(&str, &str); 26] = [
 ];
 
 #[test]
-fn declarations_and_functions_parse(rt: HostRuntime) {
-    expect_answers(&rt, rt.alloc(), &PARSED_FILES);
-}
-
-#[test]
-fn statements_and_expressions_parse(rt: HostRuntime) {
-    expect_answers(&rt, rt.alloc(), &PARSED_STATEMENTS);
-}
-
-#[test]
-fn declarations_are_refused_at_the_first_token_that_cannot_stand(rt: HostRuntime) {
-    expect_answers(&rt, rt.alloc(), &REFUSED_FILES);
-}
-
-#[test]
-fn statements_are_refused_at_the_first_token_that_cannot_stand(rt: HostRuntime) {
-    expect_answers(&rt, rt.alloc(), &REFUSED_STATEMENTS);
-}
-
-#[test]
-fn other_statements_are_refused_so_too(rt: HostRuntime) {
-    expect_answers(&rt, rt.alloc(), &REFUSED_OTHERS);
-}
-
-#[test]
-fn a_hundred_levels_of_parentheses_are_accepted(rt: HostRuntime) {
+fn texts_parse_or_are_refused_at_the_first_token_that_cannot_stand(rt: HostRuntime) {
     let alloc = rt.alloc();
-    let most = repeated(&rt, alloc, "1", ")", 99, " ; }");
-    let over = repeated(&rt, alloc, "1", ")", 100, " ; }");
-    let accepted = repeated(
-        &rt,
-        alloc,
+    expect_answers(&rt, alloc, PARSED_FILES.as_slice());
+    expect_answers(&rt, alloc, PARSED_STATEMENTS.as_slice());
+    expect_answers(&rt, alloc, REFUSED_FILES.as_slice());
+    expect_answers(&rt, alloc, REFUSED_STATEMENTS.as_slice());
+    expect_answers(&rt, alloc, REFUSED_OTHERS.as_slice());
+}
+
+/// A front, a part so many times, a middle, another part as often, a back, how many times, and what the parser says: up to a hundred
+/// levels of parentheses, blocks, prefix operators, a chain, casts, controlled statements and branches are accepted.
+type Level = (
+    &'static str,
+    &'static str,
+    &'static str,
+    &'static str,
+    &'static str,
+    u32,
+    &'static str,
+);
+
+static LEVELS: [Level; 14] = [
+    (
         "int main(void) { return ",
         "(",
+        "1",
+        ")",
+        " ; }",
         99,
-        most.as_str(),
-    );
-    let refused = repeated(
-        &rt,
-        alloc,
+        "parses",
+    ),
+    (
         "int main(void) { return ",
         "(",
+        "1",
+        ")",
+        " ; }",
         100,
-        over.as_str(),
-    );
-    expect_answer(&rt, alloc, accepted.as_str(), "parses");
-    expect_answer(&rt, alloc, refused.as_str(), "TooDeep 107");
-}
-
-#[test]
-fn a_hundred_levels_of_blocks_are_accepted(rt: HostRuntime) {
-    let alloc = rt.alloc();
-    let most = repeated(&rt, alloc, ";", "}", 100, "");
-    let over = repeated(&rt, alloc, ";", "}", 101, "");
-    let accepted = repeated(&rt, alloc, "int main(void) ", "{", 100, most.as_str());
-    let refused = repeated(&rt, alloc, "int main(void) ", "{", 101, over.as_str());
-    expect_answer(&rt, alloc, accepted.as_str(), "parses");
-    expect_answer(&rt, alloc, refused.as_str(), "TooDeep 106");
-}
-
-#[test]
-fn a_hundred_levels_of_prefix_operators_are_accepted(rt: HostRuntime) {
-    let alloc = rt.alloc();
-    let accepted = repeated(&rt, alloc, "int main(void) { return ", "- ", 99, "1 ; }");
-    let refused = repeated(&rt, alloc, "int main(void) { return ", "- ", 100, "1 ; }");
-    expect_answer(&rt, alloc, accepted.as_str(), "parses");
-    expect_answer(&rt, alloc, refused.as_str(), "TooDeep 107");
-}
-
-#[test]
-fn a_hundred_levels_of_a_chain_are_accepted(rt: HostRuntime) {
-    let alloc = rt.alloc();
-    let accepted = repeated(&rt, alloc, "int main(void) { return 1", "+ 1", 99, " ; }");
-    let refused = repeated(&rt, alloc, "int main(void) { return 1", "+ 1", 100, " ; }");
-    expect_answer(&rt, alloc, accepted.as_str(), "parses");
-    expect_answer(&rt, alloc, refused.as_str(), "TooDeep 207");
-}
-
-#[test]
-fn a_hundred_levels_of_casts_are_accepted(rt: HostRuntime) {
-    let alloc = rt.alloc();
-    let accepted = repeated(
-        &rt,
-        alloc,
+        "TooDeep 107",
+    ),
+    ("int main(void) ", "{", ";", "}", "", 100, "parses"),
+    ("int main(void) ", "{", ";", "}", "", 101, "TooDeep 106"),
+    (
+        "int main(void) { return ",
+        "- ",
+        "1",
+        "",
+        " ; }",
+        99,
+        "parses",
+    ),
+    (
+        "int main(void) { return ",
+        "- ",
+        "1",
+        "",
+        " ; }",
+        100,
+        "TooDeep 107",
+    ),
+    (
+        "int main(void) { return 1",
+        "+ 1",
+        "",
+        "",
+        " ; }",
+        99,
+        "parses",
+    ),
+    (
+        "int main(void) { return 1",
+        "+ 1",
+        "",
+        "",
+        " ; }",
+        100,
+        "TooDeep 207",
+    ),
+    (
         "int main(void) { return ",
         "(int) ",
+        "1",
+        "",
+        " ; }",
         99,
-        "1 ; }",
-    );
-    let refused = repeated(
-        &rt,
-        alloc,
+        "parses",
+    ),
+    (
         "int main(void) { return ",
         "(int) ",
+        "1",
+        "",
+        " ; }",
         100,
-        "1 ; }",
-    );
-    expect_answer(&rt, alloc, accepted.as_str(), "parses");
-    expect_answer(&rt, alloc, refused.as_str(), "TooDeep 305");
-}
-
-#[test]
-fn a_hundred_levels_of_controlled_statements_are_accepted(rt: HostRuntime) {
-    let alloc = rt.alloc();
-    let accepted = repeated(&rt, alloc, "int main(void) { ", "if (1) ", 99, "; }");
-    let refused = repeated(&rt, alloc, "int main(void) { ", "if (1) ", 100, "; }");
-    expect_answer(&rt, alloc, accepted.as_str(), "parses");
-    expect_answer(&rt, alloc, refused.as_str(), "TooDeep 404");
-}
-
-#[test]
-fn a_hundred_levels_of_branches_are_accepted(rt: HostRuntime) {
-    let alloc = rt.alloc();
-    let accepted = repeated(
-        &rt,
-        alloc,
+        "TooDeep 305",
+    ),
+    ("int main(void) { ", "if (1) ", ";", "", " }", 99, "parses"),
+    (
+        "int main(void) { ",
+        "if (1) ",
+        ";",
+        "",
+        " }",
+        100,
+        "TooDeep 404",
+    ),
+    (
         "int main(void) { return ",
         "1 ? 1 : ",
+        "1",
+        "",
+        " ; }",
         99,
-        "1 ; }",
-    );
-    let refused = repeated(
-        &rt,
-        alloc,
+        "parses",
+    ),
+    (
         "int main(void) { return ",
         "1 ? 1 : ",
+        "1",
+        "",
+        " ; }",
         100,
-        "1 ; }",
-    );
-    expect_answer(&rt, alloc, accepted.as_str(), "parses");
-    expect_answer(&rt, alloc, refused.as_str(), "TooDeep 405");
+        "TooDeep 405",
+    ),
+];
+
+/// Adds a piece so many times.
+fn add_pieces(rt: &impl Abort, text: &mut String, piece: &str, count: u32) {
+    for _ in 0..count {
+        text.push_str(piece).expect(rt, "memory");
+    }
+}
+
+/// The text of a row.
+fn nested(rt: &impl Abort, alloc: Global, level: &Level) -> String {
+    let (front, part, middle, other, back, count, _) = *level;
+    let mut text = String::from_str(alloc, front).expect(rt, "memory");
+    add_pieces(rt, &mut text, part, count);
+    add_pieces(rt, &mut text, middle, 1);
+    add_pieces(rt, &mut text, other, count);
+    add_pieces(rt, &mut text, back, 1);
+    text
+}
+
+fn expect_level(rt: &impl Abort, alloc: Global, level: &Level) {
+    let text = nested(rt, alloc, level);
+    expect_answer(rt, alloc, text.as_str(), level.6);
+}
+
+#[test]
+fn a_hundred_levels_are_accepted(rt: HostRuntime) {
+    for level in &LEVELS {
+        expect_level(&rt, rt.alloc(), level);
+    }
 }

@@ -401,63 +401,22 @@ fn compare(rt: &impl Abort, alloc: Global, rows: &[(&str, &str)]) {
 }
 
 #[test]
-fn gives_worked_texts(rt: HostRuntime) {
-    compare(&rt, rt.alloc(), WORKED.as_slice());
-}
-
-#[test]
-fn tells_words_apart(rt: HostRuntime) {
-    compare(&rt, rt.alloc(), WORDS.as_slice());
-}
-
-#[test]
-fn refuses_words(rt: HostRuntime) {
-    compare(&rt, rt.alloc(), REFUSED.as_slice());
-}
-
-#[test]
-fn takes_the_longest_punctuator(rt: HostRuntime) {
-    compare(&rt, rt.alloc(), PUNCTUATORS.as_slice());
-}
-
-#[test]
-fn counts_lines_and_columns(rt: HostRuntime) {
-    compare(&rt, rt.alloc(), BLANKS.as_slice());
-}
-
-#[test]
-fn refuses_bytes(rt: HostRuntime) {
-    compare(&rt, rt.alloc(), BYTES.as_slice());
-}
-
-#[test]
-fn reads_numbers(rt: HostRuntime) {
-    compare(&rt, rt.alloc(), NUMBERS.as_slice());
-}
-
-#[test]
-fn reads_characters(rt: HostRuntime) {
-    compare(&rt, rt.alloc(), CHARACTERS.as_slice());
-}
-
-#[test]
-fn reads_strings(rt: HostRuntime) {
-    compare(&rt, rt.alloc(), STRINGS.as_slice());
-}
-
-#[test]
-fn obeys_directives(rt: HostRuntime) {
-    compare(&rt, rt.alloc(), DIRECTIVES_FORMS.as_slice());
-}
-
-#[test]
-fn defines_macros(rt: HostRuntime) {
-    compare(&rt, rt.alloc(), MACROS.as_slice());
-}
-
-#[test]
-fn reads_programs(rt: HostRuntime) {
-    compare(&rt, rt.alloc(), PROGRAMS.as_slice());
+fn texts_have_their_tokens_or_their_first_error(rt: HostRuntime) {
+    let alloc = rt.alloc();
+    compare(&rt, alloc, WORKED.as_slice());
+    // Words are told apart, and those that the profile leaves out are refused; punctuators are the longest.
+    compare(&rt, alloc, WORDS.as_slice());
+    compare(&rt, alloc, REFUSED.as_slice());
+    compare(&rt, alloc, PUNCTUATORS.as_slice());
+    // Lines and columns are counted.
+    compare(&rt, alloc, BLANKS.as_slice());
+    compare(&rt, alloc, BYTES.as_slice());
+    compare(&rt, alloc, NUMBERS.as_slice());
+    compare(&rt, alloc, CHARACTERS.as_slice());
+    compare(&rt, alloc, STRINGS.as_slice());
+    compare(&rt, alloc, DIRECTIVES_FORMS.as_slice());
+    compare(&rt, alloc, MACROS.as_slice());
+    compare(&rt, alloc, PROGRAMS.as_slice());
 }
 
 /// A part of a text.
@@ -567,11 +526,6 @@ static LONGEST: [(&[Part], &str); 13] = [
     ),
 ];
 
-#[test]
-fn takes_the_longest_texts(rt: HostRuntime) {
-    compare_built(&rt, rt.alloc(), LONGEST.as_slice());
-}
-
 /// Macros of so many tokens, and their uses.
 static LIMITS: [(&[Part], &str); 10] = [
     (
@@ -654,11 +608,6 @@ static LIMITS: [(&[Part], &str); 10] = [
     ),
 ];
 
-#[test]
-fn keeps_to_the_limits(rt: HostRuntime) {
-    compare_built(&rt, rt.alloc(), LIMITS.as_slice());
-}
-
 static BEHIND: [(&[Part], &str); 4] = [
     (
         &[Part::Numbers(1000), Part::Times("M0 M999", 1)],
@@ -678,11 +627,6 @@ static BEHIND: [(&[Part], &str); 4] = [
     ),
 ];
 
-#[test]
-fn takes_a_thousand_macros(rt: HostRuntime) {
-    compare_built(&rt, rt.alloc(), BEHIND.as_slice());
-}
-
 /// Names of 30,000 bytes stand in 1,000 tokens of each of 999 bodies: copies of them would take 30 GB.
 static LONG_NAMES: [(&[Part], &str); 1] = [(
     &[
@@ -698,6 +642,11 @@ static LONG_NAMES: [(&[Part], &str); 1] = [(
 )];
 
 #[test]
-fn names_in_bodies_take_no_memory_of_their_own(rt: HostRuntime) {
-    compare_built(&rt, rt.alloc(), LONG_NAMES.as_slice());
+fn long_texts_have_their_tokens_or_their_first_error(rt: HostRuntime) {
+    let alloc = rt.alloc();
+    compare_built(&rt, alloc, LONGEST.as_slice());
+    compare_built(&rt, alloc, LIMITS.as_slice());
+    compare_built(&rt, alloc, BEHIND.as_slice());
+    // Names in bodies take no memory of their own.
+    compare_built(&rt, alloc, LONG_NAMES.as_slice());
 }

@@ -289,242 +289,248 @@ fn check(rt: &impl Abort, alloc: Global, case: &Case) {
     assert!(rt; clauses_are(&checker, first, after) && softs_are(&checker, left));
 }
 
+/// Steps with cores, and what stands after them.
+static SPLITS: [Case; 3] = [
+    (
+        2,
+        &[&[-1, -2]],
+        &[(1, 3), (2, 1)],
+        5,
+        &[(Kind::Core, &[-1, -2], &[1], 0)],
+        1,
+        2,
+        &[&[-1, -2], &[-1, -3], &[-2, -3], &[1, 2, 3]],
+        &[(1, 2), (-3, 1)],
+    ),
+    (
+        1,
+        &[&[-1]],
+        &[(1, 3)],
+        5,
+        &[(Kind::Core, &[-1], &[1], 0)],
+        3,
+        2,
+        &[&[-1]],
+        &[],
+    ),
+    (
+        3,
+        &[&[-1, -2, -3]],
+        &[(1, 3), (2, 5), (3, 3)],
+        5,
+        &[(Kind::Core, &[-1, -2, -3], &[1], 0)],
+        3,
+        2,
+        &[
+            &[-1, -2, -3],
+            &[-2, -3, -4],
+            &[2, 4],
+            &[3, 4],
+            &[-1, -5],
+            &[4, -5],
+            &[1, -4, 5],
+            &[-2, -6],
+            &[-3, -6],
+            &[2, 3, 6],
+        ],
+        &[(2, 2), (-5, 3), (-6, 3)],
+    ),
+];
+
 #[test]
 fn cores_are_split(rt: HostRuntime) {
-    let cases: [Case; 3] = [
-        (
-            2,
-            &[&[-1, -2]],
-            &[(1, 3), (2, 1)],
-            5,
-            &[(Kind::Core, &[-1, -2], &[1], 0)],
-            1,
-            2,
-            &[&[-1, -2], &[-1, -3], &[-2, -3], &[1, 2, 3]],
-            &[(1, 2), (-3, 1)],
-        ),
-        (
-            1,
-            &[&[-1]],
-            &[(1, 3)],
-            5,
-            &[(Kind::Core, &[-1], &[1], 0)],
-            3,
-            2,
-            &[&[-1]],
-            &[],
-        ),
-        (
-            3,
-            &[&[-1, -2, -3]],
-            &[(1, 3), (2, 5), (3, 3)],
-            5,
-            &[(Kind::Core, &[-1, -2, -3], &[1], 0)],
-            3,
-            2,
-            &[
-                &[-1, -2, -3],
-                &[-2, -3, -4],
-                &[2, 4],
-                &[3, 4],
-                &[-1, -5],
-                &[4, -5],
-                &[1, -4, 5],
-                &[-2, -6],
-                &[-3, -6],
-                &[2, 3, 6],
-            ],
-            &[(2, 2), (-5, 3), (-6, 3)],
-        ),
-    ];
-    for case in &cases {
+    for case in &SPLITS {
         check(&rt, rt.alloc(), case);
     }
 }
+
+/// Steps with each error.
+static ERRORS: [Case; 4] = [
+    (
+        4,
+        &[&[1, 2], &[-1, 2], &[-2, 3], &[-3, 4]],
+        &[(1, 1)],
+        2,
+        &[
+            (Kind::Learn, &[2], &[], 3),
+            (Kind::Learn, &[2], &[9], 1),
+            (Kind::Learn, &[2], &[3, 2], 2),
+            (Kind::Learn, &[2], &[1], 3),
+            (Kind::Learn, &[2], &[4, 9], 2),
+            (Kind::Learn, &[2], &[9, 4], 1),
+            (Kind::Learn, &[2], &[1, 2, 1], 2),
+            (Kind::Learn, &[1, 2], &[1], 10),
+            (Kind::Learn, &[1, 2, 4], &[9], 10),
+            (Kind::Learn, &[1, 2, 5], &[9], 14),
+            (Kind::Learn, &[5], &[9], 14),
+            (Kind::Learn, &[2], &[1, 2], 0),
+            (Kind::Learn, &[2, 4], &[5], 10),
+            (Kind::Learn, &[3, 4], &[3, 5], 0),
+            (Kind::Learn, &[2, 4], &[9], 13),
+            (Kind::Learn, &[5], &[9], 14),
+            (Kind::Core, &[-2], &[9], 13),
+            (Kind::Core, &[-5], &[9], 14),
+            (Kind::NoRepair, &[], &[9], 13),
+            (Kind::Spent, &[], &[], 0),
+            (Kind::Spent, &[], &[], 9),
+            (Kind::Learn, &[5], &[9], 9),
+        ],
+        0,
+        5,
+        &[&[2], &[3, 4]],
+        &[(1, 1)],
+    ),
+    (
+        5,
+        &[&[1, 2, 5], &[-1, 2], &[-2, 3], &[-3, 4]],
+        &[(1, 1)],
+        9,
+        &[
+            (Kind::Learn, &[2, 5], &[1, 2], 0),
+            (Kind::Learn, &[1, 3, 5], &[3, 1], 0),
+            (Kind::Delete, &[], &[1], 5),
+            (Kind::Delete, &[], &[2], 5),
+            (Kind::Delete, &[], &[7], 5),
+            (Kind::Delete, &[], &[5], 5),
+            (Kind::Delete, &[], &[5, 6], 5),
+            (Kind::Delete, &[], &[6, 9], 5),
+            (Kind::Delete, &[], &[6], 11),
+            (Kind::Learn, &[1, 3, 5], &[3, 1], 10),
+        ],
+        0,
+        4,
+        &[&[-3, 4], &[2, 5], &[1, 3, 5]],
+        &[(1, 1)],
+    ),
+    (
+        3,
+        &[&[1, 2], &[-1, 2], &[-2]],
+        &[(1, 2), (2, 1)],
+        3,
+        &[
+            (Kind::Core, &[-4], &[9], 14),
+            (Kind::Core, &[-3], &[9], 4),
+            (Kind::Core, &[1], &[9], 4),
+            (Kind::Core, &[-1, -3], &[3], 4),
+            (Kind::Core, &[-1], &[9], 1),
+            (Kind::Core, &[-1], &[], 3),
+            (Kind::Core, &[-1, -2], &[1], 2),
+            (Kind::NoRepair, &[], &[], 3),
+            (Kind::NoRepair, &[], &[9], 1),
+            (Kind::NoRepair, &[], &[1], 2),
+            (Kind::NoRepair, &[], &[3, 1], 3),
+            (Kind::Spent, &[], &[], 13),
+            (Kind::Core, &[-2], &[3], 0),
+            (Kind::Core, &[-2], &[3], 4),
+            (Kind::NoRepair, &[], &[3, 1, 2], 0),
+            (Kind::NoRepair, &[], &[3, 1, 2], 9),
+        ],
+        1,
+        4,
+        &[&[-2]],
+        &[(1, 2)],
+    ),
+    (
+        2,
+        &[&[1, 2], &[]],
+        &[(1, 0), (2, 4)],
+        3,
+        &[
+            (Kind::Learn, &[1], &[2], 10),
+            (Kind::Core, &[-2], &[2], 0),
+            (Kind::NoRepair, &[], &[2], 0),
+        ],
+        4,
+        3,
+        &[&[-2]],
+        &[],
+    ),
+];
 
 #[test]
 fn each_error_comes_where_it_must(rt: HostRuntime) {
-    let cases: [Case; 4] = [
-        (
-            4,
-            &[&[1, 2], &[-1, 2], &[-2, 3], &[-3, 4]],
-            &[(1, 1)],
-            2,
-            &[
-                (Kind::Learn, &[2], &[], 3),
-                (Kind::Learn, &[2], &[9], 1),
-                (Kind::Learn, &[2], &[3, 2], 2),
-                (Kind::Learn, &[2], &[1], 3),
-                (Kind::Learn, &[2], &[4, 9], 2),
-                (Kind::Learn, &[2], &[9, 4], 1),
-                (Kind::Learn, &[2], &[1, 2, 1], 2),
-                (Kind::Learn, &[1, 2], &[1], 10),
-                (Kind::Learn, &[1, 2, 4], &[9], 10),
-                (Kind::Learn, &[1, 2, 5], &[9], 14),
-                (Kind::Learn, &[5], &[9], 14),
-                (Kind::Learn, &[2], &[1, 2], 0),
-                (Kind::Learn, &[2, 4], &[5], 10),
-                (Kind::Learn, &[3, 4], &[3, 5], 0),
-                (Kind::Learn, &[2, 4], &[9], 13),
-                (Kind::Learn, &[5], &[9], 14),
-                (Kind::Core, &[-2], &[9], 13),
-                (Kind::Core, &[-5], &[9], 14),
-                (Kind::NoRepair, &[], &[9], 13),
-                (Kind::Spent, &[], &[], 0),
-                (Kind::Spent, &[], &[], 9),
-                (Kind::Learn, &[5], &[9], 9),
-            ],
-            0,
-            5,
-            &[&[2], &[3, 4]],
-            &[(1, 1)],
-        ),
-        (
-            5,
-            &[&[1, 2, 5], &[-1, 2], &[-2, 3], &[-3, 4]],
-            &[(1, 1)],
-            9,
-            &[
-                (Kind::Learn, &[2, 5], &[1, 2], 0),
-                (Kind::Learn, &[1, 3, 5], &[3, 1], 0),
-                (Kind::Delete, &[], &[1], 5),
-                (Kind::Delete, &[], &[2], 5),
-                (Kind::Delete, &[], &[7], 5),
-                (Kind::Delete, &[], &[5], 5),
-                (Kind::Delete, &[], &[5, 6], 5),
-                (Kind::Delete, &[], &[6, 9], 5),
-                (Kind::Delete, &[], &[6], 11),
-                (Kind::Learn, &[1, 3, 5], &[3, 1], 10),
-            ],
-            0,
-            4,
-            &[&[-3, 4], &[2, 5], &[1, 3, 5]],
-            &[(1, 1)],
-        ),
-        (
-            3,
-            &[&[1, 2], &[-1, 2], &[-2]],
-            &[(1, 2), (2, 1)],
-            3,
-            &[
-                (Kind::Core, &[-4], &[9], 14),
-                (Kind::Core, &[-3], &[9], 4),
-                (Kind::Core, &[1], &[9], 4),
-                (Kind::Core, &[-1, -3], &[3], 4),
-                (Kind::Core, &[-1], &[9], 1),
-                (Kind::Core, &[-1], &[], 3),
-                (Kind::Core, &[-1, -2], &[1], 2),
-                (Kind::NoRepair, &[], &[], 3),
-                (Kind::NoRepair, &[], &[9], 1),
-                (Kind::NoRepair, &[], &[1], 2),
-                (Kind::NoRepair, &[], &[3, 1], 3),
-                (Kind::Spent, &[], &[], 13),
-                (Kind::Core, &[-2], &[3], 0),
-                (Kind::Core, &[-2], &[3], 4),
-                (Kind::NoRepair, &[], &[3, 1, 2], 0),
-                (Kind::NoRepair, &[], &[3, 1, 2], 9),
-            ],
-            1,
-            4,
-            &[&[-2]],
-            &[(1, 2)],
-        ),
-        (
-            2,
-            &[&[1, 2], &[]],
-            &[(1, 0), (2, 4)],
-            3,
-            &[
-                (Kind::Learn, &[1], &[2], 10),
-                (Kind::Core, &[-2], &[2], 0),
-                (Kind::NoRepair, &[], &[2], 0),
-            ],
-            4,
-            3,
-            &[&[-2]],
-            &[],
-        ),
-    ];
-    for case in &cases {
+    for case in &ERRORS {
         check(&rt, rt.alloc(), case);
     }
 }
 
+/// Steps that block sets.
+static SETS: [Case; 3] = [
+    (
+        4,
+        &[&[-1, -2]],
+        &[(1, 1), (2, 1), (3, 0), (4, 3)],
+        3,
+        &[
+            (Kind::Located, &[], &[1], 13),
+            (Kind::Core, &[-1, -2], &[1], 0),
+            (Kind::Block, &[7], &[3], 14),
+            (Kind::Block, &[7], &[5], 14),
+            (Kind::Block, &[7], &[1, 5], 14),
+            (Kind::Block, &[7], &[1, 2], 8),
+            (Kind::Block, &[7], &[4], 8),
+            (Kind::Block, &[8], &[1], 6),
+            (Kind::Block, &[], &[1], 6),
+            (Kind::Block, &[7], &[1], 0),
+            (Kind::Block, &[8], &[1], 7),
+            (Kind::Core, &[-4], &[9], 12),
+            (Kind::Learn, &[1, 3], &[9], 10),
+            (Kind::NoRepair, &[], &[1], 13),
+            (Kind::TooMany, &[], &[], 13),
+            (Kind::Located, &[6], &[9], 14),
+            (Kind::Located, &[1], &[9], 4),
+            (Kind::Located, &[-5], &[9], 4),
+            (Kind::Located, &[-4], &[9], 1),
+            (Kind::Located, &[-4], &[2], 2),
+            (Kind::Located, &[-4, 5], &[6], 3),
+            (Kind::Block, &[7], &[2], 0),
+            (Kind::Located, &[], &[6, 7, 2], 0),
+            (Kind::Block, &[7], &[2], 9),
+        ],
+        1,
+        6,
+        &[&[1], &[2]],
+        &[(4, 3), (-5, 1)],
+    ),
+    (
+        2,
+        &[&[-1, -2]],
+        &[(1, 1), (2, 1)],
+        2,
+        &[
+            (Kind::Core, &[-1, -2], &[1], 0),
+            (Kind::Block, &[7], &[1], 0),
+            (Kind::TooMany, &[], &[], 13),
+            (Kind::Block, &[7], &[2], 0),
+            (Kind::TooMany, &[], &[], 0),
+            (Kind::TooMany, &[], &[], 9),
+        ],
+        1,
+        6,
+        &[&[1], &[2]],
+        &[(-3, 1)],
+    ),
+    (
+        2,
+        &[&[-1, -2]],
+        &[(1, 1), (2, 1)],
+        1,
+        &[
+            (Kind::Core, &[-1, -2], &[1], 0),
+            (Kind::Block, &[7], &[2], 0),
+            (Kind::Located, &[9], &[9], 13),
+            (Kind::Spent, &[], &[], 0),
+        ],
+        1,
+        6,
+        &[&[2]],
+        &[(-3, 1)],
+    ),
+];
+
 #[test]
 fn sets_are_blocked(rt: HostRuntime) {
-    let cases: [Case; 3] = [
-        (
-            4,
-            &[&[-1, -2]],
-            &[(1, 1), (2, 1), (3, 0), (4, 3)],
-            3,
-            &[
-                (Kind::Located, &[], &[1], 13),
-                (Kind::Core, &[-1, -2], &[1], 0),
-                (Kind::Block, &[7], &[3], 14),
-                (Kind::Block, &[7], &[5], 14),
-                (Kind::Block, &[7], &[1, 5], 14),
-                (Kind::Block, &[7], &[1, 2], 8),
-                (Kind::Block, &[7], &[4], 8),
-                (Kind::Block, &[8], &[1], 6),
-                (Kind::Block, &[], &[1], 6),
-                (Kind::Block, &[7], &[1], 0),
-                (Kind::Block, &[8], &[1], 7),
-                (Kind::Core, &[-4], &[9], 12),
-                (Kind::Learn, &[1, 3], &[9], 10),
-                (Kind::NoRepair, &[], &[1], 13),
-                (Kind::TooMany, &[], &[], 13),
-                (Kind::Located, &[6], &[9], 14),
-                (Kind::Located, &[1], &[9], 4),
-                (Kind::Located, &[-5], &[9], 4),
-                (Kind::Located, &[-4], &[9], 1),
-                (Kind::Located, &[-4], &[2], 2),
-                (Kind::Located, &[-4, 5], &[6], 3),
-                (Kind::Block, &[7], &[2], 0),
-                (Kind::Located, &[], &[6, 7, 2], 0),
-                (Kind::Block, &[7], &[2], 9),
-            ],
-            1,
-            6,
-            &[&[1], &[2]],
-            &[(4, 3), (-5, 1)],
-        ),
-        (
-            2,
-            &[&[-1, -2]],
-            &[(1, 1), (2, 1)],
-            2,
-            &[
-                (Kind::Core, &[-1, -2], &[1], 0),
-                (Kind::Block, &[7], &[1], 0),
-                (Kind::TooMany, &[], &[], 13),
-                (Kind::Block, &[7], &[2], 0),
-                (Kind::TooMany, &[], &[], 0),
-                (Kind::TooMany, &[], &[], 9),
-            ],
-            1,
-            6,
-            &[&[1], &[2]],
-            &[(-3, 1)],
-        ),
-        (
-            2,
-            &[&[-1, -2]],
-            &[(1, 1), (2, 1)],
-            1,
-            &[
-                (Kind::Core, &[-1, -2], &[1], 0),
-                (Kind::Block, &[7], &[2], 0),
-                (Kind::Located, &[9], &[9], 13),
-                (Kind::Spent, &[], &[], 0),
-            ],
-            1,
-            6,
-            &[&[2]],
-            &[(-3, 1)],
-        ),
-    ];
-    for case in &cases {
+    for case in &SETS {
         check(&rt, rt.alloc(), case);
     }
 }
@@ -571,28 +577,32 @@ fn learn_along(rt: &impl Abort, alloc: Global, checker: &mut Checker, from: u32,
     allowed
 }
 
+/// Steps before the thousandth learnt clause.
+static EARLY: [Row; 4] = [
+    (Kind::Delete, &[], &[60], 11),
+    (Kind::Delete, &[], &[59, 60], 5),
+    (Kind::Delete, &[], &[60, 2000], 5),
+    (Kind::Learn, &[-1, 3, 61], &[1, 2], 10),
+];
+
+/// Steps behind it.
+static LATE: [Row; 7] = [
+    (Kind::Delete, &[], &[60], 0),
+    (Kind::Delete, &[], &[60, 61], 5),
+    (Kind::Delete, &[], &[61], 11),
+    (Kind::Learn, &[-1, 3, 61], &[60], 1),
+    (Kind::Learn, &[-1, 4, 61], &[61], 10),
+    (Kind::Learn, &[-1, 3, 61], &[1, 2], 0),
+    (Kind::Learn, &[-1, 3, 61], &[1, 2], 10),
+];
+
 #[test]
 fn a_learnt_clause_is_deleted_after_a_thousand(rt: HostRuntime) {
-    let early: [Row; 4] = [
-        (Kind::Delete, &[], &[60], 11),
-        (Kind::Delete, &[], &[59, 60], 5),
-        (Kind::Delete, &[], &[60, 2000], 5),
-        (Kind::Learn, &[-1, 3, 61], &[1, 2], 10),
-    ];
-    let late: [Row; 7] = [
-        (Kind::Delete, &[], &[60], 0),
-        (Kind::Delete, &[], &[60, 61], 5),
-        (Kind::Delete, &[], &[61], 11),
-        (Kind::Learn, &[-1, 3, 61], &[60], 1),
-        (Kind::Learn, &[-1, 4, 61], &[61], 10),
-        (Kind::Learn, &[-1, 3, 61], &[1, 2], 0),
-        (Kind::Learn, &[-1, 3, 61], &[1, 2], 10),
-    ];
     let alloc = rt.alloc();
     let mut checker = start(&rt, alloc, &row(&rt, alloc), &[], 2000);
     assert_eq!(rt; learn_along(&rt, alloc, &mut checker, 0, 999), 999);
-    assert_eq!(rt; put_all(&rt, alloc, &mut checker, &early), None);
+    assert_eq!(rt; put_all(&rt, alloc, &mut checker, &EARLY), None);
     assert_eq!(rt; learn_along(&rt, alloc, &mut checker, 999, 1000), 1);
-    assert_eq!(rt; put_all(&rt, alloc, &mut checker, &late), None);
+    assert_eq!(rt; put_all(&rt, alloc, &mut checker, &LATE), None);
     assert!(rt; checker.clause(60).is_none() && checker.learnt() == 1 && checker.is_learnt(1060));
 }

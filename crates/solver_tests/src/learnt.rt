@@ -61,37 +61,40 @@ fn expect(rt: &impl Abort, alloc: Global, learnt: Option<Learnt>, want: &Want) {
     assert_eq!(rt; (learnt.back, learnt.hints.len()), (want.1, want.2));
 }
 
+/// Clauses, decisions, and what is learnt of the conflict.
+static CONFLICTS: [(u64, &[&[i64]], &[i64], Want); 6] = [
+    (2, &[&[1, 2], &[-1, 2]], &[-2], (&[2], 0, 2)),
+    (3, &[&[-1, 2], &[-2, 3], &[-1, -3]], &[1], (&[-1], 0, 3)),
+    (
+        4,
+        &[&[-1, -2, -3, 4], &[-1, -2, -3, -4]],
+        &[2, 1, 3],
+        (&[-1, -2, -3], 2, 2),
+    ),
+    (
+        4,
+        &[&[-1, 2], &[-1, -2, -3, 4], &[-2, -3, -4]],
+        &[1, 3],
+        (&[-1, -3], 1, 3),
+    ),
+    (
+        4,
+        &[&[4], &[1, -4], &[-1, -2, 3], &[-2, -3]],
+        &[2],
+        (&[-2], 0, 4),
+    ),
+    (
+        4,
+        &[&[-1, 2], &[-2, 3], &[-2, 4], &[-3, -4]],
+        &[1],
+        (&[-2], 0, 3),
+    ),
+];
+
 #[test]
 fn conflicts_give_the_clause_of_the_first_implication_point(rt: HostRuntime) {
-    let rows: [(u64, &[&[i64]], &[i64], Want); 6] = [
-        (2, &[&[1, 2], &[-1, 2]], &[-2], (&[2], 0, 2)),
-        (3, &[&[-1, 2], &[-2, 3], &[-1, -3]], &[1], (&[-1], 0, 3)),
-        (
-            4,
-            &[&[-1, -2, -3, 4], &[-1, -2, -3, -4]],
-            &[2, 1, 3],
-            (&[-1, -2, -3], 2, 2),
-        ),
-        (
-            4,
-            &[&[-1, 2], &[-1, -2, -3, 4], &[-2, -3, -4]],
-            &[1, 3],
-            (&[-1, -3], 1, 3),
-        ),
-        (
-            4,
-            &[&[4], &[1, -4], &[-1, -2, 3], &[-2, -3]],
-            &[2],
-            (&[-2], 0, 4),
-        ),
-        (
-            4,
-            &[&[-1, 2], &[-2, 3], &[-2, 4], &[-3, -4]],
-            &[1],
-            (&[-2], 0, 3),
-        ),
-    ];
-    for (variables, clauses, decisions, want) in rows {
+    for row in &CONFLICTS {
+        let (variables, clauses, decisions, want) = *row;
         let mut watch = decided(&rt, rt.alloc(), variables, clauses, decisions);
         expect(&rt, rt.alloc(), learn(&rt, rt.alloc(), &mut watch), &want);
     }

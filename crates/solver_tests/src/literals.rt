@@ -5,16 +5,19 @@ use ba_lits::{LiteralSet, Marks, is_clause};
 use std::panic::Expect;
 use test_formulas::{formula_of, lit, lits};
 
+/// Literals, and whether they form a clause over so many variables.
+static CLAUSES: [(u64, &[i64], bool); 5] = [
+    (2, &[1, -2], true),
+    (2, &[], true),
+    (2, &[1, 1], false),
+    (2, &[-2, 1], false),
+    (1, &[1, 2], false),
+];
+
 #[test]
 fn literals_form_a_clause_where_their_variables_ascend(rt: HostRuntime) {
-    let table: [(u64, &[i64], bool); 5] = [
-        (2, &[1, -2], true),
-        (2, &[], true),
-        (2, &[1, 1], false),
-        (2, &[-2, 1], false),
-        (1, &[1, 2], false),
-    ];
-    for (variables, codes, want) in table {
+    for row in &CLAUSES {
+        let (variables, codes, want) = *row;
         assert_eq!(rt;
             is_clause(
                 variables,

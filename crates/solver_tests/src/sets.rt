@@ -144,85 +144,89 @@ fn check(rt: &impl Abort, alloc: Global, row: &Row) {
     assert!(rt; ends_so(&verdict, end), "{shown}");
 }
 
+/// One of three is false.
+const ANY_OF_THREE: &[&[i64]] = &[&[-1, -2, -3]];
+
+/// Formulas with their least sets.
+static FORMULAS: [Row; 9] = [
+    (
+        "three sets",
+        3,
+        ANY_OF_THREE,
+        &[1, 1, 1],
+        99,
+        9,
+        End::Located(1, &[&[1], &[2], &[3]]),
+    ),
+    (
+        "a set of two",
+        2,
+        &[&[-1, -2], &[-1], &[-2]],
+        &[1, 1],
+        99,
+        9,
+        End::Located(2, &[&[1, 2]]),
+    ),
+    ("no repair", 1, &[&[-1], &[1]], &[1], 99, 9, End::NoRepair),
+    (
+        "two sets of three may be listed",
+        3,
+        ANY_OF_THREE,
+        &[1, 1, 1],
+        99,
+        2,
+        End::TooMany(1, 3),
+    ),
+    (
+        "three sets of three may be listed",
+        3,
+        ANY_OF_THREE,
+        &[1, 1, 1],
+        99,
+        3,
+        End::Located(1, &[&[1], &[2], &[3]]),
+    ),
+    (
+        "one conflict",
+        3,
+        ANY_OF_THREE,
+        &[1, 1, 1],
+        1,
+        9,
+        End::Spent,
+    ),
+    (
+        "a heavier one is lighter than two",
+        3,
+        &[&[-1, -2], &[-1, -3]],
+        &[3, 2, 2],
+        99,
+        9,
+        End::Located(3, &[&[1]]),
+    ),
+    (
+        "two are lighter than a heavier one",
+        3,
+        &[&[-1, -2], &[-1, -3]],
+        &[3, 1, 1],
+        99,
+        9,
+        End::Located(2, &[&[2, 3]]),
+    ),
+    (
+        "one and two weigh the same",
+        4,
+        &[&[-1, -2], &[-1, -3], &[-1, 4]],
+        &[2, 1, 1],
+        99,
+        9,
+        End::Located(2, &[&[1], &[2, 3]]),
+    ),
+];
+
 #[test]
 fn small_formulas_have_their_sets(rt: HostRuntime) {
-    let any_of_three: &[&[i64]] = &[&[-1, -2, -3]];
-    let rows: [Row; 9] = [
-        (
-            "three sets",
-            3,
-            any_of_three,
-            &[1, 1, 1],
-            99,
-            9,
-            End::Located(1, &[&[1], &[2], &[3]]),
-        ),
-        (
-            "a set of two",
-            2,
-            &[&[-1, -2], &[-1], &[-2]],
-            &[1, 1],
-            99,
-            9,
-            End::Located(2, &[&[1, 2]]),
-        ),
-        ("no repair", 1, &[&[-1], &[1]], &[1], 99, 9, End::NoRepair),
-        (
-            "two sets of three may be listed",
-            3,
-            any_of_three,
-            &[1, 1, 1],
-            99,
-            2,
-            End::TooMany(1, 3),
-        ),
-        (
-            "three sets of three may be listed",
-            3,
-            any_of_three,
-            &[1, 1, 1],
-            99,
-            3,
-            End::Located(1, &[&[1], &[2], &[3]]),
-        ),
-        (
-            "one conflict",
-            3,
-            any_of_three,
-            &[1, 1, 1],
-            1,
-            9,
-            End::Spent,
-        ),
-        (
-            "a heavier one is lighter than two",
-            3,
-            &[&[-1, -2], &[-1, -3]],
-            &[3, 2, 2],
-            99,
-            9,
-            End::Located(3, &[&[1]]),
-        ),
-        (
-            "two are lighter than a heavier one",
-            3,
-            &[&[-1, -2], &[-1, -3]],
-            &[3, 1, 1],
-            99,
-            9,
-            End::Located(2, &[&[2, 3]]),
-        ),
-        (
-            "one and two weigh the same",
-            4,
-            &[&[-1, -2], &[-1, -3], &[-1, 4]],
-            &[2, 1, 1],
-            99,
-            9,
-            End::Located(2, &[&[1], &[2, 3]]),
-        ),
-    ];
-    for row in &rows {
+    for row in &FORMULAS {
         check(&rt, rt.alloc(), row);
     }
 }

@@ -122,6 +122,18 @@ fn run_of(rt: &impl Abort, alloc: Global, values: &[i64]) -> Items<Choice> {
     run
 }
 
+/// Groups with runs, and whether these are good.
+static RUNS: [(&[u32], &[i64], bool); 8] = [
+    (&[2, 3], &[100, -7], true),
+    (&[], &[], true),
+    (&[2], &[100, -7], false),
+    (&[2, 4], &[100, -7], false),
+    (&[2, 3], &[100, 7], false),
+    (&[2, 3], &[100], false),
+    (&[2, 3], &[100, -7, 100], false),
+    (&[2, 3], &[0, -7], false),
+];
+
 #[test]
 fn exactly_the_listed_runs_are_good(rt: HostRuntime) {
     let alloc = rt.alloc();
@@ -138,17 +150,8 @@ fn exactly_the_listed_runs_are_good(rt: HostRuntime) {
             run: run_of(&rt, alloc, &[]),
         })
         .expect(&rt, "memory");
-    let table: [(&[u32], &[i64], bool); 8] = [
-        (&[2, 3], &[100, -7], true),
-        (&[], &[], true),
-        (&[2], &[100, -7], false),
-        (&[2, 4], &[100, -7], false),
-        (&[2, 3], &[100, 7], false),
-        (&[2, 3], &[100], false),
-        (&[2, 3], &[100, -7, 100], false),
-        (&[2, 3], &[0, -7], false),
-    ];
-    for (groups, run, good) in table {
+    for row in &RUNS {
+        let (groups, run, good) = *row;
         assert_eq!(rt;
             judge
                 .good(groups, run_of(&rt, alloc, run).as_slice())

@@ -63,18 +63,21 @@ fn propagated(watch: &mut Watch) -> Option<usize> {
 /// Variables, clauses, literals that are decided, and how many are true then.
 type Row<'a> = (u64, &'a [&'a [i64]], &'a [i64], Option<usize>);
 
+/// Clauses, decisions, and the clause that is false behind them.
+static FORMULAS: [Row; 7] = [
+    (2, &[&[1, 2], &[-1, 2]], &[-2], None),
+    (3, &[&[-1, 2], &[-2, 3], &[-1, -3]], &[1], None),
+    (3, &[&[-1, 2], &[-2, 3], &[-1, -3], &[-1]], &[], Some(1)),
+    (2, &[&[1], &[-1, 2]], &[], Some(2)),
+    (2, &[&[1], &[-1, 2], &[]], &[], None),
+    (4, &[&[-1, 2]], &[1, 3], Some(3)),
+    (5, &[&[-1, -2, -3, 4], &[-4, 5]], &[2, 1, 3], Some(5)),
+];
+
 #[test]
 fn propagation_ends_as_it_must(rt: HostRuntime) {
-    let rows: [Row; 7] = [
-        (2, &[&[1, 2], &[-1, 2]], &[-2], None),
-        (3, &[&[-1, 2], &[-2, 3], &[-1, -3]], &[1], None),
-        (3, &[&[-1, 2], &[-2, 3], &[-1, -3], &[-1]], &[], Some(1)),
-        (2, &[&[1], &[-1, 2]], &[], Some(2)),
-        (2, &[&[1], &[-1, 2], &[]], &[], None),
-        (4, &[&[-1, 2]], &[1, 3], Some(3)),
-        (5, &[&[-1, -2, -3, 4], &[-4, 5]], &[2, 1, 3], Some(5)),
-    ];
-    for (variables, clauses, decisions, want) in rows {
+    for row in &FORMULAS {
+        let (variables, clauses, decisions, want) = *row;
         let mut watch = decided(&rt, rt.alloc(), variables, clauses, decisions);
         assert_eq!(rt; propagated(&mut watch), want);
     }

@@ -318,18 +318,21 @@ fn no_model_is_no_repair(rt: HostRuntime) {
     assert_eq!(rt; wrong, None);
 }
 
+/// Texts without a right head line, and what they are answered.
+static HEADLESS: [(&str, Answer); 6] = [
+    ("", Refused(1, 21)),
+    ("bugassist 1", Refused(1, 21)),
+    ("bugassist 1\n", Refused(2, 21)),
+    ("bugassist 2\n", Refused(1, 20)),
+    ("bugassist 1 \ne b\n", Refused(1, 20)),
+    ("\n", Refused(1, 20)),
+];
+
 /// Whether texts without a right head line are answered so.
 fn are_headless(rt: &impl Abort, alloc: Global) -> bool {
     let problem = array_example(alloc, SOME).expect(rt, "memory");
-    let texts: [(&str, Answer); 6] = [
-        ("", Refused(1, 21)),
-        ("bugassist 1", Refused(1, 21)),
-        ("bugassist 1\n", Refused(2, 21)),
-        ("bugassist 2\n", Refused(1, 20)),
-        ("bugassist 1 \ne b\n", Refused(1, 20)),
-        ("\n", Refused(1, 20)),
-    ];
-    for (text, answer) in texts {
+    for row in &HEADLESS {
+        let (text, answer) = *row;
         if !are_answered(rt, alloc, &problem, text.as_bytes(), 0, 9, answer) {
             return false;
         }
