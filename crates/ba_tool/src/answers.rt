@@ -13,7 +13,7 @@ use ba_text::push_number;
 use std::alloc::{AllocError, Global};
 
 /// Why a text is no input of a program. Pieces between blanks are counted from 1.
-#[derive(Clone, Copy, Debug, PartialEq, Eq)]
+#[derive(Clone, Copy)]
 pub enum InputFault {
     /// The piece of this number is no number.
     NotANumber(u32),
@@ -24,7 +24,7 @@ pub enum InputFault {
 }
 
 /// What a certificate claims of a failing run.
-#[derive(Clone, Copy, Debug, PartialEq, Eq)]
+#[derive(Clone, Copy)]
 pub enum Claim {
     /// The least sets are those that it names.
     Located,

@@ -8,7 +8,7 @@ use ba_tree::run::Bounds;
 use std::alloc::{AllocError, Global};
 
 /// What a job does with a program.
-#[derive(Clone, Copy, Debug, PartialEq, Eq)]
+#[derive(Clone, Copy)]
 pub enum Task {
     /// It finds the least sets of statements whose change could repair the run.
     Localise,
@@ -21,7 +21,7 @@ pub enum Task {
 }
 
 /// What the words ask for: a task, the names of its files, and how far a run and a search may go.
-#[derive(Debug, Drop)]
+#[derive(Drop)]
 pub struct Job<'a> {
     pub task: Task,
     /// The file of the program.
@@ -45,7 +45,7 @@ pub struct Job<'a> {
 }
 
 /// What words come to, before any file is read.
-#[derive(Debug, Drop)]
+#[derive(Drop)]
 pub enum Request<'a> {
     /// The words are no command.
     Refused,
