@@ -9,10 +9,15 @@ use std::alloc::{AllocError, Global};
 use std::marker::Model;
 
 /// The variables of the code, by their types, and its arrays. Those that are made keep their numbers.
-#[derive(Drop)]
 pub struct Declared {
     vars: Vec<CType>,
     arrays: Vec<ArrayInfo>,
+}
+
+impl Drop for Declared {
+    fn drop(self) {
+        let Declared { vars: _, arrays: _ } = self;
+    }
 }
 
 impl Model for Declared {
@@ -120,6 +125,7 @@ impl Declared {
     pub fn into_arrays(self) -> Vec<ArrayInfo>
         ensures { result.items ≡ self.arrays }
     {
-        self.arrays
+        let Declared { vars: _, arrays } = self;
+        arrays
     }
 }
