@@ -1,6 +1,6 @@
 //! Reading the line of a step.
 
-ghost use Rattle.std.specs.Prelude.{◌≡◌, ◌≢◌, IfOk};
+ghost use Rattle.std.specs.Prelude.{◌≡◌, ◌≢◌, None, Some, cond, IfOk};
 ghost use Rattle.ba_steps.specs.declared.step.CertStep.{CertStep};
 ghost use Rattle.ba_cert.specs.Text.{HasLine, line_of};
 ghost use Rattle.ba_cert.specs.Reading.{alone, block_at, clause_at, core_at, delete_at, end_at, end_by, learn_at, located_at, no_repair_at, step_at, step_by, step_in};
@@ -15,6 +15,17 @@ use ba_lits::Lit;
 use ba_steps::CertStep;
 use std::alloc::Global;
 
+/// A step that was read, where it is good.
+fn if_good(good: bool, step: CertStep) -> Result<CertStep, CertError>
+    ensures { Parses (λ step. step) result (cond good (Some step) None) }
+{
+    if good {
+        Ok(step)
+    } else {
+        Err(CertError::BadLine)
+    }
+}
+
 /// Reads literals with ascending variables, and hints, and no more.
 #[tactic(auto, unfolding(crate::specs::Reading::clause_at))]
 fn clause_at(alloc: Global, parts: &mut Parts) -> Result<(Items<Lit>, Items<u64>), CertError>
@@ -22,10 +33,7 @@ fn clause_at(alloc: Global, parts: &mut Parts) -> Result<(Items<Lit>, Items<u64>
 {
     let lits = list_at::<Lit>(alloc, parts)?;
     let hints = list_at::<u64>(alloc, parts)?;
-    if has_more(parts) {
-        return Err(CertError::BadLine);
-    }
-    if !ascends(lits.as_slice()) {
+    if has_more(parts) | !ascends(lits.as_slice()) {
         return Err(CertError::BadLine);
     }
     Ok((lits, hints))
@@ -37,10 +45,7 @@ fn learn_at(alloc: Global, parts: &mut Parts) -> Result<CertStep, CertError>
     ensures { Parses (λ step. step) result (learn_at parts.old) }
 {
     let (lits, hints) = clause_at(alloc, parts)?;
-    if lits.is_empty() {
-        return Err(CertError::BadLine);
-    }
-    Ok(CertStep::Learn { lits, hints })
+    if_good(!lits.is_empty(), CertStep::Learn { lits, hints })
 }
 
 /// The rest of a Core step.
@@ -49,10 +54,7 @@ fn core_at(alloc: Global, parts: &mut Parts) -> Result<CertStep, CertError>
     ensures { Parses (λ step. step) result (core_at parts.old) }
 {
     let (lits, hints) = clause_at(alloc, parts)?;
-    if lits.is_empty() {
-        return Err(CertError::BadLine);
-    }
-    Ok(CertStep::Core { lits, hints })
+    if_good(!lits.is_empty(), CertStep::Core { lits, hints })
 }
 
 /// The rest of a Delete step.
@@ -61,16 +63,8 @@ fn delete_at(alloc: Global, parts: &mut Parts) -> Result<CertStep, CertError>
     ensures { Parses (λ step. step) result (delete_at parts.old) }
 {
     let clauses = list_at::<u64>(alloc, parts)?;
-    if has_more(parts) {
-        return Err(CertError::BadLine);
-    }
-    if clauses.is_empty() {
-        return Err(CertError::BadLine);
-    }
-    if !ascends(clauses.as_slice()) {
-        return Err(CertError::BadLine);
-    }
-    Ok(CertStep::Delete { clauses })
+    let good = !has_more(parts) & !clauses.is_empty() & ascends(clauses.as_slice());
+    if_good(good, CertStep::Delete { clauses })
 }
 
 /// The rest of a Block step.
@@ -80,13 +74,8 @@ fn block_at(alloc: Global, parts: &mut Parts) -> Result<CertStep, CertError>
 {
     let groups = list_at::<u32>(alloc, parts)?;
     let run = run_at(alloc, parts)?;
-    if groups.is_empty() {
-        return Err(CertError::BadLine);
-    }
-    if !ascends(groups.as_slice()) {
-        return Err(CertError::BadLine);
-    }
-    Ok(CertStep::Block { groups, run })
+    let good = !groups.is_empty() & ascends(groups.as_slice());
+    if_good(good, CertStep::Block { groups, run })
 }
 
 /// The rest of an EndLocated step.
@@ -104,10 +93,7 @@ fn no_repair_at(alloc: Global, parts: &mut Parts) -> Result<CertStep, CertError>
     ensures { Parses (λ step. step) result (no_repair_at parts.old) }
 {
     let hints = list_at::<u64>(alloc, parts)?;
-    if has_more(parts) {
-        return Err(CertError::BadLine);
-    }
-    Ok(CertStep::EndNoRepair { hints })
+    if_good(!has_more(parts), CertStep::EndNoRepair { hints })
 }
 
 /// A step that ends with its letters.
@@ -115,10 +101,7 @@ fn no_repair_at(alloc: Global, parts: &mut Parts) -> Result<CertStep, CertError>
 fn alone(step: CertStep, parts: &mut Parts) -> Result<CertStep, CertError>
     ensures { Parses (λ step. step) result (alone step parts.old) }
 {
-    if has_more(parts) {
-        return Err(CertError::BadLine);
-    }
-    Ok(step)
+    if_good(!has_more(parts), step)
 }
 
 /// The rest of a step that ends a derivation, after its second letter.

@@ -10,11 +10,17 @@ use ba_steps::CertStep;
 use ba_text::push_choices;
 use std::alloc::{AllocError, Global};
 
-/// Adds literals and hints, each part after a space.
-fn push_clause(lits: &[Lit], hints: &[u64], text: &mut Vec<u8>) -> Result<(), AllocError>
+/// Adds letters, and then literals and hints, each part after a space.
+fn push_clause(
+    letters: &[u8],
+    lits: &[Lit],
+    hints: &[u64],
+    text: &mut Vec<u8>,
+) -> Result<(), AllocError>
     ensures { OnOk result (text.new.items
-        ≡ text.old.items ++ spaced (clause_parts lits.now hints.now)) }
+        ≡ text.old.items ++ (letters.now ++ spaced (clause_parts lits.now hints.now))) }
 {
+    text.extend_from_slice(letters)?;
     push_list(lits, text)?;
     push_list(hints, text)
 }
@@ -25,12 +31,10 @@ fn push_line(step: &CertStep, text: &mut Vec<u8>) -> Result<(), AllocError>
 {
     match step {
         CertStep::Learn { lits, hints } => {
-            text.extend_from_slice(b"l")?;
-            push_clause(lits.as_slice(), hints.as_slice(), text)
+            push_clause(b"l", lits.as_slice(), hints.as_slice(), text)
         }
         CertStep::Core { lits, hints } => {
-            text.extend_from_slice(b"c")?;
-            push_clause(lits.as_slice(), hints.as_slice(), text)
+            push_clause(b"c", lits.as_slice(), hints.as_slice(), text)
         }
         CertStep::Delete { clauses } => {
             text.extend_from_slice(b"d")?;
@@ -42,8 +46,7 @@ fn push_line(step: &CertStep, text: &mut Vec<u8>) -> Result<(), AllocError>
             push_choices(run.as_slice(), text)
         }
         CertStep::EndLocated { lits, hints } => {
-            text.extend_from_slice(b"e l")?;
-            push_clause(lits.as_slice(), hints.as_slice(), text)
+            push_clause(b"e l", lits.as_slice(), hints.as_slice(), text)
         }
         CertStep::EndNoRepair { hints } => {
             text.extend_from_slice(b"e n")?;

@@ -4,7 +4,7 @@ use ba_tree::run::Bounds;
 
 /// The bounds of runs, how many conflicts the steps of a certificate may hold, and how many least sets
 /// may be listed. What the statements weigh is in the encoding.
-#[derive(Clone, Copy, Debug)]
+#[derive(Clone, Copy)]
 pub struct Settings {
     pub bounds: Bounds,
     pub conflicts: u64,

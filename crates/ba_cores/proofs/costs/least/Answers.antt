@@ -1,4 +1,5 @@
-use Rattle.std.proofs.Common.{rules, refl, ap, ◌∙◌}
+use Rattle.std.proofs.Common.{rules, refl, sym, ap, subst, ◌∙◌}
+use Rattle.ba_search.specs.Rules.{IsRestartRule, IsKeepRule}
 use Rattle.ba_checker.proofs.PutLaws.{lasts_same, lasts_then}
 use Rattle.ba_cores.proofs.DerivesLaws.{puts_none, puts_on, puts_as, puts_ready, found_later, found_as, leaves_none, leaves_on}
 use Rattle.ba_cores.proofs.costs.least.Goals as goal
@@ -116,3 +117,20 @@ returns-in-Some-clause-leaves g c =
     (g.S.StepSink.logs old.sink) (g.S.StepSink.logs mid.sink) (g.S.StepSink.logs new.sink)
     (ap g.J.RunJudge.accepts c.rounds.invariant.lasts.judge_stays) c.rounds.invariant.puts
     c.round.ensures.leaves
+
+pub round-requires-clause-restart : goal.round-requires-clause-restart
+round-requires-clause-restart g c = subst (λ r. IsRestartRule (λ x. g.R.Fn.pre r (x, tt)) (λ x y. g.R.Fn.post r (x, tt) y))
+    (sym (c.rounds.invariant.restart ∙ c.take_new.ensures.restart_stays)) c.requires.restart
+
+pub round-requires-clause-keep : goal.round-requires-clause-keep
+round-requires-clause-keep g c = subst (λ k. IsKeepRule (λ x y. g.K.Fn.pre k (x, (y, tt))) (λ x y a. g.K.Fn.post k (x, (y, tt)) a))
+    (sym (c.rounds.invariant.keep ∙ c.take_new.ensures.keep_stays)) c.requires.keep
+
+pub round-requires-clause-goes_on : goal.round-requires-clause-goes_on
+round-requires-clause-goes_on g c = c.rounds.invariant.goes_on
+
+pub round-requires-clause-ready : goal.round-requires-clause-ready
+round-requires-clause-ready g c = c.rounds.invariant.ready
+
+pub returns-in-Some-clause-goes_on : goal.returns-in-Some-clause-goes_on
+returns-in-Some-clause-goes_on g c = c.in_ok-found.ensures.goes_on

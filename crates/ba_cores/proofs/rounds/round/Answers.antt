@@ -3,6 +3,7 @@ use Rattle.std.proofs.lemmas.Result.{IfOk-weaker, on_ok_weaker}
 use Rattle.ba_lits.specs.Literals.{Literal}
 use Rattle.ba_checker.specs.States.{State}
 use Rattle.ba_search.specs.Answers.{IsAnswer}
+use Rattle.ba_search.specs.Rules.{IsRestartRule, IsKeepRule}
 use Rattle.ba_cores.specs.Rounds.{literals_of, heavy}
 use Rattle.ba_cores.proofs.DerivesLaws.{puts_on, puts_searched, puts_ready, puts_softs, puts_as, round_as, leaves_none, leaves_searches, leaves_on}
 use Rattle.ba_cores.proofs.HeavyLaws.{heavy_assumed}
@@ -90,3 +91,29 @@ returns-clause-leaves g c =
     leaves_on good (g.J.RunJudge.accepts mid.judge) old.checker mid.checker new.checker
     (g.S.StepSink.logs old.sink) (g.S.StepSink.logs mid.sink) (g.S.StepSink.logs new.sink)
     (ap g.J.RunJudge.accepts c.in_ok-answer.ensures.ran.lasts.judge_stays) puts c.take_answer.ensures.leaves
+
+pub solve-requires-clause-same : goal.solve-requires-clause-same
+solve-requires-clause-same g c = λ working. c.requires.goes_on.same
+
+pub solve-requires-clause-begun : goal.solve-requires-clause-begun
+solve-requires-clause-begun g c = λ working. c.requires.ready.begun
+
+pub solve-requires-clause-awake : goal.solve-requires-clause-awake
+solve-requires-clause-awake g c = λ working. c.requires.ready.awake
+
+pub solve-requires-clause-fresh : goal.solve-requires-clause-fresh
+solve-requires-clause-fresh g c = λ working. c.requires.goes_on.fresh
+
+pub take_answer-requires-clause-restart : goal.take_answer-requires-clause-restart
+take_answer-requires-clause-restart g c = subst (λ r. IsRestartRule (λ x. g.R.Fn.pre r (x, tt)) (λ x y. g.R.Fn.post r (x, tt) y))
+    (sym c.solve.ensures.ran.restart_stays) c.requires.restart
+
+pub take_answer-requires-clause-keep : goal.take_answer-requires-clause-keep
+take_answer-requires-clause-keep g c = subst (λ k. IsKeepRule (λ x y. g.K.Fn.pre k (x, (y, tt))) (λ x y a. g.K.Fn.post k (x, (y, tt)) a))
+    (sym c.solve.ensures.ran.keep_stays) c.requires.keep
+
+pub take_answer-requires-clause-goes_on : goal.take_answer-requires-clause-goes_on
+take_answer-requires-clause-goes_on g c = c.in_ok-answer.ensures.goes_on
+
+pub returns-clause-goes_on : goal.returns-clause-goes_on
+returns-clause-goes_on g c = c.take_answer.ensures.goes_on
