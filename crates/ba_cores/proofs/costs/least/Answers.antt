@@ -119,11 +119,13 @@ returns-in-Some-clause-leaves g c =
     c.round.ensures.leaves
 
 pub round-requires-clause-restart : goal.round-requires-clause-restart
-round-requires-clause-restart g c = subst (λ r. IsRestartRule (λ x. g.R.Fn.pre r (x, tt)) (λ x y. g.R.Fn.post r (x, tt) y))
+round-requires-clause-restart g c =
+    subst (λ r. IsRestartRule (λ x. g.R.Fn.pre r (x, tt)) (λ x y. g.R.Fn.post r (x, tt) y))
     (sym (c.rounds.invariant.restart ∙ c.take_new.ensures.restart_stays)) c.requires.restart
 
 pub round-requires-clause-keep : goal.round-requires-clause-keep
-round-requires-clause-keep g c = subst (λ k. IsKeepRule (λ x y. g.K.Fn.pre k (x, (y, tt))) (λ x y a. g.K.Fn.post k (x, (y, tt)) a))
+round-requires-clause-keep g c =
+    subst (λ k. IsKeepRule (λ x y. g.K.Fn.pre k (x, (y, tt))) (λ x y a. g.K.Fn.post k (x, (y, tt)) a))
     (sym (c.rounds.invariant.keep ∙ c.take_new.ensures.keep_stays)) c.requires.keep
 
 pub round-requires-clause-goes_on : goal.round-requires-clause-goes_on

@@ -105,11 +105,13 @@ pub solve-requires-clause-fresh : goal.solve-requires-clause-fresh
 solve-requires-clause-fresh g c = λ working. c.requires.goes_on.fresh
 
 pub take_answer-requires-clause-restart : goal.take_answer-requires-clause-restart
-take_answer-requires-clause-restart g c = subst (λ r. IsRestartRule (λ x. g.R.Fn.pre r (x, tt)) (λ x y. g.R.Fn.post r (x, tt) y))
+take_answer-requires-clause-restart g c =
+    subst (λ r. IsRestartRule (λ x. g.R.Fn.pre r (x, tt)) (λ x y. g.R.Fn.post r (x, tt) y))
     (sym c.solve.ensures.ran.restart_stays) c.requires.restart
 
 pub take_answer-requires-clause-keep : goal.take_answer-requires-clause-keep
-take_answer-requires-clause-keep g c = subst (λ k. IsKeepRule (λ x y. g.K.Fn.pre k (x, (y, tt))) (λ x y a. g.K.Fn.post k (x, (y, tt)) a))
+take_answer-requires-clause-keep g c =
+    subst (λ k. IsKeepRule (λ x y. g.K.Fn.pre k (x, (y, tt))) (λ x y a. g.K.Fn.post k (x, (y, tt)) a))
     (sym c.solve.ensures.ran.keep_stays) c.requires.keep
 
 pub take_answer-requires-clause-goes_on : goal.take_answer-requires-clause-goes_on

@@ -198,7 +198,8 @@ pub least-requires-clause-awake : goal.least-requires-clause-awake
 least-requires-clause-awake g c = λ working. ap (λ (s : State). s.refused) (c.requires.fresh working).starts
 
 pub least-requires-clause-none_blocked : goal.least-requires-clause-none_blocked
-least-requires-clause-none_blocked g c = λ working. ap (λ (s : State). s.sets) (c.requires.fresh working).starts
+least-requires-clause-none_blocked g c = λ working.
+    ap (λ (s : State). s.sets) (c.requires.fresh working).starts
 
 pub least-requires-clause-fresh : goal.least-requires-clause-fresh
 least-requires-clause-fresh g c = λ working. (c.requires.fresh working).accepted
@@ -211,11 +212,13 @@ enumerate-requires-clause-ready g c =
     record { begun = c.in_ok-hints.ensures.stays_begun; awake = c.in_ok-hints.ensures.awake }
 
 pub enumerate-requires-clause-restart : goal.enumerate-requires-clause-restart
-enumerate-requires-clause-restart g c = subst (λ r. IsRestartRule (λ x. g.R.Fn.pre r (x, tt)) (λ x a. g.R.Fn.post r (x, tt) a))
+enumerate-requires-clause-restart g c =
+    subst (λ r. IsRestartRule (λ x. g.R.Fn.pre r (x, tt)) (λ x a. g.R.Fn.post r (x, tt) a))
     (sym c.least.ensures.ran.restart_stays) c.requires.restart
 
 pub enumerate-requires-clause-keep : goal.enumerate-requires-clause-keep
-enumerate-requires-clause-keep g c = subst (λ k. IsKeepRule (λ x y. g.K.Fn.pre k (x, (y, tt))) (λ x y a. g.K.Fn.post k (x, (y, tt)) a))
+enumerate-requires-clause-keep g c =
+    subst (λ k. IsKeepRule (λ x y. g.K.Fn.pre k (x, (y, tt))) (λ x y a. g.K.Fn.post k (x, (y, tt)) a))
     (sym c.least.ensures.ran.keep_stays) c.requires.keep
 
 pub enumerate-requires-clause-readable : goal.enumerate-requires-clause-readable

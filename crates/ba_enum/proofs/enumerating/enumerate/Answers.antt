@@ -134,11 +134,13 @@ returns-in-End-clause-leaves g c =
     c.finish.ensures.leaves
 
 pub turn-requires-clause-restart : goal.turn-requires-clause-restart
-turn-requires-clause-restart g c = subst (λ r. IsRestartRule (λ x. g.R.Fn.pre r (x, tt)) (λ x a. g.R.Fn.post r (x, tt) a))
+turn-requires-clause-restart g c =
+    subst (λ r. IsRestartRule (λ x. g.R.Fn.pre r (x, tt)) (λ x a. g.R.Fn.post r (x, tt) a))
     (sym c.turns.invariant.restart) c.requires.restart
 
 pub turn-requires-clause-keep : goal.turn-requires-clause-keep
-turn-requires-clause-keep g c = subst (λ k. IsKeepRule (λ x y. g.K.Fn.pre k (x, (y, tt))) (λ x y a. g.K.Fn.post k (x, (y, tt)) a))
+turn-requires-clause-keep g c =
+    subst (λ k. IsKeepRule (λ x y. g.K.Fn.pre k (x, (y, tt))) (λ x y a. g.K.Fn.post k (x, (y, tt)) a))
     (sym c.turns.invariant.keep) c.requires.keep
 
 pub turn-requires-clause-goes_on : goal.turn-requires-clause-goes_on

@@ -109,10 +109,12 @@ pub solve-requires-clause-same : goal.solve-requires-clause-same
 solve-requires-clause-same g c = λ working. c.in_ok-take_new.ensures.same
 
 pub solve-requires-clause-begun : goal.solve-requires-clause-begun
-solve-requires-clause-begun g c = λ working. (blocks_ready c.in_ok-block.ensures.blocks c.requires.ready).begun
+solve-requires-clause-begun g c = λ working.
+    (blocks_ready c.in_ok-block.ensures.blocks c.requires.ready).begun
 
 pub solve-requires-clause-awake : goal.solve-requires-clause-awake
-solve-requires-clause-awake g c = λ working. (blocks_ready c.in_ok-block.ensures.blocks c.requires.ready).awake
+solve-requires-clause-awake g c = λ working.
+    (blocks_ready c.in_ok-block.ensures.blocks c.requires.ready).awake
 
 pub solve-requires-clause-fresh : goal.solve-requires-clause-fresh
 solve-requires-clause-fresh g c = λ working. c.in_ok-block.ensures.ran.fresh
@@ -154,7 +156,8 @@ pub returns-clause-goes_on : goal.returns-clause-goes_on
 returns-clause-goes_on g c = c.in_ok-answer.ensures.goes_on
 
 pub returns-clause-ready : goal.returns-clause-ready
-returns-clause-ready g c = record { begun = c.in_ok-answer.ensures.stays_begun; awake = c.in_ok-answer.ensures.awake }
+returns-clause-ready g c =
+    record { begun = c.in_ok-answer.ensures.stays_begun; awake = c.in_ok-answer.ensures.awake }
 
 pub returns-clause-ran : goal.returns-clause-ran
 returns-clause-ran g c = record {
@@ -172,9 +175,11 @@ pub returns-in_err-take_new-clause-leaves : goal.returns-in_err-take_new-clause-
 returns-in_err-take_new-clause-leaves g c = c.block.ensures.leaves
 
 pub solve-requires-clause-restart : goal.solve-requires-clause-restart
-solve-requires-clause-restart g c = subst (λ r. IsRestartRule (λ x. g.R.Fn.pre r (x, tt)) (λ x a. g.R.Fn.post r (x, tt) a))
+solve-requires-clause-restart g c =
+    subst (λ r. IsRestartRule (λ x. g.R.Fn.pre r (x, tt)) (λ x a. g.R.Fn.post r (x, tt) a))
     (sym c.take_new.ensures.restart_stays) c.requires.restart
 
 pub solve-requires-clause-keep : goal.solve-requires-clause-keep
-solve-requires-clause-keep g c = subst (λ k. IsKeepRule (λ x y. g.K.Fn.pre k (x, (y, tt))) (λ x y a. g.K.Fn.post k (x, (y, tt)) a))
+solve-requires-clause-keep g c =
+    subst (λ k. IsKeepRule (λ x y. g.K.Fn.pre k (x, (y, tt))) (λ x y a. g.K.Fn.post k (x, (y, tt)) a))
     (sym c.take_new.ensures.keep_stays) c.requires.keep

@@ -138,11 +138,13 @@ pub all_sets_into-answer-requires-clause-working : goal.all_sets_into-answer-req
 all_sets_into-answer-requires-clause-working g c = c.in_ok-search.ensures.fresh
 
 pub all_sets_into-answer-requires-clause-restart : goal.all_sets_into-answer-requires-clause-restart
-all_sets_into-answer-requires-clause-restart g c = subst (λ r. IsRestartRule (λ x. g.R.Fn.pre r (x, tt)) (λ x a. g.R.Fn.post r (x, tt) a))
+all_sets_into-answer-requires-clause-restart g c =
+    subst (λ r. IsRestartRule (λ x. g.R.Fn.pre r (x, tt)) (λ x a. g.R.Fn.post r (x, tt) a))
     (sym c.in_ok-search.ensures.restart) c.requires.restart
 
 pub all_sets_into-answer-requires-clause-keep : goal.all_sets_into-answer-requires-clause-keep
-all_sets_into-answer-requires-clause-keep g c = subst (λ k. IsKeepRule (λ x y. g.K.Fn.pre k (x, (y, tt))) (λ x y a. g.K.Fn.post k (x, (y, tt)) a))
+all_sets_into-answer-requires-clause-keep g c =
+    subst (λ k. IsKeepRule (λ x y. g.K.Fn.pre k (x, (y, tt))) (λ x y a. g.K.Fn.post k (x, (y, tt)) a))
     (sym c.in_ok-search.ensures.keep) c.requires.keep
 
 pub all_sets_into-answer-requires-clause-starts : goal.all_sets_into-answer-requires-clause-starts
