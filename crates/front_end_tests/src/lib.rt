@@ -1,5 +1,5 @@
-//! What no clause of the front end says: texts with their tokens or their first error; texts that the parser accepts or refuses;
-//! programs that typing accepts, with the trees that they have, and those that it refuses, with the fault and its place.
+//! What no clause of the front end says: texts with their tokens or their first error; texts that the parser accepts or refuses; and
+//! programs that typing accepts or refuses, with the fault and its place. What types expressions have is shown by a run of `trials`.
 #![tactic(auto)]
 
 #[cfg(test)]
@@ -16,7 +16,3 @@ mod parsing;
 mod support;
 #[cfg(test)]
 mod tokens;
-#[cfg(test)]
-mod trees;
-#[cfg(test)]
-mod words;

@@ -1,5 +1,6 @@
 //! That the laws can be called.
 
+use ba_code_laws::places_change_no_run;
 use ba_laws::{
     keep_choices_can_be_left_out, more_statements_stay_feasible, plain_runs_make_no_choices,
 };
@@ -9,4 +10,5 @@ fn laws_of_runs_return(_rt: HostRuntime) {
     more_statements_stay_feasible();
     keep_choices_can_be_left_out();
     plain_runs_make_no_choices();
+    places_change_no_run();
 }

@@ -1,10 +1,7 @@
 //! Tests by examples: C programs with the outcomes and the units that were worked out by hand, texts of inputs, and what runs stand on;
-//! the nodes that stand for programs, without calls and then without loops; and lists of words, read by a plain evaluator, beside the
-//! runs of programs.
+//! the nodes that stand for programs, without calls and then without loops; and the places and entries of the lists of words of runs.
 #![tactic(auto)]
 
-#[cfg(test)]
-mod assignments;
 #[cfg(test)]
 mod guarded;
 #[cfg(test)]
@@ -15,8 +12,6 @@ mod laws;
 mod lists;
 #[cfg(test)]
 mod loops;
-#[cfg(test)]
-mod machine;
 #[cfg(test)]
 mod numbers;
 #[cfg(test)]
@@ -29,9 +24,3 @@ mod shapes;
 mod shown;
 #[cfg(test)]
 mod units;
-#[cfg(test)]
-mod word_laws;
-#[cfg(test)]
-mod word_lists;
-#[cfg(test)]
-mod word_values;

@@ -25,15 +25,10 @@ fn has(list: &Items<u32>, items: &[u32]) -> bool {
 }
 
 #[test]
-fn a_list_keeps_its_items_in_order(rt: HostRuntime) {
+fn a_list_and_its_copy_have_their_items_in_order(rt: HostRuntime) {
     let list = list(&rt, rt.alloc());
     assert!(rt; has(&list, &[7, 3]));
-}
-
-#[test]
-fn a_copy_of_a_list_has_its_items(rt: HostRuntime) {
-    let copy = copy(&rt, rt.alloc(), &list(&rt, rt.alloc()));
-    assert!(rt; has(&copy, &[7, 3]));
+    assert!(rt; has(&copy(&rt, rt.alloc(), &list), &[7, 3]));
 }
 
 /// Whether a vector of 7 that is filled up to a length with 5 has these items.

@@ -23,3 +23,30 @@ pub fn input_of(rt: &impl Abort, alloc: Global, program: &Program, text: &str) -
 pub fn choices_of(rt: &impl Abort, alloc: Global, words: &str) -> Vec<Choice> {
     test_programs::choices_of(alloc, words).expect(rt, "choices")
 }
+
+/// Five lines: a variable that gets the input, and an assert.
+pub const FIVE_LINES: &str = "int main(int a) {
+    int x;
+    x = a;
+    assert(x == 2);
+}
+";
+
+/// The same with a `short`, which is compared with the input.
+pub const SHORT: &str = "int main(int a) {
+    short s;
+    s = a;
+    assert(s == a);
+}
+";
+
+/// A sum and an element, each of which two asserts compute.
+pub const TWICE: &str = "int main(int x) {
+    int y, a[2];
+    y = x;
+    a[x] = 5;
+    assert(y + 1 == 2);
+    assert(y + 1 < a[1]);
+    assert(a[1] == 5);
+}
+";
