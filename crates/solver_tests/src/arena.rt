@@ -1,6 +1,6 @@
 //! Tests of the arena of clauses.
 
-use ba_arena::Arena;
+use ba_arena::{Arena, ClauseRef};
 use std::alloc::Global;
 use std::panic::Expect;
 use std::process::Abort;
@@ -17,50 +17,57 @@ fn numbers(rt: &impl Abort, alloc: Global, arena: &Arena) -> Vec<u64> {
     numbers
 }
 
+/// Adds two clauses, and asserts that they keep their numbers, literals and links.
+fn assert_kept(rt: &impl Abort, arena: &mut Arena) {
+    let first = arena
+        .add([lit(1), lit(2)].as_slice(), 7)
+        .expect(rt, "memory");
+    let second = arena.add([lit(-2)].as_slice(), 9).expect(rt, "memory");
+    assert!(rt; arena.number(first) == 7 && arena.number(second) == 9);
+    arena.set_link(first, 1, Some(second));
+    assert!(rt; arena.link(first, 0).is_none() && arena.link(first, 1) == Some(second));
+    arena.swap(first, 0, 1);
+    assert!(rt; arena.lit(first, 0) == lit(2) && arena.lit(second, 0) == lit(-2));
+}
+
 #[test]
 fn clauses_keep_their_literals_and_links(rt: HostRuntime) {
     let mut arena = Arena::new(rt.alloc());
-    let first = arena
+    assert_kept(&rt, &mut arena);
+}
+
+/// Adds three clauses, of which the second is dead; where it stood is answered.
+fn add_three(rt: &impl Abort, arena: &mut Arena) -> ClauseRef {
+    let _ = arena
         .add([lit(1), lit(2)].as_slice(), 7)
-        .expect(&rt, "memory");
-    let second = arena.add([lit(-2)].as_slice(), 9).expect(&rt, "memory");
-    assert_eq!(rt; (arena.number(first), arena.number(second)), (7, 9));
-    arena.set_link(first, 1, Some(second));
-    assert_eq!(rt;
-        (arena.link(first, 0), arena.link(first, 1)),
-        (None, Some(second))
-    );
-    arena.swap(first, 0, 1);
-    assert_eq!(rt;
-        (arena.lit(first, 0), arena.lit(second, 0)),
-        (lit(2), lit(-2))
-    );
+        .expect(rt, "memory");
+    let second = arena.add([lit(-2)].as_slice(), 9).expect(rt, "memory");
+    arena.mark_dead(second);
+    let third = arena
+        .add([lit(-1), lit(2), lit(3)].as_slice(), 11)
+        .expect(rt, "memory");
+    arena.swap(third, 0, 2);
+    second
+}
+
+/// Asserts that the live clauses have the numbers 7 and 11.
+fn assert_live(rt: &impl Abort, alloc: Global, arena: &Arena) {
+    let numbers = numbers(rt, alloc, arena);
+    assert!(rt; numbers.as_slice() == [7, 11].as_slice());
+}
+
+/// The clause behind the first one.
+fn after_first(arena: &Arena) -> Option<ClauseRef> {
+    arena.after(arena.first()?)
 }
 
 #[test]
 fn live_clauses_keep_their_order_in_compaction(rt: HostRuntime) {
     let mut arena = Arena::new(rt.alloc());
-    let _ = arena
-        .add([lit(1), lit(2)].as_slice(), 7)
-        .expect(&rt, "memory");
-    let second = arena.add([lit(-2)].as_slice(), 9).expect(&rt, "memory");
-    arena.mark_dead(second);
-    let third = arena
-        .add([lit(-1), lit(2), lit(3)].as_slice(), 11)
-        .expect(&rt, "memory");
-    arena.swap(third, 0, 2);
+    let second = add_three(&rt, &mut arena);
     arena.plan();
-    assert_eq!(rt;
-        numbers(&rt, rt.alloc(), &arena).as_slice(),
-        [7, 11].as_slice()
-    );
+    assert_live(&rt, rt.alloc(), &arena);
     arena.compact();
-    assert_eq!(rt;
-        numbers(&rt, rt.alloc(), &arena).as_slice(),
-        [7, 11].as_slice()
-    );
-    let Some(first) = arena.first() else {
-        panic!(rt; "no clause is first");
-    };
-    assert_eq!(rt; arena.after(first), Some(second));
+    assert_live(&rt, rt.alloc(), &arena);
+    assert!(rt; after_first(&arena) == Some(second));
 }

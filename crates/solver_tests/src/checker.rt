@@ -596,13 +596,18 @@ static LATE: [Row; 7] = [
     (Kind::Learn, &[-1, 3, 61], &[1, 2], 10),
 ];
 
+/// Asserts that a learnt clause can be deleted once there are a thousand, and not before.
+fn assert_deleted(rt: &impl Abort, alloc: Global, checker: &mut Checker) {
+    assert_eq!(rt; learn_along(rt, alloc, checker, 0, 999), 999);
+    assert_eq!(rt; put_all(rt, alloc, checker, &EARLY), None);
+    assert_eq!(rt; learn_along(rt, alloc, checker, 999, 1000), 1);
+    assert_eq!(rt; put_all(rt, alloc, checker, &LATE), None);
+    assert!(rt; checker.clause(60).is_none() && checker.learnt() == 1 && checker.is_learnt(1060));
+}
+
 #[test]
 fn a_learnt_clause_is_deleted_after_a_thousand(rt: HostRuntime) {
     let alloc = rt.alloc();
     let mut checker = start(&rt, alloc, &row(&rt, alloc), &[], 2000);
-    assert_eq!(rt; learn_along(&rt, alloc, &mut checker, 0, 999), 999);
-    assert_eq!(rt; put_all(&rt, alloc, &mut checker, &EARLY), None);
-    assert_eq!(rt; learn_along(&rt, alloc, &mut checker, 999, 1000), 1);
-    assert_eq!(rt; put_all(&rt, alloc, &mut checker, &LATE), None);
-    assert!(rt; checker.clause(60).is_none() && checker.learnt() == 1 && checker.is_learnt(1060));
+    assert_deleted(&rt, alloc, &mut checker);
 }
