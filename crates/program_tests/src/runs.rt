@@ -33,11 +33,26 @@ fn outcome(rt: &impl Abort, alloc: Global, example: &Example) -> Outcome {
     .expect(rt, "memory")
 }
 
+/// Whether a run ends as it was worked out.
+fn ends(rt: &impl Abort, alloc: Global, example: &Example) -> bool {
+    let (_, _, _, _, _, _, expected) = *example;
+    outcome(rt, alloc, example) == expected
+}
+
+/// The first example that ends otherwise, if there is one.
+fn first_difference(rt: &impl Abort, alloc: Global, examples: &[Example]) -> Option<usize> {
+    for i in 0..examples.len() {
+        if !ends(rt, alloc, &examples[i]) {
+            return Some(i);
+        }
+    }
+    None
+}
+
 #[test]
 fn examples_end_as_worked_out(rt: HostRuntime) {
-    for example in &EXAMPLES {
-        assert!(rt; outcome(&rt, rt.alloc(), example) == example.6);
-    }
+    let difference = first_difference(&rt, rt.alloc(), EXAMPLES.as_slice());
+    assert_eq!(rt; difference, None);
 }
 
 /// A function that returns from inside a branch.
