@@ -25,7 +25,6 @@ use ba_watch::Watch;
 use std::alloc::{AllocError, Global};
 
 /// The clauses with their trail, and what guides a search.
-#[derive(Drop)]
 pub struct Engine {
     pub alloc: Global,
     pub watch: Watch,
@@ -46,6 +45,27 @@ pub struct Engine {
     pub assumption_level: usize,
     /// How many literals were assigned by propagation.
     pub propagated: u64,
+}
+
+impl Drop for Engine {
+    fn drop(self) {
+        let Engine {
+            alloc: _,
+            watch: _,
+            numbers: _,
+            analyser: _,
+            order: _,
+            candidates: _,
+            reduction: _,
+            sweep: _,
+            restarts: _,
+            since: _,
+            backtracks_left: _,
+            first_branch: _,
+            assumption_level: _,
+            propagated: _,
+        } = self;
+    }
 }
 
 impl Engine {
