@@ -67,7 +67,7 @@ core_formed s assumptions lits hints back core few some =
     ((IsClause-more s.variables (2 ^ 62 - 1) lits (omega (arith, few)) core.clause, some), core.numbers)
 
 -- THE STEP IS ALLOWED
-none_of : (p : Literal → Bool) (xs : List Literal) → ((k : ℕ) → k < length xs → p (lit_at xs k) ≡ false) →
+pub none_of : (p : Literal → Bool) (xs : List Literal) → ((k : ℕ) → k < length xs → p (lit_at xs k) ≡ false) →
     list_any p xs ≡ false
 none_of p [] each = refl
 none_of p (x ∷ xs) each =

@@ -20,14 +20,14 @@ use Rattle.ba_cores.specs.declared.costs.Found.TheVariants.{NoModel}
 use Rattle.ba_cores.specs.Rounds.{literals_of}
 
 -- clauses hold where each does
-all_of_each : (v : Assignment) (cs : List (List Literal)) →
+pub all_of_each : (v : Assignment) (cs : List (List Literal)) →
     ((k : ℕ) → k < length cs → any_true v (get_or cs k []) ≡ true) → all_true v cs ≡ true
 all_of_each v [] each = refl
 all_of_each v (c ∷ cs) each =
     and_from (any_true v c) (all_true v cs) (each 0 (omega arith))
     (all_of_each v cs (λ k lt. each (suc k) (omega (arith, lt))))
 
-all_of_live : (v : Assignment) (kept : List Kept) →
+pub all_of_live : (v : Assignment) (kept : List Kept) →
     ((number : ℕ) (c : List Literal) → clause_at kept number ≡ Some c → any_true v c ≡ true) →
     (cs : List (List Literal)) → All (IsLive kept) cs → all_true v cs ≡ true
 all_of_live v kept holds [] all = refl
@@ -37,7 +37,7 @@ all_of_live v kept holds (c ∷ cs) all =
     (all_of_live v kept holds cs (All-tail (IsLive kept) c cs all))
 
 -- soft literals that are all true cost nothing
-cost_of_true : (v : Assignment) (softs : List Soft) → All (λ l. lit_true v l ≡ true) (literals_of softs) →
+pub cost_of_true : (v : Assignment) (softs : List Soft) → All (λ l. lit_true v l ≡ true) (literals_of softs) →
     cost v softs ≡ 0
 cost_of_true v [] all = refl
 cost_of_true v (s ∷ ss) all =

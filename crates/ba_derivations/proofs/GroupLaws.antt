@@ -14,18 +14,18 @@ use Rattle.ba_tree.specs.Least.{WeightList, AreRelaxableAbove, weight_of}
 use Rattle.ba_derivations.specs.Encodings.{is_false_group, with_if, false_groups_from, false_groups, weight_if}
 
 -- the entries from a place on
-abbrev AreFrom : List Soft → ℕ → List Soft → Type 0
+abbrev pub AreFrom : List Soft → ℕ → List Soft → Type 0
 AreFrom softs k ss = (j : ℕ) → slice_get softs (k + j) ≡ slice_get ss j
 
-from_start : (softs : List Soft) → AreFrom softs 0 softs
+pub from_start : (softs : List Soft) → AreFrom softs 0 softs
 from_start softs j = let same : 0 + j ≡ j = omega arith in ap (slice_get softs) same
 
-from_next : (softs : List Soft) (k : ℕ) (s : Soft) (ss : List Soft) → AreFrom softs k (s ∷ ss) →
+pub from_next : (softs : List Soft) (k : ℕ) (s : Soft) (ss : List Soft) → AreFrom softs k (s ∷ ss) →
     AreFrom softs (suc k) ss
 from_next softs k s ss from j =
     let same : suc k + j ≡ k + suc j = omega arith in ap (slice_get softs) same ∙ from (suc j)
 
-entry_here : (softs : List Soft) (k : ℕ) (s : Soft) (ss : List Soft) → AreFrom softs k (s ∷ ss) →
+pub entry_here : (softs : List Soft) (k : ℕ) (s : Soft) (ss : List Soft) → AreFrom softs k (s ∷ ss) →
     entry_of softs (suc k) ≡ Some s
 entry_here softs k s ss from = let same : k ≡ k + 0 = omega arith in ap (slice_get softs) same ∙ from 0
 

@@ -1,13 +1,13 @@
 -- Each End step is allowed where the search ends, and says what was found.
 
 use Rattle.std.proofs.Common.{◌≡◌, ℕ, suc, ◌+◌, ◌-◌, ◌^◌, ◌<◌, ◌==◌, Bool, true, false, not, ltb, eqb, None, List, [], ◌∷◌, length, refl, sym, ap, ◌∙◌, arith}
-use Rattle.std.proofs.lemmas.Bool.{or_from, le-ltb}
+use Rattle.std.proofs.lemmas.Bool.{le-ltb}
 use Rattle.std.proofs.lemmas.Bool.Decides.{nat_tests}
-use Rattle.std.specs.List.{list_any}
 use Rattle.ba_derivations.specs.Derivations.{sets_of, verdict_of}
 use Rattle.ba_derivations.specs.Derivations as derived
 use Rattle.ba_derivations.specs.declared.verdict.FoundSet.{FoundSet}
 use Rattle.ba_derivations.specs.declared.verdict.Verdict.TheVariants.{Located}
+use Rattle.ba_cores.proofs.CoreLaws.{none_of}
 use Rattle.ba_enum.specs.Enumerating.{HaveSame, Ends}
 use Rattle.ba_enum.specs.Leading.{IsReady}
 use Rattle.ba_enum.specs.Turning.{IsLast}
@@ -35,13 +35,6 @@ pub last_formed : (s : State) (found : List FoundSet) (lits : List Literal) (hin
     IsLast s found lits hints back → s.variables < 2 ^ 62 → IsFormed (EndLocated lits hints)
 last_formed s found lits hints back last few =
     (IsClause-more s.variables (2 ^ 62 - 1) lits (omega (arith, few)) last.core.clause, last.core.numbers)
-
-none_of : (p : Literal → Bool) (xs : List Literal) → ((k : ℕ) → k < length xs → p (lit_at xs k) ≡ false) →
-    list_any p xs ≡ false
-none_of p [] each = refl
-none_of p (x ∷ xs) each =
-    or_from (p x) (list_any p xs) (each 0 (omega arith))
-    (none_of p xs (λ k lt. each (suc k) (omega (arith, lt))))
 
 no_error : (refused ended none spent lacks others : Bool) (r : Replay) → refused ≡ false → ended ≡ false →
     none ≡ false → spent ≡ false → lacks ≡ false → others ≡ false → r ≡ Refutes →

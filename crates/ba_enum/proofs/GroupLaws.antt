@@ -5,30 +5,14 @@ use Rattle.std.proofs.lemmas.Bool.{or_from, and_parts}
 use Rattle.std.proofs.lemmas.Bool.Decides.{nat_tests}
 use Rattle.std.proofs.lemmas.List.Elements.{All-head, All-tail, All-weaker}
 use Rattle.std.specs.Cmp.Lexicographic.{pointwise, bytes_decides}
-use Rattle.std.specs.List.{slice_get}
 use Rattle.ba_lits.specs.Literals.{Literal}
 use Rattle.ba_lits.specs.Satisfaction.{Assignment, Soft, lit_true, any_true, all_true}
 use Rattle.ba_steps.specs.Steps.{AreAbove}
-use Rattle.ba_checker.specs.Blocks.{entry_of, entry_weight, weight_at, lacks_group, is_among, placed, with_selector, block_clause, block_clauses}
+use Rattle.ba_checker.specs.Blocks.{entry_weight, weight_at, lacks_group, is_among, placed, with_selector, block_clause, block_clauses}
 use Rattle.ba_checker.specs.Facts.{AreAmong}
 use Rattle.ba_checker.specs.States.{present}
 use Rattle.ba_derivations.specs.Encodings.{is_false_group, with_if, false_groups_from, false_groups}
-
--- the entries from a place on
-abbrev AreFrom : List Soft → ℕ → List Soft → Type 0
-AreFrom softs k ss = (j : ℕ) → slice_get softs (k + j) ≡ slice_get ss j
-
-from_start : (softs : List Soft) → AreFrom softs 0 softs
-from_start softs j = let same : 0 + j ≡ j = omega arith in ap (slice_get softs) same
-
-from_next : (softs : List Soft) (k : ℕ) (s : Soft) (ss : List Soft) → AreFrom softs k (s ∷ ss) →
-    AreFrom softs (suc k) ss
-from_next softs k s ss from j =
-    let same : suc k + j ≡ k + suc j = omega arith in ap (slice_get softs) same ∙ from (suc j)
-
-entry_here : (softs : List Soft) (k : ℕ) (s : Soft) (ss : List Soft) → AreFrom softs k (s ∷ ss) →
-    entry_of softs (suc k) ≡ Some s
-entry_here softs k s ss from = let same : k ≡ k + 0 = omega arith in ap (slice_get softs) same ∙ from 0
+use Rattle.ba_derivations.proofs.GroupLaws.{AreFrom, from_start, from_next, entry_here}
 
 -- ITS NUMBERS ASCEND
 above_less : (low high : ℕ) (set : List ℕ) → low ≤ high → AreAbove high set → AreAbove low set

@@ -1,50 +1,22 @@
 -- The next model.
 
-use Rattle.std.proofs.Common.{◌≡◌, ℕ, suc, ◌+◌, ◌<◌, Bool, true, cond, Some, List, [], ◌∷◌, length, get_or, All, refl, ap, ◌∙◌, arith}
-use Rattle.std.proofs.lemmas.Bool.{and_from}
-use Rattle.std.proofs.lemmas.List.Elements.{All-head, All-tail}
+use Rattle.std.proofs.Common.{◌≡◌, ℕ, ◌+◌, Bool, true, List, [], length, get_or, ap, ◌∙◌, arith}
 use Rattle.ba_lits.specs.Literals.{Literal}
-use Rattle.ba_lits.specs.Satisfaction.{Assignment, lit_true, any_true, all_true, assignment_of, Soft, cost}
+use Rattle.ba_lits.specs.Satisfaction.{Assignment, all_true, assignment_of, Soft, cost}
 use Rattle.ba_lits.specs.Formulas.{Cnf}
 use Rattle.ba_lits.proofs.Satisfied.{cost-agree}
-use Rattle.ba_checker.specs.States.{Kept, State, clause_at, present, first_state}
+use Rattle.ba_checker.specs.States.{State, present, first_state}
 use Rattle.ba_checker.specs.Judging.{Judge}
-use Rattle.ba_checker.specs.Facts.{IsLive, Holds, splits_of}
+use Rattle.ba_checker.specs.Facts.{Holds, splits_of}
 use Rattle.ba_checker.specs.Blocks.{block_clauses}
 use Rattle.ba_checker.proofs.FactLaws.{among-below}
 use Rattle.ba_search.specs.Answers.{IsModel}
 use Rattle.ba_cores.specs.Rounds.{literals_of}
 use Rattle.ba_cores.specs.Findings.{IsLeast}
+use Rattle.ba_cores.proofs.LeastLaws.{all_of_each, all_of_live, cost_of_true}
 use Rattle.ba_derivations.specs.declared.verdict.FoundSet.{FoundSet}
 use Rattle.ba_enum.specs.Leading.{IsReached, IsNext}
 use Rattle.ba_enum.proofs.LeadLaws.{reached_facts}
-
--- clauses hold where each does
-all_of_each : (v : Assignment) (cs : List (List Literal)) →
-    ((k : ℕ) → k < length cs → any_true v (get_or cs k []) ≡ true) → all_true v cs ≡ true
-all_of_each v [] each = refl
-all_of_each v (c ∷ cs) each =
-    and_from (any_true v c) (all_true v cs) (each 0 (omega arith))
-    (all_of_each v cs (λ k lt. each (suc k) (omega (arith, lt))))
-
-all_of_live : (v : Assignment) (kept : List Kept) →
-    ((number : ℕ) (c : List Literal) → clause_at kept number ≡ Some c → any_true v c ≡ true) →
-    (cs : List (List Literal)) → All (IsLive kept) cs → all_true v cs ≡ true
-all_of_live v kept holds [] all = refl
-all_of_live v kept holds (c ∷ cs) all =
-    let (number, is) = All-head (IsLive kept) c cs all in
-    and_from (any_true v c) (all_true v cs) (holds number c is)
-    (all_of_live v kept holds cs (All-tail (IsLive kept) c cs all))
-
--- soft literals that are all true cost nothing
-cost_of_true : (v : Assignment) (softs : List Soft) → All (λ l. lit_true v l ≡ true) (literals_of softs) →
-    cost v softs ≡ 0
-cost_of_true v [] all = refl
-cost_of_true v (s ∷ ss) all =
-    let first : lit_true v s.0 ≡ true = All-head (λ l. lit_true v l ≡ true) s.0 (literals_of ss) all in
-    let rest : cost v ss ≡ 0 = cost_of_true v ss (All-tail (λ l. lit_true v l ≡ true) s.0 (literals_of ss)
-    all) in
-    ap (λ b. cond b 0 s.1 + cost v ss) first ∙ (omega (arith, rest))
 
 -- from the facts: a model of all live clauses and present soft literals costs the bound
 next_of_facts : (good : Judge) (formula : Cnf) (softs : List Soft) (splits : List (List Literal)) (s : State)
