@@ -1,6 +1,6 @@
 //! Calls of the program over worlds in memory.
 
-ghost use Rattle.std.specs.Prelude.{◌<◌, ◌≡◌, IfOk};
+ghost use Rattle.std.specs.Prelude.{◌<◌, ◌≡◌};
 ghost use Rattle.std.specs.String.{string_bytes};
 
 use ba_steps::{NoSink, StepSink};
@@ -8,68 +8,87 @@ use ba_tool::rules::{Rules, keep, luby, steady};
 use ba_tool::status::Status;
 use ba_tool::tool::tool;
 use ba_world::{MemoryWorld, World};
-use std::alloc::{AllocError, Global};
+use std::alloc::Global;
 use std::panic::Expect;
 use std::process::Abort;
 
 /// A file of this name with these bytes.
-fn file(alloc: Global, name: &str, bytes: &[u8]) -> Result<(String, Vec<u8>), AllocError>
-    ensures { IfOk result (λ made. string_bytes made.0 ≡ name.now) }
+fn file(rt: &impl Abort, alloc: Global, name: &str, bytes: &[u8]) -> (String, Vec<u8>)
+    ensures { string_bytes result.0 ≡ name.now }
 {
-    Ok((
-        String::from_str(alloc, name)?,
-        Vec::from_slice(alloc, bytes)?,
-    ))
+    (
+        String::from_str(alloc, name).expect(rt, "memory"),
+        Vec::from_slice(alloc, bytes).expect(rt, "memory"),
+    )
 }
 
 /// A world that holds a program, an input and weights.
 pub fn world_with(
+    rt: &impl Abort,
     alloc: Global,
     program: &str,
     input: &str,
     weights: &str,
     fails: &[u64],
     piece: usize,
-) -> Result<MemoryWorld, AllocError>
+) -> MemoryWorld
     requires { 0 < piece }
 {
     let mut files = Vec::new(alloc);
-    files.push(file(alloc, "p.c", program.as_bytes())?)?;
-    files.push(file(alloc, "in.txt", input.as_bytes())?)?;
-    files.push(file(alloc, "w.txt", weights.as_bytes())?)?;
-    MemoryWorld::new(alloc, files, Vec::from_slice(alloc, fails)?, piece)
+    files
+        .push(file(rt, alloc, "p.c", program.as_bytes()))
+        .expect(rt, "memory");
+    files
+        .push(file(rt, alloc, "in.txt", input.as_bytes()))
+        .expect(rt, "memory");
+    files
+        .push(file(rt, alloc, "w.txt", weights.as_bytes()))
+        .expect(rt, "memory");
+    let fails = Vec::from_slice(alloc, fails).expect(rt, "memory");
+    MemoryWorld::new(alloc, files, fails, piece).expect(rt, "memory")
 }
 
 /// A world that holds a program, an input, weights and a certificate, whose calls of these numbers fail.
 pub fn world_to_check(
+    rt: &impl Abort,
     alloc: Global,
     program: &str,
     weights: &str,
     certificate: &[u8],
     fails: &[u64],
     piece: usize,
-) -> Result<MemoryWorld, AllocError>
+) -> MemoryWorld
     requires { 0 < piece }
 {
     let mut files = Vec::new(alloc);
-    files.push(file(alloc, "p.c", program.as_bytes())?)?;
-    files.push(file(alloc, "in.txt", b"1")?)?;
-    files.push(file(alloc, "w.txt", weights.as_bytes())?)?;
-    files.push(file(alloc, "c", certificate)?)?;
-    MemoryWorld::new(alloc, files, Vec::from_slice(alloc, fails)?, piece)
+    files
+        .push(file(rt, alloc, "p.c", program.as_bytes()))
+        .expect(rt, "memory");
+    files
+        .push(file(rt, alloc, "in.txt", b"1"))
+        .expect(rt, "memory");
+    files
+        .push(file(rt, alloc, "w.txt", weights.as_bytes()))
+        .expect(rt, "memory");
+    files
+        .push(file(rt, alloc, "c", certificate))
+        .expect(rt, "memory");
+    let fails = Vec::from_slice(alloc, fails).expect(rt, "memory");
+    MemoryWorld::new(alloc, files, fails, piece).expect(rt, "memory")
 }
 
 /// A world that holds a program and an input.
 pub fn world_of(
+    rt: &impl Abort,
     alloc: Global,
     program: &str,
     input: &str,
     fails: &[u64],
     piece: usize,
-) -> Result<MemoryWorld, AllocError>
+) -> MemoryWorld
     requires { 0 < piece }
 {
-    world_with(alloc, program, input, "", fails, piece)
+    world_with(rt, alloc, program, input, "", fails, piece)
 }
 
 /// Calls the program by these words, with its own rules of a search.
@@ -98,7 +117,7 @@ pub fn call(
     input: &str,
     weights: &str,
 ) -> (Status, Vec<u8>) {
-    let mut world = world_with(alloc, program, input, weights, &[], 4096).expect(rt, "memory");
+    let mut world = world_with(rt, alloc, program, input, weights, &[], 4096);
     let ended = end(alloc, words, &mut world, &mut NoSink);
     (
         ended,

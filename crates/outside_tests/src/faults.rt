@@ -12,7 +12,7 @@ use std::process::Abort;
 
 /// How the call ends, and what it prints, where these calls of the world fail.
 fn end_where(rt: &impl Abort, alloc: Global, fails: &[u64]) -> (Status, Vec<u8>) {
-    let mut world = world_of(alloc, ONE_ASSIGNMENT, "1", fails, 4096).expect(rt, "memory");
+    let mut world = world_of(rt, alloc, ONE_ASSIGNMENT, "1", fails, 4096);
     let ended = localise(alloc, &mut world);
     (
         ended,
@@ -61,7 +61,7 @@ fn assert_failing(
     status: Status,
     printed: &str,
 ) {
-    let mut world = world_of(alloc, ONE_ASSIGNMENT, input, fails, 4096).expect(rt, "memory");
+    let mut world = world_of(rt, alloc, ONE_ASSIGNMENT, input, fails, 4096);
     let ended = localise(alloc, &mut world);
     assert_eq!(rt; ended, status, "where {fails:?} fail");
     assert_eq!(rt; world.printed(), printed.as_bytes(), "where {fails:?} fail");
@@ -104,7 +104,7 @@ fn says_which_call_of_the_world_failed(rt: HostRuntime) {
 #[test]
 fn reads_files_in_any_pieces(rt: HostRuntime) {
     for piece in [1, 7] {
-        let mut world = world_of(rt.alloc(), ONE_ASSIGNMENT, "1", &[], piece).expect(&rt, "memory");
+        let mut world = world_of(&rt, rt.alloc(), ONE_ASSIGNMENT, "1", &[], piece);
         assert_eq!(rt; localise(rt.alloc(), &mut world), Status::Ok, "by {piece}");
         assert_eq!(rt; world.printed(), ONE_REPORT.as_bytes(), "by {piece}");
     }
@@ -119,7 +119,7 @@ fn assert_read(
     status: Status,
     printed: &str,
 ) {
-    let mut world = world_of(alloc, program, input, &[], 4096).expect(rt, "memory");
+    let mut world = world_of(rt, alloc, program, input, &[], 4096);
     let ended = localise(alloc, &mut world);
     assert_eq!(rt; ended, status);
     assert_eq!(rt; world.printed(), printed.as_bytes());
@@ -195,9 +195,7 @@ fn assert_weighed(rt: &impl Abort, alloc: Global, fails: u64, status: Status, pr
         "w.txt",
         "--bound=1",
     ];
-    let mut world = world_with(alloc, ONE_ASSIGNMENT, "1", "3 1", &[fails], 4096).expect(
-        rt, "memory",
-    );
+    let mut world = world_with(rt, alloc, ONE_ASSIGNMENT, "1", "3 1", &[fails], 4096);
     let ended = end(alloc, &words, &mut world, &mut NoSink);
     assert_eq!(rt; ended, status, "where {fails} fails");
     assert_eq!(rt; world.printed(), printed.as_bytes(), "where {fails} fails");

@@ -24,9 +24,7 @@ fn check(
     requires { 0 < piece }
 {
     let words = ["check", "p.c", "in.txt", "c", "--bound=1", option];
-    let mut world = world_to_check(alloc, BRANCHES, weights, certificate, fails, piece).expect(
-        rt, "memory",
-    );
+    let mut world = world_to_check(rt, alloc, BRANCHES, weights, certificate, fails, piece);
     let ended = end(alloc, &words, &mut world, &mut NoSink);
     (
         ended,
@@ -37,7 +35,7 @@ fn check(
 /// The certificate that a search for the program with branches writes, by this option.
 fn certificate(rt: &impl Abort, alloc: Global, option: &str) -> Vec<u8> {
     let words = ["localise", "p.c", "in.txt", "--bound=1", option, "--cert=c"];
-    let mut world = world_of(alloc, BRANCHES, "1", &[], 4096).expect(rt, "memory");
+    let mut world = world_of(rt, alloc, BRANCHES, "1", &[], 4096);
     let _ = end(alloc, &words, &mut world, &mut NoSink);
     Vec::from_slice(alloc, world.file("c").expect(rt, "no certificate")).expect(rt, "memory")
 }
@@ -145,7 +143,7 @@ fn accepts_the_certificate_that_a_search_wrote(rt: HostRuntime) {
 #[test]
 fn hands_on_the_formula_of_the_search(rt: HostRuntime) {
     let alloc = rt.alloc();
-    let mut world = world_of(alloc, BRANCHES, "1", &[], 4096).expect(&rt, "memory");
+    let mut world = world_of(&rt, alloc, BRANCHES, "1", &[], 4096);
     let words = ["localise", "p.c", "in.txt", "--bound=1", "--cert=c"];
     let mut searched = ListSink::new(alloc);
     assert_eq!(rt; end(alloc, &words, &mut world, &mut searched), Status::Ok);

@@ -69,7 +69,7 @@ fn is_spent(step: &CertStep) -> bool {
 #[test]
 fn hands_on_the_steps_that_spend_the_conflicts(rt: HostRuntime) {
     let alloc = rt.alloc();
-    let mut world = world_of(alloc, BRANCHES, "1", &[], 4096).expect(&rt, "memory");
+    let mut world = world_of(&rt, alloc, BRANCHES, "1", &[], 4096);
     let mut steps = ListSink::new(alloc);
     let words = ["localise", "p.c", "in.txt", "--bound=1", "--conflicts=1"];
     let ended = end(alloc, &words, &mut world, &mut steps);
@@ -88,7 +88,7 @@ fn hands_on_the_steps_that_spend_the_conflicts(rt: HostRuntime) {
 #[test]
 fn writes_the_certificate_before_the_report(rt: HostRuntime) {
     let alloc = rt.alloc();
-    let mut world = world_of(alloc, BRANCHES, "1", &[], 4096).expect(&rt, "memory");
+    let mut world = world_of(&rt, alloc, BRANCHES, "1", &[], 4096);
     let mut steps = ListSink::new(alloc);
     let ended = end(alloc, CERTIFIED, &mut world, &mut steps);
     assert_eq!(rt; ended, Status::Ok);
@@ -119,7 +119,7 @@ fn writes_the_certificate_before_the_report(rt: HostRuntime) {
 
 /// Asserts that a call that ends before its search begins no certificate.
 fn assert_not_begun(rt: &impl Abort, alloc: Global, program: &str, input: &str, status: Status) {
-    let mut world = world_of(alloc, program, input, &[], 4096).expect(rt, "memory");
+    let mut world = world_of(rt, alloc, program, input, &[], 4096);
     let ended = end(alloc, CERTIFIED, &mut world, &mut NoSink);
     assert_eq!(rt; ended, status);
     assert!(rt; world.file("c").is_none());
@@ -136,7 +136,7 @@ fn begins_no_certificate_without_a_search(rt: HostRuntime) {
 /// Asserts that nothing is printed where a call of the world fails while the certificate is written, and with which
 /// bytes the certificate then begins, if it is begun.
 fn assert_cut_off(rt: &impl Abort, alloc: Global, fails: u64, held: Option<&str>) {
-    let mut world = world_of(alloc, ONE_ASSIGNMENT, "1", &[fails], 4096).expect(rt, "memory");
+    let mut world = world_of(rt, alloc, ONE_ASSIGNMENT, "1", &[fails], 4096);
     let ended = end(alloc, CERTIFIED, &mut world, &mut NoSink);
     assert_eq!(rt; ended, Status::WriteFault);
     assert!(rt; world.printed().is_empty());
@@ -158,7 +158,7 @@ fn prints_nothing_where_a_certificate_fails(rt: HostRuntime) {
 
 /// Asserts how a call ends whose sink fails from a call on, and what it prints.
 fn assert_handed(rt: &impl Abort, alloc: Global, first: u64, status: Status, printed: &str) {
-    let mut world = world_of(alloc, ONE_ASSIGNMENT, "1", &[], 4096).expect(rt, "memory");
+    let mut world = world_of(rt, alloc, ONE_ASSIGNMENT, "1", &[], 4096);
     let mut steps = Failing { calls: 0, first };
     let words = ["localise", "p.c", "in.txt", "--bound=1"];
     let ended = end(alloc, &words, &mut world, &mut steps);

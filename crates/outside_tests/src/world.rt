@@ -6,7 +6,7 @@ use crate::endless::Endless;
 use ba_world::{
     HostWorld, MemoryWorld, ReadFileError, RuntimeFiles, World, WorldError, read_whole,
 };
-use std::alloc::{AllocError, Global};
+use std::alloc::Global;
 use std::io;
 use std::panic::Expect;
 use std::process::Abort;
@@ -15,20 +15,21 @@ const LIMIT: u64 = 65_536;
 
 /// A world that holds one file.
 fn world_of(
+    rt: &impl Abort,
     alloc: Global,
     name: &str,
     bytes: &[u8],
     fails: &[u64],
     piece: usize,
-) -> Result<MemoryWorld, AllocError>
+) -> MemoryWorld
     requires { 0 < piece }
 {
     let mut files = Vec::new(alloc);
-    files.push((
-        String::from_str(alloc, name)?,
-        Vec::from_slice(alloc, bytes)?,
-    ))?;
-    MemoryWorld::new(alloc, files, Vec::from_slice(alloc, fails)?, piece)
+    let name = String::from_str(alloc, name).expect(rt, "memory");
+    let bytes = Vec::from_slice(alloc, bytes).expect(rt, "memory");
+    files.push((name, bytes)).expect(rt, "memory");
+    let fails = Vec::from_slice(alloc, fails).expect(rt, "memory");
+    MemoryWorld::new(alloc, files, fails, piece).expect(rt, "memory")
 }
 
 fn spaces(rt: &impl Abort, alloc: Global, length: usize) -> Vec<u8> {
@@ -40,9 +41,7 @@ fn reads_files_up_to_the_limit(rt: HostRuntime) {
     for piece in [1, 7, 4096] {
         for length in [0, 1, 4095, 4096, 4097, 65_536] {
             let file = spaces(&rt, rt.alloc(), length);
-            let mut world = world_of(rt.alloc(), "program", file.as_slice(), &[], piece).expect(
-                &rt, "memory",
-            );
+            let mut world = world_of(&rt, rt.alloc(), "program", file.as_slice(), &[], piece);
             let bytes = read_whole(rt.alloc(), &mut world, "program", LIMIT).expect(&rt, "memory");
             assert_eq!(rt;
                 bytes.as_slice(),
@@ -51,9 +50,7 @@ fn reads_files_up_to_the_limit(rt: HostRuntime) {
             );
         }
         let file = spaces(&rt, rt.alloc(), 65_537);
-        let mut world = world_of(rt.alloc(), "program", file.as_slice(), &[], piece).expect(
-            &rt, "memory",
-        );
+        let mut world = world_of(&rt, rt.alloc(), "program", file.as_slice(), &[], piece);
         let outcome = read_whole(rt.alloc(), &mut world, "program", LIMIT);
         assert_eq!(rt; outcome.err(), Some(ReadFileError::TooLong), "by {piece}");
         let absent = read_whole(rt.alloc(), &mut world, "input", LIMIT);
@@ -65,9 +62,7 @@ fn reads_files_up_to_the_limit(rt: HostRuntime) {
 fn fails_at_the_calls_that_are_listed(rt: HostRuntime) {
     // Ten bytes by four are one call to open, three that give bytes, and one that gives none.
     for call in 0..6 {
-        let mut world = world_of(rt.alloc(), "input", b"1 2 3\n4 5\n", &[call], 4).expect(
-            &rt, "memory",
-        );
+        let mut world = world_of(&rt, rt.alloc(), "input", b"1 2 3\n4 5\n", &[call], 4);
         let outcome = read_whole(rt.alloc(), &mut world, "input", LIMIT);
         if call < 5 {
             assert_eq!(rt; outcome.err(), Some(ReadFileError::Failed), "call {call}");
@@ -82,7 +77,7 @@ fn fails_at_the_calls_that_are_listed(rt: HostRuntime) {
 
 #[test]
 fn takes_half_of_the_bytes_before_a_failure(rt: HostRuntime) {
-    let mut world = world_of(rt.alloc(), "input", b"1\n", &[2, 4, 6], 1).expect(&rt, "memory");
+    let mut world = world_of(&rt, rt.alloc(), "input", b"1\n", &[2, 4, 6], 1);
     world.begin_file("report").expect(&rt, "memory");
     world.add(b"abc").expect(&rt, "memory");
     assert_eq!(rt; world.add(b"defgh"), Err(WorldError::Failed));

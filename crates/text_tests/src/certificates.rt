@@ -7,7 +7,6 @@ use ba_numbers::ids::StmtId;
 use std::alloc::Global;
 use std::panic::Expect;
 use std::process::Abort;
-use test_programs::Fault;
 
 /// What a text says, or the line at which it is refused and the code.
 #[derive(Clone, Copy, Debug, PartialEq, Eq)]
@@ -94,9 +93,7 @@ fn are_answered(
     answer: Answer,
 ) -> bool {
     for size in [None, Some(1), Some(7), Some(4096)] {
-        let told = judge(alloc, problem, settings(conflicts, sets), text, size).expect(
-            rt, "memory",
-        );
+        let told = judge(rt, alloc, problem, settings(conflicts, sets), text, size);
         if answer_of(&told) != answer {
             return false;
         }
@@ -111,7 +108,7 @@ fn first_wrong(
     clauses: &[&[i64]],
     rows: &[Row],
 ) -> Option<&'static str> {
-    let problem = array_example(alloc, clauses).expect(rt, "memory");
+    let problem = array_example(rt, alloc, clauses);
     for row in rows {
         let (shown, body, conflicts, sets, answer) = row;
         let text = behind_head(rt, alloc, body);
@@ -330,7 +327,7 @@ static HEADLESS: [(&str, Answer); 6] = [
 
 /// Whether texts without a right head line are answered so.
 fn are_headless(rt: &impl Abort, alloc: Global) -> bool {
-    let problem = array_example(alloc, SOME).expect(rt, "memory");
+    let problem = array_example(rt, alloc, SOME);
     for row in &HEADLESS {
         let (text, answer) = *row;
         if !are_answered(rt, alloc, &problem, text.as_bytes(), 0, 9, answer) {
@@ -359,7 +356,7 @@ fn line_behind(bytes: &[u8]) -> u64 {
 
 /// Whether each part of the example's certificate that is cut off ends too early, in its last line.
 fn end_too_early(rt: &impl Abort, alloc: Global) -> bool {
-    let problem = array_example(alloc, SOME).expect(rt, "memory");
+    let problem = array_example(rt, alloc, SOME);
     let text = behind_head(rt, alloc, WHOLE);
     for count in 0..text.len() {
         let front = &text.as_slice()[..count];
@@ -379,14 +376,12 @@ fn a_certificate_that_is_cut_off_ends_too_early(rt: HostRuntime) {
 
 /// Whether the example's certificate is refused where one of its bytes is a `9` in its place, in the line of that byte.
 fn are_refused_in_their_lines(rt: &impl Abort, alloc: Global) -> bool {
-    let problem = array_example(alloc, SOME).expect(rt, "memory");
+    let problem = array_example(rt, alloc, SOME);
     let mut text = behind_head(rt, alloc, WHOLE);
     for place in 0..text.len() {
         let byte = text[place];
         text[place] = b'9';
-        let told = judge(alloc, &problem, settings(5, 9), text.as_slice(), None).expect(
-            rt, "memory",
-        );
+        let told = judge(rt, alloc, &problem, settings(5, 9), text.as_slice(), None);
         if refused_line(&told) != Some(line_behind(&text.as_slice()[..place])) {
             return false;
         }
@@ -406,7 +401,7 @@ type Pieces = (&'static [(&'static str, Option<(u64, u8)>)], Answer);
 
 /// Whether the pieces are answered so, one after the other.
 fn are_fed(rt: &impl Abort, alloc: Global, pieces: &Pieces) -> bool {
-    let problem = array_example(alloc, SOME).expect(rt, "memory");
+    let problem = array_example(rt, alloc, SOME);
     let mut refusals = Vec::new(alloc);
     let mut texts = Vec::new(alloc);
     let mut expected = Vec::new(alloc);
@@ -417,13 +412,13 @@ fn are_fed(rt: &impl Abort, alloc: Global, pieces: &Pieces) -> bool {
             .expect(rt, "memory");
     }
     let told = feed_all(
+        rt,
         alloc,
         &problem,
         settings(5, 9),
         texts.as_slice(),
         &mut refusals,
-    )
-    .expect(rt, "memory");
+    );
     answer_of(&told) == pieces.1 && refusals.as_slice() == expected.as_slice()
 }
 

@@ -19,9 +19,7 @@ static RUNS: [(&[u32], &str, bool); 6] = [
 #[test]
 fn a_run_is_good_where_the_program_is_done(rt: HostRuntime) {
     let alloc = rt.alloc();
-    let problem = array_example(alloc, &[])
-        .map_err(|_| "no problem")
-        .expect(&rt, "memory");
+    let problem = array_example(&rt, alloc, &[]);
     let bounds = settings(1, 1).bounds;
     let judge = ProgramJudge::new(alloc, &problem.program, &problem.input, bounds);
     for (groups, words, good) in &RUNS {

@@ -11,10 +11,12 @@ use ba_items::Items;
 use ba_numbers::ids::StmtId;
 use ba_tree::run::{Bounds, Input};
 use ba_tree::tree::Program;
-use std::alloc::{AllocError, Global};
+use std::alloc::Global;
+use std::panic::Expect;
+use std::process::Abort;
 use test_formulas::{are_selectors, formula_of, literal};
 use test_programs::examples::ELEMENT;
-use test_programs::{Fault, program_of};
+use test_programs::program_of;
 
 /// How many statements are relaxable: those with the numbers from 1 on.
 const STATEMENTS: u32 = 4;
@@ -42,41 +44,41 @@ pub fn settings(conflicts: u64, sets: u32) -> Settings
 }
 
 /// The input of one parameter with the value 1.
-fn one(alloc: Global) -> Result<Input, AllocError> {
+fn one(rt: &impl Abort, alloc: Global) -> Input {
     let mut value = Items::new(alloc);
-    value.push(1)?;
+    value.push(1).expect(rt, "memory");
     let mut values = Items::new(alloc);
-    values.push(value)?;
-    Ok(Input { values })
+    values.push(value).expect(rt, "memory");
+    Input { values }
 }
 
 /// A group of weight 1 for each relaxable statement, whose selector is the variable of its number.
-fn groups(alloc: Global) -> Result<Items<Group>, AllocError> {
+fn groups(rt: &impl Abort, alloc: Global) -> Items<Group> {
     let mut groups = Items::new(alloc);
     for number in 1..STATEMENTS + 1 {
-        groups.push(Group {
+        let group = Group {
             number,
             statement: StmtId(number),
             weight: 1,
             selector: literal(u64::from(number), false),
-        })?;
+        };
+        groups.push(group).expect(rt, "memory");
     }
-    Ok(groups)
+    groups
 }
 
 /// The program that reads an array at a wrong place, with these clauses over its selectors.
-pub fn array_example(alloc: Global, clauses: &[&[i64]]) -> Result<Problem, Fault> {
-    let program = program_of(alloc, ELEMENT)?;
-    let formula = formula_of(alloc, u64::from(STATEMENTS), clauses)?;
-    let groups = groups(alloc)?;
-    if groups.len() >= 1 << 32 {
-        return Err(Fault::NoProgram);
-    }
-    Ok(Problem {
+pub fn array_example(rt: &impl Abort, alloc: Global, clauses: &[&[i64]]) -> Problem {
+    let program = program_of(alloc, ELEMENT).expect(rt, "a program");
+    let formula = formula_of(alloc, u64::from(STATEMENTS), clauses).expect(rt, "memory");
+    let groups = groups(rt, alloc);
+    assert!(rt; groups.len() < 1 << 32);
+    let encoded = Encoded::without_places(alloc, formula, groups);
+    Problem {
         program,
-        input: one(alloc)?,
-        encoded: Encoded::without_places(alloc, formula, groups),
-    })
+        input: one(rt, alloc),
+        encoded,
+    }
 }
 
 /// What a text says that comes in pieces of this size.
@@ -104,21 +106,28 @@ fn by_pieces(
     confirm.finish()
 }
 
+/// Asserts that the soft literals of a problem are selectors.
+fn assert_selectors(rt: &impl Abort, alloc: Global, problem: &Problem)
+    ensures { AreSelectors problem.now.encoded.formula.variables
+        (softs_of problem.now.encoded.groups) }
+{
+    let softs = softs_of(alloc, &problem.encoded).expect(rt, "memory");
+    assert!(rt; are_selectors(problem.encoded.formula().variables(), softs.as_slice()));
+}
+
 /// What a text says, whole or, where a size is given, in pieces of this size.
 pub fn judge(
+    rt: &impl Abort,
     alloc: Global,
     problem: &Problem,
     settings: Settings,
     text: &[u8],
     size: Option<usize>,
-) -> Result<Result<Confirmed, CheckError>, Fault>
+) -> Result<Confirmed, CheckError>
     requires { are_bounds settings.bounds ≡ true }
 {
-    let softs = softs_of(alloc, &problem.encoded)?;
-    if !are_selectors(problem.encoded.formula().variables(), softs.as_slice()) {
-        return Err(Fault::NoProgram);
-    }
-    Ok(match size {
+    assert_selectors(rt, alloc, problem);
+    match size {
         Some(size) => by_pieces(alloc, problem, settings, text, size),
         None => confirm(
             alloc,
@@ -128,47 +137,32 @@ pub fn judge(
             &problem.encoded,
             text,
         ),
-    })
+    }
 }
 
 /// What a text says that comes in these pieces, and what each of them is answered.
-fn answers(
+pub fn feed_all(
+    rt: &impl Abort,
     alloc: Global,
     problem: &Problem,
     settings: Settings,
     pieces: &[&str],
     refusals: &mut Vec<Option<CheckError>>,
-) -> Result<Result<Confirmed, CheckError>, Fault>
-    requires bounds { are_bounds settings.bounds ≡ true }
-    requires selectors { AreSelectors problem.now.encoded.formula.variables
-        (softs_of problem.now.encoded.groups) }
+) -> Result<Confirmed, CheckError>
+    requires { are_bounds settings.bounds ≡ true }
 {
+    assert_selectors(rt, alloc, problem);
     let mut confirm = Confirm::new(
         alloc,
         &problem.program,
         &problem.input,
         settings,
         &problem.encoded,
-    )?;
+    )
+    .expect(rt, "memory");
     for piece in pieces {
-        refusals.push(confirm.feed(piece.as_bytes()).err())?;
+        let refusal = confirm.feed(piece.as_bytes()).err();
+        refusals.push(refusal).expect(rt, "memory");
     }
-    Ok(confirm.finish())
-}
-
-/// What a text says that comes in these pieces, and what each of them is answered.
-pub fn feed_all(
-    alloc: Global,
-    problem: &Problem,
-    settings: Settings,
-    pieces: &[&str],
-    refusals: &mut Vec<Option<CheckError>>,
-) -> Result<Result<Confirmed, CheckError>, Fault>
-    requires { are_bounds settings.bounds ≡ true }
-{
-    let softs = softs_of(alloc, &problem.encoded)?;
-    if !are_selectors(problem.encoded.formula().variables(), softs.as_slice()) {
-        return Err(Fault::NoProgram);
-    }
-    answers(alloc, problem, settings, pieces, refusals)
+    confirm.finish()
 }
