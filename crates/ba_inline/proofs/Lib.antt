@@ -21,7 +21,6 @@ mod FrameArms
 mod Invoking
 mod Stores
 mod Effects
-mod Falling
 mod Forms
 mod Rows
 mod Arms

@@ -12,7 +12,6 @@ pub mod Invoking
 pub mod Arrays
 pub mod Repeating
 pub mod Calling
-pub mod Heights
 pub mod Starting
 pub mod Translating
 pub mod Leaving

@@ -14,11 +14,11 @@ ghost use Rattle.ba_tree.specs.State.{State};
 
 use crate::declared::Declared;
 use crate::emit::add;
-use crate::expressions::variable_of;
 use crate::frames::{Given, Setting};
 use crate::scope::Scope;
 use ba_code::nodes::{ArrayInfo, Node, Operand};
 use ba_numbers::ids::VarId;
+use ba_tree::lookup::variable_of;
 use ba_tree::tree::{Function, Shape};
 use std::alloc::{AllocError, Global};
 

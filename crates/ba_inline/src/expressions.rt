@@ -6,12 +6,12 @@ ghost use Rattle.ba_inline.specs.Calling.{arg_has_call, has_call};
 ghost use Rattle.ba_numbers.specs.declared.numbers.CType.TheVariants.{I32};
 ghost use Rattle.ba_tree.specs.Facts.{expr_facts, is_promoted, result_at};
 ghost use Rattle.ba_tree.specs.Kept.{parts_of};
-ghost use Rattle.ba_tree.specs.Meaning.{variable_of};
 
 use ba_code::fitting::{type_of_binary, type_of_unary};
-use ba_numbers::ids::{FnId, VarId};
+use ba_numbers::ids::FnId;
 use ba_numbers::numbers::CType;
-use ba_tree::tree::{Arg, Expr, Program, Shape, Variable};
+use ba_tree::lookup::variable_of;
+use ba_tree::tree::{Arg, Expr, Program};
 
 /// Whether evaluating the expression makes a call.
 #[tactic(auto, unfolding(crate::specs::Calling::has_call))]
@@ -54,19 +54,6 @@ pub fn any_arg_has_call(args: &[Arg]) -> bool
     ensures { result ≡ list_any arg_has_call args.now }
 {
     args.iter().any(|arg| arg_has_call(arg))
-}
-
-/// The declaration of a variable.
-pub fn variable_of(program: &Program, var: VarId) -> Variable
-    ensures { result ≡ variable_of program.now var }
-{
-    match program.variables.as_slice().get(var.0 as usize) {
-        Some(variable) => *variable,
-        None => Variable {
-            t: CType::I32,
-            shape: Shape::Value,
-        },
-    }
 }
 
 /// The type of an expression's value.

@@ -1,24 +1,23 @@
 //! The parts of the inliner that make no other part.
 
-ghost use Rattle.std.specs.Prelude.{◌≡◌, ◌<◌, ◌++◌, ◌∷◌, [], length, pos, ℕ, replicate, List, IfOk, IfSome, OnOk};
+ghost use Rattle.std.specs.Prelude.{◌≡◌, ◌++◌, ◌∷◌, [], pos, ℕ, replicate, List, IfOk, OnOk};
 ghost use Rattle.ba_inline.specs.Arrays.{IsArrayOf};
 ghost use Rattle.ba_inline.specs.Making.{Does, Makes};
 ghost use Rattle.ba_inline.specs.Names.{IsFrame};
 ghost use Rattle.ba_inline.specs.Parts.{declare_part};
 ghost use Rattle.ba_inline.specs.declared.frames.Frame.{Frame};
 ghost use Rattle.ba_tree.specs.declared.run.Step.{Step};
-ghost use Rattle.ba_tree.specs.Run.{function_of};
 
 use crate::binding::zeros;
 use crate::declared::Declared;
 use crate::emit::add;
-use crate::expressions::variable_of;
 use crate::frames::Setting;
 use crate::scope::Scope;
 use ba_code::nodes::{Node, Operand};
-use ba_numbers::ids::{FnId, VarId};
+use ba_numbers::ids::VarId;
+use ba_tree::lookup::variable_of;
 use ba_tree::run::Step;
-use ba_tree::tree::{Function, Program, Shape};
+use ba_tree::tree::Shape;
 use std::alloc::{AllocError, Global};
 
 /// A path with one more step inside.
@@ -28,14 +27,6 @@ pub fn extended(alloc: Global, path: &[Step], step: Step) -> Result<Vec<Step>, A
     let mut inside = Vec::from_slice(alloc, path)?;
     inside.push(step)?;
     Ok(inside)
-}
-
-/// The function of this number, if there is one. Each function that a program calls is.
-pub fn function_of(program: &Program, function: FnId) -> Option<&Function>
-    ensures { IfSome result (λ found. (function.0 < length program.now.functions)
-        × (function_of program.now function ≡ found.now)) }
-{
-    program.functions.as_slice().get(function.0 as usize)
 }
 
 /// The code's array for an array variable, and how many elements it has. It has elements of the variable's type; in a program it

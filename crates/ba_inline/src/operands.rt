@@ -10,13 +10,14 @@ ghost use Rattle.ba_inline.specs.Parts.{given_part, truth_part, value_part, valu
 use crate::calls::{call_value, given_to};
 use crate::declared::Declared;
 use crate::emit::add;
-use crate::expressions::{any_has_call, has_call, tested_in, type_of, variable_of};
+use crate::expressions::{any_has_call, has_call, tested_in, type_of};
 use crate::frames::{Frame, Setting, Wanted};
 use crate::scope::Scope;
 use ba_code::fitting::{type_of_binary, type_of_unary};
 use ba_code::nodes::{Node, Operand};
 use ba_numbers::ids::StmtId;
 use ba_numbers::numbers::{CType, UnOp};
+use ba_tree::lookup::variable_of;
 use ba_tree::run::Step;
 use ba_tree::tree::Expr;
 use std::alloc::AllocError;

@@ -9,13 +9,14 @@ ghost use Rattle.ba_inline.specs.Parts.{assign_part, init_array_part, print_part
 use crate::calls::given_to;
 use crate::declared::Declared;
 use crate::emit::{add, add_pick};
-use crate::expressions::{has_call, variable_of};
+use crate::expressions::has_call;
 use crate::frames::{Frame, Setting, Wanted};
 use crate::leaves::{array_of, filled_up};
 use crate::operands::{expression, expressions, kept_expression};
 use crate::scope::Scope;
 use ba_code::nodes::{Node, Take};
 use ba_numbers::ids::{StmtId, VarId};
+use ba_tree::lookup::variable_of;
 use ba_tree::run::Step;
 use ba_tree::tree::Expr;
 use std::alloc::AllocError;

@@ -5,13 +5,13 @@ ghost use Rattle.std.specs.Prelude.{◌≡◌, ◌≤◌, ◌∷◌, [], slice_g
 ghost use Rattle.ba_inline.specs.Starting.{AreParams, IsParam, Starts};
 
 use crate::declared::{Counts, Declared};
-use crate::expressions::variable_of;
 use crate::frames::Setting;
 use crate::leaves::array_of;
 use crate::scope::Scope;
 use ba_code::nodes::{ArrayInfo, Operand, Param};
 use ba_numbers::ids::VarId;
 use ba_numbers::numbers::CType;
+use ba_tree::lookup::variable_of;
 use ba_tree::tree::Shape;
 use std::alloc::AllocError;
 

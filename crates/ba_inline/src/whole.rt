@@ -9,7 +9,6 @@ use crate::blocks::add_body;
 use crate::control::statements;
 use crate::declared::Declared;
 use crate::frames::{Exits, Frame, Setting};
-use crate::leaves::function_of;
 use crate::scope::Scope;
 use crate::starting::{params_of, start_all};
 use ba_code::fitting::{are_typed, loop_tree_of};
@@ -17,6 +16,7 @@ use ba_code::nodes::{Node, Operand, Param};
 use ba_code::trees::{Code, LoopTree};
 use ba_items::Items;
 use ba_numbers::numbers::CType;
+use ba_tree::lookup::function_of;
 use ba_tree::tree::Program;
 use std::alloc::{AllocError, Global};
 

@@ -16,7 +16,7 @@ use Rattle.ba_tree.specs.declared.run.Step.TheVariants.{Call}
 use Rattle.ba_tree.specs.declared.tree.Arg.{Arg}
 use Rattle.ba_tree.specs.declared.tree.Expr.{Expr}
 use Rattle.ba_interp.specs.Doing.{Did}
-use Rattle.ba_interp.specs.Settings.{context_at, given_at, fitting_of}
+use Rattle.ba_interp.specs.Settings.{call_value_at, context_at, given_at, fitting_of}
 use Rattle.ba_interp.specs.declared.relaxing.Wanted.{Wanted}
 use Rattle.ba_interp.specs.declared.relaxing.Wanted.TheVariants.{Value, Truth}
 use Rattle.ba_interp.specs.declared.setting.Frame.{Frame}
@@ -122,49 +122,22 @@ module _ (w : Setting) (f : Frame) (path : List Step) (stmt : StmtId) (s : State
         (ap (λ i. (Ok (i, y), u)) (sym is_i) ∙ ap (λ y. (Ok (j, y), u)) (sym is_y)))
 
   abbrev pub a_call : CallId → FnId → List Arg → Act (Unit {0})
-  a_call call function args s = then_do (then_do (each (map (eval_arg (context_at w f) path stmt) args) s)
-      ((context_at w f).calls (Call call ∷ path) stmt function)) (λ z. give tt)
+  a_call call function args s = then_do (call_value_at (context_at w f) path stmt call function args s)
+      (λ z. give tt)
 
   module _ (call : CallId) (function : FnId) (args : List Arg) (m : State) where
-    abbrev given_first : Ending (List Argument)
-    given_first = each (map (eval_arg (context_at w f) path stmt) args) m
-
-    abbrev the_call : List Argument → Act ℤ
-    the_call = (context_at w f).calls (Call call ∷ path) stmt function
+    abbrev the_call : Ending ℤ
+    the_call = call_value_at (context_at w f) path stmt call function args m
 
     abbrev nothing_more : ℤ → Act (Unit {0})
     nothing_more z = give tt
 
-    call-stops-at : (r : Result (Unit {0}) Stop) (stop : Stop) (u : State) → r ≡ Err stop
-        → Did (Err stop) u (then_do given_first the_call)
-        → Did r u (a_call call function args m)
-    call-stops-at r stop u ended did = did-end r stop u (then_do given_first the_call) nothing_more ended did
+    pub call-stops : (r : Result (Unit {0}) Stop) (stop : Stop) (u : State) → r ≡ Err stop
+        → Did (Err stop) u the_call → Did r u (a_call call function args m)
+    call-stops r stop u = did-end r stop u the_call nothing_more
 
-    pub call-fails : (r : Result (Unit {0}) Stop) (stop : Stop) (t : State) → r ≡ Err stop
-        → Did (Err stop) t given_first
-        → Did r t (a_call call function args m)
-    call-fails r stop t ended did = call-stops-at r stop t ended (did-end (Err stop) stop t given_first
-        the_call refl did)
-
-    module _ (given passed : List Argument) (inside : List Step) (is_given : passed ≡ given) (is_inside :
-        inside ≡ Call call ∷ path) (t u : State) where
-      made : (r : Result ℤ Stop) → Did r u ((context_at w f).calls inside stmt function passed t)
-          → Did r u (the_call given t)
-      made r did = subst (λ given. Did r u (the_call given t)) is_given
-          (subst (λ inside. Did r u ((context_at w f).calls inside stmt function passed t)) is_inside did)
-
-      pub call-stops : (r : Result (Unit {0}) Stop) (stop : Stop) → r ≡ Err stop
-          → Did (Ok given) t given_first
-          → Did (Err stop) u ((context_at w f).calls inside stmt function passed t) → Did r u (a_call call
-          function args m)
-      call-stops r stop ended did then_is = call-stops-at r stop u ended
-          (did-then given (Err stop) t u given_first the_call did (made (Err stop) then_is))
-
-      pub call-made : (z : ℤ) → Did (Ok given) t given_first
-          → Did (Ok z) u ((context_at w f).calls inside stmt function passed t) → Did (Ok tt) u (a_call call
-          function args m)
-      call-made z did then_is = did-then z (Ok tt) u u (then_do given_first the_call) nothing_more
-          (did-then given (Ok z) t u given_first the_call did (made (Ok z) then_is)) refl
+    pub call-made : (z : ℤ) (u : State) → Did (Ok z) u the_call → Did (Ok tt) u (a_call call function args m)
+    call-made z u did = did-then z (Ok tt) u u the_call nothing_more did refl
 
   pub call-parts : (call : CallId) (function : FnId) (args : List Arg)
       → IsByChoice (call_effect (context_at w f) path stmt call function args s) is_admitted

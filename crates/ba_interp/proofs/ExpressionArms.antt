@@ -1,5 +1,5 @@
 -- What each form of an expression does, from what its operands do.
-use Rattle.std.proofs.Common.{◌≡◌, true, false, ℤ, pos, Result, Ok, Err, List, ◌∷◌, map, sym, ap}
+use Rattle.std.proofs.Common.{◌≡◌, true, false, ℤ, pos, Result, Ok, Err, List, ◌∷◌, map, sym, ap, subst}
 use Rattle.std.specs.Global.{Box, Vec}
 use Rattle.std.specs.Ordering.{int_eq}
 use Rattle.ba_numbers.specs.Numbers.{value_of, value_of_one, converted}
@@ -11,7 +11,7 @@ use Rattle.ba_numbers.specs.declared.numbers.CType.{CType}
 use Rattle.ba_numbers.specs.declared.numbers.BinOp.{BinOp}
 use Rattle.ba_numbers.specs.declared.numbers.UnOp.{UnOp}
 use Rattle.ba_tree.specs.Acts.{give, then_do, each, fork}
-use Rattle.ba_tree.specs.State.{State, Act, value_at, location_of, element_at}
+use Rattle.ba_tree.specs.State.{State, Act, Ending, value_at, location_of, element_at}
 use Rattle.ba_tree.specs.Meaning.{Context, eval, eval_arg, or_trap, truth_of}
 use Rattle.ba_tree.specs.declared.run.Argument.{Argument}
 use Rattle.ba_tree.specs.declared.run.Step.{Step}
@@ -23,6 +23,7 @@ use Rattle.ba_tree.specs.declared.tree.Expr as tree
 use Rattle.ba_tree.proofs.Equations.{eval-Const, eval-Var, eval-Element, eval-Unary, eval-Binary, eval-AndAlso, eval-OrElse, eval-Select, eval-Convert, eval-Call, eval_arg-Value, eval_arg-Array}
 use Rattle.ba_interp.specs.Doing.{Did}
 use Rattle.ba_interp.specs.declared.stop.Stop.{Stop}
+use Rattle.ba_interp.specs.Settings.{call_value_at}
 use Rattle.ba_interp.proofs.Steps.{did-is, did-end, did-then, did-give, fork-zero, fork-other}
 
 module _ (x : Context) (path : List Step) (here : StmtId) (e : Expr) (s : State) where
@@ -244,22 +245,31 @@ module _ (x : Context) (path : List Step) (here : StmtId) (e : Expr) (s : State)
 
   module _ (call : CallId) (function : FnId) (args : Vec Arg) (is : e ≡ tree.Call call function args) (r :
       Result ℤ Stop) where
-    pub call-ends : (stop : Stop) (t : State) → r ≡ Err stop
-        → Did (Err stop) t (each (map (eval_arg x path here) args.items) s) → Did r t (eval x path here e s)
-    call-ends stop t ended did = did-is r t (eval x path here e s)
-        (then_do (each (map (eval_arg x path here) args.items) s) (x.calls (Call call ∷ path) here function))
+    pub call-is : (t : State) → Did r t (call_value_at x path here call function args.items s)
+        → Did r t (eval x path here e s)
+    call-is t = did-is r t (eval x path here e s) (call_value_at x path here call function args.items s)
         (eval-Call x path here e s call function args is)
-        (did-end r stop t (each (map (eval_arg x path here) args.items) s) (x.calls (Call call ∷ path) here
-        function) ended did)
 
-    pub call-is : (given : List Argument) (t u : State)
-        → Did (Ok given) t (each (map (eval_arg x path here) args.items) s)
-        → Did r u (x.calls (Call call ∷ path) here function given t) → Did r u (eval x path here e s)
-    call-is given t u did then_is = did-is r u (eval x path here e s)
-        (then_do (each (map (eval_arg x path here) args.items) s) (x.calls (Call call ∷ path) here function))
-        (eval-Call x path here e s call function args is)
-        (did-then given r t u (each (map (eval_arg x path here) args.items) s) (x.calls (Call call ∷ path)
-        here function) did then_is)
+module _ (x : Context) (path : List Step) (here : StmtId) (call : CallId) (function : FnId) (args : List
+    Arg) (s : State) where
+  abbrev arguments_first : Ending (List Argument)
+  arguments_first = each (map (eval_arg x path here) args) s
+
+  abbrev then_function : List Argument → Act ℤ
+  then_function = x.calls (Call call ∷ path) here function
+
+  pub arguments-end : (r : Result ℤ Stop) (stop : Stop) (t : State) → r ≡ Err stop
+      → Did (Err stop) t arguments_first → Did r t (call_value_at x path here call function args s)
+  arguments-end r stop t = did-end r stop t arguments_first then_function
+
+  pub then-called : (given passed : List Argument) (inside : List Step) → passed ≡ given
+      → inside ≡ Call call ∷ path → (r : Result ℤ Stop) (t u : State)
+      → Did (Ok given) t arguments_first → Did r u (x.calls inside here function passed t)
+      → Did r u (call_value_at x path here call function args s)
+  then-called given passed inside is_given is_inside r t u did then_is =
+      did-then given r t u arguments_first then_function did
+      (subst (λ given. Did r u (then_function given t)) is_given
+      (subst (λ inside. Did r u (x.calls inside here function passed t)) is_inside then_is))
 
 module _ (x : Context) (path : List Step) (here : StmtId) (e : Arg) (s : State) where
   abbrev to_argument : ℤ → Act Argument

@@ -2,7 +2,6 @@ mod Binding
 mod CallArms
 mod ChoiceArms
 mod ExpressionArms
-mod Falling
 mod Filling
 mod InputSteps
 mod Paths

@@ -3,6 +3,5 @@ pub mod Doing
 pub mod Frames
 pub mod Settings
 pub mod Loops
-pub mod Heights
 pub mod Parts
 pub mod Inputs

@@ -1,11 +1,16 @@
 -- What stands still while the interpreter runs a function's body, in the words of the meaning of C.
 
-use Rattle.std.specs.Prelude.{ℤ, Option, List}
+use Rattle.std.specs.Prelude.{ℤ, Option, List, ◌∷◌, map}
 use Rattle.ba_tree.specs.Choices.{one_value, one_truth}
+use Rattle.ba_numbers.specs.declared.ids.CallId.{CallId}
+use Rattle.ba_numbers.specs.declared.ids.FnId.{FnId}
 use Rattle.ba_numbers.specs.declared.ids.StmtId.{StmtId}
-use Rattle.ba_tree.specs.Meaning.{Context, given_value, condition}
+use Rattle.ba_tree.specs.Acts.{each, then_do}
+use Rattle.ba_tree.specs.Meaning.{Context, given_value, condition, eval_arg}
 use Rattle.ba_tree.specs.State.{Act}
 use Rattle.ba_tree.specs.declared.run.Step.{Step}
+use Rattle.ba_tree.specs.declared.run.Step.TheVariants.{Call}
+use Rattle.ba_tree.specs.declared.tree.Arg.{Arg}
 use Rattle.ba_tree.specs.declared.tree.Expr.{Expr}
 use Rattle.ba_tree.specs.Run.{call_at}
 use Rattle.ba_interp.specs.declared.setting.Frame.{Frame}
@@ -31,3 +36,8 @@ fitting_of Truth = one_truth
 abbrev pub given_at : Context → List Step → StmtId → Wanted → Expr → Act ℤ
 given_at x path stmt (Value t) e = given_value x path stmt t e
 given_at x path stmt Truth e = condition x path stmt e
+
+-- a call: what its arguments give, and then its function
+abbrev pub call_value_at : Context → List Step → StmtId → CallId → FnId → List Arg → Act ℤ
+call_value_at x path here call function args s =
+    then_do (each (map (eval_arg x path here) args) s) (x.calls (Call call ∷ path) here function)

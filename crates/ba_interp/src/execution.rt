@@ -7,10 +7,10 @@ ghost use Rattle.ba_interp.specs.Doing.{Did, DidAll};
 ghost use Rattle.ba_interp.specs.Loops.{do_loop_at, for_loop_at, test_at, turn_at};
 ghost use Rattle.ba_interp.specs.Parts.{parts_of};
 ghost use Rattle.ba_interp.specs.Paths.{steps_of};
-ghost use Rattle.ba_interp.specs.Settings.{context_at, given_at};
+ghost use Rattle.ba_interp.specs.Settings.{call_value_at, context_at, given_at};
 
 use crate::flows::{assert_that, flow_after_body, flow_after_loop, past_bound, result_of};
-use crate::frames::{begin_frame, end_frame, function_of, keep, variable_of};
+use crate::frames::{begin_frame, end_frame, keep};
 use crate::machine::Machine;
 use crate::path::Path;
 use crate::relaxing::{Wanted, all_elements, choice_at, fitting, no_value, one_element};
@@ -19,6 +19,7 @@ use crate::stop::Stop;
 use crate::values::{is_zero, operate, truth_of};
 use ba_numbers::ids::{CallId, FnId, StmtId, VarId};
 use ba_numbers::numbers::{CType, apply_one, convert};
+use ba_tree::lookup::{function_of, variable_of};
 use ba_tree::run::{Argument, Exit, Flow, Halt, Step};
 use ba_tree::tree::{Arg, Expr, Stmt};
 
@@ -83,20 +84,46 @@ pub fn eval(
             call,
             function,
             args,
-        } => {
-            let arguments = eval_args(setting, frame, path, here, machine, args.as_slice())?;
-            let inside = Path::within(&*path, Step::Call(*call));
-            invoke(
-                setting,
-                frame,
-                &inside,
-                here,
-                *function,
-                arguments.as_slice(),
-                machine,
-            )
-        }
+        } => call_value(
+            setting,
+            frame,
+            path,
+            here,
+            machine,
+            *call,
+            *function,
+            args.as_slice(),
+        ),
     }
+}
+
+/// The value of a call: what its arguments give, and then its function.
+#[cycle(run)]
+fn call_value(
+    setting: &Setting,
+    frame: Frame,
+    path: &Path,
+    here: StmtId,
+    machine: &mut Machine,
+    call: CallId,
+    function: FnId,
+    args: &[Arg],
+) -> Result<i64, Stop>
+    ensures { Did result machine.new
+        (call_value_at (context_at setting.now frame)
+        (steps_of path.now) here call function args.now machine.old) }
+{
+    let arguments = eval_args(setting, frame, path, here, machine, args)?;
+    let inside = Path::within(&*path, Step::Call(call));
+    invoke(
+        setting,
+        frame,
+        &inside,
+        here,
+        function,
+        arguments.as_slice(),
+        machine,
+    )
 }
 
 /// What arguments give to a call, from the left to the right.
@@ -285,17 +312,7 @@ fn call_effect(
 {
     match choice_at(setting, path, stmt, machine)? {
         None => {
-            let arguments = eval_args(setting, frame, path, stmt, machine, args)?;
-            let inside = Path::within(&*path, Step::Call(call));
-            invoke(
-                setting,
-                frame,
-                &inside,
-                stmt,
-                function,
-                arguments.as_slice(),
-                machine,
-            )?;
+            call_value(setting, frame, path, stmt, machine, call, function, args)?;
             Ok(())
         }
         Some(values) => no_value(values.as_slice()),

@@ -1,39 +1,16 @@
 //! Frames of calls, and what a run begins with.
 
-ghost use Rattle.std.specs.Prelude.{◌≡◌, ◌++◌, ◌<◌, ℕ, List, length, OnOk, IfOk, MatchOption};
-ghost use Rattle.ba_tree.specs.Run.{begin_all, begin_frame, bind_all, end_frame, function_of, no_function, with_restored};
-ghost use Rattle.ba_tree.specs.Meaning.{variable_of};
+ghost use Rattle.std.specs.Prelude.{◌≡◌, ◌++◌, ℕ, List, OnOk, IfOk};
+ghost use Rattle.ba_tree.specs.Run.{begin_all, begin_frame, bind_all, end_frame, with_restored};
 ghost use Rattle.ba_tree.specs.State.{State};
 ghost use Rattle.ba_interp.specs.Frames.{IsKept, all_taken};
 
 use crate::machine::{Machine, Taken};
-use ba_numbers::ids::{FnId, VarId};
-use ba_numbers::numbers::CType;
+use ba_numbers::ids::VarId;
+use ba_tree::lookup::variable_of;
 use ba_tree::run::Argument;
-use ba_tree::tree::{Function, Program, Shape, Variable};
+use ba_tree::tree::{Function, Program};
 use std::alloc::{AllocError, Global};
-
-/// The declaration of a variable.
-pub fn variable_of(program: &Program, var: VarId) -> Variable
-    ensures { result ≡ variable_of program.now var }
-{
-    match program.variables.as_slice().get(var.0 as usize) {
-        Some(variable) => *variable,
-        None => Variable {
-            t: CType::I32,
-            shape: Shape::Value,
-        },
-    }
-}
-
-/// The function of this number, if there is one.
-pub fn function_of(program: &Program, function: FnId) -> Option<&Function>
-    ensures { MatchOption result (function_of program.now function ≡ no_function)
-        (λ found. (function.0 < length program.now.functions) × (function_of program.now function
-        ≡ found.now)) }
-{
-    program.functions.as_slice().get(function.0 as usize)
-}
 
 /// Variables begin as 0, arrays in locations of their own.
 pub fn begin_all(

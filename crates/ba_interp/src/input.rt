@@ -7,13 +7,13 @@ ghost use Rattle.ba_tree.specs.Inputs.{first_where, input_fault, is_outside, num
 ghost use Rattle.ba_tree.specs.Run.{fits};
 ghost use Rattle.ba_interp.specs.Inputs.{AreNumbers, Tells, no_number_fault};
 
-use crate::frames::variable_of;
 use crate::runs::main_params;
 use ba_bytes::decimal::decimal;
 use ba_bytes::pieces::Pieces;
 use ba_items::Items;
 use ba_numbers::ids::VarId;
 use ba_numbers::numbers::CType;
+use ba_tree::lookup::variable_of;
 use ba_tree::run::Input;
 use ba_tree::tree::{Program, Shape};
 use std::alloc::{AllocError, AllocFailed, Global};

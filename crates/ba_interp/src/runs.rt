@@ -9,7 +9,7 @@ ghost use Rattle.ba_interp.specs.Doing.{Did};
 ghost use Rattle.ba_interp.specs.Settings.{context_at};
 
 use crate::execution::exec_all;
-use crate::frames::{begin_all, function_of, variable_of};
+use crate::frames::begin_all;
 use crate::machine::Machine;
 use crate::path::Path;
 use crate::setting::{Frame, Setting};
@@ -18,8 +18,9 @@ use ba_choices::Choice;
 use ba_items::Items;
 use ba_numbers::ids::VarId;
 use ba_numbers::numbers::CType;
+use ba_tree::lookup::{function_of, main_body, variable_of};
 use ba_tree::run::{Allowed, Bounds, Exit, Flow, Halt, Input, Outcome};
-use ba_tree::tree::{Program, Stmt};
+use ba_tree::tree::Program;
 use std::alloc::{AllocError, Global};
 
 fn main_result(program: &Program) -> Option<CType>
@@ -46,15 +47,6 @@ fn main_locals(program: &Program) -> &[VarId]
 {
     match function_of(program, program.main) {
         Some(main) => main.locals.as_slice(),
-        None => &[],
-    }
-}
-
-fn main_body(program: &Program) -> &[Stmt]
-    ensures { result.now ≡ (main_of program.now).body }
-{
-    match function_of(program, program.main) {
-        Some(main) => main.body.as_slice(),
         None => &[],
     }
 }

@@ -5,3 +5,4 @@ pub mod Members
 pub mod Sets
 pub mod Equations
 pub mod FactEquations
+pub mod Falling

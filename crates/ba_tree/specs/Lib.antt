@@ -9,3 +9,4 @@ pub mod Kept
 pub mod Units
 pub mod Weights
 pub mod Least
+pub mod Heights

@@ -5,5 +5,6 @@
 #![tactic(auto)]
 
 pub mod laws;
+pub mod lookup;
 pub mod run;
 pub mod tree;

@@ -1,7 +1,6 @@
 mod ArrayLengths
 mod CallForms
 mod ExpressionForms
-mod Falling
 mod Maps
 mod Remainders
 mod StatementForms

@@ -1,45 +1,13 @@
 //! What single forms cost.
 
-ghost use Rattle.std.specs.Prelude.{◌≡◌, ◌-◌, ◌<◌, ℕ, length, MatchOption};
+ghost use Rattle.std.specs.Prelude.{◌≡◌, ◌-◌, ℕ};
 ghost use Rattle.ba_tree.specs.Meaning.{variable_of};
-ghost use Rattle.ba_tree.specs.Run.{function_of, main_of, no_function};
 ghost use Rattle.ba_tree.specs.Units.{declaration_units, declared_length, element_units, loop_units, operator_units};
 
-use ba_numbers::ids::{FnId, VarId};
-use ba_numbers::numbers::{BinOp, CType};
-use ba_tree::tree::{Function, Program, Shape, Stmt, Variable};
-
-/// The declaration of a variable.
-pub fn variable_of(program: &Program, var: VarId) -> Variable
-    ensures { result ≡ variable_of program.now var }
-{
-    match program.variables.as_slice().get(var.0 as usize) {
-        Some(variable) => *variable,
-        None => Variable {
-            t: CType::I32,
-            shape: Shape::Value,
-        },
-    }
-}
-
-/// The function of this number, if there is one.
-pub fn function_of(program: &Program, function: FnId) -> Option<&Function>
-    ensures { MatchOption result (function_of program.now function ≡ no_function)
-        (λ found. (function.0 < length program.now.functions) × (function_of program.now function
-        ≡ found.now)) }
-{
-    program.functions.as_slice().get(function.0 as usize)
-}
-
-/// The body of `main`.
-pub fn main_body(program: &Program) -> &[Stmt]
-    ensures { result.now ≡ (main_of program.now).body }
-{
-    match function_of(program, program.main) {
-        Some(main) => main.body.as_slice(),
-        None => &[],
-    }
-}
+use ba_numbers::ids::VarId;
+use ba_numbers::numbers::BinOp;
+use ba_tree::lookup::variable_of;
+use ba_tree::tree::{Program, Shape};
 
 /// How many elements a variable of this shape has of its own; none where it is no array.
 pub fn declared_length(shape: Shape) -> u32

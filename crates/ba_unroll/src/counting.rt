@@ -4,12 +4,11 @@ ghost use Rattle.std.specs.Prelude.{◌≡◌, ◌+◌, ◌-◌};
 ghost use Rattle.ba_tree.specs.Units.{loop_units};
 ghost use Rattle.ba_unroll.specs.Counts.{arg_units, args_units, expr_units, exprs_units, stmt_units, stmts_units, units_of_call};
 
-use crate::costs::{
-    element_units, function_of, left_after_declaration, left_after_turns, operator_units,
-};
+use crate::costs::{element_units, left_after_declaration, left_after_turns, operator_units};
 use crate::frame::{Frame, length_of};
 use crate::setting::Setting;
 use ba_numbers::ids::FnId;
+use ba_tree::lookup::function_of;
 use ba_tree::tree::{Arg, Expr, Stmt};
 
 /// What is left behind an expression.

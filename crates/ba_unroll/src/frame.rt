@@ -5,8 +5,9 @@ ghost use Rattle.ba_tree.specs.Units.{bound_lengths, declared_lengths, length_at
 ghost use Rattle.ba_tree.specs.declared.tree.Program.{Program};
 ghost use Rattle.ba_unroll.specs.Lengths.{argument_at, elements_of, lengths_of};
 
-use crate::costs::{declared_length, variable_of};
+use crate::costs::declared_length;
 use ba_numbers::ids::VarId;
+use ba_tree::lookup::variable_of;
 use ba_tree::tree::{Arg, Program};
 
 /// The frame of what is counted: that of `main` and of the initialisers of the globals, or that of a function that a call in another

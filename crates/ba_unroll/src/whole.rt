@@ -5,11 +5,12 @@ ghost use Rattle.ba_tree.specs.Meaning.{variable_of};
 ghost use Rattle.ba_tree.specs.Run.{are_bounds};
 ghost use Rattle.ba_tree.specs.Units.{declaration_units, units_of};
 
-use crate::costs::{left_after_declaration, main_body};
+use crate::costs::left_after_declaration;
 use crate::counting::left_after_stmts;
 use crate::frame::Frame;
 use crate::setting::Setting;
 use ba_numbers::ids::VarId;
+use ba_tree::lookup::main_body;
 use ba_tree::run::Bounds;
 use ba_tree::tree::Program;
 

@@ -6,7 +6,7 @@ use Rattle.ba_inline.proofs.Adding.{adds-assert, adds-beyond, adds-binary, adds-
 use Rattle.ba_inline.proofs.Arms.{adds-old, argument-array, argument-value, call-made, if-made, init-made, invoke-made, loop-made, makes-high, makes-old, scope-var, store-made, to-low, value-called, value-high}
 use Rattle.ba_inline.proofs.Branches.{adds-then, makes-and, makes-copy, makes-or, makes-select, makes-to, makes-truth}
 use Rattle.ba_inline.proofs.Effects.{makes-call_stmt, makes-print}
-use Rattle.ba_inline.proofs.Falling.{body-below, item-below}
+use Rattle.ba_tree.proofs.Falling.{body-below, item-below}
 use Rattle.ba_inline.proofs.Forms.{form-Assign, form-Block, form-CallStmt, form-Declare, form-DoWhile, form-For, form-Init, form-InitArray, form-Print, form-Store, form-While}
 use Rattle.ba_inline.proofs.Homes.{makes-row, row_part}
 use Rattle.ba_inline.proofs.Invoking.{makes-beyond}
@@ -21,7 +21,7 @@ use Rattle.ba_inline.proofs.Values.{makes-binary, makes-const, makes-convert, ma
 use Rattle.ba_inline.specs.Adding.{leave_act, pick_act, unary_act}
 use Rattle.ba_inline.specs.Calling.{arg_has_call, has_call}
 use Rattle.ba_inline.specs.Declarations.{with_var}
-use Rattle.ba_inline.specs.Heights.{arg_weight, arg_weights, height, heights, tallest, weight, weights}
+use Rattle.ba_tree.specs.Heights.{arg_weight, arg_weights, height, heights, tallest, weight, weights}
 use Rattle.ba_inline.specs.Making.{Adds, Does, GivesTo, Makes, MakesArguments, MakesValue, MakesValues}
 use Rattle.ba_inline.specs.Names.{IsScope}
 use Rattle.ba_inline.specs.Parts.{arguments_part, assign_part, call_stmt_part, context_in_frame, declare_part, given_part, init_array_part, loop_now, loop_part, optional_now, optional_part, print_part, stmt_part, stmts_part, store_part, value_part, values_part}

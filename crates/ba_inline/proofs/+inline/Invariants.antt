@@ -1,7 +1,7 @@
 use Rattle.std.proofs.Common.{◌+◌, ◌*◌, take}
 use Rattle.std.specs.List.{list_any}
 use Rattle.ba_inline.specs.Calling.{arg_has_call, has_call}
-use Rattle.ba_inline.specs.Heights.{arg_weight, arg_weights, height, heights, optional_stmt_height, tallest, weight, weights}
+use Rattle.ba_tree.specs.Heights.{arg_weight, arg_weights, height, heights, optional_stmt_height, tallest, weight, weights}
 use Rattle.ba_inline.specs.Making.{Does, Makes, MakesArguments, MakesValues}
 use Rattle.ba_inline.specs.Names.{IsFrame, IsScope}
 use Rattle.ba_inline.specs.Parts.{arguments_part, stmts_part, values_part}

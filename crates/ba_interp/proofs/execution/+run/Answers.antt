@@ -8,11 +8,11 @@ use Rattle.ba_interp.specs.Doing.{Did, ok_map}
 use Rattle.ba_interp.specs.Loops.{for_loop_at, do_loop_at, test_at, turn_at}
 use Rattle.ba_interp.specs.Paths.{steps_of}
 use Rattle.ba_interp.specs.Settings.{context_at}
-use Rattle.ba_interp.proofs.ChoiceArms.{chosen-ends, chosen-written, chosen-values, given-parts, elements-parts, element-parts, call-parts, print-parts, call-fails, call-stops, call-made, element-first, element-second, element-both}
+use Rattle.ba_interp.proofs.ChoiceArms.{chosen-ends, chosen-written, chosen-values, given-parts, elements-parts, element-parts, call-parts, print-parts, call-stops, call-made, element-first, element-second, element-both}
 use Rattle.std.proofs.Common.{◌<◌, ◌*◌}
-use Rattle.ba_interp.specs.Heights.{weight, arg_weight, height, weights, arg_weights, heights, tallest}
+use Rattle.ba_tree.specs.Heights.{weight, arg_weight, height, weights, arg_weights, heights, tallest}
 use Rattle.ba_interp.proofs.CallArms as calls
-use Rattle.ba_interp.proofs.Falling.{item-below, body-below}
+use Rattle.ba_tree.proofs.Falling.{item-below, body-below}
 use Rattle.ba_interp.proofs.ExpressionArms as arms
 use Rattle.ba_interp.proofs.Rounds.{test-ends, zero-ends, turn-ends, turn-leaves, turn-again, past-is}
 use Rattle.ba_interp.proofs.StatementArms as forms
@@ -191,21 +191,26 @@ eval-returns-else-is_zero-3 t c = let fits : SFits w64 c.in_ok-when-in-Select.wh
     c.is_zero-in-Select.ensures ∙ c.if-is_zero-3.false)) (rw (← c.deref-else-is_zero-3.ensures)
     c.eval-else-is_zero-3.ensures)
 
-pub eval-returns-in_err-arguments-in-Call : goal.eval-returns-in_err-arguments-in-Call
-eval-returns-in_err-arguments-in-Call t c = let p = err_from_is_err_and
-    c.from_residual-in_err-arguments-in-Call.result c.from_residual-in_err-arguments-in-Call.ensures.1 in
-    arms.call-ends (context_at c.args.setting.now c.args.frame) (steps_of c.args.path.now) c.args.here
-    c.args.expr.now c.args.machine.now c.in-Call.call c.in-Call.function c.in-Call.args c.in-Call.is
-    c.from_residual-in_err-arguments-in-Call.result p.0 c.eval_args.new.machine p.1
-    (rw (p.2, ← c.as_slice.ensures.value) c.in_err-arguments-in-Call.ensures)
-
-pub eval-returns-in_ok-arguments-in-Call : goal.eval-returns-in_ok-arguments-in-Call
-eval-returns-in_ok-arguments-in-Call t c =
+pub eval-returns-in-Call : goal.eval-returns-in-Call
+eval-returns-in-Call t c =
     arms.call-is (context_at c.args.setting.now c.args.frame) (steps_of c.args.path.now) c.args.here
     c.args.expr.now c.args.machine.now c.in-Call.call c.in-Call.function c.in-Call.args c.in-Call.is
-    c.invoke.result c.in_ok-arguments-in-Call.arguments.items c.eval_args.new.machine c.invoke.new.machine
-    (rw (← c.as_slice.ensures.value) c.in_ok-arguments-in-Call.ensures)
-    (rw (← c.within-inside.ensures, ← c.as_slice-in-Call.ensures.value) c.invoke.ensures)
+    c.call_value.result c.call_value.new.machine (rw (← c.as_slice.ensures.value) c.call_value.ensures)
+
+pub call_value-returns-in_err-arguments : goal.call_value-returns-in_err-arguments
+call_value-returns-in_err-arguments t c = let p = err_from_is_err_and c.from_residual.result
+    c.from_residual.ensures.1 in
+    arms.arguments-end (context_at c.args.setting.now c.args.frame) (steps_of c.args.path.now) c.args.here
+    c.args.call c.args.function c.args.args.now c.args.machine.now
+    c.from_residual.result p.0 c.eval_args.new.machine p.1 (rw p.2 c.in_err-arguments.ensures)
+
+pub call_value-returns : goal.call_value-returns
+call_value-returns t c =
+    arms.then-called (context_at c.args.setting.now c.args.frame) (steps_of c.args.path.now) c.args.here
+    c.args.call c.args.function c.args.args.now c.args.machine.now
+    c.in_ok-arguments.arguments.items c.as_slice.result.now (steps_of c.within-inside.result)
+    c.as_slice.ensures.value c.within-inside.ensures c.invoke.result c.eval_args.new.machine
+    c.invoke.new.machine c.in_ok-arguments.ensures c.invoke.ensures
 
 pub eval-returns-in-Const : goal.eval-returns-in-Const
 eval-returns-in-Const t c = let fits : SFits w64 c.in-Const.value = search rules in
@@ -386,52 +391,33 @@ call_effect-returns-in_err-choice_at t c = let p = err_from_is_err_and c.from_re
     c.choice_at.new.machine p.1
     (rw p.2 c.in_err-choice_at.ensures)
 
-pub call_effect-returns-in_err-arguments-in-None : goal.call_effect-returns-in_err-arguments-in-None
-call_effect-returns-in_err-arguments-in-None t c = let p = err_from_is_err_and
-    c.from_residual-in_err-arguments-in-None.result c.from_residual-in_err-arguments-in-None.ensures.1 in
+pub call_effect-returns-in_err-call_value-in-None : goal.call_effect-returns-in_err-call_value-in-None
+call_effect-returns-in_err-call_value-in-None t c = let p = err_from_is_err_and
+    c.from_residual-in_err-call_value-in-None.result c.from_residual-in_err-call_value-in-None.ensures.1 in
     chosen-written (call-parts c.args.setting.now c.args.frame (steps_of c.args.path.now) c.args.stmt
     c.args.machine.now c.args.call c.args.function c.args.args.now)
-    c.from_residual-in_err-arguments-in-None.result c.choice_at.new.machine c.eval_args.new.machine (λ v.
+    c.from_residual-in_err-call_value-in-None.result c.choice_at.new.machine c.call_value.new.machine (λ v.
     v.now) c.in_ok-choice_at.field-0
-    c.in_ok-choice_at.ensures c.in-None.is
-    (call-fails c.args.setting.now c.args.frame (steps_of c.args.path.now) c.args.stmt c.args.machine.now
-    c.args.call c.args.function c.args.args.now c.choice_at.new.machine
-    c.from_residual-in_err-arguments-in-None.result p.0 c.eval_args.new.machine p.1 (rw p.2
-    c.in_err-arguments-in-None.ensures))
-
-pub call_effect-returns-in_err-invoke-in-None : goal.call_effect-returns-in_err-invoke-in-None
-call_effect-returns-in_err-invoke-in-None t c = let p = err_from_is_err_and
-    c.from_residual-in_err-invoke-in-None.result c.from_residual-in_err-invoke-in-None.ensures.1 in
-    chosen-written (call-parts c.args.setting.now c.args.frame (steps_of c.args.path.now) c.args.stmt
-    c.args.machine.now c.args.call c.args.function c.args.args.now)
-    c.from_residual-in_err-invoke-in-None.result c.choice_at.new.machine c.invoke.new.machine (λ v. v.now)
-    c.in_ok-choice_at.field-0
     c.in_ok-choice_at.ensures c.in-None.is
     (call-stops c.args.setting.now c.args.frame (steps_of c.args.path.now) c.args.stmt c.args.machine.now
     c.args.call c.args.function c.args.args.now c.choice_at.new.machine
-    c.in_ok-arguments-in-None.arguments.items c.as_slice.result.now (steps_of c.within-inside.result)
-    c.as_slice.ensures.value c.within-inside.ensures
-    c.eval_args.new.machine c.invoke.new.machine c.from_residual-in_err-invoke-in-None.result p.0 p.1
-    c.in_ok-arguments-in-None.ensures
-    (rw p.2 c.in_err-invoke-in-None.ensures))
+    c.from_residual-in_err-call_value-in-None.result p.0 c.call_value.new.machine p.1
+    (rw p.2 c.in_err-call_value-in-None.ensures))
 
-pub call_effect-returns-in_ok-invoke-in-None : goal.call_effect-returns-in_ok-invoke-in-None
-call_effect-returns-in_ok-invoke-in-None t c = chosen-written (call-parts c.args.setting.now c.args.frame
+pub call_effect-returns-in_ok-call_value-in-None : goal.call_effect-returns-in_ok-call_value-in-None
+call_effect-returns-in_ok-call_value-in-None t c = chosen-written (call-parts c.args.setting.now c.args.frame
     (steps_of c.args.path.now) c.args.stmt c.args.machine.now c.args.call c.args.function c.args.args.now)
-    (Ok tt) c.choice_at.new.machine c.invoke.new.machine (λ v. v.now) c.in_ok-choice_at.field-0
+    (Ok tt) c.choice_at.new.machine c.call_value.new.machine (λ v. v.now) c.in_ok-choice_at.field-0
     c.in_ok-choice_at.ensures c.in-None.is
     (call-made c.args.setting.now c.args.frame (steps_of c.args.path.now) c.args.stmt c.args.machine.now
     c.args.call c.args.function c.args.args.now c.choice_at.new.machine
-    c.in_ok-arguments-in-None.arguments.items c.as_slice.result.now (steps_of c.within-inside.result)
-    c.as_slice.ensures.value c.within-inside.ensures
-    c.eval_args.new.machine c.invoke.new.machine c.in_ok-invoke-in-None.field-0
-    c.in_ok-arguments-in-None.ensures c.in_ok-invoke-in-None.ensures)
+    c.in_ok-call_value-in-None.field-0 c.call_value.new.machine c.in_ok-call_value-in-None.ensures)
 
 pub call_effect-returns-in-Some : goal.call_effect-returns-in-Some
 call_effect-returns-in-Some t c = chosen-values (call-parts c.args.setting.now c.args.frame (steps_of
     c.args.path.now) c.args.stmt c.args.machine.now c.args.call c.args.function c.args.args.now)
     c.no_value.result c.choice_at.new.machine (λ v. v.now) c.in_ok-choice_at.field-0 c.in-Some.values
-    c.in_ok-choice_at.ensures c.in-Some.is (rw (← c.as_slice-in-Some.ensures) (c.no_value.ensures
+    c.in_ok-choice_at.ensures c.in-Some.is (rw (← c.as_slice.ensures) (c.no_value.ensures
     c.choice_at.new.machine))
 
 pub print_effect-returns-in_err-choice_at : goal.print_effect-returns-in_err-choice_at

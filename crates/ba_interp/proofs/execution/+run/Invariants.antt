@@ -1,7 +1,7 @@
 use Rattle.std.proofs.Common.{◌≡◌, ◌+◌, ◌-◌, ◌*◌, ◌++◌, map, drop, Ok}
 use Rattle.ba_tree.specs.Acts.{each, then_do}
 use Rattle.ba_tree.specs.Meaning.{eval, eval_arg, exec_all}
-use Rattle.ba_interp.specs.Heights.{weight, arg_weight, weights, arg_weights, height, heights, tallest}
+use Rattle.ba_tree.specs.Heights.{weight, arg_weight, weights, arg_weights, height, heights, tallest}
 use Rattle.ba_interp.specs.Loops.{for_rounds, do_rounds}
 use Rattle.ba_interp.specs.Parts.{parts_of}
 use Rattle.ba_interp.specs.Paths.{steps_of}
@@ -18,6 +18,9 @@ decreases-eval_args l = l.frame.frames * tallest l.setting.now.program.now + (ar
 
 abbrev pub decreases-eval_arg : goal.decreases-eval_arg
 decreases-eval_arg l = l.frame.frames * tallest l.setting.now.program.now + arg_weight l.arg.now
+
+abbrev pub decreases-call_value : goal.decreases-call_value
+decreases-call_value l = l.frame.frames * tallest l.setting.now.program.now + (arg_weights l.args.now + 2)
 
 abbrev pub decreases-invoke : goal.decreases-invoke
 decreases-invoke l = l.frame.frames * tallest l.setting.now.program.now

@@ -1,10 +1,10 @@
 use Rattle.std.proofs.Common.{rules, ◌≡◌, ◌+◌, ◌-◌, ◌*◌, ◌<◌, suc, [], sum_by, refl, ◌∙◌, ap}
-use Rattle.ba_interp.specs.Heights.{weight, weights, arg_weight, arg_weights, height, heights, tallest}
+use Rattle.ba_tree.specs.Heights.{weight, weights, arg_weight, arg_weights, height, heights, tallest}
 use Rattle.ba_tree.specs.Units.{element_units}
 use Rattle.ba_unroll.specs.Counts.{arg_units, expr_units, stmt_units}
 use Rattle.ba_unroll.proofs.CallForms.{call-body, call-none, call-past}
 use Rattle.ba_unroll.proofs.ExpressionForms as forms
-use Rattle.ba_unroll.proofs.Falling.{body-below, item-below}
+use Rattle.ba_tree.proofs.Falling.{body-below, item-below}
 use Rattle.ba_unroll.proofs.Remainders.{behind-four, behind-none, behind-one, behind-three, behind-two, row-all, row-more, row-spent}
 use Rattle.ba_unroll.proofs.StatementForms as stmts
 use Rattle.ba_unroll.proofs.counting.+units.Goals as goal

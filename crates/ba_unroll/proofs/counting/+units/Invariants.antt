@@ -1,6 +1,6 @@
 use Rattle.std.proofs.Common.{◌≡◌, ◌+◌, ◌-◌, ◌*◌, take}
 use Rattle.std.specs.Prelude.{sum_by}
-use Rattle.ba_interp.specs.Heights.{weight, arg_weight, weights, arg_weights, height, heights, tallest}
+use Rattle.ba_tree.specs.Heights.{weight, arg_weight, weights, arg_weights, height, heights, tallest}
 use Rattle.ba_unroll.specs.Counts.{arg_units, expr_units, stmt_units}
 use Rattle.ba_unroll.proofs.counting.+units.Given as goal
 

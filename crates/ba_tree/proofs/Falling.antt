@@ -1,11 +1,11 @@
--- An item is below its row.
+-- What is counted inside is below what it is counted in.
 use Rattle.std.proofs.Common.{◌≡◌, ℕ, ◌+◌, ◌*◌, ◌<◌, ◌≤◌, suc, zero, List, [], ◌∷◌, map, length, get_or, slice_index_or, arith, ◌∙◌, ap}
 use Rattle.std.proofs.Math.Nat.{suc-mul}
 use Rattle.std.proofs.lemmas.List.Sums.{get_or-le-sum_by}
 use Rattle.ba_tree.specs.Run.{no_function}
 use Rattle.ba_tree.specs.declared.tree.Function.{Function}
 use Rattle.ba_tree.specs.declared.tree.Program.{Program}
-use Rattle.ba_interp.specs.Heights.{total, heights, tallest}
+use Rattle.ba_tree.specs.Heights.{total, heights, tallest}
 
 pub item-below : {X : Type 0} (f : X → ℕ) (xs : List X) (i : ℕ) (x : X) → i < length xs → x ≡ get_or xs i x
     → f x < total (map f xs)

@@ -1,4 +1,4 @@
--- Measures of expressions, statements and programs, by which the interpreter is seen to return.
+-- Measures of expressions, statements and programs, by which what walks over them is seen to return.
 
 use Rattle.std.specs.Prelude.{ℕ, ◌+◌, Option, None, Some, List, [], ◌∷◌, map, sum_by}
 use Rattle.std.specs.Global.{Box}
@@ -18,7 +18,7 @@ total [] = 0
 total (n ∷ ns) = n + 1 + total ns
 
 abbrev pub arg_weight_step : Arg-F ℕ ℕ → ℕ
-arg_weight_step (Arg-F.Value value) = value + 1
+arg_weight_step (Arg-F.Value value) = value + 2
 arg_weight_step (Arg-F.Array array) = 1
 
 abbrev pub weight_step : Expr-F ℕ ℕ → ℕ
@@ -26,12 +26,12 @@ weight_step (Expr-F.Const t value) = 1
 weight_step (Expr-F.Var var) = 1
 weight_step (Expr-F.Element array index) = index.value + 1
 weight_step (Expr-F.Unary op t a) = a.value + 1
-weight_step (Expr-F.Binary op t a b) = a.value + b.value + 1
-weight_step (Expr-F.AndAlso a b) = a.value + b.value + 1
-weight_step (Expr-F.OrElse a b) = a.value + b.value + 1
-weight_step (Expr-F.Select t when a b) = when.value + a.value + b.value + 1
+weight_step (Expr-F.Binary op t a b) = a.value + b.value + 2
+weight_step (Expr-F.AndAlso a b) = a.value + b.value + 2
+weight_step (Expr-F.OrElse a b) = a.value + b.value + 2
+weight_step (Expr-F.Select t when a b) = when.value + a.value + b.value + 2
 weight_step (Expr-F.Convert t a) = a.value + 1
-weight_step (Expr-F.Call call function args) = total args.items + 2
+weight_step (Expr-F.Call call function args) = total args.items + 4
 
 abbrev pub weight : Expr → ℕ
 weight = fold-Expr ℕ ℕ arg_weight_step weight_step
@@ -52,20 +52,20 @@ optional_height (Some n) = n.value
 abbrev pub height_step : Stmt-F ℕ → ℕ
 height_step (Stmt-F.Block body) = total body.items + 2
 height_step (Stmt-F.Declare var) = 1
-height_step (Stmt-F.Init stmt var value) = weight value + 3
-height_step (Stmt-F.InitArray stmt array values) = weights values.items + 3
-height_step (Stmt-F.Assign stmt var value) = weight value + 3
-height_step (Stmt-F.Store stmt array index value) = weight index + weight value + 3
-height_step (Stmt-F.If stmt when a b) = weight when + a.value + optional_height b + 2
-height_step (Stmt-F.While stmt when body) = weight when + body.value + 6
-height_step (Stmt-F.DoWhile stmt when body) = weight when + body.value + 6
+height_step (Stmt-F.Init stmt var value) = weight value + 4
+height_step (Stmt-F.InitArray stmt array values) = weights values.items + 4
+height_step (Stmt-F.Assign stmt var value) = weight value + 4
+height_step (Stmt-F.Store stmt array index value) = weight index + weight value + 4
+height_step (Stmt-F.If stmt when a b) = weight when + a.value + optional_height b + 5
+height_step (Stmt-F.While stmt when body) = weight when + body.value + 7
+height_step (Stmt-F.DoWhile stmt when body) = weight when + body.value + 7
 height_step (Stmt-F.For stmt first when step body) = total first.items + weight when + total step.items +
-    body.value + 7
+    body.value + 8
 height_step Stmt-F.Break = 1
 height_step Stmt-F.Continue = 1
-height_step (Stmt-F.Return stmt value) = weight value + 2
+height_step (Stmt-F.Return stmt value) = weight value + 4
 height_step Stmt-F.ReturnNone = 1
-height_step (Stmt-F.CallStmt stmt call function args) = arg_weights args.items + 4
+height_step (Stmt-F.CallStmt stmt call function args) = arg_weights args.items + 5
 height_step (Stmt-F.Print stmt args) = weights args.items + 4
 height_step (Stmt-F.Assert stmt when) = weight when + 1
 
@@ -74,6 +74,11 @@ height = fold-Stmt ℕ height_step
 
 abbrev pub heights : List Stmt → ℕ
 heights body = total (map height body)
+
+-- of a statement that may be there
+abbrev pub optional_stmt_height : Option (Box Stmt) → ℕ
+optional_stmt_height None = 1
+optional_stmt_height (Some stmt) = height stmt.value + 1
 
 -- above every body
 abbrev pub tallest : Program → ℕ

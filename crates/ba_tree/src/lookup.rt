@@ -1,0 +1,41 @@
+//! What a program declares, by its number.
+
+ghost use Rattle.std.specs.Prelude.{◌≡◌, ◌<◌, length, MatchOption};
+ghost use Rattle.ba_tree.specs.Meaning.{variable_of};
+ghost use Rattle.ba_tree.specs.Run.{function_of, main_of, no_function};
+
+use crate::tree::{Function, Program, Shape, Stmt, Variable};
+use ba_numbers::ids::{FnId, VarId};
+use ba_numbers::numbers::CType;
+
+/// The declaration of a variable. Each variable that a program names has one; another is a value of type `I32`.
+pub fn variable_of(program: &Program, var: VarId) -> Variable
+    ensures { result ≡ variable_of program.now var }
+{
+    match program.variables.as_slice().get(var.0 as usize) {
+        Some(variable) => *variable,
+        None => Variable {
+            t: CType::I32,
+            shape: Shape::Value,
+        },
+    }
+}
+
+/// The function of this number, if there is one. Each function that a program calls is.
+pub fn function_of(program: &Program, function: FnId) -> Option<&Function>
+    ensures { MatchOption result (function_of program.now function ≡ no_function)
+        (λ found. (function.0 < length program.now.functions) × (function_of program.now function
+        ≡ found.now)) }
+{
+    program.functions.as_slice().get(function.0 as usize)
+}
+
+/// The body of `main`.
+pub fn main_body(program: &Program) -> &[Stmt]
+    ensures { result.now ≡ (main_of program.now).body }
+{
+    match function_of(program, program.main) {
+        Some(main) => main.body.as_slice(),
+        None => &[],
+    }
+}
