@@ -6,19 +6,6 @@ use crate::source::Source;
 use ba_lits::{Formula, Lit};
 use std::alloc::{AllocError, Global};
 
-/// The first variable, and that each implies the next. Propagation assigns each variable once, without a decision.
-///
-/// The one error is want of memory.
-pub fn chain(alloc: Global, variables: u64) -> Result<Formula, AllocError> {
-    let mut formula = without_clauses(alloc, variables)?;
-    add(&mut formula, [literal(1, false)].as_slice())?;
-    for variable in 1..variables {
-        let next = [literal(variable, true), literal(variable + 1, false)];
-        add(&mut formula, next.as_slice())?;
-    }
-    Ok(formula)
-}
-
 /// So many pigeons, each in one of so many holes, no two of them in the same.
 ///
 /// The one error is want of memory.

@@ -10,7 +10,7 @@ mod source;
 
 pub use clauses::{add, add_clause, formula_of, without_clauses};
 pub use conditions::{are_numbers, are_selectors};
-pub use instances::{chain, pigeons, random};
+pub use instances::{pigeons, random};
 pub use judge::NoRuns;
 pub use literals::{lit, literal, lits};
 pub use source::Source;

@@ -8,9 +8,8 @@
 //! - `formula PROGRAM INPUT BOUND [DEPTH]`: the formula of a C program on an input, where each statement weighs 1, as weighted
 //!   CNF in the format of the MaxSAT evaluations since 2022, with the sizes of what it was made from as comments, and on
 //!   standard error how long each step took;
-//! - `search NAME`, `search file FILE`: the search over the formula of a name, or over one in a file, with each learnt clause
-//!   put through a checker: the answer, the conflicts and the literals that propagation assigned;
-//! - `search dimacs NAME`: the formula of a name, so that other programs can solve it.
+//! - `search FILE`: the search over a formula in the DIMACS format, with each learnt clause put through a checker: the answer,
+//!   the conflicts and the literals that propagation assigned.
 #![tactic(auto)]
 
 mod calls;

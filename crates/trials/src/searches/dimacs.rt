@@ -1,23 +1,9 @@
 //! Formulas as text in the DIMACS format.
 
-use crate::clauses::write_clause;
 use anyhow::{Result, bail, ensure};
 use ba_lits::{Formula, Lit, is_clause};
 use std::alloc::Global;
-use std::io::{self, BufWriter, Write};
 use test_formulas::{lit, without_clauses};
-
-/// Prints a formula.
-pub fn print_formula<R: AllocGlobal + Print>(rt: &R, formula: &Formula) -> io::Result<()> {
-    let mut writer = BufWriter::new(rt.alloc(), io::writer(rt))?;
-    let variables = formula.variables();
-    let clauses = formula.len();
-    writeln!(writer, "p cnf {variables} {clauses}")?;
-    for place in 0..clauses {
-        write_clause(&mut writer, formula.clause(place + 1))?;
-    }
-    writer.flush()
-}
 
 /// The formula that a text spells, with a clause in each line.
 pub fn read_formula(alloc: Global, text: &str) -> Result<Formula> {
