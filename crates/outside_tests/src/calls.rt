@@ -48,35 +48,6 @@ pub fn world_with(
     MemoryWorld::new(alloc, files, fails, piece).expect(rt, "memory")
 }
 
-/// A world that holds a program, an input, weights and a certificate, whose calls of these numbers fail.
-pub fn world_to_check(
-    rt: &impl Abort,
-    alloc: Global,
-    program: &str,
-    weights: &str,
-    certificate: &[u8],
-    fails: &[u64],
-    piece: usize,
-) -> MemoryWorld
-    requires { 0 < piece }
-{
-    let mut files = Vec::new(alloc);
-    files
-        .push(file(rt, alloc, "p.c", program.as_bytes()))
-        .expect(rt, "memory");
-    files
-        .push(file(rt, alloc, "in.txt", b"1"))
-        .expect(rt, "memory");
-    files
-        .push(file(rt, alloc, "w.txt", weights.as_bytes()))
-        .expect(rt, "memory");
-    files
-        .push(file(rt, alloc, "c", certificate))
-        .expect(rt, "memory");
-    let fails = Vec::from_slice(alloc, fails).expect(rt, "memory");
-    MemoryWorld::new(alloc, files, fails, piece).expect(rt, "memory")
-}
-
 /// A world that holds a program and an input.
 pub fn world_of(
     rt: &impl Abort,
@@ -105,22 +76,4 @@ pub fn end<W: World, D: StepSink + Drop>(
 pub fn localise(alloc: Global, world: &mut MemoryWorld) -> Status {
     let words = ["localise", "p.c", "in.txt", "--bound", "1"];
     end(alloc, &words, world, &mut NoSink)
-}
-
-/// Calls the program by these words over a program, an input and weights: how it ends, and what it
-/// prints.
-pub fn call(
-    rt: &impl Abort,
-    alloc: Global,
-    words: &[&str],
-    program: &str,
-    input: &str,
-    weights: &str,
-) -> (Status, Vec<u8>) {
-    let mut world = world_with(rt, alloc, program, input, weights, &[], 4096);
-    let ended = end(alloc, words, &mut world, &mut NoSink);
-    (
-        ended,
-        Vec::from_slice(alloc, world.printed()).expect(rt, "memory"),
-    )
 }

@@ -8,8 +8,6 @@ pub struct Endless {
     is_open: bool,
     is_begun: bool,
     pub given: u64,
-    /// Whether what was printed last is the refusal of the program as too long.
-    pub refused_the_program: bool,
 }
 
 impl Endless {
@@ -19,7 +17,6 @@ impl Endless {
             is_open: false,
             is_begun: false,
             given: 0,
-            refused_the_program: false,
         }
     }
 }
@@ -61,9 +58,7 @@ impl World for Endless {
         Ok(())
     }
 
-    fn print(&mut self, bytes: &[u8]) -> Result<(), WorldError> {
-        self.refused_the_program = bytes
-            == b"refused: program is longer than 65536 bytes\n".as_slice();
+    fn print(&mut self, _bytes: &[u8]) -> Result<(), WorldError> {
         Ok(())
     }
 }

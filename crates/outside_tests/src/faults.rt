@@ -1,56 +1,12 @@
 //! Files that cannot be read, and calls of a world that fail.
 
-use crate::calls::{call, end, localise, world_of, world_with};
-use crate::endless::Endless;
+use crate::calls::{end, localise, world_of, world_with};
 use crate::programs::{ONE_ASSIGNMENT, ONE_REPORT};
 use ba_steps::NoSink;
 use ba_tool::status::Status;
-use ba_world::MemoryWorld;
 use std::alloc::Global;
 use std::panic::Expect;
 use std::process::Abort;
-
-/// How the call ends, and what it prints, where these calls of the world fail.
-fn end_where(rt: &impl Abort, alloc: Global, fails: &[u64]) -> (Status, Vec<u8>) {
-    let mut world = world_of(rt, alloc, ONE_ASSIGNMENT, "1", fails, 4096);
-    let ended = localise(alloc, &mut world);
-    (
-        ended,
-        Vec::from_slice(alloc, world.printed()).expect(rt, "memory"),
-    )
-}
-
-#[test]
-fn calls_nothing_but_print_after_a_fault(rt: HostRuntime) {
-    // The call after the one that fails may print a refusal. One more call would fail too.
-    for call in 0..7 {
-        let (status, printed) = end_where(&rt, rt.alloc(), &[call]);
-        let (again, printed_again) = end_where(
-            &rt,
-            rt.alloc(),
-            &[
-                call,
-                call + 2,
-                call + 3,
-                call + 4,
-                call + 5,
-                call + 6,
-                call + 7,
-                call + 8,
-                call + 9,
-                call + 10,
-                call + 11,
-                call + 12,
-            ],
-        );
-        assert_eq!(rt; again, status, "after call {call}");
-        assert_eq!(rt;
-            printed_again.as_slice(),
-            printed.as_slice(),
-            "after call {call}"
-        );
-    }
-}
 
 /// Asserts how a call over a world ends, some of whose calls fail, and what it prints.
 fn assert_failing(
@@ -101,15 +57,6 @@ fn says_which_call_of_the_world_failed(rt: HostRuntime) {
     }
 }
 
-#[test]
-fn reads_files_in_any_pieces(rt: HostRuntime) {
-    for piece in [1, 7] {
-        let mut world = world_of(&rt, rt.alloc(), ONE_ASSIGNMENT, "1", &[], piece);
-        assert_eq!(rt; localise(rt.alloc(), &mut world), Status::Ok, "by {piece}");
-        assert_eq!(rt; world.printed(), ONE_REPORT.as_bytes(), "by {piece}");
-    }
-}
-
 /// Asserts how a call over a program and an input ends, and what it prints.
 fn assert_read(
     rt: &impl Abort,
@@ -132,16 +79,6 @@ const TOO_LONG_INPUT: &str = "refused: input is longer than 65536 bytes\n";
 const NO_MAIN: &str = "refused: program, error 3.5 at end\n";
 
 const WRONG_COUNT: &str = "refused: input, error 3\n";
-
-#[test]
-fn names_the_file_that_is_absent(rt: HostRuntime) {
-    let alloc = rt.alloc();
-    let mut empty = MemoryWorld::new(alloc, Vec::new(alloc), Vec::new(alloc), 1).expect(
-        &rt, "memory",
-    );
-    assert_eq!(rt; localise(alloc, &mut empty), Status::ReadFault);
-    assert_eq!(rt; empty.printed(), NO_PROGRAM.as_bytes());
-}
 
 #[test]
 fn names_the_file_that_is_too_long(rt: HostRuntime) {
@@ -172,17 +109,6 @@ fn names_the_file_that_is_too_long(rt: HostRuntime) {
         Status::BadInput,
         WRONG_COUNT,
     );
-}
-
-#[test]
-fn refuses_a_program_that_never_ends(rt: HostRuntime) {
-    let mut world = Endless::new();
-    let words = ["localise", "p.c", "in.txt", "--bound", "1"];
-    assert_eq!(rt;
-        end(rt.alloc(), &words, &mut world, &mut NoSink),
-        Status::TooLong
-    );
-    assert!(rt; world.refused_the_program);
 }
 
 /// Asserts how a call with weights ends, where a call of its world fails, and what it prints.
@@ -219,12 +145,4 @@ fn reads_the_weights_after_the_input(rt: HostRuntime) {
         let (fails, status, printed) = *row;
         assert_weighed(&rt, rt.alloc(), fails, status, printed);
     }
-}
-
-#[test]
-fn names_weights_that_are_absent(rt: HostRuntime) {
-    let absent = ["localise", "p.c", "in.txt", "--weights=none", "--bound=1"];
-    let (ended, text) = call(&rt, rt.alloc(), &absent, ONE_ASSIGNMENT, "1", "");
-    assert_eq!(rt; ended, Status::ReadFault);
-    assert_eq!(rt; text.as_slice(), NO_WEIGHTS.as_bytes());
 }

@@ -1,59 +1,13 @@
 //! Searches: what is handed to a sink, and certificates.
 
-ghost use Rattle.std.specs.Prelude.{◌≤◌};
-ghost use Rattle.ba_steps.specs.Sinks.{Rose};
-
 use crate::calls::{end, world_of};
-use crate::programs::{BRANCHES, BRANCHES_REPORT, ONE_ASSIGNMENT, ONE_REPORT};
+use crate::programs::{BRANCHES, BRANCHES_REPORT, ONE_ASSIGNMENT};
 use ba_cert::{read_line, step_text};
-use ba_lits::{Formula, Lit};
-use ba_steps::{CertStep, ListSink, NoSink, SinkError, StepSink};
+use ba_steps::{Basis, CertStep, ListSink, NoSink};
 use ba_tool::status::Status;
 use std::alloc::Global;
 use std::panic::Expect;
 use std::process::Abort;
-
-/// A sink whose calls fail from the one of a number on. It tells nothing.
-#[derive(Drop)]
-struct Failing {
-    calls: u64,
-    first: u64,
-}
-
-impl Failing {
-    fn call(&mut self) -> Result<(), SinkError>
-        ensures rises { Rose self.old.calls self.new.calls }
-        ensures no_fall { self.old.calls ≤ self.new.calls }
-    {
-        let call = self.calls;
-        self.calls = call.saturating_add(1);
-        if call < self.first {
-            Ok(())
-        } else {
-            Err(SinkError::Failed)
-        }
-    }
-}
-
-impl StepSink for Failing {
-    ghost use Rattle.std.specs.Prelude.{None, []};
-
-    ghost over = { λ _. None };
-
-    ghost logs = { λ _. [] };
-
-    ghost faults = { λ sink. sink.calls };
-
-    ghost references = { λ _. [] };
-
-    fn begin(&mut self, _formula: &Formula, _softs: &[(Lit, u32)]) -> Result<(), SinkError> {
-        self.call()
-    }
-
-    fn take(&mut self, _step: &CertStep) -> Result<(), SinkError> {
-        self.call()
-    }
-}
 
 /// The words of a call that writes a certificate.
 const CERTIFIED: &[&str] = &["localise", "p.c", "in.txt", "--bound=1", "--cert=c"];
@@ -83,6 +37,40 @@ fn hands_on_the_steps_that_spend_the_conflicts(rt: HostRuntime) {
     let ends = steps.steps().iter().filter(|step| is_spent(step)).count();
     assert_eq!(rt; conflicts, 1);
     assert_eq!(rt; ends, 1);
+}
+
+/// Whether formulas and soft literals are the same.
+fn are_same(one: &Basis, other: &Basis) -> bool {
+    let clauses = one.formula.len();
+    if one.softs.as_slice() != other.softs.as_slice()
+        || one.formula.variables() != other.formula.variables()
+        || clauses != other.formula.len()
+    {
+        return false;
+    }
+    for place in 0..clauses {
+        if one.formula.clause(place + 1) != other.formula.clause(place + 1) {
+            return false;
+        }
+    }
+    true
+}
+
+#[test]
+fn hands_on_the_formula_of_the_search(rt: HostRuntime) {
+    let alloc = rt.alloc();
+    let mut world = world_of(&rt, alloc, BRANCHES, "1", &[], 4096);
+    let words = ["localise", "p.c", "in.txt", "--bound=1", "--cert=c"];
+    let mut searched = ListSink::new(alloc);
+    assert_eq!(rt; end(alloc, &words, &mut world, &mut searched), Status::Ok);
+    let words = ["check", "p.c", "in.txt", "c", "--bound=1"];
+    let mut checked = ListSink::new(alloc);
+    assert_eq!(rt; end(alloc, &words, &mut world, &mut checked), Status::Ok);
+    assert!(rt; checked.steps().is_empty());
+    match (searched.over(), checked.over()) {
+        ([one], [other]) => assert!(rt; are_same(one, other)),
+        _ => panic!(rt; "not one formula each"),
+    }
 }
 
 #[test]
@@ -154,22 +142,4 @@ fn prints_nothing_where_a_certificate_fails(rt: HostRuntime) {
     assert_cut_off(&rt, alloc, 6, None);
     assert_cut_off(&rt, alloc, 7, Some("bugass"));
     assert_cut_off(&rt, alloc, 8, Some("bugassist 1\n"));
-}
-
-/// Asserts how a call ends whose sink fails from a call on, and what it prints.
-fn assert_handed(rt: &impl Abort, alloc: Global, first: u64, status: Status, printed: &str) {
-    let mut world = world_of(rt, alloc, ONE_ASSIGNMENT, "1", &[], 4096);
-    let mut steps = Failing { calls: 0, first };
-    let words = ["localise", "p.c", "in.txt", "--bound=1"];
-    let ended = end(alloc, &words, &mut world, &mut steps);
-    assert_eq!(rt; ended, status);
-    assert_eq!(rt; world.printed(), printed.as_bytes());
-}
-
-#[test]
-fn prints_nothing_where_a_sink_fails(rt: HostRuntime) {
-    for first in 0..3 {
-        assert_handed(&rt, rt.alloc(), first, Status::WriteFault, "");
-    }
-    assert_handed(&rt, rt.alloc(), 1000, Status::Ok, ONE_REPORT);
 }
