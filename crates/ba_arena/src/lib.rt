@@ -198,7 +198,8 @@ impl Arena {
     pub fn after(&self, clause: ClauseRef) -> Option<ClauseRef>
         requires { IsLive self.now clause }
         ensures first { IsFirstFrom self.now (clause + 1) result }
-        ensures room { IfSome result (λ next. clause + 4 + length (lits_at self.now clause) ≤ next) }
+        ensures room { IfSome result
+            (λ next. clause + 4 + length (lits_at self.now clause) ≤ next) }
         ensures below { clause + 4 + length (lits_at self.now clause) < 2 ^ 32 }
     {
         let end = clause.index as usize + LITS + self.words[clause.index as usize] as usize;

@@ -52,7 +52,8 @@ fn next_entry(
     requires fits { fits_behind (map length entries.now) op.now ≡ true }
     requires entries { AreEntriesOf nodes.old entries.now }
     ensures cells { IfOk result (AreCellsOf nodes.new) }
-    ensures length { IfOk result (λ cells. length cells ≡ length_of (map length entries.now) op.now) }
+    ensures length { IfOk result
+        (λ cells. length cells ≡ length_of (map length entries.now) op.now) }
     ensures spell { IfOk result (λ cells. needed ≡ true
         → SpellEntry nodes.old entries.now op.now nodes.new cells) }
     ensures take { IfOk result (λ cells. needed ≡ true → CanTake nodes.old op.now nodes.new cells) }
@@ -99,7 +100,8 @@ fn entry(
     requires fits { fits_behind (map length entries.now) op.now ≡ true }
     requires entries { AreEntriesOf nodes.old entries.now }
     ensures cells { IfOk result (AreCellsOf nodes.new) }
-    ensures length { IfOk result (λ cells. length cells ≡ length_of (map length entries.now) op.now) }
+    ensures length { IfOk result
+        (λ cells. length cells ≡ length_of (map length entries.now) op.now) }
     ensures spell { IfOk result (SpellEntry nodes.old entries.now op.now nodes.new) }
     ensures take { IfOk result (CanTake nodes.old op.now nodes.new) }
     ensures extends { Extends nodes.old nodes.new }

@@ -112,7 +112,8 @@ impl<S: StepSink, J: RunJudge> Checked<S, J> {
         ensures again { (error : SinkError) → self.old.refusal ≡ Some error → (result ≡ Err error)
             × (self.new ≡ self.old) }
         ensures cause { result ≡ Err SinkError.Failed
-            → (self.old.refusal ≡ Some SinkError.Failed) ⊎ Rose (S.faults self.old.sink) (S.faults self.new.sink) }
+            → (self.old.refusal ≡ Some SinkError.Failed)
+            ⊎ Rose (S.faults self.old.sink) (S.faults self.new.sink) }
     {
         if let Some(refusal) = self.refusal {
             return Err(refusal);

@@ -16,7 +16,8 @@ ghost use Rattle.ba_checker.specs.Facts.{IsStart, splits_of, Holds};
 pub fn implied_law()
     ensures { (live : ℕ → Option (List Literal)) (v : Assignment)
         → ((number : ℕ) (c : List Literal) → live number ≡ Some c → any_true v c ≡ true)
-        → (clause : List Literal) (hints : List ℕ) → FollowsByHints live clause hints → any_true v clause ≡ true }
+        → (clause : List Literal) (hints : List ℕ) → FollowsByHints live clause hints
+        → any_true v clause ≡ true }
 {}
 
 /// The facts hold of every state that allowed steps lead to, whatever the judge says.
@@ -30,5 +31,6 @@ pub fn facts_law()
 pub fn learnt_once_law()
     ensures { (good : Judge) (s t : State) (before between rest : List CertStep)
         → (lits : List Literal) (first second : List ℕ) → length lits ≤ 2
-        → after_all good s (before ++ Learn lits first ∷ (between ++ Learn lits second ∷ rest)) ≡ Some t → ⊥ }
+        → after_all good s (before ++ Learn lits first ∷ (between ++ Learn lits second ∷ rest))
+        ≡ Some t → ⊥ }
 {}

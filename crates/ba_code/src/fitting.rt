@@ -307,7 +307,8 @@ fn have_type(vars: &[CType], arrays: &[ArrayInfo], t: CType, operands: &[Operand
 
 /// Whether the variable gets a number that it can hold.
 fn sets_type(vars: &[CType], arrays: &[ArrayInfo], to: u32, from: Operand) -> bool
-    ensures { result ≡ holds (λ t. has_type (record { vars = vars.now; arrays = arrays.now }) t from)
+    ensures { result
+        ≡ holds (λ t. has_type (record { vars = vars.now; arrays = arrays.now }) t from)
         (slice_get vars.now to) }
 {
     match vars.get(to as usize) {

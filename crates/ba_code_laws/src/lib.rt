@@ -12,7 +12,8 @@ ghost use Rattle.ba_code_laws.specs.Tracing.{Relaxes, Traced, trace_nodes, witho
 
 /// Law: a run that notes its places is the run, with its places beside it.
 pub fn places_change_no_run()
-    ensures { (relaxes : Relaxes) (arrays : List ArrayInfo) (bound : ℕ) (nodes : List Node) (s : Traced)
+    ensures { (relaxes : Relaxes) (arrays : List ArrayInfo) (bound : ℕ) (nodes : List Node)
+        (s : Traced)
         → list_all is_unrolled nodes ≡ true
         → without_trace (trace_nodes relaxes arrays nodes s) ≡ run_nodes
         (record { relaxes = relaxes; turns = bound; arrays = arrays; operators = converting }) nodes [] s.code }

@@ -55,7 +55,8 @@ fn with_arguments<'a>(
     names: &'static [&'static str],
 ) -> Result<clap::Command<'a>, AllocError>
     ensures { IfOk result (λ more.
-        app_of more ≡ with_rules (app_of command.entry) (map (λ name. rule_for role name.now) names.now)) }
+        app_of more
+        ≡ with_rules (app_of command.entry) (map (λ name. rule_for role name.now) names.now)) }
 {
     let mut command = command;
     for name in names {
@@ -179,7 +180,8 @@ fn is_steady(matches: &ArgMatches<'_>) -> Option<bool>
 
 fn localise<'a>(matches: &ArgMatches<'a>, runs: bool) -> Option<Command<'a>>
     ensures { result
-        ≡ localise_with (first_value (found_of matches.now)) (first_value (found_of matches.now)) runs }
+        ≡ localise_with (first_value (found_of matches.now))
+        (first_value (found_of matches.now)) runs }
 {
     let program = text_of(matches, "PROGRAM")?;
     let input = text_of(matches, "INPUT")?;
@@ -222,7 +224,8 @@ fn check<'a>(matches: &ArgMatches<'a>) -> Option<Command<'a>>
 }
 
 fn run<'a>(matches: &ArgMatches<'a>) -> Option<Command<'a>>
-    ensures { result ≡ run_with (first_value (found_of matches.now)) (first_value (found_of matches.now)) }
+    ensures { result
+        ≡ run_with (first_value (found_of matches.now)) (first_value (found_of matches.now)) }
 {
     let program = text_of(matches, "PROGRAM")?;
     let input = text_of(matches, "INPUT")?;
@@ -245,7 +248,8 @@ fn sample<'a>(matches: &ArgMatches<'a>) -> Option<Command<'a>>
 /// is there.
 pub fn command_in<'a>(mode: Mode, matches: &ArgMatches<'a>, runs: bool) -> Option<Command<'a>>
     ensures { result
-        ≡ command_with mode (first_value (found_of matches.now)) (first_value (found_of matches.now)) runs }
+        ≡ command_with mode (first_value (found_of matches.now))
+        (first_value (found_of matches.now)) runs }
 {
     match mode {
         Mode::Localise => localise(matches, runs),

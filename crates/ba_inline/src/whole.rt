@@ -91,7 +91,8 @@ fn translate(setting: &Setting, frames: u32) -> Result<Translation, AllocError>
 /// The tree of what was made of a program. Its parts fit together and keep to their types; in what is made of a program they always do.
 fn tree_of(alloc: Global, made: Translation) -> Result<LoopTree, AllocError>
     ensures { IfOk result (λ tree. IsTyped made.declared made.body.items
-        × (code_of_loops tree ≡ code_with (length made.declared.vars) made.declared made.params.items made.body.items)) }
+        × (code_of_loops tree ≡ code_with
+        (length made.declared.vars) made.declared made.params.items made.body.items)) }
 {
     let vars = made.declared.vars().len();
     if !are_typed(

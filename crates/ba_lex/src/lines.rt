@@ -153,7 +153,8 @@ pub fn read_line(
         ≡ sequence (only_tokens out.new.items) (reading next lines)) }
     ensures room { OnOk result (length out.new.items ≤ MAX_TOKENS) }
     ensures err { IfErr result (λ e. (lines : List (List Piece)) →
-        Fails e (answer (sequence (only_tokens out.old.items) (reading macros (line.now ∷ lines))))) }
+        Fails e (answer
+        (sequence (only_tokens out.old.items) (reading macros (line.now ∷ lines))))) }
 {
     if begins_directive(line) {
         return directive(alloc, macros, line[0].at, &line[1..]);

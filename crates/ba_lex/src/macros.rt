@@ -110,7 +110,8 @@ pub fn replacement<'m>(macros: &'m Macros, kind: &'m TokenKind) -> &'m [TokenKin
 /// Adds a name to the set.
 fn mention(alloc: Global, mentioned: &mut IndexSet<Vec<u8>>, name: &[u8]) -> Result<(), AllocError>
     ensures { OnOk result ((other : List ℕ) →
-        is_among other mentioned.new.keys ≡ (is_among other mentioned.old.keys || bytes_eq other name.now)) }
+        is_among other mentioned.new.keys
+        ≡ (is_among other mentioned.old.keys || bytes_eq other name.now)) }
 {
     if !mentioned.contains(name) {
         mentioned.insert(Vec::from_slice(alloc, name)?)?;
@@ -128,7 +129,8 @@ fn mention_token(
     requires { HaveNamesOf mentioned.old.keys (table_of bodies.now.entries) }
     ensures { OnOk result ((name : List ℕ) →
         is_among name mentioned.new.keys
-        ≡ (is_among name mentioned.old.keys || is_in_body name (replacement (table_of bodies.now.entries) token.now.kind))) }
+        ≡ (is_among name mentioned.old.keys
+        || is_in_body name (replacement (table_of bodies.now.entries) token.now.kind))) }
 {
     let TokenKind::Name(name) = &token.kind else {
         return Ok(());
@@ -149,7 +151,8 @@ fn mention_all(
     requires { HaveNamesOf mentioned.old.keys (table_of bodies.now.entries) }
     ensures { OnOk result ((name : List ℕ) →
         is_among name mentioned.new.keys
-        ≡ (is_among name mentioned.old.keys || is_in_body name (body_from (table_of bodies.now.entries) tokens.now))) }
+        ≡ (is_among name mentioned.old.keys
+        || is_in_body name (body_from (table_of bodies.now.entries) tokens.now))) }
 {
     for token in tokens {
         mention_token(alloc, mentioned, &*bodies, token)?;

@@ -106,8 +106,10 @@ fn sum_of_rows(
     requires first { AreBitsOf nodes.old a.now }
     requires second { AreBitsOf nodes.old plus.now }
     ensures number { IfOk result (λ word. (factor : (ℕ → Bool) → ℕ) →
-        ((free : ℕ → Bool) → number_of free nodes.old plus.now ≡ (factor free + spelled minus.now) % 2 ^ 32) →
-        HasNumber nodes.new word (λ free. (number_of free nodes.old a.now * factor free) % 2 ^ 32)) }
+        ((free : ℕ → Bool)
+        → number_of free nodes.old plus.now ≡ (factor free + spelled minus.now) % 2 ^ 32) →
+        HasNumber nodes.new word
+        (λ free. (number_of free nodes.old a.now * factor free) % 2 ^ 32)) }
     ensures extends { Extends nodes.old nodes.new }
     ensures count { gates_in nodes.new ≤ gates_in nodes.old + 32 * 128 }
 {
@@ -135,7 +137,8 @@ fn row(
     requires third { IsBitOf nodes.old digit }
     ensures number { IfOk result (λ word. HasNumber nodes.new word (λ free.
         sum_or_difference minus (number_of free nodes.old sum.now)
-        (if bool_xor minus (truth free nodes.old digit) then (number_of free nodes.old a.now * 2 ^ place) % 2 ^ 32 else 0))) }
+        (if bool_xor minus (truth free nodes.old digit) then
+        (number_of free nodes.old a.now * 2 ^ place) % 2 ^ 32 else 0))) }
     ensures extends { Extends nodes.old nodes.new }
     ensures count { gates_in nodes.new ≤ gates_in nodes.old + 128 }
 {

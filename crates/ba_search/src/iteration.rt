@@ -96,7 +96,8 @@ impl Engine {
         ensures answer { IfOk result (λ found.
             IfSome found (IsAnswer checked.new.checker assumptions.now)) }
         ensures less { IfOk result (λ found.
-            IfNone found (iterations_left checked.new.checker self.new.backtracks_left self.new.watch
+            IfNone found
+            (iterations_left checked.new.checker self.new.backtracks_left self.new.watch
             < iterations_left checked.old.checker self.old.backtracks_left self.old.watch)) }
         ensures goes_on { OnOk result (GoesOn (J.accepts checked.old.judge) (K.post keep.now)
             assumptions.now checked.old.checker checked.new.checker self.old self.new

@@ -70,7 +70,8 @@ const BUFFER: usize = 4096;
 /// piece in which its first refused line ends.
 fn feed_file<W: World>(world: &mut W, name: &str, confirm: &mut Confirm) -> Result<(), Unfed>
     ensures fed { (j : Judging) → j.name ≡ name.now → HasRead j.problem [] (seen confirm.old)
-        → IfOk result (λ _. IsFed j (W.outside world.old) (W.outside world.new) (seen confirm.new)) }
+        → IfOk result
+        (λ _. IsFed j (W.outside world.old) (W.outside world.new) (seen confirm.new)) }
     ensures unfed { (j : Judging) → j.name ≡ name.now → HasRead j.problem [] (seen confirm.old)
         → IfErr result (λ unfed. IsUnfed j unfed (W.outside world.old) (W.outside world.new)) }
     ensures bounded { (W.outside world.new).given

@@ -196,7 +196,8 @@ fn kind_of_target(target: &JudgedTarget) -> StmtKind
 /// The statement of this number that assigns a value to this.
 fn assigned_stmt(stmt: StmtId, target: JudgedTarget, value: Expr) -> Stmt
     ensures { (s : TypedTarget) (e : Typed) → JudgesTarget target s →
-        tree_of_expr value ≡ tree_as s.expression.t e → tree_of_stmt result ≡ assigned_tree stmt s e }
+        tree_of_expr value ≡ tree_as s.expression.t e
+        → tree_of_stmt result ≡ assigned_tree stmt s e }
 {
     let JudgedTarget { var, t: _, index } = target;
     match index {
@@ -271,7 +272,8 @@ fn add_step<'a>(
     stmts: &mut Vec<Stmt>,
 ) -> Result<(), AllocError>
     ensures { OnOk result (state scope.now work.new stmts.new
-        ≡ behind_part (add_assignment at target.now (operator_at operator.now) (one operator.now.at))
+        ≡ behind_part
+        (add_assignment at target.now (operator_at operator.now) (one operator.now.at))
         (state scope.now work.old stmts.old)) }
 {
     let op = operator_at(operator);

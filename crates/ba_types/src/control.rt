@@ -121,7 +121,8 @@ fn add_first<'a>(
     stmts: &mut Vec<Stmt>,
 ) -> Result<(), AllocError>
     ensures { OnOk result (state scope.new work.new stmts.new
-        ≡ behind_part (add_first first.now) (state (for_scope first.now scope.old) work.old stmts.old)) }
+        ≡ behind_part (add_first first.now)
+        (state (for_scope first.now scope.old) work.old stmts.old)) }
 {
     match first {
         ForFirst::Declaration { name, declarators } => {
@@ -200,7 +201,8 @@ pub(crate) fn put_if(
     stmts: &mut Vec<Stmt>,
 ) -> Result<(), AllocError>
     ensures { OnOk result (map tree_of_stmt stmts.new.items ≡ map tree_of_stmt stmts.old.items
-        ++ if_then guarded.test.stmt (tree_of_expr guarded.test.when) (tree_of_stmt guarded.body) ∷ []) }
+        ++ if_then guarded.test.stmt (tree_of_expr guarded.test.when)
+        (tree_of_stmt guarded.body) ∷ []) }
 {
     let Guarded {
         test: Test { stmt, when },

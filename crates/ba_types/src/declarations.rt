@@ -194,7 +194,8 @@ pub(crate) fn add_variable<'a>(
     work: &mut Work,
 ) -> Result<(), AllocError>
     ensures { OnOk result ((stmts : List StmtTree) → at_place scope.new work.new stmts
-        ≡ behind_part (add_variable functions.now at name.entry variable) (at_place scope.old work.old stmts)) }
+        ≡ behind_part (add_variable functions.now at name.entry variable)
+        (at_place scope.old work.old stmts)) }
 {
     work.tally
         .add_if(is_declared(scope, functions, &name), Cause::Twice, at);
@@ -238,7 +239,8 @@ fn add_value<'a>(
     values: &mut Vec<Expr>,
 ) -> Result<(), AllocError>
     ensures { OnOk result (kept tally.new values.new
-        ≡ keep_one (initialising d.at d.t (scope.now.depth == 0)) (typed_conditional c.now scope.now tally.old.calls)
+        ≡ keep_one (initialising d.at d.t (scope.now.depth == 0))
+        (typed_conditional c.now scope.now tally.old.calls)
         (kept tally.old values.old)) }
 {
     let j = whole(alloc, scope, d.at, c, tally)?;
@@ -285,7 +287,8 @@ fn add_braced<'a>(
     values: &mut Vec<Expr>,
 ) -> Result<(), AllocError>
     ensures { OnOk result (kept tally.new values.new
-        ≡ keep_each (initialising d.at d.t (scope.now.depth == 0)) scope.now (braced_values braced.now)
+        ≡ keep_each (initialising d.at d.t (scope.now.depth == 0)) scope.now
+        (braced_values braced.now)
         (kept tally.old values.old)) }
 {
     add_value(alloc, d, &braced.first, scope, tally, values)?;
@@ -392,7 +395,8 @@ fn add_initialiser<'a>(
 ) -> Result<(), AllocError>
     ensures { OnOk result ((l : Option TypedLength) → d.length ≡ plain_length l
         → state scope.now work.new stmts.new
-        ≡ behind_part (add_initialiser d.at d.var d.t l init.now) (state scope.now work.old stmts.old)) }
+        ≡ behind_part (add_initialiser d.at d.var d.t l init.now)
+        (state scope.now work.old stmts.old)) }
 {
     let values = initial_values(alloc, d, init, scope, &mut work.tally)?;
     let is_past = has_too_many(d.length, number_of(&values));
@@ -414,7 +418,8 @@ fn add_optional_initialiser<'a>(
 ) -> Result<(), AllocError>
     ensures { OnOk result ((l : Option TypedLength) → d.length ≡ plain_length l
         → state scope.now work.new stmts.new
-        ≡ behind_part (add_optional_initialiser d.at d.var d.t l init.now) (state scope.now work.old stmts.old)) }
+        ≡ behind_part (add_optional_initialiser d.at d.var d.t l init.now)
+        (state scope.now work.old stmts.old)) }
 {
     match init {
         None => Ok(()),
@@ -435,7 +440,8 @@ fn add_declarator<'a>(
     stmts: &mut Vec<Stmt>,
 ) -> Result<(), AllocError>
     ensures { OnOk result (state scope.new work.new stmts.new
-        ≡ behind_part (add_declarator functions.now t declarator.now) (state scope.old work.old stmts.old)) }
+        ≡ behind_part (add_declarator functions.now t declarator.now)
+        (state scope.old work.old stmts.old)) }
 {
     let at = declarator.name.at;
     let var = work.next_variable()?;
@@ -478,7 +484,8 @@ pub(crate) fn add_declarators<'a>(
     stmts: &mut Vec<Stmt>,
 ) -> Result<(), AllocError>
     ensures { OnOk result (state scope.new work.new stmts.new
-        ≡ behind_part (add_declarators functions.now t declarators.now) (state scope.old work.old stmts.old)) }
+        ≡ behind_part (add_declarators functions.now t declarators.now)
+        (state scope.old work.old stmts.old)) }
 {
     for listed in &declarators.all {
         add_declarator(alloc, functions, t, &listed.declarator, scope, work, stmts)?;

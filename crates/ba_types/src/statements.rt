@@ -42,7 +42,8 @@ fn add_return<'a>(
     stmts: &mut Vec<Stmt>,
 ) -> Result<(), AllocError>
     ensures { OnOk result (state scope.now work.new stmts.new
-        ≡ behind_part (add_return at (typed_conditional c.now)) (state scope.now work.old stmts.old)) }
+        ≡ behind_part (add_return at (typed_conditional c.now))
+        (state scope.now work.old stmts.old)) }
 {
     let j = whole(alloc, scope, at, c, &mut work.tally)?;
     let t = scope.result();
@@ -64,7 +65,8 @@ fn add_assert<'a>(
     stmts: &mut Vec<Stmt>,
 ) -> Result<(), AllocError>
     ensures { OnOk result (state scope.now work.new stmts.new
-        ≡ behind_part (add_assert at (test_of condition.now)) (state scope.now work.old stmts.old)) }
+        ≡ behind_part (add_assert at (test_of condition.now))
+        (state scope.now work.old stmts.old)) }
 {
     let j = whole(alloc, scope, at, &condition.test, &mut work.tally)?;
     let stmt = work.number(at, StmtKind::Assert)?;
@@ -124,7 +126,8 @@ fn add_printf<'a>(
     stmts: &mut Vec<Stmt>,
 ) -> Result<(), AllocError>
     ensures { OnOk result (state scope.now work.new stmts.new
-        ≡ behind_part (add_printf at (printed_typings printed.now)) (state scope.now work.old stmts.old)) }
+        ≡ behind_part (add_printf at (printed_typings printed.now))
+        (state scope.now work.old stmts.old)) }
 {
     let args = printed_values(alloc, at, printed, scope, &mut work.tally)?;
     let stmt = work.number(at, StmtKind::Call)?;
@@ -175,7 +178,8 @@ fn add_jump<'a>(
     stmts: &mut Vec<Stmt>,
 ) -> Result<(), AllocError>
     ensures { OnOk result (state scope.now work.new stmts.new
-        ≡ behind_part (add_jump keyword.now.at (jump_of keyword.now)) (state scope.now work.old stmts.old)) }
+        ≡ behind_part (add_jump keyword.now.at (jump_of keyword.now))
+        (state scope.now work.old stmts.old)) }
 {
     match jump_of(keyword) {
         Jump::Break => add_break(keyword.at, scope, work, stmts),
@@ -402,7 +406,8 @@ fn add_else<'a>(
     stmts: &mut Vec<Stmt>,
 ) -> Result<(), AllocError>
     ensures adds { OnOk result ((test : Typing) (holds : Part) (before : Work) →
-        GivesGuarded test holds scope.old before work.old guarded → state scope.new work.new stmts.new
+        GivesGuarded test holds scope.old before work.old guarded
+        → state scope.new work.new stmts.new
         ≡ behind_part (add_if test holds (Some (add_statement other.now)))
         (state scope.old before stmts.old)) }
     ensures scope { OnOk result (scope.new ≡ scope.old) }
@@ -462,7 +467,8 @@ fn add_for<'a>(
     stmts: &mut Vec<Stmt>,
 ) -> Result<(), AllocError>
     ensures adds { OnOk result (state scope.new work.new stmts.new
-        ≡ behind_part (add_for head.now (add_statement body.now)) (state scope.old work.old stmts.old)) }
+        ≡ behind_part (add_for head.now (add_statement body.now))
+        (state scope.old work.old stmts.old)) }
     ensures scope { OnOk result (scope.new ≡ scope.old) }
 {
     let outside = scope.mark();

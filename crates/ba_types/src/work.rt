@@ -108,7 +108,8 @@ fn number_of(count: usize) -> Result<u32, AllocError>
 /// A statement is put behind those. The one error is want of memory.
 pub(crate) fn put(stmts: &mut Vec<Stmt>, stmt: Stmt) -> Result<(), AllocError>
     ensures { OnOk result
-        (map tree_of_stmt stmts.new.items ≡ map tree_of_stmt stmts.old.items ++ tree_of_stmt stmt ∷ []) }
+        (map tree_of_stmt stmts.new.items
+        ≡ map tree_of_stmt stmts.old.items ++ tree_of_stmt stmt ∷ []) }
 {
     stmts.push(stmt)?;
     Ok(())

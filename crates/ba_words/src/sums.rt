@@ -75,7 +75,8 @@ pub fn add_with_carry(
         × IsBitOf nodes.new r.1) }
     ensures sum { IfOk result (λ r. (free : ℕ → Bool) →
         number_of free nodes.new r.0 + 2 ^ 32 * digit (truth free nodes.new r.1)
-        ≡ number_of free nodes.old a.now + number_of free nodes.old b.now + digit (truth free nodes.old carry)) }
+        ≡ number_of free nodes.old a.now + number_of free nodes.old b.now
+        + digit (truth free nodes.old carry)) }
     ensures extends { Extends nodes.old nodes.new }
     ensures count { gates_in nodes.new ≤ gates_in nodes.old + 96 }
 {
