@@ -1,7 +1,7 @@
 -- One turn of the loops over lines, and the answer that a fault leaves.
 use Rattle.std.proofs.Common.{◌≡◌, ℕ, zero, suc, ◌+◌, ◌-◌, ◌<◌, ◌≤◌, Bool, true, false, cond, List, [], ◌∷◌, ◌++◌, length, Option, None, Some, Result, Ok, Err, refl, sym, ap, ◌∙◌, arith, append_assoc, append-nil, ◌⊎◌, inl, inr, take, drop, get_or}
 use Rattle.std.specs.List.{list_any}
-use Rattle.std.specs.Result.{IfErr}
+use Rattle.std.specs.Result.{IfErr, IfOk}
 use Rattle.std.proofs.lemmas.Bool.{or_parts}
 use Rattle.std.proofs.lemmas.Grind.{common_steps}
 use Rattle.std.specs.Prelude.{slice_get}
@@ -144,6 +144,28 @@ pub directive_gives : (table next : Table) (p : Piece) (ps : List Piece) (lines 
 directive_gives table next p ps lines is gives =
     ap (λ b. cond b (with_table (directive table p.at ps) (λ next. reading next lines)) (sequence (reading_with_macros table (line_reading (p ∷ ps))) (reading table lines))) is
     ∙ ap (λ r. with_table r (λ next. reading next lines)) gives
+
+-- what a directive's line leaves to read, and what a line of the program does
+pub directive_goes_on : (table : Table) (out : List Token) (line : List Piece) (p : Piece) (ps : List Piece)
+    (result : Result Table LexError) → line ≡ p ∷ ps → is_hash p.form ≡ true →
+    Gives (λ m. m) result (directive table p.at ps) →
+    IfOk result (λ next. (lines : List (List Piece)) →
+    sequence (only_tokens out) (reading table (line ∷ lines))
+    ≡ sequence (only_tokens out) (reading next lines))
+directive_goes_on table out line p ps (Ok next) parts is gives = λ lines.
+    ap (λ line. sequence (only_tokens out) (reading table (line ∷ lines))) parts
+    ∙ ap (sequence (only_tokens out)) (directive_gives table next p ps lines is gives)
+directive_goes_on table out line p ps (Err e) parts is gives = tt
+
+pub text_goes_on : (table : Table) (out new : List Token) (line : List Piece) →
+    begins_directive line ≡ false → reading_so_far table out line ≡ only_tokens new →
+    (lines : List (List Piece)) →
+    sequence (only_tokens out) (reading table (line ∷ lines))
+    ≡ sequence (only_tokens new) (reading table lines)
+text_goes_on table out new line is so_far lines =
+    ap (sequence (only_tokens out)) (reading-text table line lines is)
+    ∙ sequence-only_tokens out (reading_with_macros table (line_reading line)) (reading table lines)
+    ∙ ap (λ first. sequence first (reading table lines)) so_far
 
 -- a slice from n on
 pub rest_taken : {X : Type 0} (xs : List X) (n : ℕ) → take (length xs - n) (drop n xs) ≡ drop n xs
