@@ -1,4 +1,5 @@
 pub mod Files
 pub mod Told
 pub mod WholeReads
+pub mod ReadEnds
 pub mod Later

@@ -52,7 +52,7 @@ parts_on bytes buffer count held (Some all) after is (split, rest, empty) =
     ∙ ap (option_map (λ rest. Some ((bytes ++ take count buffer) ++ rest))) (sym rest)
 
 -- the length of the bytes given after one more piece
-longer_by : (bytes buffer : List ℕ) (count : ℕ) → count ≤ length buffer →
+pub longer_by : (bytes buffer : List ℕ) (count : ℕ) → count ≤ length buffer →
     length (bytes ++ take count buffer) ≡ length bytes + count
 longer_by bytes buffer count within =
     length-append bytes (take count buffer) ∙ ap (λ n. length bytes + n) (length-take-le count buffer within)
