@@ -1,6 +1,5 @@
 -- What a call is measured by is below what its caller is measured by (t): what the frames that may begin come
--- to
--- (n), and then what is walked over.
+-- to (n), and then what is walked over.
 use Rattle.std.proofs.Common.{◌≡◌, ℕ, ◌+◌, ◌*◌, ◌<◌, arith}
 use Rattle.ba_tree.specs.Heights.{tallest}
 use Rattle.ba_tree.specs.declared.tree.Program.{Program}

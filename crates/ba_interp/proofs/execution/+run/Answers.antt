@@ -1084,91 +1084,100 @@ invoke-exec_all-requires t c = let frames : c.args.frame.frames ≡ suc (c.args.
 
 pub eval-eval-requires : goal.eval-eval-requires
 eval-eval-requires t c =
-    part (of_frames c.args.frame.frames c.args.setting.now.program.now) (weight c.args.expr.now) (weight
-    c.in-Element.index.value) (weight c.deref.result.now) 0 t c.decreases (weight-Element c.args.expr.now
-    c.in-Element.array c.in-Element.index c.in-Element.is) (ap weight c.deref.ensures)
+    part (of_frames c.args.frame.frames c.args.setting.now.program.now) (weight c.args.expr.now)
+    (weight c.in-Element.index.value) (weight c.deref.result.now) 0 t c.decreases
+    (weight-Element c.args.expr.now c.in-Element.array c.in-Element.index c.in-Element.is)
+    (ap weight c.deref.ensures)
 
 pub eval-eval-requires-in-Unary : goal.eval-eval-requires-in-Unary
 eval-eval-requires-in-Unary t c =
-    part (of_frames c.args.frame.frames c.args.setting.now.program.now) (weight c.args.expr.now) (weight
-    c.in-Unary.a.value) (weight c.deref-in-Unary.result.now) 0 t c.decreases (weight-Unary c.args.expr.now
-    c.in-Unary.op c.in-Unary.t c.in-Unary.a c.in-Unary.is) (ap weight c.deref-in-Unary.ensures)
+    part (of_frames c.args.frame.frames c.args.setting.now.program.now) (weight c.args.expr.now)
+    (weight c.in-Unary.a.value) (weight c.deref-in-Unary.result.now) 0 t c.decreases
+    (weight-Unary c.args.expr.now c.in-Unary.op c.in-Unary.t c.in-Unary.a c.in-Unary.is)
+    (ap weight c.deref-in-Unary.ensures)
 
 pub eval-eval-requires-in-Convert : goal.eval-eval-requires-in-Convert
 eval-eval-requires-in-Convert t c =
-    part (of_frames c.args.frame.frames c.args.setting.now.program.now) (weight c.args.expr.now) (weight
-    c.in-Convert.a.value) (weight c.deref-in-Convert.result.now) 0 t c.decreases (weight-Convert
-    c.args.expr.now c.in-Convert.t c.in-Convert.a c.in-Convert.is) (ap weight c.deref-in-Convert.ensures)
+    part (of_frames c.args.frame.frames c.args.setting.now.program.now) (weight c.args.expr.now)
+    (weight c.in-Convert.a.value) (weight c.deref-in-Convert.result.now) 0 t c.decreases
+    (weight-Convert c.args.expr.now c.in-Convert.t c.in-Convert.a c.in-Convert.is)
+    (ap weight c.deref-in-Convert.ensures)
 
 pub eval-eval-requires-in-Binary : goal.eval-eval-requires-in-Binary
 eval-eval-requires-in-Binary t c =
-    first (of_frames c.args.frame.frames c.args.setting.now.program.now) (weight c.args.expr.now) (weight
-    c.in-Binary.a.value) (weight c.in-Binary.b.value) 0 t c.decreases (weight-Binary c.args.expr.now
-    c.in-Binary.op c.in-Binary.t c.in-Binary.a c.in-Binary.b c.in-Binary.is) (weight
-    c.deref-in-Binary.result.now) (ap weight c.deref-in-Binary.ensures)
+    first (of_frames c.args.frame.frames c.args.setting.now.program.now) (weight c.args.expr.now)
+    (weight c.in-Binary.a.value) (weight c.in-Binary.b.value) 0 t c.decreases
+    (weight-Binary c.args.expr.now c.in-Binary.op c.in-Binary.t c.in-Binary.a c.in-Binary.b c.in-Binary.is)
+    (weight c.deref-in-Binary.result.now) (ap weight c.deref-in-Binary.ensures)
 
 pub eval-eval-requires-in-Binary-2 : goal.eval-eval-requires-in-Binary-2
 eval-eval-requires-in-Binary-2 t c =
-    second (of_frames c.args.frame.frames c.args.setting.now.program.now) (weight c.args.expr.now) (weight
-    c.in-Binary.a.value) (weight c.in-Binary.b.value) 0 t c.decreases (weight-Binary c.args.expr.now
-    c.in-Binary.op c.in-Binary.t c.in-Binary.a c.in-Binary.b c.in-Binary.is) (weight
-    c.deref-in-Binary-2.result.now) (ap weight c.deref-in-Binary-2.ensures)
+    second (of_frames c.args.frame.frames c.args.setting.now.program.now) (weight c.args.expr.now)
+    (weight c.in-Binary.a.value) (weight c.in-Binary.b.value) 0 t c.decreases
+    (weight-Binary c.args.expr.now c.in-Binary.op c.in-Binary.t c.in-Binary.a c.in-Binary.b c.in-Binary.is)
+    (weight c.deref-in-Binary-2.result.now) (ap weight c.deref-in-Binary-2.ensures)
 
 pub eval-eval-requires-in-AndAlso : goal.eval-eval-requires-in-AndAlso
 eval-eval-requires-in-AndAlso t c =
-    first (of_frames c.args.frame.frames c.args.setting.now.program.now) (weight c.args.expr.now) (weight
-    c.in-AndAlso.a.value) (weight c.in-AndAlso.b.value) 0 t c.decreases (weight-AndAlso c.args.expr.now
-    c.in-AndAlso.a c.in-AndAlso.b c.in-AndAlso.is) (weight c.deref-in-AndAlso.result.now) (ap weight
-    c.deref-in-AndAlso.ensures)
+    first (of_frames c.args.frame.frames c.args.setting.now.program.now) (weight c.args.expr.now)
+    (weight c.in-AndAlso.a.value) (weight c.in-AndAlso.b.value) 0 t c.decreases
+    (weight-AndAlso c.args.expr.now c.in-AndAlso.a c.in-AndAlso.b c.in-AndAlso.is)
+    (weight c.deref-in-AndAlso.result.now) (ap weight c.deref-in-AndAlso.ensures)
 
 pub eval-eval-requires-in-AndAlso-2 : goal.eval-eval-requires-in-AndAlso-2
 eval-eval-requires-in-AndAlso-2 t c =
-    second (of_frames c.args.frame.frames c.args.setting.now.program.now) (weight c.args.expr.now) (weight
-    c.in-AndAlso.a.value) (weight c.in-AndAlso.b.value) 0 t c.decreases (weight-AndAlso c.args.expr.now
-    c.in-AndAlso.a c.in-AndAlso.b c.in-AndAlso.is) (weight c.deref-in-AndAlso-2.result.now) (ap weight
-    c.deref-in-AndAlso-2.ensures)
+    second (of_frames c.args.frame.frames c.args.setting.now.program.now) (weight c.args.expr.now)
+    (weight c.in-AndAlso.a.value) (weight c.in-AndAlso.b.value) 0 t c.decreases
+    (weight-AndAlso c.args.expr.now c.in-AndAlso.a c.in-AndAlso.b c.in-AndAlso.is)
+    (weight c.deref-in-AndAlso-2.result.now) (ap weight c.deref-in-AndAlso-2.ensures)
 
 pub eval-eval-requires-in-OrElse : goal.eval-eval-requires-in-OrElse
 eval-eval-requires-in-OrElse t c =
-    first (of_frames c.args.frame.frames c.args.setting.now.program.now) (weight c.args.expr.now) (weight
-    c.in-OrElse.a.value) (weight c.in-OrElse.b.value) 0 t c.decreases (weight-OrElse c.args.expr.now
-    c.in-OrElse.a c.in-OrElse.b c.in-OrElse.is) (weight c.deref-in-OrElse.result.now) (ap weight
-    c.deref-in-OrElse.ensures)
+    first (of_frames c.args.frame.frames c.args.setting.now.program.now) (weight c.args.expr.now)
+    (weight c.in-OrElse.a.value) (weight c.in-OrElse.b.value) 0 t c.decreases
+    (weight-OrElse c.args.expr.now c.in-OrElse.a c.in-OrElse.b c.in-OrElse.is)
+    (weight c.deref-in-OrElse.result.now) (ap weight c.deref-in-OrElse.ensures)
 
 pub eval-eval-requires-then-is_zero-2 : goal.eval-eval-requires-then-is_zero-2
 eval-eval-requires-then-is_zero-2 t c =
-    second (of_frames c.args.frame.frames c.args.setting.now.program.now) (weight c.args.expr.now) (weight
-    c.in-OrElse.a.value) (weight c.in-OrElse.b.value) 0 t c.decreases (weight-OrElse c.args.expr.now
-    c.in-OrElse.a c.in-OrElse.b c.in-OrElse.is) (weight c.deref-then-is_zero-2.result.now) (ap weight
-    c.deref-then-is_zero-2.ensures)
+    second (of_frames c.args.frame.frames c.args.setting.now.program.now) (weight c.args.expr.now)
+    (weight c.in-OrElse.a.value) (weight c.in-OrElse.b.value) 0 t c.decreases
+    (weight-OrElse c.args.expr.now c.in-OrElse.a c.in-OrElse.b c.in-OrElse.is)
+    (weight c.deref-then-is_zero-2.result.now) (ap weight c.deref-then-is_zero-2.ensures)
 
 pub eval-eval-requires-in-Select : goal.eval-eval-requires-in-Select
 eval-eval-requires-in-Select t c =
-    begins (of_frames c.args.frame.frames c.args.setting.now.program.now) (weight c.args.expr.now) (weight
-    c.in-Select.when.value) (weight c.in-Select.yes.value) (weight c.in-Select.no.value) 0 t c.decreases
+    begins (of_frames c.args.frame.frames c.args.setting.now.program.now) (weight c.args.expr.now)
+    (weight c.in-Select.when.value) (weight c.in-Select.yes.value) (weight c.in-Select.no.value) 0 t
+    c.decreases
     (weight-Select c.args.expr.now c.in-Select.t c.in-Select.when c.in-Select.yes c.in-Select.no
-    c.in-Select.is) (weight c.deref-in-Select.result.now) (ap weight c.deref-in-Select.ensures)
+    c.in-Select.is)
+    (weight c.deref-in-Select.result.now) (ap weight c.deref-in-Select.ensures)
 
 pub eval-eval-requires-else-is_zero-3 : goal.eval-eval-requires-else-is_zero-3
 eval-eval-requires-else-is_zero-3 t c =
-    goes-on (of_frames c.args.frame.frames c.args.setting.now.program.now) (weight c.args.expr.now) (weight
-    c.in-Select.when.value) (weight c.in-Select.yes.value) (weight c.in-Select.no.value) 0 t c.decreases
+    goes-on (of_frames c.args.frame.frames c.args.setting.now.program.now) (weight c.args.expr.now)
+    (weight c.in-Select.when.value) (weight c.in-Select.yes.value) (weight c.in-Select.no.value) 0 t
+    c.decreases
     (weight-Select c.args.expr.now c.in-Select.t c.in-Select.when c.in-Select.yes c.in-Select.no
-    c.in-Select.is) (weight c.deref-else-is_zero-3.result.now) (ap weight c.deref-else-is_zero-3.ensures)
+    c.in-Select.is)
+    (weight c.deref-else-is_zero-3.result.now) (ap weight c.deref-else-is_zero-3.ensures)
 
 pub eval-eval-requires-then-is_zero-3 : goal.eval-eval-requires-then-is_zero-3
 eval-eval-requires-then-is_zero-3 t c =
-    second (of_frames c.args.frame.frames c.args.setting.now.program.now) (weight c.args.expr.now) (weight
-    c.in-Select.when.value + weight c.in-Select.yes.value) (weight c.in-Select.no.value) 0 t c.decreases
+    second (of_frames c.args.frame.frames c.args.setting.now.program.now) (weight c.args.expr.now)
+    (weight c.in-Select.when.value + weight c.in-Select.yes.value) (weight c.in-Select.no.value) 0 t
+    c.decreases
     (weight-Select c.args.expr.now c.in-Select.t c.in-Select.when c.in-Select.yes c.in-Select.no
-    c.in-Select.is) (weight c.deref-then-is_zero-3.result.now) (ap weight c.deref-then-is_zero-3.ensures)
+    c.in-Select.is)
+    (weight c.deref-then-is_zero-3.result.now) (ap weight c.deref-then-is_zero-3.ensures)
 
 pub eval-call_value-requires : goal.eval-call_value-requires
 eval-call_value-requires t c =
     part-by (of_frames c.args.frame.frames c.args.setting.now.program.now) (weight c.args.expr.now)
-    (arg_weights c.in-Call.args.items) (arg_weights c.as_slice.result.now) 2 1 t c.decreases (weight-Call
-    c.args.expr.now c.in-Call.call c.in-Call.function c.in-Call.args c.in-Call.is) (ap arg_weights
-    c.as_slice.ensures.value)
+    (arg_weights c.in-Call.args.items) (arg_weights c.as_slice.result.now) 2 1 t c.decreases
+    (weight-Call c.args.expr.now c.in-Call.call c.in-Call.function c.in-Call.args c.in-Call.is)
+    (ap arg_weights c.as_slice.ensures.value)
 
 pub call_value-eval_args-requires : goal.call_value-eval_args-requires
 call_value-eval_args-requires t c =
@@ -1182,14 +1191,14 @@ call_value-invoke-requires t c =
 
 pub eval_arg-eval-requires : goal.eval_arg-eval-requires
 eval_arg-eval-requires t c =
-    part (of_frames c.args.frame.frames c.args.setting.now.program.now) (arg_weight c.args.arg.now) (weight
-    c.in-Value.value) (weight c.in-Value.value) 1 t c.decreases (weight-Value c.args.arg.now
-    c.in-Value.value c.in-Value.is) refl
+    part (of_frames c.args.frame.frames c.args.setting.now.program.now) (arg_weight c.args.arg.now)
+    (weight c.in-Value.value) (weight c.in-Value.value) 1 t c.decreases
+    (weight-Value c.args.arg.now c.in-Value.value c.in-Value.is) refl
 
 pub given-eval-requires : goal.given-eval-requires
 given-eval-requires t c =
-    part (of_frames c.args.frame.frames c.args.setting.now.program.now) (weight c.args.expr.now + 1) (weight
-    c.args.expr.now) (weight c.args.expr.now) 0 t c.decreases refl refl
+    part (of_frames c.args.frame.frames c.args.setting.now.program.now) (weight c.args.expr.now + 1)
+    (weight c.args.expr.now) (weight c.args.expr.now) 0 t c.decreases refl refl
 
 pub given_elements-eval_all-requires : goal.given_elements-eval_all-requires
 given_elements-eval_all-requires t c =
@@ -1198,15 +1207,15 @@ given_elements-eval_all-requires t c =
 
 pub given_element-eval-requires : goal.given_element-eval-requires
 given_element-eval-requires t c =
-    first (of_frames c.args.frame.frames c.args.setting.now.program.now) (weight c.args.index.now + weight
-    c.args.value.now + 2) (weight c.args.index.now) (weight c.args.value.now) 0 t c.decreases refl (weight
-    c.args.index.now) refl
+    first (of_frames c.args.frame.frames c.args.setting.now.program.now)
+    (weight c.args.index.now + weight c.args.value.now + 2) (weight c.args.index.now)
+    (weight c.args.value.now) 0 t c.decreases refl (weight c.args.index.now) refl
 
 pub given_element-eval-requires-in-None : goal.given_element-eval-requires-in-None
 given_element-eval-requires-in-None t c =
-    second (of_frames c.args.frame.frames c.args.setting.now.program.now) (weight c.args.index.now + weight
-    c.args.value.now + 2) (weight c.args.index.now) (weight c.args.value.now) 0 t c.decreases refl (weight
-    c.args.value.now) refl
+    second (of_frames c.args.frame.frames c.args.setting.now.program.now)
+    (weight c.args.index.now + weight c.args.value.now + 2) (weight c.args.index.now)
+    (weight c.args.value.now) 0 t c.decreases refl (weight c.args.value.now) refl
 
 pub call_effect-call_value-requires : goal.call_effect-call_value-requires
 call_effect-call_value-requires t c =
@@ -1225,179 +1234,188 @@ assign-given-requires t c =
 
 pub exec-exec_all-requires : goal.exec-exec_all-requires
 exec-exec_all-requires t c =
-    part-by (of_frames c.args.frame.frames c.args.setting.now.program.now) (height c.args.stmt.now) (heights
-    c.in-Block.body.items) (heights c.as_slice.result.now) 1 0 t c.decreases (height-Block c.args.stmt.now
-    c.in-Block.body c.in-Block.is) (ap heights c.as_slice.ensures.value)
+    part-by (of_frames c.args.frame.frames c.args.setting.now.program.now) (height c.args.stmt.now)
+    (heights c.in-Block.body.items) (heights c.as_slice.result.now) 1 0 t c.decreases
+    (height-Block c.args.stmt.now c.in-Block.body c.in-Block.is) (ap heights c.as_slice.ensures.value)
 
 pub exec-assign-requires : goal.exec-assign-requires
 exec-assign-requires t c =
-    part-by (of_frames c.args.frame.frames c.args.setting.now.program.now) (height c.args.stmt.now) (weight
-    c.in-Init.value) (weight c.in-Init.value) 2 1 t c.decreases (height-Init c.args.stmt.now
-    c.in-Init.stmt c.in-Init.var c.in-Init.value c.in-Init.is) refl
+    part-by (of_frames c.args.frame.frames c.args.setting.now.program.now) (height c.args.stmt.now)
+    (weight c.in-Init.value) (weight c.in-Init.value) 2 1 t c.decreases
+    (height-Init c.args.stmt.now c.in-Init.stmt c.in-Init.var c.in-Init.value c.in-Init.is) refl
 
 pub exec-assign-requires-in-Assign : goal.exec-assign-requires-in-Assign
 exec-assign-requires-in-Assign t c =
-    part-by (of_frames c.args.frame.frames c.args.setting.now.program.now) (height c.args.stmt.now) (weight
-    c.in-Assign.value) (weight c.in-Assign.value) 2 1 t c.decreases (height-Assign c.args.stmt.now
-    c.in-Assign.stmt c.in-Assign.var c.in-Assign.value c.in-Assign.is) refl
+    part-by (of_frames c.args.frame.frames c.args.setting.now.program.now) (height c.args.stmt.now)
+    (weight c.in-Assign.value) (weight c.in-Assign.value) 2 1 t c.decreases
+    (height-Assign c.args.stmt.now c.in-Assign.stmt c.in-Assign.var c.in-Assign.value c.in-Assign.is) refl
 
 pub exec-given_elements-requires : goal.exec-given_elements-requires
 exec-given_elements-requires t c =
-    part-by (of_frames c.args.frame.frames c.args.setting.now.program.now) (height c.args.stmt.now) (weights
-    c.in-InitArray.values.items) (weights c.as_slice-in-InitArray.result.now) 2 1 t c.decreases
+    part-by (of_frames c.args.frame.frames c.args.setting.now.program.now) (height c.args.stmt.now)
+    (weights c.in-InitArray.values.items) (weights c.as_slice-in-InitArray.result.now) 2 1 t c.decreases
     (height-InitArray c.args.stmt.now c.in-InitArray.stmt c.in-InitArray.array c.in-InitArray.values
-    c.in-InitArray.is) (ap weights c.as_slice-in-InitArray.ensures.value)
+    c.in-InitArray.is)
+    (ap weights c.as_slice-in-InitArray.ensures.value)
 
 pub exec-given_element-requires : goal.exec-given_element-requires
 exec-given_element-requires t c =
-    part-by (of_frames c.args.frame.frames c.args.setting.now.program.now) (height c.args.stmt.now) (weight
-    c.in-Store.index + weight c.in-Store.value) (weight c.in-Store.index + weight c.in-Store.value) 2 1 t
-    c.decreases (height-Store c.args.stmt.now c.in-Store.stmt c.in-Store.array c.in-Store.index
-    c.in-Store.value c.in-Store.is) refl
+    part-by (of_frames c.args.frame.frames c.args.setting.now.program.now) (height c.args.stmt.now)
+    (weight c.in-Store.index + weight c.in-Store.value) (weight c.in-Store.index + weight c.in-Store.value)
+    2 1 t c.decreases
+    (height-Store c.args.stmt.now c.in-Store.stmt c.in-Store.array c.in-Store.index c.in-Store.value
+    c.in-Store.is)
+    refl
 
 pub exec-given-requires : goal.exec-given-requires
 exec-given-requires t c =
-    begins-by (of_frames c.args.frame.frames c.args.setting.now.program.now) (height c.args.stmt.now) (weight
-    c.in-If.when) (height c.in-If.yes.value) (other_height c.in-If.no) 1 3 t c.decreases (height-If
-    c.args.stmt.now c.in-If.stmt c.in-If.when c.in-If.yes c.in-If.no c.in-If.is)
+    begins-by (of_frames c.args.frame.frames c.args.setting.now.program.now) (height c.args.stmt.now)
+    (weight c.in-If.when) (height c.in-If.yes.value) (other_height c.in-If.no) 1 3 t c.decreases
+    (height-If c.args.stmt.now c.in-If.stmt c.in-If.when c.in-If.yes c.in-If.no c.in-If.is)
 
 pub exec-exec-requires-else-is_zero : goal.exec-exec-requires-else-is_zero
 exec-exec-requires-else-is_zero t c =
-    goes-on (of_frames c.args.frame.frames c.args.setting.now.program.now) (height c.args.stmt.now) (weight
-    c.in-If.when) (height c.in-If.yes.value) (other_height c.in-If.no) 3 t c.decreases (height-If
-    c.args.stmt.now c.in-If.stmt c.in-If.when c.in-If.yes c.in-If.no c.in-If.is) (height
-    c.deref-else-is_zero.result.now) (ap height c.deref-else-is_zero.ensures)
+    goes-on (of_frames c.args.frame.frames c.args.setting.now.program.now) (height c.args.stmt.now)
+    (weight c.in-If.when) (height c.in-If.yes.value) (other_height c.in-If.no) 3 t c.decreases
+    (height-If c.args.stmt.now c.in-If.stmt c.in-If.when c.in-If.yes c.in-If.no c.in-If.is)
+    (height c.deref-else-is_zero.result.now) (ap height c.deref-else-is_zero.ensures)
 
 pub exec-exec-requires : goal.exec-exec-requires
 exec-exec-requires t c =
-    second (of_frames c.args.frame.frames c.args.setting.now.program.now) (height c.args.stmt.now) (weight
-    c.in-If.when + height c.in-If.yes.value) (other_height c.in-If.no) 3 t c.decreases (height-If
-    c.args.stmt.now c.in-If.stmt c.in-If.when c.in-If.yes c.in-If.no c.in-If.is) (height
-    c.deref.result.now) (ap height c.deref.ensures ∙ ap other_height (sym c.in-Some.is))
+    second (of_frames c.args.frame.frames c.args.setting.now.program.now) (height c.args.stmt.now)
+    (weight c.in-If.when + height c.in-If.yes.value) (other_height c.in-If.no) 3 t c.decreases
+    (height-If c.args.stmt.now c.in-If.stmt c.in-If.when c.in-If.yes c.in-If.no c.in-If.is)
+    (height c.deref.result.now) (ap height c.deref.ensures ∙ ap other_height (sym c.in-Some.is))
 
 pub exec-for_loop-requires : goal.exec-for_loop-requires
 exec-for_loop-requires t c =
-    loop (of_frames c.args.frame.frames c.args.setting.now.program.now) (height c.args.stmt.now) (weight
-    c.in-While.when) (height c.in-While.body.value) (height c.deref-in-While.result.now) t c.decreases
-    (height-While c.args.stmt.now c.in-While.stmt c.in-While.when c.in-While.body c.in-While.is) (ap
-    height c.deref-in-While.ensures)
+    loop (of_frames c.args.frame.frames c.args.setting.now.program.now) (height c.args.stmt.now)
+    (weight c.in-While.when) (height c.in-While.body.value) (height c.deref-in-While.result.now) t
+    c.decreases (height-While c.args.stmt.now c.in-While.stmt c.in-While.when c.in-While.body c.in-While.is)
+    (ap height c.deref-in-While.ensures)
 
 pub exec-do_loop-requires : goal.exec-do_loop-requires
 exec-do_loop-requires t c =
-    loop (of_frames c.args.frame.frames c.args.setting.now.program.now) (height c.args.stmt.now) (weight
-    c.in-DoWhile.when) (height c.in-DoWhile.body.value) (height c.deref-in-DoWhile.result.now) t
-    c.decreases (height-DoWhile c.args.stmt.now c.in-DoWhile.stmt c.in-DoWhile.when c.in-DoWhile.body
-    c.in-DoWhile.is) (ap height c.deref-in-DoWhile.ensures)
+    loop (of_frames c.args.frame.frames c.args.setting.now.program.now) (height c.args.stmt.now)
+    (weight c.in-DoWhile.when) (height c.in-DoWhile.body.value) (height c.deref-in-DoWhile.result.now) t
+    c.decreases
+    (height-DoWhile c.args.stmt.now c.in-DoWhile.stmt c.in-DoWhile.when c.in-DoWhile.body c.in-DoWhile.is)
+    (ap height c.deref-in-DoWhile.ensures)
 
 pub exec-exec_all-requires-in-For : goal.exec-exec_all-requires-in-For
 exec-exec_all-requires-in-For t c =
     loop-first (of_frames c.args.frame.frames c.args.setting.now.program.now) (height c.args.stmt.now)
-    (heights c.in-For.first.items) (weight c.in-For.when) (heights c.in-For.step.items) (height
-    c.in-For.body.value) t c.decreases (height-For c.args.stmt.now c.in-For.stmt c.in-For.first
-    c.in-For.when c.in-For.step c.in-For.body c.in-For.is) (heights c.as_slice-in-For.result.now) (ap
-    heights c.as_slice-in-For.ensures.value)
+    (heights c.in-For.first.items) (weight c.in-For.when) (heights c.in-For.step.items)
+    (height c.in-For.body.value) t c.decreases
+    (height-For c.args.stmt.now c.in-For.stmt c.in-For.first c.in-For.when c.in-For.step
+    c.in-For.body c.in-For.is)
+    (heights c.as_slice-in-For.result.now) (ap heights c.as_slice-in-For.ensures.value)
 
 pub exec-for_loop-requires-in-For : goal.exec-for_loop-requires-in-For
 exec-for_loop-requires-in-For t c =
-    loop-rest (of_frames c.args.frame.frames c.args.setting.now.program.now) (height c.args.stmt.now) (heights
-    c.in-For.first.items) (weight c.in-For.when) (heights c.in-For.step.items) (height
-    c.in-For.body.value) t c.decreases (height-For c.args.stmt.now c.in-For.stmt c.in-For.first
-    c.in-For.when c.in-For.step c.in-For.body c.in-For.is) (height c.deref-in-For.result.now) (heights
-    c.as_slice-in-For-2.result.now) (ap height c.deref-in-For.ensures) (ap heights
-    c.as_slice-in-For-2.ensures.value)
+    loop-rest (of_frames c.args.frame.frames c.args.setting.now.program.now) (height c.args.stmt.now)
+    (heights c.in-For.first.items) (weight c.in-For.when) (heights c.in-For.step.items)
+    (height c.in-For.body.value) t c.decreases
+    (height-For c.args.stmt.now c.in-For.stmt c.in-For.first c.in-For.when c.in-For.step
+    c.in-For.body c.in-For.is)
+    (height c.deref-in-For.result.now) (heights c.as_slice-in-For-2.result.now)
+    (ap height c.deref-in-For.ensures) (ap heights c.as_slice-in-For-2.ensures.value)
 
 pub exec-given-requires-in-Return : goal.exec-given-requires-in-Return
 exec-given-requires-in-Return t c =
-    part-by (of_frames c.args.frame.frames c.args.setting.now.program.now) (height c.args.stmt.now) (weight
-    c.in-Return.value) (weight c.in-Return.value) 1 2 t c.decreases (height-Return c.args.stmt.now
-    c.in-Return.stmt c.in-Return.value c.in-Return.is) refl
+    part-by (of_frames c.args.frame.frames c.args.setting.now.program.now) (height c.args.stmt.now)
+    (weight c.in-Return.value) (weight c.in-Return.value) 1 2 t c.decreases
+    (height-Return c.args.stmt.now c.in-Return.stmt c.in-Return.value c.in-Return.is) refl
 
 pub exec-call_effect-requires : goal.exec-call_effect-requires
 exec-call_effect-requires t c =
     part-by (of_frames c.args.frame.frames c.args.setting.now.program.now) (height c.args.stmt.now)
-    (arg_weights c.in-CallStmt.args.items) (arg_weights c.as_slice-in-CallStmt.result.now) 3 1 t
-    c.decreases (height-CallStmt c.args.stmt.now c.in-CallStmt.stmt c.in-CallStmt.call
-    c.in-CallStmt.function c.in-CallStmt.args c.in-CallStmt.is) (ap arg_weights
-    c.as_slice-in-CallStmt.ensures.value)
+    (arg_weights c.in-CallStmt.args.items) (arg_weights c.as_slice-in-CallStmt.result.now) 3 1 t c.decreases
+    (height-CallStmt c.args.stmt.now c.in-CallStmt.stmt c.in-CallStmt.call c.in-CallStmt.function
+    c.in-CallStmt.args c.in-CallStmt.is)
+    (ap arg_weights c.as_slice-in-CallStmt.ensures.value)
 
 pub exec-print_effect-requires : goal.exec-print_effect-requires
 exec-print_effect-requires t c =
-    part-by (of_frames c.args.frame.frames c.args.setting.now.program.now) (height c.args.stmt.now) (weights
-    c.in-Print.args.items) (weights c.as_slice-in-Print.result.now) 3 0 t c.decreases (height-Print
-    c.args.stmt.now c.in-Print.stmt c.in-Print.args c.in-Print.is) (ap weights
-    c.as_slice-in-Print.ensures.value)
+    part-by (of_frames c.args.frame.frames c.args.setting.now.program.now) (height c.args.stmt.now)
+    (weights c.in-Print.args.items) (weights c.as_slice-in-Print.result.now) 3 0 t c.decreases
+    (height-Print c.args.stmt.now c.in-Print.stmt c.in-Print.args c.in-Print.is)
+    (ap weights c.as_slice-in-Print.ensures.value)
 
 pub exec-eval-requires : goal.exec-eval-requires
 exec-eval-requires t c =
-    part (of_frames c.args.frame.frames c.args.setting.now.program.now) (height c.args.stmt.now) (weight
-    c.in-Assert.when) (weight c.in-Assert.when) 0 t c.decreases (height-Assert c.args.stmt.now
-    c.in-Assert.stmt c.in-Assert.when c.in-Assert.is) refl
+    part (of_frames c.args.frame.frames c.args.setting.now.program.now) (height c.args.stmt.now)
+    (weight c.in-Assert.when) (weight c.in-Assert.when) 0 t c.decreases
+    (height-Assert c.args.stmt.now c.in-Assert.stmt c.in-Assert.when c.in-Assert.is) refl
 
 pub turn-exec-requires : goal.turn-exec-requires
 turn-exec-requires t c =
-    turn-body (of_frames c.args.frame.frames c.args.setting.now.program.now) (height
-    c.args.parts.now.body.now) (heights c.args.parts.now.step.now) t c.decreases
+    turn-body (of_frames c.args.frame.frames c.args.setting.now.program.now)
+    (height c.args.parts.now.body.now) (heights c.args.parts.now.step.now) t c.decreases
 
 pub turn-exec_all-requires : goal.turn-exec_all-requires
 turn-exec_all-requires t c =
-    turn-step (of_frames c.args.frame.frames c.args.setting.now.program.now) (height
-    c.args.parts.now.body.now) (heights c.args.parts.now.step.now) t c.decreases
+    turn-step (of_frames c.args.frame.frames c.args.setting.now.program.now)
+    (height c.args.parts.now.body.now) (heights c.args.parts.now.step.now) t c.decreases
 
 pub for_loop-given-requires : goal.for_loop-given-requires
 for_loop-given-requires t c =
-    loop-test (of_frames c.args.frame.frames c.args.setting.now.program.now) (weight
-    c.args.parts.now.when.now) (height c.args.parts.now.body.now) (heights c.args.parts.now.step.now) t 1
-    3 c.decreases
+    loop-test (of_frames c.args.frame.frames c.args.setting.now.program.now)
+    (weight c.args.parts.now.when.now) (height c.args.parts.now.body.now)
+    (heights c.args.parts.now.step.now) t 1 3 c.decreases
 
 pub for_loop-given-requires-2 : goal.for_loop-given-requires-2
 for_loop-given-requires-2 t c =
-    loop-test (of_frames c.args.frame.frames c.args.setting.now.program.now) (weight
-    c.args.parts.now.when.now) (height c.args.parts.now.body.now) (heights c.args.parts.now.step.now) t 1
-    3 c.decreases
+    loop-test (of_frames c.args.frame.frames c.args.setting.now.program.now)
+    (weight c.args.parts.now.when.now) (height c.args.parts.now.body.now)
+    (heights c.args.parts.now.step.now) t 1 3 c.decreases
 
 pub do_loop-test_behind-requires : goal.do_loop-test_behind-requires
 do_loop-test_behind-requires t c =
-    loop-test (of_frames c.args.frame.frames c.args.setting.now.program.now) (weight
-    c.args.parts.now.when.now) (height c.args.parts.now.body.now) (heights c.args.parts.now.step.now) t 2
-    2 c.decreases
+    loop-test (of_frames c.args.frame.frames c.args.setting.now.program.now)
+    (weight c.args.parts.now.when.now) (height c.args.parts.now.body.now)
+    (heights c.args.parts.now.step.now) t 2 2 c.decreases
 
 pub do_loop-test_behind-requires-2 : goal.do_loop-test_behind-requires-2
 do_loop-test_behind-requires-2 t c =
-    loop-test (of_frames c.args.frame.frames c.args.setting.now.program.now) (weight
-    c.args.parts.now.when.now) (height c.args.parts.now.body.now) (heights c.args.parts.now.step.now) t 2
-    2 c.decreases
+    loop-test (of_frames c.args.frame.frames c.args.setting.now.program.now)
+    (weight c.args.parts.now.when.now) (height c.args.parts.now.body.now)
+    (heights c.args.parts.now.step.now) t 2 2 c.decreases
 
 pub for_loop-turn-requires : goal.for_loop-turn-requires
 for_loop-turn-requires t c =
-    loop-turn (of_frames c.args.frame.frames c.args.setting.now.program.now) (weight
-    c.args.parts.now.when.now) (height c.args.parts.now.body.now) (heights c.args.parts.now.step.now) t
-    c.decreases
+    loop-turn (of_frames c.args.frame.frames c.args.setting.now.program.now)
+    (weight c.args.parts.now.when.now) (height c.args.parts.now.body.now)
+    (heights c.args.parts.now.step.now) t c.decreases
 
 pub do_loop-turn-requires : goal.do_loop-turn-requires
 do_loop-turn-requires t c =
-    loop-turn (of_frames c.args.frame.frames c.args.setting.now.program.now) (weight
-    c.args.parts.now.when.now) (height c.args.parts.now.body.now) (heights c.args.parts.now.step.now) t
-    c.decreases
+    loop-turn (of_frames c.args.frame.frames c.args.setting.now.program.now)
+    (weight c.args.parts.now.when.now) (height c.args.parts.now.body.now)
+    (heights c.args.parts.now.step.now) t c.decreases
 
 pub test_behind-given-requires : goal.test_behind-given-requires
 test_behind-given-requires t c =
-    lower (of_frames c.args.frame.frames c.args.setting.now.program.now) (weight c.args.parts.now.when.now) 1
-    0 t c.decreases
+    lower (of_frames c.args.frame.frames c.args.setting.now.program.now) (weight c.args.parts.now.when.now)
+    1 0 t c.decreases
 
 pub eval_all-eval-requires : goal.eval_all-eval-requires
 eval_all-eval-requires t c =
     item-falls (of_frames c.args.frame.frames c.args.setting.now.program.now) (weights c.args.exprs.now)
-    (weight c.expr-item.result) t c.decreases (item-below weight c.args.exprs.now c.loop-expr.expr-index
-    c.expr-item.result (search rules) (search rules))
+    (weight c.expr-item.result) t c.decreases
+    (item-below weight c.args.exprs.now c.loop-expr.expr-index c.expr-item.result (search rules)
+    (search rules))
 
 pub eval_args-eval_arg-requires : goal.eval_args-eval_arg-requires
 eval_args-eval_arg-requires t c =
     item-falls (of_frames c.args.frame.frames c.args.setting.now.program.now) (arg_weights c.args.args.now)
-    (arg_weight c.arg-item.result) t c.decreases (item-below arg_weight c.args.args.now
-    c.loop-arg.arg-index c.arg-item.result (search rules) (search rules))
+    (arg_weight c.arg-item.result) t c.decreases
+    (item-below arg_weight c.args.args.now c.loop-arg.arg-index c.arg-item.result (search rules)
+    (search rules))
 
 pub exec_all-exec-requires : goal.exec_all-exec-requires
 exec_all-exec-requires t c =
     item-falls (of_frames c.args.frame.frames c.args.setting.now.program.now) (heights c.args.body.now)
-    (height c.stmt-item.result) t c.decreases (item-below height c.args.body.now c.loop-stmt.stmt-index
-    c.stmt-item.result (search rules) (search rules))
+    (height c.stmt-item.result) t c.decreases
+    (item-below height c.args.body.now c.loop-stmt.stmt-index c.stmt-item.result (search rules)
+    (search rules))
