@@ -6,5 +6,3 @@ pub mod Sets
 pub mod Equations
 pub mod FactEquations
 pub mod Falling
-pub mod Measures
-pub mod Weights

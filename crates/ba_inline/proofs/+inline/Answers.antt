@@ -1,4 +1,4 @@
-use Rattle.std.proofs.Common.{rules, true, false, ◌≡◌, ◌+◌, ◌-◌, ◌*◌, ◌<◌, suc, [], pos, refl, sym, ◌∙◌, ap, subst}
+use Rattle.std.proofs.Common.{rules, true, false, ◌≡◌, ◌+◌, ◌-◌, ◌*◌, ◌<◌, suc, [], pos, sym, ◌∙◌, ap, subst}
 use Rattle.std.proofs.lemmas.List.{take_all}
 use Rattle.std.specs.List.{list_any}
 use Rattle.ba_code.specs.declared.nodes.Operand.TheVariants.{Const, Var}
@@ -21,19 +21,16 @@ use Rattle.ba_inline.proofs.Values.{makes-binary, makes-const, makes-convert, ma
 use Rattle.ba_inline.specs.Adding.{leave_act, pick_act, unary_act}
 use Rattle.ba_inline.specs.Calling.{arg_has_call, has_call}
 use Rattle.ba_inline.specs.Declarations.{with_var}
-use Rattle.ba_tree.specs.Heights.{arg_weight, arg_weights, height, heights, optional_stmt_height, tallest, weight, weights}
+use Rattle.ba_tree.specs.Heights.{arg_weight, arg_weights, height, heights, tallest, weight, weights}
 use Rattle.ba_inline.specs.Making.{Adds, Does, GivesTo, Makes, MakesArguments, MakesValue, MakesValues}
 use Rattle.ba_inline.specs.Names.{IsScope}
 use Rattle.ba_inline.specs.Parts.{arguments_part, assign_part, call_stmt_part, context_in_frame, declare_part, given_part, init_array_part, loop_now, loop_part, optional_now, optional_part, print_part, stmt_part, stmts_part, store_part, value_part, values_part}
 use Rattle.ba_inline.specs.Repeating.{parts_of}
-use Rattle.ba_inline.specs.declared.frames.Frame.{Frame}
 use Rattle.ba_inline.specs.declared.frames.Wanted.TheVariants as wanted
 use Rattle.ba_numbers.specs.declared.numbers.CType.TheVariants.{I32}
 use Rattle.ba_numbers.specs.declared.numbers.UnOp.TheVariants.{IsZero}
 use Rattle.ba_tree.specs.Meaning.{eval, exec_all}
 use Rattle.ba_tree.specs.declared.tree.Variable.{Variable}
-use Rattle.ba_tree.proofs.Measures.{of_frames, item-falls, item-falls-by, lower, alone, part, part-by, first, first-by, second, second-by, begins-by, begins, goes-on, goes-on-by, ends, loop, loop-first, loop-rest, loop-test, loop-body, loop-step}
-use Rattle.ba_tree.proofs.Weights.{weight-Element, weight-Unary, weight-Convert, weight-Binary, weight-AndAlso, weight-OrElse, weight-Select, weight-Call, weight-Value, other_height, optional-is, height-Block, height-Init, height-InitArray, height-Assign, height-Store, height-If, height-While, height-DoWhile, height-For, height-Return, height-CallStmt, height-Print, height-Assert}
 use Rattle.ba_inline.proofs.+inline.Goals as goal
 
 -- EXPRESSIONS
@@ -387,6 +384,13 @@ operands::expressions-returns t c = λ scope.
     c.loop-expr.out.items)
     (take_all c.loop-expr.expr-index c.args.exprs.now (search rules)) (c.loop-expr.invariant scope)
 
+pub operands::expressions-kept_expression-requires : goal.operands::expressions-kept_expression-requires
+operands::expressions-kept_expression-requires t c =
+    let h : weight c.expr-item.result < weights c.args.exprs.now =
+    item-below weight c.args.exprs.now c.loop-expr.expr-index c.expr-item.result (search rules) (search
+    rules) in
+    search (rules, h)
+
 pub calls::arguments-loop-arg-init : goal.calls::arguments-loop-arg-init
 calls::arguments-loop-arg-init t c = λ scope.
     let p = c.args.setting.now.program.now in
@@ -433,6 +437,13 @@ calls::arguments-returns t c = λ scope.
     (list_any arg_has_call c.args.args.now) c.loop-arg.given.items low c.loop-arg.declared old
     c.loop-arg.out.items)
     (take_all c.loop-arg.arg-index c.args.args.now (search rules)) (c.loop-arg.invariant scope)
+
+pub calls::arguments-argument-requires : goal.calls::arguments-argument-requires
+calls::arguments-argument-requires t c =
+    let h : arg_weight c.arg-item.result < arg_weights c.args.args.now =
+    item-below arg_weight c.args.args.now c.loop-arg.arg-index c.arg-item.result (search rules) (search
+    rules) in
+    search (rules, h)
 
 pub calls::argument-returns-in_ok-value-in-Value : goal.calls::argument-returns-in_ok-value-in-Value
 calls::argument-returns-in_ok-value-in-Value t c = λ scope.
@@ -1035,6 +1046,13 @@ control::statements-returns t c = λ is_frame.
     (search rules))
     (c.loop-stmt.invariant is_frame)
 
+pub control::statements-statement-requires : goal.control::statements-statement-requires
+control::statements-statement-requires t c =
+    let h : height c.stmt-item.result < heights c.args.body.now =
+    item-below height c.args.body.now c.loop-stmt.stmt-index c.stmt-item.result (search rules) (search
+    rules) in
+    search (rules, h)
+
 pub control::repeat-returns : goal.control::repeat-returns
 control::repeat-returns t c =
     let p = c.args.setting.now.program.now in
@@ -1057,343 +1075,3 @@ control::repeat-returns t c =
     c.new-whole.ensures.items c.in_body.ensures c.in_step.ensures c.in_ok-to.ensures c.in_ok-statement.ensures
     (adds-block _ _ _ _ c.in_ok-add.ensures) c.in_ok-statements.ensures
     (adds-loop _ _ _ _ _ _ _ _ c.in_ok-add-2.ensures) (adds-block _ _ _ _ added)) c.add-3.ensures
-
--- MEASURES: what each call is measured by falls
-
-pub operands::expression-expression-requires : goal.operands::expression-expression-requires
-operands::expression-expression-requires t c =
-    part (of_frames c.args.frame.frames c.args.setting.now.program.now) (weight c.args.expr.now)
-    (weight c.in-Element.index.value) (weight c.deref.result.now) 0 t c.decreases
-    (weight-Element c.args.expr.now c.in-Element.array c.in-Element.index c.in-Element.is)
-    (ap weight c.deref.ensures)
-
-pub operands::expression-expression-requires-in-Unary : goal.operands::expression-expression-requires-in-Unary
-operands::expression-expression-requires-in-Unary t c =
-    part (of_frames c.args.frame.frames c.args.setting.now.program.now) (weight c.args.expr.now)
-    (weight c.in-Unary.a.value) (weight c.deref-in-Unary.result.now) 0 t c.decreases
-    (weight-Unary c.args.expr.now c.in-Unary.op c.in-Unary.t c.in-Unary.a c.in-Unary.is)
-    (ap weight c.deref-in-Unary.ensures)
-
-pub operands::expression-expression-requires-in-Convert :
-    goal.operands::expression-expression-requires-in-Convert
-operands::expression-expression-requires-in-Convert t c =
-    part (of_frames c.args.frame.frames c.args.setting.now.program.now) (weight c.args.expr.now)
-    (weight c.in-Convert.a.value) (weight c.deref-in-Convert.result.now) 0 t c.decreases
-    (weight-Convert c.args.expr.now c.in-Convert.t c.in-Convert.a c.in-Convert.is)
-    (ap weight c.deref-in-Convert.ensures)
-
-pub operands::expression-kept_expression-requires : goal.operands::expression-kept_expression-requires
-operands::expression-kept_expression-requires t c =
-    first-by (of_frames c.args.frame.frames c.args.setting.now.program.now) (weight c.args.expr.now)
-    (weight c.in-Binary.a.value) (weight c.in-Binary.b.value) 0 t c.decreases
-    (weight-Binary c.args.expr.now c.in-Binary.op c.in-Binary.t c.in-Binary.a c.in-Binary.b c.in-Binary.is)
-    (weight c.deref-in-Binary-2.result.now) (ap weight c.deref-in-Binary-2.ensures)
-
-pub operands::expression-expression-requires-in-Binary :
-    goal.operands::expression-expression-requires-in-Binary
-operands::expression-expression-requires-in-Binary t c =
-    second (of_frames c.args.frame.frames c.args.setting.now.program.now) (weight c.args.expr.now)
-    (weight c.in-Binary.a.value) (weight c.in-Binary.b.value) 0 t c.decreases
-    (weight-Binary c.args.expr.now c.in-Binary.op c.in-Binary.t c.in-Binary.a c.in-Binary.b c.in-Binary.is)
-    (weight c.deref-in-Binary-3.result.now) (ap weight c.deref-in-Binary-3.ensures)
-
-pub operands::expression-expression-requires-in-AndAlso :
-    goal.operands::expression-expression-requires-in-AndAlso
-operands::expression-expression-requires-in-AndAlso t c =
-    first (of_frames c.args.frame.frames c.args.setting.now.program.now) (weight c.args.expr.now)
-    (weight c.in-AndAlso.a.value) (weight c.in-AndAlso.b.value) 0 t c.decreases
-    (weight-AndAlso c.args.expr.now c.in-AndAlso.a c.in-AndAlso.b c.in-AndAlso.is)
-    (weight c.deref-in-AndAlso.result.now) (ap weight c.deref-in-AndAlso.ensures)
-
-pub operands::expression-truth_to-requires : goal.operands::expression-truth_to-requires
-operands::expression-truth_to-requires t c =
-    second-by (of_frames c.args.frame.frames c.args.setting.now.program.now) (weight c.args.expr.now)
-    (weight c.in-AndAlso.a.value) (weight c.in-AndAlso.b.value) 0 t c.decreases
-    (weight-AndAlso c.args.expr.now c.in-AndAlso.a c.in-AndAlso.b c.in-AndAlso.is)
-    (weight c.deref-in-AndAlso-2.result.now) (ap weight c.deref-in-AndAlso-2.ensures)
-
-pub operands::expression-expression-requires-in-OrElse :
-    goal.operands::expression-expression-requires-in-OrElse
-operands::expression-expression-requires-in-OrElse t c =
-    first (of_frames c.args.frame.frames c.args.setting.now.program.now) (weight c.args.expr.now)
-    (weight c.in-OrElse.a.value) (weight c.in-OrElse.b.value) 0 t c.decreases
-    (weight-OrElse c.args.expr.now c.in-OrElse.a c.in-OrElse.b c.in-OrElse.is)
-    (weight c.deref-in-OrElse.result.now) (ap weight c.deref-in-OrElse.ensures)
-
-pub operands::expression-truth_to-requires-in-OrElse : goal.operands::expression-truth_to-requires-in-OrElse
-operands::expression-truth_to-requires-in-OrElse t c =
-    second-by (of_frames c.args.frame.frames c.args.setting.now.program.now) (weight c.args.expr.now)
-    (weight c.in-OrElse.a.value) (weight c.in-OrElse.b.value) 0 t c.decreases
-    (weight-OrElse c.args.expr.now c.in-OrElse.a c.in-OrElse.b c.in-OrElse.is)
-    (weight c.deref-in-OrElse-2.result.now) (ap weight c.deref-in-OrElse-2.ensures)
-
-pub operands::expression-expression-requires-in-Select :
-    goal.operands::expression-expression-requires-in-Select
-operands::expression-expression-requires-in-Select t c =
-    begins (of_frames c.args.frame.frames c.args.setting.now.program.now) (weight c.args.expr.now)
-    (weight c.in-Select.when.value) (weight c.in-Select.a.value) (weight c.in-Select.b.value) 0 t
-    c.decreases
-    (weight-Select c.args.expr.now c.in-Select.t c.in-Select.when c.in-Select.a c.in-Select.b c.in-Select.is)
-    (weight c.deref-in-Select.result.now) (ap weight c.deref-in-Select.ensures)
-
-pub operands::expression-expression_to-requires : goal.operands::expression-expression_to-requires
-operands::expression-expression_to-requires t c =
-    goes-on-by (of_frames c.args.frame.frames c.args.setting.now.program.now) (weight c.args.expr.now)
-    (weight c.in-Select.when.value) (weight c.in-Select.a.value) (weight c.in-Select.b.value) 0 t
-    c.decreases
-    (weight-Select c.args.expr.now c.in-Select.t c.in-Select.when c.in-Select.a c.in-Select.b c.in-Select.is)
-    (weight c.deref-in-Select-2.result.now) (ap weight c.deref-in-Select-2.ensures)
-
-pub operands::expression-expression_to-requires-in-Select :
-    goal.operands::expression-expression_to-requires-in-Select
-operands::expression-expression_to-requires-in-Select t c =
-    second-by (of_frames c.args.frame.frames c.args.setting.now.program.now) (weight c.args.expr.now)
-    (weight c.in-Select.when.value + weight c.in-Select.a.value) (weight c.in-Select.b.value) 0 t
-    c.decreases
-    (weight-Select c.args.expr.now c.in-Select.t c.in-Select.when c.in-Select.a c.in-Select.b c.in-Select.is)
-    (weight c.deref-in-Select-3.result.now) (ap weight c.deref-in-Select-3.ensures)
-
-pub operands::expression-call_value-requires : goal.operands::expression-call_value-requires
-operands::expression-call_value-requires t c =
-    part-by (of_frames c.args.frame.frames c.args.setting.now.program.now) (weight c.args.expr.now)
-    (arg_weights c.in-Call.args.items) (arg_weights c.as_slice.result.now) 2 1 t c.decreases
-    (weight-Call c.args.expr.now c.in-Call.call c.in-Call.function c.in-Call.args c.in-Call.is)
-    (ap arg_weights c.as_slice.ensures.value)
-
-pub operands::kept_expression-expression-requires : goal.operands::kept_expression-expression-requires
-operands::kept_expression-expression-requires t c =
-    part (of_frames c.args.frame.frames c.args.setting.now.program.now) (weight c.args.expr.now + 1)
-    (weight c.args.expr.now) (weight c.args.expr.now) 0 t c.decreases refl refl
-
-pub operands::expression_to-expression-requires : goal.operands::expression_to-expression-requires
-operands::expression_to-expression-requires t c =
-    part (of_frames c.args.frame.frames c.args.setting.now.program.now) (weight c.args.expr.now + 1)
-    (weight c.args.expr.now) (weight c.args.expr.now) 0 t c.decreases refl refl
-
-pub operands::truth_to-expression-requires : goal.operands::truth_to-expression-requires
-operands::truth_to-expression-requires t c =
-    part (of_frames c.args.frame.frames c.args.setting.now.program.now) (weight c.args.expr.now + 1)
-    (weight c.args.expr.now) (weight c.args.expr.now) 0 t c.decreases refl refl
-
-pub operands::expressions-kept_expression-requires : goal.operands::expressions-kept_expression-requires
-operands::expressions-kept_expression-requires t c =
-    item-falls-by (of_frames c.args.frame.frames c.args.setting.now.program.now) (weights c.args.exprs.now)
-    (weight c.expr-item.result) t c.decreases
-    (item-below weight c.args.exprs.now c.loop-expr.expr-index c.expr-item.result (search rules)
-    (search rules))
-
-pub operands::condition-given_to-requires : goal.operands::condition-given_to-requires
-operands::condition-given_to-requires t c =
-    lower (of_frames c.args.frame.frames c.args.setting.now.program.now) (weight c.args.when.now) 2 0 t
-    c.decreases
-
-pub calls::argument-kept_expression-requires : goal.calls::argument-kept_expression-requires
-calls::argument-kept_expression-requires t c =
-    part-by (of_frames c.args.frame.frames c.args.setting.now.program.now) (arg_weight c.args.arg.now)
-    (weight c.in-Value.value) (weight c.in-Value.value) 1 0 t c.decreases
-    (weight-Value c.args.arg.now c.in-Value.value c.in-Value.is) refl
-
-pub calls::arguments-argument-requires : goal.calls::arguments-argument-requires
-calls::arguments-argument-requires t c =
-    item-falls (of_frames c.args.frame.frames c.args.setting.now.program.now) (arg_weights c.args.args.now)
-    (arg_weight c.arg-item.result) t c.decreases
-    (item-below arg_weight c.args.args.now c.loop-arg.arg-index c.arg-item.result (search rules)
-    (search rules))
-
-pub calls::call_value-arguments-requires : goal.calls::call_value-arguments-requires
-calls::call_value-arguments-requires t c =
-    lower (of_frames c.args.frame.frames c.args.setting.now.program.now) (arg_weights c.args.args.now) 1 0 t
-    c.decreases
-
-pub calls::call_value-invoke-requires : goal.calls::call_value-invoke-requires
-calls::call_value-invoke-requires t c =
-    alone (of_frames c.args.frame.frames c.args.setting.now.program.now) (arg_weights c.args.args.now) 1 t
-    c.decreases
-
-pub calls::given_to-expression_to-requires : goal.calls::given_to-expression_to-requires
-calls::given_to-expression_to-requires t c =
-    lower (of_frames c.args.frame.frames c.args.setting.now.program.now) (weight c.args.expr.now) 1 0 t
-    c.decreases
-
-pub calls::call_statement-call_value-requires : goal.calls::call_statement-call_value-requires
-calls::call_statement-call_value-requires t c =
-    lower (of_frames c.args.frame.frames c.args.setting.now.program.now) (arg_weights c.args.args.now) 2 0 t
-    c.decreases
-
-pub simple::assign-given_to-requires : goal.simple::assign-given_to-requires
-simple::assign-given_to-requires t c =
-    lower (of_frames c.args.frame.frames c.args.setting.now.program.now) (weight c.args.value.now) 2 0 t
-    c.decreases
-
-pub simple::store-kept_expression-requires : goal.simple::store-kept_expression-requires
-simple::store-kept_expression-requires t c =
-    first-by (of_frames c.args.frame.frames c.args.setting.now.program.now)
-    (weight c.args.index.now + weight c.args.value.now + 3) (weight c.args.index.now)
-    (weight c.args.value.now) 1 t c.decreases refl (weight c.args.index.now) refl
-
-pub simple::store-expression-requires : goal.simple::store-expression-requires
-simple::store-expression-requires t c =
-    second (of_frames c.args.frame.frames c.args.setting.now.program.now)
-    (weight c.args.index.now + weight c.args.value.now + 3) (weight c.args.index.now)
-    (weight c.args.value.now) 1 t c.decreases refl (weight c.args.value.now) refl
-
-pub simple::init_array-expressions-requires : goal.simple::init_array-expressions-requires
-simple::init_array-expressions-requires t c =
-    lower (of_frames c.args.frame.frames c.args.setting.now.program.now) (weights c.args.values.now) 1 0 t
-    c.decreases
-
-pub simple::print-expressions-requires : goal.simple::print-expressions-requires
-simple::print-expressions-requires t c =
-    lower (of_frames c.args.frame.frames c.args.setting.now.program.now) (weights c.args.args.now) 1 0 t
-    c.decreases
-
-pub control::statement-statements-requires : goal.control::statement-statements-requires
-control::statement-statements-requires t c =
-    part-by (of_frames c.args.frame.frames c.args.setting.now.program.now) (height c.args.stmt.now)
-    (heights c.in-Block.body.items) (heights c.as_slice.result.now) 1 0 t c.decreases
-    (height-Block c.args.stmt.now c.in-Block.body c.in-Block.is) (ap heights c.as_slice.ensures.value)
-
-pub control::statement-assign-requires : goal.control::statement-assign-requires
-control::statement-assign-requires t c =
-    part-by (of_frames c.args.frame.frames c.args.setting.now.program.now) (height c.args.stmt.now)
-    (weight c.in-Init.value) (weight c.in-Init.value) 3 0 t c.decreases
-    (height-Init c.args.stmt.now c.in-Init.stmt c.in-Init.var c.in-Init.value c.in-Init.is) refl
-
-pub control::statement-assign-requires-in-Assign : goal.control::statement-assign-requires-in-Assign
-control::statement-assign-requires-in-Assign t c =
-    part-by (of_frames c.args.frame.frames c.args.setting.now.program.now) (height c.args.stmt.now)
-    (weight c.in-Assign.value) (weight c.in-Assign.value) 3 0 t c.decreases
-    (height-Assign c.args.stmt.now c.in-Assign.stmt c.in-Assign.var c.in-Assign.value c.in-Assign.is) refl
-
-pub control::statement-init_array-requires : goal.control::statement-init_array-requires
-control::statement-init_array-requires t c =
-    part-by (of_frames c.args.frame.frames c.args.setting.now.program.now) (height c.args.stmt.now)
-    (weights c.in-InitArray.values.items) (weights c.as_slice-in-InitArray.result.now) 2 1 t c.decreases
-    (height-InitArray c.args.stmt.now c.in-InitArray.stmt c.in-InitArray.array c.in-InitArray.values
-    c.in-InitArray.is)
-    (ap weights c.as_slice-in-InitArray.ensures.value)
-
-pub control::statement-store-requires : goal.control::statement-store-requires
-control::statement-store-requires t c =
-    part-by (of_frames c.args.frame.frames c.args.setting.now.program.now) (height c.args.stmt.now)
-    (weight c.in-Store.index + weight c.in-Store.value) (weight c.in-Store.index + weight c.in-Store.value)
-    3 0 t c.decreases
-    (height-Store c.args.stmt.now c.in-Store.stmt c.in-Store.array c.in-Store.index c.in-Store.value
-    c.in-Store.is)
-    refl
-
-pub control::statement-condition-requires : goal.control::statement-condition-requires
-control::statement-condition-requires t c =
-    begins-by (of_frames c.args.frame.frames c.args.setting.now.program.now) (height c.args.stmt.now)
-    (weight c.in-If.when) (height c.in-If.yes.value) (other_height c.in-If.no) 3 1 t c.decreases
-    (height-If c.args.stmt.now c.in-If.stmt c.in-If.when c.in-If.yes c.in-If.no c.in-If.is)
-
-pub control::statement-statement-requires : goal.control::statement-statement-requires
-control::statement-statement-requires t c =
-    goes-on (of_frames c.args.frame.frames c.args.setting.now.program.now) (height c.args.stmt.now)
-    (weight c.in-If.when) (height c.in-If.yes.value) (other_height c.in-If.no) 3 t c.decreases
-    (height-If c.args.stmt.now c.in-If.stmt c.in-If.when c.in-If.yes c.in-If.no c.in-If.is)
-    (height c.deref.result.now) (ap height c.deref.ensures)
-
-pub control::statement-optional-requires : goal.control::statement-optional-requires
-control::statement-optional-requires t c =
-    ends (of_frames c.args.frame.frames c.args.setting.now.program.now) (height c.args.stmt.now)
-    (weight c.in-If.when) (height c.in-If.yes.value) (other_height c.in-If.no) 3 t c.decreases
-    (height-If c.args.stmt.now c.in-If.stmt c.in-If.when c.in-If.yes c.in-If.no c.in-If.is)
-    (optional_stmt_height c.in-If.no) (optional-is c.in-If.no)
-
-pub control::optional-statement-requires : goal.control::optional-statement-requires
-control::optional-statement-requires t c =
-    part (of_frames c.args.frame.frames c.args.setting.now.program.now)
-    (optional_stmt_height c.args.stmt.now) (height c.in-Some.stmt.value) (height c.deref.result.now) 0 t
-    c.decreases (ap optional_stmt_height c.in-Some.is) (ap height c.deref.ensures)
-
-pub control::statement-repeat-requires : goal.control::statement-repeat-requires
-control::statement-repeat-requires t c =
-    loop (of_frames c.args.frame.frames c.args.setting.now.program.now) (height c.args.stmt.now)
-    (weight c.in-While.when) (height c.in-While.body.value) (height c.deref-in-While.result.now) t
-    c.decreases (height-While c.args.stmt.now c.in-While.stmt c.in-While.when c.in-While.body c.in-While.is)
-    (ap height c.deref-in-While.ensures)
-
-pub control::statement-repeat-requires-in-DoWhile : goal.control::statement-repeat-requires-in-DoWhile
-control::statement-repeat-requires-in-DoWhile t c =
-    loop (of_frames c.args.frame.frames c.args.setting.now.program.now) (height c.args.stmt.now)
-    (weight c.in-DoWhile.when) (height c.in-DoWhile.body.value) (height c.deref-in-DoWhile.result.now) t
-    c.decreases
-    (height-DoWhile c.args.stmt.now c.in-DoWhile.stmt c.in-DoWhile.when c.in-DoWhile.body c.in-DoWhile.is)
-    (ap height c.deref-in-DoWhile.ensures)
-
-pub control::statement-statements-requires-in-For : goal.control::statement-statements-requires-in-For
-control::statement-statements-requires-in-For t c =
-    loop-first (of_frames c.args.frame.frames c.args.setting.now.program.now) (height c.args.stmt.now)
-    (heights c.in-For.first.items) (weight c.in-For.when) (heights c.in-For.step.items)
-    (height c.in-For.body.value) t c.decreases
-    (height-For c.args.stmt.now c.in-For.stmt c.in-For.first c.in-For.when c.in-For.step
-    c.in-For.body c.in-For.is)
-    (heights c.as_slice-in-For.result.now) (ap heights c.as_slice-in-For.ensures.value)
-
-pub control::statement-repeat-requires-in-For : goal.control::statement-repeat-requires-in-For
-control::statement-repeat-requires-in-For t c =
-    loop-rest (of_frames c.args.frame.frames c.args.setting.now.program.now) (height c.args.stmt.now)
-    (heights c.in-For.first.items) (weight c.in-For.when) (heights c.in-For.step.items)
-    (height c.in-For.body.value) t c.decreases
-    (height-For c.args.stmt.now c.in-For.stmt c.in-For.first c.in-For.when c.in-For.step
-    c.in-For.body c.in-For.is)
-    (height c.deref-in-For.result.now) (heights c.as_slice-in-For-2.result.now)
-    (ap height c.deref-in-For.ensures) (ap heights c.as_slice-in-For-2.ensures.value)
-
-pub control::statement-given_to-requires : goal.control::statement-given_to-requires
-control::statement-given_to-requires t c =
-    part-by (of_frames c.args.frame.frames c.args.setting.now.program.now) (height c.args.stmt.now)
-    (weight c.in-Return.value) (weight c.in-Return.value) 2 1 t c.decreases
-    (height-Return c.args.stmt.now c.in-Return.stmt c.in-Return.value c.in-Return.is) refl
-
-pub control::statement-call_statement-requires : goal.control::statement-call_statement-requires
-control::statement-call_statement-requires t c =
-    part-by (of_frames c.args.frame.frames c.args.setting.now.program.now) (height c.args.stmt.now)
-    (arg_weights c.in-CallStmt.args.items) (arg_weights c.as_slice-in-CallStmt.result.now) 3 1 t c.decreases
-    (height-CallStmt c.args.stmt.now c.in-CallStmt.stmt c.in-CallStmt.call c.in-CallStmt.function
-    c.in-CallStmt.args c.in-CallStmt.is)
-    (ap arg_weights c.as_slice-in-CallStmt.ensures.value)
-
-pub control::statement-print-requires : goal.control::statement-print-requires
-control::statement-print-requires t c =
-    part-by (of_frames c.args.frame.frames c.args.setting.now.program.now) (height c.args.stmt.now)
-    (weights c.in-Print.args.items) (weights c.as_slice-in-Print.result.now) 2 1 t c.decreases
-    (height-Print c.args.stmt.now c.in-Print.stmt c.in-Print.args c.in-Print.is)
-    (ap weights c.as_slice-in-Print.ensures.value)
-
-pub control::statement-expression-requires : goal.control::statement-expression-requires
-control::statement-expression-requires t c =
-    part (of_frames c.args.frame.frames c.args.setting.now.program.now) (height c.args.stmt.now)
-    (weight c.in-Assert.when) (weight c.in-Assert.when) 0 t c.decreases
-    (height-Assert c.args.stmt.now c.in-Assert.stmt c.in-Assert.when c.in-Assert.is) refl
-
-pub control::statements-statement-requires : goal.control::statements-statement-requires
-control::statements-statement-requires t c =
-    item-falls (of_frames c.args.frame.frames c.args.setting.now.program.now) (heights c.args.body.now)
-    (height c.stmt-item.result) t c.decreases
-    (item-below height c.args.body.now c.loop-stmt.stmt-index c.stmt-item.result (search rules)
-    (search rules))
-
-pub control::repeat-condition-requires : goal.control::repeat-condition-requires
-control::repeat-condition-requires t c =
-    loop-test (of_frames c.args.frame.frames c.args.setting.now.program.now)
-    (weight c.args.parts.now.when.now) (height c.args.parts.now.body.now)
-    (heights c.args.parts.now.step.now) t 3 1 c.decreases
-
-pub control::repeat-statement-requires : goal.control::repeat-statement-requires
-control::repeat-statement-requires t c =
-    loop-body (of_frames c.args.frame.frames c.args.setting.now.program.now)
-    (weight c.args.parts.now.when.now) (height c.args.parts.now.body.now)
-    (heights c.args.parts.now.step.now) t c.decreases
-    (of_frames c.in_body.result.frames c.args.setting.now.program.now)
-    (ap (λ (f : Frame). of_frames f.frames c.args.setting.now.program.now) c.in_body.ensures)
-
-pub control::repeat-statements-requires : goal.control::repeat-statements-requires
-control::repeat-statements-requires t c =
-    loop-step (of_frames c.args.frame.frames c.args.setting.now.program.now)
-    (weight c.args.parts.now.when.now) (height c.args.parts.now.body.now)
-    (heights c.args.parts.now.step.now) t c.decreases
-    (of_frames c.in_step.result.frames c.args.setting.now.program.now)
-    (ap (λ (f : Frame). of_frames f.frames c.args.setting.now.program.now) c.in_step.ensures)
