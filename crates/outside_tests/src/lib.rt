@@ -25,6 +25,8 @@ mod programs;
 #[cfg(test)]
 mod rules;
 #[cfg(test)]
+mod samples;
+#[cfg(test)]
 mod searches;
 #[cfg(test)]
 mod sinks;

@@ -5,9 +5,13 @@
 #![tactic(auto)]
 
 #[cfg(test)]
+mod arena;
+#[cfg(test)]
 mod bits;
 #[cfg(test)]
 mod borders;
+#[cfg(test)]
+mod cells;
 #[cfg(test)]
 mod checker;
 #[cfg(test)]
