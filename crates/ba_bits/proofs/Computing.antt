@@ -19,7 +19,7 @@ use Rattle.ba_numbers.specs.declared.numbers.CType.TheVariants.{I8, U8, I16, U16
 use Rattle.ba_numbers.specs.declared.numbers.UnOp.{UnOp}
 use Rattle.ba_numbers.specs.Numbers.{low_word, value_of, value_of_one, truth as number_of_truth}
 use Rattle.ba_numbers.proofs.Conversions.{truth_converted}
-use Rattle.ba_tree.specs.Facts.{is_promoted, shifts}
+use Rattle.ba_numbers.specs.Types.{is_promoted, shifts}
 use Rattle.ba_wordlist.specs.Meaning.{binary_value, value_at_zero, value_or}
 use Rattle.ba_words.specs.Words.{AreBitsOf, HasNumber, IsShift, IsValueOf, IsValueOfOne, digit, number_of, word_type}
 use Rattle.ba_words.proofs.Circuits.{number_small}

@@ -12,7 +12,7 @@ use Rattle.ba_numbers.specs.declared.numbers.BinOp.TheVariants.{Mul, Div, Rem, A
 use Rattle.ba_numbers.specs.declared.numbers.CType.{CType}
 use Rattle.ba_numbers.specs.declared.numbers.CType.TheVariants.{I8, U8, I16, U16, I32, U32}
 use Rattle.ba_numbers.specs.Numbers.{converted, converted_value, low_word, value_of, value_of_one}
-use Rattle.ba_tree.specs.Facts.{shifts}
+use Rattle.ba_numbers.specs.Types.{shifts}
 use Rattle.ba_wordlist.specs.Meaning.{binary_value, element_read, elements_at, entry_of, is_nonzero, value_at, value_at_zero, value_or}
 use Rattle.ba_wordlist.specs.declared.words.WordOp.{WordOp}
 use Rattle.ba_wordlist.specs.declared.words.WordOp.TheVariants.{Const, Free, Flag, Unary, Binary, Convert, Select, Read, Zeros, Fill, Write}

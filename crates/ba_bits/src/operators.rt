@@ -5,7 +5,7 @@ ghost use Rattle.ba_bits.specs.Bits.{HasLowBits, value_in};
 ghost use Rattle.ba_code.specs.Operators.{converting};
 ghost use Rattle.ba_nodes.specs.Gates.{Extends, HasValue};
 ghost use Rattle.ba_numbers.specs.Numbers.{converted};
-ghost use Rattle.ba_tree.specs.Facts.{is_promoted};
+ghost use Rattle.ba_numbers.specs.Types.{is_promoted};
 ghost use Rattle.ba_wordlist.specs.Meaning.{binary_value, is_nonzero};
 ghost use Rattle.ba_words.specs.Words.{AreBitsOf, word_type};
 

@@ -1,8 +1,7 @@
 -- Reading the bytes of a certificate: which steps they are the text of.
 
 use Rattle.std.specs.Prelude.{ℕ, ◌==◌, Bool, true, false, cond, Option, None, Some, option_map, List, [], ◌∷◌, length, bytes_eq}
-use Rattle.std.specs.List.{slice_split}
-use Rattle.ba_bytes.specs.Classes.{is_line_end}
+use Rattle.ba_bytes.specs.Lines.{lines_of}
 use Rattle.ba_steps.specs.declared.step.CertStep.{CertStep}
 use Rattle.ba_cert.specs.Text.{head_line}
 use Rattle.ba_cert.specs.Reading.{◌>>=◌, step_in}
@@ -27,4 +26,4 @@ after_head whole (head ∷ other ∷ lines) = cond (bytes_eq head head_line) (st
 
 -- the steps of the lines, each with its line feed; where the text is to be whole, nothing stands after them
 unfoldable pub steps_from : Bool → List ℕ → Option (List CertStep)
-steps_from whole bytes = after_head whole (slice_split is_line_end bytes)
+steps_from whole bytes = after_head whole (lines_of bytes)

@@ -1,7 +1,7 @@
 -- The whole lines of a text, each of which a line feed ends, and what stands behind the last line feed.
 
 use Rattle.std.specs.Prelude.{◌≡◌, ℕ, false, List, [], ◌∷◌, ◌++◌, All}
-use Rattle.std.specs.List.{slice_split}
+use Rattle.ba_bytes.specs.Lines.{lines_of}
 use Rattle.ba_bytes.specs.Classes.{is_line_end}
 
 -- all parts but the last, and the last
@@ -17,11 +17,11 @@ last_of (part ∷ other ∷ parts) = last_of (other ∷ parts)
 
 -- the whole lines, without their line feeds
 unfoldable pub lines_in : List ℕ → List (List ℕ)
-lines_in text = all_but_last (slice_split is_line_end text)
+lines_in text = all_but_last (lines_of text)
 
 -- what stands behind the last line feed
 unfoldable pub rest_in : List ℕ → List ℕ
-rest_in text = last_of (slice_split is_line_end text)
+rest_in text = last_of (lines_of text)
 
 -- no byte is a line feed
 abbrev pub HasNoFeed : List ℕ → Type 0

@@ -13,7 +13,7 @@ use Rattle.ba_numbers.specs.declared.numbers.CType.{CType}
 use Rattle.ba_numbers.specs.declared.numbers.CType.TheVariants.{I8, U8, I16, U16, I32, U32}
 use Rattle.ba_numbers.specs.declared.numbers.UnOp.{UnOp}
 use Rattle.ba_numbers.specs.declared.numbers.UnOp.TheVariants.{Neg, Flip, IsZero}
-use Rattle.ba_tree.specs.Facts.{shifts, type_of_binary, type_of_unary}
+use Rattle.ba_numbers.specs.Types.{shifts, type_of_binary, type_of_unary}
 use Rattle.ba_tree.specs.Meaning.{elements_with}
 
 of_T : (b : Bool) → T b → b ≡ true

@@ -26,7 +26,8 @@ use Rattle.ba_numbers.specs.declared.ids.StmtId.{StmtId}
 use Rattle.ba_numbers.specs.declared.numbers.CType.{CType}
 use Rattle.ba_tree.specs.Acts.{after_part, give, then_do}
 use Rattle.ba_tree.specs.Choices.{all_elements, no_value, one_element, one_truth, one_value}
-use Rattle.ba_tree.specs.Facts.{holds, shifts, type_of_binary, type_of_unary}
+use Rattle.ba_tree.specs.Facts.{holds}
+use Rattle.ba_numbers.specs.Types.{shifts, type_of_binary, type_of_unary}
 use Rattle.ba_tree.specs.Meaning.{elements_with}
 use Rattle.ba_tree.specs.State.{is_index}
 use Rattle.ba_tree.specs.declared.run.Flow.{Flow}

@@ -16,7 +16,7 @@ use Rattle.ba_code.specs.declared.nodes.Param.TheVariants as param
 use Rattle.ba_code.specs.declared.nodes.Take.{Take}
 use Rattle.ba_code.specs.declared.nodes.Take.TheVariants.{Value, Truth, Cell, Cells, Nothing}
 use Rattle.ba_code.specs.declared.trees.Code.{Code}
-use Rattle.ba_tree.specs.Facts.{is_promoted}
+use Rattle.ba_numbers.specs.Types.{is_promoted}
 use Rattle.ba_tree.specs.declared.run.Step.{Step}
 use Rattle.ba_tree.specs.declared.run.Step.TheVariants.{Call, Turn}
 

@@ -5,7 +5,7 @@ use Rattle.ba_numbers.specs.Numbers.{converted, value_of, value_of_one}
 use Rattle.ba_numbers.specs.declared.numbers.BinOp.{BinOp}
 use Rattle.ba_numbers.specs.declared.numbers.CType.{CType}
 use Rattle.ba_numbers.specs.declared.numbers.UnOp.{UnOp}
-use Rattle.ba_tree.specs.Facts.{shifts}
+use Rattle.ba_numbers.specs.Types.{shifts}
 
 pub record Operators : Type 0 where
   pub unary : UnOp → CType → ℤ → ℤ

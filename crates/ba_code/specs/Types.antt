@@ -16,7 +16,8 @@ use Rattle.ba_code.specs.declared.nodes.Operand.{Operand}
 use Rattle.ba_code.specs.declared.nodes.Operand.TheVariants.{Const, Var}
 use Rattle.ba_code.specs.declared.nodes.Take.{Take}
 use Rattle.ba_code.specs.declared.nodes.Take.TheVariants as take
-use Rattle.ba_tree.specs.Facts.{holds, shifts, type_of_binary, type_of_unary}
+use Rattle.ba_tree.specs.Facts.{holds}
+use Rattle.ba_numbers.specs.Types.{shifts, type_of_binary, type_of_unary}
 
 -- the types of the variables, and the arrays with theirs
 pub record Types : Type 0 where

@@ -6,11 +6,13 @@ ghost use Rattle.ba_code.specs.Facts.{are_inside, fits_inside, is_array_info, is
 ghost use Rattle.ba_code.specs.Meaning.{info_at};
 ghost use Rattle.ba_code.specs.Run.{code_of_loops};
 ghost use Rattle.ba_code.specs.Types.{all_typed, can_hold, has_type, is_typed, is_within, takes_type};
-ghost use Rattle.ba_tree.specs.Facts.{holds, is_promoted, shifts, type_of_binary, type_of_unary};
+ghost use Rattle.ba_tree.specs.Facts.{holds};
+ghost use Rattle.ba_numbers.specs.Types.{is_promoted, shifts, type_of_binary, type_of_unary};
 
 use crate::nodes::{ArrayInfo, Node, Operand, Param, Take};
 use crate::trees::{Code, LoopTree};
-use ba_numbers::numbers::{BinOp, CType, UnOp};
+use ba_numbers::numbers::CType;
+use ba_numbers::types::{is_promoted, shifts, type_of_binary, type_of_unary};
 use std::alloc::{AllocError, Global};
 
 /// The declaration of an array, or one without elements where it isn't there.
@@ -70,16 +72,6 @@ fn is_take(vars: u32, arrays: &[ArrayInfo], take: Take) -> bool
         Take::Value { to, .. } | Take::Truth { to } => is_var(vars, to),
         Take::Cell { array } | Take::Cells { array } => is_array(arrays, array),
         Take::Nothing => true,
-    }
-}
-
-/// Whether operators work in the type.
-fn is_promoted(t: CType) -> bool
-    ensures { result ≡ is_promoted t }
-{
-    match t {
-        CType::I32 | CType::U32 => true,
-        CType::I8 | CType::U8 | CType::I16 | CType::U16 => false,
     }
 }
 
@@ -325,36 +317,6 @@ fn takes_type(vars: &[CType], arrays: &[ArrayInfo], take: Take) -> bool
         Take::Value { to, t } => can_hold(vars, arrays, to, t),
         Take::Truth { to } => (to as usize) < vars.len(),
         Take::Cell { .. } | Take::Cells { .. } | Take::Nothing => true,
-    }
-}
-
-/// The type of the value of a unary operator that works in the type `t`.
-pub fn type_of_unary(op: UnOp, t: CType) -> CType
-    ensures { result ≡ type_of_unary op t }
-{
-    match op {
-        UnOp::IsZero => CType::I32,
-        UnOp::Neg | UnOp::Flip => t,
-    }
-}
-
-/// The type of the value of a binary operator that works in the type `t`.
-pub fn type_of_binary(op: BinOp, t: CType) -> CType
-    ensures { result ≡ type_of_binary op t }
-{
-    match op {
-        BinOp::Lt | BinOp::Le | BinOp::Gt | BinOp::Ge | BinOp::Eq | BinOp::Ne => CType::I32,
-        _ => t,
-    }
-}
-
-/// Whether the operator is a shift.
-fn shifts(op: BinOp) -> bool
-    ensures { result ≡ shifts op }
-{
-    match op {
-        BinOp::Shl | BinOp::Shr => true,
-        _ => false,
     }
 }
 

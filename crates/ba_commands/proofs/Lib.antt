@@ -13,6 +13,3 @@ mod Answering
 mod Parsed
 mod Calling
 mod Examples
-mod TextLines
-mod Tabling
-pub mod NoText

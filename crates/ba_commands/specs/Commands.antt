@@ -10,7 +10,7 @@ use Rattle.ba_commands.specs.declared.modes.Mode.TheVariants.{Localise, Check, R
 use Rattle.ba_commands.specs.declared.words.WordsError.{WordsError}
 use Rattle.ba_commands.specs.declared.words.WordsError.TheVariants.{Bad, Memory}
 use Rattle.ba_commands.specs.Modes.{Word, usage_of}
-use Rattle.ba_commands.specs.Numbers.{number_in}
+use Rattle.ba_bytes.specs.Numbers.{number_in}
 use Rattle.ba_commands.specs.Words.{Part, option, switch, file, files_in, is_accepted, is_line, mode_of, options_in, parts_of, split_words, stands}
 
 -- one after the other: nothing where one gives nothing

@@ -1,6 +1,6 @@
 //! The words as `clap` reads them, by one simple command a mode.
 
-ghost use Rattle.std.specs.Prelude.{◌≡◌, [], false, map, codes, IfErr, IfOk};
+ghost use Rattle.std.specs.Prelude.{◌≡◌, [], false, map, codes, IfOk};
 ghost use Rattle.clap.specs.Words.{app_of, first_value, found_of, rule_of};
 ghost use Rattle.ba_commands.specs.Modes.{usage_of};
 ghost use Rattle.ba_commands.specs.Commands.{bounds_with, check_with, command_with, localise_with, number_of, number_or, run_with, sample_with, steady_in};
@@ -8,8 +8,8 @@ ghost use Rattle.ba_commands.specs.Parsing.{IsParsedBy, app_for, bare_app, refus
 
 use crate::commands::{Command, Text};
 use crate::modes::{Mode, files, is_word, plain, valued};
-use crate::numbers::number_in;
 use crate::words::WordsError;
+use ba_bytes::numbers::number_in;
 use ba_tree::run::Bounds;
 use clap::error::ErrorKind;
 use clap::{Arg, ArgAction, ArgMatches};

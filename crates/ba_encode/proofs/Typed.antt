@@ -15,7 +15,7 @@ use Rattle.ba_numbers.specs.declared.numbers.BinOp.{BinOp}
 use Rattle.ba_numbers.specs.declared.numbers.BinOp.TheVariants.{Rem}
 use Rattle.ba_numbers.specs.declared.numbers.CType.{CType}
 use Rattle.ba_numbers.specs.declared.numbers.CType.TheVariants.{I8, U8, I16, U16, I32, U32}
-use Rattle.ba_tree.specs.Facts.{is_promoted, shifts}
+use Rattle.ba_numbers.specs.Types.{is_promoted, shifts}
 use Rattle.ba_words.specs.Words.{word_type}
 use Rattle.ba_wordlist.proofs.Values.{elements-entry}
 use Rattle.ba_wordlist.specs.Facts.{are_words, fit_behind, fits_behind, is_name, more_lengths, shows_type}

@@ -19,7 +19,7 @@ use Rattle.ba_guards.specs.Contract.{Chosen, IsGood, IsGuarded}
 use Rattle.ba_inline.specs.Outcomes as inlined
 use Rattle.ba_lits.specs.Literals.{IsClause}
 use Rattle.ba_lits.specs.Satisfaction.{Assignment, all_true}
-use Rattle.ba_loops.specs.Outcomes as unrolled
+use Rattle.ba_unroll.specs.Outcomes as unrolled
 use Rattle.ba_tree.specs.Choices.{admits}
 use Rattle.ba_tree.specs.Least.{AreWeightsOf, IsFeasible, IsRelaxableSet, judge_of, stmt_of}
 use Rattle.ba_tree.specs.Run.{fits, is_done, plain_run, run_of}

@@ -9,9 +9,9 @@ use ba_encode::{Encoded, Grouping, encode};
 use ba_guards::{guard, inputs_are_words};
 use ba_inline::inline;
 use ba_items::Items;
-use ba_loops::unroll;
 use ba_tree::run::{Bounds, Input, Weights};
 use ba_tree::tree::Program;
+use ba_unroll::unroll;
 use std::alloc::{AllocError, Global};
 
 /// The formula of a program on an input, with a group for each statement that has a weight.

@@ -25,7 +25,7 @@ use Rattle.ba_numbers.specs.declared.numbers.BinOp.TheVariants.{Mul, Div, Rem, A
 use Rattle.ba_numbers.specs.declared.numbers.CType.{CType}
 use Rattle.ba_numbers.specs.declared.numbers.UnOp.{UnOp}
 use Rattle.ba_tree.specs.Acts.{after_part, then_do}
-use Rattle.ba_tree.specs.Facts.{is_promoted}
+use Rattle.ba_numbers.specs.Types.{is_promoted}
 use Rattle.ba_tree.specs.declared.run.Halt.{Halt}
 use Rattle.ba_tree.specs.declared.run.Halt.TheVariants.{Trap}
 use Rattle.ba_wordlist.specs.Facts.{are_words}

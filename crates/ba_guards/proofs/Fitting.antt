@@ -16,7 +16,7 @@ use Rattle.ba_code.specs.declared.nodes.Node.TheFolds.{fold-roll-Node}
 use Rattle.ba_code.specs.declared.nodes.Operand.{Operand}
 use Rattle.ba_code.specs.declared.nodes.Take.{Take}
 use Rattle.ba_guards.specs.Making.{AreFit, IsFit}
-use Rattle.ba_tree.specs.Facts.{is_promoted}
+use Rattle.ba_numbers.specs.Types.{is_promoted}
 use Rattle.ba_tree.specs.declared.run.Place.{Place}
 
 module _ (d : Declared) (n : Node) (labels : List ℕ) where

@@ -16,7 +16,7 @@ use Rattle.ba_numbers.specs.Numbers.{IsIn, converted, value_of, value_of_one}
 use Rattle.ba_numbers.specs.declared.numbers.BinOp.{BinOp}
 use Rattle.ba_numbers.specs.declared.numbers.CType.{CType}
 use Rattle.ba_numbers.specs.declared.numbers.UnOp.{UnOp}
-use Rattle.ba_tree.specs.Facts.{shifts}
+use Rattle.ba_numbers.specs.Types.{shifts}
 use Rattle.ba_wordlist.proofs.Lengths.{in-word}
 use Rattle.ba_wordlist.proofs.Values.{value-const, value-same}
 use Rattle.ba_wordlist.specs.Facts.{are_names, are_words, is_name, is_word_value}

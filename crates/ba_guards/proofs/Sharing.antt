@@ -1,6 +1,6 @@
 -- Expressions: which are equal, what they have in a list, and the table of their numbers.
-use Rattle.std.proofs.Common.{rules, ◌≡◌, ℕ, zero, suc, ◌<◌, ℤ, pos, Bool, true, false, ◌&&◌, cond, Option, Some, List, [], ◌∷◌, ◌++◌, length, get_or, take, drop, slice_get, eqb, inl, inr, refl, sym, ◌∙◌, ap, subst, arith}
-use Rattle.std.proofs.lemmas.Bool.{and_parts, eqb-true, false≢true}
+use Rattle.std.proofs.Common.{false≢true, rules, ◌≡◌, ℕ, zero, suc, ◌<◌, ℤ, pos, Bool, true, false, ◌&&◌, cond, Option, Some, List, [], ◌∷◌, ◌++◌, length, get_or, take, drop, slice_get, eqb, inl, inr, refl, sym, ◌∙◌, ap, subst, arith}
+use Rattle.std.proofs.lemmas.Bool.{and_parts, eqb-true}
 use Rattle.std.proofs.lemmas.Bool.Decides.{Decides-int_eq}
 use Rattle.std.proofs.lemmas.List.{get_or_at, length-take-le, length_push, take-append-drop}
 use Rattle.std.proofs.lemmas.Option.{slice_get_within, slice_get-get_or}
@@ -22,7 +22,7 @@ use Rattle.ba_numbers.specs.declared.numbers.BinOp.{BinOp}
 use Rattle.ba_numbers.specs.declared.numbers.CType.{CType}
 use Rattle.ba_numbers.specs.declared.numbers.UnOp.{UnOp}
 use Rattle.ba_numbers.specs.Numbers.{converted}
-use Rattle.ba_tree.specs.Facts.{is_promoted}
+use Rattle.ba_numbers.specs.Types.{is_promoted}
 use Rattle.ba_wordlist.proofs.Lengths.{length-lengths}
 use Rattle.ba_wordlist.proofs.Values.{SameBelow, elements-entry, elements-kept, value-same}
 use Rattle.ba_wordlist.specs.Facts.{are_words, fit_behind, fits_behind, is_name, lengths_of, more_lengths}

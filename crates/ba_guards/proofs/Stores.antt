@@ -27,7 +27,7 @@ use Rattle.ba_numbers.specs.declared.ids.StmtId.{StmtId}
 use Rattle.ba_numbers.specs.declared.numbers.BinOp.TheVariants.{Lt}
 use Rattle.ba_numbers.specs.declared.numbers.CType.TheVariants.{I32, U32}
 use Rattle.ba_tree.specs.Acts.{after_part, then_do}
-use Rattle.ba_tree.specs.Facts.{is_promoted}
+use Rattle.ba_numbers.specs.Types.{is_promoted}
 use Rattle.ba_tree.specs.State.{is_index}
 use Rattle.ba_tree.specs.declared.run.Flow.TheVariants.{Next}
 use Rattle.ba_tree.specs.declared.run.Halt.{Halt}

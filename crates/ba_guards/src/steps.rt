@@ -1,14 +1,13 @@
 //! Nodes without parts: each adds words, and changes a variable, an array or the requirements.
 
-ghost use Rattle.std.specs.Prelude.{◌≡◌, ◌<◌, ◌≤◌, ◌==◌, ℕ, true, not, ◌&&◌, length, IfOk, OnOk, slice_index_or};
+ghost use Rattle.std.specs.Prelude.{◌≡◌, ◌<◌, ◌≤◌, ◌==◌, ℕ, true, not, ◌&&◌, length, IfOk, OnOk};
 ghost use Rattle.std.specs.List.{list_all};
-ghost use Rattle.std.specs.Ordering.{int_eq};
 ghost use Rattle.ba_code.specs.Facts.{Declared, is_array, is_array_info, is_operand, is_var};
 ghost use Rattle.ba_code.specs.Meaning.{info_at};
 ghost use Rattle.ba_guards.specs.Making.{Checks, Fits, Means, ReadsAll, has_value, word_in};
 ghost use Rattle.ba_guards.specs.Parts.{assert_part, beyond_part, binary_part, convert_part, declared, fill_part, load_part, save_part, set_part, unary_part};
 ghost use Rattle.ba_numbers.specs.Numbers.{converted, divides};
-ghost use Rattle.ba_tree.specs.Facts.{is_promoted};
+ghost use Rattle.ba_numbers.specs.Types.{is_promoted};
 ghost use Rattle.ba_tree.specs.State.{is_index};
 ghost use Rattle.ba_tree.specs.declared.run.Halt.{Halt};
 

@@ -3,7 +3,7 @@
 ghost use Rattle.std.specs.Prelude.{◌≡◌, ◌<◌, ℕ, ℤ, pos, true, false, cond, ◌++◌, ◌∷◌, [], length, map, replicate, Some, IfOk, IfSome, nat_le, ◌&&◌, ◌==◌, slice_get, slice_index_or, slice_set};
 ghost use Rattle.ba_code.specs.Operators.{converting};
 ghost use Rattle.ba_numbers.specs.Numbers.{converted, is_in, low_word, truth};
-ghost use Rattle.ba_tree.specs.Facts.{is_promoted, shifts};
+ghost use Rattle.ba_numbers.specs.Types.{is_promoted, shifts};
 ghost use Rattle.ba_guards.specs.Sharing.{entry};
 ghost use Rattle.ba_guards.specs.Making.{AreSides, Draws, Emits, EmitsArray, Merges, StandsAt, elements_in, holds_in, is_one, word_in};
 ghost use Rattle.ba_wordlist.specs.Facts.{are_names, are_words, is_word_value, lengths_of, shows_type};

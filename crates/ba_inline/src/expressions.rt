@@ -4,12 +4,13 @@ ghost use Rattle.std.specs.Prelude.{◌≡◌, true, unwrap_or};
 ghost use Rattle.std.specs.List.{list_any};
 ghost use Rattle.ba_inline.specs.Calling.{arg_has_call, has_call};
 ghost use Rattle.ba_numbers.specs.declared.numbers.CType.TheVariants.{I32};
-ghost use Rattle.ba_tree.specs.Facts.{expr_facts, is_promoted, result_at};
+ghost use Rattle.ba_tree.specs.Facts.{expr_facts, result_at};
+ghost use Rattle.ba_numbers.specs.Types.{is_promoted};
 ghost use Rattle.ba_tree.specs.Kept.{parts_of};
 
-use ba_code::fitting::{type_of_binary, type_of_unary};
 use ba_numbers::ids::FnId;
 use ba_numbers::numbers::CType;
+use ba_numbers::types::{type_of_binary, type_of_unary};
 use ba_tree::lookup::variable_of;
 use ba_tree::tree::{Arg, Expr, Program};
 

@@ -3,9 +3,7 @@ mod CallArms
 mod ChoiceArms
 mod ExpressionArms
 mod Filling
-mod InputSteps
 mod Paths
-mod PieceCounts
 mod Restoring
 mod Rounds
 mod RunArms

@@ -4,4 +4,3 @@ pub mod Frames
 pub mod Settings
 pub mod Loops
 pub mod Parts
-pub mod Inputs

@@ -1,13 +1,12 @@
 //! An interpreter of typed C programs: how a run ends, with what it may relax and with these choices.
 //!
 //! [`run`] gives exactly the outcome that the meaning of C defines. It is linear in the steps that it makes: variables and elements are
-//! reached by their numbers, and no path is copied. [`read_input`] reads the input of a run from its text.
+//! reached by their numbers, and no path is copied.
 #![tactic(auto)]
 
 mod execution;
 mod flows;
 mod frames;
-mod input;
 mod machine;
 mod path;
 mod relaxing;
@@ -16,5 +15,4 @@ mod setting;
 mod stop;
 mod values;
 
-pub use input::{InputError, read_input};
 pub use runs::run;

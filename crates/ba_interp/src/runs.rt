@@ -1,7 +1,7 @@
 //! Runs of whole programs.
 
-ghost use Rattle.std.specs.Prelude.{◌≡◌, true, List, [], IfOk, OnOk, ◌-◌};
-ghost use Rattle.ba_tree.specs.Run.{are_bounds, enter_main, if_none_left, main_of, outcome_of, outcome_of_halt, run_main, run_of, start_of, with_input, with_input_one};
+ghost use Rattle.std.specs.Prelude.{◌≡◌, true, [], IfOk, OnOk, ◌-◌};
+ghost use Rattle.ba_tree.specs.Run.{are_bounds, enter_main, if_none_left, outcome_of, outcome_of_halt, run_main, run_of, start_of, with_input};
 ghost use Rattle.ba_tree.specs.State.{Ending};
 ghost use Rattle.ba_tree.specs.declared.run.Exit.{Exit};
 ghost use Rattle.ba_tree.specs.declared.run.Flow.{Flow};
@@ -17,39 +17,10 @@ use crate::stop::Stop;
 use ba_choices::Choice;
 use ba_items::Items;
 use ba_numbers::ids::VarId;
-use ba_numbers::numbers::CType;
-use ba_tree::lookup::{function_of, main_body, variable_of};
+use ba_tree::lookup::{main_body, main_locals, main_params, main_result, variable_of};
 use ba_tree::run::{Allowed, Bounds, Exit, Flow, Halt, Input, Outcome};
 use ba_tree::tree::Program;
 use std::alloc::{AllocError, Global};
-
-fn main_result(program: &Program) -> Option<CType>
-    ensures { result ≡ (main_of program.now).result }
-{
-    match function_of(program, program.main) {
-        Some(main) => main.result,
-        None => None,
-    }
-}
-
-/// The parameters of `main`.
-pub fn main_params(program: &Program) -> &[VarId]
-    ensures { result.now ≡ (main_of program.now).params }
-{
-    match function_of(program, program.main) {
-        Some(main) => main.params.as_slice(),
-        None => &[],
-    }
-}
-
-fn main_locals(program: &Program) -> &[VarId]
-    ensures { result.now ≡ (main_of program.now).locals }
-{
-    match function_of(program, program.main) {
-        Some(main) => main.locals.as_slice(),
-        None => &[],
-    }
-}
 
 /// Each parameter of `main` has what the input gives it.
 fn give_input(program: &Program, params: &[VarId], given: &[Items<i64>], machine: &mut Machine)

@@ -7,10 +7,10 @@ use Rattle.ba_lex.specs.Constants.{number_kind, character_kind}
 use Rattle.ba_lex.specs.Pieces.{first_piece}
 use Rattle.ba_lex.specs.Lines.{tokens_of}
 use Rattle.ba_lex.specs.declared.error.LexError.TheVariants as error
-use Rattle.ba_lex.specs.declared.token.Punct.TheVariants as punct
-use Rattle.ba_lex.specs.declared.token.Token.{Token}
-use Rattle.ba_lex.specs.declared.token.TokenKind.{TokenKind}
-use Rattle.ba_lex.specs.declared.token.TokenKind.TheVariants as kind
+use Rattle.ba_tokens.specs.declared.token.Punct.TheVariants as punct
+use Rattle.ba_tokens.specs.declared.token.Token.{Token}
+use Rattle.ba_tokens.specs.declared.token.TokenKind.{TokenKind}
+use Rattle.ba_tokens.specs.declared.token.TokenKind.TheVariants as kind
 
 abbrev at : ℕ → ℕ → At
 at line column = record { line = line; column = column }

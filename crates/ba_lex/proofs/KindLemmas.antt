@@ -8,13 +8,13 @@ use Rattle.std.proofs.lemmas.Slice.Eq.{bytes_eq-Decides}
 use denote.Enum.Bare.{sameb, same_true, true_same}
 use Rattle.ba_numbers.specs.declared.numbers.CType.{CType}
 use Rattle.ba_numbers.specs.contracts.numbers.CType as ctype
-use Rattle.ba_lex.specs.contracts.token.Keyword as word
-use Rattle.ba_lex.specs.contracts.token.Punct as mark
+use Rattle.ba_tokens.specs.contracts.token.Keyword as word
+use Rattle.ba_tokens.specs.contracts.token.Punct as mark
 use Rattle.ba_lex.specs.Lines.{same_kind}
-use Rattle.ba_lex.specs.declared.token.Keyword.{Keyword}
-use Rattle.ba_lex.specs.declared.token.Punct.{Punct}
-use Rattle.ba_lex.specs.declared.token.TokenKind.{TokenKind}
-use Rattle.ba_lex.specs.declared.token.TokenKind.TheVariants as kind
+use Rattle.ba_tokens.specs.declared.token.Keyword.{Keyword}
+use Rattle.ba_tokens.specs.declared.token.Punct.{Punct}
+use Rattle.ba_tokens.specs.declared.token.TokenKind.{TokenKind}
+use Rattle.ba_tokens.specs.declared.token.TokenKind.TheVariants as kind
 
 keyword_same : (a b : Keyword) → same_kind (kind.Keyword a) (kind.Keyword b) ≡ true → a ≡ b
 keyword_same a b same = same_true word.the_type (search rules) a b same

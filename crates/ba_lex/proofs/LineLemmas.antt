@@ -14,8 +14,8 @@ use Rattle.ba_lex.specs.declared.error.LexError.TheVariants as error
 use Rattle.ba_lex.specs.declared.piece.Form.{Form}
 use Rattle.ba_lex.specs.declared.piece.Form.TheVariants as form
 use Rattle.ba_lex.specs.declared.piece.Piece.{Piece}
-use Rattle.ba_lex.specs.declared.token.Token.{Token}
-use Rattle.ba_lex.specs.declared.token.TokenKind.{TokenKind}
+use Rattle.ba_tokens.specs.declared.token.Token.{Token}
+use Rattle.ba_tokens.specs.declared.token.TokenKind.{TokenKind}
 
 -- ANSWERS
 

@@ -11,8 +11,8 @@ use Rattle.std.specs.Str.{bytes_eq}
 use Rattle.indexmap.specs.IndexSet.{insert_key}
 use Rattle.ba_lex.specs.Lines.{Table, body_of, is_in_body, replacement}
 use Rattle.ba_lex.specs.Storage.{HaveNamesOf, Key, table_of, is_among, is_mentioned}
-use Rattle.ba_lex.specs.declared.token.TokenKind.{TokenKind}
-use Rattle.ba_lex.specs.declared.token.TokenKind.TheVariants as kind
+use Rattle.ba_tokens.specs.declared.token.TokenKind.{TokenKind}
+use Rattle.ba_tokens.specs.declared.token.TokenKind.TheVariants as kind
 
 -- two keys have the same bytes
 abbrev pub same_key : Key → Key → Bool

@@ -9,8 +9,8 @@ use Rattle.std.specs.Str.Parse.{digits_value}
 use Rattle.ba_numbers.specs.Numbers.{converted}
 use Rattle.ba_numbers.specs.declared.numbers.CType.{CType}
 use Rattle.ba_numbers.specs.declared.numbers.CType.TheVariants.{I8, I32, U32}
-use Rattle.ba_lex.specs.declared.token.TokenKind.{TokenKind}
-use Rattle.ba_lex.specs.declared.token.TokenKind.TheVariants.{Constant}
+use Rattle.ba_tokens.specs.declared.token.TokenKind.{TokenKind}
+use Rattle.ba_tokens.specs.declared.token.TokenKind.TheVariants.{Constant}
 
 -- the text begins with this byte
 abbrev pub begins_with : ℕ → List ℕ → Bool

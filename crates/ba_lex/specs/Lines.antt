@@ -10,17 +10,17 @@ use Rattle.ba_numbers.specs.declared.ids.At.{At}
 use Rattle.ba_lex.specs.Pieces.{pieces_of}
 use Rattle.ba_lex.specs.declared.error.LexError.{LexError}
 use Rattle.ba_lex.specs.declared.error.LexError.TheVariants as error
-use Rattle.ba_lex.specs.declared.token.Keyword.{Keyword}
-use Rattle.ba_lex.specs.declared.token.Keyword.TheVariants as keyword
-use Rattle.ba_lex.specs.declared.token.Punct.{Punct}
-use Rattle.ba_lex.specs.declared.token.Punct.TheVariants as punct
-use Rattle.ba_lex.specs.declared.token.TokenKind.{TokenKind}
-use Rattle.ba_lex.specs.declared.token.TokenKind.TheVariants as kind
-use Rattle.ba_lex.specs.declared.token.Token.{Token}
+use Rattle.ba_tokens.specs.declared.token.Keyword.{Keyword}
+use Rattle.ba_tokens.specs.declared.token.Keyword.TheVariants as keyword
+use Rattle.ba_tokens.specs.declared.token.Punct.{Punct}
+use Rattle.ba_tokens.specs.declared.token.Punct.TheVariants as punct
+use Rattle.ba_tokens.specs.declared.token.TokenKind.{TokenKind}
+use Rattle.ba_tokens.specs.declared.token.TokenKind.TheVariants as kind
+use Rattle.ba_tokens.specs.declared.token.Token.{Token}
 use Rattle.ba_lex.specs.declared.piece.Form.{Form}
 use Rattle.ba_lex.specs.declared.piece.Form.TheVariants as form
 use Rattle.ba_lex.specs.declared.piece.Piece.{Piece}
-use Rattle.ba_lex.specs.contracts.token.TokenKindPartialEq.TheImpl.{eq-value}
+use Rattle.ba_tokens.specs.contracts.token.TokenKindPartialEq.TheImpl.{eq-value}
 
 -- TESTS OF TOKENS
 

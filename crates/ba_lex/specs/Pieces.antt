@@ -7,10 +7,10 @@ use Rattle.ba_numbers.specs.declared.ids.At.{At}
 use Rattle.ba_bytes.specs.Classes.{is_blank, is_letter, is_line_end, is_number_byte, is_word_byte}
 use Rattle.ba_lex.specs.Constants.{begins_with, number_kind, character_kind}
 use Rattle.ba_lex.specs.Spelling.{keyword_of, is_refused, in_one, in_two, in_three}
-use Rattle.ba_lex.specs.declared.token.Keyword.{Keyword}
-use Rattle.ba_lex.specs.declared.token.Punct.{Punct}
-use Rattle.ba_lex.specs.declared.token.TokenKind.{TokenKind}
-use Rattle.ba_lex.specs.declared.token.TokenKind.TheVariants as kind
+use Rattle.ba_tokens.specs.declared.token.Keyword.{Keyword}
+use Rattle.ba_tokens.specs.declared.token.Punct.{Punct}
+use Rattle.ba_tokens.specs.declared.token.TokenKind.{TokenKind}
+use Rattle.ba_tokens.specs.declared.token.TokenKind.TheVariants as kind
 use Rattle.ba_lex.specs.declared.piece.Form.{Form}
 use Rattle.ba_lex.specs.declared.piece.Form.TheVariants.{Blank, LineEnd, Hash, Token, BadByte, BadToken, NotInProfile}
 use Rattle.ba_lex.specs.declared.piece.Piece.{Piece}

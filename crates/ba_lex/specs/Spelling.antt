@@ -4,10 +4,10 @@ use Rattle.std.specs.Prelude.{ℕ, Bool, List, [], ◌∷◌, Option, None, code
 use Rattle.std.specs.List.{list_any}
 use Rattle.std.specs.Map.{lookup}
 use Rattle.std.specs.Str.{bytes_eq}
-use Rattle.ba_lex.specs.declared.token.Keyword.{Keyword}
-use Rattle.ba_lex.specs.declared.token.Keyword.TheVariants.{Char, Short, Int, Long, Signed, Unsigned, Void, Const, Static, If, Else, While, Do, For, Break, Continue, Return, Assert, Printf}
-use Rattle.ba_lex.specs.declared.token.Punct.{Punct}
-use Rattle.ba_lex.specs.declared.token.Punct.TheVariants.{OpenBrace, CloseBrace, OpenParenthesis, CloseParenthesis, OpenBracket, CloseBracket, Semicolon, Comma, Question, Colon, Tilde, Exclamation, Plus, Minus, Star, Slash, Percent, Ampersand, Bar, Caret, Assign, Less, Greater, Dot, Increment, Decrement, ShiftLeft, ShiftRight, LessEqual, GreaterEqual, Equal, NotEqual, AndAnd, OrOr, PlusAssign, MinusAssign, StarAssign, SlashAssign, PercentAssign, AmpersandAssign, CaretAssign, BarAssign, Arrow, ShiftLeftAssign, ShiftRightAssign, Ellipsis}
+use Rattle.ba_tokens.specs.declared.token.Keyword.{Keyword}
+use Rattle.ba_tokens.specs.declared.token.Keyword.TheVariants.{Char, Short, Int, Long, Signed, Unsigned, Void, Const, Static, If, Else, While, Do, For, Break, Continue, Return, Assert, Printf}
+use Rattle.ba_tokens.specs.declared.token.Punct.{Punct}
+use Rattle.ba_tokens.specs.declared.token.Punct.TheVariants.{OpenBrace, CloseBrace, OpenParenthesis, CloseParenthesis, OpenBracket, CloseBracket, Semicolon, Comma, Question, Colon, Tilde, Exclamation, Plus, Minus, Star, Slash, Percent, Ampersand, Bar, Caret, Assign, Less, Greater, Dot, Increment, Decrement, ShiftLeft, ShiftRight, LessEqual, GreaterEqual, Equal, NotEqual, AndAnd, OrOr, PlusAssign, MinusAssign, StarAssign, SlashAssign, PercentAssign, AmpersandAssign, CaretAssign, BarAssign, Arrow, ShiftLeftAssign, ShiftRightAssign, Ellipsis}
 
 -- WORDS
 

@@ -7,8 +7,8 @@ use Rattle.std.specs.Prelude.{Vec}
 use Rattle.std.specs.declared.alloc.Global.{Global}
 use Rattle.ba_lex.specs.Lines.{Table, Reading, is_in_body, sequence, only_tokens, reading_with_macros, line_reading}
 use Rattle.ba_lex.specs.declared.piece.Piece.{Piece}
-use Rattle.ba_lex.specs.declared.token.Token.{Token}
-use Rattle.ba_lex.specs.declared.token.TokenKind.{TokenKind}
+use Rattle.ba_tokens.specs.declared.token.Token.{Token}
+use Rattle.ba_tokens.specs.declared.token.TokenKind.{TokenKind}
 
 -- a name's bytes, and a macro
 abbrev pub Key : Type 0

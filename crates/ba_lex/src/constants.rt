@@ -1,16 +1,16 @@
 //! Numbers and character constants (C90 6.1.3.2, 6.1.3.4).
 
-ghost use Rattle.std.specs.Prelude.{◌≡◌, ℕ, ◌+◌, ◌<◌, ◌≤◌, nat_le, if◌then◌else◌, Some, None, pos, length, drop};
+ghost use Rattle.std.specs.Prelude.{◌≡◌, ℕ, ◌+◌, ◌<◌, ◌≤◌, nat_le, if◌then◌else◌, Some, None, pos, length};
 ghost use Rattle.std.specs.Char.{is_digit};
 ghost use Rattle.std.specs.List.{list_any, list_all};
 ghost use Rattle.std.specs.Str.Parse.{digits_value};
 ghost use Rattle.ba_numbers.specs.Numbers.{converted};
 ghost use Rattle.ba_numbers.specs.declared.numbers.CType.TheVariants.{I8};
-ghost use Rattle.ba_lex.specs.Constants.{begins_with, is_hexadecimal, base_of, without_prefix, is_u, is_l, is_suffix, number_of, digit_count, number_with, number_kind, byte_code, simple_escape, escape_value, is_plain, character_value, character_constant, character_kind};
+ghost use Rattle.ba_lex.specs.Constants.{begins_with, is_hexadecimal, base_of, without_prefix, is_u, is_l, is_suffix, number_of, digit_count, number_with, number_kind, byte_code, simple_escape, escape_value, is_plain, character_value, character_kind};
 
-use crate::token::TokenKind;
 use ba_bytes::classes::{digit_value, is_digit};
 use ba_numbers::numbers::CType;
+use ba_tokens::token::TokenKind;
 
 /// The greatest value of an `int`.
 const INT_MAX: u32 = 2147483647;

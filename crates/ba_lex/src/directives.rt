@@ -1,6 +1,6 @@
 //! Directives (C90 6.8).
 
-ghost use Rattle.std.specs.Prelude.{◌≡◌, ◌++◌, None, length, nat_lt, IfOk, OnOk};
+ghost use Rattle.std.specs.Prelude.{◌≡◌, ◌++◌, None, length, nat_lt, IfOk};
 ghost use Rattle.std.specs.List.{list_any};
 ghost use Rattle.std.specs.Cmp.Lexicographic.{pointwise};
 ghost use Rattle.ba_lex.specs.Lines.{is_name, is_punct, is_keyword, body_of, is_header_name, is_header, is_parenthesis_next, body_from, same_kind, with_new, with_macro, definition, table_after, directive, Gives};
@@ -9,8 +9,8 @@ use crate::error::LexError;
 use crate::lines::line_tokens;
 use crate::macros::{Macros, body_from, replacement};
 use crate::piece::Piece;
-use crate::token::{Keyword, Punct, Token, TokenKind};
 use ba_numbers::ids::At;
+use ba_tokens::token::{Keyword, Punct, Token, TokenKind};
 use std::alloc::{AllocError, Global};
 
 /// The greatest number of macros.

@@ -8,7 +8,7 @@ ghost use Rattle.ba_lex.specs.Lines.{Reading, answer, same_kind, sequence};
 ghost use Rattle.ba_bytes.specs.Classes.{is_number_byte, is_word_byte};
 ghost use Rattle.ba_lex.specs.Pieces.{cut, position_after};
 ghost use Rattle.ba_lex.specs.declared.error.LexError.{LexError};
-ghost use Rattle.ba_lex.specs.declared.token.TokenKind.{TokenKind};
+ghost use Rattle.ba_tokens.specs.declared.token.TokenKind.{TokenKind};
 
 /// The test of two kinds of tokens decides whether they are the same: names by their bytes, constants by type
 /// and value, keywords and punctuators each by itself, and all strings alike.

@@ -13,7 +13,6 @@ mod lines;
 mod macros;
 mod piece;
 mod spelling;
-pub mod token;
 
 ghost use Rattle.std.specs.Prelude.{◌≤◌, [], length};
 ghost use Rattle.ba_lex.specs.Lines.{answer, lines_of, reading, tokens_of, Gives};
@@ -22,7 +21,7 @@ use crate::error::LexError;
 use crate::lines::{line_length, read_line};
 use crate::macros::Macros;
 use crate::piece::{Piece, pieces};
-use crate::token::Token;
+use ba_tokens::token::Token;
 use std::alloc::Global;
 
 /// The greatest length of a text in bytes.

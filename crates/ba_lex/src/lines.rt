@@ -10,8 +10,8 @@ use crate::directives::directive;
 use crate::error::LexError;
 use crate::macros::{Macros, replacement};
 use crate::piece::{Form, Piece};
-use crate::token::{Token, TokenKind};
 use ba_numbers::ids::At;
+use ba_tokens::token::{Token, TokenKind};
 use std::alloc::Global;
 
 /// The greatest number of tokens.

@@ -6,8 +6,8 @@ ghost use Rattle.ba_lex.specs.Lines.{body_of, body_from, replacement, is_in_body
 ghost use Rattle.ba_lex.specs.Storage.{HaveNamesOf, is_among, is_mentioned, table_of};
 ghost use Rattle.std.specs.Str.{bytes_eq};
 
-use crate::token::{Token, TokenKind};
 use ba_items::Items;
+use ba_tokens::token::{Token, TokenKind};
 use indexmap::{IndexMap, IndexSet};
 use std::alloc::{AllocError, Global};
 use std::marker::Model;
@@ -30,7 +30,7 @@ impl Drop for Macros {
 
 impl Model for Macros {
     ghost use Rattle.std.specs.Prelude.{List, ℕ};
-    ghost use Rattle.ba_lex.specs.declared.token.TokenKind.{TokenKind};
+    ghost use Rattle.ba_tokens.specs.declared.token.TokenKind.{TokenKind};
 
     ghost Value = { List (List ℕ × List TokenKind) };
 

@@ -1,17 +1,17 @@
 //! The pieces that a text is cut into (C90 6.1).
 
-ghost use Rattle.std.specs.Prelude.{◌≡◌, ℕ, ◌+◌, ◌-◌, ◌<◌, ◌≤◌, ◌∷◌, [], false, not, length, take, drop, IfOk, IfSome, MatchOption, List, ◌++◌, if◌then◌else◌};
+ghost use Rattle.std.specs.Prelude.{◌≡◌, ℕ, ◌+◌, ◌-◌, ◌<◌, ◌≤◌, ◌∷◌, [], false, not, length, IfOk, IfSome, MatchOption, List, ◌++◌, if◌then◌else◌};
 ghost use Rattle.std.specs.List.{prefix_len};
 ghost use Rattle.ba_bytes.specs.Classes.{is_letter, is_word_byte, is_number_byte, is_blank, is_line_end};
-ghost use Rattle.ba_lex.specs.Pieces.{form_of, word_form, word_at, number_at, after_quote, character_at, string_at, is_comment_end, after_open, comment_at, line_comment_at, punctuator_or, punctuator_at, mark_at, piece_at, first_piece, next_position, position_after, with_piece, pieces_of};
+ghost use Rattle.ba_lex.specs.Pieces.{form_of, word_form, word_at, number_at, after_quote, character_at, string_at, is_comment_end, after_open, comment_at, punctuator_or, punctuator_at, mark_at, piece_at, first_piece, next_position, position_after, with_piece, pieces_of};
 ghost use Rattle.ba_lex.specs.declared.piece.Piece.{Piece};
 
 use crate::MAX_TEXT;
 use crate::constants::{begins_with, character_kind, number_kind};
 use crate::spelling::{in_one, in_three, in_two, is_refused, keyword_of};
-use crate::token::{Name, Punct, TokenKind};
 use ba_bytes::classes::{is_blank, is_letter, is_line_end, is_number_byte, is_word_byte};
 use ba_numbers::ids::At;
+use ba_tokens::token::{Name, Punct, TokenKind};
 use std::alloc::{AllocError, Global};
 
 /// What a piece of a text is; the definition of a text's tokens speaks of these forms too. A comment is a blank.

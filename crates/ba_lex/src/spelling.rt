@@ -4,7 +4,7 @@ ghost use Rattle.std.specs.Prelude.{◌≡◌, ◌≤◌, length, IsSome};
 ghost use Rattle.std.specs.Str.{bytes_eq};
 ghost use Rattle.ba_lex.specs.Spelling.{keyword_of, is_refused, one_byte, two_bytes, three_bytes, in_one, in_two, in_three};
 
-use crate::token::{Keyword, Punct};
+use ba_tokens::token::{Keyword, Punct};
 
 /// Whether the bytes are those of the text.
 pub(crate) fn is_spelled(word: &[u8], text: &str) -> bool

@@ -1,9 +1,9 @@
 -- What is read again and again in a list, and what it begins with.
 
 use Rattle.std.proofs.Common.{Bool, List}
-use Rattle.ba_lex.specs.declared.token.Token.{Token}
-use Rattle.ba_lex.specs.declared.token.Punct.TheVariants as punct
-use Rattle.ba_parse.specs.Classes.{mark}
+use Rattle.ba_tokens.specs.declared.token.Token.{Token}
+use Rattle.ba_tokens.specs.declared.token.Punct.TheVariants as punct
+use Rattle.ba_trees.specs.Classes.{mark}
 use Rattle.ba_parse.specs.Readings.{Inner, Reading, ◌▹◌, next_is, is_next_value, read_sign, read_expression, read_declarator, read_parameter, read_simple}
 
 abbrev pub comma : List Token → Bool

@@ -4,13 +4,13 @@
 
 use Rattle.std.proofs.Common.{◌≡◌, ℕ, zero, suc, ◌+◌, ◌<◌, ◌≤◌, Bool, true, false, not, ◌&&◌, ◌||◌, if◌then◌else◌, List, [], ◌∷◌, ◌++◌, length, Option, None, Some, refl, sym, ap, ◌∙◌, arith, append_assoc, inl, inr, subst, length-append, ltb}
 use Rattle.std.proofs.lemmas.Bool.Decides.{nat_tests}
-use Rattle.ba_lex.specs.declared.token.Token.{Token}
-use Rattle.ba_lex.specs.declared.token.TokenKind.TheVariants as kind
-use Rattle.ba_lex.specs.declared.token.Punct.{Punct}
-use Rattle.ba_lex.specs.declared.token.Punct.TheVariants as punct
-use Rattle.ba_parse.specs.declared.class.TokenClass.{TokenClass}
-use Rattle.ba_parse.specs.Classes.{Classes, class_of, mark, ◌or◌}
-use Rattle.ba_parse.specs.Marks.{Mark, leaf, yield, no_else_lost}
+use Rattle.ba_tokens.specs.declared.token.Token.{Token}
+use Rattle.ba_tokens.specs.declared.token.TokenKind.TheVariants as kind
+use Rattle.ba_tokens.specs.declared.token.Punct.{Punct}
+use Rattle.ba_tokens.specs.declared.token.Punct.TheVariants as punct
+use Rattle.ba_trees.specs.declared.class.TokenClass.{TokenClass}
+use Rattle.ba_trees.specs.Classes.{Classes, class_of, mark, ◌or◌}
+use Rattle.ba_trees.specs.Marks.{Mark, leaf, yield, no_else_lost}
 use Rattle.ba_parse.specs.Grammar.{Part, Spells, is_nothing, is_token, is_after, is_first, is_second, is_none, is_more, nothing, either, many, sign, maybe, ◌·◌, ◌∣◌}
 use Rattle.ba_parse.specs.Readings.{Answer, done, syntax, too_deep, Reading, with_front, then_read, next_is, read_sign, read_either, read_maybe, read_many, is_next_value, ◌▹◌}
 use Rattle.ba_parse.proofs.Forests.{yield_append, sunk}

@@ -1,10 +1,10 @@
 -- What a reading of a part promises, and how readings that keep it are put together.
 
 use Rattle.std.proofs.Common.{◌≡◌, ℕ, Bool, true, false, not, ◌&&◌, List, [], ◌∷◌, ◌++◌, Option, None, Some, refl, sym, ap, ◌∙◌, append_assoc, map, ◌⊎◌, inl, inr, subst}
-use Rattle.ba_lex.specs.declared.token.Token.{Token}
-use Rattle.ba_parse.specs.declared.class.TokenClass.{TokenClass}
-use Rattle.ba_parse.specs.Classes.{Classes, class_of, names_type}
-use Rattle.ba_parse.specs.Marks.{Mark, leaf, enter, leave, down, up, node_of, one_deeper, yield, first_or, is_else, is_no_else, no_else_lost}
+use Rattle.ba_tokens.specs.declared.token.Token.{Token}
+use Rattle.ba_trees.specs.declared.class.TokenClass.{TokenClass}
+use Rattle.ba_trees.specs.Classes.{Classes, class_of, names_type}
+use Rattle.ba_trees.specs.Marks.{Mark, leaf, enter, leave, down, up, node_of, one_deeper, yield, first_or, is_else, is_no_else, no_else_lost}
 use Rattle.ba_parse.specs.Grammar.{Part, Spells, is_nothing, is_token, is_words, is_node, is_rule, is_after, is_first, is_second, is_none, is_more, is_deeper, nothing, token, words, node, rule, after, either, many, deeper, grammar}
 use Rattle.ba_parse.specs.Readings.{Answer, done, syntax, too_deep, Reading, with_front, then_read, next_is}
 use Rattle.ba_parse.proofs.Forests.{yield_append, first_or_append, pairs_append, sunk, or_tail, even_of, IsEven}

@@ -2,10 +2,10 @@
 
 use Rattle.std.proofs.Common.{◌≡◌, ℕ, Bool, true, false, not, ◌&&◌, if◌then◌else◌, List, [], ◌∷◌, ◌++◌, Option, None, Some, unwrap_or, refl, sym, ap, ◌∙◌, arith, append-nil, subst, ltb}
 use Rattle.std.proofs.lemmas.Bool.Decides.{nat_tests}
-use Rattle.ba_lex.specs.declared.token.Token.{Token}
-use Rattle.ba_parse.specs.declared.class.TokenClass.{TokenClass}
-use Rattle.ba_parse.specs.Classes.{Classes, class_of}
-use Rattle.ba_parse.specs.Marks.{Rule, Mark, leaf, leave, node_of, yield, is_else, is_no_else, no_else_lost}
+use Rattle.ba_tokens.specs.declared.token.Token.{Token}
+use Rattle.ba_trees.specs.declared.class.TokenClass.{TokenClass}
+use Rattle.ba_trees.specs.Classes.{Classes, class_of}
+use Rattle.ba_trees.specs.Marks.{Rule, Mark, leaf, leave, node_of, yield, is_else, is_no_else, no_else_lost}
 use Rattle.ba_parse.specs.Grammar.{Part, Spells, is_nothing, is_token, is_node, is_rule, nothing, token, node, rule, grammar}
 use Rattle.ba_parse.specs.Readings.{Answer, done, syntax, too_deep, Reading, around, next_is, read_token, read_nothing, read_node}
 use Rattle.ba_parse.proofs.Forests.{yield_append, yield_node, pairs_append, sunk, or_tail, even_of, IsEven}

@@ -1,14 +1,14 @@
 -- What counts a level: what its trees begin with, some tree, and one for each token that it may begin with.
 
 use Rattle.std.proofs.Common.{◌≡◌, ℕ, zero, suc, true, false, not, ◌&&◌, ◌||◌, [], ◌∷◌, Some, refl}
-use Rattle.ba_lex.specs.declared.token.Keyword.{Keyword}
-use Rattle.ba_lex.specs.declared.token.Keyword.TheVariants as keyword
-use Rattle.ba_lex.specs.declared.token.Punct.{Punct}
-use Rattle.ba_lex.specs.declared.token.Punct.TheVariants as punct
-use Rattle.ba_parse.specs.declared.class.TokenClass.{TokenClass}
-use Rattle.ba_parse.specs.declared.class.TokenClass.TheVariants as class
-use Rattle.ba_parse.specs.Classes.{Classes, class_of, only, word, mark, ◌or◌, declaration_word, type_word, names_type}
-use Rattle.ba_parse.specs.Marks.{leaf, node_of, is_else, type_name, parameters, parameter, array_length, declarators, declarator, braced, declaration, block, statement, for_first, simples, simple, target, arguments, conditional, chain, unary, primary}
+use Rattle.ba_tokens.specs.declared.token.Keyword.{Keyword}
+use Rattle.ba_tokens.specs.declared.token.Keyword.TheVariants as keyword
+use Rattle.ba_tokens.specs.declared.token.Punct.{Punct}
+use Rattle.ba_tokens.specs.declared.token.Punct.TheVariants as punct
+use Rattle.ba_trees.specs.declared.class.TokenClass.{TokenClass}
+use Rattle.ba_trees.specs.declared.class.TokenClass.TheVariants as class
+use Rattle.ba_trees.specs.Classes.{Classes, class_of, only, word, mark, ◌or◌, declaration_word, type_word, names_type}
+use Rattle.ba_trees.specs.Marks.{leaf, node_of, is_else, type_name, parameters, parameter, array_length, declarators, declarator, braced, declaration, block, statement, for_first, simples, simple, target, arguments, conditional, chain, unary, primary}
 use Rattle.ba_parse.specs.Grammar.{Part, is_nothing, is_words, is_rule, is_second, nothing, token, words, rule, many, deeper, ◌·◌, ◌∣◌, maybe, key, sign, name, in_parentheses, in_brackets, type_words, prefix_sign, step_sign, operand, chained, expression, semicolon, controlled, condition}
 use Rattle.ba_parse.specs.Readings.{operand_start, statement_start, item_start, simple_start}
 use Rattle.ba_parse.proofs.Certified.{First, Sample}

@@ -2,11 +2,11 @@
 -- counts a level do.
 
 use Rattle.std.proofs.Common.{◌≡◌, ℕ, Bool, true, false, List, [], ◌∷◌, refl, sym, subst}
-use Rattle.ba_lex.specs.declared.token.Token.{Token}
-use Rattle.ba_lex.specs.declared.token.Punct.TheVariants as punct
-use Rattle.ba_parse.specs.declared.class.TokenClass.TheVariants as class
-use Rattle.ba_parse.specs.Classes.{Classes, only, mark, ◌or◌, declaration_word}
-use Rattle.ba_parse.specs.Marks.{Mark, yield, type_name, external, file, parameters, parameter, no_name, array_length, declarators, declarator, braced, declaration, statement, for_first}
+use Rattle.ba_tokens.specs.declared.token.Token.{Token}
+use Rattle.ba_tokens.specs.declared.token.Punct.TheVariants as punct
+use Rattle.ba_trees.specs.declared.class.TokenClass.TheVariants as class
+use Rattle.ba_trees.specs.Classes.{Classes, only, mark, ◌or◌, declaration_word}
+use Rattle.ba_trees.specs.Marks.{Mark, yield, type_name, external, file, parameters, parameter, no_name, array_length, declarators, declarator, braced, declaration, statement, for_first}
 use Rattle.ba_parse.specs.Grammar.{Part, rule, after, many, deeper, ◌·◌, ◌∣◌, maybe, sign, type_words, expression, semicolon, function_end, function_tail, takes_block}
 use Rattle.ba_parse.specs.Readings.{Reading, Inner, in_parameters, then_read, deeper_in, read_sign, read_name, read_either, read_maybe, read_many, next_is, ◌▹◌, operand_start, item_start, simple_start, read_type_words, maybe_length, read_braced, read_initialiser, read_declarator, read_declarators, read_declaration, read_parameter, read_parameters, read_for_first, read_semicolon, read_function_end, after_parameters, is_function, read_function_tail, read_external, read_item, read_for_head, read_printed, read_file}
 use Rattle.ba_parse.proofs.Certified.{Opened, opened, always, BeginsWith, Follows, reads_after, false_is_true}

@@ -1,10 +1,10 @@
 -- Readings of what counts a level keep what readings promise, also where no level is left.
 
 use Rattle.std.proofs.Common.{◌≡◌, ℕ, suc, Bool, true, false, ◌&&◌, if◌then◌else◌, List, [], ◌∷◌, ◌++◌, Option, None, Some, refl, sym, ap, ◌∙◌, arith, append-nil, subst}
-use Rattle.ba_lex.specs.declared.token.Token.{Token}
-use Rattle.ba_parse.specs.declared.class.TokenClass.{TokenClass}
-use Rattle.ba_parse.specs.Classes.{Classes, class_of}
-use Rattle.ba_parse.specs.Marks.{Mark, leaf, enter, leave, down, up, one_deeper, yield, is_else, no_else_lost}
+use Rattle.ba_tokens.specs.declared.token.Token.{Token}
+use Rattle.ba_trees.specs.declared.class.TokenClass.{TokenClass}
+use Rattle.ba_trees.specs.Classes.{Classes, class_of}
+use Rattle.ba_trees.specs.Marks.{Mark, leaf, enter, leave, down, up, one_deeper, yield, is_else, no_else_lost}
 use Rattle.ba_parse.specs.Grammar.{Part, Spells, is_deeper, deeper}
 use Rattle.ba_parse.specs.Readings.{Answer, done, syntax, too_deep, Reading, lowered, next_is}
 use Rattle.ba_parse.proofs.Forests.{yield_append, yield_deeper, pairs_append, sunk, from_leaf, or_tail, even_of, IsEven}

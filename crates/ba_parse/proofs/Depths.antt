@@ -5,8 +5,8 @@ use Rattle.std.proofs.lemmas.Bool.Decides.{nat_tests}
 use Rattle.std.specs.Cmp.Derive.{both_true}
 use Rattle.std.specs.List.{list_all}
 use Rattle.std.specs.Prelude.{nat_le}
-use Rattle.ba_lex.specs.declared.token.Token.{Token}
-use Rattle.ba_parse.specs.Marks.{Mark, leaf, enter, leave, down, up, yield, levels}
+use Rattle.ba_tokens.specs.declared.token.Token.{Token}
+use Rattle.ba_trees.specs.Marks.{Mark, leaf, enter, leave, down, up, yield, levels}
 use Rattle.ba_parse.proofs.Forests.{sunk, back}
 
 abbrev IsThere : Option (List Mark) → Type 0

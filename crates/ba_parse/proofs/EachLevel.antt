@@ -1,9 +1,9 @@
 -- Readings keep what readings promise, however many levels are left.
 
 use Rattle.std.proofs.Common.{◌≡◌, ℕ, zero, suc, Bool, true, false, if◌then◌else◌, List, [], ◌∷◌, ◌++◌, refl, sym, ap, ◌∙◌, inl, inr, subst}
-use Rattle.ba_lex.specs.declared.token.Token.{Token}
-use Rattle.ba_parse.specs.Classes.{Classes, declaration_word}
-use Rattle.ba_parse.specs.Marks.{Mark, node_of, one_deeper, yield, is_else, file, parameters, parameter, declaration, statement, arguments}
+use Rattle.ba_tokens.specs.declared.token.Token.{Token}
+use Rattle.ba_trees.specs.Classes.{Classes, declaration_word}
+use Rattle.ba_trees.specs.Marks.{Mark, node_of, one_deeper, yield, is_else, file, parameters, parameter, declaration, statement, arguments}
 use Rattle.ba_parse.specs.Grammar.{Part, Spells, is_nothing, is_rule, is_second, is_none, is_deeper, nothing, rule, many, deeper, ◌∣◌, maybe, listed, expression}
 use Rattle.ba_parse.specs.Readings.{done, syntax, too_deep, Reading, Inner, lowered, next_is, shallow, in_parameters, deeper_in, levels_left, read_inside, operand_start, item_start, read_file}
 use Rattle.ba_parse.proofs.Forests.{yield_append, yield_node, yield_deeper}

@@ -1,18 +1,18 @@
 -- Expressions: their readings keep what readings promise, where those of what counts a level do.
 
 use Rattle.std.proofs.Common.{◌≡◌, ℕ, zero, suc, true, false, not, ◌&&◌, ◌||◌, List, [], ◌∷◌, ◌++◌, Some, refl, ap, ◌∙◌, inl, inr}
-use Rattle.ba_lex.specs.declared.token.Token.{Token}
-use Rattle.ba_lex.specs.declared.token.TokenKind.{TokenKind}
-use Rattle.ba_lex.specs.declared.token.TokenKind.TheVariants as kind
-use Rattle.ba_lex.specs.declared.token.Keyword.{Keyword}
-use Rattle.ba_lex.specs.declared.token.Punct.{Punct}
-use Rattle.ba_lex.specs.declared.token.Punct.TheVariants as punct
+use Rattle.ba_tokens.specs.declared.token.Token.{Token}
+use Rattle.ba_tokens.specs.declared.token.TokenKind.{TokenKind}
+use Rattle.ba_tokens.specs.declared.token.TokenKind.TheVariants as kind
+use Rattle.ba_tokens.specs.declared.token.Keyword.{Keyword}
+use Rattle.ba_tokens.specs.declared.token.Punct.{Punct}
+use Rattle.ba_tokens.specs.declared.token.Punct.TheVariants as punct
 use Rattle.ba_numbers.specs.declared.numbers.CType.TheVariants.{I32}
 use Rattle.std.specs.Prelude.{pos}
-use Rattle.ba_parse.specs.declared.class.TokenClass.{TokenClass}
-use Rattle.ba_parse.specs.declared.class.TokenClass.TheVariants as class
-use Rattle.ba_parse.specs.Classes.{Classes, class_of, only, word, mark, ◌or◌, declaration_word}
-use Rattle.ba_parse.specs.Marks.{Mark, yield, is_else, parameters, declaration, statement, for_first, simples, arguments, conditional, chain, unary, primary}
+use Rattle.ba_trees.specs.declared.class.TokenClass.{TokenClass}
+use Rattle.ba_trees.specs.declared.class.TokenClass.TheVariants as class
+use Rattle.ba_trees.specs.Classes.{Classes, class_of, only, word, mark, ◌or◌, declaration_word}
+use Rattle.ba_trees.specs.Marks.{Mark, yield, is_else, parameters, declaration, statement, for_first, simples, arguments, conditional, chain, unary, primary}
 use Rattle.ba_parse.specs.Grammar.{Part, Spells, token, rule, many, deeper, grammar, ◌·◌, ◌∣◌, maybe, key, sign, name, in_parentheses, in_brackets, type_words, prefix_sign, operator, operand, chained, expression, semicolon}
 use Rattle.ba_parse.specs.Readings.{Reading, Inner, Inside, in_parameters, in_length, in_block, in_statement, in_for, in_printf, in_expression, in_arguments, in_cast, in_unary, in_chained, deeper_in, read_sign, read_key, read_name, read_token, next_is, ◌▹◌, operand_start, statement_start, item_start, simple_start, read_parenthesized, read_bracketed, after_name, read_primary, is_cast, read_unary, read_chain, read_operand, read_branches, read_expression, read_arguments, read_either}
 use Rattle.ba_parse.proofs.Forests.{yield_node}

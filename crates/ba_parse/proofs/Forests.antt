@@ -2,8 +2,8 @@
 
 use Rattle.std.proofs.Common.{◌≡◌, ℕ, zero, suc, ◌<◌, Bool, true, false, not, ◌&&◌, if◌then◌else◌, List, [], ◌∷◌, ◌++◌, Option, None, Some, refl, sym, ap, ◌∙◌, arith, append_assoc, append-nil, map, ltb}
 use Rattle.std.proofs.lemmas.Bool.Decides.{nat_tests}
-use Rattle.ba_lex.specs.declared.token.Token.{Token}
-use Rattle.ba_parse.specs.Marks.{Rule, Mark, leaf, enter, leave, down, up, node_of, one_deeper, yield, first_or, is_else, is_no_else, no_else_lost}
+use Rattle.ba_tokens.specs.declared.token.Token.{Token}
+use Rattle.ba_trees.specs.Marks.{Rule, Mark, leaf, enter, leave, down, up, node_of, one_deeper, yield, first_or, is_else, is_no_else, no_else_lost}
 use Rattle.ba_parse.specs.Grammar.{Part, Spells, is_nothing, is_token, is_words, is_node, is_rule, is_after, is_first, is_second, is_none, is_more, is_deeper}
 
 -- LEAVES

@@ -1,10 +1,10 @@
 -- Parts with all that is known of their readings, put together by conditions that are computed.
 
 use Rattle.std.proofs.Common.{◌≡◌, ℕ, Bool, true, false, not, ◌&&◌, ◌||◌, List, [], ◌∷◌, ◌++◌, refl, sym, ap, ◌∙◌, inl, inr, subst}
-use Rattle.ba_lex.specs.declared.token.Token.{Token}
-use Rattle.ba_parse.specs.declared.class.TokenClass.{TokenClass}
-use Rattle.ba_parse.specs.Classes.{Classes, class_of}
-use Rattle.ba_parse.specs.Marks.{Rule, Mark, leaf, node_of, yield, first_or, is_else, is_no_else, no_else_lost}
+use Rattle.ba_tokens.specs.declared.token.Token.{Token}
+use Rattle.ba_trees.specs.declared.class.TokenClass.{TokenClass}
+use Rattle.ba_trees.specs.Classes.{Classes, class_of}
+use Rattle.ba_trees.specs.Marks.{Rule, Mark, leaf, node_of, yield, first_or, is_else, is_no_else, no_else_lost}
 use Rattle.ba_parse.specs.Grammar.{Part, Spells, is_nothing, is_token, is_node, is_rule, is_after, is_first, is_second, nothing, token, node, rule, after, either, many, grammar, ◌·◌, maybe}
 use Rattle.ba_parse.specs.Readings.{Reading, next_is, read_token, read_nothing, read_node, read_either, read_maybe, read_many, ◌▹◌}
 use Rattle.ba_parse.proofs.Forests.{yield_append, yield_node, pairs_append}

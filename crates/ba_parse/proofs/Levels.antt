@@ -2,11 +2,11 @@
 
 use Rattle.std.proofs.Common.{◌≡◌, ℕ, ◌+◌, ◌-◌, ◌<◌, ◌≤◌, Bool, true, false, if◌then◌else◌, List, ◌++◌, Result, Ok, Err, MatchResult, refl, sym, ap, subst, ◌∙◌, add-one, arith}
 use Prim.Native.Nat.{zero, suc}
-use Rattle.ba_lex.specs.declared.token.Token.{Token}
+use Rattle.ba_tokens.specs.declared.token.Token.{Token}
 use Rattle.ba_parse.specs.declared.reader.Stop.{Stop}
 use Rattle.ba_parse.specs.declared.reader.Stop.TheVariants as stop
 use Rattle.ba_parse.specs.Grammar.{operator}
-use Rattle.ba_parse.specs.Marks.{Mark, one_deeper}
+use Rattle.ba_trees.specs.Marks.{Mark, one_deeper}
 use Rattle.ba_parse.specs.Readings.{Answer, done, syntax, too_deep, lowered, Reading, Inner, Inside, levels_left, read_inside, shallow, when_empty, starts_of, next_is, then_read, read_operand, read_unary, read_maybe, read_chain, in_chained, ◌▹◌}
 use Rattle.ba_parse.specs.Telling.{Told, refusal}
 

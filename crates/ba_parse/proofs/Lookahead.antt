@@ -1,10 +1,10 @@
 -- Readings that choose by the next two tokens keep what readings promise.
 
 use Rattle.std.proofs.Common.{◌≡◌, ℕ, ◌+◌, ◌<◌, ◌≤◌, Bool, true, false, ◌&&◌, List, [], ◌∷◌, ◌++◌, length, refl, sym, ap, ◌∙◌, arith, length-append, inl, inr, subst}
-use Rattle.ba_lex.specs.declared.token.Token.{Token}
-use Rattle.ba_parse.specs.declared.class.TokenClass.{TokenClass}
-use Rattle.ba_parse.specs.Classes.{Classes, class_of}
-use Rattle.ba_parse.specs.Marks.{Rule, Mark, leaf, yield}
+use Rattle.ba_tokens.specs.declared.token.Token.{Token}
+use Rattle.ba_trees.specs.declared.class.TokenClass.{TokenClass}
+use Rattle.ba_trees.specs.Classes.{Classes, class_of}
+use Rattle.ba_trees.specs.Marks.{Rule, Mark, leaf, yield}
 use Rattle.ba_parse.specs.Grammar.{Part, Spells, token, rule, either, grammar, ◌·◌}
 use Rattle.ba_parse.specs.Readings.{Answer, done, syntax, too_deep, Reading, with_front, then_read, around, next_is, read_token, read_node, read_either, ◌▹◌}
 use Rattle.ba_parse.proofs.Forests.{yield_append, yield_node}

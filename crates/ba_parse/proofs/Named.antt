@@ -3,14 +3,14 @@
 use Rattle.std.proofs.Common.{◌≡◌, Bool, true, false, not, ◌||◌, ◌&&◌, List, [], ◌∷◌, ◌++◌, length, map, Option, None, Some, length-append, refl, sym, ap, ◌∙◌, arith}
 use Rattle.std.specs.Option.{is_some}
 use Rattle.std.specs.List.{list_all}
-use Rattle.ba_lex.specs.declared.token.Token.{Token}
-use Rattle.ba_lex.specs.declared.token.Keyword.TheVariants as keyword
-use Rattle.ba_parse.specs.Classes.{class_of, word}
+use Rattle.ba_tokens.specs.declared.token.Token.{Token}
+use Rattle.ba_tokens.specs.declared.token.Keyword.TheVariants as keyword
+use Rattle.ba_trees.specs.Classes.{class_of, word}
 use Rattle.ba_parse.specs.Grammar.{has_unnamed, is_void, takes_block}
-use Rattle.ba_parse.specs.Marks.{Mark, leave, up, node_of, one_deeper, yield, parameter, parameters}
-use Rattle.ba_parse.specs.Views.{joined, name_marks}
-use Rattle.ba_parse.specs.DeclarationMarks.{next_parameter_marks}
-use Rattle.ba_parse.specs.declared.tree.declarations.NextParameter.{NextParameter}
+use Rattle.ba_trees.specs.Marks.{Mark, leave, up, node_of, one_deeper, yield, parameter, parameters}
+use Rattle.ba_trees.specs.Views.{joined, name_marks}
+use Rattle.ba_trees.specs.DeclarationMarks.{next_parameter_marks}
+use Rattle.ba_trees.specs.declared.tree.declarations.NextParameter.{NextParameter}
 use Rattle.ba_parse.proofs.Quiet.{unnamed_append}
 use Rattle.ba_parse.proofs.Forests.{yield_deeper}
 

@@ -1,9 +1,9 @@
 -- No list of tokens is that of two files.
 
 use Rattle.std.proofs.Common.{◌≡◌, ℕ, zero, suc, ◌+◌, ◌≤◌, true, List, [], ◌∷◌, None, refl, sym, ap, ◌∙◌, arith, append-nil, get_or}
-use Rattle.ba_lex.specs.declared.token.Token.{Token}
-use Rattle.ba_parse.specs.Classes.{declaration_word}
-use Rattle.ba_parse.specs.Marks.{Mark, file, yield, levels}
+use Rattle.ba_tokens.specs.declared.token.Token.{Token}
+use Rattle.ba_trees.specs.Classes.{declaration_word}
+use Rattle.ba_trees.specs.Marks.{Mark, file, yield, levels}
 use Rattle.ba_parse.specs.Grammar.{rule}
 use Rattle.ba_parse.specs.Readings.{Answer, done, syntax, too_deep, levels_left, read_file}
 use Rattle.ba_parse.specs.Files.{IsFile}

@@ -2,10 +2,10 @@
 
 use Rattle.std.proofs.Common.{◌≡◌, Bool, List, [], ◌∷◌, ◌++◌, ap, ◌∙◌}
 use Rattle.std.proofs.lemmas.List.{map-append}
-use Rattle.ba_lex.specs.declared.token.Token.{Token}
-use Rattle.ba_parse.specs.declared.class.TokenClass.TheVariants as class
-use Rattle.ba_parse.specs.Classes.{only}
-use Rattle.ba_parse.specs.Marks.{leaf}
+use Rattle.ba_tokens.specs.declared.token.Token.{Token}
+use Rattle.ba_trees.specs.declared.class.TokenClass.TheVariants as class
+use Rattle.ba_trees.specs.Classes.{only}
+use Rattle.ba_trees.specs.Marks.{leaf}
 use Rattle.ba_parse.specs.Readings.{Reading, next_is, read_token}
 use Rattle.ba_parse.proofs.TypeWords.{leaves}
 

@@ -1,27 +1,27 @@
 -- No node without a name stands in the words of a type, nor in an array's length.
 
 use Rattle.std.proofs.Common.{◌≡◌, Bool, true, false, ◌||◌, List, [], ◌∷◌, ◌++◌, map, Option, None, Some, option_map, refl, sym, ap, ◌∙◌, subst, Box, Global}
-use Rattle.ba_lex.specs.declared.token.Token.{Token}
+use Rattle.ba_tokens.specs.declared.token.Token.{Token}
 use Rattle.ba_parse.specs.Grammar.{has_unnamed, is_no_name}
-use Rattle.ba_parse.specs.Marks.{Rule, Mark, leaf, enter, leave, down, up, node_of, one_deeper, type_name, array_length, arguments, conditional, chain, unary, primary}
-use Rattle.ba_parse.specs.Views.{joined, optional}
-use Rattle.ba_parse.specs.ExpressionMarks.{M, type_name_marks, primary_step, unary_step, arguments_step, branches_step, chain_step, conditional_step, expressions_step, next_expression_step, operand_step, primary_marks, unary_marks, arguments_marks, branches_marks, chain_marks, conditional_marks, expressions_marks, next_expression_marks, operand_marks}
-use Rattle.ba_parse.specs.DeclarationMarks.{array_length_marks}
-use Rattle.ba_parse.specs.declared.tree.declarations.ArrayLength.{ArrayLength}
-use Rattle.ba_parse.specs.declared.tree.expressions.TypeName.{TypeName}
-use Rattle.ba_parse.specs.declared.tree.expressions.Primary.{Primary}
-use Rattle.ba_parse.specs.declared.tree.expressions.Unary.{Unary}
-use Rattle.ba_parse.specs.declared.tree.expressions.Arguments.{Arguments}
-use Rattle.ba_parse.specs.declared.tree.expressions.Branches.{Branches}
-use Rattle.ba_parse.specs.declared.tree.expressions.Chain.{Chain}
-use Rattle.ba_parse.specs.declared.tree.expressions.Conditional.{Conditional}
-use Rattle.ba_parse.specs.declared.tree.expressions.Expressions.{Expressions}
-use Rattle.ba_parse.specs.declared.tree.expressions.NextExpression.{NextExpression}
-use Rattle.ba_parse.specs.declared.tree.expressions.Operand.{Operand}
-use Rattle.ba_parse.specs.declared.tree.expressions.Primary.TheOpen.{Primary-F, Unary-F}
-use Rattle.ba_parse.specs.declared.tree.expressions.Primary.TheShapes.{former-Arguments-values, former-Chain-rest}
-use Rattle.ba_parse.specs.declared.tree.expressions.Primary.TheViews.{roll-Primary, roll-Unary, roll-Arguments, roll-Branches, roll-Chain, roll-Conditional, roll-Expressions, roll-NextExpression, roll-Operand}
-use Rattle.ba_parse.specs.declared.tree.expressions.Primary.TheFolds.{map-Primary, map-Unary, ind-Conditional, fold-roll-Primary, fold-roll-Unary, fold-roll-Arguments, fold-roll-Branches, fold-roll-Chain, fold-roll-Conditional, fold-roll-Expressions, fold-roll-NextExpression, fold-roll-Operand}
+use Rattle.ba_trees.specs.Marks.{Rule, Mark, leaf, enter, leave, down, up, node_of, one_deeper, type_name, array_length, arguments, conditional, chain, unary, primary}
+use Rattle.ba_trees.specs.Views.{joined, optional}
+use Rattle.ba_trees.specs.ExpressionMarks.{M, type_name_marks, primary_step, unary_step, arguments_step, branches_step, chain_step, conditional_step, expressions_step, next_expression_step, operand_step, primary_marks, unary_marks, arguments_marks, branches_marks, chain_marks, conditional_marks, expressions_marks, next_expression_marks, operand_marks}
+use Rattle.ba_trees.specs.DeclarationMarks.{array_length_marks}
+use Rattle.ba_trees.specs.declared.tree.declarations.ArrayLength.{ArrayLength}
+use Rattle.ba_trees.specs.declared.tree.expressions.TypeName.{TypeName}
+use Rattle.ba_trees.specs.declared.tree.expressions.Primary.{Primary}
+use Rattle.ba_trees.specs.declared.tree.expressions.Unary.{Unary}
+use Rattle.ba_trees.specs.declared.tree.expressions.Arguments.{Arguments}
+use Rattle.ba_trees.specs.declared.tree.expressions.Branches.{Branches}
+use Rattle.ba_trees.specs.declared.tree.expressions.Chain.{Chain}
+use Rattle.ba_trees.specs.declared.tree.expressions.Conditional.{Conditional}
+use Rattle.ba_trees.specs.declared.tree.expressions.Expressions.{Expressions}
+use Rattle.ba_trees.specs.declared.tree.expressions.NextExpression.{NextExpression}
+use Rattle.ba_trees.specs.declared.tree.expressions.Operand.{Operand}
+use Rattle.ba_trees.specs.declared.tree.expressions.Primary.TheOpen.{Primary-F, Unary-F}
+use Rattle.ba_trees.specs.declared.tree.expressions.Primary.TheShapes.{former-Arguments-values, former-Chain-rest}
+use Rattle.ba_trees.specs.declared.tree.expressions.Primary.TheViews.{roll-Primary, roll-Unary, roll-Arguments, roll-Branches, roll-Chain, roll-Conditional, roll-Expressions, roll-NextExpression, roll-Operand}
+use Rattle.ba_trees.specs.declared.tree.expressions.Primary.TheFolds.{map-Primary, map-Unary, ind-Conditional, fold-roll-Primary, fold-roll-Unary, fold-roll-Arguments, fold-roll-Branches, fold-roll-Chain, fold-roll-Conditional, fold-roll-Expressions, fold-roll-NextExpression, fold-roll-Operand}
 
 or_assoc : (a b c : Bool) → ((a || b) || c) ≡ (a || (b || c))
 or_assoc true b c = refl

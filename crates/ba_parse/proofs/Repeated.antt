@@ -1,10 +1,10 @@
 -- Readings that choose by the next token, and readings that repeat, keep what readings promise.
 
 use Rattle.std.proofs.Common.{◌≡◌, ℕ, zero, suc, ◌+◌, ◌<◌, ◌≤◌, Bool, true, false, if◌then◌else◌, List, [], ◌∷◌, ◌++◌, length, Option, None, Some, refl, sym, ap, ◌∙◌, arith, append_assoc, inl, inr, subst, length-append}
-use Rattle.ba_lex.specs.declared.token.Token.{Token}
-use Rattle.ba_parse.specs.declared.class.TokenClass.{TokenClass}
-use Rattle.ba_parse.specs.Classes.{Classes, class_of}
-use Rattle.ba_parse.specs.Marks.{Mark, yield, no_else_lost}
+use Rattle.ba_tokens.specs.declared.token.Token.{Token}
+use Rattle.ba_trees.specs.declared.class.TokenClass.{TokenClass}
+use Rattle.ba_trees.specs.Classes.{Classes, class_of}
+use Rattle.ba_trees.specs.Marks.{Mark, yield, no_else_lost}
 use Rattle.ba_parse.specs.Grammar.{Part, Spells, is_first, is_second, is_none, is_more, after, either, many}
 use Rattle.ba_parse.specs.Readings.{Answer, done, syntax, too_deep, Reading, with_front, then_read, next_is, read_either, many_upto, read_many}
 use Rattle.ba_parse.proofs.Certified.{Opened, opened, head_of, head_after, outcome, Done, Taken, always, Reads, BeginsWith, First, Sample, both_read, both_taken, both_given, next_is_fewer, false_is_true, true_is_false}

@@ -3,13 +3,13 @@
 use Rattle.std.proofs.Common.{◌≡◌, ℕ, ◌+◌, ◌-◌, ◌<◌, Bool, true, false, List, [], ◌∷◌, ◌++◌, Err, map, take, drop, append_assoc, refl, sym, ap, ◌∙◌, arith}
 use Rattle.std.proofs.lemmas.List.{append-nil, map-append}
 use Prim.Native.Nat.{zero, suc}
-use Rattle.ba_lex.specs.declared.token.Token.{Token}
+use Rattle.ba_tokens.specs.declared.token.Token.{Token}
 use Rattle.ba_parse.specs.declared.reader.Stop.{Stop}
 use Rattle.ba_parse.specs.declared.reader.Stop.TheVariants as stop
-use Rattle.ba_parse.specs.Marks.{Mark}
+use Rattle.ba_trees.specs.Marks.{Mark}
 use Rattle.ba_parse.specs.Readings.{Answer, done, syntax, too_deep, Reading, with_front, then_read, many_upto}
 use Rattle.ba_parse.specs.Telling.{Told}
-use Rattle.ba_parse.specs.Views.{joined}
+use Rattle.ba_trees.specs.Views.{joined}
 
 pub joined_push : (fs : List (List Mark)) (f : List Mark) → joined (fs ++ f ∷ []) ≡ joined fs ++ f
 joined_push [] f = append-nil f

@@ -1,10 +1,10 @@
 -- Of parts that are read one after another, one that stops.
 
 use Rattle.std.proofs.Common.{◌≡◌, List, Err, refl}
-use Rattle.ba_lex.specs.declared.token.Token.{Token}
+use Rattle.ba_tokens.specs.declared.token.Token.{Token}
 use Rattle.ba_parse.specs.declared.reader.Stop.{Stop}
 use Rattle.ba_parse.specs.declared.reader.Stop.TheVariants as stop
-use Rattle.ba_parse.specs.Marks.{Mark}
+use Rattle.ba_trees.specs.Marks.{Mark}
 use Rattle.ba_parse.specs.Readings.{Reading, ◌▹◌, done}
 use Rattle.ba_parse.specs.Telling.{Told}
 

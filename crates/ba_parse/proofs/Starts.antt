@@ -1,9 +1,9 @@
 -- What the trees of each part begin with, some tree of each, and one for each token that it may begin with.
 
 use Rattle.std.proofs.Common.{◌≡◌, Bool, true, false, ◌&&◌, ◌||◌, List, [], ◌∷◌, ◌++◌, Option, refl, sym, ap, ◌∙◌, subst, append-nil}
-use Rattle.ba_lex.specs.declared.token.Token.{Token}
-use Rattle.ba_parse.specs.Classes.{Classes, class_of, ◌or◌}
-use Rattle.ba_parse.specs.Marks.{Rule, Mark, leaf, node_of, one_deeper, yield, first_or, is_else, is_no_else, no_else_lost}
+use Rattle.ba_tokens.specs.declared.token.Token.{Token}
+use Rattle.ba_trees.specs.Classes.{Classes, class_of, ◌or◌}
+use Rattle.ba_trees.specs.Marks.{Rule, Mark, leaf, node_of, one_deeper, yield, first_or, is_else, is_no_else, no_else_lost}
 use Rattle.ba_parse.specs.Grammar.{Part, Spells, is_nothing, is_token, is_node, is_rule, is_after, is_first, is_second, is_none, is_more, is_deeper, nothing, token, node, rule, after, either, many, deeper, grammar, ◌·◌, maybe}
 use Rattle.ba_parse.proofs.Forests.{yield_append, yield_node, yield_deeper, pairs_append}
 use Rattle.ba_parse.proofs.Certified.{Opened, opened, head_of, BeginsWith, First, Sample, and_true, and_left, and_right, calm_or}

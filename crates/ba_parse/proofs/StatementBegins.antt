@@ -1,8 +1,8 @@
 -- What is read again and again in a block and in a file, and what it begins with.
 
 use Rattle.std.proofs.Common.{Bool, true, List}
-use Rattle.ba_lex.specs.declared.token.Token.{Token}
-use Rattle.ba_parse.specs.Classes.{declaration_word}
+use Rattle.ba_tokens.specs.declared.token.Token.{Token}
+use Rattle.ba_trees.specs.Classes.{declaration_word}
 use Rattle.ba_parse.specs.Readings.{Inner, Reading, next_is, item_start, read_item, read_external}
 
 abbrev pub item : List Token → Bool

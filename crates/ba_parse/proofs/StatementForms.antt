@@ -1,24 +1,24 @@
 -- The marks of an `if` and of a `for`, by those of their parts.
 
 use Rattle.std.proofs.Common.{◌≡◌, ◌∷◌, ◌++◌, ◌∙◌, Option, None, Some, option_map}
-use Rattle.ba_lex.specs.declared.token.Token.{Token}
-use Rattle.ba_parse.specs.Marks.{leaf, one_deeper}
-use Rattle.ba_parse.specs.ExpressionMarks.{M}
-use Rattle.ba_parse.specs.SimpleMarks.{condition_marks, for_head_marks}
-use Rattle.ba_parse.specs.StatementMarks.{or_no_else, item_step, form_step, block_step, controlled_step, do_step, else_step, for_step, statement_step, form_marks, controlled_marks, else_marks}
-use Rattle.ba_parse.specs.declared.tree.statements.Condition.{Condition}
-use Rattle.ba_parse.specs.declared.tree.statements.BlockItem.{BlockItem}
-use Rattle.ba_parse.specs.declared.tree.statements.StatementForm.{StatementForm}
-use Rattle.ba_parse.specs.declared.tree.statements.Block.{Block}
-use Rattle.ba_parse.specs.declared.tree.statements.Controlled.{Controlled}
-use Rattle.ba_parse.specs.declared.tree.statements.DoWhile.{DoWhile}
-use Rattle.ba_parse.specs.declared.tree.statements.Else.{Else}
-use Rattle.ba_parse.specs.declared.tree.statements.For.{For as ForLoop}
-use Rattle.ba_parse.specs.declared.tree.statements.Statement.{Statement}
-use Rattle.ba_parse.specs.declared.tree.statements.BlockItem.TheOpen.{StatementForm-F, For-F}
-use Rattle.ba_parse.specs.declared.tree.statements.BlockItem.TheViews.{If, roll-StatementForm, roll-For}
-use Rattle.ba_parse.specs.declared.tree.statements.BlockItem.TheBlock.{For}
-use Rattle.ba_parse.specs.declared.tree.statements.BlockItem.TheFolds.{fold-roll-StatementForm, fold-roll-For}
+use Rattle.ba_tokens.specs.declared.token.Token.{Token}
+use Rattle.ba_trees.specs.Marks.{leaf, one_deeper}
+use Rattle.ba_trees.specs.ExpressionMarks.{M}
+use Rattle.ba_trees.specs.SimpleMarks.{condition_marks, for_head_marks}
+use Rattle.ba_trees.specs.StatementMarks.{or_no_else, item_step, form_step, block_step, controlled_step, do_step, else_step, for_step, statement_step, form_marks, controlled_marks, else_marks}
+use Rattle.ba_trees.specs.declared.tree.statements.Condition.{Condition}
+use Rattle.ba_trees.specs.declared.tree.statements.BlockItem.{BlockItem}
+use Rattle.ba_trees.specs.declared.tree.statements.StatementForm.{StatementForm}
+use Rattle.ba_trees.specs.declared.tree.statements.Block.{Block}
+use Rattle.ba_trees.specs.declared.tree.statements.Controlled.{Controlled}
+use Rattle.ba_trees.specs.declared.tree.statements.DoWhile.{DoWhile}
+use Rattle.ba_trees.specs.declared.tree.statements.Else.{Else}
+use Rattle.ba_trees.specs.declared.tree.statements.For.{For as ForLoop}
+use Rattle.ba_trees.specs.declared.tree.statements.Statement.{Statement}
+use Rattle.ba_trees.specs.declared.tree.statements.BlockItem.TheOpen.{StatementForm-F, For-F}
+use Rattle.ba_trees.specs.declared.tree.statements.BlockItem.TheViews.{If, roll-StatementForm, roll-For}
+use Rattle.ba_trees.specs.declared.tree.statements.BlockItem.TheBlock.{For}
+use Rattle.ba_trees.specs.declared.tree.statements.BlockItem.TheFolds.{fold-roll-StatementForm, fold-roll-For}
 
 pub if_marks : (keyword : Token) (condition : Condition) (holds : Controlled) (fails : Option Else) →
     form_marks (If keyword condition holds fails)

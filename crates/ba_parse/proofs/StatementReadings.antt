@@ -2,12 +2,12 @@
 -- do.
 
 use Rattle.std.proofs.Common.{◌≡◌, ℕ, Bool, true, false, not, ◌&&◌, ◌||◌, List, [], ◌∷◌, ◌++◌, refl, sym, ap, ◌∙◌, subst}
-use Rattle.ba_lex.specs.declared.token.Token.{Token}
-use Rattle.ba_lex.specs.declared.token.Keyword.TheVariants as keyword
-use Rattle.ba_lex.specs.declared.token.Punct.TheVariants as punct
-use Rattle.ba_parse.specs.declared.class.TokenClass.TheVariants as class
-use Rattle.ba_parse.specs.Classes.{Classes, only, word, mark, ◌or◌, declaration_word}
-use Rattle.ba_parse.specs.Marks.{Mark, node_of, yield, is_else, no_else_lost, array_length, block, statement, no_else, simples, simple, target, arguments}
+use Rattle.ba_tokens.specs.declared.token.Token.{Token}
+use Rattle.ba_tokens.specs.declared.token.Keyword.TheVariants as keyword
+use Rattle.ba_tokens.specs.declared.token.Punct.TheVariants as punct
+use Rattle.ba_trees.specs.declared.class.TokenClass.TheVariants as class
+use Rattle.ba_trees.specs.Classes.{Classes, only, word, mark, ◌or◌, declaration_word}
+use Rattle.ba_trees.specs.Marks.{Mark, node_of, yield, is_else, no_else_lost, array_length, block, statement, no_else, simples, simple, target, arguments}
 use Rattle.ba_parse.specs.Grammar.{Part, Spells, is_node, is_nothing, nothing, token, node, rule, ◌·◌, ◌∣◌, maybe, key, name, in_parentheses, step_sign, assign_sign, expression, semicolon, controlled, condition}
 use Rattle.ba_parse.specs.Readings.{Reading, Inner, in_length, in_statement, in_for, in_printf, in_expression, in_arguments, deeper_in, read_key, read_name, read_token, read_node, read_nothing, read_either, read_maybe, next_is, ◌▹◌, operand_start, statement_start, item_start, simple_start, read_parenthesized, read_bracketed, read_expression, read_array_length, maybe_length, read_target, is_called, read_simple, read_simples, read_block, read_condition, maybe_expression, read_if, read_while, read_do, read_for, read_printf, read_keyword_statement, read_statement, read_semicolon}
 use Rattle.ba_parse.proofs.Certified.{Opened, opened, head_of, outcome, always, Reads, BeginsWith, Sample, reads_after, false_is_true}

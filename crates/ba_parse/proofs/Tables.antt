@@ -3,13 +3,13 @@
 use Rattle.std.proofs.Common.{◌≡◌, ℕ, Bool, true, false, not, ◌&&◌, ◌||◌, List, [], ◌∷◌, refl, sym, ap, ◌∙◌, get_or}
 use Prim.Native.Nat.{zero, suc}
 use Rattle.std.specs.List.{list_all}
-use Rattle.ba_lex.specs.declared.token.Keyword.{Keyword}
-use Rattle.ba_lex.specs.declared.token.Keyword.TheVariants as keyword
-use Rattle.ba_lex.specs.declared.token.Punct.{Punct}
-use Rattle.ba_lex.specs.declared.token.Punct.TheVariants as punct
-use Rattle.ba_parse.specs.declared.class.TokenClass.{TokenClass}
-use Rattle.ba_parse.specs.declared.class.TokenClass.TheVariants as class
-use Rattle.ba_parse.specs.Classes.{Classes}
+use Rattle.ba_tokens.specs.declared.token.Keyword.{Keyword}
+use Rattle.ba_tokens.specs.declared.token.Keyword.TheVariants as keyword
+use Rattle.ba_tokens.specs.declared.token.Punct.{Punct}
+use Rattle.ba_tokens.specs.declared.token.Punct.TheVariants as punct
+use Rattle.ba_trees.specs.declared.class.TokenClass.{TokenClass}
+use Rattle.ba_trees.specs.declared.class.TokenClass.TheVariants as class
+use Rattle.ba_trees.specs.Classes.{Classes}
 use Rattle.ba_parse.proofs.Certified.{and_left, and_right, false_is_true}
 
 abbrev all_classes : List TokenClass

@@ -1,13 +1,13 @@
 -- The outcome of the reading is what the grammar says.
 
 use Rattle.std.proofs.Common.{◌≡◌, List, [], ◌∷◌, Result, Err, refl, sym, ap, ◌∙◌, ◌⊎◌, inl, inr, subst}
-use Rattle.ba_lex.specs.declared.token.Token.{Token}
+use Rattle.ba_tokens.specs.declared.token.Token.{Token}
 use Rattle.ba_parse.specs.Readings.{Answer, done, syntax, too_deep, levels_left, read_file}
 use Rattle.ba_parse.specs.Files.{Verdict, Says}
 use Rattle.ba_parse.specs.Outcomes.{outcome_of}
-use Rattle.ba_parse.specs.FileMarks.{written}
+use Rattle.ba_parse.specs.Outcomes.{written}
 use Rattle.ba_parse.specs.Told.{IsTold, result_of}
-use Rattle.ba_parse.specs.declared.tree.statements.RawProgram.{RawProgram}
+use Rattle.ba_trees.specs.declared.tree.statements.RawProgram.{RawProgram}
 use Rattle.ba_parse.specs.declared.error.ParseError.{ParseError}
 use Rattle.ba_parse.specs.declared.error.ParseError.TheVariants.{Memory}
 use Rattle.ba_parse.proofs.Verdicts.{verdict_of, answer_of, says_answer, says_only}

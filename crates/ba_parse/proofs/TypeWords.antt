@@ -1,15 +1,14 @@
 -- The words of a type, one after another.
 
-use Rattle.std.proofs.Common.{◌≡◌, ◌<◌, Bool, true, false, if◌then◌else◌, List, [], ◌∷◌, ◌++◌, length, map, Err, append_assoc, refl, sym, ap, ◌∙◌, arith}
+use Rattle.std.proofs.Common.{false≢true, ◌≡◌, ◌<◌, Bool, true, false, if◌then◌else◌, List, [], ◌∷◌, ◌++◌, length, map, Err, append_assoc, refl, sym, ap, ◌∙◌, arith}
 use Rattle.std.proofs.lemmas.List.{append-nil, map-append}
-use Rattle.std.proofs.lemmas.Bool.{false≢true}
 use Rattle.std.specs.List.{list_any}
-use Rattle.ba_lex.specs.declared.token.Token.{Token}
-use Rattle.ba_parse.specs.declared.class.TokenClass.{TokenClass}
+use Rattle.ba_tokens.specs.declared.token.Token.{Token}
+use Rattle.ba_trees.specs.declared.class.TokenClass.{TokenClass}
 use Rattle.ba_parse.specs.declared.reader.Stop.{Stop}
 use Rattle.ba_parse.specs.declared.reader.Stop.TheVariants as stop
-use Rattle.ba_parse.specs.Classes.{class_of, type_word, declaration_word}
-use Rattle.ba_parse.specs.Marks.{Mark, leaf, node_of, type_name}
+use Rattle.ba_trees.specs.Classes.{class_of, type_word, declaration_word}
+use Rattle.ba_trees.specs.Marks.{Mark, leaf, node_of, type_name}
 use Rattle.ba_parse.specs.Readings.{Answer, done, syntax, too_deep, with_front, next_is, words_after, after_words, around}
 use Rattle.ba_parse.specs.Telling.{Told, next_word, agrees_with}
 

@@ -3,12 +3,13 @@
 use Rattle.std.proofs.Common.{◌≡◌, ℕ, zero, suc, ◌+◌, ◌-◌, ◌<◌, ◌≤◌, true, List, [], ◌∷◌, ◌++◌, length, take, drop, Option, None, Some, refl, sym, ap, ◌∙◌, arith, append_assoc, append-nil, length-append, ◌⊎◌, inl, inr, subst}
 use Rattle.std.proofs.lemmas.List.{append_cancel_right, take-append-drop, take-take, length-take-le}
 use Rattle.std.proofs.Math.Seq.{take-append_seam, take-length}
-use Rattle.ba_lex.specs.declared.token.Token.{Token}
-use Rattle.ba_parse.specs.Classes.{declaration_word}
-use Rattle.ba_parse.specs.Marks.{Mark, leaf, file, yield, no_else_lost}
+use Rattle.ba_tokens.specs.declared.token.Token.{Token}
+use Rattle.ba_trees.specs.Classes.{declaration_word}
+use Rattle.ba_trees.specs.Marks.{Mark, leaf, file, yield, no_else_lost}
 use Rattle.ba_parse.specs.Grammar.{Spells, rule}
 use Rattle.ba_parse.specs.Readings.{Answer, done, syntax, too_deep, levels_left, read_file}
-use Rattle.ba_parse.specs.Files.{IsFile, Begins, level_at, max_level, has_accepted_levels, IsParsed, IsSyntaxError, IsTooDeep, Verdict, parsed, syntax_at, deep_at, Says}
+use Rattle.ba_parse.specs.Files.{IsFile, Begins, level_at, IsParsed, IsSyntaxError, IsTooDeep, Verdict, parsed, syntax_at, deep_at, Says}
+use Rattle.ba_trees.specs.Marks.{max_level, has_accepted_levels}
 use Rattle.ba_parse.proofs.Forests.{sunk}
 use Rattle.ba_parse.proofs.Certified.{head_of, outcome_of, outcome, Done, Refused, TooDeep, Taken, always, Reads, pairs_before, cons_is_nil}
 use Rattle.ba_parse.proofs.Depths.{all_accepted, none_deep, deep_none, FirstDeep, first_deep}

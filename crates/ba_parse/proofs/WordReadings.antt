@@ -3,13 +3,13 @@
 use Rattle.std.proofs.Common.{◌≡◌, ℕ, Bool, true, false, not, ◌&&◌, ◌||◌, if◌then◌else◌, List, [], ◌∷◌, ◌++◌, map, Option, None, Some, refl, sym, ap, ◌∙◌, arith, append_assoc, append-nil, ltb, subst}
 use Rattle.std.specs.List.{list_any, list_all}
 use Rattle.std.proofs.lemmas.Bool.Decides.{nat_tests}
-use Rattle.ba_lex.specs.declared.token.Token.{Token}
-use Rattle.ba_lex.specs.declared.token.TokenKind.TheVariants as kind
-use Rattle.ba_lex.specs.declared.token.Keyword.TheVariants as keyword
-use Rattle.ba_parse.specs.declared.class.TokenClass.{TokenClass}
-use Rattle.ba_parse.specs.declared.class.TokenClass.TheVariants as class
-use Rattle.ba_parse.specs.Classes.{class_of, type_word, declaration_word, agree, all_agree, names_type}
-use Rattle.ba_parse.specs.Marks.{Mark, leaf, yield, is_else, no_else_lost}
+use Rattle.ba_tokens.specs.declared.token.Token.{Token}
+use Rattle.ba_tokens.specs.declared.token.TokenKind.TheVariants as kind
+use Rattle.ba_tokens.specs.declared.token.Keyword.TheVariants as keyword
+use Rattle.ba_trees.specs.declared.class.TokenClass.{TokenClass}
+use Rattle.ba_trees.specs.declared.class.TokenClass.TheVariants as class
+use Rattle.ba_trees.specs.Classes.{class_of, type_word, declaration_word, agree, all_agree, names_type}
+use Rattle.ba_trees.specs.Marks.{Mark, leaf, yield, is_else, no_else_lost}
 use Rattle.ba_parse.specs.Grammar.{is_words, words}
 use Rattle.ba_parse.specs.Readings.{Answer, done, syntax, too_deep, with_front, next_is, after_words, words_after}
 use Rattle.ba_parse.proofs.Forests.{yield_leaves, sunk}

@@ -1,9 +1,8 @@
 -- Files, what they begin with, and what is said of a list of tokens.
 
-use Rattle.std.specs.Prelude.{◌≡◌, ℕ, ◌+◌, ◌<◌, ◌≤◌, nat_le, Bool, true, List, length, take, get_or, None}
-use Rattle.std.specs.List.{list_all}
-use Rattle.ba_lex.specs.declared.token.Token.{Token}
-use Rattle.ba_parse.specs.Marks.{Mark, file, yield, levels, no_else_lost}
+use Rattle.std.specs.Prelude.{◌≡◌, ℕ, ◌+◌, ◌<◌, ◌≤◌, true, List, length, take, get_or, None}
+use Rattle.ba_tokens.specs.declared.token.Token.{Token}
+use Rattle.ba_trees.specs.Marks.{Mark, file, yield, levels, max_level, no_else_lost}
 use Rattle.ba_parse.specs.Grammar.{Spells, rule}
 
 -- the tree is that of a file with these tokens
@@ -19,16 +18,9 @@ pub record Begins (list : List Token) : Type 0 where
   pub is_file : IsFile tokens tree
   pub begins : take (length list) tokens ≡ list
 
--- the level of token k of a tree; the greatest that is accepted
+-- the level of token k of a tree
 abbrev pub level_at : List Mark → ℕ → ℕ
 level_at tree k = get_or (levels 0 tree) k 0
-
-abbrev pub max_level : ℕ
-max_level = 100
-
--- no token of a tree has a level that is not accepted
-abbrev pub has_accepted_levels : List Mark → Bool
-has_accepted_levels tree = list_all (λ level. nat_le level max_level) (levels 0 tree)
 
 -- the tokens are a file's, and none has a level that is not accepted
 pub record IsParsed (tokens : List Token) (tree : List Mark) : Type 0 where

@@ -2,14 +2,14 @@
 
 use Rattle.std.specs.Prelude.{◌≡◌, ℕ, Bool, true, false, not, ◌||◌, List, [], ◌∷◌, ◌++◌, map}
 use Prim.Native.Nat.{zero, suc}
-use Rattle.ba_lex.specs.declared.token.Token.{Token}
-use Rattle.ba_lex.specs.declared.token.Keyword.{Keyword}
-use Rattle.ba_lex.specs.declared.token.Keyword.TheVariants as keyword
-use Rattle.ba_lex.specs.declared.token.Punct.{Punct}
-use Rattle.ba_lex.specs.declared.token.Punct.TheVariants as punct
-use Rattle.ba_parse.specs.declared.class.TokenClass.TheVariants as class
-use Rattle.ba_parse.specs.Classes.{Classes, class_of, only, word, mark, ◌or◌, names_type}
-use Rattle.ba_parse.specs.Marks.{Rule, Mark, leaf, enter, leave, down, up, node_of, one_deeper, yield, file, external, type_name, parameters, parameter, no_name, array_length, declarators, declarator, braced, declaration, block, statement, no_else, for_first, simples, simple, target, arguments, conditional, chain, unary, primary}
+use Rattle.ba_tokens.specs.declared.token.Token.{Token}
+use Rattle.ba_tokens.specs.declared.token.Keyword.{Keyword}
+use Rattle.ba_tokens.specs.declared.token.Keyword.TheVariants as keyword
+use Rattle.ba_tokens.specs.declared.token.Punct.{Punct}
+use Rattle.ba_tokens.specs.declared.token.Punct.TheVariants as punct
+use Rattle.ba_trees.specs.declared.class.TokenClass.TheVariants as class
+use Rattle.ba_trees.specs.Classes.{Classes, class_of, only, word, mark, ◌or◌, names_type}
+use Rattle.ba_trees.specs.Marks.{Rule, Mark, leaf, enter, leave, down, up, node_of, one_deeper, yield, file, external, type_name, parameters, parameter, no_name, array_length, declarators, declarator, braced, declaration, block, statement, no_else, for_first, simples, simple, target, arguments, conditional, chain, unary, primary}
 
 -- What stands on the right side of a rule. `after a k` is a part and then one that may depend on it; `words
 -- static`

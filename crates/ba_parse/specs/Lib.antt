@@ -1,17 +1,8 @@
-pub mod Classes
-pub mod Marks
 pub mod Grammar
 pub mod Files
 pub mod Readings
 pub mod Sets
 pub mod Telling
-pub mod Views
-pub mod ExpressionMarks
-pub mod DeclarationMarks
-pub mod SimpleMarks
-pub mod StatementMarks
-pub mod ExternalMarks
-pub mod FileMarks
 pub mod Tails
 pub mod Outcomes
 pub mod Told

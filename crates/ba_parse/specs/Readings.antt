@@ -5,15 +5,15 @@
 use Rattle.std.specs.Prelude.{ℕ, Bool, true, false, not, ◌&&◌, if◌then◌else◌, List, [], ◌∷◌, ◌++◌, length}
 use Prim.Native.Nat.{zero, suc}
 use Rattle.std.specs.List.{list_any, list_all}
-use Rattle.ba_lex.specs.declared.token.Token.{Token}
-use Rattle.ba_lex.specs.declared.token.Keyword.{Keyword}
-use Rattle.ba_lex.specs.declared.token.Keyword.TheVariants as keyword
-use Rattle.ba_lex.specs.declared.token.Punct.{Punct}
-use Rattle.ba_lex.specs.declared.token.Punct.TheVariants as punct
-use Rattle.ba_parse.specs.declared.class.TokenClass.{TokenClass}
-use Rattle.ba_parse.specs.declared.class.TokenClass.TheVariants as class
-use Rattle.ba_parse.specs.Classes.{Classes, class_of, only, word, mark, ◌or◌, type_word, declaration_word, agree}
-use Rattle.ba_parse.specs.Marks.{Rule, Mark, leaf, node_of, one_deeper, file, external, type_name, parameters, parameter, no_name, array_length, declarators, declarator, braced, declaration, block, statement, no_else, for_first, simples, simple, target, arguments, conditional, chain, unary, primary}
+use Rattle.ba_tokens.specs.declared.token.Token.{Token}
+use Rattle.ba_tokens.specs.declared.token.Keyword.{Keyword}
+use Rattle.ba_tokens.specs.declared.token.Keyword.TheVariants as keyword
+use Rattle.ba_tokens.specs.declared.token.Punct.{Punct}
+use Rattle.ba_tokens.specs.declared.token.Punct.TheVariants as punct
+use Rattle.ba_trees.specs.declared.class.TokenClass.{TokenClass}
+use Rattle.ba_trees.specs.declared.class.TokenClass.TheVariants as class
+use Rattle.ba_trees.specs.Classes.{Classes, class_of, only, word, mark, ◌or◌, type_word, declaration_word, agree}
+use Rattle.ba_trees.specs.Marks.{Rule, Mark, leaf, node_of, one_deeper, file, external, type_name, parameters, parameter, no_name, array_length, declarators, declarator, braced, declaration, block, statement, no_else, for_first, simples, simple, target, arguments, conditional, chain, unary, primary}
 use Rattle.ba_parse.specs.Grammar.{prefix_sign, step_sign, assign_sign, operator, takes_block}
 
 pub data Answer : Type 0 where

@@ -1,11 +1,11 @@
 -- The classes of each set of tokens.
 
 use Rattle.std.specs.Prelude.{false}
-use Rattle.ba_lex.specs.declared.token.Punct.TheVariants as punct
-use Rattle.ba_parse.specs.declared.class.TokenClass.TheVariants as class
+use Rattle.ba_tokens.specs.declared.token.Punct.TheVariants as punct
+use Rattle.ba_trees.specs.declared.class.TokenClass.TheVariants as class
 use Rattle.ba_parse.specs.declared.sets.TokenSet.{TokenSet}
 use Rattle.ba_parse.specs.declared.sets.TokenSet.TheVariants as set
-use Rattle.ba_parse.specs.Classes.{Classes, only, word, mark, ◌or◌, declaration_word}
+use Rattle.ba_trees.specs.Classes.{Classes, only, word, mark, ◌or◌, declaration_word}
 use Rattle.ba_parse.specs.Grammar.{prefix_sign, step_sign, assign_sign, operator}
 use Rattle.ba_parse.specs.Readings.{operand_start, simple_start, statement_start, item_start}
 

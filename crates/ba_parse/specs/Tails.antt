@@ -1,9 +1,9 @@
 -- Parts of readings that functions of the parser read by themselves.
 
-use Rattle.ba_lex.specs.declared.token.Keyword.TheVariants as keyword
-use Rattle.ba_lex.specs.declared.token.Punct.TheVariants as punct
-use Rattle.ba_parse.specs.Classes.{word, mark}
-use Rattle.ba_parse.specs.Marks.{no_else}
+use Rattle.ba_tokens.specs.declared.token.Keyword.TheVariants as keyword
+use Rattle.ba_tokens.specs.declared.token.Punct.TheVariants as punct
+use Rattle.ba_trees.specs.Classes.{word, mark}
+use Rattle.ba_trees.specs.Marks.{no_else}
 use Rattle.ba_parse.specs.Readings.{Inner, Reading, ◌▹◌, read_either, read_nothing, read_key, read_node, read_semicolon, read_condition, deeper_in, next_is, in_statement, maybe_expression, read_printf, read_block, read_simple, read_keyword_statement, simple_start}
 
 -- `else` and its statement, or the node for none

@@ -2,12 +2,12 @@
 
 use Rattle.std.specs.Prelude.{◌≡◌, Bool, true, false, not, ◌&&◌, if◌then◌else◌, List, [], ◌∷◌, Result, Ok, Err}
 use Rattle.std.specs.List.{list_all}
-use Rattle.ba_lex.specs.declared.token.Token.{Token}
-use Rattle.ba_parse.specs.declared.class.TokenClass.{TokenClass}
+use Rattle.ba_tokens.specs.declared.token.Token.{Token}
+use Rattle.ba_trees.specs.declared.class.TokenClass.{TokenClass}
 use Rattle.ba_parse.specs.declared.reader.Stop.{Stop}
 use Rattle.ba_parse.specs.declared.reader.Stop.TheVariants as stop
-use Rattle.ba_parse.specs.Classes.{Classes, class_of, declaration_word, agree}
-use Rattle.ba_parse.specs.Marks.{Mark}
+use Rattle.ba_trees.specs.Classes.{Classes, class_of, declaration_word, agree}
+use Rattle.ba_trees.specs.Marks.{Mark}
 use Rattle.ba_parse.specs.Readings.{Answer, Reading, done, syntax, too_deep, next_is, read_token}
 
 -- The result is what the reading answers, with these tokens left; it may instead be want of memory.

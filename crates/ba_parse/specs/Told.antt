@@ -1,9 +1,9 @@
 -- What the parser answers is what the grammar says of the tokens.
 
 use Rattle.std.specs.Prelude.{List, Result, Ok, Err}
-use Rattle.ba_lex.specs.declared.token.Token.{Token}
+use Rattle.ba_tokens.specs.declared.token.Token.{Token}
 use Rattle.ba_parse.specs.Files.{Verdict, parsed, syntax_at, deep_at, Says}
-use Rattle.ba_parse.specs.Marks.{Mark}
+use Rattle.ba_trees.specs.Marks.{Mark}
 use Rattle.ba_parse.specs.declared.error.ParseError.{ParseError}
 use Rattle.ba_parse.specs.declared.error.ParseError.TheVariants as error
 

@@ -4,26 +4,26 @@
 
 ghost use Rattle.std.specs.Prelude.{◌≡◌, ◌++◌, map, option_map, MatchResult};
 ghost use Rattle.ba_parse.specs.declared.reader.Stop.TheVariants.{Memory};
-ghost use Rattle.ba_lex.specs.declared.token.Punct.TheVariants as punct;
-ghost use Rattle.ba_parse.specs.Classes.{mark, only};
-ghost use Rattle.ba_parse.specs.declared.class.TokenClass.TheVariants as class;
-ghost use Rattle.ba_parse.specs.Marks.{no_name};
-ghost use Rattle.ba_parse.specs.Readings.{◌▹◌, read_either, read_maybe, read_nothing, read_name, read_node, read_many, read_listed, read_sign, next_is, is_next_value, levels_left, shallow, in_length, in_parameters, maybe_expression, maybe_length, read_array_length, read_expression, read_braced, read_initialiser, read_declarator, read_declarators, read_declaration, read_parameter, read_parameters};
+ghost use Rattle.ba_tokens.specs.declared.token.Punct.TheVariants as punct;
+ghost use Rattle.ba_trees.specs.Classes.{mark, only};
+ghost use Rattle.ba_trees.specs.declared.class.TokenClass.TheVariants as class;
+ghost use Rattle.ba_trees.specs.Marks.{no_name};
+ghost use Rattle.ba_parse.specs.Readings.{◌▹◌, read_either, read_maybe, read_nothing, read_name, read_node, read_many, read_listed, read_sign, next_is, is_next_value, levels_left, shallow, in_length, in_parameters, maybe_expression, maybe_length, read_expression, read_braced, read_initialiser, read_declarator, read_declarators, read_declaration, read_parameter, read_parameters};
 ghost use Rattle.ba_parse.specs.Telling.{Told};
-ghost use Rattle.ba_parse.specs.Views.{optional, optional_leaf, name_marks, joined};
-ghost use Rattle.ba_parse.specs.ExpressionMarks.{conditional_marks, next_expression_marks};
-ghost use Rattle.ba_parse.specs.DeclarationMarks.{array_length_marks, braced_marks, declaration_marks, declarator_marks, declarators_marks, initialiser_marks, listed_declarator_marks, next_parameter_marks, parameter_list_marks, parameter_marks, parameters_marks};
+ghost use Rattle.ba_trees.specs.Views.{optional, optional_leaf, name_marks, joined};
+ghost use Rattle.ba_trees.specs.ExpressionMarks.{conditional_marks, next_expression_marks};
+ghost use Rattle.ba_trees.specs.DeclarationMarks.{array_length_marks, braced_marks, declaration_marks, declarator_marks, declarators_marks, initialiser_marks, listed_declarator_marks, next_parameter_marks, parameter_list_marks, parameter_marks, parameters_marks};
 
 use crate::expressions::{conditional, next_expression};
 use crate::reader::{Reader, Stop};
 use crate::sets::TokenSet;
-use crate::tree::declarations::{
+use crate::types::type_name;
+use ba_tokens::token::{Punct, Token};
+use ba_trees::tree::declarations::{
     ArrayLength, Braced, Declaration, Declarator, Declarators, Initialiser, ListedDeclarator,
     NextParameter, Parameter, ParameterList, Parameters,
 };
-use crate::tree::expressions::{Conditional, NextExpression};
-use crate::types::type_name;
-use ba_lex::token::{Punct, Token};
+use ba_trees::tree::expressions::{Conditional, NextExpression};
 use std::alloc::Global;
 
 const COMMA: TokenSet = TokenSet::Punct(Punct::Comma);

@@ -3,25 +3,25 @@
 //! `levels` is how many more constructs may be around a token.
 
 ghost use Rattle.std.specs.Prelude.{◌≡◌, ◌<◌, ◌∷◌, ◌++◌, [], Option, map, option_map, MatchResult};
-ghost use Rattle.ba_lex.specs.declared.token.Punct.TheVariants as punct;
+ghost use Rattle.ba_tokens.specs.declared.token.Punct.TheVariants as punct;
 ghost use Rattle.ba_parse.specs.declared.reader.Stop.TheVariants.{Memory};
-ghost use Rattle.ba_parse.specs.Classes.{mark};
+ghost use Rattle.ba_trees.specs.Classes.{mark};
 ghost use Rattle.ba_parse.specs.Grammar.{operator, prefix_sign};
-ghost use Rattle.ba_parse.specs.Marks.{primary, unary};
-ghost use Rattle.ba_parse.specs.Readings.{◌▹◌, read_maybe, read_either, read_token, read_many, read_node, read_listed, read_sign, read_parenthesized, deeper_in, levels_left, next_is, in_expression, in_arguments, in_cast, in_unary, in_chained, read_expression, read_branches, read_operand, read_chain, read_unary, read_primary, after_name, read_name, read_arguments, shallow};
+ghost use Rattle.ba_trees.specs.Marks.{primary, unary};
+ghost use Rattle.ba_parse.specs.Readings.{◌▹◌, read_maybe, read_token, read_many, read_node, read_listed, read_sign, read_parenthesized, deeper_in, levels_left, next_is, in_expression, in_arguments, in_cast, in_unary, in_chained, read_expression, read_branches, read_operand, read_chain, read_unary, read_primary, after_name, read_name, read_arguments, shallow};
 ghost use Rattle.ba_parse.specs.Telling.{Told, refusal};
 ghost use Rattle.ba_parse.specs.Sets.{classes};
-ghost use Rattle.ba_parse.specs.Views.{optional, joined};
-ghost use Rattle.ba_parse.specs.ExpressionMarks.{type_name_marks, arguments_marks, branches_marks, chain_marks, conditional_marks, expressions_marks, next_expression_marks, operand_marks, primary_marks, unary_marks};
+ghost use Rattle.ba_trees.specs.Views.{optional, joined};
+ghost use Rattle.ba_trees.specs.ExpressionMarks.{type_name_marks, arguments_marks, branches_marks, chain_marks, conditional_marks, expressions_marks, next_expression_marks, operand_marks, primary_marks, unary_marks};
 
 use crate::reader::{Reader, Stop};
 use crate::sets::TokenSet;
-use crate::tree::expressions::{
+use crate::types::type_name;
+use ba_tokens::token::Punct;
+use ba_trees::tree::expressions::{
     Arguments, Branches, Chain, Conditional, Expressions, NextExpression, Operand, Primary,
     TypeName, Unary,
 };
-use crate::types::type_name;
-use ba_lex::token::{Punct, Token};
 use std::alloc::Global;
 
 /// The level of the operators that bind loosest.

@@ -1,10 +1,10 @@
 //! Laws of the grammar. Each is a function whose clause is the law, and which does nothing.
 
 ghost use Rattle.std.specs.Prelude.{◌≡◌, List};
-ghost use Rattle.ba_lex.specs.declared.token.Token.{Token};
-ghost use Rattle.ba_parse.specs.declared.tree.statements.RawProgram.{RawProgram};
-ghost use Rattle.ba_parse.specs.FileMarks.{file_marks};
-ghost use Rattle.ba_parse.specs.Marks.{Mark};
+ghost use Rattle.ba_tokens.specs.declared.token.Token.{Token};
+ghost use Rattle.ba_trees.specs.declared.tree.statements.RawProgram.{RawProgram};
+ghost use Rattle.ba_trees.specs.FileMarks.{file_marks};
+ghost use Rattle.ba_trees.specs.Marks.{Mark};
 ghost use Rattle.ba_parse.specs.Files.{IsFile, Verdict, Says, Said};
 
 /// No list of tokens is that of two files, and two trees of one file are the same written out.

@@ -4,19 +4,17 @@
 //! no file can go on, or the first around which too many constructs are.
 #![tactic(auto)]
 
-pub mod class;
 mod declarations;
 pub mod error;
 mod expressions;
 pub mod laws;
+mod naming;
 pub mod parser;
 mod reader;
 mod sets;
 mod simple;
 mod statements;
-pub mod tree;
 mod types;
 
 pub use error::ParseError;
 pub use parser::parse;
-pub use tree::statements::RawProgram;

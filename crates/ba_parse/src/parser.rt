@@ -1,31 +1,33 @@
 //! Reading a file (C90 6.7).
 
 ghost use Rattle.std.specs.Prelude.{◌≡◌, ◌⊎◌, true, List, ◌++◌, map, Err};
-ghost use Rattle.ba_lex.specs.declared.token.Token.{Token};
-ghost use Rattle.ba_parse.specs.Classes.{declaration_word};
+ghost use Rattle.ba_tokens.specs.declared.token.Token.{Token};
+ghost use Rattle.ba_trees.specs.Classes.{declaration_word};
 ghost use Rattle.ba_parse.specs.Grammar.{is_void, takes_block};
-ghost use Rattle.ba_parse.specs.Marks.{yield, one_deeper, node_of, file};
+ghost use Rattle.ba_trees.specs.Marks.{yield, one_deeper, node_of, file};
 ghost use Rattle.ba_parse.specs.Readings.{done, ◌▹◌, read_many, read_semicolon, next_is, levels_left, read_declarators, read_function_end, read_function_tail, read_external, read_file};
 ghost use Rattle.ba_parse.specs.Telling.{Told};
-ghost use Rattle.ba_parse.specs.Views.{joined};
-ghost use Rattle.ba_parse.specs.DeclarationMarks.{parameters_marks};
-ghost use Rattle.ba_parse.specs.ExternalMarks.{end_marks, external_form_marks, external_marks};
-ghost use Rattle.ba_parse.specs.FileMarks.{file_marks, written};
+ghost use Rattle.ba_trees.specs.Views.{joined};
+ghost use Rattle.ba_trees.specs.DeclarationMarks.{parameters_marks};
+ghost use Rattle.ba_trees.specs.ExternalMarks.{end_marks, external_form_marks, external_marks};
+ghost use Rattle.ba_parse.specs.Outcomes.{written};
 ghost use Rattle.ba_parse.specs.Outcomes.{outcome_of, place_of};
-ghost use Rattle.ba_parse.specs.Files.{Verdict, Says, has_accepted_levels};
+ghost use Rattle.ba_parse.specs.Files.{Verdict, Says};
+ghost use Rattle.ba_trees.specs.Marks.{has_accepted_levels};
 ghost use Rattle.ba_parse.specs.Told.{IsTold, result_of};
 ghost use Rattle.ba_parse.specs.declared.error.ParseError.TheVariants.{Memory};
 
-use crate::class::{TokenClass, class_of};
 use crate::declarations::{declarators, inner_parameters};
 use crate::error::ParseError;
+use crate::naming::are_named;
 use crate::reader::{Reader, Stop};
 use crate::sets::TokenSet;
 use crate::statements::block;
-use crate::tree::declarations::Parameters;
-use crate::tree::statements::{External, ExternalForm, FunctionEnd, RawProgram};
 use crate::types::type_name;
-use ba_lex::token::{Keyword, Punct, Token};
+use ba_tokens::token::{Keyword, Punct, Token};
+use ba_trees::class::{TokenClass, class_of};
+use ba_trees::tree::declarations::Parameters;
+use ba_trees::tree::statements::{External, ExternalForm, FunctionEnd, RawProgram};
 use std::alloc::Global;
 
 /// How many constructs may be around a token.
@@ -157,7 +159,7 @@ fn takes_block(parameters: &Parameters, before: &[Token], after: &[Token]) -> bo
     requires { yield (parameters_marks parameters.now) ++ after.now ≡ before.now }
     ensures { result ≡ takes_block (one_deeper (parameters_marks parameters.now)) }
 {
-    parameters.is_named() || is_void(before, after)
+    are_named(parameters) || is_void(before, after)
 }
 
 /// Whether `void` alone stands from `before` to `after`.

@@ -1,15 +1,15 @@
 //! Reading tokens from the front.
 
 ghost use Rattle.std.specs.Prelude.{◌≡◌, List, ◌∷◌, []};
-ghost use Rattle.ba_parse.specs.Classes.{class_of};
-ghost use Rattle.ba_parse.specs.Marks.{leaf};
+ghost use Rattle.ba_trees.specs.Classes.{class_of};
+ghost use Rattle.ba_trees.specs.Marks.{leaf};
 ghost use Rattle.ba_parse.specs.Readings.{next_is, read_token};
 ghost use Rattle.ba_parse.specs.Sets.{classes};
 ghost use Rattle.ba_parse.specs.Telling.{Told, next_are, next_is_without};
 
-use crate::class::class_of;
 use crate::sets::TokenSet;
-use ba_lex::token::Token;
+use ba_tokens::token::Token;
+use ba_trees::class::class_of;
 use std::alloc::{AllocError, AllocFailed};
 use std::marker::Model;
 
@@ -54,7 +54,7 @@ pub struct Reader<'a> {
 
 impl<'a> Model for Reader<'a> {
     ghost use Rattle.std.specs.Prelude.{List};
-    ghost use Rattle.ba_lex.specs.declared.token.Token.{Token};
+    ghost use Rattle.ba_tokens.specs.declared.token.Token.{Token};
 
     ghost Value = { List Token };
 

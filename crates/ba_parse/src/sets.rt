@@ -1,13 +1,13 @@
 //! Sets of tokens that the grammar names.
 
 ghost use Rattle.std.specs.Prelude.{◌≡◌};
-ghost use Rattle.ba_parse.specs.Classes.{type_word, declaration_word, only, word, mark};
+ghost use Rattle.ba_trees.specs.Classes.{type_word, declaration_word, word, mark};
 ghost use Rattle.ba_parse.specs.Grammar.{prefix_sign, step_sign, assign_sign, operator};
 ghost use Rattle.ba_parse.specs.Readings.{operand_start, simple_start, statement_start};
 ghost use Rattle.ba_parse.specs.Sets.{classes};
 
-use crate::class::TokenClass;
-use ba_lex::token::{Keyword, Punct};
+use ba_tokens::token::{Keyword, Punct};
+use ba_trees::class::TokenClass;
 
 /// A set of tokens that the grammar names.
 #[derive(Clone, Copy, Debug, Drop)]

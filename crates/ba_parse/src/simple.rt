@@ -4,15 +4,15 @@
 
 ghost use Rattle.std.specs.Prelude.{◌≡◌, ◌++◌, map, option_map, MatchResult};
 ghost use Rattle.ba_parse.specs.declared.reader.Stop.TheVariants.{Memory};
-ghost use Rattle.ba_lex.specs.declared.token.Punct.TheVariants as punct;
-ghost use Rattle.ba_parse.specs.declared.class.TokenClass.TheVariants as class;
-ghost use Rattle.ba_parse.specs.Classes.{mark, only};
+ghost use Rattle.ba_tokens.specs.declared.token.Punct.TheVariants as punct;
+ghost use Rattle.ba_trees.specs.declared.class.TokenClass.TheVariants as class;
+ghost use Rattle.ba_trees.specs.Classes.{mark, only};
 ghost use Rattle.ba_parse.specs.Grammar.{step_sign, assign_sign};
-ghost use Rattle.ba_parse.specs.Marks.{leaf, simple};
+ghost use Rattle.ba_trees.specs.Marks.{leaf, simple};
 ghost use Rattle.ba_parse.specs.Readings.{◌▹◌, read_maybe, read_either, read_many, read_token, read_node, read_name, read_sign, read_bracketed, read_parenthesized, next_is, levels_left, in_expression, in_arguments, in_for, in_printf, simple_start, read_expression, read_target, read_simple, read_simples, read_for_first, read_condition, read_for_head, read_printed};
 ghost use Rattle.ba_parse.specs.Telling.{Told};
-ghost use Rattle.ba_parse.specs.Views.{optional, joined};
-ghost use Rattle.ba_parse.specs.SimpleMarks.{condition_marks, for_first_marks, for_head_marks, index_marks, listed_simple_marks, printed_marks, simple_marks, simples_marks, target_marks};
+ghost use Rattle.ba_trees.specs.Views.{optional, joined};
+ghost use Rattle.ba_trees.specs.SimpleMarks.{condition_marks, for_first_marks, for_head_marks, index_marks, listed_simple_marks, printed_marks, simple_marks, simples_marks, target_marks};
 
 use crate::declarations::{declarators, maybe_expression};
 use crate::expressions::{
@@ -20,11 +20,11 @@ use crate::expressions::{
 };
 use crate::reader::{Reader, Stop};
 use crate::sets::TokenSet;
-use crate::tree::statements::{
+use crate::types::type_name;
+use ba_tokens::token::{Punct, Token};
+use ba_trees::tree::statements::{
     Condition, ForFirst, ForHead, Index, ListedSimple, Printed, Simple, Simples, Target,
 };
-use crate::types::type_name;
-use ba_lex::token::{Punct, Token};
 use std::alloc::Global;
 
 const OPEN: TokenSet = TokenSet::Punct(Punct::OpenParenthesis);

@@ -3,25 +3,25 @@
 //! `levels` is how many more constructs may be around a token.
 
 ghost use Rattle.std.specs.Prelude.{◌≡◌, ◌∷◌, [], map, option_map, MatchResult};
-ghost use Rattle.ba_lex.specs.declared.token.Keyword.TheVariants as keyword;
+ghost use Rattle.ba_tokens.specs.declared.token.Keyword.TheVariants as keyword;
 ghost use Rattle.ba_parse.specs.Readings.{◌▹◌, read_many, read_key, read_semicolon, next_is, item_start, levels_left, deeper_in, shallow, in_block, in_statement, in_for, maybe_expression, read_if, read_while, read_do, read_for, read_simple, read_block, read_item, read_statement, read_keyword_statement, read_condition, read_printf};
 ghost use Rattle.ba_parse.specs.Telling.{Told};
-ghost use Rattle.ba_parse.specs.Marks.{leaf, one_deeper};
+ghost use Rattle.ba_trees.specs.Marks.{leaf, one_deeper};
 ghost use Rattle.ba_parse.specs.declared.reader.Stop.TheVariants.{Memory};
 ghost use Rattle.ba_parse.specs.Tails.{read_else, read_jump, read_statement_form};
-ghost use Rattle.ba_parse.specs.Views.{joined};
-ghost use Rattle.ba_parse.specs.SimpleMarks.{for_head_marks};
-ghost use Rattle.ba_parse.specs.StatementMarks.{or_no_else, block_marks, controlled_marks, else_marks, form_marks, item_marks, statement_marks};
+ghost use Rattle.ba_trees.specs.Views.{joined};
+ghost use Rattle.ba_trees.specs.SimpleMarks.{for_head_marks};
+ghost use Rattle.ba_trees.specs.StatementMarks.{or_no_else, block_marks, controlled_marks, else_marks, form_marks, item_marks, statement_marks};
 
 use crate::declarations::{declaration, maybe_expression};
 use crate::expressions::refusal;
 use crate::reader::{Reader, Stop};
 use crate::sets::TokenSet;
 use crate::simple::{condition, inner_for_head, inner_printed, simple};
-use crate::tree::statements::{
+use ba_tokens::token::{Keyword, Punct, Token};
+use ba_trees::tree::statements::{
     Block, BlockItem, Controlled, DoWhile, Else, For, ForHead, Statement, StatementForm,
 };
-use ba_lex::token::{Keyword, Punct, Token};
 use std::alloc::Global;
 
 const OPEN: TokenSet = TokenSet::Punct(Punct::OpenParenthesis);

@@ -1,19 +1,19 @@
 //! Reading the words of a type (C90 6.5.1, 6.5.2, 6.5.3).
 
-ghost use Rattle.std.specs.Prelude.{◌≡◌, ◌∷◌, [], map};
+ghost use Rattle.std.specs.Prelude.{◌≡◌, ◌∷◌, []};
 ghost use Rattle.std.specs.List.{list_any, list_all};
-ghost use Rattle.ba_lex.specs.declared.token.Keyword.TheVariants as keyword;
-ghost use Rattle.ba_parse.specs.Classes.{class_of, word, ◌or◌, type_word, excludes, agree};
-ghost use Rattle.ba_parse.specs.ExpressionMarks.{type_name_marks};
-ghost use Rattle.ba_parse.specs.Marks.{leaf};
+ghost use Rattle.ba_tokens.specs.declared.token.Keyword.TheVariants as keyword;
+ghost use Rattle.ba_trees.specs.Classes.{class_of, word, ◌or◌, type_word, excludes, agree};
+ghost use Rattle.ba_trees.specs.ExpressionMarks.{type_name_marks};
+ghost use Rattle.ba_trees.specs.Marks.{leaf};
 ghost use Rattle.ba_parse.specs.Readings.{read_type_words};
 ghost use Rattle.ba_parse.specs.Telling.{Told, next_word, agrees_with};
 
-use crate::class::{TokenClass, class_of};
 use crate::reader::{Reader, Stop};
 use crate::sets::{TokenSet, is_type_word};
-use crate::tree::expressions::TypeName;
-use ba_lex::token::{Keyword, Token};
+use ba_tokens::token::{Keyword, Token};
+use ba_trees::class::{TokenClass, class_of};
+use ba_trees::tree::expressions::TypeName;
 use std::alloc::Global;
 
 /// The words of a type, at least one of which names it. `static` is accepted where `with_static` says so.

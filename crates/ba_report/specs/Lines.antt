@@ -1,12 +1,8 @@
--- The lines of a text.
+-- A line of a text, by its number and without the blanks around it.
 
 use Rattle.std.specs.Prelude.{ℕ, zero, suc, ◌-◌, List, [], length, take, drop, take_while, slice_index_or}
-use Rattle.std.specs.List.{slice_split, suffix_len}
-use Rattle.ba_bytes.specs.Classes.{is_blank, is_line_end}
-
--- the lines, without the line feeds that end them; what stands after the last line feed is a line too
-abbrev pub lines_of : List ℕ → List (List ℕ)
-lines_of text = slice_split is_line_end text
+use Rattle.std.specs.List.{suffix_len}
+use Rattle.ba_bytes.specs.Classes.{is_blank}
 
 -- a line, counted from 1; where there is no such line, nothing stands there
 abbrev pub line_at : List (List ℕ) → ℕ → List ℕ

@@ -6,7 +6,8 @@ use Rattle.ba_derivations.specs.Derivations.{IsGood, sets_of}
 use Rattle.ba_derivations.specs.declared.verdict.FoundSet.{FoundSet}
 use Rattle.ba_derivations.specs.declared.verdict.Verdict.{Verdict}
 use Rattle.ba_derivations.specs.declared.verdict.Verdict.TheVariants.{Located, NoRepair, TooMany, Spent}
-use Rattle.ba_report.specs.Lines.{line_at, lines_of, trimmed}
+use Rattle.ba_bytes.specs.Lines.{lines_of}
+use Rattle.ba_report.specs.Lines.{line_at, trimmed}
 use Rattle.ba_text.specs.Texts.{choices_text}
 use Rattle.ba_tree.specs.Choices.{info_of}
 use Rattle.ba_tree.specs.Least.{Judge, stmt_of}

@@ -2,7 +2,8 @@
 
 ghost use Rattle.std.specs.Prelude.{◌≡◌, ◌≤◌, length, take_while, IfOk};
 ghost use Rattle.ba_bytes.specs.Classes.{is_blank};
-ghost use Rattle.ba_report.specs.Lines.{line_at, lines_of, trimmed, trimmed_end};
+ghost use Rattle.ba_bytes.specs.Lines.{lines_of};
+ghost use Rattle.ba_report.specs.Lines.{line_at, trimmed, trimmed_end};
 
 use ba_bytes::classes::{is_blank, is_line_end};
 use std::alloc::{AllocError, Global};

@@ -1,12 +1,12 @@
 -- Which row of the table of answers holds.
 
 use Rattle.std.proofs.Common.{◌≡◌, ◌∙◌, ℕ, ℤ, ◌+◌, ◌<◌, ◌≤◌, min, true, List, length, Some, ap, refl, sym, subst, arith, Option, None}
-use Rattle.ba_commands.specs.Weights.{bad_line, weights_in}
+use Rattle.ba_inputs.specs.Weights.{bad_line, weights_in}
 use Rattle.ba_derivations.specs.declared.verdict.Verdict.{Verdict}
 use Rattle.ba_derivations.specs.declared.verdict.Verdict.TheVariants.{Located, NoRepair, TooMany, Spent}
-use Rattle.ba_interp.specs.Inputs.{Tells as TellsError}
-use Rattle.ba_interp.specs.declared.input.InputError.{InputError}
-use Rattle.ba_interp.specs.declared.input.InputError.TheVariants as error
+use Rattle.ba_inputs.specs.Inputs.{Tells as TellsError}
+use Rattle.ba_inputs.specs.declared.input.InputError.{InputError}
+use Rattle.ba_inputs.specs.declared.input.InputError.TheVariants as error
 use Rattle.ba_localise.specs.Verdicts.{Derivation}
 use Rattle.ba_numbers.specs.declared.ids.At.{At}
 use Rattle.ba_numbers.specs.declared.ids.StmtId.{StmtId}
@@ -22,16 +22,16 @@ use Rattle.ba_tree.specs.declared.tree.Program.{Program}
 use Rattle.ba_report.specs.Report.{report_text}
 use Rattle.ba_tool.specs.Answers.{Answers, AnswersAtOnce, AreAccepted, Checks, IsAnswer, IsOfSearch, RunsTo, Searches, Tells, input_answer, input_of, is_failure, position_of, program_answer, sets_answer}
 use Rattle.ba_tool.specs.Cases.{IsCaseOf}
-use Rattle.ba_tool.specs.Jobs.{is_search}
-use Rattle.ba_types.specs.Spelling.{Spells}
+use Rattle.ba_jobs.specs.Jobs.{is_search}
+use Rattle.ba_tree_laws.specs.Spelling.{Spells}
 use Rattle.ba_tool.specs.Programs.{TellsFault}
-use Rattle.ba_tool.specs.declared.answers.Answer.{Answer}
-use Rattle.ba_tool.specs.declared.answers.Answer.TheVariants as answer
-use Rattle.ba_tool.specs.declared.faults.Fault.{Fault}
-use Rattle.ba_tool.specs.declared.files.Texts.{Texts}
-use Rattle.ba_tool.specs.declared.jobs.Job.{Job}
-use Rattle.ba_tool.specs.declared.jobs.Task.{Task}
-use Rattle.ba_tool.specs.declared.jobs.Task.TheVariants as task
+use Rattle.ba_answers.specs.declared.answers.Answer.{Answer}
+use Rattle.ba_answers.specs.declared.answers.Answer.TheVariants as answer
+use Rattle.ba_answers.specs.declared.fault.Fault.{Fault}
+use Rattle.ba_jobs.specs.declared.files.Texts.{Texts}
+use Rattle.ba_jobs.specs.declared.jobs.Job.{Job}
+use Rattle.ba_jobs.specs.declared.jobs.Task.{Task}
+use Rattle.ba_jobs.specs.declared.jobs.Task.TheVariants as task
 use Rattle.ba_tool.specs.declared.judge.Case.{Case}
 
 in_some : {a b : Answer} → Some a ≡ Some b → a ≡ b

@@ -7,15 +7,15 @@ use Rattle.ba_tree.specs.Run.{are_bounds}
 use Rattle.ba_tree.specs.declared.run.Bounds.{Bounds}
 use Rattle.ba_commands.specs.Commands.{bounds_from, bounds_with, check_from, file_at, value_in, command_in, command_of, command_of_parts, command_on, command_with, localise_from, number_of, number_or, run_from, sample_from, steady_in}
 use Rattle.ba_commands.specs.Modes.{Word, usage_of}
-use Rattle.ba_commands.specs.Numbers.{number_in}
+use Rattle.ba_bytes.specs.Numbers.{number_in}
 use Rattle.ba_commands.specs.Words.{Part, files_in, is_accepted, is_line, mode_of, options_in, parts_of, split_words, stands}
 use Rattle.ba_commands.specs.declared.commands.Command.{Command}
 use Rattle.ba_commands.specs.declared.commands.Command.TheVariants as command
 use Rattle.ba_commands.specs.declared.modes.Mode.{Mode}
 use Rattle.ba_commands.specs.declared.modes.Mode.TheVariants.{Localise, Check, Run, Sample}
-use Rattle.ba_tool.specs.Jobs.{request_by, request_of}
-use Rattle.ba_tool.specs.declared.jobs.Job.{Job}
-use Rattle.ba_tool.specs.declared.jobs.Request.TheVariants as request
+use Rattle.ba_jobs.specs.Jobs.{request_by, request_of}
+use Rattle.ba_jobs.specs.declared.jobs.Job.{Job}
+use Rattle.ba_jobs.specs.declared.jobs.Request.TheVariants as request
 
 -- NUMBERS of a range
 

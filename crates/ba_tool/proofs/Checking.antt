@@ -5,18 +5,19 @@ use Rattle.ba_commands.specs.Modes.{Word}
 use Rattle.ba_localise.specs.Verdicts.{Derivation}
 use Rattle.ba_world.specs.World.{HasReadFault, OnlyReads, Outside}
 use Rattle.ba_world.proofs.WholeReads.{only_reads_on}
-use Rattle.ba_tool.specs.Calls.{AreRead, Call, CheckComesTo, EndsWith, IsEndOfCheck, JobComesTo, RequestComesTo, TellsCheck, accepted, judging, not_there, read_fault, refused, too_long}
+use Rattle.ba_jobs.specs.Files.{AreRead}
+use Rattle.ba_tool.specs.Calls.{Call, CheckComesTo, EndsWith, IsEndOfCheck, JobComesTo, RequestComesTo, TellsCheck, accepted, judging, not_there, read_fault, refused, too_long}
 use Rattle.ba_tool.specs.Certificates.{CertificateComesTo, Judging}
-use Rattle.ba_tool.specs.Jobs.{request_of}
-use Rattle.ba_tool.specs.Printed.{status_of}
-use Rattle.ba_tool.specs.declared.answers.Answer.{Answer}
-use Rattle.ba_tool.specs.declared.answers.Answer.TheVariants as answer
-use Rattle.ba_tool.specs.declared.files.File.TheVariants as file
-use Rattle.ba_tool.specs.declared.files.Texts.{Texts}
-use Rattle.ba_tool.specs.declared.jobs.Job.{Job}
-use Rattle.ba_tool.specs.declared.jobs.Request.{Request}
-use Rattle.ba_tool.specs.declared.status.Status.{Status}
-use Rattle.ba_tool.specs.declared.status.Status.TheVariants as status
+use Rattle.ba_jobs.specs.Jobs.{request_of}
+use Rattle.ba_answers.specs.Printed.{status_of}
+use Rattle.ba_answers.specs.declared.answers.Answer.{Answer}
+use Rattle.ba_answers.specs.declared.answers.Answer.TheVariants as answer
+use Rattle.ba_answers.specs.declared.file.File.TheVariants as file
+use Rattle.ba_jobs.specs.declared.files.Texts.{Texts}
+use Rattle.ba_jobs.specs.declared.jobs.Job.{Job}
+use Rattle.ba_jobs.specs.declared.jobs.Request.{Request}
+use Rattle.ba_answers.specs.declared.status.Status.{Status}
+use Rattle.ba_answers.specs.declared.status.Status.TheVariants as status
 use Rattle.ba_tool.proofs.Due.{ends_as, fault_later, job_ends, named_only, read_faults_stay, shown_ends}
 use Rattle.ba_tool.proofs.Ending.{Ends}
 use Rattle.ba_tool.proofs.OneAnswer.{no_answer}

@@ -9,20 +9,21 @@ use Rattle.ba_world.specs.declared.read.ReadFileError.{ReadFileError}
 use Rattle.ba_world.specs.declared.read.ReadFileError.TheVariants as read
 use Rattle.ba_world.proofs.WholeReads.{only_reads_none, only_reads_on}
 use Rattle.ba_tool.specs.Answers.{Checks, IsAnswer}
-use Rattle.ba_tool.specs.Calls.{AreRead, Certifies, CheckComesTo, Comes, Concludes, ConcludesCheck, HasFaultOf, IsAbout, JobComesTo, MayBegin, Proceeds, StopsAt, Stops, StopsWith, UnreadComesTo, answer_for, by_certificate, by_texts}
-use Rattle.ba_tool.specs.Jobs.{is_search, sample_job, sample_texts, written_by}
-use Rattle.ba_tool.specs.declared.answers.Answer.{Answer}
-use Rattle.ba_tool.specs.declared.answers.Answer.TheVariants as answer
-use Rattle.ba_tool.specs.declared.files.File.{File}
-use Rattle.ba_tool.specs.declared.files.File.TheVariants as file
-use Rattle.ba_tool.specs.declared.files.Texts.{Texts}
-use Rattle.ba_tool.specs.declared.jobs.Job.{Job}
-use Rattle.ba_tool.specs.declared.jobs.Task.{Task}
-use Rattle.ba_tool.specs.declared.jobs.Task.TheVariants as task
-use Rattle.ba_tool.specs.declared.jobs.Request.{Request}
-use Rattle.ba_tool.specs.declared.jobs.Request.TheVariants as request
+use Rattle.ba_jobs.specs.Files.{AreRead, StopsAt}
+use Rattle.ba_tool.specs.Calls.{Certifies, CheckComesTo, Comes, Concludes, ConcludesCheck, HasFaultOf, IsAbout, JobComesTo, MayBegin, Proceeds, Stops, StopsWith, UnreadComesTo, answer_for, by_certificate, by_texts}
+use Rattle.ba_jobs.specs.Jobs.{is_search, sample_job, sample_texts, written_by}
+use Rattle.ba_answers.specs.declared.answers.Answer.{Answer}
+use Rattle.ba_answers.specs.declared.answers.Answer.TheVariants as answer
+use Rattle.ba_answers.specs.declared.file.File.{File}
+use Rattle.ba_answers.specs.declared.file.File.TheVariants as file
+use Rattle.ba_jobs.specs.declared.files.Texts.{Texts}
+use Rattle.ba_jobs.specs.declared.jobs.Job.{Job}
+use Rattle.ba_jobs.specs.declared.jobs.Task.{Task}
+use Rattle.ba_jobs.specs.declared.jobs.Task.TheVariants as task
+use Rattle.ba_jobs.specs.declared.jobs.Request.{Request}
+use Rattle.ba_jobs.specs.declared.jobs.Request.TheVariants as request
 use Rattle.ba_tree.specs.declared.tree.Program.{Program}
-use Rattle.ba_types.specs.Spelling.{Spells}
+use Rattle.ba_tree_laws.specs.Spelling.{Spells}
 use Rattle.ba_tool.proofs.Answering.{answers_read}
 
 pub judged : (j : Job) (x : Texts) (before after : Outside) (handed : Option Derivation) (a : Answer) →

@@ -20,9 +20,9 @@ use Rattle.ba_tool.specs.Answers.{judge_in, weights_of}
 use Rattle.ba_tool.specs.Calls.{ConcludesCheck}
 use Rattle.ba_tool.specs.Cases.{IsCaseOf}
 use Rattle.ba_tool.specs.Certificates.{CertificateComesTo}
-use Rattle.ba_tool.specs.declared.answers.Answer.{Answer}
-use Rattle.ba_tool.specs.declared.files.Texts.{Texts}
-use Rattle.ba_tool.specs.declared.jobs.Job.{Job}
+use Rattle.ba_answers.specs.declared.answers.Answer.{Answer}
+use Rattle.ba_jobs.specs.declared.files.Texts.{Texts}
+use Rattle.ba_jobs.specs.declared.jobs.Job.{Job}
 use Rattle.ba_tool.specs.declared.judge.Case.{Case}
 
 abbrev pub settings_of : Job → Settings

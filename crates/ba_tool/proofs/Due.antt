@@ -7,25 +7,26 @@ use Rattle.ba_world.specs.Read.{Stopped, StoppedPast}
 use Rattle.ba_world.specs.World.{HasReadFault, OnlyReads, Outside, Rose}
 use Rattle.ba_world.specs.declared.read.ReadFileError.{ReadFileError}
 use Rattle.ba_world.specs.declared.read.ReadFileError.TheVariants as read
-use Rattle.ba_types.specs.Spelling.{Spells}
+use Rattle.ba_tree_laws.specs.Spelling.{Spells}
 use Rattle.ba_world.proofs.WholeReads.{only_reads_none, only_reads_on, past_longer, rose_since}
 use Rattle.ba_tool.specs.Answers.{Agree, Checks, IsAnswer, IsOfSearch, are_one, first_spent, runs_differ, second_spent}
-use Rattle.ba_tool.specs.Calls.{AreRead, Call, CheckComesTo, EndsWith, HasFault, IsDue, IsDueToJob, IsEndFor, IsEndOfSearch, IsReadFile, IsReadIfNamed, IsShown, JobComesTo, RequestComesTo, StopsAt, TellsAbsent, TellsAll, TellsEarlier, TellsFailing, TellsFile, TellsIfNamed, TellsLong, TellsShort, TellsText, TellsTexts, UnreadComesTo, WasReadBefore, absent, as_wanted, located, long, memory, name_of, no_repair, of_files, of_sample, of_texts, read_fault, spent, too_many, write_fault}
-use Rattle.ba_tool.specs.Limits.{limit}
-use Rattle.ba_tool.specs.Printed.{status_of}
-use Rattle.ba_tool.specs.declared.answers.Answer.{Answer}
-use Rattle.ba_tool.specs.declared.answers.Answer.TheVariants as answer
-use Rattle.ba_tool.specs.declared.files.File.{File}
-use Rattle.ba_tool.specs.declared.files.File.TheVariants as file
-use Rattle.ba_tool.specs.declared.files.Texts.{Texts}
-use Rattle.ba_tool.specs.declared.jobs.Job.{Job}
-use Rattle.ba_tool.specs.declared.jobs.Task.{Task}
-use Rattle.ba_tool.specs.declared.jobs.Task.TheVariants as task
-use Rattle.ba_tool.specs.declared.jobs.Request.{Request}
-use Rattle.ba_tool.specs.declared.jobs.Request.TheVariants as request
-use Rattle.ba_tool.specs.declared.status.Status.{Status}
-use Rattle.ba_tool.specs.declared.status.Status.TheVariants as status
-use Rattle.ba_tool.specs.Jobs.{is_search, request_of, sample_job, sample_texts}
+use Rattle.ba_jobs.specs.Files.{AreRead, IsReadFile, IsReadIfNamed, StopsAt, WasReadBefore, name_of}
+use Rattle.ba_tool.specs.Calls.{Call, CheckComesTo, EndsWith, HasFault, IsDue, IsDueToJob, IsEndFor, IsEndOfSearch, IsShown, JobComesTo, RequestComesTo, TellsAbsent, TellsAll, TellsEarlier, TellsFailing, TellsFile, TellsIfNamed, TellsLong, TellsShort, TellsText, TellsTexts, UnreadComesTo, absent, as_wanted, located, long, memory, no_repair, of_files, of_sample, of_texts, read_fault, spent, too_many, write_fault}
+use Rattle.ba_answers.specs.Limits.{limit}
+use Rattle.ba_answers.specs.Printed.{status_of}
+use Rattle.ba_answers.specs.declared.answers.Answer.{Answer}
+use Rattle.ba_answers.specs.declared.answers.Answer.TheVariants as answer
+use Rattle.ba_answers.specs.declared.file.File.{File}
+use Rattle.ba_answers.specs.declared.file.File.TheVariants as file
+use Rattle.ba_jobs.specs.declared.files.Texts.{Texts}
+use Rattle.ba_jobs.specs.declared.jobs.Job.{Job}
+use Rattle.ba_jobs.specs.declared.jobs.Task.{Task}
+use Rattle.ba_jobs.specs.declared.jobs.Task.TheVariants as task
+use Rattle.ba_jobs.specs.declared.jobs.Request.{Request}
+use Rattle.ba_jobs.specs.declared.jobs.Request.TheVariants as request
+use Rattle.ba_answers.specs.declared.status.Status.{Status}
+use Rattle.ba_answers.specs.declared.status.Status.TheVariants as status
+use Rattle.ba_jobs.specs.Jobs.{is_search, request_of, sample_job, sample_texts}
 use Rattle.ba_tool.proofs.Ending.{Ends, fault_since, reads_stay}
 use Rattle.ba_tool.proofs.OneAnswer.{is_of_search, no_answer, one_answer}
 

@@ -17,17 +17,17 @@ use Rattle.ba_world.specs.declared.read.ReadFileError.TheVariants as read_error
 use Rattle.ba_world.proofs.WholeReads.{rose_since}
 use Rattle.ba_tool.specs.Answers.{Answers, IsAnswer}
 use Rattle.ba_tool.specs.Calls.{Answered, AnsweredInPart, Call, Certifies, CheckComesTo, Comes, ComesTo, HasFault, IsShown, JobComesTo, MayBegin, RequestComesTo, Says, Stops, UnreadComesTo, WritesOnly}
-use Rattle.ba_tool.specs.Jobs.{cert_of, request_of, sample_job, sample_texts}
-use Rattle.ba_tool.specs.Printed.{status_of, text_of}
-use Rattle.ba_tool.specs.declared.answers.Answer.{Answer}
-use Rattle.ba_tool.specs.declared.answers.Answer.TheVariants as answer
-use Rattle.ba_tool.specs.declared.files.File.{File}
-use Rattle.ba_tool.specs.declared.files.File.TheVariants as file
-use Rattle.ba_tool.specs.declared.files.Texts.{Texts}
-use Rattle.ba_tool.specs.declared.jobs.Job.{Job}
-use Rattle.ba_tool.specs.declared.jobs.Request.{Request}
-use Rattle.ba_tool.specs.declared.jobs.Request.TheVariants as request
-use Rattle.ba_tool.specs.declared.status.Status.{Status}
+use Rattle.ba_jobs.specs.Jobs.{cert_of, request_of, sample_job, sample_texts}
+use Rattle.ba_answers.specs.Printed.{status_of, text_of}
+use Rattle.ba_answers.specs.declared.answers.Answer.{Answer}
+use Rattle.ba_answers.specs.declared.answers.Answer.TheVariants as answer
+use Rattle.ba_answers.specs.declared.file.File.{File}
+use Rattle.ba_answers.specs.declared.file.File.TheVariants as file
+use Rattle.ba_jobs.specs.declared.files.Texts.{Texts}
+use Rattle.ba_jobs.specs.declared.jobs.Job.{Job}
+use Rattle.ba_jobs.specs.declared.jobs.Request.{Request}
+use Rattle.ba_jobs.specs.declared.jobs.Request.TheVariants as request
+use Rattle.ba_answers.specs.declared.status.Status.{Status}
 use Rattle.ba_tree.specs.Least.{Judge, WeightList}
 use Rattle.ba_tree.specs.declared.tree.Program.{Program}
 

@@ -4,19 +4,19 @@ use Rattle.std.proofs.Common.{◌≡◌, ℕ, List, Ok, Err, refl}
 use Rattle.ba_lex.specs.Lines.{tokens_of, Fails}
 use Rattle.ba_lex.specs.declared.error.LexError.{LexError}
 use Rattle.ba_lex.specs.declared.error.LexError.TheVariants as lexical
-use Rattle.ba_lex.specs.declared.token.Token.{Token}
+use Rattle.ba_tokens.specs.declared.token.Token.{Token}
 use Rattle.ba_parse.specs.Files.{IsParsed}
 use Rattle.ba_parse.specs.Told.{IsTold}
 use Rattle.ba_parse.specs.declared.error.ParseError.{ParseError}
 use Rattle.ba_parse.specs.declared.error.ParseError.TheVariants as syntactic
-use Rattle.ba_parse.specs.FileMarks.{file_marks}
-use Rattle.ba_parse.specs.declared.tree.statements.RawProgram.{RawProgram}
+use Rattle.ba_trees.specs.FileMarks.{file_marks}
+use Rattle.ba_trees.specs.declared.tree.statements.RawProgram.{RawProgram}
 use Rattle.ba_tree.specs.declared.tree.Program.{Program}
-use Rattle.ba_types.specs.Files.{Checked}
-use Rattle.ba_types.specs.declared.error.TypeError.{TypeError}
-use Rattle.ba_types.specs.declared.error.TypeError.TheVariants as type
-use Rattle.ba_types.specs.declared.fault.Cause.TheVariants as typing
-use Rattle.ba_types.specs.Spelling.{Spells}
+use Rattle.ba_typing.specs.Files.{Checked}
+use Rattle.ba_typing.specs.declared.error.TypeError.{TypeError}
+use Rattle.ba_typing.specs.declared.error.TypeError.TheVariants as type
+use Rattle.ba_typing.specs.declared.fault.Cause.TheVariants as typing
+use Rattle.ba_tree_laws.specs.Spelling.{Spells}
 use Rattle.ba_tool.specs.Programs.{IsTreeOf, TellsFault, ill_typed, lexical_fault, no_file, no_main, no_tokens, too_deep, tree_fault, type_fault}
 
 pub lexical_tells : (source : List ℕ) (error : LexError) → Fails error (tokens_of source)

@@ -18,13 +18,13 @@ use Rattle.ba_world.specs.declared.world.WorldError.{WorldError}
 use Rattle.ba_world.specs.declared.world.WorldError.TheVariants as world
 use Rattle.ba_world.proofs.WholeReads.{read_on, rose_since}
 use Rattle.ba_tool.specs.Certificates.{CertificateComesTo, EndsRefused, IsAccepted, IsFed, IsUnfed, Judging, StopsRefused, StopsTooLong, StopsUnread, claim_of, unfed_answer}
-use Rattle.ba_tool.specs.Limits.{certificate_limit}
-use Rattle.ba_tool.specs.declared.answers.Answer.{Answer}
-use Rattle.ba_tool.specs.declared.answers.Answer.TheVariants as answer
-use Rattle.ba_tool.specs.declared.answers.Claim.{Claim}
+use Rattle.ba_answers.specs.Limits.{certificate_limit}
+use Rattle.ba_answers.specs.declared.answers.Answer.{Answer}
+use Rattle.ba_answers.specs.declared.answers.Answer.TheVariants as answer
+use Rattle.ba_answers.specs.declared.answers.Claim.{Claim}
 use Rattle.ba_tool.specs.declared.certificates.Unfed.{Unfed}
 use Rattle.ba_tool.specs.declared.certificates.Unfed.TheVariants as unfed
-use Rattle.ba_tool.specs.declared.files.File.TheVariants as file
+use Rattle.ba_answers.specs.declared.file.File.TheVariants as file
 
 -- it has read all bytes that were given of the file, and none of their lines is refused
 pub record IsFeeding (name : Word) (first reader : Confirming) (old new : Outside) (given : ℕ) : Type 0 where

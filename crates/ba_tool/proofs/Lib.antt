@@ -1,4 +1,3 @@
-mod Powers
 mod Bounded
 mod Ending
 mod Counting
@@ -10,7 +9,6 @@ mod Due
 mod Checking
 mod Feeding
 mod Concluding
-mod Sampling
 mod Coming
 mod Faulty
 mod Answering

@@ -3,29 +3,29 @@ use Rattle.std.proofs.Common.{◌≡◌, ◌⊎◌, inl, inr, ℕ, Option, None,
 use Rattle.std.specs.Prelude.{Contains}
 use Rattle.ba_lex.specs.Lines.{tokens_of}
 use Rattle.ba_lex.specs.declared.error.LexError.{LexError}
-use Rattle.ba_lex.specs.declared.token.Token.{Token}
+use Rattle.ba_tokens.specs.declared.token.Token.{Token}
 use Rattle.ba_localise.specs.Verdicts.{Derivation}
-use Rattle.ba_parse.specs.FileMarks.{file_marks}
+use Rattle.ba_trees.specs.FileMarks.{file_marks}
 use Rattle.ba_parse.specs.Files.{IsParsed, Says, Verdict, deep_at, parsed, syntax_at}
-use Rattle.ba_parse.specs.Marks.{Mark}
-use Rattle.ba_parse.specs.declared.tree.statements.RawProgram.{RawProgram}
+use Rattle.ba_trees.specs.Marks.{Mark}
+use Rattle.ba_trees.specs.declared.tree.statements.RawProgram.{RawProgram}
 use Rattle.ba_parse.proofs.Verdicts.{one_verdict}
 use Rattle.ba_tree.specs.declared.tree.Program.{Program}
-use Rattle.ba_types.specs.Faults.{IsFirst}
-use Rattle.ba_types.specs.Files.{faults_of, typed_of}
-use Rattle.ba_types.specs.Spelling.{Spells}
-use Rattle.ba_types.specs.declared.fault.Fault.{Fault as TypeFault}
-use Rattle.ba_types.proofs.FileRows.{same_faults}
-use Rattle.ba_types.proofs.Least.{connected}
-use Rattle.ba_types.proofs.Programs.{clean, has_program, one_of_text}
+use Rattle.ba_typing.specs.Faults.{IsFirst}
+use Rattle.ba_typing.specs.Files.{faults_of, typed_of}
+use Rattle.ba_tree_laws.specs.Spelling.{Spells}
+use Rattle.ba_typing.specs.declared.fault.Fault.{Fault as TypeFault}
+use Rattle.ba_tree_laws.proofs.FileRows.{same_faults}
+use Rattle.ba_typing.proofs.FaultOrder.{connected}
+use Rattle.ba_tree_laws.proofs.OneProgram.{clean, has_program, one_of_text}
 use Rattle.ba_tool.specs.Answers.{Agree, Answers, Checks, IsAnswer, IsOfSearch, Searches, are_one}
 use Rattle.ba_tool.specs.Programs.{IsFault, ill_typed, lexical_fault, no_file, no_main, no_tokens, place_at, too_deep, typing_fault}
-use Rattle.ba_tool.specs.declared.answers.Answer.{Answer}
-use Rattle.ba_tool.specs.declared.answers.Answer.TheVariants as answer
-use Rattle.ba_tool.specs.declared.faults.Cause.TheVariants as cause
-use Rattle.ba_tool.specs.declared.faults.Fault.{Fault}
-use Rattle.ba_tool.specs.declared.files.Texts.{Texts}
-use Rattle.ba_tool.specs.declared.jobs.Job.{Job}
+use Rattle.ba_answers.specs.declared.answers.Answer.{Answer}
+use Rattle.ba_answers.specs.declared.answers.Answer.TheVariants as answer
+use Rattle.ba_answers.specs.declared.fault.Cause.TheVariants as cause
+use Rattle.ba_answers.specs.declared.fault.Fault.{Fault}
+use Rattle.ba_jobs.specs.declared.files.Texts.{Texts}
+use Rattle.ba_jobs.specs.declared.jobs.Job.{Job}
 use Rattle.ba_tool.proofs.Rows.{same_row, searched_too, unanswered_too}
 
 -- A FAULT OF A TEXT, by the stage that it is of

@@ -1,7 +1,7 @@
 -- The row of an answer holds of each program with the same tree, so a text comes to one answer.
 use Rattle.std.proofs.Common.{◌≡◌, ℤ, ◌<◌, ◌≤◌, Option, None, Some, option_map, List, [], map, length, sym, ◌∙◌, ap, subst}
-use Rattle.ba_commands.specs.Lines.{lines_of}
-use Rattle.ba_commands.specs.Weights.{said_of, statement_weight}
+use Rattle.ba_bytes.specs.Lines.{lines_of}
+use Rattle.ba_inputs.specs.Weights.{said_of, statement_weight}
 use Rattle.ba_derivations.specs.declared.verdict.Verdict.{Verdict}
 use Rattle.ba_derivations.specs.declared.verdict.Verdict.TheVariants as verdict
 use Rattle.ba_localise.specs.Verdicts.{Derivation, Shows}
@@ -14,14 +14,14 @@ use Rattle.ba_tree.specs.declared.run.Outcome.{Outcome}
 use Rattle.ba_tree.specs.declared.run.Outcome.TheVariants as outcome
 use Rattle.ba_tree.specs.declared.tree.Program.{Program}
 use Rattle.ba_tree.specs.declared.tree.StmtInfo.{StmtInfo}
-use Rattle.ba_types.specs.Trees.{tree_of}
+use Rattle.ba_tree.specs.Trees.{tree_of}
 use Rattle.ba_tree_laws.specs.Equivalent.{AreEquivalent}
 use Rattle.ba_tree_laws.proofs.Equivalence.{equivalent}
 use Rattle.ba_tool.specs.Answers.{Agree, AreAccepted, Answers, AnswersAtOnce, AnswersBy, Checks, Fails, IsOfSearch, RunsTo, RunsToAt, Searches, Tells, input_of, judge_in, sets_answer, unit_limit, weights_of}
-use Rattle.ba_tool.specs.declared.answers.Answer.{Answer}
-use Rattle.ba_tool.specs.declared.answers.Answer.TheVariants as answer
-use Rattle.ba_tool.specs.declared.files.Texts.{Texts}
-use Rattle.ba_tool.specs.declared.jobs.Job.{Job}
+use Rattle.ba_answers.specs.declared.answers.Answer.{Answer}
+use Rattle.ba_answers.specs.declared.answers.Answer.TheVariants as answer
+use Rattle.ba_jobs.specs.declared.files.Texts.{Texts}
+use Rattle.ba_jobs.specs.declared.jobs.Job.{Job}
 use Rattle.ba_tool.proofs.Reports.{info_same, report_of_same}
 use Rattle.ba_tool.proofs.Stages.{one_row, searched, unanswered}
 

@@ -15,9 +15,9 @@ use Rattle.ba_world.specs.World.{Outside}
 use Rattle.ba_tool.specs.Answers.{AnswersBy, Searches, Tells, judge_in, weights_of}
 use Rattle.ba_tool.specs.Calls.{Concludes, HandsAnswer}
 use Rattle.ba_tool.specs.Cases.{IsCaseOf}
-use Rattle.ba_tool.specs.declared.answers.Answer.{Answer}
-use Rattle.ba_tool.specs.declared.files.Texts.{Texts}
-use Rattle.ba_tool.specs.declared.jobs.Job.{Job}
+use Rattle.ba_answers.specs.declared.answers.Answer.{Answer}
+use Rattle.ba_jobs.specs.declared.files.Texts.{Texts}
+use Rattle.ba_jobs.specs.declared.jobs.Job.{Job}
 use Rattle.ba_tool.specs.declared.judge.Case.{Case}
 use Rattle.ba_tool.proofs.Answering.{answered}
 

@@ -4,7 +4,7 @@ use Rattle.std.proofs.lemmas.Bool.Decides.{nat_tests}
 use Rattle.std.proofs.lemmas.List.{length-map}
 use Rattle.std.proofs.lemmas.Option.{same_Some}
 use Rattle.std.specs.Prelude.{Contains, length, nat_lt, ◌+◌}
-use Rattle.ba_commands.specs.Weights.{bad_line}
+use Rattle.ba_inputs.specs.Weights.{bad_line}
 use Rattle.ba_numbers.specs.declared.ids.StmtId.{StmtId}
 use Rattle.ba_numbers.specs.declared.ids.At.{At}
 use Rattle.ba_derivations.specs.Derivations.{AreTooMany, sets_of}
@@ -22,15 +22,15 @@ use Rattle.ba_tree.specs.declared.run.Outcome.TheVariants as outcome
 use Rattle.ba_tree.specs.declared.tree.Program.{Program}
 use Rattle.ba_tree.proofs.Sets.{AreLeast-unique}
 use Rattle.ba_tool.specs.Answers.{Agree, AreAccepted, Answers, AnswersAtOnce, AnswersBy, Checks, Fails, IsOfSearch, RunsTo, Searches, Tells, are_one, first_spent, input_of, is_failure, judge_in, position_of, runs_differ, second_spent, sets_answer, text_fault, unit_limit, weights_of}
-use Rattle.ba_tool.specs.Jobs.{is_search}
-use Rattle.ba_tool.specs.declared.answers.Answer.{Answer}
-use Rattle.ba_tool.specs.declared.answers.Answer.TheVariants as answer
-use Rattle.ba_tool.specs.declared.answers.InputFault.{InputFault}
-use Rattle.ba_tool.specs.declared.answers.InputFault.TheVariants as fault
-use Rattle.ba_tool.specs.declared.files.Texts.{Texts}
-use Rattle.ba_tool.specs.declared.jobs.Job.{Job}
-use Rattle.ba_tool.specs.declared.jobs.Task.{Task}
-use Rattle.ba_tool.specs.declared.jobs.Task.TheVariants as task
+use Rattle.ba_jobs.specs.Jobs.{is_search}
+use Rattle.ba_answers.specs.declared.answers.Answer.{Answer}
+use Rattle.ba_answers.specs.declared.answers.Answer.TheVariants as answer
+use Rattle.ba_answers.specs.declared.answers.InputFault.{InputFault}
+use Rattle.ba_answers.specs.declared.answers.InputFault.TheVariants as fault
+use Rattle.ba_jobs.specs.declared.files.Texts.{Texts}
+use Rattle.ba_jobs.specs.declared.jobs.Job.{Job}
+use Rattle.ba_jobs.specs.declared.jobs.Task.{Task}
+use Rattle.ba_jobs.specs.declared.jobs.Task.TheVariants as task
 use Rattle.ba_tool.proofs.Answering.{tells_of_search}
 use Rattle.ba_tool.proofs.Counting.{distinct_short}
 use Rattle.ba_tool.proofs.Reports.{report_same}

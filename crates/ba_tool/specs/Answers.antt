@@ -1,11 +1,11 @@
 -- WHAT A JOB COMES TO, where its files have these texts: a row for each answer. It says nothing of a world.
 
 use Rattle.std.specs.Prelude.{◌≡◌, ℕ, ◌<◌, ◌≤◌, Bool, true, false, Option, None, Some, option_map, List, length}
-use Rattle.ba_commands.specs.Weights.{bad_line, weights_in}
+use Rattle.ba_inputs.specs.Weights.{bad_line, weights_in}
 use Rattle.ba_derivations.specs.declared.verdict.Verdict.{Verdict}
 use Rattle.ba_derivations.specs.declared.verdict.Verdict.TheVariants.{Located, NoRepair, TooMany, Spent}
-use Rattle.ba_interp.specs.declared.input.InputError.{InputError}
-use Rattle.ba_interp.specs.declared.input.InputError.TheVariants as error
+use Rattle.ba_inputs.specs.declared.input.InputError.{InputError}
+use Rattle.ba_inputs.specs.declared.input.InputError.TheVariants as error
 use Rattle.ba_localise.specs.Verdicts.{Derivation, Shows}
 use Rattle.ba_numbers.specs.declared.ids.At.{At}
 use Rattle.ba_numbers.specs.declared.ids.StmtId.{StmtId}
@@ -21,18 +21,18 @@ use Rattle.ba_tree.specs.declared.run.Outcome.{Outcome}
 use Rattle.ba_tree.specs.declared.run.Outcome.TheVariants as outcome
 use Rattle.ba_tree.specs.declared.tree.Program.{Program}
 use Rattle.ba_tree.specs.declared.tree.StmtInfo.{StmtInfo}
-use Rattle.ba_types.specs.Spelling.{Spells}
-use Rattle.ba_tool.specs.Jobs.{is_search}
+use Rattle.ba_tree_laws.specs.Spelling.{Spells}
+use Rattle.ba_jobs.specs.Jobs.{is_search}
 use Rattle.ba_tool.specs.Programs.{IsFault}
-use Rattle.ba_tool.specs.declared.answers.Answer.{Answer}
-use Rattle.ba_tool.specs.declared.answers.Answer.TheVariants as answer
-use Rattle.ba_tool.specs.declared.answers.InputFault.{InputFault}
-use Rattle.ba_tool.specs.declared.answers.InputFault.TheVariants as fault
-use Rattle.ba_tool.specs.declared.faults.Fault.{Fault}
-use Rattle.ba_tool.specs.declared.files.Texts.{Texts}
-use Rattle.ba_tool.specs.declared.jobs.Job.{Job}
-use Rattle.ba_tool.specs.declared.jobs.Task.{Task}
-use Rattle.ba_tool.specs.declared.jobs.Task.TheVariants as task
+use Rattle.ba_answers.specs.declared.answers.Answer.{Answer}
+use Rattle.ba_answers.specs.declared.answers.Answer.TheVariants as answer
+use Rattle.ba_answers.specs.declared.answers.InputFault.{InputFault}
+use Rattle.ba_answers.specs.declared.answers.InputFault.TheVariants as fault
+use Rattle.ba_answers.specs.declared.fault.Fault.{Fault}
+use Rattle.ba_jobs.specs.declared.files.Texts.{Texts}
+use Rattle.ba_jobs.specs.declared.jobs.Job.{Job}
+use Rattle.ba_jobs.specs.declared.jobs.Task.{Task}
+use Rattle.ba_jobs.specs.declared.jobs.Task.TheVariants as task
 
 -- how many units a program may have
 abbrev pub unit_limit : ℕ

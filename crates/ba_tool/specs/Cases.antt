@@ -3,10 +3,10 @@
 use Rattle.std.specs.Prelude.{◌≡◌, None, true}
 use Rattle.ba_tree.specs.Least.{AreWeightsOf}
 use Rattle.ba_tree.specs.Run.{fits}
-use Rattle.ba_types.specs.Spelling.{Spells}
+use Rattle.ba_tree_laws.specs.Spelling.{Spells}
 use Rattle.ba_tool.specs.Answers.{Checks, IsAnswer, Searches, input_of, weights_of}
-use Rattle.ba_tool.specs.declared.files.Texts.{Texts}
-use Rattle.ba_tool.specs.declared.jobs.Job.{Job}
+use Rattle.ba_jobs.specs.declared.files.Texts.{Texts}
+use Rattle.ba_jobs.specs.declared.jobs.Job.{Job}
 use Rattle.ba_tool.specs.declared.judge.Case.{Case}
 use Rattle.ba_tool.specs.declared.judge.Judged.{Judged}
 use Rattle.ba_tool.specs.declared.judge.Judged.TheVariants as judged

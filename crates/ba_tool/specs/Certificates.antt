@@ -11,14 +11,14 @@ use Rattle.ba_tree.specs.Least.{WeightList}
 use Rattle.ba_world.specs.Read.{IsReadTo, IsReadWhole, StoppedInOpening, piece_size}
 use Rattle.ba_world.specs.World.{HasReadFault, Outside}
 use Rattle.ba_world.specs.declared.read.ReadFileError.TheVariants as read
-use Rattle.ba_tool.specs.Limits.{certificate_limit}
-use Rattle.ba_tool.specs.declared.answers.Answer.{Answer}
-use Rattle.ba_tool.specs.declared.answers.Answer.TheVariants as answer
-use Rattle.ba_tool.specs.declared.answers.Claim.{Claim}
-use Rattle.ba_tool.specs.declared.answers.Claim.TheVariants as claim
+use Rattle.ba_answers.specs.Limits.{certificate_limit}
+use Rattle.ba_answers.specs.declared.answers.Answer.{Answer}
+use Rattle.ba_answers.specs.declared.answers.Answer.TheVariants as answer
+use Rattle.ba_answers.specs.declared.answers.Claim.{Claim}
+use Rattle.ba_answers.specs.declared.answers.Claim.TheVariants as claim
 use Rattle.ba_tool.specs.declared.certificates.Unfed.{Unfed}
 use Rattle.ba_tool.specs.declared.certificates.Unfed.TheVariants as unfed
-use Rattle.ba_tool.specs.declared.files.File.TheVariants as file
+use Rattle.ba_answers.specs.declared.file.File.TheVariants as file
 
 -- what is to be judged: the file of this name, on this problem, where the statements weigh so
 pub record Judging : Type 0 where

@@ -1,10 +1,5 @@
-pub mod Limits
-pub mod Samples
-pub mod Jobs
 pub mod Programs
-pub mod Printed
 pub mod Answers
 pub mod Cases
 pub mod Certificates
 pub mod Calls
-pub mod Luby

@@ -5,22 +5,22 @@ use Rattle.ba_numbers.specs.declared.ids.At.{At}
 use Rattle.ba_lex.specs.Lines.{tokens_of}
 use Rattle.ba_lex.specs.declared.error.LexError.{LexError}
 use Rattle.ba_lex.specs.declared.error.LexError.TheVariants as lexical
-use Rattle.ba_lex.specs.declared.token.Token.{Token}
-use Rattle.ba_parse.specs.FileMarks.{file_marks}
+use Rattle.ba_tokens.specs.declared.token.Token.{Token}
+use Rattle.ba_trees.specs.FileMarks.{file_marks}
 use Rattle.ba_parse.specs.Files.{IsParsed, IsSyntaxError, IsTooDeep}
 use Rattle.ba_parse.specs.declared.error.ParseError.{ParseError}
 use Rattle.ba_parse.specs.declared.error.ParseError.TheVariants as syntactic
-use Rattle.ba_parse.specs.declared.tree.statements.RawProgram.{RawProgram}
-use Rattle.ba_types.specs.Faults.{IsFirst}
-use Rattle.ba_types.specs.Files.{faults_of, typed_of}
-use Rattle.ba_types.specs.declared.error.TypeError.{TypeError}
-use Rattle.ba_types.specs.declared.error.TypeError.TheVariants as type
-use Rattle.ba_types.specs.declared.fault.Cause.{Cause as TypeCause}
-use Rattle.ba_types.specs.declared.fault.Cause.TheVariants as typing
-use Rattle.ba_types.specs.declared.fault.Fault.{Fault as TypeFault}
-use Rattle.ba_tool.specs.declared.faults.Cause.{Cause}
-use Rattle.ba_tool.specs.declared.faults.Cause.TheVariants as cause
-use Rattle.ba_tool.specs.declared.faults.Fault.{Fault}
+use Rattle.ba_trees.specs.declared.tree.statements.RawProgram.{RawProgram}
+use Rattle.ba_typing.specs.Faults.{IsFirst}
+use Rattle.ba_typing.specs.Files.{faults_of, typed_of}
+use Rattle.ba_typing.specs.declared.error.TypeError.{TypeError}
+use Rattle.ba_typing.specs.declared.error.TypeError.TheVariants as type
+use Rattle.ba_typing.specs.declared.fault.Cause.{Cause as TypeCause}
+use Rattle.ba_typing.specs.declared.fault.Cause.TheVariants as typing
+use Rattle.ba_typing.specs.declared.fault.Fault.{Fault as TypeFault}
+use Rattle.ba_answers.specs.declared.fault.Cause.{Cause}
+use Rattle.ba_answers.specs.declared.fault.Cause.TheVariants as cause
+use Rattle.ba_answers.specs.declared.fault.Fault.{Fault}
 
 -- The first stage that refuses it, and the first fault of that stage
 

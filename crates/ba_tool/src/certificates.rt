@@ -1,6 +1,6 @@
 //! The certificate of a check, judged as it is read.
 
-ghost use Rattle.std.specs.Prelude.{◌≡◌, ◌≤◌, ◌+◌, ◌++◌, ℕ, List, [], true, Some, Err, IfOk, IfErr};
+ghost use Rattle.std.specs.Prelude.{◌≡◌, ◌≤◌, ◌+◌, ◌++◌, ℕ, [], true, Some, Err, IfOk, IfErr};
 ghost use Rattle.ba_check.specs.Answers.{confirmed_of};
 ghost use Rattle.ba_check.specs.Readers.{seen};
 ghost use Rattle.ba_check.specs.Readings.{HasRead};
@@ -16,16 +16,16 @@ ghost use Rattle.ba_world.specs.World.{OnlyReads, Outside};
 ghost use Rattle.ba_tool.specs.Calls.{ConcludesCheck};
 ghost use Rattle.ba_tool.specs.Cases.{IsCaseOf};
 ghost use Rattle.ba_tool.specs.Certificates.{CertificateComesTo, IsFed, IsUnfed, Judging, claim_of, unfed_answer};
-ghost use Rattle.ba_tool.specs.Limits.{certificate_limit};
-ghost use Rattle.ba_tool.specs.declared.files.Texts.{Texts};
+ghost use Rattle.ba_answers.specs.Limits.{certificate_limit};
+ghost use Rattle.ba_jobs.specs.declared.files.Texts.{Texts};
 
-use crate::answers::{Answer, Claim};
-use crate::files::{CERTIFICATE_LIMIT, File};
-use crate::jobs::Job;
 use crate::judge::Case;
+use ba_answers::answers::{Answer, Claim};
+use ba_answers::file::{CERTIFICATE_LIMIT, File};
 use ba_check::{CheckError, Confirm, Confirmed, Settings};
 use ba_encode::softs_of;
 use ba_formula::formula_of;
+use ba_jobs::jobs::Job;
 use ba_search::SearchError;
 use ba_steps::StepSink;
 use ba_world::{ReadFileError, World, WorldError};

@@ -3,11 +3,11 @@
 ghost use Rattle.std.specs.Prelude.{◌≡◌, map, drop, IfOk, IfErr};
 ghost use Rattle.std.specs.String.{string_bytes};
 ghost use Rattle.std.specs.Process.{exit_status};
-ghost use Rattle.ba_tool.specs.Printed.{number_of};
+ghost use Rattle.ba_answers.specs.Printed.{number_of};
 
-use crate::rules::{Rules, keep, luby, steady};
-use crate::status::Status;
 use crate::tool::tool;
+use ba_answers::status::Status;
+use ba_jobs::rules::{Rules, keep, luby, steady};
 use ba_steps::NoSink;
 use ba_world::{HostWorld, RuntimeFiles};
 use std::alloc::{AllocError, Global};

@@ -1,61 +1,20 @@
 //! The program that a text spells, or why it spells none.
 
-ghost use Rattle.std.specs.Prelude.{◌≡◌, ◌≤◌, length, Some, IfOk, IfErr};
-ghost use Rattle.ba_types.specs.Spelling.{Spells};
+ghost use Rattle.std.specs.Prelude.{◌≡◌, ◌≤◌, length, IfOk, IfErr};
+ghost use Rattle.ba_tree_laws.specs.Spelling.{Spells};
 ghost use Rattle.ba_tool.specs.Programs.{TellsFault, lexical_fault, place_at, tree_fault, type_fault};
-ghost use Rattle.ba_tool.specs.Limits.{limit};
+ghost use Rattle.ba_answers.specs.Limits.{limit};
 
+use ba_answers::fault::{Cause, Fault};
 use ba_lex::error::LexError;
-use ba_lex::token::Token;
 use ba_lex::tokens;
 use ba_numbers::ids::At;
 use ba_parse::{ParseError, parse};
+use ba_tokens::token::Token;
 use ba_tree::tree::Program;
-use ba_types::{TypeError, check};
+use ba_types::check;
+use ba_typing::TypeError;
 use std::alloc::Global;
-
-/// What is wrong: the errors of the tokens, then those of their tree, then those of typing.
-#[derive(Clone, Copy)]
-pub enum Cause {
-    BadByte,
-    BadToken,
-    NotInProfile,
-    BadDirective,
-    MacroOrder,
-    Redefined,
-    TooMany,
-    Syntax,
-    TooDeep,
-    UnknownName,
-    Twice,
-    WrongKind,
-    WrongCount,
-    NoMain,
-    BadLength,
-    BreakOutside,
-    CallInIndex,
-    Limit,
-}
-
-/// What is wrong with the text of a program, and where: at no place where more had to follow the
-/// last token, and where there is no `main`.
-#[derive(Clone, Copy)]
-pub struct Fault {
-    pub cause: Cause,
-    pub at: Option<At>,
-}
-
-impl Fault {
-    /// The fault with this cause at this position.
-    fn new(cause: Cause, at: At) -> Fault
-        ensures { result ≡ record { cause = cause; at = Some at } }
-    {
-        Fault {
-            cause,
-            at: Some(at),
-        }
-    }
-}
 
 /// The fault that an error of the tokens is; none for want of memory.
 fn lexical_fault(error: LexError) -> Option<Fault>

@@ -3,25 +3,26 @@
 ghost use Rattle.std.specs.Prelude.{◌≡◌, ◌≢◌, ◌≤◌, true, Some, length, IfOk};
 ghost use Rattle.ba_tree.specs.Choices.{info_of};
 ghost use Rattle.ba_tree.specs.Run.{are_bounds, plain_run};
-ghost use Rattle.ba_types.specs.Spelling.{Spells};
+ghost use Rattle.ba_tree_laws.specs.Spelling.{Spells};
 ghost use Rattle.ba_tool.specs.Answers.{RunsTo, input_answer, position_of, program_answer};
-ghost use Rattle.ba_tool.specs.Limits.{limit};
+ghost use Rattle.ba_answers.specs.Limits.{limit};
 ghost use Rattle.ba_tool.specs.Cases.{IsCaseOf, IsJudged};
-ghost use Rattle.ba_tool.specs.declared.answers.Answer.{Answer};
-ghost use Rattle.ba_tool.specs.declared.files.Texts.{Texts};
+ghost use Rattle.ba_answers.specs.declared.answers.Answer.{Answer};
+ghost use Rattle.ba_jobs.specs.declared.files.Texts.{Texts};
 ghost use Rattle.ba_tree.specs.declared.run.Outcome.{Outcome};
 
-use crate::answers::{Answer, InputFault};
-use crate::faults::{Fault, read_program};
-use crate::files::Texts;
-use crate::jobs::{Job, Task};
-use ba_commands::{WeightsError, read_weights};
-use ba_interp::{InputError, read_input, run};
+use crate::faults::read_program;
+use ba_answers::answers::{Answer, InputFault};
+use ba_answers::fault::Fault;
+use ba_inputs::{InputError, WeightsError, read_input, read_weights};
+use ba_interp::run;
 use ba_items::Items;
+use ba_jobs::files::Texts;
+use ba_jobs::jobs::{Job, Task};
 use ba_numbers::ids::{At, StmtId};
 use ba_tree::run::{Allowed, Bounds, Input, Outcome, Weights};
 use ba_tree::tree::{Program, StmtInfo};
-use ba_unroll::units;
+use ba_units::units;
 use std::alloc::{AllocError, Global};
 
 /// How many units a program may have.

@@ -3,9 +3,9 @@
 ghost use Rattle.std.specs.Prelude.{Option};
 ghost use Rattle.ba_localise.specs.Verdicts.{Derivation};
 ghost use Rattle.ba_tool.specs.Answers.{Agree, IsAnswer};
-ghost use Rattle.ba_tool.specs.declared.answers.Answer.{Answer};
-ghost use Rattle.ba_tool.specs.declared.files.Texts.{Texts};
-ghost use Rattle.ba_tool.specs.declared.jobs.Job.{Job};
+ghost use Rattle.ba_answers.specs.declared.answers.Answer.{Answer};
+ghost use Rattle.ba_jobs.specs.declared.files.Texts.{Texts};
+ghost use Rattle.ba_jobs.specs.declared.jobs.Job.{Job};
 
 /// Texts come to one answer; but to those of a search also that its conflicts are spent, and where
 /// runs are asked for, to reports of the same sets with other runs.

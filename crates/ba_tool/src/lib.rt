@@ -2,16 +2,10 @@
 //! is printed.
 #![tactic(auto)]
 
-mod answers;
 mod certificates;
 pub mod entry;
 mod faults;
-mod files;
-mod jobs;
 mod judge;
 pub mod laws;
-pub mod rules;
-pub mod samples;
 mod search;
-pub mod status;
 pub mod tool;

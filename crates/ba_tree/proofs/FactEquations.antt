@@ -12,7 +12,8 @@ use Rattle.ba_numbers.specs.declared.numbers.BinOp.{BinOp}
 use Rattle.ba_numbers.specs.declared.numbers.CType.{CType}
 use Rattle.ba_numbers.specs.declared.numbers.UnOp.{UnOp}
 use Rattle.ba_numbers.specs.declared.numbers.CType.TheVariants.{I32}
-use Rattle.ba_tree.specs.Facts.{ArgFacts, ExprFacts, StmtFacts, are_simple, arg_facts, arg_facts_step, around, as_loop, calling, expr_facts, expr_facts_step, fits_array, fits_right, fits_type, givens, has_variable, holds, initialising, is_array, is_call, is_own_array, is_promoted, is_value, leaf_facts, naming, numbered, operator_facts, result_at, same_type, shape_at, stmt_facts, stmt_facts_step, type_at, type_of_binary, type_of_unary, with_call, with_variable}
+use Rattle.ba_tree.specs.Facts.{ArgFacts, ExprFacts, StmtFacts, are_simple, arg_facts, arg_facts_step, around, as_loop, calling, expr_facts, expr_facts_step, fits_array, fits_right, fits_type, givens, has_variable, holds, initialising, is_array, is_call, is_own_array, is_value, leaf_facts, naming, numbered, operator_facts, result_at, shape_at, stmt_facts, stmt_facts_step, type_at, with_call, with_variable}
+use Rattle.ba_numbers.specs.Types.{is_promoted, same_type, type_of_binary, type_of_unary}
 use Rattle.ba_tree.specs.declared.tree.Arg.{Arg}
 use Rattle.ba_tree.specs.declared.tree.Arg as arg
 use Rattle.ba_tree.specs.declared.tree.Expr.{Expr}

@@ -4,17 +4,15 @@ use Rattle.std.specs.Prelude.{ℕ, ◌+◌, ◌-◌, nat_le, nat_lt, Bool, true,
 use Rattle.std.specs.Global.{Box}
 use Rattle.std.specs.List.{list_all, list_any}
 use Rattle.std.specs.Option.{is_some}
-use Rattle.ba_numbers.specs.Numbers.{is_in, compares}
+use Rattle.ba_numbers.specs.Numbers.{is_in}
+use Rattle.ba_numbers.specs.Types.{is_promoted, same_type, shifts, type_of_binary, type_of_unary}
 use Rattle.ba_numbers.specs.declared.ids.CallId.{CallId}
 use Rattle.ba_numbers.specs.declared.ids.FnId.{FnId}
 use Rattle.ba_numbers.specs.declared.ids.StmtId.{StmtId}
 use Rattle.ba_numbers.specs.declared.ids.VarId.{VarId}
 use Rattle.ba_numbers.specs.declared.numbers.BinOp.{BinOp}
-use Rattle.ba_numbers.specs.declared.numbers.BinOp.TheVariants.{Shl, Shr}
 use Rattle.ba_numbers.specs.declared.numbers.CType.{CType}
-use Rattle.ba_numbers.specs.declared.numbers.CType.TheVariants.{I8, U8, I16, U16, I32, U32}
-use Rattle.ba_numbers.specs.declared.numbers.UnOp.{UnOp}
-use Rattle.ba_numbers.specs.declared.numbers.UnOp.TheVariants.{IsZero}
+use Rattle.ba_numbers.specs.declared.numbers.CType.TheVariants.{I32}
 use Rattle.ba_tree.specs.declared.tree.Arg.TheOpen.{Arg-F, Expr-F}
 use Rattle.ba_tree.specs.declared.tree.Arg.TheFolds.{fold-Arg, fold-Expr}
 use Rattle.ba_tree.specs.declared.tree.Arg.{Arg}
@@ -54,38 +52,11 @@ holds test (Some a) = test a
 abbrev pub has_variable : List VarId → VarId → Bool
 has_variable vs v = list_any (λ (w : VarId). w.0 == v.0) vs
 
--- TYPES
-
-abbrev pub same_type : CType → CType → Bool
-same_type I8 I8 = true
-same_type U8 U8 = true
-same_type I16 I16 = true
-same_type U16 U16 = true
-same_type I32 I32 = true
-same_type U32 U32 = true
-same_type _ _ = false
-
--- the types that the integral promotions give (C90 6.2.1.1)
-abbrev pub is_promoted : CType → Bool
-is_promoted I32 = true
-is_promoted U32 = true
-is_promoted _ = false
-
-abbrev pub shifts : BinOp → Bool
-shifts Shl = true
-shifts Shr = true
-shifts _ = false
+-- OPERATORS
 
 -- a binary operator that works in the type t: the type of its right operand is t, or of a shift's count a promoted one
 abbrev pub fits_right : BinOp → CType → CType → Bool
 fits_right op t right = cond (shifts op) (is_promoted right) (same_type right t)
-
-abbrev pub type_of_binary : BinOp → CType → CType
-type_of_binary op t = cond (compares op) I32 t
-
-abbrev pub type_of_unary : UnOp → CType → CType
-type_of_unary IsZero t = I32
-type_of_unary _ t = t
 
 abbrev pub same_kind : StmtKind → StmtKind → Bool
 same_kind kind.Initialiser kind.Initialiser = true

@@ -10,3 +10,4 @@ pub mod Units
 pub mod Weights
 pub mod Least
 pub mod Heights
+pub mod Trees

@@ -30,6 +30,36 @@ pub fn function_of(program: &Program, function: FnId) -> Option<&Function>
     program.functions.as_slice().get(function.0 as usize)
 }
 
+/// The type that `main` returns, `None` for `void`.
+pub fn main_result(program: &Program) -> Option<CType>
+    ensures { result ≡ (main_of program.now).result }
+{
+    match function_of(program, program.main) {
+        Some(main) => main.result,
+        None => None,
+    }
+}
+
+/// The parameters of `main`.
+pub fn main_params(program: &Program) -> &[VarId]
+    ensures { result.now ≡ (main_of program.now).params }
+{
+    match function_of(program, program.main) {
+        Some(main) => main.params.as_slice(),
+        None => &[],
+    }
+}
+
+/// The variables of `main` that are no parameters.
+pub fn main_locals(program: &Program) -> &[VarId]
+    ensures { result.now ≡ (main_of program.now).locals }
+{
+    match function_of(program, program.main) {
+        Some(main) => main.locals.as_slice(),
+        None => &[],
+    }
+}
+
 /// The body of `main`.
 pub fn main_body(program: &Program) -> &[Stmt]
     ensures { result.now ≡ (main_of program.now).body }

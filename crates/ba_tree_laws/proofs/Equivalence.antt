@@ -8,7 +8,7 @@ use Rattle.ba_tree.specs.declared.run.Bounds.{Bounds}
 use Rattle.ba_tree.specs.declared.run.Input.{Input}
 use Rattle.ba_tree.specs.declared.tree.Program.{Program}
 use Rattle.ba_tree.specs.declared.tree.StmtInfo.{StmtInfo}
-use Rattle.ba_types.specs.Trees.{tree_of}
+use Rattle.ba_tree.specs.Trees.{tree_of}
 use Rattle.ba_tree_laws.specs.Equivalent.{AreEquivalent}
 use Rattle.ba_tree_laws.proofs.TreeRuns.{is_assert_in}
 use Rattle.ba_tree_laws.proofs.Programs.{run_same, fits_same, fault_same, values_same}

@@ -4,3 +4,9 @@ pub mod Programs
 pub mod TreeUnits
 pub mod Units
 pub mod Equivalence
+pub mod Rows
+pub mod ExpressionRows
+pub mod DeclarationRows
+pub mod StatementRows
+pub mod FileRows
+pub mod OneProgram

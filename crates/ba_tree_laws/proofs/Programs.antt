@@ -19,7 +19,7 @@ use Rattle.ba_tree.specs.declared.run.Step.{Step}
 use Rattle.ba_tree.specs.declared.tree.Function.{Function}
 use Rattle.ba_tree.specs.declared.tree.Program.{Program}
 use Rattle.ba_tree.specs.declared.tree.Stmt.{Stmt}
-use Rattle.ba_types.specs.Trees.{FunctionTree, ProgramTree, tree_of, tree_of_function, tree_of_stmt}
+use Rattle.ba_tree.specs.Trees.{FunctionTree, ProgramTree, tree_of, tree_of_function, tree_of_stmt}
 use Rattle.ba_tree_laws.proofs.TreeRuns.{variable_in, exec_tree}
 use Rattle.ba_tree_laws.proofs.Runs.{exec_all_is}
 

@@ -27,7 +27,7 @@ use Rattle.ba_tree.specs.declared.tree.Stmt.{Stmt}
 use Rattle.ba_tree.specs.declared.tree.Stmt.TheOpen.{Stmt-F}
 use Rattle.ba_tree.specs.declared.tree.Stmt.TheFolds.{fold-roll-Stmt, ind-Stmt, map-Stmt}
 use Rattle.ba_tree.specs.declared.tree.Stmt.TheViews.{roll-Stmt}
-use Rattle.ba_types.specs.Trees.{ExprTree, ArgTree, StmtTree, args_of, stmts_of, arg_tree_step, expr_tree_step, stmt_tree_step, tree_of_arg, tree_of_expr, tree_of_stmt}
+use Rattle.ba_tree.specs.Trees.{ExprTree, ArgTree, StmtTree, args_of, stmts_of, arg_tree_step, expr_tree_step, stmt_tree_step, tree_of_arg, tree_of_expr, tree_of_stmt}
 use Rattle.ba_tree_laws.proofs.TreeRuns.{Setting, setting_of, variable_in, is_relaxed_in, for_in, do_in, values_of_args, values_of_args-map, eval_tree, eval_arg_tree, value_in, condition_in, elements_in, element_in, call_in, print_in, exec_tree, exec_trees}
 
 module _ (x : Context) where

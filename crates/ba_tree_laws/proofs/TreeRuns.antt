@@ -22,8 +22,8 @@ use Rattle.ba_tree.specs.declared.run.Step.TheVariants.{Call}
 use Rattle.ba_tree.specs.declared.tree.Shape.TheVariants.{Value}
 use Rattle.ba_tree.specs.declared.tree.StmtInfo.{StmtInfo}
 use Rattle.ba_tree.specs.declared.tree.Variable.{Variable}
-use Rattle.ba_types.specs.Trees.{ExprTree, ArgTrees, ArgTree, StmtTree, StmtTrees, args_of, stmts_of}
-use Rattle.ba_types.specs.Trees as tree
+use Rattle.ba_tree.specs.Trees.{ExprTree, ArgTrees, ArgTree, StmtTree, StmtTrees, args_of}
+use Rattle.ba_tree.specs.Trees as tree
 
 -- What stands still while a function's body runs, with no more of the program than is looked at.
 pub record Setting : Type 0 where

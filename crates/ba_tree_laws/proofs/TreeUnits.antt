@@ -3,8 +3,8 @@ use Rattle.std.proofs.Common.{◌≡◌, ℕ, ◌+◌, List, [], ◌∷◌, map,
 use Rattle.std.specs.List.{sum}
 use Rattle.ba_tree.specs.Units.{Lengths, Bodies, ArgUnits, length_at, element_units, operator_units, call_units, declaration_units, all_units, loop_units}
 use Rattle.ba_tree.specs.declared.tree.Variable.{Variable}
-use Rattle.ba_types.specs.Trees.{ExprTree, ArgTrees, ArgTree, StmtTree, StmtTrees, args_of}
-use Rattle.ba_types.specs.Trees as tree
+use Rattle.ba_tree.specs.Trees.{ExprTree, ArgTrees, ArgTree, StmtTree, StmtTrees, args_of}
+use Rattle.ba_tree.specs.Trees as tree
 use Rattle.ba_tree_laws.proofs.TreeRuns.{variable_in}
 
 -- EXPRESSIONS

@@ -18,7 +18,7 @@ use Rattle.ba_tree.specs.declared.tree.Stmt.TheOpen.{Stmt-F}
 use Rattle.ba_tree.specs.declared.tree.Stmt.TheFolds.{fold-roll-Stmt, ind-Stmt, map-Stmt}
 use Rattle.ba_tree.specs.declared.tree.Stmt.TheViews.{roll-Stmt}
 use Rattle.ba_tree.specs.declared.tree.Variable.{Variable}
-use Rattle.ba_types.specs.Trees.{ExprTree, ArgTree, StmtTree, args_of, stmts_of, arg_tree_step, expr_tree_step, stmt_tree_step, tree_of, tree_of_arg, tree_of_expr, tree_of_stmt}
+use Rattle.ba_tree.specs.Trees.{ExprTree, ArgTree, StmtTree, args_of, stmts_of, arg_tree_step, expr_tree_step, stmt_tree_step, tree_of, tree_of_arg, tree_of_expr, tree_of_stmt}
 use Rattle.ba_tree_laws.proofs.TreeRuns.{variable_in}
 use Rattle.ba_tree_laws.proofs.TreeUnits.{expr_units, arg_units, args_units, args_units-map, stmt_units, stmts_units}
 use Rattle.ba_tree_laws.proofs.Programs.{functions_same, main_same}

@@ -1,13 +1,15 @@
-//! Laws that what a program means depends on its tree alone, and not on how much room its lists have in
-//! memory.
+//! Laws of texts, trees and programs: a text spells one program or none, and what a program means depends on its tree
+//! alone, and not on how much room its lists have in memory.
 //!
 //! Each is a function whose clause is the law, and which does nothing.
 #![tactic(auto)]
 
+pub mod laws;
+
 ghost use Rattle.std.specs.Prelude.{◌≡◌, ℕ, List};
 ghost use Rattle.ba_tree.specs.declared.tree.Program.{Program};
-ghost use Rattle.ba_types.specs.Spelling.{Spells};
-ghost use Rattle.ba_types.specs.Trees.{tree_of};
+ghost use Rattle.ba_tree_laws.specs.Spelling.{Spells};
+ghost use Rattle.ba_tree.specs.Trees.{tree_of};
 ghost use Rattle.ba_tree_laws.specs.Equivalent.{AreEquivalent};
 
 /// Programs with the same tree are equivalent.

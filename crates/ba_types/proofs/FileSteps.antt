@@ -1,36 +1,36 @@
 -- What the parts of a file add, one after the other, and the answer for the whole.
 use Rattle.std.proofs.Common.{◌≡◌, ℕ, ◌+◌, ◌<◌, ◌≤◌, Option, None, Some, Ok, Err, List, [], ◌∷◌, ◌++◌, map, length, get_or, drop, refl, sym, ◌∙◌, ap, append_assoc, append-nil, option_map}
-use Rattle.std.specs.Borrow.{Bor}
 use Rattle.std.specs.Global.{Vec}
 use Rattle.std.specs.Prelude.{MatchOption}
-use Rattle.ba_lex.specs.declared.token.Token.{Token}
+use Rattle.ba_tokens.specs.declared.token.Token.{Token}
 use Rattle.ba_numbers.specs.declared.ids.At.{At}
 use Rattle.ba_numbers.specs.declared.ids.FnId.{FnId}
 use Rattle.ba_numbers.specs.declared.numbers.CType.{CType}
-use Rattle.ba_parse.specs.declared.tree.declarations.Declarators.{Declarators}
-use Rattle.ba_parse.specs.declared.tree.statements.External.{External}
-use Rattle.ba_parse.specs.declared.tree.statements.ExternalForm.{ExternalForm}
-use Rattle.ba_parse.specs.declared.tree.statements.ExternalForm.TheVariants as form
+use Rattle.ba_trees.specs.declared.tree.declarations.Declarators.{Declarators}
+use Rattle.ba_trees.specs.declared.tree.statements.External.{External}
+use Rattle.ba_trees.specs.declared.tree.statements.ExternalForm.{ExternalForm}
+use Rattle.ba_trees.specs.declared.tree.statements.ExternalForm.TheVariants as form
 use Rattle.ba_tree.specs.declared.tree.Function.{Function}
 use Rattle.ba_tree.specs.declared.tree.Parts.{Parts}
 use Rattle.ba_tree.specs.declared.tree.Stmt.{Stmt}
-use Rattle.ba_types.specs.Adding.{State, at_place, before_of, behind_part, extended, no_work, state}
-use Rattle.ba_types.specs.Declarations.{Before, add_declarators, behind, nothing_added}
-use Rattle.ba_types.specs.Faults.{IsFirst}
-use Rattle.ba_types.specs.Files.{FileAdded, FirstFault, add_external, add_externals, add_external_form, definitions_of, faults_of, file_of, file_scope, main_of, program_of, signature_of, typed_of, vars_of, with_functions, with_signature}
-use Rattle.ba_types.specs.Filing.{CheckedParts, FileState, IsTyped, behind_externals, error_of, file_state, tree_of_parts, with_part}
-use Rattle.ba_types.specs.Judging.{after, nothing_found}
-use Rattle.ba_types.specs.Names.{Scope, knowing, type_named}
-use Rattle.ba_types.specs.Trees.{tree_of_function, tree_of_stmt}
-use Rattle.ba_types.specs.declared.error.TypeError.TheVariants as error
-use Rattle.ba_types.specs.declared.fault.Cause.{Cause}
-use Rattle.ba_types.specs.declared.fault.Cause.TheVariants.{UnknownName, Twice, WrongKind, WrongCount, BadLength, BreakOutside, CallInIndex, Limit}
-use Rattle.ba_types.specs.declared.fault.Fault.{Fault}
+use Rattle.ba_statements.specs.Adding.{State, at_place, before_of, behind_part, extended, no_work, state}
+use Rattle.ba_typing.specs.Declarations.{Before, add_declarators, behind, nothing_added}
+use Rattle.ba_typing.specs.Faults.{IsFirst}
+use Rattle.ba_typing.specs.Files.{FileAdded, FirstFault, add_external, add_externals, add_external_form, definitions_of, faults_of, file_of, file_scope, main_of, program_of, signature_of, typed_of, vars_of, with_functions, with_signature}
+use Rattle.ba_types.specs.Filing.{CheckedParts, FileState, IsTyped, behind_externals, error_of, file_state, with_part}
+use Rattle.ba_tree.specs.Trees.{tree_of_parts}
+use Rattle.ba_expressions.specs.Judging.{after, nothing_found}
+use Rattle.ba_typing.specs.Names.{Scope, knowing, type_named}
+use Rattle.ba_tree.specs.Trees.{tree_of_function, tree_of_stmt}
+use Rattle.ba_typing.specs.declared.error.TypeError.TheVariants as error
+use Rattle.ba_typing.specs.declared.fault.Cause.{Cause}
+use Rattle.ba_typing.specs.declared.fault.Cause.TheVariants.{UnknownName, Twice, WrongKind, WrongCount, BadLength, BreakOutside, CallInIndex, Limit}
+use Rattle.ba_typing.specs.declared.fault.Fault.{Fault}
 use Rattle.ba_types.specs.declared.files.TypedFile.{TypedFile}
-use Rattle.ba_types.specs.declared.scopes.Signature.{Signature}
-use Rattle.ba_types.specs.declared.work.Work.{Work}
-use Rattle.ba_types.proofs.Adding.{before-added, behind-nothing, extended-both}
-use Rattle.ba_types.proofs.Walks.{next_item, none_left}
+use Rattle.ba_typing.specs.declared.meanings.Signature.{Signature}
+use Rattle.ba_statements.specs.declared.work.Work.{Work}
+use Rattle.ba_statements.proofs.Adding.{before-added, behind-nothing, extended-both}
+use Rattle.ba_typing.proofs.Walks.{next_item, none_left}
 
 -- PARTS OF A FILE
 

@@ -6,21 +6,21 @@ use Rattle.std.proofs.lemmas.List.{drop_at}
 use Rattle.ba_numbers.specs.declared.ids.At.{At}
 use Rattle.ba_numbers.specs.declared.ids.VarId.{VarId}
 use Rattle.ba_numbers.specs.declared.numbers.CType.{CType}
-use Rattle.ba_parse.specs.declared.tree.declarations.Parameter.{Parameter}
-use Rattle.ba_parse.specs.declared.tree.statements.FunctionEnd.{FunctionEnd}
+use Rattle.ba_trees.specs.declared.tree.declarations.Parameter.{Parameter}
+use Rattle.ba_trees.specs.declared.tree.statements.FunctionEnd.{FunctionEnd}
 use Rattle.ba_tree.specs.declared.tree.Function.{Function}
-use Rattle.ba_types.specs.Adding.{State, at_place, before_of, behind_part, extended, with_added}
-use Rattle.ba_types.specs.Declarations.{Added, Part, ◌and◌, behind, faults_added, in_order}
-use Rattle.ba_types.specs.Files.{add_function, add_params, body_parts, function_scope, function_tree, signature_faults, vars_from, vars_of}
+use Rattle.ba_statements.specs.Adding.{State, at_place, before_of, behind_part, extended, with_added}
+use Rattle.ba_typing.specs.Declarations.{Added, Part, ◌and◌, behind, faults_added, in_order}
+use Rattle.ba_typing.specs.Files.{add_function, add_params, body_parts, function_scope, function_tree, signature_faults, vars_from, vars_of}
 use Rattle.ba_types.specs.Filing.{GivesFunction, file_place, with_part}
-use Rattle.ba_types.specs.Judging.{with_faults}
-use Rattle.ba_types.specs.Marks.{back_to, mark_of}
-use Rattle.ba_types.specs.Names.{Scope, is_main_name, knowing}
-use Rattle.ba_types.specs.Trees.{FunctionTree, StmtTree, tree_of_function, tree_of_stmt}
+use Rattle.ba_expressions.specs.Judging.{with_faults}
+use Rattle.ba_scopes.specs.Marks.{back_to, mark_of}
+use Rattle.ba_typing.specs.Names.{Scope, is_main_name, knowing}
+use Rattle.ba_tree.specs.Trees.{FunctionTree, StmtTree, tree_of_function, tree_of_stmt}
 use Rattle.ba_types.specs.declared.parameters.Owner.{Owner}
-use Rattle.ba_types.specs.declared.scopes.Signature.{Signature}
-use Rattle.ba_types.specs.declared.work.Work.{Work}
-use Rattle.ba_types.proofs.Adding.{before-added, faults-work, knowing-both, knowing-nothing, with_added-both}
+use Rattle.ba_typing.specs.declared.meanings.Signature.{Signature}
+use Rattle.ba_statements.specs.declared.work.Work.{Work}
+use Rattle.ba_statements.proofs.Adding.{before-added, faults-work, knowing-both, knowing-nothing, with_added-both}
 
 -- VARIABLES OF CONSECUTIVE NUMBERS
 

@@ -4,26 +4,26 @@ use Rattle.std.specs.Prelude.{unwrap_or}
 use Rattle.ba_numbers.specs.declared.ids.At.{At}
 use Rattle.ba_numbers.specs.declared.numbers.CType.{CType}
 use Rattle.ba_numbers.specs.declared.numbers.CType.TheVariants.{I32}
-use Rattle.ba_parse.specs.declared.tree.declarations.NextParameter.{NextParameter}
-use Rattle.ba_parse.specs.declared.tree.declarations.Parameter.{Parameter}
+use Rattle.ba_trees.specs.declared.tree.declarations.NextParameter.{NextParameter}
+use Rattle.ba_trees.specs.declared.tree.declarations.Parameter.{Parameter}
 use Rattle.ba_tree.specs.declared.tree.Shape.{Shape}
-use Rattle.ba_types.specs.Adding.{AddsLength, IsLength, State, at_place, before_of, behind_part, with_added, with_judged}
-use Rattle.ba_types.specs.Declarations.{Part, TypedLength, add_length, add_variable, faults_added, nothing_added}
-use Rattle.ba_types.specs.Faults.{fault_if, limit_faults, parameter_limit, void_faults}
-use Rattle.ba_types.specs.Files.{add_param, add_params, bad_length_faults, check_length, name_of_param, param_length, param_shape, place_of_param}
+use Rattle.ba_statements.specs.Adding.{AddsLength, IsLength, State, at_place, before_of, behind_part, with_added, with_judged}
+use Rattle.ba_typing.specs.Declarations.{Part, TypedLength, add_length, add_variable, faults_added, nothing_added}
+use Rattle.ba_typing.specs.Faults.{fault_if, limit_faults, parameter_limit, void_faults}
+use Rattle.ba_typing.specs.Files.{add_param, add_params, bad_length_faults, check_length, name_of_param, param_length, param_shape, place_of_param}
 use Rattle.ba_types.specs.Filing.{declaring_param, is_bad, next_params}
-use Rattle.ba_types.specs.Judging.{after, with_faults}
-use Rattle.ba_types.specs.Names.{Scope, type_named}
-use Rattle.ba_types.specs.Trees.{StmtTree}
-use Rattle.ba_types.specs.declared.declarations.Length.{Length}
-use Rattle.ba_types.specs.declared.fault.Cause.TheVariants.{BadLength}
-use Rattle.ba_types.specs.declared.fault.Fault.{Fault}
-use Rattle.ba_types.specs.declared.tally.Tally.{Tally}
-use Rattle.ba_types.specs.declared.work.Work.{Work}
-use Rattle.ba_types.proofs.Adding.{after-nothing, and-then, behind-nothing, behind-then, in-scope, with_added-nothing}
-use Rattle.ba_types.proofs.Declaring.{length-part}
-use Rattle.ba_types.proofs.Tallies.{faults-before}
-use Rattle.ba_types.proofs.Walks.{next_item, none_left}
+use Rattle.ba_expressions.specs.Judging.{after, with_faults}
+use Rattle.ba_typing.specs.Names.{Scope, type_named}
+use Rattle.ba_tree.specs.Trees.{StmtTree}
+use Rattle.ba_statements.specs.declared.declarations.Length.{Length}
+use Rattle.ba_typing.specs.declared.fault.Cause.TheVariants.{BadLength}
+use Rattle.ba_typing.specs.declared.fault.Fault.{Fault}
+use Rattle.ba_expressions.specs.declared.tally.Tally.{Tally}
+use Rattle.ba_statements.specs.declared.work.Work.{Work}
+use Rattle.ba_statements.proofs.Adding.{after-nothing, and-then, behind-nothing, behind-then, in-scope, with_added-nothing}
+use Rattle.ba_statements.proofs.Declaring.{length-part}
+use Rattle.ba_expressions.proofs.Tallies.{faults-before}
+use Rattle.ba_typing.proofs.Walks.{next_item, none_left}
 
 -- THE LENGTH OF AN ARRAY PARAMETER
 

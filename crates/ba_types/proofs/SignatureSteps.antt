@@ -4,14 +4,14 @@ use Rattle.std.proofs.Common.{◌≡◌, ℕ, suc, Bool, true, false, ◌&&◌, 
 use Rattle.std.specs.Borrow.{Bor}
 use Rattle.std.specs.List.{list_any}
 use Rattle.std.proofs.lemmas.Bool.{and_right}
-use Rattle.ba_parse.specs.declared.tree.declarations.NextParameter.{NextParameter}
-use Rattle.ba_parse.specs.declared.tree.declarations.ParameterList.{ParameterList}
-use Rattle.ba_parse.specs.declared.tree.declarations.Parameters.{Parameters}
-use Rattle.ba_types.specs.Files.{params_of, params_of_list, same_param, same_params, type_of_param}
+use Rattle.ba_trees.specs.declared.tree.declarations.NextParameter.{NextParameter}
+use Rattle.ba_trees.specs.declared.tree.declarations.ParameterList.{ParameterList}
+use Rattle.ba_trees.specs.declared.tree.declarations.Parameters.{Parameters}
+use Rattle.ba_typing.specs.Files.{params_of, params_of_list, same_param, same_params, type_of_param}
 use Rattle.ba_types.specs.Filing.{same_named}
-use Rattle.ba_types.specs.Names.{definition_in, same_name}
-use Rattle.ba_types.specs.declared.scopes.ParamType.{ParamType}
-use Rattle.ba_types.specs.declared.scopes.Signature.{Signature}
+use Rattle.ba_typing.specs.Names.{definition_in, same_name}
+use Rattle.ba_typing.specs.declared.meanings.ParamType.{ParamType}
+use Rattle.ba_typing.specs.declared.meanings.Signature.{Signature}
 
 -- A LIST OF PARAMETERS
 

@@ -5,27 +5,27 @@ use Rattle.std.specs.Global.{Vec}
 use Rattle.ba_numbers.specs.declared.ids.At.{At}
 use Rattle.ba_numbers.specs.declared.numbers.CType.{CType}
 use Rattle.ba_numbers.specs.declared.numbers.CType.TheVariants.{I32}
-use Rattle.ba_parse.specs.declared.tree.declarations.NextParameter.{NextParameter}
-use Rattle.ba_parse.specs.declared.tree.declarations.Parameter.{Parameter}
-use Rattle.ba_parse.specs.declared.tree.statements.External.{External}
-use Rattle.ba_parse.specs.declared.tree.statements.FunctionEnd.{FunctionEnd}
+use Rattle.ba_trees.specs.declared.tree.declarations.NextParameter.{NextParameter}
+use Rattle.ba_trees.specs.declared.tree.declarations.Parameter.{Parameter}
+use Rattle.ba_trees.specs.declared.tree.statements.External.{External}
+use Rattle.ba_trees.specs.declared.tree.statements.FunctionEnd.{FunctionEnd}
 use Rattle.ba_tree.specs.declared.tree.Function.{Function}
 use Rattle.ba_tree.specs.declared.tree.Parts.{Parts}
 use Rattle.ba_tree.specs.declared.tree.Stmt.{Stmt}
-use Rattle.ba_types.specs.Adding.{State, at_place, before_of, extended, no_work, with_added}
-use Rattle.ba_types.specs.Declarations.{Added, Before, Part, ◌and◌, behind, in_order}
-use Rattle.ba_types.specs.Files.{FileAdded, FirstFault, add_externals, add_params, body_parts, declare_param, faults_of, file_of, function_tree, main_of, name_of_param, param_length, param_shape, typed_of, vars_of}
-use Rattle.ba_types.specs.Names.{Scope, knowing, same_name}
-use Rattle.ba_types.specs.Trees.{FunctionTree, ProgramTree, StmtTree, tree_of_function, tree_of_stmt}
-use Rattle.ba_types.specs.declared.declarations.Length.{Length}
-use Rattle.ba_types.specs.declared.error.TypeError.{TypeError}
-use Rattle.ba_types.specs.declared.error.TypeError.TheVariants as error
-use Rattle.ba_types.specs.declared.fault.Cause.{Cause}
-use Rattle.ba_types.specs.declared.fault.Cause.TheVariants.{UnknownName, Twice, WrongKind, WrongCount, BadLength, BreakOutside, CallInIndex, Limit}
+use Rattle.ba_statements.specs.Adding.{State, at_place, before_of, extended, no_work, with_added}
+use Rattle.ba_typing.specs.Declarations.{Added, Before, Part, ◌and◌, behind, in_order}
+use Rattle.ba_typing.specs.Files.{FileAdded, FirstFault, add_externals, add_params, body_parts, declare_param, faults_of, file_of, function_tree, main_of, name_of_param, param_length, param_shape, typed_of, vars_of}
+use Rattle.ba_typing.specs.Names.{Scope, knowing, same_name}
+use Rattle.ba_tree.specs.Trees.{FunctionTree, StmtTree, tree_of_function, tree_of_parts, tree_of_stmt}
+use Rattle.ba_statements.specs.declared.declarations.Length.{Length}
+use Rattle.ba_typing.specs.declared.error.TypeError.{TypeError}
+use Rattle.ba_typing.specs.declared.error.TypeError.TheVariants as error
+use Rattle.ba_typing.specs.declared.fault.Cause.{Cause}
+use Rattle.ba_typing.specs.declared.fault.Cause.TheVariants.{UnknownName, Twice, WrongKind, WrongCount, BadLength, BreakOutside, CallInIndex, Limit}
 use Rattle.ba_types.specs.declared.parameters.Owner.{Owner}
 use Rattle.ba_types.specs.declared.files.TypedFile.{TypedFile}
-use Rattle.ba_types.specs.declared.scopes.Signature.{Signature}
-use Rattle.ba_types.specs.declared.work.Work.{Work}
+use Rattle.ba_typing.specs.declared.meanings.Signature.{Signature}
+use Rattle.ba_statements.specs.declared.work.Work.{Work}
 
 -- DECLARATIONS OF FUNCTIONS
 
@@ -102,16 +102,6 @@ pub record IsTyped (f : TypedFile) (xs : List External) : Type 0 where
   pub work : f.work ≡ with_added no_work (file_of xs).added
 
 -- THE ANSWER for a file, as parts that are not yet known to be a program
-
-abbrev pub tree_of_parts : Parts → ProgramTree
-tree_of_parts p = record {
-  variables = p.variables;
-  globals = p.globals;
-  inits = map tree_of_stmt p.inits;
-  functions = map tree_of_function p.functions;
-  main = p.main;
-  statements = p.statements;
-}
 
 -- a fault as an answer
 abbrev pub error_of : Cause → At → TypeError

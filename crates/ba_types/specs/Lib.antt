@@ -1,14 +1,1 @@
-pub mod Trees
-pub mod Names
-pub mod Faults
-pub mod Expressions
-pub mod Declarations
-pub mod Statements
-pub mod Files
-pub mod Judging
-pub mod Adding
-pub mod Controlling
-pub mod Marks
 pub mod Filing
-pub mod Spelling
-pub mod Storage

@@ -1,34 +1,35 @@
 //! Functions and files (C90 6.7).
 
 ghost use Rattle.std.specs.Prelude.{◌≡◌, ◌-◌, cond, ◌∷◌, ◌++◌, [], List, option_map, map, IfOk, OnOk};
-ghost use Rattle.ba_parse.specs.declared.tree.statements.External.{External};
-ghost use Rattle.ba_types.specs.Adding.{before_of, behind_part, state};
-ghost use Rattle.ba_types.specs.Declarations.{in_order};
-ghost use Rattle.ba_types.specs.Files.{Checked, add_external, add_externals, add_function, body_parts, params_of, vars_from};
+ghost use Rattle.ba_trees.specs.declared.tree.statements.External.{External};
+ghost use Rattle.ba_statements.specs.Adding.{before_of, behind_part, state};
+ghost use Rattle.ba_typing.specs.Declarations.{in_order};
+ghost use Rattle.ba_typing.specs.Files.{Checked, add_external, add_externals, add_function, body_parts, params_of, vars_from};
 ghost use Rattle.ba_types.specs.Filing.{CheckedParts, GivesFunction, IsTyped, behind_externals, error_of, file_place, file_state, with_part};
-ghost use Rattle.ba_types.specs.Names.{definition_in, main_name};
-ghost use Rattle.ba_types.specs.Trees.{StmtTree, tree_of_function};
-ghost use Rattle.ba_types.specs.declared.scopes.Signature.{Signature};
+ghost use Rattle.ba_typing.specs.Names.{definition_in, main_name};
+ghost use Rattle.ba_tree.specs.Trees.{StmtTree, tree_of_function};
+ghost use Rattle.ba_typing.specs.declared.meanings.Signature.{Signature};
 
-use crate::declarations::add_declarators;
-use crate::error::TypeError;
-use crate::fault::{Cause, Fault};
-use crate::names::type_named;
 use crate::parameters::{Owner, add_params};
-use crate::scopes::{Functions, Scope, Signature};
 use crate::signatures::{
     add_signature, add_signature_faults, definitions_behind, functions, signature,
 };
-use crate::statements::add_items;
-use crate::text::Text;
-use crate::uses::is_main;
-use crate::work::Work;
+use ba_expressions::uses::is_main;
 use ba_items::Items;
 use ba_numbers::ids::{At, FnId, VarId};
 use ba_numbers::numbers::CType;
-use ba_parse::tree::declarations::Parameters;
-use ba_parse::tree::statements::{External, ExternalForm, FunctionEnd, RawProgram};
+use ba_scopes::scopes::{Functions, Scope};
+use ba_statements::declarations::add_declarators;
+use ba_statements::statements::add_items;
+use ba_statements::work::Work;
 use ba_tree::tree::{Function, Parts, Program, Stmt};
+use ba_trees::tree::declarations::Parameters;
+use ba_trees::tree::statements::{External, ExternalForm, FunctionEnd, RawProgram};
+use ba_typing::error::TypeError;
+use ba_typing::fault::{Cause, Fault};
+use ba_typing::meanings::Signature;
+use ba_typing::names::type_named;
+use ba_typing::text::Text;
 use std::alloc::{AllocError, Global};
 
 /// What stands in the body of a function, put behind those statements; a prototype has none.

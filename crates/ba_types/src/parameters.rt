@@ -1,28 +1,28 @@
 //! The parameters of functions (C90 6.5.4.3).
 
 ghost use Rattle.std.specs.Prelude.{◌≡◌, ◌++◌, List, Option, true, IfOk, OnOk};
-ghost use Rattle.ba_types.specs.Adding.{AddsLength, IsLength, at_place, behind_part, plain_length};
-ghost use Rattle.ba_types.specs.Declarations.{TypedLength};
-ghost use Rattle.ba_types.specs.Faults.{limit_faults, parameter_limit, void_faults};
-ghost use Rattle.ba_types.specs.Files.{add_param, add_params, check_length, first_at, name_of_param, param_length, param_shape, params_of, place_of_param};
+ghost use Rattle.ba_statements.specs.Adding.{AddsLength, IsLength, at_place, behind_part, plain_length};
+ghost use Rattle.ba_typing.specs.Declarations.{TypedLength};
+ghost use Rattle.ba_typing.specs.Faults.{limit_faults, parameter_limit, void_faults};
+ghost use Rattle.ba_typing.specs.Files.{add_param, add_params, check_length, first_at, name_of_param, param_length, param_shape, params_of, place_of_param};
 ghost use Rattle.ba_types.specs.Filing.{declaring_param, is_bad, next_params};
-ghost use Rattle.ba_types.specs.Judging.{with_faults};
-ghost use Rattle.ba_types.specs.Names.{words_of};
-ghost use Rattle.ba_types.specs.Trees.{StmtTree};
+ghost use Rattle.ba_expressions.specs.Judging.{with_faults};
+ghost use Rattle.ba_typing.specs.Names.{words_of};
+ghost use Rattle.ba_tree.specs.Trees.{StmtTree};
 
-use crate::declarations::{Length, add_length, add_variable, array_length, shape_of};
-use crate::fault::Cause;
-use crate::names::{is_void, name_of, type_named};
-use crate::scopes::{Functions, Scope};
 use crate::signatures::{listed, number_behind};
-use crate::tally::Tally;
-use crate::text::Text;
-use crate::work::Work;
+use ba_expressions::tally::Tally;
 use ba_numbers::ids::At;
 use ba_numbers::numbers::CType;
-use ba_parse::tree::declarations::{ArrayLength, NextParameter, Parameter, Parameters};
-use ba_parse::tree::expressions::TypeName;
+use ba_scopes::scopes::{Functions, Scope};
+use ba_statements::declarations::{Length, add_length, add_variable, array_length, shape_of};
+use ba_statements::work::Work;
 use ba_tree::tree::{Shape, Variable};
+use ba_trees::tree::declarations::{ArrayLength, NextParameter, Parameter, Parameters};
+use ba_trees::tree::expressions::TypeName;
+use ba_typing::fault::Cause;
+use ba_typing::names::{is_void, name_of, type_named};
+use ba_typing::text::Text;
 use std::alloc::{AllocError, Global};
 
 /// The greatest number of parameters.

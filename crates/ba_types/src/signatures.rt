@@ -2,28 +2,29 @@
 
 ghost use Rattle.std.specs.Prelude.{◌≡◌, ◌+◌, ◌==◌, ◌&&◌, not, nat_lt, cond, ◌++◌, [], None, Some, option_map, length, map, IfOk, OnOk};
 ghost use Rattle.std.specs.List.{list_all, list_any};
-ghost use Rattle.ba_parse.specs.declared.tree.declarations.NextParameter.{NextParameter};
-ghost use Rattle.ba_types.specs.Faults.{function_limit};
-ghost use Rattle.ba_types.specs.Files.{agrees, count_functions, definitions_of, is_definition, is_main_result, is_void_parameter, is_void_word, params_agree, params_of, params_of_list, same_param, same_params, same_result, says_params, signature_faults, signature_of, signatures, type_of_param, with_signature};
+ghost use Rattle.ba_trees.specs.declared.tree.declarations.NextParameter.{NextParameter};
+ghost use Rattle.ba_typing.specs.Faults.{function_limit};
+ghost use Rattle.ba_typing.specs.Files.{agrees, count_functions, definitions_of, is_definition, is_main_result, is_void_parameter, is_void_word, params_agree, params_of, params_of_list, same_param, same_params, same_result, says_params, signature_faults, signature_of, signatures, type_of_param, with_signature};
 ghost use Rattle.ba_types.specs.Filing.{same_named};
-ghost use Rattle.ba_types.specs.Judging.{with_faults};
-ghost use Rattle.ba_types.specs.Names.{is_declared_in, is_main_name, same_name, words_of};
-ghost use Rattle.ba_types.specs.declared.scopes.Signature.{Signature};
+ghost use Rattle.ba_expressions.specs.Judging.{with_faults};
+ghost use Rattle.ba_typing.specs.Names.{is_declared_in, is_main_name, same_name, words_of};
+ghost use Rattle.ba_typing.specs.declared.meanings.Signature.{Signature};
 
-use crate::fault::Cause;
-use crate::names::{is_keyword, name_of, type_named};
-use crate::scopes::{Functions, ParamType, Scope, Signature};
-use crate::tally::Tally;
-use crate::text::Text;
-use crate::uses::is_main;
-use crate::values::same_type;
+use ba_expressions::tally::Tally;
+use ba_expressions::uses::is_main;
 use ba_items::Items;
-use ba_lex::token::Keyword;
 use ba_numbers::ids::{At, FnId};
 use ba_numbers::numbers::CType;
-use ba_parse::tree::declarations::{NextParameter, Parameter, ParameterList, Parameters};
-use ba_parse::tree::expressions::TypeName;
-use ba_parse::tree::statements::{External, ExternalForm, FunctionEnd};
+use ba_numbers::types::same_type;
+use ba_scopes::scopes::{Functions, Scope};
+use ba_tokens::token::Keyword;
+use ba_trees::tree::declarations::{NextParameter, Parameter, ParameterList, Parameters};
+use ba_trees::tree::expressions::TypeName;
+use ba_trees::tree::statements::{External, ExternalForm, FunctionEnd};
+use ba_typing::fault::Cause;
+use ba_typing::meanings::{ParamType, Signature};
+use ba_typing::names::{is_keyword, name_of, type_named};
+use ba_typing::text::Text;
 use std::alloc::{AllocError, Global};
 
 /// The greatest number of functions.

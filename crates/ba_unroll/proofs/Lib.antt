@@ -1,8 +1,9 @@
-mod ArrayLengths
-mod CallForms
-mod ExpressionForms
-mod Maps
-mod Remainders
-mod StatementForms
-mod TurnSums
-mod UnitSums
+mod Paths
+mod Heights
+mod Forms
+mod Adding
+mod Leaves
+mod Branches
+mod Rounds
+mod Rows
+mod Trees

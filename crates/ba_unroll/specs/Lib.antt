@@ -1,2 +1,2 @@
-pub mod Lengths
-pub mod Counts
+pub mod Unrolling
+pub mod Outcomes

@@ -1,14 +1,12 @@
-//! The size of a program once its calls are replaced by bodies and its loops by turns.
+//! Programs without calls whose loops become turns.
 //!
-//! [`units`] gives exactly the number of the definition, or one past the limit of 20,000 where it is larger. It takes no memory. A loop
-//! is counted by one turn, each call takes at least one unit of what is left up to the limit, and no further statement is looked at once
-//! nothing is left.
+//! [`unroll`] copies the body of each loop once for each turn that the bound allows. A turn stands inside the branch that the condition
+//! before it takes, so that what follows a false condition is reached without a label. No other crate sees how.
 #![tactic(auto)]
 
-mod costs;
-mod counting;
-mod frame;
-mod setting;
+mod nodes;
+mod places;
+mod turns;
 mod whole;
 
-pub use whole::units;
+pub use whole::unroll;

@@ -1,50 +1,33 @@
-//! The units of a whole program.
+//! Whole trees.
 
-ghost use Rattle.std.specs.Prelude.{◌≡◌, ◌-◌, true, min, sum_by};
-ghost use Rattle.ba_tree.specs.Meaning.{variable_of};
-ghost use Rattle.ba_tree.specs.Run.{are_bounds};
-ghost use Rattle.ba_tree.specs.Units.{declaration_units, units_of};
+ghost use Rattle.std.specs.Prelude.{◌≡◌, IfOk};
+ghost use Rattle.ba_unroll.specs.Outcomes.{HasOutcomes};
 
-use crate::costs::left_after_declaration;
-use crate::counting::left_after_stmts;
-use crate::frame::Frame;
-use crate::setting::Setting;
-use ba_numbers::ids::VarId;
-use ba_tree::lookup::main_body;
-use ba_tree::run::Bounds;
-use ba_tree::tree::Program;
+use crate::nodes::add_nodes;
+use ba_code::trees::{BoundTree, LoopTree};
+use ba_items::Items;
+use std::alloc::{AllocError, Global};
 
-/// One past the greatest number of units that is taken.
-const PAST_LIMIT: u32 = 20_001;
-
-/// What is left behind the declarations of these variables.
-fn left_after_declarations(program: &Program, left: u32, vars: &[VarId]) -> u32
-    ensures { result ≡ left - sum_by (λ v. declaration_units (variable_of program.now v).shape)
-        vars.now }
-{
-    let mut rest = left;
-    for var in vars {
-        rest = left_after_declaration(program, rest, *var);
-    }
-    rest
-}
-
-/// The units of a program within these bounds: the sum over the program of what its forms cost, with each call replaced by the
-/// function's body down to the depth, and each loop by its turns; or 20,001 where the sum is larger.
+/// The tree with each loop replaced by its turns, of which each entry has at most `turns`: a condition that is true after the last one
+/// leads to a `Beyond` of the loop's statement.
 ///
-/// The bounds are within their limits: from 1 to 64 turns, and from 1 to 32 frames. It takes no memory.
-pub fn units(program: &Program, bounds: Bounds) -> u32
-    requires bounds { are_bounds bounds ≡ true }
-    ensures { result ≡ min (units_of program.now bounds) 20001 }
+/// It has the same variables, arrays and parameters, and for every input, whatever may be relaxed and whatever the choices, the
+/// outcome of the tree with that bound on turns.
+///
+/// The one error is want of memory. It stands too for a place with more turns of number 0 than there are loops around, which no program
+/// has, and for the end of the numbers of turns.
+pub fn unroll(alloc: Global, tree: &LoopTree, turns: u32) -> Result<BoundTree, AllocError>
+    ensures vars { IfOk result (λ made. made.vars ≡ tree.now.vars) }
+    ensures arrays { IfOk result (λ made. made.arrays ≡ tree.now.arrays) }
+    ensures params { IfOk result (λ made. made.params ≡ tree.now.params) }
+    ensures outcomes { IfOk result (λ made. HasOutcomes made tree.now turns) }
 {
-    let setting = Setting {
-        program,
-        turns: bounds.turns,
-    };
-    let frames = bounds.frames - 1;
-    let frame = Frame::main();
-    let left = left_after_declarations(program, PAST_LIMIT, program.globals.as_slice());
-    let left = left_after_stmts(&setting, frames, &frame, left, program.inits.as_slice());
-    let left = left_after_stmts(&setting, frames, &frame, left, main_body(program));
-    PAST_LIMIT.saturating_sub(left)
+    let mut body = Vec::new(alloc);
+    add_nodes(alloc, turns, &[], tree.body.as_slice(), &mut body)?;
+    Ok(BoundTree {
+        vars: tree.vars,
+        arrays: Items::from_slice(alloc, tree.arrays.as_slice())?,
+        params: Items::from_slice(alloc, tree.params.as_slice())?,
+        body: Items::from_vec(body),
+    })
 }

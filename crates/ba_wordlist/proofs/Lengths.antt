@@ -14,7 +14,7 @@ use Rattle.ba_numbers.specs.declared.numbers.BinOp.{BinOp}
 use Rattle.ba_numbers.specs.declared.numbers.BinOp.TheVariants.{Rem}
 use Rattle.ba_numbers.specs.declared.numbers.CType.{CType}
 use Rattle.ba_numbers.specs.declared.numbers.CType.TheVariants.{I8, U8, I16, U16, I32, U32}
-use Rattle.ba_tree.specs.Facts.{shifts}
+use Rattle.ba_numbers.specs.Types.{shifts}
 use Rattle.ba_wordlist.specs.Facts.{are_names, are_words, fit_behind, fits_behind, is_name, is_word_value, length_of, lengths_of, more_lengths}
 use Rattle.ba_wordlist.specs.Meaning.{Assignment, binary_value, element_read, value_at_zero, value_or, elements_at, entry_of, is_nonzero, more_values, value_at, values_of}
 use Rattle.ba_wordlist.specs.declared.words.WordOp.{WordOp}

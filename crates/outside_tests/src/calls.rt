@@ -3,9 +3,9 @@
 ghost use Rattle.std.specs.Prelude.{◌<◌, ◌≡◌};
 ghost use Rattle.std.specs.String.{string_bytes};
 
+use ba_answers::status::Status;
+use ba_jobs::rules::{Rules, keep, luby, steady};
 use ba_steps::{NoSink, StepSink};
-use ba_tool::rules::{Rules, keep, luby, steady};
-use ba_tool::status::Status;
 use ba_tool::tool::tool;
 use ba_world::{MemoryWorld, World};
 use std::alloc::Global;

@@ -2,8 +2,8 @@
 
 use crate::calls::{end, localise, world_of, world_with};
 use crate::programs::{ONE_ASSIGNMENT, ONE_REPORT};
+use ba_answers::status::Status;
 use ba_steps::NoSink;
-use ba_tool::status::Status;
 use std::alloc::Global;
 use std::panic::Expect;
 use std::process::Abort;

@@ -1,6 +1,6 @@
 //! The rules of a search.
 
-use ba_tool::rules::{keep, luby, steady};
+use ba_jobs::rules::{keep, luby, steady};
 
 /// Numbers of restarts, and how many conflicts come before the next one by Luby's sequence.
 static LUBY: [(u64, u64); 8] = [

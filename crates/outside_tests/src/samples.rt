@@ -1,6 +1,6 @@
 //! Samples.
 
-use ba_tool::samples::sample_text;
+use ba_jobs::samples::sample_text;
 use std::panic::Expect;
 
 #[test]

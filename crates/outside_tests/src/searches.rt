@@ -2,9 +2,9 @@
 
 use crate::calls::{end, world_of};
 use crate::programs::{BRANCHES, BRANCHES_REPORT, ONE_ASSIGNMENT};
+use ba_answers::status::Status;
 use ba_cert::{read_line, step_text};
 use ba_steps::{Basis, CertStep, ListSink, NoSink};
-use ba_tool::status::Status;
 use std::alloc::Global;
 use std::panic::Expect;
 use std::process::Abort;

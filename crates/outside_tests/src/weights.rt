@@ -1,6 +1,6 @@
 //! Texts of weights, with the weights of a program's statements or the line that is wrong.
 
-use ba_commands::{WeightsError, read_weights};
+use ba_inputs::{WeightsError, read_weights};
 use ba_tree::tree::Program;
 use std::alloc::{AllocError, Global};
 use std::panic::Expect;

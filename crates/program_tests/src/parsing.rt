@@ -1,8 +1,8 @@
 //! Texts with the place where they are refused, worked out from the grammar.
 
-use ba_lex::token::Token;
 use ba_lex::{MAX_TEXT, tokens};
 use ba_parse::{ParseError, parse};
+use ba_tokens::token::Token;
 use std::alloc::Global;
 use std::panic::Expect;
 use std::process::Abort;

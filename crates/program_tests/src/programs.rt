@@ -1,7 +1,7 @@
 //! Programs, inputs and choices of tests, from their texts.
 
 use ba_choices::Choice;
-use ba_interp::read_input;
+use ba_inputs::read_input;
 use ba_tree::run::Input;
 use ba_tree::tree::Program;
 use std::alloc::Global;

@@ -3,7 +3,8 @@
 use ba_lex::{MAX_TEXT, tokens};
 use ba_numbers::ids::At;
 use ba_parse::parse;
-use ba_types::{TypeError, check};
+use ba_types::check;
+use ba_typing::TypeError;
 use std::alloc::Global;
 use std::panic::Expect;
 use std::process::Abort;

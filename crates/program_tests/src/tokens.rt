@@ -1,10 +1,10 @@
 //! Texts with their tokens or their first error, from the rules of the language.
 
 use ba_lex::error::LexError;
-use ba_lex::token::{Token, TokenKind};
 use ba_lex::{MAX_TEXT, tokens};
 use ba_numbers::ids::At;
 use ba_numbers::numbers::CType;
+use ba_tokens::token::{Token, TokenKind};
 use std::alloc::Global;
 use std::panic::Expect;
 use std::process::Abort;

@@ -2,7 +2,7 @@
 
 use crate::programs::program_of;
 use ba_tree::run::Bounds;
-use ba_unroll::units;
+use ba_units::units;
 use std::alloc::Global;
 use std::process::Abort;
 use test_programs::examples::{

@@ -2,7 +2,7 @@
 
 ghost use Rattle.std.specs.Prelude.{◌≡◌, ◌<◌, ◌==◌, true, length, slice_get, slice_index_or};
 ghost use Rattle.std.specs.List.{list_all};
-ghost use Rattle.ba_tree.specs.Facts.{is_promoted};
+ghost use Rattle.ba_numbers.specs.Types.{is_promoted};
 ghost use Rattle.ba_wordlist.specs.Facts.{are_names, are_typed, are_words, fits_behind, is_name, is_place, is_typed, is_word_value, length_of, shows_type};
 
 use ba_items::Items;

@@ -1,9 +1,8 @@
 //! The formulas of programs.
 
-use ba_commands::read_weights;
 use ba_encode::Encoded;
 use ba_formula::formula_of;
-use ba_interp::read_input;
+use ba_inputs::{read_input, read_weights};
 use ba_tree::run::Bounds;
 use std::alloc::Global;
 use std::panic::Expect;

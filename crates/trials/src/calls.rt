@@ -1,9 +1,9 @@
 //! Calls of the program.
 
 use anyhow::Result;
+use ba_answers::status::Status;
+use ba_jobs::rules::{Rules, keep, luby, steady};
 use ba_steps::NoSink;
-use ba_tool::rules::{Rules, keep, luby, steady};
-use ba_tool::status::Status;
 use ba_tool::tool::tool;
 use ba_world::{HostWorld, RuntimeFiles};
 use std::io;

@@ -1,4 +1,4 @@
-use Rattle.ba_types.proofs.Programs.{one_of_text}
+use Rattle.ba_tree_laws.proofs.OneProgram.{one_of_text}
 use Rattle.ba_tree_laws.proofs.Equivalence.{equivalent}
 use Rattle.ba_tree_laws.proofs.one_meaning.Goals as goal
 

@@ -5,8 +5,7 @@ ghost use Rattle.ba_tree.specs.Least.{AreWeightsOf};
 ghost use Rattle.ba_tree.specs.Run.{fits};
 
 use anyhow::{Result, bail};
-use ba_commands::read_weights;
-use ba_interp::read_input;
+use ba_inputs::{read_input, read_weights};
 use ba_lex::{MAX_TEXT, tokens};
 use ba_parse::parse;
 use ba_tree::run::{Input, Weights};

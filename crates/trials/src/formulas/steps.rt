@@ -7,9 +7,9 @@ use crate::formulas::sizes::nodes_in;
 use anyhow::Result;
 use ba_guards::{guard, inputs_are_words};
 use ba_inline::inline;
-use ba_loops::unroll;
 use ba_tree::run::{Bounds, Input};
 use ba_tree::tree::Program;
+use ba_unroll::unroll;
 use std::io;
 use std::time::{Clock, Instant};
 

@@ -3,10 +3,10 @@
 use crate::searches::report::{Report, Verdict};
 use ba_checker::{Checked, Checker};
 use ba_items::Items;
+use ba_jobs::rules::{keep, luby};
 use ba_lits::{Formula, Lit, Model};
 use ba_search::{Answer, Search, SearchError};
 use ba_steps::{CertStep, NoSink};
-use ba_tool::rules::{keep, luby};
 use std::alloc::Global;
 use test_formulas::{NoRuns, are_numbers};
 

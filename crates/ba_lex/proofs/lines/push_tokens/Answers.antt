@@ -7,8 +7,8 @@ use Rattle.ba_lex.specs.Lines.{tokens_at}
 use Rattle.ba_lex.specs.declared.error.LexError.{LexError}
 use Rattle.ba_lex.specs.declared.error.LexError.TheVariants.{Memory, TooMany}
 use Rattle.ba_lex.specs.declared.lines.TheConstants.{MAX_TOKENS}
-use Rattle.ba_lex.specs.declared.token.Token.{Token}
-use Rattle.ba_lex.specs.declared.token.TokenKind.{TokenKind}
+use Rattle.ba_tokens.specs.declared.token.Token.{Token}
+use Rattle.ba_tokens.specs.declared.token.TokenKind.{TokenKind}
 use Rattle.ba_lex.proofs.lines.push_tokens.Goals as goal
 
 -- one more kind was added

@@ -4,7 +4,7 @@ use Rattle.std.specs.Option.{is_some}
 use Rattle.std.specs.Str.{bytes_eq}
 use Rattle.ba_lex.specs.Lines.{body_of, replacement, is_in_body}
 use Rattle.ba_lex.specs.Storage.{is_among, table_of}
-use Rattle.ba_lex.specs.declared.token.TokenKind.{TokenKind}
+use Rattle.ba_tokens.specs.declared.token.TokenKind.{TokenKind}
 use Rattle.ba_lex.proofs.TableLemmas.{is_among-macro, is_among-name, lookup-table_of}
 use Rattle.ba_lex.proofs.macros.mention_token.Goals as goal
 

@@ -2,8 +2,8 @@
 
 use Rattle.std.proofs.Common.{◌≡◌, ◌+◌, ◌-◌, true, false, List, length, rules, arith, ap}
 use Rattle.std.proofs.lemmas.Result.{err_from_is_err_and}
-use Rattle.ba_parse.specs.Marks.{Mark}
-use Rattle.ba_parse.specs.DeclarationMarks.{listed_declarator_marks}
+use Rattle.ba_trees.specs.Marks.{Mark}
+use Rattle.ba_trees.specs.DeclarationMarks.{listed_declarator_marks}
 use Rattle.ba_parse.specs.Readings.{levels_left}
 use Rattle.ba_parse.proofs.Begins.{comma, next_declarator}
 use Rattle.ba_parse.proofs.Repeats.{repeat-turn, repeat-end, repeat-out, repeat-stop}

@@ -2,8 +2,8 @@
 
 use Rattle.std.proofs.Common.{◌≡◌, ◌-◌, length, map}
 use Rattle.ba_parse.specs.Readings.{with_front, many_upto, levels_left}
-use Rattle.ba_parse.specs.Views.{joined}
-use Rattle.ba_parse.specs.DeclarationMarks.{listed_declarator_marks}
+use Rattle.ba_trees.specs.Views.{joined}
+use Rattle.ba_trees.specs.DeclarationMarks.{listed_declarator_marks}
 use Rattle.ba_parse.proofs.Begins.{comma, next_declarator}
 use Rattle.ba_parse.proofs.declarations.next_declarators.Given as goal
 

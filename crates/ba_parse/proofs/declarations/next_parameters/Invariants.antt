@@ -2,8 +2,8 @@
 
 use Rattle.std.proofs.Common.{◌≡◌, ◌-◌, length, map}
 use Rattle.ba_parse.specs.Readings.{with_front, many_upto, levels_left}
-use Rattle.ba_parse.specs.Views.{joined}
-use Rattle.ba_parse.specs.DeclarationMarks.{next_parameter_marks}
+use Rattle.ba_trees.specs.Views.{joined}
+use Rattle.ba_trees.specs.DeclarationMarks.{next_parameter_marks}
 use Rattle.ba_parse.proofs.Begins.{comma, next_parameter}
 use Rattle.ba_parse.proofs.declarations.next_parameters.Given as goal
 

@@ -2,8 +2,8 @@
 
 use Rattle.std.proofs.Common.{◌≡◌, ◌-◌, length, map}
 use Rattle.ba_parse.specs.Readings.{with_front, many_upto, levels_left}
-use Rattle.ba_parse.specs.Views.{joined}
-use Rattle.ba_parse.specs.ExpressionMarks.{next_expression_marks}
+use Rattle.ba_trees.specs.Views.{joined}
+use Rattle.ba_trees.specs.ExpressionMarks.{next_expression_marks}
 use Rattle.ba_parse.proofs.Begins.{value, after_comma}
 use Rattle.ba_parse.proofs.declarations.next_values.Given as goal
 

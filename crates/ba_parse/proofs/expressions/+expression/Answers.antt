@@ -1,14 +1,14 @@
 -- Inside a construct, by whether a level is left.
 
 use Rattle.std.proofs.Common.{append_assoc, ◌≡◌, ◌+◌, ◌-◌, ◌∙◌, Bool, true, false, List, length, option_map, rules, arith, refl, sym, ap}
-use Rattle.ba_lex.specs.declared.token.Token.{Token}
-use Rattle.ba_lex.specs.declared.token.Punct.TheVariants as punct
-use Rattle.ba_parse.specs.Classes.{mark}
+use Rattle.ba_tokens.specs.declared.token.Token.{Token}
+use Rattle.ba_tokens.specs.declared.token.Punct.TheVariants as punct
+use Rattle.ba_trees.specs.Classes.{mark}
 use Rattle.std.proofs.lemmas.List.{append-nil}
-use Rattle.ba_parse.specs.Marks.{Mark}
+use Rattle.ba_trees.specs.Marks.{Mark}
 use Rattle.std.proofs.lemmas.Result.{err_from_is_err_and}
-use Rattle.ba_parse.specs.ExpressionMarks.{chain_marks, next_expression_marks, operand_marks, unary_marks}
-use Rattle.ba_parse.specs.Views.{optional}
+use Rattle.ba_trees.specs.ExpressionMarks.{chain_marks, next_expression_marks, operand_marks, unary_marks}
+use Rattle.ba_trees.specs.Views.{optional}
 use Rattle.ba_parse.proofs.Repeats.{repeat-turn, repeat-end, repeat-out, repeat-stop}
 use Rattle.ba_parse.specs.Readings.{levels_left, done, Inner, Reading, ◌▹◌, next_is, read_sign, read_expression, in_expression, in_unary, in_arguments, in_chained}
 use Rattle.ba_parse.proofs.Levels.{levels_left-none, levels_left-some, none-told, chained-some, operand-first_stops, operand-stops, operand-next}

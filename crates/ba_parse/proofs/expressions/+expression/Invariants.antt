@@ -1,11 +1,11 @@
 -- How many more constructs may be around a token, and then a rank: what is inside a construct has the least.
 
 use Rattle.std.specs.Prelude.{◌≡◌, ◌+◌, ◌-◌, ◌*◌, ◌++◌, length, map}
-use Rattle.ba_lex.specs.declared.token.Punct.TheVariants as punct
-use Rattle.ba_parse.specs.Classes.{mark}
+use Rattle.ba_tokens.specs.declared.token.Punct.TheVariants as punct
+use Rattle.ba_trees.specs.Classes.{mark}
 use Rattle.ba_parse.specs.Readings.{done, ◌▹◌, with_front, many_upto, next_is, read_sign, read_expression, read_operand, levels_left}
-use Rattle.ba_parse.specs.ExpressionMarks.{chain_marks, next_expression_marks, unary_marks}
-use Rattle.ba_parse.specs.Views.{joined}
+use Rattle.ba_trees.specs.ExpressionMarks.{chain_marks, next_expression_marks, unary_marks}
+use Rattle.ba_trees.specs.Views.{joined}
 use Rattle.ba_parse.proofs.expressions.+expression.Given as goal
 
 abbrev pub decreases-inner_expression : goal.decreases-inner_expression

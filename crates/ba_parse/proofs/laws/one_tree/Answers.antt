@@ -1,4 +1,4 @@
-use Rattle.ba_parse.specs.FileMarks.{file_marks}
+use Rattle.ba_trees.specs.FileMarks.{file_marks}
 use Rattle.ba_parse.proofs.laws.one_tree.Goals as goal
 use Rattle.ba_parse.proofs.OneTree.{one_tree}
 

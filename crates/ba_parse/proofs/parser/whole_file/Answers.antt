@@ -1,14 +1,14 @@
 -- What the reading of the file gives, and then its outcome.
 
 use Rattle.std.proofs.Common.{◌≡◌, List, map, Err, inr, sym, ◌∙◌, ap}
-use Rattle.ba_lex.specs.declared.token.Token.{Token}
+use Rattle.ba_tokens.specs.declared.token.Token.{Token}
 use Rattle.ba_parse.specs.declared.error.ParseError.TheVariants as error
-use Rattle.ba_parse.specs.Marks.{Mark, node_of, file}
+use Rattle.ba_trees.specs.Marks.{Mark, node_of, file}
 use Rattle.ba_parse.specs.Readings.{Answer, done, syntax, too_deep, around, read_many, levels_left}
 use Rattle.ba_parse.specs.Outcomes.{outcome_of}
 use Rattle.ba_parse.specs.Telling.{Told}
-use Rattle.ba_parse.specs.Views.{joined}
-use Rattle.ba_parse.specs.ExternalMarks.{external_marks}
+use Rattle.ba_trees.specs.Views.{joined}
+use Rattle.ba_trees.specs.ExternalMarks.{external_marks}
 use Rattle.ba_parse.proofs.Verdicts.{accepted_levels}
 use Rattle.ba_parse.proofs.StatementBegins.{external, an_external}
 use Rattle.ba_parse.proofs.parser.whole_file.Goals as goal

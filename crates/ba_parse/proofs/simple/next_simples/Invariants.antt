@@ -2,8 +2,8 @@
 
 use Rattle.std.proofs.Common.{◌≡◌, ◌-◌, length, map}
 use Rattle.ba_parse.specs.Readings.{with_front, many_upto, levels_left}
-use Rattle.ba_parse.specs.Views.{joined}
-use Rattle.ba_parse.specs.SimpleMarks.{listed_simple_marks}
+use Rattle.ba_trees.specs.Views.{joined}
+use Rattle.ba_trees.specs.SimpleMarks.{listed_simple_marks}
 use Rattle.ba_parse.proofs.Begins.{comma, next_simple}
 use Rattle.ba_parse.proofs.simple.next_simples.Given as goal
 

@@ -2,7 +2,7 @@
 
 use Rattle.std.proofs.Common.{◌≡◌, ◌+◌, ◌-◌, true, false, List, [], ◌∷◌, length, rules, arith, ap}
 use Rattle.std.proofs.lemmas.Result.{err_from_is_err_and}
-use Rattle.ba_parse.specs.Marks.{Mark, leaf}
+use Rattle.ba_trees.specs.Marks.{Mark, leaf}
 use Rattle.ba_parse.proofs.OtherRepeats.{string, a_string, leaves-push}
 use Rattle.ba_parse.proofs.Repeats.{repeat-next, repeat-end, repeat-out, repeat-stop}
 use Rattle.ba_parse.proofs.TypeWords.{leaves}

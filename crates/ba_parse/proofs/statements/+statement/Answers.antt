@@ -2,15 +2,15 @@
 
 use Rattle.std.proofs.Common.{append_assoc, option_map, ◌≡◌, ◌+◌, ◌-◌, true, false, List, [], ◌∷◌, Err, length, rules, arith, refl, ap, ◌∙◌, sym}
 use Rattle.std.proofs.lemmas.Result.{err_from_is_err_and}
-use Rattle.ba_parse.specs.Marks.{Mark, leaf, one_deeper}
-use Rattle.ba_lex.specs.declared.token.Token.{Token}
-use Rattle.ba_lex.specs.declared.token.Keyword.TheVariants as keyword
-use Rattle.ba_lex.specs.declared.token.Punct.TheVariants as punct
+use Rattle.ba_trees.specs.Marks.{Mark, leaf, one_deeper}
+use Rattle.ba_tokens.specs.declared.token.Token.{Token}
+use Rattle.ba_tokens.specs.declared.token.Keyword.TheVariants as keyword
+use Rattle.ba_tokens.specs.declared.token.Punct.TheVariants as punct
 use Rattle.ba_parse.specs.Readings.{Answer, Inner, ◌▹◌, done, lowered, levels_left, in_block, in_for, in_statement, deeper_in, read_key, read_sign, read_condition, read_parenthesized}
 use Rattle.ba_parse.specs.Tails.{read_else}
 use Rattle.ba_parse.specs.Telling.{Told}
-use Rattle.ba_parse.specs.SimpleMarks.{condition_marks, for_head_marks}
-use Rattle.ba_parse.specs.StatementMarks.{or_no_else, else_marks, controlled_marks, item_marks, statement_marks}
+use Rattle.ba_trees.specs.SimpleMarks.{condition_marks, for_head_marks}
+use Rattle.ba_trees.specs.StatementMarks.{or_no_else, else_marks, controlled_marks, item_marks, statement_marks}
 use Rattle.ba_parse.proofs.Levels.{both-read, levels_left-none, levels_left-some, none-told, lowered-stops, deeper-told}
 use Rattle.ba_parse.proofs.Repeats.{repeat-turn, repeat-end, repeat-out, repeat-stop}
 use Rattle.ba_parse.proofs.StatementBegins.{item, an_item}

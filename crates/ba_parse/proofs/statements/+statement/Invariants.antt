@@ -2,8 +2,8 @@
 
 use Rattle.std.proofs.Common.{◌≡◌, ◌+◌, ◌-◌, ◌*◌, length, map}
 use Rattle.ba_parse.specs.Readings.{with_front, many_upto, levels_left}
-use Rattle.ba_parse.specs.Views.{joined}
-use Rattle.ba_parse.specs.StatementMarks.{item_marks}
+use Rattle.ba_trees.specs.Views.{joined}
+use Rattle.ba_trees.specs.StatementMarks.{item_marks}
 use Rattle.ba_parse.proofs.StatementBegins.{item, an_item}
 use Rattle.ba_parse.proofs.statements.+statement.Given as goal
 

@@ -2,13 +2,13 @@
 
 use Rattle.std.proofs.Common.{List, [], ◌∷◌, ap}
 use Rattle.std.proofs.lemmas.Result.{err_from_is_err_and}
-use Rattle.ba_lex.specs.declared.token.Token.{Token}
-use Rattle.ba_lex.specs.declared.token.Keyword.TheVariants as keyword
-use Rattle.ba_lex.specs.declared.token.Punct.TheVariants as punct
-use Rattle.ba_parse.specs.Marks.{Mark, leaf}
+use Rattle.ba_tokens.specs.declared.token.Token.{Token}
+use Rattle.ba_tokens.specs.declared.token.Keyword.TheVariants as keyword
+use Rattle.ba_tokens.specs.declared.token.Punct.TheVariants as punct
+use Rattle.ba_trees.specs.Marks.{Mark, leaf}
 use Rattle.ba_parse.specs.Readings.{Inner, Reading, ◌▹◌, lowered, levels_left, in_printf, deeper_in, read_key, read_parenthesized, read_semicolon, read_sign}
-use Rattle.ba_parse.specs.SimpleMarks.{printed_marks}
-use Rattle.ba_parse.specs.StatementMarks.{form_marks}
+use Rattle.ba_trees.specs.SimpleMarks.{printed_marks}
+use Rattle.ba_trees.specs.StatementMarks.{form_marks}
 use Rattle.ba_parse.proofs.Levels.{both-read, lowered-stops}
 use Rattle.ba_parse.proofs.Sequences.{first-stops, next-stops}
 use Rattle.ba_parse.proofs.statements.printf_statement.Goals as goal

@@ -3,8 +3,8 @@
 use Rattle.std.proofs.Common.{◌≡◌, true, List, [], ◌∷◌, ◌++◌, Err, rules, sym, ap, ◌∙◌}
 use Rattle.std.specs.List.{list_any}
 use Rattle.std.proofs.lemmas.Result.{err_from_is_err_and}
-use Rattle.ba_parse.specs.Classes.{type_word, declaration_word}
-use Rattle.ba_parse.specs.Marks.{Mark, leaf}
+use Rattle.ba_trees.specs.Classes.{type_word, declaration_word}
+use Rattle.ba_trees.specs.Marks.{Mark, leaf}
 use Rattle.ba_parse.specs.Readings.{done, next_is}
 use Rattle.ba_parse.specs.Telling.{Told, next_word}
 use Rattle.ba_parse.proofs.TypeWords.{classes, classes-push, words-turn, words-stop, words-all, words-none}

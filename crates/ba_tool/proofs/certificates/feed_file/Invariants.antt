@@ -1,7 +1,7 @@
 use Rattle.std.proofs.Common.{◌+◌, ◌-◌, ◌≤◌}
 use Rattle.ba_check.specs.Readers.{seen}
 use Rattle.ba_world.specs.World.{OnlyReads}
-use Rattle.ba_tool.specs.Limits.{certificate_limit}
+use Rattle.ba_answers.specs.Limits.{certificate_limit}
 use Rattle.ba_tool.proofs.Feeding.{IsFeeding}
 use Rattle.ba_tool.proofs.certificates.feed_file.Given as goal
 

@@ -1,5 +1,5 @@
 use Rattle.std.proofs.Common.{subst}
-use Rattle.ba_types.specs.Spelling.{Spells}
+use Rattle.ba_tree_laws.specs.Spelling.{Spells}
 use Rattle.ba_tool.specs.Programs.{TellsFault}
 use Rattle.ba_tool.proofs.Answering.{refused}
 use Rattle.ba_tool.proofs.judge.judge.Goals as goal

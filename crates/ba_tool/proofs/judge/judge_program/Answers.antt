@@ -1,9 +1,9 @@
 use Rattle.std.proofs.Common.{None, ◌∙◌, sym, subst}
-use Rattle.ba_commands.specs.Weights.{Tells, bad_line}
-use Rattle.ba_commands.specs.declared.weights.WeightsError.{WeightsError}
+use Rattle.ba_inputs.specs.Weights.{Tells, bad_line}
+use Rattle.ba_inputs.specs.declared.weights.WeightsError.{WeightsError}
 use Rattle.ba_laws.proofs.PlainRuns.{plain_right}
 use Rattle.ba_tool.specs.Answers.{IsAnswer}
-use Rattle.ba_tool.specs.declared.answers.Answer.TheVariants as answer
+use Rattle.ba_answers.specs.declared.answers.Answer.TheVariants as answer
 use Rattle.ba_tool.proofs.Answering.{case_is, case_runs, judged_input, judged_large, judged_line}
 use Rattle.ba_tool.proofs.judge.judge_program.Goals as goal
 

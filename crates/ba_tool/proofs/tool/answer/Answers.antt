@@ -1,7 +1,7 @@
 use Rattle.std.proofs.Common.{◌∙◌, ◌+◌, ◌≤◌, sym, subst}
 use Rattle.ba_world.proofs.WholeReads.{only_reads_none}
 use Rattle.ba_tool.specs.Calls.{most_given}
-use Rattle.ba_tool.specs.declared.jobs.Request.{Request}
+use Rattle.ba_jobs.specs.declared.jobs.Request.{Request}
 use Rattle.ba_tool.proofs.Bounded.{job_bounds, sample_few}
 use Rattle.ba_tool.proofs.Coming.{if_err, refused_as, stops_read}
 use Rattle.ba_tool.proofs.tool.answer.Goals as goal

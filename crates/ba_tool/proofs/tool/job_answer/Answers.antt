@@ -1,6 +1,6 @@
 use Rattle.std.proofs.Common.{arith}
 use Rattle.std.proofs.lemmas.Result.{IfErr-weaker, IfOk-weaker}
-use Rattle.ba_tool.specs.Jobs.{written_by}
+use Rattle.ba_jobs.specs.Jobs.{written_by}
 use Rattle.ba_tool.proofs.Coming.{comes_proceeds, stops_later}
 use Rattle.ba_tool.proofs.tool.job_answer.Goals as goal
 

@@ -2,9 +2,9 @@ use Rattle.std.proofs.Common.{ap, subst, ◌+◌, ◌≤◌, arith}
 use Rattle.std.proofs.lemmas.Result.{IfErr-weaker, IfOk-weaker}
 use Rattle.ba_tree.specs.Run.{are_bounds}
 use Rattle.ba_tool.specs.Calls.{most_of}
-use Rattle.ba_tool.specs.declared.jobs.Job.{Job}
+use Rattle.ba_jobs.specs.declared.jobs.Job.{Job}
 use Rattle.ba_tool.proofs.Coming.{sample_stops, sampled_as}
-use Rattle.ba_tool.proofs.Sampling.{inputs_short, texts_short}
+use Rattle.ba_jobs.proofs.Sampling.{inputs_short, texts_short}
 use Rattle.ba_tool.proofs.tool.sample_answer.Goals as goal
 
 pub texts_answer-requires-clause-program_short : goal.texts_answer-requires-clause-program_short

@@ -4,7 +4,7 @@ use Rattle.ba_localise.specs.Verdicts.{told}
 use Rattle.ba_world.proofs.WholeReads.{only_reads_none}
 use Rattle.ba_tool.specs.Calls.{most_of}
 use Rattle.ba_tool.specs.Cases.{IsJudged}
-use Rattle.ba_tool.specs.declared.jobs.Task.{Task}
+use Rattle.ba_jobs.specs.declared.jobs.Task.{Task}
 use Rattle.ba_tool.proofs.Coming.{if_err, proceeds_checked, proceeds_judged, proceeds_searched, sink_faults, stops_read, stops_searched}
 use Rattle.ba_tool.proofs.Ending.{only_writes}
 use Rattle.ba_tool.proofs.tool.texts_answer.Goals as goal

@@ -1,9 +1,9 @@
 use Rattle.std.proofs.Common.{sym, ◌∙◌, ap}
-use Rattle.ba_parse.specs.declared.tree.statements.FunctionEnd.{FunctionEnd}
-use Rattle.ba_types.specs.Adding.{behind_part, state}
-use Rattle.ba_types.specs.Declarations.{in_order}
-use Rattle.ba_types.specs.Files.{body_parts}
-use Rattle.ba_types.proofs.Adding.{behind-nothing}
+use Rattle.ba_trees.specs.declared.tree.statements.FunctionEnd.{FunctionEnd}
+use Rattle.ba_statements.specs.Adding.{behind_part, state}
+use Rattle.ba_typing.specs.Declarations.{in_order}
+use Rattle.ba_typing.specs.Files.{body_parts}
+use Rattle.ba_statements.proofs.Adding.{behind-nothing}
 use Rattle.ba_types.proofs.files.add_body.Goals as goal
 
 pub returns-in-Prototype : goal.returns-in-Prototype

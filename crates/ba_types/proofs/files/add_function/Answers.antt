@@ -1,11 +1,11 @@
 use Rattle.std.proofs.Common.{Bool, ◌∙◌, ap, subst}
 use Rattle.std.proofs.lemmas.Result.{on_ok_weaker}
-use Rattle.ba_types.specs.Files.{params_of}
+use Rattle.ba_typing.specs.Files.{params_of}
 use Rattle.ba_types.specs.Filing.{GivesFunction}
-use Rattle.ba_types.specs.Marks.{back_to}
-use Rattle.ba_types.specs.Names.{Scope}
-use Rattle.ba_types.specs.declared.scopes.Mark.{Mark}
-use Rattle.ba_types.specs.declared.tally.Tally.{Tally}
+use Rattle.ba_scopes.specs.Marks.{back_to}
+use Rattle.ba_typing.specs.Names.{Scope}
+use Rattle.ba_scopes.specs.declared.scopes.Mark.{Mark}
+use Rattle.ba_expressions.specs.declared.tally.Tally.{Tally}
 use Rattle.ba_types.proofs.FunctionSteps.{function-added}
 use Rattle.ba_types.proofs.files.add_function.Goals as goal
 

@@ -1,10 +1,10 @@
 use Rattle.std.proofs.Common.{◌≡◌, ◌-◌, ℕ, List, [], length, drop, map, refl, ◌∙◌, ap}
 use Rattle.ba_numbers.specs.declared.ids.VarId.{VarId}
 use Rattle.ba_tree.specs.declared.tree.Stmt.{Stmt}
-use Rattle.ba_types.specs.Adding.{at_place, behind_part}
-use Rattle.ba_types.specs.Declarations.{in_order}
-use Rattle.ba_types.specs.Files.{body_parts, params_of, vars_from, vars_of}
-use Rattle.ba_types.specs.Trees.{tree_of_stmt}
+use Rattle.ba_statements.specs.Adding.{at_place, behind_part}
+use Rattle.ba_typing.specs.Declarations.{in_order}
+use Rattle.ba_typing.specs.Files.{body_parts, params_of, vars_from, vars_of}
+use Rattle.ba_tree.specs.Trees.{tree_of_stmt}
 use Rattle.ba_types.proofs.FunctionSteps.{function-is}
 use Rattle.ba_types.proofs.files.add_inside.Goals as goal
 

@@ -1,7 +1,7 @@
 use Rattle.std.proofs.Common.{List, option_map, refl, ◌∙◌, ap}
-use Rattle.ba_types.specs.Judging.{fresh_scope}
-use Rattle.ba_types.specs.Names.{definition_in, main_name}
-use Rattle.ba_types.specs.declared.scopes.Signature.{Signature}
+use Rattle.ba_typing.specs.Names.{fresh_scope}
+use Rattle.ba_typing.specs.Names.{definition_in, main_name}
+use Rattle.ba_typing.specs.declared.meanings.Signature.{Signature}
 use Rattle.ba_types.proofs.FileSteps.{typed-is}
 use Rattle.ba_types.proofs.files.typed_file.Goals as goal
 

@@ -1,5 +1,5 @@
 use Rattle.std.proofs.Common.{◌-◌}
-use Rattle.ba_types.specs.Files.{vars_from}
+use Rattle.ba_typing.specs.Files.{vars_from}
 use Rattle.ba_types.proofs.FunctionSteps.{next-var}
 use Rattle.ba_types.proofs.files.vars_between.Goals as goal
 

@@ -1,5 +1,5 @@
 use Rattle.std.proofs.Common.{◌≡◌, ◌-◌, ◌++◌}
-use Rattle.ba_types.specs.Files.{vars_from}
+use Rattle.ba_typing.specs.Files.{vars_from}
 use Rattle.ba_types.proofs.files.vars_between.Given as goal
 
 abbrev pub invariant-loop-n : goal.invariant-loop-n

@@ -1,9 +1,9 @@
 use Rattle.std.proofs.Common.{◌≡◌, [], Err, sym, subst}
 use Rattle.std.proofs.lemmas.Option.{MatchOption-at_none, MatchOption-at_some}
-use Rattle.ba_types.specs.Faults.{IsFirst}
-use Rattle.ba_types.specs.Files.{faults_of}
+use Rattle.ba_typing.specs.Faults.{IsFirst}
+use Rattle.ba_typing.specs.Files.{faults_of}
 use Rattle.ba_types.specs.Filing.{CheckedParts}
-use Rattle.ba_types.specs.declared.error.TypeError.{TypeError}
+use Rattle.ba_typing.specs.declared.error.TypeError.{TypeError}
 use Rattle.ba_types.proofs.FileSteps.{first-error, found-first, no-main, with-main}
 use Rattle.ba_types.proofs.files.verdict.Goals as goal
 

@@ -1,5 +1,5 @@
-use Rattle.ba_types.specs.Adding.{at_place, behind_part}
-use Rattle.ba_types.specs.Files.{add_params}
+use Rattle.ba_statements.specs.Adding.{at_place, behind_part}
+use Rattle.ba_typing.specs.Files.{add_params}
 use Rattle.ba_types.specs.Filing.{next_params}
 use Rattle.ba_types.proofs.ParameterSteps.{next-param, no-param}
 use Rattle.ba_types.proofs.parameters.add_next_params.Goals as goal

@@ -1,8 +1,8 @@
 use Rattle.std.proofs.Common.{◌≡◌, List, drop}
-use Rattle.ba_types.specs.Adding.{at_place, behind_part}
-use Rattle.ba_types.specs.Files.{add_params}
+use Rattle.ba_statements.specs.Adding.{at_place, behind_part}
+use Rattle.ba_typing.specs.Files.{add_params}
 use Rattle.ba_types.specs.Filing.{next_params}
-use Rattle.ba_types.specs.Trees.{StmtTree}
+use Rattle.ba_tree.specs.Trees.{StmtTree}
 use Rattle.ba_types.proofs.parameters.add_next_params.Given as goal
 
 abbrev pub invariant-loop-next : goal.invariant-loop-next

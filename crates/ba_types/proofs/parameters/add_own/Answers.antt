@@ -1,9 +1,9 @@
 use Rattle.std.proofs.Common.{List, ◌∙◌, ap}
 use Rattle.std.proofs.lemmas.Result.{on_ok_weaker}
-use Rattle.ba_types.specs.Adding.{at_place, behind_part}
-use Rattle.ba_types.specs.Declarations.{add_variable}
-use Rattle.ba_types.specs.Files.{param_length}
-use Rattle.ba_types.specs.declared.scopes.Signature.{Signature}
+use Rattle.ba_statements.specs.Adding.{at_place, behind_part}
+use Rattle.ba_typing.specs.Declarations.{add_variable}
+use Rattle.ba_typing.specs.Files.{param_length}
+use Rattle.ba_typing.specs.declared.meanings.Signature.{Signature}
 use Rattle.ba_types.proofs.ParameterSteps.{own-is}
 use Rattle.ba_types.proofs.parameters.add_own.Goals as goal
 

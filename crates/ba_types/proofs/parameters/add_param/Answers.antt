@@ -1,8 +1,8 @@
 use Rattle.std.proofs.Common.{◌++◌, ap}
-use Rattle.ba_types.specs.Adding.{at_place}
-use Rattle.ba_types.specs.Faults.{limit_faults, parameter_limit, void_faults}
-use Rattle.ba_types.specs.declared.tally.Tally.{Tally}
-use Rattle.ba_types.proofs.Adding.{faults-part}
+use Rattle.ba_statements.specs.Adding.{at_place}
+use Rattle.ba_typing.specs.Faults.{limit_faults, parameter_limit, void_faults}
+use Rattle.ba_expressions.specs.declared.tally.Tally.{Tally}
+use Rattle.ba_statements.proofs.Adding.{faults-part}
 use Rattle.ba_types.proofs.ParameterSteps.{param-is}
 use Rattle.ba_types.proofs.parameters.add_param.Goals as goal
 

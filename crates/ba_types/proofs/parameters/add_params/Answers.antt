@@ -1,11 +1,11 @@
 use Rattle.std.proofs.Common.{List, ◌∙◌, ap}
 use Rattle.std.proofs.lemmas.Result.{on_ok_weaker}
-use Rattle.ba_parse.specs.declared.tree.declarations.NextParameter.{NextParameter}
-use Rattle.ba_parse.specs.declared.tree.declarations.Parameter.{Parameter}
-use Rattle.ba_types.specs.Adding.{at_place, behind_part}
-use Rattle.ba_types.specs.Files.{add_params}
+use Rattle.ba_trees.specs.declared.tree.declarations.NextParameter.{NextParameter}
+use Rattle.ba_trees.specs.declared.tree.declarations.Parameter.{Parameter}
+use Rattle.ba_statements.specs.Adding.{at_place, behind_part}
+use Rattle.ba_typing.specs.Files.{add_params}
 use Rattle.ba_types.specs.Filing.{next_params}
-use Rattle.ba_types.proofs.Adding.{behind-nothing}
+use Rattle.ba_statements.proofs.Adding.{behind-nothing}
 use Rattle.ba_types.proofs.ParameterSteps.{first-param}
 use Rattle.ba_types.proofs.parameters.add_params.Goals as goal
 

@@ -1,6 +1,6 @@
 use Rattle.std.proofs.Common.{Bool, sym, ◌∙◌, ap}
 use Rattle.std.proofs.lemmas.Result.{on_ok_weaker}
-use Rattle.ba_types.specs.Adding.{at_place, behind_part}
+use Rattle.ba_statements.specs.Adding.{at_place, behind_part}
 use Rattle.ba_types.specs.Filing.{declaring_param}
 use Rattle.ba_types.proofs.ParameterSteps.{looked-is}
 use Rattle.ba_types.proofs.parameters.declare_param.Goals as goal

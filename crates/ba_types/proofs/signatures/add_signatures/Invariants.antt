@@ -1,5 +1,5 @@
 use Rattle.std.proofs.Common.{◌≡◌, ◌++◌, drop}
-use Rattle.ba_types.specs.Files.{signatures, signatures_from}
+use Rattle.ba_typing.specs.Files.{signatures, signatures_from}
 use Rattle.ba_types.proofs.signatures.add_signatures.Given as goal
 
 abbrev pub invariant-loop-external : goal.invariant-loop-external

@@ -1,6 +1,6 @@
 use Rattle.std.proofs.Common.{◌≡◌, ◌++◌, map, drop}
-use Rattle.ba_parse.specs.declared.tree.declarations.NextParameter.{NextParameter}
-use Rattle.ba_types.specs.Files.{type_of_param}
+use Rattle.ba_trees.specs.declared.tree.declarations.NextParameter.{NextParameter}
+use Rattle.ba_typing.specs.Files.{type_of_param}
 use Rattle.ba_types.proofs.signatures.add_types.Given as goal
 
 abbrev pub invariant-loop-next : goal.invariant-loop-next

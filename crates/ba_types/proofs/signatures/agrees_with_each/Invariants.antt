@@ -1,6 +1,6 @@
 use Rattle.std.proofs.Common.{◌≡◌, drop}
 use Rattle.std.specs.List.{list_all}
-use Rattle.ba_types.specs.Files.{agrees}
+use Rattle.ba_typing.specs.Files.{agrees}
 use Rattle.ba_types.specs.Filing.{same_named}
 use Rattle.ba_types.proofs.signatures.agrees_with_each.Given as goal
 

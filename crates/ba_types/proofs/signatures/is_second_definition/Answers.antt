@@ -1,7 +1,7 @@
 use Rattle.std.proofs.Common.{Bool, ◌&&◌, is_some, sym, ◌∙◌, ap}
 use Rattle.std.specs.List.{list_any}
 use Rattle.ba_types.specs.Filing.{same_named}
-use Rattle.ba_types.specs.declared.scopes.Signature.{Signature}
+use Rattle.ba_typing.specs.declared.meanings.Signature.{Signature}
 use Rattle.ba_types.proofs.SignatureSteps.{some-borrowed, some-definition}
 use Rattle.ba_types.proofs.signatures.is_second_definition.Goals as goal
 

@@ -1,5 +1,5 @@
 use Rattle.std.proofs.Common.{◌≡◌, drop}
-use Rattle.ba_types.specs.Files.{same_params}
+use Rattle.ba_typing.specs.Files.{same_params}
 use Rattle.ba_types.proofs.signatures.same_params.Given as goal
 
 abbrev pub invariant-loop-i : goal.invariant-loop-i

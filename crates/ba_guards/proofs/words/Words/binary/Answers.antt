@@ -5,7 +5,7 @@ use Rattle.ba_guards.proofs.Sharing.{emits-made}
 use Rattle.ba_guards.proofs.Folding.{binary-folded}
 use Rattle.ba_guards.specs.Making.{Emits, word_in}
 use Rattle.ba_guards.specs.declared.expressions.Expression.TheVariants.{Binary}
-use Rattle.ba_tree.specs.Facts.{is_promoted}
+use Rattle.ba_numbers.specs.Types.{is_promoted}
 use Rattle.ba_wordlist.proofs.Lengths.{length-lengths}
 use Rattle.ba_wordlist.specs.Facts.{are_words, is_name, is_word_value, lengths_of}
 use Rattle.ba_wordlist.specs.Meaning.{binary_value}

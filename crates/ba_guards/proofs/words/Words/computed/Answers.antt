@@ -1,7 +1,7 @@
 use Rattle.std.proofs.Common.{SFits, w64, to_z, of_z, to_z-of_z, rules, cond, ◌∙◌, ap}
 use Rattle.ba_guards.proofs.Folding.{binary-computed}
 use Rattle.ba_numbers.specs.Numbers.{converted, value_of}
-use Rattle.ba_tree.specs.Facts.{shifts}
+use Rattle.ba_numbers.specs.Types.{shifts}
 use Rattle.ba_guards.proofs.words.Words.computed.Goals as goal
 
 pub returns : goal.returns

@@ -7,7 +7,7 @@ use Rattle.ba_guards.proofs.Folding.{unary-folded}
 use Rattle.ba_guards.specs.Making.{Emits, word_in}
 use Rattle.ba_guards.specs.declared.expressions.Expression.TheVariants.{Unary}
 use Rattle.ba_numbers.specs.Numbers.{converted, value_of_one}
-use Rattle.ba_tree.specs.Facts.{is_promoted}
+use Rattle.ba_numbers.specs.Types.{is_promoted}
 use Rattle.ba_wordlist.proofs.Lengths.{length-lengths}
 use Rattle.ba_wordlist.specs.Facts.{are_words, is_name, is_word_value, lengths_of}
 use Rattle.ba_wordlist.specs.declared.words.WordOp.{WordOp}

@@ -1,0 +1,424 @@
+//! What a call of the program comes to, before it is printed.
+
+ghost use Rattle.std.specs.Prelude.{◌≡◌, ◌++◌, codes, decimal, IfOk, OnOk};
+ghost use Rattle.ba_answers.specs.Printed.{at_text, claim_text, code_of, file_word, input_text, place_text, status_of, text_of};
+ghost use Rattle.ba_answers.specs.declared.answers.Answer.{Answer};
+
+use crate::fault::{Cause, Fault};
+use crate::file::File;
+use crate::status::Status;
+use ba_items::Items;
+use ba_numbers::ids::At;
+use ba_text::push_number;
+use std::alloc::{AllocError, Global};
+
+/// Why a text is no input of a program. Pieces between blanks are counted from 1.
+#[derive(Clone, Copy)]
+pub enum InputFault {
+    /// The piece of this number is no number.
+    NotANumber(u32),
+    /// The number at this place is outside the type of its parameter.
+    OutOfRange(u32),
+    /// There are fewer or more numbers than the parameters take.
+    WrongCount,
+}
+
+/// What a certificate claims of a failing run.
+#[derive(Clone, Copy)]
+pub enum Claim {
+    /// The least sets are those that it names.
+    Located,
+    /// No set of statements could repair the run.
+    NoRepair,
+    /// There are more least sets than may be listed.
+    TooManySets,
+    /// The stated number of conflicts is spent.
+    BudgetSpent,
+}
+
+/// What a call comes to.
+pub enum Answer {
+    /// The least sets were found: their report.
+    Located(Items<u8>),
+    /// The least sets of a sample were found.
+    Sampled {
+        /// How many additions the sample has.
+        additions: u32,
+        /// The weight of each set.
+        weight: u64,
+        /// How many sets there are.
+        sets: u64,
+    },
+    /// The certificate is accepted, and claims this.
+    Accepted(Claim),
+    /// The run fails at the assertion that begins here.
+    AssertFails(At),
+    /// The run traps at the statement that begins here.
+    Trap(At),
+    /// The run as written meets every assertion.
+    NotFailing,
+    /// The words are no command.
+    BadWords,
+    /// The text of the program spells none.
+    BadProgram(Fault),
+    /// The text of the input is none for the program.
+    BadInput(InputFault),
+    /// The program is too large.
+    TooLarge,
+    /// The run goes past a bound at the statement that begins here.
+    BeyondBound(At),
+    /// No set of statements could repair the run.
+    NoRepair,
+    /// There are more least sets than may be listed.
+    TooManySets {
+        /// The weight of each.
+        weight: u64,
+        /// How many sets may be listed.
+        most: u32,
+    },
+    /// The search spent so many conflicts before it found out the least sets.
+    BudgetSpent(u64),
+    /// The certificate is refused.
+    BadCertificate {
+        /// What is wrong: the number of the step's error, from 1 to 14; 20 for a line that is no step's;
+        /// or 21 for a text that ends too early.
+        code: u8,
+        /// The first refused line, counted from 1.
+        line: u64,
+    },
+    /// This file cannot be read.
+    Unreadable(File),
+    /// This file is too long.
+    TooLong(File),
+    /// This line of the weights is the first that is refused.
+    BadWeights(u64),
+}
+
+impl Drop for Answer {
+    fn drop(self) {
+        match self {
+            Answer::Located(_) => {}
+            Answer::Sampled {
+                additions: _,
+                weight: _,
+                sets: _,
+            } => {}
+            Answer::Accepted(_) => {}
+            Answer::AssertFails(_) => {}
+            Answer::Trap(_) => {}
+            Answer::NotFailing => {}
+            Answer::BadWords => {}
+            Answer::BadProgram(_) => {}
+            Answer::BadInput(_) => {}
+            Answer::TooLarge => {}
+            Answer::BeyondBound(_) => {}
+            Answer::NoRepair => {}
+            Answer::TooManySets { weight: _, most: _ } => {}
+            Answer::BudgetSpent(_) => {}
+            Answer::BadCertificate { code: _, line: _ } => {}
+            Answer::Unreadable(_) => {}
+            Answer::TooLong(_) => {}
+            Answer::BadWeights(_) => {}
+        }
+    }
+}
+
+impl Answer {
+    /// How the program ends where the answer is printed whole.
+    pub fn status(&self) -> Status
+        ensures { result ≡ status_of self.now }
+    {
+        match self {
+            Answer::Located(_) | Answer::Sampled { .. } | Answer::Accepted(_) => Status::Ok,
+            Answer::AssertFails(_) | Answer::Trap(_) => Status::Ok,
+            Answer::NotFailing => Status::NotFailing,
+            Answer::BadWords => Status::BadWords,
+            Answer::BadProgram(_) => Status::BadProgram,
+            Answer::BadInput(_) => Status::BadInput,
+            Answer::TooLarge => Status::TooLarge,
+            Answer::BeyondBound(_) => Status::BeyondBound,
+            Answer::NoRepair => Status::NoRepair,
+            Answer::TooManySets { .. } => Status::TooManySets,
+            Answer::BudgetSpent(_) => Status::BudgetSpent,
+            Answer::BadCertificate { .. } => Status::BadCertificate,
+            Answer::Unreadable(_) => Status::ReadFault,
+            Answer::TooLong(_) => Status::TooLong,
+            Answer::BadWeights(_) => Status::BadWeights,
+        }
+    }
+
+    /// The text that is printed, with its line feed.
+    ///
+    /// The one error is want of memory.
+    pub fn text(&self, alloc: Global) -> Result<Vec<u8>, AllocError>
+        ensures { IfOk result (λ text. text.items ≡ text_of self.now) }
+    {
+        let mut text = Vec::new(alloc);
+        push_answer(self, &mut text)?;
+        Ok(text)
+    }
+}
+
+/// Adds the text of an answer.
+fn push_answer(answer: &Answer, text: &mut Vec<u8>) -> Result<(), AllocError>
+    ensures { OnOk result (text.new.items ≡ text.old.items ++ text_of answer.now) }
+{
+    match answer {
+        Answer::Located(report) => text.extend_from_slice(report.as_slice()),
+        Answer::Sampled {
+            additions,
+            weight,
+            sets,
+        } => push_sampled(*additions, *weight, *sets, text),
+        Answer::Accepted(claim) => push_claim(*claim, text),
+        Answer::AssertFails(at) => push_with_place(b"assertion fails at ", *at, text),
+        Answer::Trap(at) => push_with_place(b"trap at ", *at, text),
+        Answer::NotFailing => text.extend_from_slice(b"not failing\n"),
+        Answer::BadWords => text.extend_from_slice(b"refused: words\n"),
+        Answer::BadProgram(fault) => push_fault(*fault, text),
+        Answer::BadInput(fault) => push_input_fault(*fault, text),
+        Answer::TooLarge => text.extend_from_slice(b"refused: too large\n"),
+        Answer::BeyondBound(at) => push_with_place(b"beyond bound at ", *at, text),
+        Answer::NoRepair => text.extend_from_slice(b"no repair\n"),
+        Answer::TooManySets { weight, most } => push_too_many(*weight, *most, text),
+        Answer::BudgetSpent(conflicts) => push_spent(*conflicts, text),
+        Answer::BadCertificate { code, line } => push_bad_certificate(*code, *line, text),
+        Answer::Unreadable(file) => push_with_file(*file, b" cannot be read\n", text),
+        Answer::TooLong(file) => push_too_long(*file, text),
+        Answer::BadWeights(line) => push_line(*line, text),
+    }
+}
+
+/// Adds a position.
+fn push_at(at: At, text: &mut Vec<u8>) -> Result<(), AllocError>
+    ensures { OnOk result (text.new.items ≡ text.old.items ++ at_text at) }
+{
+    push_number(u64::from(at.line), text)?;
+    text.extend_from_slice(b":")?;
+    push_number(u64::from(at.column), text)
+}
+
+/// Adds these words and a position.
+fn push_with_place(words: &[u8], at: At, text: &mut Vec<u8>) -> Result<(), AllocError>
+    ensures { OnOk result (text.new.items
+        ≡ text.old.items ++ (words.now ++ at_text at ++ codes "\n")) }
+{
+    text.extend_from_slice(words)?;
+    push_at(at, text)?;
+    text.extend_from_slice(b"\n")
+}
+
+/// The word for a file.
+fn file_word(file: File) -> &'static [u8]
+    ensures { result.now ≡ file_word file }
+{
+    match file {
+        File::Program => b"program",
+        File::Input => b"input",
+        File::Weights => b"weights",
+        File::Certificate => b"certificate",
+    }
+}
+
+/// Adds the refusal of a file, which ends with these words.
+fn push_with_file(file: File, words: &[u8], text: &mut Vec<u8>) -> Result<(), AllocError>
+    ensures { OnOk result (text.new.items
+        ≡ text.old.items ++ (codes "refused: " ++ file_word file ++ words.now)) }
+{
+    text.extend_from_slice(b"refused: ")?;
+    text.extend_from_slice(file_word(file))?;
+    text.extend_from_slice(words)
+}
+
+/// Adds the refusal of a file that is too long.
+fn push_too_long(file: File, text: &mut Vec<u8>) -> Result<(), AllocError>
+    ensures { OnOk result (text.new.items ≡ text.old.items ++ text_of (Answer.TooLong file)) }
+{
+    push_with_file(file, b" is longer than ", text)?;
+    push_number(file.limit(), text)?;
+    text.extend_from_slice(b" bytes\n")
+}
+
+/// The words for what a certificate claims.
+fn claim_text(claim: Claim) -> &'static [u8]
+    ensures { result.now ≡ claim_text claim }
+{
+    match claim {
+        Claim::Located => b"located",
+        Claim::NoRepair => b"no repair",
+        Claim::TooManySets => b"too many sets",
+        Claim::BudgetSpent => b"budget spent",
+    }
+}
+
+/// Adds that a certificate is accepted, and what it claims.
+fn push_claim(claim: Claim, text: &mut Vec<u8>) -> Result<(), AllocError>
+    ensures { OnOk result (text.new.items ≡ text.old.items ++ text_of (Answer.Accepted claim)) }
+{
+    text.extend_from_slice(b"accepted: ")?;
+    text.extend_from_slice(claim_text(claim))?;
+    text.extend_from_slice(b"\n")
+}
+
+/// The stage and the number of a cause.
+fn code_of(cause: Cause) -> &'static [u8]
+    ensures { result.now ≡ code_of cause }
+{
+    match cause {
+        Cause::BadByte => b"1.1",
+        Cause::BadToken => b"1.2",
+        Cause::NotInProfile => b"1.3",
+        Cause::BadDirective => b"1.4",
+        Cause::MacroOrder => b"1.5",
+        Cause::Redefined => b"1.6",
+        Cause::TooMany => b"1.7",
+        Cause::Syntax => b"2.1",
+        Cause::TooDeep => b"2.2",
+        Cause::UnknownName => b"3.1",
+        Cause::Twice => b"3.2",
+        Cause::WrongKind => b"3.3",
+        Cause::WrongCount => b"3.4",
+        Cause::NoMain => b"3.5",
+        Cause::BadLength => b"3.6",
+        Cause::BreakOutside => b"3.7",
+        Cause::CallInIndex => b"3.8",
+        Cause::Limit => b"3.9",
+    }
+}
+
+/// Adds where a fault is.
+fn push_place(at: Option<At>, text: &mut Vec<u8>) -> Result<(), AllocError>
+    ensures { OnOk result (text.new.items ≡ text.old.items ++ place_text at) }
+{
+    match at {
+        Some(at) => push_at(at, text),
+        None => text.extend_from_slice(b"end"),
+    }
+}
+
+/// Adds the refusal of a program for its fault.
+fn push_fault(fault: Fault, text: &mut Vec<u8>) -> Result<(), AllocError>
+    ensures { OnOk result (text.new.items ≡ text.old.items ++ text_of (Answer.BadProgram fault)) }
+{
+    text.extend_from_slice(b"refused: program, error ")?;
+    text.extend_from_slice(code_of(fault.cause))?;
+    text.extend_from_slice(b" at ")?;
+    push_place(fault.at, text)?;
+    text.extend_from_slice(b"\n")
+}
+
+/// Adds these words and a number.
+fn push_numbered(words: &[u8], number: u64, text: &mut Vec<u8>) -> Result<(), AllocError>
+    ensures { OnOk result (text.new.items ≡ text.old.items ++ (words.now ++ decimal number)) }
+{
+    text.extend_from_slice(words)?;
+    push_number(number, text)
+}
+
+/// Adds the error of an input, and the number of the piece where it comes.
+fn push_input_error(fault: InputFault, text: &mut Vec<u8>) -> Result<(), AllocError>
+    ensures { OnOk result (text.new.items ≡ text.old.items ++ input_text fault) }
+{
+    match fault {
+        InputFault::NotANumber(number) => push_numbered(b"1 at number ", u64::from(number), text),
+        InputFault::OutOfRange(number) => push_numbered(b"2 at number ", u64::from(number), text),
+        InputFault::WrongCount => text.extend_from_slice(b"3"),
+    }
+}
+
+/// Adds the refusal of an input for its fault.
+fn push_input_fault(fault: InputFault, text: &mut Vec<u8>) -> Result<(), AllocError>
+    ensures { OnOk result (text.new.items ≡ text.old.items ++ text_of (Answer.BadInput fault)) }
+{
+    text.extend_from_slice(b"refused: input, error ")?;
+    push_input_error(fault, text)?;
+    text.extend_from_slice(b"\n")
+}
+
+/// Adds the refusal of the weights for a line.
+fn push_line(line: u64, text: &mut Vec<u8>) -> Result<(), AllocError>
+    ensures { OnOk result (text.new.items ≡ text.old.items ++ text_of (Answer.BadWeights line)) }
+{
+    push_numbered(b"refused: weights, line ", line, text)?;
+    text.extend_from_slice(b"\n")
+}
+
+/// Adds a number between these words.
+fn push_between(
+    before: &[u8],
+    number: u64,
+    after: &[u8],
+    text: &mut Vec<u8>,
+) -> Result<(), AllocError>
+    ensures { OnOk result (text.new.items
+        ≡ text.old.items ++ (before.now ++ decimal number ++ after.now)) }
+{
+    push_numbered(before, number, text)?;
+    text.extend_from_slice(after)
+}
+
+/// Adds two numbers, each behind these words, and a line feed.
+fn push_two(
+    before_first: &[u8],
+    first: u64,
+    before_second: &[u8],
+    second: u64,
+    text: &mut Vec<u8>,
+) -> Result<(), AllocError>
+    ensures { OnOk result (text.new.items ≡ text.old.items ++ (before_first.now
+        ++ decimal first ++ before_second.now ++ decimal second ++ codes "\n")) }
+{
+    push_numbered(before_first, first, text)?;
+    push_numbered(before_second, second, text)?;
+    text.extend_from_slice(b"\n")
+}
+
+/// Adds that there are more sets of this weight than may be listed.
+fn push_too_many(weight: u64, most: u32, text: &mut Vec<u8>) -> Result<(), AllocError>
+    ensures { OnOk result (text.new.items
+        ≡ text.old.items ++ text_of (Answer.TooManySets weight most)) }
+{
+    push_two(
+        b"too many sets: weight ",
+        weight,
+        b", more than ",
+        u64::from(most),
+        text,
+    )
+}
+
+/// Adds that so many conflicts are spent.
+fn push_spent(conflicts: u64, text: &mut Vec<u8>) -> Result<(), AllocError>
+    ensures { OnOk result (text.new.items
+        ≡ text.old.items ++ text_of (Answer.BudgetSpent conflicts)) }
+{
+    push_between(b"budget spent: ", conflicts, b" conflicts\n", text)
+}
+
+/// Adds the refusal of a certificate at a line.
+fn push_bad_certificate(code: u8, line: u64, text: &mut Vec<u8>) -> Result<(), AllocError>
+    ensures { OnOk result (text.new.items
+        ≡ text.old.items ++ text_of (Answer.BadCertificate code line)) }
+{
+    push_two(
+        b"refused: certificate, error ",
+        u64::from(code),
+        b" at line ",
+        line,
+        text,
+    )
+}
+
+/// Adds what the least sets of a sample weigh, and how many they are.
+fn push_sampled(
+    additions: u32,
+    weight: u64,
+    sets: u64,
+    text: &mut Vec<u8>,
+) -> Result<(), AllocError>
+    ensures { OnOk result (text.new.items
+        ≡ text.old.items ++ text_of (Answer.Sampled additions weight sets)) }
+{
+    push_numbered(b"sample ", u64::from(additions), text)?;
+    push_two(b": weight ", weight, b", sets ", sets, text)
+}

@@ -1,0 +1,23 @@
+//! Decimal numbers within a range.
+
+ghost use Rattle.std.specs.Prelude.{◌≡◌, ◌≤◌, IfSome};
+ghost use Rattle.ba_bytes.specs.Numbers.{number_in};
+
+use crate::decimal::natural;
+
+/// The number that a text of at most so many decimal digits writes, where it is in this range; `None` for
+/// every other text.
+pub fn number_in(text: &[u8], digits: usize, least: u32, most: u32) -> Option<u32>
+    ensures value { result ≡ number_in digits least most text.now }
+    ensures within { IfSome result (λ number. number ≤ most) }
+{
+    if text.len() > digits {
+        return None;
+    }
+    let number = natural(text)?;
+    if u64::from(least) <= number && number <= u64::from(most) {
+        Some(number as u32)
+    } else {
+        None
+    }
+}

@@ -1,0 +1,6 @@
+pub mod Judgements
+pub mod Least
+pub mod Tallies
+pub mod ParsedForms
+pub mod Walking
+pub mod ArgumentSteps

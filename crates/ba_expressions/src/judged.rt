@@ -1,0 +1,471 @@
+//! What is found out about an expression, from what is found out about its operands (C90 6.3).
+
+ghost use Rattle.std.specs.Prelude.{◌≡◌, ◌&&◌, [], ◌∷◌, List, cond, option_map, IfOk};
+ghost use Rattle.ba_numbers.specs.Numbers.{value_of_one};
+ghost use Rattle.ba_numbers.specs.Types.{same_type, type_of_unary};
+ghost use Rattle.ba_typing.specs.Expressions.{Typed, TypedCall, array_of, element_type, placeholder, operator_over, typed_binary, typed_called, typed_cast, typed_constant, typed_element, typed_name, typed_select, typed_unary, typed_value, typed_with, tree_as, value_as, variable_tree, variable_type};
+ghost use Rattle.ba_expressions.specs.Judging.{AreOperands, Judges, JudgesCall};
+ghost use Rattle.ba_typing.specs.Names.{is_array_entry};
+ghost use Rattle.ba_tree.specs.Trees.{convert, tree_of_expr, unary};
+ghost use Rattle.ba_typing.specs.declared.fault.Fault.{Fault};
+ghost use Rattle.ba_typing.specs.declared.names.Operator.TheVariants.{AndAlso, OrElse};
+
+use crate::values::{value_as, value_of, value_of_one};
+use crate::{trees, values};
+use ba_numbers::ids::{At, CallId, FnId, VarId};
+use ba_numbers::numbers::{BinOp, CType, UnOp};
+use ba_numbers::types::{
+    promoted, right_type, same_type, type_of_binary, type_of_unary, usual, working_type,
+};
+use ba_tree::tree::{Arg, Expr, Shape};
+use ba_typing::meanings::{Entry, Meaning};
+use ba_typing::names::Operator;
+use ba_typing::text::Text;
+use std::alloc::{AllocError, Global};
+
+/// What is found out about an expression: the position of its first token; the name that it is, in parentheses or not; its height;
+/// whether it is constant (C90 6.4); its type and its typed tree; and its value where it is constant, `None` where that traps.
+#[derive(Drop)]
+pub struct Judged<'a> {
+    pub first: At,
+    pub name: Option<Text<'a>>,
+    pub height: u32,
+    pub is_constant: bool,
+    pub t: CType,
+    pub expr: Expr,
+    pub value: Option<i64>,
+}
+
+/// What is found out about a call: its number; the function, and the type that it returns; the arguments; and the greatest height of one.
+#[derive(Drop)]
+pub struct JudgedCall {
+    pub call: CallId,
+    pub function: FnId,
+    pub result: CType,
+    pub args: Vec<Arg>,
+    pub height: u32,
+}
+
+/// What an operator has from its operands: the greatest height of one, and whether all are constant.
+#[derive(Clone, Copy)]
+pub struct Operands {
+    pub tallest: u32,
+    pub are_constant: bool,
+}
+
+impl Operands {
+    /// No operand.
+    fn none() -> Operands
+        ensures { AreOperands result [] }
+    {
+        Operands {
+            tallest: 0,
+            are_constant: true,
+        }
+    }
+
+    /// One more before these.
+    fn behind(self, a: &Judged) -> Operands
+        ensures { (s : Typed) (es : List Typed) → Judges a.now s → AreOperands self es →
+            AreOperands result (s ∷ es) }
+    {
+        Operands {
+            tallest: a.height.max(self.tallest),
+            are_constant: both(a.is_constant, self.are_constant),
+        }
+    }
+}
+
+/// Whether both are so.
+fn both(a: bool, b: bool) -> bool
+    ensures { result ≡ (a && b) }
+{
+    a && b
+}
+
+impl<'a> Judged<'a> {
+    /// The typed tree of the expression converted to a type (C90 6.2.1): a conversion stands where it changes the type.
+    ///
+    /// The one error is want of memory.
+    pub fn into_tree(self, alloc: Global, t: CType) -> Result<Expr, AllocError>
+        ensures { IfOk result (λ e. (s : Typed) → Judges self.entry s →
+            tree_of_expr e ≡ tree_as t s) }
+    {
+        let from = self.t;
+        tree_as(alloc, from, t, self.expr)
+    }
+
+    /// The same expression behind an opening parenthesis at this position.
+    pub fn beginning_at(self, at: At) -> Judged<'a>
+        ensures { (s : Typed) → Judges self.entry s → Judges result (record s { first = at }) }
+    {
+        Judged {
+            first: at,
+            name: self.name,
+            height: self.height,
+            is_constant: self.is_constant,
+            t: self.t,
+            expr: self.expr,
+            value: self.value,
+        }
+    }
+}
+
+/// A tree of one type converted to another one.
+fn tree_as(alloc: Global, from: CType, to: CType, expr: Expr) -> Result<Expr, AllocError>
+    ensures { IfOk result (λ e.
+        tree_of_expr e
+        ≡ cond (same_type from to) (tree_of_expr expr) (convert to (tree_of_expr expr))) }
+{
+    if same_type(from, to) {
+        return Ok(expr);
+    }
+    trees::convert(alloc, to, expr)
+}
+
+/// An operator over these operands.
+///
+/// The one error is want of memory, which stands for want of numbers for heights.
+fn over<'a>(
+    first: At,
+    operands: Operands,
+    t: CType,
+    expr: Expr,
+    value: Option<i64>,
+) -> Result<Judged<'a>, AllocError>
+    ensures { IfOk result (λ j. (es : List Typed) → AreOperands operands es →
+        Judges j (operator_over first es t (tree_of_expr expr) value)) }
+{
+    let Some(height) = operands.tallest.checked_add(1) else {
+        return Err(AllocError);
+    };
+    Ok(Judged {
+        first,
+        name: None,
+        height,
+        is_constant: operands.are_constant,
+        t,
+        expr,
+        value,
+    })
+}
+
+/// A unary operator over its operand, `None` for `+` (C90 6.3.3.3).
+///
+/// The one error is want of memory, which also stands for want of numbers for heights.
+pub fn unary<'a>(
+    alloc: Global,
+    first: At,
+    op: Option<UnOp>,
+    a: Judged<'a>,
+) -> Result<Judged<'a>, AllocError>
+    ensures { IfOk result (λ j. (s : Typed) → Judges a.entry s
+        → Judges j (typed_unary first op s)) }
+{
+    let t = promoted(a.t);
+    match op {
+        None => converted(alloc, first, t, a),
+        Some(op) => operation(alloc, first, op, t, a),
+    }
+}
+
+/// An expression converted to a type, as an operator.
+fn converted<'a>(
+    alloc: Global,
+    first: At,
+    t: CType,
+    a: Judged<'a>,
+) -> Result<Judged<'a>, AllocError>
+    ensures { IfOk result (λ j. (s : Typed) → Judges a.entry s →
+        Judges j (operator_over first (s ∷ []) t (tree_as t s) (value_as t s))) }
+{
+    let operands = Operands::none().behind(&a);
+    let value = value_as(t, a.value);
+    let expr = a.into_tree(alloc, t)?;
+    over(first, operands, t, expr, value)
+}
+
+/// A unary operator that works in a type.
+fn operation<'a>(
+    alloc: Global,
+    first: At,
+    op: UnOp,
+    t: CType,
+    a: Judged<'a>,
+) -> Result<Judged<'a>, AllocError>
+    ensures { IfOk result (λ j. (s : Typed) → Judges a.entry s →
+        Judges j (operator_over first (s ∷ []) (type_of_unary op t) (unary op t (tree_as t s))
+        (option_map (value_of_one op t) (value_as t s)))) }
+{
+    let operands = Operands::none().behind(&a);
+    let value = value_of_one(op, t, value_as(t, a.value));
+    let expr = a.into_tree(alloc, t)?;
+    let expr = trees::unary(alloc, op, t, expr)?;
+    over(first, operands, type_of_unary(op, t), expr, value)
+}
+
+/// A cast (C90 6.3.4), `None` for one to `void`.
+///
+/// The one error is want of memory, which also stands for want of numbers for heights.
+pub fn cast<'a>(
+    alloc: Global,
+    first: At,
+    to: Option<CType>,
+    a: Judged<'a>,
+) -> Result<Judged<'a>, AllocError>
+    ensures { IfOk result (λ j. (s : Typed) → Judges a.entry s → Judges j (typed_cast first to s)) }
+{
+    match to {
+        None => converted(alloc, first, CType::I32, a),
+        Some(t) => converted(alloc, first, t, a),
+    }
+}
+
+/// A binary operator over its operands (C90 6.3.5 to 6.3.12).
+///
+/// The one error is want of memory, which also stands for want of numbers for heights.
+pub fn value<'a>(
+    alloc: Global,
+    op: BinOp,
+    a: Judged<'a>,
+    b: Judged<'a>,
+) -> Result<Judged<'a>, AllocError>
+    ensures { IfOk result (λ j. (s u : Typed) → Judges a.entry s → Judges b.entry u →
+        Judges j (typed_value op s u)) }
+{
+    let t = working_type(op, a.t, b.t);
+    let right_t = right_type(op, a.t, b.t);
+    let value = value_of(op, t, value_as(t, a.value), value_as(right_t, b.value));
+    let operands = Operands::none().behind(&b).behind(&a);
+    let first = a.first;
+    let left = a.into_tree(alloc, t)?;
+    let right = b.into_tree(alloc, right_t)?;
+    let expr = trees::binary(alloc, op, t, left, right)?;
+    over(first, operands, type_of_binary(op, t), expr, value)
+}
+
+/// An operator between two operands (C90 6.3.5 to 6.3.14).
+///
+/// The one error is want of memory, which also stands for want of numbers for heights.
+pub fn binary<'a>(
+    alloc: Global,
+    operator: Operator,
+    a: Judged<'a>,
+    b: Judged<'a>,
+) -> Result<Judged<'a>, AllocError>
+    ensures { IfOk result (λ j. (s u : Typed) → Judges a.entry s → Judges b.entry u →
+        Judges j (typed_binary operator s u)) }
+{
+    match operator {
+        Operator::Value(op) => value(alloc, op, a, b),
+        Operator::AndAlso => and_also(alloc, a, b),
+        Operator::OrElse => or_else(alloc, a, b),
+    }
+}
+
+/// `&&` over its operands (C90 6.3.13).
+fn and_also<'a>(alloc: Global, a: Judged<'a>, b: Judged<'a>) -> Result<Judged<'a>, AllocError>
+    ensures { IfOk result (λ j. (s u : Typed) → Judges a.entry s → Judges b.entry u →
+        Judges j (typed_binary AndAlso s u)) }
+{
+    let value = values::and_also(a.value, b.value);
+    let operands = Operands::none().behind(&b).behind(&a);
+    let first = a.first;
+    let left_t = promoted(a.t);
+    let right_t = promoted(b.t);
+    let left = a.into_tree(alloc, left_t)?;
+    let right = b.into_tree(alloc, right_t)?;
+    let expr = trees::and_also(alloc, left, right)?;
+    over(first, operands, CType::I32, expr, value)
+}
+
+/// `||` over its operands (C90 6.3.14).
+fn or_else<'a>(alloc: Global, a: Judged<'a>, b: Judged<'a>) -> Result<Judged<'a>, AllocError>
+    ensures { IfOk result (λ j. (s u : Typed) → Judges a.entry s → Judges b.entry u →
+        Judges j (typed_binary OrElse s u)) }
+{
+    let value = values::or_else(a.value, b.value);
+    let operands = Operands::none().behind(&b).behind(&a);
+    let first = a.first;
+    let left_t = promoted(a.t);
+    let right_t = promoted(b.t);
+    let left = a.into_tree(alloc, left_t)?;
+    let right = b.into_tree(alloc, right_t)?;
+    let expr = trees::or_else(alloc, left, right)?;
+    over(first, operands, CType::I32, expr, value)
+}
+
+/// `?:` over its condition and its branches (C90 6.3.15).
+///
+/// The one error is want of memory, which also stands for want of numbers for heights.
+pub fn select<'a>(
+    alloc: Global,
+    when: Judged<'a>,
+    a: Judged<'a>,
+    b: Judged<'a>,
+) -> Result<Judged<'a>, AllocError>
+    ensures { IfOk result (λ j. (s u v : Typed) → Judges when.entry s → Judges a.entry u →
+        Judges b.entry v → Judges j (typed_select s u v)) }
+{
+    let t = usual(a.t, b.t);
+    let value = values::select(when.value, value_as(t, a.value), value_as(t, b.value));
+    let operands = Operands::none().behind(&b).behind(&a).behind(&when);
+    let first = when.first;
+    let yes = a.into_tree(alloc, t)?;
+    let no = b.into_tree(alloc, t)?;
+    let expr = trees::select(alloc, t, when.expr, yes, no)?;
+    over(first, operands, t, expr, value)
+}
+
+/// A constant of a type (C90 6.1.3).
+///
+/// The one error is want of memory, which never comes.
+pub fn constant<'a>(at: At, t: CType, value: i64) -> Result<Judged<'a>, AllocError>
+    ensures { IfOk result (λ j. Judges j (typed_constant at t value)) }
+{
+    over(
+        at,
+        Operands::none(),
+        t,
+        Expr::Const { t, value },
+        Some(value),
+    )
+}
+
+/// The same expression as what stands behind a name: it is not constant.
+fn named<'a>(j: Judged<'a>, name: Option<Text<'a>>) -> Judged<'a>
+    ensures { (s : Typed) (faults : List Fault) → Judges j.entry s →
+        Judges result (typed_with s name.entry faults) }
+{
+    Judged {
+        first: j.first,
+        name,
+        height: j.height,
+        is_constant: false,
+        t: j.t,
+        expr: j.expr,
+        value: None,
+    }
+}
+
+/// A name where a value is wanted, of this meaning (C90 6.3.1).
+///
+/// The one error is want of memory, which never comes.
+pub fn name<'a>(at: At, name: Text<'a>, meaning: &Meaning<'a>) -> Result<Judged<'a>, AllocError>
+    ensures { IfOk result (λ j. Judges j (typed_name at name.entry meaning.now)) }
+{
+    let expr = variable_tree(meaning);
+    let j = over(at, Operands::none(), variable_type(meaning), expr, None)?;
+    Ok(named(j, Some(name)))
+}
+
+/// The variable of a name of this meaning; where that is a fault, anything.
+fn variable_tree(meaning: &Meaning) -> Expr
+    ensures { tree_of_expr result ≡ variable_tree meaning.now }
+{
+    match meaning {
+        Meaning::Variable(entry) => {
+            if is_array(entry) {
+                placeholder()
+            } else {
+                Expr::Var { var: entry.var }
+            }
+        }
+        Meaning::Unknown | Meaning::Function => placeholder(),
+    }
+}
+
+/// What takes the place of a name that is at fault.
+pub fn placeholder() -> Expr
+    ensures { tree_of_expr result ≡ placeholder }
+{
+    Expr::Const {
+        t: CType::I32,
+        value: 0,
+    }
+}
+
+/// Its type; where that is a fault, anything.
+pub fn variable_type(meaning: &Meaning) -> CType
+    ensures { result ≡ variable_type meaning.now }
+{
+    match meaning {
+        Meaning::Variable(entry) if !is_array(entry) => entry.variable.t,
+        _ => CType::I32,
+    }
+}
+
+/// An element of the array that a name of this meaning is (C90 6.3.2.1).
+///
+/// The one error is want of memory, which also stands for want of numbers for heights.
+pub fn element<'a>(
+    alloc: Global,
+    at: At,
+    meaning: &Meaning<'a>,
+    index: Judged<'a>,
+) -> Result<Judged<'a>, AllocError>
+    ensures { IfOk result (λ j. (s : Typed) → Judges index.entry s →
+        Judges j (typed_element at meaning.now s)) }
+{
+    let operands = Operands::none().behind(&index);
+    let t = promoted(index.t);
+    let index = index.into_tree(alloc, t)?;
+    let expr = trees::element(alloc, array_of(meaning), index)?;
+    let j = over(at, operands, element_type(meaning), expr, None)?;
+    Ok(named(j, None))
+}
+
+/// The array that a name of this meaning is; where it is none, anything.
+pub fn array_of(meaning: &Meaning) -> VarId
+    ensures { result ≡ array_of meaning.now }
+{
+    match meaning {
+        Meaning::Variable(entry) if is_array(entry) => entry.var,
+        _ => VarId(0),
+    }
+}
+
+/// The type of its elements; where it is none, anything.
+pub fn element_type(meaning: &Meaning) -> CType
+    ensures { result ≡ element_type meaning.now }
+{
+    match meaning {
+        Meaning::Variable(entry) if is_array(entry) => entry.variable.t,
+        _ => CType::I32,
+    }
+}
+
+/// The value of a call (C90 6.3.2.2), whose name stands at this position.
+///
+/// The one error is want of memory, which stands for want of numbers for heights.
+pub fn called<'a>(at: At, call: JudgedCall) -> Result<Judged<'a>, AllocError>
+    ensures { IfOk result (λ j. (c : TypedCall) → JudgesCall call c
+        → Judges j (typed_called at c)) }
+{
+    let Some(height) = call.height.checked_add(1) else {
+        return Err(AllocError);
+    };
+    Ok(Judged {
+        first: at,
+        name: None,
+        height,
+        is_constant: false,
+        t: call.result,
+        expr: Expr::Call {
+            call: call.call,
+            function: call.function,
+            args: call.args,
+        },
+        value: None,
+    })
+}
+
+/// Whether a variable is an array.
+pub fn is_array(entry: &Entry) -> bool
+    ensures { result ≡ is_array_entry entry.now }
+{
+    match entry.variable.shape {
+        Shape::Value => false,
+        Shape::Array(_) | Shape::Passed => true,
+    }
+}

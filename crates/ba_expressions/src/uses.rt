@@ -1,0 +1,182 @@
+//! Uses of names: what is at fault with them, and what they stand for (C90 6.3.1, 6.3.2).
+
+ghost use Rattle.std.specs.Prelude.{◌≡◌, ◌==◌, cond, option_map, slice_get, []};
+ghost use Rattle.ba_typing.specs.Expressions.{array_given, function_of, named_array, params_of_called, result_of};
+ghost use Rattle.ba_typing.specs.Faults.{array_name_faults, call_faults, count_of_params, definition_faults, height_limit, limit_faults, value_name_faults};
+ghost use Rattle.ba_expressions.specs.Judging.{with_faults};
+ghost use Rattle.ba_typing.specs.Names.{is_main_name};
+
+use crate::judged::is_array;
+use crate::tally::{HEIGHT_LIMIT, Tally};
+use ba_numbers::ids::{At, FnId, VarId};
+use ba_numbers::numbers::CType;
+use ba_numbers::types::same_type;
+use ba_scopes::scopes::Scope;
+use ba_typing::fault::Cause;
+use ba_typing::meanings::{Meaning, ParamType, Signature};
+use ba_typing::text::Text;
+
+/// How a call is used: as a value or as a statement, and the position of the name that is called.
+#[derive(Clone, Copy)]
+pub struct CallUse {
+    pub as_value: bool,
+    pub at: At,
+}
+
+/// The faults of a name as a value.
+pub fn add_value_name_faults(meaning: &Meaning, at: At, tally: &mut Tally)
+    ensures { tally.new ≡ with_faults tally.old (value_name_faults meaning.now at) }
+{
+    match meaning {
+        Meaning::Unknown => tally.add_if(true, Cause::UnknownName, at),
+        Meaning::Function => tally.add_if(true, Cause::WrongKind, at),
+        Meaning::Variable(entry) => tally.add_if(is_array(entry), Cause::WrongKind, at),
+    }
+}
+
+/// The faults of a name whose element is taken.
+pub fn add_array_name_faults(meaning: &Meaning, at: At, tally: &mut Tally)
+    ensures { tally.new ≡ with_faults tally.old (array_name_faults meaning.now at) }
+{
+    match meaning {
+        Meaning::Unknown => tally.add_if(true, Cause::UnknownName, at),
+        Meaning::Function => tally.add_if(true, Cause::WrongKind, at),
+        Meaning::Variable(entry) => tally.add_if(!is_array(entry), Cause::WrongKind, at),
+    }
+}
+
+/// The faults of a name that is called, which has this definition, with so many arguments.
+pub fn add_call_faults(
+    name: &Text,
+    meaning: &Meaning,
+    definition: Option<&Signature>,
+    call: CallUse,
+    arguments: usize,
+    tally: &mut Tally,
+)
+    ensures { tally.new ≡ with_faults tally.old (call_faults meaning.now (is_main_name name.now)
+        (option_map (λ s. s.now) definition.entry) call.as_value arguments call.at) }
+{
+    match meaning {
+        Meaning::Unknown => tally.add_if(true, Cause::UnknownName, call.at),
+        Meaning::Variable(_) => tally.add_if(true, Cause::WrongKind, call.at),
+        Meaning::Function => {
+            tally.add_if(is_main(name), Cause::WrongKind, call.at);
+            add_definition_faults(definition, call, arguments, tally);
+        }
+    }
+}
+
+/// The faults of a function that is called.
+fn add_definition_faults(
+    definition: Option<&Signature>,
+    call: CallUse,
+    arguments: usize,
+    tally: &mut Tally,
+)
+    ensures { tally.new ≡ with_faults tally.old
+        (definition_faults (option_map (λ s. s.now) definition.entry)
+        call.as_value arguments call.at) }
+{
+    match definition {
+        None => tally.add_if(true, Cause::UnknownName, call.at),
+        Some(signature) => {
+            let is_void = signature.result.is_none();
+            tally.add_if(call.as_value && is_void, Cause::WrongKind, call.at);
+            let count = count_of_params(signature);
+            tally.add_if(arguments != count, Cause::WrongCount, call.at);
+        }
+    }
+}
+
+/// How many parameters a declaration has.
+fn count_of_params(signature: &Signature) -> usize
+    ensures { result ≡ count_of_params signature.now.params }
+{
+    match &signature.params {
+        None => 0,
+        Some(params) => params.len(),
+    }
+}
+
+/// Whether a name is `main`.
+pub fn is_main(name: &Text) -> bool
+    ensures { result ≡ is_main_name name.now }
+{
+    b"main".as_slice() == name.as_bytes()
+}
+
+/// The height of an argument of a call as a statement is limited.
+pub fn add_height_fault(call: CallUse, height: u32, tally: &mut Tally)
+    ensures { tally.new ≡ with_faults tally.old
+        (cond call.as_value [] (limit_faults height_limit height call.at)) }
+{
+    if !call.as_value {
+        tally.add_limit(HEIGHT_LIMIT, height, call.at);
+    }
+}
+
+/// The type of the parameter of this number, counted from 0, `None` where the function has no more.
+pub fn param_of(definition: Option<&Signature>, number: usize) -> Option<ParamType>
+    ensures { result ≡ slice_get (params_of_called (option_map (λ s. s.now) definition.entry))
+        number }
+{
+    match definition {
+        None => None,
+        Some(signature) => match &signature.params {
+            None => None,
+            Some(params) => params.as_slice().get(number).copied(),
+        },
+    }
+}
+
+/// The function that is called; without a definition, anything.
+pub fn function_of(definition: Option<&Signature>) -> FnId
+    ensures { result ≡ function_of (option_map (λ s. s.now) definition.entry) }
+{
+    match definition {
+        None => FnId(0),
+        Some(signature) => signature.function,
+    }
+}
+
+/// The type of what it returns; without a result, anything.
+pub fn result_of(definition: Option<&Signature>) -> CType
+    ensures { result ≡ result_of (option_map (λ s. s.now) definition.entry) }
+{
+    match definition {
+        None => CType::I32,
+        Some(signature) => signature.result.unwrap_or(CType::I32),
+    }
+}
+
+/// The array that a name stands for where one of such elements is wanted, `None` where it stands for none.
+pub fn named_array<'a>(
+    scope: &Scope<'a>,
+    t: Option<CType>,
+    name: &Option<Text<'a>>,
+) -> Option<VarId>
+    ensures { result ≡ named_array scope.now t name.now }
+{
+    match name {
+        None => None,
+        Some(name) => array_given(t, &scope.meaning_of(name)),
+    }
+}
+
+/// The array that a name of this meaning is, where it is one of such elements.
+fn array_given(t: Option<CType>, meaning: &Meaning) -> Option<VarId>
+    ensures { result ≡ array_given t meaning.now }
+{
+    let t = t?;
+    match meaning {
+        Meaning::Variable(entry) => {
+            if is_array(entry) && same_type(entry.variable.t, t) {
+                Some(entry.var)
+            } else {
+                None
+            }
+        }
+        Meaning::Unknown | Meaning::Function => None,
+    }
+}

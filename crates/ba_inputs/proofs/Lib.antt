@@ -1,0 +1,4 @@
+pub mod InputSteps
+pub mod PieceCounts
+pub mod Tabling
+pub mod NoText

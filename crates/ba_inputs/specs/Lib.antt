@@ -1,0 +1,3 @@
+pub mod Inputs
+pub mod Weights
+pub mod Tables

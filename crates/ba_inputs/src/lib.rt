@@ -1,0 +1,11 @@
+//! What the files beside a program say: the input of a run, and the weights of statements.
+//!
+//! [`read_input`] gives the input that a text writes for a program. [`read_weights`] gives the weights of a program's
+//! statements, exactly where each line of the text says what a line of weights may say.
+#![tactic(auto)]
+
+mod input;
+mod weights;
+
+pub use input::{InputError, read_input};
+pub use weights::{WeightsError, read_weights};

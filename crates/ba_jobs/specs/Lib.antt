@@ -1,0 +1,4 @@
+pub mod Jobs
+pub mod Samples
+pub mod Luby
+pub mod Files

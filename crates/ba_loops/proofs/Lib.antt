@@ -1,9 +1,0 @@
-mod Paths
-mod Heights
-mod Forms
-mod Adding
-mod Leaves
-mod Branches
-mod Rounds
-mod Rows
-mod Trees

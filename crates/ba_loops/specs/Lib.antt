@@ -1,2 +1,0 @@
-pub mod Unrolling
-pub mod Outcomes

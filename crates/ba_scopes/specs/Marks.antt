@@ -1,0 +1,23 @@
+-- What is put back into a scope where a part of the text ends.
+
+use Rattle.std.specs.Prelude.{length, take}
+use Rattle.ba_typing.specs.Names.{Scope}
+use Rattle.ba_scopes.specs.declared.scopes.Mark.{Mark}
+
+abbrev pub mark_of : Scope → Mark
+mark_of scope = record {
+  count = length scope.known;
+  depth = scope.depth;
+  in_loop = scope.in_loop;
+  result =
+      scope.result;
+}
+
+abbrev pub back_to : Mark → Scope → Scope
+back_to mark scope = record scope {
+  known = take mark.count scope.known;
+  depth = mark.depth;
+  in_loop =
+      mark.in_loop;
+  result = mark.result;
+}

@@ -1,0 +1,521 @@
+//! What the names of a program mean where they stand (C90 6.1.2.1).
+
+ghost use Rattle.std.specs.Prelude.{◌≡◌, ℕ, List, ◌+◌, ◌-◌, ◌==◌, ◌&&◌, not, cond, is_some, IfOk, false, ◌∷◌, [], ◌++◌, None, Some, option_map, length, map, take, drop, OnOk, OnErr};
+ghost use Rattle.std.specs.List.{list_any};
+ghost use Rattle.ba_typing.specs.Expressions.{called};
+ghost use Rattle.ba_typing.specs.Files.{count_functions, vars_of};
+ghost use Rattle.ba_scopes.specs.Storage.{AreListed, HaveSamePlaces, place_in};
+ghost use Rattle.ba_typing.specs.declared.meanings.Entry.{Entry};
+ghost use Rattle.ba_typing.specs.declared.meanings.Signature.{Signature};
+ghost use Rattle.ba_scopes.specs.declared.scopes.Stored.{Stored};
+ghost use Rattle.ba_typing.specs.Names.{fresh_scope};
+ghost use Rattle.ba_scopes.specs.Marks.{back_to, mark_of};
+ghost use Rattle.ba_typing.specs.Names.{definition_in, inner, is_declared_here, is_declared_in, knowing, last_entry, meaning_of, same_name};
+
+use crate::places::Places;
+use ba_items::Items;
+use ba_numbers::ids::VarId;
+use ba_numbers::numbers::CType;
+use ba_typing::meanings::{Entry, Meaning, Signature};
+use ba_typing::text::Text;
+use std::alloc::{AllocError, Global};
+use std::marker::Model;
+
+/// A variable that is in scope, and the number of the one of its name that it hides.
+#[derive(Drop)]
+pub struct Stored<'a> {
+    entry: Entry<'a>,
+    hidden: Option<usize>,
+}
+
+/// The variables that are in scope, in the order of their declarations. A name is found by a map.
+pub struct Variables<'a> {
+    stored: Vec<Stored<'a>>,
+    newest: Places<'a>,
+}
+
+impl<'a> Drop for Variables<'a> {
+    fn drop(self) {
+        let Variables {
+            stored: _,
+            newest: _,
+        } = self;
+    }
+}
+
+impl<'a> Model for Variables<'a> {
+    ghost use Rattle.std.specs.Prelude.{List};
+    ghost use Rattle.ba_scopes.specs.Storage.{AreStored, entries_of};
+    ghost use Rattle.ba_typing.specs.declared.meanings.Entry.{Entry};
+
+    ghost Value = { List Entry };
+
+    ghost view = { λ variables. entries_of variables.stored.items };
+
+    ghost invariant = { λ variables. AreStored variables.stored.items variables.newest };
+}
+
+impl<'a> Variables<'a> {
+    /// No variable. It takes no memory.
+    pub fn new(alloc: Global) -> Variables<'a>
+        ensures { result ≡ [] }
+    {
+        Variables {
+            stored: Vec::new(alloc),
+            newest: Places::new(alloc),
+        }
+    }
+
+    /// How many variables are in scope.
+    pub fn len(&self) -> usize
+        ensures { result ≡ length self.now }
+    {
+        self.stored.len()
+    }
+
+    /// One variable more. The one error is want of memory, which leaves all as it was.
+    pub fn push(&mut self, entry: Entry<'a>) -> Result<(), AllocError>
+        ensures ok { OnOk result (self.new ≡ self.old ++ entry.entry ∷ []) }
+        ensures err { OnErr result (self.new ≡ self.old) }
+    {
+        let name = entry.name.copy();
+        let hidden = self.newest.get(&name);
+        let place = self.stored.len();
+        self.stored.push(Stored { entry, hidden })?;
+        if self.newest.set(&name, place).is_err() {
+            self.stored.truncate(place);
+            return Err(AllocError);
+        }
+        Ok(())
+    }
+
+    /// The numbers of the variables but for the first `count` ones. The one error is want of memory.
+    fn vars_behind(&self, alloc: Global, count: usize) -> Result<Items<VarId>, AllocError>
+        ensures { IfOk result (λ vars. vars ≡ vars_of (drop count self.now)) }
+    {
+        let vars = numbers_from(alloc, self.stored.as_slice(), count)?;
+        Ok(Items::from_vec(vars))
+    }
+
+    /// The first `count` variables alone.
+    pub fn truncate(&mut self, count: usize)
+        ensures { self.new ≡ take count self.old }
+    {
+        while count < self.stored.len() {
+            self.pop();
+        }
+    }
+
+    /// All variables but the last one.
+    fn pop(&mut self)
+        ensures { self.new ≡ take (length self.old - 1) self.old }
+    {
+        let Some(last) = self.stored.pop() else {
+            return;
+        };
+        match last.hidden {
+            Some(place) => self.newest.replace(&last.entry.name, place),
+            None => self.newest.remove(&last.entry.name),
+        }
+    }
+
+    /// The variable of this name that was declared last, `None` where there is none.
+    pub fn find(&self, name: &Text<'a>) -> Option<Entry<'a>>
+        ensures { result ≡ last_entry name.now self.now None }
+    {
+        let place = self.newest.get(name)?;
+        let stored = self.stored.get(place)?;
+        Some(stored.entry.copy())
+    }
+
+    /// Whether a variable of this name is declared in the scope of this depth.
+    fn is_declared_at(&self, name: &Text<'a>, depth: u32) -> bool
+        ensures { result
+            ≡ list_any (λ (e : Entry). same_name e.name name.now && (e.depth == depth)) self.now }
+    {
+        let mut place = self.newest.get(name);
+        while let Some(number) = place {
+            let Some(stored) = self.stored.get(number) else {
+                return false;
+            };
+            if stored.entry.depth == depth {
+                return true;
+            }
+            place = stored.hidden;
+        }
+        false
+    }
+}
+
+/// The numbers of these variables from this place on. The one error is want of memory.
+fn numbers_from<'a>(
+    alloc: Global,
+    stored: &[Stored<'a>],
+    place: usize,
+) -> Result<Vec<VarId>, AllocError>
+    ensures { IfOk result (λ vars. vars.items
+        ≡ map (λ (s : Stored). s.entry.var) (drop place stored.now)) }
+{
+    let mut vars = Vec::new(alloc);
+    for i in place..stored.len() {
+        vars.push(stored[i].entry.var)?;
+    }
+    Ok(vars)
+}
+
+/// The declarations of functions in a file, in their order, and how many functions they declare. A name is found by maps.
+pub struct Functions<'a> {
+    declarations: Vec<Signature<'a>>,
+    names: Places<'a>,
+    definitions: Places<'a>,
+    count: u32,
+}
+
+impl<'a> Drop for Functions<'a> {
+    fn drop(self) {
+        let Functions {
+            declarations: _,
+            names: _,
+            definitions: _,
+            count: _,
+        } = self;
+    }
+}
+
+impl<'a> Model for Functions<'a> {
+    ghost use Rattle.std.specs.Prelude.{List};
+    ghost use Rattle.ba_scopes.specs.Storage.{AreCounted};
+    ghost use Rattle.ba_typing.specs.declared.meanings.Signature.{Signature};
+
+    ghost Value = { List Signature };
+
+    ghost view = { λ functions. functions.declarations.items };
+
+    ghost invariant = { λ functions.
+        AreCounted functions.declarations.items functions.names functions.definitions functions.count };
+}
+
+impl<'a> Functions<'a> {
+    /// No function. It takes no memory.
+    pub fn new(alloc: Global) -> Functions<'a>
+        ensures { result ≡ [] }
+    {
+        Functions {
+            declarations: Vec::new(alloc),
+            names: Places::new(alloc),
+            definitions: Places::new(alloc),
+            count: 0,
+        }
+    }
+
+    /// All declarations.
+    pub fn as_slice(&self) -> &[Signature<'a>]
+        ensures { result.now ≡ self.now }
+    {
+        self.declarations.as_slice()
+    }
+
+    /// How many functions are declared, each counted once.
+    pub fn count(&self) -> u32
+        ensures { result ≡ count_functions self.now }
+    {
+        self.count
+    }
+
+    /// One declaration more. The one error is want of memory, which also stands for want of numbers, and leaves all as it was.
+    pub fn push(&mut self, signature: Signature<'a>) -> Result<(), AllocError>
+        ensures ok { OnOk result (self.new ≡ self.old ++ signature.entry ∷ []) }
+        ensures err { OnErr result (self.new ≡ self.old) }
+    {
+        let name = signature.name.copy();
+        let is_definition = signature.is_definition;
+        let place = self.declarations.len();
+        let is_declared = self.names.get(&name).is_some();
+        let count = count_behind(self.count, is_declared)?;
+        self.declarations.push(signature)?;
+        let listed = list(
+            &mut self.names,
+            &mut self.definitions,
+            &name,
+            is_definition,
+            place,
+        );
+        if listed.is_err() {
+            self.declarations.truncate(place);
+            return Err(AllocError);
+        }
+        self.count = count;
+        Ok(())
+    }
+
+    /// Whether a function of this name is declared.
+    pub fn is_declared(&self, name: &Text<'a>) -> bool
+        ensures { result ≡ is_declared_in self.now name.now }
+    {
+        self.names.get(name).is_some()
+    }
+
+    /// The first definition of a function of this name, `None` where there is none.
+    pub fn definition(&self, name: &Text<'a>) -> Option<&Signature<'a>>
+        ensures { option_map (λ s. s.now) result ≡ definition_in self.now name.now }
+    {
+        let place = self.definitions.get(name)?;
+        let signature = self.declarations.get(place)?;
+        Some(signature)
+    }
+}
+
+/// How many functions are declared behind one declaration more, of one of them or of another function. The one error is want of memory,
+/// which stands for want of numbers.
+fn count_behind(count: u32, is_declared: bool) -> Result<u32, AllocError>
+    ensures { IfOk result (λ more. more ≡ count + cond is_declared 0 1) }
+{
+    if is_declared {
+        return Ok(count);
+    }
+    match count.checked_add(1) {
+        Some(more) => Ok(more),
+        None => Err(AllocError),
+    }
+}
+
+/// Enters the declaration of this number into the maps. The one error is want of memory, which leaves all as it was.
+fn list<'a>(
+    names: &mut Places<'a>,
+    definitions: &mut Places<'a>,
+    name: &Text<'a>,
+    is_definition: bool,
+    place: usize,
+) -> Result<(), AllocError>
+    ensures ok { OnOk result ((ds : List Signature) (s : Signature) → s.name ≡ name.now →
+        s.is_definition ≡ is_definition → place ≡ length ds →
+        AreListed ds names.old definitions.old →
+        AreListed (ds ++ s ∷ []) names.new definitions.new) }
+    ensures err { OnErr result ((ds : List Signature) → AreListed ds names.old definitions.old →
+        AreListed ds names.new definitions.new) }
+{
+    let is_first = define(definitions, name, is_definition, place)?;
+    if names.set(name, place).is_err() {
+        undefine(definitions, name, is_first);
+        return Err(AllocError);
+    }
+    Ok(())
+}
+
+/// Enters a definition, and says whether it is the first one of its name. The one error is want of memory, which leaves all as it was.
+fn define<'a>(
+    definitions: &mut Places<'a>,
+    name: &Text<'a>,
+    is_definition: bool,
+    place: usize,
+) -> Result<bool, AllocError>
+    ensures first { IfOk result (λ is_first.
+        is_first ≡ (is_definition && not (is_some (place_in definitions.old name.now)))) }
+    ensures ok { IfOk result (λ is_first. (other : List ℕ) → place_in definitions.new other
+        ≡ cond (is_first && same_name name.now other)
+        (Some place) (place_in definitions.old other)) }
+    ensures err { OnErr result (HaveSamePlaces definitions.old definitions.new) }
+{
+    let is_first = is_definition && definitions.get(name).is_none();
+    if !is_first {
+        return Ok(false);
+    }
+    definitions.set(name, place)?;
+    Ok(true)
+}
+
+/// Takes a definition back that was the first one of its name.
+fn undefine<'a>(definitions: &mut Places<'a>, name: &Text<'a>, is_first: bool)
+    ensures { (other : List ℕ) → place_in definitions.new other
+        ≡ cond (is_first && same_name name.now other) None (place_in definitions.old other) }
+{
+    if is_first {
+        definitions.remove(name);
+    }
+}
+
+/// What an expression or a statement finds around it: the functions of the file; the variables that are in scope; how many scopes are
+/// inside the file's, where parameters and a function's block are one; whether a loop is around; and the type that the function around
+/// returns, `None` for `void`.
+pub struct Scope<'a> {
+    functions: Functions<'a>,
+    variables: Variables<'a>,
+    depth: u32,
+    in_loop: bool,
+    result: Option<CType>,
+}
+
+impl<'a> Drop for Scope<'a> {
+    fn drop(self) {
+        let Scope {
+            functions: _,
+            variables: _,
+            depth: _,
+            in_loop: _,
+            result: _,
+        } = self;
+    }
+}
+
+/// What is around a part of the text: how many variables are in scope, how many scopes are inside the file's, whether a loop is around,
+/// and the type that the function around returns.
+#[derive(Clone, Copy, Debug, PartialEq, Eq)]
+pub struct Mark {
+    count: usize,
+    depth: u32,
+    in_loop: bool,
+    result: Option<CType>,
+}
+
+impl<'a> Model for Scope<'a> {
+    ghost use Rattle.ba_typing.specs.Names.{Scope as ScopeHere};
+
+    ghost Value = { ScopeHere };
+
+    ghost view = { λ scope. record {
+      functions = scope.functions;
+      known = scope.variables;
+      depth = scope.depth;
+      in_loop = scope.in_loop;
+      result = scope.result;
+    } };
+}
+
+impl<'a> Scope<'a> {
+    /// The scope of a file with these functions, before its first variable. It takes no memory.
+    pub fn of_file(alloc: Global, functions: Functions<'a>) -> Scope<'a>
+        ensures { result ≡ fresh_scope functions.entry }
+    {
+        Scope {
+            functions,
+            variables: Variables::new(alloc),
+            depth: 0,
+            in_loop: false,
+            result: None,
+        }
+    }
+
+    /// How many scopes are inside the file's.
+    pub fn depth(&self) -> u32
+        ensures { result ≡ self.now.depth }
+    {
+        self.depth
+    }
+
+    /// Whether a loop is around.
+    pub fn is_in_loop(&self) -> bool
+        ensures { result ≡ self.now.in_loop }
+    {
+        self.in_loop
+    }
+
+    /// The type that the function around returns, `None` for `void`.
+    pub fn result(&self) -> Option<CType>
+        ensures { result ≡ self.now.result }
+    {
+        self.result
+    }
+
+    /// How many variables are in scope.
+    pub fn count(&self) -> usize
+        ensures { result ≡ length self.now.known }
+    {
+        self.variables.len()
+    }
+
+    /// The numbers of the variables in scope but for the first `count` ones. The one error is want of memory.
+    pub fn vars_behind(&self, alloc: Global, count: usize) -> Result<Items<VarId>, AllocError>
+        ensures { IfOk result (λ vars. vars ≡ vars_of (drop count self.now.known)) }
+    {
+        self.variables.vars_behind(alloc, count)
+    }
+
+    /// One variable more is in scope. The one error is want of memory, which leaves all as it was.
+    pub fn declare(&mut self, entry: Entry<'a>) -> Result<(), AllocError>
+        ensures ok { OnOk result (self.new ≡ knowing (entry.entry ∷ []) self.old) }
+        ensures err { OnErr result (self.new ≡ self.old) }
+    {
+        self.variables.push(entry)
+    }
+
+    /// A scope begins. The one error is want of memory, which stands for want of numbers, and leaves all as it was.
+    pub fn enter(&mut self) -> Result<(), AllocError>
+        ensures ok { OnOk result (self.new ≡ inner self.old) }
+        ensures err { OnErr result (self.new ≡ self.old) }
+    {
+        let Some(depth) = self.depth.checked_add(1) else {
+            return Err(AllocError);
+        };
+        self.depth = depth;
+        Ok(())
+    }
+
+    /// What is to be put back where a part of the text ends.
+    pub fn mark(&self) -> Mark
+        ensures { result ≡ mark_of self.now }
+    {
+        Mark {
+            count: self.variables.len(),
+            depth: self.depth,
+            in_loop: self.in_loop,
+            result: self.result,
+        }
+    }
+
+    /// What a part of the text declared is in scope no longer, and around it is what was there before it.
+    pub fn back_to(&mut self, mark: Mark)
+        ensures { self.new ≡ back_to mark self.old }
+    {
+        self.variables.truncate(mark.count);
+        self.depth = mark.depth;
+        self.in_loop = mark.in_loop;
+        self.result = mark.result;
+    }
+
+    /// A loop is around from now on, or none.
+    pub fn set_in_loop(&mut self, in_loop: bool)
+        ensures { self.new ≡ record self.old { in_loop = in_loop } }
+    {
+        self.in_loop = in_loop;
+    }
+
+    /// The function around returns this type from now on.
+    pub fn set_result(&mut self, result_type: Option<CType>)
+        ensures { self.new ≡ record self.old { result = result_type } }
+    {
+        self.result = result_type;
+    }
+
+    /// Whether a variable of this name is declared in the innermost scope.
+    pub fn is_declared_here(&self, name: &Text<'a>) -> bool
+        ensures { result ≡ is_declared_here self.now name.now }
+    {
+        self.variables.is_declared_at(name, self.depth)
+    }
+
+    /// What a name means here.
+    pub fn meaning_of(&self, name: &Text<'a>) -> Meaning<'a>
+        ensures { result ≡ meaning_of self.now name.now }
+    {
+        match self.variables.find(name) {
+            Some(entry) => Meaning::Variable(entry),
+            None => {
+                if self.functions.is_declared(name) {
+                    Meaning::Function
+                } else {
+                    Meaning::Unknown
+                }
+            }
+        }
+    }
+
+    /// The definition that a called name means, `None` where a variable hides it or there is none.
+    pub fn called(&self, name: &Text<'a>) -> Option<&Signature<'a>>
+        ensures { option_map (λ s. s.now) result ≡ called self.now name.now }
+    {
+        match self.meaning_of(name) {
+            Meaning::Function => self.functions.definition(name),
+            Meaning::Unknown | Meaning::Variable(_) => None,
+        }
+    }
+}

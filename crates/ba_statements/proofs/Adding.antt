@@ -1,0 +1,227 @@
+-- Parts of a text one after the other.
+use Rattle.std.proofs.Common.{◌≡◌, ℕ, ◌+◌, ◌<◌, ◌≤◌, List, [], ◌∷◌, ◌++◌, map, drop, get_or, length, refl, sym, ◌∙◌, ap, append_assoc, add_assoc, add-zero, length-append, append-nil}
+use Rattle.ba_numbers.specs.declared.ids.At.{At}
+use Rattle.ba_numbers.specs.declared.ids.VarId.{VarId}
+use Rattle.ba_tree.specs.declared.tree.StmtKind.{StmtKind}
+use Rattle.ba_tree.specs.declared.tree.Variable.{Variable}
+use Rattle.ba_statements.specs.Adding.{State, at_place, extended, behind_part, before_of, with_added, with_judged, with_number, with_variable}
+use Rattle.ba_typing.specs.Declarations.{Added, nothing_added, ◌and◌, behind, Part, ◌then◌, nothing, in_order, numbered, faults_added, add_variable, is_declared}
+use Rattle.ba_typing.specs.Faults.{limit_faults, statement_limit, variable_limit, twice_faults}
+use Rattle.ba_expressions.specs.Judging.{after, least_with, with_faults}
+use Rattle.ba_typing.specs.Names.{Scope, knowing}
+use Rattle.ba_tree.specs.Trees.{StmtTree}
+use Rattle.ba_typing.specs.declared.fault.Fault.{Fault}
+use Rattle.ba_typing.specs.declared.meanings.Entry.{Entry}
+use Rattle.ba_typing.specs.declared.meanings.Signature.{Signature}
+use Rattle.ba_expressions.specs.declared.tally.Tally.{Tally}
+use Rattle.ba_statements.specs.declared.work.Work.{Work}
+use Rattle.ba_expressions.proofs.Least.{least-append, least-swap}
+use Rattle.ba_typing.proofs.Walks.{next_item, none_left}
+
+-- calls and faults, and then others
+pub after-after : (t : Tally) (m n : ℕ) (fs gs : List Fault) → after (after t m fs) n gs ≡ after t (m + n)
+    (fs ++ gs)
+after-after t m n fs gs =
+    ap (λ c. record { calls = c; least = least_with (least_with t.least fs) gs }) (add_assoc t.calls m n)
+    ∙ ap (λ l. record { calls = t.calls + (m + n); least = l }) (least-append t.least fs gs)
+
+pub with_added-both : (w : Work) (a b : Added) → with_added (with_added w a) b ≡ with_added w (a and b)
+with_added-both w a b =
+    let whole = with_added w (a and b) in
+    ap (λ v. record (with_added (with_added w a) b) { variables = v }) (append_assoc w.variables
+    a.variables b.variables)
+    ∙ ap (λ s. record whole {
+      statements = s;
+      elements = w.elements + a.elements + b.elements;
+      tally = after (after w.tally a.calls a.faults) b.calls b.faults;
+    }) (append_assoc w.statements
+    a.statements b.statements)
+    ∙ ap (λ e. record whole { elements = e; tally = after (after w.tally a.calls a.faults) b.calls b.faults })
+    (add_assoc w.elements a.elements b.elements)
+    ∙ ap (λ t. record whole { tally = t }) (after-after w.tally a.calls b.calls a.faults b.faults)
+
+pub before-added : (w : Work) (a : Added) → before_of (with_added w a) ≡ behind (before_of w) a
+before-added w a =
+    ap (λ v. record (before_of (with_added w a)) { variables = v }) (length-append w.variables a.variables)
+    ∙ ap (λ s. record (behind (before_of w) a) { statements = s }) (length-append w.statements a.statements)
+
+pub knowing-both : (s : Scope) (a b : Added) → knowing b.entries (knowing a.entries s) ≡ knowing (a.entries
+    ++ b.entries) s
+knowing-both s a b = ap (λ k. record s { known = k }) (append_assoc s.known a.entries b.entries)
+
+pub extended-both : (s : State) (a b : Added) → extended (extended s a) b ≡ extended s (a and b)
+extended-both s a b =
+    ap (λ k. record (extended (extended s a) b) { scope = k }) (knowing-both s.scope a b)
+    ∙ ap (λ w. record (extended s (a and b)) { work = w; stmts = s.stmts ++ a.stmts ++ b.stmts })
+    (with_added-both s.work a b)
+    ∙ ap (λ t. record (extended s (a and b)) { stmts = t }) (append_assoc s.stmts a.stmts b.stmts)
+
+pub behind-then : (first second : Part) (s : State)
+    → behind_part second (behind_part first s) ≡ behind_part (first then second) s
+unfolding behind_part
+behind-then first second s = let a = first s.scope (before_of s.work) in
+    ap (λ n. extended (extended s a) (second (knowing a.entries s.scope) n)) (before-added s.work a)
+    ∙ extended-both s a (second (knowing a.entries s.scope) (behind (before_of s.work) a))
+
+pub after-nothing : (t : Tally) → t ≡ after t 0 []
+after-nothing t = ap (λ c. record t { calls = c }) (sym (add-zero t.calls))
+
+pub with_added-nothing : (w : Work) → w ≡ with_added w nothing_added
+with_added-nothing w =
+    ap (λ v. record w { variables = v }) (sym (append-nil w.variables))
+    ∙ ap (λ n. record w { variables = w.variables ++ []; statements = n }) (sym (append-nil w.statements))
+    ∙ ap (λ n. record (with_added w nothing_added) { elements = n; tally = w.tally }) (sym (add-zero
+    w.elements))
+    ∙ ap (λ t. record (with_added w nothing_added) { tally = t }) (after-nothing w.tally)
+
+pub knowing-nothing : (s : Scope) → s ≡ knowing [] s
+knowing-nothing s = ap (λ k. record s { known = k }) (sym (append-nil s.known))
+
+pub behind-nothing : (s : State) → s ≡ behind_part nothing s
+unfolding behind_part
+behind-nothing s =
+    ap (λ k. record s { scope = k }) (knowing-nothing s.scope)
+    ∙ ap (λ w. record s { scope = knowing [] s.scope; work = w }) (with_added-nothing s.work)
+    ∙ ap (λ t. record (extended s nothing_added) { stmts = t }) (sym (append-nil s.stmts))
+
+-- PARTS that declare nothing, where the code leaves the scope as it is
+
+pub in-scope : (part : Part) (a : Added) (scope : Scope) (w v : Work) (old new : List StmtTree)
+    → part scope (before_of w) ≡ a → a.entries ≡ [] → v ≡ with_added w a → new ≡ old ++ a.stmts
+    → record { scope = scope; work = v; stmts = new } ≡ behind_part part (record {
+      scope = scope;
+      work = w;
+      stmts = old;
+    })
+unfolding behind_part
+in-scope part a scope w v old new is none works pushed =
+    let s : State = record { scope = scope; work = w; stmts = old } in
+    ap (λ k. record { scope = k; work = v; stmts = new })
+    (knowing-nothing scope ∙ ap (λ es. knowing es scope) (sym none))
+    ∙ ap (λ w. record { scope = knowing a.entries scope; work = w; stmts = new }) works
+    ∙ ap (λ t. record (extended s a) { stmts = t }) pushed
+    ∙ ap (extended s) (sym is)
+
+-- a part, and then another one
+pub and-then : (first second : Part) (s t u : State) → t ≡ behind_part first s → u ≡ behind_part second t
+    → u ≡ behind_part (first then second) s
+and-then first second s t u one other = other ∙ ap (behind_part second) one ∙ behind-then first second s
+
+-- parts of a list, from a place
+pub next-part : {A : Type 0} (part : A → Part) (xs : List A) (i : ℕ) (x : A) (s t whole : State)
+    → i < length xs → x ≡ get_or xs i x → behind_part (in_order (map part (drop i xs))) s ≡ whole
+    → t ≡ behind_part (part x) s → behind_part (in_order (map part (drop (i + 1) xs))) t ≡ whole
+next-part part xs i x s t whole within is rest one =
+    ap (behind_part (in_order (map part (drop (i + 1) xs)))) one
+    ∙ behind-then (part x) (in_order (map part (drop (i + 1) xs))) s
+    ∙ ap (λ ys. behind_part (in_order (map part ys)) s) (sym (next_item xs i x within is)) ∙ rest
+
+pub no-part : {A : Type 0} (part : A → Part) (xs : List A) (i : ℕ) (s whole : State) → length xs ≤ i
+    → behind_part (in_order (map part (drop i xs))) s ≡ whole → s ≡ whole
+no-part part xs i s whole all rest = behind-nothing s
+    ∙ ap (λ ys. behind_part (in_order (map part ys)) s) (sym (none_left xs i all)) ∙ rest
+
+-- A NUMBERED STATEMENT, whose expressions are judged before
+
+pub numbered-work : (w : Work) (at : At) (k : StmtKind) (typed : StmtTree) (calls : ℕ) (faults : List Fault)
+    → with_number (with_judged w calls faults) at k ≡ with_added w (numbered (before_of w) at k typed calls
+    faults)
+numbered-work w at k typed calls faults =
+    let limit = limit_faults statement_limit (length w.statements + 1) at in
+    let whole = with_added w (numbered (before_of w) at k typed calls faults) in
+    let t = with_faults (after w.tally calls faults) limit in
+    ap (λ v. record whole { variables = v; elements = w.elements; tally = t }) (sym (append-nil w.variables))
+    ∙ ap (λ e. record whole { elements = e; tally = t }) (sym (add-zero w.elements))
+    ∙ ap (λ l. record whole { tally = record { calls = w.tally.calls + calls; least = l } })
+    (least-swap w.tally.least faults limit)
+
+pub numbered-is : (part : Part) (scope : Scope) (w v u : Work) (old new : List StmtTree) (at : At) (k :
+    StmtKind)
+    (typed : StmtTree) (calls : ℕ) (faults : List Fault)
+    → part scope (before_of w) ≡ numbered (before_of w) at k typed calls faults
+    → v ≡ with_judged w calls faults → u ≡ with_number v at k → new ≡ old ++ typed ∷ []
+    → at_place scope u new ≡ behind_part part (at_place scope w old)
+numbered-is part scope w v u old new at k typed calls faults is judged counted pushed =
+    in-scope part (numbered (before_of w) at k typed calls faults) scope w u old new is refl
+    (counted ∙ ap (λ v. with_number v at k) judged ∙ numbered-work w at k typed calls faults) pushed
+
+-- WHAT IS ADDED IN PARTS
+
+pub adds-is : (part : Part) (a : Added) (scope k : Scope) (w v : Work) (old new : List StmtTree)
+    → part scope (before_of w) ≡ a → k ≡ knowing a.entries scope → v ≡ with_added w a → new ≡ old ++ a.stmts
+    → at_place k v new ≡ behind_part part (at_place scope w old)
+unfolding behind_part
+adds-is part a scope k w v old new is knows works pushed =
+    let s = at_place scope w old in
+    ap (λ k. at_place k v new) knows ∙ ap (λ w. at_place (knowing a.entries scope) w new) works
+    ∙ ap (λ t. record (extended s a) { stmts = t }) pushed ∙ ap (extended s) (sym is)
+
+-- faults alone
+pub faults-work : (w : Work) (faults : List Fault)
+    → record w { tally = with_faults w.tally faults } ≡ with_added w (faults_added faults)
+faults-work w faults =
+    let whole = with_added w (faults_added faults) in let t = with_faults w.tally faults in
+    ap (λ v. record w { variables = v; tally = t }) (sym (append-nil w.variables))
+    ∙ ap (λ n. record whole { statements = n; elements = w.elements; tally = t }) (sym (append-nil
+    w.statements))
+    ∙ ap (λ e. record whole { elements = e; tally = t }) (sym (add-zero w.elements))
+    ∙ ap (λ c. record whole { tally = record t { calls = c } }) (sym (add-zero w.tally.calls))
+
+pub faults-part : (faults : List Fault) (scope : Scope) (w v : Work) (stmts : List StmtTree)
+    → v ≡ record w { tally = with_faults w.tally faults }
+    → at_place scope v stmts ≡ behind_part (λ scope n. faults_added faults) (at_place scope w stmts)
+faults-part faults scope w v stmts is = in-scope (λ scope n. faults_added faults) (faults_added faults)
+    scope w v stmts stmts
+    refl refl (is ∙ faults-work w faults) (sym (append-nil stmts))
+
+-- a variable
+pub variable-work : (w : Work) (at : At) (v : Variable) (entries : List Entry) (faults : List Fault)
+    → with_variable (record w { tally = with_faults w.tally faults }) at v ≡ with_added w (record
+    nothing_added {
+      entries = entries;
+      variables = v ∷ [];
+      faults = faults ++ limit_faults variable_limit (length
+          w.variables + 1) at;
+    })
+variable-work w at v entries faults =
+    let limit = limit_faults variable_limit (length w.variables + 1) at in
+    let whole = with_added w (record nothing_added {
+      entries = entries;
+      variables = v ∷ [];
+      faults = faults
+          ++ limit;
+    }) in
+    let t = with_faults (with_faults w.tally faults) limit in
+    ap (λ n. record whole { statements = n; elements = w.elements; tally = t }) (sym (append-nil
+    w.statements))
+    ∙ ap (λ e. record whole { elements = e; tally = t }) (sym (add-zero w.elements))
+    ∙ ap (λ l. record whole { tally = record { calls = w.tally.calls; least = l } }) (least-append
+    w.tally.least faults limit)
+    ∙ ap (λ c. record whole {
+      tally = record {
+        calls = c;
+        least = least_with w.tally.least (faults ++
+            limit);
+      };
+    })
+    (sym (add-zero w.tally.calls))
+
+pub variable-is : (functions : List Signature) (at : At) (name : List ℕ) (v : Variable) (scope k : Scope)
+    (w mid new : Work)
+    (var : VarId) (stmts : List StmtTree)
+    → mid ≡ record w { tally = with_faults w.tally (twice_faults (is_declared scope functions name) at) }
+    → new ≡ with_variable mid at v → var ≡ record { 0 = length mid.variables }
+    → k ≡ knowing (record { name = name; depth = scope.depth; var = var; variable = v } ∷ []) scope
+    → at_place k new stmts ≡ behind_part (add_variable functions at name v) (at_place scope w stmts)
+variable-is functions at name v scope k w mid new var stmts twice works is knows =
+    let entry = λ (var : VarId). record { name = name; depth = scope.depth; var = var; variable = v } ∷ [] in
+    adds-is (add_variable functions at name v) (add_variable functions at name v scope (before_of w)) scope
+    k w new stmts stmts
+    refl (knows ∙ ap (λ var. knowing (entry var) scope) (is ∙ ap (λ (m : Work). record {
+      0 = length
+          m.variables;
+    }) twice))
+    (works ∙ ap (λ m. with_variable m at v) twice
+    ∙ variable-work w at v (entry (record { 0 = length w.variables })) (twice_faults (is_declared scope
+    functions name) at))
+    (sym (append-nil stmts))

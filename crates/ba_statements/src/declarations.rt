@@ -1,0 +1,495 @@
+//! Declarations of variables (C90 6.5).
+
+ghost use Rattle.std.specs.Prelude.{◌≡◌, ◌==◌, ◌&&◌, not, ◌∷◌, [], List, Option, None, Some, false, cond, pos, option_map, is_some, length, map, unsigned_abs, IfOk, OnOk, MatchOption};
+ghost use Rattle.ba_statements.specs.Adding.{AddsLength, GivesWhole, IsLength, at_place, behind_part, first_of, initialising, keep_each, keep_one, kept, plain_length, state, with_count};
+ghost use Rattle.ba_typing.specs.Declarations.{TypedLength, add_declarator, add_declarators, add_declare, add_initialiser, add_optional_initialiser, add_variable, braced_values, count_of_values, exceeds, has_braces, init_tree, is_declared, is_length, length_in_range, written_count, typed_array_length, shape_of, values_of, written_length};
+ghost use Rattle.ba_typing.specs.Expressions.{Typed, typed_conditional, tree_as};
+ghost use Rattle.ba_expressions.specs.Judging.{Judges};
+ghost use Rattle.ba_tree.specs.Trees.{StmtTree, tree_of_expr, tree_of_stmt};
+ghost use Rattle.ba_statements.specs.declared.work.Work.{Work};
+
+use crate::work::{Work, put};
+use ba_expressions::expressions::conditional;
+use ba_expressions::judged::{Judged, placeholder};
+use ba_expressions::tally::{HEIGHT_LIMIT, Tally};
+use ba_numbers::ids::{At, StmtId, VarId};
+use ba_numbers::numbers::CType;
+use ba_scopes::scopes::{Functions, Scope};
+use ba_tree::tree::{Expr, Shape, Stmt, StmtKind, Variable};
+use ba_trees::tree::declarations::{ArrayLength, Braced, Declarator, Declarators, Initialiser};
+use ba_trees::tree::expressions::Conditional;
+use ba_typing::fault::Cause;
+use ba_typing::meanings::Entry;
+use ba_typing::names::name_of;
+use ba_typing::text::Text;
+use std::alloc::{AllocError, Global};
+
+/// The length of an array: how many elements, `None` where it is bad, and whether it is written.
+#[derive(Clone, Copy)]
+pub struct Length {
+    pub count: Option<u32>,
+    pub is_written: bool,
+}
+
+/// A variable that is declared: the position of its name, its number and its type, and its length if it is an array.
+#[derive(Clone, Copy)]
+pub struct Declared {
+    pub at: At,
+    pub var: VarId,
+    pub t: CType,
+    pub length: Option<Length>,
+}
+
+/// The whole of an expression whose statement stands at this position: its height is limited.
+///
+/// The one error is want of memory, which also stands for want of numbers for calls and heights.
+pub fn whole<'a>(
+    alloc: Global,
+    scope: &Scope<'a>,
+    at: At,
+    c: &'a Conditional,
+    tally: &mut Tally,
+) -> Result<Judged<'a>, AllocError>
+    ensures { GivesWhole at (typed_conditional c.now scope.now tally.old.calls) tally.old tally.new
+        result }
+{
+    let j = conditional(alloc, scope, c, tally)?;
+    tally.add_limit(HEIGHT_LIMIT, j.height, at);
+    Ok(j)
+}
+
+/// A number of elements where it is from 1 to 256.
+fn in_range(value: i64) -> Option<u32>
+    ensures { result ≡ cond (is_length value) (Some (unsigned_abs value)) None }
+{
+    if 1 <= value && value <= 256 {
+        u32::try_from(value).ok()
+    } else {
+        None
+    }
+}
+
+/// The length that so many initialisers give.
+fn counted_length(values: Option<usize>) -> Option<u32>
+    ensures { result ≡ length_in_range (option_map pos values) }
+{
+    let values = values?;
+    match i64::try_from(values) {
+        Ok(value) => in_range(value),
+        Err(_) => None,
+    }
+}
+
+/// A written length, `None` where it is not constant, traps or is out of range.
+fn written_length(j: &Judged) -> Option<u32>
+    ensures { (s : Typed) → Judges j.now s → result ≡ written_length s }
+{
+    if !j.is_constant {
+        return None;
+    }
+    match j.value {
+        None => None,
+        Some(value) => in_range(value),
+    }
+}
+
+/// The length of an array whose name stands at this position, and which has so many initialisers, if any.
+///
+/// The one error is want of memory, which also stands for want of numbers for calls and heights.
+pub fn array_length<'a>(
+    alloc: Global,
+    at: At,
+    values: Option<usize>,
+    length: &'a Option<ArrayLength>,
+    scope: &Scope<'a>,
+    tally: &mut Tally,
+) -> Result<Option<Length>, AllocError>
+    ensures { IfOk result (λ l. IsLength
+        (typed_array_length at values scope.now tally.old.calls length.now)
+        tally.old tally.new l) }
+{
+    let Some(array) = length else {
+        return Ok(None);
+    };
+    match &array.length {
+        None => Ok(Some(Length {
+            count: counted_length(values),
+            is_written: false,
+        })),
+        Some(c) => {
+            let j = whole(alloc, scope, at, c, tally)?;
+            Ok(Some(Length {
+                count: written_length(&j),
+                is_written: true,
+            }))
+        }
+    }
+}
+
+/// A length is counted, a bad one as a fault.
+///
+/// The one error is want of memory, which stands for want of numbers.
+fn add_count(at: At, count: Option<u32>, work: &mut Work) -> Result<(), AllocError>
+    ensures { OnOk result (work.new ≡ with_count work.old at count) }
+{
+    match count {
+        None => {
+            work.tally.add_if(true, Cause::BadLength, at);
+            Ok(())
+        }
+        Some(count) => work.add_elements(count, at),
+    }
+}
+
+/// The length of an array whose name stands at this position: its elements are counted.
+///
+/// The one error is want of memory, which also stands for want of numbers.
+pub fn add_length<'a>(
+    alloc: Global,
+    at: At,
+    values: Option<usize>,
+    length: &'a Option<ArrayLength>,
+    scope: &Scope<'a>,
+    work: &mut Work,
+) -> Result<Option<Length>, AllocError>
+    ensures { IfOk result (λ l. AddsLength at
+        (typed_array_length at values scope.now work.old.tally.calls length.now)
+        scope.now work.old work.new l) }
+{
+    let found = array_length(alloc, at, values, length, scope, &mut work.tally)?;
+    match found {
+        None => Ok(None),
+        Some(length) => {
+            add_count(at, length.count, work)?;
+            Ok(Some(length))
+        }
+    }
+}
+
+/// What a variable with this length, if it is an array, holds; a bad length counts as 1.
+pub fn shape_of(length: Option<Length>) -> Shape
+    ensures { (l : Option TypedLength) → length ≡ plain_length l → result ≡ shape_of l }
+{
+    match length {
+        None => Shape::Value,
+        Some(length) => Shape::Array(length.count.unwrap_or(1)),
+    }
+}
+
+/// Whether a name is declared before in the innermost scope, in the file's also as a function among these.
+fn is_declared<'a>(scope: &Scope<'a>, functions: &Functions<'a>, name: &Text<'a>) -> bool
+    ensures { result ≡ is_declared scope.now functions.now name.now }
+{
+    scope.is_declared_here(name) || (scope.depth() == 0 && functions.is_declared(name))
+}
+
+/// A variable whose name stands at this position, behind the functions that are declared before it: it is in scope from now on.
+///
+/// The one error is want of memory, which also stands for want of numbers.
+pub fn add_variable<'a>(
+    functions: &Functions<'a>,
+    at: At,
+    name: Text<'a>,
+    variable: Variable,
+    scope: &mut Scope<'a>,
+    work: &mut Work,
+) -> Result<(), AllocError>
+    ensures { OnOk result ((stmts : List StmtTree) → at_place scope.new work.new stmts
+        ≡ behind_part (add_variable functions.now at name.entry variable)
+        (at_place scope.old work.old stmts)) }
+{
+    work.tally
+        .add_if(is_declared(scope, functions, &name), Cause::Twice, at);
+    let var = work.add_variable(at, variable)?;
+    let depth = scope.depth();
+    scope.declare(Entry {
+        name,
+        depth,
+        var,
+        variable,
+    })
+}
+
+/// The declaration of a local variable is executed; that of a global is not.
+///
+/// The one error is want of memory.
+fn add_declare(var: VarId, scope: &Scope, stmts: &mut Vec<Stmt>) -> Result<(), AllocError>
+    ensures { OnOk result ((work : Work) → state scope.now work stmts.new
+        ≡ behind_part (add_declare var) (state scope.now work stmts.old)) }
+{
+    if scope.depth() == 0 {
+        return Ok(());
+    }
+    put(stmts, Stmt::Declare { var })
+}
+
+/// Whether a value of an initialiser is not constant, though a global's has to be.
+fn is_unfit(scope: &Scope, j: &Judged) -> bool
+    ensures { result ≡ ((scope.now.depth == 0) && not j.now.is_constant) }
+{
+    scope.depth() == 0 && !j.is_constant
+}
+
+/// A value of an initialiser.
+fn add_value<'a>(
+    alloc: Global,
+    d: Declared,
+    c: &'a Conditional,
+    scope: &Scope<'a>,
+    tally: &mut Tally,
+    values: &mut Vec<Expr>,
+) -> Result<(), AllocError>
+    ensures { OnOk result (kept tally.new values.new
+        ≡ keep_one (initialising d.at d.t (scope.now.depth == 0))
+        (typed_conditional c.now scope.now tally.old.calls)
+        (kept tally.old values.old)) }
+{
+    let j = whole(alloc, scope, d.at, c, tally)?;
+    tally.add_if(is_unfit(scope, &j), Cause::WrongKind, d.at);
+    let value = j.into_tree(alloc, d.t)?;
+    values.push(value)?;
+    Ok(())
+}
+
+/// The values of an initialiser, converted to the variable's type.
+///
+/// The one error is want of memory, which also stands for want of numbers for calls and heights.
+fn initial_values<'a>(
+    alloc: Global,
+    d: Declared,
+    init: &'a Initialiser,
+    scope: &Scope<'a>,
+    tally: &mut Tally,
+) -> Result<Vec<Expr>, AllocError>
+    ensures { IfOk result (λ values. kept tally.new values
+        ≡ keep_each (initialising d.at d.t (scope.now.depth == 0)) scope.now (values_of init.now)
+        (record { trees = []; tally = tally.old })) }
+{
+    let mut values = Vec::new(alloc);
+    match init {
+        Initialiser::Expression { value, .. } => {
+            add_value(alloc, d, value, scope, tally, &mut values)?;
+            Ok(values)
+        }
+        Initialiser::Braced { values: braced, .. } => {
+            add_braced(alloc, d, braced, scope, tally, &mut values)?;
+            Ok(values)
+        }
+    }
+}
+
+/// The values in braces.
+fn add_braced<'a>(
+    alloc: Global,
+    d: Declared,
+    braced: &'a Braced,
+    scope: &Scope<'a>,
+    tally: &mut Tally,
+    values: &mut Vec<Expr>,
+) -> Result<(), AllocError>
+    ensures { OnOk result (kept tally.new values.new
+        ≡ keep_each (initialising d.at d.t (scope.now.depth == 0)) scope.now
+        (braced_values braced.now)
+        (kept tally.old values.old)) }
+{
+    add_value(alloc, d, &braced.first, scope, tally, values)?;
+    for next in &braced.rest {
+        add_value(alloc, d, &next.expression, scope, tally, values)?;
+    }
+    Ok(())
+}
+
+/// Whether an initialiser has braces.
+fn has_braces(init: &Initialiser) -> bool
+    ensures { result ≡ has_braces init.now }
+{
+    matches!(init, Initialiser::Braced { .. })
+}
+
+/// Whether braces stand for what is no array, or none for an array.
+fn is_unlike(length: Option<Length>, init: &Initialiser) -> bool
+    ensures { result ≡ cond (is_some length) (not (has_braces init.now)) (has_braces init.now) }
+{
+    if length.is_some() {
+        !has_braces(init)
+    } else {
+        has_braces(init)
+    }
+}
+
+/// How many values an initialiser has, if there is one.
+fn count_of_values(init: &Option<Initialiser>) -> Option<usize>
+    ensures { MatchOption result (is_some init.now ≡ false) (λ count. Some count
+        ≡ count_of_values init.now) }
+{
+    match init {
+        None => None,
+        Some(Initialiser::Expression { .. }) => Some(1),
+        Some(Initialiser::Braced { values, .. }) => Some(values.rest.len() + 1),
+    }
+}
+
+/// How many there are.
+fn number_of(values: &Vec<Expr>) -> usize
+    ensures { result ≡ length values.now.items }
+{
+    values.len()
+}
+
+/// Whether an array of a good written length has fewer elements than so many values.
+fn has_too_many(length: Option<Length>, count: usize) -> bool
+    ensures { (l : Option TypedLength) → length ≡ plain_length l → result
+        ≡ exceeds (written_count l) count }
+{
+    match length {
+        Some(
+            Length {
+                count: Some(most),
+                is_written: true,
+            },
+        ) => (most as usize) < count,
+        _ => false,
+    }
+}
+
+/// The initialiser of a variable as a statement: of an array all values, of a variable its one.
+fn init_stmt(stmt: StmtId, d: Declared, values: Vec<Expr>) -> Stmt
+    ensures { (es : List Typed) → map tree_of_expr values.items ≡ map (tree_as d.t) es
+        → tree_of_stmt result ≡ init_tree stmt d.var d.t (is_some d.length) es }
+{
+    if d.length.is_some() {
+        Stmt::InitArray {
+            stmt,
+            array: d.var,
+            values,
+        }
+    } else {
+        Stmt::Init {
+            stmt,
+            var: d.var,
+            value: first_value(values),
+        }
+    }
+}
+
+/// The first of these.
+fn first_value(mut values: Vec<Expr>) -> Expr
+    ensures { tree_of_expr result ≡ first_of (map tree_of_expr values.items) }
+{
+    values.truncate(1);
+    match values.pop() {
+        None => placeholder(),
+        Some(value) => value,
+    }
+}
+
+/// The initialiser of a variable (C90 6.5.7).
+///
+/// The one error is want of memory, which also stands for want of numbers.
+fn add_initialiser<'a>(
+    alloc: Global,
+    d: Declared,
+    init: &'a Initialiser,
+    scope: &Scope<'a>,
+    work: &mut Work,
+    stmts: &mut Vec<Stmt>,
+) -> Result<(), AllocError>
+    ensures { OnOk result ((l : Option TypedLength) → d.length ≡ plain_length l
+        → state scope.now work.new stmts.new
+        ≡ behind_part (add_initialiser d.at d.var d.t l init.now)
+        (state scope.now work.old stmts.old)) }
+{
+    let values = initial_values(alloc, d, init, scope, &mut work.tally)?;
+    let is_past = has_too_many(d.length, number_of(&values));
+    work.tally.add_if(is_past, Cause::WrongCount, d.at);
+    work.tally
+        .add_if(is_unlike(d.length, init), Cause::WrongKind, d.at);
+    let stmt = work.number(d.at, StmtKind::Initialiser)?;
+    put(stmts, init_stmt(stmt, d, values))
+}
+
+/// The same, where there is one.
+fn add_optional_initialiser<'a>(
+    alloc: Global,
+    d: Declared,
+    init: &'a Option<Initialiser>,
+    scope: &Scope<'a>,
+    work: &mut Work,
+    stmts: &mut Vec<Stmt>,
+) -> Result<(), AllocError>
+    ensures { OnOk result ((l : Option TypedLength) → d.length ≡ plain_length l
+        → state scope.now work.new stmts.new
+        ≡ behind_part (add_optional_initialiser d.at d.var d.t l init.now)
+        (state scope.now work.old stmts.old)) }
+{
+    match init {
+        None => Ok(()),
+        Some(init) => add_initialiser(alloc, d, init, scope, work, stmts),
+    }
+}
+
+/// A declarator of a type, `None` for `void`, behind the functions that are declared before it (C90 6.5.4).
+///
+/// The one error is want of memory, which also stands for want of numbers.
+fn add_declarator<'a>(
+    alloc: Global,
+    functions: &Functions<'a>,
+    t: Option<CType>,
+    declarator: &'a Declarator,
+    scope: &mut Scope<'a>,
+    work: &mut Work,
+    stmts: &mut Vec<Stmt>,
+) -> Result<(), AllocError>
+    ensures { OnOk result (state scope.new work.new stmts.new
+        ≡ behind_part (add_declarator functions.now t declarator.now)
+        (state scope.old work.old stmts.old)) }
+{
+    let at = declarator.name.at;
+    let var = work.next_variable()?;
+    let count = count_of_values(&declarator.initialiser);
+    let length = add_length(alloc, at, count, &declarator.length, scope, work)?;
+    let d = Declared {
+        at,
+        var,
+        t: t.unwrap_or(CType::I32),
+        length,
+    };
+    let variable = Variable {
+        t: d.t,
+        shape: shape_of(length),
+    };
+    add_variable(
+        functions,
+        at,
+        name_of(&declarator.name),
+        variable,
+        scope,
+        work,
+    )?;
+    add_declare(var, scope, stmts)?;
+    add_optional_initialiser(alloc, d, &declarator.initialiser, scope, work, stmts)?;
+    work.tally.add_if(t.is_none(), Cause::WrongKind, at);
+    Ok(())
+}
+
+/// The declarators of a list, of a type, behind the functions that are declared before them.
+///
+/// The one error is want of memory, which also stands for want of numbers.
+pub fn add_declarators<'a>(
+    alloc: Global,
+    functions: &Functions<'a>,
+    t: Option<CType>,
+    declarators: &'a Declarators,
+    scope: &mut Scope<'a>,
+    work: &mut Work,
+    stmts: &mut Vec<Stmt>,
+) -> Result<(), AllocError>
+    ensures { OnOk result (state scope.new work.new stmts.new
+        ≡ behind_part (add_declarators functions.now t declarators.now)
+        (state scope.old work.old stmts.old)) }
+{
+    for listed in &declarators.all {
+        add_declarator(alloc, functions, t, &listed.declarator, scope, work, stmts)?;
+    }
+    Ok(())
+}

@@ -1,0 +1,8 @@
+//! The typing of declarations and statements (C90 6.5, 6.6).
+#![tactic(auto)]
+
+mod assignments;
+mod control;
+pub mod declarations;
+pub mod statements;
+pub mod work;

@@ -1,0 +1,479 @@
+//! Statements (C90 6.6).
+
+ghost use Rattle.std.specs.Prelude.{◌≡◌, [], Some, OnOk, IfOk};
+ghost use Rattle.ba_statements.specs.Adding.{before_of, behind_part, keep_each, keep_one, kept, printing, state};
+ghost use Rattle.ba_statements.specs.Controlling.{GivesBody, GivesGuarded};
+ghost use Rattle.ba_typing.specs.Declarations.{Part, in_order};
+ghost use Rattle.ba_typing.specs.Expressions.{Typing, typed_conditional};
+ghost use Rattle.ba_typing.specs.Names.{jump_of, looping};
+ghost use Rattle.ba_typing.specs.Statements.{add_assert, add_block, add_do, add_for, add_if, add_item, add_jump, add_jump_with, add_loop_jump, add_printf, add_return, add_statement, add_while, optional_typing, parts_of_block, printed_typings, test_of};
+ghost use Rattle.ba_tree.specs.Trees.{break_loop, continue_loop};
+ghost use Rattle.ba_statements.specs.declared.work.Work.{Work};
+
+use crate::assignments::add_simple;
+use crate::control::{
+    Guarded, add_condition, add_head, first_stmt, put_do, put_for, put_if, put_if_else, put_while,
+};
+use crate::declarations::{add_declarators, whole};
+use crate::work::{Work, put};
+use ba_expressions::tally::Tally;
+use ba_numbers::ids::At;
+use ba_numbers::numbers::CType;
+use ba_scopes::scopes::{Functions, Scope};
+use ba_tokens::token::Token;
+use ba_tree::tree::{Expr, Stmt, StmtKind};
+use ba_trees::tree::expressions::Conditional;
+use ba_trees::tree::statements::{
+    Block, BlockItem, Condition, ForHead, Printed, Statement, StatementForm,
+};
+use ba_typing::fault::Cause;
+use ba_typing::names::{Jump, jump_of, type_named};
+use std::alloc::{AllocError, Global};
+
+/// `return` with a value (C90 6.6.6.4).
+///
+/// The one error is want of memory, which also stands for want of numbers.
+fn add_return<'a>(
+    alloc: Global,
+    at: At,
+    c: &'a Conditional,
+    scope: &Scope<'a>,
+    work: &mut Work,
+    stmts: &mut Vec<Stmt>,
+) -> Result<(), AllocError>
+    ensures { OnOk result (state scope.now work.new stmts.new
+        ≡ behind_part (add_return at (typed_conditional c.now))
+        (state scope.now work.old stmts.old)) }
+{
+    let j = whole(alloc, scope, at, c, &mut work.tally)?;
+    let t = scope.result();
+    work.tally.add_if(t.is_none(), Cause::WrongKind, at);
+    let value = j.into_tree(alloc, t.unwrap_or(CType::I32))?;
+    let stmt = work.number(at, StmtKind::Return)?;
+    put(stmts, Stmt::Return { stmt, value })
+}
+
+/// `assert` (C90 7.2.1.1).
+///
+/// The one error is want of memory, which also stands for want of numbers.
+fn add_assert<'a>(
+    alloc: Global,
+    at: At,
+    condition: &'a Condition,
+    scope: &Scope<'a>,
+    work: &mut Work,
+    stmts: &mut Vec<Stmt>,
+) -> Result<(), AllocError>
+    ensures { OnOk result (state scope.now work.new stmts.new
+        ≡ behind_part (add_assert at (test_of condition.now))
+        (state scope.now work.old stmts.old)) }
+{
+    let j = whole(alloc, scope, at, &condition.test, &mut work.tally)?;
+    let stmt = work.number(at, StmtKind::Assert)?;
+    put(stmts, Stmt::Assert { stmt, when: j.expr })
+}
+
+/// A value that a `printf` prints.
+///
+/// The one error is want of memory, which also stands for want of numbers for calls and heights.
+fn add_printed<'a>(
+    alloc: Global,
+    at: At,
+    c: &'a Conditional,
+    scope: &Scope<'a>,
+    tally: &mut Tally,
+    values: &mut Vec<Expr>,
+) -> Result<(), AllocError>
+    ensures { OnOk result (kept tally.new values.new
+        ≡ keep_one (printing at) (typed_conditional c.now scope.now tally.old.calls)
+        (kept tally.old values.old)) }
+{
+    let j = whole(alloc, scope, at, c, tally)?;
+    values.push(j.expr)?;
+    Ok(())
+}
+
+/// The values that a `printf` prints.
+///
+/// The one error is want of memory, which also stands for want of numbers for calls and heights.
+fn printed_values<'a>(
+    alloc: Global,
+    at: At,
+    printed: &'a Printed,
+    scope: &Scope<'a>,
+    tally: &mut Tally,
+) -> Result<Vec<Expr>, AllocError>
+    ensures { IfOk result (λ values. kept tally.new values
+        ≡ keep_each (printing at) scope.now (printed_typings printed.now)
+        (record { trees = []; tally = tally.old })) }
+{
+    let mut values = Vec::new(alloc);
+    for next in &printed.values {
+        add_printed(alloc, at, &next.expression, scope, tally, &mut values)?;
+    }
+    Ok(values)
+}
+
+/// `printf` (C90 7.9.6.3).
+///
+/// The one error is want of memory, which also stands for want of numbers.
+fn add_printf<'a>(
+    alloc: Global,
+    at: At,
+    printed: &'a Printed,
+    scope: &Scope<'a>,
+    work: &mut Work,
+    stmts: &mut Vec<Stmt>,
+) -> Result<(), AllocError>
+    ensures { OnOk result (state scope.now work.new stmts.new
+        ≡ behind_part (add_printf at (printed_typings printed.now))
+        (state scope.now work.old stmts.old)) }
+{
+    let args = printed_values(alloc, at, printed, scope, &mut work.tally)?;
+    let stmt = work.number(at, StmtKind::Call)?;
+    put(stmts, Stmt::Print { stmt, args })
+}
+
+/// `break` (C90 6.6.6.3).
+///
+/// The one error is want of memory.
+fn add_break<'a>(
+    at: At,
+    scope: &Scope<'a>,
+    work: &mut Work,
+    stmts: &mut Vec<Stmt>,
+) -> Result<(), AllocError>
+    ensures { OnOk result (state scope.now work.new stmts.new
+        ≡ behind_part (add_loop_jump at break_loop) (state scope.now work.old stmts.old)) }
+{
+    let is_outside = !scope.is_in_loop();
+    work.tally.add_if(is_outside, Cause::BreakOutside, at);
+    put(stmts, Stmt::Break)
+}
+
+/// `continue` (C90 6.6.6.2).
+///
+/// The one error is want of memory.
+fn add_continue<'a>(
+    at: At,
+    scope: &Scope<'a>,
+    work: &mut Work,
+    stmts: &mut Vec<Stmt>,
+) -> Result<(), AllocError>
+    ensures { OnOk result (state scope.now work.new stmts.new
+        ≡ behind_part (add_loop_jump at continue_loop) (state scope.now work.old stmts.old)) }
+{
+    let is_outside = !scope.is_in_loop();
+    work.tally.add_if(is_outside, Cause::BreakOutside, at);
+    put(stmts, Stmt::Continue)
+}
+
+/// A jump without a value, by its keyword (C90 6.6.6).
+///
+/// The one error is want of memory.
+fn add_jump<'a>(
+    keyword: &'a Token,
+    scope: &Scope<'a>,
+    work: &mut Work,
+    stmts: &mut Vec<Stmt>,
+) -> Result<(), AllocError>
+    ensures { OnOk result (state scope.now work.new stmts.new
+        ≡ behind_part (add_jump keyword.now.at (jump_of keyword.now))
+        (state scope.now work.old stmts.old)) }
+{
+    match jump_of(keyword) {
+        Jump::Break => add_break(keyword.at, scope, work, stmts),
+        Jump::Continue => add_continue(keyword.at, scope, work, stmts),
+        Jump::Return => put(stmts, Stmt::ReturnNone),
+    }
+}
+
+/// A jump with a value or without one (C90 6.6.6).
+///
+/// The one error is want of memory, which also stands for want of numbers.
+fn add_jump_with<'a>(
+    alloc: Global,
+    keyword: &'a Token,
+    value: &'a Option<Conditional>,
+    scope: &Scope<'a>,
+    work: &mut Work,
+    stmts: &mut Vec<Stmt>,
+) -> Result<(), AllocError>
+    ensures { OnOk result (state scope.now work.new stmts.new
+        ≡ behind_part (add_jump_with keyword.now (optional_typing value.now))
+        (state scope.now work.old stmts.old)) }
+{
+    match value {
+        None => add_jump(keyword, scope, work, stmts),
+        Some(c) => add_return(alloc, keyword.at, c, scope, work, stmts),
+    }
+}
+
+/// A statement is typed and put behind those. What is in scope stays as it is.
+///
+/// The one error is want of memory, which also stands for want of numbers.
+#[cycle(statement)]
+pub fn add_statement<'a>(
+    alloc: Global,
+    s: &'a Statement,
+    scope: &mut Scope<'a>,
+    work: &mut Work,
+    stmts: &mut Vec<Stmt>,
+) -> Result<(), AllocError>
+    ensures adds { OnOk result (state scope.new work.new stmts.new
+        ≡ behind_part (add_statement s.now) (state scope.old work.old stmts.old)) }
+    ensures scope { OnOk result (scope.new ≡ scope.old) }
+{
+    match &s.form {
+        StatementForm::Block(block) => add_block(alloc, block, scope, work, stmts),
+        StatementForm::Empty { .. } => Ok(()),
+        StatementForm::Simple { simple, .. } => add_simple(alloc, simple, scope, work, stmts),
+        StatementForm::If {
+            condition,
+            holds,
+            fails,
+            ..
+        } => {
+            let guarded = add_guarded(alloc, condition, &holds.statement, scope, work)?;
+            match fails {
+                None => put_if(alloc, guarded, stmts),
+                Some(other) => {
+                    add_else(
+                        alloc,
+                        &other.statement.statement,
+                        guarded,
+                        scope,
+                        work,
+                        stmts,
+                    )
+                }
+            }
+        }
+        StatementForm::While {
+            condition,
+            body,
+            ..
+        } => add_while(alloc, condition, &body.statement, scope, work, stmts),
+        StatementForm::DoWhile(d) => {
+            add_do(alloc, &d.condition, &d.body.statement, scope, work, stmts)
+        }
+        StatementForm::For(f) => add_for(alloc, &f.head, &f.body.statement, scope, work, stmts),
+        StatementForm::Break { keyword, .. } => add_jump(keyword, scope, work, stmts),
+        StatementForm::Continue { keyword, .. } => add_jump(keyword, scope, work, stmts),
+        StatementForm::Return { keyword, value, .. } => {
+            add_jump_with(alloc, keyword, value, scope, work, stmts)
+        }
+        StatementForm::Assert {
+            keyword,
+            condition,
+            ..
+        } => add_assert(alloc, keyword.at, condition, scope, work, stmts),
+        StatementForm::Printf {
+            keyword,
+            printed,
+            ..
+        } => add_printf(alloc, keyword.at, printed, scope, work, stmts),
+    }
+}
+
+/// What stands in a block, one after the other, without a scope of its own (C90 6.6.2).
+///
+/// The one error is want of memory, which also stands for want of numbers.
+#[cycle(statement)]
+pub fn add_items<'a>(
+    alloc: Global,
+    block: &'a Block,
+    scope: &mut Scope<'a>,
+    work: &mut Work,
+    stmts: &mut Vec<Stmt>,
+) -> Result<(), AllocError>
+    ensures { OnOk result (state scope.new work.new stmts.new
+        ≡ behind_part (in_order (parts_of_block block.now)) (state scope.old work.old stmts.old)) }
+{
+    for item in &block.items {
+        add_item(alloc, item, scope, work, stmts)?;
+    }
+    Ok(())
+}
+
+/// A declaration or a statement in a block.
+#[cycle(statement)]
+fn add_item<'a>(
+    alloc: Global,
+    item: &'a BlockItem,
+    scope: &mut Scope<'a>,
+    work: &mut Work,
+    stmts: &mut Vec<Stmt>,
+) -> Result<(), AllocError>
+    ensures { OnOk result (state scope.new work.new stmts.new
+        ≡ behind_part (add_item item.now) (state scope.old work.old stmts.old)) }
+{
+    match item {
+        BlockItem::Declaration(d) => {
+            let functions = Functions::new(alloc);
+            let t = type_named(&d.name);
+            add_declarators(alloc, &functions, t, &d.declarators, scope, work, stmts)
+        }
+        BlockItem::Statement(s) => add_statement(alloc, s, scope, work, stmts),
+    }
+}
+
+/// A block, which has a scope of its own (C90 6.6.2).
+#[cycle(statement)]
+fn add_block<'a>(
+    alloc: Global,
+    block: &'a Block,
+    scope: &mut Scope<'a>,
+    work: &mut Work,
+    stmts: &mut Vec<Stmt>,
+) -> Result<(), AllocError>
+    ensures adds { OnOk result (state scope.new work.new stmts.new
+        ≡ behind_part (add_block (parts_of_block block.now)) (state scope.old work.old stmts.old)) }
+    ensures scope { OnOk result (scope.new ≡ scope.old) }
+{
+    let outside = scope.mark();
+    scope.enter()?;
+    let mut body = Vec::new(alloc);
+    add_items(alloc, block, scope, work, &mut body)?;
+    scope.back_to(outside);
+    put(stmts, Stmt::Block { body })
+}
+
+/// A statement that another one controls (C90 6.6.4, 6.6.5). Where it adds none, an empty block takes its place.
+#[cycle(statement)]
+fn add_controlled<'a>(
+    alloc: Global,
+    body: &'a Statement,
+    scope: &mut Scope<'a>,
+    work: &mut Work,
+) -> Result<Stmt, AllocError>
+    ensures gives { IfOk result (λ s.
+        GivesBody (add_statement body.now scope.old (before_of work.old))
+        work.old work.new s) }
+    ensures scope { OnOk result (scope.new ≡ scope.old) }
+{
+    let mut held = Vec::new(alloc);
+    add_statement(alloc, body, scope, work, &mut held)?;
+    Ok(first_stmt(alloc, held))
+}
+
+/// The body of a loop (C90 6.6.5).
+#[cycle(statement)]
+fn add_loop_body<'a>(
+    alloc: Global,
+    body: &'a Statement,
+    scope: &mut Scope<'a>,
+    work: &mut Work,
+) -> Result<Stmt, AllocError>
+    ensures gives { IfOk result (λ s. GivesBody
+        (add_statement body.now (looping scope.old) (before_of work.old)) work.old work.new s) }
+    ensures scope { OnOk result (scope.new ≡ scope.old) }
+{
+    let was_in_loop = scope.is_in_loop();
+    scope.set_in_loop(true);
+    let held = add_controlled(alloc, body, scope, work)?;
+    scope.set_in_loop(was_in_loop);
+    Ok(held)
+}
+
+/// The condition of an `if`, and the statement that is executed where it holds (C90 6.6.4.1).
+#[cycle(statement)]
+fn add_guarded<'a>(
+    alloc: Global,
+    condition: &'a Condition,
+    holds: &'a Statement,
+    scope: &mut Scope<'a>,
+    work: &mut Work,
+) -> Result<Guarded, AllocError>
+    ensures gives { IfOk result (λ g.
+        GivesGuarded (test_of condition.now) (add_statement holds.now) scope.old
+        work.old work.new g) }
+    ensures scope { OnOk result (scope.new ≡ scope.old) }
+{
+    let test = add_condition(alloc, condition, scope, work)?;
+    let body = add_controlled(alloc, holds, scope, work)?;
+    Ok(Guarded { test, body })
+}
+
+/// The statement that is executed where the condition of this `if` does not hold (C90 6.6.4.1).
+#[cycle(statement)]
+fn add_else<'a>(
+    alloc: Global,
+    other: &'a Statement,
+    guarded: Guarded,
+    scope: &mut Scope<'a>,
+    work: &mut Work,
+    stmts: &mut Vec<Stmt>,
+) -> Result<(), AllocError>
+    ensures adds { OnOk result ((test : Typing) (holds : Part) (before : Work) →
+        GivesGuarded test holds scope.old before work.old guarded
+        → state scope.new work.new stmts.new
+        ≡ behind_part (add_if test holds (Some (add_statement other.now)))
+        (state scope.old before stmts.old)) }
+    ensures scope { OnOk result (scope.new ≡ scope.old) }
+{
+    let held = add_controlled(alloc, other, scope, work)?;
+    put_if_else(alloc, guarded, held, stmts)
+}
+
+/// A `while` (C90 6.6.5.1).
+#[cycle(statement)]
+fn add_while<'a>(
+    alloc: Global,
+    condition: &'a Condition,
+    body: &'a Statement,
+    scope: &mut Scope<'a>,
+    work: &mut Work,
+    stmts: &mut Vec<Stmt>,
+) -> Result<(), AllocError>
+    ensures adds { OnOk result (state scope.new work.new stmts.new
+        ≡ behind_part (add_while (test_of condition.now) (add_statement body.now))
+        (state scope.old work.old stmts.old)) }
+    ensures scope { OnOk result (scope.new ≡ scope.old) }
+{
+    let test = add_condition(alloc, condition, scope, work)?;
+    let held = add_loop_body(alloc, body, scope, work)?;
+    put_while(alloc, test, held, stmts)
+}
+
+/// A `do` (C90 6.6.5.2).
+#[cycle(statement)]
+fn add_do<'a>(
+    alloc: Global,
+    condition: &'a Condition,
+    body: &'a Statement,
+    scope: &mut Scope<'a>,
+    work: &mut Work,
+    stmts: &mut Vec<Stmt>,
+) -> Result<(), AllocError>
+    ensures adds { OnOk result (state scope.new work.new stmts.new
+        ≡ behind_part (add_do (test_of condition.now) (add_statement body.now))
+        (state scope.old work.old stmts.old)) }
+    ensures scope { OnOk result (scope.new ≡ scope.old) }
+{
+    let held = add_loop_body(alloc, body, scope, work)?;
+    let test = add_condition(alloc, condition, scope, work)?;
+    put_do(alloc, test, held, stmts)
+}
+
+/// A `for` (C90 6.6.5.3). What its head declares is not in scope behind it.
+#[cycle(statement)]
+fn add_for<'a>(
+    alloc: Global,
+    head: &'a ForHead,
+    body: &'a Statement,
+    scope: &mut Scope<'a>,
+    work: &mut Work,
+    stmts: &mut Vec<Stmt>,
+) -> Result<(), AllocError>
+    ensures adds { OnOk result (state scope.new work.new stmts.new
+        ≡ behind_part (add_for head.now (add_statement body.now))
+        (state scope.old work.old stmts.old)) }
+    ensures scope { OnOk result (scope.new ≡ scope.old) }
+{
+    let outside = scope.mark();
+    let front = add_head(alloc, head, scope, work)?;
+    let held = add_loop_body(alloc, body, scope, work)?;
+    scope.back_to(outside);
+    put_for(alloc, front, held, stmts)
+}

@@ -1,0 +1,116 @@
+//! What typing has made of a program so far.
+
+ghost use Rattle.std.specs.Prelude.{◌≡◌, [], ◌∷◌, ◌++◌, ◌+◌, IfOk, OnOk, length, map};
+ghost use Rattle.ba_statements.specs.Adding.{Numbers, no_work, with_elements, with_variable};
+ghost use Rattle.ba_tree.specs.Trees.{tree_of_stmt};
+
+use ba_expressions::tally::Tally;
+use ba_items::Items;
+use ba_numbers::ids::{At, StmtId, VarId};
+use ba_tree::tree::{Stmt, StmtInfo, StmtKind, Variable};
+use std::alloc::{AllocError, Global};
+
+/// The greatest number of variables.
+const VARIABLE_LIMIT: u32 = 2000;
+
+/// The greatest number of numbered statements.
+const STATEMENT_LIMIT: u32 = 4000;
+
+/// The greatest number of elements of all arrays.
+const ELEMENT_LIMIT: u32 = 1024;
+
+/// The variables and the numbered statements in the order of the text, how many elements the arrays have, and the calls and faults.
+#[derive(Drop)]
+pub struct Work {
+    pub variables: Items<Variable>,
+    pub statements: Items<StmtInfo>,
+    pub elements: u32,
+    pub tally: Tally,
+}
+
+impl Work {
+    /// Nothing was made yet. It takes no memory.
+    pub fn new(alloc: Global) -> Work
+        ensures { result ≡ no_work }
+    {
+        Work {
+            variables: Items::new(alloc),
+            statements: Items::new(alloc),
+            elements: 0,
+            tally: Tally::new(),
+        }
+    }
+
+    /// The number of the next variable. The one error is want of memory, which stands for want of numbers.
+    pub fn next_variable(&self) -> Result<VarId, AllocError>
+        ensures { IfOk result (λ var. var ≡ record { 0 = length self.now.variables }) }
+    {
+        let count = number_of(self.variables.len())?;
+        Ok(VarId(count))
+    }
+
+    /// One more variable, whose name stands at this position; one past the limit is a fault.
+    ///
+    /// The one error is want of memory, which also stands for want of numbers.
+    pub fn add_variable(&mut self, at: At, variable: Variable) -> Result<VarId, AllocError>
+        ensures var { IfOk result (λ var. var ≡ record { 0 = length self.old.variables }) }
+        ensures added { OnOk result (self.new ≡ with_variable self.old at variable) }
+    {
+        let count = number_of(self.variables.len())?;
+        let Some(number) = count.checked_add(1) else {
+            return Err(AllocError);
+        };
+        self.variables.push(variable)?;
+        self.tally.add_limit(VARIABLE_LIMIT, number, at);
+        Ok(VarId(count))
+    }
+
+    /// A statement of this kind, whose first token stands at this position, gets the next number; one past the limit is a fault.
+    ///
+    /// The one error is want of memory, which also stands for want of numbers.
+    pub fn number(&mut self, at: At, kind: StmtKind) -> Result<StmtId, AllocError>
+        ensures { IfOk result (λ stmt. Numbers at kind stmt self.old self.new) }
+    {
+        let count = number_of(self.statements.len())?;
+        let Some(number) = count.checked_add(1) else {
+            return Err(AllocError);
+        };
+        self.statements.push(StmtInfo { at, kind })?;
+        self.tally.add_limit(STATEMENT_LIMIT, number, at);
+        Ok(StmtId(number))
+    }
+
+    /// So many elements of an array at this position more; those past the limit are a fault.
+    ///
+    /// The one error is want of memory, which stands for want of numbers.
+    pub fn add_elements(&mut self, count: u32, at: At) -> Result<(), AllocError>
+        ensures { OnOk result (self.new ≡ with_elements self.old count at) }
+    {
+        let Some(elements) = self.elements.checked_add(count) else {
+            return Err(AllocError);
+        };
+        self.elements = elements;
+        self.tally.add_limit(ELEMENT_LIMIT, elements, at);
+        Ok(())
+    }
+}
+
+/// A count as the number of what comes next. The one error is want of memory, which stands for want of numbers.
+fn number_of(count: usize) -> Result<u32, AllocError>
+    ensures { IfOk result (λ number. number ≡ count) }
+{
+    match u32::try_from(count) {
+        Ok(number) => Ok(number),
+        Err(_) => Err(AllocError),
+    }
+}
+
+/// A statement is put behind those. The one error is want of memory.
+pub fn put(stmts: &mut Vec<Stmt>, stmt: Stmt) -> Result<(), AllocError>
+    ensures { OnOk result
+        (map tree_of_stmt stmts.new.items
+        ≡ map tree_of_stmt stmts.old.items ++ tree_of_stmt stmt ∷ []) }
+{
+    stmts.push(stmt)?;
+    Ok(())
+}

@@ -1,0 +1,9 @@
+pub mod Classes
+pub mod Marks
+pub mod Views
+pub mod ExpressionMarks
+pub mod DeclarationMarks
+pub mod SimpleMarks
+pub mod StatementMarks
+pub mod ExternalMarks
+pub mod FileMarks

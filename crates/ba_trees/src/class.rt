@@ -1,0 +1,29 @@
+//! What the grammar sees of a token.
+
+ghost use Rattle.std.specs.Prelude.{◌≡◌};
+ghost use Rattle.ba_trees.specs.Classes.{class_of};
+
+use ba_tokens::token::{Keyword, Punct, Token, TokenKind};
+
+/// What the grammar sees of a token: not the spelling of a name, nor the value of a constant.
+#[derive(Clone, Copy, Debug, PartialEq, Eq)]
+pub enum TokenClass {
+    Name,
+    Constant,
+    Quoted,
+    Keyword(Keyword),
+    Punct(Punct),
+}
+
+/// What the grammar sees of a token.
+pub fn class_of(token: &Token) -> TokenClass
+    ensures { result ≡ class_of token.now }
+{
+    match &token.kind {
+        TokenKind::Name(_) => TokenClass::Name,
+        TokenKind::Constant { .. } => TokenClass::Constant,
+        TokenKind::Quoted => TokenClass::Quoted,
+        TokenKind::Keyword(keyword) => TokenClass::Keyword(*keyword),
+        TokenKind::Punct(punct) => TokenClass::Punct(*punct),
+    }
+}

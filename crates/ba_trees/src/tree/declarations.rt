@@ -1,0 +1,185 @@
+//! The trees of declarations (C90 6.5).
+
+use crate::tree::expressions::{Conditional, NextExpression, TypeName};
+use ba_tokens::token::Token;
+
+/// The length of an array behind its name: `[ ]`, with an expression or without.
+pub struct ArrayLength {
+    /// `[`
+    pub open: Token,
+    pub length: Option<Conditional>,
+    /// `]`
+    pub close: Token,
+}
+
+impl Drop for ArrayLength {
+    fn drop(self) {
+        let ArrayLength {
+            open: _,
+            length: _,
+            close: _,
+        } = self;
+    }
+}
+
+/// Initial values in braces (C90 6.5.7).
+pub struct Braced {
+    /// `{`
+    pub open: Token,
+    pub first: Conditional,
+    pub rest: Vec<NextExpression>,
+    /// The comma before the `}`, if there is one.
+    pub comma: Option<Token>,
+    /// `}`
+    pub close: Token,
+}
+
+impl Drop for Braced {
+    fn drop(self) {
+        let Braced {
+            open: _,
+            first: _,
+            rest: _,
+            comma: _,
+            close: _,
+        } = self;
+    }
+}
+
+/// `=` and what a variable begins with (C90 6.5.7): an expression, or values in braces.
+pub enum Initialiser {
+    /// `=` and an expression.
+    Expression { assign: Token, value: Conditional },
+    /// `=` and values in braces.
+    Braced { assign: Token, values: Braced },
+}
+
+impl Drop for Initialiser {
+    fn drop(self) {
+        match self {
+            Initialiser::Expression {
+                assign: _,
+                value: _,
+            } => {}
+            Initialiser::Braced {
+                assign: _,
+                values: _,
+            } => {}
+        }
+    }
+}
+
+/// A declared name, with its length if it is an array, and its initialiser (C90 6.5.4).
+pub struct Declarator {
+    pub name: Token,
+    pub length: Option<ArrayLength>,
+    pub initialiser: Option<Initialiser>,
+}
+
+impl Drop for Declarator {
+    fn drop(self) {
+        let Declarator {
+            name: _,
+            length: _,
+            initialiser: _,
+        } = self;
+    }
+}
+
+/// A declarator in a list, and the comma before it, if it is not the first.
+pub struct ListedDeclarator {
+    pub comma: Option<Token>,
+    pub declarator: Declarator,
+}
+
+impl Drop for ListedDeclarator {
+    fn drop(self) {
+        let ListedDeclarator {
+            comma: _,
+            declarator: _,
+        } = self;
+    }
+}
+
+/// One declarator or more, with commas between: each but the first has the comma before it.
+pub struct Declarators {
+    pub all: Vec<ListedDeclarator>,
+}
+
+impl Drop for Declarators {
+    fn drop(self) {
+        let Declarators { all: _ } = self;
+    }
+}
+
+/// A declaration in a block (C90 6.5).
+pub struct Declaration {
+    pub name: TypeName,
+    pub declarators: Declarators,
+    pub semicolon: Token,
+}
+
+impl Drop for Declaration {
+    fn drop(self) {
+        let Declaration {
+            name: _,
+            declarators: _,
+            semicolon: _,
+        } = self;
+    }
+}
+
+/// A parameter of a function (C90 6.5.4.3).
+pub struct Parameter {
+    pub type_name: TypeName,
+    pub name: Option<Token>,
+    pub length: Option<ArrayLength>,
+}
+
+impl Drop for Parameter {
+    fn drop(self) {
+        let Parameter {
+            type_name: _,
+            name: _,
+            length: _,
+        } = self;
+    }
+}
+
+/// A comma and the parameter after it.
+pub struct NextParameter {
+    pub comma: Token,
+    pub parameter: Parameter,
+}
+
+impl Drop for NextParameter {
+    fn drop(self) {
+        let NextParameter {
+            comma: _,
+            parameter: _,
+        } = self;
+    }
+}
+
+/// One parameter or more, with commas between.
+pub struct ParameterList {
+    pub first: Parameter,
+    pub rest: Vec<NextParameter>,
+}
+
+impl Drop for ParameterList {
+    fn drop(self) {
+        let ParameterList { first: _, rest: _ } = self;
+    }
+}
+
+/// The parameters of a function, none or more; `void` alone is one without a name.
+pub struct Parameters {
+    pub list: Option<ParameterList>,
+}
+
+impl Drop for Parameters {
+    fn drop(self) {
+        let Parameters { list: _ } = self;
+    }
+}

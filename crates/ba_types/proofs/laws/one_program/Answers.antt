@@ -1,8 +1,0 @@
-use Rattle.ba_types.proofs.Programs.{one_of_text, one_of_tokens}
-use Rattle.ba_types.proofs.laws.one_program.Goals as goal
-
-pub returns : goal.returns
-returns c = record {
-  tokens = λ tokens p q it that. one_of_tokens tokens p q it that;
-  text = λ text p q it that. one_of_text text p q it that;
-}

@@ -1,8 +1,0 @@
-use Rattle.ba_types.proofs.FileRows.{same_faults, same_typed}
-use Rattle.ba_types.proofs.laws.one_typing.Goals as goal
-
-pub returns : goal.returns
-returns c = record {
-  faults = λ tree other same. same_faults tree other same;
-  typed = λ tree other same. same_typed tree other same;
-}

@@ -1,6 +1,0 @@
-use Rattle.ba_types.proofs.TreeForms.{tree-Element}
-use Rattle.ba_types.proofs.trees.element.Goals as goal
-
-pub returns : goal.returns
-returns c = tree-Element c.args.array c.in_ok-index.index c.args.index
-    c.in_ok-index.ensures.ok

@@ -1,0 +1,284 @@
+-- Declarations of variables (C90 6.5): types, lengths, initialisers, and what they add to a program.
+
+use Rattle.std.specs.Prelude.{ℕ, ◌+◌, nat_lt, ℤ, pos, Bool, true, false, not, ◌&&◌, ◌||◌, ◌==◌, cond, Option, None, Some, option_map, unwrap_or, List, [], ◌∷◌, ◌++◌, map, flat_map, length, int_le, unsigned_abs, sum_by}
+use Rattle.std.specs.Option.{is_some}
+use Rattle.ba_numbers.specs.declared.ids.At.{At}
+use Rattle.ba_numbers.specs.declared.ids.StmtId.{StmtId}
+use Rattle.ba_numbers.specs.declared.ids.VarId.{VarId}
+use Rattle.ba_numbers.specs.declared.numbers.CType.{CType}
+use Rattle.ba_numbers.specs.declared.numbers.CType.TheVariants.{I32}
+use Rattle.ba_trees.specs.declared.tree.declarations.ArrayLength.{ArrayLength}
+use Rattle.ba_trees.specs.declared.tree.declarations.Braced.{Braced}
+use Rattle.ba_trees.specs.declared.tree.declarations.Initialiser.{Initialiser}
+use Rattle.ba_trees.specs.declared.tree.declarations.Initialiser.TheVariants as initialiser
+use Rattle.ba_trees.specs.declared.tree.declarations.Declarator.{Declarator}
+use Rattle.ba_trees.specs.declared.tree.declarations.ListedDeclarator.{ListedDeclarator}
+use Rattle.ba_trees.specs.declared.tree.declarations.Declarators.{Declarators}
+use Rattle.ba_trees.specs.declared.tree.expressions.Conditional.{Conditional}
+use Rattle.ba_tree.specs.declared.tree.Shape.{Shape}
+use Rattle.ba_tree.specs.declared.tree.Shape.TheVariants.{Value, Array}
+use Rattle.ba_tree.specs.declared.tree.StmtInfo.{StmtInfo}
+use Rattle.ba_tree.specs.declared.tree.StmtKind.{StmtKind}
+use Rattle.ba_tree.specs.declared.tree.StmtKind.TheVariants as kind
+use Rattle.ba_tree.specs.declared.tree.Variable.{Variable}
+use Rattle.ba_typing.specs.Expressions.{Typed, Typing, typed_conditional, typed_next, tree_as, placeholder}
+use Rattle.ba_typing.specs.Faults.{fault, fault_if, void_faults, twice_faults, limit_faults, statement_limit, variable_limit, element_limit, height_limit}
+use Rattle.ba_typing.specs.Names.{Scope, knowing, is_declared_here, is_declared_in, name_of}
+use Rattle.ba_tree.specs.Trees.{ExprTree, StmtTree}
+use Rattle.ba_tree.specs.Trees as tree
+use Rattle.ba_typing.specs.declared.fault.Cause.TheVariants.{WrongKind, WrongCount, BadLength}
+use Rattle.ba_typing.specs.declared.fault.Fault.{Fault}
+use Rattle.ba_typing.specs.declared.meanings.Entry.{Entry}
+use Rattle.ba_typing.specs.declared.meanings.Signature.{Signature}
+
+-- WHAT DECLARATIONS AND STATEMENTS ADD, one after the other: typed statements; the names that the scope around knows from then on;
+-- variables and numbered statements in the order of the text; how many calls and how many elements of arrays; and the faults in them.
+pub record Added : Type 0 where
+  pub stmts : List StmtTree
+  pub entries : List Entry
+  pub variables : List Variable
+  pub statements : List StmtInfo
+  pub calls : ℕ
+  pub elements : ℕ
+  pub faults : List Fault
+
+abbrev pub nothing_added : Added
+nothing_added = record {
+  stmts = [];
+  entries = [];
+  variables = [];
+  statements = [];
+  calls = 0;
+  elements =
+      0;
+  faults = [];
+}
+
+infixr 5 ◌and◌
+abbrev pub ◌and◌ : Added → Added → Added
+(a and b) = record {
+  stmts = a.stmts ++ b.stmts;
+  entries = a.entries ++ b.entries;
+  variables = a.variables ++ b.variables;
+  statements = a.statements ++ b.statements;
+  calls = a.calls + b.calls;
+  elements = a.elements + b.elements;
+  faults = a.faults ++ b.faults;
+}
+
+-- how many of each stand before
+pub record Before : Type 0 where
+  pub variables : ℕ
+  pub statements : ℕ
+  pub calls : ℕ
+  pub elements : ℕ
+
+abbrev pub behind : Before → Added → Before
+behind n a = record {
+  variables = n.variables + length a.variables;
+  statements = n.statements + length a.statements;
+  calls = n.calls + a.calls;
+  elements = n.elements + a.elements;
+}
+
+-- what a part of the text adds, in a scope and behind so many
+abbrev pub Part : Type 0
+Part = Scope → Before → Added
+
+-- a part, and then one that knows what it declared
+infixr 4 ◌then◌
+abbrev pub ◌then◌ : Part → Part → Part
+(first then second) scope n = let a = first scope n in a and second (knowing a.entries scope) (behind n a)
+
+abbrev pub nothing : Part
+nothing scope n = nothing_added
+
+abbrev pub in_order : List Part → Part
+in_order [] = nothing
+in_order (part ∷ parts) = part then in_order parts
+
+-- THE PIECES
+
+abbrev pub faults_added : List Fault → Added
+faults_added faults = record nothing_added { faults = faults }
+
+-- the number of the next statement
+abbrev pub next_stmt : Before → StmtId
+next_stmt n = record { 0 = n.statements + 1 }
+
+-- a numbered statement of this tree, which has calls and faults in its expressions
+abbrev pub numbered : Before → At → StmtKind → StmtTree → ℕ → List Fault → Added
+numbered n at k typed calls faults = record nothing_added {
+  stmts = typed ∷ [];
+  statements = record { at = at; kind = k } ∷ [];
+  calls = calls;
+  faults = limit_faults statement_limit (n.statements + 1) at ++ faults;
+}
+
+-- the whole of an expression: its faults, and its height at this position
+abbrev pub whole_faults : At → Typed → List Fault
+whole_faults at e = limit_faults height_limit e.height at ++ e.faults
+
+-- VARIABLES
+
+-- a name that the file declares before, as a variable, or as a function among these
+abbrev pub is_declared : Scope → List Signature → List ℕ → Bool
+is_declared scope functions name = is_declared_here scope name
+    || ((scope.depth == 0) && is_declared_in functions name)
+
+-- a variable with its name at this position, behind the functions that are declared before it
+abbrev pub add_variable : List Signature → At → List ℕ → Variable → Part
+add_variable functions at name v scope n = record nothing_added {
+  entries = record { name = name; depth = scope.depth; var = record { 0 = n.variables }; variable = v } ∷ [];
+  variables = v ∷ [];
+  faults = twice_faults (is_declared scope functions name) at
+      ++ limit_faults variable_limit (n.variables + 1) at;
+}
+
+-- LENGTHS OF ARRAYS (C90 6.5.4.2)
+
+-- from 1 to 256
+abbrev pub is_length : ℤ → Bool
+is_length z = int_le (pos 1) z && int_le z (pos 256)
+
+abbrev pub length_in_range : Option ℤ → Option ℕ
+length_in_range None = None
+length_in_range (Some z) = cond (is_length z) (Some (unsigned_abs z)) None
+
+-- a written length, None where it is not constant, traps or is out of range
+abbrev pub written_length : Typed → Option ℕ
+written_length e = cond e.is_constant (length_in_range e.value) None
+
+-- THE VALUES OF AN INITIALISER (C90 6.5.7)
+
+abbrev pub braced_values : Braced → List Typing
+braced_values b = typed_conditional b.first ∷ map typed_next b.rest.items
+
+abbrev pub values_of : Initialiser → List Typing
+values_of (initialiser.Expression assign e) = typed_conditional e ∷ []
+values_of (initialiser.Braced assign b) = braced_values b
+
+abbrev pub has_braces : Initialiser → Bool
+has_braces (initialiser.Expression assign e) = false
+has_braces (initialiser.Braced assign b) = true
+
+-- expressions one after the other
+abbrev pub typed_each : Scope → ℕ → List Typing → List Typed
+typed_each scope calls [] = []
+typed_each scope calls (typing ∷ typings) = let e = typing scope calls in
+    e ∷ typed_each scope (calls + e.calls) typings
+
+abbrev pub calls_in : List Typed → ℕ
+calls_in = sum_by (λ (e : Typed). e.calls)
+
+-- a value of an initialiser; a global's is constant
+abbrev pub initial_faults : At → Bool → Typed → List Fault
+initial_faults at is_global e = whole_faults at e ++ fault_if (is_global && not e.is_constant) WrongKind at
+
+abbrev pub first_tree : CType → List Typed → ExprTree
+first_tree t [] = placeholder
+first_tree t (e ∷ es) = tree_as t e
+
+-- of an array all values, of a variable its one
+abbrev pub init_tree : StmtId → VarId → CType → Bool → List Typed → StmtTree
+init_tree stmt v t true es = tree.init_array stmt v (map (tree_as t) es)
+init_tree stmt v t false es = tree.init stmt v (first_tree t es)
+
+-- DECLARATORS (C90 6.5.4)
+
+-- the length of an array: how many elements, None where it is bad; whether it is written; and what its expression adds
+pub record TypedLength : Type 0 where
+  pub count : Option ℕ
+  pub is_written : Bool
+  pub calls : ℕ
+  pub faults : List Fault
+
+abbrev pub typed_written_length : At → Typed → TypedLength
+typed_written_length at e = record {
+  count = written_length e;
+  is_written = true;
+  calls = e.calls;
+  faults =
+      whole_faults at e;
+}
+
+abbrev pub typed_counted_length : Option ℕ → TypedLength
+typed_counted_length values = record {
+  count = length_in_range (option_map pos values);
+  is_written =
+      false;
+  calls = 0;
+  faults = [];
+}
+
+-- of an array at this position with so many initialisers, if it has any
+abbrev pub typed_length : At → Option ℕ → Option Conditional → Scope → ℕ → TypedLength
+typed_length at values None scope calls = typed_counted_length values
+typed_length at values (Some e) scope calls = typed_written_length at (typed_conditional e scope calls)
+
+abbrev pub typed_array_length : At → Option ℕ → Scope → ℕ → Option ArrayLength → Option TypedLength
+typed_array_length at values scope calls None = None
+typed_array_length at values scope calls (Some l) = Some (typed_length at values l.length scope calls)
+
+-- a bad length adds no elements, and the array counts as one of 1
+abbrev pub length_faults : Before → At → Option ℕ → List Fault
+length_faults n at None = fault BadLength at
+length_faults n at (Some count) = limit_faults element_limit (n.elements + count) at
+
+abbrev pub add_length : At → Option TypedLength → Part
+add_length at None scope n = nothing_added
+add_length at (Some l) scope n = record nothing_added {
+  calls = l.calls;
+  elements = unwrap_or l.count 0;
+  faults = length_faults n at l.count ++ l.faults;
+}
+
+abbrev pub shape_of : Option TypedLength → Shape
+shape_of None = Value
+shape_of (Some l) = Array (unwrap_or l.count 1)
+
+-- the length that an initialiser may not exceed: a good one that is written
+abbrev pub written_count : Option TypedLength → Option ℕ
+written_count None = None
+written_count (Some l) = cond l.is_written l.count None
+
+abbrev pub exceeds : Option ℕ → ℕ → Bool
+exceeds None count = false
+exceeds (Some most) count = nat_lt most count
+
+-- Braces stand for an array and for nothing else, and have no more values than the array elements.
+abbrev pub add_initialiser : At → VarId → CType → Option TypedLength → Initialiser → Part
+add_initialiser at v t l init scope n = let es = typed_each scope n.calls (values_of init) in
+    numbered n at kind.Initialiser (init_tree (next_stmt n) v t (is_some l) es) (calls_in es)
+    (fault_if (cond (is_some l) (not (has_braces init)) (has_braces init)) WrongKind at
+    ++ fault_if (exceeds (written_count l) (length es)) WrongCount at
+    ++ flat_map (initial_faults at (scope.depth == 0)) es)
+
+abbrev pub add_optional_initialiser : At → VarId → CType → Option TypedLength → Option Initialiser → Part
+add_optional_initialiser at v t l None = nothing
+add_optional_initialiser at v t l (Some init) = add_initialiser at v t l init
+
+-- a local variable is declared where the text does it, a global before the run
+abbrev pub add_declare : VarId → Part
+add_declare v scope n = record nothing_added { stmts = cond (scope.depth == 0) [] (tree.declare v ∷ []) }
+
+abbrev pub count_of_values : Option Initialiser → Option ℕ
+count_of_values = option_map (λ init. length (values_of init))
+
+-- A declarator, of a type; `void` is at fault. The variable is known from the end of its declarator on, in its initialiser too.
+abbrev pub add_declarator : List Signature → Option CType → Declarator → Part
+add_declarator functions t d scope n =
+    let at = d.name.at in
+    let v : VarId = record { 0 = n.variables } in
+    let s = unwrap_or t I32 in
+    let l = typed_array_length at (count_of_values d.initialiser) scope n.calls d.length in
+    (add_length at l
+    then add_variable functions at (name_of d.name) (record { t = s; shape = shape_of l })
+    then add_declare v
+    then add_optional_initialiser at v s l d.initialiser
+    then (λ scope n. faults_added (void_faults t at))) scope n
+
+-- those of a list, of a type, behind functions that are declared before them
+abbrev pub add_declarators : List Signature → Option CType → Declarators → Part
+add_declarators functions t ds = in_order (map
+    (λ (l : ListedDeclarator). add_declarator functions t l.declarator) ds.all.items)

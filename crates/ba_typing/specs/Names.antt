@@ -1,0 +1,196 @@
+-- What the names, words and operators of a program mean.
+
+use Rattle.std.specs.Prelude.{ℕ, Bool, true, false, ◌&&◌, ◌==◌, cond, nat_eq, ◌+◌, ◌++◌, Option, None, Some, List, [], ◌∷◌}
+use Rattle.std.specs.List.{list_any}
+use Rattle.std.specs.Cmp.Lexicographic.{pointwise}
+use Rattle.ba_tokens.specs.declared.token.Token.{Token}
+use Rattle.ba_tokens.specs.declared.token.TokenKind.{TokenKind}
+use Rattle.ba_tokens.specs.declared.token.TokenKind.TheVariants as kind
+use Rattle.ba_tokens.specs.declared.token.Keyword.{Keyword}
+use Rattle.ba_tokens.specs.declared.token.Keyword.TheVariants as keyword
+use Rattle.ba_tokens.specs.declared.token.Punct.{Punct}
+use Rattle.ba_tokens.specs.declared.token.Punct.TheVariants as punct
+use Rattle.ba_numbers.specs.declared.numbers.BinOp.{BinOp}
+use Rattle.ba_numbers.specs.declared.numbers.BinOp.TheVariants.{Mul, Div, Rem, Add, Sub, Shl, Shr, Lt, Le, Gt, Ge, Eq, Ne, And, Xor, Or}
+use Rattle.ba_numbers.specs.declared.numbers.CType.{CType}
+use Rattle.ba_numbers.specs.declared.numbers.CType.TheVariants.{I8, U8, I16, U16, I32, U32}
+use Rattle.ba_numbers.specs.declared.numbers.UnOp.{UnOp}
+use Rattle.ba_numbers.specs.declared.numbers.UnOp.TheVariants.{Neg, Flip, IsZero}
+use Rattle.ba_trees.specs.Classes.{class_of, word}
+use Rattle.ba_trees.specs.declared.tree.expressions.TypeName.{TypeName}
+use Rattle.ba_tree.specs.Facts.{is_array_shape}
+use Rattle.ba_typing.specs.declared.names.Jump.{Jump}
+use Rattle.ba_typing.specs.declared.names.Jump.TheVariants as jump
+use Rattle.ba_typing.specs.declared.names.Operator.{Operator}
+use Rattle.ba_typing.specs.declared.names.Operator.TheVariants as operator
+use Rattle.ba_typing.specs.declared.names.Operator.TheVariants.{AndAlso, OrElse}
+use Rattle.ba_typing.specs.declared.meanings.Entry.{Entry}
+use Rattle.ba_typing.specs.declared.meanings.Meaning.{Meaning}
+use Rattle.ba_typing.specs.declared.meanings.Meaning.TheVariants as meaning
+use Rattle.ba_typing.specs.declared.meanings.Signature.{Signature}
+
+-- TOKENS. A token that isn't of the kind that its place in the tree asks for stands in no tree that the grammar has.
+
+abbrev pub name_of_kind : TokenKind → List ℕ
+name_of_kind (kind.Name name) = name
+name_of_kind _ = []
+
+abbrev pub name_of : Token → List ℕ
+name_of token = name_of_kind token.kind
+
+abbrev pub punct_of_kind : TokenKind → Option Punct
+punct_of_kind (kind.Punct p) = Some p
+punct_of_kind _ = None
+
+abbrev pub punct_of : Token → Option Punct
+punct_of token = punct_of_kind token.kind
+
+-- TYPE NAMES (C90 6.5.2): the type that the words name, None for `void`
+
+abbrev pub has_word : List Token → Keyword → Bool
+has_word words k = list_any (λ token. word k (class_of token)) words
+
+abbrev pub by_sign : Bool → CType → CType → CType
+by_sign is_unsigned signed unsigned = cond is_unsigned unsigned signed
+
+abbrev pub type_of_words : List Token → Option CType
+type_of_words words = let is_unsigned = has_word words keyword.Unsigned in
+    cond (has_word words keyword.Void) None (Some
+    (cond (has_word words keyword.Char) (by_sign is_unsigned I8 U8)
+    (cond (has_word words keyword.Short) (by_sign is_unsigned I16 U16) (by_sign is_unsigned I32 U32))))
+
+abbrev pub words_of : TypeName → List Token
+words_of name = name.words.items
+
+abbrev pub type_named : TypeName → Option CType
+type_named name = type_of_words (words_of name)
+
+-- OPERATORS (C90 6.3.3.3, 6.3.5 to 6.3.12). Unary `+` has none.
+
+abbrev pub unary_operator : Option Punct → Option UnOp
+unary_operator (Some punct.Minus) = Some Neg
+unary_operator (Some punct.Tilde) = Some Flip
+unary_operator (Some punct.Exclamation) = Some IsZero
+unary_operator _ = None
+
+abbrev pub binary_operator : Option Punct → Operator
+binary_operator (Some punct.Star) = operator.Value Mul
+binary_operator (Some punct.Slash) = operator.Value Div
+binary_operator (Some punct.Percent) = operator.Value Rem
+binary_operator (Some punct.Plus) = operator.Value Add
+binary_operator (Some punct.Minus) = operator.Value Sub
+binary_operator (Some punct.ShiftLeft) = operator.Value Shl
+binary_operator (Some punct.ShiftRight) = operator.Value Shr
+binary_operator (Some punct.Less) = operator.Value Lt
+binary_operator (Some punct.LessEqual) = operator.Value Le
+binary_operator (Some punct.Greater) = operator.Value Gt
+binary_operator (Some punct.GreaterEqual) = operator.Value Ge
+binary_operator (Some punct.Equal) = operator.Value Eq
+binary_operator (Some punct.NotEqual) = operator.Value Ne
+binary_operator (Some punct.Ampersand) = operator.Value And
+binary_operator (Some punct.Caret) = operator.Value Xor
+binary_operator (Some punct.Bar) = operator.Value Or
+binary_operator (Some punct.AndAnd) = AndAlso
+binary_operator _ = OrElse
+
+-- the operator of a compound assignment or a step; `=` has none (C90 6.3.16.2, 6.3.2.4, 6.3.3.1)
+abbrev pub changing_operator : Option Punct → Option BinOp
+changing_operator (Some punct.StarAssign) = Some Mul
+changing_operator (Some punct.SlashAssign) = Some Div
+changing_operator (Some punct.PercentAssign) = Some Rem
+changing_operator (Some punct.PlusAssign) = Some Add
+changing_operator (Some punct.MinusAssign) = Some Sub
+changing_operator (Some punct.ShiftLeftAssign) = Some Shl
+changing_operator (Some punct.ShiftRightAssign) = Some Shr
+changing_operator (Some punct.AmpersandAssign) = Some And
+changing_operator (Some punct.CaretAssign) = Some Xor
+changing_operator (Some punct.BarAssign) = Some Or
+changing_operator (Some punct.Increment) = Some Add
+changing_operator (Some punct.Decrement) = Some Sub
+changing_operator _ = None
+
+-- JUMPS without a value, by their keyword (C90 6.6.6)
+
+abbrev pub jump_of_kind : TokenKind → Jump
+jump_of_kind (kind.Keyword keyword.Break) = jump.Break
+jump_of_kind (kind.Keyword keyword.Continue) = jump.Continue
+jump_of_kind _ = jump.Return
+
+abbrev pub jump_of : Token → Jump
+jump_of token = jump_of_kind token.kind
+
+-- SCOPES (C90 6.1.2.1)
+
+abbrev pub same_name : List ℕ → List ℕ → Bool
+same_name = pointwise nat_eq
+
+-- `main`
+abbrev pub main_name : List ℕ
+main_name = 0x6d ∷ 0x61 ∷ 0x69 ∷ 0x6e ∷ []
+
+abbrev pub is_main_name : List ℕ → Bool
+is_main_name = same_name main_name
+
+-- What an expression or statement finds around it. `functions` are all declarations of functions in the file, since a function is known
+-- in the whole file. `known` are the variables that are in scope, in the order of their declarations: a later one hides those of its
+-- name before it. `depth` counts the scopes inside the file's; parameters and the outermost block are one scope. `result` is the type
+-- that the function around returns, None for `void`.
+pub record Scope : Type 0 where
+  pub functions : List Signature
+  pub known : List Entry
+  pub depth : ℕ
+  pub in_loop : Bool
+  pub result : Option CType
+
+-- the file's scope with these functions, before its first variable
+abbrev pub fresh_scope : List Signature → Scope
+fresh_scope functions = record {
+  functions = functions;
+  known = [];
+  depth = 0;
+  in_loop = false;
+  result = None;
+}
+
+abbrev pub knowing : List Entry → Scope → Scope
+knowing entries scope = record scope { known = scope.known ++ entries }
+
+-- a block's scope, a loop's body
+abbrev pub inner : Scope → Scope
+inner scope = record scope { depth = scope.depth + 1 }
+
+abbrev pub looping : Scope → Scope
+looping scope = record scope { in_loop = true }
+
+-- the last entry of the name
+abbrev pub last_entry : List ℕ → List Entry → Option Entry → Option Entry
+last_entry name [] last = last
+last_entry name (e ∷ es) last = last_entry name es (cond (same_name e.name name) (Some e) last)
+
+abbrev pub is_declared_in : List Signature → List ℕ → Bool
+is_declared_in functions name = list_any (λ (s : Signature). same_name s.name name) functions
+
+-- a name's definition as a function, the first one
+abbrev pub definition_in : List Signature → List ℕ → Option Signature
+definition_in [] name = None
+definition_in (s ∷ ss) name = cond (s.is_definition && same_name s.name name) (Some s) (definition_in ss name)
+
+-- what a name means
+abbrev pub function_or_unknown : Bool → Meaning
+function_or_unknown is_declared = cond is_declared meaning.Function meaning.Unknown
+
+abbrev pub meaning_or : Option Entry → Meaning → Meaning
+meaning_or None other = other
+meaning_or (Some e) other = meaning.Variable e
+
+abbrev pub meaning_of : Scope → List ℕ → Meaning
+meaning_of scope name =
+    meaning_or (last_entry name scope.known None) (function_or_unknown (is_declared_in scope.functions name))
+
+-- a name is declared in the innermost scope
+abbrev pub is_declared_here : Scope → List ℕ → Bool
+is_declared_here scope name = list_any (λ (e : Entry). same_name e.name name && (e.depth == scope.depth))
+    scope.known
+
+abbrev pub is_array_entry : Entry → Bool
+is_array_entry e = is_array_shape e.variable.shape

@@ -1,6 +1,0 @@
-use Rattle.std.proofs.Common.{refl}
-use Rattle.ba_unroll.proofs.ArrayLengths.{lengths-Called}
-use Rattle.ba_unroll.proofs.frame.Frame.called.Goals as goal
-
-pub returns : goal.returns
-returns c = λ p. lengths-Called p _ c.args.params c.args.args c.args.caller refl

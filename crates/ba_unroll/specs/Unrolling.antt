@@ -1,0 +1,95 @@
+-- What the parts of an unrolled tree do.
+
+use Rattle.std.specs.Prelude.{◌≡◌, ℕ, ◌+◌, zero, suc, Bool, true, false, ◌&&◌, List, [], ◌∷◌, map}
+use Rattle.std.specs.List.{list_all}
+use Rattle.ba_code.specs.Facts.{Declared, Inside, are_inside, fits_inside, is_operand, is_unrolled}
+use Rattle.ba_code.specs.Meaning.{Setting, body_and_step, head_loop, past_bound, run_node, run_nodes, tail_loop}
+use Rattle.ba_code.specs.State.{CodeExecution, operand_value}
+use Rattle.ba_code.specs.declared.nodes.Node.{Node}
+use Rattle.ba_code.specs.declared.nodes.Operand.{Operand}
+use Rattle.ba_unroll.specs.declared.turns.Parts.{Parts}
+use Rattle.ba_numbers.specs.declared.ids.StmtId.{StmtId}
+use Rattle.ba_tree.specs.Acts.{after_part, fork, give, then_do}
+use Rattle.ba_tree.specs.declared.run.Flow.TheVariants.{Next}
+
+-- where a part stands: with these declarations, inside blocks of these labels
+abbrev pub Stands : Type 0
+Stands = Declared → Inside
+
+-- what a part does, by what stands still while it runs
+abbrev pub Acts : Type 0
+Acts = Setting → CodeExecution
+
+-- so many turns for each entry of a loop
+abbrev pub bounded : ℕ → Setting → Setting
+bounded bound g = record g { turns = bound }
+
+abbrev pub node_act : ℕ → List ℕ → Node → Acts
+node_act bound turns node g = run_node (bounded bound g) node turns
+
+abbrev pub nodes_act : ℕ → List ℕ → List Node → Acts
+nodes_act bound turns nodes g = run_nodes (bounded bound g) nodes turns
+
+abbrev pub node_inside : Node → Stands
+node_inside node d = fits_inside d node
+
+abbrev pub all_inside : List Node → Stands
+all_inside nodes d labels = are_inside labels (map (fits_inside d) nodes)
+
+-- one part, and then another where the first doesn't leave
+abbrev pub and_then : CodeExecution → CodeExecution → CodeExecution
+and_then first second s = then_do (first s) (after_part second)
+
+-- Nodes without loops are put behind others. They do what the part does, and fit where it stands.
+pub record Adds (act : Acts) (stands : Stands) (old new : List Node) : Type 0 where
+  pub runs : (g : Setting) → run_nodes g new [] ≡ and_then (run_nodes g old []) (act g)
+  pub fits : (d : Declared) (labels : List ℕ) → stands d labels ≡ true → all_inside old d labels ≡ true
+      → all_inside new d labels ≡ true
+  pub unrolled : list_all is_unrolled old ≡ true → list_all is_unrolled new ≡ true
+
+abbrev pub then_act : Acts → Acts → Acts
+then_act first second g = and_then (first g) (second g)
+
+-- what is done where a value isn't 0
+abbrev pub if_act : Operand → Acts → Acts
+if_act when act g s = fork (act g) (give Next) (operand_value s when) s
+
+abbrev pub beyond_act : StmtId → Acts
+beyond_act stmt g = past_bound stmt
+
+-- the turn of the head behind a turn: the one that it begins, or in a `do` the one that it ends
+abbrev pub turn_of_head : Bool → ℕ → ℕ
+turn_of_head true turn = turn
+turn_of_head false turn = turn + 1
+
+-- a turn, the head behind it, and what is left where the condition is true then
+abbrev pub turn_act : ℕ → List ℕ → Parts → ℕ → Acts → Acts
+turn_act bound turns parts turn left = then_act
+    (then_act (then_act (nodes_act bound (turn ∷ turns) parts.body.now)
+    (nodes_act bound (turn ∷ turns) parts.step.now))
+    (nodes_act bound (turn_of_head parts.after turn ∷ turns) parts.head.now))
+    (if_act parts.when left)
+
+-- the turns from this one on, of which so many are left
+abbrev pub turns_act : ℕ → List ℕ → Parts → ℕ → ℕ → Acts
+turns_act bound turns parts zero turn = beyond_act parts.stmt
+turns_act bound turns parts (suc left) turn =
+    turn_act bound turns parts turn (turns_act bound turns parts left (turn + 1))
+
+-- a whole loop, as it is defined
+abbrev pub loop_by : ℕ → List ℕ → Bool → List Node → Operand → List Node → List Node → StmtId → Acts
+loop_by bound turns false head when body step stmt g = head_loop bound stmt (run_nodes (bounded bound g) head)
+    (λ s. operand_value s when)
+    (body_and_step (run_nodes (bounded bound g) body) (run_nodes (bounded bound g) step)) turns
+loop_by bound turns true head when body step stmt g = tail_loop bound stmt (run_nodes (bounded bound g) head)
+    (λ s. operand_value s when)
+    (body_and_step (run_nodes (bounded bound g) body) (run_nodes (bounded bound g) step)) turns
+
+abbrev pub loop_act : ℕ → List ℕ → Parts → Acts
+loop_act bound turns parts =
+    loop_by bound turns parts.after parts.head.now parts.when parts.body.now parts.step.now parts.stmt
+
+-- the parts of a loop stand where it stands
+abbrev pub loop_inside : Parts → Stands
+loop_inside parts d labels = is_operand d parts.when && all_inside parts.head.now d labels
+    && all_inside parts.body.now d labels && all_inside parts.step.now d labels
