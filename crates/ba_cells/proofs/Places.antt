@@ -21,14 +21,6 @@ cells-extends old new cells extends are place =
 
 -- ---- one place more of the comparison
 
-and_true : (b : Bool) → (b && true) ≡ b
-and_true true = refl
-and_true false = refl
-
-and_false : (b : Bool) → (b && false) ≡ false
-and_false true = refl
-and_false false = refl
-
 -- numbers are equal where their highest digits are, and what is below them
 by_digit : (p l k w : ℕ) (h t : Bool) → l < p → k < p → w < 2
     → (h && (l + p * digit t == w * p + k)) ≡ ((h && (if w == 1 then t else not t)) && (l == k))

@@ -4,6 +4,7 @@ use Rattle.std.proofs.Common.{◌≡◌, ℕ, suc, zero, ◌+◌, ◌<◌, ◌�
 use Rattle.std.specs.List.{Contains}
 use Rattle.std.specs.Option.{option_map}
 use Rattle.std.proofs.lemmas.List.{get_or_default, take_all, drop_all, append-nil}
+use Rattle.std.proofs.lemmas.Option.{none-some}
 use Rattle.ba_lits.specs.Literals.{Literal}
 use Rattle.ba_arena.specs.Clauses.{Clauses, Stored, IsLive, clause_at, lits_at, lits_of, link_at, link_of, linked}
 use Rattle.ba_arena.specs.Compaction.{size_of, moved, compacted, forwarded, Plans}
@@ -14,14 +15,11 @@ use Rattle.ba_watch.specs.Trails.{Assignments}
 use Rattle.ba_watch.specs.Deletion.{Source, KeepsOthers, DeletesAll, IsKept, number_of, numbered, AreReferenced, IsNamed, IsWithout, followed, link_or}
 use Rattle.ba_watch.proofs.Sounds.{clause_in-map}
 
-none_some : {X : Type 0} (o : Option X) (x : X) → o ≡ None → o ≡ Some x → ⊥
-none_some o x e f = cc (sym e ∙ f)
-
 -- a number of the list, read in two ways
-named_from : (numbers : List ℕ) (n : ℕ) → Contains numbers n → IsNamed numbers (length numbers) n
+pub named_from : (numbers : List ℕ) (n : ℕ) → Contains numbers n → IsNamed numbers (length numbers) n
 named_from numbers n has = (has.0, has.1, get_or_default numbers has.0 0 n has.1 ∙ has.2)
 
-contains_from : (numbers : List ℕ) (n : ℕ) → IsNamed numbers (length numbers) n → Contains numbers n
+pub contains_from : (numbers : List ℕ) (n : ℕ) → IsNamed numbers (length numbers) n → Contains numbers n
 contains_from numbers n named = (named.0, named.1, sym (get_or_default numbers named.0 0 n named.1) ∙ named.2)
 
 -- a clause and its number, without links
@@ -167,15 +165,15 @@ module _ (a0 a1 a2 : Clauses) (numbers : List ℕ)
           let source = came q c (sym (clause_in-map a4 q) ∙ is) in
           let r = source.from in
           let was : plain_at a0 r ≡ Some c = ⊎_elim
-          (λ none. absurd (none_some _ c (ap plain none) source.is))
+          (λ none. absurd (none-some c (sym (ap plain none) ∙ source.is)))
           (λ still. sym (ap plain still) ∙ source.is)
           (without.either r) in
           record {
             from = r;
             there = clause_in-map a0 r ∙ was;
-            stays = λ has. none_some _ c (ap plain (without.gone r c.number
+            stays = λ has. none-some c (sym (ap plain (without.gone r c.number
                 (number_plain (clause_at a0 r) c was)
-                (named_from numbers c.number has))) source.is;
+                (named_from numbers c.number has))) ∙ source.is);
             to = source.at;
           };
       apart = λ x y c d x_is x_stays y_is y_stays e. moved-apart a1 x y
