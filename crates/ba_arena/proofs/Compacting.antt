@@ -1,6 +1,6 @@
 -- The words of the live clauses moved down.
 
-use Rattle.std.proofs.Common.{◌≡◌, ◌≢◌, ℕ, suc, zero, ◌+◌, ◌<◌, ◌≤◌, ◌^◌, Option, None, Some, List, [], ◌∷◌, ◌++◌, length, get_or, take, drop, replicate, Bool, true, false, cond, eqb, ◌-◌, length-append, refl, sym, ap, subst, ◌∙◌, arith, length-drop, append_assoc}
+use Rattle.std.proofs.Common.{◌≡◌, ◌≢◌, ℕ, suc, zero, ◌+◌, ◌<◌, ◌≤◌, Option, None, Some, List, [], ◌∷◌, ◌++◌, length, get_or, take, drop, replicate, Bool, true, false, cond, eqb, ◌-◌, length-append, refl, sym, ap, subst, ◌∙◌, arith, length-drop, append_assoc}
 use Rattle.std.proofs.lemmas.List.{take-append-drop, get_or-drop, length-take-le, drop-drop, drop_all, length-map, append-nil}
 use Rattle.std.proofs.Math.Seq.{paste, drop-append-add, length_paste_head}
 use Rattle.std.proofs.lemmas.Grind.{get_or_default_zero}

@@ -5,7 +5,7 @@ use Rattle.std.proofs.lemmas.List.{get_or-replicate, get_or-set_other, get_or-se
 use Rattle.std.proofs.lemmas.Option.{get_or_from_slice_get, slice_get-get_or, slice_get_within}
 use Rattle.ba_bits.proofs.Spelled.{names-below}
 use Rattle.ba_bits.specs.Bits.{is_needed}
-use Rattle.ba_bits.specs.Needs.{AreClosed, AreFewest, are_needed, marked, names_of}
+use Rattle.ba_bits.specs.Needs.{AreFewest, are_needed, marked, names_of}
 use Rattle.ba_wordlist.specs.Facts.{are_names, are_words, is_name}
 use Rattle.ba_wordlist.specs.declared.words.WordOp.{WordOp}
 use Rattle.ba_wordlist.specs.declared.words.WordOp.TheVariants.{Free}

@@ -1,6 +1,6 @@
 -- What a deletion leaves of the clauses, and of what names them.
 
-use Rattle.std.proofs.Common.{◌≡◌, ℕ, suc, zero, ◌+◌, ◌<◌, ◌≤◌, Option, None, Some, IsSome, is_some, List, [], ◌∷◌, ◌++◌, length, get_or, take, drop, map, refl, sym, ap, subst, ◌∙◌, arith, ⊎_elim}
+use Rattle.std.proofs.Common.{◌≡◌, ℕ, suc, zero, ◌<◌, ◌≤◌, Option, None, Some, IsSome, is_some, List, [], ◌∷◌, ◌++◌, length, get_or, take, drop, map, refl, sym, ap, subst, ◌∙◌, arith, ⊎_elim}
 use Rattle.std.specs.List.{Contains}
 use Rattle.std.specs.Option.{option_map}
 use Rattle.std.proofs.lemmas.List.{get_or_default, take_all, drop_all, append-nil}
@@ -9,10 +9,11 @@ use Rattle.ba_lits.specs.Literals.{Literal}
 use Rattle.ba_arena.specs.Clauses.{Clauses, Stored, IsLive, clause_at, lits_at, lits_of, link_at, link_of, linked}
 use Rattle.ba_arena.specs.Compaction.{size_of, moved, compacted, forwarded, Plans}
 use Rattle.ba_arena.proofs.Moves.{moved-there, moved-from, moved-apart, moved-same}
+use Rattle.ba_arena.proofs.Writing.{cons_both}
 use Rattle.ba_watch.specs.Threads.{Clause, plain, plain_at, SamePlain}
 use Rattle.ba_watch.specs.Propagation.{clause_in}
 use Rattle.ba_watch.specs.Trails.{Assignments}
-use Rattle.ba_watch.specs.Deletion.{Source, KeepsOthers, DeletesAll, IsKept, number_of, numbered, AreReferenced, IsNamed, IsWithout, followed, link_or}
+use Rattle.ba_watch.specs.Deletion.{KeepsOthers, DeletesAll, IsKept, number_of, numbered, AreReferenced, IsNamed, IsWithout, followed, link_or}
 use Rattle.ba_watch.proofs.Sounds.{clause_in-map}
 
 -- a number of the list, read in two ways
@@ -246,10 +247,7 @@ map_agree : {X Y : Type 0} (f g : X → Y) (xs : List X) (d : X) →
     → map f xs ≡ map g xs
 map_agree f g [] d same = refl
 map_agree f g (x ∷ xs) d same =
-    both _ _ _ _ (same 0 (omega arith)) (map_agree f g xs d (λ k h. same (suc k) (omega (arith, h))))
-  where
-    both : {Z : Type 0} (x y : Z) (xs ys : List Z) → x ≡ y → xs ≡ ys → x ∷ xs ≡ y ∷ ys
-    both x y xs ys e f = rw (e, f) refl
+    cons_both _ _ _ _ (same 0 (omega arith)) (map_agree f g xs d (λ k h. same (suc k) (omega (arith, h))))
 
 all_mapped : {X : Type 0} (f : X → X) (xs : List X) (n : ℕ) → length xs ≤ n →
     map f (take n xs) ++ drop n xs ≡ map f xs

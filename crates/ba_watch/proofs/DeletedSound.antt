@@ -1,7 +1,6 @@
 -- The facts of a watch after a deletion.
 
-use Rattle.std.proofs.Common.{◌≡◌, ◌≢◌, ℕ, suc, zero, ◌+◌, ◌*◌, ◌<◌, ◌≤◌, Bool, true, false, Option, None, Some, IsSome, is_some, List, [], ◌∷◌, length, get_or, take, drop, map, eqb, cond, refl, sym, ap, subst, ◌∙◌, arith, ⊎_elim}
-use Rattle.std.specs.List.{Contains}
+use Rattle.std.proofs.Common.{◌≡◌, ◌≢◌, ℕ, suc, zero, ◌+◌, ◌*◌, ◌<◌, ◌≤◌, Bool, true, false, Option, None, Some, IsSome, is_some, List, [], ◌∷◌, length, get_or, take, map, eqb, cond, refl, sym, ap, subst, ◌∙◌, arith, ⊎_elim}
 use Rattle.std.specs.Option.{option_map}
 use Rattle.std.proofs.lemmas.Bool.{cases_eq, cases_lt}
 use Rattle.std.proofs.lemmas.Bool.Decides.{nat_tests}
@@ -12,10 +11,10 @@ use Rattle.ba_lits.specs.Hints.{has_literal}
 use Rattle.ba_arena.specs.Clauses.{Clauses, Stored, IsLive, clause_at, lits_at, lits_of}
 use Rattle.ba_arena.proofs.Reading.{stored_some}
 use Rattle.ba_watch.specs.Chains.{occurrences}
-use Rattle.ba_watch.specs.Threads.{Clause, plain, plain_at, index_at}
+use Rattle.ba_watch.specs.Threads.{Clause, plain, plain_at}
 use Rattle.ba_watch.specs.Trails.{Assignments, value_of, place_of, decided, level_at}
-use Rattle.ba_watch.specs.Propagation.{State, clause_in, plain_lits, IsReason, IsGuarded, AreFacts, AreUnits, IsSound}
-use Rattle.ba_watch.specs.Deletion.{Source, Deletes, DeletesAll, MayDelete, MayLink, IsKept, AreAlone, number_of, numbered}
+use Rattle.ba_watch.specs.Propagation.{clause_in, plain_lits, IsReason, IsGuarded, AreFacts, AreUnits, IsSound}
+use Rattle.ba_watch.specs.Deletion.{Deletes, DeletesAll, MayDelete, MayLink, IsKept, AreAlone, number_of}
 use Rattle.ba_watch.proofs.Visits.{lits-plain, some-plain}
 use Rattle.ba_watch.proofs.Levels.{decided-take_drop}
 use Rattle.ba_watch.proofs.Follows.{Agrees, decided_map, agrees_take, level_map}

@@ -1,6 +1,6 @@
 -- Clauses are marked dead by their numbers, and the lists are threaded anew.
 
-use Rattle.std.proofs.Common.{◌≡◌, ◌≢◌, ℕ, suc, zero, ◌+◌, ◌<◌, ◌≤◌, ◌⊎◌, Bool, true, false, Option, None, Some, IsSome, is_some, List, [], ◌∷◌, length, get_or, set, take, eqb, cond, refl, sym, ap, subst, ◌∙◌, arith, ⊎_elim, inl, inr, get_or-set_same, get_or-set_other}
+use Rattle.std.proofs.Common.{◌≡◌, ◌≢◌, ℕ, suc, zero, ◌+◌, ◌<◌, ◌≤◌, Option, None, Some, IsSome, is_some, List, [], ◌∷◌, length, get_or, set, take, eqb, cond, refl, sym, ap, subst, ◌∙◌, arith, ⊎_elim, inl, inr, get_or-set_other}
 use Rattle.std.proofs.lemmas.Bool.{cases_eq, cases_lt}
 use Rattle.std.proofs.lemmas.List.{get_or_past, get_or_read, get_or-take, length-take, length-set}
 use Rattle.std.proofs.lemmas.Option.{none-some, same_Some}
@@ -9,7 +9,7 @@ use Rattle.ba_arena.specs.Compaction.{IsFirstFrom}
 use Rattle.ba_arena.proofs.Planning.{live_within}
 use Rattle.ba_arena.proofs.Reading.{stored_some}
 use Rattle.ba_watch.specs.Chains.{occurrences}
-use Rattle.ba_watch.specs.Threads.{next_in, next_of, list_of, index_at, watches, watch_count, AreApart, AreThreaded, plain, plain_at, SamePlain}
+use Rattle.ba_watch.specs.Threads.{next_in, next_of, list_of, index_at, watches, AreApart, AreThreaded, plain, plain_at, SamePlain}
 use Rattle.ba_watch.specs.Propagation.{plain_lits}
 use Rattle.ba_watch.specs.Deletion.{number_of, numbered, AreReferenced, AreAlone, IsNamed, IsWithout}
 use Rattle.ba_watch.proofs.Walks.{Leads-walk, Leads-same}

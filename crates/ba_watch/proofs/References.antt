@@ -1,11 +1,11 @@
 -- The table from numbers to clauses.
 
-use Rattle.std.proofs.Common.{◌≡◌, ◌≢◌, ℕ, ◌<◌, Option, None, Some, IsSome, is_some, List, [], length, get_or, set, refl, sym, ap, subst, ◌∙◌, arith, ⊎_elim, get_or-set_same, get_or-set_other}
+use Rattle.std.proofs.Common.{◌≡◌, ◌≢◌, ℕ, ◌<◌, Option, None, Some, is_some, List, [], length, get_or, set, refl, sym, ap, ◌∙◌, ⊎_elim, get_or-set_same, get_or-set_other}
 use Rattle.std.proofs.lemmas.Bool.{cases_eq}
 use Rattle.std.proofs.lemmas.Option.{none-some, same_Some}
 use Rattle.ba_lits.specs.Literals.{Literal}
 use Rattle.ba_arena.specs.Clauses.{Clauses, Stored, clause_at}
-use Rattle.ba_watch.specs.Threads.{Clause, plain, plain_at, SamePlain, AddsPlain}
+use Rattle.ba_watch.specs.Threads.{Clause, plain, plain_at, AddsPlain}
 use Rattle.ba_watch.specs.Propagation.{SameClause}
 use Rattle.ba_watch.specs.Deletion.{number_of, numbered, AreReferenced}
 
