@@ -30,7 +30,8 @@ three a b c first second third = and_from a (b && c) first (and_from b c second 
 three_parts : (a b c : Bool) → (a && (b && c)) ≡ true → (a ≡ true) × (b ≡ true) × (c ≡ true)
 three_parts a b c holds =
     let whole = and_parts a (b && c) holds in
-    (whole.0, and_parts b c whole.1)
+    let rest = and_parts b c whole.1 in
+    (whole.0, rest.0, rest.1)
 
 bit_eq : Bit → Bit → Bool
 bit_eq a b = eqb a.index b.index && beq a.negated b.negated
