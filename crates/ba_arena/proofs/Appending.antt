@@ -1,9 +1,10 @@
 -- The words of a clause appended to those of an arena.
 
-use Rattle.std.proofs.Common.{◌≡◌, ◌≢◌, ℕ, Option, ◌<◌, ◌^◌, cond, eqb, suc, zero, ◌+◌, ◌*◌, ◌/◌, ◌%◌, ◌≤◌, Bool, true, false, None, Some, List, [], ◌∷◌, ◌++◌, length, take, map, refl, sym, ap, subst, ◌∙◌, arith, length-append}
+use Rattle.std.proofs.Common.{◌≡◌, ◌≢◌, ℕ, Option, ◌<◌, ◌^◌, cond, eqb, suc, zero, ◌+◌, ◌≤◌, Bool, None, Some, List, [], ◌∷◌, ◌++◌, length, take, map, refl, sym, ap, subst, ◌∙◌, arith, length-append}
 use Rattle.std.proofs.lemmas.List.{take-append-le}
 use Rattle.std.proofs.lemmas.Bool.{ne_eqb}
 use Rattle.ba_lits.specs.Literals.{Literal, literal_at, index_of}
+use Rattle.ba_lits.proofs.Members.{literal_at-index_of}
 use Rattle.ba_arena.specs.Clauses.{Stored, Clauses, clause_at, Adds}
 use Rattle.ba_arena.specs.Words.{clauses_of, entry_in, dead, words_of, lacking, link_of_word, Fits, AreIndexed, AreWords}
 use Rattle.ba_arena.proofs.Reading.{length-clauses, left_le}
@@ -40,29 +41,9 @@ lacking-append zero (w ∷ ws) us whole = lacking-append (suc (suc (suc w))) ws 
 lacking-append (suc left) (w ∷ ws) us whole = lacking-append left ws us whole
 
 -- the words of a clause
-literal-index : (l : Literal) → literal_at (index_of l) ≡ l
-literal-index l = at l.variable l.negated
-  where
-    half : (n : ℕ) → (2 * n + 1) / 2 ≡ n
-    half n = omega arith
-
-    half_even : (n : ℕ) → (2 * n + 0) / 2 ≡ n
-    half_even n = omega arith
-
-    odd : (n : ℕ) → (2 * n + 1) % 2 ≡ 1
-    odd n = omega arith
-
-    even : (n : ℕ) → (2 * n + 0) % 2 ≡ 0
-    even n = omega arith
-
-    at : (n : ℕ) (b : Bool)
-        → literal_at (index_of (record { variable = n; negated = b })) ≡ record { variable = n; negated = b }
-    at n true = rw (half n, odd n) refl
-    at n false = rw (half_even n, even n) refl
-
 lits-back : (lits : List Literal) → map literal_at (take (length lits) (map index_of lits)) ≡ lits
 lits-back [] = refl
-lits-back (l ∷ ls) = cons_both _ _ _ _ (literal-index l) (lits-back ls)
+lits-back (l ∷ ls) = cons_both _ _ _ _ (literal_at-index_of l) (lits-back ls)
 
 none_inside : (lits : List Literal) (k : ℕ)
     → clause_at (clauses_of (length lits) (map index_of lits)) k ≡ None

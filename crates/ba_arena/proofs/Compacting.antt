@@ -1,6 +1,6 @@
 -- The words of the live clauses moved down.
 
-use Rattle.std.proofs.Common.{◌≡◌, ◌≢◌, ℕ, suc, zero, ◌+◌, ◌<◌, ◌≤◌, ◌^◌, Option, None, Some, IsSome, List, [], ◌∷◌, ◌++◌, length, get_or, take, drop, replicate, Bool, true, false, cond, eqb, ◌-◌, length-append, refl, sym, ap, subst, ◌∙◌, arith, length-drop, append_assoc}
+use Rattle.std.proofs.Common.{◌≡◌, ◌≢◌, ℕ, suc, zero, ◌+◌, ◌<◌, ◌≤◌, Option, None, Some, List, [], ◌∷◌, ◌++◌, length, get_or, take, drop, replicate, Bool, true, false, cond, eqb, ◌-◌, length-append, refl, sym, ap, subst, ◌∙◌, arith, length-drop, append_assoc}
 use Rattle.std.proofs.lemmas.List.{take-append-drop, get_or-drop, length-take-le, drop-drop, drop_all, length-map, append-nil}
 use Rattle.std.proofs.Math.Seq.{paste, drop-append-add, length_paste_head}
 use Rattle.std.proofs.lemmas.Grind.{get_or_default_zero}
@@ -11,7 +11,7 @@ use Rattle.ba_arena.specs.Compaction.{compacted}
 use Rattle.ba_arena.specs.Words.{clauses_of, stored_in, entry_in, dead, lacking, Fits, AreWords, IsCut}
 use Rattle.ba_arena.proofs.Appending.{entry-append, clauses-append, lacking-append, fit-append}
 use Rattle.ba_arena.proofs.Cuts.{block, cut-next, entry-at, live-at, dead-at}
-use Rattle.ba_arena.proofs.Reading.{length-clauses}
+use Rattle.ba_arena.proofs.Reading.{length-clauses, stored_some}
 use Rattle.ba_arena.proofs.Writing.{cons_both}
 
 -- a clause of its own
@@ -216,10 +216,6 @@ module _ (start now : List ℕ) (place end next : ℕ) (words : AreWords start) 
       one_fits s n fits zero u is = let e : s ≡ u = cc is in subst Fits e fits
       one_fits s n fits (suc j) u is = absurd (clash u (sym (nones (suc (suc (suc n))) j) ∙ is))
 
-some_from : (o : Option Stored) → IsSome o → (s : Stored) × (o ≡ Some s)
-some_from None live = absurd (cc live)
-some_from (Some s) live = (s, refl)
-
 -- a clause as the code moves it, or leaves it behind
 module _ (start now after : List ℕ) (place end end' next x y : ℕ) (words : AreWords start)
     (m : IsMoving start now place end) (inside : place < length now) (x_is : x ≡ get_or now place x)
@@ -244,7 +240,7 @@ module _ (start now after : List ℕ) (place end end' next x y : ℕ) (words : A
   pub moving-down : y ≢ dead → after ≡ paste now end (drop place now) (place + (4 + x) - place) → end' ≡ end + (4 + x)
       → IsMoving start after next end'
   moving-down ne after_is end'_is =
-      let some = some_from _ (live-at start place m.cut within (λ e. ne (number_is ∙ e))) in
+      let some = stored_some _ (live-at start place m.cut within (λ e. ne (number_is ∙ e))) in
       moving-live start now place end next words m within next_at some.0 end' after some.1 (omega (arith, end'_is, count_is))
       (after_is ∙ ap (paste now end (drop place now)) (omega (arith, count_is)))
 

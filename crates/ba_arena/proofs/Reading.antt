@@ -70,6 +70,10 @@ pub live_from_lits : (o : Option Stored) (k : ℕ) → k < length (lits_of o) �
 live_from_lits None k h = absurd (omega (arith, h))
 live_from_lits (Some s) k h = refl
 
+pub stored_some : (o : Option Stored) → IsSome o → (s : Stored) × (o ≡ Some s)
+stored_some None live = absurd (cc live)
+stored_some (Some s) live = (s, refl)
+
 -- a word after the first of a clause
 word : (ws : List ℕ) (i j n : ℕ) → n ≡ i + 1 + j → get_or (drop (suc i) ws) j 0 ≡ get_or ws n 0
 word ws i j n e = get_or-drop (suc i) ws j 0 ∙ ap (λ m. get_or ws m 0) (omega (arith, e))

@@ -14,9 +14,9 @@ use Rattle.ba_nodes.specs.declared.Node.{Node}
 use Rattle.ba_nodes.specs.Gates.{Extends, truth}
 use Rattle.ba_nodes.proofs.Truths.{Extends-through, Extends_refl}
 use Rattle.ba_numbers.specs.Numbers.{low_word}
-use Rattle.ba_bits.proofs.Spelled.{of_name}
 use Rattle.ba_wordlist.specs.Facts.{are_names, is_name}
 use Rattle.ba_wordlist.specs.Meaning.{element_read}
+use Rattle.ba_wordlist.proofs.Values.{of_name}
 use Rattle.ba_words.specs.Words.{AreBitsOf, HasNumber, low_number, number_of, spelled}
 use Rattle.ba_words.proofs.Circuits.{low_number_below, number_small}
 use Rattle.ba_words.proofs.Digits.{spelled-append}

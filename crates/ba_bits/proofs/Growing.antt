@@ -1,13 +1,12 @@
 -- The words of all entries, one entry after another.
 use Rattle.std.proofs.Common.{◌≡◌, ℕ, zero, suc, ◌+◌, ◌<◌, ◌≤◌, Bool, true, false, List, [], ◌∷◌, ◌++◌, length, map, get_or, take, Some, slice_get, refl, sym, ◌∙◌, ap, subst, arith, ℤ, pos, ◌⊎◌, inl, inr}
-use Rattle.std.specs.List.{fold}
 use Rattle.std.proofs.lemmas.Bool.{and_from, and_parts}
 use Rattle.std.proofs.lemmas.List.{get_or_append_left, get_or_push, length-map, length-take-le, length_push, map_push, take_more}
 use Rattle.std.proofs.lemmas.Option.{get_or_from_slice_get, slice_get_read, slice_get_within}
 use Rattle.ba_bits.proofs.Agreeing.{agree-less, agree-then}
 use Rattle.ba_bits.proofs.Elements.{numbers-extends, values-extends}
 use Rattle.ba_bits.proofs.Laws.{AreSame, entry-same}
-use Rattle.ba_bits.proofs.Spelled.{elements-words, names-below, of_name}
+use Rattle.ba_bits.proofs.Spelled.{elements-words, names-below}
 use Rattle.ba_bits.proofs.Spelling.{low-agree}
 use Rattle.ba_bits.specs.Bits.{AgreeBelow, AreEntries, AreEntriesOf, AreOthersZero, CanTake, IsTaken, SpellEntry, SpellZero, TakingAll, elements_in, is_needed, numbers_in, value_in, values_in, word_at, words_at}
 use Rattle.ba_bits.specs.Needs.{names_of}
@@ -21,23 +20,12 @@ use Rattle.ba_words.specs.Words.{AreBitsOf, number_of}
 use Rattle.ba_words.proofs.Places.{low_number-all, number_of-extends}
 use Rattle.ba_wordlist.specs.Facts.{are_names, are_words, fit_behind, fits_behind, is_name, length_of, lengths_of, more_lengths}
 use Rattle.ba_wordlist.specs.Meaning.{Assignment, elements_at, entry_of}
-use Rattle.ba_wordlist.proofs.Lengths.{length-lengths, lengths-push}
+use Rattle.ba_wordlist.proofs.Lengths.{length-lengths, lengths-push, words-at}
+use Rattle.ba_wordlist.proofs.Values.{of_name}
 use Rattle.ba_wordlist.specs.declared.words.WordOp.{WordOp}
 use Rattle.ba_wordlist.specs.declared.words.WordOp.TheVariants.{Const, Free, Flag, Unary, Binary, Convert, Select, Read, Zeros, Fill, Write}
 
 -- LISTS OF WORDS whose first entries fit
-
-fit-at : (ls : List ℕ) (ops : List WordOp) (w : ℕ) (op : WordOp) → fit_behind ls ops ≡ true
-    → slice_get ops w ≡ Some op
-    → fits_behind (fold more_lengths ls (take w ops)) op ≡ true
-fit-at ls [] w op h found = absurd (cc)
-fit-at ls (first ∷ ops) zero op h found =
-    let same : first ≡ op = cc in
-    subst (λ o. fits_behind ls o ≡ true) same
-    (and_parts (fits_behind ls first) (fit_behind (more_lengths ls first) ops) h).0
-fit-at ls (first ∷ ops) (suc w) op h found =
-    fit-at (more_lengths ls first) ops w op
-    (and_parts (fits_behind ls first) (fit_behind (more_lengths ls first) ops) h).1 found
 
 fit-take : (ls : List ℕ) (ops : List WordOp) (n : ℕ) → fit_behind ls ops ≡ true
     → fit_behind ls (take n ops) ≡ true
@@ -47,11 +35,6 @@ fit-take ls (op ∷ ops) (suc n) h =
     let both = and_parts (fits_behind ls op) (fit_behind (more_lengths ls op) ops) h in
     and_from (fits_behind ls op) (fit_behind (more_lengths ls op) (take n ops)) both.0
     (fit-take (more_lengths ls op) ops n both.1)
-
-pub words-at : (ops : List WordOp) (w : ℕ) (op : WordOp) → are_words ops ≡ true → slice_get ops w ≡ Some op
-    → fits_behind (lengths_of (take w ops)) op ≡ true
-unfolding are_words lengths_of
-words-at ops w op fit found = fit-at [] ops w op fit found
 
 pub words-take : (ops : List WordOp) (n : ℕ) → are_words ops ≡ true → are_words (take n ops) ≡ true
 unfolding are_words

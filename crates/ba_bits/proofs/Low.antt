@@ -10,7 +10,7 @@ use Rattle.ba_numbers.specs.Numbers.{IsCongruent, converted, low_word, truth as 
 use Rattle.ba_numbers.proofs.Conversions.{converted_in_range, converted_congruent, converted_only}
 use Rattle.ba_wordlist.specs.Meaning.{is_nonzero}
 use Rattle.ba_words.specs.Words.{digit, word_type}
-use Rattle.ba_words.proofs.Values.{low_word-read, read_unsigned}
+use Rattle.ba_words.proofs.Values.{low_word-read, read_unsigned, through}
 
 own-abs : (z : ℤ) → pos 0 ≤ℤ z → pos (unsigned_abs z) ≡ z
 own-abs (pos n) h = refl
@@ -53,10 +53,6 @@ of-halves : (u y z k j : ℤ) → u ≡ y +ℤ k *ℤ pos 0x10000 → y ≡ z +�
     → u ≡ z +ℤ (k +ℤ j *ℤ pos 0x10000) *ℤ pos 0x10000
 of-halves u y z k j e f = omega (arith, ints)
 
-of-words : (u y z k j : ℤ) → u ≡ y +ℤ k *ℤ pos 0x100000000 → y ≡ z +ℤ j *ℤ pos 0x100000000
-    → u ≡ z +ℤ (k +ℤ j) *ℤ pos 0x100000000
-of-words u y z k j e f = omega (arith, ints)
-
 by-bytes : (t : CType) (y z : ℤ) (a : IsCongruent 0x100 (converted t y) y) (b : IsCongruent 0x100000000 y z)
     → IsCongruent 0x100 (converted t y) z
 by-bytes t y z a b = record {
@@ -77,7 +73,7 @@ by-words : (t : CType) (y z : ℤ) (a : IsCongruent 0x100000000 (converted t y) 
     → IsCongruent 0x100000000 (converted t y) z
 by-words t y z a b = record {
   turns = a.turns +ℤ b.turns;
-  apart = of-words (converted t y) y z a.turns b.turns a.apart b.apart;
+  apart = through (converted t y) y z a.turns b.turns a.apart b.apart;
 }
 
 -- conversions see the low bits alone

@@ -1,14 +1,15 @@
 -- Marks of entries.
-use Rattle.std.proofs.Common.{rules, ◌≡◌, ℕ, zero, suc, ◌+◌, ◌-◌, ◌<◌, ◌≤◌, Bool, true, false, cond, List, [], ◌∷◌, length, get_or, set, drop, take, ◌++◌, Some, slice_get, replicate, refl, sym, ◌∙◌, ap, subst, arith, inl, inr}
+use Rattle.std.proofs.Common.{◌≡◌, ℕ, zero, suc, ◌+◌, ◌-◌, ◌<◌, ◌≤◌, Bool, true, false, cond, List, [], ◌∷◌, length, get_or, set, drop, take, ◌++◌, Some, slice_get, replicate, refl, sym, ◌∙◌, ap, subst, arith, inl, inr}
 use Rattle.std.proofs.lemmas.Bool.{and_from, and_parts, cases_eq, cases_lt}
 use Rattle.std.proofs.lemmas.List.{get_or-replicate, get_or-set_other, get_or-set_same, get_or_past, get_or_read, length-replicate, length-set, take_at}
 use Rattle.std.proofs.lemmas.Option.{get_or_from_slice_get, slice_get-get_or, slice_get_within}
-use Rattle.ba_bits.proofs.Spelled.{names-below, of_name}
+use Rattle.ba_bits.proofs.Spelled.{names-below}
 use Rattle.ba_bits.specs.Bits.{is_needed}
-use Rattle.ba_bits.specs.Needs.{AreClosed, AreFewest, are_needed, marked, names_of}
+use Rattle.ba_bits.specs.Needs.{AreFewest, are_needed, marked, names_of}
 use Rattle.ba_wordlist.specs.Facts.{are_names, are_words, is_name}
 use Rattle.ba_wordlist.specs.declared.words.WordOp.{WordOp}
 use Rattle.ba_wordlist.specs.declared.words.WordOp.TheVariants.{Free}
+use Rattle.ba_wordlist.proofs.Values.{names-more, of_name}
 
 pub length-marked : (needed : List Bool) (ws : List ℕ) → length (marked needed ws) ≡ length needed
 length-marked needed [] = refl
@@ -77,13 +78,6 @@ marked-others needed (w ∷ ws) n k h le =
     marked-others (set needed w true) ws n k both.1 le
     ∙ get_or-set_other needed w k true false (λ e. omega (arith, below, e))
 
-more-names : (m n : ℕ) (ws : List ℕ) → m ≤ n → are_names m ws ≡ true → are_names n ws ≡ true
-more-names m n [] le h = refl
-more-names m n (w ∷ ws) le h =
-    let both = and_parts (is_name m w) (are_names m ws) h in
-    let below : w < m = of_name m w both.0 in
-    and_from (is_name n w) (are_names n ws) (search (rules, below, le)) (more-names m n ws le both.1)
-
 -- MARKING, from the last entry to the first
 
 -- the roots are marked, and of entries from a number on what the marked ones name
@@ -146,7 +140,7 @@ module _ (ops : List WordOp) (fit : are_words ops ≡ true) (roots : List ℕ) (
                 subst (λ o. are_needed (marked needed (names_of (get_or ops n Free))) (names_of o) ≡ true)
                 same
                 (marked-marks needed (names_of (get_or ops n Free))
-                (more-names n (length needed) (names_of (get_or ops n Free)) (omega (arith, has.long, below))
+                (names-more n (length needed) (names_of (get_or ops n Free)) (omega (arith, has.long, below))
                 names))
             | inr other ↦
                 all-keeps needed (names_of (get_or ops n Free)) (names_of own)
@@ -200,7 +194,7 @@ module _ (ops : List WordOp) (fit : are_words ops ≡ true) (roots : List ℕ) (
       → are_names (length needed) (names_of op) ≡ true
   names-fit needed long =
       let below : length ops - 1 - i < length ops = omega (arith, within) in
-      more-names (length ops - 1 - i) (length needed) (names_of op) (omega (arith, long))
+      names-more (length ops - 1 - i) (length needed) (names_of op) (omega (arith, long))
       (subst (λ o. are_names (length ops - 1 - i) (names_of o) ≡ true) (sym own)
       (names-below ops (length ops - 1 - i) fit below))
 

@@ -1,10 +1,11 @@
 -- Quotients and remainders beside the meaning of word lists, for a divisor of 0 too.
-use Rattle.std.proofs.Common.{◌≡◌, ℕ, ◌-◌, ◌%◌, ◌^◌, ◌<◌, ◌≤◌, nat_lt, Bool, true, false, cond, Option, None, Some, refl, sym, ◌∙◌, ap, arith, ℤ, pos, negsuc}
+use Rattle.std.proofs.Common.{◌≡◌, ℕ, ◌-◌, ◌%◌, ◌^◌, ◌<◌, ◌≤◌, Bool, true, false, cond, Option, None, Some, refl, sym, ◌∙◌, ap, arith, ℤ, pos, negsuc}
 use Rattle.std.specs.Prelude.{int_lt, nat_le}
 use Rattle.std.specs.Ordering.{int_eq}
 use Rattle.std.specs.Prelude.{int_div, int_rem}
 use Rattle.std.proofs.Math.Nat.{mod-zero}
 use Rattle.std.proofs.lemmas.Bool.Decides.{nat_tests, Decides-int_eq}
+use Rattle.std.proofs.lemmas.Bool.{le-ltb}
 use Rattle.ba_bits.proofs.Low.{low-pos}
 use Rattle.ba_nodes.specs.Gates.{bool_xor}
 use Rattle.ba_numbers.specs.declared.numbers.BinOp.TheVariants.{Div, Rem}
@@ -49,9 +50,6 @@ high m is = grind (arith, nat_tests)
 low : (m : ℕ) → nat_le (2 ^ 31) m ≡ false → m < 2 ^ 31
 low m is = grind (arith, nat_tests)
 
-never-below : (m : ℕ) → nat_lt m 0 ≡ false
-never-below m = grind (arith, nat_tests)
-
 quotient-zero : (signed : Bool) (m : ℕ) → m < 2 ^ 32
     → quotient_of signed m 0 ≡ low_word (value_at_zero Div (word_type signed) (pos m))
 quotient-zero false m small = refl
@@ -63,7 +61,7 @@ quotient-zero true m small = by_sign (nat_le (2 ^ 31) m) refl where
       ∙ ap (λ z. low_word (cond (int_lt z (pos 0)) (pos 1) (negsuc 0))) (sym (read_high m (high m is) small))
   by_sign false is =
       ap (λ b. negated_where (bool_xor b false) 0xffffffff) is
-      ∙ ap (λ b. low_word (cond b (pos 1) (negsuc 0))) (sym (never-below m))
+      ∙ ap (λ b. low_word (cond b (pos 1) (negsuc 0))) (sym (le-ltb m 0 (omega arith)))
       ∙ ap (λ z. low_word (cond (int_lt z (pos 0)) (pos 1) (negsuc 0))) (sym (read_low m (low m is)))
 
 turned-twice : (m : ℕ) → 2 ^ 31 ≤ m → m < 2 ^ 32 → (2 ^ 32 - (2 ^ 32 - m) % 2 ^ 32) % 2 ^ 32 ≡ m

@@ -4,7 +4,7 @@ use Rattle.std.proofs.lemmas.Bool.{and_parts, cases_lt}
 use Rattle.std.proofs.lemmas.Option.{slice_get-get_or}
 use Rattle.ba_bits.proofs.Laws.{AreSame, entry-same}
 use Rattle.ba_bits.proofs.Low.{converted-word, nonzero-digit}
-use Rattle.ba_bits.proofs.Spelled.{kept-before, names-below, of_name}
+use Rattle.ba_bits.proofs.Spelled.{kept-before, names-below}
 use Rattle.ba_bits.specs.Bits.{AreTaken, IsTaken, assignment_of, is_needed, value_in, words_at}
 use Rattle.ba_bits.specs.Needs.{AreClosed, are_needed, names_of}
 use Rattle.ba_cells.specs.Cells.{cell_at}
@@ -15,7 +15,7 @@ use Rattle.ba_numbers.specs.Numbers.{converted, truth}
 use Rattle.ba_words.specs.Words.{number_of}
 use Rattle.ba_wordlist.specs.Facts.{are_names, are_words, is_name}
 use Rattle.ba_wordlist.specs.Meaning.{Assignment, elements_at, entry_of, is_nonzero, value_at, values_of}
-use Rattle.ba_wordlist.proofs.Values.{elements-entry}
+use Rattle.ba_wordlist.proofs.Values.{elements-entry, of_name}
 use Rattle.ba_wordlist.specs.declared.words.WordOp.{WordOp}
 use Rattle.ba_wordlist.specs.declared.words.WordOp.TheVariants.{Const, Free, Flag, Unary, Binary, Convert, Select, Read, Zeros, Fill, Write}
 

@@ -1,10 +1,10 @@
 -- The bits of needed entries spell what these have under the assignment that bits spell.
-use Rattle.std.proofs.Common.{rules, T, ◌≡◌, ℕ, zero, suc, ◌+◌, ◌<◌, ◌≤◌, nat_lt, Bool, true, false, ◌||◌, List, [], ◌∷◌, map, length, get_or, take, drop, Some, slice_get, refl, sym, ◌∙◌, ap, subst, arith, ℤ, pos, neg_ℤ, ◌≤ℤ◌, inl, inr}
+use Rattle.std.proofs.Common.{◌≡◌, ℕ, zero, suc, ◌+◌, ◌<◌, ◌≤◌, nat_lt, Bool, true, false, ◌||◌, List, [], ◌∷◌, map, length, get_or, take, drop, Some, slice_get, refl, sym, ◌∙◌, ap, subst, arith, ℤ, pos, neg_ℤ, ◌≤ℤ◌, inl, inr}
 use Rattle.std.proofs.lemmas.Bool.{and_parts, cases_lt}
-use Rattle.std.specs.Prelude.{int_le}
 use Rattle.std.proofs.lemmas.Int.{ints}
 use Rattle.std.proofs.lemmas.List.{length_push, length-take-le, take-append-drop}
 use Rattle.std.proofs.lemmas.Option.{slice_get-get_or}
+use Rattle.ba_code.proofs.Ranges.{in-test}
 use Rattle.ba_bits.proofs.Laws.{Alike, AreAlike, entry-low, lows}
 use Rattle.ba_bits.proofs.Low.{low-pos, low-small, nonzero-low, nonzero-pos}
 use Rattle.ba_bits.specs.Bits.{AreEntries, assignment_of, elements_in, is_needed, numbers_in, value_in, values_in, word_at, words_at}
@@ -12,14 +12,13 @@ use Rattle.ba_bits.specs.Needs.{AreClosed, are_needed, names_of}
 use Rattle.ba_cells.specs.Cells.{cell_at}
 use Rattle.ba_nodes.specs.declared.Bit.{Bit}
 use Rattle.ba_nodes.specs.declared.Node.{Node}
-use Rattle.ba_numbers.specs.declared.numbers.CType.{CType}
 use Rattle.ba_numbers.specs.declared.numbers.CType.TheVariants.{I32, U32}
-use Rattle.ba_numbers.specs.Numbers.{IsIn, greatest_of, is_in, least_of, low_word}
+use Rattle.ba_numbers.specs.Numbers.{IsIn, is_in, low_word}
 use Rattle.ba_words.specs.Words.{number_of}
 use Rattle.ba_wordlist.specs.Facts.{are_names, are_words, fit_behind, fits_behind, is_name, is_word_value, length_of, more_lengths}
 use Rattle.ba_wordlist.specs.Meaning.{Assignment, elements_at, is_nonzero, value_at, values_of}
 use Rattle.ba_wordlist.proofs.Lengths.{values-in}
-use Rattle.ba_wordlist.proofs.Values.{elements-entry, elements-kept}
+use Rattle.ba_wordlist.proofs.Values.{elements-entry, elements-kept, of_name}
 use Rattle.ba_wordlist.specs.declared.words.WordOp.{WordOp}
 use Rattle.ba_wordlist.specs.declared.words.WordOp.TheVariants.{Const, Free, Flag, Unary, Binary, Convert, Select, Read, Zeros, Fill, Write}
 
@@ -74,9 +73,6 @@ spelled-first free nodes entries w zs is =
 
 -- NAMES of an entry stand before it
 
-pub of_name : (n w : ℕ) → is_name n w ≡ true → w < n
-of_name n w h = search rules
-
 own-names : (ls : List ℕ) (op : WordOp) → fits_behind ls op ≡ true
     → are_names (length ls) (names_of op) ≡ true
 own-names ls (Const z) h = refl
@@ -115,16 +111,6 @@ names-below ops w fit below =
 
 -- THE RANGE of a value
 
-to_T : (b : Bool) → b ≡ true → T b
-to_T true h = tt
-to_T false h = absurd (cc)
-
-in-range : (t : CType) (z : ℤ) → is_in t z ≡ true → IsIn t z
-in-range t z h = let both = and_parts (int_le (least_of t) z) (int_le z (greatest_of t)) h in record {
-  low = record { le = to_T (int_le (least_of t) z) both.0 };
-  high = record { le = to_T (int_le z (greatest_of t)) both.1 };
-}
-
 pub record IsWordValue (z : ℤ) : Type 0 where
   pub low : neg_ℤ (pos 0x80000000) ≤ℤ z
   pub high : z ≤ℤ pos 0xffffffff
@@ -144,8 +130,8 @@ wide-unsigned z i =
 pub word-value : (z : ℤ) → is_word_value z ≡ true → IsWordValue z
 word-value z h = by_case (is_in I32 z) refl where
   by_case : (b : Bool) → is_in I32 z ≡ b → IsWordValue z
-  by_case true is = wide-signed z (in-range I32 z is)
-  by_case false is = wide-unsigned z (in-range U32 z (sym (ap (λ b. b || is_in U32 z) is) ∙ h))
+  by_case true is = wide-signed z (in-test I32 z is)
+  by_case false is = wide-unsigned z (in-test U32 z (sym (ap (λ b. b || is_in U32 z) is) ∙ h))
 
 -- what the first entries have is what they have alone
 pub kept-before : (f : Assignment) (ops : List WordOp) (n w : ℕ) → n ≤ length ops → w < n

@@ -1,5 +1,5 @@
 -- Words whose digits are written one after another.
-use Rattle.std.proofs.Common.{◌≡◌, ℕ, zero, suc, ◌+◌, ◌*◌, ◌/◌, ◌%◌, ◌^◌, ◌<◌, ◌≤◌, ◌==◌, Bool, true, false, List, length, map, set, take, replicate, refl, sym, ◌∙◌, ap, subst, arith, cond}
+use Rattle.std.proofs.Common.{◌≡◌, ℕ, ◌+◌, ◌*◌, ◌/◌, ◌%◌, ◌^◌, ◌<◌, ◌≤◌, ◌==◌, Bool, true, false, List, length, map, set, take, replicate, refl, sym, ◌∙◌, ap, subst, arith, cond}
 use Rattle.std.proofs.Math.Arith.{mod-mul}
 use Rattle.std.proofs.Math.Nat.{mul_assoc, mul_comm}
 use Rattle.std.proofs.lemmas.Bool.{eqb-true}
@@ -14,9 +14,9 @@ use Rattle.ba_nodes.specs.declared.Node.{Node}
 use Rattle.ba_nodes.specs.Gates.{AreOrdered, Extends, HasValue, IsBitOf, constant_bit, truth}
 use Rattle.ba_nodes.proofs.Truths.{Extends-through, Extends_refl}
 use Rattle.ba_words.specs.Words.{AreBitsOf, HasNumber, bit_at, digit, low_number, spelled}
-use Rattle.ba_words.proofs.Digits.{twice}
 use Rattle.ba_words.proofs.Values.{spread}
-use Rattle.ba_words.proofs.Places.{are_bits-extends, are_bits-set, low_number-all, low_number-extends, low_number-set_more}
+use Rattle.ba_words.proofs.Places.{are_bits-extends, are_bits-set, low_number-all, low_number-extends, low_number-set_more, power_more}
+use Rattle.ba_words.proofs.Carries.{are_bits-replicate}
 
 -- A CONSTANT: the digits of a number so far, and what is left of it
 
@@ -25,12 +25,6 @@ pub record DigitsSoFar (word : List Bit) (i rest number : ℕ) : Type 0 where
   pub are_bits : (nodes : List Node) → AreBitsOf nodes word
   pub sum : (nodes : List Node) (free : ℕ → Bool) → low_number free nodes word i + 2 ^ i * rest ≡ number
 
-replicate-bits : (nodes : List Node) (n : ℕ) (bit : Bit) → IsBitOf nodes bit
-    → AreBitsOf nodes (replicate n bit)
-replicate-bits nodes zero bit named place = omega arith
-replicate-bits nodes (suc n) bit named zero = named
-replicate-bits nodes (suc n) bit named (suc place) = replicate-bits nodes n bit named place
-
 none-written : (number : ℕ) → 0 + 2 ^ 0 * number ≡ number
 none-written number = omega arith
 
@@ -38,7 +32,7 @@ pub digits-start : (bit : Bit) (number : ℕ) → ((nodes : List Node) → IsBit
     → DigitsSoFar (replicate 32 bit) 0 number number
 digits-start bit number named = record {
   long = refl;
-  are_bits = λ nodes. replicate-bits nodes 32 bit (named nodes);
+  are_bits = λ nodes. are_bits-replicate nodes 32 bit (named nodes);
   sum = λ nodes free. none-written number;
 }
 
@@ -61,9 +55,6 @@ next-sum : (p q low d h rest number : ℕ) → q ≡ 2 * p → rest ≡ 2 * h + 
 next-sum p q low d h rest number double is sum =
     ap (λ q. (low + p * d) + q * h) double ∙ regroup p low d h rest is ∙ sum
 
-power-more : (i : ℕ) → 2 ^ (i + 1) ≡ 2 * 2 ^ i
-power-more i = let e : i + 1 ≡ suc i = omega arith in ap (λ n. 2 ^ n) e ∙ twice i
-
 pub digits-more : (word : List Bit) (i rest number : ℕ) (bit : Bit) → i < 32 → DigitsSoFar word i rest number
     → ((nodes : List Node) → HasValue nodes bit (λ free. rest % 2 == 1))
     → DigitsSoFar (set word i bit) (i + 1) (rest / 2) number
@@ -77,7 +68,7 @@ digits-more word i rest number bit small so has = record {
       ap (λ n. n + 2 ^ (i + 1) * (rest / 2)) written
       ∙ next-sum (2 ^ i) (2 ^ (i + 1)) (low_number free nodes word i) (digit (rest % 2 == 1)) (rest / 2)
       rest number
-      (power-more i) (parity rest (rest % 2 == 1) refl) (so.sum nodes free);
+      (power_more i) (parity rest (rest % 2 == 1) refl) (so.sum nodes free);
 }
 
 nothing-left : (low rest number : ℕ) → low + 2 ^ 32 * rest ≡ number → number < 2 ^ 32 → low ≡ number
@@ -131,7 +122,7 @@ next-digit n i =
     ap (λ d. n % 2 ^ i + 2 ^ i * d) (digit-of (n / 2 ^ i))
     ∙ turned (n % 2 ^ i) (2 ^ i) (n / 2 ^ i % 2)
     ∙ sym (mod-mul n {m = 2} {c = 2 ^ i} (omega arith) (pow_pos i))
-    ∙ ap (λ p. n % p) (sym (power-more i)) where
+    ∙ ap (λ p. n % p) (sym (power_more i)) where
       turned : (a p d : ℕ) → a + p * d ≡ d * p + a
       turned a p d = grind arith
 
@@ -204,7 +195,7 @@ pub free-start : (nodes : List Node) (bit : Bit) → IsBitOf nodes bit
 free-start nodes bit named = record {
   extends = Extends_refl nodes;
   long = refl;
-  are_bits = replicate-bits nodes 32 bit named;
+  are_bits = are_bits-replicate nodes 32 bit named;
   can = λ start number. record { free = start; agrees = λ k below. refl; spells = nothing-yet number };
 }
 

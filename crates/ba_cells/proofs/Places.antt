@@ -1,6 +1,6 @@
 -- Places as the low bits of an index spell them.
 
-use Rattle.std.proofs.Common.{◌≡◌, ℕ, zero, suc, ◌+◌, ◌*◌, ◌/◌, ◌%◌, ◌^◌, ◌<◌, ◌≤◌, ◌==◌, nat_lt, Bool, true, false, not, ◌&&◌, List, length, map, drop, inl, inr, refl, sym, ap, subst, ◌∙◌, arith, if◌then◌else◌}
+use Rattle.std.proofs.Common.{◌≡◌, ℕ, zero, suc, ◌+◌, ◌*◌, ◌/◌, ◌%◌, ◌^◌, ◌<◌, ◌≤◌, ◌==◌, nat_lt, Bool, true, false, not, ◌&&◌, List, length, map, drop, inl, inr, refl, sym, ap, ◌∙◌, arith, if◌then◌else◌}
 use Rattle.std.proofs.lemmas.Bool.{cases_lt}
 use Rattle.std.proofs.lemmas.Bool.Decides.{nat_tests}
 use Rattle.std.proofs.lemmas.Nat.{mod-pow-add, pow_pos}
@@ -8,7 +8,7 @@ use native.Mathlib.Nat.{mod-lt}
 use Rattle.ba_nodes.specs.declared.Bit.{Bit}
 use Rattle.ba_nodes.specs.declared.Node.{Node}
 use Rattle.ba_nodes.specs.Gates.{truth, Extends}
-use Rattle.ba_words.specs.Words.{digit, spelled, number_of, low_number, bit_at, AreBitsOf}
+use Rattle.ba_words.specs.Words.{digit, spelled, number_of, low_number, bit_at}
 use Rattle.ba_words.proofs.Places.{are_bits-extends, low_number-more}
 use Rattle.ba_words.proofs.Circuits.{low_number_below}
 use Rattle.ba_words.proofs.Shapes.{number-split}
@@ -20,14 +20,6 @@ cells-extends old new cells extends are place =
     are_bits-extends old new (cell_at cells place) extends (are place)
 
 -- ---- one place more of the comparison
-
-and_true : (b : Bool) → (b && true) ≡ b
-and_true true = refl
-and_true false = refl
-
-and_false : (b : Bool) → (b && false) ≡ false
-and_false true = refl
-and_false false = refl
 
 -- numbers are equal where their highest digits are, and what is below them
 by_digit : (p l k w : ℕ) (h t : Bool) → l < p → k < p → w < 2

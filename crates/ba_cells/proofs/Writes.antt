@@ -5,6 +5,7 @@ use Rattle.std.proofs.lemmas.List.{get_or_append_left, get_or-append-add}
 use Rattle.std.proofs.lemmas.Bool.{cases_lt}
 use Rattle.std.proofs.lemmas.Nat.{pow_pos}
 use Rattle.std.proofs.lemmas.Bool.Decides.{nat_tests}
+use Rattle.std.proofs.Math.Bool.{or-true, or-false}
 use Rattle.ba_nodes.specs.declared.Bit.{Bit}
 use Rattle.ba_nodes.specs.declared.Node.{Node}
 use Rattle.ba_nodes.specs.Gates.{truth, Extends}
@@ -14,22 +15,14 @@ use Rattle.ba_cells.specs.Cells.{cell_at, AreCellsOf}
 
 -- ---- bits beyond those that tell the cells apart
 
-or_true : (b : Bool) → (b || true) ≡ true
-or_true true = refl
-or_true false = refl
-
-or_false : (b : Bool) → (b || false) ≡ b
-or_false true = refl
-or_false false = refl
-
 pub beyond_step : (i m n : ℕ) (x : Bool) → m ≤ n → (nat_lt m n || x) ≡ nat_lt m (n + 2 ^ i * digit x)
 beyond_step i m n true below =
     let positive : 0 < 2 ^ i = pow_pos i in
     let past : nat_lt m (n + 2 ^ i * 1) ≡ true = grind (arith, nat_tests) in
-    or_true (nat_lt m n) ∙ sym past
+    or-true (nat_lt m n) ∙ sym past
 beyond_step i m n false below =
     let same : n ≡ n + 2 ^ i * 0 = omega arith in
-    or_false (nat_lt m n) ∙ ap (nat_lt m) same
+    or-false (nat_lt m n) ∙ ap (nat_lt m) same
 
 pub never_below : (n : ℕ) → nat_lt n n ≡ false
 never_below n = grind (arith, nat_tests)

@@ -40,10 +40,6 @@ cut-space line place e = by (ltb (position_or_len is_space line) (length line)) 
     by false is found = cc
 
 -- without one it is the one part
-not_true : (b : Bool) → not b ≡ true → b ≡ false
-not_true true e = cc
-not_true false e = refl
-
 one_part : (line : List ℕ) → length line ≡ position_or_len is_space line → parts_of line ≡ line ∷ []
 one_part [] e = refl
 one_part (b ∷ bs) e = by (is_space b) refl e (one_part bs)

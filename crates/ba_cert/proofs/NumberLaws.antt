@@ -11,10 +11,10 @@ use Rattle.std.proofs.lemmas.Int.{ints}
 use Rattle.std.proofs.lemmas.Option.{none-some, same_Some, cond_some}
 use Rattle.std.proofs.lemmas.Str.Parse.{IsNumeralModel, numerals_by_value, tells_digits, digit_from_value}
 use Rattle.ba_bytes.specs.Decimal.{are_digits, natural_of}
-use Rattle.ba_lits.specs.Literals.{Literal}
+use Rattle.ba_lits.specs.Literals.{Literal, negative, positive}
 use Rattle.ba_steps.specs.Steps.{IsValue}
 use Rattle.ba_cert.specs.Text.{literal_text}
-use Rattle.ba_cert.specs.Reading.{◌>>=◌, leads_with_zero, if_below, if_counted, number_of, counted_of, group_of, after_minus, positive, negative, literal_by, literal_of, value_by, value_of}
+use Rattle.ba_cert.specs.Reading.{◌>>=◌, leads_with_zero, if_below, if_counted, number_of, counted_of, group_of, after_minus, literal_by, literal_of, value_by, value_of}
 use Rattle.ba_cert.proofs.Binding.{bound, mapped, refused}
 
 -- DIGITS

@@ -1,6 +1,6 @@
 -- A certificate in a file of a world, before and after a line is added.
 
-use Rattle.std.proofs.Common.{◌≡◌, ◌≢◌, ℕ, ◌+◌, ◌≤◌, Bool, true, false, ◌&&◌, is_some, Option, None, Some, option_map, List, [], ◌∷◌, ◌++◌, take, All, IfSome, IsSome, refl, sym, ap, ◌∙◌, subst, append-nil, arith, inl, inr, ◌⊎◌}
+use Rattle.std.proofs.Common.{◌≡◌, ◌≢◌, ℕ, ◌+◌, Bool, true, false, ◌&&◌, is_some, Option, None, Some, option_map, List, [], ◌∷◌, ◌++◌, take, All, IfSome, IsSome, refl, sym, ap, ◌∙◌, subst, append-nil, arith, inl, inr, ◌⊎◌}
 use Rattle.std.proofs.lemmas.Bool.{and_parts, and_from}
 use Rattle.std.proofs.lemmas.List.Elements.{All-nil, All-push}
 use Rattle.std.proofs.lemmas.Option.{none-some, same_Some}
@@ -8,7 +8,7 @@ use Rattle.std.proofs.lemmas.Slice.Eq.{bytes_eq-Decides}
 use Rattle.ba_steps.specs.Sinks.{MayAdd, with_told}
 use Rattle.ba_steps.specs.declared.sink.SinkError.TheVariants as sink
 use Rattle.ba_steps.specs.declared.step.CertStep.{CertStep}
-use Rattle.ba_world.specs.World.{Appends, AppendsPrefix, OnlyWrites, Outside, Rose}
+use Rattle.ba_world.specs.World.{Appends, AppendsPrefix, OnlyWrites, Outside}
 use Rattle.ba_world.specs.declared.world.WorldError.{WorldError}
 use Rattle.ba_world.specs.declared.world.WorldError.TheVariants as world
 use Rattle.ba_cert.specs.Text.{HasLine, line_of, with_feed, head_line, text_of}
@@ -21,10 +21,6 @@ use Rattle.ba_cert.proofs.CertificateLaws.{whole-again, begun-again, whole-back,
 pub failed-is : (error : WorldError) → sink_error error ≡ sink.Failed → error ≡ world.Failed
 failed-is world.Failed e = refl
 failed-is world.Memory e = cc
-
-pub rose-later : (a b c : ℕ) → a ≤ b → Rose b c → Rose a c
-rose-later a b c le (inl up) = inl (omega (arith, le, up))
-rose-later a b c le (inr far) = inr far
 
 -- THE FILE THAT IS WRITTEN
 

@@ -5,7 +5,7 @@ use Rattle.std.specs.List.{slice_split}
 use Rattle.ba_bytes.specs.Decimal.{natural_of}
 use Rattle.ba_choices.specs.declared.Choice.{Choice}
 use Rattle.ba_choices.specs.declared.Choice.TheVariants.{Keep, Take}
-use Rattle.ba_lits.specs.Literals.{Literal}
+use Rattle.ba_lits.specs.Literals.{Literal, negative, positive}
 use Rattle.ba_steps.specs.declared.step.CertStep.{CertStep}
 use Rattle.ba_steps.specs.declared.step.CertStep.TheVariants.{Learn, Core, Delete, Block, EndLocated, EndNoRepair, EndTooMany, EndSpent}
 use Rattle.ba_cert.specs.declared.choices.Run.{Run}
@@ -57,12 +57,6 @@ group_of part = counted_of part >>= if_below (2 ^ 32)
 abbrev pub after_minus : List ℕ → Option (List ℕ)
 after_minus [] = None
 after_minus (b ∷ bs) = cond (b == 45) (Some bs) None
-
-abbrev pub positive : ℕ → Literal
-positive variable = record { variable = variable; negated = false }
-
-abbrev pub negative : ℕ → Literal
-negative variable = record { variable = variable; negated = true }
 
 abbrev pub literal_by : Option (List ℕ) → List ℕ → Option Literal
 literal_by (Some digits) part = option_map negative (counted_of digits)

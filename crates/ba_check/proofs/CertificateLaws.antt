@@ -9,6 +9,7 @@ use Rattle.ba_cert.specs.Reading.{step_in}
 use Rattle.ba_cert.specs.Text.{HasLine, head_line, line_of, text_of, with_feed}
 use Rattle.ba_cert.proofs.LineLaws.{line-again, line-back, line-feedless}
 use Rattle.ba_cert.proofs.PlainLaws.{no_feed}
+use Rattle.ba_cert.proofs.CertificateLaws.{lines_of}
 use Rattle.ba_derivations.specs.Derivations.{Problem, Verdict, start_of, verdict_of}
 use Rattle.ba_steps.specs.Steps.{IsFormed}
 use Rattle.ba_steps.specs.declared.step.CertStep.{CertStep}
@@ -214,9 +215,6 @@ accepted p text v e =
     }
 
 -- A CERTIFICATE is accepted
-
-abbrev lines_of : List CertStep → List ℕ
-lines_of steps = flat_map (λ (step : CertStep). with_feed (line_of step)) steps
 
 feed_first : (line more : List ℕ) → with_feed line ++ more ≡ line ++ 10 ∷ more
 feed_first line more = append_assoc line (10 ∷ []) more

@@ -4,10 +4,6 @@ use Rattle.std.proofs.Common.{◌≡◌, ℕ, false, None, Err, List, [], sym, a
 use Rattle.std.proofs.lemmas.List.Elements.{All-nil}
 use Rattle.ba_bytes.specs.Classes.{is_line_end}
 use Rattle.ba_derivations.specs.Derivations.{Problem, start_of}
-use Rattle.ba_tree.specs.Least.{judge_of}
-use Rattle.ba_tree.specs.declared.run.Bounds.{Bounds}
-use Rattle.ba_tree.specs.declared.run.Input.{Input}
-use Rattle.ba_tree.specs.declared.tree.Program.{Program}
 use Rattle.ba_check.specs.Answers.{Tells, TellsRefusal}
 use Rattle.ba_check.specs.Findings.{Goes, after_lines, course_of, finding_of, first_refused, refusal_in}
 use Rattle.ba_check.specs.Readings.{Confirming, Follows, HasRead}
@@ -15,12 +11,6 @@ use Rattle.ba_check.specs.declared.error.CheckError.{CheckError}
 use Rattle.ba_check.specs.declared.error.CheckError.TheVariants.{Line, Memory}
 use Rattle.ba_check.proofs.CourseLaws.{refused-found}
 use Rattle.ba_check.proofs.LineLaws.{all-rest, no-line}
-
--- the judge of a program
-pub same-judge : (p q : Program) (i k : Input) (b d : Bounds) → p ≡ q → i ≡ k → b ≡ d →
-    judge_of p i b ≡ judge_of q k d
-same-judge p q i k b d is_p is_i is_b =
-    ap (λ p. judge_of p i b) is_p ∙ ap (λ i. judge_of q i b) is_i ∙ ap (judge_of q k) is_b
 
 -- nothing is read
 nothing : (p : Problem) → course_of p [] ≡ Goes 0 (start_of p) None

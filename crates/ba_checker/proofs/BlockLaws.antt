@@ -61,7 +61,7 @@ placed_formed n l (m ∷ ms) counted within lacks clause =
         clause.ascends 0 1 (omega arith) (omega arith))) rest
 
 -- an entry with a weight is one of those that are present
-heavy : (x : ℕ) → (x == 0) ≡ false → ltb 0 x ≡ true
+pub heavy : (x : ℕ) → (x == 0) ≡ false → ltb 0 x ≡ true
 heavy x e = grind (arith, nat_tests)
 
 entry_each : (P : Soft → Type 0) (groups : List Soft) (k : ℕ) (s : Soft) → All P (present groups) →

@@ -10,7 +10,7 @@ use Rattle.std.proofs.lemmas.Option.{same_Some, cond_some}
 use Rattle.std.specs.List.{slice_get, list_all, AllByRecursion, IsDistinct}
 use Rattle.std.specs.Cmp.Lexicographic.{pointwise}
 use Rattle.ba_choices.specs.declared.Choice.{Choice}
-use Rattle.ba_lits.specs.Literals.{Literal, negate, IsClause, index_of}
+use Rattle.ba_lits.specs.Literals.{Literal, negate, IsClause, index_of, positive, negative}
 use Rattle.ba_lits.specs.Satisfaction.{Assignment, any_true, all_true, Soft, cost, Agree, one_if}
 use Rattle.ba_lits.specs.Formulas.{Cnf}
 use Rattle.ba_lits.specs.Hints.{Replay, Refutes, StaysOpen, NamesNone, NamesIdle, replay, has_literal}
@@ -23,7 +23,7 @@ use Rattle.ba_steps.specs.declared.step.CertStep.TheVariants.{Learn, Core, Delet
 use Rattle.ba_steps.specs.declared.step.StepError.{StepError}
 use Rattle.ba_steps.specs.declared.step.StepError.TheVariants.{DeadClause, RunNotGood, SetTwice, WrongWeight, AfterEnd, NotNew, TooSoon, NotSofts, CoreAfterSet, WrongCount, BadVariable, Memory}
 use Rattle.ba_lits.proofs.ClauseLaws.{IsClause-rest}
-use Rattle.ba_checker.specs.Splits.{positive, negative, in_order, or_gate, and_gate, some_of, or_clauses, and_clauses, split_clauses, fresh_count, split_softs, late_softs, is_soft, lesser, lightest, lowered}
+use Rattle.ba_checker.specs.Splits.{in_order, or_gate, and_gate, some_of, or_clauses, and_clauses, split_clauses, fresh_count, split_softs, late_softs, is_soft, lesser, lightest, lowered}
 use Rattle.ba_checker.specs.States.{Kept, kept, State, kept_at, clause_at, live_lits, is_live_origin, is_learnt_at, is_learnt_entry, is_learnt_origin, width_at, lits_at, without, without_all, present, first_state}
 use Rattle.ba_checker.specs.Judging.{Judge, error_if, lacks_variable, is_spent, lacks_soft, hint_error, error_of_replay, error_of, after, after_learn, after_core, after_delete, after_block, block_error, may_go, apart_by, delete_error, after_all, next_if, learn_error, core_error}
 use Rattle.ba_checker.specs.Facts.{all_lits, Differs, AreDifferent, AreAmong, IsStart, step_splits, splits_of, IsLive, IsBlocked, Holds}
@@ -818,7 +818,7 @@ clauses_below n (c ∷ cs) all = (
 )
 
 -- a list more that differs from each
-distinct_none : IsDistinct (pointwise nat_eq) []
+pub distinct_none : IsDistinct (pointwise nat_eq) []
 unfolding IsDistinct
 distinct_none = tt
 
@@ -1027,6 +1027,23 @@ pub allowed : (o : Option StepError) (next : Option State) (t : State) → next_
     (o ≡ None) × (next ≡ Some t)
 allowed None next t is = (refl, is)
 allowed (Some e) next t is = absurd (cc)
+
+pub next_allowed : (o : Option StepError) (next : Option State) (t : State) → o ≡ None → next ≡ Some t →
+    next_if o next ≡ Some t
+next_allowed None next t none is = is
+next_allowed (Some e) next t none is = absurd (cc none)
+
+-- one after the other
+pub after_append : (good : Judge) (xs ys : List CertStep) (a b c : State) → after_all good a xs ≡ Some b →
+    after_all good b ys ≡ Some c → after_all good a (xs ++ ys) ≡ Some c
+after_append good [] ys a b c first second =
+    let e : b ≡ a = sym (same_Some a b first) in
+    let P : State → Type 0 = λ s. after_all good s ys ≡ Some c in
+    subst P e second
+after_append good (x ∷ xs) ys a b c first second =
+    let parts = allowed (error_of good a x) (after_all good (after a x) xs) b first in
+    next_allowed (error_of good a x) (after_all good (after a x) (xs ++ ys)) c parts.0
+    (after_append good xs ys (after a x) b c parts.1 second)
 
 steps_keep : (good : Judge) (formula : Cnf) (softs : List Soft) (splits : List (List Literal)) (s : State)
     (steps : List CertStep) (t : State) →

@@ -5,9 +5,9 @@ use Rattle.std.proofs.lemmas.Option.{cond_some}
 use Rattle.std.proofs.lemmas.Bool.Decides.{nat_tests}
 use Rattle.std.proofs.lemmas.List.Elements.{All-nil, All-cons, All-append, All-weaker, All-map, All-head, All-tail}
 use Rattle.std.specs.List.{slice_get}
-use Rattle.ba_lits.specs.Literals.{Literal, negate, IsClause, lit_at}
+use Rattle.ba_lits.specs.Literals.{Literal, negate, IsClause, lit_at, positive, negative}
 use Rattle.ba_lits.proofs.ClauseLaws.{IsClause-more, cons_formed, single_formed, IsClause-rest}
-use Rattle.ba_checker.specs.Splits.{positive, negative, in_order, or_gate, and_gate, some_of, or_clauses, and_clauses, split_clauses, fresh_count}
+use Rattle.ba_checker.specs.Splits.{in_order, or_gate, and_gate, some_of, or_clauses, and_clauses, split_clauses, fresh_count}
 use Rattle.ba_checker.specs.States.{Kept, kept, clause_at, live_lits, is_live_origin, without, without_all}
 use Rattle.ba_checker.specs.declared.store.Origin.{Origin}
 use Rattle.ba_checker.specs.declared.store.Origin.TheVariants as origins

@@ -2,10 +2,10 @@
 
 use Rattle.std.proofs.Common.{◌≡◌, ℕ, ◌+◌, ◌-◌, ◌<◌, ◌≤◌, Bool, true, false, cond, ltb, min, Option, None, Some, List, [], ◌∷◌, ◌++◌, map, length, drop, get_or, refl, sym, ap, ◌∙◌, arith}
 use Rattle.std.proofs.lemmas.List.{append_assoc, append-nil, drop_more, map-append, length-drop}
-use Rattle.ba_lits.specs.Literals.{Literal, negate, no_literal}
+use Rattle.ba_lits.specs.Literals.{Literal, negate, negative, no_literal}
 use Rattle.ba_lits.specs.Satisfaction.{Soft}
 use Rattle.ba_lits.specs.Hints.{has_literal}
-use Rattle.ba_checker.specs.Splits.{negative, or_gate, and_gate, some_of, or_clauses, and_clauses, late_softs, lesser, lowered}
+use Rattle.ba_checker.specs.Splits.{or_gate, and_gate, some_of, or_clauses, and_clauses, late_softs, lesser, lowered}
 use Rattle.ba_checker.specs.States.{Kept, kept, present}
 use Rattle.ba_checker.specs.declared.store.Origin.TheVariants as origins
 

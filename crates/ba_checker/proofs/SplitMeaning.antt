@@ -5,10 +5,10 @@ use Rattle.std.proofs.Math.Nat.{mul-add}
 use Rattle.std.proofs.lemmas.Bool.{cases_eq, and_parts, and_from}
 use Rattle.std.proofs.lemmas.Bool.Decides.{nat_tests}
 use mathlib.Core.Bool.{or-false}
-use Rattle.ba_lits.specs.Literals.{Literal, negate, no_literal}
+use Rattle.ba_lits.specs.Literals.{Literal, negate, negative, no_literal, positive}
 use Rattle.ba_lits.specs.Satisfaction.{Assignment, lit_true, any_true, all_true, cost, Agree, one_if}
 use Rattle.ba_lits.proofs.Satisfied.{ClauseBelow, lit_true-negate, lit_true-agree, any_true-agree, all_true-append}
-use Rattle.ba_checker.specs.Splits.{positive, negative, in_order, or_gate, and_gate, some_of, or_clauses, and_clauses, split_clauses, late_softs}
+use Rattle.ba_checker.specs.Splits.{in_order, or_gate, and_gate, some_of, or_clauses, and_clauses, split_clauses, late_softs}
 
 -- two truth values are the same
 abbrev pub eqv : Bool → Bool → Bool

@@ -5,16 +5,10 @@
 -- bi and a later literal are true. A fresh variable di says that a literal after bi is true, and a fresh variable ei
 -- says that bi and a later one are.
 
-use Rattle.std.specs.Prelude.{ℕ, ◌+◌, ◌-◌, Bool, true, false, ltb, Option, None, Some, min, map, List, [], ◌∷◌, ◌++◌, length, if◌then◌else◌}
-use Rattle.ba_lits.specs.Literals.{Literal, negate, no_literal}
+use Rattle.std.specs.Prelude.{ℕ, ◌+◌, ◌-◌, Bool, ltb, Option, None, Some, min, map, List, [], ◌∷◌, ◌++◌, length, if◌then◌else◌}
+use Rattle.ba_lits.specs.Literals.{Literal, negate, negative, no_literal, positive}
 use Rattle.ba_lits.specs.Satisfaction.{Soft}
 use Rattle.ba_lits.specs.Hints.{has_literal}
-
-abbrev pub positive : ℕ → Literal
-positive x = record { variable = x; negated = false }
-
-abbrev pub negative : ℕ → Literal
-negative x = record { variable = x; negated = true }
 
 -- two literals by ascending variable
 abbrev pub in_order : Literal → Literal → List Literal

@@ -3,28 +3,26 @@
 use Rattle.std.proofs.Common.{◌≡◌, ℕ, ◌+◌, ◌-◌, ◌*◌, ◌≤◌, Bool, true, false, not, ◌&&◌, ◌||◌, List, [], ◌∷◌, ◌++◌, get_or, refl, sym, ap, subst, ◌∙◌, arith, map, All, if◌then◌else◌}
 use Rattle.std.proofs.lemmas.List.Elements.{All-append, All-map, All-weaker}
 use Rattle.std.specs.List.{list_any}
+use Rattle.std.proofs.Math.Bool.{and-true}
 use mathlib.Core.Bool.{and_assoc, or_assoc}
 use Rattle.ba_nodes.specs.declared.Bit.{Bit}
 use Rattle.ba_nodes.specs.Gates.{opposite, bool_xor, bool_majority}
 use Rattle.ba_lits.specs.Formulas.{Cnf}
 use Rattle.ba_lits.specs.Literals.{Literal, literal_at, index_of}
-use Rattle.ba_lits.specs.Satisfaction.{Assignment, signed, lit_true, any_true, all_true}
-use Rattle.ba_lits.proofs.Satisfied.{all_true-append}
+use Rattle.ba_lits.specs.Satisfaction.{Assignment, lit_true, any_true, all_true}
+use Rattle.ba_lits.proofs.Satisfied.{all_true-append, signed-not}
+use Rattle.ba_lits.proofs.Members.{literal_at-index_of}
 use Rattle.ba_clauses.specs.declared.gates.Gate.{Gate}
 use Rattle.ba_clauses.specs.declared.gates.Gate.TheVariants.{Xor, Mux, Majority}
 use Rattle.ba_clauses.specs.Clauses.{Adds, all_of, any_of, gate_value, literal_of, literal_value, code_true, IsLiteralOf, IsCodeOf, HasVariable}
-use Rattle.ba_clauses.proofs.Ordered.{literal_at-index_of, any_true-codes}
-
-and_true : (b : Bool) → (b && true) ≡ b
-and_true true = refl
-and_true false = refl
+use Rattle.ba_clauses.proofs.Ordered.{any_true-codes}
 
 -- no clause says what always holds
 pub Adds-none : (formula : Cnf) (says : Assignment → Bool) → ((v : Assignment) → says v ≡ true) →
     Adds formula formula says
 Adds-none formula says always = record {
   variables = refl;
-  holds = λ v. sym (ap (λ b. all_true v formula.clauses && b) (always v) ∙ and_true (all_true v
+  holds = λ v. sym (ap (λ b. all_true v formula.clauses && b) (always v) ∙ and-true (all_true v
       formula.clauses));
 }
 
@@ -34,7 +32,7 @@ pub Adds-one : (formula : Cnf) (clause : List Literal) (says : Assignment → Bo
 Adds-one formula clause says is = record {
   variables = refl;
   holds = λ v. all_true-append v formula.clauses (clause ∷ [])
-      ∙ ap (λ b. all_true v formula.clauses && b) (and_true (any_true v clause) ∙ is v);
+      ∙ ap (λ b. all_true v formula.clauses && b) (and-true (any_true v clause) ∙ is v);
 }
 
 pub Adds-as : (old new : Cnf) (says other : Assignment → Bool) → Adds old new says → ((v : Assignment) →
@@ -80,11 +78,6 @@ any-codes variables v head bits =
     ∙ (λ i. any-indices v head i || any-bits variables v bits i)
 
 -- ---- gates
-
-signed-not : (s b : Bool) → signed (not s) b ≡ not (signed s b)
-signed-not true true = refl
-signed-not true false = refl
-signed-not false b = refl
 
 pub literal_value-opposite : (variables : List ℕ) (v : Assignment) (bit : Bit) →
     literal_value variables v (opposite bit) ≡ not (literal_value variables v bit)

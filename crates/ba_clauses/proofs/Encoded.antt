@@ -7,8 +7,9 @@ use Rattle.std.proofs.lemmas.Bool.Decides.{nat_tests}
 use Rattle.std.specs.List.{AllByRecursion, list_any}
 use Rattle.ba_nodes.specs.declared.Bit.{Bit}
 use Rattle.ba_nodes.specs.declared.Node.{Node}
-use Rattle.ba_nodes.specs.Gates.{constant_bit, node_bit, opposite, truth, AreOrdered}
-use Rattle.ba_nodes.proofs.Truths.{truth-constant, truth-opposite}
+use Rattle.ba_nodes.specs.Gates.{node_bit, opposite, truth, AreOrdered}
+use Rattle.ba_nodes.proofs.Truths.{truth-opposite}
+use Rattle.ba_nodes.proofs.Folding.{truth-zero}
 use Rattle.ba_lits.specs.Formulas.{Cnf}
 use Rattle.ba_lits.specs.Satisfaction.{Assignment, all_true}
 use Rattle.ba_clauses.specs.declared.encoding.Reading.{Reading}
@@ -28,14 +29,6 @@ variable_by variables index = get_or variables (index - 1) 0
 
 -- ---- constants
 
-constant_is : (bit : Bit) → bit.index ≡ 0 → bit ≡ constant_bit bit.negated
-constant_is bit zero_index = λ i. record { index = zero_index i; negated = bit.negated }
-
-truth_at_constant : (free : ℕ → Bool) (nodes : List Node) (bit : Bit) → bit.index ≡ 0 →
-    truth free nodes bit ≡ bit.negated
-truth_at_constant free nodes bit zero_index = ap (truth free nodes) (constant_is bit zero_index) ∙
-    truth-constant free nodes bit.negated
-
 true_is_no_false : (free : ℕ → Bool) (nodes : List Node) (bit : Bit) → truth free nodes bit ≡ true →
     is_false bit ≡ false
 true_is_no_false free nodes bit on = step (eqb bit.index 0) refl bit.negated refl
@@ -43,7 +36,7 @@ true_is_no_false free nodes bit on = step (eqb bit.index 0) refl bit.negated ref
     step : (b : Bool) → eqb bit.index 0 ≡ b → (n : Bool) → bit.negated ≡ n → (b && not n) ≡ false
     step false e n m = refl
     step true e true m = refl
-    step true e false m = absurd (cc (sym on ∙ truth_at_constant free nodes bit (eqb-true bit.index 0 e) ∙ m))
+    step true e false m = absurd (cc (sym on ∙ truth-zero free nodes bit (eqb-true bit.index 0 e) ∙ m))
 
 pub none_is_false : (free : ℕ → Bool) (nodes : List Node) (bits : List Bit) →
     all_hold free nodes bits ≡ true → list_any is_false bits ≡ false
@@ -61,7 +54,7 @@ bit_holds : (free : ℕ → Bool) (nodes : List Node) (uses : List Use) (bit : B
     truth free nodes (node_side (bit.index - 1) bit.negated) ≡ true) →
     truth free nodes bit ≡ true
 bit_holds free nodes uses bit asked no_false sound = ⊎_elim
-    (λ constant. truth_at_constant free nodes bit constant ∙ negated constant bit.negated refl)
+    (λ constant. truth-zero free nodes bit constant ∙ negated constant bit.negated refl)
     (λ other.
     let some : 0 < bit.index = omega arith in
     sym (ap (truth free nodes) (side_is bit some)) ∙ sound some (asked some))
@@ -97,7 +90,7 @@ reading_value free nodes variables v bit same = step (eqb bit.index 0) refl
               variables bit.index;
           negated = bit.negated;
         })) ≡ truth free nodes bit
-    step true e = sym (truth_at_constant free nodes bit (eqb-true bit.index 0 e))
+    step true e = sym (truth-zero free nodes bit (eqb-true bit.index 0 e))
     step false e = let some : 0 < bit.index = grind (arith, nat_tests, e) in same some
 
 readings_values : (free : ℕ →

@@ -5,9 +5,8 @@ use Rattle.std.proofs.lemmas.Bool.{eqb-true}
 use Rattle.std.specs.List.{list_any, dedup, dedup_from}
 use Rattle.std.specs.List.Sorted.{IsStrictlyIncreasing}
 use native.Mathlib.Nat.{div-add-mod, mod-lt, zero-lt-suc}
-use Rattle.ba_lits.specs.Literals.{Literal, index_of, literal_at, index_of-literal_at, lit_at, IsClause}
+use Rattle.ba_lits.specs.Literals.{Literal, literal_at, lit_at, IsClause}
 use Rattle.ba_lits.specs.Satisfaction.{Assignment, signed, any_true}
-use Rattle.ba_lits.proofs.Members.{same_from_index}
 use Rattle.ba_clauses.specs.Clauses.{IsCodeOf, code_true}
 
 -- what stands twice is counted once
@@ -40,9 +39,6 @@ pub any_true-codes : (v : Assignment) (codes : List ℕ) →
     any_true v (map literal_at codes) ≡ list_any (code_true v) codes
 any_true-codes v [] = refl
 any_true-codes v (code ∷ codes) = ap (λ b. code_true v code || b) (any_true-codes v codes)
-
-pub literal_at-index_of : (lit : Literal) → literal_at (index_of lit) ≡ lit
-literal_at-index_of lit = same_from_index (literal_at (index_of lit)) lit (index_of-literal_at (index_of lit))
 
 -- an index next to an even one is that of the opposite literal, so one of the two is true
 pub one_is_true : (v : Assignment) (x y : ℕ) → x % 2 ≡ 0 → y ≡ x + 1 → (code_true v x || code_true v y) ≡ true

@@ -3,3 +3,4 @@ pub mod Rows
 pub mod Ranges
 mod Agreeing
 pub mod Typed
+pub mod Paths

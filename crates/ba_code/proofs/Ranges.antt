@@ -2,6 +2,7 @@
 use Rattle.std.proofs.Common.{◌≡◌, ℕ, zero, suc, ℤ, pos, ◌≤ℤ◌, Bool, true, false, ◌||◌, cond, T, Option, None, Some, List, [], ◌∷◌, take, refl, ◌∙◌, ap, subst, arith, replicate, ◌++◌, inl, inr, ◌⊎◌}
 use Rattle.std.proofs.lemmas.Bool.{and_parts, and_from}
 use Rattle.std.proofs.lemmas.Int.{ints}
+use Rattle.std.proofs.lemmas.Float.{T_from_true}
 use Rattle.std.specs.List.{list_all}
 use Rattle.std.specs.Prelude.{IfSome, IsTrue, int_le, slice_set, slice_index_or}
 use Rattle.ba_code.specs.Operators.{converting, plain}
@@ -20,10 +21,6 @@ of_T : (b : Bool) → T b → b ≡ true
 of_T true h = refl
 of_T false h = absurd h
 
-to_T : (b : Bool) → b ≡ true → T b
-to_T true h = tt
-to_T false h = absurd (cc)
-
 is_true : (b : Bool) → b ≡ true → IsTrue b
 is_true b h = h
 
@@ -33,8 +30,8 @@ test-in t z h = and_from (int_le (least_of t) z) (int_le z (greatest_of t))
 
 pub in-test : (t : CType) (z : ℤ) → is_in t z ≡ true → IsIn t z
 in-test t z h = let both = and_parts (int_le (least_of t) z) (int_le z (greatest_of t)) h in record {
-  low = record { le = to_T (int_le (least_of t) z) both.0 };
-  high = record { le = to_T (int_le z (greatest_of t)) both.1 };
+  low = record { le = T_from_true (int_le (least_of t) z) both.0 };
+  high = record { le = T_from_true (int_le z (greatest_of t)) both.1 };
 }
 
 pub in-within : (a b : CType) (z : ℤ) → is_within a b ≡ true → is_in a z ≡ true → is_in b z ≡ true

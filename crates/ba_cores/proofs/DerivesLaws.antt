@@ -10,11 +10,11 @@ use Rattle.ba_steps.specs.Sinks.{Logs, with_step, MayAddStep}
 use Rattle.ba_steps.specs.Steps.{IsFormed}
 use Rattle.ba_steps.specs.declared.step.CertStep.{CertStep}
 use Rattle.ba_steps.specs.declared.step.CertStep.TheVariants.{Learn, Core, Delete}
-use Rattle.ba_steps.specs.declared.step.StepError.{StepError}
 use Rattle.ba_checker.specs.States.{State, first_state}
-use Rattle.ba_checker.specs.Judging.{Judge, error_of, after, after_all, next_if}
+use Rattle.ba_checker.specs.Judging.{Judge, error_of, after, after_all}
 use Rattle.ba_checker.specs.Puts.{IsTakenOrAsleep, with_steps, leaves_all, leaves_last}
 use Rattle.ba_checker.proofs.PutLaws.{logs_then, leaves_weaker, leaves_after}
+use Rattle.ba_checker.proofs.FactLaws.{next_allowed, after_append}
 use Rattle.ba_search.specs.Searching.{Searches, searches_none, searches_learn, searches_delete, Leaves as LeavesSearched}
 use Rattle.ba_search.proofs.StepLaws.{Gives}
 use Rattle.ba_cores.specs.Derivations.{Derives, derives_none, derives_learn, derives_delete, derives_core, Leaves, IsReached}
@@ -93,11 +93,6 @@ derives_formed (derives_delete s t numbers steps formed allowed rest) =
 derives_formed (derives_core s t lits hints steps formed allowed rest) =
     All-cons IsFormed (Core lits hints) steps formed (derives_formed rest)
 
-next_allowed : (o : Option StepError) (next : Option State) (t : State) → o ≡ None → next ≡ Some t →
-    next_if o next ≡ Some t
-next_allowed None next t none is = is
-next_allowed (Some e) next t none is = absurd (cc none)
-
 pub derives_after : {good : Judge} {a b : State} {xs : List CertStep} → Derives good a xs b →
     after_all good a xs ≡ Some b
 derives_after (derives_none s) = refl
@@ -110,22 +105,6 @@ derives_after {good} (derives_delete s t numbers steps formed allowed rest) =
 derives_after {good} (derives_core s t lits hints steps formed allowed rest) =
     next_allowed (error_of good s (Core lits hints)) (after_all good (after s (Core lits hints)) steps) t
     allowed (derives_after rest)
-
-next_parts : (o : Option StepError) (next : Option State) (t : State) → next_if o next ≡ Some t →
-    (o ≡ None) × (next ≡ Some t)
-next_parts None next t is = (refl, is)
-next_parts (Some e) next t is = absurd (cc is)
-
-after_append : (good : Judge) (xs ys : List CertStep) (a b c : State) → after_all good a xs ≡ Some b →
-    after_all good b ys ≡ Some c → after_all good a (xs ++ ys) ≡ Some c
-after_append good [] ys a b c first second =
-    let e : b ≡ a = cc first in
-    let P : State → Type 0 = λ s. after_all good s ys ≡ Some c in
-    subst P e second
-after_append good (x ∷ xs) ys a b c first second =
-    let parts = next_parts (error_of good a x) (after_all good (after a x) xs) b first in
-    next_allowed (error_of good a x) (after_all good (after a x) (xs ++ ys)) c parts.0
-    (after_append good xs ys (after a x) b c parts.1 second)
 
 -- what a formula's derivation reaches, it reaches after more steps
 pub reached_on : {good : Judge} {a b : State} {xs : List CertStep} (formula : Cnf) (softs : List Soft) →

@@ -2,6 +2,7 @@
 
 use Rattle.std.proofs.Common.{◌≡◌, ◌≢◌, ℕ, ◌≤◌, Bool, true, false, not, ◌||◌, ltb, cond, List, [], ◌∷◌, refl, ap, subst}
 use Rattle.std.proofs.lemmas.List.Elements.{All-filter}
+use Rattle.std.proofs.lemmas.Bool.{or_right}
 use Rattle.ba_lits.specs.Literals.{Literal, negate, lit_at, index_of}
 use Rattle.ba_lits.specs.Satisfaction.{Soft}
 use Rattle.ba_lits.specs.Hints.{has_literal}
@@ -46,10 +47,6 @@ heavy_assumed n m weight softs lits is same among differ =
 or_more : (e a b : Bool) → (a ≡ true → b ≡ true) → (e || a) ≡ true → (e || b) ≡ true
 or_more true a b more h = refl
 or_more false a b more h = more h
-
-or_right : (e b : Bool) → b ≡ true → (e || b) ≡ true
-or_right true b h = refl
-or_right false b h = h
 
 has_if : (l : Literal) (b : Bool) (s : Soft) (kept rest : List Soft) →
     (has_literal l (literals_of kept) ≡ true → has_literal l (literals_of rest) ≡ true) →

@@ -9,6 +9,7 @@ use Rattle.ba_lits.specs.Satisfaction.{Assignment, Soft, signed, lit_true, any_t
 use Rattle.ba_steps.specs.Steps.{AreAbove}
 use Rattle.ba_checker.specs.Blocks.{entry_of, entry_weight, weight_at, set_weight, lacks_group, placed, with_selector, block_clause}
 use Rattle.ba_checker.specs.States.{present}
+use Rattle.ba_checker.proofs.BlockLaws.{heavy}
 use Rattle.ba_tree.specs.Least as least
 use Rattle.ba_tree.specs.Least.{WeightList, AreRelaxableAbove, weight_of}
 use Rattle.ba_derivations.specs.Encodings.{is_false_group, with_if, false_groups_from, false_groups, weight_if}
@@ -165,9 +166,6 @@ placed_true v l (m ∷ ms) = by_case (ltb l.variable m.variable) (placed_true v 
     by_case true rest = refl
     by_case false rest = ap (λ b. lit_true v m || b) rest ∙ swap (lit_true v m) (lit_true v l) (any_true v ms)
 
-some_weight : (w : ℕ) → (w == 0) ≡ false → ltb 0 w ≡ true
-some_weight w e = grind (arith, nat_tests)
-
 pub falsified : (v : Assignment) (softs : List Soft) (set : List ℕ) → lacks_group softs set ≡ false →
     any_true v (block_clause softs set) ≡ false → AreFalse v softs set
 falsified v softs [] exist is_false = tt
@@ -182,7 +180,7 @@ falsified v softs (n ∷ ns) exist is_false =
     by_case rest (Some s) e some clause =
         let parts = or_parts (lit_true v s.0) (any_true v (block_clause softs ns))
         (sym (placed_true v s.0 (block_clause softs ns)) ∙ clause) in (
-          ap (is_false_at v) e ∙ and_from (ltb 0 s.1) (not (lit_true v s.0)) (some_weight s.1 some) (ap not
+          ap (is_false_at v) e ∙ and_from (ltb 0 s.1) (not (lit_true v s.0)) (heavy s.1 some) (ap not
               parts.0),
           rest parts.1,
         )

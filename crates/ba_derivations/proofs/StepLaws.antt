@@ -1,17 +1,17 @@
 -- What stays, and what is counted, along allowed steps.
-use Rattle.std.proofs.Common.{◌≡◌, ◌+◌, Bool, true, false, not, Option, None, Some, List, [], ◌∷◌, ◌++◌, All, refl, sym, ap, ◌∙◌, arith, ◌==◌}
+use Rattle.std.proofs.Common.{◌≡◌, ◌+◌, not, None, Some, List, [], ◌∷◌, ◌++◌, All, refl, sym, ap, ◌∙◌, arith, ◌==◌}
 use Rattle.std.proofs.lemmas.List.{append_assoc, append-nil}
 use Rattle.std.proofs.lemmas.List.Elements.{All-nil, All-cons, All-head, All-tail}
 use Rattle.std.proofs.lemmas.Option.{same_Some}
+use Rattle.std.proofs.lemmas.Bool.{not-false}
 use Rattle.ba_steps.specs.Steps.{IsFormed}
 use Rattle.ba_steps.specs.declared.step.CertStep.{CertStep}
 use Rattle.ba_steps.specs.declared.step.CertStep.TheVariants.{Learn, Core, Delete, Block, EndLocated, EndNoRepair, EndTooMany, EndSpent}
-use Rattle.ba_steps.specs.declared.step.StepError.{StepError}
 use Rattle.ba_steps.specs.declared.step.StepError.TheVariants.{AfterEnd, BadVariable, Memory, RunNotGood, SetTwice, WrongWeight}
 use Rattle.ba_checker.specs.Blocks.{lacks_group, is_among, set_weight}
-use Rattle.ba_checker.specs.Judging.{Judge, error_if, error_of, error_before_end, after, after_all, next_if}
+use Rattle.ba_checker.specs.Judging.{Judge, error_if, error_of, error_before_end, after, after_all}
 use Rattle.ba_checker.specs.States.{State}
-use Rattle.ba_checker.proofs.FactLaws.{no_error}
+use Rattle.ba_checker.proofs.FactLaws.{allowed, no_error}
 use Rattle.ba_derivations.specs.declared.verdict.FoundSet.{FoundSet}
 use Rattle.ba_derivations.specs.Derivations.{IsGood, blocked_by, conflict_of, conflicts_in, sets_of, with_block}
 
@@ -21,12 +21,6 @@ front_formed [] rest all = All-nil IsFormed
 front_formed (step ∷ steps) rest all =
     All-cons IsFormed step steps (All-head IsFormed step (steps ++ rest) all)
     (front_formed steps rest (All-tail IsFormed step (steps ++ rest) all))
-
--- an allowed step and the rest
-pub step_allowed : (o : Option StepError) (next : Option State) (t : State) → next_if o next ≡ Some t →
-    (o ≡ None) × (next ≡ Some t)
-step_allowed None next t is = (refl, is)
-step_allowed (Some e) next t is = cc
 
 -- an allowed step has no error before the end
 pub before_end : (good : Judge) (s : State) (step : CertStep) → error_of good s step ≡ None →
@@ -62,7 +56,7 @@ limits_stay good s [] t is =
 limits_stay good s (step ∷ steps) t is =
     let one = step_limits s step in
     let rest = limits_stay good (after s step) steps t
-    ((step_allowed (error_of good s step) (after_all good (after s step) steps) t is).1) in
+    ((allowed (error_of good s step) (after_all good (after s step) steps) t is).1) in
     record { budget = rest.budget ∙ one.budget; most_sets = rest.most_sets ∙ one.most_sets }
 
 -- CONFLICTS are counted
@@ -85,7 +79,7 @@ conflicts_counted good s [] t is =
 conflicts_counted good s (step ∷ steps) t is =
     let one = step_conflicts s step in
     let rest = conflicts_counted good (after s step) steps t
-    ((step_allowed (error_of good s step) (after_all good (after s step) steps) t is).1) in
+    ((allowed (error_of good s step) (after_all good (after s step) steps) t is).1) in
     omega (arith, one, rest)
 
 pub conflicts_append : (xs ys : List CertStep) → conflicts_in (xs ++ ys) ≡ conflicts_in xs + conflicts_in ys
@@ -113,7 +107,7 @@ with_block_is (EndNoRepair hints) rest = refl
 with_block_is EndTooMany rest = refl
 with_block_is EndSpent rest = refl
 
-sets_append : (xs ys : List FoundSet) → sets_of (xs ++ ys) ≡ sets_of xs ++ sets_of ys
+pub sets_append : (xs ys : List FoundSet) → sets_of (xs ++ ys) ≡ sets_of xs ++ sets_of ys
 sets_append [] ys = refl
 sets_append (x ∷ xs) ys = ap (λ zs. x.groups ∷ zs) (sets_append xs ys)
 
@@ -131,7 +125,7 @@ pub sets_gathered : (good : Judge) (s : State) (steps : List CertStep) (t : Stat
 sets_gathered good s [] t is = sym (ap (λ (x : State). x.sets) (same_Some s t is)) ∙ sym (append-nil s.sets)
 sets_gathered good s (step ∷ steps) t is =
     let rest = sets_gathered good (after s step) steps t
-    ((step_allowed (error_of good s step) (after_all good (after s step) steps) t is).1) in
+    ((allowed (error_of good s step) (after_all good (after s step) steps) t is).1) in
     rest ∙ (ap (λ sets. sets ++ sets_of (blocked_by steps)) (step_sets s step)
     ∙ (append_assoc s.sets (sets_of (with_block step [])) (sets_of (blocked_by steps))
     ∙ ap (λ sets. s.sets ++ sets) (sym (ap sets_of (with_block_is step (blocked_by steps))
@@ -152,12 +146,8 @@ step_good good s (Block groups run) rest none all =
     let second = no_error (is_among s.sets groups) SetTwice twice first.1 in
     let third = no_error (not (set_weight s.groups groups == s.bound)) WrongWeight weigh second.1 in
     let fourth = no_error (not (good groups run)) RunNotGood None third.1 in
-    All-cons (IsGood good) (record { groups = groups; run = run }) rest (turned (good groups run) fourth.0)
+    All-cons (IsGood good) (record { groups = groups; run = run }) rest (not-false (good groups run) fourth.0)
     all
-  where
-    turned : (b : Bool) → not b ≡ false → b ≡ true
-    turned true e = refl
-    turned false e = cc
 step_good good s (EndLocated lits hints) rest none all = all
 step_good good s (EndNoRepair hints) rest none all = all
 step_good good s EndTooMany rest none all = all
@@ -168,6 +158,6 @@ pub runs_good : (good : Judge) (s : State) (steps : List CertStep) (t : State) �
     All (IsGood good) (blocked_by steps)
 runs_good good s [] t is = All-nil (IsGood good)
 runs_good good s (step ∷ steps) t is =
-    let parts = step_allowed (error_of good s step) (after_all good (after s step) steps) t is in
+    let parts = allowed (error_of good s step) (after_all good (after s step) steps) t is in
     step_good good s step (blocked_by steps) (before_end good s step parts.0)
     (runs_good good (after s step) steps t parts.1)

@@ -3,7 +3,7 @@ use Rattle.std.proofs.Common.{◌≡◌, ◌≢◌, ℕ, suc, ◌+◌, ◌<◌, 
 use Rattle.std.specs.Cmp.Lexicographic.{pointwise}
 use Rattle.std.specs.List.{IsDistinct}
 use Rattle.std.specs.Prelude.{Contains, nat_eq, ◌↔◌}
-use Rattle.std.proofs.lemmas.Bool.{or_parts}
+use Rattle.std.proofs.lemmas.Bool.{not-false, or_parts}
 use Rattle.std.proofs.lemmas.Bool.Decides.{nat_tests}
 use Rattle.std.proofs.lemmas.List.{append-nil}
 use Rattle.std.proofs.lemmas.List.Elements.{All-contains, All-head, All-tail}
@@ -47,17 +47,13 @@ false_soft v (s ∷ ss) l weighty has is_false =
     by_case later true e found = this (ap (lit_true v) (same_literal s.0 l e) ∙ is_false)
     by_case later false e found = let rest = later found in omega (arith, rest)
 
-turned : (b : Bool) → not b ≡ false → b ≡ true
-turned true e = refl
-turned false e = cc
-
 pub costs_some : (v : Assignment) (softs : List Soft) (lits : List Literal) →
     All (λ (s : Soft). 1 ≤ s.1) softs →
     lacks_soft softs lits ≡ false → any_true v lits ≡ true → 1 ≤ cost v softs
 costs_some v softs [] weighty negates holds = cc
 costs_some v softs (l ∷ ls) weighty negates holds =
     let parts = or_parts (not (is_soft softs (negate l))) (lacks_soft softs ls) negates in
-    by_case (costs_some v softs ls weighty parts.1) (lit_true v l) refl holds (turned (is_soft softs
+    by_case (costs_some v softs ls weighty parts.1) (lit_true v l) refl holds (not-false (is_soft softs
     (negate l)) parts.0)
   where
     by_case : (any_true v ls ≡ true → 1 ≤ cost v softs) → (t : Bool) → lit_true v l ≡ t →
@@ -265,7 +261,7 @@ ends_located good s (EndLocated lits hints) weight found none says =
       found_is = parts.1;
       lits = lits;
       hints = hints;
-      some = turned (ltb 0 (length s.sets)) first.0;
+      some = not-false (ltb 0 (length s.sets)) first.0;
       negates = fourth.0;
       follows = fourth.1;
     }
@@ -349,7 +345,7 @@ record EndsWithout (s : State) : Type 0 where
   none : s.sets ≡ []
   follows : hint_error s [] hints ≡ None
 
-no_sets : (sets : List (List ℕ)) → ltb 0 (length sets) ≡ false → sets ≡ []
+pub no_sets : (sets : List (List ℕ)) → ltb 0 (length sets) ≡ false → sets ≡ []
 no_sets [] e = refl
 no_sets (set ∷ sets) e = absurd (counts (length sets) e)
   where

@@ -1,7 +1,7 @@
 -- The formula of a word list is faithful to it.
 use Rattle.std.proofs.Common.{◌≡◌, ℕ, zero, suc, ◌+◌, ◌-◌, ◌<◌, ◌≤◌, ◌==◌, pos, Bool, true, false, not, ◌&&◌, Option, Some, None, List, [], ◌∷◌, ◌++◌, map, length, get_or, slice_get, refl, sym, ◌∙◌, ap, subst, arith, inl, inr, Contains, if◌then◌else◌, ◌⊎◌, ℤ}
 use Rattle.std.proofs.lemmas.Bool.{and_from, and_parts, cases_lt, cases_eq, eq-eqb, ne_eqb}
-use Rattle.std.proofs.lemmas.List.{get_or_append_left, length-append, length-map}
+use Rattle.std.proofs.lemmas.List.{get_or-map, get_or_append_left, length-append, length-map}
 use Rattle.std.proofs.lemmas.List.Elements.{All-from_recursion, Contains-append_left, Contains-get_or}
 use Rattle.std.proofs.lemmas.List.Folds.{list_all-append}
 use Rattle.std.proofs.lemmas.Option.{slice_get-get_or}
@@ -89,12 +89,6 @@ readings-enough nodes required selectors others formula readings count is many =
 not-not : (b : Bool) → b ≡ not (not b)
 not-not true = refl
 not-not false = refl
-
-map-at : {X Y : Type 0} (f : X → Y) (xs : List X) (k : ℕ) (d : X) (e : Y) → k < length xs
-    → get_or (map f xs) k e ≡ f (get_or xs k d)
-map-at f [] k d e within = absurd (omega (arith, within))
-map-at f (x ∷ xs) zero d e within = refl
-map-at f (x ∷ xs) (suc k) d e within = map-at f xs k d e (omega (arith, within))
 
 abbrev no_bit : Bit
 no_bit = constant_bit false
@@ -217,7 +211,7 @@ module _ (list : WordList) (grouping : Grouping) (differ : are_apart grouping �
             places),
       ) in
       ap (λ rs. get_or rs k (Constant false)) is.read_by
-      ∙ map-at reading read k no_bit (Constant false) whole
+      ∙ get_or-map reading read k no_bit (Constant false) whole
       ∙ ap reading (get_or_append_left selectors (flat_map bits_of places) no_bit k inside)
 
   abbrev Is : Group → ℕ → Type 0

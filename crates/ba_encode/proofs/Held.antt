@@ -5,6 +5,7 @@ use Rattle.std.proofs.lemmas.List.Elements.{All-push, All-weaker, recursion_from
 use Rattle.std.proofs.lemmas.List.Folds.{list_all_more}
 use Rattle.std.specs.List.{AllByRecursion, list_all}
 use Rattle.std.specs.Option.{ForSome}
+use Rattle.std.proofs.Math.Bool.{and-true}
 use Rattle.ba_bits.specs.Bits.{AreEntriesOf}
 use Rattle.ba_clauses.specs.Encodings.{all_hold}
 use Rattle.ba_encode.proofs.Spots.{set-grown}
@@ -16,10 +17,7 @@ use Rattle.ba_nodes.specs.Gates.{Extends, HasValue, IsBitOf, truth}
 
 hold-push : (free : ℕ → Bool) (nodes : List Node) (bits : List Bit) (bit : Bit)
     → all_hold free nodes (bits ++ bit ∷ []) ≡ (all_hold free nodes bits && truth free nodes bit)
-hold-push free nodes [] bit = and_true (truth free nodes bit) where
-  and_true : (b : Bool) → (b && true) ≡ b
-  and_true true = refl
-  and_true false = refl
+hold-push free nodes [] bit = and-true (truth free nodes bit)
 hold-push free nodes (first ∷ bits) bit =
     ap (λ b. truth free nodes first && b) (hold-push free nodes bits bit)
     ∙ regroup (truth free nodes first) (all_hold free nodes bits) (truth free nodes bit) where

@@ -3,7 +3,7 @@ use Rattle.std.proofs.Common.{◌≡◌, ℕ, ◌<◌, ℤ, pos, Bool, true, fal
 use Rattle.std.proofs.lemmas.Bool.{and_parts}
 use Rattle.std.proofs.lemmas.List.Folds.{list_all-append}
 use Rattle.std.specs.List.{flat_map, list_all}
-use Rattle.ba_bits.proofs.Spelled.{of_name}
+use Rattle.std.proofs.Math.Bool.{and-false}
 use Rattle.ba_bits.specs.Bits.{AreEntriesOf, is_needed, word_at}
 use Rattle.ba_bits.specs.Needs.{are_needed}
 use Rattle.ba_choices.specs.declared.Choice.{Choice}
@@ -19,6 +19,7 @@ use Rattle.ba_numbers.specs.Numbers.{converted}
 use Rattle.ba_words.proofs.Places.{number_of-extends}
 use Rattle.ba_words.specs.Words.{number_of, word_type}
 use Rattle.ba_wordlist.proofs.Choices.{chosen-first, kept-first}
+use Rattle.ba_wordlist.proofs.Values.{of_name}
 use Rattle.ba_wordlist.specs.Facts.{are_names, are_typed, is_name, is_place, is_typed, shows_type}
 use Rattle.ba_wordlist.specs.Meaning.{Visit, are_kept, are_met, choice_of, chosen, is_keep, is_nonzero, value_at, visit_of, visits_in}
 use Rattle.ba_wordlist.specs.declared.words.PlaceWords.{PlaceWords}
@@ -61,10 +62,6 @@ and-turned true true = refl
 and-turned true false = refl
 and-turned false true = refl
 and-turned false false = refl
-
-and-false : (b : Bool) → (b && false) ≡ false
-and-false true = refl
-and-false false = refl
 
 module _ (first new : List Node) (words : List WordOp) (entries : List (List (List Bit))) (selectors : List
     Bit)

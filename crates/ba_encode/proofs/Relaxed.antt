@@ -1,12 +1,14 @@
 -- An execution may be relaxed where the group that it stands in is in the set.
 use Rattle.std.proofs.Common.{◌≡◌, ℕ, zero, suc, ◌+◌, ◌-◌, ◌<◌, ◌==◌, nat_lt, Bool, true, false, not, ◌&&◌, ◌||◌, cond, Option, None, Some, List, [], ◌∷◌, length, get_or, slice_get, reverse, refl, sym, ◌∙◌, ap, arith, ◌≤◌, ◌⊎◌, inl, inr}
-use Rattle.std.proofs.lemmas.Bool.{and_parts, and_from, eq-eqb, eqb-true, cases_lt}
+use Rattle.std.proofs.lemmas.Bool.{and_parts, and_from, eq-eqb, eqb-true, cases_lt, or_parts, not-true}
 use Rattle.std.proofs.lemmas.Bool.Decides.{nat_tests}
 use Rattle.std.proofs.lemmas.List.{reverse-reverse}
 use Rattle.std.proofs.lemmas.List.Quantifiers.{position-Some}
 use Rattle.std.specs.Prelude.{is_some, option_map, position}
 use Rattle.std.specs.List.{list_any, position_or_len}
-use Rattle.ba_code.specs.Meaning.{filled, path_in}
+use Rattle.std.proofs.Math.Bool.{and-false}
+use Rattle.ba_code.specs.Meaning.{path_in}
+use Rattle.ba_code.proofs.Paths.{filled-none}
 use Rattle.ba_code_laws.specs.Tracing.{is_relaxed}
 use Rattle.ba_encode.specs.Groups.{are_apart, are_different, group_at, groups_of, is_in_set, is_place, numbered, places_from, relaxes_in, statements_from}
 use Rattle.ba_encode.specs.declared.grouping.Grouping.{Grouping}
@@ -76,10 +78,6 @@ has_weight number (weight ∷ weights) stmt = ((number == stmt) && is_some weigh
 
 abbrev has_number : ℕ → Numbered → Bool
 has_number stmt group = group.statement.0 == stmt
-
-and-false : (b : Bool) → (b && false) ≡ false
-and-false true = refl
-and-false false = refl
 
 nothing-or : (a b c : Bool) → (a && b) ≡ (a && ((c && false) || b))
 nothing-or a b true = refl
@@ -197,12 +195,6 @@ same-places a b c h k =
     second.0)))
     (same-paths a.path b.path c.path first.1 second.1)
 
-filled-none : (path : List Step) → filled [] path ≡ path
-filled-none [] = refl
-filled-none (Call c ∷ path) = ap (λ rest. Call c ∷ rest) (filled-none path)
-filled-none (Turn stmt zero ∷ path) = ap (λ rest. Turn stmt zero ∷ rest) (filled-none path)
-filled-none (Turn stmt (suc n) ∷ path) = ap (λ rest. Turn stmt (suc n) ∷ rest) (filled-none path)
-
 there-is : (place other : Place) → is_there (path_in [] place.path) place.stmt other ≡ is_place other place
 there-is place other =
     ap (λ path. (other.stmt.0 == place.stmt.0) && same_path other.path path)
@@ -222,16 +214,12 @@ listed-is set number (other ∷ others) place =
     (there-is place other)
     ∙ ap (λ b. (set number && is_place other place) || b) (listed-is set (number + 1) others place)
 
-or-parts : (a b : Bool) → (a || b) ≡ false → (a ≡ false) × (b ≡ false)
-or-parts true b h = absurd (cc)
-or-parts false b h = (refl, h)
-
 none-listed : (set : ℕ → Bool) (number : ℕ) (others : List Place) (own place : Place) →
     is_place own place ≡ true
     → list_any (is_place own) others ≡ false → is_listed set number others place ≡ false
 none-listed set number [] own place is none = refl
 none-listed set number (other ∷ others) own place is none =
-    let both = or-parts (is_place own other) (list_any (is_place own) others) none in
+    let both = or_parts (is_place own other) (list_any (is_place own) others) none in
     by_case (is_place other place) refl both.0 (none-listed set (number + 1) others own place is both.1) where
       by_case : (b : Bool) → is_place other place ≡ b → is_place own other ≡ false
           → is_listed set (number + 1) others place ≡ false
@@ -241,10 +229,6 @@ none-listed set number (other ∷ others) own place is none =
       by_case false other_is differs rest =
           ap (λ b. (set number && b) || is_listed set (number + 1) others place) other_is
           ∙ ap (λ b. b || is_listed set (number + 1) others place) (and-false (set number)) ∙ rest
-
-not-true : (b : Bool) → not b ≡ true → b ≡ false
-not-true true h = absurd (cc)
-not-true false h = refl
 
 place-member : (set : ℕ → Bool) (number : ℕ) (places : List Place) (place : Place) →
     are_different places ≡ true

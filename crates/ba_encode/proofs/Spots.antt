@@ -1,15 +1,13 @@
 -- Executions as bits, as nodes are added and one after the other.
 use Rattle.std.proofs.Common.{◌≡◌, ℕ, zero, suc, ◌+◌, ◌<◌, ◌==◌, Bool, true, ◌&&◌, Option, Some, None, List, [], ◌∷◌, ◌++◌, map, length, get_or, take, refl, sym, ◌∙◌, ap, subst, arith, All, nat_lt}
 use Rattle.std.proofs.lemmas.Bool.{and_parts, and_from, eq-eqb}
-use Rattle.std.proofs.lemmas.List.{get_or_read, map-append, take_more}
+use Rattle.std.proofs.lemmas.List.{map-append, take_more}
 use Rattle.std.proofs.lemmas.List.Elements.{All-from_recursion}
 use Rattle.std.proofs.lemmas.List.Folds.{list_all-append}
 use Rattle.std.proofs.lemmas.Option.{slice_get_within, get_or_from_slice_get}
 use Rattle.std.specs.List.{AllByRecursion, list_all}
 use Rattle.std.specs.Option.{ForSome}
-use Rattle.ba_bits.proofs.Spelled.{of_name}
 use Rattle.ba_bits.specs.Bits.{AreEntriesOf, word_at}
-use Rattle.ba_cells.specs.Cells.{cell_at}
 use Rattle.ba_encode.specs.Parts.{ArePlaces, IsPlace, IsPlaceOf, are_long, is_set, selector_at}
 use Rattle.ba_encode.specs.declared.places.PlaceBits.{PlaceBits}
 use Rattle.ba_encode.specs.declared.places.ValueBits.{ValueBits}
@@ -22,6 +20,7 @@ use Rattle.ba_wordlist.specs.Facts.{are_names, are_typed, are_words, is_name, is
 use Rattle.ba_wordlist.specs.declared.words.PlaceWords.{PlaceWords}
 use Rattle.ba_wordlist.specs.declared.words.WordList.{WordList}
 use Rattle.ba_wordlist.specs.declared.words.WordOp.{WordOp}
+use Rattle.ba_wordlist.proofs.Values.{of_name}
 
 -- one element more of a list that is made by a function
 pub map-more : {X Y : Type 0} (f : X → Y) (xs : List X) (i : ℕ) (d : X) (ys : List Y) (y : Y) → i < length xs
@@ -74,11 +73,6 @@ long-more values more value is long own =
     (and_from (length value.bits == 32) true (eq-eqb (length value.bits) 32 own) refl)
 
 -- WORDS of entries
-
-pub word-read : (entries : List (List (List Bit))) (w : ℕ) (own : List (List Bit)) (word : List Bit)
-    → w < length entries → own ≡ get_or entries w own → word ≡ cell_at own 0 → word ≡ word_at entries w
-word-read entries w own word within is first =
-    first ∙ ap (λ words. cell_at words 0) (get_or_read entries w own within is [])
 
 pub HasValue-grown : (old new : List Node) (bit : Bit) (value : (ℕ → Bool) → Bool) → Extends old new
     → HasValue old bit value → HasValue new bit value

@@ -1,10 +1,9 @@
 -- The values of a word whose type is shown are those of this type.
 use Rattle.std.proofs.Common.{◌≡◌, ℕ, zero, suc, ◌<◌, ◌≤ℤ◌, ℤ, pos, negsuc, neg_ℤ, Bool, true, false, ◌&&◌, cond, Option, Some, None, List, [], ◌∷◌, length, get_or, take, slice_get, sym, ◌∙◌, ap, subst, arith}
-use Rattle.std.proofs.lemmas.Bool.{and_parts}
-use Rattle.std.proofs.lemmas.Bool.Decides.{nat_tests}
+use Rattle.std.proofs.lemmas.Bool.{and_parts, le-ltb}
 use Rattle.std.proofs.lemmas.Int.{ints}
 use Rattle.std.proofs.lemmas.Option.{slice_get-get_or}
-use Rattle.std.specs.Prelude.{IfSome, int_lt, nat_lt}
+use Rattle.std.specs.Prelude.{IfSome, int_lt}
 use Rattle.ba_bits.proofs.Low.{converted-word}
 use Rattle.ba_bits.proofs.Spelled.{IsWordValue, word-value}
 use Rattle.ba_code.specs.Operators.{converting}
@@ -33,12 +32,9 @@ positive-typed n high = record { low = omega (arith, ints); high = high }
 negative-typed : (n : ℕ) → neg_ℤ (pos 0x80000000) ≤ℤ negsuc n → IsIn I32 (negsuc n)
 negative-typed n low = record { low = low; high = omega (arith, ints) }
 
-none-below : (n : ℕ) → nat_lt n 0 ≡ false
-none-below n = grind (arith, nat_tests)
-
 constant-typed : (z : ℤ) → IsWordValue z → IsIn (word_type (int_lt z (pos 0))) z
 constant-typed (pos n) value =
-    subst (λ b. IsIn (word_type b) (pos n)) (sym (none-below n)) (positive-typed n value.high)
+    subst (λ b. IsIn (word_type b) (pos n)) (sym (le-ltb n 0 (omega arith))) (positive-typed n value.high)
 constant-typed (negsuc n) value = negative-typed n value.low
 
 truth-typed : (b : Bool) → IsIn I32 (truth b)

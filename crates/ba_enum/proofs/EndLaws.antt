@@ -1,9 +1,9 @@
 -- Each End step is allowed where the search ends, and says what was found.
 
-use Rattle.std.proofs.Common.{◌≡◌, ℕ, suc, ◌+◌, ◌-◌, ◌^◌, ◌<◌, ◌==◌, Bool, true, false, not, ltb, eqb, None, List, [], ◌∷◌, length, refl, sym, ap, ◌∙◌, arith}
-use Rattle.std.proofs.lemmas.Bool.{le-ltb}
+use Rattle.std.proofs.Common.{◌≡◌, ℕ, suc, ◌+◌, ◌-◌, ◌^◌, ◌<◌, Bool, true, false, not, ltb, eqb, None, List, [], ◌∷◌, length, refl, sym, ap, ◌∙◌, arith}
+use Rattle.std.proofs.lemmas.Bool.{eq-eqb, le-ltb}
 use Rattle.std.proofs.lemmas.Bool.Decides.{nat_tests}
-use Rattle.ba_derivations.specs.Derivations.{sets_of, verdict_of}
+use Rattle.ba_derivations.specs.Derivations.{sets_of}
 use Rattle.ba_derivations.specs.Derivations as derived
 use Rattle.ba_derivations.specs.declared.verdict.FoundSet.{FoundSet}
 use Rattle.ba_derivations.specs.declared.verdict.Verdict.TheVariants.{Located}
@@ -94,21 +94,18 @@ count_error : (refused ended right : Bool) → refused ≡ false → ended ≡ f
     error_if refused Memory (error_if ended AfterEnd (error_if (not right) WrongCount None)) ≡ None
 count_error refused ended right e f g = rw (e, f, g) refl
 
-equal : (m n : ℕ) → m ≡ n → (m == n) ≡ true
-equal m n e = grind (arith, nat_tests)
-
 pub many_allowed : (good : Judge) (s : State) (found : List FoundSet) → length found ≡ s.most_sets + 1 →
     s.sets ≡ sets_of found → IsReady s → error_of good s EndTooMany ≡ None
 many_allowed good s found many are ready =
     count_error s.refused s.ended (are_too_many s) ready.awake ready.begun
-    (equal (length s.sets) (s.most_sets + 1) (ap (λ (ss : List (List ℕ)). length ss) are
+    (eq-eqb (length s.sets) (s.most_sets + 1) (ap (λ (ss : List (List ℕ)). length ss) are
     ∙ (sets_long found ∙ many)))
 
 -- SPENT
 pub spent_allowed : (good : Judge) (s : State) → s.conflicts ≡ s.budget → IsReady s →
     error_of good s EndSpent ≡ None
 spent_allowed good s spent ready =
-    count_error s.refused s.ended (is_spent s) ready.awake ready.begun (equal s.conflicts s.budget spent)
+    count_error s.refused s.ended (is_spent s) ready.awake ready.begun (eq-eqb s.conflicts s.budget spent)
 
 -- NO MODEL
 model_error : (refused ended some spent : Bool) (r : Replay) → refused ≡ false → ended ≡ false →

@@ -30,6 +30,7 @@ use Rattle.ba_checker.specs.Facts.{IsStart}
 use Rattle.ba_checker.specs.Judging.{Judge}
 use Rattle.ba_checker.specs.Puts.{Putting}
 use Rattle.ba_checker.specs.States.{State, first_state}
+use Rattle.ba_checker.proofs.FactLaws.{distinct_none}
 
 -- the found sets differ
 pub reached_differ : {good : Judge} {formula : Cnf} {softs : List Soft} (s : State) (found : List FoundSet) →
@@ -38,13 +39,9 @@ reached_differ {good} {formula} {softs} s found reached =
     let facts = reached_facts good formula softs s found reached in
     subst (IsDistinct (pointwise nat_eq)) (reached_sets reached) facts.sets_differ
 
-empty_differ : IsDistinct (pointwise nat_eq) []
-unfolding IsDistinct
-empty_differ = tt
-
 pub none_differ : (found : List FoundSet) → found ≡ [] → IsDistinct (pointwise nat_eq) (sets_of found)
 none_differ found none = subst (λ (fs : List FoundSet). IsDistinct (pointwise nat_eq) (sets_of fs))
-    (sym none) empty_differ
+    (sym none) distinct_none
 
 -- the end after sets that were added
 pub finishes_of : (good same : Judge) (formula : Cnf) (softs : List Soft) (s t u : State)

@@ -1,7 +1,7 @@
 -- The set of an assignment: the groups whose selectors are false.
 
-use Rattle.std.proofs.Common.{◌≡◌, ◌≢◌, ℕ, suc, zero, ◌+◌, ◌<◌, ◌≤◌, ◌==◌, Bool, true, false, not, ◌||◌, cond, ltb, nat_eq, Some, List, [], ◌∷◌, length, get_or, refl, sym, ap, ◌∙◌, subst, arith}
-use Rattle.std.proofs.lemmas.Bool.{or_from, and_parts}
+use Rattle.std.proofs.Common.{◌≡◌, ◌≢◌, ℕ, suc, zero, ◌+◌, ◌<◌, ◌≤◌, ◌==◌, Bool, true, false, not, cond, ltb, nat_eq, Some, List, [], ◌∷◌, length, get_or, refl, sym, ap, ◌∙◌, subst, arith}
+use Rattle.std.proofs.lemmas.Bool.{or_from, and_parts, or_parts, not-true}
 use Rattle.std.proofs.lemmas.Bool.Decides.{nat_tests}
 use Rattle.std.proofs.lemmas.List.Elements.{All-head, All-tail, All-weaker}
 use Rattle.std.specs.Cmp.Lexicographic.{pointwise, bytes_decides}
@@ -64,15 +64,11 @@ placed_false : (v : Assignment) (l : Literal) (lits : List Literal) → lit_true
 placed_false v l [] first rest = or_from (lit_true v l) false first refl
 placed_false v l (m ∷ ms) first rest = by_case (λ h. placed_false v l ms first h) (ltb l.variable m.variable)
   where
-    parts : (a b : Bool) → (a || b) ≡ false → (a ≡ false) × (b ≡ false)
-    parts true b e = absurd (cc e)
-    parts false b e = (refl, e)
-
     by_case : (any_true v ms ≡ false → any_true v (placed l ms) ≡ false) → (t : Bool) →
         any_true v (cond t (l ∷ m ∷ ms) (m ∷ placed l ms)) ≡ false
     by_case later true = or_from (lit_true v l) (any_true v (m ∷ ms)) first rest
     by_case later false =
-        let both = parts (lit_true v m) (any_true v ms) rest in
+        let both = or_parts (lit_true v m) (any_true v ms) rest in
         or_from (lit_true v m) (any_true v (placed l ms)) both.0 (later both.1)
 
 clause_from : (v : Assignment) (softs : List Soft) (k : ℕ) (ss : List Soft) → AreFrom softs k ss →
@@ -81,10 +77,6 @@ clause_from v softs k [] from = refl
 clause_from v softs k (s ∷ ss) from =
     by_case (is_false_group v s) refl (clause_from v softs (suc k) ss (from_next softs k s ss from))
   where
-    turned : (b : Bool) → not b ≡ true → b ≡ false
-    turned true e = absurd (cc e)
-    turned false e = refl
-
     by_case : (b : Bool) → is_false_group v s ≡ b →
         any_true v (block_clause softs (false_groups_from (suc k) v ss)) ≡ false →
         any_true v (block_clause softs (with_if b (suc k) (false_groups_from (suc k) v ss))) ≡ false
@@ -92,7 +84,7 @@ clause_from v softs k (s ∷ ss) from =
         ap (λ o. any_true v (with_selector o (block_clause softs (false_groups_from (suc k) v ss))))
         (entry_here softs k s ss from)
         ∙ placed_false v s.0 (block_clause softs (false_groups_from (suc k) v ss))
-        (turned (lit_true v s.0) ((and_parts (ltb 0 s.1) (not (lit_true v s.0)) is).1)) rest
+        (not-true (lit_true v s.0) ((and_parts (ltb 0 s.1) (not (lit_true v s.0)) is).1)) rest
     by_case false is rest = rest
 
 clause_false : (v : Assignment) (softs : List Soft) →

@@ -1,6 +1,6 @@
 -- Steps put end to end, and what they leave as it was.
 
-use Rattle.std.proofs.Common.{◌≡◌, ℕ, ◌≤◌, Option, None, Some, List, [], ◌∷◌, ◌++◌, All, refl, sym, ap, ◌∙◌, arith, subst}
+use Rattle.std.proofs.Common.{◌≡◌, ℕ, ◌≤◌, None, Some, List, [], ◌∷◌, ◌++◌, All, refl, sym, ap, ◌∙◌, arith, subst}
 use Rattle.std.proofs.lemmas.List.Elements.{All-nil, All-append}
 use Rattle.std.proofs.lemmas.Option.{same_Some}
 use Rattle.ba_lits.specs.Satisfaction.{Soft}
@@ -9,35 +9,17 @@ use Rattle.ba_steps.specs.Sinks.{Logs, with_step, MayAddStep}
 use Rattle.ba_steps.specs.Steps.{IsFormed}
 use Rattle.ba_steps.specs.declared.step.CertStep.{CertStep}
 use Rattle.ba_steps.specs.declared.step.CertStep.TheVariants.{Learn, Core, Delete, Block, EndLocated, EndNoRepair, EndTooMany, EndSpent}
-use Rattle.ba_steps.specs.declared.step.StepError.{StepError}
 use Rattle.ba_checker.specs.States.{State, first_state}
-use Rattle.ba_checker.specs.Judging.{Judge, error_of, after, after_all, next_if}
+use Rattle.ba_checker.specs.Judging.{Judge, error_of, after, after_all}
 use Rattle.ba_checker.specs.Facts.{IsStart, Holds, splits_of}
 use Rattle.ba_checker.specs.Puts.{IsTakenOrAsleep, leaves_all, leaves_last}
-use Rattle.ba_checker.proofs.FactLaws.{facts_hold}
+use Rattle.ba_checker.proofs.FactLaws.{after_append, allowed, facts_hold, next_allowed}
 use Rattle.ba_checker.proofs.PutLaws.{logs_then, leaves_after}
 use Rattle.ba_derivations.specs.Derivations.{blocked_by, sets_of}
 use Rattle.ba_derivations.specs.Encodings.{HasModelFor}
 use Rattle.ba_derivations.specs.declared.verdict.FoundSet.{FoundSet}
-use Rattle.ba_derivations.proofs.StepLaws.{step_allowed, limits_stay, sets_gathered, blocked_append}
+use Rattle.ba_derivations.proofs.StepLaws.{limits_stay, sets_gathered, blocked_append, sets_append}
 use Rattle.ba_enum.specs.Leading.{AreNew, Leads, IsReached, Puts, Leaves}
-
-next_allowed : (o : Option StepError) (next : Option State) (t : State) → o ≡ None → next ≡ Some t →
-    next_if o next ≡ Some t
-next_allowed None next t none is = is
-next_allowed (Some e) next t none is = absurd (cc none)
-
--- one after the other
-pub after_append : (good : Judge) (xs ys : List CertStep) (a b c : State) → after_all good a xs ≡ Some b →
-    after_all good b ys ≡ Some c → after_all good a (xs ++ ys) ≡ Some c
-after_append good [] ys a b c first second =
-    let e : b ≡ a = sym (same_Some a b first) in
-    let P : State → Type 0 = λ s. after_all good s ys ≡ Some c in
-    subst P e second
-after_append good (x ∷ xs) ys a b c first second =
-    let parts = step_allowed (error_of good a x) (after_all good (after a x) xs) b first in
-    next_allowed (error_of good a x) (after_all good (after a x) (xs ++ ys)) c parts.0
-    (after_append good xs ys (after a x) b c parts.1 second)
 
 pub one_after : (good : Judge) (s t : State) (step : CertStep) → error_of good s step ≡ None →
     t ≡ after s step →
@@ -52,12 +34,8 @@ news_append good [] ys a b is first second =
     let P : State → Type 0 = λ s. AreNew s ys in
     subst P e second
 news_append good (x ∷ xs) ys a b is first second =
-    let parts = step_allowed (error_of good a x) (after_all good (after a x) xs) b is in
+    let parts = allowed (error_of good a x) (after_all good (after a x) xs) b is in
     (first.0, news_append good xs ys (after a x) b parts.1 first.1 second)
-
-sets_append : (xs ys : List FoundSet) → sets_of (xs ++ ys) ≡ sets_of xs ++ sets_of ys
-sets_append [] ys = refl
-sets_append (x ∷ xs) ys = ap (λ zs. x.groups ∷ zs) (sets_append xs ys)
 
 pub leads_none : (good : Judge) (formula : Cnf) (softs : List Soft) (s : State) →
     Leads good formula softs s [] s []
@@ -136,7 +114,7 @@ groups_stay : (good : Judge) (a : State) (xs : List CertStep) (b : State) → af
     b.groups ≡ a.groups
 groups_stay good a [] b is = sym (ap (λ (s : State). s.groups) (same_Some a b is))
 groups_stay good a (x ∷ xs) b is =
-    let parts = step_allowed (error_of good a x) (after_all good (after a x) xs) b is in
+    let parts = allowed (error_of good a x) (after_all good (after a x) xs) b is in
     groups_stay good (after a x) xs b parts.1 ∙ step_groups a x
 
 pub reached_groups : {good : Judge} {formula : Cnf} {softs : List Soft} {s : State} {found : List FoundSet} →
@@ -159,7 +137,7 @@ wider : (good : Judge) (a : State) (xs : List CertStep) (b : State) → after_al
     a.variables ≤ b.variables
 wider good a [] b is = let same = ap (λ (s : State). s.variables) (same_Some a b is) in omega (arith, same)
 wider good a (x ∷ xs) b is =
-    let parts = step_allowed (error_of good a x) (after_all good (after a x) xs) b is in
+    let parts = allowed (error_of good a x) (after_all good (after a x) xs) b is in
     let one = step_wider a x in
     let rest = wider good (after a x) xs b parts.1 in
     omega (arith, one, rest)

@@ -21,6 +21,7 @@ use Rattle.ba_search.proofs.TakenLaws.{clause_at-more, number_le}
 use Rattle.ba_search.specs.declared.search.SearchError.{SearchError}
 use Rattle.ba_search.specs.declared.search.SearchError.TheVariants.{SinkFailed}
 use Rattle.ba_steps.specs.Sinks.{Logs, Rose}
+use Rattle.ba_steps.proofs.SinkLaws.{rose_later}
 use Rattle.ba_checker.specs.Blocks.{block_clause}
 use Rattle.ba_checker.specs.Judging.{Judge}
 use Rattle.ba_checker.specs.States.{kept, State, clause_at}
@@ -157,9 +158,6 @@ comes_of good formula softs s found lits answer reached is answers some few =
     by_case Spent h = h
 
 -- FAULTS that rose in a later call rose in the whole
-pub rose_later : (a b c : ℕ) → a ≤ b → Rose b c → Rose a c
-rose_later a b c later (inl rose) = inl (omega (arith, later, rose))
-rose_later a b c later (inr most) = inr most
 
 pub cause_later : {X : Type 0} (failure : Option SearchError) (a b c : ℕ) → failure ≡ None → a ≤ b →
     (failure ≡ Some SinkFailed) ⊎ Rose b c → X ⊎ Rose a c

@@ -1,7 +1,6 @@
 -- The steps that lead to the end and the End step say the verdict.
 
-use Rattle.std.proofs.Common.{◌≡◌, ℕ, ◌≤◌, true, false, ltb, None, Some, List, [], ◌∷◌, ◌++◌, All, length, refl, sym, ap, ◌∙◌, subst, arith}
-use Rattle.std.proofs.lemmas.Bool.Decides.{nat_tests}
+use Rattle.std.proofs.Common.{◌≡◌, ℕ, ◌≤◌, true, false, ltb, None, Some, List, [], ◌∷◌, ◌++◌, All, length, refl, sym, ap, ◌∙◌, subst}
 use Rattle.std.proofs.lemmas.List.{append-nil}
 use Rattle.std.proofs.lemmas.List.Elements.{All-push}
 use Rattle.ba_derivations.specs.Derivations.{Problem, Derives, start_of, verdict_of, blocked_by, sets_of}
@@ -11,9 +10,10 @@ use Rattle.ba_derivations.specs.declared.verdict.FoundSet.{FoundSet}
 use Rattle.ba_derivations.specs.declared.verdict.Verdict.{Verdict}
 use Rattle.ba_derivations.specs.declared.verdict.Verdict.TheVariants.{Located, NoRepair, TooMany, Spent}
 use Rattle.ba_derivations.proofs.StepLaws.{before_end, blocked_append, limits_stay}
+use Rattle.ba_derivations.proofs.VerdictLaws.{no_sets}
 use Rattle.ba_enum.specs.Enumerating.{HaveSame, Says, Enumerates, Fits, Ends}
 use Rattle.ba_enum.specs.Leading.{IsNewIn, IsReached, Puts}
-use Rattle.ba_enum.proofs.LeadLaws.{after_append, one_after, news_append, reached_facts}
+use Rattle.ba_enum.proofs.LeadLaws.{one_after, news_append, reached_facts}
 use Rattle.ba_lits.specs.Formulas.{Cnf}
 use Rattle.ba_lits.specs.Satisfaction.{Assignment, all_true, Soft}
 use Rattle.ba_steps.specs.Sinks.{Logs}
@@ -25,7 +25,7 @@ use Rattle.ba_checker.specs.Judging.{Judge, error_if, is_spent, hint_error, erro
 use Rattle.ba_checker.specs.Blocks.{block_clauses}
 use Rattle.ba_checker.specs.Facts.{IsStart}
 use Rattle.ba_checker.specs.States.{State}
-use Rattle.ba_checker.proofs.FactLaws.{no_error, follows_true}
+use Rattle.ba_checker.proofs.FactLaws.{no_error, follows_true, after_append}
 use Rattle.ba_checker.proofs.PutLaws.{logs_then}
 
 -- an End step blocks nothing, and learns nothing
@@ -52,9 +52,6 @@ ends_new s EndTooMany said is = tt
 ends_new s EndSpent said is = tt
 
 -- WHERE THERE IS NO REPAIR there is no model
-none_blocked : (sets : List (List ℕ)) → ltb 0 (length sets) ≡ false → sets ≡ []
-none_blocked [] none = refl
-none_blocked (x ∷ xs) none = absurd (grind (arith, nat_tests))
 
 no_model : (good : Judge) (formula : Cnf) (softs : List Soft) (s : State) (found : List FoundSet) →
     IsReached good formula softs s found → (last : CertStep) → error_of good s last ≡ None →
@@ -70,7 +67,7 @@ no_model good formula softs s found reached (EndNoRepair hints) allowed says v h
     (before_end good s (EndNoRepair hints) allowed) in
     let second = no_error (is_spent s) WrongCount (hint_error s [] hints) first.1 in
     let none : all_true v (block_clauses softs s.sets) ≡ true =
-    ap (λ (sets : List (List ℕ)). all_true v (block_clauses softs sets)) (none_blocked s.sets first.0) in
+    ap (λ (sets : List (List ℕ)). all_true v (block_clauses softs sets)) (no_sets s.sets first.0) in
     let (z, same, split, lives, is) = (reached_facts good formula softs s found reached).extends v holds
     none in
     let e : false ≡ true = follows_true s z [] hints second.1 lives in

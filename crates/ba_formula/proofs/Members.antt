@@ -1,6 +1,6 @@
 -- The groups whose selectors are false, as members of sets.
 use Rattle.std.proofs.Common.{◌≡◌, ℕ, suc, zero, ◌+◌, ◌-◌, ◌<◌, ◌≤◌, ◌⊎◌, inl, inr, ◌==◌, ltb, Bool, true, false, not, ◌&&◌, ◌||◌, cond, Option, None, Some, List, [], ◌∷◌, map, refl, sym, ◌∙◌, ap, subst, arith}
-use Rattle.std.proofs.lemmas.Bool.{cases_lt}
+use Rattle.std.proofs.lemmas.Bool.{cases_lt, eq-eqb}
 use Rattle.std.proofs.lemmas.Bool.Decides.{nat_tests}
 use Rattle.std.proofs.lemmas.List.Elements.{All-cons}
 use Rattle.std.specs.List.{list_all, list_any, slice_get}
@@ -12,7 +12,7 @@ use Rattle.ba_encode.specs.Groups.{statements_from}
 use Rattle.ba_encode.specs.Softs.{softs_from, softs_of}
 use Rattle.ba_encode.specs.declared.encoded.Group.{Group}
 use Rattle.ba_encode.specs.declared.grouping.Numbered.{Numbered}
-use Rattle.ba_formula.proofs.Spreading.{first_or_later, here, later, spread}
+use Rattle.ba_formula.proofs.Spreading.{first_or_later, later, spread}
 use Rattle.ba_lits.specs.Formulas.{Cnf}
 use Rattle.ba_lits.specs.Literals.{Literal}
 use Rattle.ba_lits.specs.Satisfaction.{Assignment, Soft, lit_true}
@@ -22,6 +22,7 @@ use Rattle.ba_checker.specs.Facts.{AreDifferent, AreSelectors, Differs}
 use Rattle.ba_checker.specs.States.{present}
 use Rattle.ba_tree.specs.Least.{AreRelaxableAbove, IsRelaxableSet, WeightList, entry_of, stmt_of, weight_at}
 use Rattle.ba_tree.specs.Weights.{is_weight}
+use Rattle.ba_tree.proofs.Members.{here}
 
 -- a number is one of a list
 abbrev pub is_in : List ℕ → ℕ → Bool
@@ -29,9 +30,6 @@ is_in ns n = list_any (λ m. m == n) ns
 
 other-number : (m n : ℕ) → n < m → (m == n) ≡ false
 other-number m n less = grind (arith, nat_tests)
-
-same-number : (m n : ℕ) → m ≡ n → (m == n) ≡ true
-same-number m n same = grind (arith, nat_tests)
 
 -- FALSE GROUPS come behind the entries before
 
@@ -57,7 +55,7 @@ with-other true m n ns less = ap (λ t. t || is_in ns n) not-same where
 -- and is there itself where it is put
 with-own : (t : Bool) (n : ℕ) (ns : List ℕ) → is_in ns n ≡ false → is_in (with_if t n ns) n ≡ t
 with-own false n ns none = none
-with-own true n ns none = ap (λ t. t || is_in ns n) (same-number n n refl)
+with-own true n ns none = ap (λ t. t || is_in ns n) (eq-eqb n n refl)
 
 weighty : (x : ℕ) → 1 ≤ x → ltb 0 x ≡ true
 weighty x some = grind (arith, nat_tests)
@@ -206,7 +204,7 @@ unfolding members
 takes-first k n entry w set ns own lies same more rest =
     let first : n - k ≡ 0 = omega (arith, own) in
     ap (λ t. with_if (taken entry && t) k (members (k + 1) w set))
-    (same k (omega arith) ∙ ap (λ t. t || is_in ns k) (same-number n k own))
+    (same k (omega arith) ∙ ap (λ t. t || is_in ns k) (eq-eqb n k own))
     ∙ is-taken entry k (members (k + 1) w set)
     (subst (λ i. IsSome (entry_of (slice_get (entry ∷ w) i))) first lies.1)
     ∙ ap (λ ms. k ∷ ms) rest

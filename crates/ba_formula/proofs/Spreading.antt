@@ -1,5 +1,5 @@
 -- How the soft literals of groups lie beside the weights of statements.
-use Rattle.std.proofs.Common.{◌≡◌, ℕ, suc, zero, ◌+◌, ◌-◌, ◌≤◌, ◌⊎◌, inl, inr, true, None, Some, List, [], ◌∷◌, ◌++◌, replicate, map, length, get_or, refl, sym, ◌∙◌, ap, subst, arith}
+use Rattle.std.proofs.Common.{◌≡◌, ℕ, suc, zero, ◌+◌, ◌-◌, ◌≤◌, ◌⊎◌, inl, inr, true, None, Some, List, [], ◌∷◌, ◌++◌, replicate, map, length, get_or, sym, ◌∙◌, ap, subst, arith}
 use Rattle.std.proofs.lemmas.Bool.{and_parts}
 use Rattle.std.proofs.lemmas.Bool.Decides.{nat_tests}
 use Rattle.std.specs.List.{list_all}
@@ -9,6 +9,7 @@ use Rattle.ba_encode.specs.Groups.{numbered, statements_from}
 use Rattle.ba_encode.specs.Softs.{soft_of, softs_from}
 use Rattle.ba_encode.specs.declared.encoded.Group.{Group}
 use Rattle.ba_encode.specs.declared.grouping.Numbered.{Numbered}
+use Rattle.ba_encode.proofs.Relaxed.{no_group}
 use Rattle.ba_lits.specs.Satisfaction.{Soft}
 use Rattle.ba_tree.specs.Least.{WeightList, stmt_of}
 use Rattle.ba_tree.specs.Weights.{is_weight}
@@ -20,17 +21,11 @@ pub first_or_later : {A : Type 0} → (x : A) (xs : List A) (y : A) → Contains
 first_or_later x xs y (zero, few, is) = inl is
 first_or_later x xs y (suc k, few, is) = inr (k, omega (arith, few), is)
 
-pub here : {A : Type 0} → (x : A) (xs : List A) → Contains (x ∷ xs) x
-here x xs = (0, omega arith, refl)
-
 pub later : {A : Type 0} → (x : A) (xs : List A) (y : A) → Contains xs y → Contains (x ∷ xs) y
 later x xs y (k, few, is) = (suc k, omega (arith, few), is)
 
-abbrev none : Numbered
-none = numbered 0 (stmt_of 0) 0
-
 same-first : (a b : Numbered) (xs ys : List Numbered) → a ∷ xs ≡ b ∷ ys → a ≡ b
-same-first a b xs ys same = ap (λ ns. get_or ns 0 none) same
+same-first a b xs ys same = ap (λ ns. get_or ns 0 no_group) same
 
 abbrev rest : List Numbered → List Numbered
 rest [] = []

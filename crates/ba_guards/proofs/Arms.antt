@@ -3,6 +3,7 @@ use Rattle.std.proofs.Common.{rules, ◌≡◌, ℕ, ◌<◌, ◌≤◌, ℤ, po
 use Rattle.std.proofs.lemmas.Bool.{and_parts}
 use Rattle.std.specs.Ordering.{int_eq}
 use Rattle.std.specs.Prelude.{int_div, int_rem, slice_set}
+use Rattle.std.proofs.Math.Bool.{and-true}
 use Rattle.ba_code.specs.Facts.{Declared, is_array, is_operand, is_var}
 use Rattle.ba_code.specs.Operators.{converting}
 use Rattle.ba_code.specs.State.{operand_value, or_trap_at, set_variable}
@@ -11,7 +12,7 @@ use Rattle.ba_code.specs.declared.nodes.Operand.TheVariants as operand
 use Rattle.ba_code_laws.specs.Tracing.{Relaxes, Traced, untraced}
 use Rattle.ba_guards.proofs.Going.{AreLocal, in_turn, left-resting, means-as, means-before, means-steady, means-then, traced_of}
 use Rattle.ba_guards.proofs.Growing.{fits-grown, name-at, word-later}
-use Rattle.ba_guards.proofs.Leaves.{and_true, leaf-runs}
+use Rattle.ba_guards.proofs.Leaves.{leaf-runs}
 use Rattle.ba_guards.proofs.Nodes.{assign-node, check-node, emits-after, reads, word-agree}
 use Rattle.ba_guards.specs.Continuing.{after_end, labels_of}
 use Rattle.ba_guards.specs.Making.{Checks, Demands, Emits, Fits, Means, Part, checked, checked_by, has_value, operand_at, word_in}
@@ -140,7 +141,7 @@ check-nothing d b halt test fits passes = means-steady d (λ f r. checked (λ c.
       extends = record { more = []; words = sym (append-nil b.words); labels = refl };
       fits = fits;
       logs = λ f. refl;
-      keeps = λ f. sym (and_true (met f b));
+      keeps = λ f. sym (and-true (met f b));
       runs = λ r f cs.
           let vs = values_of f b.words in
           leaf-runs (labels_of b.exits) (checked (λ c. test f) halt) (is_live vs b) (variables_at vs b.vars)

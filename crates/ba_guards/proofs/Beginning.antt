@@ -18,7 +18,7 @@ use Rattle.ba_code.specs.declared.trees.Code.{Code}
 use Rattle.ba_code_laws.specs.Tracing.{TracedExecution, everywhere, untraced}
 use Rattle.ba_guards.proofs.Filling.{elements-all}
 use Rattle.ba_guards.proofs.Going.{ended-some, means-as, traced_of}
-use Rattle.ba_guards.proofs.Growing.{array-long, extensional, names-more, same-grown, to_name, all-at}
+use Rattle.ba_guards.proofs.Growing.{array-long, extensional, same-grown, all-at}
 use Rattle.ba_guards.proofs.Stores.{array-below}
 use Rattle.ba_guards.specs.Continuing.{continued, ended, labels_of}
 use Rattle.ba_guards.specs.Making.{AreFit, EmitsArray, Fits, Means, elements_in, fits_exit}
@@ -32,7 +32,7 @@ use Rattle.ba_tree.specs.Meaning.{elements_with}
 use Rattle.ba_tree.specs.declared.run.Flow.TheVariants.{Next}
 use Rattle.ba_wordlist.proofs.Choices.{chosen-nothing, kept-everywhere, visits-none}
 use Rattle.ba_wordlist.proofs.Lengths.{lengths-kept}
-use Rattle.ba_wordlist.proofs.Values.{SameBelow, value-const}
+use Rattle.ba_wordlist.proofs.Values.{SameBelow, names-more, to_name, value-const}
 use Rattle.ba_wordlist.specs.Facts.{are_names, are_typed, are_words, is_name, is_place, is_word_list, is_word_value, lengths_of}
 use Rattle.ba_wordlist.specs.Meaning.{Assignment, Visit, chosen, elements_at, is_nonzero, value_at, values_of}
 use Rattle.ba_wordlist.specs.declared.words.PlaceWords.{PlaceWords}

@@ -6,19 +6,20 @@ use Rattle.std.proofs.lemmas.List.{length-map}
 use Rattle.std.proofs.lemmas.Option.{slice_get-get_or, slice_get_within}
 use Rattle.std.specs.List.{list_all}
 use Rattle.std.specs.Prelude.{slice_set}
+use Rattle.std.proofs.Math.Bool.{and-true}
 use Rattle.ba_code.specs.Facts.{Declared}
 use Rattle.ba_guards.proofs.Emitting.{emits-as}
 use Rattle.ba_guards.proofs.Exiting.{exit-within}
 use Rattle.ba_guards.proofs.Forks.{later-met, later-visits, or-nonzero}
-use Rattle.ba_guards.proofs.Growing.{fits-grown, names-more, of_name, same-grown, snapshot-kept, to_name, variables-same, word-later}
-use Rattle.ba_guards.proofs.Leaves.{and_true, fits-require}
+use Rattle.ba_guards.proofs.Growing.{fits-grown, same-grown, snapshot-kept, variables-same, word-later}
+use Rattle.ba_guards.proofs.Leaves.{fits-require}
 use Rattle.ba_guards.specs.Continuing.{exit_of, labels_of}
 use Rattle.ba_guards.specs.Making.{AreSides, Closes, Demands, EitherWay, Emits, Fits, Leaving, Merges, Opens, Switches, fits_exit, Joins, holds_in, word_in}
 use Rattle.ba_guards.specs.Reading.{is_live, met, snapshot, variables_at}
 use Rattle.ba_guards.specs.declared.builder.Builder.{Builder}
 use Rattle.ba_guards.specs.declared.builder.Sides.{Sides}
 use Rattle.ba_guards.specs.declared.exits.Exit.{Exit}
-use Rattle.ba_wordlist.proofs.Values.{value-const}
+use Rattle.ba_wordlist.proofs.Values.{names-more, of_name, to_name, value-const}
 use Rattle.ba_wordlist.specs.Facts.{are_names, are_words, is_name}
 use Rattle.ba_wordlist.specs.Meaning.{Assignment, is_nonzero, value_at, values_of}
 use Rattle.ba_wordlist.specs.declared.words.WordOp.{WordOp}
@@ -325,7 +326,7 @@ module _ (d : Declared) (old : Builder) (condition w : ℕ) (ws : List WordOp) (
       good = λ f. is_nonzero (word_in ws w f);
       stands = stands-here;
       logs = later-visits d old ws e.more fits e.grown;
-      keeps = λ f. later-met d old ws e.more fits e.grown f ∙ sym (and_true (met f old)) ∙ ap (λ b. met f
+      keeps = λ f. later-met d old ws e.more fits e.grown f ∙ sym (and-true (met f old)) ∙ ap (λ b. met f
           old && b) (sym (always f));
       on = on-good;
       off = off-good;
@@ -346,7 +347,7 @@ module _ (d : Declared) (old : Builder) (condition w : ℕ) (ws : List WordOp) (
       keeps = λ f.
           list_all-append (λ v. is_nonzero (value_at (values_of f ws) v)) old.require (w ∷ [])
           ∙ ap (λ b. b && (is_nonzero (word_in ws w f) && true)) (later-met d old ws e.more fits e.grown f)
-          ∙ ap (λ b. met f old && b) (and_true (is_nonzero (word_in ws w f)));
+          ∙ ap (λ b. met f old && b) (and-true (is_nonzero (word_in ws w f)));
       on = on-good;
       off = off-good;
     }

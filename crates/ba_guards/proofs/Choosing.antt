@@ -6,7 +6,7 @@ use Rattle.ba_code.specs.declared.nodes.Take.{Take}
 use Rattle.ba_code_laws.specs.Tracing.{Relaxes, TracedExecution, at_place, is_relaxed, traced_picked, untraced}
 use Rattle.ba_guards.proofs.Forks.{forked, open-fits}
 use Rattle.ba_guards.proofs.Going.{means-as, traced_of}
-use Rattle.ba_guards.proofs.Growing.{fits-grown, names-more, same-grown}
+use Rattle.ba_guards.proofs.Growing.{fits-grown, same-grown}
 use Rattle.ba_guards.proofs.Picks.{pick-means, place-fits}
 use Rattle.ba_guards.proofs.Walks.{fork-sides, sides-arm}
 use Rattle.ba_guards.specs.Making.{AreSides, Fits, Joins, Means, Offered, Opens, Part, Places, Switches, are_right, fork_at, holds_in, picked, sides_at, values_in}
@@ -15,7 +15,7 @@ use Rattle.ba_guards.specs.declared.builder.Fork.{Fork}
 use Rattle.ba_guards.specs.declared.builder.Sides.{Sides}
 use Rattle.ba_tree.specs.Acts.{then_do}
 use Rattle.ba_tree.specs.declared.run.Place.{Place}
-use Rattle.ba_wordlist.proofs.Values.{values-same}
+use Rattle.ba_wordlist.proofs.Values.{names-more, values-same}
 use Rattle.ba_wordlist.specs.Facts.{are_names}
 use Rattle.ba_wordlist.specs.Meaning.{Assignment, values_of}
 use Rattle.ba_wordlist.specs.declared.words.WordOp.{WordOp}

@@ -4,13 +4,12 @@ use Rattle.std.proofs.lemmas.Bool.{and_parts}
 use Rattle.std.proofs.lemmas.List.{drop_more, length-take-le, length_push, take-append-drop}
 use Rattle.std.proofs.lemmas.Option.{get_or_from_slice_get, slice_get_within}
 use Rattle.std.specs.Prelude.{slice_set}
-use Rattle.ba_guards.proofs.Sharing.{words-at}
-use Rattle.ba_guards.proofs.Growing.{of_name, same-grown, word-later}
+use Rattle.ba_guards.proofs.Growing.{same-grown, word-later}
 use Rattle.ba_guards.specs.Making.{AreSides, Emits, EmitsArray, elements_in, holds_in, word_in}
 use Rattle.ba_guards.specs.declared.builder.Sides.{Sides}
 use Rattle.ba_numbers.specs.Numbers.{low_word}
-use Rattle.ba_wordlist.proofs.Lengths.{length-last, length-lengths, lengths-kept}
-use Rattle.ba_wordlist.proofs.Values.{elements-entry}
+use Rattle.ba_wordlist.proofs.Lengths.{length-last, length-lengths, lengths-kept, words-at}
+use Rattle.ba_wordlist.proofs.Values.{elements-entry, of_name}
 use Rattle.ba_wordlist.specs.Facts.{are_words, is_name, lengths_of}
 use Rattle.ba_wordlist.specs.Meaning.{Assignment, is_nonzero}
 use Rattle.ba_wordlist.specs.declared.words.WordOp.{WordOp}

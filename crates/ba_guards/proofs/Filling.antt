@@ -13,7 +13,7 @@ use Rattle.ba_code.specs.declared.nodes.Operand.TheVariants as operand
 use Rattle.ba_code_laws.specs.Tracing.{untraced}
 use Rattle.ba_guards.proofs.Arms.{reads-by}
 use Rattle.ba_guards.proofs.Going.{means-as, means-before, traced_of}
-use Rattle.ba_guards.proofs.Growing.{array-long, name-at, names-more, same-grown, to_name, word-later}
+use Rattle.ba_guards.proofs.Growing.{array-long, name-at, same-grown, word-later}
 use Rattle.ba_guards.proofs.Nodes.{reads, store-node}
 use Rattle.ba_guards.proofs.Stores.{array-below, array-value}
 use Rattle.ba_guards.specs.Making.{Emits, EmitsArray, Fits, Means, ReadsAll, elements_in, operand_at, word_in}
@@ -21,7 +21,7 @@ use Rattle.ba_guards.specs.Parts.{fill_part}
 use Rattle.ba_guards.specs.Reading.{arrays_at}
 use Rattle.ba_guards.specs.declared.builder.Builder.{Builder}
 use Rattle.ba_tree.specs.Meaning.{elements_with}
-use Rattle.ba_wordlist.proofs.Values.{values-same}
+use Rattle.ba_wordlist.proofs.Values.{names-more, to_name, values-same}
 use Rattle.ba_wordlist.specs.Facts.{are_names, are_words, is_name, lengths_of}
 use Rattle.ba_wordlist.specs.Meaning.{Assignment, is_nonzero, value_at, values_of}
 use Rattle.ba_wordlist.specs.declared.words.WordOp.{WordOp}

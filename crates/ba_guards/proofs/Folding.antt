@@ -7,7 +7,7 @@ use Rattle.std.specs.Prelude.{IfSome}
 use Rattle.ba_code.specs.Operators.{converting}
 use Rattle.ba_code.specs.State.{with_at}
 use Rattle.ba_guards.proofs.Emitting.{emits-as, emits-old}
-use Rattle.ba_guards.proofs.Growing.{extensional, name-at, names-more, same-grown, to_name, variables-same}
+use Rattle.ba_guards.proofs.Growing.{extensional, name-at, same-grown, variables-same}
 use Rattle.ba_guards.specs.Continuing.{exit_from, labels_of}
 use Rattle.ba_guards.specs.Making.{Emits, Merges, holds_in, word_in}
 use Rattle.ba_guards.specs.Reading.{variables_at}
@@ -18,7 +18,7 @@ use Rattle.ba_numbers.specs.declared.numbers.CType.{CType}
 use Rattle.ba_numbers.specs.declared.numbers.UnOp.{UnOp}
 use Rattle.ba_numbers.specs.Types.{shifts}
 use Rattle.ba_wordlist.proofs.Lengths.{in-word}
-use Rattle.ba_wordlist.proofs.Values.{value-const, value-same}
+use Rattle.ba_wordlist.proofs.Values.{names-more, to_name, value-const, value-same}
 use Rattle.ba_wordlist.specs.Facts.{are_names, are_words, is_name, is_word_value}
 use Rattle.ba_wordlist.specs.Meaning.{Assignment, binary_value, is_nonzero, value_at, value_at_zero, value_or, values_of}
 use Rattle.ba_wordlist.specs.declared.words.WordOp.{WordOp}

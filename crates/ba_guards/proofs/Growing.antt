@@ -1,5 +1,5 @@
 -- What was made keeps its meaning as words are added.
-use Rattle.std.proofs.Common.{Bool, rules, ◌≡◌, ℕ, zero, suc, ◌+◌, ◌<◌, ◌≤◌, ◌==◌, ℤ, pos, true, not, ◌&&◌, cond, Option, Some, None, List, [], ◌∷◌, ◌++◌, map, length, get_or, slice_get, refl, sym, ◌∙◌, ap, subst, arith}
+use Rattle.std.proofs.Common.{Bool, ◌≡◌, ℕ, zero, suc, ◌+◌, ◌<◌, ◌≤◌, ◌==◌, ℤ, pos, true, not, ◌&&◌, cond, Option, Some, None, List, [], ◌∷◌, ◌++◌, map, length, get_or, slice_get, refl, sym, ◌∙◌, ap, subst, arith}
 use Rattle.std.proofs.lemmas.Bool.{and_from, and_parts}
 use Rattle.std.proofs.lemmas.List.{get_or_append_left, length-append}
 use Rattle.std.proofs.lemmas.Option.{slice_get_within, slice_get-get_or, get_or_from_slice_get}
@@ -13,7 +13,7 @@ use Rattle.ba_guards.specs.declared.builder.Builder.{Builder}
 use Rattle.ba_guards.specs.declared.exits.Exit.{Exit}
 use Rattle.ba_wordlist.proofs.Choices.{visits-same}
 use Rattle.ba_wordlist.proofs.Lengths.{length-elements, lengths-kept}
-use Rattle.ba_wordlist.proofs.Values.{SameBelow, elements-kept, met-same, value-same, values-agree}
+use Rattle.ba_wordlist.proofs.Values.{SameBelow, elements-kept, met-same, name-more, names-more, of_name, value-same, values-agree}
 use Rattle.ba_wordlist.specs.Facts.{are_names, are_typed, are_words, is_name, is_place, is_typed, lengths_of, shows_type}
 use Rattle.ba_wordlist.specs.Meaning.{Assignment, Visit, are_met, is_nonzero, value_at, values_of, visits_in}
 use Rattle.ba_wordlist.specs.declared.words.PlaceWords.{PlaceWords}
@@ -34,21 +34,6 @@ all-at p (y ∷ ys) (suc i) x all below =
     all-at p ys i x (and_parts (p y) (list_all p ys) all).1 (omega (arith, below))
 
 -- NAMES
-
-pub of_name : (n w : ℕ) → is_name n w ≡ true → w < n
-of_name n w h = search rules
-
-pub to_name : (n w : ℕ) → w < n → is_name n w ≡ true
-to_name n w h = search rules
-
-pub name-more : (m n w : ℕ) → m ≤ n → is_name m w ≡ true → is_name n w ≡ true
-name-more m n w le h = let below : w < m = of_name m w h in to_name n w (omega arith)
-
-pub names-more : (m n : ℕ) (ws : List ℕ) → m ≤ n → are_names m ws ≡ true → are_names n ws ≡ true
-names-more m n [] le h = refl
-names-more m n (w ∷ ws) le h =
-    let both = and_parts (is_name m w) (are_names m ws) h in
-    and_from (is_name n w) (are_names n ws) (name-more m n w le both.0) (names-more m n ws le both.1)
 
 exit-more : (m n v : ℕ) (e : Exit) → m ≤ n → fits_exit m v e ≡ true → fits_exit n v e ≡ true
 exit-more m n v e le h =

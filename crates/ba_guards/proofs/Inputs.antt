@@ -2,7 +2,7 @@
 use Rattle.std.proofs.Common.{◌≡◌, ◌==◌, ℤ, true, List, [], ◌∷◌, length, refl}
 use Rattle.std.proofs.lemmas.Bool.{and_from, and_parts}
 use Rattle.std.specs.List.{list_all}
-use Rattle.ba_guards.proofs.Ranges.{in-range}
+use Rattle.ba_code.proofs.Ranges.{in-test}
 use Rattle.ba_guards.specs.Contract.{are_word_values}
 use Rattle.ba_numbers.specs.Numbers.{is_in}
 use Rattle.ba_numbers.specs.declared.ids.VarId.{VarId}
@@ -19,7 +19,7 @@ all-words : (t : CType) (zs : List ℤ) → list_all (is_in t) zs ≡ true → l
 all-words t [] h = refl
 all-words t (z ∷ zs) h =
     let both = and_parts (is_in t z) (list_all (is_in t) zs) h in
-    and_from (is_word_value z) (list_all is_word_value zs) (in-word t z (in-range t z both.0)) (all-words t
+    and_from (is_word_value z) (list_all is_word_value zs) (in-word t z (in-test t z both.0)) (all-words t
     zs both.1)
 
 shape-words : (s : Shape) (t : CType) (zs : List ℤ) → fits_shape s t zs ≡ true →

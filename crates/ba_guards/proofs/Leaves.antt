@@ -1,15 +1,16 @@
 -- Nodes without parts: a variable, an array, a requirement.
-use Rattle.std.proofs.Common.{◌≡◌, ℕ, zero, suc, ◌<◌, ◌==◌, ℤ, Bool, true, false, ◌&&◌, cond, Some, List, [], ◌∷◌, length, get_or, slice_get, refl, sym, ◌∙◌, ap, arith, append-nil, inl, inr, ◌⊎◌}
+use Rattle.std.proofs.Common.{◌≡◌, ℕ, zero, suc, ◌<◌, ◌==◌, ℤ, Bool, true, false, cond, Some, List, [], ◌∷◌, length, get_or, slice_get, refl, sym, ◌∙◌, ap, arith, append-nil, inl, inr, ◌⊎◌}
 use Rattle.std.proofs.lemmas.Bool.{and_from, and_parts, cases_eq, eq-eqb, ne_eqb}
 use Rattle.std.proofs.lemmas.List.{get_or-set_same, get_or-set_other, length-set}
 use Rattle.std.specs.Prelude.{slice_set}
+use Rattle.std.proofs.Math.Bool.{and-true}
 use Rattle.ba_choices.specs.declared.Choice.{Choice}
 use Rattle.ba_code.specs.Facts.{Declared}
 use Rattle.ba_code.specs.Meaning.{info_at}
 use Rattle.ba_code.specs.State.{CodeState, set_array, set_variable, with_at}
 use Rattle.ba_code_laws.specs.Tracing.{TracedExecution, untraced}
 use Rattle.ba_guards.proofs.Going.{is_running, means-steady, resting, traced_of, Steady}
-use Rattle.ba_guards.proofs.Growing.{extensional, to_name}
+use Rattle.ba_guards.proofs.Growing.{extensional}
 use Rattle.ba_guards.proofs.Going.{left-resting}
 use Rattle.ba_guards.specs.Continuing.{after_end, continued, ended, labels_of}
 use Rattle.ba_guards.specs.Making.{Demands, checked_by, Fits, Means, checked, elements_in, word_in}
@@ -20,6 +21,7 @@ use Rattle.ba_tree.specs.declared.run.Halt.{Halt}
 use Rattle.ba_tree.specs.declared.run.Place.{Place}
 use Rattle.ba_wordlist.specs.Facts.{are_names, is_name, lengths_of}
 use Rattle.ba_wordlist.specs.Meaning.{Assignment, elements_at, is_nonzero, value_at, values_of}
+use Rattle.ba_wordlist.proofs.Values.{to_name}
 
 -- LISTS OF NAMES with another name at a number
 
@@ -176,10 +178,6 @@ fits-require d b require fits names = record {
   single = fits.single;
 }
 
-pub and_true : (b : Bool) → (b && true) ≡ b
-and_true true = refl
-and_true false = refl
-
 -- A VARIABLE gets a word
 
 module _ (d : Declared) (b : Builder) (fits : Fits d b) (to : ℕ) (value : Assignment → CodeState →
@@ -195,7 +193,7 @@ module _ (d : Declared) (b : Builder) (fits : Fits d b) (to : ℕ) (value : Assi
     fits = fits-vars d b (slice_set b.vars to w) fits (names-set (length b.words) b.vars to w name fits.vars)
         (length-set b.vars to w ∙ fits.var_count);
     logs = λ f. refl;
-    keeps = λ f. sym (and_true (met f b));
+    keeps = λ f. sym (and-true (met f b));
     runs = λ r f cs.
         let vs = values_of f b.words in
         leaf-runs (labels_of b.exits) (untraced (λ c. set_variable to (value f c) c)) (is_live vs b)
@@ -250,7 +248,7 @@ module _ (d : Declared) (b : Builder) (fits : Fits d b) (array : ℕ) (elements 
         name fits.arrays)
         (length-set b.arrays array w ∙ fits.array_count) (λ n. stored-length n (cases_eq n array));
     logs = λ f. refl;
-    keeps = λ f. sym (and_true (met f b));
+    keeps = λ f. sym (and-true (met f b));
     runs = λ r f cs.
         let vs = values_of f b.words in
         let within : array < length b.arrays = omega (arith, there, fits.array_count) in

@@ -15,7 +15,7 @@ use Rattle.ba_code.specs.State.{CodeState, with_array, with_at, with_variable}
 use Rattle.ba_code.specs.declared.nodes.Take.{Take}
 use Rattle.ba_code.specs.declared.nodes.Take.TheVariants.{Value, Truth, Cell, Cells, Nothing}
 use Rattle.ba_guards.proofs.Emitting.{emits-push}
-use Rattle.ba_guards.proofs.Growing.{names-more, same-grown, shows-more, to_name, word-later}
+use Rattle.ba_guards.proofs.Growing.{same-grown, shows-more, word-later}
 use Rattle.ba_guards.proofs.Ranges.{free-converted, index-byte}
 use Rattle.ba_guards.proofs.Stores.{array-below, few-elements}
 use Rattle.ba_guards.specs.Making.{Draws, Drawn, Emits, HasLengths, Offered, Offers, are_of, are_right, holds_in, is_cell, is_one, is_zero_or_one, show_types, values_in, word_in}
@@ -26,7 +26,7 @@ use Rattle.ba_tree.specs.Choices.{all_elements, no_value, one_element, one_truth
 use Rattle.ba_tree.specs.Meaning.{elements_with}
 use Rattle.ba_tree.specs.State.{is_index}
 use Rattle.ba_wordlist.proofs.Lengths.{length-lengths}
-use Rattle.ba_wordlist.proofs.Values.{values-agree, values-same}
+use Rattle.ba_wordlist.proofs.Values.{names-more, to_name, values-agree, values-same}
 use Rattle.ba_wordlist.specs.Facts.{are_names, are_words, is_name, lengths_of, shows_type}
 use Rattle.ba_wordlist.specs.Meaning.{Assignment, is_nonzero, value_at, values_of}
 use Rattle.ba_wordlist.specs.declared.words.WordOp.{WordOp}

@@ -13,7 +13,7 @@ use Rattle.ba_code.specs.declared.nodes.Take.{Take}
 use Rattle.ba_code_laws.specs.Tracing.{Relaxes, Traced, TracedExecution, at_place, is_relaxed, traced_picked, untraced}
 use Rattle.ba_guards.proofs.Forks.{cells_at, forked, list_at, on_at, rest_at, snap, vars_at}
 use Rattle.ba_guards.proofs.Going.{is_running, live-running, quiet, resting}
-use Rattle.ba_guards.proofs.Growing.{array-long, fits-grown, met-kept, same-grown, snapshot-agree, snapshot-kept, to_name, visits-kept}
+use Rattle.ba_guards.proofs.Growing.{array-long, fits-grown, met-kept, same-grown, snapshot-agree, snapshot-kept, visits-kept}
 use Rattle.ba_guards.specs.Continuing.{after_end, continued, ended, labels_of}
 use Rattle.ba_guards.specs.Making.{Fits, Found, HasLengths, Means, Offers, Part, Places, holds_in, picked, show_types, values_in}
 use Rattle.ba_guards.specs.Reading.{Snapshot, is_live, met, snapshot, visits}
@@ -21,7 +21,7 @@ use Rattle.ba_guards.specs.declared.builder.Builder.{Builder}
 use Rattle.ba_tree.specs.Acts.{then_do}
 use Rattle.ba_tree.specs.declared.run.Place.{Place}
 use Rattle.ba_wordlist.proofs.Choices.{chosen-first, chosen-none, kept-first, kept-none, visits-append, visits-one}
-use Rattle.ba_wordlist.proofs.Values.{values-agree}
+use Rattle.ba_wordlist.proofs.Values.{to_name, values-agree}
 use Rattle.ba_wordlist.specs.Facts.{are_names, are_typed, are_words, is_name, is_place, is_typed}
 use Rattle.ba_wordlist.specs.Meaning.{Assignment, Visit, are_kept, chosen, is_keep, values_of, visit_of}
 use Rattle.ba_wordlist.specs.declared.words.PlaceWords.{PlaceWords}

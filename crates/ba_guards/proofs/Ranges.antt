@@ -1,5 +1,5 @@
 -- Numbers that choices give, indices, and divisors.
-use Rattle.std.proofs.Common.{T, ◌≡◌, ℕ, ◌+◌, ◌-◌, ◌%◌, ◌^◌, ◌<◌, ◌≤◌, ℤ, pos, negsuc, neg_ℤ, ◌+ℤ◌, ◌*ℤ◌, ◌≤ℤ◌, Bool, true, false, ◌&&◌, ◌||◌, List, length, get_or, refl, sym, ◌∙◌, ap, arith}
+use Rattle.std.proofs.Common.{◌≡◌, ℕ, ◌+◌, ◌-◌, ◌%◌, ◌^◌, ◌<◌, ◌≤◌, ℤ, pos, negsuc, neg_ℤ, ◌+ℤ◌, ◌*ℤ◌, ◌≤ℤ◌, Bool, true, false, ◌&&◌, ◌||◌, List, length, get_or, refl, sym, ◌∙◌, ap, arith}
 use Rattle.std.proofs.lemmas.Bool.{and_from, and_parts}
 use Rattle.std.proofs.lemmas.Bool.Decides.{nat_tests}
 use Rattle.std.proofs.lemmas.Int.{ints}
@@ -8,25 +8,16 @@ use Rattle.std.specs.Prelude.{int_le, int_lt, unsigned_abs}
 use Rattle.ba_cells.proofs.Places.{read-within}
 use Rattle.ba_cells.specs.Cells.{place_read}
 use Rattle.ba_numbers.proofs.Conversions.{converted_congruent, converted_only, converted_own, truth_converted}
-use Rattle.ba_numbers.specs.Numbers.{IsCongruent, IsIn, converted, greatest_of, is_in, least_of, low_word, truth, value_of, width_of}
+use Rattle.ba_numbers.specs.Numbers.{IsCongruent, converted, is_in, low_word, truth, value_of, width_of}
 use Rattle.ba_numbers.specs.declared.numbers.BinOp.TheVariants.{Lt}
 use Rattle.ba_numbers.specs.declared.numbers.CType.{CType}
 use Rattle.ba_numbers.specs.declared.numbers.CType.TheVariants.{I8, U8, I16, U16, I32, U32}
 use Rattle.ba_tree.specs.State.{is_index}
 use Rattle.ba_wordlist.specs.Facts.{is_word_value}
 use Rattle.ba_wordlist.specs.Meaning.{binary_value, element_read, is_nonzero}
+use Rattle.ba_code.proofs.Ranges.{in-test}
 
 -- RANGES
-
-to_T : (b : Bool) → b ≡ true → T b
-to_T true h = tt
-to_T false h = absurd (cc)
-
-pub in-range : (t : CType) (z : ℤ) → is_in t z ≡ true → IsIn t z
-in-range t z h = let both = and_parts (int_le (least_of t) z) (int_le z (greatest_of t)) h in record {
-  low = record { le = to_T (int_le (least_of t) z) both.0 };
-  high = record { le = to_T (int_le z (greatest_of t)) both.1 };
-}
 
 narrow_8 : (c z k : ℤ) → c ≡ z +ℤ k *ℤ pos 0x100000000 → z ≡ c +ℤ (neg_ℤ k *ℤ pos 0x1000000) *ℤ pos 0x100
 narrow_8 c z k e = omega (arith, ints)
@@ -64,7 +55,7 @@ near U32 z e = record { turns = neg_ℤ e.turns; apart = narrow_32 (converted I3
 
 -- a free word can be each number of a type
 pub free-converted : (t : CType) (z : ℤ) → is_in t z ≡ true → converted t (converted I32 z) ≡ z
-free-converted t z h = sym (converted_only t z (converted I32 z) (in-range t z h) (near t z
+free-converted t z h = sym (converted_only t z (converted I32 z) (in-test t z h) (near t z
     (converted_congruent I32 z)))
 
 -- INDICES
@@ -77,18 +68,18 @@ pub own-pos : (n : ℕ) → is_word_value (pos n) ≡ true → n < 2 ^ 32
 own-pos n h = at (is_in I32 (pos n)) (is_in U32 (pos n)) refl refl h where
   at : (a b : Bool) → is_in I32 (pos n) ≡ a → is_in U32 (pos n) ≡ b → (a || b) ≡ true → n < 2 ^ 32
   at true b ea eb h =
-      let high : pos n ≤ℤ pos 0x7fffffff = (in-range I32 (pos n) ea).high in omega (arith, ints)
+      let high : pos n ≤ℤ pos 0x7fffffff = (in-test I32 (pos n) ea).high in omega (arith, ints)
   at false true ea eb h =
-      let high : pos n ≤ℤ pos 0xffffffff = (in-range U32 (pos n) eb).high in omega (arith, ints)
+      let high : pos n ≤ℤ pos 0xffffffff = (in-test U32 (pos n) eb).high in omega (arith, ints)
   at false false ea eb h = absurd (cc)
 
 pub own-neg : (n : ℕ) → is_word_value (negsuc n) ≡ true → n < 2 ^ 31
 own-neg n h = at (is_in I32 (negsuc n)) (is_in U32 (negsuc n)) refl refl h where
   at : (a b : Bool) → is_in I32 (negsuc n) ≡ a → is_in U32 (negsuc n) ≡ b → (a || b) ≡ true → n < 2 ^ 31
   at true b ea eb h =
-      let low : negsuc 0x7fffffff ≤ℤ negsuc n = (in-range I32 (negsuc n) ea).low in omega (arith, ints)
+      let low : negsuc 0x7fffffff ≤ℤ negsuc n = (in-test I32 (negsuc n) ea).low in omega (arith, ints)
   at false true ea eb h =
-      let low : pos 0 ≤ℤ negsuc n = (in-range U32 (negsuc n) eb).low in absurd (omega (arith, ints))
+      let low : pos 0 ≤ℤ negsuc n = (in-test U32 (negsuc n) eb).low in absurd (omega (arith, ints))
   at false false ea eb h = absurd (cc)
 
 converted-pos : (n : ℕ) → n < 2 ^ 32 → converted U32 (pos n) ≡ pos n

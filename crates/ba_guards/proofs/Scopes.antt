@@ -5,6 +5,7 @@ use Rattle.std.proofs.lemmas.List.{length-map, length-set, map-append}
 use Rattle.std.proofs.lemmas.List.Folds.{list_all-append}
 use Rattle.std.specs.List.{list_all}
 use Rattle.std.specs.Prelude.{slice_set}
+use Rattle.std.proofs.Math.Bool.{and-true}
 use Rattle.ba_choices.specs.declared.Choice.{Choice}
 use Rattle.ba_code.specs.Facts.{Declared}
 use Rattle.ba_code.specs.Meaning.{flow_after_block}
@@ -12,8 +13,7 @@ use Rattle.ba_code_laws.specs.Tracing.{Relaxes, Traced, TracedExecution, untrace
 use Rattle.ba_guards.proofs.Exiting.{exit-more, exit-within, idle-off, labels-set, left-append, left-within, off-idle, or_left, set-left, set-single, single-init, single-more, unset-left, unset-single}
 use Rattle.ba_guards.proofs.Forks.{cells_at, later-cells, later-list, later-met, later-vars, later-visits, later-word, list_at, on_at, rest_at, snap, vars_at, ways-stand}
 use Rattle.ba_guards.proofs.Going.{is_running, left-resting, live-running, means-before, means-steady, resting}
-use Rattle.ba_guards.proofs.Growing.{exits-more, fits-grown, left-same, single-same, of_name, same-grown, to_name, variables-same}
-use Rattle.ba_guards.proofs.Leaves.{and_true}
+use Rattle.ba_guards.proofs.Growing.{exits-more, fits-grown, left-same, single-same, same-grown, variables-same}
 use Rattle.ba_guards.specs.Continuing.{Further, after_end, continued, ended, exit_of, labels_of, status_after, traced_from}
 use Rattle.ba_guards.specs.Making.{are_off, Closes, Fits, Found, Leaving, Means, Part, Scopes, fits_exit, holds_in, is_single}
 use Rattle.ba_guards.specs.Reading.{Snapshot, Status, arrays_at, is_live, left_from, met, places_at, snapshot, variables_at, visits}
@@ -24,7 +24,7 @@ use Rattle.ba_tree.specs.Acts.{EndOn, give, then_do}
 use Rattle.ba_tree.specs.declared.run.Flow.{Flow}
 use Rattle.ba_tree.specs.declared.run.Flow.TheVariants.{Next, Leaves}
 use Rattle.ba_tree.specs.declared.run.Place.{Place}
-use Rattle.ba_wordlist.proofs.Values.{value-const}
+use Rattle.ba_wordlist.proofs.Values.{of_name, to_name, value-const}
 use Rattle.ba_wordlist.specs.Facts.{are_names, is_name}
 use Rattle.ba_wordlist.specs.Meaning.{Assignment, are_met, chosen, is_nonzero, value_at, values_of, visits_in}
 
@@ -578,6 +578,6 @@ module _ (d : Declared) (label : ℕ) (b0 b1 : Builder) (fits : Fits d b0) (l : 
         };
         fits = leave-fits;
         logs = λ f. ap (visits f) l.same;
-        keeps = λ f. ap (met f) l.same ∙ sym (and_true (met f mid));
+        keeps = λ f. ap (met f) l.same ∙ sym (and-true (met f mid));
         runs = λ r f cs. leave-runs f cs (was_on f) refl;
       }))

@@ -1,15 +1,14 @@
 -- Expressions: which are equal, what they have in a list, and the table of their numbers.
-use Rattle.std.proofs.Common.{false≢true, rules, ◌≡◌, ℕ, zero, suc, ◌<◌, ℤ, pos, Bool, true, false, ◌&&◌, cond, Option, Some, List, [], ◌∷◌, ◌++◌, length, get_or, take, drop, slice_get, eqb, inl, inr, refl, sym, ◌∙◌, ap, subst, arith}
-use Rattle.std.proofs.lemmas.Bool.{and_parts, eqb-true}
+use Rattle.std.proofs.Common.{rules, ◌≡◌, ℕ, ◌<◌, ℤ, pos, Bool, true, false, ◌&&◌, cond, Option, Some, List, [], ◌∷◌, ◌++◌, length, get_or, take, drop, slice_get, eqb, inl, inr, refl, sym, ◌∙◌, ap, subst, arith}
+use Rattle.std.proofs.lemmas.Bool.{and_parts, eqb-true, false≢true}
 use Rattle.std.proofs.lemmas.Bool.Decides.{Decides-int_eq}
 use Rattle.std.proofs.lemmas.List.{get_or_at, length-take-le, length_push, take-append-drop}
 use Rattle.std.proofs.lemmas.Option.{slice_get_within, slice_get-get_or}
 use Rattle.std.specs.HashMap.{HashMap, Updates, get}
-use Rattle.std.specs.List.{fold}
 use denote.Enum.Bare.{sameb, same_true}
 use Rattle.ba_code.specs.Operators.{converting}
 use Rattle.ba_guards.proofs.Emitting.{emits-old, emits-push}
-use Rattle.ba_guards.proofs.Growing.{of_name, slice-kept}
+use Rattle.ba_guards.proofs.Growing.{slice-kept}
 use Rattle.ba_guards.specs.Sharing.{AreNumbered, entry}
 use Rattle.ba_guards.specs.Making.{Emits, StandsAt}
 use Rattle.ba_guards.specs.contracts.expressions.ExpressionPartialEq.TheImpl.{eq-value}
@@ -23,9 +22,9 @@ use Rattle.ba_numbers.specs.declared.numbers.CType.{CType}
 use Rattle.ba_numbers.specs.declared.numbers.UnOp.{UnOp}
 use Rattle.ba_numbers.specs.Numbers.{converted}
 use Rattle.ba_numbers.specs.Types.{is_promoted}
-use Rattle.ba_wordlist.proofs.Lengths.{length-lengths}
-use Rattle.ba_wordlist.proofs.Values.{SameBelow, elements-entry, elements-kept, value-same}
-use Rattle.ba_wordlist.specs.Facts.{are_words, fit_behind, fits_behind, is_name, lengths_of, more_lengths}
+use Rattle.ba_wordlist.proofs.Lengths.{length-lengths, words-at}
+use Rattle.ba_wordlist.proofs.Values.{SameBelow, elements-entry, elements-kept, of_name, value-same}
+use Rattle.ba_wordlist.specs.Facts.{are_words, fits_behind, is_name, lengths_of}
 use Rattle.ba_wordlist.specs.Meaning.{Assignment, binary_value, element_read, entry_of, is_nonzero, value_at, values_of}
 use Rattle.ba_wordlist.specs.declared.words.WordOp.{WordOp}
 
@@ -111,21 +110,6 @@ same-entry y z ls vs us (Read a x) same fits =
     let array = same a (of_name (length ls) a all.0) in
     let index = value-named ls vs us x same all.1 in
     λ i. element_read (array i) (index i) ∷ []
-
-fit-at : (ls : List ℕ) (ops : List WordOp) (w : ℕ) (op : WordOp) → fit_behind ls ops ≡ true
-    → slice_get ops w ≡ Some op → fits_behind (fold more_lengths ls (take w ops)) op ≡ true
-fit-at ls [] w op h found = absurd (cc)
-fit-at ls (first ∷ ops) zero op h found =
-    let same : first ≡ op = cc in
-    subst (λ o. fits_behind ls o ≡ true) same
-    (and_parts (fits_behind ls first) (fit_behind (more_lengths ls first) ops) h).0
-fit-at ls (first ∷ ops) (suc w) op h found = fit-at (more_lengths ls first) ops w op
-    (and_parts (fits_behind ls first) (fit_behind (more_lengths ls first) ops) h).1 found
-
-pub words-at : (ops : List WordOp) (w : ℕ) (op : WordOp) → are_words ops ≡ true → slice_get ops w ≡ Some op
-    → fits_behind (lengths_of (take w ops)) op ≡ true
-unfolding are_words lengths_of
-words-at ops w op fit found = fit-at [] ops w op fit found
 
 -- what it has where it stands is what it would have behind the list
 value-stands : (f : Assignment) (ws : List WordOp) (w : ℕ) (e : Expression) → are_words ws ≡ true

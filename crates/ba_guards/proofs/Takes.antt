@@ -2,6 +2,7 @@
 use Rattle.std.proofs.Common.{rules, ◌≡◌, ℕ, ◌<◌, ℤ, pos, Bool, true, ◌||◌, cond, Some, None, option_map, [], ◌∷◌, length, take, refl, sym, ap, append-nil}
 use Rattle.std.specs.Ordering.{int_eq}
 use Rattle.std.specs.Prelude.{slice_set}
+use Rattle.std.proofs.Math.Bool.{and-true}
 use Rattle.ba_code.specs.Facts.{Declared, is_var}
 use Rattle.ba_code.specs.Meaning.{if_taken, taken}
 use Rattle.ba_code.specs.State.{CodeState, set_variable, with_variable}
@@ -9,7 +10,7 @@ use Rattle.ba_code.specs.declared.nodes.Take.{Take}
 use Rattle.ba_code.specs.declared.nodes.Take.TheVariants.{Value, Truth, Nothing}
 use Rattle.ba_code_laws.specs.Tracing.{untraced}
 use Rattle.ba_guards.proofs.Going.{means-as, means-steady, traced_of}
-use Rattle.ba_guards.proofs.Leaves.{and_true, assign-means, leaf-runs}
+use Rattle.ba_guards.proofs.Leaves.{assign-means, leaf-runs}
 use Rattle.ba_guards.proofs.Going.{left-resting}
 use Rattle.ba_guards.specs.Continuing.{labels_of}
 use Rattle.ba_guards.specs.Making.{Fits, Means, picked, values_in, word_in}
@@ -67,7 +68,7 @@ take-nothing d b fits = means-steady d (λ f r. picked d Nothing []) b b (λ f. 
   extends = record { more = []; words = sym (append-nil b.words); labels = refl };
   fits = fits;
   logs = λ f. refl;
-  keeps = λ f. sym (and_true (met f b));
+  keeps = λ f. sym (and-true (met f b));
   runs = λ r f cs.
       let vs = values_of f b.words in
       leaf-runs (labels_of b.exits) (picked d Nothing []) (is_live vs b) (variables_at vs b.vars)

@@ -1,6 +1,7 @@
 -- Nodes with parts, each from the calls that make its words.
-use Rattle.std.proofs.Common.{Result, Ok, Err, OnOk, append_assoc, ◌&&◌, ◌≡◌, ℕ, ◌<◌, ◌≤◌, ℤ, pos, Bool, true, false, not, cond, List, [], ◌∷◌, ◌++◌, length, refl, sym, ◌∙◌, ap, subst, arith, append-nil, length-append}
+use Rattle.std.proofs.Common.{append_assoc, ◌&&◌, ◌≡◌, ℕ, ◌<◌, ◌≤◌, ℤ, pos, Bool, true, false, not, cond, List, [], ◌∷◌, ◌++◌, length, refl, sym, ◌∙◌, ap, subst, arith, append-nil, length-append}
 use Rattle.std.specs.Ordering.{int_eq}
+use Rattle.std.proofs.Math.Bool.{and-true}
 use Rattle.ba_choices.specs.declared.Choice.{Choice}
 use Rattle.ba_code.proofs.Rows.{in_order-one}
 use Rattle.ba_code.specs.Facts.{Declared, is_operand}
@@ -13,8 +14,7 @@ use Rattle.ba_code_laws.specs.Tracing.{Relaxes, Traced, TracedExecution, trace_n
 use Rattle.ba_guards.proofs.Arms.{check-nothing, reads-by}
 use Rattle.ba_guards.proofs.Forks.{either-nonzero, fork-means, forked, later-word, open-fits, other-nonzero, switch-fits}
 use Rattle.ba_guards.proofs.Going.{in_turn, live-running, means-as, means-before, means-steady, means-then, resting, traced_of}
-use Rattle.ba_guards.proofs.Growing.{extensional, names-more}
-use Rattle.ba_guards.proofs.Leaves.{and_true}
+use Rattle.ba_guards.proofs.Growing.{extensional}
 use Rattle.ba_guards.proofs.Nodes.{reads}
 use Rattle.ba_guards.proofs.Scopes.{scope-fits, scope-means, scoped}
 use Rattle.ba_guards.specs.Continuing.{labels_of}
@@ -29,11 +29,7 @@ use Rattle.ba_tree.specs.declared.run.Halt.TheVariants.{WrongChoices}
 use Rattle.ba_wordlist.specs.Facts.{are_names}
 use Rattle.ba_wordlist.specs.Meaning.{Assignment, is_nonzero, values_of}
 use Rattle.ba_wordlist.specs.declared.words.WordOp.{WordOp}
-
--- what is said of a success follows from what is known of it
-pub on-ok : {A E : Type 0} (result : Result A E) (P Q : Type 0) → (P → Q) → OnOk result P → OnOk result Q
-on-ok (Ok a) P Q more held = more held
-on-ok (Err e) P Q more held = held
+use Rattle.ba_wordlist.proofs.Values.{names-more}
 
 -- NODES IN A ROW
 
@@ -235,7 +231,7 @@ never-means d part b fits off = means-steady d part b b (λ f. true) (record {
   extends = record { more = []; words = sym (append-nil b.words); labels = refl };
   fits = fits;
   logs = λ f. refl;
-  keeps = λ f. sym (and_true (met f b));
+  keeps = λ f. sym (and-true (met f b));
   runs = λ r f cs. resting (labels_of b.exits) (part f r) (snapshot f b) cs (live-running (values_of f
       b.words) b ∙ off f);
 })

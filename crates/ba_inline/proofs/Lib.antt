@@ -1,6 +1,5 @@
 mod Adding
 mod Ends
-mod Results
 mod Keeping
 mod Seeing
 mod Joining

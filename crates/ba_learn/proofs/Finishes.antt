@@ -11,9 +11,10 @@ use Rattle.ba_watch.specs.Trails.{value_of, decided}
 use Rattle.ba_watch.specs.Propagation.{State, clause_in, lits_in, is_false, KeepsFacts}
 use Rattle.ba_watch.proofs.Values.{place_of-some}
 use Rattle.ba_watch.proofs.Levels.{decided-take_drop}
+use Rattle.ba_watch.proofs.Walks.{at_occurs}
 use Rattle.ba_learn.specs.Live.{Follows}
 use Rattle.ba_learn.specs.Resolving.{Work, is_seen, is_pending, IsWork, MayKeep, AreBelow, AreSeen, AreCovered, Resolves, MayStart, number_in, number_at, SortsNumbers}
-use Rattle.ba_learn.proofs.FollowLaws.{false_at, at_occurs, known, refutes}
+use Rattle.ba_learn.proofs.FollowLaws.{false_at, known, refutes}
 
 -- the literals of a false clause are on the trail
 pub false_below : (s : State) (lits : List Literal) → is_false (value_of s.trail) lits ≡ true →

@@ -40,14 +40,6 @@ occurs_at p (x ∷ xs) some = ⊎_elim
     later : (n : ℕ) → x ≢ p → 0 < cond (eqb x p) 1 0 + n → 0 < n
     later n ne some = grind (arith, nat_tests)
 
-pub at_occurs : (xs : List ℕ) (k : ℕ) → k < length xs → 0 < occurrences (get_or xs k 0) xs
-at_occurs [] k within = absurd (omega arith)
-at_occurs (x ∷ xs) zero within = here x (occurrences x xs)
-  where
-    here : (n k : ℕ) → 0 < cond (eqb n n) 1 0 + k
-    here n k = grind (arith, nat_tests)
-at_occurs (x ∷ xs) (suc k) within = omega (arith, at_occurs xs k (omega arith))
-
 -- a sorted list in which no place stands twice ascends
 pub ascends : (xs : List ℕ) → IsNonDecreasingBy (λ (x : ℕ). x) xs → ((p : ℕ) → occurrences p xs ≤ 1) →
     IsAscending xs

@@ -6,7 +6,7 @@ use Rattle.std.proofs.lemmas.List.Sorted.{list_any-IsPermutation}
 use Rattle.std.specs.List.{list_any}
 use Rattle.std.specs.List.Sorted.{IsPermutation}
 use mathlib.Core.Bool.{not-not, or_assoc, or-false}
-use Rattle.ba_lits.specs.Literals.{Literal, negate, index_of, lit_at}
+use Rattle.ba_lits.specs.Literals.{Literal, negate, index_of, lit_at, literal_at, index_of-literal_at}
 use Rattle.ba_lits.specs.Hints.{has_literal}
 use Rattle.ba_lits.specs.Members.{has_index, AreMarks}
 use Rattle.ba_lits.proofs.StampLaws.{marked-set}
@@ -21,6 +21,9 @@ same_from_index a b e = step a.variable b.variable a.negated b.negated e
     step v w true false e = absurd (omega arith)
     step v w false true e = absurd (omega arith)
     step v w false false e = let h : v ≡ w = omega arith in cc
+
+pub literal_at-index_of : (l : Literal) → literal_at (index_of l) ≡ l
+literal_at-index_of l = same_from_index (literal_at (index_of l)) l (index_of-literal_at (index_of l))
 
 pub same_literal : (x y : Literal) → eqb (index_of x) (index_of y) ≡ true → x ≡ y
 same_literal x y e = same_from_index x y (eqb-true (index_of x) (index_of y) e)

@@ -21,7 +21,7 @@ abbrev pub SoftsBelow : ℕ → List Soft → Type 0
 SoftsBelow n [] = Unit {0}
 SoftsBelow n (s ∷ ss) = (s.0.variable < n) × SoftsBelow n ss
 
-signed-not : (s b : Bool) → signed (not s) b ≡ not (signed s b)
+pub signed-not : (s b : Bool) → signed (not s) b ≡ not (signed s b)
 signed-not true true = refl
 signed-not true false = refl
 signed-not false b = refl

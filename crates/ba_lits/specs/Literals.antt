@@ -1,6 +1,6 @@
 -- Literals and clauses of propositional logic.
 
-use Rattle.std.specs.Prelude.{◌≡◌, ℕ, ◌+◌, ◌*◌, ◌/◌, ◌%◌, ◌<◌, ◌≤◌, Bool, false, not, eqb, List, length, get_or, if◌then◌else◌}
+use Rattle.std.specs.Prelude.{◌≡◌, ℕ, ◌+◌, ◌*◌, ◌/◌, ◌%◌, ◌<◌, ◌≤◌, Bool, true, false, not, eqb, List, length, get_or, if◌then◌else◌}
 use Prim.Native.Nat.{suc, zero}
 use native.Mathlib.Nat.{not-suc-le-zero, le_of_suc-le-suc, mod-lt, zero-lt-suc, div-add-mod}
 
@@ -8,6 +8,13 @@ use native.Mathlib.Nat.{not-suc-le-zero, le_of_suc-le-suc, mod-lt, zero-lt-suc, 
 pub record Literal : Type 0 where
   pub variable : ℕ
   pub negated : Bool
+
+-- the two literals of a variable
+abbrev pub positive : ℕ → Literal
+positive variable = record { variable = variable; negated = false }
+
+abbrev pub negative : ℕ → Literal
+negative variable = record { variable = variable; negated = true }
 
 -- the literal of the other sign
 abbrev pub negate : Literal → Literal

@@ -1,5 +1,5 @@
 -- What steps over a faithful encoding derive holds of the program.
-use Rattle.std.proofs.Common.{◌≡◌, ℕ, suc, zero, ◌+◌, ◌<◌, ◌≤◌, inl, inr, List, [], ◌∷◌, length, All, refl, sym, ◌∙◌, ap, subst, arith}
+use Rattle.std.proofs.Common.{◌≡◌, ℕ, suc, zero, ◌+◌, ◌<◌, List, [], ◌∷◌, length, All, refl, sym, ◌∙◌, ap, subst, arith}
 use Rattle.std.specs.Prelude.{Contains, get_or}
 use Rattle.ba_derivations.proofs.VerdictLaws.{good_runs, located, no_repair, ordered, spent, too_many}
 use Rattle.ba_derivations.specs.Derivations as derived
@@ -16,10 +16,7 @@ use Rattle.ba_steps.specs.declared.sink.Basis.{Basis}
 use Rattle.ba_steps.specs.declared.step.CertStep.{CertStep}
 use Rattle.ba_checker.specs.Puts.{with_steps}
 use Rattle.ba_checker.specs.States.{State, first_state}
-use Rattle.ba_tree.specs.Least.{Judge, WeightList, judge_of}
-use Rattle.ba_tree.specs.declared.run.Bounds.{Bounds}
-use Rattle.ba_tree.specs.declared.run.Input.{Input}
-use Rattle.ba_tree.specs.declared.tree.Program.{Program}
+use Rattle.ba_tree.specs.Least.{Judge, WeightList}
 
 -- LISTS with the same sets and runs
 
@@ -172,14 +169,3 @@ rose-second a b c d first second rose =
     let zero-a : 0 + a ≡ c = omega (arith, first) in
     let zero-b : 0 + b ≡ d = omega (arith, second) in
     subst (λ n. Rose n d) zero-a (subst (Rose (0 + a)) zero-b rose)
-
--- and one that rose later
-pub rose-after : (a b c : ℕ) → a ≤ b → Rose b c → Rose a c
-rose-after a b c le (inl lt) = inl (omega (arith, le, lt))
-rose-after a b c le (inr end) = inr end
-
--- THE JUDGE
-pub same-judge : (p q : Program) (i k : Input) (b d : Bounds) → p ≡ q → i ≡ k → b ≡ d →
-    judge_of p i b ≡ judge_of q k d
-same-judge p q i k b d is_p is_i is_b =
-    ap (λ p. judge_of p i b) is_p ∙ ap (λ i. judge_of q i b) is_i ∙ ap (judge_of q k) is_b

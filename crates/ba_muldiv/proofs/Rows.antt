@@ -4,6 +4,7 @@ use Rattle.std.proofs.Common.{◌≡◌, ℕ, zero, suc, ◌+◌, ◌-◌, ◌*�
 use Rattle.std.proofs.lemmas.List.{same_lists, get_or-map, get_or_past, length-map, drop_more, length-drop}
 use Rattle.std.proofs.lemmas.Nat.{mod-mul-add, mul-mod_second, pow_pos}
 use Rattle.std.proofs.Math.Nat.{mul-add, mul-suc, pow-le-pow_right}
+use Rattle.std.proofs.Math.Bool.{and-true}
 use Rattle.std.proofs.lemmas.Bool.{cases_lt}
 use Rattle.std.proofs.lemmas.Bool.Decides.{nat_tests}
 use Rattle.ba_nodes.specs.declared.Bit.{Bit}
@@ -241,10 +242,6 @@ low_number-mod free nodes word n few =
 turned : (l p h : ℕ) → l + p * h ≡ h * p + l
 turned l p h = grind arith
 
-and_true : (b : Bool) → (b && not false) ≡ b
-and_true true = refl
-and_true false = refl
-
 -- the low places of the remainder, without those of the divisor
 module _ (free : ℕ → Bool) (old middle : List Node)
     (rest divisor low low_divisor complement difference : List Bit) (carry : Bit) (width known kept : ℕ)
@@ -330,7 +327,7 @@ module _ (free : ℕ → Bool) (old middle : List Node)
         let most : 2 ^ kept ≤ 2 ^ width = pow-le-pow_right {n = 2} (omega arith) first in
         ap (λ b. (truth free middle carry || truth free old (bit_at rest kept)) && not b)
         (le_false (2 ^ width) (number_of free old divisor) (omega (arith, most, here.0)))
-        ∙ and_true (truth free middle carry || truth free old (bit_at rest kept))
+        ∙ and-true (truth free middle carry || truth free old (bit_at rest kept))
         ∙ narrow_fits (2 ^ kept) (number_of free old rest) (number_of free old divisor)
         (low_number free old rest kept) (number_of free middle difference) (truth free middle carry)
         (truth free old (bit_at rest kept))

@@ -2,6 +2,7 @@
 
 use Rattle.std.proofs.Common.{◌≡◌, ℕ, zero, suc, ◌+◌, ◌-◌, ◌*◌, ◌/◌, ◌%◌, ◌^◌, ◌<◌, ◌≤◌, Bool, true, false, not, nat_lt, nat_le, ◌&&◌, ◌||◌, inl, inr, refl, sym, ap, ◌∙◌, arith, if◌then◌else◌, ◌==◌, div-le_self}
 use Rattle.std.proofs.Math.Nat.{mul-suc, pow-le-pow_right}
+use Rattle.std.proofs.Math.Bool.{or-true, or-false}
 use Rattle.std.proofs.lemmas.Bool.{cases_lt}
 use Rattle.std.proofs.lemmas.Bool.Decides.{nat_tests}
 use Rattle.std.proofs.lemmas.Nat.{div-add-mod', mod_below, div-mul-add, mod-mul-add, pow_pos, same_from_place}
@@ -21,25 +22,17 @@ le_false a b above = grind (arith, nat_tests)
 pub le-not_lt : (a b : ℕ) → not (nat_lt b a) ≡ nat_le a b
 le-not_lt a b = grind (arith, nat_tests)
 
-or_true : (b : Bool) → (b || true) ≡ true
-or_true true = refl
-or_true false = refl
-
-or_false : (b : Bool) → (b || false) ≡ b
-or_false true = refl
-or_false false = refl
-
 -- ---- whether a number has so many places
 
 -- a place lower
 pub wider_step : (p q l h n : ℕ) (t : Bool) → q ≡ 2 * p → n ≡ l + p * digit t + q * h → l < p →
     (nat_le q n || t) ≡ nat_le p n
-wider_step p q l h n true double is below = or_true (nat_le q n) ∙ sym (le_true p n (omega arith))
-wider_step p q l zero n false double is below = or_false (nat_le q n) ∙ le_false q n (omega arith)
+wider_step p q l h n true double is below = or-true (nat_le q n) ∙ sym (le_true p n (omega arith))
+wider_step p q l zero n false double is below = or-false (nat_le q n) ∙ le_false q n (omega arith)
     ∙ sym (le_false p n (omega arith))
 wider_step p q l (suc h) n false double is below =
     let more : q * suc h ≡ q * h + q = mul-suc q h in
-    or_false (nat_le q n) ∙ le_true q n (omega arith) ∙ sym (le_true p n (omega arith))
+    or-false (nat_le q n) ∙ le_true q n (omega arith) ∙ sym (le_true p n (omega arith))
 
 -- ---- a step of subtract and select
 
@@ -196,7 +189,7 @@ module _ (p r d l m x f h : ℕ) (c : Bool) (small : r < p) (m_small : m < p) (x
   pub whole_fits : (t : Bool) → r ≡ l + p * digit t → ((c || t) && not (nat_le p d)) ≡ nat_le d r
   whole_fits true is = absurd (omega arith)
   whole_fits false is =
-      ap (λ b. b && not (nat_le p d)) (or_false c) ∙ step_fits r d m x x p f small m_small x_small
+      ap (λ b. b && not (nat_le p d)) (or-false c) ∙ step_fits r d m x x p f small m_small x_small
       complement c h (omega arith) d_is
 
   pub whole_left : (t : Bool) (y g : ℕ) → r ≡ l + p * digit t → x ≡ y + p * g → d ≤ r → y ≡ r - d

@@ -12,7 +12,7 @@ use Rattle.ba_nodes.specs.Gates.{bool_xor}
 use Rattle.ba_numbers.specs.declared.numbers.BinOp.TheVariants.{Mul, Div, Rem}
 use Rattle.ba_numbers.specs.Numbers.{IsCongruent, converted, converted_value, value_of}
 use Rattle.ba_words.specs.Words.{word_type}
-use Rattle.ba_words.proofs.Values.{read, read-same, read_unsigned, read_low, read_high, spread}
+use Rattle.ba_words.proofs.Values.{read, read-same, read_unsigned, read_low, read_high, spread, read_zero}
 use Rattle.ba_muldiv.specs.Division.{is_negative, negated_where, long_quotient, quotient_of, remainder_of}
 use Rattle.ba_muldiv.proofs.Steps.{le_true, le_false, long_positive}
 
@@ -178,10 +178,6 @@ remainder_congruent true m n m_small n_small = elim (cases_lt m 0x80000000) [
             (turned m m_high m_small) (turned n n_high n_small)) (neg_congruent (a % b) small)
       ]
 ]
-
-read_zero : (signed : Bool) → read signed 0 ≡ pos 0
-read_zero true = read_low 0 (omega arith)
-read_zero false = read_unsigned 0 (omega arith)
 
 -- a divisor that is not zero
 divisor_positive : (signed : Bool) (n : ℕ) → int_eq (read signed n) (pos 0) ≡ false → 0 < n

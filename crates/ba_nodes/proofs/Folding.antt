@@ -5,6 +5,7 @@ use Rattle.std.proofs.Common.{Result, Option, Ok, Err, IfOk, ◌≡◌, ℕ, ◌
 use Rattle.std.proofs.lemmas.Bool.{eqb-true}
 use Rattle.std.proofs.lemmas.Bool.Decides.{nat_tests}
 use Rattle.std.specs.declared.alloc.AllocError.{AllocError}
+use Rattle.std.proofs.Math.Bool.{and-true, and-false}
 use Rattle.ba_nodes.specs.declared.Bit.{Bit}
 use Rattle.ba_nodes.specs.declared.Node.{Node}
 use Rattle.ba_nodes.specs.Gates.{bool_xor, bool_majority, constant_bit, values_of, truth, IsBitOf, folded, HasValue}
@@ -90,14 +91,6 @@ given_true false true true is = refl
 given_true false false true is = refl
 given_true w b false is = absurd (cc)
 
-and_true : (b : Bool) → (b && true) ≡ b
-and_true true = refl
-and_true false = refl
-
-and_false : (b : Bool) → (b && false) ≡ false
-and_false true = refl
-and_false false = refl
-
 and_own : (b : Bool) → (b && b) ≡ b
 and_own true = refl
 and_own false = refl
@@ -120,10 +113,10 @@ module _ (nodes : List Node) (a b : Bit) (first : IsBitOf nodes a) (second : IsB
 
   at_second : b.index ≡ 0 → (negated : Bool) → b.negated ≡ negated → HasValue nodes (if negated then a else b) product
   unfolding product
-  at_second zero true is = record { is_bit = first; holds = λ free. sym (ap (λ y. truth free nodes a && y) (truth-zero free nodes b zero ∙ is) ∙ and_true _) }
+  at_second zero true is = record { is_bit = first; holds = λ free. sym (ap (λ y. truth free nodes a && y) (truth-zero free nodes b zero ∙ is) ∙ and-true _) }
   at_second zero false is = record {
     is_bit = second;
-    holds = λ free. truth-zero free nodes b zero ∙ is ∙ sym (ap (λ y. truth free nodes a && y) (truth-zero free nodes b zero ∙ is) ∙ and_false _);
+    holds = λ free. truth-zero free nodes b zero ∙ is ∙ sym (ap (λ y. truth free nodes a && y) (truth-zero free nodes b zero ∙ is) ∙ and-false _);
   }
 
   at_same : a.index ≡ b.index → (differ : Bool) → bool_xor a.negated b.negated ≡ differ → HasValue nodes (if differ then constant_bit false else a) product

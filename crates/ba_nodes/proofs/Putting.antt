@@ -2,7 +2,7 @@
 
 use Rattle.std.proofs.Common.{◌≡◌, ℕ, Bool, true, false, ◌&&◌, List, [], ◌∷◌, ◌++◌, get_or, Some, slice_get, position, if◌then◌else◌, inl, inr, refl, sym, ap, ◌∙◌, eqb, eq-eqb}
 use mathlib.Core.Bool.{beq}
-use Rattle.std.proofs.lemmas.Bool.{eqb-true, false≢true}
+use Rattle.std.proofs.lemmas.Bool.{and_from, and_parts, eqb-true, false≢true}
 use Rattle.std.specs.List.{list_any}
 use Rattle.std.proofs.lemmas.Map.Keys.{any_passes_from_place}
 use Rattle.std.proofs.lemmas.List.Quantifiers.{position-Some}
@@ -24,44 +24,35 @@ beq_same false false equal = refl
 beq_same true false equal = sym equal
 beq_same false true equal = equal
 
-both : (a b : Bool) → a ≡ true → b ≡ true → (a && b) ≡ true
-both a b first second = ap (λ x. x && b) first ∙ second
-
-first_of_both : (a b : Bool) → (a && b) ≡ true → a ≡ true
-first_of_both true b holds = refl
-first_of_both false b holds = holds
-
-second_of_both : (a b : Bool) → (a && b) ≡ true → b ≡ true
-second_of_both true b holds = holds
-second_of_both false b holds = absurd (false≢true holds)
-
 three : (a b c : Bool) → a ≡ true → b ≡ true → c ≡ true → (a && (b && c)) ≡ true
-three a b c first second third = both a (b && c) first (both b c second third)
+three a b c first second third = and_from a (b && c) first (and_from b c second third)
 
 three_parts : (a b c : Bool) → (a && (b && c)) ≡ true → (a ≡ true) × (b ≡ true) × (c ≡ true)
 three_parts a b c holds =
-    let rest : (b && c) ≡ true = second_of_both a (b && c) holds in
-    (first_of_both a (b && c) holds, first_of_both b c rest, second_of_both b c rest)
+    let whole = and_parts a (b && c) holds in
+    let rest = and_parts b c whole.1 in
+    (whole.0, rest.0, rest.1)
 
 bit_eq : Bit → Bit → Bool
 bit_eq a b = eqb a.index b.index && beq a.negated b.negated
 
 bit_own : (a : Bit) → bit_eq a a ≡ true
 unfolding bit_eq
-bit_own a = both (eqb a.index a.index) (beq a.negated a.negated) (eq-eqb a.index a.index refl) (beq_own a.negated)
+bit_own a = and_from (eqb a.index a.index) (beq a.negated a.negated) (eq-eqb a.index a.index refl) (beq_own a.negated)
 
 bit_same : (a b : Bit) → bit_eq a b ≡ true → a ≡ b
 unfolding bit_eq
 bit_same a b equal =
-    let index : a.index ≡ b.index = eqb-true a.index b.index (first_of_both _ _ equal) in
-    let negated : a.negated ≡ b.negated = beq_same a.negated b.negated (second_of_both (eqb a.index b.index) _ equal) in
+    let parts = and_parts (eqb a.index b.index) (beq a.negated b.negated) equal in
+    let index : a.index ≡ b.index = eqb-true a.index b.index parts.0 in
+    let negated : a.negated ≡ b.negated = beq_same a.negated b.negated parts.1 in
     λ i. record { index = index i; negated = negated i }
 
 pub eq_own : (node : Node) → eq-value.it node node ≡ true
 unfolding bit_eq
 eq_own (Free number) = eq-eqb number number refl
-eq_own (And a b) = both (bit_eq a a) (bit_eq b b) (bit_own a) (bit_own b)
-eq_own (Xor a b) = both (bit_eq a a) (bit_eq b b) (bit_own a) (bit_own b)
+eq_own (And a b) = and_from (bit_eq a a) (bit_eq b b) (bit_own a) (bit_own b)
+eq_own (Xor a b) = and_from (bit_eq a a) (bit_eq b b) (bit_own a) (bit_own b)
 eq_own (Mux a b c) = three (bit_eq a a) (bit_eq b b) (bit_eq c c) (bit_own a) (bit_own b) (bit_own c)
 eq_own (Majority a b c) = three (bit_eq a a) (bit_eq b b) (bit_eq c c) (bit_own a) (bit_own b) (bit_own c)
 
@@ -69,12 +60,14 @@ pub eq_same : (node other : Node) → eq-value.it node other ≡ true → node �
 unfolding bit_eq
 eq_same (Free number) (Free other) equal = ap Free (eqb-true number other equal)
 eq_same (And a b) (And x y) equal =
-    let first : a ≡ x = bit_same a x (first_of_both (bit_eq a x) (bit_eq b y) equal) in
-    let second : b ≡ y = bit_same b y (second_of_both (bit_eq a x) (bit_eq b y) equal) in
+    let parts = and_parts (bit_eq a x) (bit_eq b y) equal in
+    let first : a ≡ x = bit_same a x parts.0 in
+    let second : b ≡ y = bit_same b y parts.1 in
     λ i. And (first i) (second i)
 eq_same (Xor a b) (Xor x y) equal =
-    let first : a ≡ x = bit_same a x (first_of_both (bit_eq a x) (bit_eq b y) equal) in
-    let second : b ≡ y = bit_same b y (second_of_both (bit_eq a x) (bit_eq b y) equal) in
+    let parts = and_parts (bit_eq a x) (bit_eq b y) equal in
+    let first : a ≡ x = bit_same a x parts.0 in
+    let second : b ≡ y = bit_same b y parts.1 in
     λ i. Xor (first i) (second i)
 eq_same (Mux a b c) (Mux x y z) equal =
     let parts = three_parts (bit_eq a x) (bit_eq b y) (bit_eq c z) equal in

@@ -6,7 +6,7 @@ use Rattle.std.proofs.lemmas.List.{take-append-drop, length_push, get_or_append_
 use Rattle.std.proofs.Math.Seq.{get_or-append_seam}
 use Rattle.std.proofs.lemmas.List.Elements.{All-from_get_or}
 use Rattle.std.specs.List.Sorted.{IsPermutation}
-use Rattle.ba_lits.specs.Literals.{Literal, negate, lit_at, no_literal, IsClause}
+use Rattle.ba_lits.specs.Literals.{Literal, negate, lit_at, no_literal, IsClause, positive}
 use Rattle.ba_lits.specs.Satisfaction.{Assignment, signed, lit_true, any_true, assignment_of}
 use Rattle.ba_lits.specs.Hints.{has_literal, FollowsByHints}
 use Rattle.ba_lits.proofs.Members.{has_literal-permutation, literal_found, has_literal-at, negate-negate}
@@ -21,7 +21,7 @@ use Rattle.ba_learn.proofs.BackLaws.{back_level, back_asserting}
 use Rattle.ba_learn.proofs.FollowLaws.{false_negates}
 use Rattle.ba_checker.specs.States.{State, clause_at}
 use Rattle.ba_search.specs.Answers.{AreAssumptions, IsModel, IsCore}
-use Rattle.ba_search.specs.Values.{positive, is_true, values_of}
+use Rattle.ba_search.specs.Values.{is_true, values_of}
 use Rattle.ba_search.specs.Iterations.{Numbering, AreTrue, IsUnderway}
 use Rattle.ba_search.proofs.LearnLaws.{Formed, clause_formed, learnt_numbers}
 

@@ -5,13 +5,15 @@ use Rattle.std.specs.List.{list_all, Contains}
 use Rattle.std.specs.Option.{option_map}
 use Rattle.std.proofs.lemmas.Bool.{and_parts, cases_eq, cases_lt}
 use Rattle.std.proofs.lemmas.Bool.Decides.{nat_tests}
-use Rattle.std.proofs.lemmas.List.{get_or_default, get_or_past}
 use Rattle.std.proofs.lemmas.List.Elements.{All-contains}
 use Rattle.std.proofs.lemmas.List.Sorted.{length_permutation}
+use Rattle.std.proofs.lemmas.Option.{none-some}
 use Rattle.ba_lits.specs.Literals.{Literal}
 use Rattle.ba_watch.specs.Threads.{Clause}
 use Rattle.ba_watch.specs.Propagation.{State as Watching}
 use Rattle.ba_watch.specs.Deletion.{KeepsOthers, Deletes, MayDelete, IsNamed}
+use Rattle.ba_watch.proofs.Deleted.{named_from, contains_from}
+use Rattle.ba_watch.proofs.DeletedSound.{some_within}
 use Rattle.ba_checker.specs.States.{Kept, State, is_learnt_at, clause_at, width_at, without, without_all}
 use Rattle.ba_checker.specs.Judging.{may_go, after_delete}
 use Rattle.ba_learn.specs.Live.{AreLive, IsSame}
@@ -49,12 +51,6 @@ forgotten_more numbers i x old now new x_is cleared others h = record {
   where
     below : (n k : ℕ) → k < i + 1 → (k ≡ i → ⊥) → k < i
     below n k h ne = ⊎_elim (λ lt. lt) (λ ge. absurd (ne (omega (arith, ge, h)))) (cases_lt k i)
-
-named_from : (numbers : List ℕ) (n : ℕ) → Contains numbers n → IsNamed numbers (length numbers) n
-named_from numbers n has = (has.0, has.1, get_or_default numbers has.0 0 n has.1 ∙ has.2)
-
-contains_from : (numbers : List ℕ) (n : ℕ) → IsNamed numbers (length numbers) n → Contains numbers n
-contains_from numbers n named = (named.0, named.1, sym (get_or_default numbers named.0 0 n named.1) ∙ named.2)
 
 pub forgets_all : (numbers : List ℕ) (count : ℕ) (old new : List Bool) → count ≡ length numbers
     → HasForgotten numbers count old new → Forgets numbers old new
@@ -112,9 +108,6 @@ without_stays cs (m ∷ ms) n other =
     without_stays (without cs m) ms n (λ k h e. other (suc k) (omega (arith, h)) e)
     ∙ without_other cs n m (λ e. other 0 (omega arith) (sym e))
 
-none_some : {X : Type 0} (o : Option X) (x : X) → o ≡ None → o ≡ Some x → ⊥
-none_some o x e f = cc (sym e ∙ f)
-
 -- the search's clauses are still those of the checker
 pub live_deleted : (old new : List (Option Clause)) (cs : List Kept) (ns : List ℕ) (moved : ℕ → ℕ)
     → KeepsOthers ns moved old new → AreLive old (clause_at cs) → AreLive new (clause_at (without_all cs ns))
@@ -128,7 +121,7 @@ live_deleted old new cs ns moved keeps live = record {
   all = λ n given is.
       let other : Contains ns n → ⊥ = λ has.
       let named = named_from ns n has in
-      none_some _ given (without_gone cs ns named.0 n named.1 named.2) is in
+      none-some given (sym (without_gone cs ns named.0 n named.1 named.2) ∙ is) in
       let was : clause_at cs n ≡ Some given =
       sym (without_stays cs ns n (λ k h e. other (contains_from ns n (k, h, e)))) ∙ is in
       let found = live.all n given was in (
@@ -189,10 +182,6 @@ may_delete s c taken ns marks live go none = record {
       long_at d (clause_at c.clauses d.number) refl (live.each r d at) wide;
 }
   where
-    some_within : (rs : List (Option ℕ)) (p r : ℕ) → get_or rs p None ≡ Some r → p < length rs
-    some_within rs p r is = ⊎_elim (λ h. h) (λ past. absurd (none_some _ r (get_or_past rs p None past) is))
-        (cases_lt p (length rs))
-
     wide_is : (w : ℕ) → ltb 2 w ≡ true → 2 ≤ w
     wide_is w e = grind (arith, nat_tests, e)
 

@@ -2,12 +2,8 @@
 
 use Rattle.std.specs.Prelude.{◌≡◌, ℕ, ◌≤◌, Bool, false, Option, None, Some, List, [], ◌∷◌, ◌++◌}
 use Prim.Native.Nat.{suc, zero}
-use Rattle.ba_lits.specs.Literals.{Literal}
+use Rattle.ba_lits.specs.Literals.{Literal, positive}
 use Rattle.ba_watch.specs.Trails.{value_of}
-
--- the literal of a variable
-abbrev pub positive : ℕ → Literal
-positive variable = record { variable = variable; negated = false }
 
 -- a variable up to a limit without a value
 pub record IsUnassigned (trail : List Literal) (limit variable : ℕ) : Type 0 where

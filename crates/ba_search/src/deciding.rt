@@ -1,14 +1,14 @@
 //! Decisions where no clause is false or unit, and the answers where there is none to make.
 
 ghost use Rattle.std.specs.Prelude.{◌≡◌, ◌≢◌, ℕ, ◌<◌, ◌≤◌, ◌^◌, None, Some, true, false, is_none, length, IfOk, IfSome, IfNone, List};
-ghost use Rattle.ba_lits.specs.Literals.{Literal, lit_at};
+ghost use Rattle.ba_lits.specs.Literals.{Literal, lit_at, positive};
 ghost use Rattle.ba_lits.specs.Hints.{has_literal};
 ghost use Rattle.ba_watch.specs.Trails.{value_of, decided};
 ghost use Rattle.ba_watch.specs.Propagation.{IsComplete};
 ghost use Rattle.ba_checker.specs.States.{State as Checking};
 ghost use Rattle.ba_search.specs.Answers.{AreAssumptions};
 ghost use Rattle.ba_search.specs.Engines.{Decides, LearnsNothing};
-ghost use Rattle.ba_search.specs.Values.{positive, is_true, values_of, IsUnassigned};
+ghost use Rattle.ba_search.specs.Values.{is_true, values_of, IsUnassigned};
 ghost use Rattle.ba_search.specs.Iterations.{AreTrue, IsDecision, IsUnderway, iterations_left};
 
 use crate::candidates::Candidates;

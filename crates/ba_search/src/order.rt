@@ -1,8 +1,9 @@
 //! The order in which variables are decided, and with which values.
 
 ghost use Rattle.std.specs.Prelude.{◌≡◌, ℕ, ◌≤◌, None, false, IfSome, IfNone, is_none};
+ghost use Rattle.ba_lits.specs.Literals.{positive};
 ghost use Rattle.ba_watch.specs.Trails.{value_of};
-ghost use Rattle.ba_search.specs.Values.{positive, IsUnassigned};
+ghost use Rattle.ba_search.specs.Values.{IsUnassigned};
 
 use ba_lits::Lit;
 use ba_watch::Watch;

@@ -1,8 +1,8 @@
 -- The logs of two sinks, one after the other.
 
-use Rattle.std.proofs.Common.{◌≡◌, [], ◌∷◌, ◌++◌, Result, Ok, Err, refl, inl, inr}
+use Rattle.std.proofs.Common.{◌≡◌, [], ◌∷◌, ◌++◌, Result, Ok, Err, refl, inl, inr, ℕ, ◌≤◌, arith}
 use Rattle.std.specs.Result.{OnErr}
-use Rattle.ba_steps.specs.Sinks.{Logs, with_step, MayAddStep}
+use Rattle.ba_steps.specs.Sinks.{Logs, with_step, MayAddStep, Rose}
 use Rattle.ba_steps.specs.declared.step.CertStep.{CertStep}
 
 pub MayAddStep-append : (step : CertStep) (a b c d : Logs) → MayAddStep step a b → MayAddStep step c d →
@@ -39,3 +39,8 @@ both_second step a b c d told second = rw told
 
 pub MayAddStep-as : (step : CertStep) (a b : Logs) → b ≡ a → MayAddStep step a b
 MayAddStep-as step a b same = rw same (MayAddStep-same step a)
+
+-- a count that rose since rose since before
+pub rose_later : (a b c : ℕ) → a ≤ b → Rose b c → Rose a c
+rose_later a b c le (inl rose) = inl (omega (arith, le, rose))
+rose_later a b c le (inr most) = inr most

@@ -1,5 +1,5 @@
 -- Nodes one after the other.
-use Rattle.std.proofs.Common.{Result, Ok, Err, OnOk, ◌≡◌, ℕ, ◌+◌, ◌<◌, ◌≤◌, true, List, [], ◌∷◌, ◌++◌, length, take, get_or, sym, ◌∙◌, ap, subst}
+use Rattle.std.proofs.Common.{◌≡◌, ℕ, ◌+◌, ◌<◌, ◌≤◌, true, List, [], ◌∷◌, ◌++◌, length, take, get_or, sym, ◌∙◌, ap, subst}
 use Rattle.std.proofs.lemmas.Bool.{and_parts}
 use Rattle.std.proofs.lemmas.List.{take_more, take_all}
 use Rattle.ba_code.proofs.Rows.{run-append, run-none, run-one}
@@ -10,11 +10,6 @@ use Rattle.ba_code.specs.declared.nodes.Node.{Node}
 use Rattle.ba_unroll.proofs.Adding.{adds-nothing, adds-same, adds-then, adds-where, inside-append}
 use Rattle.ba_unroll.specs.Unrolling.{Adds, all_inside, and_then, bounded, node_act, node_inside, nodes_act, then_act}
 use Rattle.ba_tree.specs.Acts.{after_part, then_do}
-
--- what is said of a success follows from what is known of it
-pub on-ok : {A E : Type 0} (result : Result A E) (P Q : Type 0) → (P → Q) → OnOk result P → OnOk result Q
-on-ok (Ok a) P Q more held = more held
-on-ok (Err e) P Q more held = held
 
 module _ (bound : ℕ) (turns : List ℕ) where
   abbrev AddsAll : List Node → List Node → List Node → Type 0

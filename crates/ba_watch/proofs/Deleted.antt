@@ -1,27 +1,26 @@
 -- What a deletion leaves of the clauses, and of what names them.
 
-use Rattle.std.proofs.Common.{◌≡◌, ℕ, suc, zero, ◌+◌, ◌<◌, ◌≤◌, Option, None, Some, IsSome, is_some, List, [], ◌∷◌, ◌++◌, length, get_or, take, drop, map, refl, sym, ap, subst, ◌∙◌, arith, ⊎_elim}
+use Rattle.std.proofs.Common.{◌≡◌, ℕ, suc, zero, ◌<◌, ◌≤◌, Option, None, Some, IsSome, is_some, List, [], ◌∷◌, ◌++◌, length, get_or, take, drop, map, refl, sym, ap, subst, ◌∙◌, arith, ⊎_elim}
 use Rattle.std.specs.List.{Contains}
 use Rattle.std.specs.Option.{option_map}
 use Rattle.std.proofs.lemmas.List.{get_or_default, take_all, drop_all, append-nil}
+use Rattle.std.proofs.lemmas.Option.{none-some}
 use Rattle.ba_lits.specs.Literals.{Literal}
 use Rattle.ba_arena.specs.Clauses.{Clauses, Stored, IsLive, clause_at, lits_at, lits_of, link_at, link_of, linked}
 use Rattle.ba_arena.specs.Compaction.{size_of, moved, compacted, forwarded, Plans}
 use Rattle.ba_arena.proofs.Moves.{moved-there, moved-from, moved-apart, moved-same}
+use Rattle.ba_arena.proofs.Writing.{cons_both}
 use Rattle.ba_watch.specs.Threads.{Clause, plain, plain_at, SamePlain}
 use Rattle.ba_watch.specs.Propagation.{clause_in}
 use Rattle.ba_watch.specs.Trails.{Assignments}
-use Rattle.ba_watch.specs.Deletion.{Source, KeepsOthers, DeletesAll, IsKept, number_of, numbered, AreReferenced, IsNamed, IsWithout, followed, link_or}
+use Rattle.ba_watch.specs.Deletion.{KeepsOthers, DeletesAll, IsKept, number_of, numbered, AreReferenced, IsNamed, IsWithout, followed, link_or}
 use Rattle.ba_watch.proofs.Sounds.{clause_in-map}
 
-none_some : {X : Type 0} (o : Option X) (x : X) → o ≡ None → o ≡ Some x → ⊥
-none_some o x e f = cc (sym e ∙ f)
-
 -- a number of the list, read in two ways
-named_from : (numbers : List ℕ) (n : ℕ) → Contains numbers n → IsNamed numbers (length numbers) n
+pub named_from : (numbers : List ℕ) (n : ℕ) → Contains numbers n → IsNamed numbers (length numbers) n
 named_from numbers n has = (has.0, has.1, get_or_default numbers has.0 0 n has.1 ∙ has.2)
 
-contains_from : (numbers : List ℕ) (n : ℕ) → IsNamed numbers (length numbers) n → Contains numbers n
+pub contains_from : (numbers : List ℕ) (n : ℕ) → IsNamed numbers (length numbers) n → Contains numbers n
 contains_from numbers n named = (named.0, named.1, sym (get_or_default numbers named.0 0 n named.1) ∙ named.2)
 
 -- a clause and its number, without links
@@ -167,15 +166,15 @@ module _ (a0 a1 a2 : Clauses) (numbers : List ℕ)
           let source = came q c (sym (clause_in-map a4 q) ∙ is) in
           let r = source.from in
           let was : plain_at a0 r ≡ Some c = ⊎_elim
-          (λ none. absurd (none_some _ c (ap plain none) source.is))
+          (λ none. absurd (none-some c (sym (ap plain none) ∙ source.is)))
           (λ still. sym (ap plain still) ∙ source.is)
           (without.either r) in
           record {
             from = r;
             there = clause_in-map a0 r ∙ was;
-            stays = λ has. none_some _ c (ap plain (without.gone r c.number
+            stays = λ has. none-some c (sym (ap plain (without.gone r c.number
                 (number_plain (clause_at a0 r) c was)
-                (named_from numbers c.number has))) source.is;
+                (named_from numbers c.number has))) ∙ source.is);
             to = source.at;
           };
       apart = λ x y c d x_is x_stays y_is y_stays e. moved-apart a1 x y
@@ -248,10 +247,7 @@ map_agree : {X Y : Type 0} (f g : X → Y) (xs : List X) (d : X) →
     → map f xs ≡ map g xs
 map_agree f g [] d same = refl
 map_agree f g (x ∷ xs) d same =
-    both _ _ _ _ (same 0 (omega arith)) (map_agree f g xs d (λ k h. same (suc k) (omega (arith, h))))
-  where
-    both : {Z : Type 0} (x y : Z) (xs ys : List Z) → x ≡ y → xs ≡ ys → x ∷ xs ≡ y ∷ ys
-    both x y xs ys e f = rw (e, f) refl
+    cons_both _ _ _ _ (same 0 (omega arith)) (map_agree f g xs d (λ k h. same (suc k) (omega (arith, h))))
 
 all_mapped : {X : Type 0} (f : X → X) (xs : List X) (n : ℕ) → length xs ≤ n →
     map f (take n xs) ++ drop n xs ≡ map f xs

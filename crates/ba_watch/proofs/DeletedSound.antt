@@ -1,24 +1,25 @@
 -- The facts of a watch after a deletion.
 
-use Rattle.std.proofs.Common.{◌≡◌, ◌≢◌, ℕ, suc, zero, ◌+◌, ◌*◌, ◌<◌, ◌≤◌, Bool, true, false, Option, None, Some, IsSome, is_some, List, [], ◌∷◌, length, get_or, take, drop, map, eqb, cond, refl, sym, ap, subst, ◌∙◌, arith, ⊎_elim}
-use Rattle.std.specs.List.{Contains}
+use Rattle.std.proofs.Common.{◌≡◌, ◌≢◌, ℕ, suc, zero, ◌+◌, ◌*◌, ◌<◌, ◌≤◌, Bool, true, false, Option, None, Some, IsSome, is_some, List, [], ◌∷◌, length, get_or, take, map, eqb, cond, refl, sym, ap, subst, ◌∙◌, arith, ⊎_elim}
 use Rattle.std.specs.Option.{option_map}
 use Rattle.std.proofs.lemmas.Bool.{cases_eq, cases_lt}
 use Rattle.std.proofs.lemmas.Bool.Decides.{nat_tests}
 use Rattle.std.proofs.lemmas.List.{get_or_past, take-map, length-map}
+use Rattle.std.proofs.lemmas.Option.{none-some}
 use Rattle.ba_lits.specs.Literals.{Literal, index_of, lit_at}
 use Rattle.ba_lits.specs.Hints.{has_literal}
 use Rattle.ba_arena.specs.Clauses.{Clauses, Stored, IsLive, clause_at, lits_at, lits_of}
+use Rattle.ba_arena.proofs.Reading.{stored_some}
 use Rattle.ba_watch.specs.Chains.{occurrences}
-use Rattle.ba_watch.specs.Threads.{Clause, plain, plain_at, index_at}
+use Rattle.ba_watch.specs.Threads.{Clause, plain, plain_at}
 use Rattle.ba_watch.specs.Trails.{Assignments, value_of, place_of, decided, level_at}
-use Rattle.ba_watch.specs.Propagation.{State, clause_in, plain_lits, IsReason, IsGuarded, AreFacts, AreUnits, IsSound}
-use Rattle.ba_watch.specs.Deletion.{Source, Deletes, DeletesAll, MayDelete, MayLink, IsKept, AreAlone, number_of, numbered}
+use Rattle.ba_watch.specs.Propagation.{clause_in, plain_lits, IsReason, IsGuarded, AreFacts, AreUnits, IsSound}
+use Rattle.ba_watch.specs.Deletion.{Deletes, DeletesAll, MayDelete, MayLink, IsKept, AreAlone, number_of}
 use Rattle.ba_watch.proofs.Visits.{lits-plain, some-plain}
 use Rattle.ba_watch.proofs.Levels.{decided-take_drop}
-use Rattle.ba_watch.proofs.ListSteps.{live_from_long}
 use Rattle.ba_watch.proofs.Follows.{Agrees, decided_map, agrees_take, level_map}
 use Rattle.ba_watch.proofs.Sounds.{clause_in-map, state}
+use Rattle.ba_watch.proofs.Walks.{at_occurs}
 
 -- a list of waiting clauses and their new places
 one_less : (x r y z n : ℕ) → (x ≡ r → y ≡ z) → cond (eqb y z) 1 0 + n ≡ 0 → cond {A = ℕ} (eqb x r) 1 0 ≡ 0
@@ -53,27 +54,12 @@ stands f (x ∷ xs) q h = ⊎_elim
     later : (y q n : ℕ) → y ≢ q → 0 < cond (eqb y q) 1 0 + n → 0 < n
     later y q n ne h = grind (arith, nat_tests)
 
-occurs : (w : List ℕ) (k : ℕ) → k < length w → 0 < occurrences (get_or w k 0) w
-occurs [] k h = absurd (omega (arith, h))
-occurs (x ∷ xs) zero h = first x (occurrences x xs)
-  where
-    first : (x n : ℕ) → 0 < cond (eqb x x) 1 0 + n
-    first x n = grind (arith, nat_tests)
-occurs (x ∷ xs) (suc k) h = omega (arith, occurs xs k (omega (arith, h)))
-
-stored_some : (o : Option Stored) → IsSome o → (s : Stored) × (o ≡ Some s)
-stored_some None live = absurd (cc live)
-stored_some (Some s) live = (s, refl)
-
 plain_some : (o : Option Clause) → IsSome o → (c : Clause) × (o ≡ Some c)
 plain_some None live = absurd (cc live)
 plain_some (Some c) live = (c, refl)
 
-none_some : {X : Type 0} (o : Option X) (x : X) → o ≡ None → o ≡ Some x → ⊥
-none_some o x e f = cc (sym e ∙ f)
-
-some_within : (rs : List (Option ℕ)) (p r : ℕ) → get_or rs p None ≡ Some r → p < length rs
-some_within rs p r is = ⊎_elim (λ h. h) (λ past. absurd (none_some _ r (get_or_past rs p None past) is))
+pub some_within : (rs : List (Option ℕ)) (p r : ℕ) → get_or rs p None ≡ Some r → p < length rs
+some_within rs p r is = ⊎_elim (λ h. h) (λ past. absurd (none-some r (sym (get_or_past rs p None past) ∙ is)))
     (cases_lt p (length rs))
 
 -- what the conditions of a deletion give
@@ -118,7 +104,7 @@ module _ (a : Clauses) (n : ℕ) (p : Option ℕ) (t : Assignments) (h : ℕ) (w
   pub waiting_kept : (k : ℕ) → k < length w → IsKept a numbers (get_or w k 0)
   waiting_kept k k_in =
       let r = get_or w k 0 in
-      let there : 0 < occurrences r w = occurs w k k_in in
+      let there : 0 < occurrences r w = at_occurs w k k_in in
       let x = stored_some (clause_at a r) (sound.units.live r there) in
       let short : length x.0.lits < 2 = subst (λ (o : Option Stored). length (lits_of o) < 2) x.1
       (sound.units.short r there) in
@@ -313,7 +299,7 @@ module _ (a : Clauses) (n : ℕ) (p : Option ℕ) (t : Assignments) (h : ℕ) (w
           let r = get_or w x.place 0 in
           subst (λ m. length (lits_at a' m) < 2) x.is
           (subst (λ (ls : List Literal). length ls < 2) (sym (lits_there r (waiting_kept x.place x.within)))
-          (sound.units.short r (occurs w x.place x.within)));
+          (sound.units.short r (at_occurs w x.place x.within)));
     }
 
     none_left : w ≡ [] → w' ≡ []

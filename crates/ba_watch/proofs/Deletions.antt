@@ -1,13 +1,15 @@
 -- Clauses are marked dead by their numbers, and the lists are threaded anew.
 
-use Rattle.std.proofs.Common.{◌≡◌, ◌≢◌, ℕ, suc, zero, ◌+◌, ◌<◌, ◌≤◌, ◌⊎◌, Bool, true, false, Option, None, Some, IsSome, is_some, List, [], ◌∷◌, length, get_or, set, take, eqb, cond, refl, sym, ap, subst, ◌∙◌, arith, ⊎_elim, inl, inr, get_or-set_same, get_or-set_other}
+use Rattle.std.proofs.Common.{◌≡◌, ◌≢◌, ℕ, suc, zero, ◌+◌, ◌<◌, ◌≤◌, Option, None, Some, IsSome, is_some, List, [], ◌∷◌, length, get_or, set, take, eqb, cond, refl, sym, ap, subst, ◌∙◌, arith, ⊎_elim, inl, inr, get_or-set_other}
 use Rattle.std.proofs.lemmas.Bool.{cases_eq, cases_lt}
 use Rattle.std.proofs.lemmas.List.{get_or_past, get_or_read, get_or-take, length-take, length-set}
+use Rattle.std.proofs.lemmas.Option.{none-some, same_Some}
 use Rattle.ba_arena.specs.Clauses.{Clauses, Stored, IsLive, clause_at, lits_at, lits_of, changed, linked}
 use Rattle.ba_arena.specs.Compaction.{IsFirstFrom}
 use Rattle.ba_arena.proofs.Planning.{live_within}
+use Rattle.ba_arena.proofs.Reading.{stored_some}
 use Rattle.ba_watch.specs.Chains.{occurrences}
-use Rattle.ba_watch.specs.Threads.{next_in, next_of, list_of, index_at, watches, watch_count, AreApart, AreThreaded, plain, plain_at, SamePlain}
+use Rattle.ba_watch.specs.Threads.{next_in, next_of, list_of, index_at, watches, AreApart, AreThreaded, plain, plain_at, SamePlain}
 use Rattle.ba_watch.specs.Propagation.{plain_lits}
 use Rattle.ba_watch.specs.Deletion.{number_of, numbered, AreReferenced, AreAlone, IsNamed, IsWithout}
 use Rattle.ba_watch.proofs.Walks.{Leads-walk, Leads-same}
@@ -21,12 +23,6 @@ set_none : {X : Type 0} (xs : List (Option X)) (i : ℕ) → get_or (set xs i No
 set_none [] i = refl
 set_none (x ∷ xs) zero = refl
 set_none (x ∷ xs) (suc i) = set_none xs i
-
-none_some : {X : Type 0} (o : Option X) (x : X) → o ≡ None → o ≡ Some x → ⊥
-none_some o x e f = cc (sym e ∙ f)
-
-same_some : {X : Type 0} (x y : X) → ◌≡◌ {A = Option X} (Some x) (Some y) → x ≡ y
-same_some x y e = cc e
 
 -- no clause has the number
 pub unnamed : (a : Clauses) (refs : List (Option ℕ)) (number : ℕ) → AreReferenced a refs →
@@ -55,7 +51,7 @@ module _ (a a' : Clauses) (refs : List (Option ℕ)) (number q : ℕ) (r : AreRe
 
   only : (k m : ℕ) → numbered a k ≡ Some m → m ≢ number → k ≢ q
   only k m k_is other e =
-      other (same_some m number (sym k_is ∙ (ap (numbered a) e ∙ r.sound number q is)))
+      other (same_Some m number (sym k_is ∙ (ap (numbered a) e ∙ r.sound number q is)))
 
   pub marked : IsWithout (λ n. n ≡ number) a a'
   marked = record {
@@ -71,15 +67,15 @@ module _ (a a' : Clauses) (refs : List (Option ℕ)) (number q : ℕ) (r : AreRe
   pub marked_references : AreReferenced a' (set refs number None)
   marked_references = record {
     sound = λ n k at. ⊎_elim
-        (λ e. absurd (none_some _ k (ap (λ (m : ℕ). get_or (set refs number None) m None) e
-        ∙ set_none refs number) at))
+        (λ e. absurd (none-some k (sym (ap (λ (m : ℕ). get_or (set refs number None) m None) e
+        ∙ set_none refs number) ∙ at)))
         (λ ne.
         let was : numbered a k ≡ Some n = r.sound n k (sym (get_or-set_other refs number n None None ne)
         ∙ at) in
         ap number_of (there k (only k n was ne)) ∙ was)
         (cases_eq n number);
     each = λ n k at.
-        let ne : k ≢ q = λ e. none_some _ n (ap (numbered a') e ∙ ap number_of here) at in
+        let ne : k ≢ q = λ e. none-some n (sym (ap (numbered a') e ∙ ap number_of here) ∙ at) in
         let was : numbered a k ≡ Some n = sym (ap number_of (there k ne)) ∙ at in
         let other : n ≢ number = λ e. ne (alone k q number (was
         ∙ ap (λ (m : ℕ). Some m) e) (r.sound number q is)) in
@@ -97,7 +93,7 @@ without_none a numbers = record {
 was_numbered : (P : ℕ → Type 0) (a b : Clauses) → IsWithout P a b → (k n : ℕ) → numbered b k ≡ Some n →
     numbered a k ≡ Some n
 was_numbered P a b w k n is = ⊎_elim
-    (λ none. absurd (none_some _ n (ap number_of none) is))
+    (λ none. absurd (none-some n (sym (ap number_of none) ∙ is)))
     (λ same. sym (ap number_of same) ∙ is)
     (w.either k)
 
@@ -168,10 +164,6 @@ threaded_none a heads v none empty =
     (λ i j i_in. absurd (omega (arith, i_in)))) in
     all.threaded
 
-some_of : (o : Option Stored) → IsSome o → (s : Stored) × (o ≡ Some s)
-some_of None live = absurd (cc live)
-some_of (Some s) live = (s, refl)
-
 -- one clause more, up to its place
 new_upto : (a b : Clauses) (r : ℕ) (s : Stored) → clause_at b r ≡ Some s →
     ((k : ℕ) → k ≢ r → clause_at b k ≡ clause_at a k)
@@ -193,7 +185,7 @@ pub linked_short : (a : Clauses) (heads : List (Option ℕ)) (r v : ℕ) → IsL
     → length (lits_at a r) < 2 → AreThreaded (take r a) heads v None →
     AreThreaded (take (r + 1) a) heads v None
 linked_short a heads r v live apart short t =
-    let some = some_of (clause_at a r) live in
+    let some = stored_some (clause_at a r) live in
     let lits : lits_at a r ≡ some.0.lits = ap lits_of some.1 in
     added_short (take r a) (take (r + 1) a) heads v r some.0 t
     (new_upto a a r some.0 some.1 (λ k ne. refl) (subst (λ ls. AreApart ls) lits apart))
@@ -237,7 +229,7 @@ module _ (a a3 a4 : Clauses) (r : ℕ) (first second : Option ℕ) (live : IsLiv
       → first ≡ get_or heads g first → second ≡ get_or heads h second → AreThreaded (take r a) heads v None
       → AreThreaded (take (r + 1) a4) (set (set heads g (Some r)) h (Some r)) v None
   linked_long heads v g h apart long g_is h_is g_in h_in first_is second_is t =
-      let some = some_of (clause_at a r) live in
+      let some = stored_some (clause_at a r) live in
       let s = some.0 in
       let lits : lits_at a r ≡ s.lits = ap lits_of some.1 in
       let s' : Stored = record { lits = s.lits; number = s.number; first = first; second = second } in
@@ -280,7 +272,7 @@ relinking_init a count heads None len empty first = record {
 relinking_init a count heads (Some n) len empty first = record {
   plain_is = λ k. refl;
   len = len;
-  live = λ c e. subst (λ m. IsLive a m) (same_some n c e) first.1;
+  live = λ c e. subst (λ m. IsLive a m) (same_Some n c e) first.1;
   threaded = λ v. threaded_none (take n a) heads v
       (λ k. ⊎_elim (λ below. at_below n k a below ∙ first.2 k (omega arith) below)
       (λ above. at_past n k a above) (cases_lt k n)) empty;
@@ -305,7 +297,7 @@ relinking_step start now new count c heads heads' None was same len step first =
 relinking_step start now new count c heads heads' (Some n) was same len step first = record {
   plain_is = λ k. same k ∙ was.plain_is k;
   len = len ∙ was.len;
-  live = λ d e. subst (λ m. IsLive new m) (same_some n d e) first.1;
+  live = λ d e. subst (λ m. IsLive new m) (same_Some n d e) first.1;
   threaded = λ v. threaded_same (take (c + 1) new) (take n new) heads' v
       (λ k. ⊎_elim
       (λ below. at_below n k new (omega (arith, below, first.0)) ∙ sym (at_below (c + 1) k new below))

@@ -1,13 +1,14 @@
 -- The steps on the threaded lists as the code makes them.
 
-use Rattle.std.proofs.Common.{◌≡◌, ◌≢◌, ℕ, suc, zero, ◌+◌, ◌-◌, ◌<◌, ◌≤◌, Bool, true, false, Option, None, Some, IsSome, Result, Ok, Err, IfOk, OnErr, List, [], ◌∷◌, ◌++◌, length, get_or, set, take, replicate, eqb, leb, ◌&&◌, ◌||◌, cond, refl, sym, ap, subst, ◌∙◌, arith, ⊎_elim}
+use Rattle.std.proofs.Common.{◌≡◌, ◌≢◌, ℕ, suc, zero, ◌+◌, ◌-◌, ◌<◌, ◌≤◌, Bool, true, false, Option, None, Some, Result, Ok, Err, IfOk, OnErr, List, [], ◌∷◌, ◌++◌, length, get_or, set, take, replicate, eqb, leb, ◌&&◌, ◌||◌, cond, refl, sym, ap, subst, ◌∙◌, arith, ⊎_elim}
 use Rattle.std.specs.List.{swap}
 use Rattle.std.proofs.lemmas.Bool.{cases_lt}
 use Rattle.std.proofs.lemmas.Bool.Decides.{nat_tests}
 use Rattle.std.proofs.lemmas.List.{length-set, length-replicate, get_or_read, get_or-replicate, get_or_past, take_all}
 use Rattle.std.proofs.lemmas.List.Edits.{length-swap}
 use Rattle.ba_lits.specs.Literals.{Literal, index_of}
-use Rattle.ba_arena.specs.Clauses.{Clauses, Stored, IsLive, clause_at, lits_at, lits_of, link_at, changed, linked, swapped, Adds}
+use Rattle.ba_arena.specs.Clauses.{Clauses, Stored, IsLive, clause_at, lits_at, link_at, changed, linked, swapped, Adds}
+use Rattle.ba_arena.proofs.Reading.{live_from_lits}
 use Rattle.ba_watch.specs.Chains.{walk, occurrences}
 use Rattle.ba_watch.specs.Threads.{next_of, pending_of, index_at, watch_count, AreApart, AreThreaded, plain, AddsPlain}
 use Rattle.ba_watch.proofs.Relinks.{taken}
@@ -15,16 +16,12 @@ use Rattle.ba_watch.proofs.Additions.{IsNew, added, added_short}
 use Rattle.ba_watch.proofs.Swaps.{lit_at-swap_first, lit_at-swap_other, AreApart-swap}
 use Rattle.ba_watch.proofs.Keeps.{kept, shifted, pending_watches, pending_long, changed_here, changed_there}
 
-pub live_from_long : (o : Option Stored) (n : ℕ) → n < length (lits_of o) → IsSome o
-live_from_long None n h = absurd (omega arith)
-live_from_long (Some s) n h = refl
-
 pub pending_live : (a : Clauses) (heads : List (Option ℕ)) (f r : ℕ) (pending : Option ℕ) →
     AreThreaded a heads f pending → pending ≡ Some r → IsLive a r
 pending_live a heads f r pending t e =
     let long : 2 ≤ length (lits_at a r) = pending_long a heads f r
     (subst (λ (p : Option ℕ). AreThreaded a heads f p) e t) in
-    live_from_long (clause_at a r) 0 (omega arith)
+    live_from_lits (clause_at a r) 0 (omega arith)
 
 pub keep_step : (a a' : Clauses) (heads : List (Option ℕ)) (f r place : ℕ) (pending next head : Option ℕ) →
     AreThreaded a heads f pending → pending ≡ Some r → place ≤ 1

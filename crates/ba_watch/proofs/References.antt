@@ -1,10 +1,11 @@
 -- The table from numbers to clauses.
 
-use Rattle.std.proofs.Common.{◌≡◌, ◌≢◌, ℕ, ◌<◌, Option, None, Some, IsSome, is_some, List, [], length, get_or, set, refl, sym, ap, subst, ◌∙◌, arith, ⊎_elim, get_or-set_same, get_or-set_other}
+use Rattle.std.proofs.Common.{◌≡◌, ◌≢◌, ℕ, ◌<◌, Option, None, Some, is_some, List, [], length, get_or, set, refl, sym, ap, ◌∙◌, ⊎_elim, get_or-set_same, get_or-set_other}
 use Rattle.std.proofs.lemmas.Bool.{cases_eq}
+use Rattle.std.proofs.lemmas.Option.{none-some, same_Some}
 use Rattle.ba_lits.specs.Literals.{Literal}
 use Rattle.ba_arena.specs.Clauses.{Clauses, Stored, clause_at}
-use Rattle.ba_watch.specs.Threads.{Clause, plain, plain_at, SamePlain, AddsPlain}
+use Rattle.ba_watch.specs.Threads.{Clause, plain, plain_at, AddsPlain}
 use Rattle.ba_watch.specs.Propagation.{SameClause}
 use Rattle.ba_watch.specs.Deletion.{number_of, numbered, AreReferenced}
 
@@ -19,16 +20,10 @@ numbered-plain a k = at (clause_at a k)
     at None = refl
     at (Some s) = refl
 
-none_some : {X : Type 0} (o : Option X) (x : X) → o ≡ None → o ≡ Some x → ⊥
-none_some o x e f = cc (sym e ∙ f)
-
-same_some : (x y : ℕ) → ◌≡◌ {A = Option ℕ} (Some x) (Some y) → x ≡ y
-same_some x y e = cc e
-
 pub referenced_none : (a : Clauses) (refs : List (Option ℕ)) → a ≡ [] → refs ≡ [] → AreReferenced a refs
 referenced_none a refs a_is refs_is = record {
-  sound = λ n k at. absurd (none_some _ k (ap (λ (xs : List (Option ℕ)). get_or xs n None) refs_is) at);
-  each = λ n k at. absurd (none_some _ n (ap (λ (cs : Clauses). numbered cs k) a_is) at);
+  sound = λ n k at. absurd (none-some k (sym (ap (λ (xs : List (Option ℕ)). get_or xs n None) refs_is) ∙ at));
+  each = λ n k at. absurd (none-some n (sym (ap (λ (cs : Clauses). numbered cs k) a_is) ∙ at));
 }
 
 -- the same entries, and clauses with the same numbers
@@ -70,15 +65,15 @@ referenced_more a a' refs refs' r lits number adds within refs'_is was = record 
   sound = λ n k at. ⊎_elim
       (λ e.
       let here : get_or refs' n None ≡ Some r = ap (λ (m : ℕ). get_or refs' m None) e ∙ new_here in
-      let k_is : r ≡ k = same_some r k (sym here ∙ at) in
+      let k_is : r ≡ k = same_Some r k (sym here ∙ at) in
       ap (numbered a') (sym k_is) ∙ (number_here ∙ ap (λ (m : ℕ). Some m) (sym e)))
       (λ ne.
       let old : numbered a k ≡ Some n = was.sound n k (sym (new_there n ne) ∙ at) in
-      number_there k (λ e. none_some _ n (ap (numbered a) e ∙ fresh) old) ∙ old)
+      number_there k (λ e. none-some n (sym (ap (numbered a) e ∙ fresh) ∙ old)) ∙ old)
       (cases_eq n number);
   each = λ n k at. ⊎_elim
       (λ e.
-      let n_is : number ≡ n = same_some number n (sym number_here ∙ (ap (numbered a') (sym e) ∙ at)) in
+      let n_is : number ≡ n = same_Some number n (sym number_here ∙ (ap (numbered a') (sym e) ∙ at)) in
       ap is_some (ap (λ (m : ℕ). get_or refs' m None) (sym n_is) ∙ new_here))
       (λ ne.
       let old : numbered a k ≡ Some n = sym (number_there k ne) ∙ at in

@@ -1,6 +1,6 @@
 -- Walks along threaded lists.
 
-use Rattle.std.proofs.Common.{◌≡◌, ◌≢◌, ℕ, suc, zero, ◌+◌, ◌<◌, ◌≤◌, Bool, true, false, Option, None, Some, List, [], ◌∷◌, length, eqb, cond, refl, ap, ◌∙◌, arith, ◌||◌}
+use Rattle.std.proofs.Common.{◌≡◌, ◌≢◌, ℕ, suc, zero, ◌+◌, ◌<◌, ◌≤◌, Bool, true, false, Option, None, Some, List, [], ◌∷◌, length, eqb, cond, refl, ap, ◌∙◌, arith, ◌||◌, get_or}
 use Rattle.std.proofs.lemmas.Bool.Decides.{nat_tests}
 use Rattle.std.specs.List.{IsDistinct, AllByRecursion, list_any}
 use Rattle.std.proofs.lemmas.Map.Steps.{length-le_from_distinct_below}
@@ -90,6 +90,15 @@ positive q [] has = absurd (cc has)
 positive q (y ∷ ys) has =
     positive_step (eqb q y) (eqb y q) (list_any (eqb q) ys) (occurrences q ys) (eqb-comm q y)
     (positive q ys) has
+
+-- what stands at a place occurs
+pub at_occurs : (xs : List ℕ) (k : ℕ) → k < length xs → 0 < occurrences (get_or xs k 0) xs
+at_occurs [] k within = absurd (omega arith)
+at_occurs (x ∷ xs) zero within = here x (occurrences x xs)
+  where
+    here : (n k : ℕ) → 0 < cond (eqb n n) 1 0 + k
+    here n k = grind (arith, nat_tests)
+at_occurs (x ∷ xs) (suc k) within = omega (arith, at_occurs xs k (omega arith))
 
 -- numbers below n, none of them twice, are at most n
 pub length-le_from_occurrences : (xs : List ℕ) (n : ℕ) → ((r : ℕ) → occurrences r xs ≤ 1) →

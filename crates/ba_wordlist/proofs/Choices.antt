@@ -1,11 +1,11 @@
 -- The choices at places, where words are added and where some places may not be relaxed.
-use Rattle.std.proofs.Common.{rules, ◌≡◌, ℕ, ◌<◌, ℤ, Bool, true, false, ◌&&◌, cond, List, [], ◌∷◌, ◌++◌, map, refl, ◌∙◌, ap}
+use Rattle.std.proofs.Common.{◌≡◌, ℕ, ℤ, Bool, true, false, ◌&&◌, cond, List, [], ◌∷◌, ◌++◌, map, refl, ◌∙◌, ap}
 use Rattle.std.proofs.lemmas.Bool.{and_parts}
 use Rattle.std.specs.List.{list_all}
 use Rattle.ba_choices.specs.declared.Choice.{Choice}
 use Rattle.ba_choices.specs.declared.Choice.TheVariants.{Keep, Take}
 use Rattle.ba_code_laws.specs.Tracing.{Relaxes, everywhere, is_relaxed}
-use Rattle.ba_wordlist.proofs.Values.{SameBelow, value-same, values-same}
+use Rattle.ba_wordlist.proofs.Values.{SameBelow, of_name, value-same, values-same}
 use Rattle.ba_wordlist.specs.Facts.{are_names, is_name, is_place}
 use Rattle.ba_wordlist.specs.Meaning.{Visit, are_kept, chosen, is_keep, is_nonzero, value_at, visit_of, visits_in}
 use Rattle.ba_wordlist.specs.declared.words.PlaceWords.{PlaceWords}
@@ -31,9 +31,6 @@ pub visits-one : (vs : List (List ℤ)) (p : PlaceWords)
     → visits_in vs (p ∷ []) ≡ cond (is_nonzero (value_at vs p.guard)) (visit_of vs p ∷ []) []
 unfolding visits_in
 visits-one vs p = refl
-
-of_name : (n w : ℕ) → is_name n w ≡ true → w < n
-of_name n w h = search rules
 
 visit-same : (n : ℕ) (p : PlaceWords) (vs us : List (List ℤ)) → SameBelow n vs us → is_place n p ≡ true
     → visit_of vs p ≡ visit_of us p

@@ -1,13 +1,15 @@
 -- How long entries are, and the ranges of what they have.
-use Rattle.std.proofs.Common.{rules, T, ◌⊎◌, inl, inr, ◌%◌, ◌==◌, ◌≤ℤ◌, negsuc, ◌≡◌, ℕ, zero, suc, ◌+◌, ◌<◌, ℤ, pos, Bool, true, false, ◌&&◌, ◌||◌, cond, List, [], ◌∷◌, ◌++◌, map, length, get_or, replicate, Some, None, Option, refl, sym, ◌∙◌, ap, arith}
-use Rattle.std.proofs.lemmas.Bool.{and_from, and_parts, cases_eq, eqb-true}
+use Rattle.std.proofs.Common.{◌⊎◌, inl, inr, ◌%◌, ◌==◌, ◌≤ℤ◌, negsuc, ◌≡◌, ℕ, zero, suc, ◌+◌, ◌<◌, ℤ, pos, Bool, true, false, ◌&&◌, cond, List, [], ◌∷◌, ◌++◌, map, length, get_or, replicate, Some, None, Option, refl, sym, ◌∙◌, ap, arith, slice_get, take, subst}
+use Rattle.std.proofs.lemmas.Bool.{and_from, and_parts, cases_eq, eqb-true, or_left, or_right}
 use Rattle.std.proofs.lemmas.Int.{ints}
 use Rattle.std.proofs.lemmas.Grind.{fold-append}
 use Rattle.std.proofs.lemmas.List.{get_or_append_left, get_or_at, length_push, length-set, length-map, length-replicate}
 use Rattle.std.specs.List.{fold, list_all}
-use Rattle.std.specs.Prelude.{IfSome, int_le, int_lt, slice_set}
+use Rattle.std.specs.Prelude.{IfSome, int_lt, slice_set}
+use Rattle.std.proofs.Math.Bool.{and-true}
 use Rattle.ba_cells.specs.Cells.{place_read}
 use Rattle.ba_code.specs.Operators.{converting}
+use Rattle.ba_code.proofs.Ranges.{test-in}
 use Rattle.ba_numbers.proofs.Conversions.{converted_in_range, value_in_range, value_of_one_in_range}
 use Rattle.ba_numbers.specs.Numbers.{IsIn, converted, greatest_of, is_in, least_of, low_word, truth}
 use Rattle.ba_numbers.specs.declared.numbers.BinOp.{BinOp}
@@ -19,6 +21,7 @@ use Rattle.ba_wordlist.specs.Facts.{are_names, are_words, fit_behind, fits_behin
 use Rattle.ba_wordlist.specs.Meaning.{Assignment, binary_value, element_read, value_at_zero, value_or, elements_at, entry_of, is_nonzero, more_values, value_at, values_of}
 use Rattle.ba_wordlist.specs.declared.words.WordOp.{WordOp}
 use Rattle.ba_wordlist.specs.declared.words.WordOp.TheVariants.{Const, Free, Flag, Unary, Binary, Convert, Select, Read, Zeros, Fill, Write}
+use Rattle.ba_wordlist.proofs.Values.{of_name}
 
 lengths-grown : (ops : List WordOp) (ls : List ℕ) → length (fold more_lengths ls ops) ≡ length ls + length ops
 lengths-grown [] ls = omega arith
@@ -61,10 +64,7 @@ length-last ops op = ap (λ ls. get_or ls (length ops) 1) (lengths-push ops op)
 
 fit-append : (ops : List WordOp) (ls : List ℕ) (op : WordOp)
     → fit_behind ls (ops ++ op ∷ []) ≡ (fit_behind ls ops && fits_behind (fold more_lengths ls ops) op)
-fit-append [] ls op = and_true (fits_behind ls op) where
-  and_true : (b : Bool) → (b && true) ≡ b
-  and_true true = refl
-  and_true false = refl
+fit-append [] ls op = and-true (fits_behind ls op)
 fit-append (other ∷ ops) ls op =
     ap (λ b. fits_behind ls other && b) (fit-append ops (more_lengths ls other) op)
     ∙ regroup (fits_behind ls other) (fit_behind (more_lengths ls other) ops)
@@ -72,6 +72,22 @@ fit-append (other ∷ ops) ls op =
       regroup : (a b c : Bool) → (a && (b && c)) ≡ ((a && b) && c)
       regroup true b c = refl
       regroup false b c = refl
+
+-- a word of a list fits behind those before it
+fit-at : (ls : List ℕ) (ops : List WordOp) (w : ℕ) (op : WordOp) → fit_behind ls ops ≡ true
+    → slice_get ops w ≡ Some op → fits_behind (fold more_lengths ls (take w ops)) op ≡ true
+fit-at ls [] w op h found = absurd (cc)
+fit-at ls (first ∷ ops) zero op h found =
+    let same : first ≡ op = cc in
+    subst (λ o. fits_behind ls o ≡ true) same
+    (and_parts (fits_behind ls first) (fit_behind (more_lengths ls first) ops) h).0
+fit-at ls (first ∷ ops) (suc w) op h found = fit-at (more_lengths ls first) ops w op
+    (and_parts (fits_behind ls first) (fit_behind (more_lengths ls first) ops) h).1 found
+
+pub words-at : (ops : List WordOp) (w : ℕ) (op : WordOp) → are_words ops ≡ true → slice_get ops w ≡ Some op
+    → fits_behind (lengths_of (take w ops)) op ≡ true
+unfolding are_words lengths_of
+words-at ops w op fit found = fit-at [] ops w op fit found
 
 pub words-push : (ops : List WordOp) (op : WordOp) → are_words ops ≡ true →
     fits_behind (lengths_of ops) op ≡ true
@@ -81,9 +97,6 @@ words-push ops op fit fits = fit-append ops [] op
     ∙ and_from (fit_behind [] ops) (fits_behind (fold more_lengths [] ops) op) fit fits
 
 -- HOW LONG ENTRIES ARE
-
-of_name : (n w : ℕ) → is_name n w ≡ true → w < n
-of_name n w h = search rules
 
 -- entries have as many elements as these lengths say
 pub record LongAs (vs : List (List ℤ)) (ls : List ℕ) : Type 0 where
@@ -167,28 +180,12 @@ length-elements f ops w fit below =
 
 -- THE RANGES OF VALUES
 
-of_T : (b : Bool) → T b → b ≡ true
-of_T true h = refl
-of_T false h = absurd h
-
-test-in : (t : CType) (z : ℤ) → IsIn t z → is_in t z ≡ true
-test-in t z h = and_from (int_le (least_of t) z) (int_le z (greatest_of t))
-    (of_T (int_le (least_of t) z) h.low.le) (of_T (int_le z (greatest_of t)) h.high.le)
-
-or-left : (a b : Bool) → a ≡ true → (a || b) ≡ true
-or-left true b h = refl
-or-left false b h = absurd (cc)
-
-or-right : (a b : Bool) → b ≡ true → (a || b) ≡ true
-or-right true b h = refl
-or-right false b h = h
-
 within-word : (t : CType) (z : ℤ) → least_of I32 ≤ℤ least_of t → greatest_of t ≤ℤ greatest_of I32 → IsIn t z
     → is_word_value z ≡ true
 within-word t z low high h =
     let from : least_of t ≤ℤ z = h.low in
     let upto : z ≤ℤ greatest_of t = h.high in
-    or-left (is_in I32 z) (is_in U32 z)
+    or_left (is_in I32 z) (is_in U32 z)
     (test-in I32 z (record { low = omega (arith, ints); high = omega (arith, ints) }))
 
 pub in-word : (t : CType) (z : ℤ) → IsIn t z → is_word_value z ≡ true
@@ -197,7 +194,7 @@ in-word U8 z h = within-word U8 z (omega (arith, ints)) (omega (arith, ints)) h
 in-word I16 z h = within-word I16 z (omega (arith, ints)) (omega (arith, ints)) h
 in-word U16 z h = within-word U16 z (omega (arith, ints)) (omega (arith, ints)) h
 in-word I32 z h = within-word I32 z (omega (arith, ints)) (omega (arith, ints)) h
-in-word U32 z h = or-right (is_in I32 z) (is_in U32 z) (test-in U32 z h)
+in-word U32 z h = or_right (is_in I32 z) (is_in U32 z) (test-in U32 z h)
 
 abbrev are_values : List ℤ → Bool
 are_values zs = list_all is_word_value zs

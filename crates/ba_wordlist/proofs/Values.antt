@@ -1,6 +1,6 @@
 -- The values of words, as lists grow and as assignments change.
 use Rattle.std.proofs.Common.{rules, ◌≡◌, ℕ, ◌+◌, ◌<◌, ◌≤◌, ℤ, pos, true, ◌&&◌, List, [], ◌∷◌, ◌++◌, map, length, get_or, take, drop, Some, slice_get, refl, sym, ◌∙◌, ap, arith, append_assoc}
-use Rattle.std.proofs.lemmas.Bool.{and_parts}
+use Rattle.std.proofs.lemmas.Bool.{and_from, and_parts}
 use Rattle.std.proofs.lemmas.Grind.{fold-append}
 use Rattle.std.proofs.lemmas.List.{get_or_append_left, get_or_at, length_push, take-append-drop, length-take-le, drop_more}
 use Rattle.std.proofs.lemmas.Option.{slice_get_within, get_or_from_slice_get}
@@ -115,8 +115,20 @@ agree-then n f g h first second k below = first k below ∙ second k below
 
 -- NAMES
 
-of_name : (n w : ℕ) → is_name n w ≡ true → w < n
+pub of_name : (n w : ℕ) → is_name n w ≡ true → w < n
 of_name n w h = search rules
+
+pub to_name : (n w : ℕ) → w < n → is_name n w ≡ true
+to_name n w h = search rules
+
+pub name-more : (m n w : ℕ) → m ≤ n → is_name m w ≡ true → is_name n w ≡ true
+name-more m n w le h = let below : w < m = of_name m w h in to_name n w (omega arith)
+
+pub names-more : (m n : ℕ) (ws : List ℕ) → m ≤ n → are_names m ws ≡ true → are_names n ws ≡ true
+names-more m n [] le h = refl
+names-more m n (w ∷ ws) le h =
+    let both = and_parts (is_name m w) (are_names m ws) h in
+    and_from (is_name n w) (are_names n ws) (name-more m n w le both.0) (names-more m n ws le both.1)
 
 pub value-same : (n w : ℕ) (vs us : List (List ℤ)) → SameBelow n vs us → w < n → value_at vs w ≡ value_at us w
 value-same n w vs us same below = ap (λ zs. get_or zs 0 (pos 0)) (same w below)

@@ -15,7 +15,7 @@ use Rattle.ba_words.specs.Words.{digit, spelled, number_of, low_number, bit_at, 
 use Rattle.ba_words.proofs.Places.{low_number-more}
 use Rattle.ba_words.proofs.Circuits.{low_number_below}
 use Rattle.ba_words.proofs.Shapes.{filled-number, low_number-same, number-split}
-use Rattle.ba_words.proofs.Values.{read, read_congruent, read-same}
+use Rattle.ba_words.proofs.Values.{read, read_congruent, read-same, back}
 
 -- ---- the 32 low bits of a conversion
 
@@ -138,9 +138,6 @@ read_away t source m = converted_only t (converted t (read source m)) (pos m) (c
     congruent I32 first second = record { turns = first.turns +ℤ second.turns; apart = narrower_32 (read source m) (converted I32 (read source m)) m first.turns second.turns first.apart second.apart }
     congruent U32 first second = record { turns = first.turns +ℤ second.turns; apart = narrower_32 (read source m) (converted U32 (read source m)) m first.turns second.turns first.apart second.apart }
 
-turned_back : (y z k : ℤ) → y ≡ z +ℤ k *ℤ pos 0x100000000 → z ≡ y +ℤ neg_ℤ k *ℤ pos 0x100000000
-turned_back y z k e = omega (arith, ints)
-
 low_word-rem : (z : ℤ) → pos (low_word z) ≡ int_rem_euclid z (pos 0x100000000)
 low_word-rem (pos n) = refl
 low_word-rem (negsuc n) = refl
@@ -151,7 +148,7 @@ low_word-converted target z =
     let near = rem_congruent 0x100000000 z (omega arith) in
     read-same target z (pos (low_word z)) record {
       turns = neg_ℤ near.turns;
-      apart = turned_back (pos (low_word z)) z near.turns (low_word-rem z ∙ near.apart);
+      apart = back (pos (low_word z)) z near.turns (low_word-rem z ∙ near.apart);
     }
 
 pub converted_value : (t : CType) (source target : Bool) (m r : ℕ) → r ≡ low_word (converted t (pos m)) → converted (word_type target) (converted t (read source m)) ≡ read target r

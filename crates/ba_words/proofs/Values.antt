@@ -23,10 +23,10 @@ pub read_congruent : (signed : Bool) (m : ℕ) → IsCongruent 0x100000000 (read
 read_congruent true m = converted_congruent I32 (pos m)
 read_congruent false m = converted_congruent U32 (pos m)
 
-through : (x y z k j : ℤ) → x ≡ y +ℤ k *ℤ pos 0x100000000 → y ≡ z +ℤ j *ℤ pos 0x100000000 → x ≡ z +ℤ (k +ℤ j) *ℤ pos 0x100000000
+pub through : (x y z k j : ℤ) → x ≡ y +ℤ k *ℤ pos 0x100000000 → y ≡ z +ℤ j *ℤ pos 0x100000000 → x ≡ z +ℤ (k +ℤ j) *ℤ pos 0x100000000
 through x y z k j e f = omega (arith, ints)
 
-back : (y z k : ℤ) → y ≡ z +ℤ k *ℤ pos 0x100000000 → z ≡ y +ℤ neg_ℤ k *ℤ pos 0x100000000
+pub back : (y z k : ℤ) → y ≡ z +ℤ k *ℤ pos 0x100000000 → z ≡ y +ℤ neg_ℤ k *ℤ pos 0x100000000
 back y z k e = omega (arith, ints)
 
 pub read-same : (signed : Bool) (y z : ℤ) → IsCongruent 0x100000000 y z → converted (word_type signed) y ≡ converted (word_type signed) z
@@ -136,7 +136,7 @@ pub equal_value : (signed : Bool) (m n : ℕ) (value : Bool) → m < 2 ^ 32 → 
 unfolding value_of
 equal_value signed m n value m_small n_small is = is_true signed (int_eq (read signed m) (read signed n)) value (read_equal signed m n m_small n_small ∙ sym is)
 
-read_zero : (signed : Bool) → read signed 0 ≡ pos 0
+pub read_zero : (signed : Bool) → read signed 0 ≡ pos 0
 unfolding converted
 read_zero true = refl
 read_zero false = refl

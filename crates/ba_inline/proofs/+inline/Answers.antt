@@ -1,5 +1,6 @@
 use Rattle.std.proofs.Common.{rules, true, false, ◌≡◌, ◌+◌, ◌-◌, ◌*◌, ◌<◌, suc, [], pos, sym, ◌∙◌, ap, subst}
 use Rattle.std.proofs.lemmas.List.{take_all}
+use Rattle.std.proofs.lemmas.Result.{IfOk-weaker, on_ok_weaker}
 use Rattle.std.specs.List.{list_any}
 use Rattle.ba_code.specs.declared.nodes.Operand.TheVariants.{Const, Var}
 use Rattle.ba_inline.proofs.Adding.{adds-assert, adds-beyond, adds-binary, adds-block, adds-convert, adds-fill, adds-if, adds-leave, adds-load, adds-loop, adds-save, adds-set, adds-unary}
@@ -13,7 +14,6 @@ use Rattle.ba_inline.proofs.Invoking.{makes-beyond}
 use Rattle.ba_inline.proofs.Joining.{makes-as}
 use Rattle.ba_inline.proofs.Keeping.{grows-same}
 use Rattle.ba_inline.proofs.Relaxing.{makes-given}
-use Rattle.ba_inline.proofs.Results.{if-ok, on-ok}
 use Rattle.ba_inline.proofs.Rows.{arguments-more, arguments-none, stmts-more, stmts-none, values-more, values-none}
 use Rattle.ba_inline.proofs.Scopes.{frame-later, scope-later, scope-of}
 use Rattle.ba_inline.proofs.Statements.{makes-assert, makes-assign, makes-break, makes-condition, makes-continue, makes-no-code, makes-return, makes-return-none}
@@ -265,7 +265,7 @@ operands::expression-returns-in-Call t c =
     let old = c.args.out.now.items in
     let here = c.args.here in
     let e = c.args.expr.now in
-    if-ok c.call_value.result _ _ (λ o made scope.
+    IfOk-weaker c.call_value.result _ _ (λ o made scope.
     value-called p names path frame here e c.in-Call.call c.in-Call.function c.in-Call.args
     c.as_slice.result.now o low
     c.call_value.new.declared old c.call_value.new.out.items c.in-Call.is c.as_slice.ensures.value (made
@@ -305,7 +305,7 @@ operands::expression_to-returns t c =
     let old = c.args.out.now.items in
     let here = c.args.here in
     let e = c.args.expr.now in
-    on-ok c.add.result _ _ (λ added scope.
+    on_ok_weaker c.add.result (λ added scope.
     makes-to p names path (λ w back. eval (context_in_frame p frame w) back here e) (has_call e)
     c.in_ok-operand.operand
     low c.expression.new.declared old c.expression.new.out.items c.add.new.out.items
@@ -325,7 +325,7 @@ operands::truth_to-returns t c =
     let mid = c.expression.new.declared in
     let out = c.expression.new.out.items in
     let between = c.in_ok-between.between in
-    on-ok c.add-2.result _ _ (λ added scope.
+    on_ok_weaker c.add-2.result (λ added scope.
     makes-high c.in_ok-between.ensures.1
     (makes-truth p names path frame here e c.in_ok-operand.operand low mid old out
     c.add-2.new.out.items scope.naming
@@ -483,7 +483,7 @@ calls::call_value-returns t c =
     let low = c.args.declared.now in
     let old = c.args.out.now.items in
     let here = c.args.here in
-    if-ok c.invoke.result _ _ (λ o made scope.
+    IfOk-weaker c.invoke.result _ _ (λ o made scope.
     call-made p names path frame here c.args.call c.args.function c.args.args.now (list_any arg_has_call
     c.args.args.now)
     (list_any arg_has_call c.args.args.now) c.in_ok-given.given.items c.as_slice-2.result.now o low
@@ -548,7 +548,7 @@ calls::given_to-returns t c =
     let old = c.args.out.now.items in
     let here = c.args.stmt in
     let e = c.args.expr.now in
-    on-ok c.add_pick.result _ _ (λ added scope.
+    on_ok_weaker c.add_pick.result (λ added scope.
     makes-given p names path frame here e (has_call e) c.args.to low c.expression_to.new.declared old
     c.add_pick.new.out.items
     c.expression_to.new.out.items (makes-old c.new-keep.ensures.items (c.in_ok-expression_to.ensures
@@ -582,7 +582,7 @@ simple::assign-returns t c =
     let old = c.args.out.now.items in
     let here = c.args.stmt in
     let e = c.args.value.now in
-    on-ok c.given_to.result _ _ (λ made is_frame.
+    on_ok_weaker c.given_to.result (λ made is_frame.
     makes-assign p names path frame low is_frame.naming here c.args.var e (has_call e) c.in_ok-to.to
     c.given_to.new.declared old
     c.given_to.new.out.items c.in_ok-to.ensures
@@ -599,7 +599,7 @@ simple::store-returns t c =
     let low = c.args.declared.now in
     let old = c.args.out.now.items in
     let here = c.args.stmt in
-    on-ok c.add_pick.result _ _ (λ added is_frame.
+    on_ok_weaker c.add_pick.result (λ added is_frame.
     store-made p names path frame low is_frame here c.args.array c.args.index.now c.args.value.now
     c.in_ok-number.number
     c.has_call-settled.result c.in_ok-index.index c.in_ok-value.value c.kept_expression.new.declared
@@ -619,7 +619,7 @@ simple::init_array-returns t c =
     let low = c.args.declared.now in
     let old = c.args.out.now.items in
     let here = c.args.stmt in
-    on-ok c.add_pick.result _ _ (λ added is_frame.
+    on_ok_weaker c.add_pick.result (λ added is_frame.
     init-made p names path frame low is_frame here c.args.array c.args.values.now c.in_ok-number.number
     (list_any has_call c.args.values.now) (list_any has_call c.args.values.now) c.in_ok-values.values.items
     c.in_ok-filled.filled.items c.expressions.new.declared old c.add_pick.new.out.items
@@ -637,7 +637,7 @@ calls::call_statement-returns t c =
     let low = c.args.declared.now in
     let old = c.args.out.now.items in
     let here = c.args.stmt in
-    on-ok c.add_pick.result _ _ (λ added is_frame.
+    on_ok_weaker c.add_pick.result (λ added is_frame.
     makes-call_stmt p names path frame low c.call_value.new.declared is_frame.naming here old
     c.add_pick.new.out.items
     c.call_value.new.out.items c.args.call c.args.function c.args.args.now c.in_ok-call_value.field-0
@@ -653,7 +653,7 @@ simple::print-returns t c =
     let low = c.args.declared.now in
     let old = c.args.out.now.items in
     let here = c.args.stmt in
-    on-ok c.add_pick.result _ _ (λ added is_frame.
+    on_ok_weaker c.add_pick.result (λ added is_frame.
     makes-print p names path frame low c.expressions.new.declared is_frame.naming here old
     c.add_pick.new.out.items
     c.expressions.new.out.items c.args.args.now (list_any has_call c.args.args.now)
@@ -672,7 +672,7 @@ control::statement-returns-in-Block t c =
     let low = c.args.declared.now in
     let old = c.args.out.now.items in
     let stmt = c.args.stmt.now in
-    on-ok c.statements.result _ _ (λ made is_frame.
+    on_ok_weaker c.statements.result (λ made is_frame.
     makes-as p names path (stmt_part p frame stmt) (stmts_part p frame c.as_slice.result.now)
     (Does names frame.exits frame.home low) low c.statements.new.declared old c.statements.new.out.items
     (λ w back t s. form-Block p frame stmt w back t s c.in-Block.body c.as_slice.result.now c.in-Block.is
@@ -687,7 +687,7 @@ control::statement-returns-in-Declare t c =
     let low = c.args.declared.now in
     let old = c.args.out.now.items in
     let stmt = c.args.stmt.now in
-    on-ok c.declare.result _ _ (λ made is_frame.
+    on_ok_weaker c.declare.result (λ made is_frame.
     makes-as p names path (stmt_part p frame stmt) (declare_part p c.in-Declare.var)
     (Does names frame.exits frame.home low) low c.declare.new.declared old c.declare.new.out.items
     (λ w back t s. form-Declare p frame stmt w back t s c.in-Declare.var c.in-Declare.is) (made frame path
@@ -702,7 +702,7 @@ control::statement-returns-in-Init t c =
     let low = c.args.declared.now in
     let old = c.args.out.now.items in
     let stmt = c.args.stmt.now in
-    on-ok c.assign.result _ _ (λ made is_frame.
+    on_ok_weaker c.assign.result (λ made is_frame.
     makes-as p names path (stmt_part p frame stmt) (assign_part p frame c.in-Init.stmt c.in-Init.var
     c.in-Init.value)
     (Does names frame.exits frame.home low) low c.assign.new.declared old c.assign.new.out.items
@@ -718,7 +718,7 @@ control::statement-returns-in-InitArray t c =
     let low = c.args.declared.now in
     let old = c.args.out.now.items in
     let stmt = c.args.stmt.now in
-    on-ok c.init_array.result _ _ (λ made is_frame.
+    on_ok_weaker c.init_array.result (λ made is_frame.
     makes-as p names path (stmt_part p frame stmt) (init_array_part p frame c.in-InitArray.stmt
     c.in-InitArray.array c.as_slice-in-InitArray.result.now)
     (Does names frame.exits frame.home low) low c.init_array.new.declared old c.init_array.new.out.items
@@ -736,7 +736,7 @@ control::statement-returns-in-Assign t c =
     let low = c.args.declared.now in
     let old = c.args.out.now.items in
     let stmt = c.args.stmt.now in
-    on-ok c.assign-in-Assign.result _ _ (λ made is_frame.
+    on_ok_weaker c.assign-in-Assign.result (λ made is_frame.
     makes-as p names path (stmt_part p frame stmt) (assign_part p frame c.in-Assign.stmt c.in-Assign.var
     c.in-Assign.value)
     (Does names frame.exits frame.home low) low c.assign-in-Assign.new.declared old
@@ -753,7 +753,7 @@ control::statement-returns-in-Store t c =
     let low = c.args.declared.now in
     let old = c.args.out.now.items in
     let stmt = c.args.stmt.now in
-    on-ok c.store.result _ _ (λ made is_frame.
+    on_ok_weaker c.store.result (λ made is_frame.
     makes-as p names path (stmt_part p frame stmt) (store_part p frame c.in-Store.stmt c.in-Store.array
     c.in-Store.index c.in-Store.value)
     (Does names frame.exits frame.home low) low c.store.new.declared old c.store.new.out.items
@@ -770,7 +770,7 @@ control::statement-returns-in_ok-optional-in-If t c =
     let low = c.args.declared.now in
     let old = c.args.out.now.items in
     let stmt = c.args.stmt.now in
-    on-ok c.add_branches.result _ _ (λ added is_frame.
+    on_ok_weaker c.add_branches.result (λ added is_frame.
     if-made p names path frame low is_frame stmt c.in-If.stmt c.in-If.when c.in-If.yes c.in-If.no
     c.deref.result.now
     c.in_ok-to-in-If.to c.condition.new.declared c.statement.new.declared c.optional.new.declared old
@@ -789,7 +789,7 @@ control::statement-returns-in-While t c =
     let low = c.args.declared.now in
     let old = c.args.out.now.items in
     let stmt = c.args.stmt.now in
-    on-ok c.repeat.result _ _ (λ made is_frame.
+    on_ok_weaker c.repeat.result (λ made is_frame.
     makes-as p names path (stmt_part p frame stmt) (loop_part p frame (record {
       after = false;
       stmt =
@@ -812,7 +812,7 @@ control::statement-returns-in-DoWhile t c =
     let low = c.args.declared.now in
     let old = c.args.out.now.items in
     let stmt = c.args.stmt.now in
-    on-ok c.repeat-in-DoWhile.result _ _ (λ made is_frame.
+    on_ok_weaker c.repeat-in-DoWhile.result (λ made is_frame.
     makes-as p names path (stmt_part p frame stmt) (loop_part p frame (record {
       after = true;
       stmt =
@@ -844,7 +844,7 @@ control::statement-returns-in_ok-statements-in-For t c =
     let out = c.statements-in-For.new.out.items in
     let high = c.repeat-in-For.new.declared in
     let new = c.repeat-in-For.new.out.items in
-    on-ok c.repeat-in-For.result _ _ (λ more is_frame.
+    on_ok_weaker c.repeat-in-For.result (λ more is_frame.
     let made : Makes p names path (stmts_part p frame first) (Does names frame.exits frame.home low) low
     mid old out =
     c.in_ok-statements-in-For.ensures is_frame in
@@ -883,7 +883,7 @@ control::statement-returns-in-Break t c =
     let low = c.args.declared.now in
     let old = c.args.out.now.items in
     let stmt = c.args.stmt.now in
-    on-ok c.add.result _ _ (λ added is_frame.
+    on_ok_weaker c.add.result (λ added is_frame.
     makes-break p names path frame low is_frame.naming stmt old c.add.new.out.items c.in-Break.is
     (subst (λ label. Adds old c.add.new.out.items (leave_act label)) c.break_label.ensures (adds-leave _ _ _
     added)))
@@ -898,7 +898,7 @@ control::statement-returns-in-Continue t c =
     let low = c.args.declared.now in
     let old = c.args.out.now.items in
     let stmt = c.args.stmt.now in
-    on-ok c.add-in-Continue.result _ _ (λ added is_frame.
+    on_ok_weaker c.add-in-Continue.result (λ added is_frame.
     makes-continue p names path frame low is_frame.naming stmt old c.add-in-Continue.new.out.items
     c.in-Continue.is
     (subst (λ label. Adds old c.add-in-Continue.new.out.items (leave_act label))
@@ -918,7 +918,7 @@ control::statement-returns-in_ok-given_to-in-Return t c =
     let high = c.given_to.new.declared in
     let out = c.given_to.new.out.items in
     let e = c.in-Return.value in
-    on-ok c.add-in-Return.result _ _ (λ added is_frame.
+    on_ok_weaker c.add-in-Return.result (λ added is_frame.
     makes-return p names path frame low is_frame.naming stmt c.in-Return.stmt e (has_call e) high old out
     c.add-in-Return.new.out.items c.in-Return.is
     (subst (λ ty. Makes p names path (given_part p frame c.in-Return.stmt (wanted.Value ty) e)
@@ -936,7 +936,7 @@ control::statement-returns-in_ok-add-in-ReturnNone t c =
     let low = c.args.declared.now in
     let old = c.args.out.now.items in
     let stmt = c.args.stmt.now in
-    on-ok c.add-in-ReturnNone-2.result _ _ (λ added is_frame.
+    on_ok_weaker c.add-in-ReturnNone-2.result (λ added is_frame.
     makes-return-none p names path frame low is_frame.naming stmt old c.add-in-ReturnNone.new.out.items
     c.add-in-ReturnNone-2.new.out.items c.in-ReturnNone.is (adds-set _ _ _ _
     c.in_ok-add-in-ReturnNone.ensures) (adds-leave _ _ _ added))
@@ -951,7 +951,7 @@ control::statement-returns-in-CallStmt t c =
     let low = c.args.declared.now in
     let old = c.args.out.now.items in
     let stmt = c.args.stmt.now in
-    on-ok c.call_statement.result _ _ (λ made is_frame.
+    on_ok_weaker c.call_statement.result (λ made is_frame.
     makes-as p names path (stmt_part p frame stmt) (call_stmt_part p frame c.in-CallStmt.stmt
     c.in-CallStmt.call c.in-CallStmt.function
     c.as_slice-in-CallStmt.result.now)
@@ -971,7 +971,7 @@ control::statement-returns-in-Print t c =
     let low = c.args.declared.now in
     let old = c.args.out.now.items in
     let stmt = c.args.stmt.now in
-    on-ok c.print.result _ _ (λ made is_frame.
+    on_ok_weaker c.print.result (λ made is_frame.
     makes-as p names path (stmt_part p frame stmt) (print_part p frame c.in-Print.stmt
     c.as_slice-in-Print.result.now)
     (Does names frame.exits frame.home low) low c.print.new.declared old c.print.new.out.items
@@ -988,7 +988,7 @@ control::statement-returns-in_ok-value-in-Assert t c =
     let low = c.args.declared.now in
     let old = c.args.out.now.items in
     let stmt = c.args.stmt.now in
-    on-ok c.add-in-Assert.result _ _ (λ added is_frame.
+    on_ok_weaker c.add-in-Assert.result (λ added is_frame.
     makes-assert p names path frame low is_frame.naming stmt c.in-Assert.stmt c.in-Assert.when (has_call
     c.in-Assert.when)
     false c.in_ok-value-in-Assert.value c.expression.new.declared old c.expression.new.out.items
@@ -1061,7 +1061,7 @@ control::repeat-returns t c =
     let frame = c.args.frame in
     let low = c.args.declared.now in
     let old = c.args.out.now.items in
-    on-ok c.add-3.result _ _ (λ added is_frame.
+    on_ok_weaker c.add-3.result (λ added is_frame.
     loop-made p names path frame low is_frame (parts_of c.args.parts.now) c.in_body.result c.in_step.result
     c.as_slice.result.now c.as_slice-2.result.now c.as_slice-3.result.now c.in_ok-to.to
     c.condition.new.declared

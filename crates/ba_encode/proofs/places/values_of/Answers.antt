@@ -1,7 +1,8 @@
 use Rattle.std.proofs.Common.{◌≡◌, ◌<◌, length, get_or, ap, ◌∙◌, arith}
 use Rattle.std.proofs.lemmas.List.{get_or_read}
 use Rattle.ba_bits.specs.Bits.{word_at}
-use Rattle.ba_encode.proofs.Spots.{long-more, map-more, name-at, word-read}
+use Rattle.ba_bits.proofs.Elements.{named-first}
+use Rattle.ba_encode.proofs.Spots.{long-more, map-more, name-at}
 use Rattle.ba_encode.specs.Parts.{is_signed, value_bits}
 use Rattle.ba_wordlist.specs.declared.words.WordOp.TheVariants.{Free}
 use Rattle.ba_encode.proofs.places.values_of.Goals as goal
@@ -17,7 +18,7 @@ loop-number-preserved c =
     c.is_signed.ensures ∙ ap is_signed (get_or_read c.args.words.now w c.index-words-number.result below
     c.index-words-number.is Free) in
     let word : c.first-word.result.now ≡ word_at c.args.entries.now w =
-    word-read c.args.entries.now w c.index-entries-number.result c.first-word.result.now inside
+    named-first c.args.entries.now w c.index-entries-number.result c.first-word.result.now inside
     c.index-entries-number.is c.first-word.ensures in
     record {
       values = c.in_ok-push.ensures.ok

@@ -1,6 +1,7 @@
 use Rattle.std.proofs.Common.{◌≡◌, inr, None, Some, [], ap, sym, subst, ◌∙◌}
 use Rattle.std.proofs.lemmas.Result.{IfOk-weaker}
 use Rattle.ba_encode.specs.declared.encoded.Encoded.{Encoded}
+use Rattle.ba_steps.proofs.SinkLaws.{rose_later}
 use Rattle.ba_enum.specs.Enumerating.{Finishes}
 use Rattle.ba_enum.specs.Leading.{IsReached, IsNext}
 use Rattle.ba_enum.specs.Problems.{problem_in, IsReadable}
@@ -9,7 +10,7 @@ use Rattle.ba_enum.proofs.EndingLaws.{none_differ, fresh_sets, fresh_start, enum
 use Rattle.ba_checker.specs.States.{State}
 use Rattle.ba_checker.proofs.PutLaws.{lasts_then}
 use Rattle.ba_search.specs.Rules.{IsRestartRule, IsKeepRule}
-use Rattle.ba_enum.proofs.TurnLaws.{rose_later, cause_later}
+use Rattle.ba_enum.proofs.TurnLaws.{cause_later}
 use Rattle.ba_enum.proofs.LeadLaws.{puts_most, leaves_on}
 use Rattle.ba_enum.proofs.SearchLaws.{puts_derived, leaves_derived}
 use Rattle.ba_enum.proofs.enumerating.all_sets.Goals as goal

@@ -2,6 +2,7 @@ use Rattle.std.proofs.Common.{inr, ◌≡◌, [], arith, sym, ap, subst, ◌∙�
 use Rattle.std.proofs.lemmas.Result.{IfOk-weaker}
 use Rattle.ba_checker.proofs.PutLaws.{lasts_then}
 use Rattle.ba_cores.specs.Rounds.{literals_of}
+use Rattle.ba_steps.proofs.SinkLaws.{rose_later}
 use Rattle.ba_enum.specs.Leading.{IsReached}
 use Rattle.ba_encode.specs.Softs.{softs_of}
 use Rattle.ba_enum.specs.Turning.{Comes}
@@ -9,7 +10,7 @@ use Rattle.ba_enum.proofs.EndingLaws.{reached_differ, finishes_of}
 use Rattle.ba_enum.specs.Problems.{IsReadable}
 use Rattle.ba_search.specs.Rules.{IsRestartRule, IsKeepRule}
 use Rattle.ba_enum.proofs.LeadLaws.{puts_most, reached_sets}
-use Rattle.ba_enum.proofs.TurnLaws.{adds_on, adds_reached, adds_leave, rose_later}
+use Rattle.ba_enum.proofs.TurnLaws.{adds_on, adds_reached, adds_leave}
 use Rattle.ba_enum.proofs.enumerating.enumerate.Goals as goal
 
 pub turn-requires-clause-reached : goal.turn-requires-clause-reached

@@ -1,5 +1,6 @@
 use Rattle.std.proofs.Common.{◌≡◌, ◌<◌, ℕ, zero, suc, true, false, sym, ◌∙◌, ap, subst, List, [], ◌∷◌, ◌++◌, ◌==◌, ◌&&◌, length, take, get_or, arith}
 use Rattle.std.proofs.lemmas.List.{take_all, take_more}
+use Rattle.std.proofs.lemmas.Result.{on_ok_weaker}
 use Rattle.std.specs.List.{list_all}
 use Rattle.ba_code.specs.Facts.{Declared, is_array, is_operand}
 use Rattle.ba_code.specs.Meaning.{choice_where, info_at}
@@ -10,14 +11,14 @@ use Rattle.ba_guards.proofs.Choosing.{pick-arm}
 use Rattle.ba_guards.proofs.Fitting.{body-fit, first-fit, fit-Assert, fit-Binary, fit-Convert, fit-Fill, fit-Load, fit-Save, fit-Set, fit-Unary, keep-fit, rest-fit, sides-fit, unrolled-Loop}
 use Rattle.ba_guards.proofs.Going.{means-as, traced_of}
 use Rattle.ba_guards.proofs.Scopes.{leave-means, scoped}
-use Rattle.ba_guards.proofs.Walks.{block-arm, fork_part, if-arm, never-means, nodes-more, nodes-none, on-ok, one-arm, sides-arm}
+use Rattle.ba_guards.proofs.Walks.{block-arm, fork_part, if-arm, never-means, nodes-more, nodes-none, one-arm, sides-arm}
 use Rattle.ba_guards.specs.Making.{AreFit, IsFit, Means}
 use Rattle.ba_guards.specs.Parts.{assert_part, beyond_part, binary_part, convert_part, declared, fill_part, leave_part, load_part, save_part, set_part, unary_part}
 use Rattle.ba_tree.specs.Acts.{then_do}
 use Rattle.ba_guards.proofs.walking.+walk.Goals as goal
 
 pub guard_node-returns-in-Set : goal.guard_node-returns-in-Set
-guard_node-returns-in-Set t c = on-ok c.set.result _ _ (λ made vars infos fits fit.
+guard_node-returns-in-Set t c = on_ok_weaker c.set.result (λ made vars infos fits fit.
     let d = declared vars c.args.arrays.now in
     let n = c.args.node.now in
     let h = sym (fit-Set d n fit.labels c.in-Set.to c.in-Set.from c.in-Set.is) ∙ fit.fit in
@@ -27,7 +28,7 @@ guard_node-returns-in-Set t c = on-ok c.set.result _ _ (λ made vars infos fits 
     c.in-Set.is))) c.set.ensures
 
 pub guard_node-returns-in-Unary : goal.guard_node-returns-in-Unary
-guard_node-returns-in-Unary t c = on-ok c.unary.result _ _ (λ made vars infos fits fit.
+guard_node-returns-in-Unary t c = on_ok_weaker c.unary.result (λ made vars infos fits fit.
     let d = declared vars c.args.arrays.now in
     let n = c.args.node.now in
     let h = sym (fit-Unary d n fit.labels c.in-Unary.to c.in-Unary.op c.in-Unary.t c.in-Unary.a
@@ -39,7 +40,7 @@ guard_node-returns-in-Unary t c = on-ok c.unary.result _ _ (λ made vars infos f
     c.in-Unary.t c.in-Unary.a c.in-Unary.is))) c.unary.ensures
 
 pub guard_node-returns-in-Convert : goal.guard_node-returns-in-Convert
-guard_node-returns-in-Convert t c = on-ok c.convert.result _ _ (λ made vars infos fits fit.
+guard_node-returns-in-Convert t c = on_ok_weaker c.convert.result (λ made vars infos fits fit.
     let d = declared vars c.args.arrays.now in
     let n = c.args.node.now in
     let h = sym (fit-Convert d n fit.labels c.in-Convert.to c.in-Convert.t c.in-Convert.a c.in-Convert.is)
@@ -51,7 +52,7 @@ guard_node-returns-in-Convert t c = on-ok c.convert.result _ _ (λ made vars inf
     c.in-Convert.a c.in-Convert.is))) c.convert.ensures
 
 pub guard_node-returns-in-Load : goal.guard_node-returns-in-Load
-guard_node-returns-in-Load t c = on-ok c.load.result _ _ (λ made vars infos fits fit.
+guard_node-returns-in-Load t c = on_ok_weaker c.load.result (λ made vars infos fits fit.
     let d = declared vars c.args.arrays.now in
     let n = c.args.node.now in
     let h = sym (fit-Load d n fit.labels c.in-Load.to c.in-Load.array c.in-Load.index c.in-Load.stmt
@@ -63,7 +64,7 @@ guard_node-returns-in-Load t c = on-ok c.load.result _ _ (λ made vars infos fit
     c.in-Load.index c.in-Load.stmt c.in-Load.is))) c.load.ensures
 
 pub guard_node-returns-in-Save : goal.guard_node-returns-in-Save
-guard_node-returns-in-Save t c = on-ok c.save.result _ _ (λ made vars infos fits fit.
+guard_node-returns-in-Save t c = on_ok_weaker c.save.result (λ made vars infos fits fit.
     let d = declared vars c.args.arrays.now in
     let n = c.args.node.now in
     let h = sym (fit-Save d n fit.labels c.in-Save.array c.in-Save.index c.in-Save.value c.in-Save.stmt
@@ -75,7 +76,7 @@ guard_node-returns-in-Save t c = on-ok c.save.result _ _ (λ made vars infos fit
     c.in-Save.value c.in-Save.stmt c.in-Save.is))) c.save.ensures
 
 pub guard_node-returns-in-Assert : goal.guard_node-returns-in-Assert
-guard_node-returns-in-Assert t c = on-ok c.assert_nonzero.result _ _ (λ made vars infos fits fit.
+guard_node-returns-in-Assert t c = on_ok_weaker c.assert_nonzero.result (λ made vars infos fits fit.
     let d = declared vars c.args.arrays.now in
     let n = c.args.node.now in
     let h = sym (fit-Assert d n fit.labels c.in-Assert.when c.in-Assert.stmt c.in-Assert.is) ∙ fit.fit in
@@ -86,7 +87,7 @@ guard_node-returns-in-Assert t c = on-ok c.assert_nonzero.result _ _ (λ made va
     c.in-Assert.stmt c.in-Assert.is))) c.assert_nonzero.ensures
 
 pub guard_node-returns-in-Binary : goal.guard_node-returns-in-Binary
-guard_node-returns-in-Binary t c = on-ok c.binary.result _ _ (λ made vars infos fits fit.
+guard_node-returns-in-Binary t c = on_ok_weaker c.binary.result (λ made vars infos fits fit.
     let d = declared vars c.args.arrays.now in
     let n = c.args.node.now in
     let h = sym (fit-Binary d n fit.labels c.in-Binary.to c.in-Binary.op c.in-Binary.t c.in-Binary.a
@@ -98,7 +99,7 @@ guard_node-returns-in-Binary t c = on-ok c.binary.result _ _ (λ made vars infos
     c.in-Binary.t c.in-Binary.a c.in-Binary.right c.in-Binary.stmt c.in-Binary.is))) c.binary.ensures
 
 pub guard_node-returns-in-Beyond : goal.guard_node-returns-in-Beyond
-guard_node-returns-in-Beyond t c = on-ok c.beyond.result _ _ (λ made vars infos fits fit.
+guard_node-returns-in-Beyond t c = on_ok_weaker c.beyond.result (λ made vars infos fits fit.
     let d = declared vars c.args.arrays.now in
     let n = c.args.node.now in
     means-as d (λ f r. beyond_part c.in-Beyond.stmt) (λ f r. trace_node r d.arrays n) c.args.b.now _
@@ -107,7 +108,7 @@ guard_node-returns-in-Beyond t c = on-ok c.beyond.result _ _ (λ made vars infos
     c.beyond.ensures
 
 pub guard_node-returns-in-Leave : goal.guard_node-returns-in-Leave
-guard_node-returns-in-Leave t c = on-ok c.leave.result _ _ (λ made vars infos fits fit.
+guard_node-returns-in-Leave t c = on_ok_weaker c.leave.result (λ made vars infos fits fit.
     let d = declared vars c.args.arrays.now in
     let n = c.args.node.now in
     means-as d (λ f r. leave_part c.in-Leave.label) (λ f r. trace_node r d.arrays n) c.args.b.now _
@@ -155,7 +156,7 @@ guard_nodes-returns t c = λ vars infos fits fit.
     fit)
 
 pub guard_node-returns-in_ok-guard_nodes-in-If-2 : goal.guard_node-returns-in_ok-guard_nodes-in-If-2
-guard_node-returns-in_ok-guard_nodes-in-If-2 t c = on-ok c.join-in-If.result _ _ (λ made vars infos fits fit.
+guard_node-returns-in_ok-guard_nodes-in-If-2 t c = on_ok_weaker c.join-in-If.result (λ made vars infos fits fit.
     let d = declared vars c.args.arrays.now in
     let n = c.args.node.now in
     let yes = c.in-If.yes.items in
@@ -188,7 +189,7 @@ guard_node-returns-in_ok-guard_nodes-in-If-2 t c = on-ok c.join-in-If.result _ _
     c.in-If.is))) c.join-in-If.ensures
 
 pub guard_node-returns-in_ok-guard_nodes-in-Block : goal.guard_node-returns-in_ok-guard_nodes-in-Block
-guard_node-returns-in_ok-guard_nodes-in-Block t c = on-ok c.end_block.result _ _ (λ made vars infos fits fit.
+guard_node-returns-in_ok-guard_nodes-in-Block t c = on_ok_weaker c.end_block.result (λ made vars infos fits fit.
     let d = declared vars c.args.arrays.now in
     let n = c.args.node.now in
     let body = c.in-Block.body.items in
@@ -208,7 +209,7 @@ guard_node-returns-in_ok-guard_nodes-in-Block t c = on-ok c.end_block.result _ _
     c.in-Block.is))) c.end_block.ensures
 
 pub guard_node-returns-in-Fill : goal.guard_node-returns-in-Fill
-guard_node-returns-in-Fill t c = on-ok c.fill.result _ _ (λ made vars infos fits fit.
+guard_node-returns-in-Fill t c = on_ok_weaker c.fill.result (λ made vars infos fits fit.
     let d = declared vars c.args.arrays.now in
     let n = c.args.node.now in
     let a = c.in-Fill.array in
@@ -222,7 +223,7 @@ guard_node-returns-in-Fill t c = on-ok c.fill.result _ _ (λ made vars infos fit
     c.fill.ensures
 
 pub guard_node-returns-in_ok-take_values-in-Pick : goal.guard_node-returns-in_ok-take_values-in-Pick
-guard_node-returns-in_ok-take_values-in-Pick t c = on-ok c.join.result _ _ (λ made vars infos fits fit.
+guard_node-returns-in_ok-take_values-in-Pick t c = on_ok_weaker c.join.result (λ made vars infos fits fit.
     let d = declared vars c.args.arrays.now in
     let n = c.args.node.now in
     let b = c.args.b.now in
@@ -259,7 +260,7 @@ guard_node-returns-then-is_zero t c = λ vars infos fits fit.
     (c.is_zero.ensures c.if-is_zero.true)
 
 pub guard_node-returns-then-is_met : goal.guard_node-returns-then-is_met
-guard_node-returns-then-is_met t c = on-ok c.guard_nodes-then-is_met.result _ _ (λ made vars infos fits fit.
+guard_node-returns-then-is_met t c = on_ok_weaker c.guard_nodes-then-is_met.result (λ made vars infos fits fit.
     let d = declared vars c.args.arrays.now in
     let n = c.args.node.now in
     let yes = c.in-If.yes.items in
@@ -283,7 +284,7 @@ guard_node-returns-then-is_met t c = on-ok c.guard_nodes-then-is_met.result _ _ 
 
 pub guard_node-returns-then-is_zero-2 : goal.guard_node-returns-then-is_zero-2
 guard_node-returns-then-is_zero-2 t c =
-    on-ok c.guard_nodes-then-is_zero-2.result _ _ (λ made vars infos fits fit.
+    on_ok_weaker c.guard_nodes-then-is_zero-2.result (λ made vars infos fits fit.
     let d = declared vars c.args.arrays.now in
     let n = c.args.node.now in
     let yes = c.in-If.yes.items in

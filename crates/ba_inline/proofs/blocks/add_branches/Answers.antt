@@ -1,13 +1,13 @@
 use Rattle.std.proofs.Common.{rules}
 use Rattle.std.proofs.lemmas.Bool.{OnTrue_at}
+use Rattle.std.proofs.lemmas.Result.{on_ok_weaker}
 use Rattle.ba_inline.proofs.Adding.{adds-if, adds-leave}
 use Rattle.ba_inline.proofs.Leaving.{adds-branches, returned-last}
-use Rattle.ba_inline.proofs.Results.{on-ok}
 use Rattle.ba_inline.specs.Making.{return_label}
 use Rattle.ba_inline.proofs.blocks.add_branches.Goals as goal
 
 pub returns : goal.returns
-returns c = on-ok c.add-3.result _ _ (λ left.
+returns c = on_ok_weaker c.add-3.result (λ left.
     adds-branches return_label c.args.out.now.items c.add-2.new.out.items c.add-3.new.out.items
     c.args.when c.pop.new.self.items c.pop-2.new.self.items c.args.yes.items c.args.no.items
     (returned-last c.args.yes.items c.pop.new.self.items c.as_slice.result.now c.args.yes.len
@@ -21,5 +21,5 @@ returns c = on-ok c.add-3.result _ _ (λ left.
     (adds-if _ _ _ _ _ c.in_ok-add.ensures) (adds-leave _ _ _ left)) c.add-3.ensures
 
 pub returns-then-not-ends_in_return : goal.returns-then-not-ends_in_return
-returns-then-not-ends_in_return c = on-ok c.add.result _ _ (λ is.
+returns-then-not-ends_in_return c = on_ok_weaker c.add.result (λ is.
     adds-if _ _ c.args.when c.args.yes c.args.no is) c.add.ensures

@@ -1,9 +1,9 @@
 use Rattle.std.proofs.Common.{List, ◌∙◌, Ok, ap, map, sym}
+use Rattle.std.proofs.lemmas.Result.{on_ok_weaker}
 use Rattle.ba_code.specs.State.{operand_value}
 use Rattle.ba_code.specs.declared.nodes.Operand.{Operand}
 use Rattle.ba_inline.proofs.Adding.{adds-fill, adds-set}
 use Rattle.ba_inline.proofs.FrameArms.{constants-zero}
-use Rattle.ba_inline.proofs.Results.{on-ok}
 use Rattle.ba_inline.proofs.Statements.{makes-no-code, makes-zeroed}
 use Rattle.ba_inline.proofs.Stores.{makes-declared}
 use Rattle.ba_inline.specs.Parts.{declare_part}
@@ -13,7 +13,7 @@ use Rattle.ba_tree.specs.declared.tree.Variable.{Variable}
 use Rattle.ba_inline.proofs.leaves.declare.Goals as goal
 
 pub returns-in_ok-variable-in-Value : goal.returns-in_ok-variable-in-Value
-returns-in_ok-variable-in-Value c = on-ok c.add.result _ _ (λ added frame path is_frame.
+returns-in_ok-variable-in-Value c = on_ok_weaker c.add.result (λ added frame path is_frame.
     makes-zeroed c.args.setting.now.program.now c.args.scope.now path frame c.args.declared.now
     is_frame.naming c.args.var
     c.in_ok-variable-in-Value.field-0 c.args.out.now.items c.add.new.out.items
@@ -22,7 +22,7 @@ returns-in_ok-variable-in-Value c = on-ok c.add.result _ _ (λ added frame path 
     c.add.ensures
 
 pub returns-in_ok-zeros-in-Array : goal.returns-in_ok-zeros-in-Array
-returns-in_ok-zeros-in-Array c = on-ok c.add-in-Array.result _ _ (λ added frame path is_frame.
+returns-in_ok-zeros-in-Array c = on_ok_weaker c.add-in-Array.result (λ added frame path is_frame.
     let zeros : List Operand = c.in_ok-zeros-in-Array.field-0.items in
     makes-declared c.args.setting.now.program.now c.args.scope.now path frame c.args.declared.now
     is_frame.naming c.args.var

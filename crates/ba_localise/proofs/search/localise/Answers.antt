@@ -5,9 +5,11 @@ use Rattle.ba_encode.specs.Softs.{softs_of}
 use Rattle.ba_enum.specs.Problems.{IsReadable}
 use Rattle.ba_lits.specs.Formulas.{Cnf}
 use Rattle.ba_lits.specs.Satisfaction.{Soft}
-use Rattle.ba_localise.proofs.Concluding.{finds, left, rose-after, same-judge}
+use Rattle.ba_judge.proofs.Judges.{same-judge}
+use Rattle.ba_localise.proofs.Concluding.{finds, left}
 use Rattle.ba_localise.specs.Verdicts.{leaves_formula, told}
 use Rattle.ba_steps.specs.Sinks.{basis, with_told}
+use Rattle.ba_steps.proofs.SinkLaws.{rose_later}
 use Rattle.ba_search.specs.Rules.{IsRestartRule, IsKeepRule}
 use Rattle.ba_learn.specs.Live.{AreLive}
 use Rattle.ba_checker.specs.Facts.{AreSelectors}
@@ -124,7 +126,7 @@ returns-clause-leaves g c =
 
 pub returns-clause-cause : goal.returns-clause-cause
 returns-clause-cause g c = λ is.
-    rose-after _ _ _ c.in_ok-begin.ensures.no_fall (c.all_sets_into-answer.ensures.cause is)
+    rose_later _ _ _ c.in_ok-begin.ensures.no_fall (c.all_sets_into-answer.ensures.cause is)
 
 pub new-requires : goal.new-requires
 new-requires g c =

@@ -1,7 +1,6 @@
 use Rattle.std.proofs.Common.{sym, ap, ◌∙◌}
-use Rattle.ba_lits.specs.Literals.{Literal, negate}
+use Rattle.ba_lits.specs.Literals.{Literal, negate, positive}
 use Rattle.ba_watch.proofs.Values.{value_of-none}
-use Rattle.ba_search.specs.Values.{positive}
 use Rattle.ba_search.proofs.deciding.literal.Goals as goal
 
 pub returns-else-value-clause-free : goal.returns-else-value-clause-free

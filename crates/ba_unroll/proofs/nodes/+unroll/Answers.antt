@@ -1,11 +1,13 @@
 use Rattle.std.proofs.Common.{rules, ℕ, ◌+◌, ◌-◌, ◌<◌, List, [], ◌∷◌, ◌++◌, refl, sym, ◌∙◌, ap, subst}
+use Rattle.std.proofs.lemmas.Result.{on_ok_weaker}
 use Rattle.ba_code.specs.declared.nodes.Node.{Node}
 use Rattle.ba_code.specs.declared.nodes.Node as node
+use Rattle.ba_tree.proofs.Falling.{item-below}
 use Rattle.ba_unroll.proofs.Branches as branches
-use Rattle.ba_unroll.proofs.Heights.{height, heights, item-below}
+use Rattle.ba_unroll.proofs.Heights.{height, heights}
 use Rattle.ba_unroll.proofs.Leaves as leaves
 use Rattle.ba_unroll.proofs.Rounds as rounds
-use Rattle.ba_unroll.proofs.Rows.{on-ok, row-in, row-made, row-more, row-none}
+use Rattle.ba_unroll.proofs.Rows.{row-in, row-made, row-more, row-none}
 use Rattle.ba_unroll.proofs.nodes.+unroll.Goals as goal
 use Rattle.ba_unroll.specs.Unrolling.{Acts, Adds, beyond_act, loop_inside, turn_of_head, turns_act}
 
@@ -13,21 +15,21 @@ use Rattle.ba_unroll.specs.Unrolling.{Acts, Adds, beyond_act, loop_inside, turn_
 
 pub add_node-returns-in-Set : goal.add_node-returns-in-Set
 add_node-returns-in-Set t c =
-    on-ok c.add.result _ _ (λ put.
+    on_ok_weaker c.add.result (λ put.
     leaves.adds-Set c.args.bound c.args.turns.now
     c.args.node.now c.args.out.now.items c.in-Set.to c.in-Set.from c.in-Set.is
     c.add.new.out.items put) c.add.ensures
 
 pub add_node-returns-in-Unary : goal.add_node-returns-in-Unary
 add_node-returns-in-Unary t c =
-    on-ok c.add-in-Unary.result _ _ (λ put.
+    on_ok_weaker c.add-in-Unary.result (λ put.
     leaves.adds-Unary c.args.bound c.args.turns.now
     c.args.node.now c.args.out.now.items c.in-Unary.to c.in-Unary.op c.in-Unary.t c.in-Unary.a c.in-Unary.is
     c.add-in-Unary.new.out.items put) c.add-in-Unary.ensures
 
 pub add_node-returns-in-Binary : goal.add_node-returns-in-Binary
 add_node-returns-in-Binary t c =
-    on-ok c.add-in-Binary.result _ _ (λ put.
+    on_ok_weaker c.add-in-Binary.result (λ put.
     leaves.adds-Binary c.args.bound c.args.turns.now
     c.args.node.now c.args.out.now.items c.in-Binary.to c.in-Binary.op c.in-Binary.t c.in-Binary.a
     c.in-Binary.b c.in-Binary.stmt c.in-Binary.is
@@ -35,14 +37,14 @@ add_node-returns-in-Binary t c =
 
 pub add_node-returns-in-Convert : goal.add_node-returns-in-Convert
 add_node-returns-in-Convert t c =
-    on-ok c.add-in-Convert.result _ _ (λ put.
+    on_ok_weaker c.add-in-Convert.result (λ put.
     leaves.adds-Convert c.args.bound c.args.turns.now
     c.args.node.now c.args.out.now.items c.in-Convert.to c.in-Convert.t c.in-Convert.a c.in-Convert.is
     c.add-in-Convert.new.out.items put) c.add-in-Convert.ensures
 
 pub add_node-returns-in-Load : goal.add_node-returns-in-Load
 add_node-returns-in-Load t c =
-    on-ok c.add-in-Load.result _ _ (λ put.
+    on_ok_weaker c.add-in-Load.result (λ put.
     leaves.adds-Load c.args.bound c.args.turns.now
     c.args.node.now c.args.out.now.items c.in-Load.to c.in-Load.array c.in-Load.index c.in-Load.stmt
     c.in-Load.is
@@ -50,7 +52,7 @@ add_node-returns-in-Load t c =
 
 pub add_node-returns-in-Save : goal.add_node-returns-in-Save
 add_node-returns-in-Save t c =
-    on-ok c.add-in-Save.result _ _ (λ put.
+    on_ok_weaker c.add-in-Save.result (λ put.
     leaves.adds-Save c.args.bound c.args.turns.now
     c.args.node.now c.args.out.now.items c.in-Save.array c.in-Save.index c.in-Save.value c.in-Save.stmt
     c.in-Save.is
@@ -58,7 +60,7 @@ add_node-returns-in-Save t c =
 
 pub add_node-returns-in_ok-values-in-Fill : goal.add_node-returns-in_ok-values-in-Fill
 add_node-returns-in_ok-values-in-Fill t c =
-    on-ok c.add-in-Fill.result _ _ (λ put.
+    on_ok_weaker c.add-in-Fill.result (λ put.
     leaves.adds-Fill c.args.bound c.args.turns.now
     c.args.node.now c.args.out.now.items c.in-Fill.array c.in-Fill.values c.in_ok-values-in-Fill.values
     c.in-Fill.is
@@ -67,7 +69,7 @@ add_node-returns-in_ok-values-in-Fill t c =
 
 pub add_node-returns-in_ok-add_nodes-in-Pick : goal.add_node-returns-in_ok-add_nodes-in-Pick
 add_node-returns-in_ok-add_nodes-in-Pick t c =
-    on-ok c.add-in-Pick.result _ _ (λ put.
+    on_ok_weaker c.add-in-Pick.result (λ put.
     branches.adds-Pick c.args.bound c.args.turns.now
     c.args.node.now c.args.out.now.items c.in-Pick.place c.in_ok-place-in-Pick.place c.in-Pick.take
     c.in-Pick.keep c.add_nodes.new.out c.in-Pick.is c.in_ok-place-in-Pick.ensures.path
@@ -80,7 +82,7 @@ add_node-returns-in_ok-add_nodes-in-Pick t c =
 
 pub add_node-returns-in_ok-add_nodes-in-If-2 : goal.add_node-returns-in_ok-add_nodes-in-If-2
 add_node-returns-in_ok-add_nodes-in-If-2 t c =
-    on-ok c.add-in-If.result _ _ (λ put.
+    on_ok_weaker c.add-in-If.result (λ put.
     branches.adds-If c.args.bound c.args.turns.now
     c.args.node.now c.args.out.now.items c.in-If.when c.in-If.yes c.in-If.no c.add_nodes-in-If.new.out
     c.add_nodes-in-If-2.new.out c.in-If.is
@@ -96,7 +98,7 @@ add_node-returns-in_ok-add_nodes-in-If-2 t c =
 
 pub add_node-returns-in_ok-add_nodes-in-Block : goal.add_node-returns-in_ok-add_nodes-in-Block
 add_node-returns-in_ok-add_nodes-in-Block t c =
-    on-ok c.add-in-Block.result _ _ (λ put.
+    on_ok_weaker c.add-in-Block.result (λ put.
     branches.adds-Block c.args.bound c.args.turns.now
     c.args.node.now c.args.out.now.items c.in-Block.label c.in-Block.body c.add_nodes-in-Block.new.out
     c.in-Block.is
@@ -107,14 +109,14 @@ add_node-returns-in_ok-add_nodes-in-Block t c =
 
 pub add_node-returns-in-Leave : goal.add_node-returns-in-Leave
 add_node-returns-in-Leave t c =
-    on-ok c.add-in-Leave.result _ _ (λ put.
+    on_ok_weaker c.add-in-Leave.result (λ put.
     leaves.adds-Leave c.args.bound c.args.turns.now
     c.args.node.now c.args.out.now.items c.in-Leave.label c.in-Leave.is
     c.add-in-Leave.new.out.items put) c.add-in-Leave.ensures
 
 pub add_node-returns-in-Loop : goal.add_node-returns-in-Loop
 add_node-returns-in-Loop t c =
-    on-ok c.add_loop.result _ _ (λ put.
+    on_ok_weaker c.add_loop.result (λ put.
     rounds.adds-Loop c.args.bound c.args.turns.now c.args.node.now
     c.in-Loop.head c.in-Loop.when c.in-Loop.body c.in-Loop.step c.in-Loop.stmt
     (record {
@@ -132,14 +134,14 @@ add_node-returns-in-Loop t c =
 
 pub add_node-returns-in-Assert : goal.add_node-returns-in-Assert
 add_node-returns-in-Assert t c =
-    on-ok c.add-in-Assert.result _ _ (λ put.
+    on_ok_weaker c.add-in-Assert.result (λ put.
     leaves.adds-Assert c.args.bound c.args.turns.now
     c.args.node.now c.args.out.now.items c.in-Assert.when c.in-Assert.stmt c.in-Assert.is
     c.add-in-Assert.new.out.items put) c.add-in-Assert.ensures
 
 pub add_node-returns-in-Beyond : goal.add_node-returns-in-Beyond
 add_node-returns-in-Beyond t c =
-    on-ok c.add-in-Beyond.result _ _ (λ put.
+    on_ok_weaker c.add-in-Beyond.result (λ put.
     leaves.adds-Beyond c.args.bound c.args.turns.now
     c.args.node.now c.args.out.now.items c.in-Beyond.stmt c.in-Beyond.is
     c.add-in-Beyond.new.out.items put) c.add-in-Beyond.ensures
@@ -208,7 +210,7 @@ add_loop-returns-then-parts t c = rounds.adds-tail-loop c.args.bound c.args.turn
 
 pub add_loop-returns : goal.add_loop-returns
 add_loop-returns t c =
-    on-ok c.add.result _ _ (λ put.
+    on_ok_weaker c.add.result (λ put.
     rounds.adds-head-loop c.args.bound c.args.turns.now c.args.parts.now
     c.args.out.now.items c.add_nodes.new.out.items c.in_ok-rest.rest c.new.result c.if-parts.false
     c.in_ok-rest.ensures

@@ -1,7 +1,8 @@
 use Rattle.std.proofs.Common.{None, refl, ap, ◌∙◌}
+use Rattle.ba_judge.proofs.Judges.{same-judge}
 use Rattle.ba_check.specs.Answers.{problem_of}
 use Rattle.ba_check.specs.Findings.{Goes}
-use Rattle.ba_check.proofs.ReaderLaws.{same-judge, started}
+use Rattle.ba_check.proofs.ReaderLaws.{started}
 use Rattle.ba_checker.specs.States.{first_state}
 use Rattle.ba_check.proofs.pieces.Confirm.new.Goals as goal
 

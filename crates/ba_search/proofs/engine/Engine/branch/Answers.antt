@@ -1,6 +1,7 @@
 use Rattle.std.proofs.Common.{◌≡◌, ℕ, ◌≤◌, Option, IfSome, IfNone, false, is_none, ap, subst, ◌∙◌, arith, rules, inr}
 use Rattle.ba_watch.specs.Trails.{value_of}
-use Rattle.ba_search.specs.Values.{positive, values_of, IsUnassigned}
+use Rattle.ba_lits.specs.Literals.{positive}
+use Rattle.ba_search.specs.Values.{values_of, IsUnassigned}
 use Rattle.ba_search.proofs.AnswerLaws.{model_answer}
 use Rattle.ba_search.proofs.engine.Engine.branch.Goals as goal
 
