@@ -1,11 +1,11 @@
 -- Words that are added to a list.
-use Rattle.std.proofs.Common.{rules, ◌≡◌, ℕ, ◌<◌, ℤ, pos, true, Some, List, [], ◌∷◌, ◌++◌, length, get_or, slice_get, sym, ◌∙◌, ap, subst, arith, append-nil}
+use Rattle.std.proofs.Common.{◌≡◌, ℕ, ◌<◌, ℤ, pos, true, Some, List, [], ◌∷◌, ◌++◌, length, get_or, slice_get, sym, ◌∙◌, ap, subst, arith, append-nil}
 use Rattle.std.proofs.lemmas.List.{length_push}
 use Rattle.std.proofs.lemmas.Option.{slice_get_within}
 use Rattle.ba_guards.specs.Making.{Emits, EmitsArray, word_in}
 use Rattle.ba_wordlist.proofs.Lengths.{length-last, words-push}
 use Rattle.ba_wordlist.proofs.Values.{elements-last, value-const}
-use Rattle.ba_wordlist.specs.Facts.{are_words, fits_behind, is_name, length_of, lengths_of}
+use Rattle.ba_wordlist.specs.Facts.{are_words, fits_behind, length_of, lengths_of}
 use Rattle.ba_wordlist.specs.Meaning.{Assignment, elements_at, entry_of, value_at, values_of}
 use Rattle.ba_wordlist.specs.declared.words.WordOp.{WordOp}
 use Rattle.ba_wordlist.specs.declared.words.WordOp.TheVariants.{Const}
@@ -66,6 +66,3 @@ emits-as old new w g h e same = record {
   name = e.name;
   has = λ f. e.has f ∙ same f;
 }
-
-pub name-test : (n w : ℕ) → w < n → is_name n w ≡ true
-name-test n w h = search rules

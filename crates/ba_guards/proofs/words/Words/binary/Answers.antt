@@ -1,12 +1,12 @@
 use Rattle.std.proofs.Common.{SFits, w64, to_z-of_z, subst, rules, ◌≡◌, ◌<◌, ◌&&◌, ℕ, true, refl, List, length, arith}
 use Rattle.std.proofs.lemmas.Bool.{and_from}
-use Rattle.ba_guards.proofs.Emitting.{name-test}
 use Rattle.ba_guards.proofs.Sharing.{emits-made}
 use Rattle.ba_guards.proofs.Folding.{binary-folded}
 use Rattle.ba_guards.specs.Making.{Emits, word_in}
 use Rattle.ba_guards.specs.declared.expressions.Expression.TheVariants.{Binary}
 use Rattle.ba_numbers.specs.Types.{is_promoted}
 use Rattle.ba_wordlist.proofs.Lengths.{length-lengths}
+use Rattle.ba_wordlist.proofs.Values.{to_name}
 use Rattle.ba_wordlist.specs.Facts.{are_words, is_name, is_word_value, lengths_of}
 use Rattle.ba_wordlist.specs.Meaning.{binary_value}
 use Rattle.ba_wordlist.specs.declared.words.WordOp.{WordOp}
@@ -14,7 +14,7 @@ use Rattle.ba_guards.proofs.words.Words.binary.Goals as goal
 
 -- a name by the lengths so far
 name : (ws : List WordOp) (w : ℕ) → w < length ws → is_name (length (lengths_of ws)) w ≡ true
-name ws w below = name-test (length (lengths_of ws)) w (omega (arith, below, length-lengths ws))
+name ws w below = to_name (length (lengths_of ws)) w (omega (arith, below, length-lengths ws))
 
 pub returns-in_ok-word-in-Some : goal.returns-in_ok-word-in-Some
 returns-in_ok-word-in-Some c = λ fit promoted below_a below_b.

@@ -1,11 +1,11 @@
 use Rattle.std.proofs.Common.{SFits, w64, to_z-of_z, rules, ◌≡◌, ◌<◌, ◌&&◌, ℕ, true, cond, refl, ◌∙◌, ap, List, length, arith}
 use Rattle.std.proofs.lemmas.Bool.{and_from}
-use Rattle.ba_guards.proofs.Emitting.{name-test}
 use Rattle.ba_guards.proofs.Sharing.{emits-made}
 use Rattle.ba_guards.proofs.Folding.{select-constant}
 use Rattle.ba_guards.specs.Making.{word_in}
 use Rattle.ba_guards.specs.declared.expressions.Expression.TheVariants.{Select}
 use Rattle.ba_wordlist.proofs.Lengths.{length-lengths}
+use Rattle.ba_wordlist.proofs.Values.{to_name}
 use Rattle.ba_wordlist.specs.Facts.{is_name, lengths_of}
 use Rattle.ba_wordlist.specs.Meaning.{is_nonzero}
 use Rattle.ba_wordlist.specs.declared.words.WordOp.{WordOp}
@@ -13,7 +13,7 @@ use Rattle.ba_guards.proofs.words.Words.select.Goals as goal
 
 -- a name by the lengths so far
 name : (ws : List WordOp) (w : ℕ) → w < length ws → is_name (length (lengths_of ws)) w ≡ true
-name ws w below = name-test (length (lengths_of ws)) w (omega (arith, below, length-lengths ws))
+name ws w below = to_name (length (lengths_of ws)) w (omega (arith, below, length-lengths ws))
 
 pub returns-in-Some : goal.returns-in-Some
 returns-in-Some c = λ fit below_c below_y below_n.

@@ -1,10 +1,11 @@
 use Rattle.std.proofs.Common.{◌≡◌, ◌<◌, ◌&&◌, ℕ, true, cond, refl, List, length, arith}
 use Rattle.std.proofs.lemmas.Bool.{and_from}
 use Rattle.std.specs.Prelude.{slice_set}
-use Rattle.ba_guards.proofs.Emitting.{array-push, name-test}
+use Rattle.ba_guards.proofs.Emitting.{array-push}
 use Rattle.ba_guards.specs.Making.{elements_in, word_in}
 use Rattle.ba_numbers.specs.Numbers.{low_word}
 use Rattle.ba_wordlist.proofs.Lengths.{length-lengths}
+use Rattle.ba_wordlist.proofs.Values.{to_name}
 use Rattle.ba_wordlist.specs.Facts.{is_name, lengths_of}
 use Rattle.ba_wordlist.specs.Meaning.{is_nonzero}
 use Rattle.ba_wordlist.specs.declared.words.WordOp.TheVariants.{Write}
@@ -13,7 +14,7 @@ use Rattle.ba_guards.proofs.words.Words.write.Goals as goal
 
 -- a name by the lengths so far
 name : (ws : List WordOp) (w : ℕ) → w < length ws → is_name (length (lengths_of ws)) w ≡ true
-name ws w below = name-test (length (lengths_of ws)) w (omega (arith, below, length-lengths ws))
+name ws w below = to_name (length (lengths_of ws)) w (omega (arith, below, length-lengths ws))
 
 pub returns : goal.returns
 returns c = λ count fit below long below_i below_v below_w. array-push c.args.self.now _ c.in_ok-word.word
