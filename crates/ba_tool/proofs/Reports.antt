@@ -5,7 +5,7 @@ use Rattle.std.proofs.lemmas.List.{length-map}
 use Rattle.ba_derivations.specs.Derivations.{sets_of}
 use Rattle.ba_derivations.specs.declared.verdict.FoundSet.{FoundSet}
 use Rattle.ba_numbers.specs.declared.ids.StmtId.{StmtId}
-use Rattle.ba_report.specs.Lines.{lines_of}
+use Rattle.ba_bytes.specs.Lines.{lines_of}
 use Rattle.ba_report.specs.Report.{line_of, report_text, run_line, set_lines, sets_lines, statement_line}
 use Rattle.ba_tree.specs.Choices.{info_of}
 use Rattle.ba_tree.specs.Least.{stmt_of}

@@ -1,15 +1,11 @@
 //! Conversions to the types of C.
 
-ghost use Rattle.std.specs.Prelude.{◌≡◌, ℕ, ◌+◌, ◌-◌, ◌*◌, ◌/◌, ◌%◌, ◌<◌, ◌≤◌, ◌^◌, ◌==◌, pos, Bool, true, false, not, nat_lt, ◌&&◌, ◌||◌, List, length, bit_and, bit_or, bit_xor, IfOk, if◌then◌else◌};
-ghost use Rattle.ba_numbers.specs.declared.numbers.BinOp.{BinOp};
-ghost use Rattle.ba_numbers.specs.declared.numbers.BinOp.TheVariants.{Add, Sub, Shl, Shr, Lt, Eq, And, Xor, Or};
-ghost use Rattle.ba_numbers.specs.declared.numbers.UnOp.{UnOp};
-ghost use Rattle.ba_numbers.specs.declared.numbers.UnOp.TheVariants.{Neg, Flip, IsZero};
+ghost use Rattle.std.specs.Prelude.{◌≡◌, ℕ, ◌+◌, ◌-◌, ◌*◌, ◌/◌, ◌%◌, ◌<◌, ◌≤◌, ◌^◌, ◌==◌, pos, Bool, false, nat_lt, ◌&&◌, ◌||◌, List, length, if◌then◌else◌};
 ghost use Rattle.ba_numbers.specs.Numbers.{converted, low_word};
 ghost use Rattle.ba_nodes.specs.declared.Bit.{Bit};
 ghost use Rattle.ba_nodes.specs.declared.Node.{Node};
-ghost use Rattle.ba_nodes.specs.Gates.{bool_xor, constant_bit, opposite, truth, IsBitOf, gates_in, Extends, HasValue};
-ghost use Rattle.ba_words.specs.Words.{digit, spelled, number_of, low_number, bit_at, AreBitsOf, HasNumber, AddUp, word_type, word_value, IsValueOf, IsShift, IsComparison, IsValueOfOne, IsTest};
+ghost use Rattle.ba_nodes.specs.Gates.{IsBitOf};
+ghost use Rattle.ba_words.specs.Words.{number_of, bit_at, AreBitsOf, word_type, word_value};
 
 use crate::Word;
 use ba_nodes::{Bit, Nodes};
