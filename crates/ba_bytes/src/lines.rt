@@ -53,8 +53,8 @@ fn parted(text: &[u8]) -> (&[u8], Option<&[u8]>)
     }
 }
 
-/// Where the first line feed stands.
-fn feed_in(text: &[u8]) -> Option<usize>
+/// Where the first line feed stands, if there is one.
+pub fn feed_in(text: &[u8]) -> Option<usize>
     ensures place { result ≡ position is_line_end text.now }
     ensures within { IfSome result (λ place. place < length text.now) }
 {

@@ -14,7 +14,8 @@ use Rattle.ba_derivations.specs.Derivations.{Problem, Verdict, start_of, verdict
 use Rattle.ba_steps.specs.Steps.{IsFormed}
 use Rattle.ba_steps.specs.declared.step.CertStep.{CertStep}
 use Rattle.ba_steps.specs.declared.step.StepError.{StepError}
-use Rattle.ba_checker.specs.Judging.{Judge, after, after_all, error_of, next_if}
+use Rattle.ba_choices.specs.Judges.{Judge}
+use Rattle.ba_checker.specs.Judging.{after, after_all, error_of, next_if}
 use Rattle.ba_checker.specs.States.{State}
 use Rattle.ba_check.specs.Findings.{Accepted, Course, Goes, IsCertificateOf, Stops, after_head, after_line, after_lines, after_read, after_step, bad_line, code_of, course_of, finding_by, finding_of}
 use Rattle.ba_check.specs.Lines.{HasNoFeed, lines_in, rest_in}

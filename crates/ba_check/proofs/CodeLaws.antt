@@ -10,7 +10,7 @@ use Rattle.std.proofs.lemmas.List.Sums.{fails_before_first, passes_at_first, spl
 use Rattle.ba_bytes.specs.Classes.{is_line_end}
 use Rattle.ba_cert.specs.Reading.{step_in}
 use Rattle.ba_derivations.specs.Derivations.{Problem}
-use Rattle.ba_checker.specs.Judging.{Judge}
+use Rattle.ba_choices.specs.Judges.{Judge}
 use Rattle.ba_check.specs.Answers.{Tells, TellsRefusal}
 use Rattle.ba_check.specs.Findings.{Course, after_head, after_line, after_lines, after_read, course_of, finding_by, finding_of, first_refused, refusal_in}
 use Rattle.ba_check.specs.Lines.{HasNoFeed, IsCut, lines_in, rest_in}

@@ -2,7 +2,7 @@
 
 use Rattle.std.proofs.Common.{◌≡◌, ℕ, None, Some, List, [], ◌∷◌, ◌++◌, refl, ap, ◌∙◌}
 use Rattle.std.proofs.lemmas.Option.{same_Some}
-use Rattle.ba_checker.specs.Judging.{Judge}
+use Rattle.ba_choices.specs.Judges.{Judge}
 use Rattle.ba_derivations.specs.Derivations.{Problem, start_of}
 use Rattle.ba_check.specs.Findings.{Course, Goes, Stops, Refused, after_line, after_lines, course_of, finding_by, finding_of, first_refused, refusal_in}
 use Rattle.ba_check.specs.Lines.{lines_in, rest_in}

@@ -16,7 +16,8 @@ use Rattle.ba_encode.specs.Softs.{softs_of}
 use Rattle.ba_encode.specs.declared.encoded.Encoded.{Encoded}
 use Rattle.ba_numbers.specs.declared.ids.StmtId.{StmtId}
 use Rattle.ba_steps.specs.declared.step.CertStep.{CertStep}
-use Rattle.ba_tree.specs.Least.{AreLeast, Judge, WeightList, judge_of, stmt_of}
+use Rattle.ba_tree.specs.Least.{AreLeast, WeightList, judge_of, stmt_of}
+use Rattle.ba_choices.specs.Judges.{Judge}
 use Rattle.ba_tree.specs.declared.run.Input.{Input}
 use Rattle.ba_tree.specs.declared.tree.Program.{Program}
 

@@ -8,7 +8,8 @@ use Rattle.ba_derivations.specs.Derivations.{Derives, Problem, Verdict, start_of
 use Rattle.ba_steps.specs.Numbers.{number_of}
 use Rattle.ba_steps.specs.declared.step.CertStep.{CertStep}
 use Rattle.ba_steps.specs.declared.step.StepError.{StepError}
-use Rattle.ba_checker.specs.Judging.{Judge, after, error_of}
+use Rattle.ba_choices.specs.Judges.{Judge}
+use Rattle.ba_checker.specs.Judging.{after, error_of}
 use Rattle.ba_checker.specs.States.{State}
 use Rattle.ba_check.specs.Lines.{lines_in, rest_in}
 

@@ -13,7 +13,7 @@ use Rattle.ba_check.specs.declared.judged.Judged.{Judged}
 use Rattle.ba_derivations.specs.Derivations.{Problem, Verdict, Located, NoRepair, TooMany, Spent}
 use Rattle.ba_steps.specs.Numbers.{number_of}
 use Rattle.ba_steps.specs.declared.step.StepError.{StepError}
-use Rattle.ba_checker.specs.Judging.{Judge}
+use Rattle.ba_choices.specs.Judges.{Judge}
 use Rattle.ba_checker.specs.States.{State}
 
 -- the verdict of an End step, in the state before it or after it

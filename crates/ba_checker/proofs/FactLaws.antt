@@ -25,7 +25,8 @@ use Rattle.ba_steps.specs.declared.step.StepError.TheVariants.{DeadClause, RunNo
 use Rattle.ba_lits.proofs.ClauseLaws.{IsClause-rest}
 use Rattle.ba_checker.specs.Splits.{in_order, or_gate, and_gate, some_of, or_clauses, and_clauses, split_clauses, fresh_count, split_softs, late_softs, is_soft, lesser, lightest, lowered}
 use Rattle.ba_checker.specs.States.{Kept, kept, State, kept_at, clause_at, live_lits, is_live_origin, is_learnt_at, is_learnt_entry, is_learnt_origin, width_at, lits_at, without, without_all, present, first_state}
-use Rattle.ba_checker.specs.Judging.{Judge, error_if, lacks_variable, is_spent, lacks_soft, hint_error, error_of_replay, error_of, after, after_learn, after_core, after_delete, after_block, block_error, may_go, apart_by, delete_error, after_all, next_if, learn_error, core_error}
+use Rattle.ba_choices.specs.Judges.{Judge}
+use Rattle.ba_checker.specs.Judging.{error_if, lacks_variable, is_spent, lacks_soft, hint_error, error_of_replay, error_of, after, after_learn, after_core, after_delete, after_block, block_error, may_go, apart_by, delete_error, after_all, next_if, learn_error, core_error}
 use Rattle.ba_checker.specs.Facts.{all_lits, Differs, AreDifferent, AreAmong, IsStart, step_splits, splits_of, IsLive, IsBlocked, Holds}
 use Rattle.ba_checker.specs.Blocks.{lacks_group, is_among, set_weight, block_clause, block_clauses}
 use Rattle.ba_checker.proofs.BlockLaws.{block_formed}

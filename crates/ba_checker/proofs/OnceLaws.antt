@@ -15,7 +15,8 @@ use Rattle.ba_checker.specs.States.{Kept, kept, State, width_at, is_learnt_at, w
 use Rattle.ba_checker.specs.Splits.{split_clauses}
 use Rattle.ba_checker.specs.Blocks.{block_clause}
 use Rattle.ba_checker.specs.Parts.{is_part, is_live_part, holds_clause}
-use Rattle.ba_checker.specs.Judging.{Judge, error_if, lacks_variable, is_spent, hint_error, learn_error, delete_error, may_go, apart_by, error_of, after, after_all}
+use Rattle.ba_choices.specs.Judges.{Judge}
+use Rattle.ba_checker.specs.Judging.{error_if, lacks_variable, is_spent, hint_error, learn_error, delete_error, may_go, apart_by, error_of, after, after_all}
 use Rattle.ba_checker.specs.declared.store.Origin.TheVariants as origins
 use Rattle.ba_checker.proofs.FactLaws.{no_error, allowed}
 

@@ -13,7 +13,8 @@ use Rattle.ba_steps.specs.declared.step.CertStep.TheVariants.{Learn, Core, Delet
 use Rattle.ba_checker.specs.Splits.{split_clauses}
 use Rattle.ba_checker.specs.States.{Kept, State, is_lasting, clause_at, present}
 use Rattle.ba_checker.specs.Blocks.{lacks_group, set_weight, block_clauses}
-use Rattle.ba_checker.specs.Judging.{Judge, after}
+use Rattle.ba_choices.specs.Judges.{Judge}
+use Rattle.ba_checker.specs.Judging.{after}
 
 -- the literals of the clauses, the deleted ones too
 abbrev pub all_lits : List Kept → List (List Literal)

@@ -5,6 +5,7 @@ use Rattle.std.specs.List.{list_any, list_all}
 use Rattle.ba_lits.specs.Literals.{Literal, negate}
 use Rattle.ba_lits.specs.Satisfaction.{Soft}
 use Rattle.ba_lits.specs.Hints.{Replay, Refutes, StaysOpen, NamesNone, NamesIdle, replay}
+use Rattle.ba_choices.specs.Judges.{Judge}
 use Rattle.ba_choices.specs.declared.Choice.{Choice}
 use Rattle.ba_steps.specs.declared.step.CertStep.{CertStep}
 use Rattle.ba_steps.specs.declared.step.CertStep.TheVariants.{Learn, Core, Delete, Block, EndLocated, EndNoRepair, EndTooMany, EndSpent}
@@ -15,10 +16,6 @@ use Rattle.ba_checker.specs.Parts.{holds_clause}
 use Rattle.ba_checker.specs.Blocks.{lacks_group, is_among, set_weight, block_clause}
 use Rattle.ba_checker.specs.States.{kept, State, clause_at, is_learnt_at, width_at, without_all}
 use Rattle.ba_checker.specs.declared.store.Origin.TheVariants as origins
-
--- which runs are good for which groups
-abbrev pub Judge : Type 0
-Judge = List ℕ → List Choice → Bool
 
 -- the error where the test holds, else what the later tests give
 abbrev pub error_if : Bool → StepError → Option StepError → Option StepError

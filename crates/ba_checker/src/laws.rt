@@ -9,7 +9,8 @@ ghost use Rattle.ba_steps.specs.Steps.{IsFormed};
 ghost use Rattle.ba_steps.specs.declared.step.CertStep.{CertStep};
 ghost use Rattle.ba_steps.specs.declared.step.CertStep.TheVariants.{Learn};
 ghost use Rattle.ba_checker.specs.States.{State, first_state};
-ghost use Rattle.ba_checker.specs.Judging.{Judge, after_all};
+ghost use Rattle.ba_choices.specs.Judges.{Judge};
+ghost use Rattle.ba_checker.specs.Judging.{after_all};
 ghost use Rattle.ba_checker.specs.Facts.{IsStart, splits_of, Holds};
 
 /// A clause that follows by hints holds wherever the live clauses do.

@@ -1,4 +1,5 @@
 -- What `clap` finds in words gives the command that the words are.
+use Rattle.std.proofs.Math.Bool.{and-false}
 use Rattle.std.proofs.Common.{◌≡◌, ℕ, suc, Bool, true, false, cond, ◌&&◌, ◌||◌, ◌==◌, not, inl, inr, Option, None, Some, List, [], ◌∷◌, ◌++◌, length, take, drop, codes, refl, sym, ap, ap₂, ◌∙◌, arith, fold, subst, true≢false}
 use Rattle.std.specs.Prelude.{nat_le, option_and_then, find, is_some, slice_get}
 use Rattle.std.specs.List.{list_all}
@@ -19,7 +20,7 @@ use Rattle.ba_commands.specs.Modes.{Usage, Word, usage_of}
 use Rattle.ba_commands.specs.Words.{Part, are_distinct, files_in, has_bound, is_accepted, is_line, options_in, parts_of, split_words, stands}
 use Rattle.ba_commands.specs.Commands.{bounds_from, check_from, command_in, command_of_parts, command_on, command_with, file_at, localise_from, number_of, run_from, sample_from, value_in}
 use Rattle.ba_commands.specs.Parsing.{app_for, is_readable}
-use Rattle.ba_commands.proofs.Testing.{and_false, eq_comm, neither, not_both, same_either}
+use Rattle.ba_commands.proofs.Testing.{eq_comm, neither, not_both, same_either}
 use Rattle.ba_commands.proofs.Splitting.{IsRefused, readable_accepted, unreadable_refused}
 use Rattle.ba_commands.proofs.Rows.{Agrees, held, row}
 use Rattle.ba_commands.proofs.Turns.{walk_at}
@@ -430,7 +431,7 @@ faulty_refused mode first words ok faulty =
     chosen parts true true f d agrees = absurd (some_fault agrees.0)
     chosen parts true false f d agrees =
         ap (λ e. (length (files_in parts) == length u.files) && (e && has_bound u (options_in parts))) d
-        ∙ and_false (length (files_in parts) == length u.files)
+        ∙ and-false (length (files_in parts) == length u.files)
     chosen parts false d f e agrees = count (length (files_in parts) == length u.files) refl
       where
         count : (b : Bool) → (length (files_in parts) == length u.files) ≡ b

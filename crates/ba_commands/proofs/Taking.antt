@@ -1,11 +1,12 @@
 -- The rows that the parts of a line come to.
+use Rattle.std.proofs.Math.Bool.{or-false}
 use Rattle.std.proofs.Common.{◌≡◌, Bool, true, false, cond, ◌&&◌, ◌||◌, not, Option, None, Some, option_map, List, [], ◌∷◌, ◌++◌, map, codes, refl, sym, ap, ap₂, ◌∙◌, append-nil, append_assoc}
 use Rattle.std.specs.List.{list_all}
 use Rattle.std.specs.Str.{bytes_eq}
 use Rattle.clap.specs.Walk.{Row, has_row}
 use Rattle.ba_commands.specs.Modes.{Word}
 use Rattle.ba_commands.specs.Words.{Part, option, switch, file, are_distinct, stands}
-use Rattle.ba_commands.proofs.Testing.{list_any-append, or_false, same_either}
+use Rattle.ba_commands.proofs.Testing.{list_any-append, same_either}
 use Rattle.ba_commands.proofs.Rows.{put, row}
 
 -- the parts one after the other: an option twice, or a file name too many, is a fault
@@ -90,7 +91,7 @@ are_new-more rows name value [] = refl
 are_new-more rows name value (other ∷ names) =
     ap₂ (λ a b. not a && b)
     (list_any-append (λ (r : Row). bytes_eq r.id other) rows (row name value ∷ [])
-    ∙ ap (λ b. has_row other rows || b) (or_false (bytes_eq name other)))
+    ∙ ap (λ b. has_row other rows || b) (or-false (bytes_eq name other)))
     (are_new-more rows name value names)
     ∙ by (has_row other rows) (bytes_eq name other) (are_new rows names) (stands name names)
   where

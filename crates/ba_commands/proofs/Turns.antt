@@ -1,4 +1,5 @@
 -- One word more, as `clap` walks over the words.
+use Rattle.std.proofs.Math.Bool.{and-false}
 use Rattle.std.proofs.Common.{◌≡◌, ℕ, suc, ◌+◌, ◌==◌, Bool, true, false, cond, not, min, nat_lt, Option, None, Some, List, [], ◌∷◌, ◌++◌, codes, refl, sym, ap, ap₂, ◌∙◌, arith, true≢false}
 use Rattle.std.specs.Option.{option_map_or}
 use Rattle.std.specs.Str.{bytes_eq}
@@ -16,7 +17,7 @@ use Rattle.ba_commands.specs.Modes.{Word}
 use Rattle.ba_commands.specs.Words.{is_plain, option_word}
 use Rattle.ba_commands.specs.Parsing.{rule_for}
 use Rattle.ba_commands.specs.declared.parsing.Role.TheVariants.{Valued, Plain, File}
-use Rattle.ba_commands.proofs.Testing.{and_false, eq_self}
+use Rattle.ba_commands.proofs.Testing.{eq_self}
 use Rattle.ba_commands.proofs.Rows.{TakesOne, held, or_else-nil}
 
 -- a command with these arguments, as it is built
@@ -252,13 +253,13 @@ file_turn rules name word h place there more p = record { fault = t.fault ∙ fa
     faults = ap (λ o. option_map_or (λ (a : Rule). positional_fault rules false a h) o
         (stray_fault (shape_for rules))) there
         ∙ ap (λ b. cond b [] (settle_fault rules false h))
-        (and_false (is_pending (file_rule place name) h.pending))
+        (and-false (is_pending (file_rule place name) h.pending))
 
     goes : to_positional rules (arg_by_index rules place) word (walk_at h idle place) h
         ≡ walk_at (record (settled rules h) { pending = Some (name, word ∷ []) }) idle (suc place)
     goes = ap (λ o. to_positional rules o word (walk_at h idle place) h) there
         ∙ ap (λ b. walk_at (pushed name word (cond b h (settled rules h))) idle (min (place + 1) usize_max))
-        (and_false (is_pending (file_rule place name) h.pending))
+        (and-false (is_pending (file_rule place name) h.pending))
         ∙ ap (λ n. walk_at (record (settled rules h) { pending = Some (name, word ∷ []) }) idle n) more
 
 -- a file name too many

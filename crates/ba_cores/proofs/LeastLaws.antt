@@ -9,7 +9,8 @@ use Rattle.ba_lits.specs.Formulas.{Cnf}
 use Rattle.ba_lits.specs.Hints.{FollowsByHints}
 use Rattle.ba_lits.proofs.Satisfied.{cost-agree}
 use Rattle.ba_checker.specs.States.{Kept, State, clause_at, present, first_state}
-use Rattle.ba_checker.specs.Judging.{Judge, error_of_replay}
+use Rattle.ba_choices.specs.Judges.{Judge}
+use Rattle.ba_checker.specs.Judging.{error_of_replay}
 use Rattle.ba_checker.specs.Facts.{IsLive, Holds, splits_of}
 use Rattle.ba_checker.specs.Blocks.{block_clauses}
 use Rattle.ba_checker.proofs.FactLaws.{facts_hold, follows_true, among-below}

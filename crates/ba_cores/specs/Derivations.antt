@@ -10,7 +10,8 @@ use Rattle.ba_steps.specs.Sinks.{Logs}
 use Rattle.ba_steps.specs.declared.step.CertStep.{CertStep}
 use Rattle.ba_steps.specs.declared.step.CertStep.TheVariants.{Learn, Core, Delete}
 use Rattle.ba_checker.specs.States.{State, clause_at, first_state}
-use Rattle.ba_checker.specs.Judging.{Judge, error_of, after, after_all}
+use Rattle.ba_choices.specs.Judges.{Judge}
+use Rattle.ba_checker.specs.Judging.{error_of, after, after_all}
 use Rattle.ba_checker.specs.Facts.{IsStart}
 use Rattle.ba_checker.specs.Puts.{LeavesSteps}
 

@@ -6,7 +6,7 @@ use Rattle.ba_lits.specs.Formulas.{Cnf}
 use Rattle.ba_lits.specs.Hints.{FollowsByHints}
 use Rattle.ba_steps.specs.Steps.{AreNumbers}
 use Rattle.ba_checker.specs.States.{State, clause_at, present}
-use Rattle.ba_checker.specs.Judging.{Judge}
+use Rattle.ba_choices.specs.Judges.{Judge}
 use Rattle.ba_cores.specs.Derivations.{IsReached}
 use Rattle.ba_cores.specs.declared.costs.Found.{Found}
 use Rattle.ba_cores.specs.declared.costs.Found.TheVariants.{Least, NoModel, Spent}

@@ -5,7 +5,7 @@ use Rattle.ba_lits.specs.Literals.{Literal}
 use Rattle.ba_lits.specs.Satisfaction.{Soft}
 use Rattle.ba_steps.specs.Sinks.{Logs}
 use Rattle.ba_checker.specs.States.{State}
-use Rattle.ba_checker.specs.Judging.{Judge}
+use Rattle.ba_choices.specs.Judges.{Judge}
 use Rattle.ba_checker.specs.Puts.{PutsSteps}
 use Rattle.ba_cores.specs.Derivations.{Derives}
 use Rattle.ba_cores.specs.Findings.{IsFound}

@@ -22,7 +22,8 @@ use Rattle.ba_checker.specs.Judging.{error_if, error_of, hint_error, is_spent, l
 use Rattle.ba_checker.specs.Splits.{is_soft}
 use Rattle.ba_checker.specs.States.{State}
 use Rattle.ba_checker.proofs.FactLaws.{facts_hold, follows_true, no_error}
-use Rattle.ba_tree.specs.Least.{Judge, WeightList, AreInOrder, AreLeast, IsFeasible, IsLeastSet, IsRelaxableSet, weight_of}
+use Rattle.ba_choices.specs.Judges.{Judge}
+use Rattle.ba_tree.specs.Least.{WeightList, AreInOrder, AreLeast, IsFeasible, IsLeastSet, IsRelaxableSet, weight_of}
 use Rattle.ba_tree.proofs.Members.{here, there, contains_has}
 use Rattle.ba_derivations.specs.Derivations.{AreAllLeast, AreTooMany, AreTooManyModelSets, Derives, DerivesOver, HaveSameSets, IsGood, IsLeastModelSet, Located, NoRepair, Problem, Spent, TooMany, Verdict, blocked_by, conflicts_in, sets_of, start_of, verdict_of}
 use Rattle.ba_derivations.specs.Encodings.{HasModelFor, IsFaithful, false_groups}

@@ -9,7 +9,8 @@ use Rattle.ba_steps.specs.Steps.{IsFormed}
 use Rattle.ba_steps.specs.declared.step.CertStep.{CertStep}
 use Rattle.ba_steps.specs.declared.step.CertStep.TheVariants.{Learn, Core, Delete, Block, EndLocated, EndNoRepair, EndTooMany, EndSpent}
 use Rattle.ba_checker.specs.Blocks.{set_weight}
-use Rattle.ba_checker.specs.Judging.{Judge, after_all, error_of}
+use Rattle.ba_choices.specs.Judges.{Judge}
+use Rattle.ba_checker.specs.Judging.{after_all, error_of}
 use Rattle.ba_checker.specs.States.{State, first_state}
 use Rattle.ba_derivations.specs.declared.verdict.FoundSet.{FoundSet}
 use Rattle.ba_derivations.specs.Encodings.{HasModelFor, IsFaithful}

@@ -6,7 +6,8 @@ use Rattle.ba_lits.specs.Literals.{IsClause}
 use Rattle.ba_lits.specs.Satisfaction.{Assignment, Soft, all_true, lit_true}
 use Rattle.ba_checker.specs.Blocks as groups
 use Rattle.ba_checker.specs.Facts.{AreSelectors}
-use Rattle.ba_tree.specs.Least.{Judge, WeightList, IsFeasible, IsRelaxableSet, weight_at}
+use Rattle.ba_choices.specs.Judges.{Judge}
+use Rattle.ba_tree.specs.Least.{WeightList, IsFeasible, IsRelaxableSet, weight_at}
 
 -- THE SET OF AN ASSIGNMENT. Entry n - 1 of a list of soft literals is the selector of group n, with its
 -- weight; an entry of weight 0 stands for no group. The groups of an assignment are those whose selectors

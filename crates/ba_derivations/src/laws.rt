@@ -9,7 +9,8 @@ ghost use Rattle.ba_derivations.specs.Derivations.{blocked_by, conflicts_in, set
 ghost use Rattle.ba_derivations.specs.Encodings.{HasModelFor};
 ghost use Rattle.ba_steps.specs.declared.step.CertStep.{CertStep};
 ghost use Rattle.ba_checker.specs.Facts.{IsStart};
-ghost use Rattle.ba_tree.specs.Least.{AreInOrder, AreLeast, Judge, WeightList};
+ghost use Rattle.ba_tree.specs.Least.{AreInOrder, AreLeast, WeightList};
+ghost use Rattle.ba_choices.specs.Judges.{Judge};
 
 /// Over a faithful encoding, the sets of a derived verdict `Located` are exactly the least sets, all
 /// of the verdict's weight.

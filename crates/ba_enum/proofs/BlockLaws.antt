@@ -22,7 +22,8 @@ use Rattle.ba_steps.specs.Steps.{AreAbove, IsFormed}
 use Rattle.ba_steps.specs.declared.step.CertStep.TheVariants.{Block}
 use Rattle.ba_steps.specs.declared.step.StepError.TheVariants.{AfterEnd, Memory, BadVariable, SetTwice, WrongWeight, RunNotGood}
 use Rattle.ba_checker.specs.Blocks.{lacks_group, is_among, set_weight}
-use Rattle.ba_checker.specs.Judging.{Judge, error_if, error_of, after}
+use Rattle.ba_choices.specs.Judges.{Judge}
+use Rattle.ba_checker.specs.Judging.{error_if, error_of, after}
 use Rattle.ba_checker.specs.States.{State}
 
 -- what is blocked: the set of a model, with the run that is read from it

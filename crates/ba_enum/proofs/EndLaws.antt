@@ -18,7 +18,8 @@ use Rattle.ba_steps.specs.Sinks.{Logs, with_step}
 use Rattle.ba_steps.specs.Steps.{IsFormed}
 use Rattle.ba_steps.specs.declared.step.CertStep.TheVariants.{EndLocated, EndNoRepair, EndTooMany, EndSpent}
 use Rattle.ba_steps.specs.declared.step.StepError.TheVariants.{AfterEnd, Memory, BadVariable, NotSofts, WrongCount}
-use Rattle.ba_checker.specs.Judging.{Judge, error_if, lacks_variable, is_spent, lacks_soft, error_of_replay, are_too_many, error_of, after}
+use Rattle.ba_choices.specs.Judges.{Judge}
+use Rattle.ba_checker.specs.Judging.{error_if, lacks_variable, is_spent, lacks_soft, error_of_replay, are_too_many, error_of, after}
 use Rattle.ba_checker.specs.Splits.{is_soft}
 use Rattle.ba_checker.specs.States.{State, clause_at}
 use Rattle.ba_tree.specs.Least.{AreInOrder}

@@ -27,7 +27,7 @@ use Rattle.ba_search.specs.declared.search.SearchError.{SearchError}
 use Rattle.ba_steps.specs.Sinks.{Logs}
 use Rattle.ba_steps.specs.Steps.{IsFormed}
 use Rattle.ba_checker.specs.Facts.{IsStart}
-use Rattle.ba_checker.specs.Judging.{Judge}
+use Rattle.ba_choices.specs.Judges.{Judge}
 use Rattle.ba_checker.specs.Puts.{Putting}
 use Rattle.ba_checker.specs.States.{State, first_state}
 use Rattle.ba_checker.proofs.FactLaws.{distinct_none}

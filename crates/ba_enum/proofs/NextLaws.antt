@@ -6,7 +6,7 @@ use Rattle.ba_lits.specs.Satisfaction.{Assignment, all_true, assignment_of, Soft
 use Rattle.ba_lits.specs.Formulas.{Cnf}
 use Rattle.ba_lits.proofs.Satisfied.{cost-agree}
 use Rattle.ba_checker.specs.States.{State, present, first_state}
-use Rattle.ba_checker.specs.Judging.{Judge}
+use Rattle.ba_choices.specs.Judges.{Judge}
 use Rattle.ba_checker.specs.Facts.{Holds, splits_of}
 use Rattle.ba_checker.specs.Blocks.{block_clauses}
 use Rattle.ba_checker.proofs.FactLaws.{among-below}

@@ -14,7 +14,7 @@ use Rattle.ba_search.specs.Searching.{Searches, Leaves as LeavesSearched}
 use Rattle.ba_search.proofs.StepLaws.{Gives}
 use Rattle.ba_steps.specs.Sinks.{Logs}
 use Rattle.ba_steps.specs.declared.step.CertStep.{CertStep}
-use Rattle.ba_checker.specs.Judging.{Judge}
+use Rattle.ba_choices.specs.Judges.{Judge}
 use Rattle.ba_checker.specs.Puts.{with_steps}
 use Rattle.ba_checker.specs.States.{State}
 use Rattle.ba_checker.proofs.PutLaws.{leaves_weaker}

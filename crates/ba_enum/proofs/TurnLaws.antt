@@ -23,7 +23,7 @@ use Rattle.ba_search.specs.declared.search.SearchError.TheVariants.{SinkFailed}
 use Rattle.ba_steps.specs.Sinks.{Logs, Rose}
 use Rattle.ba_steps.proofs.SinkLaws.{rose_later}
 use Rattle.ba_checker.specs.Blocks.{block_clause}
-use Rattle.ba_checker.specs.Judging.{Judge}
+use Rattle.ba_choices.specs.Judges.{Judge}
 use Rattle.ba_checker.specs.States.{kept, State, clause_at}
 use Rattle.ba_checker.specs.declared.store.Origin.TheVariants as origins
 

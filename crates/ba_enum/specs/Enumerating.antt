@@ -13,7 +13,8 @@ use Rattle.ba_lits.specs.Satisfaction.{Assignment, all_true, Soft}
 use Rattle.ba_steps.specs.Sinks.{Logs, with_step}
 use Rattle.ba_steps.specs.Steps.{IsFormed}
 use Rattle.ba_steps.specs.declared.step.CertStep.{CertStep}
-use Rattle.ba_checker.specs.Judging.{Judge, error_of, after, after_all}
+use Rattle.ba_choices.specs.Judges.{Judge}
+use Rattle.ba_checker.specs.Judging.{error_of, after, after_all}
 use Rattle.ba_checker.specs.Puts.{with_steps}
 use Rattle.ba_checker.specs.States.{State}
 use Rattle.ba_tree.specs.Least.{AreInOrder}

@@ -13,7 +13,8 @@ use Rattle.ba_steps.specs.declared.step.CertStep.{CertStep}
 use Rattle.ba_steps.specs.declared.step.CertStep.TheVariants.{Learn, Core, Delete, Block, EndLocated, EndNoRepair, EndTooMany, EndSpent}
 use Rattle.ba_checker.specs.Blocks.{block_clauses}
 use Rattle.ba_checker.specs.Facts.{IsStart}
-use Rattle.ba_checker.specs.Judging.{Judge, after, after_all, after_block}
+use Rattle.ba_choices.specs.Judges.{Judge}
+use Rattle.ba_checker.specs.Judging.{after, after_all, after_block}
 use Rattle.ba_checker.specs.Puts.{PutsSteps, LeavesSteps}
 use Rattle.ba_checker.specs.States.{State, clause_at, first_state, present}
 

@@ -9,7 +9,7 @@ use Rattle.ba_encode.specs.Softs.{softs_of}
 use Rattle.ba_learn.specs.Live.{AreLive}
 use Rattle.ba_lits.specs.Satisfaction.{Assignment, all_true}
 use Rattle.ba_search.specs.Searching.{Searching}
-use Rattle.ba_checker.specs.Judging.{Judge}
+use Rattle.ba_choices.specs.Judges.{Judge}
 use Rattle.ba_checker.specs.Puts.{Putting}
 use Rattle.ba_checker.specs.States.{State, clause_at, first_state}
 

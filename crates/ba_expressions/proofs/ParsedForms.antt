@@ -7,7 +7,7 @@ use Rattle.std.proofs.lemmas.Bool.Decides.{nat_tests}
 use Rattle.std.proofs.lemmas.List.{append-nil}
 use Rattle.std.specs.Global.{Box}
 use Rattle.ba_tokens.specs.declared.token.Token.{Token}
-use Rattle.ba_trees.specs.declared.tree.expressions.Primary.TheFolds.{fold-Branches, fold-Expressions, fold-roll-Primary, fold-roll-Unary, fold_out-Arguments, fold_out-Branches, fold_out-Chain, fold_out-Conditional, fold_out-Expressions, fold_out-NextExpression, fold_out-Operand, map-Arguments, map-Chain, map-Conditional}
+use Rattle.ba_trees.specs.declared.tree.expressions.Primary.TheFolds.{fold-roll-Primary, fold-roll-Unary, fold_out-Arguments, fold_out-Branches, fold_out-Chain, fold_out-Conditional, fold_out-Expressions, fold_out-NextExpression, fold_out-Operand, map-Arguments, map-Chain, map-Conditional}
 use Rattle.ba_trees.specs.declared.tree.expressions.Primary.TheOpen.{Primary-F, Unary-F}
 use Rattle.ba_trees.specs.declared.tree.expressions.Arguments.{Arguments, out-Arguments}
 use Rattle.ba_trees.specs.declared.tree.expressions.Branches.{Branches, out-Branches}
@@ -21,22 +21,10 @@ use Rattle.ba_trees.specs.declared.tree.expressions.Primary as primary
 use Rattle.ba_trees.specs.declared.tree.expressions.TypeName.{TypeName}
 use Rattle.ba_trees.specs.declared.tree.expressions.Unary.{Unary}
 use Rattle.ba_trees.specs.declared.tree.expressions.Unary as unary
-use Rattle.ba_typing.specs.Expressions.{Typed, OperandTyping, chain_of, whole_operand, tighter, from_looser, typed_token, Typing, Typings, BranchTypings, ChainTyping, typed_primary, typed_unary_expression, typed_arguments, typed_chain, typed_conditional, typed_next, typed_operand, primary_step, unary_step, arguments_step, branches_step, chain_step, conditional_step, expressions_step, next_expression_step, operand_step, typed_element, typed_called, typed_call, typed_unary, typed_cast, typed_binary, select_typing, after_chains, with_branches}
+use Rattle.ba_typing.specs.Expressions.{Typed, OperandTyping, chain_of, whole_operand, tighter, from_looser, typed_token, Typing, Typings, BranchTypings, ChainTyping, typed_primary, typed_unary_expression, typed_arguments, typed_chain, typed_conditional, typed_next, typed_operand, primary_step, unary_step, arguments_step, branches_step, chain_step, conditional_step, expressions_step, next_expression_step, operand_step, typed_element, typed_called, typed_call, typed_unary, typed_cast, typed_binary, select_typing, after_chains, with_branches, typed_branches, typed_expressions}
 use Rattle.ba_expressions.specs.Judging.{goes_on, is_left_to_right}
 use Rattle.ba_typing.specs.declared.names.Operator.{Operator}
 use Rattle.ba_typing.specs.Names.{Scope, meaning_of, name_of, punct_of, type_named, unary_operator, binary_operator}
-
-abbrev typed_branches : Branches → BranchTypings
-typed_branches = fold-Branches Typing Typing Typings BranchTypings ChainTyping Typing Typings Typing
-    OperandTyping
-    primary_step unary_step arguments_step
-    branches_step chain_step conditional_step expressions_step next_expression_step operand_step
-
-abbrev typed_expressions : Expressions → Typings
-typed_expressions = fold-Expressions Typing Typing Typings BranchTypings ChainTyping Typing Typings Typing
-    OperandTyping
-    primary_step unary_step arguments_step
-    branches_step chain_step conditional_step expressions_step next_expression_step operand_step
 
 -- PRIMARY EXPRESSIONS
 

@@ -1,7 +1,7 @@
 -- Where a run begins.
 use Rattle.std.proofs.Common.{rules, ◌≡◌, ℕ, zero, suc, ◌+◌, ◌<◌, ◌≤◌, ◌==◌, ℤ, pos, true, ◌&&◌, cond, Some, Ok, List, [], ◌∷◌, ◌++◌, map, length, get_or, slice_get, replicate, take, refl, sym, ◌∙◌, ap, subst, arith, append_assoc, append-nil, length-append}
 use Rattle.std.proofs.lemmas.Bool.{and_from, and_parts, eq-eqb}
-use Rattle.std.proofs.lemmas.List.{get_or-replicate, length-map, length-replicate, length-take-le, map-append, take_more}
+use Rattle.std.proofs.lemmas.List.{get_or-replicate, length-map, length-replicate, map-append, take_more}
 use Rattle.std.proofs.lemmas.List.Folds.{list_all-append, list_all-map}
 use Rattle.std.specs.List.{list_all}
 use Rattle.ba_choices.specs.declared.Choice.{Choice}
@@ -28,6 +28,7 @@ use Rattle.ba_guards.specs.Reading.Status.{idle, left, running}
 use Rattle.ba_guards.specs.Starting.{AreZero, Starts}
 use Rattle.ba_guards.specs.declared.builder.Builder.{Builder}
 use Rattle.ba_guards.specs.declared.exits.Exit.{Exit}
+use Rattle.ba_tree.proofs.Elements.{elements-length}
 use Rattle.ba_tree.specs.Meaning.{elements_with}
 use Rattle.ba_tree.specs.declared.run.Flow.TheVariants.{Next}
 use Rattle.ba_wordlist.proofs.Choices.{chosen-nothing, kept-everywhere, visits-none}
@@ -419,9 +420,6 @@ elements-fit n zs h = taken-fit n (zs ++ replicate n (pos 0))
 padded-length : (n : ℕ) (zs : List ℤ) → length (zs ++ replicate n (pos 0)) ≡ length zs + n
 padded-length n zs = length-append zs (replicate n (pos 0)) ∙ ap (λ m. length zs + m) (length-replicate n
     (pos 0))
-
-elements-length : (n : ℕ) (zs : List ℤ) → length (elements_with n zs) ≡ n
-elements-length n zs = length-take-le n (zs ++ replicate n (pos 0)) (omega (arith, padded-length n zs))
 
 padded-at : (zs : List ℤ) (n i : ℕ) → i < n →
     get_or (zs ++ replicate n (pos 0)) i (pos 0) ≡ get_or zs i (pos 0)

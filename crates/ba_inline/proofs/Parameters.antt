@@ -14,7 +14,7 @@ use Rattle.ba_code.specs.declared.nodes.Param.{Param}
 use Rattle.ba_code.specs.declared.nodes.Param.TheVariants.{Var, Array}
 use Rattle.ba_inline.proofs.Rows.{next-taken}
 use Rattle.ba_inline.proofs.Seeing.{at-other, at-self, seen-array, seen-elements, seen-named}
-use Rattle.ba_inline.proofs.Stores.{elements-length}
+use Rattle.ba_tree.proofs.Elements.{elements-length}
 use Rattle.ba_inline.specs.Names.{IsNaming, Names, seen}
 use Rattle.ba_inline.specs.Starting.{AreParams, IsArrayParam, IsParam}
 use Rattle.ba_inline.specs.declared.declared.Counts.{Counts}

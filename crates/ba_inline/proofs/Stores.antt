@@ -1,7 +1,7 @@
 -- The code of statements that change arrays.
 use Rattle.std.proofs.Common.{◌≡◌, ℕ, zero, suc, ◌+◌, ◌≤◌, ℤ, pos, Bool, true, false, ◌&&◌, cond, Option, None, Some, Ok, List, [], ◌∷◌, ◌++◌, map, length, take, replicate, refl, sym, ◌∙◌, ap, subst, arith}
 use Rattle.std.proofs.lemmas.Bool.{cases_eq}
-use Rattle.std.proofs.lemmas.List.{length-append, length-replicate, length-set, length-take-le, map-append, replicate-append-replicate, take-replicate}
+use Rattle.std.proofs.lemmas.List.{length-replicate, length-set, map-append, replicate-append-replicate, take-replicate}
 use Rattle.std.specs.Prelude.{slice_get, slice_set, unsigned_abs, ◌⊎◌}
 use Rattle.std.proofs.Common.{inl, inr}
 use Rattle.ba_choices.specs.declared.Choice.{Choice}
@@ -30,6 +30,7 @@ use Rattle.ba_numbers.specs.Numbers.{is_in}
 use Rattle.ba_numbers.specs.declared.ids.StmtId.{StmtId}
 use Rattle.ba_numbers.specs.declared.ids.VarId.{VarId}
 use Rattle.ba_numbers.specs.declared.numbers.CType.{CType}
+use Rattle.ba_tree.proofs.Elements.{elements-length}
 use Rattle.ba_tree.specs.Acts.{each, give, then_do}
 use Rattle.ba_tree.specs.Choices.{all_elements, if_fitting, one_element}
 use Rattle.ba_tree.specs.Meaning.{declare, elements_with, eval, given_element, given_elements, or_trapped, set_element, set_elements, type_of, variable_of}
@@ -57,12 +58,6 @@ filled-more (suc n) m k (z ∷ zs) le = ap (λ ys. z ∷ ys) (filled-more n m k 
 
 pub filled-up : (n m : ℕ) (zs : List ℤ) → elements_with n (zs ++ replicate m (pos 0)) ≡ elements_with n zs
 filled-up n m zs = filled-more n m n zs (omega arith)
-
-pub elements-length : (n : ℕ) (zs : List ℤ) → length (elements_with n zs) ≡ n
-elements-length n zs = length-take-le n (zs ++ replicate n (pos 0))
-    (let e : length (zs ++ replicate n (pos 0)) ≡ length zs + length (replicate n (pos 0)) = length-append
-    zs (replicate n (pos 0)) in
-    let f : length (replicate n (pos 0)) ≡ n = length-replicate n (pos 0) in omega (arith, e, f))
 
 -- an index that fits is in the array
 index-by : (a b : Bool) (i z : ℤ) (q : ℤ × ℤ) (n : ℕ) → is_index n i ≡ a →

@@ -2,16 +2,9 @@
 use Rattle.std.proofs.Common.{◌≡◌, ℕ, ◌+◌, ◌-◌, ◌<◌, ℤ, pos, List, ◌∷◌, [], ◌++◌, length, take, replicate, refl, sym, ◌∙◌, ap, arith}
 use Rattle.std.proofs.Common.{get_or, set}
 use Rattle.std.proofs.Math.Seq.{take-length}
-use Rattle.std.proofs.lemmas.List.{length-append, length-replicate, get_or-take, get_or_past, get_or-replicate, get_or-append_right, get_or_append_left, length-take-le, take_more, take_more_set}
+use Rattle.std.proofs.lemmas.List.{get_or-take, get_or_past, get_or-replicate, get_or-append_right, get_or_append_left, take_more, take_more_set}
+use Rattle.ba_tree.proofs.Elements.{elements-length}
 use Rattle.ba_tree.specs.Meaning.{elements_with}
-
-filled-length : (n : ℕ) (zs : List ℤ) → length (elements_with n zs) ≡ n
-filled-length n zs = length-take-le n (zs ++ replicate n (pos 0)) (grind (
-  arith,
-  length-append zs (replicate n
-      (pos 0)),
-  length-replicate n (pos 0),
-))
 
 filled-at : (n : ℕ) (zs : List ℤ) (k : ℕ) → k < n
     → get_or (elements_with n zs) k (pos 0) ≡ get_or zs k (pos 0)
@@ -35,11 +28,11 @@ pub filled-more : (n : ℕ) (zs elements : List ℤ) (k : ℕ) (z : ℤ) → k <
 filled-more n zs elements k z below is_length is_value first =
     take_more_set elements k z (grind (arith, is_length)) ∙ ap (λ front. front ++ z ∷ []) first
     ∙ ap (λ z. take k (elements_with n zs) ++ z ∷ []) (is_value ∙ sym (filled-at n zs k below))
-    ∙ sym (take_more (elements_with n zs) k (pos 0) (grind (arith, filled-length n zs)))
+    ∙ sym (take_more (elements_with n zs) k (pos 0) (grind (arith, elements-length n zs)))
 
 -- all of them
 pub filled-all : (n : ℕ) (zs elements : List ℤ) → length elements ≡ n
     → take n elements ≡ take n (elements_with n zs) → elements ≡ elements_with n zs
 filled-all n zs elements is_length same =
     sym (take-length elements) ∙ ap (λ k. take k elements) is_length ∙ same
-    ∙ ap (λ k. take k (elements_with n zs)) (sym (filled-length n zs)) ∙ take-length (elements_with n zs)
+    ∙ ap (λ k. take k (elements_with n zs)) (sym (elements-length n zs)) ∙ take-length (elements_with n zs)

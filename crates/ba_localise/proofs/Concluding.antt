@@ -16,7 +16,8 @@ use Rattle.ba_steps.specs.declared.sink.Basis.{Basis}
 use Rattle.ba_steps.specs.declared.step.CertStep.{CertStep}
 use Rattle.ba_checker.specs.Puts.{with_steps}
 use Rattle.ba_checker.specs.States.{State, first_state}
-use Rattle.ba_tree.specs.Least.{Judge, WeightList}
+use Rattle.ba_choices.specs.Judges.{Judge}
+use Rattle.ba_tree.specs.Least.{WeightList}
 
 -- LISTS with the same sets and runs
 

@@ -13,7 +13,8 @@ use Rattle.ba_steps.specs.declared.sink.Basis.{Basis}
 use Rattle.ba_steps.specs.declared.step.CertStep.{CertStep}
 use Rattle.ba_checker.specs.Puts.{with_steps}
 use Rattle.ba_checker.specs.States.{State, first_state}
-use Rattle.ba_tree.specs.Least.{AreLeast, Judge, WeightList, weight_of}
+use Rattle.ba_tree.specs.Least.{AreLeast, WeightList, weight_of}
+use Rattle.ba_choices.specs.Judges.{Judge}
 
 -- WHAT A SINK OF STEPS TELLS at one moment: its formulas, its logs, and how often what it writes to has failed
 pub record Told : Type 0 where

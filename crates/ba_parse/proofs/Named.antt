@@ -1,5 +1,6 @@
 -- Parameters without a name, and `void` alone.
 
+use Rattle.std.proofs.Math.Bool.{or-false}
 use Rattle.std.proofs.Common.{◌≡◌, Bool, true, false, not, ◌||◌, ◌&&◌, List, [], ◌∷◌, ◌++◌, length, map, Option, None, Some, length-append, refl, sym, ap, ◌∙◌, arith}
 use Rattle.std.specs.Option.{is_some}
 use Rattle.std.specs.List.{list_all}
@@ -14,10 +15,6 @@ use Rattle.ba_trees.specs.declared.tree.declarations.NextParameter.{NextParamete
 use Rattle.ba_parse.proofs.Quiet.{unnamed_append}
 use Rattle.ba_parse.proofs.Forests.{yield_deeper}
 
-or_false : (b : Bool) → (b || false) ≡ b
-or_false true = refl
-or_false false = refl
-
 name_is : (name : Option Token) → not (has_unnamed (name_marks name)) ≡ is_some name
 name_is None = refl
 name_is (Some t) = refl
@@ -28,9 +25,9 @@ pub parameter_named : (words size : List Mark) (name : Option Token) → has_unn
 parameter_named words size name w l =
     let inner : has_unnamed ((words ++ name_marks name) ++ size) ≡ has_unnamed (name_marks name) =
     unnamed_append (words ++ name_marks name) size ∙ rw (l, unnamed_append words (name_marks name), w)
-    (or_false (has_unnamed (name_marks name))) in
+    (or-false (has_unnamed (name_marks name))) in
     ap not (unnamed_append ((words ++ name_marks name) ++ size) (leave parameter ∷ [])
-    ∙ or_false (has_unnamed ((words ++ name_marks name) ++ size)) ∙ inner) ∙ name_is name
+    ∙ or-false (has_unnamed ((words ++ name_marks name) ++ size)) ∙ inner) ∙ name_is name
 
 not_or : (a b : Bool) → not (a || b) ≡ (not a && not b)
 not_or true b = refl
@@ -48,7 +45,7 @@ all_named (p ∷ ps) = ap (λ b. not (has_unnamed (next_parameter_marks p)) && b
 pub takes_block_is : (p : List Mark) → takes_block (one_deeper p) ≡ (not (has_unnamed p) || is_void (yield p))
 takes_block_is p =
     let named : has_unnamed (p ++ up ∷ []) ≡ has_unnamed p = unnamed_append p (up ∷ [])
-    ∙ or_false (has_unnamed p) in
+    ∙ or-false (has_unnamed p) in
     rw (named, yield_deeper p) refl
 
 pub void_alone : (ts after rest : List Token) (first : Token) → ts ++ after ≡ first ∷ rest →
@@ -68,4 +65,4 @@ void_none [] after e = refl
 void_none (t ∷ ts) after e = absurd cc
 
 pub parameters_named : (f : List Mark) → has_unnamed (node_of parameters f) ≡ has_unnamed f
-parameters_named f = unnamed_append f (leave parameters ∷ []) ∙ or_false (has_unnamed f)
+parameters_named f = unnamed_append f (leave parameters ∷ []) ∙ or-false (has_unnamed f)

@@ -10,7 +10,8 @@ use Rattle.ba_bytes.specs.Lines.{lines_of}
 use Rattle.ba_report.specs.Lines.{line_at, trimmed}
 use Rattle.ba_text.specs.Texts.{choices_text}
 use Rattle.ba_tree.specs.Choices.{info_of}
-use Rattle.ba_tree.specs.Least.{Judge, stmt_of}
+use Rattle.ba_choices.specs.Judges.{Judge}
+use Rattle.ba_tree.specs.Least.{stmt_of}
 use Rattle.ba_tree.specs.declared.tree.Program.{Program}
 use Rattle.ba_tree.specs.declared.tree.StmtInfo.{StmtInfo}
 use Rattle.ba_tree.specs.declared.tree.StmtKind.{StmtKind}

@@ -6,7 +6,8 @@ ghost use Rattle.ba_derivations.specs.declared.verdict.FoundSet.{FoundSet};
 ghost use Rattle.ba_report.specs.Report.{IsLocated, Reports, info_line, kind_word, located_text, place_text};
 ghost use Rattle.ba_report.specs.Report.{report_text, run_line, set_lines, sets_lines, source_text, statement_line};
 ghost use Rattle.ba_tree.specs.Choices.{info_of};
-ghost use Rattle.ba_tree.specs.Least.{Judge, stmt_of};
+ghost use Rattle.ba_choices.specs.Judges.{Judge};
+ghost use Rattle.ba_tree.specs.Least.{stmt_of};
 
 use crate::lines::{Lines, trimmed};
 use ba_choices::Choice;

@@ -8,7 +8,8 @@ use Rattle.ba_steps.specs.Steps.{AreNumbers, AreAbove, IsFormed}
 use Rattle.ba_steps.specs.Sinks.{Logs, with_step, MayAddStep}
 use Rattle.ba_steps.specs.declared.step.CertStep.TheVariants.{Delete}
 use Rattle.ba_checker.specs.States.{State}
-use Rattle.ba_checker.specs.Judging.{Judge, may_go, error_of, after, after_delete}
+use Rattle.ba_choices.specs.Judges.{Judge}
+use Rattle.ba_checker.specs.Judging.{may_go, error_of, after, after_delete}
 use Rattle.ba_checker.specs.Puts.{IsTakenOrAsleep}
 use Rattle.ba_search.specs.Searching.{IsDiscarded, Leaves}
 use Rattle.ba_search.specs.Iterations.{Numbering, IsUnderway, Puts}

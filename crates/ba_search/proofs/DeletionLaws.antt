@@ -11,7 +11,8 @@ use Rattle.ba_steps.specs.Steps.{AreAbove}
 use Rattle.ba_steps.specs.declared.step.CertStep.TheVariants.{Delete}
 use Rattle.ba_steps.specs.declared.step.StepError.TheVariants.{AfterEnd, DeadClause, TooSoon, Memory}
 use Rattle.ba_checker.specs.States.{Kept, State, live_lits, lits_of, is_live_origin, clause_at, is_learnt_at, is_learnt_entry, width_at, without, without_all}
-use Rattle.ba_checker.specs.Judging.{Judge, error_if, error_of, may_go, after_delete}
+use Rattle.ba_choices.specs.Judges.{Judge}
+use Rattle.ba_checker.specs.Judging.{error_if, error_of, may_go, after_delete}
 use Rattle.ba_watch.specs.Threads.{Clause}
 use Rattle.ba_watch.specs.Propagation.{State as Watching, clause_in}
 use Rattle.ba_learn.specs.Resolving.{number_of, reason_number, number_at}

@@ -25,7 +25,8 @@ use Rattle.ba_checker.specs.Facts.{IsState}
 use Rattle.ba_checker.specs.Parts.{is_part, is_live_part, holds_clause}
 use Rattle.ba_checker.specs.States.{Kept, kept, State, live_lits, is_live_origin, clause_at}
 use Rattle.ba_checker.specs.declared.store.Origin.TheVariants.{Given}
-use Rattle.ba_checker.specs.Judging.{Judge, error_of, lacks_variable, is_spent, error_of_replay, error_if}
+use Rattle.ba_choices.specs.Judges.{Judge}
+use Rattle.ba_checker.specs.Judging.{error_of, lacks_variable, is_spent, error_of_replay, error_if}
 use Rattle.ba_search.specs.Iterations.{Numbering, IsUnderway}
 use Rattle.ba_search.proofs.TakenLaws.{number_within, same_some}
 

@@ -12,7 +12,8 @@ use Rattle.ba_steps.specs.declared.step.CertStep.{CertStep}
 use Rattle.ba_steps.specs.declared.step.CertStep.TheVariants.{Learn}
 use Rattle.ba_checker.specs.States.{State, kept, clause_at}
 use Rattle.ba_checker.specs.declared.store.Origin.TheVariants.{Learnt}
-use Rattle.ba_checker.specs.Judging.{Judge, error_of, after, after_learn}
+use Rattle.ba_choices.specs.Judges.{Judge}
+use Rattle.ba_checker.specs.Judging.{error_of, after, after_learn}
 use Rattle.ba_checker.specs.Puts.{IsTakenOrAsleep}
 use Rattle.ba_search.specs.Searching.{Leaves}
 use Rattle.ba_search.specs.Iterations.{Numbering, IsUnderway, Puts}

@@ -10,7 +10,8 @@ use Rattle.ba_steps.specs.declared.step.CertStep.{CertStep}
 use Rattle.ba_steps.specs.declared.step.CertStep.TheVariants.{Learn, Core, Delete, Block, EndLocated, EndNoRepair, EndTooMany, EndSpent}
 use Rattle.ba_checker.specs.States.{Kept, State, kept, clause_at}
 use Rattle.ba_checker.specs.declared.store.Origin.TheVariants.{Learnt}
-use Rattle.ba_checker.specs.Judging.{Judge, error_of, after_delete}
+use Rattle.ba_choices.specs.Judges.{Judge}
+use Rattle.ba_checker.specs.Judging.{error_of, after_delete}
 use Rattle.ba_search.specs.Searching.{Searches, searches_none, searches_learn, searches_delete}
 use Rattle.ba_search.proofs.StepLaws.{Gives}
 use Rattle.ba_search.proofs.DeletionLaws.{all_go, stays_without}

@@ -13,7 +13,8 @@ use Rattle.ba_steps.specs.declared.step.CertStep.{CertStep}
 use Rattle.ba_steps.specs.declared.step.CertStep.TheVariants.{Learn, Delete}
 use Rattle.ba_checker.specs.States.{kept, State, live_lits, clause_at}
 use Rattle.ba_checker.specs.declared.store.Origin.TheVariants.{Given}
-use Rattle.ba_checker.specs.Judging.{Judge, error_of, after, after_learn, after_delete}
+use Rattle.ba_choices.specs.Judges.{Judge}
+use Rattle.ba_checker.specs.Judging.{error_of, after, after_learn, after_delete}
 use Rattle.ba_checker.specs.Puts.{IsTakenOrAsleep, leaves_all, leaves_last}
 use Rattle.ba_checker.proofs.PutLaws.{logs_then, leaves_weaker, leaves_after}
 use Rattle.ba_search.specs.Searching.{nothing, IsDiscarded, Searches, searches_none, searches_learn, searches_delete, Leaves}

@@ -4,7 +4,7 @@ use Rattle.std.specs.Prelude.{◌≡◌, ℕ, ◌<◌, Bool, Option, Result, IfO
 use Rattle.ba_lits.specs.Literals.{Literal}
 use Rattle.ba_steps.specs.Sinks.{Logs}
 use Rattle.ba_checker.specs.States.{State}
-use Rattle.ba_checker.specs.Judging.{Judge}
+use Rattle.ba_choices.specs.Judges.{Judge}
 use Rattle.ba_search.specs.Answers.{IsAnswer}
 use Rattle.ba_search.specs.Iterations.{IsUnderway, Puts, iterations_left}
 use Rattle.ba_search.specs.declared.engine.Engine.{Engine}

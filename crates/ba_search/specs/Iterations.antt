@@ -8,7 +8,8 @@ use Rattle.ba_watch.specs.Trails.{value_of}
 use Rattle.ba_watch.specs.Propagation.{State as Watching, clause_in, AddsClause}
 use Rattle.ba_steps.specs.Sinks.{Logs}
 use Rattle.ba_checker.specs.States.{State, clause_at}
-use Rattle.ba_checker.specs.Judging.{Judge, may_go}
+use Rattle.ba_choices.specs.Judges.{Judge}
+use Rattle.ba_checker.specs.Judging.{may_go}
 use Rattle.ba_checker.specs.Puts.{PutsSteps}
 use Rattle.ba_learn.specs.Live.{AreLive, HaveDistinctNumbers}
 use Rattle.ba_learn.specs.Resolving.{number_at}

@@ -12,7 +12,8 @@ use Rattle.ba_steps.specs.declared.sink.Basis.{Basis}
 use Rattle.ba_steps.specs.declared.step.CertStep.{CertStep}
 use Rattle.ba_steps.specs.declared.step.CertStep.TheVariants.{Learn, Delete}
 use Rattle.ba_checker.specs.States.{State, clause_at, width_at}
-use Rattle.ba_checker.specs.Judging.{Judge, error_of, after}
+use Rattle.ba_choices.specs.Judges.{Judge}
+use Rattle.ba_checker.specs.Judging.{error_of, after}
 use Rattle.ba_checker.specs.Puts.{Putting, Lasts, LeavesSteps}
 use Rattle.ba_search.specs.declared.search.SearchError.{SearchError}
 use Rattle.ba_search.specs.declared.search.SearchError.TheVariants.{SinkFailed}

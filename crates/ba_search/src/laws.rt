@@ -5,7 +5,7 @@ ghost use Rattle.ba_lits.specs.Literals.{Literal};
 ghost use Rattle.ba_steps.specs.declared.step.CertStep.{CertStep};
 ghost use Rattle.ba_steps.specs.declared.step.CertStep.TheVariants.{Learn};
 ghost use Rattle.ba_checker.specs.States.{State};
-ghost use Rattle.ba_checker.specs.Judging.{Judge};
+ghost use Rattle.ba_choices.specs.Judges.{Judge};
 ghost use Rattle.ba_search.specs.Searching.{Searches};
 
 /// No clause of at most two literals is learnt twice, whatever the keep rule.

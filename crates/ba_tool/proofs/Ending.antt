@@ -28,7 +28,8 @@ use Rattle.ba_jobs.specs.declared.jobs.Job.{Job}
 use Rattle.ba_jobs.specs.declared.jobs.Request.{Request}
 use Rattle.ba_jobs.specs.declared.jobs.Request.TheVariants as request
 use Rattle.ba_answers.specs.declared.status.Status.{Status}
-use Rattle.ba_tree.specs.Least.{Judge, WeightList}
+use Rattle.ba_choices.specs.Judges.{Judge}
+use Rattle.ba_tree.specs.Least.{WeightList}
 use Rattle.ba_tree.specs.declared.tree.Program.{Program}
 
 -- what the status of an answer says, by the answer

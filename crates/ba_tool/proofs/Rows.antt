@@ -7,7 +7,8 @@ use Rattle.ba_derivations.specs.declared.verdict.Verdict.TheVariants as verdict
 use Rattle.ba_localise.specs.Verdicts.{Derivation, Shows}
 use Rattle.ba_numbers.specs.declared.ids.At.{At}
 use Rattle.ba_numbers.specs.declared.ids.StmtId.{StmtId}
-use Rattle.ba_tree.specs.Least.{Judge, WeightList, judge_of}
+use Rattle.ba_choices.specs.Judges.{Judge}
+use Rattle.ba_tree.specs.Least.{WeightList, judge_of}
 use Rattle.ba_tree.specs.Run.{plain_run}
 use Rattle.ba_tree.specs.declared.run.Allowed.TheVariants.{Statements}
 use Rattle.ba_tree.specs.declared.run.Outcome.{Outcome}

@@ -13,7 +13,8 @@ use Rattle.ba_report.specs.Report.{report_text}
 use Rattle.ba_tree.specs.Choices.{info_of}
 use Rattle.ba_tree.specs.Inputs.{InputFault as TextFault, input_fault, input_values}
 use Rattle.ba_tree.specs.Inputs as inputs
-use Rattle.ba_tree.specs.Least.{Judge, WeightList, judge_of}
+use Rattle.ba_choices.specs.Judges.{Judge}
+use Rattle.ba_tree.specs.Least.{WeightList, judge_of}
 use Rattle.ba_tree.specs.Run.{plain_run}
 use Rattle.ba_tree.specs.Units.{units_of}
 use Rattle.ba_tree.specs.declared.run.Input.{Input}

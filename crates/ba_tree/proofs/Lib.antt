@@ -6,3 +6,4 @@ pub mod Sets
 pub mod Equations
 pub mod FactEquations
 pub mod Falling
+pub mod Elements

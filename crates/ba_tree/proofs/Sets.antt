@@ -1,6 +1,7 @@
 -- The order of sets, and the one list of the least sets.
 use Rattle.std.proofs.Common.{◌≡◌, ℕ, List, [], ◌∷◌, refl, sym, ◌∙◌, ap, inl, inr, arith}
-use Rattle.ba_tree.specs.Least.{IsBefore, IsBeforeAll, AreInOrder, AreLeast, WeightList, Judge}
+use Rattle.ba_tree.specs.Least.{IsBefore, IsBeforeAll, AreInOrder, AreLeast, WeightList}
+use Rattle.ba_choices.specs.Judges.{Judge}
 use Rattle.ba_tree.proofs.Members.{Has, contains_has, has_contains}
 
 pub IsBefore-irreflexive : (s : List ℕ) → IsBefore s s → ⊥

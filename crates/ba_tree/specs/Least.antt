@@ -1,10 +1,11 @@
 -- Sets of statements: which of them could repair a run, and which of those weigh least.
 
-use Rattle.std.specs.Prelude.{◌≡◌, ℕ, ◌-◌, ◌<◌, ◌≤◌, ◌↔◌, Bool, true, Option, None, Some, List, [], ◌∷◌, map, length, Contains, slice_get, sum_by, IsSome, unwrap_or, ◌⊎◌, cond, ◌==◌}
+use Rattle.std.specs.Prelude.{◌≡◌, ℕ, ◌-◌, ◌<◌, ◌≤◌, ◌↔◌, true, Option, None, Some, List, [], ◌∷◌, map, length, Contains, slice_get, sum_by, IsSome, unwrap_or, ◌⊎◌, cond, ◌==◌}
 use Rattle.ba_tree.specs.Run.{run_of, is_done}
 use Rattle.ba_numbers.specs.declared.ids.StmtId.{StmtId}
 use Rattle.ba_tree.specs.declared.run.Allowed.TheVariants.{Statements}
 use Rattle.ba_tree.specs.declared.run.Bounds.{Bounds}
+use Rattle.ba_choices.specs.Judges.{Judge}
 use Rattle.ba_choices.specs.declared.Choice.{Choice}
 use Rattle.ba_tree.specs.declared.run.Input.{Input}
 use Rattle.ba_tree.specs.declared.tree.Program.{Program}
@@ -74,9 +75,6 @@ AreInOrder [] = Unit {0}
 AreInOrder (set ∷ sets) = IsBeforeAll set sets × AreInOrder sets
 
 -- FEASIBLE and LEAST sets, for a judge of which choices make a good run where a set is relaxed
-
-abbrev pub Judge : Type 0
-Judge = List ℕ → List Choice → Bool
 
 -- some choices make a good run
 pub record IsFeasible (good : Judge) (set : List ℕ) : Type 0 where

@@ -1,7 +1,8 @@
 //! Laws of the definitions. Each is a function whose clause is the law, and which does nothing.
 
 ghost use Rattle.std.specs.Prelude.{◌≡◌, ℕ, List};
-ghost use Rattle.ba_tree.specs.Least.{AreLeast, Judge, WeightList};
+ghost use Rattle.ba_tree.specs.Least.{AreLeast, WeightList};
+ghost use Rattle.ba_choices.specs.Judges.{Judge};
 
 /// The list of the least sets is one: no other list holds the same sets, each once and in their order.
 pub fn least_list_is_unique()

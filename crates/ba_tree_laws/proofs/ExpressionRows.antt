@@ -21,8 +21,8 @@ use Rattle.ba_trees.specs.declared.tree.expressions.Operand.{Operand}
 use Rattle.ba_trees.specs.declared.tree.expressions.Primary.TheOpen.{Primary-F, Unary-F, Arguments-F, Branches-F, Chain-F, Conditional-F, Expressions-F, NextExpression-F, Operand-F}
 use Rattle.ba_trees.specs.declared.tree.expressions.Primary.TheShapes.{former-Arguments-values, former-Chain-rest, former-Conditional-branches}
 use Rattle.ba_trees.specs.declared.tree.expressions.Primary.TheViews.{roll-Primary, roll-Unary, roll-Arguments, roll-Branches, roll-Chain, roll-Conditional, roll-Expressions, roll-NextExpression, roll-Operand}
-use Rattle.ba_trees.specs.declared.tree.expressions.Primary.TheFolds.{map-Primary, map-Unary, map-Arguments, map-Branches, map-Chain, map-Conditional, map-Expressions, map-NextExpression, map-Operand, ind-Arguments, ind-Conditional, ind-NextExpression, fold-Branches, fold-Expressions, fold-roll-Primary, fold-roll-Unary, fold-roll-Arguments, fold-roll-Branches, fold-roll-Chain, fold-roll-Conditional, fold-roll-Expressions, fold-roll-NextExpression, fold-roll-Operand}
-use Rattle.ba_typing.specs.Expressions.{Typing, Typings, BranchTypings, ChainTyping, OperandTyping, primary_step, unary_step, arguments_step, branches_step, chain_step, conditional_step, expressions_step, next_expression_step, operand_step, typed_conditional, typed_operand, typed_chain, typed_unary_expression, typed_primary, typed_arguments, typed_next, with_branches, whole_operand, chain_of, rest_of_chain}
+use Rattle.ba_trees.specs.declared.tree.expressions.Primary.TheFolds.{map-Primary, map-Unary, map-Arguments, map-Branches, map-Chain, map-Conditional, map-Expressions, map-NextExpression, map-Operand, ind-Arguments, ind-Conditional, ind-NextExpression, fold-roll-Primary, fold-roll-Unary, fold-roll-Arguments, fold-roll-Branches, fold-roll-Chain, fold-roll-Conditional, fold-roll-Expressions, fold-roll-NextExpression, fold-roll-Operand}
+use Rattle.ba_typing.specs.Expressions.{Typing, Typings, BranchTypings, ChainTyping, OperandTyping, primary_step, unary_step, arguments_step, branches_step, chain_step, conditional_step, expressions_step, next_expression_step, operand_step, typed_conditional, typed_operand, typed_chain, typed_unary_expression, typed_primary, typed_arguments, typed_next, with_branches, whole_operand, chain_of, rest_of_chain, typed_branches, typed_expressions}
 use Rattle.ba_typing.specs.Names.{punct_of, binary_operator, words_of}
 use Rattle.ba_tree_laws.proofs.Rows.{Row, Reads, token, words, primary, unary, conditional, arguments, chain, as_token, as_conditional, as_chain, items_of, items_append, items_all, items_none, two_of, none, both, front, deeper, inside, as_row}
 
@@ -43,18 +43,6 @@ type_row t = as_row (ap (λ ws. words ws ∷ []) (words_all t.words.items)) (ins
     t.words.items))
 
 -- WHAT IS READ of each type
-
-abbrev typed_branches : Branches → BranchTypings
-typed_branches = fold-Branches Typing Typing Typings BranchTypings ChainTyping Typing Typings Typing
-    OperandTyping
-    primary_step unary_step arguments_step branches_step chain_step conditional_step expressions_step
-    next_expression_step operand_step
-
-abbrev typed_expressions : Expressions → Typings
-typed_expressions = fold-Expressions Typing Typing Typings BranchTypings ChainTyping Typing Typings Typing
-    OperandTyping
-    primary_step unary_step arguments_step branches_step chain_step conditional_step expressions_step
-    next_expression_step operand_step
 
 abbrev IsPrimary : M → Typing → Type 0
 IsPrimary m s = Reads m (primary s ∷ [])

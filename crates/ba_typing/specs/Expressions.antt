@@ -17,12 +17,14 @@ use Rattle.ba_numbers.specs.declared.numbers.CType.{CType}
 use Rattle.ba_numbers.specs.declared.numbers.CType.TheVariants.{I32}
 use Rattle.ba_numbers.specs.declared.numbers.UnOp.{UnOp}
 use Rattle.ba_trees.specs.declared.tree.expressions.Primary.TheOpen.{Primary-F, Unary-F, Arguments-F, Branches-F, Chain-F, Conditional-F, Expressions-F, NextExpression-F, Operand-F}
-use Rattle.ba_trees.specs.declared.tree.expressions.Primary.TheFolds.{fold-Primary, fold-Unary, fold-Arguments, fold-Chain, fold-Conditional, fold-NextExpression, fold-Operand}
+use Rattle.ba_trees.specs.declared.tree.expressions.Primary.TheFolds.{fold-Primary, fold-Unary, fold-Arguments, fold-Branches, fold-Chain, fold-Conditional, fold-Expressions, fold-NextExpression, fold-Operand}
 use Rattle.ba_trees.specs.declared.tree.expressions.Primary.{Primary}
 use Rattle.ba_trees.specs.declared.tree.expressions.Unary.{Unary}
 use Rattle.ba_trees.specs.declared.tree.expressions.Arguments.{Arguments}
+use Rattle.ba_trees.specs.declared.tree.expressions.Branches.{Branches}
 use Rattle.ba_trees.specs.declared.tree.expressions.Chain.{Chain}
 use Rattle.ba_trees.specs.declared.tree.expressions.Conditional.{Conditional}
+use Rattle.ba_trees.specs.declared.tree.expressions.Expressions.{Expressions}
 use Rattle.ba_trees.specs.declared.tree.expressions.NextExpression.{NextExpression}
 use Rattle.ba_trees.specs.declared.tree.expressions.Operand.{Operand}
 use Rattle.ba_numbers.specs.Types.{same_type, promoted, type_of_binary, type_of_unary, usual, working_type, right_type}
@@ -439,5 +441,16 @@ typed_arguments = fold-Arguments Typing Typing Typings BranchTypings ChainTyping
 -- an expression behind a comma
 unfoldable pub typed_next : NextExpression → Typing
 typed_next = fold-NextExpression Typing Typing Typings BranchTypings ChainTyping Typing Typings Typing
+    OperandTyping primary_step unary_step arguments_step branches_step chain_step conditional_step
+    expressions_step next_expression_step operand_step
+
+-- several expressions, and the branches of a conditional one
+abbrev pub typed_expressions : Expressions → Typings
+typed_expressions = fold-Expressions Typing Typing Typings BranchTypings ChainTyping Typing Typings Typing
+    OperandTyping primary_step unary_step arguments_step branches_step chain_step conditional_step
+    expressions_step next_expression_step operand_step
+
+abbrev pub typed_branches : Branches → BranchTypings
+typed_branches = fold-Branches Typing Typing Typings BranchTypings ChainTyping Typing Typings Typing
     OperandTyping primary_step unary_step arguments_step branches_step chain_step conditional_step
     expressions_step next_expression_step operand_step

@@ -24,9 +24,9 @@ use Rattle.ba_trees.specs.declared.tree.expressions.Operand.{Operand}
 use Rattle.ba_trees.specs.declared.tree.expressions.Primary.TheOpen.{Primary-F, Unary-F, Arguments-F, Branches-F, Chain-F, Conditional-F, Expressions-F, NextExpression-F, Operand-F}
 use Rattle.ba_trees.specs.declared.tree.expressions.Primary.TheShapes.{former-Arguments-values, former-Chain-rest, former-Conditional-branches}
 use Rattle.ba_trees.specs.declared.tree.expressions.Primary.TheViews.{roll-Primary, roll-Unary, roll-Arguments, roll-Branches, roll-Chain, roll-Conditional, roll-Expressions, roll-NextExpression, roll-Operand}
-use Rattle.ba_trees.specs.declared.tree.expressions.Primary.TheFolds.{map-Primary, map-Unary, map-Arguments, map-Branches, map-Chain, map-Conditional, map-Expressions, map-NextExpression, map-Operand, ind-Arguments, ind-Conditional, ind-NextExpression, fold-Branches, fold-Expressions, fold-roll-Primary, fold-roll-Unary, fold-roll-Arguments, fold-roll-Branches, fold-roll-Chain, fold-roll-Conditional, fold-roll-Expressions, fold-roll-NextExpression, fold-roll-Operand}
+use Rattle.ba_trees.specs.declared.tree.expressions.Primary.TheFolds.{map-Primary, map-Unary, map-Arguments, map-Branches, map-Chain, map-Conditional, map-Expressions, map-NextExpression, map-Operand, ind-Arguments, ind-Conditional, ind-NextExpression, fold-roll-Primary, fold-roll-Unary, fold-roll-Arguments, fold-roll-Branches, fold-roll-Chain, fold-roll-Conditional, fold-roll-Expressions, fold-roll-NextExpression, fold-roll-Operand}
 use Rattle.ba_tree.specs.declared.tree.Parts.{Parts}
-use Rattle.ba_typing.specs.Expressions.{Typed, OperandTyping, chain_of, whole_operand, tighter, from_looser, typed_token_kind, Typing, Typings, BranchTypings, ChainTyping, typed_binary, typed_constant_kind, parenthesized, select_typing, with_branches, rest_of_chain, after_chains, primary_step, unary_step, arguments_step, branches_step, chain_step, conditional_step, expressions_step, next_expression_step, operand_step, typed_conditional, typed_operand, typed_chain, typed_unary_expression, typed_primary, typed_arguments, typed_next}
+use Rattle.ba_typing.specs.Expressions.{Typed, OperandTyping, chain_of, whole_operand, tighter, from_looser, typed_token_kind, Typing, Typings, BranchTypings, ChainTyping, typed_binary, typed_constant_kind, parenthesized, select_typing, with_branches, rest_of_chain, after_chains, primary_step, unary_step, arguments_step, branches_step, chain_step, conditional_step, expressions_step, next_expression_step, operand_step, typed_conditional, typed_operand, typed_chain, typed_unary_expression, typed_primary, typed_arguments, typed_next, typed_branches, typed_expressions}
 use Rattle.ba_typing.specs.declared.names.Operator.{Operator}
 use Rattle.ba_typing.specs.Names.{Scope, meaning_of, name_of, punct_of, type_named, unary_operator, binary_operator}
 use Rattle.ba_typing_facts.proofs.OperatorFacts.{IsWellTyped, unary_typed, cast_typed, binary_typed, select_typed, constant_typed}
@@ -40,18 +40,6 @@ is_in_from t z h = and_from _ _ (from (int_le (least_of t) z) h.low.le) (from (i
     from : (b : Bool) → T b → b ≡ true
     from true h = refl
     from false h = absurd h
-
-abbrev typed_branches : Branches → BranchTypings
-typed_branches = fold-Branches Typing Typing Typings BranchTypings ChainTyping Typing Typings Typing
-    OperandTyping primary_step
-    unary_step arguments_step branches_step chain_step conditional_step expressions_step next_expression_step
-    operand_step
-
-abbrev typed_expressions : Expressions → Typings
-typed_expressions = fold-Expressions Typing Typing Typings BranchTypings ChainTyping Typing Typings Typing
-    OperandTyping
-    primary_step unary_step arguments_step branches_step chain_step conditional_step expressions_step
-    next_expression_step operand_step
 
 module _ (p : Parts) (owned : List VarId) where
   abbrev AreBranches : BranchTypings → Type 0
