@@ -5,6 +5,7 @@
 #![tactic(auto)]
 
 mod input;
+pub mod laws;
 mod weights;
 
 pub use input::{InputError, read_input};
