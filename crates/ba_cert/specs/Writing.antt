@@ -81,6 +81,10 @@ pub record OnlyWritesTo (name : List ℕ) (old new : Outside) : Type 0 where
   pub kept : StaysBut name old.kept new.kept
   pub stays : OnlyWrites old new
 
+-- settings that no call has
+abbrev pub no_head : CertHead
+no_head = record { bounds = record { turns = 0; frames = 0 }; conflicts = 0; sets = 0 }
+
 -- an outside of which nothing is told
 abbrev pub nothing_told : Outside
 nothing_told = record {

@@ -2,10 +2,11 @@
 
 ghost use Rattle.std.specs.Prelude.{◌≡◌, ◌<◌, ◌≤◌, ◌++◌, ◌+◌, ◌^◌, ◌&&◌, bytes_eq, ℕ, List, true, false, [], ◌∷◌, None, Some, option_map, All, OnOk, OnErr};
 ghost use Rattle.ba_world.specs.World.{HasWriteFault, Outside};
+ghost use Rattle.ba_cert.specs.declared.head.CertHead.{CertHead};
 ghost use Rattle.ba_steps.specs.Steps.{IsFormed};
 ghost use Rattle.ba_steps.specs.Sinks.{MayAdd, MayAddStep, with_step, with_told};
 ghost use Rattle.ba_cert.specs.Text.{line_of, text_of, with_feed};
-ghost use Rattle.ba_cert.specs.Writing.{AppendsPrefixTo, AppendsTo, Holds, HoldsBeginning, HoldsPrefix, OnlyWritesTo, is_sound, logs_at, nothing_told, sink_error, steps_at};
+ghost use Rattle.ba_cert.specs.Writing.{AppendsPrefixTo, AppendsTo, Holds, HoldsBeginning, HoldsPrefix, OnlyWritesTo, is_sound, logs_at, no_head, nothing_told, sink_error, steps_at};
 
 use crate::head::CertHead;
 use crate::writer::{groups_have_32_bits, head_text, is_head, step_text};
@@ -119,11 +120,14 @@ pub fn write_text<W: World>(
     Ok(())
 }
 
-/// The name of a file that is written, and the outside and the faults of the sink that steps are handed
-/// on to, before the file was begun. The proof of a call at [`Brand`] says which they are.
+/// The name of a file that is written, the settings that it names, and the outside and the faults of the
+/// sink that steps are handed on to, before the file was begun. The proof of a call at [`Brand`] says which they are.
 pub trait Start {
     // The name.
     ghost name: { List ℕ };
+
+    // The settings.
+    ghost head: { CertHead };
 
     // The outside before.
     ghost outside: { Outside };
@@ -134,6 +138,8 @@ pub trait Start {
 
 impl Start for Brand {
     ghost name = { [] };
+
+    ghost head = { no_head };
 
     ghost outside = { nothing_told };
 
@@ -159,6 +165,7 @@ pub struct TextSink<'a, W: World, S: Start> {
     ghost countable: { head.conflicts < 2 ^ 62 },
     ghost sound: { is_sound head whole name.now (W.outside world.now) ≡ true },
     ghost named: { name.now ≡ S.name },
+    ghost headed: { head ≡ S.head },
     ghost stays: { OnlyWritesTo name.now S.outside (W.outside world.now) },
     ghost begins: { HoldsBeginning head name.now (W.outside world.now) },
 }
@@ -170,6 +177,7 @@ impl<'a, W: World, S: Start> TextSink<'a, W, S> {
         requires countable { head.conflicts < 2 ^ 62 }
         requires sound { is_sound head true name.now (W.outside world.old) ≡ true }
         requires named { name.now ≡ S.name }
+        requires headed { head ≡ S.head }
         requires stays { OnlyWritesTo name.now S.outside (W.outside world.old) }
         ensures whole { result.whole ≡ true }
         ensures same_reference { result.world.ghost_name ≡ world.entry.ghost_name }
