@@ -32,7 +32,8 @@ no-bytes (Some bytes) = ap (λ b. Some b) (sym (append-nil bytes))
 module _ (head : CertHead) where
   -- the text of steps up to one of them, its line, and the lines of the others
   text-at : (steps : List CertStep) (i : ℕ) (step : CertStep) → i < length steps → step ≡ get_or steps i step
-      → text_of head steps ≡ text_of head (take i steps) ++ (with_feed (line_of step) ++ step_lines (drop (i + 1) steps))
+      → text_of head steps ≡ text_of head (take i steps) ++
+      (with_feed (line_of step) ++ step_lines (drop (i + 1) steps))
   text-at steps i step within is =
       let front : take (i + 1) steps ≡ take i steps ++ step ∷ [] =
       take_more steps i step within ∙ ap (λ s. take i steps ++ s ∷ []) (sym is) in
@@ -43,7 +44,8 @@ module _ (head : CertHead) where
       (step_lines (drop (i + 1) steps)))
       ∙ ap (λ text. text ++ step_lines (drop (i + 1) steps))
       (ap (text_of head) front ∙ text-push head (take i steps) step)
-      ∙ append_assoc (text_of head (take i steps)) (with_feed (line_of step)) (step_lines (drop (i + 1) steps))
+      ∙ append_assoc (text_of head (take i steps)) (with_feed (line_of step))
+      (step_lines (drop (i + 1) steps))
 
   -- after the first bytes of the first lines
   pub begun-prefix : (old new : Option (List ℕ)) → IfSome old (λ bytes. bytes ≡ [])
@@ -63,8 +65,10 @@ module _ (head : CertHead) where
 
   -- after the first bytes of the line of the next step
   pub added-prefix : (steps : List CertStep) (i : ℕ) (step : CertStep) (old new : Option (List ℕ))
-      → i < length steps → step ≡ get_or steps i step → IfSome old (λ bytes. bytes ≡ text_of head (take i steps))
-      → AppendsPrefix old new (with_feed (line_of step)) → IfSome new (λ bytes. IsPrefix bytes (text_of head steps))
+      → i < length steps → step ≡ get_or steps i step →
+      IfSome old (λ bytes. bytes ≡ text_of head (take i steps))
+      → AppendsPrefix old new (with_feed (line_of step)) →
+      IfSome new (λ bytes. IsPrefix bytes (text_of head steps))
   added-prefix steps i step None new within is held prefix =
       subst (λ kept. IfSome kept (λ bytes. IsPrefix bytes (text_of head steps))) (sym prefix.1) tt
   added-prefix steps i step (Some bytes) new within is held prefix =
@@ -106,11 +110,16 @@ module _ (head : CertHead) (is : IsHead head) where
   text-begins steps all = (
     steps,
     are-formed steps all,
-    (length (text_of head steps), sym (take_all (length (text_of head steps)) (text_of head steps) (omega arith))),
+    (
+      length (text_of head steps),
+      sym
+          (take_all (length (text_of head steps)) (text_of head steps) (omega arith)),
+    ),
   )
 
   -- a whole file does
-  pub sound-begins : (name : List ℕ) (o : Outside) → is_sound head true name o ≡ true → HoldsBeginning head name o
+  pub sound-begins : (name : List ℕ) (o : Outside) → is_sound head true name o ≡ true →
+      HoldsBeginning head name o
   sound-begins name o sound = ∣ by (o.kept name) (sym (sound-is head true name o) ∙ sound) ∣₁ where
     by : (kept : Option (List ℕ)) → is_written head true name o.is_writing o.writing kept ≡ true →
         IfSome kept (BeginsText head)
@@ -126,12 +135,14 @@ module _ (head : CertHead) (is : IsHead head) where
   line-begins step h name o new sound prefix = ∣ by (o.kept name) (sym (sound-is head true name o)
       ∙ sound) prefix ∣₁ where
         by : (kept : Option (List ℕ)) → is_written head true name o.is_writing o.writing kept ≡ true →
-            AppendsPrefix kept (new.kept name) (with_feed (line_of step)) → IfSome (new.kept name) (BeginsText head)
+            AppendsPrefix kept (new.kept name) (with_feed (line_of step)) →
+            IfSome (new.kept name) (BeginsText head)
         by None e added = subst (λ k. IfSome k (BeginsText head)) (sym added.1) tt
         by (Some bytes) e added =
             let t = text-sound head is name o.is_writing o.writing bytes e in
             let front = front-behind (text_of head t.steps) (with_feed (line_of step)) [] added.0 in
-            let whole : text_of head t.steps ++ (with_feed (line_of step) ++ []) ≡ text_of head (t.steps ++ step ∷ []) =
+            let whole : text_of head t.steps ++ (with_feed (line_of step) ++ [])
+            ≡ text_of head (t.steps ++ step ∷ []) =
             ap (λ line. text_of head t.steps ++ line) (append-nil (with_feed (line_of step)))
             ∙ sym (text-push head t.steps step) in
             subst (λ k. IfSome k (BeginsText head)) (sym added.1) (
@@ -139,6 +150,7 @@ module _ (head : CertHead) (is : IsHead head) where
               are-formed (t.steps ++ step ∷ []) (All-push HasLine t.steps step t.formed h),
               (
                 front.0,
-                ap (λ b. b ++ take added.0 (with_feed (line_of step))) t.text ∙ front.1 ∙ ap (take front.0) whole,
+                ap (λ b. b ++ take added.0 (with_feed (line_of step))) t.text ∙ front.1
+                    ∙ ap (take front.0) whole,
               ),
             )

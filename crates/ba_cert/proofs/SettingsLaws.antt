@@ -127,7 +127,8 @@ head-back parts h e =
     let frames_back = small-back f.part frames.value.0 f.read in
     let conflicts_back = number-back c.part conflicts.value.0 c.read in
     let sets_back = small-back s.part sets.value.0 s.read in
-    let found : IsRead parts (head_with turns.value.0 frames.value.0 conflicts.value.0 sets.value.0) = record {
+    let found : IsRead parts (head_with turns.value.0 frames.value.0 conflicts.value.0 sets.value.0) =
+    record {
       parts_are =
           t.parts_are ∙ ap (λ p. p ∷ turns.value.1) turns_back.0
           ∙ ap (λ r. decimal turns.value.0 ∷ r)

@@ -40,7 +40,8 @@ may_be_named-from : (name : List ℕ) (writing : Option (List ℕ)) (other : Lis
 may_be_named-from name None other e is = absurd (none-some other is)
 may_be_named-from name (Some w) other e is = sym (same_Some w other is) ∙ (bytes_eq-Decides w name).0 e
 
-pub followed-sound : (head : CertHead) (whole : Bool) (name : List ℕ) (is_writing : Bool) (writing kept : Option (List ℕ)) →
+pub followed-sound : (head : CertHead) (whole : Bool) (name : List ℕ) (is_writing : Bool)
+    (writing kept : Option (List ℕ)) →
     is_written head whole name is_writing writing kept ≡ true → IsFollowed name writing kept
 followed-sound head whole name is_writing writing None e = record {
   named = λ other is. may_be_named-from name writing other
@@ -69,9 +70,11 @@ followed-begun name writing kept agrees told = record { named = named writing ag
     tells None h bytes is = absurd (none-some bytes is)
     tells (Some b) h bytes is = h refl
 
-pub writes-sound : (head : CertHead) (whole : Bool) (name : List ℕ) (is_writing : Bool) (writing kept : Option (List ℕ)) →
+pub writes-sound : (head : CertHead) (whole : Bool) (name : List ℕ) (is_writing : Bool)
+    (writing kept : Option (List ℕ)) →
     is_written head whole name is_writing writing kept ≡ true → is_writing ≡ true
-writes-sound head whole name is_writing writing None e = (and_parts is_writing (may_be_named name writing) e).0
+writes-sound head whole name is_writing writing None e =
+    (and_parts is_writing (may_be_named name writing) e).0
 writes-sound head whole name is_writing writing (Some b) e =
     (and_parts is_writing (is_named name writing && is_some (steps_from head whole b)) e).0
 
@@ -182,16 +185,19 @@ module _ (head : CertHead) (is : IsHead head) where
   -- the same file with other bytes
   resound : (whole after : Bool) (name : List ℕ) (is_writing : Bool) (writing : Option (List ℕ))
       (old new : List ℕ) (steps : List CertStep) →
-      is_written head whole name is_writing writing (Some old) ≡ true → steps_from head after new ≡ Some steps →
+      is_written head whole name is_writing writing (Some old) ≡ true → steps_from head after new
+      ≡ Some steps →
       is_written head after name is_writing writing (Some new) ≡ true
   resound whole after name is_writing writing old new steps e found =
       let parts = and_parts is_writing (is_named name writing && is_some (steps_from head whole old)) e in
       and_from is_writing (is_named name writing && is_some (steps_from head after new)) parts.0
       (and_from (is_named name writing) (is_some (steps_from head after new))
-      ((and_parts (is_named name writing) (is_some (steps_from head whole old)) parts.1).0) (ap is_some found))
+      ((and_parts (is_named name writing) (is_some (steps_from head whole old)) parts.1).0)
+      (ap is_some found))
 
   pub sound-still : (name : List ℕ) (is_writing : Bool) (writing kept : Option (List ℕ)) →
-      is_written head true name is_writing writing kept ≡ true → is_written head false name is_writing writing kept ≡ true
+      is_written head true name is_writing writing kept ≡ true →
+      is_written head false name is_writing writing kept ≡ true
   sound-still name is_writing writing None e = e
   sound-still name is_writing writing (Some bytes) e =
       let t = text-sound name is_writing writing bytes e in
@@ -200,12 +206,14 @@ module _ (head : CertHead) (is : IsHead head) where
 
   -- a whole file holds the text of its steps
   pub whole-kept : (name : List ℕ) (is_writing : Bool) (writing kept : Option (List ℕ)) →
-      is_written head true name is_writing writing kept ≡ true → kept ≡ option_map (text_of head) (steps_kept head kept)
+      is_written head true name is_writing writing kept ≡ true → kept
+      ≡ option_map (text_of head) (steps_kept head kept)
   whole-kept name is_writing writing None e = refl
   whole-kept name is_writing writing (Some bytes) e =
       let t = text-sound name is_writing writing bytes e in
       ap (λ b. Some b) t.text
-      ∙ sym (ap (option_map (text_of head)) (ap (steps_from head false) t.text ∙ begun-again head is t.steps t.formed))
+      ∙ sym (ap (option_map (text_of head))
+      (ap (steps_from head false) t.text ∙ begun-again head is t.steps t.formed))
 
   pub whole-named : (whole : Bool) (name other : List ℕ) (is_writing : Bool) (writing : Option (List ℕ))
       (kept : List ℕ → Option (List ℕ)) → whole ≡ true → name ≡ other →
@@ -252,7 +260,8 @@ module _ (head : CertHead) (is : IsHead head) where
   pub begun-steps : (kept : Option (List ℕ)) → IfSome kept (λ bytes. bytes ≡ text_of head []) →
       steps_kept head kept ≡ option_map (λ (bytes : List ℕ). []) kept
   begun-steps None begins = refl
-  begun-steps (Some bytes) begins = ap (steps_from head false) begins ∙ begun-again head is [] (All-nil HasLine)
+  begun-steps (Some bytes) begins = ap (steps_from head false) begins
+      ∙ begun-again head is [] (All-nil HasLine)
 
   -- A LINE MORE
 
@@ -296,7 +305,8 @@ module _ (head : CertHead) (is : IsHead head) where
 
   pub partly-sound : (step : CertStep) → HasLine step →
       (name : List ℕ) (is_writing : Bool) (writing old new : Option (List ℕ)) →
-      is_written head true name is_writing writing old ≡ true → AppendsPrefix old new (with_feed (line_of step)) →
+      is_written head true name is_writing writing old ≡ true →
+      AppendsPrefix old new (with_feed (line_of step)) →
       is_written head false name is_writing writing new ≡ true
   partly-sound step h name is_writing writing None new e prefix = ap
       (is_written head false name is_writing writing) prefix.1 ∙ e
@@ -307,8 +317,10 @@ module _ (head : CertHead) (is : IsHead head) where
       t = text-sound name is_writing writing bytes e
 
       by : (steps_from head false (bytes ++ take prefix.0 (with_feed (line_of step))) ≡ Some t.steps)
-          ⊎ (steps_from head false (bytes ++ take prefix.0 (with_feed (line_of step))) ≡ Some (t.steps ++ step ∷ []))
-          → is_written head false name is_writing writing (Some (bytes ++ take prefix.0 (with_feed (line_of step))))
+          ⊎ (steps_from head false (bytes ++ take prefix.0 (with_feed (line_of step)))
+          ≡ Some (t.steps ++ step ∷ []))
+          → is_written head false name is_writing writing
+          (Some (bytes ++ take prefix.0 (with_feed (line_of step))))
           ≡ true
       by (inl found) = resound true false name is_writing writing bytes
           (bytes ++ take prefix.0 (with_feed (line_of step))) t.steps e found
@@ -317,7 +329,8 @@ module _ (head : CertHead) (is : IsHead head) where
 
   pub partly-may : (step : CertStep) → HasLine step →
       (name : List ℕ) (is_writing : Bool) (writing old new : Option (List ℕ)) →
-      is_written head true name is_writing writing old ≡ true → AppendsPrefix old new (with_feed (line_of step)) →
+      is_written head true name is_writing writing old ≡ true →
+      AppendsPrefix old new (with_feed (line_of step)) →
       MayAdd step (steps_kept head old) (steps_kept head new)
   partly-may step h name is_writing writing None new e prefix = inl (ap (steps_kept head) prefix.1)
   partly-may step h name is_writing writing (Some bytes) new e prefix = by (partly step h bytes prefix.0 t)
@@ -329,7 +342,8 @@ module _ (head : CertHead) (is : IsHead head) where
       before u = ap (steps_from head false) u.text ∙ begun-again head is u.steps u.formed
 
       by : (steps_from head false (bytes ++ take prefix.0 (with_feed (line_of step))) ≡ Some t.steps)
-          ⊎ (steps_from head false (bytes ++ take prefix.0 (with_feed (line_of step))) ≡ Some (t.steps ++ step ∷ []))
+          ⊎ (steps_from head false (bytes ++ take prefix.0 (with_feed (line_of step)))
+          ≡ Some (t.steps ++ step ∷ []))
           → MayAdd step (steps_kept head (Some bytes)) (steps_kept head new)
       by (inl found) = inl (ap (steps_kept head) prefix.1 ∙ found ∙ sym (before t))
       by (inr found) = inr (ap (steps_kept head) prefix.1 ∙ found ∙ sym (ap (with_told step) (before t)))
@@ -353,9 +367,11 @@ pub sound-is : (head : CertHead) (whole : Bool) (name : List ℕ) (o : Outside) 
 unfolding is_sound
 sound-is head whole name o = refl
 
-pub sound-same : (head : CertHead) (whole : Bool) (name : List ℕ) (old new : Outside) → new.is_writing ≡ old.is_writing →
+pub sound-same : (head : CertHead) (whole : Bool) (name : List ℕ) (old new : Outside) → new.is_writing
+    ≡ old.is_writing →
     new.writing ≡ old.writing →
-    is_written head whole name old.is_writing old.writing (new.kept name) ≡ true → is_sound head whole name new ≡ true
+    is_written head whole name old.is_writing old.writing (new.kept name) ≡ true →
+    is_sound head whole name new ≡ true
 sound-same head whole name old new p q e =
     sound-is head whole name new
     ∙ as-before head whole name old.is_writing new.is_writing old.writing new.writing (new.kept name) p q e

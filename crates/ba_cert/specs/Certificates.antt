@@ -20,7 +20,8 @@ steps_by whole (line ∷ other ∷ lines) =
     step_in line >>= (λ step. option_map (λ steps. step ∷ steps) (steps_by whole (other ∷ lines)))
 
 -- after a line
-abbrev pub after_first : List ℕ → (List (List ℕ) → Option (List CertStep)) → List (List ℕ) → Option (List CertStep)
+abbrev pub after_first : List ℕ → (List (List ℕ) → Option (List CertStep)) → List (List ℕ) →
+    Option (List CertStep)
 after_first wanted reading [] = None
 after_first wanted reading (line ∷ []) = None
 after_first wanted reading (line ∷ other ∷ lines) =

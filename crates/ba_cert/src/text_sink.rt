@@ -78,7 +78,8 @@ fn add_line<W: World>(
     ensures told { OnOk result (steps_at head.now name.now (W.outside world.new)
         ≡ with_told step.now (steps_at head.now name.now (W.outside world.old))) }
     ensures refused { OnErr result (MayAdd step.now
-        (steps_at head.now name.now (W.outside world.old)) (steps_at head.now name.now (W.outside world.new))) }
+        (steps_at head.now name.now (W.outside world.old))
+        (steps_at head.now name.now (W.outside world.new))) }
     ensures begins { HoldsBeginning head.now name.now (W.outside world.new) }
     ensures cause { result ≡ Err SinkError.Failed
         → HasWriteFault (W.outside world.old) (W.outside world.new) }
@@ -106,7 +107,8 @@ pub fn write_text<W: World>(
 ) -> Result<(), SinkError>
     requires countable { head.now.conflicts < 2 ^ 62 }
     requires formed { All IsFormed steps.now }
-    ensures whole { OnOk result (Holds name.now (text_of head.now steps.now) (W.outside world.new)) }
+    ensures whole { OnOk result
+        (Holds name.now (text_of head.now steps.now) (W.outside world.new)) }
     ensures prefix { (W.outside world.new).is_writing ≡ true
         → HoldsPrefix name.now (text_of head.now steps.now) (W.outside world.new) }
     ensures cause { result ≡ Err SinkError.Failed
@@ -121,7 +123,8 @@ pub fn write_text<W: World>(
 }
 
 /// The name of a file that is written, the settings that it names, and the outside and the faults of the
-/// sink that steps are handed on to, before the file was begun. The proof of a call at [`Brand`] says which they are.
+/// sink that steps are handed on to, before the file was begun. The proof of a call at [`Brand`] says
+/// which they are.
 pub trait Start {
     // The name.
     ghost name: { List ℕ };
@@ -149,10 +152,10 @@ impl Start for Brand {
 /// A sink that writes each step as a line of a certificate, into a file of a world.
 ///
 /// Its log is the list of steps of the whole lines that the world keeps under the file's name behind
-/// those of the settings, where it tells them. Its faults are the world's faults of writing, and it tells no formulas. After
-/// a refusal the file may end inside a line, so every further step is refused with `Memory`, and the
-/// world isn't called. Since the start `S` only the file of this name was written, and it holds the first
-/// bytes of a certificate of the sink's settings.
+/// those of the settings, where it tells them. Its faults are the world's faults of writing, and it tells
+/// no formulas. After a refusal the file may end inside a line, so every further step is refused with
+/// `Memory`, and the world isn't called. Since the start `S` only the file of this name was written, and
+/// it holds the first bytes of a certificate of the settings of `S`, which are the sink's.
 #[derive(Drop)]
 pub struct TextSink<'a, W: World, S: Start> {
     alloc: Global,
@@ -202,7 +205,8 @@ impl<'a, W: World, S: Start> TextSink<'a, W, S> {
         ensures exactly { result ≡ self.now.whole && bytes_eq self.now.name.now name.now }
         ensures named { result ≡ true → name.now ≡ self.now.name.now }
         ensures whole { result ≡ true → (W.outside self.now.world.now).kept name.now
-            ≡ option_map (text_of self.now.head) (steps_at self.now.head name.now (W.outside self.now.world.now)) }
+            ≡ option_map (text_of self.now.head)
+            (steps_at self.now.head name.now (W.outside self.now.world.now)) }
     {
         is_head(&self.head);
         self.whole && self.name == name
@@ -234,8 +238,10 @@ impl<'a, W: World, S: Start> StepSink for TextSink<'a, W, S> {
         ensures not_whole { OnErr result (self.new.whole ≡ false) }
         ensures again { self.old.whole ≡ false
             → (result ≡ Err SinkError.Memory) × (self.new ≡ self.old) }
-        ensures told { OnOk result (logs_at self.new.head self.new.name.now (W.outside self.new.world.now)
-            ≡ with_step step.now (logs_at self.old.head self.old.name.now (W.outside self.old.world.now))) }
+        ensures told { OnOk result
+            (logs_at self.new.head self.new.name.now (W.outside self.new.world.now)
+            ≡ with_step step.now
+            (logs_at self.old.head self.old.name.now (W.outside self.old.world.now))) }
         ensures refused { OnErr result (MayAddStep step.now
             (logs_at self.old.head self.old.name.now (W.outside self.old.world.now))
             (logs_at self.new.head self.new.name.now (W.outside self.new.world.now))) }
@@ -267,7 +273,8 @@ pub struct CertSink<'a, 'b, W: World, S: Start, D: StepSink> {
 impl<'a, 'b, W: World, S: Start, D: StepSink> StepSink for CertSink<'a, 'b, W, S, D> {
     ghost over = { λ sink. D.over sink.next.now };
 
-    ghost logs = { λ sink. steps_at sink.text.head sink.text.name.now (W.outside sink.text.world.now)
+    ghost logs = { λ sink.
+        steps_at sink.text.head sink.text.name.now (W.outside sink.text.world.now)
         ∷ D.logs sink.next.now };
 
     ghost faults = { λ sink. (W.outside sink.text.world.now).write_faults + D.faults sink.next.now };

@@ -38,14 +38,16 @@ record Leads (good : Judge) (s : State) (lines : List (List ℕ)) (verdict : Ver
 -- WHAT IS ACCEPTED has steps
 
 -- a line more that is not refused
-record IsTaken (head : CertHead) (good : Judge) (n : ℕ) (s : State) (line : List ℕ) (lines : List (List ℕ)) (end : Course) :
+record IsTaken (head : CertHead) (good : Judge) (n : ℕ) (s : State) (line : List ℕ) (lines : List (List ℕ))
+    (end : Course) :
     Type 0 where
   step : CertStep
   is : step_in line ≡ Some step
   allowed : error_of good s step ≡ None
   others : after_lines head good (Goes (n + 1) (after s step) (verdict_of s step)) lines ≡ end
 
-never : (head : CertHead) (good : Judge) (number code m : ℕ) (lines : List (List ℕ)) (t : State) (v : Verdict) →
+never : (head : CertHead) (good : Judge) (number code m : ℕ) (lines : List (List ℕ)) (t : State)
+    (v : Verdict) →
     after_lines head good (Stops number code) lines ≡ Goes m t (Some v) → ⊥
 never head good number code m lines t v e =
     let same : Stops number code ≡ Goes m t (Some v) = sym (stopped head good number code lines) ∙ e in cc
@@ -55,7 +57,8 @@ later : (head : CertHead) (good : Judge) (n : ℕ) (s : State) (said : Option Ve
 unfolding after_line
 later head good n s said line = refl
 
-taken : (head : CertHead) (good : Judge) (n : ℕ) (s : State) (said : Option Verdict) (line : List ℕ) (lines : List (List ℕ))
+taken : (head : CertHead) (good : Judge) (n : ℕ) (s : State) (said : Option Verdict) (line : List ℕ)
+    (lines : List (List ℕ))
     (m : ℕ) (t : State) (v : Verdict) →
     after_lines head good (Goes n s said) (line ∷ lines) ≡ Goes m t (Some v) →
     IsTaken head good n s line lines (Goes m t (Some v))
@@ -112,7 +115,8 @@ more-leads good s line lines step v is allowed others =
       says = others.says;
     }
 
-leads-back : (head : CertHead) (good : Judge) (n : ℕ) (s : State) (said : Option Verdict) (line : List ℕ) (lines : List (List
+leads-back : (head : CertHead) (good : Judge) (n : ℕ) (s : State) (said : Option Verdict) (line : List ℕ)
+    (lines : List (List
     ℕ))
     (m : ℕ) (t : State) (v : Verdict) →
     after_lines head good (Goes n s said) (line ∷ lines) ≡ Goes m t (Some v) → Leads good s (line ∷ lines) v
@@ -296,7 +300,8 @@ text-from head text front steps (inl is) lines rest =
       is.0,
       joined-from text front steps lines rest
           ∙ ap (λ f. flat_map with_feed f ++ step_lines steps) is.1
-          ∙ ap (λ r. (with_feed head_line ++ r) ++ step_lines steps) (append-nil (with_feed (settings_line head))),
+          ∙ ap (λ r. (with_feed head_line ++ r) ++ step_lines steps)
+          (append-nil (with_feed (settings_line head))),
     )
 text-from head text front steps (inr is) lines rest =
     inr (joined-from text front steps lines rest
@@ -309,7 +314,8 @@ front-all P [] back all = All-nil P
 front-all P (x ∷ xs) back all =
     All-cons P x xs (All-head P x (xs ++ back) all) (front-all P xs back (All-tail P x (xs ++ back) all))
 
-pub accepted : (head : CertHead) (p : Problem) (text : List ℕ) (v : Verdict) → finding_of head p text ≡ Accepted v →
+pub accepted : (head : CertHead) (p : Problem) (text : List ℕ) (v : Verdict) → finding_of head p text
+    ≡ Accepted v →
     IsCertificateOf head p text v
 accepted head p text v e =
     let a = accepted_by (course_of head p text) (rest_in text) v e in
@@ -426,7 +432,8 @@ next-is good s step rest end e = by (error_of good s step) refl e
     by None is e = record { allowed = is; others = e }
     by (Some error) is e = absurd (none-some end e)
 
-arrives : (head : CertHead) (good : Judge) (n : ℕ) (s : State) (said : Option Verdict) (front : List CertStep) (last : CertStep)
+arrives : (head : CertHead) (good : Judge) (n : ℕ) (s : State) (said : Option Verdict)
+    (front : List CertStep) (last : CertStep)
     (end : State) (v : Verdict) → All HasLine (front ++ last ∷ []) →
     after_all good s front ≡ Some end → error_of good end last ≡ None → verdict_of end last ≡ Some v →
     Arrives (after_lines head good (Goes n s said) (map line_of (front ++ last ∷ []))) v

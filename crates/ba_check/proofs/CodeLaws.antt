@@ -91,15 +91,18 @@ step-line head good old line is = ap (λ s. after_line head good (course_at s ol
 
 -- PIECES: what came of a piece so far, and what is left of it
 
-pub record IsUnderWay (head : CertHead) (good : Judge) (old : Course) (rest piece : List ℕ) (now : Course) (kept left : List
+pub record IsUnderWay (head : CertHead) (good : Judge) (old : Course) (rest piece : List ℕ) (now : Course)
+    (kept left : List
     ℕ) : Type 0
   where
     pub plain : HasNoFeed kept
-    pub lines : after_lines head good old (lines_in (rest ++ piece)) ≡ after_lines head good now (lines_in (kept ++
+    pub lines : after_lines head good old (lines_in (rest ++ piece))
+        ≡ after_lines head good now (lines_in (kept ++
         left))
     pub same_rest : rest_in (rest ++ piece) ≡ rest_in (kept ++ left)
 
-module _ (head : CertHead) (good : Judge) (old : Course) (rest piece : List ℕ) (now : Course) (kept left : List ℕ)
+module _ (head : CertHead) (good : Judge) (old : Course) (rest piece : List ℕ) (now : Course)
+    (kept left : List ℕ)
     (way : IsUnderWay head good old rest piece now kept left) where
   pub line-more : (new : Course) (empty end behind : List ℕ) → IsCut left end behind → empty ≡ [] →
       after_line head good now (kept ++ end) ≡ new → IsUnderWay head good old rest piece new empty behind
@@ -124,7 +127,8 @@ module _ (head : CertHead) (good : Judge) (old : Course) (rest piece : List ℕ)
 
   pub piece-ends : (new : Judged) (bytes : List ℕ) → now ≡ course_kept new → bytes ≡ kept ++ left →
       HasNoFeed left →
-      (after_lines head good old (lines_in (rest ++ piece)) ≡ course_kept new) × (bytes ≡ rest_in (rest ++ piece))
+      (after_lines head good old (lines_in (rest ++ piece)) ≡ course_kept new) ×
+      (bytes ≡ rest_in (rest ++ piece))
   piece-ends new bytes is all plain =
       let both : HasNoFeed (kept ++ left) = All-append (λ b. is_line_end b ≡ false) kept left way.plain
       plain in (
@@ -135,29 +139,34 @@ module _ (head : CertHead) (good : Judge) (old : Course) (rest piece : List ℕ)
 -- READERS
 
 -- a reader that has come so far
-record IsFollowed (head : CertHead) (p : Problem) (text : List ℕ) (course : Course) (rest : List ℕ) : Type 0 where
-  course_is : course ≡ course_of head p text
-  rest_is : rest ≡ rest_in text
+record IsFollowed (head : CertHead) (p : Problem) (text : List ℕ) (course : Course) (rest : List ℕ) : Type 0
+  where
+    course_is : course ≡ course_of head p text
+    rest_is : rest ≡ rest_in text
 
-followed : (head : CertHead) (p : Problem) (text : List ℕ) (reader : Confirming) → HasRead head p text reader →
+followed : (head : CertHead) (p : Problem) (text : List ℕ) (reader : Confirming) →
+    HasRead head p text reader →
     reader.refusal ≡ None →
     IsFollowed head p text reader.course reader.rest
 followed head p text reader has none =
     let f = subst (Follows head p text reader.course reader.rest) none has.follows in
     record { course_is = f.0; rest_is = f.1 }
 
-pub rest-read : (head : CertHead) (p : Problem) (text : List ℕ) (reader : Confirming) → HasRead head p text reader →
+pub rest-read : (head : CertHead) (p : Problem) (text : List ℕ) (reader : Confirming) →
+    HasRead head p text reader →
     reader.refusal ≡ None → HasNoFeed reader.rest
 rest-read head p text reader has none =
     subst HasNoFeed (sym (followed head p text reader has none).rest_is) (rest-plain text)
 
 -- it takes a piece
-record IsFed (head : CertHead) (p : Problem) (text piece : List ℕ) (own : CertHead) (good : Judge) (course : Course) (rest : List ℕ) : Type 0
+record IsFed (head : CertHead) (p : Problem) (text piece : List ℕ) (own : CertHead) (good : Judge)
+    (course : Course) (rest : List ℕ) : Type 0
   where
     course_is : after_lines own good course (lines_in (rest ++ piece)) ≡ course_of head p (text ++ piece)
     rest_is : rest_in (rest ++ piece) ≡ rest_in (text ++ piece)
 
-fed : (head : CertHead) (p : Problem) (text piece : List ℕ) (reader : Confirming) → HasRead head p text reader →
+fed : (head : CertHead) (p : Problem) (text piece : List ℕ) (reader : Confirming) →
+    HasRead head p text reader →
     reader.refusal ≡ None →
     IsFed head p text piece reader.head reader.good reader.course reader.rest
 fed head p text piece reader has none =
@@ -178,7 +187,8 @@ unrefused stage.Head judged = refl
 unrefused stage.Settings judged = refl
 unrefused stage.Steps judged = refl
 
-follows-by : (head : CertHead) (p : Problem) (text : List ℕ) (refusal : Option CheckError) (new : Judged) (rest : List ℕ)
+follows-by : (head : CertHead) (p : Problem) (text : List ℕ) (refusal : Option CheckError) (new : Judged)
+    (rest : List ℕ)
     (course : Course) (wanted : List ℕ) → course ≡ course_of head p text → wanted ≡ rest_in text →
     KeepsWith (answer_by refusal) new rest course wanted → Follows head p text (course_kept new) rest refusal
 follows-by head p text None new rest course wanted is all keeps =
@@ -188,10 +198,12 @@ follows-by head p text (Some (Line number code)) new rest course wanted is all k
     keeps)
 follows-by head p text (Some Memory) new rest course wanted is all keeps = tt
 
-pub piece-read : (head : CertHead) (p : Problem) (text piece : List ℕ) (reader : Confirming) (own : CertHead) (good : Judge) (new : Judged)
+pub piece-read : (head : CertHead) (p : Problem) (text piece : List ℕ) (reader : Confirming)
+    (own : CertHead) (good : Judge) (new : Judged)
     (rest : List ℕ) (refusal : Option CheckError) → HasRead head p text reader → reader.refusal ≡ None →
     own ≡ reader.head → good ≡ reader.good →
-    KeepsWith (answer_by refusal) new rest (after_lines reader.head reader.good reader.course (lines_in (reader.rest ++
+    KeepsWith (answer_by refusal) new rest
+    (after_lines reader.head reader.good reader.course (lines_in (reader.rest ++
     piece)))
     (rest_in (reader.rest ++ piece)) →
     HasRead head p (text ++ piece)
@@ -207,12 +219,15 @@ piece-read head p text piece reader own good new rest refusal has none own_is sa
     }
 
 -- after a refusal it stays as it is
-refusal-follows : (head : CertHead) (p : Problem) (text piece : List ℕ) (course : Course) (rest : List ℕ) (error : CheckError) →
+refusal-follows : (head : CertHead) (p : Problem) (text piece : List ℕ) (course : Course) (rest : List ℕ)
+    (error : CheckError) →
     Follows head p text course rest (Some error) → Follows head p (text ++ piece) course rest (Some error)
-refusal-follows head p text piece course rest (Line number code) f = refused-stays head p text piece number code f
+refusal-follows head p text piece course rest (Line number code) f =
+    refused-stays head p text piece number code f
 refusal-follows head p text piece course rest Memory f = tt
 
-pub refusal-stays : (head : CertHead) (p : Problem) (text piece : List ℕ) (reader : Confirming) (error : CheckError) →
+pub refusal-stays : (head : CertHead) (p : Problem) (text piece : List ℕ) (reader : Confirming)
+    (error : CheckError) →
     HasRead head p text reader → reader.refusal ≡ Some error → HasRead head p (text ++ piece) reader
 refusal-stays head p text piece reader error has is = record {
   same_head = has.same_head;
@@ -223,32 +238,38 @@ refusal-stays head p text piece reader error has is = record {
 }
 
 -- what it answers is the first refused line
-tells-refusal : (head : CertHead) (p : Problem) (text : List ℕ) (course : Course) (rest : List ℕ) (refusal : Option
+tells-refusal : (head : CertHead) (p : Problem) (text : List ℕ) (course : Course) (rest : List ℕ)
+    (refusal : Option
     CheckError) →
     Follows head p text course rest refusal → TellsRefusal (answer_by refusal) (first_refused head p text)
 tells-refusal head p text course rest None f = f.2
 tells-refusal head p text course rest (Some (Line number code)) f = f
 tells-refusal head p text course rest (Some Memory) f = tt
 
-pub tells-first : (head : CertHead) (p : Problem) (text : List ℕ) (reader : Confirming) (result : Result Unit CheckError) →
-    HasRead head p text reader → result ≡ answer_by reader.refusal → TellsRefusal result (first_refused head p text)
+pub tells-first : (head : CertHead) (p : Problem) (text : List ℕ) (reader : Confirming)
+    (result : Result Unit CheckError) →
+    HasRead head p text reader → result ≡ answer_by reader.refusal →
+    TellsRefusal result (first_refused head p text)
 tells-first head p text reader result has is =
     subst (λ r. TellsRefusal r (first_refused head p text)) (sym is)
     (tells-refusal head p text reader.course reader.rest reader.refusal has.follows)
 
 -- and in the end what is found
-tells-error : (head : CertHead) (p : Problem) (text : List ℕ) (course : Course) (rest : List ℕ) (error : CheckError) →
+tells-error : (head : CertHead) (p : Problem) (text : List ℕ) (course : Course) (rest : List ℕ)
+    (error : CheckError) →
     Follows head p text course rest (Some error) → Tells (Err error) (finding_of head p text)
 tells-error head p text course rest (Line number code) f = refused-found head p text number code f
 tells-error head p text course rest Memory f = tt
 
-pub refusal-tells : (head : CertHead) (p : Problem) (text : List ℕ) (reader : Confirming) (error : CheckError) →
+pub refusal-tells : (head : CertHead) (p : Problem) (text : List ℕ) (reader : Confirming)
+    (error : CheckError) →
     HasRead head p text reader → reader.refusal ≡ Some error → Tells (Err error) (finding_of head p text)
 refusal-tells head p text reader error has is =
     tells-error head p text reader.course reader.rest error
     (subst (Follows head p text reader.course reader.rest) is has.follows)
 
-pub end-tells : (head : CertHead) (p : Problem) (text : List ℕ) (reader : Confirming) (result : Result Confirmed CheckError) →
+pub end-tells : (head : CertHead) (p : Problem) (text : List ℕ) (reader : Confirming)
+    (result : Result Confirmed CheckError) →
     HasRead head p text reader → reader.refusal ≡ None → Tells result (finding_by reader.course reader.rest) →
     Tells result (finding_of head p text)
 end-tells head p text reader result has none tells =

@@ -16,20 +16,24 @@ unfolding after_line
 stopped head good number code [] = refl
 stopped head good number code (line ∷ lines) = stopped head good number code lines
 
-pub stopped-by : (head : CertHead) (good : Judge) (course : Course) (number code : ℕ) (lines : List (List ℕ)) →
+pub stopped-by : (head : CertHead) (good : Judge) (course : Course) (number code : ℕ)
+    (lines : List (List ℕ)) →
     course ≡ Stops number code → after_lines head good course lines ≡ Stops number code
 stopped-by head good course number code lines is =
     ap (λ c. after_lines head good c lines) is ∙ stopped head good number code lines
 
 -- lines after others
 pub lines-then : (head : CertHead) (good : Judge) (course : Course) (lines others : List (List ℕ)) →
-    after_lines head good course (lines ++ others) ≡ after_lines head good (after_lines head good course lines) others
+    after_lines head good course (lines ++ others)
+    ≡ after_lines head good (after_lines head good course lines) others
 lines-then head good course [] others = refl
-lines-then head good course (line ∷ lines) others = lines-then head good (after_line head good course line) lines others
+lines-then head good course (line ∷ lines) others =
+    lines-then head good (after_line head good course line) lines others
 
 -- a text that goes on
 pub course-append : (head : CertHead) (p : Problem) (text more : List ℕ) →
-    course_of head p (text ++ more) ≡ after_lines head p.good (course_of head p text) (lines_in (rest_in text ++ more))
+    course_of head p (text ++ more)
+    ≡ after_lines head p.good (course_of head p text) (lines_in (rest_in text ++ more))
 course-append head p text more =
     ap (after_lines head p.good (Begins (start_of p))) (lines-append text more)
     ∙ lines-then head p.good (Begins (start_of p)) (lines_in text) (lines_in (rest_in text ++ more))
@@ -45,7 +49,8 @@ refused-is (Stops line other) number code e =
     ap (λ (r : ℕ × ℕ). Stops r.0 r.1) parts
 
 pub refused-stays : (head : CertHead) (p : Problem) (text more : List ℕ) (number code : ℕ) →
-    first_refused head p text ≡ Some (number, code) → first_refused head p (text ++ more) ≡ Some (number, code)
+    first_refused head p text ≡ Some (number, code) → first_refused head p (text ++ more)
+    ≡ Some (number, code)
 refused-stays head p text more number code e =
     ap refusal_in (course-append head p text more
     ∙ stopped-by head p.good (course_of head p text) number code (lines_in (rest_in text ++ more))

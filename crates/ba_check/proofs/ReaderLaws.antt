@@ -18,7 +18,8 @@ nothing : (head : CertHead) (p : Problem) → course_of head p [] ≡ Begins (st
 nothing head p = ap (after_lines head p.good (Begins (start_of p))) (no-line [] (All-nil (λ b. is_line_end b ≡
     false)))
 
-pub started : (head : CertHead) (p : Problem) (reader : Confirming) → reader.head ≡ head → reader.good ≡ p.good →
+pub started : (head : CertHead) (p : Problem) (reader : Confirming) → reader.head ≡ head → reader.good
+    ≡ p.good →
     reader.course ≡ Begins (start_of p) → reader.rest ≡ [] → reader.refusal ≡ None → HasRead head p [] reader
 started head p reader same good course rest none = record {
   same_head = same;

@@ -35,7 +35,8 @@ blocked-sets s (EndNoRepair hints) weight found says = cc
 blocked-sets s EndTooMany weight found says = cc
 blocked-sets s EndSpent weight found says = cc
 
-module _ (weights : WeightList) (head : CertHead) (p : Problem) (faithful : IsFaithful p.formula p.softs weights p.good)
+module _ (weights : WeightList) (head : CertHead) (p : Problem)
+    (faithful : IsFaithful p.formula p.softs weights p.good)
     (text : List ℕ) where
   -- they differ
   differ : (weight : ℕ) (found : List (List ℕ)) → IsCertificateOf head p text (Located weight found) →
@@ -51,7 +52,8 @@ module _ (weights : WeightList) (head : CertHead) (p : Problem) (faithful : IsFa
       subst (IsDistinct (pointwise nat_eq)) (blocked-sets d.state d.last weight found d.says)
       facts.sets_differ
 
-  certified-true : (v : Verdict) → IsCertificateOf head p text v → IsTrueOf weights head p text (confirmed_of v)
+  certified-true : (v : Verdict) → IsCertificateOf head p text v →
+      IsTrueOf weights head p text (confirmed_of v)
   certified-true (Located weight found) c = record {
     found = found;
     sets_are = refl;

@@ -81,9 +81,11 @@ impl<'a> Confirm<'a> {
     /// The other error is want of memory. After an error nothing changes any more, and the answer stays
     /// the same.
     pub fn feed(&mut self, piece: &[u8]) -> Result<(), CheckError>
-        ensures reads { (h : CertHead) (p : Problem) (text : List ℕ) → HasRead h p text (seen self.old)
+        ensures reads { (h : CertHead) (p : Problem) (text : List ℕ)
+            → HasRead h p text (seen self.old)
             → HasRead h p (text ++ piece.now) (seen self.new) }
-        ensures refuses { (h : CertHead) (p : Problem) (text : List ℕ) → HasRead h p text (seen self.old)
+        ensures refuses { (h : CertHead) (p : Problem) (text : List ℕ)
+            → HasRead h p text (seen self.old)
             → TellsRefusal result (first_refused h p (text ++ piece.now)) }
         ensures again { (error : CheckError) → self.old.refusal ≡ Some error
             → (result ≡ Err error) × (seen self.new ≡ seen self.old) }
@@ -103,7 +105,8 @@ impl<'a> Confirm<'a> {
     /// that is refused, or, where none is, with the line after the whole ones and the code 21. The other
     /// error is want of memory.
     pub fn finish(self) -> Result<Confirmed, CheckError>
-        ensures exactly { (h : CertHead) (p : Problem) (text : List ℕ) → HasRead h p text (seen self.entry)
+        ensures exactly { (h : CertHead) (p : Problem) (text : List ℕ)
+            → HasRead h p text (seen self.entry)
             → Tells result (finding_of h p text) }
         ensures again { (error : CheckError) → self.entry.refusal ≡ Some error
             → result ≡ Err error }

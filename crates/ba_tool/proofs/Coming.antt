@@ -129,7 +129,8 @@ checked_as j before after handed (answer.BudgetSpent conflicts) over x p read ab
 checked_as j before after handed (answer.BadWeights line) over x p read about c = absurd about.comes
 
 -- no certificate is written in a check
-checks_write : (h : CertHead) (t : Task) (cert : Option Word) (handed : Option Derivation) (o : Outside) → t ≡ task.Check →
+checks_write : (h : CertHead) (t : Task) (cert : Option Word) (handed : Option Derivation) (o : Outside) → t
+    ≡ task.Check →
     Certifies h (written_by t cert) handed o o
 checks_write h task.Check cert handed o is = refl
 checks_write h task.Run cert handed o is = let no : ⊥ = cc in absurd no
@@ -190,14 +191,16 @@ sampled_as j x additions before after t u a job texts holds = comes_sampled addi
     (subst (λ j. Proceeds j x before after t u a) job holds))
 
 pub sample_stops : (j : Job) (additions : ℕ) (before after : Outside) → j ≡ sample_job additions →
-    StopsWith (head_by j) (written_by j.task j.cert) before after → Stops (request.Sample additions) before after
+    StopsWith (head_by j) (written_by j.task j.cert) before after →
+    Stops (request.Sample additions) before after
 sample_stops j additions before after job stops =
     subst (λ (j : Job). StopsWith (head_by j) (written_by j.task j.cert) before after) job stops
 
 -- texts that are answered at once, and a search
 pub proceeds_judged : (j : Job) (x : Texts) (o : Outside) (t : Told) (a : Answer) → IsAnswer j x None a →
     Proceeds j x o o t t a
-proceeds_judged j x o t a is = by_texts None is (refl, refl) (nothing_written (head_by j) (written_by j.task j.cert) o)
+proceeds_judged j x o t a is =
+    by_texts None is (refl, refl) (nothing_written (head_by j) (written_by j.task j.cert) o)
 
 -- a job that searches writes the certificate that is named
 searches_write : (t : Task) (cert : Option Word) → is_search t ≡ true → cert ≡ written_by t cert
@@ -209,9 +212,11 @@ searches_write task.Run cert is = let no : ⊥ = cc in absurd no
 pub proceeds_searched : (j : Job) (x : Texts) (old new : Outside) (t u : Told) (a : Answer) →
     is_search j.task ≡ true → Concludes j x j.cert old new t u a → Proceeds j x old new t u a
 proceeds_searched j x old new t u a is c = by_texts (Some c.derivation) c.is c.hands
-    (subst (λ cert. Certifies (head_by j) cert (Some c.derivation) old new) (searches_write j.task j.cert is) c.certifies)
+    (subst (λ cert. Certifies (head_by j) cert (Some c.derivation) old new)
+    (searches_write j.task j.cert is) c.certifies)
 
-pub stops_searched : (j : Job) (old new : Outside) → is_search j.task ≡ true → MayBegin (head_by j) j.cert old new →
+pub stops_searched : (j : Job) (old new : Outside) → is_search j.task ≡ true →
+    MayBegin (head_by j) j.cert old new →
     StopsWith (head_by j) (written_by j.task j.cert) old new
 stops_searched j old new is may = record {
   read = old;

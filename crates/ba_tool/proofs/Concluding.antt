@@ -84,7 +84,8 @@ module _ (j : Job) (x : Texts) (c : Case) (is : IsCaseOf x c) (encoded : Encoded
       name = name;
       named = named;
       comes = subst (λ (p : Problem). CertificateComesTo
-          (record { name = name; head = head_by j; problem = p; weights = weights_of c.program x }) a old new) problem_same
+          (record { name = name; head = head_by j; problem = p; weights = weights_of c.program x }) a old
+          new) problem_same
           comes;
     };
   }

@@ -173,7 +173,8 @@ whole_begins h steps (Some bytes) formed held = (
   (length bytes, sym (take_all (length bytes) bytes (omega arith)) ∙ ap (take (length bytes)) held),
 )
 
-may_begin : (h : CertHead) (name : Option Word) (handed : Option Derivation) (old new : Outside) → AreFormed handed →
+may_begin : (h : CertHead) (name : Option Word) (handed : Option Derivation) (old new : Outside) →
+    AreFormed handed →
     Certifies h name handed old new → MayBegin h name old new
 may_begin h None handed old new formed same = same
 may_begin h (Some name) None old new formed same = inl same
@@ -202,7 +203,8 @@ writes_none o = record {
   given = refl;
 }
 
-pub only_writes : (h : CertHead) (name : Option Word) (old new : Outside) → MayBegin h name old new → OnlyWrites old new
+pub only_writes : (h : CertHead) (name : Option Word) (old new : Outside) → MayBegin h name old new →
+    OnlyWrites old new
 only_writes h None old new same = subst (OnlyWrites old) (sym same) (writes_none old)
 only_writes h (Some name) old new (inl same) = subst (OnlyWrites old) (sym same) (writes_none old)
 only_writes h (Some name) old new (inr begins) = begins.only.stays

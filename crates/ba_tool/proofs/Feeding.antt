@@ -32,7 +32,8 @@ pub record IsFeeding (name : Word) (first reader : Confirming) (old new : Outsid
   pub text : List ℕ
   pub read : IsReadTo name text old new
   pub count : length text ≡ given
-  pub reads : (h : CertHead) (p : Problem) → HasRead h p [] first → HasRead h p text reader × (first_refused h p text ≡ None)
+  pub reads : (h : CertHead) (p : Problem) → HasRead h p [] first →
+      HasRead h p text reader × (first_refused h p text ≡ None)
 
 none_refused : (h : CertHead) (p : Problem) → first_refused h p [] ≡ None
 unfolding lines_in
@@ -61,7 +62,8 @@ feeding_starts name reader old new opened same = record {
 pub feeding_goes_on : (name : Word) (first reader later : Confirming) (buffer : List ℕ) (count given : ℕ)
     (old mid new : Outside) → IsFeeding name first reader old mid given → GivesPiece count buffer mid new →
     new.is_reading ≡ true →
-    ((h : CertHead) (p : Problem) (text : List ℕ) → HasRead h p text reader → HasRead h p (text ++ take count buffer) later) →
+    ((h : CertHead) (p : Problem) (text : List ℕ) → HasRead h p text reader →
+    HasRead h p (text ++ take count buffer) later) →
     ((h : CertHead) (p : Problem) (text : List ℕ) → HasRead h p text reader →
     first_refused h p (text ++ take count buffer) ≡ None) →
     IsFeeding name first later old new (given + count)
@@ -223,7 +225,8 @@ unfed_by j (Err error) why old new is unfed = subst (λ error. IsUnfed j error o
 -- THE ANSWER of a certificate
 
 pub accepted_by : (j : Judging) (old new : Outside) (reader : Confirming) (confirmed : Confirmed)
-    (claimed : Claim) (fed : IsFed j old new reader) → Tells (Ok confirmed) (finding_of j.head j.problem fed.text) →
+    (claimed : Claim) (fed : IsFed j old new reader) →
+    Tells (Ok confirmed) (finding_of j.head j.problem fed.text) →
     IsTrueOf j.weights j.head j.problem fed.text confirmed →
     ((v : Verdict) → confirmed ≡ confirmed_of v → claimed ≡ claim_of v) → IsAccepted j claimed old new
 accepted_by j old new reader confirmed claimed fed tells holds claims =

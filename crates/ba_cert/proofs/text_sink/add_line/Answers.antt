@@ -30,7 +30,8 @@ returns-in-Err-clause-still g c =
     let prefix = prefixed name old.writing old.kept new.kept c.as_slice.result.now line follows is
     c.add.ensures.prefix c.add.ensures.others.kept in
     sound-same head false name old new c.add.ensures.others.begun c.add.ensures.others.named
-    (partly-sound head is_head step h name old.is_writing old.writing (old.kept name) (new.kept name) sound prefix)
+    (partly-sound head is_head step h name old.is_writing old.writing (old.kept name) (new.kept name) sound
+    prefix)
 
 pub returns-in-Err-clause-refused : goal.returns-in-Err-clause-refused
 returns-in-Err-clause-refused g c =
@@ -47,7 +48,8 @@ returns-in-Err-clause-refused g c =
     let follows = followed-sound head true name old.is_writing old.writing (old.kept name) sound in
     let prefix = prefixed name old.writing old.kept new.kept c.as_slice.result.now line follows is
     c.add.ensures.prefix c.add.ensures.others.kept in
-    partly-may head is_head step h name old.is_writing old.writing (old.kept name) (new.kept name) sound prefix
+    partly-may head is_head step h name old.is_writing old.writing (old.kept name) (new.kept name) sound
+    prefix
 
 pub returns-clause-sound : goal.returns-clause-sound
 returns-clause-sound g c =
@@ -65,7 +67,8 @@ returns-clause-sound g c =
     let added = appended name old.writing old.kept new.kept c.as_slice.result.now line follows is
     c.in_default.ensures.added c.add.ensures.others.kept in
     sound-same head true name old new c.add.ensures.others.begun c.add.ensures.others.named
-    (added-sound head is_head step h name old.is_writing old.writing (old.kept name) (new.kept name) sound added)
+    (added-sound head is_head step h name old.is_writing old.writing (old.kept name) (new.kept name) sound
+    added)
 
 pub returns-clause-still : goal.returns-clause-still
 returns-clause-still g c =
@@ -83,7 +86,8 @@ returns-clause-still g c =
     let prefix = prefixed name old.writing old.kept new.kept c.as_slice.result.now line follows is
     c.add.ensures.prefix c.add.ensures.others.kept in
     sound-same head false name old new c.add.ensures.others.begun c.add.ensures.others.named
-    (partly-sound head is_head step h name old.is_writing old.writing (old.kept name) (new.kept name) sound prefix)
+    (partly-sound head is_head step h name old.is_writing old.writing (old.kept name) (new.kept name) sound
+    prefix)
 
 pub returns-clause-told : goal.returns-clause-told
 returns-clause-told g c =
@@ -186,7 +190,8 @@ returns-clause-prefix g c =
 
 pub returns-in_err-line-clause-begins : goal.returns-in_err-line-clause-begins
 returns-in_err-line-clause-begins g c =
-    sound-begins c.args.head.now c.is_head.ensures c.args.name.now (g.W.World.outside c.args.world.now) c.requires.sound
+    sound-begins c.args.head.now c.is_head.ensures c.args.name.now (g.W.World.outside c.args.world.now)
+    c.requires.sound
 
 pub returns-in-Err-clause-begins : goal.returns-in-Err-clause-begins
 returns-in-Err-clause-begins g c =

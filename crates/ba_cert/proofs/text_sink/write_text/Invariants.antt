@@ -8,6 +8,7 @@ abbrev pub invariant-loop-step : goal.invariant-loop-step
 invariant-loop-step g l =
     let outside = g.W.World.outside in record {
       sound : is_sound l.head true l.name (outside l.world) ≡ true;
-      text : IfSome ((outside l.world).kept l.name) (λ bytes. bytes ≡ text_of l.head (take l.step-index l.steps));
+      text : IfSome ((outside l.world).kept l.name)
+          (λ bytes. bytes ≡ text_of l.head (take l.step-index l.steps));
       stays : OnlyWritesTo l.name (outside l.fn.world) (outside l.world);
     }

@@ -14,5 +14,6 @@ returns-in-Ok c = λ j old new fed faithful. accepted_by j old new (seen c.args.
 pub returns-in-Err-Line : goal.returns-in-Err-Line
 returns-in-Err-Line c = λ j old new fed faithful. inr (refused_by j c.in-Err-Line.line c.in-Err-Line.code
     old new
-    (seen c.args.confirm) fed (subst (λ (e : CheckError). Tells (Err e) (finding_of j.head j.problem fed.text))
+    (seen c.args.confirm) fed
+    (subst (λ (e : CheckError). Tells (Err e) (finding_of j.head j.problem fed.text))
     c.in-Err-Line.field-0-is (c.in-Err-Line.ensures.exactly j.head j.problem fed.text fed.read)))

@@ -35,7 +35,8 @@ returns-then-is_whole-clause-answer g c =
     let kept : new.kept name ≡ option_map (certificate_of head) (steps_at text.head text.name.now new) =
     ap new.kept (sym c.as_str-3.ensures) ∙ c.is_whole.ensures.whole c.if-is_whole.true
     ∙ ap (λ h. option_map (certificate_of h) (steps_at text.head c.as_str-3.result.now new)) headed
-    ∙ ap (λ n. option_map (certificate_of head) (steps_at text.head n new)) (c.as_str-3.ensures ∙ sym named) in
+    ∙ ap (λ n. option_map (certificate_of head) (steps_at text.head n new)) (c.as_str-3.ensures ∙ sym named)
+    in
     let concluded : Concludes c.args.job.now c.args.texts.now (Some name) old new
     (told g.D.StepSink.over g.D.StepSink.logs g.D.StepSink.faults c.args.steps.now)
     (told g.D.StepSink.over g.D.StepSink.logs g.D.StepSink.faults c.locate_by.new.steps.next.now)

@@ -8,5 +8,6 @@ invariant_of-result g c = record {
   named = c.requires.named;
   headed = c.requires.headed;
   stays = c.requires.stays;
-  begins = sound-begins c.args.head c.is_head.ensures c.args.name.now (g.W.World.outside c.args.world.now) c.requires.sound;
+  begins = sound-begins c.args.head c.is_head.ensures c.args.name.now (g.W.World.outside c.args.world.now)
+      c.requires.sound;
 }

@@ -10,7 +10,8 @@ pub returns-clause-nothing_read : goal.returns-clause-nothing_read
 returns-clause-nothing_read c =
     let settings = c.args.settings in
     let made = c.new-2.result in
-    started (head_of settings) (problem_of c.args.program.now c.args.input.now settings c.args.encoded.now) _ c.head_of.ensures
+    started (head_of settings) (problem_of c.args.program.now c.args.input.now settings c.args.encoded.now)
+    _ c.head_of.ensures
     (same-judge made.program.now c.args.program.now made.input.now c.args.input.now made.bounds
     settings.bounds
     c.new-2.ensures.program c.new-2.ensures.input c.new-2.ensures.bounds)
