@@ -87,7 +87,11 @@ fn writes_the_certificate_before_the_report(rt: HostRuntime) {
         .split(|byte| *byte == b'\n');
     assert_eq!(rt;
         lines.next().expect(&rt, "no line"),
-        b"bugassist 1".as_slice()
+        b"bugassist 2".as_slice()
+    );
+    assert_eq!(rt;
+        lines.next().expect(&rt, "no settings"),
+        b"b 1 16 200000 1000".as_slice()
     );
     // Each step that was handed on has a line, which is read as it is written, and nothing stands
     // behind the last.
@@ -137,9 +141,9 @@ fn assert_cut_off(rt: &impl Abort, alloc: Global, fails: u64, held: Option<&str>
 
 #[test]
 fn prints_nothing_where_a_certificate_fails(rt: HostRuntime) {
-    // Calls 0 to 5 read the files, 6 begins the certificate, 7 adds its head line and 8 the first step.
+    // Calls 0 to 5 read the files, 6 begins the certificate, 7 adds its first two lines and 8 the first step.
     let alloc = rt.alloc();
     assert_cut_off(&rt, alloc, 6, None);
     assert_cut_off(&rt, alloc, 7, Some("bugass"));
-    assert_cut_off(&rt, alloc, 8, Some("bugassist 1\n"));
+    assert_cut_off(&rt, alloc, 8, Some("bugassist 2\nb 1 16 200000 1000\n"));
 }
