@@ -11,7 +11,7 @@
 ghost use Rattle.std.specs.Prelude.{◌≡◌, ◌+◌, ◌-◌, ◌^◌, ◌<◌, ◌≤◌, [], ◌++◌, None, Some, length, get_or, set, take, drop, map, ℕ, IfOk, IfSome, OnOk, OnErr};
 ghost use Rattle.ba_lits.specs.Literals.{lit_at, index_of};
 ghost use Rattle.ba_arena.specs.Clauses.{IsLive, lits_at, number_at, link_at, changed, swapped, linked, Adds};
-ghost use Rattle.ba_arena.specs.Compaction.{compacted, forwarded, Plans, IsFirstFrom};
+ghost use Rattle.ba_arena.specs.Compaction.{moved, compacted, forwarded, followed, led, AreLive, Compacts, Plans, IsFirstFrom};
 ghost use Rattle.ba_arena.specs.Words.{words_of, word_of_link, link_of_word, clauses_of, AreIndexed, AreWords, IsCut};
 
 mod link;
@@ -206,8 +206,31 @@ impl Arena {
         to_reference(live_from(self.words.as_slice(), end))
     }
 
-    /// Sets the first link of each live clause to the place to which [`compact`](Arena::compact) moves it.
-    pub fn plan(&mut self)
+    /// Moves the live clauses down, so that no gap is left where clauses were deleted. References follow their clauses:
+    /// those of `kept` and `others`, and those of `live`, whose clauses are live. It takes no memory.
+    pub fn compact(
+        &mut self,
+        kept: &mut [Option<ClauseRef>],
+        others: &mut [Option<ClauseRef>],
+        live: &mut [ClauseRef],
+    )
+        requires kept { AreLive self.old kept.old }
+        requires others { AreLive self.old others.old }
+        requires live { (k : ℕ) → k < length live.old → IsLive self.old (get_or live.old k 0) }
+        ensures compacts { Compacts self.old self.new }
+        ensures kept { kept.new ≡ map (led self.old) kept.old }
+        ensures others { others.new ≡ map (led self.old) others.old }
+        ensures live { live.new ≡ map (moved self.old) live.old }
+    {
+        self.plan();
+        self.rewrite(kept);
+        self.rewrite(others);
+        self.follow(live);
+        move_down(&mut self.words);
+    }
+
+    /// Sets the first link of each live clause to the place to which `move_down` moves it.
+    fn plan(&mut self)
         ensures { Plans self.old self.new }
     {
         let mut place = 0;
@@ -226,27 +249,28 @@ impl Arena {
         }
     }
 
-    /// Rewrites so many references to what the first links of their clauses name: after [`plan`](Arena::plan) each names the
-    /// place to which [`compact`](Arena::compact) moves its clause.
-    pub fn rewrite(&self, kept: &mut Vec<Option<ClauseRef>>, count: usize)
-        requires within { count ≤ length kept.old.items }
-        requires live { (k clause : ℕ) → k < count → get_or kept.old.items k None ≡ Some clause
-            → IsLive self.now clause }
-        ensures { kept.new.items ≡ map (forwarded self.now) (take count kept.old.items)
-            ++ drop count kept.old.items }
+    /// Rewrites references to what the first links of their clauses name.
+    fn rewrite(&self, kept: &mut [Option<ClauseRef>])
+        requires { AreLive self.now kept.old }
+        ensures { kept.new ≡ map (forwarded self.now) kept.old }
     {
-        for place in 0..count {
+        for place in 0..kept.len() {
             if let Some(clause) = kept[place] {
                 kept[place] = self.link(clause, 0);
             }
         }
     }
 
-    /// Moves the live clauses down, so that no gap is left where clauses died. It takes no memory.
-    pub fn compact(&mut self)
-        ensures { self.new ≡ compacted self.old }
+    /// Rewrites references to what the first links of their clauses name, where they name a clause.
+    fn follow(&self, live: &mut [ClauseRef])
+        requires { (k : ℕ) → k < length live.old → IsLive self.now (get_or live.old k 0) }
+        ensures { live.new ≡ map (followed self.now) live.old }
     {
-        move_down(&mut self.words);
+        for place in 0..live.len() {
+            if let Some(clause) = self.link(live[place], 0) {
+                live[place] = clause;
+            }
+        }
     }
 }
 

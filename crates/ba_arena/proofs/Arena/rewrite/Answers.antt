@@ -1,18 +1,23 @@
-use Rattle.std.proofs.Common.{◌≡◌, ◌∙◌, sym, ap, arith}
+use Rattle.std.proofs.Common.{◌≡◌, ◌<◌, ◌∙◌, Some, None, List, length, refl, sym, ap, arith}
+use Rattle.std.proofs.lemmas.List.{get_or_default}
 use Rattle.ba_arena.specs.Compaction.{forwarded}
-use Rattle.ba_arena.proofs.Mapped.{map_write, map_keep}
+use Rattle.ba_arena.proofs.Mapped.{map_write, map_keep, map_length}
 use Rattle.ba_arena.proofs.Arena.rewrite.Goals as goal
 use Rattle.ba_arena.proofs.Arena.rewrite.Goals.{in-Some, in_default}
 
 pub loop-place-preserved : goal.loop-place-preserved
 loop-place-preserved c =
     let f = forwarded c.args.self.now in
-    let xs = c.args.kept.now.items in
-    elim c.match-index.branch [
-      | in-Some w ↦ map_write f xs c.loop-place.kept.items c.match-index.kept.items c.loop-place.place w.link.result
-          c.index.result.now c.loop-place.invariant (omega (arith, c.loop-place-test.true, c.requires.within)) c.index.ensures
-          (w.link.ensures ∙ ap f (sym w.in-Some.is)) (ap (λ v. v.items) w.kept-is)
-      | in_default w ↦ map_keep f xs c.loop-place.kept.items c.match-index.kept.items c.loop-place.place c.index.result.now
-          c.loop-place.invariant (omega (arith, c.loop-place-test.true, c.requires.within)) c.index.ensures
-          (ap f w.in_default.is ∙ sym w.in_default.is) (ap (λ v. v.items) w.kept-is)
+    let xs = c.args.kept.now in
+    let now = c.loop-place.kept in
+    let i = c.loop-place.place in
+    let long : length now ≡ length xs = ap (λ (ys : List _). length ys) c.loop-place.invariant ∙ map_length f xs i in
+    let within : i < length now = omega (arith, c.loop-place-test.true, long) in
+    elim c.match-kept-place.branch [
+      | in-Some w ↦ map_write f xs now c.match-kept-place.kept i w.link.result (Some w.in-Some.clause)
+          c.loop-place.invariant c.loop-place-test.true
+          (sym w.in-Some.is ∙ get_or_default now i _ _ within) w.link.ensures w.kept-is
+      | in_default w ↦ map_keep f xs now c.match-kept-place.kept i None
+          c.loop-place.invariant c.loop-place-test.true
+          (sym w.in_default.is ∙ get_or_default now i _ _ within) refl w.kept-is
     ]

@@ -4,4 +4,4 @@ use Rattle.ba_arena.proofs.Arena.rewrite.Given as goal
 
 abbrev pub invariant-loop-place : goal.invariant-loop-place
 invariant-loop-place l =
-    l.kept.items ≡ map (forwarded l.self) (take l.place l.initial.kept.items) ++ drop l.place l.initial.kept.items
+    l.kept ≡ map (forwarded l.self) (take l.place l.initial.kept) ++ drop l.place l.initial.kept
