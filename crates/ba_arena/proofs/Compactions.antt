@@ -1,8 +1,8 @@
 -- What a compaction leaves: planned, rewritten, moved.
 
-use Rattle.std.proofs.Common.{◌≡◌, ℕ, suc, ◌<◌, Option, None, Some, IsSome, is_some, List, [], ◌∷◌, length, get_or, map, refl, sym, ap, ◌∙◌, arith}
+use Rattle.std.proofs.Common.{◌≡◌, ℕ, suc, ◌<◌, Option, None, Some, IsSome, is_some, List, [], ◌∷◌, length, get_or, map, refl, sym, ap, ◌∙◌, arith, ◌⊎◌, inl, inr, ⊎_elim}
 use Rattle.std.specs.Option.{option_map}
-use Rattle.ba_arena.specs.Clauses.{Stored, Clauses, IsLive, clause_at, link_at, link_of, linked}
+use Rattle.ba_arena.specs.Clauses.{Stored, Clauses, IsLive, IsOutside, AreReferences, clause_at, lits_of, link_at, link_of, linked}
 use Rattle.ba_arena.specs.Compaction.{size_of, moved, compacted, forwarded, followed, link_or, led, Compacts, Plans}
 use Rattle.ba_arena.proofs.Moves.{moved-there, moved-from, moved-same, moved-lt}
 use Rattle.ba_arena.proofs.Reading.{stored_some}
@@ -41,6 +41,24 @@ module _ (a0 a1 : Clauses) (plans : Plans a0 a1) where
 
   pub planned_link : (r : ℕ) → link_at a1 r 0 ≡ option_map (λ s. moved a0 r) (clause_at a0 r)
   planned_link r = ap (link_of 0) (plans r) ∙ link_linked (moved a0 r) (clause_at a0 r)
+
+  lits_linked : (n : ℕ) (o : Option Stored) → length (lits_of (linked 0 (Some n) o)) ≡ length (lits_of o)
+  lits_linked n None = refl
+  lits_linked n (Some s) = refl
+
+  pub planned_outside : (xs : List (Option ℕ)) → AreReferences a0 xs → AreReferences a1 xs
+  planned_outside xs all k r is = of (all k r is)
+    where
+      of : IsLive a0 r ⊎ IsOutside a0 r → IsLive a1 r ⊎ IsOutside a1 r
+      of (inl live) = inl (planned_live r live)
+      of (inr out) = inr (λ q live. ⊎_elim (λ h. inl h)
+          (λ h. inr (omega (
+            arith,
+            h,
+            ap (λ (o : Option Stored). length (lits_of o)) (plans q),
+            lits_linked (moved a0 q) (clause_at a0 q),
+          )))
+          (out q (was_live q live)))
 
   forward : (o : Option ℕ) → forwarded a1 o ≡ led a0 o
   forward None = refl

@@ -8,3 +8,4 @@ pub mod Moves
 pub mod Planning
 pub mod Mapped
 pub mod Compactions
+pub mod Wiping

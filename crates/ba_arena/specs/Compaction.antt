@@ -46,8 +46,8 @@ abbrev pub followed : Clauses → ℕ → ℕ
 followed clauses clause = link_or clause (link_at clauses clause 0)
 
 -- references name live clauses
-abbrev pub AreLive : Clauses → List (Option ℕ) → Type 0
-AreLive clauses references = (k clause : ℕ) → get_or references k None ≡ Some clause → IsLive clauses clause
+abbrev pub AreLiveReferences : Clauses → List (Option ℕ) → Type 0
+AreLiveReferences clauses references = (k clause : ℕ) → get_or references k None ≡ Some clause → IsLive clauses clause
 
 -- where a reference leads after a compaction: to the new place of its clause; nowhere where the clause was deleted
 abbrev pub led : Clauses → Option ℕ → Option ℕ

@@ -6,7 +6,7 @@ use Rattle.std.proofs.lemmas.List.{take-map, get_or-take, get_or_past, length-ta
 use Rattle.std.proofs.Math.Seq.{take-append_seam}
 use Rattle.std.specs.Option.{option_map}
 use Rattle.ba_arena.specs.Clauses.{Clauses, Stored, clause_at}
-use Rattle.ba_arena.specs.Compaction.{moved, led, AreLive}
+use Rattle.ba_arena.specs.Compaction.{moved, led, AreLiveReferences}
 use Rattle.ba_arena.proofs.Mapped.{map_length}
 use Rattle.ba_lits.specs.Literals.{Literal}
 use Rattle.ba_watch.specs.Trails.{decided, level_at, Holds}
@@ -46,7 +46,7 @@ level_map f rs p none agrees =
     (agrees_take f (p + 1) rs none agrees)
 
 -- reasons of live clauses that follow them
-pub agrees_led : (a : Clauses) (rs : List (Option ℕ)) → AreLive a rs → Agrees (led a) rs
+pub agrees_led : (a : Clauses) (rs : List (Option ℕ)) → AreLiveReferences a rs → Agrees (led a) rs
 agrees_led a rs live k = at (get_or rs k None) refl
   where
     still : (n : ℕ) (o : Option Stored) → IsSome o → is_some (option_map (λ s. n) o) ≡ true

@@ -2,8 +2,8 @@
 
 ghost use Rattle.std.specs.Prelude.{◌≡◌, ◌≢◌, ℕ, ◌+◌, ◌-◌, ◌<◌, ◌≤◌, ◌^◌, ◌∷◌, ◌++◌, [], None, Some, Option, true, false, IsTrue, ◌↔◌, OnOk, OnErr, List, length, take, drop, get_or, max, map, is_some, IsSome, if◌then◌else◌};
 ghost use Rattle.ba_lits.specs.Literals.{lit_at};
-ghost use Rattle.ba_arena.specs.Clauses.{IsLive};
-ghost use Rattle.ba_arena.specs.Compaction.{moved, led, AreLive, Compacts};
+ghost use Rattle.ba_arena.specs.Clauses.{IsLive, AreReferences};
+ghost use Rattle.ba_arena.specs.Compaction.{moved, led, AreLiveReferences, Compacts};
 ghost use Rattle.ba_watch.specs.Trails.{value_of, place_if, decided, level_of, reason_of, kept, IsTrail, Begins};
 
 use crate::lifted::LiftedBool;
@@ -230,8 +230,8 @@ impl Trail {
         references: &mut Vec<Option<ClauseRef>>,
         live: &mut Vec<ClauseRef>,
     )
-        requires reasons { AreLive arena.old self.old.reasons }
-        requires references { AreLive arena.old references.old.items }
+        requires reasons { AreLiveReferences arena.old self.old.reasons }
+        requires references { AreReferences arena.old references.old.items }
         requires live { (k : ℕ) → k < length live.old.items
             → IsLive arena.old (get_or live.old.items k 0) }
         ensures compacts { Compacts arena.old arena.new }
@@ -281,8 +281,8 @@ fn compact_front(
     live: &mut [ClauseRef],
 )
     requires within { count ≤ length reasons.old }
-    requires reasons { AreLive arena.old (take count reasons.old) }
-    requires references { AreLive arena.old references.old }
+    requires reasons { AreLiveReferences arena.old (take count reasons.old) }
+    requires references { AreReferences arena.old references.old }
     requires live { (k : ℕ) → k < length live.old → IsLive arena.old (get_or live.old k 0) }
     ensures compacts { Compacts arena.old arena.new }
     ensures reasons { reasons.new ≡ map (led arena.old) (take count reasons.old)

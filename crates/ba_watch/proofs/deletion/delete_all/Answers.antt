@@ -1,4 +1,4 @@
-use Rattle.std.proofs.Common.{ℕ, Option, List, length, sym, subst, arith}
+use Rattle.std.proofs.Common.{ℕ, Option, List, length, inl, sym, subst, arith}
 use Rattle.ba_lits.specs.Literals.{Literal}
 use Rattle.ba_watch.specs.Threads.{AreApart, AreThreaded}
 use Rattle.ba_watch.specs.Deletion.{MayLink}
@@ -12,7 +12,7 @@ compact-requires-clause-reasons c = λ p r is.
 
 pub compact-requires-clause-references : goal.compact-requires-clause-references
 compact-requires-clause-references c = λ k r is.
-    numbered_live c.mark_all.new.arena r k (c.mark_all.ensures.referenced.sound k r is)
+    inl (numbered_live c.mark_all.new.arena r k (c.mark_all.ensures.referenced.sound k r is))
 
 pub compact-requires-clause-live : goal.compact-requires-clause-live
 compact-requires-clause-live c = λ k h.

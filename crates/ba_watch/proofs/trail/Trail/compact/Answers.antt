@@ -1,5 +1,5 @@
 use Rattle.std.proofs.Common.{◌≡◌, ◌++◌, ℕ, Option, List, length, take, drop, map, refl, sym, ap, subst, ◌∙◌, arith}
-use Rattle.ba_arena.specs.Compaction.{led, AreLive}
+use Rattle.ba_arena.specs.Compaction.{led, AreLiveReferences}
 use Rattle.ba_arena.proofs.Mapped.{map_length}
 use Rattle.ba_watch.specs.Trails.{Assignments, Holds}
 use Rattle.ba_watch.proofs.Follows.{Holds-follow, agrees_led, written_back}
@@ -10,8 +10,8 @@ invariant_of-self c =
     let i = c.self.inside in
     let h = c.self.invariant.1 in
     let arena = c.args.arena.now in
-    let live : AreLive arena (take i.assigned i.reasons.items) =
-    subst (λ (s : Assignments). AreLive arena s.reasons) (sym c.self.view_is) c.requires.reasons in
+    let live : AreLiveReferences arena (take i.assigned i.reasons.items) =
+    subst (λ (s : Assignments). AreLiveReferences arena s.reasons) (sym c.self.view_is) c.requires.reasons in
     let is : c.compact_front.new.reasons
     ≡ map (led arena) (take i.assigned i.reasons.items) ++ drop i.assigned i.reasons.items =
     subst (λ (xs : List (Option ℕ)). c.compact_front.new.reasons
