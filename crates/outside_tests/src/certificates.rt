@@ -344,7 +344,7 @@ fn the_head_line_is_the_first(rt: HostRuntime) {
 }
 
 /// The number of the line in which what follows these bytes stands.
-fn line_behind(bytes: &[u8]) -> u64 {
+pub fn line_behind(bytes: &[u8]) -> u64 {
     let mut line: u64 = 1;
     for byte in bytes {
         if *byte == b'\n' {
