@@ -418,7 +418,7 @@ fn a_right_head_stands_first(rt: HostRuntime) {
 }
 
 /// The number of the line in which what follows these bytes stands.
-fn line_behind(bytes: &[u8]) -> u64 {
+pub fn line_behind(bytes: &[u8]) -> u64 {
     let mut line: u64 = 1;
     for byte in bytes {
         if *byte == b'\n' {

@@ -34,3 +34,6 @@ set 2:
 set 3:
   8:5 assignment | i = index;
 ";
+
+/// How a certificate begins that a search by the default settings and a bound of 1 writes.
+pub const HEAD: &str = "bugassist 1\n";

@@ -124,26 +124,3 @@ fn begins_no_certificate_without_a_search(rt: HostRuntime) {
     assert_not_begun(&rt, alloc, BRANCHES, "x", Status::BadInput);
     assert_not_begun(&rt, alloc, "int", "1", Status::BadProgram);
 }
-
-/// Asserts that nothing is printed where a call of the world fails while the certificate is written, and with which
-/// bytes the certificate then begins, if it is begun.
-fn assert_cut_off(rt: &impl Abort, alloc: Global, fails: u64, held: Option<&str>) {
-    let mut world = world_of(rt, alloc, ONE_ASSIGNMENT, "1", &[fails], 4096);
-    let ended = end(alloc, CERTIFIED, &mut world, &mut NoSink);
-    assert_eq!(rt; ended, Status::WriteFault);
-    assert!(rt; world.printed().is_empty());
-    let begins = match (world.file("c"), held) {
-        (Some(bytes), Some(held)) => bytes.starts_with(held.as_bytes()),
-        (bytes, held) => bytes.is_none() && held.is_none(),
-    };
-    assert!(rt; begins, "where {fails} fails");
-}
-
-#[test]
-fn prints_nothing_where_a_certificate_fails(rt: HostRuntime) {
-    // Calls 0 to 5 read the files, 6 begins the certificate, 7 adds its first two lines and 8 the first step.
-    let alloc = rt.alloc();
-    assert_cut_off(&rt, alloc, 6, None);
-    assert_cut_off(&rt, alloc, 7, Some("bugass"));
-    assert_cut_off(&rt, alloc, 8, Some("bugassist 2\nb 1 16 200000 1000\n"));
-}
