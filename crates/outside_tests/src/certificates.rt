@@ -1,6 +1,7 @@
 //! Certificates beside what they say, and damaged ones beside the first line that is refused, worked out by hand from the table of steps.
 
 use crate::problems::{Problem, array_example, feed_all, judge, settings};
+use crate::programs::OLD_HEAD;
 use ba_cert::head_text;
 use ba_check::{CheckError, Confirmed, head_of};
 use ba_items::Items;
@@ -30,9 +31,6 @@ const SOME: &[&[i64]] = &[&[-1, -3, -4]];
 
 /// No assignment is a model.
 const NONE: &[&[i64]] = &[&[1], &[-1]];
-
-/// The head line of version 1.
-const OLD_HEAD: &str = "bugassist 1\n";
 
 /// The two lines of version 2, with the settings of five conflicts and nine sets.
 const HEAD: &str = "bugassist 2\nb 1 16 5 9\n";

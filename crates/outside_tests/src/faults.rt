@@ -4,7 +4,7 @@ use crate::calls::{counted_world, end, localise, world_of};
 use crate::certificates::line_behind;
 use crate::counted::{Counted, FailingSink, Refusal};
 use crate::endless::{Endless, EndlessFile};
-use crate::programs::{BRANCHES, BRANCHES_REPORT, HEAD, ONE_ASSIGNMENT};
+use crate::programs::{BRANCHES, BRANCHES_REPORT, HEAD, OLD_HEAD, ONE_ASSIGNMENT};
 use ba_answers::status::Status;
 use ba_steps::NoSink;
 use ba_world::MemoryWorld;
@@ -286,16 +286,35 @@ static CERTIFICATE_WITHOUT_END: [EndlessFile; 3] = [
     ("c", HEAD, "e b\n"),
 ];
 
+static OLD_CERTIFICATE_WITHOUT_END: [EndlessFile; 3] = [
+    ("p.c", BRANCHES, ""),
+    ("in.txt", "1", ""),
+    ("c", OLD_HEAD, "e b\n"),
+];
+
+/// Asserts that a certificate that never ends is read to its first refused line, the one behind its head.
+fn assert_read_so_far(
+    rt: &impl Abort,
+    alloc: Global,
+    files: &'static [EndlessFile],
+    head: &'static str,
+) {
+    let mut world = Endless::new(alloc, files);
+    let status = end(alloc, CHECKING, &mut world, &mut NoSink);
+    let line = line_behind(head.as_bytes());
+    let refusal = format!(in alloc; "refused: certificate, error 13 at line {line}\n").expect(
+        rt, "memory",
+    );
+    assert!(rt;
+        status == Status::BadCertificate
+            && world.printed.as_slice() == refusal.as_bytes()
+            && world.given_of_last == head.len() as u64 + 4,
+        "behind {head}: {status:?}"
+    );
+}
+
 #[test]
 fn a_certificate_without_an_end_is_read_to_its_first_refused_line(rt: HostRuntime) {
-    let alloc = rt.alloc();
-    let mut world = Endless::new(alloc, &CERTIFICATE_WITHOUT_END);
-    let status = end(alloc, CHECKING, &mut world, &mut NoSink);
-    let line = line_behind(HEAD.as_bytes());
-    let refusal = format!(in alloc; "refused: certificate, error 13 at line {line}\n").expect(
-        &rt, "memory",
-    );
-    assert_eq!(rt; status, Status::BadCertificate);
-    assert_eq!(rt; world.printed.as_slice(), refusal.as_bytes());
-    assert_eq!(rt; world.given_of_last, HEAD.len() as u64 + 4);
+    assert_read_so_far(&rt, rt.alloc(), &CERTIFICATE_WITHOUT_END, HEAD);
+    assert_read_so_far(&rt, rt.alloc(), &OLD_CERTIFICATE_WITHOUT_END, OLD_HEAD);
 }

@@ -36,4 +36,7 @@ set 3:
 ";
 
 /// How a certificate begins that a search by the default settings and a bound of 1 writes.
-pub const HEAD: &str = "bugassist 1\n";
+pub const HEAD: &str = "bugassist 2\nb 1 16 200000 1000\n";
+
+/// How a certificate of version 1 begins.
+pub const OLD_HEAD: &str = "bugassist 1\n";
