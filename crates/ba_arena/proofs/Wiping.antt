@@ -11,7 +11,8 @@ use Rattle.ba_arena.proofs.Reading.{left_le, here, IsHere, link_read, len_read}
 use Rattle.ba_arena.proofs.Cuts.{cut-live, dead-at, gap-at}
 use Rattle.ba_arena.proofs.Writing.{cons_both}
 
--- the words with those of dead clauses overwritten, but for the first of each, where so many words of the present
+-- the words with those of dead clauses overwritten, but for the first of each, where so many words of the
+-- present
 -- clause are left, and it is dead or not
 abbrev wiped : Bool → ℕ → List ℕ → List ℕ
 wiped gone left [] = []
@@ -23,7 +24,8 @@ length-wiped gone left [] = refl
 length-wiped gone zero (w ∷ ws) = ap suc (length-wiped (eqb (get_or ws 0 0) dead) (suc (suc (suc w))) ws)
 length-wiped gone (suc left) (w ∷ ws) = ap suc (length-wiped gone left ws)
 
-pub lacking-wiped : (gone : Bool) (left : ℕ) (ws : List ℕ) → lacking left (wiped gone left ws) ≡ lacking left ws
+pub lacking-wiped : (gone : Bool) (left : ℕ) (ws : List ℕ) → lacking left
+    (wiped gone left ws) ≡ lacking left ws
 lacking-wiped gone left [] = refl
 lacking-wiped gone zero (w ∷ ws) = lacking-wiped (eqb (get_or ws 0 0) dead) (suc (suc (suc w))) ws
 lacking-wiped gone (suc left) (w ∷ ws) = lacking-wiped gone left ws
@@ -34,12 +36,14 @@ take-wiped zero ws = refl
 take-wiped (suc n) [] = refl
 take-wiped (suc n) (w ∷ ws) = ap (λ xs. w ∷ xs) (take-wiped n ws)
 
-stored-wiped : (count : ℕ) (ws : List ℕ) → stored_in count (wiped false (suc (suc (suc count))) ws) ≡ stored_in count ws
+stored-wiped : (count : ℕ) (ws : List ℕ) → stored_in count (wiped false (suc (suc
+    (suc count))) ws) ≡ stored_in count ws
 stored-wiped count [] = refl
 stored-wiped count (a ∷ []) = refl
 stored-wiped count (a ∷ b ∷ []) = refl
 stored-wiped count (a ∷ b ∷ c ∷ ws) =
-    ap (λ (xs : List ℕ). record (stored_in count (a ∷ b ∷ c ∷ ws)) { lits = map literal_at xs }) (take-wiped count ws)
+    ap (λ (xs : List ℕ). record (stored_in count (a ∷ b ∷ c ∷ ws)) { lits = map literal_at xs })
+    (take-wiped count ws)
 
 entry-wiped : (count : ℕ) (ws : List ℕ) (b : Bool) → eqb (get_or ws 0 0) dead ≡ b →
     entry_in count (wiped b (suc (suc (suc count))) ws) ≡ entry_in count ws
@@ -48,7 +52,8 @@ entry-wiped count (w ∷ ws) true e = sym (ap (λ (x : Bool). cond x None (Some 
 entry-wiped count (w ∷ ws) false e =
     ap (λ (s : Stored). cond (eqb w dead) None (Some s)) (stored-wiped count (w ∷ ws))
 
-pub clauses-wiped : (gone : Bool) (left : ℕ) (ws : List ℕ) → clauses_of left (wiped gone left ws) ≡ clauses_of left ws
+pub clauses-wiped : (gone : Bool) (left : ℕ) (ws : List ℕ) → clauses_of left
+    (wiped gone left ws) ≡ clauses_of left ws
 clauses-wiped gone left [] = refl
 clauses-wiped gone zero (w ∷ ws) =
     cons_both _ _ _ _ (entry-wiped w ws (eqb (get_or ws 0 0) dead) refl)
@@ -56,7 +61,8 @@ clauses-wiped gone zero (w ∷ ws) =
 clauses-wiped gone (suc left) (w ∷ ws) = ap (λ (cs : Clauses). None ∷ cs) (clauses-wiped gone left ws)
 
 -- outside of live clauses a word of the dead is met
-first_dead : (b : Bool) (left : ℕ) (ws : List ℕ) → b ≡ true → 0 < length ws → get_or (wiped b (suc left) ws) 0 0 ≡ dead
+first_dead : (b : Bool) (left : ℕ) (ws : List ℕ) → b ≡ true → 0 < length ws → get_or (wiped b
+    (suc left) ws) 0 0 ≡ dead
 first_dead b left [] e h = absurd (omega (arith, h))
 first_dead true left (w ∷ ws) e h = refl
 first_dead false left (w ∷ ws) e h = absurd (cc e)
@@ -114,7 +120,8 @@ pub words-wiped : (ws : List ℕ) → AreWords ws → AreWords (wiped false 0 ws
 words-wiped ws words = record {
   whole = lacking-wiped false 0 ws ∙ words.whole;
   few = omega (arith, words.few, length-wiped false 0 ws);
-  fit = λ clause s is. words.fit clause s (sym (ap (λ (cs : Clauses). clause_at cs clause) (clauses-wiped false 0 ws)) ∙ is);
+  fit = λ clause s is. words.fit clause s (sym (ap (λ (cs : Clauses). clause_at cs clause)
+      (clauses-wiped false 0 ws)) ∙ is);
 }
 
 -- where a clause is live, or isn't
@@ -130,11 +137,13 @@ pub past-none : (ws : List ℕ) (r : ℕ) → AreWords ws → length ws ≤ r + 
 past-none ws r words h = none_link _ (gone (clause_at (clauses_of 0 ws) r)
     (λ live. omega (arith, h, (here ws r words live).room)))
 
-pub count-none : (ws : List ℕ) (r : ℕ) → AreWords ws → get_or ws r 0 ≡ dead → None ≡ link_at (clauses_of 0 ws) r 0
+pub count-none : (ws : List ℕ) (r : ℕ) → AreWords ws → get_or ws r 0 ≡ dead → None ≡ link_at
+    (clauses_of 0 ws) r 0
 count-none ws r words is = none_link _ (gone (clause_at (clauses_of 0 ws) r)
     (λ live. omega (arith, is, words.few, (here ws r words live).room)))
 
-pub number-none : (ws : List ℕ) (r : ℕ) → AreWords ws → get_or ws (r + 1) 0 ≡ dead → None ≡ link_at (clauses_of 0 ws) r 0
+pub number-none : (ws : List ℕ) (r : ℕ) → AreWords ws → get_or ws (r + 1) 0 ≡ dead → None ≡ link_at
+    (clauses_of 0 ws) r 0
 number-none ws r words is = none_link _ (gone (clause_at (clauses_of 0 ws) r)
     (λ live.
     let h = here ws r words live in
@@ -167,7 +176,8 @@ pub record IsWiping (start now : List ℕ) (place left : ℕ) (gone : Bool) : Ty
 one : (p : ℕ) → p + 1 ≡ suc p
 one p = omega arith
 
-take_suc : (ws xs : List ℕ) (p : ℕ) → p < length ws → take (suc p) ws ++ xs ≡ take p ws ++ (get_or ws p 0 ∷ xs)
+take_suc : (ws xs : List ℕ) (p : ℕ) → p < length ws → take (suc p) ws ++ xs ≡ take p ws ++
+    (get_or ws p 0 ∷ xs)
 take_suc [] xs p h = absurd (omega (arith, h))
 take_suc (w ∷ ws) xs zero h = refl
 take_suc (w ∷ ws) xs (suc p) h = ap (λ ys. w ∷ ys) (take_suc ws xs p (omega (arith, h)))
@@ -188,14 +198,17 @@ here_suc [] p h = absurd (omega (arith, h))
 here_suc (w ∷ ws) zero h = refl
 here_suc (w ∷ ws) (suc p) h = here_suc ws p (omega (arith, h))
 
-step_take : (ws xs : List ℕ) (p : ℕ) → p < length ws → take (p + 1) ws ++ xs ≡ take p ws ++ (get_or ws p 0 ∷ xs)
+step_take : (ws xs : List ℕ) (p : ℕ) → p < length ws → take (p + 1) ws ++ xs ≡ take p ws ++
+    (get_or ws p 0 ∷ xs)
 step_take ws xs p h = ap (λ n. take n ws ++ xs) (one p) ∙ take_suc ws xs p h
 
-step_set : (ws xs : List ℕ) (p v : ℕ) → p < length ws → take (p + 1) (set ws p v) ++ xs ≡ take p ws ++ (v ∷ xs)
+step_set : (ws xs : List ℕ) (p v : ℕ) → p < length ws → take (p + 1) (set ws p v) ++ xs ≡ take p ws ++
+    (v ∷ xs)
 step_set ws xs p v h = ap (λ n. take n (set ws p v) ++ xs) (one p) ∙ set_suc ws xs p v h
 
 drop_set : (ws : List ℕ) (p v : ℕ) → drop (p + 1) (set ws p v) ≡ drop (p + 1) ws
-drop_set ws p v = ap (λ n. drop n (set ws p v)) (one p) ∙ (drop_suc ws p v ∙ sym (ap (λ n. drop n ws) (one p)))
+drop_set ws p v = ap (λ n. drop n (set ws p v)) (one p) ∙ (drop_suc ws p v ∙ sym (ap (λ n. drop n ws)
+    (one p)))
 
 drop_here : (ws : List ℕ) (p : ℕ) → p < length ws → drop p ws ≡ get_or ws p 0 ∷ drop (p + 1) ws
 drop_here ws p h = here_suc ws p h ∙ ap (λ n. get_or ws p 0 ∷ drop n ws) (sym (one p))
@@ -208,7 +221,8 @@ head_drop : (ws : List ℕ) (p : ℕ) → get_or (drop (p + 1) ws) 0 0 ≡ get_o
 head_drop ws p = get_or-drop (p + 1) ws 0 0 ∙ ap (λ n. get_or ws n 0) (omega arith)
 
 module _ (start now : List ℕ) (p : ℕ) (within : p < length now) where
-  pub wiping-begin : (after : List ℕ) (left left' x y : ℕ) (gone gone' : Bool) → IsWiping start now p left gone → left ≡ 0
+  pub wiping-begin : (after : List ℕ) (left left' x y : ℕ) (gone gone' : Bool) →
+      IsWiping start now p left gone → left ≡ 0
       → x ≡ get_or now p x → y ≡ get_or now (p + 1) y → left' ≡ 3 + x → gone' ≡ eqb y dead
       → after ≡ now → IsWiping start after (p + 1) left' gone'
   wiping-begin after left left' x y gone gone' m zero_is x_is y_is left'_is gone'_is after_is =
@@ -216,9 +230,11 @@ module _ (start now : List ℕ) (p : ℕ) (within : p < length now) where
       let rest = drop (p + 1) now in
       let w_is : x ≡ w = x_is ∙ get_or_default_zero now p x within in
       let lack : lacking (suc (suc (suc w))) rest ≡ 0 =
-      sym (ap (lacking 0) (drop_here now p within)) ∙ (ap (λ n. lacking n (drop p now)) (sym zero_is) ∙ m.lacking_is) in
+      sym (ap (lacking 0) (drop_here now p within)) ∙ (ap (λ n. lacking n (drop p now)) (sym zero_is)
+      ∙ m.lacking_is) in
       let room = left_le (suc (suc (suc w))) rest lack in
-      let y_read : y ≡ get_or rest 0 0 = y_is ∙ (get_or_default_zero now (p + 1) y (omega (arith, room, length-drop (p + 1) now))
+      let y_read : y ≡ get_or rest 0 0 = y_is ∙ (get_or_default_zero now (p + 1) y (omega
+      (arith, room, length-drop (p + 1) now))
       ∙ sym (head_drop now p)) in
       let left_is : left' ≡ suc (suc (suc w)) = omega (arith, left'_is, w_is) in
       let gone_is : gone' ≡ eqb (get_or rest 0 0) dead = gone'_is ∙ ap (λ n. eqb n dead) y_read in
@@ -232,7 +248,8 @@ module _ (start now : List ℕ) (p : ℕ) (within : p < length now) where
         len = m.len;
       })
 
-  pub wiping-over : (after : List ℕ) (left left' : ℕ) (gone : Bool) → IsWiping start now p left gone → left ≡ suc left'
+  pub wiping-over : (after : List ℕ) (left left' : ℕ) (gone : Bool) → IsWiping start now p left gone →
+      left ≡ suc left'
       → gone ≡ true → after ≡ set now p dead → IsWiping start after (p + 1) left' gone
   wiping-over after left left' gone m left_is gone_is after_is =
       let rest = drop (p + 1) now in
@@ -250,7 +267,8 @@ module _ (start now : List ℕ) (p : ℕ) (within : p < length now) where
         len = ap (λ (xs : List ℕ). length xs) after_is ∙ (length-set now p dead ∙ m.len);
       }
 
-  pub wiping-past : (after : List ℕ) (left left' : ℕ) (gone : Bool) → IsWiping start now p left gone → left ≡ suc left'
+  pub wiping-past : (after : List ℕ) (left left' : ℕ) (gone : Bool) → IsWiping start now p left gone →
+      left ≡ suc left'
       → gone ≡ false → after ≡ now → IsWiping start after (p + 1) left' gone
   wiping-past after left left' gone m left_is gone_is after_is =
       let rest = drop (p + 1) now in
@@ -272,12 +290,15 @@ pub record IsDone (start now : List ℕ) : Type 0 where
   pub wiped : IsWiped now
   pub clauses : clauses_of 0 now ≡ clauses_of 0 start
 
-pub wiping-end : (start now : List ℕ) (place left : ℕ) (gone : Bool) → AreWords start → IsWiping start now place left gone
+pub wiping-end : (start now : List ℕ) (place left : ℕ) (gone : Bool) → AreWords start →
+    IsWiping start now place left gone
     → length start ≤ place → IsDone start now
 wiping-end start now place left gone words m end =
     let is : now ≡ wiped false 0 start =
-    sym (append-nil now) ∙ (ap (λ xs. now ++ wiped gone left xs) (sym (drop_all place now (omega (arith, end, m.len))))
-    ∙ (ap (λ xs. xs ++ wiped gone left (drop place now)) (sym (take_all place now (omega (arith, end, m.len)))) ∙ m.whole)) in
+    sym (append-nil now) ∙ (ap (λ xs. now ++ wiped gone left xs) (sym (drop_all place now (omega
+    (arith, end, m.len))))
+    ∙ (ap (λ xs. xs ++ wiped gone left (drop place now)) (sym (take_all place now (omega
+    (arith, end, m.len)))) ∙ m.whole)) in
     record {
       words = subst AreWords (sym is) (words-wiped start words);
       wiped = subst IsWiped (sym is) (is-wiped start words);
@@ -285,7 +306,8 @@ wiping-end start now place left gone words m end =
     }
 
 -- live clauses have no word in common
-pub live-outside : (ws : List ℕ) (r : ℕ) → AreWords ws → IsLive (clauses_of 0 ws) r → IsOutside (clauses_of 0 ws) r
+pub live-outside : (ws : List ℕ) (r : ℕ) → AreWords ws → IsLive (clauses_of 0 ws) r → IsOutside
+    (clauses_of 0 ws) r
 live-outside ws r words live q q_live = ⊎_elim (λ h. inl (omega (arith, h))) (λ h. ⊎_elim
     (λ before. inl (same before))
     (λ past. inr (omega (arith, past, count)))
@@ -295,7 +317,8 @@ live-outside ws r words live q q_live = ⊎_elim (λ h. inl (omega (arith, h))) 
     h = here ws q words q_live
 
     count : get_or ws q 0 ≡ length (lits_at (clauses_of 0 ws) q)
-    count = len_read ws q (get_or ws q 0) h (sym (get_or_default_zero ws q (get_or ws q 0) (omega (arith, h.room))))
+    count = len_read ws q (get_or ws q 0) h (sym (get_or_default_zero ws q (get_or ws q 0) (omega
+        (arith, h.room))))
 
     same : r < q + 4 + get_or ws q 0 → r ≤ q
     same before = ⊎_elim (λ lt. absurd (cc (sym live ∙ ap is_some

@@ -69,7 +69,7 @@ pub record Adds (old new : Clauses) (clause : ℕ) (stored : Stored) : Type 0 wh
   pub there : clause_at new clause ≡ Some stored
   pub others : (k : ℕ) → k ≢ clause → clause_at new k ≡ clause_at old k
 
--- a reference names no word of a live clause but its first; so does that of a clause that was live and was deleted
+-- a reference names no word of a live clause but its first; that of a deleted clause doesn't either
 abbrev pub IsOutside : Clauses → ℕ → Type 0
 IsOutside clauses r = (clause : ℕ) → IsLive clauses clause →
     (r ≤ clause) ⊎ (clause + 4 + length (lits_at clauses clause) ≤ r)

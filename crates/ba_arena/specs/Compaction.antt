@@ -24,7 +24,8 @@ compacted (Some s ∷ cs) = Some s ∷ (replicate (3 + length s.lits) None ++ co
 
 -- the first link of each live clause names the place to which it moves
 abbrev pub Plans : Clauses → Clauses → Type 0
-Plans old new = (clause : ℕ) → clause_at new clause ≡ linked 0 (Some (moved old clause)) (clause_at old clause)
+Plans old new = (clause : ℕ) → clause_at new clause ≡ linked 0 (Some (moved old clause))
+    (clause_at old clause)
 
 -- the first live clause from a place on
 abbrev pub IsFirstFrom : Clauses → ℕ → Option ℕ → Type 0
@@ -47,9 +48,10 @@ followed clauses clause = link_or clause (link_at clauses clause 0)
 
 -- references name live clauses
 abbrev pub AreLiveReferences : Clauses → List (Option ℕ) → Type 0
-AreLiveReferences clauses references = (k clause : ℕ) → get_or references k None ≡ Some clause → IsLive clauses clause
+AreLiveReferences clauses references = (k clause : ℕ) → get_or references k None ≡ Some clause →
+    IsLive clauses clause
 
--- where a reference leads after a compaction: to the new place of its clause; nowhere where the clause was deleted
+-- where a reference leads after a compaction: to the new place of its clause, or nowhere if it was deleted
 abbrev pub led : Clauses → Option ℕ → Option ℕ
 led clauses None = None
 led clauses (Some clause) = option_map (λ s. moved clauses clause) (clause_at clauses clause)
@@ -60,8 +62,8 @@ pub record Came (old : Clauses) (place : ℕ) : Type 0 where
   pub live : IsLive old from
   pub to : moved old from ≡ place
 
--- each live clause is at its new place, which its first link names; its literals, its number and its second link stay.
--- There are no other clauses, and the order stays
+-- each live clause is at its new place, which its first link names. Its literals, its number and its second
+-- link stay. There are no other clauses, and the order stays
 pub record Compacts (old new : Clauses) : Type 0 where
   pub there : (clause : ℕ) → IsLive old clause →
       clause_at new (moved old clause) ≡ linked 0 (Some (moved old clause)) (clause_at old clause)

@@ -12,7 +12,8 @@ loop-place-preserved c =
     let xs = c.args.kept.now in
     let now = c.loop-place.kept in
     let i = c.loop-place.place in
-    let long : length now ≡ length xs = ap (λ (ys : List _). length ys) c.loop-place.invariant ∙ map_length f xs i in
+    let long : length now ≡ length xs = ap (λ (ys : List _). length ys) c.loop-place.invariant
+    ∙ map_length f xs i in
     let within : i < length now = omega (arith, c.loop-place-test.true, long) in
     elim c.match-kept-place.branch [
       | in-Some w ↦ map_write f xs now c.match-kept-place.kept i w.forward.result (Some w.in-Some.clause)
