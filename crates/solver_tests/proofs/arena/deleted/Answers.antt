@@ -10,7 +10,7 @@ gone old new r live out is q q_live = ⊎_elim
     (λ e. absurd (cc (sym (subst (λ k. IsLive new k) e q_live) ∙ ap is_some dead)))
     (λ ne.
     let same : clause_at new q ≡ clause_at old q = ap (λ (cs : Clauses). clause_at cs q) is
-        ∙ get_or-set_other old r q None None ne in
+    ∙ get_or-set_other old r q None None ne in
     subst (λ (o : Option Stored). (r ≤ q) ⊎ (q + 4 + length (lits_of o) ≤ r)) (sym same)
     (out q (ap is_some (sym same) ∙ q_live)))
     (cases_eq q r)
@@ -29,5 +29,5 @@ pub compact-requires-clause-kept : goal.compact-requires-clause-kept
 compact-requires-clause-kept g c =
     subst (λ (xs : List (Option ℕ)). AreReferences c.mark_dead.new.self xs) (sym c.as_mut_slice.ensures.value)
     (only c.mark_dead.new.self _ (gone _ c.mark_dead.new.self _ c.added-clause.ensures
-        (c.keep_apart.ensures _ c.added-clause.ensures)
+    (c.keep_apart.ensures _ c.added-clause.ensures)
     c.mark_dead.ensures))
