@@ -70,11 +70,18 @@ END
     chmod 755 "$1/rt" "$1/df" "$1/sleep"
 }
 
-# The program: it notes its words, prints the file $ANSWER, and ends with $STATUS, or with 12 where printing fails.
+# The program: it notes its words, which standard streams are open and its stack, prints the file $ANSWER, and ends with
+# $STATUS, or with 12 where printing fails.
 make_program() {
     cat >"$1" <<'END'
 #!/bin/sh
+streams=
+for number in 0 1 2; do
+    [ ! -e "/proc/$$/fd/$number" ] || streams=$streams$number
+done
 printf '<%s>' "$@" >"$WORDS"
+echo "$streams" >"$WORDS.streams"
+ulimit -S -s >"$WORDS.stack"
 [ -z "${LATE-}" ] || sleep "$LATE"
 (trap '' PIPE; cat "$ANSWER" 2>/dev/null) || exit 12
 exit "${STATUS:-0}"
@@ -514,6 +521,34 @@ if [ -w /dev/full ]; then
     status=$?
     check 'a full disk: status 12' ends_with 12
 fi
+# The standard streams are closed: the program meets open ones, and cannot print.
+closed() {
+    BUGASSIST_EXPLAIN=$1 "$checkout/bugassist" localise p.c in.txt --bound 3 <&- >&- 2>"$trials/err"
+    status=$?
+    check "closed streams$2: status 12" ends_with 12
+    check "closed streams$2: nothing is said" is_silent
+    [ ! -d /proc/self/fd ] || check "closed streams$2: the program has open ones" [ "$(cat "$WORDS.streams")" = 012 ]
+    "$checkout/bugassist" localise p.c in.txt --bound 3 <&- >&- 2>&-
+    status=$?
+    check "closed streams$2, all: status 12" ends_with 12
+    [ ! -d /proc/self/fd ] || check "closed streams$2, all: the program has open ones" [ "$(cat "$WORDS.streams")" = 012 ]
+}
+closed 0 ''
+closed 1 ' with explanations'
+"$checkout/bugassist" localise p.c in.txt --bound 3 <&- >"$trials/out" 2>"$trials/err"
+check 'closed input alone: the text is printed' prints 'the report'
+# The stack is raised up to a gigabyte, and the caller's hard limit stays.
+# shellcheck disable=SC3045
+{
+    if [ "$(ulimit -H -s)" = unlimited ]; then
+        (ulimit -S -s 8192; call "$checkout/bugassist" run)
+        check 'stack: the soft limit is raised' [ "$(cat "$WORDS.stack")" = 1048576 ]
+        (ulimit -S -s unlimited; call "$checkout/bugassist" run)
+        check 'stack: none is lowered' [ "$(cat "$WORDS.stack")" = unlimited ]
+    fi
+    (ulimit -S -s 4096; ulimit -H -s 6000; call "$checkout/bugassist" run)
+    check 'stack: no more than the hard limit' [ "$(cat "$WORDS.stack")" = 6000 ]
+}
 TMPDIR=$trials/nowhere BUGASSIST_EXPLAIN=1 call "$checkout/bugassist" localise p.c in.txt --bound 3
 check 'no folder for temporary files: the text is printed' prints 'the report'
 check 'explanations leave no file' is_clear

@@ -1,6 +1,6 @@
 -- Places at which a clause begins.
 
-use Rattle.std.proofs.Common.{◌≡◌, ◌≢◌, ℕ, suc, zero, ◌+◌, ◌-◌, ◌<◌, ◌≤◌, Bool, true, false, Option, None, Some, IsSome, IfSome, is_some, List, [], ◌∷◌, ◌++◌, length, get_or, drop, eqb, cond, refl, sym, ap, subst, ◌∙◌, arith, length-drop, ⊎_elim}
+use Rattle.std.proofs.Common.{◌≡◌, ◌≢◌, ℕ, suc, zero, ◌+◌, ◌-◌, ◌<◌, ◌≤◌, Bool, true, false, Option, None, Some, IsSome, IfSome, is_some, List, [], ◌∷◌, length, get_or, drop, cond, refl, sym, ap, subst, ◌∙◌, arith, length-drop, ⊎_elim}
 use Rattle.std.proofs.lemmas.Bool.{cases_lt, ne_eqb, eq-eqb}
 use Rattle.std.proofs.lemmas.List.{get_or-drop, drop-drop}
 use Rattle.std.proofs.lemmas.Grind.{get_or_default_zero}

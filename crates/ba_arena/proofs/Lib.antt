@@ -7,3 +7,5 @@ pub mod Compacting
 pub mod Moves
 pub mod Planning
 pub mod Mapped
+pub mod Compactions
+pub mod Wiping

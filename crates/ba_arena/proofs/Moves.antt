@@ -1,10 +1,9 @@
 -- Where the clauses are after a compaction.
 
-use Rattle.std.proofs.Common.{◌≡◌, ◌≢◌, ℕ, suc, zero, ◌+◌, ◌-◌, ◌<◌, ◌≤◌, Option, None, Some, IsSome, List, [], ◌∷◌, ◌++◌, length, get_or, replicate, refl, sym, ap, subst, ◌∙◌, arith, zero-add, ⊎_elim}
+use Rattle.std.proofs.Common.{◌≡◌, ℕ, suc, zero, ◌+◌, ◌-◌, ◌<◌, None, Some, [], ◌∷◌, ◌++◌, length, replicate, refl, sym, ap, ◌∙◌, arith, zero-add, ⊎_elim}
 use Rattle.std.proofs.lemmas.Bool.{cases_lt}
-use Rattle.std.proofs.lemmas.List.{get_or_past}
-use Rattle.ba_arena.specs.Clauses.{Stored, Clauses, clause_at, IsLive, linked}
-use Rattle.ba_arena.specs.Compaction.{size_of, moved, compacted, Plans}
+use Rattle.ba_arena.specs.Clauses.{Stored, Clauses, clause_at, IsLive}
+use Rattle.ba_arena.specs.Compaction.{size_of, moved, compacted}
 
 past_nones : (n m : ℕ) (xs : Clauses) → clause_at (replicate n None ++ xs) (n + m) ≡ clause_at xs m
 past_nones zero m xs = ap (clause_at xs) (zero-add m)
@@ -59,7 +58,7 @@ moved-from (Some t ∷ cs) (suc q) s e = ⊎_elim
     clash s e = cc e
 
 -- no two live clauses move to one place
-moved-lt : (cs : Clauses) (r q : ℕ) → r < q → IsLive cs r → moved cs r < moved cs q
+pub moved-lt : (cs : Clauses) (r q : ℕ) → r < q → IsLive cs r → moved cs r < moved cs q
 moved-lt [] r q h live = absurd (cc live)
 moved-lt (c ∷ cs) r zero h live = absurd (omega (arith, h))
 moved-lt (None ∷ cs) zero (suc q) h live = absurd (cc live)

@@ -1,6 +1,6 @@
 -- New places are written into the first links, clause by clause.
 
-use Rattle.std.proofs.Common.{◌≡◌, ◌≢◌, ℕ, suc, ◌+◌, ◌-◌, ◌<◌, ◌≤◌, Option, None, Some, IsSome, is_some, length, refl, sym, ap, subst, ◌∙◌, arith, get_or-set_same, get_or-set_other, ⊎_elim}
+use Rattle.std.proofs.Common.{◌≡◌, ◌≢◌, ℕ, suc, ◌+◌, ◌-◌, ◌<◌, ◌≤◌, Option, None, Some, IsSome, length, refl, sym, ap, subst, ◌∙◌, arith, get_or-set_same, get_or-set_other, ⊎_elim}
 use Rattle.std.proofs.lemmas.Bool.{cases_lt}
 use Rattle.std.proofs.lemmas.List.{get_or_past}
 use Rattle.ba_arena.specs.Clauses.{Stored, Clauses, clause_at, lits_at, lits_of, IsLive, changed, linked}

@@ -8,7 +8,7 @@ use Rattle.std.proofs.lemmas.Grind.{get_or_default_zero}
 use Rattle.std.specs.List.{swap}
 use Rattle.ba_lits.specs.Literals.{Literal, literal_at, index_of, index_of-literal_at, lit_at, no_literal}
 use Rattle.ba_arena.specs.Clauses.{Stored, Clauses, clause_at, lits_at, lits_of, changed, swapped}
-use Rattle.ba_arena.specs.Words.{clauses_of, stored_in, entry_in, dead, link_of_word, Fits, AreIndexed, AreWords}
+use Rattle.ba_arena.specs.Words.{clauses_of, entry_in, dead, link_of_word, Fits, AreIndexed, AreWords}
 use Rattle.ba_arena.proofs.Reading.{length-clauses, here_with_lit, lit_within, lit_room, lit_read, lit_counted, lit_below}
 use Rattle.ba_arena.proofs.Writing.{writes, words-written, rest_long, entry-change}
 

@@ -1,6 +1,6 @@
 -- The clauses of an arena, by their references.
 
-use Rattle.std.specs.Prelude.{◌≡◌, ◌≢◌, ℕ, ◌<◌, Option, None, Some, IsSome, List, [], length, get_or, set, eqb, if◌then◌else◌}
+use Rattle.std.specs.Prelude.{◌≡◌, ◌≢◌, ℕ, ◌+◌, ◌<◌, ◌≤◌, ◌⊎◌, Option, None, Some, IsSome, List, [], length, get_or, set, eqb, if◌then◌else◌}
 use Rattle.std.specs.List.{swap}
 use Rattle.ba_lits.specs.Literals.{Literal}
 
@@ -68,3 +68,13 @@ pub record Adds (old new : Clauses) (clause : ℕ) (stored : Stored) : Type 0 wh
   pub longer : length old < length new
   pub there : clause_at new clause ≡ Some stored
   pub others : (k : ℕ) → k ≢ clause → clause_at new k ≡ clause_at old k
+
+-- a reference names no word of a live clause but its first; that of a deleted clause doesn't either
+abbrev pub IsOutside : Clauses → ℕ → Type 0
+IsOutside clauses r = (clause : ℕ) → IsLive clauses clause →
+    (r ≤ clause) ⊎ (clause + 4 + length (lits_at clauses clause) ≤ r)
+
+-- each reference names a live clause, or no word of any
+abbrev pub AreReferences : Clauses → List (Option ℕ) → Type 0
+AreReferences clauses references =
+    (k r : ℕ) → get_or references k None ≡ Some r → IsLive clauses r ⊎ IsOutside clauses r

@@ -1,9 +1,9 @@
 -- The words of an arena, and the clauses that they stand for.
 
-use Rattle.std.specs.Prelude.{◌≡◌, ℕ, ◌+◌, ◌-◌, ◌^◌, ◌<◌, ◌≤◌, Option, None, Some, List, [], ◌∷◌, length, get_or, take, drop, map, eqb, if◌then◌else◌}
+use Rattle.std.specs.Prelude.{◌≡◌, ℕ, ◌+◌, ◌-◌, ◌^◌, ◌<◌, ◌≤◌, ◌⊎◌, Option, None, Some, List, [], ◌∷◌, length, get_or, take, drop, map, eqb, if◌then◌else◌}
 use Prim.Native.Nat.{suc, zero}
 use Rattle.ba_lits.specs.Literals.{Literal, literal_at, index_of, lit_at}
-use Rattle.ba_arena.specs.Clauses.{Stored, Clauses, clause_at}
+use Rattle.ba_arena.specs.Clauses.{Stored, Clauses, IsOutside, clause_at}
 
 -- the link that a word stands for: 0 is none, and otherwise it is 1 more than a reference
 abbrev pub link_of_word : ℕ → Option ℕ
@@ -67,3 +67,8 @@ pub record IsCut (words : List ℕ) (place : ℕ) : Type 0 where
   pub within : place ≤ length words
   pub whole : lacking 0 (drop place words) ≡ 0
   pub clauses : drop place (clauses_of 0 words) ≡ clauses_of 0 (drop place words)
+
+-- a word that belongs to no live clause, or the one behind it, is that of the dead
+abbrev pub IsWiped : List ℕ → Type 0
+IsWiped words = (r : ℕ) → r + 1 < length words → clause_at (clauses_of 0 words) r ≡ None →
+    IsOutside (clauses_of 0 words) r → (get_or words r 0 ≡ dead) ⊎ (get_or words (r + 1) 0 ≡ dead)

@@ -8,11 +8,11 @@
 //! Efficient SAT Solver, on watched literals).
 #![tactic(auto)]
 
-ghost use Rattle.std.specs.Prelude.{◌≡◌, ◌+◌, ◌-◌, ◌^◌, ◌<◌, ◌≤◌, [], ◌++◌, None, Some, length, get_or, set, take, drop, map, ℕ, IfOk, IfSome, OnOk, OnErr};
+ghost use Rattle.std.specs.Prelude.{◌≡◌, ◌+◌, ◌-◌, ◌^◌, ◌<◌, ◌≤◌, [], ◌++◌, ◌⊎◌, None, Some, length, get_or, set, take, drop, map, ℕ, IfOk, IfSome, OnOk, OnErr};
 ghost use Rattle.ba_lits.specs.Literals.{lit_at, index_of};
-ghost use Rattle.ba_arena.specs.Clauses.{IsLive, lits_at, number_at, link_at, changed, swapped, linked, Adds};
-ghost use Rattle.ba_arena.specs.Compaction.{compacted, forwarded, Plans, IsFirstFrom};
-ghost use Rattle.ba_arena.specs.Words.{words_of, word_of_link, link_of_word, clauses_of, AreIndexed, AreWords, IsCut};
+ghost use Rattle.ba_arena.specs.Clauses.{IsLive, IsOutside, AreReferences, lits_at, number_at, link_at, changed, swapped, linked, Adds};
+ghost use Rattle.ba_arena.specs.Compaction.{moved, compacted, forwarded, followed, led, Compacts, Plans, IsFirstFrom};
+ghost use Rattle.ba_arena.specs.Words.{words_of, word_of_link, link_of_word, clauses_of, AreIndexed, AreWords, IsCut, IsWiped};
 
 mod link;
 
@@ -206,8 +206,40 @@ impl Arena {
         to_reference(live_from(self.words.as_slice(), end))
     }
 
-    /// Sets the first link of each live clause to the place to which [`compact`](Arena::compact) moves it.
-    pub fn plan(&mut self)
+    /// Live clauses have no word in common. It does nothing.
+    pub fn keep_apart(&self)
+        ensures { (clause : ℕ) → IsLive self.now clause → IsOutside self.now clause }
+    {
+        let _ = &self.words;
+    }
+
+    /// Moves the live clauses down, so that no gap is left where clauses were deleted. References follow their clauses:
+    /// those of `kept` and `others`, of which those of deleted clauses become None, and those of `live`, whose clauses are
+    /// live. It takes no memory.
+    pub fn compact(
+        &mut self,
+        kept: &mut [Option<ClauseRef>],
+        others: &mut [Option<ClauseRef>],
+        live: &mut [ClauseRef],
+    )
+        requires kept { AreReferences self.old kept.old }
+        requires others { AreReferences self.old others.old }
+        requires live { (k : ℕ) → k < length live.old → IsLive self.old (get_or live.old k 0) }
+        ensures compacts { Compacts self.old self.new }
+        ensures kept { kept.new ≡ map (led self.old) kept.old }
+        ensures others { others.new ≡ map (led self.old) others.old }
+        ensures live { live.new ≡ map (moved self.old) live.old }
+    {
+        self.plan();
+        self.follow(live);
+        wipe(&mut self.words);
+        rewrite(self.words.as_slice(), kept);
+        rewrite(self.words.as_slice(), others);
+        move_down(&mut self.words);
+    }
+
+    /// Sets the first link of each live clause to the place to which `move_down` moves it.
+    fn plan(&mut self)
         ensures { Plans self.old self.new }
     {
         let mut place = 0;
@@ -226,27 +258,16 @@ impl Arena {
         }
     }
 
-    /// Rewrites so many references to what the first links of their clauses name: after [`plan`](Arena::plan) each names the
-    /// place to which [`compact`](Arena::compact) moves its clause.
-    pub fn rewrite(&self, kept: &mut Vec<Option<ClauseRef>>, count: usize)
-        requires within { count ≤ length kept.old.items }
-        requires live { (k clause : ℕ) → k < count → get_or kept.old.items k None ≡ Some clause
-            → IsLive self.now clause }
-        ensures { kept.new.items ≡ map (forwarded self.now) (take count kept.old.items)
-            ++ drop count kept.old.items }
+    /// Rewrites references to what the first links of their clauses name, where they name a clause.
+    fn follow(&self, live: &mut [ClauseRef])
+        requires { (k : ℕ) → k < length live.old → IsLive self.now (get_or live.old k 0) }
+        ensures { live.new ≡ map (followed self.now) live.old }
     {
-        for place in 0..count {
-            if let Some(clause) = kept[place] {
-                kept[place] = self.link(clause, 0);
+        for place in 0..live.len() {
+            if let Some(clause) = self.link(live[place], 0) {
+                live[place] = clause;
             }
         }
-    }
-
-    /// Moves the live clauses down, so that no gap is left where clauses died. It takes no memory.
-    pub fn compact(&mut self)
-        ensures { self.new ≡ compacted self.old }
-    {
-        move_down(&mut self.words);
     }
 }
 
@@ -296,6 +317,58 @@ fn move_down(words: &mut Vec<u32>)
         place += size;
     }
     words.truncate(end);
+}
+
+/// Overwrites the words of dead clauses, but for the first of each, by the word of the dead.
+fn wipe(words: &mut Vec<u32>)
+    requires { AreWords words.old.items }
+    ensures words { AreWords words.new.items }
+    ensures wiped { IsWiped words.new.items }
+    ensures clauses { clauses_of 0 words.new.items ≡ clauses_of 0 words.old.items }
+{
+    let mut left = 0;
+    let mut gone = false;
+    for place in 0..words.len() {
+        if left == 0 {
+            left = LITS + words[place] as usize;
+            gone = words[place + NUMBER] == DEAD;
+        } else if gone {
+            words[place] = DEAD;
+        }
+        left -= 1;
+    }
+}
+
+/// Rewrites references to what the first links of their clauses name; those of no live clause to none.
+fn rewrite(words: &[u32], kept: &mut [Option<ClauseRef>])
+    requires words { AreWords words.now }
+    requires wiped { IsWiped words.now }
+    requires kept { AreReferences (clauses_of 0 words.now) kept.old }
+    ensures { kept.new ≡ map (forwarded (clauses_of 0 words.now)) kept.old }
+{
+    for place in 0..kept.len() {
+        if let Some(clause) = kept[place] {
+            kept[place] = forward(words, clause);
+        }
+    }
+}
+
+/// What the first link of a clause names; None where the clause isn't live.
+fn forward(words: &[u32], clause: ClauseRef) -> Option<ClauseRef>
+    requires words { AreWords words.now }
+    requires wiped { IsWiped words.now }
+    requires reference { IsLive (clauses_of 0 words.now) clause
+        ⊎ IsOutside (clauses_of 0 words.now) clause }
+    ensures { result ≡ link_at (clauses_of 0 words.now) clause 0 }
+{
+    let place = clause.index as usize;
+    if place + NUMBER >= words.len() {
+        return None;
+    }
+    if words[place] == DEAD || words[place + NUMBER] == DEAD {
+        return None;
+    }
+    ClauseRef::from_word(words[place + LINKS])
 }
 
 /// Appends the words of a clause.

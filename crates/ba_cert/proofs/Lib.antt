@@ -6,6 +6,7 @@ pub mod CutLaws
 pub mod PlainLaws
 pub mod StepLaws
 pub mod LineLaws
+pub mod SettingsLaws
 pub mod CertificateLaws
 pub mod PrefixLaws
 pub mod SinkLaws

@@ -11,7 +11,8 @@ use Rattle.ba_steps.specs.declared.step.CertStep.{CertStep}
 use Rattle.ba_world.specs.World.{Appends, AppendsPrefix, OnlyWrites, Outside}
 use Rattle.ba_world.specs.declared.world.WorldError.{WorldError}
 use Rattle.ba_world.specs.declared.world.WorldError.TheVariants as world
-use Rattle.ba_cert.specs.Text.{HasLine, line_of, with_feed, head_line, text_of}
+use Rattle.ba_cert.specs.declared.head.CertHead.{CertHead}
+use Rattle.ba_cert.specs.Text.{HasLine, IsHead, line_of, with_feed, head_text, text_of}
 use Rattle.ba_cert.specs.Certificates.{steps_from}
 use Rattle.ba_cert.specs.Writing.{sink_error, steps_kept, is_named, may_be_named, is_written, is_sound, OnlyWritesTo}
 use Rattle.ba_cert.proofs.CertificateLaws.{whole-again, begun-again, whole-back, text-push, partly-added}
@@ -39,17 +40,18 @@ may_be_named-from : (name : List ℕ) (writing : Option (List ℕ)) (other : Lis
 may_be_named-from name None other e is = absurd (none-some other is)
 may_be_named-from name (Some w) other e is = sym (same_Some w other is) ∙ (bytes_eq-Decides w name).0 e
 
-pub followed-sound : (whole : Bool) (name : List ℕ) (is_writing : Bool) (writing kept : Option (List ℕ)) →
-    is_written whole name is_writing writing kept ≡ true → IsFollowed name writing kept
-followed-sound whole name is_writing writing None e = record {
+pub followed-sound : (head : CertHead) (whole : Bool) (name : List ℕ) (is_writing : Bool)
+    (writing kept : Option (List ℕ)) →
+    is_written head whole name is_writing writing kept ≡ true → IsFollowed name writing kept
+followed-sound head whole name is_writing writing None e = record {
   named = λ other is. may_be_named-from name writing other
       ((and_parts is_writing (may_be_named name writing) e).1) is;
   told = λ bytes is. absurd (none-some bytes is);
 }
-followed-sound whole name is_writing writing (Some b) e =
-    let parts = and_parts is_writing (is_named name writing && is_some (steps_from whole b)) e in
+followed-sound head whole name is_writing writing (Some b) e =
+    let parts = and_parts is_writing (is_named name writing && is_some (steps_from head whole b)) e in
     let is_name = is_named-from name writing
-    ((and_parts (is_named name writing) (is_some (steps_from whole b)) parts.1).0) in record {
+    ((and_parts (is_named name writing) (is_some (steps_from head whole b)) parts.1).0) in record {
       named = λ other is. same_Some other name (sym is ∙ is_name);
       told = λ bytes is. is_name;
     }
@@ -68,11 +70,13 @@ followed-begun name writing kept agrees told = record { named = named writing ag
     tells None h bytes is = absurd (none-some bytes is)
     tells (Some b) h bytes is = h refl
 
-pub writes-sound : (whole : Bool) (name : List ℕ) (is_writing : Bool) (writing kept : Option (List ℕ)) →
-    is_written whole name is_writing writing kept ≡ true → is_writing ≡ true
-writes-sound whole name is_writing writing None e = (and_parts is_writing (may_be_named name writing) e).0
-writes-sound whole name is_writing writing (Some b) e =
-    (and_parts is_writing (is_named name writing && is_some (steps_from whole b)) e).0
+pub writes-sound : (head : CertHead) (whole : Bool) (name : List ℕ) (is_writing : Bool)
+    (writing kept : Option (List ℕ)) →
+    is_written head whole name is_writing writing kept ≡ true → is_writing ≡ true
+writes-sound head whole name is_writing writing None e =
+    (and_parts is_writing (may_be_named name writing) e).0
+writes-sound head whole name is_writing writing (Some b) e =
+    (and_parts is_writing (is_named name writing && is_some (steps_from head whole b)) e).0
 
 -- what holds of the file that is written holds of what is kept under this name
 pub of-named : (R : Option (List ℕ) → Option (List ℕ) → Type 0) → R None None →
@@ -146,6 +150,16 @@ stays_then name a b c first second = record {
   };
 }
 
+-- what a call leaves as it was
+pub as-before : (head : CertHead) (whole : Bool) (name : List ℕ) (is_writing is_writing' : Bool)
+    (writing writing' kept : Option (List ℕ)) → is_writing' ≡ is_writing → writing' ≡ writing →
+    is_written head whole name is_writing writing kept ≡ true →
+    is_written head whole name is_writing' writing' kept ≡ true
+as-before head whole name is_writing is_writing' writing writing' kept p q e =
+    ap (λ b. is_written head whole name b writing' kept) p
+    ∙ ap (λ w. is_written head whole name is_writing w kept) q
+    ∙ e
+
 -- THE TEXT THAT IS KEPT
 
 some_is : {A : Type 0} (o : Option A) → is_some o ≡ true → (x : A) × (o ≡ Some x)
@@ -153,206 +167,211 @@ some_is None e = cc
 some_is (Some x) e = (x, refl)
 
 -- what is kept is the text of steps, where it is told
-pub record IsText (bytes : List ℕ) : Type 0 where
+pub record IsText (head : CertHead) (bytes : List ℕ) : Type 0 where
   pub steps : List CertStep
-  pub text : bytes ≡ text_of steps
+  pub text : bytes ≡ text_of head steps
   pub formed : All HasLine steps
 
-pub text-sound : (name : List ℕ) (is_writing : Bool) (writing : Option (List ℕ)) (bytes : List ℕ) →
-    is_written true name is_writing writing (Some bytes) ≡ true → IsText bytes
-text-sound name is_writing writing bytes e =
-    let parts = and_parts is_writing (is_named name writing && is_some (steps_from true bytes)) e in
-    let found = some_is (steps_from true bytes)
-    ((and_parts (is_named name writing) (is_some (steps_from true bytes)) parts.1).1) in
-    let back = whole-back bytes found.0 found.1 in
-    record { steps = found.0; text = back.0; formed = back.1 }
+module _ (head : CertHead) (is : IsHead head) where
+  pub text-sound : (name : List ℕ) (is_writing : Bool) (writing : Option (List ℕ)) (bytes : List ℕ) →
+      is_written head true name is_writing writing (Some bytes) ≡ true → IsText head bytes
+  text-sound name is_writing writing bytes e =
+      let parts = and_parts is_writing (is_named name writing && is_some (steps_from head true bytes)) e in
+      let found = some_is (steps_from head true bytes)
+      ((and_parts (is_named name writing) (is_some (steps_from head true bytes)) parts.1).1) in
+      let back = whole-back head bytes found.0 found.1 in
+      record { steps = found.0; text = back.0; formed = back.1 }
 
--- the same file with other bytes
-resound : (whole after : Bool) (name : List ℕ) (is_writing : Bool) (writing : Option (List ℕ))
-    (old new : List ℕ) (steps : List CertStep) →
-    is_written whole name is_writing writing (Some old) ≡ true → steps_from after new ≡ Some steps →
-    is_written after name is_writing writing (Some new) ≡ true
-resound whole after name is_writing writing old new steps e found =
-    let parts = and_parts is_writing (is_named name writing && is_some (steps_from whole old)) e in
-    and_from is_writing (is_named name writing && is_some (steps_from after new)) parts.0
-    (and_from (is_named name writing) (is_some (steps_from after new))
-    ((and_parts (is_named name writing) (is_some (steps_from whole old)) parts.1).0) (ap is_some found))
+  -- the same file with other bytes
+  resound : (whole after : Bool) (name : List ℕ) (is_writing : Bool) (writing : Option (List ℕ))
+      (old new : List ℕ) (steps : List CertStep) →
+      is_written head whole name is_writing writing (Some old) ≡ true → steps_from head after new
+      ≡ Some steps →
+      is_written head after name is_writing writing (Some new) ≡ true
+  resound whole after name is_writing writing old new steps e found =
+      let parts = and_parts is_writing (is_named name writing && is_some (steps_from head whole old)) e in
+      and_from is_writing (is_named name writing && is_some (steps_from head after new)) parts.0
+      (and_from (is_named name writing) (is_some (steps_from head after new))
+      ((and_parts (is_named name writing) (is_some (steps_from head whole old)) parts.1).0)
+      (ap is_some found))
 
-pub sound-still : (name : List ℕ) (is_writing : Bool) (writing kept : Option (List ℕ)) →
-    is_written true name is_writing writing kept ≡ true → is_written false name is_writing writing kept ≡ true
-sound-still name is_writing writing None e = e
-sound-still name is_writing writing (Some bytes) e =
-    let t = text-sound name is_writing writing bytes e in
-    resound true false name is_writing writing bytes bytes t.steps e
-    (ap (steps_from false) t.text ∙ begun-again t.steps t.formed)
+  pub sound-still : (name : List ℕ) (is_writing : Bool) (writing kept : Option (List ℕ)) →
+      is_written head true name is_writing writing kept ≡ true →
+      is_written head false name is_writing writing kept ≡ true
+  sound-still name is_writing writing None e = e
+  sound-still name is_writing writing (Some bytes) e =
+      let t = text-sound name is_writing writing bytes e in
+      resound true false name is_writing writing bytes bytes t.steps e
+      (ap (steps_from head false) t.text ∙ begun-again head is t.steps t.formed)
 
--- a whole file holds the text of its steps
-pub whole-kept : (name : List ℕ) (is_writing : Bool) (writing kept : Option (List ℕ)) →
-    is_written true name is_writing writing kept ≡ true → kept ≡ option_map text_of (steps_kept kept)
-whole-kept name is_writing writing None e = refl
-whole-kept name is_writing writing (Some bytes) e =
-    let t = text-sound name is_writing writing bytes e in
-    ap (λ b. Some b) t.text
-    ∙ sym (ap (option_map text_of) (ap (steps_from false) t.text ∙ begun-again t.steps t.formed))
+  -- a whole file holds the text of its steps
+  pub whole-kept : (name : List ℕ) (is_writing : Bool) (writing kept : Option (List ℕ)) →
+      is_written head true name is_writing writing kept ≡ true → kept
+      ≡ option_map (text_of head) (steps_kept head kept)
+  whole-kept name is_writing writing None e = refl
+  whole-kept name is_writing writing (Some bytes) e =
+      let t = text-sound name is_writing writing bytes e in
+      ap (λ b. Some b) t.text
+      ∙ sym (ap (option_map (text_of head))
+      (ap (steps_from head false) t.text ∙ begun-again head is t.steps t.formed))
 
-pub whole-named : (whole : Bool) (name other : List ℕ) (is_writing : Bool) (writing : Option (List ℕ))
-    (kept : List ℕ → Option (List ℕ)) → whole ≡ true → name ≡ other →
-    is_written whole name is_writing writing (kept name) ≡ true →
-    kept other ≡ option_map text_of (steps_kept (kept other))
-whole-named whole name other is_writing writing kept is same e =
-    subst (λ n. kept n ≡ option_map text_of (steps_kept (kept n))) same
-    (whole-kept name is_writing writing (kept name)
-    (ap (λ b. is_written b name is_writing writing (kept name)) (sym is) ∙ e))
+  pub whole-named : (whole : Bool) (name other : List ℕ) (is_writing : Bool) (writing : Option (List ℕ))
+      (kept : List ℕ → Option (List ℕ)) → whole ≡ true → name ≡ other →
+      is_written head whole name is_writing writing (kept name) ≡ true →
+      kept other ≡ option_map (text_of head) (steps_kept head (kept other))
+  whole-named whole name other is_writing writing kept whole_is same e =
+      subst (λ n. kept n ≡ option_map (text_of head) (steps_kept head (kept n))) same
+      (whole-kept name is_writing writing (kept name)
+      (ap (λ b. is_written head b name is_writing writing (kept name)) (sym whole_is) ∙ e))
 
--- what a call leaves as it was
-pub as-before : (whole : Bool) (name : List ℕ) (is_writing is_writing' : Bool)
-    (writing writing' kept : Option (List ℕ)) → is_writing' ≡ is_writing → writing' ≡ writing →
-    is_written whole name is_writing writing kept ≡ true →
-    is_written whole name is_writing' writing' kept ≡ true
-as-before whole name is_writing is_writing' writing writing' kept p q e =
-    ap (λ b. is_written whole name b writing' kept) p ∙ ap (λ w. is_written whole name is_writing w kept) q
-    ∙ e
+  -- THE FIRST LINES
 
--- THE HEAD LINE
+  lines_are : text_of head [] ≡ head_text head
+  lines_are = append-nil (head_text head)
 
-head_is : text_of [] ≡ with_feed head_line
-head_is = append-nil (with_feed head_line)
+  pub begun-sound : (name : List ℕ) (writing old new : Option (List ℕ)) → IsFollowed name writing old →
+      IfSome old (λ bytes. bytes ≡ []) →
+      Appends old new (head_text head) → is_written head true name true writing new ≡ true
+  begun-sound name writing None new follows empty added = ap (is_written head true name true writing) added
+      ∙ may writing (λ other is. follows.named other is)
+    where
+      may : (w : Option (List ℕ)) → ((other : List ℕ) → w ≡ Some other → other ≡ name) →
+          may_be_named name w ≡ true
+      may None h = refl
+      may (Some v) h = (bytes_eq-Decides v name).1 (h v refl)
+  begun-sound name writing (Some bytes) new follows empty added =
+      let begins : bytes ++ head_text head ≡ text_of head [] = ap (λ b. b ++ head_text head) empty
+      ∙ sym lines_are in
+      let found : steps_from head true (bytes ++ head_text head) ≡ Some [] = ap (steps_from head true) begins
+      ∙ whole-again head is [] (All-nil HasLine) in
+      let is_name : is_named name writing ≡ true = ap (is_named name) (follows.told bytes refl)
+      ∙ (bytes_eq-Decides name name).1 refl in
+      ap (is_written head true name true writing) added
+      ∙ and_from (is_named name writing) (is_some (steps_from head true (bytes ++ head_text head))) is_name
+      (ap is_some found)
 
-pub begun-sound : (name : List ℕ) (writing old new : Option (List ℕ)) → IsFollowed name writing old →
-    IfSome old (λ bytes. bytes ≡ []) →
-    Appends old new (with_feed head_line) → is_written true name true writing new ≡ true
-begun-sound name writing None new follows empty added = ap (is_written true name true writing) added
-    ∙ may writing (λ other is. follows.named other is)
-  where
-    may : (w : Option (List ℕ)) → ((other : List ℕ) → w ≡ Some other → other ≡ name) →
-        may_be_named name w ≡ true
-    may None h = refl
-    may (Some v) h = (bytes_eq-Decides v name).1 (h v refl)
-begun-sound name writing (Some bytes) new follows empty added =
-    let head : bytes ++ with_feed head_line ≡ text_of [] = ap (λ b. b ++ with_feed head_line) empty
-    ∙ sym head_is in
-    let found : steps_from true (bytes ++ with_feed head_line) ≡ Some [] = ap (steps_from true) head
-    ∙ whole-again [] (All-nil HasLine) in
-    let is_name : is_named name writing ≡ true = ap (is_named name) (follows.told bytes refl)
-    ∙ (bytes_eq-Decides name name).1 refl in
-    ap (is_written true name true writing) added
-    ∙ and_from (is_named name writing) (is_some (steps_from true (bytes ++ with_feed head_line))) is_name
-    (ap is_some found)
+  pub begun-head : (old new : Option (List ℕ)) → IfSome old (λ bytes. bytes ≡ []) →
+      Appends old new (head_text head) → IfSome new (λ bytes. bytes ≡ text_of head [])
+  begun-head None new empty added = subst (λ k. IfSome k (λ bytes. bytes ≡ text_of head [])) (sym added) tt
+  begun-head (Some bytes) new empty added =
+      subst (λ k. IfSome k (λ b. b ≡ text_of head [])) (sym added)
+      (ap (λ b. b ++ head_text head) empty ∙ sym lines_are)
 
-pub begun-head : (old new : Option (List ℕ)) → IfSome old (λ bytes. bytes ≡ []) →
-    Appends old new (with_feed head_line) → IfSome new (λ bytes. bytes ≡ text_of [])
-begun-head None new empty added = subst (λ k. IfSome k (λ bytes. bytes ≡ text_of [])) (sym added) tt
-begun-head (Some bytes) new empty added =
-    subst (λ k. IfSome k (λ b. b ≡ text_of [])) (sym added)
-    (ap (λ b. b ++ with_feed head_line) empty ∙ sym head_is)
+  pub begun-steps : (kept : Option (List ℕ)) → IfSome kept (λ bytes. bytes ≡ text_of head []) →
+      steps_kept head kept ≡ option_map (λ (bytes : List ℕ). []) kept
+  begun-steps None begins = refl
+  begun-steps (Some bytes) begins = ap (steps_from head false) begins
+      ∙ begun-again head is [] (All-nil HasLine)
 
-pub begun-steps : (kept : Option (List ℕ)) → IfSome kept (λ bytes. bytes ≡ text_of []) →
-    steps_kept kept ≡ option_map (λ (bytes : List ℕ). []) kept
-begun-steps None head = refl
-begun-steps (Some bytes) head = ap (steps_from false) head ∙ begun-again [] (All-nil HasLine)
+  -- A LINE MORE
 
--- A LINE MORE
+  pub added-sound : (step : CertStep) → HasLine step →
+      (name : List ℕ) (is_writing : Bool) (writing old new : Option (List ℕ)) →
+      is_written head true name is_writing writing old ≡ true → Appends old new (with_feed (line_of step)) →
+      is_written head true name is_writing writing new ≡ true
+  added-sound step h name is_writing writing None new e added = ap
+      (is_written head true name is_writing writing) added ∙ e
+  added-sound step h name is_writing writing (Some bytes) new e added =
+      let t = text-sound name is_writing writing bytes e in
+      let found : steps_from head true (bytes ++ with_feed (line_of step)) ≡ Some (t.steps ++ step ∷ []) =
+      ap (λ b. steps_from head true (b ++ with_feed (line_of step))) t.text
+      ∙ ap (steps_from head true) (sym (text-push head t.steps step))
+      ∙ whole-again head is (t.steps ++ step ∷ []) (All-push HasLine t.steps step t.formed h) in
+      ap (is_written head true name is_writing writing) added
+      ∙ resound true true name is_writing writing bytes (bytes ++ with_feed (line_of step))
+      (t.steps ++ step ∷ []) e found
 
-pub added-sound : (step : CertStep) → HasLine step →
-    (name : List ℕ) (is_writing : Bool) (writing old new : Option (List ℕ)) →
-    is_written true name is_writing writing old ≡ true → Appends old new (with_feed (line_of step)) →
-    is_written true name is_writing writing new ≡ true
-added-sound step h name is_writing writing None new e added = ap
-    (is_written true name is_writing writing) added ∙ e
-added-sound step h name is_writing writing (Some bytes) new e added =
-    let t = text-sound name is_writing writing bytes e in
-    let found : steps_from true (bytes ++ with_feed (line_of step)) ≡ Some (t.steps ++ step ∷ []) =
-    ap (λ b. steps_from true (b ++ with_feed (line_of step))) t.text
-    ∙ ap (steps_from true) (sym (text-push t.steps step))
-    ∙ whole-again (t.steps ++ step ∷ []) (All-push HasLine t.steps step t.formed h) in
-    ap (is_written true name is_writing writing) added
-    ∙ resound true true name is_writing writing bytes (bytes ++ with_feed (line_of step))
-    (t.steps ++ step ∷ []) e found
+  pub added-told : (step : CertStep) → HasLine step →
+      (name : List ℕ) (is_writing : Bool) (writing old new : Option (List ℕ)) →
+      is_written head true name is_writing writing old ≡ true → Appends old new (with_feed (line_of step)) →
+      steps_kept head new ≡ with_told step (steps_kept head old)
+  added-told step h name is_writing writing None new e added = ap (steps_kept head) added
+  added-told step h name is_writing writing (Some bytes) new e added =
+      let t = text-sound name is_writing writing bytes e in
+      ap (steps_kept head) added
+      ∙ ap (λ b. steps_from head false (b ++ with_feed (line_of step))) t.text
+      ∙ ap (steps_from head false) (sym (text-push head t.steps step))
+      ∙ begun-again head is (t.steps ++ step ∷ []) (All-push HasLine t.steps step t.formed h)
+      ∙ sym (ap (with_told step) (ap (steps_from head false) t.text ∙ begun-again head is t.steps t.formed))
 
-pub added-told : (step : CertStep) → HasLine step →
-    (name : List ℕ) (is_writing : Bool) (writing old new : Option (List ℕ)) →
-    is_written true name is_writing writing old ≡ true → Appends old new (with_feed (line_of step)) →
-    steps_kept new ≡ with_told step (steps_kept old)
-added-told step h name is_writing writing None new e added = ap steps_kept added
-added-told step h name is_writing writing (Some bytes) new e added =
-    let t = text-sound name is_writing writing bytes e in
-    ap steps_kept added
-    ∙ ap (λ b. steps_from false (b ++ with_feed (line_of step))) t.text
-    ∙ ap (steps_from false) (sym (text-push t.steps step))
-    ∙ begun-again (t.steps ++ step ∷ []) (All-push HasLine t.steps step t.formed h)
-    ∙ sym (ap (with_told step) (ap (steps_from false) t.text ∙ begun-again t.steps t.formed))
+  -- some bytes of the line: it is there whole, or not at all
+  partly : (step : CertStep) → HasLine step → (bytes : List ℕ) (count : ℕ) (t : IsText head bytes) →
+      (steps_from head false (bytes ++ take count (with_feed (line_of step))) ≡ Some t.steps)
+      ⊎ (steps_from head false (bytes ++ take count (with_feed (line_of step))) ≡ Some (t.steps ++ step ∷ []))
+  partly step h bytes count t =
+      subst (λ b. (steps_from head false (b ++ take count (with_feed (line_of step))) ≡ Some t.steps)
+      ⊎ (steps_from head false (b ++ take count (with_feed (line_of step))) ≡ Some (t.steps ++ step ∷ [])))
+      (sym t.text) (partly-added head is t.steps step count t.formed h)
 
--- some bytes of the line: it is there whole, or not at all
-partly : (step : CertStep) → HasLine step → (bytes : List ℕ) (count : ℕ) (t : IsText bytes) →
-    (steps_from false (bytes ++ take count (with_feed (line_of step))) ≡ Some t.steps)
-    ⊎ (steps_from false (bytes ++ take count (with_feed (line_of step))) ≡ Some (t.steps ++ step ∷ []))
-partly step h bytes count t =
-    subst (λ b. (steps_from false (b ++ take count (with_feed (line_of step))) ≡ Some t.steps)
-    ⊎ (steps_from false (b ++ take count (with_feed (line_of step))) ≡ Some (t.steps ++ step ∷ [])))
-    (sym t.text) (partly-added t.steps step count t.formed h)
+  pub partly-sound : (step : CertStep) → HasLine step →
+      (name : List ℕ) (is_writing : Bool) (writing old new : Option (List ℕ)) →
+      is_written head true name is_writing writing old ≡ true →
+      AppendsPrefix old new (with_feed (line_of step)) →
+      is_written head false name is_writing writing new ≡ true
+  partly-sound step h name is_writing writing None new e prefix = ap
+      (is_written head false name is_writing writing) prefix.1 ∙ e
+  partly-sound step h name is_writing writing (Some bytes) new e prefix =
+      ap (is_written head false name is_writing writing) prefix.1 ∙ by (partly step h bytes prefix.0 t)
+    where
+      t : IsText head bytes
+      t = text-sound name is_writing writing bytes e
 
-pub partly-sound : (step : CertStep) → HasLine step →
-    (name : List ℕ) (is_writing : Bool) (writing old new : Option (List ℕ)) →
-    is_written true name is_writing writing old ≡ true → AppendsPrefix old new (with_feed (line_of step)) →
-    is_written false name is_writing writing new ≡ true
-partly-sound step h name is_writing writing None new e prefix = ap
-    (is_written false name is_writing writing) prefix.1 ∙ e
-partly-sound step h name is_writing writing (Some bytes) new e prefix =
-    ap (is_written false name is_writing writing) prefix.1 ∙ by (partly step h bytes prefix.0 t)
-  where
-    t : IsText bytes
-    t = text-sound name is_writing writing bytes e
+      by : (steps_from head false (bytes ++ take prefix.0 (with_feed (line_of step))) ≡ Some t.steps)
+          ⊎ (steps_from head false (bytes ++ take prefix.0 (with_feed (line_of step)))
+          ≡ Some (t.steps ++ step ∷ []))
+          → is_written head false name is_writing writing
+          (Some (bytes ++ take prefix.0 (with_feed (line_of step))))
+          ≡ true
+      by (inl found) = resound true false name is_writing writing bytes
+          (bytes ++ take prefix.0 (with_feed (line_of step))) t.steps e found
+      by (inr found) = resound true false name is_writing writing bytes
+          (bytes ++ take prefix.0 (with_feed (line_of step))) (t.steps ++ step ∷ []) e found
 
-    by : (steps_from false (bytes ++ take prefix.0 (with_feed (line_of step))) ≡ Some t.steps)
-        ⊎ (steps_from false (bytes ++ take prefix.0 (with_feed (line_of step))) ≡ Some (t.steps ++ step ∷ []))
-        → is_written false name is_writing writing (Some (bytes ++ take prefix.0 (with_feed (line_of step))))
-        ≡ true
-    by (inl found) = resound true false name is_writing writing bytes
-        (bytes ++ take prefix.0 (with_feed (line_of step))) t.steps e found
-    by (inr found) = resound true false name is_writing writing bytes
-        (bytes ++ take prefix.0 (with_feed (line_of step))) (t.steps ++ step ∷ []) e found
+  pub partly-may : (step : CertStep) → HasLine step →
+      (name : List ℕ) (is_writing : Bool) (writing old new : Option (List ℕ)) →
+      is_written head true name is_writing writing old ≡ true →
+      AppendsPrefix old new (with_feed (line_of step)) →
+      MayAdd step (steps_kept head old) (steps_kept head new)
+  partly-may step h name is_writing writing None new e prefix = inl (ap (steps_kept head) prefix.1)
+  partly-may step h name is_writing writing (Some bytes) new e prefix = by (partly step h bytes prefix.0 t)
+    where
+      t : IsText head bytes
+      t = text-sound name is_writing writing bytes e
 
-pub partly-may : (step : CertStep) → HasLine step →
-    (name : List ℕ) (is_writing : Bool) (writing old new : Option (List ℕ)) →
-    is_written true name is_writing writing old ≡ true → AppendsPrefix old new (with_feed (line_of step)) →
-    MayAdd step (steps_kept old) (steps_kept new)
-partly-may step h name is_writing writing None new e prefix = inl (ap steps_kept prefix.1)
-partly-may step h name is_writing writing (Some bytes) new e prefix = by (partly step h bytes prefix.0 t)
-  where
-    t : IsText bytes
-    t = text-sound name is_writing writing bytes e
+      before : (u : IsText head bytes) → steps_kept head (Some bytes) ≡ Some u.steps
+      before u = ap (steps_from head false) u.text ∙ begun-again head is u.steps u.formed
 
-    before : (u : IsText bytes) → steps_kept (Some bytes) ≡ Some u.steps
-    before u = ap (steps_from false) u.text ∙ begun-again u.steps u.formed
+      by : (steps_from head false (bytes ++ take prefix.0 (with_feed (line_of step))) ≡ Some t.steps)
+          ⊎ (steps_from head false (bytes ++ take prefix.0 (with_feed (line_of step)))
+          ≡ Some (t.steps ++ step ∷ []))
+          → MayAdd step (steps_kept head (Some bytes)) (steps_kept head new)
+      by (inl found) = inl (ap (steps_kept head) prefix.1 ∙ found ∙ sym (before t))
+      by (inr found) = inr (ap (steps_kept head) prefix.1 ∙ found ∙ sym (ap (with_told step) (before t)))
 
-    by : (steps_from false (bytes ++ take prefix.0 (with_feed (line_of step))) ≡ Some t.steps)
-        ⊎ (steps_from false (bytes ++ take prefix.0 (with_feed (line_of step))) ≡ Some (t.steps ++ step ∷ []))
-        → MayAdd step (steps_kept (Some bytes)) (steps_kept new)
-    by (inl found) = inl (ap steps_kept prefix.1 ∙ found ∙ sym (before t))
-    by (inr found) = inr (ap steps_kept prefix.1 ∙ found ∙ sym (ap (with_told step) (before t)))
-
--- a list of steps, one more
-pub written-more : (steps : List CertStep) (i : ℕ) (step : CertStep) (old new : Option (List ℕ)) →
-    take (i + 1) steps ≡ take i steps ++ step ∷ [] →
-    IfSome old (λ bytes. bytes ≡ text_of (take i steps)) → Appends old new (with_feed (line_of step)) →
-    IfSome new (λ bytes. bytes ≡ text_of (take (i + 1) steps))
-written-more steps i step None new more text added = subst
-    (λ k. IfSome k (λ b. b ≡ text_of (take (i + 1) steps))) (sym added) tt
-written-more steps i step (Some bytes) new more text added =
-    subst (λ k. IfSome k (λ b. b ≡ text_of (take (i + 1) steps))) (sym added)
-    (ap (λ b. b ++ with_feed (line_of step)) text ∙ sym (text-push (take i steps) step)
-    ∙ ap text_of (sym more))
+  -- a list of steps, one more
+  pub written-more : (steps : List CertStep) (i : ℕ) (step : CertStep) (old new : Option (List ℕ)) →
+      take (i + 1) steps ≡ take i steps ++ step ∷ [] →
+      IfSome old (λ bytes. bytes ≡ text_of head (take i steps)) → Appends old new (with_feed (line_of step)) →
+      IfSome new (λ bytes. bytes ≡ text_of head (take (i + 1) steps))
+  written-more steps i step None new more text added = subst
+      (λ k. IfSome k (λ b. b ≡ text_of head (take (i + 1) steps))) (sym added) tt
+  written-more steps i step (Some bytes) new more text added =
+      subst (λ k. IfSome k (λ b. b ≡ text_of head (take (i + 1) steps))) (sym added)
+      (ap (λ b. b ++ with_feed (line_of step)) text ∙ sym (text-push head (take i steps) step)
+      ∙ ap (text_of head) (sym more))
 
 -- OF THE OUTSIDE
 
-pub sound-is : (whole : Bool) (name : List ℕ) (o : Outside) →
-    is_sound whole name o ≡ is_written whole name o.is_writing o.writing (o.kept name)
+pub sound-is : (head : CertHead) (whole : Bool) (name : List ℕ) (o : Outside) →
+    is_sound head whole name o ≡ is_written head whole name o.is_writing o.writing (o.kept name)
 unfolding is_sound
-sound-is whole name o = refl
+sound-is head whole name o = refl
 
-pub sound-same : (whole : Bool) (name : List ℕ) (old new : Outside) → new.is_writing ≡ old.is_writing →
+pub sound-same : (head : CertHead) (whole : Bool) (name : List ℕ) (old new : Outside) → new.is_writing
+    ≡ old.is_writing →
     new.writing ≡ old.writing →
-    is_written whole name old.is_writing old.writing (new.kept name) ≡ true → is_sound whole name new ≡ true
-sound-same whole name old new p q e =
-    sound-is whole name new
-    ∙ as-before whole name old.is_writing new.is_writing old.writing new.writing (new.kept name) p q e
+    is_written head whole name old.is_writing old.writing (new.kept name) ≡ true →
+    is_sound head whole name new ≡ true
+sound-same head whole name old new p q e =
+    sound-is head whole name new
+    ∙ as-before head whole name old.is_writing new.is_writing old.writing new.writing (new.kept name) p q e

@@ -18,7 +18,7 @@ use Rattle.ba_cert.proofs.ChoiceLaws.{run-again, run-back}
 
 -- TESTS
 
-no_more : (parts : List (List ℕ)) → has_more parts ≡ false → parts ≡ []
+pub no_more : (parts : List (List ℕ)) → has_more parts ≡ false → parts ≡ []
 no_more [] e = refl
 no_more (p ∷ ps) e = cc
 

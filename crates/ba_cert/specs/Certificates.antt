@@ -3,7 +3,8 @@
 use Rattle.std.specs.Prelude.{ℕ, ◌==◌, Bool, true, false, cond, Option, None, Some, option_map, List, [], ◌∷◌, length, bytes_eq}
 use Rattle.ba_bytes.specs.Lines.{lines_of}
 use Rattle.ba_steps.specs.declared.step.CertStep.{CertStep}
-use Rattle.ba_cert.specs.Text.{head_line}
+use Rattle.ba_cert.specs.declared.head.CertHead.{CertHead}
+use Rattle.ba_cert.specs.Text.{head_line, settings_line}
 use Rattle.ba_cert.specs.Reading.{◌>>=◌, step_in}
 
 -- what may stand after the last line feed: no byte, or where the text need not be whole any
@@ -18,12 +19,18 @@ steps_by whole (rest ∷ []) = last_by whole rest
 steps_by whole (line ∷ other ∷ lines) =
     step_in line >>= (λ step. option_map (λ steps. step ∷ steps) (steps_by whole (other ∷ lines)))
 
--- after the head line
-abbrev pub after_head : Bool → List (List ℕ) → Option (List CertStep)
-after_head whole [] = None
-after_head whole (head ∷ []) = None
-after_head whole (head ∷ other ∷ lines) = cond (bytes_eq head head_line) (steps_by whole (other ∷ lines)) None
+-- after a line
+abbrev pub after_first : List ℕ → (List (List ℕ) → Option (List CertStep)) → List (List ℕ) →
+    Option (List CertStep)
+after_first wanted reading [] = None
+after_first wanted reading (line ∷ []) = None
+after_first wanted reading (line ∷ other ∷ lines) =
+    cond (bytes_eq line wanted) (reading (other ∷ lines)) None
+
+-- after the two lines of these settings
+abbrev pub after_head : CertHead → Bool → List (List ℕ) → Option (List CertStep)
+after_head h whole lines = after_first head_line (after_first (settings_line h) (steps_by whole)) lines
 
 -- the steps of the lines, each with its line feed; where the text is to be whole, nothing stands after them
-unfoldable pub steps_from : Bool → List ℕ → Option (List CertStep)
-steps_from whole bytes = after_head whole (lines_of bytes)
+unfoldable pub steps_from : CertHead → Bool → List ℕ → Option (List CertStep)
+steps_from h whole bytes = after_head h whole (lines_of bytes)

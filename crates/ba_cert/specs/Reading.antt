@@ -9,6 +9,7 @@ use Rattle.ba_lits.specs.Literals.{Literal, negative, positive}
 use Rattle.ba_steps.specs.declared.step.CertStep.{CertStep}
 use Rattle.ba_steps.specs.declared.step.CertStep.TheVariants.{Learn, Core, Delete, Block, EndLocated, EndNoRepair, EndTooMany, EndSpent}
 use Rattle.ba_cert.specs.declared.choices.Run.{Run}
+use Rattle.ba_cert.specs.declared.head.CertHead.{CertHead}
 
 -- one after the other: nothing where one gives nothing
 infixl 10 ◌>>=◌
@@ -72,6 +73,41 @@ value_by None part = option_map pos (number_of part)
 
 unfoldable pub value_of : List ℕ → Option ℤ
 value_of part = value_by (after_minus part) part
+
+-- SETTINGS
+
+-- a number of 32 bits
+unfoldable pub small_of : List ℕ → Option ℕ
+small_of part = number_of part >>= if_below (2 ^ 32)
+
+-- the next part, read, and the parts after it
+abbrev pub next_by : (List ℕ → Option ℕ) → List (List ℕ) → Option (ℕ × List (List ℕ))
+next_by reading [] = None
+next_by reading (part ∷ parts) = option_map (λ n. (n, parts)) (reading part)
+
+abbrev pub head_with : ℕ → ℕ → ℕ → ℕ → CertHead
+head_with turns frames conflicts sets =
+    record { bounds = record { turns = turns; frames = frames }; conflicts = conflicts; sets = sets }
+
+-- four numbers, and no more
+abbrev pub head_by : ℕ → ℕ → ℕ → ℕ × List (List ℕ) → Option CertHead
+head_by turns frames conflicts sets =
+    cond (has_more sets.1) None (Some (head_with turns frames conflicts sets.0))
+
+unfoldable pub head_at : List (List ℕ) → Option CertHead
+head_at parts =
+    next_by small_of parts >>= (λ turns. next_by small_of turns.1 >>= (λ frames.
+    next_by number_of frames.1 >>= (λ conflicts. next_by small_of conflicts.1
+    >>= head_by turns.0 frames.0 conflicts.0)))
+
+-- behind the part `b`
+abbrev pub settings_at : List (List ℕ) → Option CertHead
+settings_at [] = None
+settings_at (part ∷ parts) = cond (bytes_eq part (codes "b")) (head_at parts) None
+
+-- the settings whose line this is, if it is that of some
+abbrev pub settings_in : List ℕ → Option CertHead
+settings_in line = settings_at (parts_of line)
 
 -- LISTS
 

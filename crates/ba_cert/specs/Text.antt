@@ -1,4 +1,4 @@
--- The text of a derivation: a head line, and a line for each step.
+-- The text of a derivation: two head lines, the second of which names the settings, and a line for each step.
 
 use Rattle.std.specs.Prelude.{ℕ, ◌^◌, ◌<◌, Bool, true, false, List, [], ◌∷◌, ◌++◌, map, flat_map, codes, decimal, All}
 use Rattle.ba_lits.specs.Literals.{Literal}
@@ -6,6 +6,7 @@ use Rattle.ba_steps.specs.Steps.{IsFormed}
 use Rattle.ba_steps.specs.declared.step.CertStep.{CertStep}
 use Rattle.ba_steps.specs.declared.step.CertStep.TheVariants.{Learn, Core, Delete, Block, EndLocated, EndNoRepair, EndTooMany, EndSpent}
 use Rattle.ba_text.specs.Texts.{choice_parts, spaced}
+use Rattle.ba_cert.specs.declared.head.CertHead.{CertHead}
 
 -- A LINE is made of parts. A literal is its variable, with a minus sign before it where it is negated.
 
@@ -50,10 +51,36 @@ abbrev pub with_feed : List ℕ → List ℕ
 with_feed line = line ++ 10 ∷ []
 
 abbrev pub head_line : List ℕ
-head_line = codes "bugassist 1"
+head_line = codes "bugassist 2"
 
-abbrev pub text_of : List CertStep → List ℕ
-text_of steps = with_feed head_line ++ flat_map (λ step. with_feed (line_of step)) steps
+-- the loop bound, the depth, the conflicts and the sets
+abbrev pub settings_line : CertHead → List ℕ
+settings_line h = joined (codes "b" ∷ decimal h.bounds.turns ∷ decimal h.bounds.frames
+    ∷ decimal h.conflicts ∷ decimal h.sets ∷ [])
+
+abbrev pub head_text : CertHead → List ℕ
+head_text h = with_feed head_line ++ with_feed (settings_line h)
+
+abbrev pub step_lines : List CertStep → List ℕ
+step_lines steps = flat_map (λ step. with_feed (line_of step)) steps
+
+abbrev pub text_of : CertHead → List CertStep → List ℕ
+text_of h steps = head_text h ++ step_lines steps
+
+-- the text of version 1, which names no settings
+abbrev pub old_head_line : List ℕ
+old_head_line = codes "bugassist 1"
+
+abbrev pub old_text_of : List CertStep → List ℕ
+old_text_of steps = with_feed old_head_line ++ step_lines steps
+
+-- WHICH SETTINGS HAVE A LINE: those with conflicts below 2^62, and numbers of 32 bits, which their type keeps
+
+pub record IsHead (h : CertHead) : Type 0 where
+  pub turns : h.bounds.turns < 2 ^ 32
+  pub frames : h.bounds.frames < 2 ^ 32
+  pub conflicts : h.conflicts < 2 ^ 62
+  pub sets : h.sets < 2 ^ 32
 
 -- WHICH STEPS HAVE A LINE: those that are formed, with numbers of groups of 32 bits, which their type keeps
 

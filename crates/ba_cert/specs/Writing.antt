@@ -9,6 +9,7 @@ use Rattle.ba_steps.specs.Steps.{IsFormed}
 use Rattle.ba_world.specs.World.{Appends, AppendsPrefix, OnlyWrites, Outside, StaysBut}
 use Rattle.ba_world.specs.declared.world.WorldError.{WorldError}
 use Rattle.ba_world.specs.declared.world.WorldError.TheVariants as world
+use Rattle.ba_cert.specs.declared.head.CertHead.{CertHead}
 use Rattle.ba_cert.specs.Certificates.{steps_from}
 use Rattle.ba_cert.specs.Text.{text_of}
 
@@ -17,17 +18,17 @@ abbrev pub sink_error : WorldError → SinkError
 sink_error world.Failed = sink.Failed
 sink_error world.Memory = sink.Memory
 
--- the steps of the whole lines that are kept
-abbrev pub steps_kept : Option (List ℕ) → Option (List CertStep)
-steps_kept kept = option_and_then (steps_from false) kept
+-- the steps of the whole lines that are kept, behind those of these settings
+abbrev pub steps_kept : CertHead → Option (List ℕ) → Option (List CertStep)
+steps_kept h kept = option_and_then (steps_from h false) kept
 
 -- the steps of the whole lines in the file of this name
-abbrev pub steps_at : List ℕ → Outside → Option (List CertStep)
-steps_at name outside = steps_kept (outside.kept name)
+abbrev pub steps_at : CertHead → List ℕ → Outside → Option (List CertStep)
+steps_at h name outside = steps_kept h (outside.kept name)
 
 -- as the one log of a sink
-abbrev pub logs_at : List ℕ → Outside → Logs
-logs_at name outside = steps_at name outside ∷ []
+abbrev pub logs_at : CertHead → List ℕ → Outside → Logs
+logs_at h name outside = steps_at h name outside ∷ []
 
 -- the file of this name holds this text, where what it holds is told; and text was appended to it
 abbrev pub Holds : List ℕ → List ℕ → Outside → Type 0
@@ -47,12 +48,13 @@ IsPrefix bytes text = (count : ℕ) × (bytes ≡ take count text)
 abbrev pub HoldsPrefix : List ℕ → List ℕ → Outside → Type 0
 HoldsPrefix name text outside = IfSome (outside.kept name) (λ bytes. IsPrefix bytes text)
 
--- these are the first bytes of some certificate; and those that the file of this name holds are, where it is told
-abbrev pub BeginsText : List ℕ → Type 0
-BeginsText bytes = (steps : List CertStep) × All IsFormed steps × IsPrefix bytes (text_of steps)
+-- these are the first bytes of some certificate of these settings; and those that the file of this name holds
+-- are, where it is told
+abbrev pub BeginsText : CertHead → List ℕ → Type 0
+BeginsText h bytes = (steps : List CertStep) × All IsFormed steps × IsPrefix bytes (text_of h steps)
 
-abbrev pub HoldsBeginning : List ℕ → Outside → Type 0
-HoldsBeginning name outside = ∥ IfSome (outside.kept name) BeginsText ∥₁
+abbrev pub HoldsBeginning : CertHead → List ℕ → Outside → Type 0
+HoldsBeginning h name outside = ∥ IfSome (outside.kept name) (BeginsText h) ∥₁
 
 -- the file being written has this name; the second also where its name isn't told
 abbrev pub is_named : List ℕ → Option (List ℕ) → Bool
@@ -64,19 +66,24 @@ may_be_named name None = true
 may_be_named name (Some other) = bytes_eq other name
 
 -- A file is being written, of this name as far as that is told. If what is kept under the name is told, it is
--- the lines of steps; where it is whole, nothing stands after the last of them.
-abbrev pub is_written : Bool → List ℕ → Bool → Option (List ℕ) → Option (List ℕ) → Bool
-is_written whole name is_writing writing None = is_writing && may_be_named name writing
-is_written whole name is_writing writing (Some bytes) =
-    is_writing && (is_named name writing && is_some (steps_from whole bytes))
+-- the two lines of these settings and those of steps; where it is whole, nothing stands after the last of them.
+abbrev pub is_written : CertHead → Bool → List ℕ → Bool → Option (List ℕ) → Option (List ℕ) → Bool
+is_written h whole name is_writing writing None = is_writing && may_be_named name writing
+is_written h whole name is_writing writing (Some bytes) =
+    is_writing && (is_named name writing && is_some (steps_from h whole bytes))
 
-unfoldable pub is_sound : Bool → List ℕ → Outside → Bool
-is_sound whole name outside = is_written whole name outside.is_writing outside.writing (outside.kept name)
+unfoldable pub is_sound : CertHead → Bool → List ℕ → Outside → Bool
+is_sound h whole name outside =
+    is_written h whole name outside.is_writing outside.writing (outside.kept name)
 
 -- only the file of this name was written
 pub record OnlyWritesTo (name : List ℕ) (old new : Outside) : Type 0 where
   pub kept : StaysBut name old.kept new.kept
   pub stays : OnlyWrites old new
+
+-- settings that no call has
+abbrev pub no_head : CertHead
+no_head = record { bounds = record { turns = 0; frames = 0 }; conflicts = 0; sets = 0 }
 
 -- an outside of which nothing is told
 abbrev pub nothing_told : Outside

@@ -2,7 +2,7 @@
 
 ghost use Rattle.std.specs.Prelude.{◌≡◌, ◌^◌, ◌<◌, ◌≤◌, pos, neg_ℤ, option_map, IfSome};
 ghost use Rattle.ba_cert.specs.Text.{sign_text};
-ghost use Rattle.ba_cert.specs.Reading.{after_minus, counted_of, group_of, if_below, leads_with_zero, literal_of, number_of, value_of};
+ghost use Rattle.ba_cert.specs.Reading.{after_minus, counted_of, group_of, if_below, leads_with_zero, literal_of, number_of, small_of, value_of};
 
 use ba_bytes::decimal::natural;
 use ba_lits::Lit;
@@ -56,6 +56,14 @@ fn if_below_32(number: u64) -> Option<u32>
     } else {
         None
     }
+}
+
+/// A number of 32 bits.
+#[tactic(auto, unfolding(crate::specs::Reading::small_of))]
+pub(crate) fn small_of(part: &[u8]) -> Option<u32>
+    ensures { result ≡ small_of part.now }
+{
+    if_below_32(number_of(part)?)
 }
 
 /// The number of a group, from 1 to 2^32 - 1.

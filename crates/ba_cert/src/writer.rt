@@ -1,13 +1,14 @@
 //! Writing the line of a step.
 
-ghost use Rattle.std.specs.Prelude.{◌≡◌, ◌++◌, ◌^◌, ◌<◌, All, IfOk, OnOk};
-ghost use Rattle.ba_cert.specs.Text.{HasSmallGroups, clause_parts, head_line, line_of, with_feed};
+ghost use Rattle.std.specs.Prelude.{◌≡◌, ◌++◌, ◌^◌, ◌<◌, ◌∷◌, [], decimal, All, IfOk, OnOk};
+ghost use Rattle.ba_cert.specs.Text.{HasSmallGroups, IsHead, clause_parts, head_text, line_of, settings_line, with_feed};
 ghost use Rattle.ba_text.specs.Texts.{spaced};
 
 use crate::entry::push_list;
+use crate::head::CertHead;
 use ba_lits::Lit;
 use ba_steps::CertStep;
-use ba_text::push_choices;
+use ba_text::{push_choices, push_number};
 use std::alloc::{AllocError, Global};
 
 /// Adds letters, and then literals and hints, each part after a space.
@@ -69,11 +70,51 @@ pub fn step_text(alloc: Global, step: &CertStep) -> Result<Vec<u8>, AllocError>
     Ok(text)
 }
 
-/// The first line of a certificate, with its line feed.
-pub fn head_text() -> &'static [u8]
-    ensures { result.now ≡ with_feed head_line }
+/// Adds a number after a space.
+fn push_spaced(number: u64, text: &mut Vec<u8>) -> Result<(), AllocError>
+    ensures { OnOk result (text.new.items ≡ text.old.items ++ spaced (decimal number ∷ [])) }
 {
-    b"bugassist 1\n"
+    text.extend_from_slice(b" ")?;
+    push_number(number, text)
+}
+
+/// Adds the settings line, without its line feed.
+fn push_settings(head: &CertHead, text: &mut Vec<u8>) -> Result<(), AllocError>
+    ensures { OnOk result (text.new.items ≡ text.old.items ++ settings_line head.now) }
+{
+    text.extend_from_slice(b"b")?;
+    push_spaced(u64::from(head.bounds.turns), text)?;
+    push_spaced(u64::from(head.bounds.frames), text)?;
+    push_spaced(head.conflicts, text)?;
+    push_spaced(u64::from(head.sets), text)
+}
+
+/// The first two lines of a certificate, each with its line feed: the version, and the settings.
+///
+/// The one error is want of memory.
+pub fn head_text(alloc: Global, head: &CertHead) -> Result<Vec<u8>, AllocError>
+    ensures { IfOk result (λ text. text.items ≡ head_text head.now) }
+{
+    let mut text = Vec::new(alloc);
+    text.extend_from_slice(b"bugassist 2\n")?;
+    push_settings(head, &mut text)?;
+    text.extend_from_slice(b"\n")?;
+    Ok(text)
+}
+
+/// Says what the type of a number keeps.
+fn has_32_bits(number: u32)
+    ensures { number < 2 ^ 32 }
+{}
+
+/// Says what the type of settings keeps, beside the conflicts: these settings have a line.
+pub(crate) fn is_head(head: &CertHead)
+    requires { head.now.conflicts < 2 ^ 62 }
+    ensures { IsHead head.now }
+{
+    has_32_bits(head.bounds.turns);
+    has_32_bits(head.bounds.frames);
+    has_32_bits(head.sets);
 }
 
 /// Says what the type of a step keeps: the numbers of groups have 32 bits.

@@ -1,15 +1,18 @@
 -- A text is accepted exactly where it is a certificate.
 
-use Rattle.std.proofs.Common.{◌≡◌, ℕ, ◌+◌, ◌==◌, Bool, true, false, cond, Option, None, Some, List, [], ◌∷◌, ◌++◌, map, flat_map, bytes_eq, All, refl, sym, ap, ◌∙◌, subst, append_assoc, append-nil, arith, ◌↔◌}
+use Rattle.std.proofs.Common.{◌≡◌, ℕ, ◌+◌, ◌==◌, Bool, true, false, cond, Option, None, Some, List, [], ◌∷◌, ◌++◌, map, flat_map, bytes_eq, All, refl, sym, ap, ◌∙◌, subst, append_assoc, append-nil, arith, ◌↔◌, ◌&&◌, inl, inr, ◌⊎◌}
+use Rattle.std.proofs.lemmas.Bool.{and_from, and_parts, eqb-true}
 use Rattle.std.proofs.lemmas.Bool.Decides.{nat_tests}
+use Rattle.std.proofs.lemmas.List.Concat.{flat_map-append}
 use Rattle.std.proofs.lemmas.List.Elements.{All-cons, All-head, All-nil, All-tail, All-weaker}
 use Rattle.std.proofs.lemmas.Option.{none-some, same_Some}
 use Rattle.std.proofs.lemmas.Slice.Eq.{bytes_eq-Decides}
-use Rattle.ba_cert.specs.Reading.{step_in}
-use Rattle.ba_cert.specs.Text.{HasLine, head_line, line_of, text_of, with_feed}
+use Rattle.ba_cert.specs.declared.head.CertHead.{CertHead}
+use Rattle.ba_cert.specs.Reading.{head_with, settings_in, step_in}
+use Rattle.ba_cert.specs.Text.{HasLine, IsHead, head_line, line_of, old_head_line, old_text_of, settings_line, step_lines, text_of, with_feed}
 use Rattle.ba_cert.proofs.LineLaws.{line-again, line-back, line-feedless}
 use Rattle.ba_cert.proofs.PlainLaws.{no_feed}
-use Rattle.ba_cert.proofs.CertificateLaws.{lines_of}
+use Rattle.ba_cert.proofs.SettingsLaws.{settings-again, settings-back, settings-feedless}
 use Rattle.ba_derivations.specs.Derivations.{Problem, Verdict, start_of, verdict_of}
 use Rattle.ba_steps.specs.Steps.{IsFormed}
 use Rattle.ba_steps.specs.declared.step.CertStep.{CertStep}
@@ -17,7 +20,7 @@ use Rattle.ba_steps.specs.declared.step.StepError.{StepError}
 use Rattle.ba_choices.specs.Judges.{Judge}
 use Rattle.ba_checker.specs.Judging.{after, after_all, error_of, next_if}
 use Rattle.ba_checker.specs.States.{State}
-use Rattle.ba_check.specs.Findings.{Accepted, Course, Goes, IsCertificateOf, Stops, after_head, after_line, after_lines, after_read, after_step, bad_line, code_of, course_of, finding_by, finding_of}
+use Rattle.ba_check.specs.Findings.{Accepted, Awaits, Begins, Course, Goes, IsCertificateOf, IsTextOf, Stops, after_line, after_lines, after_read, after_settings, after_step, bad_line, code_of, course_of, finding_by, finding_of, other_settings, same_settings}
 use Rattle.ba_check.specs.Lines.{HasNoFeed, lines_in, rest_in}
 use Rattle.ba_check.proofs.CourseLaws.{stopped}
 use Rattle.ba_check.proofs.LineLaws.{first-line, rest-behind, text-again}
@@ -36,46 +39,45 @@ record Leads (good : Judge) (s : State) (lines : List (List ℕ)) (verdict : Ver
 -- WHAT IS ACCEPTED has steps
 
 -- a line more that is not refused
-record IsTaken (good : Judge) (n : ℕ) (s : State) (line : List ℕ) (lines : List (List ℕ)) (end : Course) :
+record IsTaken (head : CertHead) (good : Judge) (n : ℕ) (s : State) (line : List ℕ) (lines : List (List ℕ))
+    (end : Course) :
     Type 0 where
   step : CertStep
   is : step_in line ≡ Some step
   allowed : error_of good s step ≡ None
-  others : after_lines good (Goes (n + 1) (after s step) (verdict_of s step)) lines ≡ end
+  others : after_lines head good (Goes (n + 1) (after s step) (verdict_of s step)) lines ≡ end
 
-never : (good : Judge) (number code m : ℕ) (lines : List (List ℕ)) (t : State) (v : Verdict) →
-    after_lines good (Stops number code) lines ≡ Goes m t (Some v) → ⊥
-never good number code m lines t v e =
-    let same : Stops number code ≡ Goes m t (Some v) = sym (stopped good number code lines) ∙ e in cc
+never : (head : CertHead) (good : Judge) (number code m : ℕ) (lines : List (List ℕ)) (t : State)
+    (v : Verdict) →
+    after_lines head good (Stops number code) lines ≡ Goes m t (Some v) → ⊥
+never head good number code m lines t v e =
+    let same : Stops number code ≡ Goes m t (Some v) = sym (stopped head good number code lines) ∙ e in cc
 
-pub later : (good : Judge) (n : ℕ) (s : State) (said : Option Verdict) (line : List ℕ) → (n == 0) ≡ false →
-    after_line good (Goes n s said) line ≡ after_read good n s (step_in line)
+later : (head : CertHead) (good : Judge) (n : ℕ) (s : State) (said : Option Verdict) (line : List ℕ) →
+    after_line head good (Goes n s said) line ≡ after_read good n s (step_in line)
 unfolding after_line
-later good n s said line some =
-    ap (λ t. cond t (after_head s line) (after_read good n s (step_in line))) some
+later head good n s said line = refl
 
-taken : (good : Judge) (n : ℕ) (s : State) (said : Option Verdict) (line : List ℕ) (lines : List (List ℕ))
-    (m : ℕ) (t : State) (v : Verdict) → (n == 0) ≡ false →
-    after_lines good (Goes n s said) (line ∷ lines) ≡ Goes m t (Some v) →
-    IsTaken good n s line lines (Goes m t (Some v))
-taken good n s said line lines m t v some e =
-    by (step_in line) refl (sym (ap (λ c. after_lines good c lines) (later good n s said line some)) ∙ e)
+taken : (head : CertHead) (good : Judge) (n : ℕ) (s : State) (said : Option Verdict) (line : List ℕ)
+    (lines : List (List ℕ))
+    (m : ℕ) (t : State) (v : Verdict) →
+    after_lines head good (Goes n s said) (line ∷ lines) ≡ Goes m t (Some v) →
+    IsTaken head good n s line lines (Goes m t (Some v))
+taken head good n s said line lines m t v e =
+    by (step_in line) refl (sym (ap (λ c. after_lines head good c lines) (later head good n s said line)) ∙ e)
   where
     allowed : (step : CertStep) → step_in line ≡ Some step → (o : Option StepError) →
         error_of good s step ≡ o →
-        after_lines good (after_step n s step o) lines ≡ Goes m t (Some v) →
-        IsTaken good n s line lines (Goes m t (Some v))
+        after_lines head good (after_step n s step o) lines ≡ Goes m t (Some v) →
+        IsTaken head good n s line lines (Goes m t (Some v))
     allowed step is None none rest = record { step = step; is = is; allowed = none; others = rest }
-    allowed step is (Some error) none rest = absurd (never good (n + 1) (code_of error) m lines t v rest)
+    allowed step is (Some error) none rest = absurd (never head good (n + 1) (code_of error) m lines t v rest)
 
     by : (o : Option CertStep) → step_in line ≡ o →
-        after_lines good (after_read good n s o) lines ≡ Goes m t (Some v) →
-        IsTaken good n s line lines (Goes m t (Some v))
-    by None is rest = absurd (never good (n + 1) bad_line m lines t v rest)
+        after_lines head good (after_read good n s o) lines ≡ Goes m t (Some v) →
+        IsTaken head good n s line lines (Goes m t (Some v))
+    by None is rest = absurd (never head good (n + 1) bad_line m lines t v rest)
     by (Some step) is rest = allowed step is (error_of good s step) refl rest
-
-next_some : (n : ℕ) → ((n + 1) == 0) ≡ false
-next_some n = grind (arith, nat_tests)
 
 said-by : (n m : ℕ) (s t : State) (said : Option Verdict) (v : Verdict) → Goes n s said ≡ Goes m t (Some v) →
     said ≡ Some v
@@ -114,18 +116,19 @@ more-leads good s line lines step v is allowed others =
       says = others.says;
     }
 
-leads-back : (good : Judge) (n : ℕ) (s : State) (said : Option Verdict) (line : List ℕ) (lines : List (List
+leads-back : (head : CertHead) (good : Judge) (n : ℕ) (s : State) (said : Option Verdict) (line : List ℕ)
+    (lines : List (List
     ℕ))
-    (m : ℕ) (t : State) (v : Verdict) → (n == 0) ≡ false →
-    after_lines good (Goes n s said) (line ∷ lines) ≡ Goes m t (Some v) → Leads good s (line ∷ lines) v
-leads-back good n s said line [] m t v some e =
-    let one = taken good n s said line [] m t v some e in
+    (m : ℕ) (t : State) (v : Verdict) →
+    after_lines head good (Goes n s said) (line ∷ lines) ≡ Goes m t (Some v) → Leads good s (line ∷ lines) v
+leads-back head good n s said line [] m t v e =
+    let one = taken head good n s said line [] m t v e in
     last-leads good s line one.step v one.is one.allowed
     (said-by (n + 1) m (after s one.step) t (verdict_of s one.step) v one.others)
-leads-back good n s said line (other ∷ lines) m t v some e =
-    let one = taken good n s said line (other ∷ lines) m t v some e in
+leads-back head good n s said line (other ∷ lines) m t v e =
+    let one = taken head good n s said line (other ∷ lines) m t v e in
     more-leads good s line (other ∷ lines) one.step v one.is one.allowed
-    (leads-back good (n + 1) (after s one.step) (verdict_of s one.step) other lines m t v (next_some n)
+    (leads-back head good (n + 1) (after s one.step) (verdict_of s one.step) other lines m t v
     one.others)
 
 -- what an accepted text is
@@ -138,38 +141,140 @@ record IsAccepted (course : Course) (rest : List ℕ) (v : Verdict) : Type 0 whe
 accepted_by : (course : Course) (rest : List ℕ) (v : Verdict) → finding_by course rest ≡ Accepted v →
     IsAccepted course rest v
 accepted_by (Stops number code) rest v e = cc
+accepted_by (Begins s) rest v e = cc
+accepted_by (Awaits s) rest v e = cc
 accepted_by (Goes lines s None) rest v e = cc
 accepted_by (Goes lines s (Some said)) (b ∷ bs) v e = cc
 accepted_by (Goes lines s (Some said)) [] v e =
     let same : said ≡ v = cc in
     record { lines = lines; state = s; course_is = ap (λ w. Goes lines s (Some w)) same; rest_is = refl }
 
--- the lines begin with the head line
-record HasHead (good : Judge) (s : State) (lines : List (List ℕ)) (v : Verdict) : Type 0 where
-  others : List (List ℕ)
-  lines_are : lines ≡ head_line ∷ others
-  leads : Leads good s others v
+-- SETTINGS that are those of the call
 
-head-back : (good : Judge) (s : State) (lines : List (List ℕ)) (m : ℕ) (t : State) (v : Verdict) →
-    after_lines good (Goes 0 s None) lines ≡ Goes m t (Some v) → HasHead good s lines v
-unfolding after_line
-head-back good s [] m t v e = cc
-head-back good s (head ∷ others) m t v e = by (bytes_eq head head_line) refl e
+same-is : (h other : CertHead) → same_settings h other ≡ true → h ≡ other
+same-is h other e =
+    let one = and_parts (h.bounds.turns == other.bounds.turns) ((h.bounds.frames == other.bounds.frames)
+    && ((h.conflicts == other.conflicts) && (h.sets == other.sets))) e in
+    let two = and_parts (h.bounds.frames == other.bounds.frames)
+    ((h.conflicts == other.conflicts) && (h.sets == other.sets)) one.1 in
+    let three = and_parts (h.conflicts == other.conflicts) (h.sets == other.sets) two.1 in
+    ap (λ t. head_with t h.bounds.frames h.conflicts h.sets)
+    (eqb-true h.bounds.turns other.bounds.turns one.0)
+    ∙ ap (λ f. head_with other.bounds.turns f h.conflicts h.sets)
+    (eqb-true h.bounds.frames other.bounds.frames two.0)
+    ∙ ap (λ c. head_with other.bounds.turns other.bounds.frames c h.sets)
+    (eqb-true h.conflicts other.conflicts three.0)
+    ∙ ap (λ s. head_with other.bounds.turns other.bounds.frames other.conflicts s)
+    (eqb-true h.sets other.sets three.1)
+
+same-self : (h : CertHead) → same_settings h h ≡ true
+same-self h =
+    and_from (h.bounds.turns == h.bounds.turns) ((h.bounds.frames == h.bounds.frames)
+    && ((h.conflicts == h.conflicts) && (h.sets == h.sets))) (eqb-same h.bounds.turns)
+    (and_from (h.bounds.frames == h.bounds.frames) ((h.conflicts == h.conflicts) && (h.sets == h.sets))
+    (eqb-same h.bounds.frames)
+    (and_from (h.conflicts == h.conflicts) (h.sets == h.sets) (eqb-same h.conflicts) (eqb-same h.sets)))
   where
-    some : (lines : List (List ℕ)) → after_lines good (Goes 1 s None) lines ≡ Goes m t (Some v) →
-        Leads good s lines v
-    some [] e = cc
-    some (line ∷ lines) e = leads-back good 1 s None line lines m t v refl e
+    eqb-same : (n : ℕ) → (n == n) ≡ true
+    eqb-same n = grind (arith, nat_tests)
 
-    by : (b : Bool) → bytes_eq head head_line ≡ b →
-        after_lines good (cond b (Goes 1 s None) (Stops 1 bad_line)) others ≡ Goes m t (Some v) →
-        HasHead good s (head ∷ others) v
-    by true is e = record {
+-- the lines begin with the settings
+record HasSettings (head : CertHead) (good : Judge) (s : State) (lines : List (List ℕ)) (v : Verdict) : Type 0
+  where
+    others : List (List ℕ)
+    formed : IsHead head
+    lines_are : lines ≡ settings_line head ∷ others
+    leads : Leads good s others v
+
+leads-from : (head : CertHead) (good : Judge) (n : ℕ) (s : State) (lines : List (List ℕ)) (m : ℕ) (t : State)
+    (v : Verdict) →
+    after_lines head good (Goes n s None) lines ≡ Goes m t (Some v) → Leads good s lines v
+leads-from head good n s [] m t v e = cc
+leads-from head good n s (line ∷ lines) m t v e = leads-back head good n s None line lines m t v e
+
+awaits : (head : CertHead) (good : Judge) (s : State) (line : List ℕ) →
+    after_line head good (Awaits s) line ≡ after_settings head s (settings_in line)
+unfolding after_line
+awaits head good s line = refl
+
+has-settings : (head : CertHead) (good : Judge) (s : State) (lines : List (List ℕ)) (m : ℕ) (t : State)
+    (v : Verdict) →
+    after_lines head good (Awaits s) lines ≡ Goes m t (Some v) → HasSettings head good s lines v
+has-settings head good s [] m t v e = cc
+has-settings head good s (line ∷ others) m t v e =
+    read (settings_in line) refl
+    (sym (ap (λ c. after_lines head good c others) (awaits head good s line)) ∙ e)
+  where
+    tested : (found : CertHead) → settings_in line ≡ Some found → (b : Bool) →
+        same_settings found head ≡ b →
+        after_lines head good (cond b (Goes 2 s None) (Stops 2 other_settings)) others ≡ Goes m t (Some v) →
+        HasSettings head good s (line ∷ others) v
+    tested found is true same e =
+        let back = settings-back line found is in
+        let heads = same-is found head same in
+        record {
+          others = others;
+          formed = subst IsHead heads back.1;
+          lines_are = ap (λ l. l ∷ others) (back.0 ∙ ap settings_line heads);
+          leads = leads-from head good 2 s others m t v e;
+        }
+    tested found is false same e = absurd (never head good 2 other_settings m others t v e)
+
+    read : (o : Option CertHead) → settings_in line ≡ o →
+        after_lines head good (after_settings head s o) others ≡ Goes m t (Some v) →
+        HasSettings head good s (line ∷ others) v
+    read None is e = absurd (never head good 2 bad_line m others t v e)
+    read (Some found) is e = tested found is (same_settings found head) refl e
+
+-- the lines begin with those of a head
+abbrev IsFront : CertHead → List (List ℕ) → Type 0
+IsFront head front =
+    (IsHead head × (front ≡ head_line ∷ settings_line head ∷ [])) ⊎ (front ≡ old_head_line ∷ [])
+
+record HasHead (head : CertHead) (good : Judge) (s : State) (lines : List (List ℕ)) (v : Verdict) : Type 0
+  where
+    front : List (List ℕ)
+    others : List (List ℕ)
+    front_is : IsFront head front
+    lines_are : lines ≡ front ++ others
+    leads : Leads good s others v
+
+head-back : (head : CertHead) (good : Judge) (s : State) (lines : List (List ℕ)) (m : ℕ) (t : State)
+    (v : Verdict) →
+    after_lines head good (Begins s) lines ≡ Goes m t (Some v) → HasHead head good s lines v
+unfolding after_line
+head-back head good s [] m t v e = cc
+head-back head good s (first ∷ others) m t v e =
+    old (bytes_eq first old_head_line) refl e
+  where
+    new : (b : Bool) → bytes_eq first head_line ≡ b →
+        after_lines head good (cond b (Awaits s) (Stops 1 bad_line)) others ≡ Goes m t (Some v) →
+        HasHead head good s (first ∷ others) v
+    new true is e =
+        let h = has-settings head good s others m t v e in
+        record {
+          front = head_line ∷ settings_line head ∷ [];
+          others = h.others;
+          front_is = inl (h.formed, refl);
+          lines_are = ap (λ l. l ∷ others) ((bytes_eq-Decides first head_line).0 is)
+              ∙ ap (λ ls. head_line ∷ ls) h.lines_are;
+          leads = h.leads;
+        }
+    new false is e = absurd (never head good 1 bad_line m others t v e)
+
+    old : (b : Bool) → bytes_eq first old_head_line ≡ b →
+        after_lines head good
+        (cond b (Goes 1 s None) (cond (bytes_eq first head_line) (Awaits s) (Stops 1 bad_line))) others
+        ≡ Goes m t (Some v) →
+        HasHead head good s (first ∷ others) v
+    old true is e = record {
+      front = old_head_line ∷ [];
       others = others;
-      lines_are = ap (λ l. l ∷ others) ((bytes_eq-Decides head head_line).0 is);
-      leads = some others e;
+      front_is = inr refl;
+      lines_are = ap (λ l. l ∷ others) ((bytes_eq-Decides first old_head_line).0 is);
+      leads = leads-from head good 1 s others m t v e;
     }
-    by false is e = absurd (never good 1 bad_line m others t v e)
+    old false is e = new (bytes_eq first head_line) refl e
 
 -- the text of lines
 feeds : (steps : List CertStep) →
@@ -177,14 +282,32 @@ feeds : (steps : List CertStep) →
 feeds [] = refl
 feeds (step ∷ steps) = ap (λ r. with_feed (line_of step) ++ r) (feeds steps)
 
-text-from : (text : List ℕ) (steps : List CertStep) → lines_in text ≡ head_line ∷ map line_of steps →
-    rest_in text ≡ [] → text ≡ text_of steps
-text-from text steps lines rest =
+joined-from : (text : List ℕ) (front : List (List ℕ)) (steps : List CertStep) →
+    lines_in text ≡ front ++ map line_of steps →
+    rest_in text ≡ [] → text ≡ flat_map with_feed front ++ step_lines steps
+joined-from text front steps lines rest =
     sym (text-again text)
     ∙ ap (λ r. flat_map with_feed (lines_in text) ++ r) rest
     ∙ append-nil (flat_map with_feed (lines_in text))
     ∙ ap (flat_map with_feed) lines
-    ∙ ap (λ r. with_feed head_line ++ r) (feeds steps)
+    ∙ flat_map-append with_feed front (map line_of steps)
+    ∙ ap (λ r. flat_map with_feed front ++ r) (feeds steps)
+
+text-from : (head : CertHead) (text : List ℕ) (front : List (List ℕ)) (steps : List CertStep) →
+    IsFront head front → lines_in text ≡ front ++ map line_of steps →
+    rest_in text ≡ [] → IsTextOf head text steps
+text-from head text front steps (inl is) lines rest =
+    inl (
+      is.0,
+      joined-from text front steps lines rest
+          ∙ ap (λ f. flat_map with_feed f ++ step_lines steps) is.1
+          ∙ ap (λ r. (with_feed head_line ++ r) ++ step_lines steps)
+          (append-nil (with_feed (settings_line head))),
+    )
+text-from head text front steps (inr is) lines rest =
+    inr (joined-from text front steps lines rest
+    ∙ ap (λ f. flat_map with_feed f ++ step_lines steps) is
+    ∙ ap (λ r. r ++ step_lines steps) (append-nil (with_feed old_head_line)))
 
 -- those of a list in front of another
 pub front-all : (P : CertStep → Type 0) (front back : List CertStep) → All P (front ++ back) → All P front
@@ -192,17 +315,19 @@ front-all P [] back all = All-nil P
 front-all P (x ∷ xs) back all =
     All-cons P x xs (All-head P x (xs ++ back) all) (front-all P xs back (All-tail P x (xs ++ back) all))
 
-pub accepted : (p : Problem) (text : List ℕ) (v : Verdict) → finding_of p text ≡ Accepted v →
-    IsCertificateOf p text v
-accepted p text v e =
-    let a = accepted_by (course_of p text) (rest_in text) v e in
-    let h = head-back p.good (start_of p) (lines_in text) a.lines a.state v a.course_is in
+pub accepted : (head : CertHead) (p : Problem) (text : List ℕ) (v : Verdict) → finding_of head p text
+    ≡ Accepted v →
+    IsCertificateOf head p text v
+accepted head p text v e =
+    let a = accepted_by (course_of head p text) (rest_in text) v e in
+    let h = head-back head p.good (start_of p) (lines_in text) a.lines a.state v a.course_is in
     let l = h.leads in
     let steps : List CertStep = l.front ++ l.last ∷ [] in
     record {
       steps = steps;
       have_lines = l.have_lines;
-      text_is = text-from text steps (h.lines_are ∙ ap (λ ls. head_line ∷ ls) l.lines_are) a.rest_is;
+      text_is = text-from head text h.front steps h.front_is
+          (h.lines_are ∙ ap (λ ls. h.front ++ ls) l.lines_are) a.rest_is;
       derives = record {
         front = l.front;
         last = l.last;
@@ -223,34 +348,61 @@ feed_first line more = append_assoc line (10 ∷ []) more
 step-plain : (step : CertStep) → HasLine step → HasNoFeed (line_of step)
 step-plain step h = no_feed (line_of step) (line-feedless step h)
 
-lines-again : (steps : List CertStep) → All HasLine steps → lines_in (lines_of steps) ≡ map line_of steps
+lines-again : (steps : List CertStep) → All HasLine steps → lines_in (step_lines steps) ≡ map line_of steps
 unfolding lines_in
 lines-again [] all = refl
 lines-again (s ∷ ss) all =
-    ap lines_in (feed_first (line_of s) (lines_of ss))
-    ∙ first-line (line_of s) (lines_of ss) (step-plain s (All-head HasLine s ss all))
+    ap lines_in (feed_first (line_of s) (step_lines ss))
+    ∙ first-line (line_of s) (step_lines ss) (step-plain s (All-head HasLine s ss all))
     ∙ ap (λ ls. line_of s ∷ ls) (lines-again ss (All-tail HasLine s ss all))
 
-rest-again : (steps : List CertStep) → All HasLine steps → rest_in (lines_of steps) ≡ []
+rest-again : (steps : List CertStep) → All HasLine steps → rest_in (step_lines steps) ≡ []
 unfolding rest_in
 rest-again [] all = refl
 rest-again (s ∷ ss) all =
-    ap rest_in (feed_first (line_of s) (lines_of ss))
-    ∙ rest-behind (line_of s) (lines_of ss) (step-plain s (All-head HasLine s ss all))
+    ap rest_in (feed_first (line_of s) (step_lines ss))
+    ∙ rest-behind (line_of s) (step_lines ss) (step-plain s (All-head HasLine s ss all))
     ∙ rest-again ss (All-tail HasLine s ss all)
 
-head-plain : HasNoFeed head_line
-head-plain = no_feed head_line refl
+-- those of version 2
+module _ (head : CertHead) (is : IsHead head) where
+  settings-plain : HasNoFeed (settings_line head)
+  settings-plain = no_feed (settings_line head) (settings-feedless head is)
 
-text-lines : (steps : List CertStep) → All HasLine steps →
-    lines_in (text_of steps) ≡ head_line ∷ map line_of steps
-text-lines steps all =
-    ap lines_in (feed_first head_line (lines_of steps)) ∙ first-line head_line (lines_of steps) head-plain
-    ∙ ap (λ ls. head_line ∷ ls) (lines-again steps all)
+  text-is : (steps : List CertStep) →
+      text_of head steps ≡ head_line ++ 10 ∷ (settings_line head ++ 10 ∷ step_lines steps)
+  text-is steps =
+      append_assoc (with_feed head_line) (with_feed (settings_line head)) (step_lines steps)
+      ∙ feed_first head_line (with_feed (settings_line head) ++ step_lines steps)
+      ∙ ap (λ r. head_line ++ 10 ∷ r) (feed_first (settings_line head) (step_lines steps))
 
-text-rest : (steps : List CertStep) → All HasLine steps → rest_in (text_of steps) ≡ []
-text-rest steps all =
-    ap rest_in (feed_first head_line (lines_of steps)) ∙ rest-behind head_line (lines_of steps) head-plain
+  text-lines : (steps : List CertStep) → All HasLine steps →
+      lines_in (text_of head steps) ≡ head_line ∷ settings_line head ∷ map line_of steps
+  text-lines steps all =
+      ap lines_in (text-is steps)
+      ∙ first-line head_line (settings_line head ++ 10 ∷ step_lines steps) (no_feed head_line refl)
+      ∙ ap (λ ls. head_line ∷ ls) (first-line (settings_line head) (step_lines steps) settings-plain
+      ∙ ap (λ ls. settings_line head ∷ ls) (lines-again steps all))
+
+  text-rest : (steps : List CertStep) → All HasLine steps → rest_in (text_of head steps) ≡ []
+  text-rest steps all =
+      ap rest_in (text-is steps)
+      ∙ rest-behind head_line (settings_line head ++ 10 ∷ step_lines steps) (no_feed head_line refl)
+      ∙ rest-behind (settings_line head) (step_lines steps) settings-plain
+      ∙ rest-again steps all
+
+-- and of version 1
+old-lines : (steps : List CertStep) → All HasLine steps →
+    lines_in (old_text_of steps) ≡ old_head_line ∷ map line_of steps
+old-lines steps all =
+    ap lines_in (feed_first old_head_line (step_lines steps))
+    ∙ first-line old_head_line (step_lines steps) (no_feed old_head_line refl)
+    ∙ ap (λ ls. old_head_line ∷ ls) (lines-again steps all)
+
+old-rest : (steps : List CertStep) → All HasLine steps → rest_in (old_text_of steps) ≡ []
+old-rest steps all =
+    ap rest_in (feed_first old_head_line (step_lines steps))
+    ∙ rest-behind old_head_line (step_lines steps) (no_feed old_head_line refl)
     ∙ rest-again steps all
 
 record Arrives (course : Course) (v : Verdict) : Type 0 where
@@ -259,12 +411,11 @@ record Arrives (course : Course) (v : Verdict) : Type 0 where
   course_is : course ≡ Goes lines state (Some v)
 
 -- one line
-taken-again : (good : Judge) (n : ℕ) (s : State) (said : Option Verdict) (step : CertStep) →
-    (n == 0) ≡ false →
+taken-again : (head : CertHead) (good : Judge) (n : ℕ) (s : State) (said : Option Verdict) (step : CertStep) →
     HasLine step → error_of good s step ≡ None →
-    after_line good (Goes n s said) (line_of step) ≡ Goes (n + 1) (after s step) (verdict_of s step)
-taken-again good n s said step some h allowed =
-    later good n s said (line_of step) some
+    after_line head good (Goes n s said) (line_of step) ≡ Goes (n + 1) (after s step) (verdict_of s step)
+taken-again head good n s said step h allowed =
+    later head good n s said (line_of step)
     ∙ ap (after_read good n s) (line-again step h)
     ∙ ap (after_step n s step) allowed
 
@@ -282,47 +433,88 @@ next-is good s step rest end e = by (error_of good s step) refl e
     by None is e = record { allowed = is; others = e }
     by (Some error) is e = absurd (none-some end e)
 
-arrives : (good : Judge) (n : ℕ) (s : State) (said : Option Verdict) (front : List CertStep) (last : CertStep)
-    (end : State) (v : Verdict) → (n == 0) ≡ false → All HasLine (front ++ last ∷ []) →
+arrives : (head : CertHead) (good : Judge) (n : ℕ) (s : State) (said : Option Verdict)
+    (front : List CertStep) (last : CertStep)
+    (end : State) (v : Verdict) → All HasLine (front ++ last ∷ []) →
     after_all good s front ≡ Some end → error_of good end last ≡ None → verdict_of end last ≡ Some v →
-    Arrives (after_lines good (Goes n s said) (map line_of (front ++ last ∷ []))) v
-arrives good n s said [] last end v some all leads ends says =
+    Arrives (after_lines head good (Goes n s said) (map line_of (front ++ last ∷ []))) v
+arrives head good n s said [] last end v all leads ends says =
     let same : s ≡ end = same_Some s end leads in
     let allowed : error_of good s last ≡ None = ap (λ t. error_of good t last) same ∙ ends in
     let told : verdict_of s last ≡ Some v = ap (λ t. verdict_of t last) same ∙ says in
     record {
       lines = n + 1;
       state = after s last;
-      course_is = taken-again good n s said last some (All-head HasLine last [] all) allowed
+      course_is = taken-again head good n s said last (All-head HasLine last [] all) allowed
           ∙ ap (Goes (n + 1) (after s last)) told;
     }
-arrives good n s said (step ∷ front) last end v some all leads ends says =
+arrives head good n s said (step ∷ front) last end v all leads ends says =
     let next = next-is good s step (after_all good (after s step) front) end leads in
-    let rest = arrives good (n + 1) (after s step) (verdict_of s step) front last end v (next_some n)
+    let rest = arrives head good (n + 1) (after s step) (verdict_of s step) front last end v
     (All-tail HasLine step (front ++ last ∷ []) all) next.others ends says in
     record {
       lines = rest.lines;
       state = rest.state;
-      course_is = ap (λ c. after_lines good c (map line_of (front ++ last ∷ [])))
-          (taken-again good n s said step some (All-head HasLine step (front ++ last ∷ []) all) next.allowed)
+      course_is = ap (λ c. after_lines head good c (map line_of (front ++ last ∷ [])))
+          (taken-again head good n s said step (All-head HasLine step (front ++ last ∷ []) all) next.allowed)
           ∙ rest.course_is;
     }
 
-pub certified : (p : Problem) (text : List ℕ) (v : Verdict) → IsCertificateOf p text v →
-    finding_of p text ≡ Accepted v
+-- the lines of a head are taken
+begins-new : (head : CertHead) (good : Judge) (s : State) (lines : List (List ℕ)) → IsHead head →
+    after_lines head good (Begins s) (head_line ∷ settings_line head ∷ lines)
+    ≡ after_lines head good (Goes 2 s None) lines
 unfolding after_line
-certified p text v c =
+begins-new head good s lines is =
+    ap (λ o. after_lines head good (after_settings head s o) lines) (settings-again head is)
+    ∙ ap (λ b. after_lines head good (cond b (Goes 2 s None) (Stops 2 other_settings)) lines)
+    (same-self head)
+
+begins-old : (head : CertHead) (good : Judge) (s : State) (lines : List (List ℕ)) →
+    after_lines head good (Begins s) (old_head_line ∷ lines) ≡ after_lines head good (Goes 1 s None) lines
+unfolding after_line
+begins-old head good s lines = refl
+
+-- where all lines are steps but those of the head, and they are so many
+record Comes (head : CertHead) (p : Problem) (text : List ℕ) (steps : List CertStep) : Type 0 where
+  count : ℕ
+  course_is : course_of head p text
+      ≡ after_lines head p.good (Goes count (start_of p) None) (map line_of steps)
+  rest_is : rest_in text ≡ []
+
+comes : (head : CertHead) (p : Problem) (text : List ℕ) (steps : List CertStep) → All HasLine steps →
+    IsTextOf head text steps → Comes head p text steps
+comes head p text steps all (inl is) = record {
+  count = 2;
+  course_is = ap (after_lines head p.good (Begins (start_of p)))
+      (ap lines_in is.1 ∙ text-lines head is.0 steps all)
+      ∙ begins-new head p.good (start_of p) (map line_of steps) is.0;
+  rest_is = ap rest_in is.1 ∙ text-rest head is.0 steps all;
+}
+comes head p text steps all (inr is) = record {
+  count = 1;
+  course_is = ap (after_lines head p.good (Begins (start_of p))) (ap lines_in is ∙ old-lines steps all)
+      ∙ begins-old head p.good (start_of p) (map line_of steps);
+  rest_is = ap rest_in is ∙ old-rest steps all;
+}
+
+pub certified : (head : CertHead) (p : Problem) (text : List ℕ) (v : Verdict) →
+    IsCertificateOf head p text v →
+    finding_of head p text ≡ Accepted v
+certified head p text v c =
     let d = c.derives in
     let all : All HasLine (d.front ++ d.last ∷ []) = subst (All HasLine) d.steps_are c.have_lines in
-    let a = arrives p.good 1 (start_of p) None d.front d.last d.state v refl all d.leads d.ends d.says in
-    let lines : lines_in text ≡ head_line ∷ map line_of (d.front ++ d.last ∷ []) =
-    ap lines_in c.text_is ∙ text-lines c.steps c.have_lines
-    ∙ ap (λ (ss : List CertStep). head_line ∷ map line_of ss) d.steps_are in
-    let rest : rest_in text ≡ [] = ap rest_in c.text_is ∙ text-rest c.steps c.have_lines in
-    ap (λ ls. finding_by (after_lines p.good (Goes 0 (start_of p) None) ls) (rest_in text)) lines
-    ∙ ap (λ course. finding_by course (rest_in text)) a.course_is
-    ∙ ap (λ r. finding_by (Goes a.lines a.state (Some v)) r) rest
+    let b = comes head p text c.steps c.have_lines c.text_is in
+    let a = arrives head p.good b.count (start_of p) None d.front d.last d.state v all d.leads d.ends
+    d.says in
+    let course : course_of head p text ≡ Goes a.lines a.state (Some v) =
+    b.course_is
+    ∙ ap (λ (ss : List CertStep). after_lines head p.good (Goes b.count (start_of p) None) (map line_of ss))
+    d.steps_are
+    ∙ a.course_is in
+    ap (λ c. finding_by c (rest_in text)) course
+    ∙ ap (λ r. finding_by (Goes a.lines a.state (Some v)) r) b.rest_is
 
-pub accepted-exactly : (p : Problem) (text : List ℕ) (v : Verdict) →
-    (finding_of p text ≡ Accepted v) ↔ IsCertificateOf p text v
-accepted-exactly p text v = (accepted p text v, certified p text v)
+pub accepted-exactly : (head : CertHead) (p : Problem) (text : List ℕ) (v : Verdict) →
+    (finding_of head p text ≡ Accepted v) ↔ IsCertificateOf head p text v
+accepted-exactly head p text v = (accepted head p text v, certified head p text v)

@@ -1,25 +1,26 @@
 -- What the code keeps, line by line and piece by piece.
 
-use Rattle.std.proofs.Common.{◌≡◌, ℕ, ◌+◌, ◌<◌, ◌≤◌, ◌==◌, ltb, Bool, true, false, cond, Option, None, Some, option_map, Result, Err, List, [], ◌∷◌, ◌++◌, length, take, drop, get_or, refl, sym, ap, ◌∙◌, subst, arith, position}
+use Rattle.std.proofs.Common.{◌≡◌, ℕ, ◌+◌, ◌<◌, ◌≤◌, ltb, Bool, true, false, cond, Option, None, Some, Result, Err, List, [], ◌∷◌, ◌++◌, length, take, drop, get_or, refl, sym, ap, ◌∙◌, subst, arith, position}
 use Rattle.std.specs.List.{after_first, before_first, position_or_len}
 use Rattle.std.proofs.lemmas.Bool.{eqb-true, ltb-false, ltb-true}
-use Rattle.std.proofs.lemmas.Bool.Decides.{nat_tests}
 use Rattle.std.proofs.lemmas.List.{get_or-take, length-take}
 use Rattle.std.proofs.lemmas.List.Elements.{All-append, All-from_get_or, All-nil}
 use Rattle.std.proofs.lemmas.List.Sums.{fails_before_first, passes_at_first, split_at_first}
 use Rattle.ba_bytes.specs.Classes.{is_line_end}
-use Rattle.ba_cert.specs.Reading.{step_in}
+use Rattle.ba_cert.specs.Reading.{settings_in, step_in}
+use Rattle.ba_cert.specs.declared.head.CertHead.{CertHead}
 use Rattle.ba_derivations.specs.Derivations.{Problem}
 use Rattle.ba_choices.specs.Judges.{Judge}
 use Rattle.ba_check.specs.Answers.{Tells, TellsRefusal}
-use Rattle.ba_check.specs.Findings.{Course, after_head, after_line, after_lines, after_read, course_of, finding_by, finding_of, first_refused, refusal_in}
+use Rattle.ba_check.specs.Findings.{Course, after_head, after_line, after_lines, after_read, after_settings, course_of, finding_by, finding_of, first_refused, refusal_in}
 use Rattle.ba_check.specs.Lines.{HasNoFeed, IsCut, lines_in, rest_in}
-use Rattle.ba_check.specs.Readings.{Confirming, Follows, HasRead, Keeps, KeepsWith, answer_by, course_kept, verdict_at}
+use Rattle.ba_check.specs.Readings.{Confirming, Follows, HasRead, Keeps, KeepsWith, answer_by, course_at, course_kept}
 use Rattle.ba_check.specs.declared.confirmed.Confirmed.{Confirmed}
 use Rattle.ba_check.specs.declared.error.CheckError.{CheckError}
 use Rattle.ba_check.specs.declared.error.CheckError.TheVariants.{Line, Memory}
 use Rattle.ba_check.specs.declared.judged.Judged.{Judged}
-use Rattle.ba_check.proofs.CertificateLaws.{later}
+use Rattle.ba_check.specs.declared.judged.Stage.{Stage}
+use Rattle.ba_check.specs.declared.judged.Stage.TheVariants as stage
 use Rattle.ba_check.proofs.CourseLaws.{course-append, refused-found, refused-stays, stopped-by}
 use Rattle.ba_check.proofs.LineLaws.{all-rest, cut-lines, cut-rest, no-line, rest-append, rest-plain}
 
@@ -70,174 +71,208 @@ cut-none bytes e = by (ltb (position_or_len is_line_end bytes) (length bytes)) r
         let far = ltb-false (position_or_len is_line_end bytes) (length bytes) is in
         λ k d few. fails_before_first is_line_end bytes k d (omega (arith, far, few))
 
--- THE HEAD LINE, AND LATER ONES
+-- THE HEAD LINE, SETTINGS, AND STEPS
 
-pub head-line : (good : Judge) (old : Judged) (line : List ℕ) → old.lines ≡ 0 →
-    after_line good (course_kept old) line ≡ after_head old.checker line
+pub head-line : (head : CertHead) (good : Judge) (old : Judged) (line : List ℕ) → old.stage ≡ stage.Head →
+    after_line head good (course_kept old) line ≡ after_head old.checker line
 unfolding after_line
-head-line good old line none =
-    ap (λ n. cond (n == 0) (after_head old.checker line) (after_read good n old.checker (step_in line))) none
+head-line head good old line is = ap (λ s. after_line head good (course_at s old) line) is
 
-pub step-line : (good : Judge) (old : Judged) (line : List ℕ) → (old.lines ≡ 0 → ⊥) →
-    after_line good (course_kept old) line ≡ after_read good old.lines old.checker (step_in line)
-step-line good old line some =
-    let more : (old.lines == 0) ≡ false = grind (arith, nat_tests) in
-    later good old.lines old.checker (option_map (verdict_at old.checker) old.ending) line more
+pub settings-line : (head : CertHead) (good : Judge) (old : Judged) (line : List ℕ) →
+    old.stage ≡ stage.Settings →
+    after_line head good (course_kept old) line ≡ after_settings head old.checker (settings_in line)
+unfolding after_line
+settings-line head good old line is = ap (λ s. after_line head good (course_at s old) line) is
+
+pub step-line : (head : CertHead) (good : Judge) (old : Judged) (line : List ℕ) → old.stage ≡ stage.Steps →
+    after_line head good (course_kept old) line ≡ after_read good old.lines old.checker (step_in line)
+unfolding after_line
+step-line head good old line is = ap (λ s. after_line head good (course_at s old) line) is
 
 -- PIECES: what came of a piece so far, and what is left of it
 
-pub record IsUnderWay (good : Judge) (old : Course) (rest piece : List ℕ) (now : Course) (kept left : List
+pub record IsUnderWay (head : CertHead) (good : Judge) (old : Course) (rest piece : List ℕ) (now : Course)
+    (kept left : List
     ℕ) : Type 0
   where
     pub plain : HasNoFeed kept
-    pub lines : after_lines good old (lines_in (rest ++ piece)) ≡ after_lines good now (lines_in (kept ++
+    pub lines : after_lines head good old (lines_in (rest ++ piece))
+        ≡ after_lines head good now (lines_in (kept ++
         left))
     pub same_rest : rest_in (rest ++ piece) ≡ rest_in (kept ++ left)
 
-module _ (good : Judge) (old : Course) (rest piece : List ℕ) (now : Course) (kept left : List ℕ)
-    (way : IsUnderWay good old rest piece now kept left) where
+module _ (head : CertHead) (good : Judge) (old : Course) (rest piece : List ℕ) (now : Course)
+    (kept left : List ℕ)
+    (way : IsUnderWay head good old rest piece now kept left) where
   pub line-more : (new : Course) (empty end behind : List ℕ) → IsCut left end behind → empty ≡ [] →
-      after_line good now (kept ++ end) ≡ new → IsUnderWay good old rest piece new empty behind
+      after_line head good now (kept ++ end) ≡ new → IsUnderWay head good old rest piece new empty behind
   line-more new empty end behind cut none is =
-      subst (λ e. IsUnderWay good old rest piece new e behind) (sym none) (record {
+      subst (λ e. IsUnderWay head good old rest piece new e behind) (sym none) (record {
         plain = All-nil (λ b. is_line_end b ≡ false);
         lines =
             way.lines
-            ∙ ap (after_lines good now) (cut-lines kept left end behind way.plain cut)
-            ∙ ap (λ c. after_lines good c (lines_in behind)) is;
+            ∙ ap (after_lines head good now) (cut-lines kept left end behind way.plain cut)
+            ∙ ap (λ c. after_lines head good c (lines_in behind)) is;
         same_rest = way.same_rest ∙ cut-rest kept left end behind way.plain cut;
       })
 
   pub line-refused : (new later : Judged) (bytes wanted end behind : List ℕ) (error : CheckError) →
-      IsCut left end behind → Keeps (Err error) new (after_line good now (kept ++ end)) →
-      KeepsWith (Err error) later bytes (after_lines good old (lines_in (rest ++ piece))) wanted
+      IsCut left end behind → Keeps (Err error) new (after_line head good now (kept ++ end)) →
+      KeepsWith (Err error) later bytes (after_lines head good old (lines_in (rest ++ piece))) wanted
   line-refused new later bytes wanted end behind (Line number code) cut keeps =
       way.lines
-      ∙ ap (after_lines good now) (cut-lines kept left end behind way.plain cut)
-      ∙ stopped-by good (after_line good now (kept ++ end)) number code (lines_in behind) keeps
+      ∙ ap (after_lines head good now) (cut-lines kept left end behind way.plain cut)
+      ∙ stopped-by head good (after_line head good now (kept ++ end)) number code (lines_in behind) keeps
   line-refused new later bytes wanted end behind Memory cut keeps = tt
 
   pub piece-ends : (new : Judged) (bytes : List ℕ) → now ≡ course_kept new → bytes ≡ kept ++ left →
       HasNoFeed left →
-      (after_lines good old (lines_in (rest ++ piece)) ≡ course_kept new) × (bytes ≡ rest_in (rest ++ piece))
+      (after_lines head good old (lines_in (rest ++ piece)) ≡ course_kept new) ×
+      (bytes ≡ rest_in (rest ++ piece))
   piece-ends new bytes is all plain =
       let both : HasNoFeed (kept ++ left) = All-append (λ b. is_line_end b ≡ false) kept left way.plain
       plain in (
-        way.lines ∙ ap (after_lines good now) (no-line (kept ++ left) both) ∙ is,
+        way.lines ∙ ap (after_lines head good now) (no-line (kept ++ left) both) ∙ is,
         all ∙ sym (all-rest (kept ++ left) both) ∙ sym way.same_rest,
       )
 
 -- READERS
 
 -- a reader that has come so far
-record IsFollowed (p : Problem) (text : List ℕ) (course : Course) (rest : List ℕ) : Type 0 where
-  course_is : course ≡ course_of p text
-  rest_is : rest ≡ rest_in text
+record IsFollowed (head : CertHead) (p : Problem) (text : List ℕ) (course : Course) (rest : List ℕ) : Type 0
+  where
+    course_is : course ≡ course_of head p text
+    rest_is : rest ≡ rest_in text
 
-followed : (p : Problem) (text : List ℕ) (reader : Confirming) → HasRead p text reader →
+followed : (head : CertHead) (p : Problem) (text : List ℕ) (reader : Confirming) →
+    HasRead head p text reader →
     reader.refusal ≡ None →
-    IsFollowed p text reader.course reader.rest
-followed p text reader has none =
-    let f = subst (Follows p text reader.course reader.rest) none has.follows in
+    IsFollowed head p text reader.course reader.rest
+followed head p text reader has none =
+    let f = subst (Follows head p text reader.course reader.rest) none has.follows in
     record { course_is = f.0; rest_is = f.1 }
 
-pub rest-read : (p : Problem) (text : List ℕ) (reader : Confirming) → HasRead p text reader →
+pub rest-read : (head : CertHead) (p : Problem) (text : List ℕ) (reader : Confirming) →
+    HasRead head p text reader →
     reader.refusal ≡ None → HasNoFeed reader.rest
-rest-read p text reader has none =
-    subst HasNoFeed (sym (followed p text reader has none).rest_is) (rest-plain text)
+rest-read head p text reader has none =
+    subst HasNoFeed (sym (followed head p text reader has none).rest_is) (rest-plain text)
 
 -- it takes a piece
-record IsFed (p : Problem) (text piece : List ℕ) (good : Judge) (course : Course) (rest : List ℕ) : Type 0
+record IsFed (head : CertHead) (p : Problem) (text piece : List ℕ) (own : CertHead) (good : Judge)
+    (course : Course) (rest : List ℕ) : Type 0
   where
-    course_is : after_lines good course (lines_in (rest ++ piece)) ≡ course_of p (text ++ piece)
+    course_is : after_lines own good course (lines_in (rest ++ piece)) ≡ course_of head p (text ++ piece)
     rest_is : rest_in (rest ++ piece) ≡ rest_in (text ++ piece)
 
-fed : (p : Problem) (text piece : List ℕ) (reader : Confirming) → HasRead p text reader →
+fed : (head : CertHead) (p : Problem) (text piece : List ℕ) (reader : Confirming) →
+    HasRead head p text reader →
     reader.refusal ≡ None →
-    IsFed p text piece reader.good reader.course reader.rest
-fed p text piece reader has none =
-    let f = followed p text reader has none in
+    IsFed head p text piece reader.head reader.good reader.course reader.rest
+fed head p text piece reader has none =
+    let f = followed head p text reader has none in
     record {
       course_is =
-          ap (λ good. after_lines good reader.course (lines_in (reader.rest ++ piece))) has.same_judge
-          ∙ ap (λ c. after_lines p.good c (lines_in (reader.rest ++ piece))) f.course_is
-          ∙ ap (λ r. after_lines p.good (course_of p text) (lines_in (r ++ piece))) f.rest_is
-          ∙ sym (course-append p text piece);
+          ap (λ h. after_lines h reader.good reader.course (lines_in (reader.rest ++ piece))) has.same_head
+          ∙ ap (λ good. after_lines head good reader.course (lines_in (reader.rest ++ piece))) has.same_judge
+          ∙ ap (λ c. after_lines head p.good c (lines_in (reader.rest ++ piece))) f.course_is
+          ∙ ap (λ r. after_lines head p.good (course_of head p text) (lines_in (r ++ piece))) f.rest_is
+          ∙ sym (course-append head p text piece);
       rest_is = ap (λ r. rest_in (r ++ piece)) f.rest_is ∙ sym (rest-append text piece);
     }
 
-follows-by : (p : Problem) (text : List ℕ) (refusal : Option CheckError) (new : Judged) (rest : List ℕ)
-    (course : Course) (wanted : List ℕ) → course ≡ course_of p text → wanted ≡ rest_in text →
-    KeepsWith (answer_by refusal) new rest course wanted → Follows p text (course_kept new) rest refusal
-follows-by p text None new rest course wanted is all keeps =
-    let same : course_kept new ≡ course_of p text = sym keeps.0 ∙ is in
-    (same, keeps.1 ∙ all, ap refusal_in (sym same))
-follows-by p text (Some (Line number code)) new rest course wanted is all keeps = ap refusal_in (sym is ∙
-    keeps)
-follows-by p text (Some Memory) new rest course wanted is all keeps = tt
+-- what is kept is no refusal
+unrefused : (s : Stage) (judged : Judged) → refusal_in (course_at s judged) ≡ None
+unrefused stage.Head judged = refl
+unrefused stage.Settings judged = refl
+unrefused stage.Steps judged = refl
 
-pub piece-read : (p : Problem) (text piece : List ℕ) (reader : Confirming) (good : Judge) (new : Judged)
-    (rest : List ℕ) (refusal : Option CheckError) → HasRead p text reader → reader.refusal ≡ None →
-    good ≡ reader.good →
-    KeepsWith (answer_by refusal) new rest (after_lines reader.good reader.course (lines_in (reader.rest ++
+follows-by : (head : CertHead) (p : Problem) (text : List ℕ) (refusal : Option CheckError) (new : Judged)
+    (rest : List ℕ)
+    (course : Course) (wanted : List ℕ) → course ≡ course_of head p text → wanted ≡ rest_in text →
+    KeepsWith (answer_by refusal) new rest course wanted → Follows head p text (course_kept new) rest refusal
+follows-by head p text None new rest course wanted is all keeps =
+    let same : course_kept new ≡ course_of head p text = sym keeps.0 ∙ is in
+    (same, keeps.1 ∙ all, ap refusal_in (sym same) ∙ unrefused new.stage new)
+follows-by head p text (Some (Line number code)) new rest course wanted is all keeps = ap refusal_in (sym is ∙
+    keeps)
+follows-by head p text (Some Memory) new rest course wanted is all keeps = tt
+
+pub piece-read : (head : CertHead) (p : Problem) (text piece : List ℕ) (reader : Confirming)
+    (own : CertHead) (good : Judge) (new : Judged)
+    (rest : List ℕ) (refusal : Option CheckError) → HasRead head p text reader → reader.refusal ≡ None →
+    own ≡ reader.head → good ≡ reader.good →
+    KeepsWith (answer_by refusal) new rest
+    (after_lines reader.head reader.good reader.course (lines_in (reader.rest ++
     piece)))
     (rest_in (reader.rest ++ piece)) →
-    HasRead p (text ++ piece)
-    (record { good = good; course = course_kept new; rest = rest; refusal = refusal })
-piece-read p text piece reader good new rest refusal has none same keeps =
-    let f = fed p text piece reader has none in
+    HasRead head p (text ++ piece)
+    (record { head = own; good = good; course = course_kept new; rest = rest; refusal = refusal })
+piece-read head p text piece reader own good new rest refusal has none own_is same keeps =
+    let f = fed head p text piece reader has none in
     record {
+      same_head = own_is ∙ has.same_head;
       same_judge = same ∙ has.same_judge;
-      follows = follows-by p (text ++ piece) refusal new rest
-          (after_lines reader.good reader.course (lines_in (reader.rest ++ piece)))
+      follows = follows-by head p (text ++ piece) refusal new rest
+          (after_lines reader.head reader.good reader.course (lines_in (reader.rest ++ piece)))
           (rest_in (reader.rest ++ piece)) f.course_is f.rest_is keeps;
     }
 
 -- after a refusal it stays as it is
-refusal-follows : (p : Problem) (text piece : List ℕ) (course : Course) (rest : List ℕ) (error : CheckError) →
-    Follows p text course rest (Some error) → Follows p (text ++ piece) course rest (Some error)
-refusal-follows p text piece course rest (Line number code) f = refused-stays p text piece number code f
-refusal-follows p text piece course rest Memory f = tt
+refusal-follows : (head : CertHead) (p : Problem) (text piece : List ℕ) (course : Course) (rest : List ℕ)
+    (error : CheckError) →
+    Follows head p text course rest (Some error) → Follows head p (text ++ piece) course rest (Some error)
+refusal-follows head p text piece course rest (Line number code) f =
+    refused-stays head p text piece number code f
+refusal-follows head p text piece course rest Memory f = tt
 
-pub refusal-stays : (p : Problem) (text piece : List ℕ) (reader : Confirming) (error : CheckError) →
-    HasRead p text reader → reader.refusal ≡ Some error → HasRead p (text ++ piece) reader
-refusal-stays p text piece reader error has is = record {
+pub refusal-stays : (head : CertHead) (p : Problem) (text piece : List ℕ) (reader : Confirming)
+    (error : CheckError) →
+    HasRead head p text reader → reader.refusal ≡ Some error → HasRead head p (text ++ piece) reader
+refusal-stays head p text piece reader error has is = record {
+  same_head = has.same_head;
   same_judge = has.same_judge;
-  follows = subst (Follows p (text ++ piece) reader.course reader.rest) (sym is)
-      (refusal-follows p text piece reader.course reader.rest error
-      (subst (Follows p text reader.course reader.rest) is has.follows));
+  follows = subst (Follows head p (text ++ piece) reader.course reader.rest) (sym is)
+      (refusal-follows head p text piece reader.course reader.rest error
+      (subst (Follows head p text reader.course reader.rest) is has.follows));
 }
 
 -- what it answers is the first refused line
-tells-refusal : (p : Problem) (text : List ℕ) (course : Course) (rest : List ℕ) (refusal : Option
+tells-refusal : (head : CertHead) (p : Problem) (text : List ℕ) (course : Course) (rest : List ℕ)
+    (refusal : Option
     CheckError) →
-    Follows p text course rest refusal → TellsRefusal (answer_by refusal) (first_refused p text)
-tells-refusal p text course rest None f = f.2
-tells-refusal p text course rest (Some (Line number code)) f = f
-tells-refusal p text course rest (Some Memory) f = tt
+    Follows head p text course rest refusal → TellsRefusal (answer_by refusal) (first_refused head p text)
+tells-refusal head p text course rest None f = f.2
+tells-refusal head p text course rest (Some (Line number code)) f = f
+tells-refusal head p text course rest (Some Memory) f = tt
 
-pub tells-first : (p : Problem) (text : List ℕ) (reader : Confirming) (result : Result Unit CheckError) →
-    HasRead p text reader → result ≡ answer_by reader.refusal → TellsRefusal result (first_refused p text)
-tells-first p text reader result has is =
-    subst (λ r. TellsRefusal r (first_refused p text)) (sym is)
-    (tells-refusal p text reader.course reader.rest reader.refusal has.follows)
+pub tells-first : (head : CertHead) (p : Problem) (text : List ℕ) (reader : Confirming)
+    (result : Result Unit CheckError) →
+    HasRead head p text reader → result ≡ answer_by reader.refusal →
+    TellsRefusal result (first_refused head p text)
+tells-first head p text reader result has is =
+    subst (λ r. TellsRefusal r (first_refused head p text)) (sym is)
+    (tells-refusal head p text reader.course reader.rest reader.refusal has.follows)
 
 -- and in the end what is found
-tells-error : (p : Problem) (text : List ℕ) (course : Course) (rest : List ℕ) (error : CheckError) →
-    Follows p text course rest (Some error) → Tells (Err error) (finding_of p text)
-tells-error p text course rest (Line number code) f = refused-found p text number code f
-tells-error p text course rest Memory f = tt
+tells-error : (head : CertHead) (p : Problem) (text : List ℕ) (course : Course) (rest : List ℕ)
+    (error : CheckError) →
+    Follows head p text course rest (Some error) → Tells (Err error) (finding_of head p text)
+tells-error head p text course rest (Line number code) f = refused-found head p text number code f
+tells-error head p text course rest Memory f = tt
 
-pub refusal-tells : (p : Problem) (text : List ℕ) (reader : Confirming) (error : CheckError) →
-    HasRead p text reader → reader.refusal ≡ Some error → Tells (Err error) (finding_of p text)
-refusal-tells p text reader error has is =
-    tells-error p text reader.course reader.rest error
-    (subst (Follows p text reader.course reader.rest) is has.follows)
+pub refusal-tells : (head : CertHead) (p : Problem) (text : List ℕ) (reader : Confirming)
+    (error : CheckError) →
+    HasRead head p text reader → reader.refusal ≡ Some error → Tells (Err error) (finding_of head p text)
+refusal-tells head p text reader error has is =
+    tells-error head p text reader.course reader.rest error
+    (subst (Follows head p text reader.course reader.rest) is has.follows)
 
-pub end-tells : (p : Problem) (text : List ℕ) (reader : Confirming) (result : Result Confirmed CheckError) →
-    HasRead p text reader → reader.refusal ≡ None → Tells result (finding_by reader.course reader.rest) →
-    Tells result (finding_of p text)
-end-tells p text reader result has none tells =
-    let f = followed p text reader has none in
+pub end-tells : (head : CertHead) (p : Problem) (text : List ℕ) (reader : Confirming)
+    (result : Result Confirmed CheckError) →
+    HasRead head p text reader → reader.refusal ≡ None → Tells result (finding_by reader.course reader.rest) →
+    Tells result (finding_of head p text)
+end-tells head p text reader result has none tells =
+    let f = followed head p text reader has none in
     subst (λ c. Tells result (finding_by c (rest_in text))) f.course_is
     (subst (λ r. Tells result (finding_by reader.course r)) f.rest_is tells)

@@ -6,6 +6,7 @@ use Rattle.std.specs.List.{IsDistinct}
 use Rattle.std.specs.Prelude.{Result, Ok, Err, IfOk}
 use Rattle.std.proofs.lemmas.List.Elements.{All-weaker}
 use Rattle.ba_cert.specs.Text.{HasLine}
+use Rattle.ba_cert.specs.declared.head.CertHead.{CertHead}
 use Rattle.ba_derivations.specs.Derivations.{Located, NoRepair, Problem, Spent, TooMany, Verdict, start_of, verdict_of}
 use Rattle.ba_derivations.specs.Encodings.{IsFaithful}
 use Rattle.ba_derivations.proofs.VerdictLaws.{located, no_repair, spent, starts, too_many}
@@ -34,10 +35,11 @@ blocked-sets s (EndNoRepair hints) weight found says = cc
 blocked-sets s EndTooMany weight found says = cc
 blocked-sets s EndSpent weight found says = cc
 
-module _ (weights : WeightList) (p : Problem) (faithful : IsFaithful p.formula p.softs weights p.good)
+module _ (weights : WeightList) (head : CertHead) (p : Problem)
+    (faithful : IsFaithful p.formula p.softs weights p.good)
     (text : List ℕ) where
   -- they differ
-  differ : (weight : ℕ) (found : List (List ℕ)) → IsCertificateOf p text (Located weight found) →
+  differ : (weight : ℕ) (found : List (List ℕ)) → IsCertificateOf head p text (Located weight found) →
       IsDistinct (pointwise nat_eq) found
   differ weight found c =
       let d = c.derives in
@@ -50,7 +52,8 @@ module _ (weights : WeightList) (p : Problem) (faithful : IsFaithful p.formula p
       subst (IsDistinct (pointwise nat_eq)) (blocked-sets d.state d.last weight found d.says)
       facts.sets_differ
 
-  certified-true : (v : Verdict) → IsCertificateOf p text v → IsTrueOf weights p text (confirmed_of v)
+  certified-true : (v : Verdict) → IsCertificateOf head p text v →
+      IsTrueOf weights head p text (confirmed_of v)
   certified-true (Located weight found) c = record {
     found = found;
     sets_are = refl;
@@ -63,13 +66,13 @@ module _ (weights : WeightList) (p : Problem) (faithful : IsFaithful p.formula p
   certified-true Spent c =
       record { steps = c.steps; text_is = c.text_is; count = spent p c.steps c.derives }
 
-  told : (result : Result Confirmed CheckError) (finding : Finding) → finding_of p text ≡ finding →
-      Tells result finding → IfOk result (IsTrueOf weights p text)
+  told : (result : Result Confirmed CheckError) (finding : Finding) → finding_of head p text ≡ finding →
+      Tells result finding → IfOk result (IsTrueOf weights head p text)
   told (Err error) finding is tells = tt
   told (Ok said) (Accepted v) is tells =
-      subst (IsTrueOf weights p text) (sym tells) (certified-true v (accepted p text v is))
+      subst (IsTrueOf weights head p text) (sym tells) (certified-true v (accepted head p text v is))
   told (Ok said) (Refused line code) is tells = absurd tells
 
-  pub true-of : (result : Result Confirmed CheckError) → Tells result (finding_of p text) →
-      IfOk result (IsTrueOf weights p text)
-  true-of result tells = told result (finding_of p text) refl tells
+  pub true-of : (result : Result Confirmed CheckError) → Tells result (finding_of head p text) →
+      IfOk result (IsTrueOf weights head p text)
+  true-of result tells = told result (finding_of head p text) refl tells

@@ -3,8 +3,8 @@
 use Rattle.std.specs.Prelude.{◌≡◌, ℕ, nat_eq, Option, None, Some, Result, Ok, Err, List, [], map}
 use Rattle.std.specs.Cmp.Lexicographic.{pointwise}
 use Rattle.std.specs.List.{IsDistinct}
-use Rattle.ba_cert.specs.Text.{text_of}
-use Rattle.ba_check.specs.Findings.{Finding, Accepted, Refused}
+use Rattle.ba_cert.specs.declared.head.CertHead.{CertHead}
+use Rattle.ba_check.specs.Findings.{Finding, Accepted, IsTextOf, Refused}
 use Rattle.ba_check.specs.declared.confirmed.Confirmed.{Confirmed}
 use Rattle.ba_check.specs.declared.confirmed.Confirmed.TheVariants as confirmed
 use Rattle.ba_check.specs.declared.error.CheckError.{CheckError}
@@ -30,6 +30,11 @@ problem_of p input settings encoded = record {
   conflicts = settings.conflicts;
   most_sets = settings.sets;
 }
+
+-- the settings of a call, as a certificate names them
+abbrev pub head_of : Settings → CertHead
+head_of settings =
+    record { bounds = settings.bounds; conflicts = settings.conflicts; sets = settings.sets }
 
 -- a verdict, with sets of statements in the order of their lines
 abbrev pub statements_of : List (List ℕ) → List (List StmtId)
@@ -71,13 +76,13 @@ pub record AreMoreThan (weights : WeightList) (good : Judge) (weight most : ℕ)
   pub too_many : AreTooMany weights good weight most found
 
 -- the text is that of steps that hold as many conflicts as there may be
-pub record IsSpentBy (p : Problem) (text : List ℕ) : Type 0 where
+pub record IsSpentBy (h : CertHead) (p : Problem) (text : List ℕ) : Type 0 where
   pub steps : List CertStep
-  pub text_is : text ≡ text_of steps
+  pub text_is : IsTextOf h text steps
   pub count : conflicts_in steps ≡ p.conflicts
 
-abbrev pub IsTrueOf : WeightList → Problem → List ℕ → Confirmed → Type 0
-IsTrueOf weights p text (confirmed.Located weight sets) = AreLeastSets weights p.good weight sets
-IsTrueOf weights p text confirmed.NoRepair = AreLeast weights p.good []
-IsTrueOf weights p text (confirmed.TooMany weight) = AreMoreThan weights p.good weight p.most_sets
-IsTrueOf weights p text confirmed.Spent = IsSpentBy p text
+abbrev pub IsTrueOf : WeightList → CertHead → Problem → List ℕ → Confirmed → Type 0
+IsTrueOf weights h p text (confirmed.Located weight sets) = AreLeastSets weights p.good weight sets
+IsTrueOf weights h p text confirmed.NoRepair = AreLeast weights p.good []
+IsTrueOf weights h p text (confirmed.TooMany weight) = AreMoreThan weights p.good weight p.most_sets
+IsTrueOf weights h p text confirmed.Spent = IsSpentBy h p text

@@ -2,14 +2,17 @@
 
 use Rattle.std.specs.Prelude.{◌≡◌, ℕ, Option, None, Some, option_map, Result, Ok, Err, List}
 use Rattle.ba_cert.specs.declared.error.CertError.{CertError}
+use Rattle.ba_cert.specs.declared.head.CertHead.{CertHead}
 use Rattle.ba_cert.specs.declared.error.CertError.TheVariants as unread
-use Rattle.ba_check.specs.Findings.{Course, Goes, Stops, bad_line, course_of, first_refused}
+use Rattle.ba_check.specs.Findings.{Awaits, Begins, Course, Goes, Stops, bad_line, course_of, first_refused}
 use Rattle.ba_check.specs.Lines.{rest_in}
 use Rattle.ba_check.specs.declared.confirmed.Ending.{Ending}
 use Rattle.ba_check.specs.declared.confirmed.Ending.TheVariants as ending
 use Rattle.ba_check.specs.declared.error.CheckError.{CheckError}
 use Rattle.ba_check.specs.declared.error.CheckError.TheVariants.{Line, Memory}
 use Rattle.ba_check.specs.declared.judged.Judged.{Judged}
+use Rattle.ba_check.specs.declared.judged.Stage.{Stage}
+use Rattle.ba_check.specs.declared.judged.Stage.TheVariants as stage
 use Rattle.ba_derivations.specs.Derivations.{Problem, Verdict, Located, NoRepair, TooMany, Spent}
 use Rattle.ba_steps.specs.Numbers.{number_of}
 use Rattle.ba_steps.specs.declared.step.StepError.{StepError}
@@ -24,8 +27,14 @@ verdict_at s ending.TooMany = TooMany s.bound s.sets
 verdict_at s ending.Spent = Spent
 
 -- what came of the lines so far, where none was refused
+abbrev pub course_at : Stage → Judged → Course
+course_at stage.Head judged = Begins judged.checker
+course_at stage.Settings judged = Awaits judged.checker
+course_at stage.Steps judged =
+    Goes judged.lines judged.checker (option_map (verdict_at judged.checker) judged.ending)
+
 abbrev pub course_kept : Judged → Course
-course_kept judged = Goes judged.lines judged.checker (option_map (verdict_at judged.checker) judged.ending)
+course_kept judged = course_at judged.stage judged
 
 -- what a step's error makes of its line
 abbrev pub error_with : ℕ → Option ℕ → CheckError
@@ -52,9 +61,10 @@ KeepsWith (Ok _) new rest course wanted = (course ≡ course_kept new) × (rest 
 KeepsWith (Err (Line line code)) new rest course wanted = course ≡ Stops line code
 KeepsWith (Err Memory) new rest course wanted = Unit {0}
 
--- THE STATE OF A READER: which runs are good, what came of the whole lines so far, what stands behind the
+-- THE STATE OF A READER: the settings of the call, which runs are good, what came of the whole lines so far, what stands behind the
 -- last of them, and the error that it answers from then on
 pub record Confirming : Type 0 where
+  pub head : CertHead
   pub good : Judge
   pub course : Course
   pub rest : List ℕ
@@ -62,15 +72,16 @@ pub record Confirming : Type 0 where
 
 -- it has read a text, on a problem: while no line is refused it keeps what came of the lines, and the last
 -- unfinished line; else the first line that is refused
-abbrev pub Follows : Problem → List ℕ → Course → List ℕ → Option CheckError → Type 0
-Follows p text course rest None = (course ≡ course_of p text) × (rest ≡ rest_in text) × (first_refused p
-    text ≡ None)
-Follows p text course rest (Some (Line line code)) = first_refused p text ≡ Some (line, code)
-Follows p text course rest (Some Memory) = Unit {0}
+abbrev pub Follows : CertHead → Problem → List ℕ → Course → List ℕ → Option CheckError → Type 0
+Follows h p text course rest None =
+    (course ≡ course_of h p text) × (rest ≡ rest_in text) × (first_refused h p text ≡ None)
+Follows h p text course rest (Some (Line line code)) = first_refused h p text ≡ Some (line, code)
+Follows h p text course rest (Some Memory) = Unit {0}
 
-pub record HasRead (p : Problem) (text : List ℕ) (reader : Confirming) : Type 0 where
+pub record HasRead (h : CertHead) (p : Problem) (text : List ℕ) (reader : Confirming) : Type 0 where
+  pub same_head : reader.head ≡ h
   pub same_judge : reader.good ≡ p.good
-  pub follows : Follows p text reader.course reader.rest reader.refusal
+  pub follows : Follows h p text reader.course reader.rest reader.refusal
 
 -- the answer of a reader that has this error, or none
 abbrev pub answer_by : Option CheckError → Result Unit CheckError

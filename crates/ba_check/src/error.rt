@@ -8,18 +8,22 @@ use ba_steps::StepError;
 use std::alloc::{AllocError, AllocFailed};
 use thiserror::Error;
 
-/// The code of a line that has no step's form, and of a first line that isn't the head line.
+/// The code of a line that has not the form of a head line, of settings or of a step, where it has to.
 pub(crate) const BAD_LINE: u8 = 20;
 
 /// The code of a text that ends before an End step, or inside a line.
 pub(crate) const TOO_EARLY: u8 = 21;
 
+/// The code of a settings line whose numbers aren't those of the call.
+pub(crate) const OTHER_SETTINGS: u8 = 22;
+
 /// Why a certificate isn't accepted.
 #[derive(Clone, Copy, Debug, PartialEq, Eq, Error)]
 pub enum CheckError {
     /// The first line that is refused, counted from 1, and its code: the number of the step's error, from
-    /// 1 to 14; 20 where the line has no step's form, or is a first line other than the head line; 21
-    /// where the text ends before this line, or inside it, and no step has ended it.
+    /// 1 to 14; 20 where the line has no step's form, or is a first line other than both head lines, or
+    /// a second one behind `bugassist 2` that has not the form of settings; 21 where the text ends before
+    /// this line, or inside it, and no step has ended it; 22 where the line names other settings.
     #[error("line {line} is refused by code {code}")]
     Line { line: u64, code: u8 },
     /// There was no memory.

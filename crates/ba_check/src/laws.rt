@@ -1,21 +1,23 @@
 //! Laws of the definitions, each the clause of a function that does nothing.
 
 ghost use Rattle.std.specs.Prelude.{◌≡◌, ◌↔◌, ◌++◌, ℕ, List, Some};
+ghost use Rattle.ba_cert.specs.declared.head.CertHead.{CertHead};
 ghost use Rattle.ba_check.specs.Findings.{Accepted, IsCertificateOf, Refused, finding_of, first_refused};
 ghost use Rattle.ba_derivations.specs.Derivations.{Problem, Verdict};
 
-/// A text is accepted with a verdict exactly where it is the text of steps that derive this verdict; so
+/// A text is accepted with a verdict exactly where it is the text of steps that derive this verdict,
+/// with the settings of the call or of version 1; so
 /// one that is no certificate is refused.
 pub fn accepted_law()
-    ensures { (p : Problem) (text : List ℕ) (verdict : Verdict)
-        → (finding_of p text ≡ Accepted verdict) ↔ IsCertificateOf p text verdict }
+    ensures { (h : CertHead) (p : Problem) (text : List ℕ) (verdict : Verdict)
+        → (finding_of h p text ≡ Accepted verdict) ↔ IsCertificateOf h p text verdict }
 {}
 
 /// A line that is refused stays the first one, whatever follows, and is what is found of the text.
 pub fn refused_law()
-    ensures stays { (p : Problem) (text more : List ℕ) (refusal : ℕ × ℕ)
-        → first_refused p text ≡ Some refusal → first_refused p (text ++ more) ≡ Some refusal }
-    ensures found { (p : Problem) (text more : List ℕ) (line code : ℕ)
-        → first_refused p text ≡ Some (line, code)
-        → finding_of p (text ++ more) ≡ Refused line code }
+    ensures stays { (h : CertHead) (p : Problem) (text more : List ℕ) (refusal : ℕ × ℕ)
+        → first_refused h p text ≡ Some refusal → first_refused h p (text ++ more) ≡ Some refusal }
+    ensures found { (h : CertHead) (p : Problem) (text more : List ℕ) (line code : ℕ)
+        → first_refused h p text ≡ Some (line, code)
+        → finding_of h p (text ++ more) ≡ Refused line code }
 {}

@@ -19,5 +19,5 @@ mod whole;
 pub use confirmed::Confirmed;
 pub use error::CheckError;
 pub use pieces::Confirm;
-pub use settings::Settings;
+pub use settings::{Settings, head_of};
 pub use whole::confirm;

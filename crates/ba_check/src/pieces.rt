@@ -1,7 +1,8 @@
 //! A certificate that comes in pieces.
 
 ghost use Rattle.std.specs.Prelude.{◌≡◌, ◌++◌, ℕ, List, [], None, Some, Err, true, IfOk};
-ghost use Rattle.ba_check.specs.Answers.{IsTrueOf, Tells, TellsRefusal, problem_of};
+ghost use Rattle.ba_cert.specs.declared.head.CertHead.{CertHead};
+ghost use Rattle.ba_check.specs.Answers.{IsTrueOf, Tells, TellsRefusal, head_of, problem_of};
 ghost use Rattle.ba_check.specs.Findings.{finding_of, first_refused};
 ghost use Rattle.ba_check.specs.Readers.{seen};
 ghost use Rattle.ba_check.specs.Readings.{HasRead, answer_by};
@@ -17,7 +18,8 @@ use crate::confirmed::Confirmed;
 use crate::error::CheckError;
 use crate::judged::Judged;
 use crate::reading::LineReader;
-use crate::settings::Settings;
+use crate::settings::{Settings, head_of};
+use ba_cert::CertHead;
 use ba_checker::Checker;
 use ba_encode::{Encoded, softs_of};
 use ba_judge::ProgramJudge;
@@ -29,6 +31,7 @@ use std::alloc::{AllocError, Global};
 /// keeps of the text only what stands behind the last line feed. An error is answered from then on.
 #[derive(Drop)]
 pub struct Confirm<'a> {
+    head: CertHead,
     judge: ProgramJudge<'a>,
     reading: LineReader,
     refusal: Option<CheckError>,
@@ -49,8 +52,8 @@ impl<'a> Confirm<'a> {
         requires selectors { AreSelectors encoded.now.formula.variables
             (softs_of encoded.now.groups) }
         ensures nothing_read { IfOk result
-            (λ confirm. HasRead (problem_of program.now input.now settings encoded.now) []
-            (seen confirm)) }
+            (λ confirm. HasRead (head_of settings)
+            (problem_of program.now input.now settings encoded.now) [] (seen confirm)) }
         ensures no_refusal { IfOk result (λ confirm. (seen confirm).refusal ≡ None) }
     {
         let softs = softs_of(alloc, encoded)?;
@@ -62,6 +65,7 @@ impl<'a> Confirm<'a> {
             settings.sets,
         )?;
         Ok(Confirm {
+            head: head_of(settings),
             judge: ProgramJudge::new(alloc, program, input, settings.bounds),
             reading: LineReader {
                 judged: Judged::new(alloc, checker),
@@ -77,10 +81,12 @@ impl<'a> Confirm<'a> {
     /// The other error is want of memory. After an error nothing changes any more, and the answer stays
     /// the same.
     pub fn feed(&mut self, piece: &[u8]) -> Result<(), CheckError>
-        ensures reads { (p : Problem) (text : List ℕ) → HasRead p text (seen self.old)
-            → HasRead p (text ++ piece.now) (seen self.new) }
-        ensures refuses { (p : Problem) (text : List ℕ) → HasRead p text (seen self.old)
-            → TellsRefusal result (first_refused p (text ++ piece.now)) }
+        ensures reads { (h : CertHead) (p : Problem) (text : List ℕ)
+            → HasRead h p text (seen self.old)
+            → HasRead h p (text ++ piece.now) (seen self.new) }
+        ensures refuses { (h : CertHead) (p : Problem) (text : List ℕ)
+            → HasRead h p text (seen self.old)
+            → TellsRefusal result (first_refused h p (text ++ piece.now)) }
         ensures again { (error : CheckError) → self.old.refusal ≡ Some error
             → (result ≡ Err error) × (seen self.new ≡ seen self.old) }
         ensures stays { result ≡ answer_by self.new.refusal }
@@ -88,7 +94,7 @@ impl<'a> Confirm<'a> {
         if let Some(refusal) = self.refusal {
             return Err(refusal);
         }
-        let answer = self.reading.take(&self.judge, piece);
+        let answer = self.reading.take(&self.head, &self.judge, piece);
         self.refusal = refusal_of(&answer);
         answer
     }
@@ -99,13 +105,14 @@ impl<'a> Confirm<'a> {
     /// that is refused, or, where none is, with the line after the whole ones and the code 21. The other
     /// error is want of memory.
     pub fn finish(self) -> Result<Confirmed, CheckError>
-        ensures exactly { (p : Problem) (text : List ℕ) → HasRead p text (seen self.entry)
-            → Tells result (finding_of p text) }
+        ensures exactly { (h : CertHead) (p : Problem) (text : List ℕ)
+            → HasRead h p text (seen self.entry)
+            → Tells result (finding_of h p text) }
         ensures again { (error : CheckError) → self.entry.refusal ≡ Some error
             → result ≡ Err error }
-        ensures truly { (weights : WeightList) (p : Problem) (text : List ℕ)
-            → HasRead p text (seen self.entry) → IsFaithful p.formula p.softs weights p.good
-            → IfOk result (IsTrueOf weights p text) }
+        ensures truly { (weights : WeightList) (h : CertHead) (p : Problem) (text : List ℕ)
+            → HasRead h p text (seen self.entry) → IsFaithful p.formula p.softs weights p.good
+            → IfOk result (IsTrueOf weights h p text) }
     {
         if let Some(refusal) = self.refusal {
             return Err(refusal);

@@ -1,7 +1,7 @@
 //! A certificate that is there as a whole.
 
 ghost use Rattle.std.specs.Prelude.{◌≡◌, true, IfOk};
-ghost use Rattle.ba_check.specs.Answers.{IsTrueOf, Tells, problem_of};
+ghost use Rattle.ba_check.specs.Answers.{IsTrueOf, Tells, head_of, problem_of};
 ghost use Rattle.ba_check.specs.Findings.{finding_of};
 ghost use Rattle.ba_derivations.specs.Encodings.{IsFaithful};
 ghost use Rattle.ba_encode.specs.Softs.{softs_of};
@@ -35,11 +35,12 @@ pub fn confirm(
     requires selectors { AreSelectors encoded.now.formula.variables
         (softs_of encoded.now.groups) }
     ensures exactly { Tells result
-        (finding_of (problem_of program.now input.now settings encoded.now) text.now) }
+        (finding_of (head_of settings)
+        (problem_of program.now input.now settings encoded.now) text.now) }
     ensures truly { (weights : WeightList)
         → IsFaithful encoded.now.formula (softs_of encoded.now.groups) weights
         (judge_of program.now input.now settings.bounds)
-        → IfOk result (IsTrueOf weights
+        → IfOk result (IsTrueOf weights (head_of settings)
         (problem_of program.now input.now settings encoded.now) text.now) }
 {
     let mut confirm = Confirm::new(alloc, program, input, settings, encoded)?;

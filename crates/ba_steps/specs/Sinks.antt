@@ -29,6 +29,18 @@ MayAddStep step [] (log ∷ logs) = ⊥
 MayAddStep step (log ∷ logs) [] = ⊥
 MayAddStep step (old ∷ olds) (new ∷ news) = MayAdd step old new × MayAddStep step olds news
 
+-- what a refusal leaves of two sinks that are told an item in turn: the second was not told, or the first has it
+abbrev pub StopsInTurn : {X : Type 0} →
+    X → Option (List X) → Option (List X) → Option (List X) → Option (List X) → Type 0
+StopsInTurn x first first' second second' =
+    (MayAdd x first first' × (second' ≡ second)) ⊎ ((first' ≡ with_told x first) × MayAdd x second second')
+
+-- what a refusal leaves of two sinks that are asked in turn: the second was not asked, or the first has the step
+abbrev pub RefusesInTurn : CertStep → Logs → Logs → Logs → Logs → Type 0
+RefusesInTurn step first first' second second' =
+    (MayAddStep step first first' × (second' ≡ second))
+    ⊎ ((first' ≡ with_step step first) × MayAddStep step second second')
+
 abbrev pub basis : Cnf → List Soft → Basis
 basis formula softs = record { formula = formula; softs = softs }
 

@@ -4,7 +4,7 @@ ghost use Rattle.std.specs.Prelude.{◌≡◌, ◌≢◌, ℕ, ◌+◌, ◌≤�
 ghost use Rattle.ba_lits.specs.Satisfaction.{Soft};
 ghost use Rattle.ba_lits.specs.Formulas.{Cnf};
 ghost use Rattle.ba_steps.specs.Steps.{IsFormed};
-ghost use Rattle.ba_steps.specs.Sinks.{with_told, MayAdd, Logs, with_step, MayAddStep, basis, Rose};
+ghost use Rattle.ba_steps.specs.Sinks.{with_told, MayAdd, Logs, with_step, MayAddStep, StopsInTurn, RefusesInTurn, basis, Rose};
 ghost use Rattle.ba_steps.specs.declared.sink.Basis.{Basis};
 ghost use base.Fml.{GName};
 
@@ -233,6 +233,9 @@ impl<'a, A: StepSink, D: StepSink> StepSink for Both<'a, A, D> {
             ≡ with_told (basis formula.now softs.now) (D.over self.old.second.now)) }
         ensures refused { OnErr result (MayAdd (basis formula.now softs.now)
             (D.over self.old.second.now) (D.over self.new.second.now)) }
+        ensures in_turn { OnErr result (StopsInTurn (basis formula.now softs.now)
+            (A.over self.old.first) (A.over self.new.first)
+            (D.over self.old.second.now) (D.over self.new.second.now)) }
         ensures logs_stay { A.logs self.new.first ++ D.logs self.new.second.now
             ≡ A.logs self.old.first ++ D.logs self.old.second.now }
         ensures cause { result ≡ Err SinkError.Failed
@@ -249,7 +252,26 @@ impl<'a, A: StepSink, D: StepSink> StepSink for Both<'a, A, D> {
         self.second.begin(formula, softs)
     }
 
-    fn take(&mut self, step: &CertStep) -> Result<(), SinkError> {
+    fn take(&mut self, step: &CertStep) -> Result<(), SinkError>
+        requires formed { IsFormed step.now }
+        ensures told { OnOk result (A.logs self.new.first ++ D.logs self.new.second.now
+            ≡ with_step step.now (A.logs self.old.first ++ D.logs self.old.second.now)) }
+        ensures refused { OnErr result (MayAddStep step.now
+            (A.logs self.old.first ++ D.logs self.old.second.now)
+            (A.logs self.new.first ++ D.logs self.new.second.now)) }
+        ensures in_turn { OnErr result (RefusesInTurn step.now (A.logs self.old.first)
+            (A.logs self.new.first) (D.logs self.old.second.now) (D.logs self.new.second.now)) }
+        ensures over_stays { D.over self.new.second.now ≡ D.over self.old.second.now }
+        ensures cause { result ≡ Err SinkError.Failed
+            → Rose (A.faults self.old.first + D.faults self.old.second.now)
+            (A.faults self.new.first + D.faults self.new.second.now) }
+        ensures no_fall { A.faults self.old.first + D.faults self.old.second.now ≤ A.faults
+            self.new.first + D.faults self.new.second.now }
+        ensures same_references { self.new.second.ghost_name
+            ∷ (A.references self.new.first ++ D.references self.new.second.now)
+            ≡ self.old.second.ghost_name
+            ∷ (A.references self.old.first ++ D.references self.old.second.now) }
+    {
         self.first.take(step)?;
         self.second.take(step)
     }

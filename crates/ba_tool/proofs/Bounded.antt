@@ -1,6 +1,6 @@
--- The bounds that words name are within their limits.
+-- The bounds and the conflicts that words name are within their limits.
 
-use Rattle.std.proofs.Common.{◌≡◌, ℕ, nat_le, Bool, true, false, ◌&&◌, if◌then◌else◌, Option, None, Some, option_and_then, IfSome, List, [], ◌∷◌, codes, ◌≤◌, refl, ap, sym, subst, ◌∙◌, arith}
+use Rattle.std.proofs.Common.{◌≡◌, ℕ, nat_le, Bool, true, false, ◌&&◌, if◌then◌else◌, Option, None, Some, option_and_then, IfSome, List, [], ◌∷◌, codes, ◌<◌, ◌≤◌, ◌^◌, refl, ap, sym, subst, ◌∙◌, arith}
 use Rattle.std.proofs.lemmas.Bool.Decides.{nat_tests}
 use Rattle.std.specs.List.{list_all}
 use Rattle.ba_tree.specs.Run.{are_bounds}
@@ -31,8 +31,10 @@ abbrev AreWithin : Bounds → Type 0
 AreWithin b = are_bounds b ≡ true
 
 abbrev IsWithin : Command → Type 0
-IsWithin (command.Localise program input bounds weights conflicts sets cert runs steady) = AreWithin bounds
-IsWithin (command.Check program input cert bounds weights conflicts sets) = AreWithin bounds
+IsWithin (command.Localise program input bounds weights conflicts sets cert runs steady) =
+    AreWithin bounds × (conflicts < 2 ^ 62)
+IsWithin (command.Check program input cert bounds weights conflicts sets) =
+    AreWithin bounds × (conflicts < 2 ^ 62)
 IsWithin (command.Run program input bounds) = AreWithin bounds
 IsWithin (command.Sample additions) = IsFrom 1 500 additions
 
@@ -85,6 +87,10 @@ bounds_within bound depth =
     depth refl)
     (λ frames shallow. both_true (is_from 1 64 turns) (is_from 1 32 frames) few shallow))
 
+-- conflicts have a number in a settings line
+countable : (n : ℕ) → IsFrom 1 1000000 n → n < 2 ^ 62
+countable n h = let most : n ≤ 1000000 = grind (arith, nat_tests, h) in omega (arith, most)
+
 -- COMMANDS
 
 localise_within : (program input : Option Word) (bounds : Option Bounds)
@@ -94,9 +100,10 @@ localise_within : (program input : Option Word) (bounds : Option Bounds)
 localise_within program input bounds weights conflicts sets cert runs restart within =
     then_any IsWithin program _ (λ p. then_any IsWithin input _
     (λ i. then_if AreWithin IsWithin bounds _ within
-    (λ b ok. then_any IsWithin (number_or 200000 1 1000000 conflicts) _
-    (λ c. then_any IsWithin (number_or 1000 1 10000 sets) _
-    (λ s. then_any IsWithin (steady_in restart) _ (λ r. ok))))))
+    (λ b ok. then_if (IsFrom 1 1000000) IsWithin (number_or 200000 1 1000000 conflicts) _
+    (number_or-range 200000 1 1000000 conflicts refl)
+    (λ c few. then_any IsWithin (number_or 1000 1 10000 sets) _
+    (λ s. then_any IsWithin (steady_in restart) _ (λ r. (ok, countable c few)))))))
 
 check_within : (program input cert : Option Word) (bounds : Option Bounds) (weights conflicts sets : Option
     Word)
@@ -104,8 +111,9 @@ check_within : (program input cert : Option Word) (bounds : Option Bounds) (weig
 check_within program input cert bounds weights conflicts sets within =
     then_any IsWithin program _ (λ p. then_any IsWithin input _ (λ i. then_any IsWithin cert _
     (λ k. then_if AreWithin IsWithin bounds _ within
-    (λ b ok. then_any IsWithin (number_or 200000 1 1000000 conflicts) _
-    (λ c. then_any IsWithin (number_or 1000 1 10000 sets) _ (λ s. ok))))))
+    (λ b ok. then_if (IsFrom 1 1000000) IsWithin (number_or 200000 1 1000000 conflicts) _
+    (number_or-range 200000 1 1000000 conflicts refl)
+    (λ c few. then_any IsWithin (number_or 1000 1 10000 sets) _ (λ s. (ok, countable c few)))))))
 
 run_within : (program input : Option Word) (bounds : Option Bounds) → IfSome bounds AreWithin
     → IfWithin (run_from program input bounds)
@@ -153,21 +161,28 @@ command_within (word ∷ words) =
 -- JOBS
 
 wanted_within : (o : Option Command) (j : Job) → IfWithin o → request_by o ≡ request.Wanted j →
-    AreWithin j.bounds
+    AreWithin j.bounds × (j.conflicts < 2 ^ 62)
 wanted_within None j within is = absurd (let no : ⊥ = cc in no)
 wanted_within (Some (command.Localise program input bounds weights conflicts sets cert runs steady)) j
     within is =
-    let same : bounds ≡ j.bounds = cc in ap are_bounds (sym same) ∙ within
+    let same : bounds ≡ j.bounds = cc in let count : conflicts ≡ j.conflicts = cc in
+    (ap are_bounds (sym same) ∙ within.0, subst (λ n. n < 2 ^ 62) count within.1)
 wanted_within (Some (command.Check program input cert bounds weights conflicts sets)) j within is =
-    let same : bounds ≡ j.bounds = cc in ap are_bounds (sym same) ∙ within
+    let same : bounds ≡ j.bounds = cc in let count : conflicts ≡ j.conflicts = cc in
+    (ap are_bounds (sym same) ∙ within.0, subst (λ n. n < 2 ^ 62) count within.1)
 wanted_within (Some (command.Run program input bounds)) j within is =
-    let same : bounds ≡ j.bounds = cc in ap are_bounds (sym same) ∙ within
+    let same : bounds ≡ j.bounds = cc in let none : 0 ≡ j.conflicts = cc in
+    (ap are_bounds (sym same) ∙ within, omega (arith, none))
 wanted_within (Some (command.Sample additions)) j within is = absurd (let no : ⊥ = cc in no)
 
 -- the bounds of a job are within their limits
 pub job_bounds : (words : List Word) (j : Job) → request_of words ≡ request.Wanted j →
     are_bounds j.bounds ≡ true
-job_bounds words j is = wanted_within (command_of words) j (command_within words) is
+job_bounds words j is = (wanted_within (command_of words) j (command_within words) is).0
+
+-- and so are its conflicts
+pub job_countable : (words : List Word) (j : Job) → request_of words ≡ request.Wanted j → j.conflicts < 2 ^ 62
+job_countable words j is = (wanted_within (command_of words) j (command_within words) is).1
 
 -- and a sample has no more additions than it may have
 sampled_within : (o : Option Command) (additions : ℕ) → IfWithin o → request_by o ≡ request.Sample additions →

@@ -1,6 +1,7 @@
 -- What a job comes to, from what its files come to.
 
 use Rattle.std.proofs.Common.{◌≡◌, ℕ, true, Option, None, Some, Result, Ok, Err, IfErr, inl, inr, refl, arith, subst}
+use Rattle.ba_cert.specs.declared.head.CertHead.{CertHead}
 use Rattle.ba_commands.specs.Modes.{Word}
 use Rattle.ba_localise.specs.Verdicts.{Derivation, Told}
 use Rattle.ba_steps.specs.Sinks.{Rose}
@@ -10,7 +11,7 @@ use Rattle.ba_world.specs.declared.read.ReadFileError.TheVariants as read
 use Rattle.ba_world.proofs.WholeReads.{only_reads_none, only_reads_on}
 use Rattle.ba_tool.specs.Answers.{Checks, IsAnswer}
 use Rattle.ba_jobs.specs.Files.{AreRead, StopsAt}
-use Rattle.ba_tool.specs.Calls.{Certifies, CheckComesTo, Comes, Concludes, ConcludesCheck, HasFaultOf, IsAbout, JobComesTo, MayBegin, Proceeds, Stops, StopsWith, UnreadComesTo, answer_for, by_certificate, by_texts}
+use Rattle.ba_tool.specs.Calls.{Certifies, CheckComesTo, Comes, Concludes, ConcludesCheck, HasFaultOf, IsAbout, JobComesTo, MayBegin, Proceeds, Stops, StopsWith, UnreadComesTo, answer_for, by_certificate, by_texts, head_by}
 use Rattle.ba_jobs.specs.Jobs.{is_search, sample_job, sample_texts, written_by}
 use Rattle.ba_answers.specs.declared.answers.Answer.{Answer}
 use Rattle.ba_answers.specs.declared.answers.Answer.TheVariants as answer
@@ -71,13 +72,13 @@ unread j which read.Memory before after a stops is = let no : ⊥ = cc in absurd
 
 -- without a search nothing is handed on and written
 
-nothing_written : (name : Option Word) (o : Outside) → Certifies name None o o
-nothing_written None o = refl
-nothing_written (Some name) o = refl
+nothing_written : (h : CertHead) (name : Option Word) (o : Outside) → Certifies h name None o o
+nothing_written h None o = refl
+nothing_written h (Some name) o = refl
 
-nothing_begun : (name : Option Word) (o : Outside) → MayBegin name o o
-nothing_begun None o = refl
-nothing_begun (Some name) o = inl refl
+nothing_begun : (h : CertHead) (name : Option Word) (o : Outside) → MayBegin h name o o
+nothing_begun h None o = refl
+nothing_begun h (Some name) o = inl refl
 
 pub comes_unsearched : (j : Job) (before read : Outside) (t : Told) (a : Answer) → OnlyReads before read →
     JobComesTo j before read None a → Comes (request.Wanted j) before read t t a
@@ -87,7 +88,7 @@ comes_unsearched j before read t a reads comes = record {
   comes = comes;
   reads = reads;
   hands = (refl, refl);
-  certifies = nothing_written (written_by j.task j.cert) read;
+  certifies = nothing_written (head_by j) (written_by j.task j.cert) read;
 }
 
 pub comes_unread : (j : Job) (which : File) (error : ReadFileError) (before read : Outside) (t : Told) (a :
@@ -128,12 +129,13 @@ checked_as j before after handed (answer.BudgetSpent conflicts) over x p read ab
 checked_as j before after handed (answer.BadWeights line) over x p read about c = absurd about.comes
 
 -- no certificate is written in a check
-checks_write : (t : Task) (cert : Option Word) (handed : Option Derivation) (o : Outside) → t ≡ task.Check →
-    Certifies (written_by t cert) handed o o
-checks_write task.Check cert handed o is = refl
-checks_write task.Run cert handed o is = let no : ⊥ = cc in absurd no
-checks_write task.Localise cert handed o is = let no : ⊥ = cc in absurd no
-checks_write (task.Sample additions) cert handed o is = let no : ⊥ = cc in absurd no
+checks_write : (h : CertHead) (t : Task) (cert : Option Word) (handed : Option Derivation) (o : Outside) → t
+    ≡ task.Check →
+    Certifies h (written_by t cert) handed o o
+checks_write h task.Check cert handed o is = refl
+checks_write h task.Run cert handed o is = let no : ⊥ = cc in absurd no
+checks_write h task.Localise cert handed o is = let no : ⊥ = cc in absurd no
+checks_write h (task.Sample additions) cert handed o is = let no : ⊥ = cc in absurd no
 
 -- what a job comes to whose files were read, by what their texts come to
 pub comes_proceeds : (j : Job) (x : Texts) (before read after : Outside) (t u : Told) (a : Answer) →
@@ -163,7 +165,7 @@ comes_proceeds j x before read after t u a reads r (by_certificate p spells chec
   });
   reads = only_reads_on before read after reads only;
   hands = c.hands;
-  certifies = checks_write j.task j.cert (Some c.over) after checks.0;
+  certifies = checks_write (head_by j) j.task j.cert (Some c.over) after checks.0;
 }
 
 -- and what a sample comes to
@@ -189,14 +191,16 @@ sampled_as j x additions before after t u a job texts holds = comes_sampled addi
     (subst (λ j. Proceeds j x before after t u a) job holds))
 
 pub sample_stops : (j : Job) (additions : ℕ) (before after : Outside) → j ≡ sample_job additions →
-    StopsWith (written_by j.task j.cert) before after → Stops (request.Sample additions) before after
+    StopsWith (head_by j) (written_by j.task j.cert) before after →
+    Stops (request.Sample additions) before after
 sample_stops j additions before after job stops =
-    subst (λ (j : Job). StopsWith (written_by j.task j.cert) before after) job stops
+    subst (λ (j : Job). StopsWith (head_by j) (written_by j.task j.cert) before after) job stops
 
 -- texts that are answered at once, and a search
 pub proceeds_judged : (j : Job) (x : Texts) (o : Outside) (t : Told) (a : Answer) → IsAnswer j x None a →
     Proceeds j x o o t t a
-proceeds_judged j x o t a is = by_texts None is (refl, refl) (nothing_written (written_by j.task j.cert) o)
+proceeds_judged j x o t a is =
+    by_texts None is (refl, refl) (nothing_written (head_by j) (written_by j.task j.cert) o)
 
 -- a job that searches writes the certificate that is named
 searches_write : (t : Task) (cert : Option Word) → is_search t ≡ true → cert ≡ written_by t cert
@@ -208,20 +212,22 @@ searches_write task.Run cert is = let no : ⊥ = cc in absurd no
 pub proceeds_searched : (j : Job) (x : Texts) (old new : Outside) (t u : Told) (a : Answer) →
     is_search j.task ≡ true → Concludes j x j.cert old new t u a → Proceeds j x old new t u a
 proceeds_searched j x old new t u a is c = by_texts (Some c.derivation) c.is c.hands
-    (subst (λ cert. Certifies cert (Some c.derivation) old new) (searches_write j.task j.cert is) c.certifies)
+    (subst (λ cert. Certifies (head_by j) cert (Some c.derivation) old new)
+    (searches_write j.task j.cert is) c.certifies)
 
-pub stops_searched : (j : Job) (old new : Outside) → is_search j.task ≡ true → MayBegin j.cert old new →
-    StopsWith (written_by j.task j.cert) old new
+pub stops_searched : (j : Job) (old new : Outside) → is_search j.task ≡ true →
+    MayBegin (head_by j) j.cert old new →
+    StopsWith (head_by j) (written_by j.task j.cert) old new
 stops_searched j old new is may = record {
   read = old;
   reads = only_reads_none old;
-  may = subst (λ cert. MayBegin cert old new) (searches_write j.task j.cert is) may;
+  may = subst (λ cert. MayBegin (head_by j) cert old new) (searches_write j.task j.cert is) may;
 }
 
 -- and one that stops later
-pub stops_later : (cert : Option Word) (before read after : Outside) → OnlyReads before read →
-    StopsWith cert read after → StopsWith cert before after
-stops_later cert before read after reads s = record {
+pub stops_later : (h : CertHead) (cert : Option Word) (before read after : Outside) → OnlyReads before read →
+    StopsWith h cert read after → StopsWith h cert before after
+stops_later h cert before read after reads s = record {
   read = s.read;
   reads = only_reads_on before read s.read reads s.reads;
   may = s.may;
@@ -239,9 +245,9 @@ sink_faults old new t u reads (inl rose) = let same = reads.write_faults in inl 
 sink_faults old new t u reads (inr top) = inr (omega (arith, top))
 
 -- what stops in reading has written nothing
-pub stops_read : (cert : Option Word) (before read : Outside) → OnlyReads before read →
-    StopsWith cert before read
-stops_read cert before read reads = record { read = read; reads = reads; may = nothing_begun cert read }
+pub stops_read : (h : CertHead) (cert : Option Word) (before read : Outside) → OnlyReads before read →
+    StopsWith h cert before read
+stops_read h cert before read reads = record { read = read; reads = reads; may = nothing_begun h cert read }
 
 -- a fact of all errors
 pub if_err : {A E : Type 0} (result : Result A E) (P : Type 0) → P → IfErr result (λ error. P)

@@ -17,7 +17,7 @@ use Rattle.ba_tree.specs.Least.{WeightList, judge_of}
 use Rattle.ba_tree.specs.declared.run.Input.{Input}
 use Rattle.ba_world.specs.World.{Outside}
 use Rattle.ba_tool.specs.Answers.{judge_in, weights_of}
-use Rattle.ba_tool.specs.Calls.{ConcludesCheck}
+use Rattle.ba_tool.specs.Calls.{ConcludesCheck, head_by}
 use Rattle.ba_tool.specs.Cases.{IsCaseOf}
 use Rattle.ba_tool.specs.Certificates.{CertificateComesTo}
 use Rattle.ba_answers.specs.declared.answers.Answer.{Answer}
@@ -71,6 +71,7 @@ module _ (j : Job) (x : Texts) (c : Case) (is : IsCaseOf x c) (encoded : Encoded
       u.over ≡ with_told (basis formula softs) t.over → u.logs ≡ t.logs →
       CertificateComesTo (record {
         name = name;
+        head = head_by j;
         problem = problem_over c.program c.input (settings_of j) encoded;
         weights = weights_of c.program x;
       }) a old new → ConcludesCheck j x c.program old new t u a
@@ -83,7 +84,8 @@ module _ (j : Job) (x : Texts) (c : Case) (is : IsCaseOf x c) (encoded : Encoded
       name = name;
       named = named;
       comes = subst (λ (p : Problem). CertificateComesTo
-          (record { name = name; problem = p; weights = weights_of c.program x }) a old new) problem_same
+          (record { name = name; head = head_by j; problem = p; weights = weights_of c.program x }) a old
+          new) problem_same
           comes;
     };
   }

@@ -3,6 +3,7 @@
 use Rattle.std.proofs.Common.{◌≡◌, inl, inr, ℕ, ◌+◌, ◌≤◌, Option, None, Some, List, ◌++◌, length, take, option_map, All, IfSome, refl, sym, ap, subst, ◌∙◌, arith}
 use Rattle.std.proofs.lemmas.List.Elements.{All-nil}
 use Rattle.std.proofs.lemmas.List.{take_all}
+use Rattle.ba_cert.specs.declared.head.CertHead.{CertHead}
 use Rattle.ba_cert.specs.Text.{text_of as certificate_of}
 use Rattle.ba_cert.specs.Writing.{BeginsText}
 use Rattle.ba_commands.specs.Modes.{Word}
@@ -16,7 +17,7 @@ use Rattle.ba_world.specs.declared.read.ReadFileError.{ReadFileError}
 use Rattle.ba_world.specs.declared.read.ReadFileError.TheVariants as read_error
 use Rattle.ba_world.proofs.WholeReads.{rose_since}
 use Rattle.ba_tool.specs.Answers.{Answers, IsAnswer}
-use Rattle.ba_tool.specs.Calls.{Answered, AnsweredInPart, Call, Certifies, CheckComesTo, Comes, ComesTo, HasFault, IsShown, JobComesTo, MayBegin, RequestComesTo, Says, Stops, UnreadComesTo, WritesOnly}
+use Rattle.ba_tool.specs.Calls.{Answered, AnsweredInPart, Call, Certifies, CheckComesTo, Comes, ComesTo, HasFault, IsShown, JobComesTo, MayBegin, RequestComesTo, Says, Stops, UnreadComesTo, WritesOnly, head_in}
 use Rattle.ba_jobs.specs.Jobs.{cert_of, request_of, sample_job, sample_texts}
 use Rattle.ba_answers.specs.Printed.{status_of, text_of}
 use Rattle.ba_answers.specs.declared.answers.Answer.{Answer}
@@ -164,22 +165,23 @@ formed_of (request.Wanted j) before read handed a comes = job_formed j before re
 -- WHAT IS WRITTEN before anything is printed
 
 -- a whole certificate begins with its first bytes
-whole_begins : (steps : List CertStep) (kept : Option (List ℕ)) → All IsFormed steps →
-    IfSome kept (λ bytes. bytes ≡ certificate_of steps) → IfSome kept BeginsText
-whole_begins steps None formed held = tt
-whole_begins steps (Some bytes) formed held = (
+whole_begins : (h : CertHead) (steps : List CertStep) (kept : Option (List ℕ)) → All IsFormed steps →
+    IfSome kept (λ bytes. bytes ≡ certificate_of h steps) → IfSome kept (BeginsText h)
+whole_begins h steps None formed held = tt
+whole_begins h steps (Some bytes) formed held = (
   steps,
   formed,
   (length bytes, sym (take_all (length bytes) bytes (omega arith)) ∙ ap (take (length bytes)) held),
 )
 
-may_begin : (name : Option Word) (handed : Option Derivation) (old new : Outside) → AreFormed handed →
-    Certifies name handed old new → MayBegin name old new
-may_begin None handed old new formed same = same
-may_begin (Some name) None old new formed same = inl same
-may_begin (Some name) (Some d) old new formed writes = inr (record {
+may_begin : (h : CertHead) (name : Option Word) (handed : Option Derivation) (old new : Outside) →
+    AreFormed handed →
+    Certifies h name handed old new → MayBegin h name old new
+may_begin h None handed old new formed same = same
+may_begin h (Some name) None old new formed same = inl same
+may_begin h (Some name) (Some d) old new formed writes = inr (record {
   only = writes.only;
-  beginning = λ still. ∣ whole_begins d.steps (new.kept name) formed writes.holds ∣₁;
+  beginning = λ still. ∣ whole_begins h d.steps (new.kept name) formed writes.holds ∣₁;
 })
 
 pub comes_stops : (r : Request) (before after : Outside) (t u : Told) (a : Answer) →
@@ -188,7 +190,7 @@ pub comes_stops : (r : Request) (before after : Outside) (t u : Told) (a : Answe
 comes_stops r before after t u a c = record {
   read = c.read;
   reads = c.reads;
-  may = may_begin (cert_of r) c.handed c.read after (formed_of r before c.read c.handed a c.comes)
+  may = may_begin (head_in r) (cert_of r) c.handed c.read after (formed_of r before c.read c.handed a c.comes)
       c.certifies;
 }
 
@@ -202,17 +204,18 @@ writes_none o = record {
   given = refl;
 }
 
-pub only_writes : (name : Option Word) (old new : Outside) → MayBegin name old new → OnlyWrites old new
-only_writes None old new same = subst (OnlyWrites old) (sym same) (writes_none old)
-only_writes (Some name) old new (inl same) = subst (OnlyWrites old) (sym same) (writes_none old)
-only_writes (Some name) old new (inr begins) = begins.only.stays
+pub only_writes : (h : CertHead) (name : Option Word) (old new : Outside) → MayBegin h name old new →
+    OnlyWrites old new
+only_writes h None old new same = subst (OnlyWrites old) (sym same) (writes_none old)
+only_writes h (Some name) old new (inl same) = subst (OnlyWrites old) (sym same) (writes_none old)
+only_writes h (Some name) old new (inr begins) = begins.only.stays
 
 -- the faults of reading stay
 pub reads_stay : (r : Request) (before after : Outside) (t u : Told) (a : Answer) (c : Comes r before after
     t u a) →
     after.read_faults ≡ c.read.read_faults
-reads_stay r before after t u a c = (only_writes (cert_of r) c.read after
-    (may_begin (cert_of r) c.handed c.read after (formed_of r before c.read c.handed a c.comes)
+reads_stay r before after t u a c = (only_writes (head_in r) (cert_of r) c.read after
+    (may_begin (head_in r) (cert_of r) c.handed c.read after (formed_of r before c.read c.handed a c.comes)
     c.certifies)).read_faults
 
 -- nothing was printed, no fault of reading rose, and no print found no memory
@@ -223,7 +226,7 @@ pub record IsUnprinted (before after : Outside) : Type 0 where
 
 pub unprinted : (r : Request) (before after : Outside) → Stops r before after → IsUnprinted before after
 unprinted r before after s =
-    let w = only_writes (cert_of r) s.read after s.may in record {
+    let w = only_writes (head_in r) (cert_of r) s.read after s.may in record {
       printed = w.printed ∙ s.reads.printed;
       write_no_fall = let e = s.reads.write_faults in let h = w.no_fall in omega (arith, e, h);
       shortages = w.print_shortages ∙ s.reads.print_shortages;
@@ -298,10 +301,10 @@ module _ (c : Call) (a : Answer) (result : Status) (s : Ends c a result) where
 
 -- NO FILE IS WRITTEN but the certificate
 
-may_write : (name : Option Word) (before read mid after : Outside) → OnlyReads before read →
-    MayBegin name read mid
+may_write : (h : CertHead) (name : Option Word) (before read mid after : Outside) → OnlyReads before read →
+    MayBegin h name read mid
     → OnlyPrints mid after → WritesOnly name before after
-may_write None before read mid after reads same prints =
+may_write h None before read mid after reads same prints =
     let print : OnlyPrints read after = subst (λ o. OnlyPrints o after) same prints in record {
       held = print.held ∙ reads.held;
       kept = print.kept ∙ reads.kept;
@@ -310,13 +313,13 @@ may_write None before read mid after reads same prints =
       read_no_fall = let e = print.read_faults in let h = reads.no_fall in omega (arith, e, h);
       write_no_fall = let e = reads.write_faults in let h = print.no_fall in omega (arith, e, h);
     }
-may_write (Some name) before read mid after reads (inl same) prints =
+may_write h (Some name) before read mid after reads (inl same) prints =
     let print : OnlyPrints read after = subst (λ o. OnlyPrints o after) same prints in record {
       kept = λ other apart. ap (λ (kept : Word → Option (List ℕ)). kept other) (print.kept ∙ reads.kept);
       read_no_fall = let e = print.read_faults in let h = reads.no_fall in omega (arith, e, h);
       write_no_fall = let e = reads.write_faults in let h = print.no_fall in omega (arith, e, h);
     }
-may_write (Some name) before read mid after reads (inr begins) prints =
+may_write h (Some name) before read mid after reads (inr begins) prints =
     let w = begins.only.stays in record {
       kept = λ other apart. ap (λ (kept : Word → Option (List ℕ)). kept other) prints.kept
           ∙ begins.only.kept other apart ∙ ap (λ (kept : Word → Option (List ℕ)). kept other) reads.kept;
@@ -329,7 +332,7 @@ may_write (Some name) before read mid after reads (inr begins) prints =
 pub stops_write : (r : Request) (before mid after : Outside) → Stops r before mid → OnlyPrints mid after
     → WritesOnly (cert_of r) before after
 stops_write r before mid after s prints =
-    may_write (cert_of r) before s.read mid after s.reads s.may prints
+    may_write (head_in r) (cert_of r) before s.read mid after s.reads s.may prints
 
 prints_none : (o : Outside) → OnlyPrints o o
 prints_none o = record {

@@ -2,6 +2,7 @@
 
 use Rattle.std.proofs.Common.{◌≡◌, ◌∙◌, inl, inr, ℕ, ◌+◌, ◌-◌, ◌^◌, ◌<◌, ◌≤◌, min, true, Option, None, Some, option_map, IfSome, List, [], ◌++◌, length, take, Result, Ok, Err, IfErr, refl, sym, ap, subst, length-append, length-take-le, append-nil, arith}
 use Rattle.std.specs.Result.{IsErrAnd}
+use Rattle.ba_cert.specs.declared.head.CertHead.{CertHead}
 use Rattle.ba_check.specs.Answers.{IsTrueOf, Tells, TellsRefusal, confirmed_of}
 use Rattle.ba_check.specs.Findings.{Accepted, Finding, Refused, finding_of, first_refused}
 use Rattle.ba_check.specs.Lines.{lines_in}
@@ -31,11 +32,12 @@ pub record IsFeeding (name : Word) (first reader : Confirming) (old new : Outsid
   pub text : List ℕ
   pub read : IsReadTo name text old new
   pub count : length text ≡ given
-  pub reads : (p : Problem) → HasRead p [] first → HasRead p text reader × (first_refused p text ≡ None)
+  pub reads : (h : CertHead) (p : Problem) → HasRead h p [] first →
+      HasRead h p text reader × (first_refused h p text ≡ None)
 
-none_refused : (p : Problem) → first_refused p [] ≡ None
+none_refused : (h : CertHead) (p : Problem) → first_refused h p [] ≡ None
 unfolding lines_in
-none_refused p = refl
+none_refused h p = refl
 
 opened_parts : (held : Option (Option (List ℕ))) (left : Option (List ℕ)) → held ≡ option_map Some left →
     held ≡ option_map (λ rest. Some ([] ++ rest)) left
@@ -53,16 +55,17 @@ feeding_starts name reader old new opened same = record {
     counted = (omega arith, omega arith);
   };
   count = refl;
-  reads = λ p has. (has, none_refused p);
+  reads = λ h p has. (has, none_refused h p);
 }
 
 -- and after one more piece, of which no line is refused
 pub feeding_goes_on : (name : Word) (first reader later : Confirming) (buffer : List ℕ) (count given : ℕ)
     (old mid new : Outside) → IsFeeding name first reader old mid given → GivesPiece count buffer mid new →
     new.is_reading ≡ true →
-    ((p : Problem) (text : List ℕ) → HasRead p text reader → HasRead p (text ++ take count buffer) later) →
-    ((p : Problem) (text : List ℕ) → HasRead p text reader →
-    first_refused p (text ++ take count buffer) ≡ None) →
+    ((h : CertHead) (p : Problem) (text : List ℕ) → HasRead h p text reader →
+    HasRead h p (text ++ take count buffer) later) →
+    ((h : CertHead) (p : Problem) (text : List ℕ) → HasRead h p text reader →
+    first_refused h p (text ++ take count buffer) ≡ None) →
     IsFeeding name first later old new (given + count)
 feeding_goes_on name first reader later buffer count given old mid new f piece reading reads refuses =
     record {
@@ -71,7 +74,7 @@ feeding_goes_on name first reader later buffer count given old mid new f piece r
       count = length-append f.text (take count buffer)
           ∙ ap (λ n. length f.text + n) (length-take-le count buffer piece.within)
           ∙ ap (λ n. n + count) f.count;
-      reads = λ p has. let h = f.reads p has in (reads p f.text h.0, refuses p f.text h.0);
+      reads = λ h p has. let r = f.reads h p has in (reads h p f.text r.0, refuses h p f.text r.0);
     }
 
 -- THE END of the file: nothing is left of it
@@ -108,7 +111,7 @@ whole_by name bytes buffer old mid new read piece reading = record {
 }
 
 pub feeding_ends : (j : Judging) (name : Word) (first reader : Confirming) (buffer : List ℕ) (count given : ℕ)
-    (old mid new : Outside) → j.name ≡ name → HasRead j.problem [] first →
+    (old mid new : Outside) → j.name ≡ name → HasRead j.head j.problem [] first →
     IsFeeding name first reader old mid given → given ≤ certificate_limit → count ≡ 0 →
     GivesPiece count buffer mid new → new.is_reading ≡ true → IsFed j old new reader
 feeding_ends j name first reader buffer count given old mid new named has f few none piece reading = record {
@@ -117,15 +120,15 @@ feeding_ends j name first reader buffer count given old mid new named has f few 
       (whole_by name f.text buffer old mid new f.read
       (subst (λ n. GivesPiece n buffer mid new) none piece) reading);
   short = let e = f.count in omega (arith, e, few);
-  unrefused = (f.reads j.problem has).1;
-  read = (f.reads j.problem has).0;
+  unrefused = (f.reads j.head j.problem has).1;
+  read = (f.reads j.head j.problem has).0;
 }
 
 -- or it stops: a fault rose; more bytes than the limit came; or a line of the piece is refused
 
 pub feeding_faults : (j : Judging) (name : Word) (first reader : Confirming) (given : ℕ) (old mid new :
     Outside) →
-    j.name ≡ name → HasRead j.problem [] first → IsFeeding name first reader old mid given →
+    j.name ≡ name → HasRead j.head j.problem [] first → IsFeeding name first reader old mid given →
     given ≤ certificate_limit → GivesNone mid new → new.is_reading ≡ true → HasReadFault mid new →
     old.read_faults ≤ mid.read_faults → StopsUnread j old new
 feeding_faults j name first reader given old mid new named has f few none reading rose later = record {
@@ -137,13 +140,13 @@ feeding_faults j name first reader given old mid new named has f few none readin
     counted = subst (λ n. RoseBy (length f.text) old.given n) (sym none.given) f.read.counted;
   };
   short = let e = f.count in omega (arith, e, few);
-  unrefused = (f.reads j.problem has).1;
+  unrefused = (f.reads j.head j.problem has).1;
   cause = rose_since old.read_faults mid.read_faults new.read_faults later rose;
 }
 
 pub feeding_passes : (j : Judging) (name : Word) (first reader : Confirming) (buffer : List ℕ)
     (count given : ℕ)
-    (old mid new : Outside) → j.name ≡ name → HasRead j.problem [] first →
+    (old mid new : Outside) → j.name ≡ name → HasRead j.head j.problem [] first →
     IsFeeding name first reader old mid given → given ≤ certificate_limit →
     certificate_limit < given + count →
     length buffer ≡ piece_size → GivesPiece count buffer mid new → new.is_reading ≡ true →
@@ -154,7 +157,7 @@ feeding_passes j name first reader buffer count given old mid new named has f fe
       piece = take count buffer;
       read = subst (λ n. IsReadTo n (f.text ++ take count buffer) old new) (sym named)
           (read_on name f.text buffer count old mid new f.read piece reading);
-      unrefused = (f.reads j.problem has).1;
+      unrefused = (f.reads j.head j.problem has).1;
       last = let e = length-take-le count buffer piece.within in let w = piece.within in
           omega (arith, e, w, room);
       short = let e = f.count in omega (arith, e, few);
@@ -163,11 +166,11 @@ feeding_passes j name first reader buffer count given old mid new named has f fe
     }
 
 pub feeding_refuses : (j : Judging) (name : Word) (first reader : Confirming) (buffer : List ℕ)
-    (count given line code : ℕ) (old mid new : Outside) → j.name ≡ name → HasRead j.problem [] first →
+    (count given line code : ℕ) (old mid new : Outside) → j.name ≡ name → HasRead j.head j.problem [] first →
     IsFeeding name first reader old mid given → given + count ≤ certificate_limit →
     length buffer ≡ piece_size → GivesPiece count buffer mid new → new.is_reading ≡ true →
-    ((p : Problem) (text : List ℕ) → HasRead p text reader →
-    first_refused p (text ++ take count buffer) ≡ Some (line, code)) → StopsRefused j line code old new
+    ((h : CertHead) (p : Problem) (text : List ℕ) → HasRead h p text reader →
+    first_refused h p (text ++ take count buffer) ≡ Some (line, code)) → StopsRefused j line code old new
 feeding_refuses j name first reader buffer count given line code old mid new named has f few room piece
     reading
     refuses = record {
@@ -177,15 +180,15 @@ feeding_refuses j name first reader buffer count given line code old mid new nam
           (read_on name f.text buffer count old mid new f.read piece reading);
       short = let e = length-append f.text (take count buffer) in let n = f.count in
           let t = length-take-le count buffer piece.within in omega (arith, e, n, t, few);
-      unrefused = (f.reads j.problem has).1;
+      unrefused = (f.reads j.head j.problem has).1;
       last = let e = length-take-le count buffer piece.within in let w = piece.within in
           omega (arith, e, w, room);
-      refused = refuses j.problem f.text (f.reads j.problem has).0;
+      refused = refuses j.head j.problem f.text (f.reads j.head j.problem has).0;
     }
 
 -- what an error of reading comes to, and one of the reader
 pub feeding_errs : (j : Judging) (name : Word) (first reader : Confirming) (given : ℕ) (old mid new : Outside)
-    (cause : WorldError) (result : Result ℕ WorldError) → j.name ≡ name → HasRead j.problem [] first →
+    (cause : WorldError) (result : Result ℕ WorldError) → j.name ≡ name → HasRead j.head j.problem [] first →
     IsFeeding name first reader old mid given → given ≤ certificate_limit → GivesNone mid new →
     new.is_reading ≡ true → result ≡ Err cause → (result ≡ Err world.Failed → HasReadFault mid new) →
     old.read_faults ≤ mid.read_faults → IsUnfed j (unfed.Unread (read_error cause)) old new
@@ -197,11 +200,11 @@ feeding_errs j name first reader given old mid new world.Memory result named has
 
 pub feeding_stops : (j : Judging) (name : Word) (first reader : Confirming) (buffer : List ℕ)
     (count given : ℕ)
-    (old mid new : Outside) (error : CheckError) → j.name ≡ name → HasRead j.problem [] first →
+    (old mid new : Outside) (error : CheckError) → j.name ≡ name → HasRead j.head j.problem [] first →
     IsFeeding name first reader old mid given → given + count ≤ certificate_limit →
     length buffer ≡ piece_size → GivesPiece count buffer mid new → new.is_reading ≡ true →
-    ((p : Problem) (text : List ℕ) → HasRead p text reader →
-    TellsRefusal (Err error) (first_refused p (text ++ take count buffer))) →
+    ((h : CertHead) (p : Problem) (text : List ℕ) → HasRead h p text reader →
+    TellsRefusal (Err error) (first_refused h p (text ++ take count buffer))) →
     IsUnfed j (unfed.Refused error) old new
 feeding_stops j name first reader buffer count given old mid new (Line line code) named has f few room
     piece reading
@@ -222,12 +225,13 @@ unfed_by j (Err error) why old new is unfed = subst (λ error. IsUnfed j error o
 -- THE ANSWER of a certificate
 
 pub accepted_by : (j : Judging) (old new : Outside) (reader : Confirming) (confirmed : Confirmed)
-    (claimed : Claim) (fed : IsFed j old new reader) → Tells (Ok confirmed) (finding_of j.problem fed.text) →
-    IsTrueOf j.weights j.problem fed.text confirmed →
+    (claimed : Claim) (fed : IsFed j old new reader) →
+    Tells (Ok confirmed) (finding_of j.head j.problem fed.text) →
+    IsTrueOf j.weights j.head j.problem fed.text confirmed →
     ((v : Verdict) → confirmed ≡ confirmed_of v → claimed ≡ claim_of v) → IsAccepted j claimed old new
 accepted_by j old new reader confirmed claimed fed tells holds claims =
-    by (finding_of j.problem fed.text) refl tells where
-      by : (found : Finding) → finding_of j.problem fed.text ≡ found → Tells (Ok confirmed) found →
+    by (finding_of j.head j.problem fed.text) refl tells where
+      by : (found : Finding) → finding_of j.head j.problem fed.text ≡ found → Tells (Ok confirmed) found →
           IsAccepted j claimed old new
       by (Accepted verdict) found is = record {
         text = fed.text;
@@ -235,13 +239,13 @@ accepted_by j old new reader confirmed claimed fed tells holds claims =
         short = fed.short;
         verdict = verdict;
         found = found;
-        holds = subst (IsTrueOf j.weights j.problem fed.text) is holds;
+        holds = subst (IsTrueOf j.weights j.head j.problem fed.text) is holds;
         claims = claims verdict is;
       }
       by (Refused line code) found is = absurd is
 
 pub refused_by : (j : Judging) (line code : ℕ) (old new : Outside) (reader : Confirming)
-    (fed : IsFed j old new reader) → Tells (Err (Line line code)) (finding_of j.problem fed.text) →
+    (fed : IsFed j old new reader) → Tells (Err (Line line code)) (finding_of j.head j.problem fed.text) →
     EndsRefused j line code old new
 refused_by j line code old new reader fed tells =
     record {

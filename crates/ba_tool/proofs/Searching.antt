@@ -1,6 +1,7 @@
 -- What a search comes to, from what it finds and hands on.
 
 use Rattle.std.proofs.Common.{◌≡◌, Option, None, Some, option_map, List, [], ◌∷◌, ◌++◌, IfSome, refl, sym, ap, subst, ◌∙◌, append_assoc, append-nil, ℕ}
+use Rattle.ba_cert.specs.declared.head.CertHead.{CertHead}
 use Rattle.ba_cert.specs.Text.{text_of as certificate_of}
 use Rattle.ba_cert.specs.Writing.{OnlyWritesTo}
 use Rattle.ba_commands.specs.Modes.{Word}
@@ -13,7 +14,7 @@ use Rattle.ba_tree.specs.Least.{WeightList, judge_of}
 use Rattle.ba_tree.specs.declared.run.Input.{Input}
 use Rattle.ba_world.specs.World.{Outside}
 use Rattle.ba_tool.specs.Answers.{AnswersBy, Searches, Tells, judge_in, weights_of}
-use Rattle.ba_tool.specs.Calls.{Concludes, HandsAnswer}
+use Rattle.ba_tool.specs.Calls.{Concludes, HandsAnswer, head_by}
 use Rattle.ba_tool.specs.Cases.{IsCaseOf}
 use Rattle.ba_answers.specs.declared.answers.Answer.{Answer}
 use Rattle.ba_jobs.specs.declared.files.Texts.{Texts}
@@ -74,15 +75,15 @@ unfolding with_each
 each_untold [] = refl
 each_untold (step ∷ steps) = each_untold steps
 
-kept_text : (steps : List CertStep) (begun kept : Option (List ℕ)) →
-    kept ≡ option_map certificate_of (with_each steps (option_map (λ (bytes : List ℕ). []) begun)) →
-    IfSome kept (λ bytes. bytes ≡ certificate_of steps)
-kept_text steps None kept is =
-    subst (λ k. IfSome k (λ bytes. bytes ≡ certificate_of steps))
-    (sym (is ∙ ap (option_map certificate_of) (each_untold steps))) tt
-kept_text steps (Some bytes) kept is =
-    subst (λ k. IfSome k (λ bytes. bytes ≡ certificate_of steps))
-    (sym (is ∙ ap (option_map certificate_of) (each_told steps []))) refl
+kept_text : (h : CertHead) (steps : List CertStep) (begun kept : Option (List ℕ)) →
+    kept ≡ option_map (certificate_of h) (with_each steps (option_map (λ (bytes : List ℕ). []) begun)) →
+    IfSome kept (λ bytes. bytes ≡ certificate_of h steps)
+kept_text h steps None kept is =
+    subst (λ k. IfSome k (λ bytes. bytes ≡ certificate_of h steps))
+    (sym (is ∙ ap (option_map (certificate_of h)) (each_untold steps))) tt
+kept_text h steps (Some bytes) kept is =
+    subst (λ k. IfSome k (λ bytes. bytes ≡ certificate_of h steps))
+    (sym (is ∙ ap (option_map (certificate_of h)) (each_told steps []))) refl
 
 heads : (a b : Option (List CertStep)) (logs others : Logs) → a ∷ logs ≡ b ∷ others → a ≡ b
 heads a b logs others e = cc
@@ -97,7 +98,7 @@ pub certified : (j : Job) (x : Texts) (name : Word) (old begun new : Outside) (f
     (log later : Option (List CertStep)) → HandsAnswer j x from to a →
     from.over ≡ t.over → to.over ≡ u.over → from.logs ≡ log ∷ t.logs → to.logs ≡ later ∷ u.logs →
     log ≡ option_map (λ (bytes : List ℕ). []) (begun.kept name) →
-    new.kept name ≡ option_map certificate_of later → OnlyWritesTo name old new →
+    new.kept name ≡ option_map (certificate_of (head_by j)) later → OnlyWritesTo name old new →
     Concludes j x (Some name) old new t u a
 certified j x name old begun new from to t u a log later h over over' logs logs' fresh kept only = record {
   derivation = h.derivation;
@@ -108,8 +109,8 @@ certified j x name old begun new from to t u a log later h over over' logs logs'
   };
   certifies = record {
     only = only;
-    holds = kept_text h.derivation.steps (begun.kept name) (new.kept name) (kept
-        ∙ ap (option_map certificate_of)
+    holds = kept_text (head_by j) h.derivation.steps (begun.kept name) (new.kept name) (kept
+        ∙ ap (option_map (certificate_of (head_by j)))
         (heads later (with_each h.derivation.steps log) u.logs (with_steps h.derivation.steps t.logs) split
         ∙ ap (with_each h.derivation.steps) fresh));
   };

@@ -3,8 +3,9 @@
 
 use Rattle.std.specs.Prelude.{◌≡◌, ◌⊎◌, ℕ, ◌+◌, ◌*◌, ◌<◌, ◌≤◌, true, Option, None, Some, List, [], map, length}
 use denote.Ref.{Bor}
+use Rattle.ba_cert.specs.declared.head.CertHead.{CertHead}
 use Rattle.ba_cert.specs.Text.{text_of as certificate_of}
-use Rattle.ba_cert.specs.Writing.{Holds, HoldsBeginning, OnlyWritesTo}
+use Rattle.ba_cert.specs.Writing.{Holds, HoldsBeginning, OnlyWritesTo, no_head}
 use Rattle.ba_commands.specs.Modes.{Word}
 use Rattle.ba_derivations.specs.Encodings.{IsFaithful}
 use Rattle.ba_localise.specs.Verdicts.{Derivation, Hands, Told, problem_of}
@@ -63,11 +64,22 @@ HasFaultOf before after told_before told_after =
 abbrev pub HasFault : Call → Type 0
 HasFault c = HasFaultOf c.before c.after c.told_before c.told_after
 
+-- the settings of a job, as a certificate names them
+abbrev pub head_by : Job → CertHead
+head_by j = record { bounds = j.bounds; conflicts = j.conflicts; sets = j.sets }
+
+-- those of what words ask for; words that are no command have none
+abbrev pub head_in : Request → CertHead
+head_in request.Refused = no_head
+head_in (request.Sample additions) = head_by (sample_job additions)
+head_in (request.Wanted j) = head_by j
+
 -- what is judged of a certificate: what its file says on the problem of the run, over the formula that was
 -- handed on
 abbrev pub judging : Job → Texts → Program → Derivation → Word → Judging
 judging j x p over name = record {
   name = name;
+  head = head_by j;
   problem = problem_of over (judge_in j x p) j.conflicts j.sets;
   weights = weights_of p x;
 }
@@ -146,22 +158,22 @@ pub record Writes (name text : List ℕ) (old new : Outside) : Type 0 where
   pub only : OnlyWritesTo name old new
   pub holds : Holds name text new
 
--- the text of its steps to the file of the certificate, if one is named; else nothing
-abbrev pub Certifies : Option Word → Option Derivation → Outside → Outside → Type 0
-Certifies None handed old new = new ≡ old
-Certifies (Some name) None old new = new ≡ old
-Certifies (Some name) (Some d) old new = Writes name (certificate_of d.steps) old new
+-- the text of these settings and its steps to the file of the certificate, if one is named; else nothing
+abbrev pub Certifies : CertHead → Option Word → Option Derivation → Outside → Outside → Type 0
+Certifies h None handed old new = new ≡ old
+Certifies h (Some name) None old new = new ≡ old
+Certifies h (Some name) (Some d) old new = Writes name (certificate_of h d.steps) old new
 
 -- the file of this name was begun: only it was written, and while it is open it holds the first bytes of a
--- certificate, where that is told
-pub record Begins (name : List ℕ) (old new : Outside) : Type 0 where
+-- certificate of these settings, where that is told
+pub record Begins (h : CertHead) (name : List ℕ) (old new : Outside) : Type 0 where
   pub only : OnlyWritesTo name old new
-  pub beginning : new.is_writing ≡ true → HoldsBeginning name new
+  pub beginning : new.is_writing ≡ true → HoldsBeginning h name new
 
 -- the certificate may have been begun, if one is named
-abbrev pub MayBegin : Option Word → Outside → Outside → Type 0
-MayBegin None old new = new ≡ old
-MayBegin (Some name) old new = (new ≡ old) ⊎ Begins name old new
+abbrev pub MayBegin : CertHead → Option Word → Outside → Outside → Type 0
+MayBegin h None old new = new ≡ old
+MayBegin h (Some name) old new = (new ≡ old) ⊎ Begins h name old new
 
 -- WHAT A SEARCH COMES TO: an answer with a derivation, which was handed to the sink of steps
 pub record HandsAnswer (j : Job) (x : Texts) (told_before told_after : Told) (a : Answer) : Type 0 where
@@ -175,7 +187,7 @@ pub record Concludes (j : Job) (x : Texts) (name : Option Word) (before after : 
   pub derivation : Derivation
   pub is : IsAnswer j x (Some derivation) a
   pub hands : Hands derivation told_before told_after
-  pub certifies : Certifies name (Some derivation) before after
+  pub certifies : Certifies (head_by j) name (Some derivation) before after
 
 -- what a check comes to, where the run is known to fail: a formula was handed to the sink of steps, and the
 -- certificate comes to the answer over it
@@ -190,7 +202,7 @@ pub data Proceeds (j : Job) (x : Texts) (before after : Outside) (told_before to
     (a : Answer) : Type 0
   where
     by_texts : (handed : Option Derivation) → IsAnswer j x handed a → HandsOn handed told_before told_after →
-        Certifies (written_by j.task j.cert) handed before after →
+        Certifies (head_by j) (written_by j.task j.cert) handed before after →
         Proceeds j x before after told_before told_after a
     by_certificate : (p : Program) → Spells x.program p → Checks j x p → OnlyReads before after →
         ConcludesCheck j x p before after told_before told_after a →
@@ -205,16 +217,16 @@ pub record Comes (r : Request) (before after : Outside) (told_before told_after 
     pub comes : RequestComesTo r before read handed a
     pub reads : OnlyReads before read
     pub hands : HandsOn handed told_before told_after
-    pub certifies : Certifies (cert_of r) handed read after
+    pub certifies : Certifies (head_in r) (cert_of r) handed read after
 
 -- it stopped on the way: it read, and may have begun the certificate
-pub record StopsWith (cert : Option Word) (before after : Outside) : Type 0 where
+pub record StopsWith (h : CertHead) (cert : Option Word) (before after : Outside) : Type 0 where
   pub read : Outside
   pub reads : OnlyReads before read
-  pub may : MayBegin cert read after
+  pub may : MayBegin h cert read after
 
 abbrev pub Stops : Request → Outside → Outside → Type 0
-Stops r before after = StopsWith (cert_of r) before after
+Stops r before after = StopsWith (head_in r) (cert_of r) before after
 
 -- A CALL COMES TO AN ANSWER, and from then on only prints
 pub record ComesTo (c : Call) (a : Answer) : Type 0 where

@@ -1,6 +1,7 @@
 -- WHAT A CERTIFICATE COMES TO that is read from a file in pieces, where it is judged as it is read.
 
 use Rattle.std.specs.Prelude.{◌≡◌, ◌⊎◌, ℕ, ◌<◌, ◌≤◌, Option, None, Some, List, ◌++◌, length}
+use Rattle.ba_cert.specs.declared.head.CertHead.{CertHead}
 use Rattle.ba_check.specs.Answers.{IsTrueOf, confirmed_of}
 use Rattle.ba_check.specs.Findings.{Accepted, Refused, finding_of, first_refused}
 use Rattle.ba_check.specs.Readings.{Confirming, HasRead}
@@ -20,9 +21,10 @@ use Rattle.ba_tool.specs.declared.certificates.Unfed.{Unfed}
 use Rattle.ba_tool.specs.declared.certificates.Unfed.TheVariants as unfed
 use Rattle.ba_answers.specs.declared.file.File.TheVariants as file
 
--- what is to be judged: the file of this name, on this problem, where the statements weigh so
+-- what is to be judged: the file of this name, by these settings, on this problem, where the statements weigh so
 pub record Judging : Type 0 where
   pub name : Word
+  pub head : CertHead
   pub problem : Problem
   pub weights : WeightList
 
@@ -40,8 +42,8 @@ pub record IsAccepted (j : Judging) (claimed : Claim) (old new : Outside) : Type
   pub whole : IsReadWhole j.name text old new
   pub short : length text ≤ certificate_limit
   pub verdict : Verdict
-  pub found : finding_of j.problem text ≡ Accepted verdict
-  pub holds : IsTrueOf j.weights j.problem text (confirmed_of verdict)
+  pub found : finding_of j.head j.problem text ≡ Accepted verdict
+  pub holds : IsTrueOf j.weights j.head j.problem text (confirmed_of verdict)
   pub claims : claimed ≡ claim_of verdict
 
 -- IT IS REFUSED: with the piece in which its first refused line ends no more was read
@@ -50,24 +52,24 @@ pub record StopsRefused (j : Judging) (line code : ℕ) (old new : Outside) : Ty
   pub piece : List ℕ
   pub read : IsReadTo j.name (text ++ piece) old new
   pub short : length (text ++ piece) ≤ certificate_limit
-  pub unrefused : first_refused j.problem text ≡ None
+  pub unrefused : first_refused j.head j.problem text ≡ None
   pub last : length piece ≤ piece_size
-  pub refused : first_refused j.problem (text ++ piece) ≡ Some (line, code)
+  pub refused : first_refused j.head j.problem (text ++ piece) ≡ Some (line, code)
 
 -- or the file was read to its end, which comes too early, and none of its whole lines is refused
 pub record EndsRefused (j : Judging) (line code : ℕ) (old new : Outside) : Type 0 where
   pub text : List ℕ
   pub whole : IsReadWhole j.name text old new
   pub short : length text ≤ certificate_limit
-  pub unrefused : first_refused j.problem text ≡ None
-  pub found : finding_of j.problem text ≡ Refused line code
+  pub unrefused : first_refused j.head j.problem text ≡ None
+  pub found : finding_of j.head j.problem text ≡ Refused line code
 
 -- IT CAN'T BE READ to its end or a refused line: a fault rose, when no line that had come was refused
 pub record StopsUnread (j : Judging) (old new : Outside) : Type 0 where
   pub text : List ℕ
   pub read : IsReadTo j.name text old new
   pub short : length text ≤ certificate_limit
-  pub unrefused : first_refused j.problem text ≡ None
+  pub unrefused : first_refused j.head j.problem text ≡ None
   pub cause : HasReadFault old new
 
 -- IT IS TOO LONG: no line is refused of the bytes before the piece by which more than the limit came
@@ -75,7 +77,7 @@ pub record StopsTooLong (j : Judging) (old new : Outside) : Type 0 where
   pub text : List ℕ
   pub piece : List ℕ
   pub read : IsReadTo j.name (text ++ piece) old new
-  pub unrefused : first_refused j.problem text ≡ None
+  pub unrefused : first_refused j.head j.problem text ≡ None
   pub last : length piece ≤ piece_size
   pub short : length text ≤ certificate_limit
   pub long : certificate_limit < length (text ++ piece)
@@ -95,8 +97,8 @@ pub record IsFed (j : Judging) (old new : Outside) (reader : Confirming) : Type 
   pub text : List ℕ
   pub whole : IsReadWhole j.name text old new
   pub short : length text ≤ certificate_limit
-  pub unrefused : first_refused j.problem text ≡ None
-  pub read : HasRead j.problem text reader
+  pub unrefused : first_refused j.head j.problem text ≡ None
+  pub read : HasRead j.head j.problem text reader
 
 -- or it wasn't, for this reason; want of memory tells nothing
 abbrev pub IsUnfed : Judging → Unfed → Outside → Outside → Type 0

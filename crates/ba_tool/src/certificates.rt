@@ -69,10 +69,12 @@ const BUFFER: usize = 4096;
 /// Feeds the file of this name to a reader of certificates that has read nothing: to its end, or to the
 /// piece in which its first refused line ends.
 fn feed_file<W: World>(world: &mut W, name: &str, confirm: &mut Confirm) -> Result<(), Unfed>
-    ensures fed { (j : Judging) → j.name ≡ name.now → HasRead j.problem [] (seen confirm.old)
+    ensures fed { (j : Judging) → j.name ≡ name.now
+        → HasRead j.head j.problem [] (seen confirm.old)
         → IfOk result
         (λ _. IsFed j (W.outside world.old) (W.outside world.new) (seen confirm.new)) }
-    ensures unfed { (j : Judging) → j.name ≡ name.now → HasRead j.problem [] (seen confirm.old)
+    ensures unfed { (j : Judging) → j.name ≡ name.now
+        → HasRead j.head j.problem [] (seen confirm.old)
         → IfErr result (λ unfed. IsUnfed j unfed (W.outside world.old) (W.outside world.new)) }
     ensures bounded { (W.outside world.new).given
         ≤ (W.outside world.old).given + (certificate_limit + piece_size) }
@@ -148,7 +150,8 @@ fn file_answer<W: World>(
     name: &str,
     mut confirm: Confirm,
 ) -> Result<Answer, AllocError>
-    ensures answer { (j : Judging) → j.name ≡ name.now → HasRead j.problem [] (seen confirm.entry)
+    ensures answer { (j : Judging) → j.name ≡ name.now
+        → HasRead j.head j.problem [] (seen confirm.entry)
         → IsFaithful j.problem.formula j.problem.softs j.weights j.problem.good
         → IfOk result (λ answer. CertificateComesTo j answer
         (W.outside world.old) (W.outside world.new)) }

@@ -1,6 +1,6 @@
 //! The search for the least sets of a program that fails.
 
-ghost use Rattle.std.specs.Prelude.{◌≡◌, ◌≤◌, true, [], Err, IfOk, OnOk, Some, option_map};
+ghost use Rattle.std.specs.Prelude.{◌≡◌, ◌<◌, ◌≤◌, ◌^◌, true, [], Err, IfOk, OnOk, Some, option_map};
 ghost use Rattle.ba_cert.specs.Writing.{is_sound, steps_at};
 ghost use Rattle.ba_world.specs.World.{HasWriteFault};
 ghost use Rattle.ba_derivations.specs.declared.verdict.Verdict.{Verdict};
@@ -10,14 +10,14 @@ ghost use Rattle.ba_search.specs.declared.search.SearchError.{SearchError};
 ghost use Rattle.ba_steps.specs.Sinks.{Rose};
 ghost use Rattle.ba_tree.specs.Run.{are_bounds};
 ghost use Rattle.ba_tool.specs.Answers.{Searches, Tells};
-ghost use Rattle.ba_tool.specs.Calls.{Begins, Concludes, HandsAnswer, HasFaultOf, MayBegin};
+ghost use Rattle.ba_tool.specs.Calls.{Begins, Concludes, HandsAnswer, HasFaultOf, MayBegin, head_by};
 ghost use Rattle.ba_tool.specs.Cases.{IsCaseOf};
 ghost use Rattle.ba_answers.specs.declared.answers.Answer.{Answer};
 ghost use Rattle.ba_jobs.specs.declared.jobs.Job.{Job};
 
 use crate::judge::Case;
 use ba_answers::answers::Answer;
-use ba_cert::{CertSink, Start, TextSink, begin_text};
+use ba_cert::{CertHead, CertSink, Start, TextSink, begin_text};
 use ba_commands::Text;
 use ba_derivations::Verdict;
 use ba_items::Items;
@@ -145,18 +145,35 @@ where
     }
 }
 
+/// The settings of a job, as a certificate names them.
+fn head_by(job: &Job) -> CertHead
+    ensures { result ≡ head_by job.now }
+{
+    CertHead {
+        bounds: job.bounds,
+        conflicts: job.conflicts,
+        sets: job.sets,
+    }
+}
+
 /// Begins the certificate of a search.
 ///
 /// `SinkFailed` comes only where the world's faults of writing rose; `Memory` for want of memory.
-fn begin<W: World>(world: &mut W, name: &str) -> Result<(), SearchError>
-    ensures sound { OnOk result (is_sound true name.now (W.outside world.new) ≡ true) }
-    ensures no_step { OnOk result (steps_at name.now (W.outside world.new)
+fn begin<W: World>(
+    alloc: Global,
+    world: &mut W,
+    name: &str,
+    head: &CertHead,
+) -> Result<(), SearchError>
+    requires countable { head.now.conflicts < 2 ^ 62 }
+    ensures sound { OnOk result (is_sound head.now true name.now (W.outside world.new) ≡ true) }
+    ensures no_step { OnOk result (steps_at head.now name.now (W.outside world.new)
         ≡ option_map (λ _. []) ((W.outside world.new).kept name.now)) }
-    ensures begins { Begins name.now (W.outside world.old) (W.outside world.new) }
+    ensures begins { Begins head.now name.now (W.outside world.old) (W.outside world.new) }
     ensures cause { result ≡ Err SearchError.SinkFailed
         → HasWriteFault (W.outside world.old) (W.outside world.new) }
 {
-    match begin_text(world, name) {
+    match begin_text(alloc, world, name, head) {
         Ok(()) => Ok(()),
         Err(SinkError::Failed) => Err(SearchError::SinkFailed),
         Err(SinkError::Memory) => Err(SearchError::Memory),
@@ -186,6 +203,8 @@ where
     G: Fn(u64) -> u64 + Drop,
     K: Fn(u64, u64) -> bool + Drop,
     requires named { name.now ≡ S.name }
+    requires headed { head_by job.now ≡ S.head }
+    requires countable { job.now.conflicts < 2 ^ 62 }
     requires start { W.outside world.old ≡ S.outside }
     requires faults { D.faults steps.old ≡ S.faults }
     requires bounds { are_bounds job.now.bounds ≡ true }
@@ -197,15 +216,16 @@ where
     ensures answer { IfOk result (λ answer. Concludes job.now texts.now (Some name.now)
         (W.outside world.old) (W.outside world.new)
         (told D.over D.logs D.faults steps.old) (told D.over D.logs D.faults steps.new) answer) }
-    ensures begins { Begins name.now (W.outside world.old) (W.outside world.new) }
+    ensures begins { Begins (head_by job.now) name.now (W.outside world.old) (W.outside world.new) }
     ensures cause { result ≡ Err SearchError.SinkFailed
         → HasFaultOf (W.outside world.old) (W.outside world.new)
         (told D.over D.logs D.faults steps.old) (told D.over D.logs D.faults steps.new) }
     ensures no_fall { D.faults steps.old ≤ D.faults steps.new }
     ensures same_references { D.references steps.new ≡ D.references steps.old }
 {
-    begin(world, name.as_str())?;
-    let text: TextSink<W, S> = TextSink::new(alloc, world, name.as_str());
+    let head = head_by(job);
+    begin(alloc, world, name.as_str(), &head)?;
+    let text: TextSink<W, S> = TextSink::new(alloc, world, name.as_str(), head);
     let mut sink = CertSink { text, next: steps };
     let answer = locate_by(alloc, job, texts, case, rules, &mut sink)?;
     if sink.text.is_whole(name.as_str()) {
@@ -236,6 +256,7 @@ where
     L: Fn(u64) -> u64 + Drop,
     G: Fn(u64) -> u64 + Drop,
     K: Fn(u64, u64) -> bool + Drop,
+    requires countable { job.now.conflicts < 2 ^ 62 }
     requires bounds { are_bounds job.now.bounds ≡ true }
     requires case { IsCaseOf texts.now case.now }
     requires searches { Searches job.now texts.now case.now.program }
@@ -245,7 +266,8 @@ where
     ensures answer { IfOk result (λ answer. Concludes job.now texts.now job.now.cert
         (W.outside world.old) (W.outside world.new)
         (told D.over D.logs D.faults steps.old) (told D.over D.logs D.faults steps.new) answer) }
-    ensures may { MayBegin job.now.cert (W.outside world.old) (W.outside world.new) }
+    ensures may { MayBegin (head_by job.now) job.now.cert
+        (W.outside world.old) (W.outside world.new) }
     ensures cause { result ≡ Err SearchError.SinkFailed
         → HasFaultOf (W.outside world.old) (W.outside world.new)
         (told D.over D.logs D.faults steps.old) (told D.over D.logs D.faults steps.new) }

@@ -1,13 +1,13 @@
 //! The top call of the program.
 
-ghost use Rattle.std.specs.Prelude.{◌≡◌, ◌⊎◌, ℕ, ◌+◌, ◌*◌, ◌≤◌, true, Err, List, Option, Some, length, map, IfOk, IfErr};
+ghost use Rattle.std.specs.Prelude.{◌≡◌, ◌⊎◌, ℕ, ◌+◌, ◌*◌, ◌≤◌, true, Err, List, Option, Some, length, map, IfOk, IfErr, ◌<◌, ◌^◌};
 ghost use Rattle.ba_commands.specs.Modes.{Word};
 ghost use Rattle.ba_localise.specs.Verdicts.{told};
 ghost use Rattle.ba_search.specs.Rules.{IsKeepRule, IsRestartRule};
 ghost use Rattle.ba_search.specs.declared.search.SearchError.{SearchError};
 ghost use Rattle.ba_world.specs.Read.{piece_size};
 ghost use Rattle.ba_world.specs.World.{HasPrintShortage, HasWriteFault, OnlyPrints, Prints, PrintsPrefix};
-ghost use Rattle.ba_tool.specs.Calls.{Comes, EndsWith, HasFaultOf, IsDue, IsEndFor, IsEndOfCheck, IsEndOfSearch, IsShown, Proceeds, Says, Stops, StopsWith, TellsCheck, TellsFailing, WritesOnly, answer_for, call, most_given, most_of};
+ghost use Rattle.ba_tool.specs.Calls.{Comes, EndsWith, HasFaultOf, IsDue, IsEndFor, IsEndOfCheck, IsEndOfSearch, IsShown, Proceeds, Says, Stops, StopsWith, TellsCheck, TellsFailing, WritesOnly, answer_for, call, most_given, most_of, head_by};
 ghost use Rattle.ba_answers.specs.Limits.{limit};
 ghost use Rattle.ba_jobs.specs.Jobs.{cert_of, request_of, written_by};
 ghost use Rattle.ba_answers.specs.Printed.{text_of};
@@ -63,6 +63,7 @@ where
     K: Fn(u64, u64) -> bool + Drop,
     requires program_short { length texts.now.program ≤ limit }
     requires input_short { length texts.now.input ≤ limit }
+    requires countable { job.now.conflicts < 2 ^ 62 }
     requires bounds { are_bounds job.now.bounds ≡ true }
     requires luby { IsRestartRule (L.pre rules.luby) (L.post rules.luby) }
     requires steady { IsRestartRule (G.pre rules.steady) (G.post rules.steady) }
@@ -70,8 +71,8 @@ where
     ensures answer { IfOk result (λ answer. Proceeds job.now texts.now
         (W.outside world.old) (W.outside world.new)
         (told D.over D.logs D.faults steps.old) (told D.over D.logs D.faults steps.new) answer) }
-    ensures stops { IfErr result (λ _. StopsWith (written_by job.now.task job.now.cert)
-        (W.outside world.old) (W.outside world.new)) }
+    ensures stops { IfErr result (λ _. StopsWith (head_by job.now)
+        (written_by job.now.task job.now.cert) (W.outside world.old) (W.outside world.new)) }
     ensures cause { result ≡ Err SearchError.SinkFailed
         → HasFaultOf (W.outside world.old) (W.outside world.new)
         (told D.over D.logs D.faults steps.old) (told D.over D.logs D.faults steps.new) }
@@ -104,6 +105,7 @@ where
     L: Fn(u64) -> u64 + Drop,
     G: Fn(u64) -> u64 + Drop,
     K: Fn(u64, u64) -> bool + Drop,
+    requires countable { job.now.conflicts < 2 ^ 62 }
     requires bounds { are_bounds job.now.bounds ≡ true }
     requires luby { IsRestartRule (L.pre rules.luby) (L.post rules.luby) }
     requires steady { IsRestartRule (G.pre rules.steady) (G.post rules.steady) }

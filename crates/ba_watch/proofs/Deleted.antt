@@ -1,19 +1,19 @@
 -- What a deletion leaves of the clauses, and of what names them.
 
-use Rattle.std.proofs.Common.{◌≡◌, ℕ, suc, zero, ◌<◌, ◌≤◌, Option, None, Some, IsSome, is_some, List, [], ◌∷◌, ◌++◌, length, get_or, take, drop, map, refl, sym, ap, subst, ◌∙◌, arith, ⊎_elim}
+use Rattle.std.proofs.Common.{◌≡◌, ℕ, suc, zero, Option, None, Some, IsSome, is_some, List, [], ◌∷◌, length, get_or, map, refl, sym, ap, subst, ◌∙◌, ⊎_elim}
 use Rattle.std.specs.List.{Contains}
 use Rattle.std.specs.Option.{option_map}
-use Rattle.std.proofs.lemmas.List.{get_or_default, take_all, drop_all, append-nil}
+use Rattle.std.proofs.lemmas.List.{get_or_default}
 use Rattle.std.proofs.lemmas.Option.{none-some}
 use Rattle.ba_lits.specs.Literals.{Literal}
-use Rattle.ba_arena.specs.Clauses.{Clauses, Stored, IsLive, clause_at, lits_at, lits_of, link_at, link_of, linked}
-use Rattle.ba_arena.specs.Compaction.{size_of, moved, compacted, forwarded, Plans}
-use Rattle.ba_arena.proofs.Moves.{moved-there, moved-from, moved-apart, moved-same}
-use Rattle.ba_arena.proofs.Writing.{cons_both}
+use Rattle.ba_arena.specs.Clauses.{Clauses, Stored, IsLive, clause_at, lits_at, lits_of, linked}
+use Rattle.ba_arena.specs.Compaction.{moved, led, Compacts}
+use Rattle.ba_arena.proofs.Moves.{moved-apart}
+use Rattle.ba_arena.proofs.Compactions.{map_agree}
 use Rattle.ba_watch.specs.Threads.{Clause, plain, plain_at, SamePlain}
 use Rattle.ba_watch.specs.Propagation.{clause_in}
 use Rattle.ba_watch.specs.Trails.{Assignments}
-use Rattle.ba_watch.specs.Deletion.{KeepsOthers, DeletesAll, IsKept, number_of, numbered, AreReferenced, IsNamed, IsWithout, followed, link_or}
+use Rattle.ba_watch.specs.Deletion.{KeepsOthers, DeletesAll, IsKept, number_of, numbered, AreReferenced, IsNamed, IsWithout}
 use Rattle.ba_watch.proofs.Sounds.{clause_in-map}
 
 -- a number of the list, read in two ways
@@ -38,21 +38,13 @@ plain_linked : (n : ℕ) (o : Option Stored) → plain (linked 0 (Some n) o) ≡
 plain_linked n None = refl
 plain_linked n (Some s) = refl
 
-number_linked : (n : ℕ) (o : Option Stored) → number_of (linked 0 (Some n) o) ≡ number_of o
-number_linked n None = refl
-number_linked n (Some s) = refl
+live_plain : (o : Option Stored) (c : Clause) → plain o ≡ Some c → IsSome o
+live_plain None c e = absurd (cc e)
+live_plain (Some s) c e = refl
 
-size_linked : (n : ℕ) (o : Option Stored) → size_of (linked 0 (Some n) o) ≡ size_of o
-size_linked n None = refl
-size_linked n (Some s) = refl
-
-link_linked : (n : ℕ) (o : Option Stored) → IsSome o → link_of 0 (linked 0 (Some n) o) ≡ Some n
-link_linked n None live = absurd (cc live)
-link_linked n (Some s) live = refl
-
-live_linked : (n : ℕ) (o : Option Stored) → IsSome o → IsSome (linked 0 (Some n) o)
-live_linked n None live = absurd (cc live)
-live_linked n (Some s) live = refl
+led_some : (n : ℕ) (o : Option Stored) → IsSome o → option_map (λ s. n) o ≡ Some n
+led_some n None live = absurd (cc live)
+led_some n (Some s) live = refl
 
 pub numbered_live : (a : Clauses) (r n : ℕ) → numbered a r ≡ Some n → IsLive a r
 numbered_live a r n e = of (clause_at a r) e
@@ -65,9 +57,9 @@ lits_linked : (n : ℕ) (o : Option Stored) → lits_of (linked 0 (Some n) o) �
 lits_linked n None = refl
 lits_linked n (Some s) = refl
 
--- clauses are marked and planned
-module _ (a0 a1 a2 : Clauses) (numbers : List ℕ)
-    (without : IsWithout (IsNamed numbers (length numbers)) a0 a1) (plans : Plans a1 a2) where
+-- clauses are marked
+module _ (a0 a1 : Clauses) (numbers : List ℕ)
+    (without : IsWithout (IsNamed numbers (length numbers)) a0 a1) where
   pub kept_live : (r : ℕ) → IsKept a0 numbers r → IsLive a1 r
   kept_live r kept =
       let s = kept.0 in
@@ -75,81 +67,49 @@ module _ (a0 a1 a2 : Clauses) (numbers : List ℕ)
       (λ named. kept.2 (contains_from numbers s.number named)) in
       ap is_some (stays ∙ kept.1)
 
-  pub planned_live : (r : ℕ) → IsLive a1 r → IsLive a2 r
-  planned_live r live =
-      subst (λ (o : Option Stored). IsSome o) (sym (plans r)) (live_linked (moved a1 r) (clause_at a1 r) live)
-
-  pub planned_link : (r : ℕ) → IsLive a1 r → link_at a2 r 0 ≡ Some (moved a1 r)
-  planned_link r live = ap (link_of 0) (plans r) ∙ link_linked (moved a1 r) (clause_at a1 r) live
-
-  was_live : (r : ℕ) → IsLive a2 r → IsLive a1 r
-  was_live r live = of (clause_at a1 r) (subst (λ (o : Option Stored). IsSome o) (plans r) live)
-    where
-      of : (o : Option Stored) → IsSome (linked 0 (Some (moved a1 r)) o) → IsSome o
-      of None live = absurd (cc live)
-      of (Some s) live = refl
-
-  pub planned_some : (r : ℕ) → IsLive a2 r → IsSome (link_at a2 r 0)
-  planned_some r live = ap is_some (planned_link r (was_live r live))
-
-  pub planned_forward : (r : ℕ) → IsLive a1 r → forwarded a2 (Some r) ≡ option_map (moved a1) (Some r)
-  planned_forward r live = planned_link r live
-
-  pub planned_follow : (r : ℕ) → IsLive a1 r → followed a2 r ≡ moved a1 r
-  planned_follow r live = ap (link_or r) (planned_link r live)
+  pub led_there : (r : ℕ) → IsLive a1 r → led a1 (Some r) ≡ Some (moved a1 r)
+  led_there r live = led_some (moved a1 r) (clause_at a1 r) live
 
   -- what holds of the literals of each clause still does
-  pub compact_lits : (a3 : Clauses) → a3 ≡ compacted a2 → (P : List Literal → Type 0) → P []
+  pub compact_lits : (a3 : Clauses) → Compacts a1 a3 → (P : List Literal → Type 0) → P []
       → ((r : ℕ) → P (lits_at a0 r)) → (q : ℕ) → P (lits_at a3 q)
-  compact_lits a3 compact P none all q = at (clause_at a3 q) refl
+  compact_lits a3 compacts P none all q = at (clause_at a3 q) refl
     where
       at : (o : Option Stored) → clause_at a3 q ≡ o → P (lits_at a3 q)
       at None is = subst P (sym (ap lits_of is)) none
       at (Some s) is =
-          let source = moved-from a2 q s (ap (λ (cs : Clauses). clause_at cs q) (sym compact) ∙ is) in
+          let source = compacts.only q (ap is_some is) in
           let r = source.from in
-          let planned : linked 0 (Some (moved a1 r)) (clause_at a1 r) ≡ Some s = sym (plans r) ∙ source.is in
-          let was : lits_at a1 r ≡ s.lits = sym (lits_linked (moved a1 r) (clause_at a1 r))
-          ∙ ap lits_of planned in
-          let live : IsLive a1 r = was_live r (ap is_some source.is) in
+          let same : lits_at a3 q ≡ lits_at a1 r = ap (lits_at a3) (sym source.to)
+          ∙ (ap lits_of (compacts.there r source.live) ∙ lits_linked (moved a1 r) (clause_at a1 r)) in
           let first : lits_at a0 r ≡ lits_at a1 r = ⊎_elim
-          (λ gone. absurd (cc (sym live ∙ ap is_some gone)))
+          (λ gone. absurd (cc (sym source.live ∙ ap is_some gone)))
           (λ same. sym (ap lits_of same))
           (without.either r) in
-          subst P (first ∙ (was ∙ sym (ap lits_of is))) (all r)
+          subst P (first ∙ sym same) (all r)
 
-  module _ (a3 a4 : Clauses) (compact : a3 ≡ compacted a2) (same : SamePlain a3 a4) where
-    to : (r : ℕ) → moved a2 r ≡ moved a1 r
-    to r = moved-same a1 a2 (λ k. ap size_of (plans k) ∙ size_linked (moved a1 k) (clause_at a1 k)) r
-
+  module _ (a3 a4 : Clauses) (compacts : Compacts a1 a3) (same : SamePlain a3 a4) where
     plain_there : (r : ℕ) (c : Clause) → plain_at a1 r ≡ Some c → plain_at a4 (moved a1 r) ≡ Some c
-    plain_there r c is =
-        let planned : plain_at a2 r ≡ Some c = ap plain (plans r)
-        ∙ (plain_linked (moved a1 r) (clause_at a1 r) ∙ is) in
-        let stored = stored_of (clause_at a2 r) c planned in
-        let at : clause_at a3 (moved a1 r) ≡ Some stored.0 =
-        ap (λ (cs : Clauses). clause_at cs (moved a1 r)) compact
-        ∙ (ap (clause_at (compacted a2)) (sym (to r)) ∙ moved-there a2 r stored.0 stored.1) in
-        same (moved a1 r) ∙ (ap plain at ∙ (sym (ap plain stored.1) ∙ planned))
+    plain_there r c is = same (moved a1 r)
+        ∙ (ap plain (compacts.there r (live_plain (clause_at a1 r) c is))
+        ∙ (plain_linked (moved a1 r) (clause_at a1 r) ∙ is))
 
     -- where a clause that is there has come from
-    record Came (q : ℕ) (c : Clause) : Type 0 where
+    record From (q : ℕ) (c : Clause) : Type 0 where
       pub from : ℕ
       pub is : plain_at a1 from ≡ Some c
       pub at : moved a1 from ≡ q
 
-    came : (q : ℕ) (c : Clause) → plain_at a4 q ≡ Some c → Came q c
+    came : (q : ℕ) (c : Clause) → plain_at a4 q ≡ Some c → From q c
     came q c is =
         let before : plain_at a3 q ≡ Some c = sym (same q) ∙ is in
-        let stored = stored_of (clause_at a3 q) c before in
-        let source = moved-from a2 q stored.0 (ap (λ (cs : Clauses). clause_at cs q) (sym compact)
-        ∙ stored.1) in
+        let source = compacts.only q (live_plain (clause_at a3 q) c before) in
         let r = source.from in
         record {
           from = r;
-          is = sym (plain_linked (moved a1 r) (clause_at a1 r)) ∙ (sym (ap plain (plans r))
-              ∙ (ap plain source.is ∙ (sym (ap plain stored.1) ∙ before)));
-          at = sym (to r) ∙ source.to;
+          is = sym (plain_linked (moved a1 r) (clause_at a1 r))
+              ∙ (sym (ap plain (compacts.there r source.live)) ∙ (ap (plain_at a3) source.to ∙ before));
+          at = source.to;
         }
 
     stays_plain : (r : ℕ) (c : Clause) → clause_in (map plain a0) r ≡ Some c →
@@ -181,10 +141,6 @@ module _ (a0 a1 a2 : Clauses) (numbers : List ℕ)
           (live_plain (clause_at a1 x) c (stays_plain x c x_is x_stays))
           (live_plain (clause_at a1 y) d (stays_plain y d y_is y_stays)) e;
     }
-      where
-        live_plain : (o : Option Stored) (c : Clause) → plain o ≡ Some c → IsSome o
-        live_plain None c e = absurd (cc e)
-        live_plain (Some s) c e = refl
 
     -- numbers
     plain_of_number : (o : Option Stored) (n : ℕ) → number_of o ≡ Some n → (c : Clause) × (plain o ≡ Some c)
@@ -198,7 +154,7 @@ module _ (a0 a1 a2 : Clauses) (numbers : List ℕ)
         ∙ (sym (number_plain (clause_at a1 r) c.0 c.1) ∙ is)
 
     pub references_moved : (refs : List (Option ℕ)) → AreReferenced a1 refs →
-        AreReferenced a4 (map (forwarded a2) refs)
+        AreReferenced a4 (map (led a1) refs)
     references_moved refs r = record {
       sound = λ n q at. sound_at n q (get_or refs n None) refl (sym (get_or-forward refs n) ∙ at);
       each = λ n q at.
@@ -211,7 +167,7 @@ module _ (a0 a1 a2 : Clauses) (numbers : List ℕ)
     }
       where
         get_or-forward : (xs : List (Option ℕ)) (n : ℕ) →
-            get_or (map (forwarded a2) xs) n None ≡ forwarded a2 (get_or xs n None)
+            get_or (map (led a1) xs) n None ≡ led a1 (get_or xs n None)
         get_or-forward [] n = refl
         get_or-forward (x ∷ xs) zero = refl
         get_or-forward (x ∷ xs) (suc n) = get_or-forward xs n
@@ -220,66 +176,46 @@ module _ (a0 a1 a2 : Clauses) (numbers : List ℕ)
         live_number None n e = absurd (cc e)
         live_number (Some s) n e = refl
 
-        sound_at : (n q : ℕ) (o : Option ℕ) → get_or refs n None ≡ o → forwarded a2 o ≡ Some q →
+        sound_at : (n q : ℕ) (o : Option ℕ) → get_or refs n None ≡ o → led a1 o ≡ Some q →
             numbered a4 q ≡ Some n
         sound_at n q None is at = absurd (cc at)
         sound_at n q (Some k) is at =
             let named : numbered a1 k ≡ Some n = r.sound n k is in
-            let there : Some (moved a1 k) ≡ Some q = sym (planned_link k
+            let there : Some (moved a1 k) ≡ Some q = sym (led_there k
             (live_number (clause_at a1 k) n named)) ∙ at in
             let q_is : moved a1 k ≡ q = cc there in
             ap (numbered a4) (sym q_is) ∙ number_there k n named
 
         each_at : (n : ℕ) (o : Option ℕ) → get_or refs n None ≡ o → IsSome (get_or refs n None) →
-            IsSome (get_or (map (forwarded a2) refs) n None)
+            IsSome (get_or (map (led a1) refs) n None)
         each_at n None is some = absurd (cc (sym (ap is_some is) ∙ some))
         each_at n (Some k) is some =
             let named : numbered a1 k ≡ Some n = r.sound n k is in
-            ap is_some (get_or-forward refs n ∙ (ap (forwarded a2) is
-            ∙ planned_link k (live_number (clause_at a1 k) n named)))
+            ap is_some (get_or-forward refs n ∙ (ap (led a1) is
+            ∙ led_there k (live_number (clause_at a1 k) n named)))
 
 abbrev with_reasons : Assignments → List (Option ℕ) → Assignments
 with_reasons t rs = record t { reasons = rs }
 
--- lists on whose members two functions agree
-map_agree : {X Y : Type 0} (f g : X → Y) (xs : List X) (d : X) →
-    ((k : ℕ) → k < length xs → f (get_or xs k d) ≡ g (get_or xs k d))
-    → map f xs ≡ map g xs
-map_agree f g [] d same = refl
-map_agree f g (x ∷ xs) d same =
-    cons_both _ _ _ _ (same 0 (omega arith)) (map_agree f g xs d (λ k h. same (suc k) (omega (arith, h))))
-
-all_mapped : {X : Type 0} (f : X → X) (xs : List X) (n : ℕ) → length xs ≤ n →
-    map f (take n xs) ++ drop n xs ≡ map f xs
-all_mapped f xs n h =
-    ap (λ (ys : List _). map f (take n xs) ++ ys) (drop_all n xs h)
-    ∙ (append-nil (map f (take n xs)) ∙ ap (map f) (take_all n xs h))
-
-pub deletes_all : (a0 a1 a2 a3 a4 : Clauses) (t u : Assignments) (w w' numbers : List ℕ)
-    (refs refs' : List (Option ℕ)) (n : ℕ)
-    → IsWithout (IsNamed numbers (length numbers)) a0 a1 → AreReferenced a1 refs → Plans a1 a2 →
-    a3 ≡ compacted a2 → SamePlain a3 a4
+pub deletes_all : (a0 a1 a3 a4 : Clauses) (t u : Assignments) (w w' numbers : List ℕ)
+    (refs refs' : List (Option ℕ))
+    → IsWithout (IsNamed numbers (length numbers)) a0 a1 → AreReferenced a1 refs → Compacts a1 a3 →
+    SamePlain a3 a4
     → ((p r : ℕ) → get_or t.reasons p None ≡ Some r → IsKept a0 numbers r)
-    → ((k : ℕ) → k < length w → IsKept a0 numbers (get_or w k 0))
-    → u ≡ record t { reasons = map (forwarded a2) t.reasons } → w' ≡ map (followed a2) w
-    → length refs ≤ n → refs' ≡ map (forwarded a2) (take n refs) ++ drop n refs
+    → u ≡ record t { reasons = map (led a1) t.reasons } → w' ≡ map (moved a1) w → refs' ≡ map (led a1) refs
     → DeletesAll a0 a4 t u w w' refs' numbers
-deletes_all a0 a1 a2 a3 a4 t u w w' numbers refs refs' n without r plans compact same reasons waiting u_is
-    w'_is n_is refs'_is = record {
+deletes_all a0 a1 a3 a4 t u w w' numbers refs refs' without r compacts same reasons u_is w'_is refs'_is =
+    record {
       moved = moved a1;
-      clauses = keeps_others a0 a1 a2 numbers without plans a3 a4 compact same;
+      clauses = keeps_others a0 a1 numbers without a3 a4 compacts same;
       trail = u_is ∙ ap (with_reasons t)
-          (map_agree (forwarded a2) (option_map (moved a1)) t.reasons None
-          (λ k h. forward (get_or t.reasons k None) (λ q is. kept_live a0 a1 a2 numbers without plans q
-          (reasons k q is))));
-      waiting_moved = w'_is ∙ map_agree (followed a2) (moved a1) w 0
-          (λ k h. planned_follow a0 a1 a2 numbers without plans (get_or w k 0)
-          (kept_live a0 a1 a2 numbers without plans (get_or w k 0) (waiting k h)));
-      referenced = subst (λ (rs : List (Option ℕ)). AreReferenced a4 rs)
-          (sym (refs'_is ∙ all_mapped (forwarded a2) refs n n_is))
-          (references_moved a0 a1 a2 numbers without plans a3 a4 compact same refs r);
+          (map_agree (led a1) (option_map (moved a1)) t.reasons None
+          (λ k h. lead (get_or t.reasons k None) (λ q is. kept_live a0 a1 numbers without q (reasons k q is))));
+      waiting_moved = w'_is;
+      referenced = subst (λ (rs : List (Option ℕ)). AreReferenced a4 rs) (sym refs'_is)
+          (references_moved a0 a1 numbers without a3 a4 compacts same refs r);
     }
   where
-    forward : (o : Option ℕ) → ((q : ℕ) → o ≡ Some q → IsLive a1 q) → forwarded a2 o ≡ option_map (moved a1) o
-    forward None live = refl
-    forward (Some q) live = planned_forward a0 a1 a2 numbers without plans q (live q refl)
+    lead : (o : Option ℕ) → ((q : ℕ) → o ≡ Some q → IsLive a1 q) → led a1 o ≡ option_map (moved a1) o
+    lead None live = refl
+    lead (Some q) live = led_there a0 a1 numbers without q (live q refl)

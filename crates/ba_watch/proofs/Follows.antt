@@ -1,14 +1,15 @@
 -- Reasons that are rewritten: as many are decisions as before.
 
-use Rattle.std.proofs.Common.{◌≡◌, ℕ, suc, zero, ◌+◌, ◌<◌, ◌≤◌, Option, None, Some, IsSome, is_some, List, [], ◌∷◌, ◌++◌, length, get_or, take, drop, map, Bool, false, refl, sym, ap, subst, ◌∙◌, arith, ⊎_elim}
+use Rattle.std.proofs.Common.{◌≡◌, ℕ, suc, ◌+◌, ◌≤◌, Option, None, Some, IsSome, is_some, List, [], ◌∷◌, ◌++◌, length, get_or, take, drop, map, Bool, true, false, refl, sym, ap, subst, ◌∙◌, arith, ⊎_elim}
 use Rattle.std.proofs.lemmas.Bool.{cases_lt}
-use Rattle.std.proofs.lemmas.List.{take-map, get_or-take, get_or_past, length-take, length-take-le, length-map}
+use Rattle.std.proofs.lemmas.List.{take-map, get_or-take, get_or_past, length-take, length-take-le, length-map, take_all, drop_all, append-nil}
 use Rattle.std.proofs.Math.Seq.{take-append_seam}
-use Rattle.ba_arena.specs.Clauses.{Clauses, IsLive, link_at}
-use Rattle.ba_arena.specs.Compaction.{forwarded}
+use Rattle.std.specs.Option.{option_map}
+use Rattle.ba_arena.specs.Clauses.{Clauses, Stored, clause_at}
+use Rattle.ba_arena.specs.Compaction.{moved, led, AreLiveReferences}
 use Rattle.ba_arena.proofs.Mapped.{map_length}
 use Rattle.ba_lits.specs.Literals.{Literal}
-use Rattle.ba_watch.specs.Trails.{Assignments, decided, level_at, IsTrail, Holds}
+use Rattle.ba_watch.specs.Trails.{decided, level_at, Holds}
 
 -- what was no decision is none then
 abbrev pub Agrees : (Option ℕ → Option ℕ) → List (Option ℕ) → Type 0
@@ -44,15 +45,24 @@ level_map f rs p none agrees =
     ap decided (take-map f (p + 1) rs) ∙ decided_map f (take (p + 1) rs)
     (agrees_take f (p + 1) rs none agrees)
 
--- reasons of live clauses whose first links are set
-pub agrees_forward : (a : Clauses) (rs : List (Option ℕ)) →
-    ((p clause : ℕ) → get_or rs p None ≡ Some clause → IsLive a clause)
-    → ((clause : ℕ) → IsLive a clause → IsSome (link_at a clause 0)) → Agrees (forwarded a) rs
-agrees_forward a rs live linked k = at (get_or rs k None) refl
+-- reasons of live clauses that follow them
+pub agrees_led : (a : Clauses) (rs : List (Option ℕ)) → AreLiveReferences a rs → Agrees (led a) rs
+agrees_led a rs live k = at (get_or rs k None) refl
   where
-    at : (o : Option ℕ) → get_or rs k None ≡ o → is_some (forwarded a o) ≡ is_some o
+    still : (n : ℕ) (o : Option Stored) → IsSome o → is_some (option_map (λ s. n) o) ≡ true
+    still n None live = absurd (cc live)
+    still n (Some s) live = refl
+
+    at : (o : Option ℕ) → get_or rs k None ≡ o → is_some (led a o) ≡ is_some o
     at None is = refl
-    at (Some c) is = linked c (live k c is)
+    at (Some c) is = still (moved a c) (clause_at a c) (live k c is)
+
+-- what a slice of a whole vector writes back
+pub written_back : {X : Type 0} (new old : List X) (n : ℕ) → length new ≡ length old → n ≡ length old →
+    new ≡ take n (new ++ drop (length new) old)
+written_back new old n long n_is =
+    sym (ap (λ (xs : List _). take n (new ++ xs)) (drop_all (length new) old (omega (arith, long)))
+    ∙ (ap (take n) (append-nil new) ∙ take_all n new (omega (arith, long, n_is))))
 
 module _ (f : Option ℕ → Option ℕ) (v : ℕ) (lits : List Literal) (rs rs' : List (Option ℕ)) (n : ℕ)
     (within : n ≤ length rs) (rs'_is : rs' ≡ map f (take n rs) ++ drop n rs) where

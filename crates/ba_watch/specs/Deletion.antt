@@ -4,7 +4,7 @@ use Rattle.std.specs.Prelude.{◌≡◌, ℕ, ◌<◌, ◌≤◌, ◌⊎◌, Opt
 use Rattle.std.specs.List.{Contains}
 use Rattle.std.specs.Option.{option_map}
 use Rattle.ba_lits.specs.Literals.{Literal, lit_at}
-use Rattle.ba_arena.specs.Clauses.{Clauses, Stored, clause_at, link_at}
+use Rattle.ba_arena.specs.Clauses.{Clauses, Stored, clause_at}
 use Rattle.ba_watch.specs.Threads.{Clause, plain, index_at}
 use Rattle.ba_watch.specs.Trails.{Assignments}
 use Rattle.ba_watch.specs.Propagation.{State, clause_in}
@@ -86,14 +86,6 @@ pub record DeletesAll (old new : Clauses) (t u : Assignments) (waiting left : Li
   pub trail : u ≡ record t { reasons = map (option_map moved) t.reasons }
   pub waiting_moved : left ≡ map moved waiting
   pub referenced : AreReferenced new references
-
--- where a reference leads by the first link of its clause, if it has one
-abbrev pub link_or : ℕ → Option ℕ → ℕ
-link_or clause None = clause
-link_or clause (Some next) = next
-
-abbrev pub followed : Clauses → ℕ → ℕ
-followed clauses clause = link_or clause (link_at clauses clause 0)
 
 -- there are lists for the literals of a clause
 abbrev pub MayLink : List Literal → ℕ → Type 0

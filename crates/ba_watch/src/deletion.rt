@@ -5,7 +5,7 @@ ghost use Rattle.std.specs.List.{Contains};
 ghost use Rattle.ba_lits.specs.Literals.{lit_at};
 ghost use Rattle.ba_arena.specs.Clauses.{Clauses, IsLive, lits_at};
 ghost use Rattle.ba_watch.specs.Threads.{AreThreaded, AreApart, SamePlain, index_at};
-ghost use Rattle.ba_watch.specs.Deletion.{AreReferenced, AreAlone, IsNamed, IsWithout, IsKept, DeletesAll, followed, MayLink};
+ghost use Rattle.ba_watch.specs.Deletion.{AreReferenced, AreAlone, IsNamed, IsWithout, IsKept, DeletesAll, MayLink};
 
 use crate::lists::Lists;
 use crate::trail::Trail;
@@ -53,19 +53,6 @@ fn mark_one(arena: &mut Arena, references: &mut Vec<Option<ClauseRef>>, number: 
     if let Some(clause) = references[place] {
         arena.mark_dead(clause);
         references[place] = None;
-    }
-}
-
-/// Rewrites references to what the first links of their clauses name.
-pub fn follow(arena: &Arena, waiting: &mut Vec<ClauseRef>)
-    requires { (k : ℕ) → k < length waiting.old.items
-        → IsLive arena.now (get_or waiting.old.items k 0) }
-    ensures { waiting.new.items ≡ map (followed arena.now) waiting.old.items }
-{
-    for place in 0..waiting.len() {
-        if let Some(clause) = arena.link(waiting[place], 0) {
-            waiting[place] = clause;
-        }
     }
 }
 
@@ -142,10 +129,6 @@ pub fn delete_all(
 {
     let arena = &mut lists.arena;
     mark_all(arena, references, numbers);
-    arena.plan();
-    trail.follow(arena);
-    follow(arena, waiting);
-    arena.rewrite(references, references.len());
-    arena.compact();
+    trail.compact(arena, references, waiting);
     relink(arena, &mut lists.heads);
 }

@@ -1,9 +1,9 @@
 //! The trail: the assigned literals in their order, with their levels and reasons.
 
-ghost use Rattle.std.specs.Prelude.{◌≡◌, ◌≢◌, ℕ, ◌+◌, ◌-◌, ◌<◌, ◌≤◌, ◌^◌, ◌∷◌, ◌++◌, [], None, Some, Option, true, false, IsTrue, ◌↔◌, OnOk, OnErr, List, length, take, get_or, max, map, is_some, IsSome, if◌then◌else◌};
+ghost use Rattle.std.specs.Prelude.{◌≡◌, ◌≢◌, ℕ, ◌+◌, ◌-◌, ◌<◌, ◌≤◌, ◌^◌, ◌∷◌, ◌++◌, [], None, Some, Option, true, false, IsTrue, ◌↔◌, OnOk, OnErr, List, length, take, drop, get_or, max, map, is_some, IsSome, if◌then◌else◌};
 ghost use Rattle.ba_lits.specs.Literals.{lit_at};
-ghost use Rattle.ba_arena.specs.Clauses.{IsLive, link_at};
-ghost use Rattle.ba_arena.specs.Compaction.{forwarded};
+ghost use Rattle.ba_arena.specs.Clauses.{IsLive, AreReferences};
+ghost use Rattle.ba_arena.specs.Compaction.{moved, led, AreLiveReferences, Compacts};
 ghost use Rattle.ba_watch.specs.Trails.{value_of, place_if, decided, level_of, reason_of, kept, IsTrail, Begins};
 
 use crate::lifted::LiftedBool;
@@ -223,16 +223,30 @@ impl Trail {
         }
     }
 
-    /// Rewrites the reasons to what the first links of their clauses name.
-    pub fn follow(&mut self, arena: &Arena)
-        requires live { (p clause : ℕ) → get_or self.old.reasons p None ≡ Some clause
-            → IsLive arena.now clause }
-        requires linked { (clause : ℕ) → IsLive arena.now clause
-            → IsSome (link_at arena.now clause 0) }
-        ensures { self.new ≡ record self.old
-            { reasons = map (forwarded arena.now) self.old.reasons } }
+    /// Compacts the arena. The reasons and the other references follow their clauses.
+    pub fn compact(
+        &mut self,
+        arena: &mut Arena,
+        references: &mut Vec<Option<ClauseRef>>,
+        live: &mut Vec<ClauseRef>,
+    )
+        requires reasons { AreLiveReferences arena.old self.old.reasons }
+        requires references { AreReferences arena.old references.old.items }
+        requires live { (k : ℕ) → k < length live.old.items
+            → IsLive arena.old (get_or live.old.items k 0) }
+        ensures compacts { Compacts arena.old arena.new }
+        ensures reasons { self.new ≡ record self.old
+            { reasons = map (led arena.old) self.old.reasons } }
+        ensures references { references.new.items ≡ map (led arena.old) references.old.items }
+        ensures live { live.new.items ≡ map (moved arena.old) live.old.items }
     {
-        arena.rewrite(&mut self.reasons, self.assigned);
+        compact_front(
+            arena,
+            self.reasons.as_mut_slice(),
+            self.assigned,
+            references.as_mut_slice(),
+            live.as_mut_slice(),
+        );
     }
 
     /// Makes room for the assignment of variables up to a number.
@@ -256,6 +270,28 @@ impl Trail {
         self.variables = variables;
         Ok(())
     }
+}
+
+/// Compacts the arena. So many of the first reasons and the other references follow their clauses.
+fn compact_front(
+    arena: &mut Arena,
+    reasons: &mut [Option<ClauseRef>],
+    count: usize,
+    references: &mut [Option<ClauseRef>],
+    live: &mut [ClauseRef],
+)
+    requires within { count ≤ length reasons.old }
+    requires reasons { AreLiveReferences arena.old (take count reasons.old) }
+    requires references { AreReferences arena.old references.old }
+    requires live { (k : ℕ) → k < length live.old → IsLive arena.old (get_or live.old k 0) }
+    ensures compacts { Compacts arena.old arena.new }
+    ensures reasons { reasons.new ≡ map (led arena.old) (take count reasons.old)
+        ++ drop count reasons.old }
+    ensures references { references.new ≡ map (led arena.old) references.old }
+    ensures live { live.new ≡ map (moved arena.old) live.old }
+{
+    let (front, _) = reasons.split_at_mut(count);
+    arena.compact(front, references, live);
 }
 
 /// How many decisions a reason is: one, where there is none.

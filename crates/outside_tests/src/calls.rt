@@ -3,6 +3,8 @@
 ghost use Rattle.std.specs.Prelude.{◌<◌, ◌≡◌};
 ghost use Rattle.std.specs.String.{string_bytes};
 
+use crate::counted::Counted;
+use crate::programs::BRANCHES;
 use ba_answers::status::Status;
 use ba_jobs::rules::{Rules, keep, luby, steady};
 use ba_steps::{NoSink, StepSink};
@@ -22,13 +24,12 @@ fn file(rt: &impl Abort, alloc: Global, name: &str, bytes: &[u8]) -> (String, Ve
     )
 }
 
-/// A world that holds a program, an input and weights.
-pub fn world_with(
+/// A world that holds a program and an input.
+pub fn world_of(
     rt: &impl Abort,
     alloc: Global,
     program: &str,
     input: &str,
-    weights: &str,
     fails: &[u64],
     piece: usize,
 ) -> MemoryWorld
@@ -41,25 +42,34 @@ pub fn world_with(
     files
         .push(file(rt, alloc, "in.txt", input.as_bytes()))
         .expect(rt, "memory");
-    files
-        .push(file(rt, alloc, "w.txt", weights.as_bytes()))
-        .expect(rt, "memory");
     let fails = Vec::from_slice(alloc, fails).expect(rt, "memory");
     MemoryWorld::new(alloc, files, fails, piece).expect(rt, "memory")
 }
 
-/// A world that holds a program and an input.
-pub fn world_of(
+/// A world that gives pieces of 16 bytes and counts its calls. It holds the array example, with weights and with these bytes
+/// as its certificate.
+pub fn counted_world(
     rt: &impl Abort,
     alloc: Global,
-    program: &str,
-    input: &str,
+    certificate: &[u8],
     fails: &[u64],
-    piece: usize,
-) -> MemoryWorld
-    requires { 0 < piece }
-{
-    world_with(rt, alloc, program, input, "", fails, piece)
+) -> Counted<MemoryWorld> {
+    let mut files = Vec::new(alloc);
+    files
+        .push(file(rt, alloc, "p.c", BRANCHES.as_bytes()))
+        .expect(rt, "memory");
+    files
+        .push(file(rt, alloc, "in.txt", b"1"))
+        .expect(rt, "memory");
+    files
+        .push(file(rt, alloc, "w.txt", b"7 3\n"))
+        .expect(rt, "memory");
+    files
+        .push(file(rt, alloc, "c", certificate))
+        .expect(rt, "memory");
+    let fails = Vec::from_slice(alloc, fails).expect(rt, "memory");
+    let inside = MemoryWorld::new(alloc, files, fails, 16).expect(rt, "memory");
+    Counted::new(Vec::new(alloc), inside)
 }
 
 /// Calls the program by these words, with its own rules of a search.

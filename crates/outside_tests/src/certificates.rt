@@ -1,7 +1,9 @@
 //! Certificates beside what they say, and damaged ones beside the first line that is refused, worked out by hand from the table of steps.
 
 use crate::problems::{Problem, array_example, feed_all, judge, settings};
-use ba_check::{CheckError, Confirmed};
+use crate::programs::OLD_HEAD;
+use ba_cert::head_text;
+use ba_check::{CheckError, Confirmed, head_of};
 use ba_items::Items;
 use ba_numbers::ids::StmtId;
 use std::alloc::Global;
@@ -30,10 +32,10 @@ const SOME: &[&[i64]] = &[&[-1, -3, -4]];
 /// No assignment is a model.
 const NONE: &[&[i64]] = &[&[1], &[-1]];
 
-/// The head line.
-const HEAD: &str = "bugassist 1\n";
+/// The two lines of version 2, with the settings of five conflicts and nine sets.
+const HEAD: &str = "bugassist 2\nb 1 16 5 9\n";
 
-/// The array example behind the head line: its core, the three sets, each with a run, and that there is no further set.
+/// The array example behind the head: its core, the three sets, each with a run, and that there is no further set.
 const WHOLE: &str = "c -1 -3 -4 0 1 0
 s 1 0 t 1
 s 3 0 t 2
@@ -71,13 +73,13 @@ fn refused_line(told: &Result<Confirmed, CheckError>) -> Option<u64> {
     }
 }
 
-/// What is shown, the text behind the head line, how many conflicts and sets there may be, and the answer.
+/// What is shown, the text behind the head, how many conflicts and sets there may be, and the answer.
 type Row = (&'static str, &'static str, u64, u32, Answer);
 
-/// A text behind the head line.
-fn behind_head(rt: &impl Abort, alloc: Global, body: &str) -> Vec<u8> {
+/// A text behind a head.
+fn behind_head(rt: &impl Abort, alloc: Global, head: &[u8], body: &str) -> Vec<u8> {
     let mut text = Vec::new(alloc);
-    text.extend_from_slice(HEAD.as_bytes()).expect(rt, "memory");
+    text.extend_from_slice(head).expect(rt, "memory");
     text.extend_from_slice(body.as_bytes()).expect(rt, "memory");
     text
 }
@@ -111,7 +113,7 @@ fn first_wrong(
     let problem = array_example(rt, alloc, clauses);
     for row in rows {
         let (shown, body, conflicts, sets, answer) = row;
-        let text = behind_head(rt, alloc, body);
+        let text = behind_head(rt, alloc, OLD_HEAD.as_bytes(), body);
         if !are_answered(
             rt,
             alloc,
@@ -123,8 +125,32 @@ fn first_wrong(
         ) {
             return Some(*shown);
         }
+        // Behind the two lines of version 2 it is the same, one line later.
+        let own = head_of(settings(*conflicts, *sets));
+        let head = head_text(alloc, &own).expect(rt, "memory");
+        let text = behind_head(rt, alloc, head.as_slice(), body);
+        let later = a_line_later(*answer);
+        if !are_answered(
+            rt,
+            alloc,
+            &problem,
+            text.as_slice(),
+            *conflicts,
+            *sets,
+            later,
+        ) {
+            return Some(*shown);
+        }
     }
     None
+}
+
+/// The same answer, where a line more stands before the steps.
+fn a_line_later(answer: Answer) -> Answer {
+    match answer {
+        Refused(line, code) => Refused(line.saturating_add(1), code),
+        same => same,
+    }
 }
 
 static ROWS: [Row; 36] = [
@@ -315,17 +341,63 @@ fn no_model_is_no_repair(rt: HostRuntime) {
     assert_eq!(rt; wrong, None);
 }
 
-/// Texts without a right head line, and what they are answered.
-static HEADLESS: [(&str, Answer); 6] = [
+/// Texts without a right head, and what they are answered where there may be no conflict and nine sets.
+static HEADLESS: [(&str, Answer); 44] = [
     ("", Refused(1, 21)),
     ("bugassist 1", Refused(1, 21)),
     ("bugassist 1\n", Refused(2, 21)),
-    ("bugassist 2\n", Refused(1, 20)),
     ("bugassist 1 \ne b\n", Refused(1, 20)),
     ("\n", Refused(1, 20)),
+    ("bugassist 2", Refused(1, 21)),
+    ("bugassist 2\n", Refused(2, 21)),
+    ("bugassist 3\n", Refused(1, 20)),
+    ("bugassist 12\n", Refused(1, 20)),
+    ("bugassist 2 \nb 1 16 0 9\ne b\n", Refused(1, 20)),
+    ("b 1 16 0 9\ne b\n", Refused(1, 20)),
+    ("bugassist 2\nb 1 16 0 9", Refused(2, 21)),
+    ("bugassist 2\nb 1 16 0 9\n", Refused(3, 21)),
+    ("bugassist 2\nb 1 16 0 9\ne b", Refused(3, 21)),
+    ("bugassist 2\nb 1 16 0 9\ne b\n", Spent),
+    ("bugassist 1\ne b\n", Spent),
+    // Each of the four numbers differs alone.
+    ("bugassist 2\nb 2 16 0 9\ne b\n", Refused(2, 22)),
+    ("bugassist 2\nb 1 17 0 9\ne b\n", Refused(2, 22)),
+    ("bugassist 2\nb 1 16 1 9\ne b\n", Refused(2, 22)),
+    ("bugassist 2\nb 1 16 0 8\ne b\n", Refused(2, 22)),
+    ("bugassist 2\nb 0 16 0 9\ne b\n", Refused(2, 22)),
+    ("bugassist 2\nb 1 0 0 9\ne b\n", Refused(2, 22)),
+    ("bugassist 2\nb 4294967295 16 0 9\ne b\n", Refused(2, 22)),
+    ("bugassist 2\nb 1 16 0 4294967295\ne b\n", Refused(2, 22)),
+    (
+        "bugassist 2\nb 1 16 4611686018427387903 9\ne b\n",
+        Refused(2, 22),
+    ),
+    // Lines that are no settings.
+    (
+        "bugassist 2\nb 1 16 4611686018427387904 9\ne b\n",
+        Refused(2, 20),
+    ),
+    ("bugassist 2\nb 4294967296 16 0 9\ne b\n", Refused(2, 20)),
+    ("bugassist 2\nb 1 4294967296 0 9\ne b\n", Refused(2, 20)),
+    ("bugassist 2\nb 1 16 0 4294967296\ne b\n", Refused(2, 20)),
+    ("bugassist 2\nb 00 16 0 9\ne b\n", Refused(2, 20)),
+    ("bugassist 2\nb 01 16 0 9\ne b\n", Refused(2, 20)),
+    ("bugassist 2\nb 1 16 0\ne b\n", Refused(2, 20)),
+    ("bugassist 2\nb 1 16 0 9 9\ne b\n", Refused(2, 20)),
+    ("bugassist 2\nb 1 16  0 9\ne b\n", Refused(2, 20)),
+    ("bugassist 2\nb 1 16 0 9 \ne b\n", Refused(2, 20)),
+    ("bugassist 2\nb 1 16 0 9\r\ne b\n", Refused(2, 20)),
+    ("bugassist 2\nb 1 16 -0 9\ne b\n", Refused(2, 20)),
+    ("bugassist 2\nb 1 -16 0 9\ne b\n", Refused(2, 20)),
+    ("bugassist 2\n\nb 1 16 0 9\ne b\n", Refused(2, 20)),
+    ("bugassist 2\nbugassist 2\n", Refused(2, 20)),
+    ("bugassist 2\ne b\n", Refused(2, 20)),
+    ("bugassist 2\nb 1 16 0 9\nb 1 16 0 9\ne b\n", Refused(3, 20)),
+    ("bugassist 1\nb 1 16 0 9\ne b\n", Refused(2, 20)),
+    ("bugassist 2\nb 1 16 0 9\nbugassist 2\n", Refused(3, 20)),
 ];
 
-/// Whether texts without a right head line are answered so.
+/// Whether texts without a right head are answered so.
 fn are_headless(rt: &impl Abort, alloc: Global) -> bool {
     let problem = array_example(rt, alloc, SOME);
     for row in &HEADLESS {
@@ -338,13 +410,13 @@ fn are_headless(rt: &impl Abort, alloc: Global) -> bool {
 }
 
 #[test]
-fn the_head_line_is_the_first(rt: HostRuntime) {
+fn a_right_head_stands_first(rt: HostRuntime) {
     let are_right = are_headless(&rt, rt.alloc());
     assert!(rt; are_right);
 }
 
 /// The number of the line in which what follows these bytes stands.
-fn line_behind(bytes: &[u8]) -> u64 {
+pub fn line_behind(bytes: &[u8]) -> u64 {
     let mut line: u64 = 1;
     for byte in bytes {
         if *byte == b'\n' {
@@ -355,9 +427,9 @@ fn line_behind(bytes: &[u8]) -> u64 {
 }
 
 /// Whether each part of the example's certificate that is cut off ends too early, in its last line.
-fn end_too_early(rt: &impl Abort, alloc: Global) -> bool {
+fn end_too_early(rt: &impl Abort, alloc: Global, head: &str) -> bool {
     let problem = array_example(rt, alloc, SOME);
-    let text = behind_head(rt, alloc, WHOLE);
+    let text = behind_head(rt, alloc, head.as_bytes(), WHOLE);
     for count in 0..text.len() {
         let front = &text.as_slice()[..count];
         let answer = Refused(line_behind(front), 21);
@@ -370,17 +442,18 @@ fn end_too_early(rt: &impl Abort, alloc: Global) -> bool {
 
 #[test]
 fn a_certificate_that_is_cut_off_ends_too_early(rt: HostRuntime) {
-    let are_right = end_too_early(&rt, rt.alloc());
+    let are_right = end_too_early(&rt, rt.alloc(), OLD_HEAD)
+        && end_too_early(&rt, rt.alloc(), HEAD);
     assert!(rt; are_right);
 }
 
-/// Whether the example's certificate is refused where one of its bytes is a `9` in its place, in the line of that byte.
-fn are_refused_in_their_lines(rt: &impl Abort, alloc: Global) -> bool {
+/// Whether the example's certificate is refused where another digit is in the place of one of its bytes, in the line of that byte.
+fn are_refused_in_their_lines(rt: &impl Abort, alloc: Global, head: &str) -> bool {
     let problem = array_example(rt, alloc, SOME);
-    let mut text = behind_head(rt, alloc, WHOLE);
+    let mut text = behind_head(rt, alloc, head.as_bytes(), WHOLE);
     for place in 0..text.len() {
         let byte = text[place];
-        text[place] = b'9';
+        text[place] = if byte == b'9' { b'8' } else { b'9' };
         let told = judge(rt, alloc, &problem, settings(5, 9), text.as_slice(), None);
         if refused_line(&told) != Some(line_behind(&text.as_slice()[..place])) {
             return false;
@@ -392,7 +465,8 @@ fn are_refused_in_their_lines(rt: &impl Abort, alloc: Global) -> bool {
 
 #[test]
 fn a_byte_that_is_changed_is_refused_in_its_line(rt: HostRuntime) {
-    let are_right = are_refused_in_their_lines(&rt, rt.alloc());
+    let are_right = are_refused_in_their_lines(&rt, rt.alloc(), OLD_HEAD)
+        && are_refused_in_their_lines(&rt, rt.alloc(), HEAD);
     assert!(rt; are_right);
 }
 
@@ -422,7 +496,7 @@ fn are_fed(rt: &impl Abort, alloc: Global, pieces: &Pieces) -> bool {
     answer_of(&told) == pieces.1 && refusals.as_slice() == expected.as_slice()
 }
 
-static FED: [Pieces; 4] = [
+static FED: [Pieces; 6] = [
     (&[("bugassist 1", None), ("\n", None)], Refused(2, 21)),
     (
         &[
@@ -451,6 +525,26 @@ static FED: [Pieces; 4] = [
             ("\n", None),
         ],
         Located,
+    ),
+    (
+        &[
+            ("bugassist 2", None),
+            ("\nb 1 1", None),
+            (
+                "6 5 9\nc -1 -3 -4 0 1 0\ns 1 0 t 1\ns 3 0 t 2\ns 4 0 t 2\ne l 0 12",
+                None,
+            ),
+            (" 13 14 2 0\n", None),
+        ],
+        Located,
+    ),
+    (
+        &[
+            ("bugassist 2\nb 1 16 5 9", None),
+            ("9\ne b\n", Some((2, 22))),
+            ("e b\n", Some((2, 22))),
+        ],
+        Refused(2, 22),
     ),
 ];
 

@@ -9,6 +9,10 @@ mod calls;
 #[cfg(test)]
 mod certificates;
 #[cfg(test)]
+mod counted;
+#[cfg(test)]
+mod damage;
+#[cfg(test)]
 mod endless;
 #[cfg(test)]
 mod faults;

@@ -1,9 +1,10 @@
 //! Lines with the steps that they are, and lines that are no step's.
 
-use ba_cert::{CertError, head_text, read_line, step_text};
+use ba_cert::{CertError, CertHead, head_text, read_line, read_settings, step_text};
 use ba_choices::Choice;
 use ba_lits::Lit;
 use ba_steps::CertStep;
+use ba_tree::run::Bounds;
 use std::alloc::Global;
 use std::panic::Expect;
 use std::process::Abort;
@@ -182,7 +183,86 @@ fn each_form_of_a_line_is_read_and_written(rt: HostRuntime) {
         let is_so = is_read_and_written(&rt, rt.alloc(), line, kind, first, second);
         assert!(rt; is_so, "at {line}");
     }
-    assert_eq!(rt; head_text(), b"bugassist 1\n".as_slice());
+}
+
+/// Settings lines, and the numbers that each names: the loop bound, the depth, the conflicts and the sets.
+static SETTINGS: [(&str, u32, u32, u64, u32); 5] = [
+    ("b 5 16 200000 1000", 5, 16, 200_000, 1000),
+    ("b 64 32 1000000 10000", 64, 32, 1_000_000, 10_000),
+    ("b 0 0 0 0", 0, 0, 0, 0),
+    (
+        "b 4294967295 1 1 4294967295",
+        4_294_967_295,
+        1,
+        1,
+        4_294_967_295,
+    ),
+    (
+        "b 1 4294967295 4611686018427387903 1",
+        1,
+        4_294_967_295,
+        4_611_686_018_427_387_903,
+        1,
+    ),
+];
+
+/// Whether a line is read as these settings, and they are written as it, behind the first line.
+fn are_read_and_written(rt: &impl Abort, alloc: Global, line: &str, head: &CertHead) -> bool {
+    let text = head_text(alloc, head).expect(rt, "memory");
+    match text.as_slice().strip_prefix(b"bugassist 2\n".as_slice()) {
+        Some(rest) => is_line(rest, line) && read_settings(line.as_bytes()) == Some(*head),
+        None => false,
+    }
+}
+
+#[test]
+fn each_settings_line_is_read_and_written(rt: HostRuntime) {
+    for (line, turns, frames, conflicts, sets) in SETTINGS.as_slice() {
+        let head = CertHead {
+            bounds: Bounds {
+                turns: *turns,
+                frames: *frames,
+            },
+            conflicts: *conflicts,
+            sets: *sets,
+        };
+        let is_so = are_read_and_written(&rt, rt.alloc(), line, &head);
+        assert!(rt; is_so, "at {line}");
+    }
+}
+
+static NO_SETTINGS: [&str; 24] = [
+    "",
+    "b",
+    "b ",
+    "5 16 200000 1000",
+    "b 5 16 200000",
+    "b 5 16 200000 1000 1",
+    "b 5 16 200000 1000 ",
+    "b  5 16 200000 1000",
+    "b 5 16  200000 1000",
+    " b 5 16 200000 1000",
+    "b 5 16 200000 1000\r",
+    "b 01 16 200000 1000",
+    "b 00 16 200000 1000",
+    "b 5 016 200000 1000",
+    "b -5 16 200000 1000",
+    "b +5 16 200000 1000",
+    "b 4294967296 16 200000 1000",
+    "b 5 4294967296 200000 1000",
+    "b 5 16 4611686018427387904 1000",
+    "b 5 16 200000 4294967296",
+    "B 5 16 200000 1000",
+    "b\t5 16 200000 1000",
+    "bb 5 16 200000 1000",
+    "e b",
+];
+
+#[test]
+fn a_line_of_no_settings_is_refused(rt: HostRuntime) {
+    for line in &NO_SETTINGS {
+        assert!(rt; read_settings(line.as_bytes()).is_none(), "at {line:?}");
+    }
 }
 
 static BAD_LISTS: [&str; 36] = [

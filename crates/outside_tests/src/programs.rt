@@ -34,3 +34,9 @@ set 2:
 set 3:
   8:5 assignment | i = index;
 ";
+
+/// How a certificate begins that a search by the default settings and a bound of 1 writes.
+pub const HEAD: &str = "bugassist 2\nb 1 16 200000 1000\n";
+
+/// How a certificate of version 1 begins.
+pub const OLD_HEAD: &str = "bugassist 1\n";

@@ -87,7 +87,11 @@ fn writes_the_certificate_before_the_report(rt: HostRuntime) {
         .split(|byte| *byte == b'\n');
     assert_eq!(rt;
         lines.next().expect(&rt, "no line"),
-        b"bugassist 1".as_slice()
+        b"bugassist 2".as_slice()
+    );
+    assert_eq!(rt;
+        lines.next().expect(&rt, "no settings"),
+        b"b 1 16 200000 1000".as_slice()
     );
     // Each step that was handed on has a line, which is read as it is written, and nothing stands
     // behind the last.
@@ -119,27 +123,4 @@ fn begins_no_certificate_without_a_search(rt: HostRuntime) {
     assert_not_begun(&rt, alloc, BRANCHES, "0", Status::NotFailing);
     assert_not_begun(&rt, alloc, BRANCHES, "x", Status::BadInput);
     assert_not_begun(&rt, alloc, "int", "1", Status::BadProgram);
-}
-
-/// Asserts that nothing is printed where a call of the world fails while the certificate is written, and with which
-/// bytes the certificate then begins, if it is begun.
-fn assert_cut_off(rt: &impl Abort, alloc: Global, fails: u64, held: Option<&str>) {
-    let mut world = world_of(rt, alloc, ONE_ASSIGNMENT, "1", &[fails], 4096);
-    let ended = end(alloc, CERTIFIED, &mut world, &mut NoSink);
-    assert_eq!(rt; ended, Status::WriteFault);
-    assert!(rt; world.printed().is_empty());
-    let begins = match (world.file("c"), held) {
-        (Some(bytes), Some(held)) => bytes.starts_with(held.as_bytes()),
-        (bytes, held) => bytes.is_none() && held.is_none(),
-    };
-    assert!(rt; begins, "where {fails} fails");
-}
-
-#[test]
-fn prints_nothing_where_a_certificate_fails(rt: HostRuntime) {
-    // Calls 0 to 5 read the files, 6 begins the certificate, 7 adds its head line and 8 the first step.
-    let alloc = rt.alloc();
-    assert_cut_off(&rt, alloc, 6, None);
-    assert_cut_off(&rt, alloc, 7, Some("bugass"));
-    assert_cut_off(&rt, alloc, 8, Some("bugassist 1\n"));
 }

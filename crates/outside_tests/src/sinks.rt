@@ -2,11 +2,13 @@
 
 ghost use Rattle.std.specs.Prelude.{◌≡◌, All, codes};
 ghost use Rattle.ba_steps.specs.Steps.{IsFormed};
+ghost use Rattle.outside_tests.specs.Settings.{settings};
 
-use ba_cert::{CertSink, Start, TextSink, begin_text, read_line, write_text};
+use ba_cert::{CertHead, CertSink, Start, TextSink, begin_text, read_line, write_text};
 use ba_items::Items;
 use ba_lits::Formula;
 use ba_steps::{CertStep, ListSink, SinkError, StepSink};
+use ba_tree::run::Bounds;
 use ba_world::{MemoryWorld, World};
 use std::alloc::Global;
 use std::marker::Brand;
@@ -17,6 +19,20 @@ use std::process::Abort;
 fn world_of(rt: &impl Abort, alloc: Global, fails: &[u64]) -> MemoryWorld {
     let fails = Vec::from_slice(alloc, fails).expect(rt, "memory");
     MemoryWorld::new(alloc, Vec::new(alloc), fails, 1).expect(rt, "memory")
+}
+
+/// The settings that the certificates name.
+fn settings() -> CertHead
+    ensures { result ≡ settings }
+{
+    CertHead {
+        bounds: Bounds {
+            turns: 5,
+            frames: 16,
+        },
+        conflicts: 200_000,
+        sets: 1000,
+    }
 }
 
 /// What a sink answered to the last of some steps, and whether its file was whole then.
@@ -36,11 +52,13 @@ fn write_from<S: Start, W: World, D: StepSink + Drop>(
     next: &mut D,
 ) -> Written
     requires named { S.name ≡ codes "c" }
+    requires headed { S.head ≡ settings }
     requires start { W.outside world.old ≡ S.outside }
     requires faults { D.faults next.old ≡ S.faults }
 {
-    begin_text(world, "c").expect(rt, "a head line");
-    let text: TextSink<W, S> = TextSink::new(alloc, world, "c");
+    let head = settings();
+    begin_text(alloc, world, "c", &head).expect(rt, "two lines");
+    let text: TextSink<W, S> = TextSink::new(alloc, world, "c", head);
     let mut sink = CertSink { text, next };
     sink.begin(&Formula::new(alloc), &[])
         .expect(rt, "a formula");
@@ -76,7 +94,12 @@ fn steps_are_written_as_they_are_made(rt: HostRuntime) {
     let written = write(&rt, alloc, &mut world, &lines, &mut next);
     assert_eq!(rt; written.last, Ok(()));
     assert!(rt; written.whole);
-    holds(&rt, &world, "c", "bugassist 1\nc -1 -2 0 1 0\ne b\n");
+    holds(
+        &rt,
+        &world,
+        "c",
+        "bugassist 2\nb 5 16 200000 1000\nc -1 -2 0 1 0\ne b\n",
+    );
     assert_eq!(rt; next.steps().len(), 2);
     assert_eq!(rt; next.over().len(), 1);
 }
@@ -86,7 +109,7 @@ fn a_refused_sink_refuses_from_then_on(rt: HostRuntime) {
     let alloc = rt.alloc();
     let learn = b"l 1 0 0".as_slice();
     let end = b"e l 0 0".as_slice();
-    // Call 0 begins the file, 1 adds the head line, 2 and 3 the steps; the fault comes after half
+    // Call 0 begins the file, 1 adds the first two lines, 2 and 3 the steps; the fault comes after half
     // of `e l 0 0` and its line feed.
     for (lines, last) in [
         ([learn, end].as_slice(), SinkError::Failed),
@@ -97,18 +120,28 @@ fn a_refused_sink_refuses_from_then_on(rt: HostRuntime) {
         let written = write(&rt, alloc, &mut world, lines, &mut next);
         assert_eq!(rt; written.last, Err(last));
         assert!(rt; !written.whole);
-        holds(&rt, &world, "c", "bugassist 1\nl 1 0 0\ne l ");
+        holds(
+            &rt,
+            &world,
+            "c",
+            "bugassist 2\nb 5 16 200000 1000\nl 1 0 0\ne l ",
+        );
         assert_eq!(rt; next.steps().len(), 1);
     }
 }
 
 #[test]
-fn a_fault_in_the_head_line_is_answered(rt: HostRuntime) {
+fn a_fault_in_the_first_lines_is_answered(rt: HostRuntime) {
     for call in 0..2 {
         let mut world = world_of(&rt, rt.alloc(), &[call]);
-        let answer = begin_text(&mut world, "c");
+        let answer = begin_text(rt.alloc(), &mut world, "c", &settings());
         assert_eq!(rt; answer, Err(SinkError::Failed), "call {call}");
     }
+    // Half of both lines is kept where they are added by one call that fails.
+    let mut world = world_of(&rt, rt.alloc(), &[1]);
+    let answer = begin_text(rt.alloc(), &mut world, "c", &settings());
+    assert_eq!(rt; answer, Err(SinkError::Failed));
+    holds(&rt, &world, "c", "bugassist 2\nb 5");
 }
 
 /// The steps of two lines.
@@ -128,10 +161,20 @@ fn a_list_of_steps_is_written_in_place_of_another(rt: HostRuntime) {
     let alloc = rt.alloc();
     let mut world = world_of(&rt, alloc, &[7]);
     let long = steps_of(&rt, alloc, "c -1 -2 0 1 0", "e n 2 0");
-    write_text(alloc, &mut world, "c", long.as_slice()).expect(&rt, "a text");
-    holds(&rt, &world, "c", "bugassist 1\nc -1 -2 0 1 0\ne n 2 0\n");
+    write_text(alloc, &mut world, "c", &settings(), long.as_slice()).expect(&rt, "a text");
+    holds(
+        &rt,
+        &world,
+        "c",
+        "bugassist 2\nb 5 16 200000 1000\nc -1 -2 0 1 0\ne n 2 0\n",
+    );
     let short = steps_of(&rt, alloc, "l 1 0 0", "e b");
-    let answer = write_text(alloc, &mut world, "c", short.as_slice());
+    let answer = write_text(alloc, &mut world, "c", &settings(), short.as_slice());
     assert_eq!(rt; answer, Err(SinkError::Failed));
-    holds(&rt, &world, "c", "bugassist 1\nl 1 0 0\ne ");
+    holds(
+        &rt,
+        &world,
+        "c",
+        "bugassist 2\nb 5 16 200000 1000\nl 1 0 0\ne ",
+    );
 }

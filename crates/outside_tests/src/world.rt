@@ -105,7 +105,7 @@ fn takes_half_of_the_bytes_before_a_failure(rt: HostRuntime) {
 
 #[test]
 fn stops_where_a_file_never_ends(rt: HostRuntime) {
-    let mut world = Endless::new();
+    let mut world = Endless::new(rt.alloc(), &[("program", "", " ")]);
     let outcome = read_whole(rt.alloc(), &mut world, "program", LIMIT);
     assert_eq!(rt; outcome.err(), Some(ReadFileError::TooLong));
     assert_eq!(rt; world.given, LIMIT + 1);

@@ -1,5 +1,8 @@
 //! Tests of the arena of clauses.
 
+ghost use Rattle.std.specs.Prelude.{IfSome};
+ghost use Rattle.ba_arena.specs.Clauses.{IsLive};
+
 use ba_arena::{Arena, ClauseRef};
 use std::alloc::Global;
 use std::panic::Expect;
@@ -57,17 +60,50 @@ fn assert_live(rt: &impl Abort, alloc: Global, arena: &Arena) {
 }
 
 /// The clause behind the first one.
-fn after_first(arena: &Arena) -> Option<ClauseRef> {
+fn after_first(arena: &Arena) -> Option<ClauseRef>
+    ensures { IfSome result (λ clause. IsLive arena.now clause) }
+{
     arena.after(arena.first()?)
+}
+
+/// Compacts an arena, and gives where the second of its live clauses is then.
+fn second_moved(arena: &mut Arena) -> Option<ClauseRef> {
+    let mut kept = [after_first(arena)];
+    arena.compact(kept.as_mut_slice(), &mut [], &mut []);
+    kept[0]
 }
 
 #[test]
 fn live_clauses_keep_their_order_in_compaction(rt: HostRuntime) {
     let mut arena = Arena::new(rt.alloc());
     let second = add_three(&rt, &mut arena);
-    arena.plan();
     assert_live(&rt, rt.alloc(), &arena);
-    arena.compact();
+    let moved = second_moved(&mut arena);
     assert_live(&rt, rt.alloc(), &arena);
-    assert!(rt; after_first(&arena) == Some(second));
+    assert!(rt; moved == Some(second) && after_first(&arena) == moved);
+}
+
+/// Adds a clause.
+fn added(rt: &impl Abort, arena: &mut Arena) -> ClauseRef
+    ensures { IsLive arena.new result }
+{
+    arena.add([lit(3)].as_slice(), 5).expect(rt, "memory")
+}
+
+/// Adds a clause, deletes it, compacts the arena, and gives where its reference leads.
+fn deleted(rt: &impl Abort, arena: &mut Arena) -> Option<ClauseRef> {
+    let clause = added(rt, arena);
+    arena.keep_apart();
+    arena.mark_dead(clause);
+    let mut kept = [Some(clause)];
+    arena.compact(kept.as_mut_slice(), &mut [], &mut []);
+    kept[0]
+}
+
+#[test]
+fn a_reference_of_a_deleted_clause_becomes_none(rt: HostRuntime) {
+    let mut arena = Arena::new(rt.alloc());
+    let _ = add_three(&rt, &mut arena);
+    assert!(rt; deleted(&rt, &mut arena).is_none());
+    assert_live(&rt, rt.alloc(), &arena);
 }

@@ -1,5 +1,5 @@
 use Rattle.std.proofs.Common.{◌<◌, length, refl, ap, ◌∙◌, arith}
-use Rattle.ba_arena.proofs.Compacting.{moving-room, moving-down, moving-past, moving-init, moving-end}
+use Rattle.ba_arena.proofs.Compacting.{moving-room, moving-down, moving-past}
 use Rattle.ba_arena.proofs.move_down.Goals as goal
 use Rattle.ba_arena.proofs.move_down.Goals.{then-index, else-index}
 

@@ -1,10 +1,10 @@
-use Rattle.std.proofs.Common.{◌≡◌, ◌<◌, ◌≤◌, ◌+◌, ◌^◌, ℕ, Option, Some, None, IfSome, List, length, get_or, refl, sym, subst, ap, ◌∙◌, arith, ⊎_elim}
+use Rattle.std.proofs.Common.{◌≡◌, ◌<◌, ◌+◌, ◌^◌, ℕ, List, length, get_or, sym, subst, ◌∙◌, arith}
 use Rattle.std.proofs.lemmas.Grind.{get_or_default_zero}
-use Rattle.ba_arena.specs.Clauses.{lits_at, clause_at}
+use Rattle.ba_arena.specs.Clauses.{lits_at}
 use Rattle.ba_arena.specs.Compaction.{IsFirstFrom}
-use Rattle.ba_arena.specs.Words.{clauses_of, AreWords, IsCut}
-use Rattle.ba_arena.proofs.Reading.{IsHere, here, len_read}
-use Rattle.ba_arena.proofs.Cuts.{cut-live, cut-next, after-cut, after-first, after-room}
+use Rattle.ba_arena.specs.Words.{clauses_of, IsCut}
+use Rattle.ba_arena.proofs.Reading.{here, len_read}
+use Rattle.ba_arena.proofs.Cuts.{after-cut, after-first, after-room}
 use Rattle.ba_arena.proofs.Arena.after.Goals as goal
 
 pub index-requires : goal.index-requires

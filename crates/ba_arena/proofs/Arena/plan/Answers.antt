@@ -1,5 +1,4 @@
-use Rattle.std.proofs.Common.{◌≡◌, ◌≤◌, ◌+◌, ℕ, Option, Some, IfSome, length, refl, subst, arith}
-use Rattle.ba_arena.specs.Clauses.{lits_at}
+use Rattle.std.proofs.Common.{◌≡◌, ◌+◌, ℕ, Option, Some, IfSome, refl, subst, arith}
 use Rattle.ba_arena.proofs.Planning.{IsPlanning, IsPlannedBelow, planning-init, planning-step}
 use Rattle.ba_arena.proofs.Arena.plan.Goals as goal
 

@@ -7,7 +7,8 @@ use Rattle.ba_cert.proofs.text_sink.write_text.Given as goal
 abbrev pub invariant-loop-step : goal.invariant-loop-step
 invariant-loop-step g l =
     let outside = g.W.World.outside in record {
-      sound : is_sound true l.name (outside l.world) ≡ true;
-      text : IfSome ((outside l.world).kept l.name) (λ bytes. bytes ≡ text_of (take l.step-index l.steps));
+      sound : is_sound l.head true l.name (outside l.world) ≡ true;
+      text : IfSome ((outside l.world).kept l.name)
+          (λ bytes. bytes ≡ text_of l.head (take l.step-index l.steps));
       stays : OnlyWritesTo l.name (outside l.fn.world) (outside l.world);
     }

@@ -4,7 +4,7 @@ use Rattle.ba_check.proofs.laws.refused_law.Goals as goal
 
 pub returns : goal.returns
 returns c = record {
-  stays = λ p text more refusal e. refused-stays p text more refusal.0 refusal.1 e;
-  found = λ p text more line code e.
-      refused-found p (text ++ more) line code (refused-stays p text more line code e);
+  stays = λ head p text more refusal e. refused-stays head p text more refusal.0 refusal.1 e;
+  found = λ head p text more line code e.
+      refused-found head p (text ++ more) line code (refused-stays head p text more line code e);
 }

@@ -2,6 +2,7 @@ use Rattle.std.proofs.Common.{◌∙◌, sym}
 use Rattle.ba_check.specs.Answers.{problem_of}
 use Rattle.ba_localise.specs.Verdicts.{told}
 use Rattle.ba_tool.specs.Answers.{weights_of}
+use Rattle.ba_tool.specs.Calls.{head_by}
 use Rattle.ba_tool.specs.Certificates.{Judging}
 use Rattle.ba_tool.proofs.Concluding.{concludes_check, faithful_case, settings_of}
 use Rattle.ba_tool.proofs.certificates.check.Goals as goal
@@ -18,6 +19,7 @@ returns-clause-answer g c = λ x is.
     let softs = c.as_slice.result.now in
     let judging : Judging = record {
       name = c.in-Some.name;
+      head = head_by j;
       problem = problem_of case.program case.input (settings_of j) encoded;
       weights = weights_of case.program x;
     } in

@@ -1,9 +1,11 @@
+use Rattle.ba_tool.specs.Calls.{head_by}
 use Rattle.ba_tool.proofs.search.conclude.Given as goal
 
 -- the certificate is begun in this outside, and the sink has had these faults
 abbrev pub ghosts-certify : goal.ghosts-certify
 ghosts-certify g a = record {
   name = a.name.now;
+  head = head_by a.job.now;
   outside = g.W.World.outside a.world.now;
   faults = g.D.StepSink.faults a.steps.now;
 }

@@ -1,6 +1,7 @@
 use Rattle.std.proofs.Common.{arith}
 use Rattle.std.proofs.lemmas.Result.{IfErr-weaker, IfOk-weaker}
 use Rattle.ba_jobs.specs.Jobs.{written_by}
+use Rattle.ba_tool.specs.Calls.{head_by}
 use Rattle.ba_tool.proofs.Coming.{comes_proceeds, stops_later}
 use Rattle.ba_tool.proofs.tool.job_answer.Goals as goal
 
@@ -11,7 +12,8 @@ returns-in-Ok-clause-answer g c = IfOk-weaker c.texts_answer.result _ _
 
 pub returns-in-Ok-clause-stops : goal.returns-in-Ok-clause-stops
 returns-in-Ok-clause-stops g c = IfErr-weaker c.texts_answer.result _ _
-    (λ error stops. stops_later (written_by c.args.job.now.task c.args.job.now.cert) _ _ _
+    (λ error stops. stops_later (head_by c.args.job.now)
+    (written_by c.args.job.now.task c.args.job.now.cert) _ _ _
     c.read_texts.ensures.stays stops) c.texts_answer.ensures.stops
 
 pub returns-in-Ok-clause-bounded : goal.returns-in-Ok-clause-bounded

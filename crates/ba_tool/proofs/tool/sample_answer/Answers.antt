@@ -18,6 +18,10 @@ texts_answer-requires-clause-input_short g c =
 pub texts_answer-requires-clause-bounds : goal.texts_answer-requires-clause-bounds
 texts_answer-requires-clause-bounds g c = ap (λ (j : Job). are_bounds j.bounds) c.sample_job-job.ensures
 
+pub texts_answer-requires-clause-countable : goal.texts_answer-requires-clause-countable
+texts_answer-requires-clause-countable g c =
+    let is = ap (λ (j : Job). j.conflicts) c.sample_job-job.ensures in omega (arith, is)
+
 pub returns-clause-answer : goal.returns-clause-answer
 returns-clause-answer g c = IfOk-weaker c.texts_answer.result _ _
     (λ a holds. sampled_as c.sample_job-job.result c.in_ok-texts.texts c.args.additions _ _ _ _ a

@@ -2,7 +2,7 @@ use Rattle.std.proofs.Common.{◌≤◌, ◌+◌, subst, sym, arith}
 use Rattle.std.proofs.lemmas.Result.{IfOk-weaker}
 use Rattle.ba_localise.specs.Verdicts.{told}
 use Rattle.ba_world.proofs.WholeReads.{only_reads_none}
-use Rattle.ba_tool.specs.Calls.{most_of}
+use Rattle.ba_tool.specs.Calls.{head_by, most_of}
 use Rattle.ba_tool.specs.Cases.{IsJudged}
 use Rattle.ba_jobs.specs.declared.jobs.Task.{Task}
 use Rattle.ba_tool.proofs.Coming.{if_err, proceeds_checked, proceeds_judged, proceeds_searched, sink_faults, stops_read, stops_searched}
@@ -12,7 +12,7 @@ use Rattle.ba_tool.proofs.tool.texts_answer.Goals as goal
 pub returns-in_err-answer-clause-stops : goal.returns-in_err-answer-clause-stops
 returns-in_err-answer-clause-stops g c =
     let before = g.W.World.outside c.args.world.now in
-    if_err c.from_residual.result _ (stops_read _ before before (only_reads_none before))
+    if_err c.from_residual.result _ (stops_read _ _ before before (only_reads_none before))
 
 pub returns-in-Answered-clause-answer : goal.returns-in-Answered-clause-answer
 returns-in-Answered-clause-answer g c = proceeds_judged c.args.job.now c.args.texts.now _ _
@@ -32,7 +32,7 @@ returns-in-ToSearch-clause-stops g c =
 
 pub returns-in-ToSearch-clause-bounded : goal.returns-in-ToSearch-clause-bounded
 returns-in-ToSearch-clause-bounded g c =
-    let wrote = only_writes c.args.job.now.cert (g.W.World.outside c.args.world.now)
+    let wrote = only_writes (head_by c.args.job.now) c.args.job.now.cert (g.W.World.outside c.args.world.now)
     (g.W.World.outside c.conclude.new.world) c.conclude.ensures.may in
     let same = wrote.given in omega (arith, same)
 
@@ -45,7 +45,7 @@ returns-in-ToCheck-clause-answer g c =
 
 pub returns-in-ToCheck-clause-stops : goal.returns-in-ToCheck-clause-stops
 returns-in-ToCheck-clause-stops g c =
-    if_err c.check.result _ (stops_read _ _ _ c.check.ensures.stays)
+    if_err c.check.result _ (stops_read _ _ _ _ c.check.ensures.stays)
 
 pub returns-in-ToCheck-clause-cause : goal.returns-in-ToCheck-clause-cause
 returns-in-ToCheck-clause-cause g c = λ failed.

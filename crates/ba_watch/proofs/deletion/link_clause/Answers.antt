@@ -1,5 +1,5 @@
-use Rattle.std.proofs.Common.{◌≡◌, ◌+◌, ◌*◌, ◌<◌, ◌≤◌, ℕ, Bool, Option, true, false, length, ap, ◌∙◌, arith}
-use Rattle.ba_lits.specs.Literals.{Literal, index_of, lit_at}
+use Rattle.std.proofs.Common.{◌≡◌, ◌<◌, ◌≤◌, ℕ, Bool, Option, true, false, length, ap, ◌∙◌, arith}
+use Rattle.ba_lits.specs.Literals.{index_of, lit_at}
 use Rattle.ba_arena.specs.Clauses.{changed, linked, lits_at}
 use Rattle.ba_watch.specs.Threads.{index_at}
 use Rattle.ba_watch.proofs.Deletions.{linked_short, linked_long}

@@ -1,7 +1,7 @@
-use Rattle.std.proofs.Common.{◌≡◌, ◌+◌, ◌<◌, ℕ, Option, None, Some, List, length, refl, sym, ap, subst, ◌∙◌, arith}
+use Rattle.std.proofs.Common.{ℕ, Option, None, List, length, refl, sym, subst, ◌∙◌}
 use Rattle.ba_lits.specs.Literals.{Literal}
-use Rattle.ba_arena.specs.Clauses.{Clauses, lits_at}
-use Rattle.ba_watch.specs.Threads.{AreApart, AreThreaded, SamePlain}
+use Rattle.ba_arena.specs.Clauses.{lits_at}
+use Rattle.ba_watch.specs.Threads.{AreApart, AreThreaded}
 use Rattle.ba_watch.specs.Deletion.{MayLink}
 use Rattle.ba_watch.proofs.Deletions.{IsRelinking, upto, relinking_init, relinking_step, lits_same}
 use Rattle.ba_watch.proofs.deletion.relink.Goals as goal

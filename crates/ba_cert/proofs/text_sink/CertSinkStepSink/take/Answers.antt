@@ -7,6 +7,6 @@ pub returns-in_err-take-clause-refused : goal.returns-in_err-take-clause-refused
 returns-in_err-take-clause-refused g c =
     let old = c.args.self.now.text in
     let new = c.take.new.self in
-    both_first c.args.step.now (steps_at old.name.now (g.W.World.outside old.world.now) ∷ [])
-    (steps_at new.name.now (g.W.World.outside new.world.now) ∷ [])
+    both_first c.args.step.now (steps_at old.head old.name.now (g.W.World.outside old.world.now) ∷ [])
+    (steps_at new.head new.name.now (g.W.World.outside new.world.now) ∷ [])
     (g.D.StepSink.logs c.args.self.now.next.now) c.from_residual.result c.in_err-take.ensures.refused

@@ -7,6 +7,7 @@ pub returns-then-self-clause-whole : goal.returns-then-self-clause-whole
 returns-then-self-clause-whole g c is =
     let sink = c.args.self.now in
     let o = g.W.World.outside sink.world.now in
-    whole-named sink.whole sink.name.now c.args.name.now o.is_writing o.writing o.kept c.if-self.true
+    whole-named sink.head c.is_head.ensures sink.whole sink.name.now c.args.name.now o.is_writing o.writing
+    o.kept c.if-self.true
     ((bytes_eq-Decides sink.name.now c.args.name.now).0 (sym c.eq.ensures ∙ is))
-    (sym (sound-is sink.whole sink.name.now o) ∙ sink.sound)
+    (sym (sound-is sink.head sink.whole sink.name.now o) ∙ sink.sound)

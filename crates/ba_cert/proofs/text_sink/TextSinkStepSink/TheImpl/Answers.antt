@@ -16,7 +16,7 @@ pub begin-tells : goal.begin-tells
 begin-tells g c = record {
   told = ok _ c.result refl;
   refused = no_err _ c.result c.ensures.never;
-  logs_stay = ap (λ sink. logs_at sink.name.now (g.W.World.outside sink.world.now)) c.ensures.same;
+  logs_stay = ap (λ sink. logs_at sink.head sink.name.now (g.W.World.outside sink.world.now)) c.ensures.same;
   cause = search rules;
   no_fall = search rules;
   same_references = search rules;

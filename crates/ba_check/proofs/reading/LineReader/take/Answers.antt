@@ -9,7 +9,7 @@ pub returns-in_err-end_line : goal.returns-in_err-end_line
 returns-in_err-end_line g c =
     let p = err_from_is_err_and c.from_residual.result c.from_residual.ensures.1 in
     λ plain. rw (p.1, p.2)
-    (line-refused (g.J.RunJudge.accepts c.args.judge.now) (course_kept c.args.self.now.judged)
+    (line-refused c.args.head.now (g.J.RunJudge.accepts c.args.judge.now) (course_kept c.args.self.now.judged)
     c.args.self.now.rest.items c.args.piece.now (course_kept c.loop-end.self.judged)
     c.loop-end.self.rest.items
     c.loop-end.left.now (c.loop-end.invariant plain) c.end_line.new.self.judged c.end_line.new.self.judged
@@ -19,7 +19,7 @@ returns-in_err-end_line g c =
 
 pub loop-end-preserved : goal.loop-end-preserved
 loop-end-preserved g c = λ plain.
-    line-more (g.J.RunJudge.accepts c.args.judge.now) (course_kept c.args.self.now.judged)
+    line-more c.args.head.now (g.J.RunJudge.accepts c.args.judge.now) (course_kept c.args.self.now.judged)
     c.args.self.now.rest.items c.args.piece.now (course_kept c.loop-end.self.judged)
     c.loop-end.self.rest.items
     c.loop-end.left.now (c.loop-end.invariant plain) (course_kept c.end_line.new.self.judged)
@@ -28,7 +28,7 @@ loop-end-preserved g c = λ plain.
 
 pub returns : goal.returns
 returns g c = λ plain.
-    piece-ends (g.J.RunJudge.accepts c.args.judge.now) (course_kept c.args.self.now.judged)
+    piece-ends c.args.head.now (g.J.RunJudge.accepts c.args.judge.now) (course_kept c.args.self.now.judged)
     c.args.self.now.rest.items c.args.piece.now (course_kept c.loop-end.self.judged)
     c.loop-end.self.rest.items
     c.loop-end.left.now (c.loop-end.invariant plain) c.loop-end.self.judged

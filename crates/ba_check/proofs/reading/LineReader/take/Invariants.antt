@@ -7,7 +7,7 @@ use Rattle.ba_check.proofs.reading.LineReader.take.Given as goal
 -- what is left of the piece, after what is kept, gives what the whole piece gives
 abbrev pub invariant-loop-end : goal.invariant-loop-end
 invariant-loop-end g l = HasNoFeed l.initial.self.rest.items
-    → IsUnderWay (g.J.RunJudge.accepts l.judge) (course_kept l.initial.self.judged)
+    → IsUnderWay l.head (g.J.RunJudge.accepts l.judge) (course_kept l.initial.self.judged)
     l.initial.self.rest.items l.piece
     (course_kept l.self.judged) l.self.rest.items l.left
 

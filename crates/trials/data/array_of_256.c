@@ -1,0 +1,4 @@
+int a[256];
+int main(void) {
+    return 0;
+}

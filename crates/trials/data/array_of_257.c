@@ -1,0 +1,4 @@
+int a[257];
+int main(void) {
+    return 0;
+}
