@@ -199,7 +199,7 @@ check 'first use: the program runs' ends_with 0
 check 'first use: its text is printed' prints 'the report'
 check 'first use: it has the words' [ "$(cat "$WORDS")" = '<run><p.c><in.txt><--bound><3>' ]
 check 'first use: rt ci is called once, with no names' proofs_are 1
-check 'first use: what it costs is said' complains 'two hours of processor time'
+check 'first use: what it costs is said' complains 'an hour of processor time'
 check 'first use: a look without proof is named' complains "cd '$checkout/crates/bugassist'"
 check 'first use: and how it is called' complains 'rt try --data prog.c='
 check 'first use: without a terminal every fifth crate is told' complains 'bugassist: proved 5 of 13 crates, 0 min'

@@ -83,7 +83,7 @@ set_jobs() {
 }
 
 announce() {
-    say 'proving and building the program: two hours of processor time with nothing proved, a minute with all proved'
+    say 'proving and building the program: an hour of processor time with nothing proved, a minute with all proved'
     say 'for a first look this builds it without proof in two to three minutes, for small programs:'
     say "  cd '$top/crates/bugassist'"
     say '  rt try --data prog.c=/PATH/OF/PROG --data input.txt=/PATH/OF/INPUT -- localise prog.c input.txt --bound 5'

@@ -80,8 +80,9 @@ pub enum Answer {
     BudgetSpent(u64),
     /// The certificate is refused.
     BadCertificate {
-        /// What is wrong: the number of the step's error, from 1 to 14; 20 for a line that is no step's;
-        /// or 21 for a text that ends too early.
+        /// What is wrong: the number of the step's error, from 1 to 14; 20 for a line that has not the form
+        /// of a head line, of settings or of a step, where it has to; 21 for a text that ends too early; or
+        /// 22 for settings that are not those of the call.
         code: u8,
         /// The first refused line, counted from 1.
         line: u64,

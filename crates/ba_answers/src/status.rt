@@ -32,7 +32,7 @@ pub enum Status {
     BadCertificate = 10,
     /// A file could not be read.
     ReadFault = 11,
-    /// A text could not be printed whole.
+    /// A write failed: a text could not be printed whole, or the certificate or the sink of steps refused.
     WriteFault = 12,
     /// There was no memory.
     Memory = 13,

@@ -4,7 +4,7 @@ ghost use Rattle.std.specs.Prelude.{◌≡◌, ◌<◌, ◌≤◌, ◌++◌, ◌
 ghost use Rattle.ba_world.specs.World.{HasWriteFault, Outside};
 ghost use Rattle.ba_cert.specs.declared.head.CertHead.{CertHead};
 ghost use Rattle.ba_steps.specs.Steps.{IsFormed};
-ghost use Rattle.ba_steps.specs.Sinks.{MayAdd, MayAddStep, with_step, with_told};
+ghost use Rattle.ba_steps.specs.Sinks.{MayAdd, MayAddStep, RefusesInTurn, Rose, with_step, with_told};
 ghost use Rattle.ba_cert.specs.Text.{line_of, text_of, with_feed};
 ghost use Rattle.ba_cert.specs.Writing.{AppendsPrefixTo, AppendsTo, Holds, HoldsBeginning, HoldsPrefix, OnlyWritesTo, is_sound, logs_at, no_head, nothing_told, sink_error, steps_at};
 
@@ -47,6 +47,7 @@ pub fn begin_text<W: World>(
         → HasWriteFault (W.outside world.old) (W.outside world.new) }
     ensures stays { OnlyWritesTo name.now (W.outside world.old) (W.outside world.new) }
 {
+    // So these settings have a line.
     is_head(head);
     if let Err(error) = world.begin_file(name) {
         return Err(sink_error(error));
@@ -286,7 +287,35 @@ impl<'a, 'b, W: World, S: Start, D: StepSink> StepSink for CertSink<'a, 'b, W, S
         self.next.begin(formula, softs)
     }
 
-    fn take(&mut self, step: &CertStep) -> Result<(), SinkError> {
+    fn take(&mut self, step: &CertStep) -> Result<(), SinkError>
+        requires formed { IsFormed step.now }
+        ensures told { OnOk result (logs_at self.new.text.head self.new.text.name.now
+            (W.outside self.new.text.world.now) ++ D.logs self.new.next.now
+            ≡ with_step step.now (logs_at self.old.text.head self.old.text.name.now
+            (W.outside self.old.text.world.now) ++ D.logs self.old.next.now)) }
+        ensures refused { OnErr result (MayAddStep step.now
+            (logs_at self.old.text.head self.old.text.name.now
+            (W.outside self.old.text.world.now) ++ D.logs self.old.next.now)
+            (logs_at self.new.text.head self.new.text.name.now
+            (W.outside self.new.text.world.now) ++ D.logs self.new.next.now)) }
+        ensures in_turn { OnErr result (RefusesInTurn step.now
+            (logs_at self.old.text.head self.old.text.name.now
+            (W.outside self.old.text.world.now))
+            (logs_at self.new.text.head self.new.text.name.now
+            (W.outside self.new.text.world.now))
+            (D.logs self.old.next.now) (D.logs self.new.next.now)) }
+        ensures over_stays { D.over self.new.next.now ≡ D.over self.old.next.now }
+        ensures cause { result ≡ Err SinkError.Failed
+            → Rose ((W.outside self.old.text.world.now).write_faults + D.faults self.old.next.now)
+            ((W.outside self.new.text.world.now).write_faults + D.faults self.new.next.now) }
+        ensures no_fall { (W.outside self.old.text.world.now).write_faults
+            + D.faults self.old.next.now
+            ≤ (W.outside self.new.text.world.now).write_faults + D.faults self.new.next.now }
+        ensures same_references { self.new.text.world.ghost_name ∷ self.new.next.ghost_name
+            ∷ D.references self.new.next.now
+            ≡ self.old.text.world.ghost_name ∷ self.old.next.ghost_name
+            ∷ D.references self.old.next.now }
+    {
         self.text.take(step)?;
         self.next.take(step)
     }

@@ -22,8 +22,9 @@ pub(crate) const OTHER_SETTINGS: u8 = 22;
 pub enum CheckError {
     /// The first line that is refused, counted from 1, and its code: the number of the step's error, from
     /// 1 to 14; 20 where the line has no step's form, or is a first line other than both head lines, or
-    /// a second one behind `bugassist 2` that has not the form of settings; 21 where the text ends before
-    /// this line, or inside it, and no step has ended it; 22 where the line names other settings.
+    /// a second one behind `bugassist 2` that has not the form of settings; 21 where the text ends inside
+    /// this line, or before it and before a step that ends the derivation; 22 where the line names other
+    /// settings.
     #[error("line {line} is refused by code {code}")]
     Line { line: u64, code: u8 },
     /// There was no memory.

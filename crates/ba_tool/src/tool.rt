@@ -300,8 +300,8 @@ where
         (told D.over D.logs D.faults steps.old) (told D.over D.logs D.faults steps.new))
         (IsEndOfCheck file) result }
 
-    // No file is written but the certificate of a search, and of each that is read come no more bytes
-    // than its limit and one piece.
+    // No file is written but the certificate of a search, and the files that are read give together no
+    // more bytes than the limit of each and one piece each.
     ensures stays { WritesOnly (cert_of (request_of (map (λ word. word.now) words.now)))
         (W.outside world.old) (W.outside world.new) }
     ensures bounded { (W.outside world.new).given

@@ -2,6 +2,7 @@
 
 use crate::calls::{counted_world, end};
 use crate::certificates::line_behind;
+use crate::programs::{HEAD, OLD_HEAD};
 use ba_answers::status::Status;
 use ba_steps::NoSink;
 use std::alloc::Global;
@@ -104,4 +105,15 @@ fn a_written_certificate_that_is_cut_off_is_refused(rt: HostRuntime) {
 fn a_written_certificate_that_is_changed_is_refused_in_that_line_or_right(rt: HostRuntime) {
     let mut text = certificate(&rt, rt.alloc());
     change(&rt, rt.alloc(), text.as_mut_slice());
+}
+
+#[test]
+fn the_steps_of_a_written_certificate_are_accepted_behind_the_head_of_version_1(rt: HostRuntime) {
+    let written = certificate(&rt, rt.alloc());
+    assert!(rt; written.as_slice().starts_with(HEAD.as_bytes()));
+    let mut text = Vec::from_slice(rt.alloc(), OLD_HEAD.as_bytes()).expect(&rt, "memory");
+    text.extend_from_slice(written.get(HEAD.len()..).unwrap_or(&[])).expect(&rt, "memory");
+    let mut world = counted_world(&rt, rt.alloc(), text.as_slice(), &[]);
+    assert_eq!(rt; end(rt.alloc(), CHECKING, &mut world, &mut NoSink), Status::Ok);
+    assert!(rt; world.inside.printed() == b"accepted: located\n".as_slice());
 }
