@@ -4,3 +4,4 @@ pub mod CertificateLaws
 pub mod TruthLaws
 pub mod CodeLaws
 pub mod ReaderLaws
+pub mod WrittenLaws

@@ -1,16 +1,27 @@
 //! Laws of the definitions, each the clause of a function that does nothing.
 
-ghost use Rattle.std.specs.Prelude.{◌≡◌, ◌↔◌, ◌++◌, ℕ, List, Some};
+ghost use Rattle.std.specs.Prelude.{◌≡◌, ◌<◌, ◌^◌, ◌↔◌, ◌++◌, ℕ, List, Some, length};
 ghost use Rattle.ba_cert.specs.declared.head.CertHead.{CertHead};
+ghost use Rattle.ba_cert.specs.Text.{IsHead, text_of};
 ghost use Rattle.ba_check.specs.Findings.{Accepted, IsCertificateOf, Refused, finding_of, first_refused};
-ghost use Rattle.ba_derivations.specs.Derivations.{Problem, Verdict};
+ghost use Rattle.ba_derivations.specs.Derivations.{DerivesOver, Problem, Verdict};
+ghost use Rattle.ba_steps.specs.declared.step.CertStep.{CertStep};
+ghost use Rattle.ba_tree.specs.Least.{WeightList};
 
 /// A text is accepted with a verdict exactly where it is the text of steps that derive this verdict,
-/// with the settings of the call or of version 1; so
-/// one that is no certificate is refused.
+/// with the settings of the call or of version 1; so one that is no certificate is refused.
 pub fn accepted_law()
     ensures { (h : CertHead) (p : Problem) (text : List ℕ) (verdict : Verdict)
         → (finding_of h p text ≡ Accepted verdict) ↔ IsCertificateOf h p text verdict }
+{}
+
+/// The text of steps that derive a verdict over a faithful encoding is accepted with it. So a
+/// certificate that a search completed is accepted over the formula that it was made over.
+pub fn written_law()
+    ensures { (h : CertHead) (weights : WeightList) (p : Problem) (steps : List CertStep)
+        (verdict : Verdict) → IsHead h → length weights < 2 ^ 32
+        → DerivesOver weights p steps verdict
+        → finding_of h p (text_of h steps) ≡ Accepted verdict }
 {}
 
 /// A line that is refused stays the first one, whatever follows, and is what is found of the text.

@@ -82,6 +82,11 @@ sample_job additions = record {
 abbrev pub sample_texts : ℕ → Texts
 sample_texts additions = record { program = sample_text additions; input = []; weights = [] }
 
+-- whether restarts come at a steady pace; else they follow Luby's sequence, as those of a sample do
+abbrev pub steady_of : Request → Bool
+steady_of (request.Wanted j) = j.steady
+steady_of _ = false
+
 -- a job that searches, where a run fails
 abbrev pub is_search : Task → Bool
 is_search task.Localise = true

@@ -1,6 +1,6 @@
 //! The search for the least sets of a program that fails.
 
-ghost use Rattle.std.specs.Prelude.{◌≡◌, ◌<◌, ◌≤◌, ◌^◌, true, [], Err, IfOk, OnOk, Some, option_map};
+ghost use Rattle.std.specs.Prelude.{◌≡◌, ◌<◌, ◌≤◌, ◌^◌, false, true, [], Err, IfOk, OnOk, Some, option_map};
 ghost use Rattle.ba_cert.specs.Writing.{is_sound, steps_at};
 ghost use Rattle.ba_world.specs.World.{HasWriteFault};
 ghost use Rattle.ba_derivations.specs.declared.verdict.Verdict.{Verdict};
@@ -127,8 +127,10 @@ where
     requires bounds { are_bounds job.now.bounds ≡ true }
     requires case { IsCaseOf texts.now case.now }
     requires searches { Searches job.now texts.now case.now.program }
-    requires luby { IsRestartRule (L.pre rules.luby) (L.post rules.luby) }
-    requires steady { IsRestartRule (G.pre rules.steady) (G.post rules.steady) }
+    requires luby { job.now.steady ≡ false
+        → IsRestartRule (L.pre rules.luby) (L.post rules.luby) }
+    requires steady { job.now.steady ≡ true
+        → IsRestartRule (G.pre rules.steady) (G.post rules.steady) }
     requires keep { IsKeepRule (K.pre rules.keep) (K.post rules.keep) }
     ensures answer { IfOk result (λ answer. HandsAnswer job.now texts.now
         (told D.over D.logs D.faults steps.old) (told D.over D.logs D.faults steps.new) answer) }
@@ -210,8 +212,10 @@ where
     requires bounds { are_bounds job.now.bounds ≡ true }
     requires case { IsCaseOf texts.now case.now }
     requires searches { Searches job.now texts.now case.now.program }
-    requires luby { IsRestartRule (L.pre rules.luby) (L.post rules.luby) }
-    requires steady { IsRestartRule (G.pre rules.steady) (G.post rules.steady) }
+    requires luby { job.now.steady ≡ false
+        → IsRestartRule (L.pre rules.luby) (L.post rules.luby) }
+    requires steady { job.now.steady ≡ true
+        → IsRestartRule (G.pre rules.steady) (G.post rules.steady) }
     requires keep { IsKeepRule (K.pre rules.keep) (K.post rules.keep) }
     ensures answer { IfOk result (λ answer. Concludes job.now texts.now (Some name.now)
         (W.outside world.old) (W.outside world.new)
@@ -260,8 +264,10 @@ where
     requires bounds { are_bounds job.now.bounds ≡ true }
     requires case { IsCaseOf texts.now case.now }
     requires searches { Searches job.now texts.now case.now.program }
-    requires luby { IsRestartRule (L.pre rules.luby) (L.post rules.luby) }
-    requires steady { IsRestartRule (G.pre rules.steady) (G.post rules.steady) }
+    requires luby { job.now.steady ≡ false
+        → IsRestartRule (L.pre rules.luby) (L.post rules.luby) }
+    requires steady { job.now.steady ≡ true
+        → IsRestartRule (G.pre rules.steady) (G.post rules.steady) }
     requires keep { IsKeepRule (K.pre rules.keep) (K.post rules.keep) }
     ensures answer { IfOk result (λ answer. Concludes job.now texts.now job.now.cert
         (W.outside world.old) (W.outside world.new)

@@ -1,6 +1,6 @@
 //! The top call of the program.
 
-ghost use Rattle.std.specs.Prelude.{◌≡◌, ◌⊎◌, ℕ, ◌+◌, ◌*◌, ◌≤◌, true, Err, List, Option, Some, length, map, IfOk, IfErr, ◌<◌, ◌^◌};
+ghost use Rattle.std.specs.Prelude.{◌≡◌, ◌⊎◌, ℕ, ◌+◌, ◌*◌, ◌≤◌, false, true, Err, List, Option, Some, length, map, IfOk, IfErr, ◌<◌, ◌^◌};
 ghost use Rattle.ba_commands.specs.Modes.{Word};
 ghost use Rattle.ba_localise.specs.Verdicts.{told};
 ghost use Rattle.ba_search.specs.Rules.{IsKeepRule, IsRestartRule};
@@ -9,7 +9,7 @@ ghost use Rattle.ba_world.specs.Read.{piece_size};
 ghost use Rattle.ba_world.specs.World.{HasPrintShortage, HasWriteFault, OnlyPrints, Prints, PrintsPrefix};
 ghost use Rattle.ba_tool.specs.Calls.{Comes, EndsWith, HasFaultOf, IsDue, IsEndFor, IsEndOfCheck, IsEndOfSearch, IsShown, Proceeds, Says, Stops, StopsWith, TellsCheck, TellsFailing, WritesOnly, answer_for, call, most_given, most_of, head_by};
 ghost use Rattle.ba_answers.specs.Limits.{limit};
-ghost use Rattle.ba_jobs.specs.Jobs.{cert_of, request_of, written_by};
+ghost use Rattle.ba_jobs.specs.Jobs.{cert_of, request_of, steady_of, written_by};
 ghost use Rattle.ba_answers.specs.Printed.{text_of};
 ghost use Rattle.ba_tree.specs.Run.{are_bounds};
 ghost use Rattle.ba_answers.specs.declared.answers.Answer.{Answer};
@@ -65,8 +65,10 @@ where
     requires input_short { length texts.now.input ≤ limit }
     requires countable { job.now.conflicts < 2 ^ 62 }
     requires bounds { are_bounds job.now.bounds ≡ true }
-    requires luby { IsRestartRule (L.pre rules.luby) (L.post rules.luby) }
-    requires steady { IsRestartRule (G.pre rules.steady) (G.post rules.steady) }
+    requires luby { job.now.steady ≡ false
+        → IsRestartRule (L.pre rules.luby) (L.post rules.luby) }
+    requires steady { job.now.steady ≡ true
+        → IsRestartRule (G.pre rules.steady) (G.post rules.steady) }
     requires keep { IsKeepRule (K.pre rules.keep) (K.post rules.keep) }
     ensures answer { IfOk result (λ answer. Proceeds job.now texts.now
         (W.outside world.old) (W.outside world.new)
@@ -107,8 +109,10 @@ where
     K: Fn(u64, u64) -> bool + Drop,
     requires countable { job.now.conflicts < 2 ^ 62 }
     requires bounds { are_bounds job.now.bounds ≡ true }
-    requires luby { IsRestartRule (L.pre rules.luby) (L.post rules.luby) }
-    requires steady { IsRestartRule (G.pre rules.steady) (G.post rules.steady) }
+    requires luby { job.now.steady ≡ false
+        → IsRestartRule (L.pre rules.luby) (L.post rules.luby) }
+    requires steady { job.now.steady ≡ true
+        → IsRestartRule (G.pre rules.steady) (G.post rules.steady) }
     requires keep { IsKeepRule (K.pre rules.keep) (K.post rules.keep) }
     ensures answer { IfOk result (λ answer. Comes (Request.Wanted job.now)
         (W.outside world.old) (W.outside world.new)
@@ -148,7 +152,6 @@ where
     K: Fn(u64, u64) -> bool + Drop,
     requires few { additions ≤ 500 }
     requires luby { IsRestartRule (L.pre rules.luby) (L.post rules.luby) }
-    requires steady { IsRestartRule (G.pre rules.steady) (G.post rules.steady) }
     requires keep { IsKeepRule (K.pre rules.keep) (K.post rules.keep) }
     ensures answer { IfOk result (λ answer. Comes (Request.Sample additions)
         (W.outside world.old) (W.outside world.new)
@@ -185,8 +188,10 @@ where
     L: Fn(u64) -> u64 + Drop,
     G: Fn(u64) -> u64 + Drop,
     K: Fn(u64, u64) -> bool + Drop,
-    requires luby { IsRestartRule (L.pre rules.luby) (L.post rules.luby) }
-    requires steady { IsRestartRule (G.pre rules.steady) (G.post rules.steady) }
+    requires luby { steady_of (request_of (map (λ word. word.now) words.now)) ≡ false
+        → IsRestartRule (L.pre rules.luby) (L.post rules.luby) }
+    requires steady { steady_of (request_of (map (λ word. word.now) words.now)) ≡ true
+        → IsRestartRule (G.pre rules.steady) (G.post rules.steady) }
     requires keep { IsKeepRule (K.pre rules.keep) (K.post rules.keep) }
     ensures answer { IfOk result (λ answer. Comes (request_of (map (λ word. word.now) words.now))
         (W.outside world.old) (W.outside world.new)
@@ -267,8 +272,10 @@ where
     L: Fn(u64) -> u64 + Drop,
     G: Fn(u64) -> u64 + Drop,
     K: Fn(u64, u64) -> bool + Drop,
-    requires luby { IsRestartRule (L.pre rules.luby) (L.post rules.luby) }
-    requires steady { IsRestartRule (G.pre rules.steady) (G.post rules.steady) }
+    requires luby { steady_of (request_of (map (λ word. word.now) words.now)) ≡ false
+        → IsRestartRule (L.pre rules.luby) (L.post rules.luby) }
+    requires steady { steady_of (request_of (map (λ word. word.now) words.now)) ≡ true
+        → IsRestartRule (G.pre rules.steady) (G.post rules.steady) }
     requires keep { IsKeepRule (K.pre rules.keep) (K.post rules.keep) }
 
     // What the status says of the call: which answer its words and files come to, what was handed

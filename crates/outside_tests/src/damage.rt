@@ -1,8 +1,10 @@
 //! The array example's certificate, as a search writes it, cut off and with bytes that were changed.
 
-use crate::calls::{counted_world, end};
+ghost use Rattle.std.specs.Prelude.{◌<◌};
+
+use crate::calls::{counted_world, end, world_of};
 use crate::certificates::line_behind;
-use crate::programs::{HEAD, OLD_HEAD};
+use crate::programs::{BRANCHES, HEAD, OLD_HEAD};
 use ba_answers::status::Status;
 use ba_steps::NoSink;
 use std::alloc::Global;
@@ -12,6 +14,8 @@ use std::process::Abort;
 const LOCALISING: &[&str] = &["localise", "p.c", "in.txt", "--bound=1", "--cert=c"];
 
 const CHECKING: &[&str] = &["check", "p.c", "in.txt", "c", "--bound=1"];
+
+const CHECKING_OTHER_SETS: &[&str] = &["check", "p.c", "in.txt", "c", "--bound=1", "--sets=9"];
 
 /// Whether an answer tells that the certificate is refused.
 fn is_refusal(printed: &[u8], error: &str) -> bool {
@@ -116,4 +120,22 @@ fn the_steps_of_a_written_certificate_are_accepted_behind_the_head_of_version_1(
     let mut world = counted_world(&rt, rt.alloc(), text.as_slice(), &[]);
     assert_eq!(rt; end(rt.alloc(), CHECKING, &mut world, &mut NoSink), Status::Ok);
     assert!(rt; world.inside.printed() == b"accepted: located\n".as_slice());
+}
+
+/// Writes a certificate, and checks it in pieces of this size, by its own settings and by others.
+fn check_in_pieces(rt: &impl Abort, alloc: Global, piece: usize)
+    requires { 0 < piece }
+{
+    let mut world = world_of(rt, alloc, BRANCHES, "1", &[], piece);
+    assert_eq!(rt; end(alloc, LOCALISING, &mut world, &mut NoSink), Status::Ok);
+    assert_eq!(rt; end(alloc, CHECKING, &mut world, &mut NoSink), Status::Ok);
+    assert!(rt; world.printed().ends_with(b"accepted: located\n"));
+    assert_eq!(rt; end(alloc, CHECKING_OTHER_SETS, &mut world, &mut NoSink), Status::BadCertificate);
+    assert!(rt; world.printed().ends_with(b"refused: certificate, error 22 at line 2\n"));
+}
+
+#[test]
+fn a_certificate_is_read_in_small_pieces(rt: HostRuntime) {
+    check_in_pieces(&rt, rt.alloc(), 1);
+    check_in_pieces(&rt, rt.alloc(), 7);
 }
