@@ -2,6 +2,7 @@
 
 use Rattle.std.proofs.Common.{◌≡◌, ℕ, suc, zero, ◌-◌, ◌<◌, ◌^◌, ◌==◌, false, cond, Option, None, Some, List, [], ◌∷◌, ◌++◌, All, length, refl, sym, ap, ◌∙◌, subst, arith, inl}
 use Rattle.std.proofs.lemmas.Bool.{or_parts}
+use Rattle.std.proofs.lemmas.Bool.Decides.{nat_tests}
 use Rattle.std.proofs.lemmas.List.Elements.{All-cons, All-head, All-nil, All-tail}
 use Rattle.std.proofs.lemmas.Option.{same_Some, slice_get_within}
 use Rattle.std.specs.List.{slice_get}
@@ -35,7 +36,13 @@ entry_within weights k w e = by (slice_get weights k) refl e
 small_number : (weights : WeightList) (n w : ℕ) → length weights < 2 ^ 32 → weight_at weights n ≡ Some w →
     n < 2 ^ 32
 small_number weights zero w few e = omega arith
-small_number weights (suc k) w few e = let within = entry_within weights k w e in omega (arith, within, few)
+small_number weights (suc k) w few e =
+    let some : (suc k == 0) ≡ false = grind (arith, nat_tests) in
+    let same : k ≡ suc k - 1 = omega arith in
+    let entry : entry_of (slice_get weights k) ≡ Some w = ap (λ i. entry_of (slice_get weights i)) same
+    ∙ (ap (λ b. cond b None (entry_of (slice_get weights (suc k - 1)))) (sym some) ∙ e) in
+    let within = entry_within weights k w entry in
+    omega (arith, within, few)
 
 -- the numbers of groups that are relaxable statements have 32 bits
 module _ (weights : WeightList) (softs : List Soft)

@@ -5,39 +5,29 @@
 #![tactic(auto)]
 
 #[cfg(test)]
-mod calls;
+mod cert_lines;
 #[cfg(test)]
-mod certificates;
+mod cert_sinks;
 #[cfg(test)]
-mod counted;
+mod check;
 #[cfg(test)]
-mod damage;
+mod judge;
 #[cfg(test)]
-mod endless;
-#[cfg(test)]
-mod faults;
-#[cfg(test)]
-mod judges;
-#[cfg(test)]
-mod lines;
-#[cfg(test)]
-mod parts;
-#[cfg(test)]
-mod problems;
-#[cfg(test)]
-mod programs;
+mod report;
 #[cfg(test)]
 mod rules;
 #[cfg(test)]
 mod samples;
 #[cfg(test)]
-mod searches;
+mod support;
 #[cfg(test)]
-mod sinks;
+mod text;
 #[cfg(test)]
-mod texts;
+mod tool_damage;
 #[cfg(test)]
-mod verdicts;
+mod tool_faults;
+#[cfg(test)]
+mod tool_searches;
 #[cfg(test)]
 mod weights;
 #[cfg(test)]

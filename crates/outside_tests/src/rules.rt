@@ -2,7 +2,7 @@
 
 ghost use Rattle.std.specs.Prelude.{◌↔◌, ◌≤◌, IsTrue};
 
-use crate::calls::world_of;
+use crate::support::calls::world_of;
 use ba_answers::status::Status;
 use ba_jobs::rules::{Rules, keep, luby, steady};
 use ba_steps::NoSink;
@@ -51,9 +51,21 @@ fn certificate(rt: &impl Abort, alloc: Global, option: &str, exchanged: bool) ->
     let words = ["localise", "p.c", "in.txt", "--bound=1", "--cert=c", option];
     let mut world = world_of(rt, alloc, SQUARE, "5", &[], 4096);
     let status = if exchanged {
-        tool(alloc, &words, &mut world, &mut NoSink, Rules::new(steady, luby, keep))
+        tool(
+            alloc,
+            &words,
+            &mut world,
+            &mut NoSink,
+            Rules::new(steady, luby, keep),
+        )
     } else {
-        tool(alloc, &words, &mut world, &mut NoSink, Rules::new(luby, steady, keep))
+        tool(
+            alloc,
+            &words,
+            &mut world,
+            &mut NoSink,
+            Rules::new(luby, steady, keep),
+        )
     };
     assert_eq!(rt; status, Status::Ok);
     let written = world.file("c").expect(rt, "no certificate");
@@ -85,6 +97,9 @@ fn a_search_that_keeps_few_clauses_lists_the_same_sets(rt: HostRuntime) {
     let words = ["localise", "p.c", "in.txt", "--bound=1"];
     let mut world = world_of(&rt, alloc, SQUARE, "5", &[], 4096);
     let rules = Rules::new(luby, steady, keep_narrow);
-    assert_eq!(rt; tool(alloc, &words, &mut world, &mut NoSink, rules), Status::Ok);
+    assert_eq!(rt;
+        tool(alloc, &words, &mut world, &mut NoSink, rules),
+        Status::Ok
+    );
     assert!(rt; world.printed() == SQUARE_REPORT.as_bytes());
 }

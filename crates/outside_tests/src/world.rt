@@ -2,7 +2,7 @@
 
 ghost use Rattle.std.specs.Prelude.{◌<◌};
 
-use crate::endless::Endless;
+use crate::support::endless::Endless;
 use ba_world::{
     HostWorld, MemoryWorld, ReadFileError, RuntimeFiles, World, WorldError, read_whole,
 };

@@ -1,6 +1,6 @@
 //! Texts of inputs, with the values or the error that each has.
 
-use crate::programs::program_of;
+use crate::support::programs::program_of;
 use ba_inputs::{InputError, read_input};
 use ba_tree::run::Input;
 use std::alloc::Global;

@@ -7,34 +7,30 @@
 #[cfg(test)]
 mod bytes;
 #[cfg(test)]
-mod faults;
+mod guards;
 #[cfg(test)]
-mod guarded;
+mod inline;
 #[cfg(test)]
 mod inputs;
 #[cfg(test)]
+mod interp;
+#[cfg(test)]
+mod items;
+#[cfg(test)]
 mod laws;
+#[cfg(test)]
+mod lex;
 #[cfg(test)]
 mod limits;
 #[cfg(test)]
-mod lists;
-#[cfg(test)]
-mod loops;
-#[cfg(test)]
 mod numbers;
 #[cfg(test)]
-mod parsing;
-#[cfg(test)]
-mod programs;
-#[cfg(test)]
-mod runs;
-#[cfg(test)]
-mod shapes;
-#[cfg(test)]
-mod shown;
+mod parse;
 #[cfg(test)]
 mod support;
 #[cfg(test)]
-mod tokens;
+mod types;
 #[cfg(test)]
 mod units;
+#[cfg(test)]
+mod unroll;

@@ -1,6 +1,6 @@
 //! Each limit reached and passed by one (limits of the profile).
 
-use crate::support::{first_difference, is_answer};
+use crate::support::typing::{first_difference, is_answer};
 use std::alloc::Global;
 use std::panic::Expect;
 use std::process::Abort;

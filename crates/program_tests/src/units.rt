@@ -1,6 +1,6 @@
 //! Programs with their units within some bounds, which were counted by hand.
 
-use crate::programs::program_of;
+use crate::support::programs::program_of;
 use ba_tree::run::Bounds;
 use ba_units::units;
 use std::alloc::Global;

@@ -1,6 +1,6 @@
 //! Lists of constants, whose bits are constants: the values are those that C gives.
 
-use crate::lists::{are_names, are_words, row};
+use crate::support::lists::{are_names, are_words, row};
 use ba_bits::{Cells, bits_of, needed_entries};
 use ba_items::Items;
 use ba_nodes::Nodes;

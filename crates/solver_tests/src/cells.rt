@@ -4,7 +4,7 @@ ghost use Rattle.std.specs.Prelude.{◌≡◌, List, length};
 ghost use Rattle.ba_nodes.specs.declared.Node.{Node};
 ghost use Rattle.ba_cells.specs.Cells.{AreCellsOf};
 
-use crate::support::word;
+use crate::support::words::word;
 use ba_cells::{read_cell, write_cell};
 use ba_nodes::Nodes;
 use ba_words::Word;

@@ -1,7 +1,7 @@
 //! The gates that each circuit takes.
 
-use crate::operators::{Operator, circuit};
-use crate::support::{free_word, word};
+use crate::support::operators::{Operator, circuit};
+use crate::support::words::{free_word, word};
 use ba_nodes::Nodes;
 use std::alloc::Global;
 use std::process::Abort;

@@ -9,51 +9,37 @@ mod arena;
 #[cfg(test)]
 mod bits;
 #[cfg(test)]
-mod borders;
-#[cfg(test)]
 mod cells;
 #[cfg(test)]
 mod checker;
 #[cfg(test)]
-mod conditions;
+mod clauses;
 #[cfg(test)]
-mod costs;
+mod cores;
 #[cfg(test)]
 mod counts;
 #[cfg(test)]
-mod formulas;
+mod encode;
 #[cfg(test)]
-mod gate_formulas;
+mod enumeration;
 #[cfg(test)]
-mod gates;
+mod formula;
 #[cfg(test)]
-mod judge;
+mod learn;
 #[cfg(test)]
-mod learnt;
+mod lits;
 #[cfg(test)]
-mod lists;
+mod muldiv_borders;
 #[cfg(test)]
-mod literals;
+mod muldiv_powers;
 #[cfg(test)]
-mod models;
-#[cfg(test)]
-mod operators;
-#[cfg(test)]
-mod powers;
-#[cfg(test)]
-mod programs;
+mod nodes;
 #[cfg(test)]
 mod search;
 #[cfg(test)]
-mod sets;
-#[cfg(test)]
-mod sinks;
-#[cfg(test)]
-mod sizes;
+mod steps;
 #[cfg(test)]
 mod support;
-#[cfg(test)]
-mod values;
 #[cfg(test)]
 mod watch;
 #[cfg(test)]

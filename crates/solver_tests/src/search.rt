@@ -1,7 +1,7 @@
 //! Tests of the search.
 
-use crate::models::are_assumptions;
-use crate::values::{bits_of, satisfies};
+use crate::support::models::are_assumptions;
+use crate::support::values::{bits_of, satisfies};
 use ba_checker::{Checked, Checker};
 use ba_lits::{Formula, Lit};
 use ba_search::{Answer, Search};

@@ -1,7 +1,7 @@
 //! Values of the circuits at constant words, of which none needs a gate.
 
-use crate::operators::{Operator, at_constants};
-use crate::support::word;
+use crate::support::operators::{Operator, at_constants};
+use crate::support::words::word;
 use ba_nodes::Nodes;
 use ba_numbers::numbers::CType;
 use ba_words::{add_with_carry, convert_word, flip, neg, nonzero, select};

@@ -1,0 +1,126 @@
+//! Searches: what is handed to a sink, and certificates.
+
+use crate::support::calls::{end, world_of};
+use crate::support::programs::{BRANCHES, BRANCHES_REPORT, ONE_ASSIGNMENT};
+use ba_answers::status::Status;
+use ba_cert::{read_line, step_text};
+use ba_steps::{Basis, CertStep, ListSink, NoSink};
+use std::alloc::Global;
+use std::panic::Expect;
+use std::process::Abort;
+
+/// The words of a call that writes a certificate.
+const CERTIFIED: &[&str] = &["localise", "p.c", "in.txt", "--bound=1", "--cert=c"];
+
+fn is_conflict(step: &CertStep) -> bool {
+    matches!(step, CertStep::Learn { .. } | CertStep::Core { .. })
+}
+
+fn is_spent(step: &CertStep) -> bool {
+    matches!(step, CertStep::EndSpent)
+}
+
+#[test]
+fn hands_on_the_steps_that_spend_the_conflicts(rt: HostRuntime) {
+    let alloc = rt.alloc();
+    let mut world = world_of(&rt, alloc, BRANCHES, "1", &[], 4096);
+    let mut steps = ListSink::new(alloc);
+    let words = ["localise", "p.c", "in.txt", "--bound=1", "--conflicts=1"];
+    let ended = end(alloc, &words, &mut world, &mut steps);
+    assert_eq!(rt; ended, Status::BudgetSpent);
+    assert_eq!(rt; steps.over().len(), 1);
+    let conflicts = steps
+        .steps()
+        .iter()
+        .filter(|step| is_conflict(step))
+        .count();
+    let ends = steps.steps().iter().filter(|step| is_spent(step)).count();
+    assert_eq!(rt; conflicts, 1);
+    assert_eq!(rt; ends, 1);
+}
+
+/// Whether formulas and soft literals are the same.
+fn are_same(one: &Basis, other: &Basis) -> bool {
+    let clauses = one.formula.len();
+    if one.softs.as_slice() != other.softs.as_slice()
+        || one.formula.variables() != other.formula.variables()
+        || clauses != other.formula.len()
+    {
+        return false;
+    }
+    for place in 0..clauses {
+        if one.formula.clause(place + 1) != other.formula.clause(place + 1) {
+            return false;
+        }
+    }
+    true
+}
+
+#[test]
+fn hands_on_the_formula_of_the_search(rt: HostRuntime) {
+    let alloc = rt.alloc();
+    let mut world = world_of(&rt, alloc, BRANCHES, "1", &[], 4096);
+    let words = ["localise", "p.c", "in.txt", "--bound=1", "--cert=c"];
+    let mut searched = ListSink::new(alloc);
+    assert_eq!(rt; end(alloc, &words, &mut world, &mut searched), Status::Ok);
+    let words = ["check", "p.c", "in.txt", "c", "--bound=1"];
+    let mut checked = ListSink::new(alloc);
+    assert_eq!(rt; end(alloc, &words, &mut world, &mut checked), Status::Ok);
+    assert!(rt; checked.steps().is_empty());
+    match (searched.over(), checked.over()) {
+        ([one], [other]) => assert!(rt; are_same(one, other)),
+        _ => panic!(rt; "not one formula each"),
+    }
+}
+
+#[test]
+fn writes_the_certificate_before_the_report(rt: HostRuntime) {
+    let alloc = rt.alloc();
+    let mut world = world_of(&rt, alloc, BRANCHES, "1", &[], 4096);
+    let mut steps = ListSink::new(alloc);
+    let ended = end(alloc, CERTIFIED, &mut world, &mut steps);
+    assert_eq!(rt; ended, Status::Ok);
+    assert_eq!(rt; world.printed(), BRANCHES_REPORT.as_bytes());
+    let mut lines = world
+        .file("c")
+        .expect(&rt, "no certificate")
+        .split(|byte| *byte == b'\n');
+    assert_eq!(rt;
+        lines.next().expect(&rt, "no line"),
+        b"bugassist 2".as_slice()
+    );
+    assert_eq!(rt;
+        lines.next().expect(&rt, "no settings"),
+        b"b 1 16 200000 1000".as_slice()
+    );
+    // Each step that was handed on has a line, which is read as it is written, and nothing stands
+    // behind the last.
+    for _ in steps.steps() {
+        let line = lines.next().expect(&rt, "a line lacks");
+        let step = read_line(alloc, line).expect(&rt, "memory");
+        assert!(rt;
+            step_text(alloc, &step)
+                .expect(&rt, "memory")
+                .as_slice()
+                .starts_with(line)
+        );
+    }
+    assert_eq!(rt; lines.next().expect(&rt, "no end"), b"".as_slice());
+    assert!(rt; lines.next().is_none());
+}
+
+/// Asserts that a call that ends before its search begins no certificate.
+fn assert_not_begun(rt: &impl Abort, alloc: Global, program: &str, input: &str, status: Status) {
+    let mut world = world_of(rt, alloc, program, input, &[], 4096);
+    let ended = end(alloc, CERTIFIED, &mut world, &mut NoSink);
+    assert_eq!(rt; ended, status);
+    assert!(rt; world.file("c").is_none());
+}
+
+#[test]
+fn begins_no_certificate_without_a_search(rt: HostRuntime) {
+    let alloc = rt.alloc();
+    assert_not_begun(&rt, alloc, BRANCHES, "0", Status::NotFailing);
+    assert_not_begun(&rt, alloc, BRANCHES, "x", Status::BadInput);
+    assert_not_begun(&rt, alloc, "int", "1", Status::BadProgram);
+}

@@ -1,5 +1,0 @@
-use Rattle.solver_tests.proofs.Assumptions.{clause_assumed}
-use Rattle.solver_tests.proofs.models.are_assumptions.Goals as goal
-
-pub returns : goal.returns
-returns c = λ yes. clause_assumed c.args.variables c.args.lits.now (c.is_clause.ensures.0 yes)
