@@ -1,24 +1,27 @@
 -- Each form of a statement, as the parts that the inliner goes on with.
-use Rattle.std.proofs.Common.{◌≡◌, Bool, true, false, List, [], ◌∷◌, ◌++◌, map, sym, ◌∙◌, ap}
+use Rattle.std.proofs.Common.{◌≡◌, ℕ, Bool, true, false, Option, List, [], ◌∷◌, ◌++◌, map, sym, ◌∙◌, ap}
 use Rattle.std.specs.Global.{Box, Vec}
 use Rattle.ba_code.proofs.Rows.{in_order-append, in_order-one}
 use Rattle.std.proofs.lemmas.List.{map-append}
 use Rattle.ba_code.specs.State.{CodeState}
 use Rattle.ba_inline.specs.Parts.{LoopParts, assign_part, call_stmt_part, context_in_frame, declare_part, init_array_part, loop_now, loop_part, print_part, stmt_part, stmts_part, store_part}
+use Rattle.ba_inline.specs.Switching.{switch_part}
 use Rattle.ba_inline.specs.Worlds.{World, context_with}
 use Rattle.ba_inline.specs.declared.frames.Frame.{Frame}
 use Rattle.ba_numbers.specs.declared.ids.CallId.{CallId}
 use Rattle.ba_numbers.specs.declared.ids.FnId.{FnId}
 use Rattle.ba_numbers.specs.declared.ids.StmtId.{StmtId}
 use Rattle.ba_numbers.specs.declared.ids.VarId.{VarId}
-use Rattle.ba_tree.proofs.Equations.{exec-Assign, exec-Block, exec-CallStmt, exec-Declare, exec-DoWhile, exec-For, exec-Init, exec-InitArray, exec-Print, exec-Store, exec-While}
+use Rattle.ba_numbers.specs.declared.numbers.CType.{CType}
+use Rattle.ba_tree.proofs.Equations.{exec-Assign, exec-Block, exec-CallStmt, exec-Declare, exec-DoWhile, exec-For, exec-Init, exec-InitArray, exec-Print, exec-Store, exec-Switch, exec-While, labelled}
 use Rattle.ba_tree.specs.Acts.{after_part, in_order, then_do}
-use Rattle.ba_tree.specs.Meaning.{Context, and_next, at_path, call_effect, do_loop, exec, exec_all, for_loop, given_elements, print_effect, set_elements}
+use Rattle.ba_tree.specs.Meaning.{Context, and_next, at_path, call_effect, do_loop, exec, exec_all, for_loop, given_elements, given_value, print_effect, set_elements}
 use Rattle.ba_tree.specs.State.{State}
 use Rattle.ba_tree.specs.declared.run.Step.{Step}
 use Rattle.ba_tree.specs.declared.tree.Arg.{Arg}
 use Rattle.ba_tree.specs.declared.tree.Expr.{Expr}
 use Rattle.ba_tree.specs.declared.tree.Program.{Program}
+use Rattle.ba_tree.specs.declared.tree.Start.{Start}
 use Rattle.ba_tree.specs.declared.tree.Stmt.{Stmt}
 use Rattle.ba_tree.specs.declared.tree.Stmt as stmts
 
@@ -86,6 +89,16 @@ module _ (p : Program) (frame : Frame) (stmt : Stmt) (w : World) (path : List St
   form-Print here vec values is is_values = exec-Print (context_in_frame p frame w) path stmt s here vec is
       ∙ ap (λ values. then_do (print_effect (context_in_frame p frame w) path here values s) and_next) (sym
       is_values)
+
+  pub form-Switch : (here : StmtId) (ty : CType) (on : Expr) (vec : Vec Start) (other : Option ℕ) (rows :
+      Vec Stmt)
+      (starts : List Start) (body : List Stmt) → stmt ≡ stmts.Switch here ty on vec other rows
+      → starts ≡ vec.items → body ≡ rows.items
+      → stmt_part p frame stmt w path t s ≡ switch_part p frame here ty on starts other body w path t s
+  form-Switch here ty on vec other rows starts body is is_starts is_body =
+      exec-Switch (context_in_frame p frame w) path stmt s here ty on vec other rows is
+      ∙ (λ i. then_do (given_value (context_in_frame p frame w) path here ty on s)
+      (labelled (context_in_frame p frame w) path (sym is_starts i) other (sym is_body i)))
 
   abbrev parts_with : Bool → StmtId → Expr → Stmt → List Stmt → LoopParts
   parts_with after here when body step = record {

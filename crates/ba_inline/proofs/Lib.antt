@@ -25,4 +25,9 @@ mod Rows
 mod Arms
 mod Started
 mod Parameters
+mod Entering
+mod FlagSteps
+mod EntrySteps
+mod Guarding
+mod Switching
 mod Wholes

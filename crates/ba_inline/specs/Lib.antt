@@ -15,3 +15,6 @@ pub mod Calling
 pub mod Starting
 pub mod Translating
 pub mod Leaving
+pub mod Flags
+pub mod Labels
+pub mod Switching

@@ -152,7 +152,7 @@ continue_label exits = cond exits.continues 2 0
 abbrev pub body_exits : Exits
 body_exits = record { breaks = true; continues = true }
 
--- in its step, and of a whole turn
+-- in its step, of a whole turn, and in the body of a `switch`
 abbrev pub turn_exits : Exits → Exits
 turn_exits exits = record { breaks = true; continues = exits.continues }
 

@@ -14,10 +14,12 @@ use crate::frames::{
     BROKEN, CONTINUED, Frame, RETURNED, Setting, Wanted, break_label, continue_label, in_body,
     in_step,
 };
+use crate::labels::Labels;
 use crate::leaves::{declare, extended};
 use crate::operands::{condition, expression};
 use crate::scope::Scope;
 use crate::simple::{assign, init_array, print, store};
+use crate::switches::switch;
 use ba_code::nodes::{Node, Operand};
 use ba_numbers::ids::StmtId;
 use ba_numbers::numbers::CType;
@@ -27,7 +29,7 @@ use std::alloc::AllocError;
 
 /// The code of a statement.
 #[cycle(inline)]
-fn statement(
+pub fn statement(
     setting: &Setting,
     scope: &Scope,
     frame: Frame,
@@ -88,6 +90,32 @@ fn statement(
             let mut other = Vec::new(setting.alloc);
             optional(setting, scope, frame, path, declared, &mut other, no)?;
             add_branches(out, Operand::Var(to), one, other)
+        }
+        Stmt::Switch {
+            stmt,
+            t,
+            on,
+            starts,
+            other,
+            body,
+        } => {
+            let labels = Labels {
+                stmt: *stmt,
+                t: *t,
+                starts: starts.as_slice(),
+                other: *other,
+            };
+            switch(
+                setting,
+                scope,
+                frame,
+                path,
+                declared,
+                out,
+                &labels,
+                on,
+                body.as_slice(),
+            )
         }
         Stmt::While { stmt, when, body } => {
             let parts = Loop {

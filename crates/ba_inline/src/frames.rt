@@ -16,7 +16,7 @@ pub struct Setting<'a> {
     pub program: &'a Program,
 }
 
-/// Which loop around a statement a `break` leaves, if any, and whether there is one with which a `continue` goes on.
+/// Whether there is a loop or a `switch` around a statement that a `break` leaves, and a loop with which a `continue` goes on.
 #[derive(Clone, Copy)]
 pub struct Exits {
     pub breaks: bool,
@@ -83,7 +83,7 @@ pub fn in_body(frame: Frame) -> Frame
     }
 }
 
-/// Inside the step of a loop: a `continue` would go on with the loop around it.
+/// Inside the step of a loop, or the body of a `switch`: a `continue` goes on with the loop around it.
 pub fn in_step(frame: Frame) -> Frame
     ensures { result ≡ record frame { exits = turn_exits frame.exits } }
 {

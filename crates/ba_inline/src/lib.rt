@@ -11,11 +11,13 @@ mod declared;
 mod emit;
 mod expressions;
 mod frames;
+mod labels;
 mod leaves;
 mod operands;
 mod scope;
 mod simple;
 mod starting;
+mod switches;
 mod whole;
 
 pub use whole::inline;

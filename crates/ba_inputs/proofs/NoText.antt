@@ -4,7 +4,7 @@ use Rattle.ba_tree.specs.Least.{unit_weight, unit_weights}
 use Rattle.ba_tree.specs.declared.tree.Program.{Program}
 use Rattle.ba_tree.specs.declared.tree.StmtInfo.{StmtInfo}
 use Rattle.ba_tree.specs.declared.tree.StmtKind.{StmtKind}
-use Rattle.ba_tree.specs.declared.tree.StmtKind.TheVariants.{Initialiser, Assignment, Store, Condition, Return, Call, Assert}
+use Rattle.ba_tree.specs.declared.tree.StmtKind.TheVariants.{Initialiser, Assignment, Store, Condition, Switch, Return, Call, Assert}
 use Rattle.ba_inputs.specs.Weights.{content_of, statement_weight, weights_in}
 
 no_word : (kind : StmtKind) → statement_weight kind None ≡ unit_weight kind
@@ -12,6 +12,7 @@ no_word Initialiser = refl
 no_word Assignment = refl
 no_word Store = refl
 no_word Condition = refl
+no_word Switch = refl
 no_word Return = refl
 no_word Call = refl
 no_word Assert = refl

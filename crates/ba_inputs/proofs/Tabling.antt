@@ -334,6 +334,7 @@ assert_weight kind.Initialiser said is = absurd (true≢false (sym is))
 assert_weight kind.Assignment said is = absurd (true≢false (sym is))
 assert_weight kind.Store said is = absurd (true≢false (sym is))
 assert_weight kind.Condition said is = absurd (true≢false (sym is))
+assert_weight kind.Switch said is = absurd (true≢false (sym is))
 assert_weight kind.Return said is = absurd (true≢false (sym is))
 assert_weight kind.Call said is = absurd (true≢false (sym is))
 

@@ -9,9 +9,9 @@ use Rattle.ba_numbers.specs.declared.ids.FnId.{FnId}
 use Rattle.ba_numbers.specs.declared.ids.CallId.{CallId}
 use Rattle.ba_numbers.specs.declared.numbers.CType.{CType}
 use Rattle.ba_numbers.specs.declared.numbers.CType.TheVariants.{I32}
-use Rattle.ba_tree.specs.Acts.{give, then_do, fork, after_part, flow_after_body}
+use Rattle.ba_tree.specs.Acts.{give, then_do, fork, after_part, flow_after_body, flow_after_loop}
 use Rattle.ba_tree.specs.State.{State, Ending}
-use Rattle.ba_tree.specs.Meaning.{Context, eval, exec, exec_all, condition, given_value, given_elements, given_element, set_value, set_elements, set_element, call_effect, print_effect, and_next, assert_that, declare, for_loop, do_loop, in_turn, type_of, variable_of}
+use Rattle.ba_tree.specs.Meaning.{Context, eval, exec, exec_all, condition, given_value, given_elements, given_element, set_value, set_elements, set_element, call_effect, print_effect, and_next, assert_that, declare, for_loop, do_loop, label_at, entered, in_turn, type_of, variable_of}
 use Rattle.ba_tree.specs.declared.run.Exit.{Exit}
 use Rattle.ba_tree.specs.declared.run.Exit.TheVariants.{Break, Continue, Return}
 use Rattle.ba_tree.specs.declared.run.Flow.{Flow}
@@ -19,9 +19,14 @@ use Rattle.ba_tree.specs.declared.run.Flow.TheVariants.{Next, Leaves}
 use Rattle.ba_tree.specs.declared.run.Step.{Step}
 use Rattle.ba_tree.specs.declared.tree.Arg.{Arg}
 use Rattle.ba_tree.specs.declared.tree.Expr.{Expr}
+use Rattle.ba_tree.specs.declared.tree.Start.{Start}
 use Rattle.ba_tree.specs.declared.tree.Stmt.{Stmt}
 use Rattle.ba_tree.specs.declared.tree.Stmt as stmts
-use Rattle.ba_tree.proofs.Equations.{otherwise, exec-Block, exec-Declare, exec-Init, exec-InitArray, exec-Assign, exec-Store, exec-If, exec-While, exec-DoWhile, exec-For, exec-Break, exec-Continue, exec-Return, exec-ReturnNone, exec-CallStmt, exec-Print, exec-Assert}
+use Rattle.ba_tree.specs.declared.tree.Stmt.TheOpen.{Stmt-F}
+use Rattle.ba_tree.specs.declared.tree.Stmt.TheFolds.{fold-roll-Stmt}
+use Rattle.ba_tree.specs.Heights.{height, height_step, heights, weight}
+use Rattle.ba_tree.proofs.Falling.{entered-below}
+use Rattle.ba_tree.proofs.Equations.{otherwise, labelled, exec-Block, exec-Declare, exec-Init, exec-InitArray, exec-Assign, exec-Store, exec-If, exec-Switch, exec-While, exec-DoWhile, exec-For, exec-Break, exec-Continue, exec-Return, exec-ReturnNone, exec-CallStmt, exec-Print, exec-Assert}
 use Rattle.ba_interp.specs.Doing.{Did}
 use Rattle.ba_interp.specs.Loops.{LoopParts, for_loop_at, do_loop_at, for_rounds, do_rounds, test_at, turn_at}
 use Rattle.ba_interp.specs.Settings.{context_at, given_at}
@@ -51,6 +56,40 @@ module _ (x : Context) (parts : LoopParts) (inside : List Step) (s : State) wher
       (λ flow. after_part (exec_all x inside parts.step) (flow_after_body flow))
   unfolding turn_at
   turn-parts = record { is = refl }
+
+-- THE BODY OF A SWITCH
+
+-- what is executed of it, from the label that its value has
+pub part-is : (starts xs : List Start) (z : ℤ) (other label : Option ℕ) (body ys part : List Stmt) → xs ≡
+    starts
+    → ys ≡ body → label ≡ label_at xs z other → part ≡ entered label ys
+    → part ≡ entered (label_at starts z other) body
+part-is starts xs z other label body ys part at_xs at_ys at_label is = is
+    ∙ (λ i. entered (at_label i) (at_ys i))
+    ∙ ap (λ xs. entered (label_at xs z other) body) at_xs
+
+-- and it is no higher than the whole body
+pub switch-below : (e : Stmt) (here : StmtId) (t : CType) (on : Expr) (starts : Vec Start) (other label :
+    Option ℕ)
+    (body : Vec Stmt) (part : List Stmt) → e ≡ stmts.Switch here t on starts other body
+    → part ≡ entered label body.items → heights part + 1 < height e
+unfolding stmts.roll-Stmt denote.Hole.Carrier.roll
+switch-below e here t on starts other label body part is part_is =
+    let whole : height e ≡ weight on + heights body.items + 6 = ap height is
+    ∙ fold-roll-Stmt ℕ height_step (Stmt-F.Switch here t on starts other body) in
+    let inside : heights part ≤ heights body.items = subst (λ part. heights part ≤ heights body.items) (sym
+    part_is)
+    (entered-below height label body.items) in
+    omega (arith, whole, inside)
+
+module _ (x : Context) (path : List Step) (s : State) where
+  pub labelled-parts : (starts : List Start) (other : Option ℕ) (body part : List Stmt) (z : ℤ)
+      → part ≡ entered (label_at starts z other) body
+      → IsThen (labelled x path starts other body z s) (exec_all x path part s)
+      (λ flow. give (flow_after_loop flow))
+  labelled-parts starts other body part z is = record {
+    is = ap (λ part. then_do (exec_all x path part s) (λ flow. give (flow_after_loop flow))) (sym is);
+  }
 
 -- STATEMENTS
 
@@ -121,6 +160,14 @@ module _ (w : Setting) (f : Frame) (path : List Step) (s : State) where
         → IsThen (exec (context_at w f) e path s) (given_at (context_at w f) path here wanted.Truth when s)
         (fork (exec (context_at w f) a.value path) (otherwise (context_at w f) path b))
     if-parts here when a b is = record { is = exec-If (context_at w f) path e s here when a b is }
+
+    pub switch-parts : (here : StmtId) (t : CType) (on : Expr) (starts : Vec Start) (other : Option ℕ)
+        (body : Vec Stmt) → e ≡ stmts.Switch here t on starts other body
+        → IsThen (exec (context_at w f) e path s) (given_at (context_at w f) path here (wanted.Value t) on s)
+        (labelled (context_at w f) path starts.items other body.items)
+    switch-parts here t on starts other body is = record {
+      is = exec-Switch (context_at w f) path e s here t on starts other body is;
+    }
 
     pub while-is : (parts : LoopParts) (here : StmtId) (when : Expr) (body : Box Stmt)
         → e ≡ stmts.While here when body

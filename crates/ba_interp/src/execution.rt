@@ -19,7 +19,7 @@ use crate::stop::Stop;
 use crate::values::{is_zero, operate, truth_of};
 use ba_numbers::ids::{CallId, FnId, StmtId, VarId};
 use ba_numbers::numbers::{CType, apply_one, convert};
-use ba_tree::lookup::{function_of, variable_of};
+use ba_tree::lookup::{entered, function_of, label_at, variable_of};
 use ba_tree::run::{Argument, Exit, Flow, Halt, Step};
 use ba_tree::tree::{Arg, Expr, Stmt};
 
@@ -439,6 +439,20 @@ fn exec(
             } else {
                 exec(setting, frame, path, machine, yes)
             }
+        }
+        Stmt::Switch {
+            stmt,
+            t,
+            on,
+            starts,
+            other,
+            body,
+        } => {
+            let value = given(setting, frame, path, *stmt, Wanted::Value(*t), machine, on)?;
+            let label = label_at(starts.as_slice(), value, *other);
+            let part = entered(label, body.as_slice());
+            let flow = exec_all(setting, frame, path, machine, part)?;
+            Ok(flow_after_loop(flow))
         }
         Stmt::While { stmt, when, body } => {
             let parts = Loop {

@@ -24,7 +24,7 @@ pub fn flow_after_body(flow: Flow<Exit>) -> Flow<Exit>
     }
 }
 
-/// How a loop ends that was left like this: behind a `break` as behind its end.
+/// How a loop or a `switch` ends that was left like this: behind a `break` as behind its end.
 pub fn flow_after_loop(flow: Flow<Exit>) -> Flow<Exit>
     ensures { result ≡ flow_after_loop flow }
 {

@@ -1,6 +1,6 @@
 -- Expressions, statements, calls and whole runs replay.
 use Rattle.std.proofs.Common.{◌≡◌, suc, zero, ℕ, ◌+◌, ℤ, pos, false, Option, None, Some, Result, Ok, Err, List, [], ◌∷◌, map, refl, sym, ◌∙◌, ap, subst}
-use Rattle.std.specs.Prelude.{length, ◌++◌, unwrap_or}
+use Rattle.std.specs.Prelude.{drop, length, ◌++◌, unwrap_or}
 use Rattle.ba_numbers.specs.Numbers.{value_of, value_of_one, converted}
 use Rattle.ba_numbers.specs.declared.ids.StmtId.{StmtId}
 use Rattle.ba_numbers.specs.declared.ids.VarId.{VarId}
@@ -12,7 +12,7 @@ use Rattle.ba_choices.specs.declared.Choice.{Choice}
 use Rattle.ba_tree.specs.Acts.{then_do, flow_after_body, flow_after_loop}
 use Rattle.ba_tree.specs.State.{State, Act, Ending, Execution, value_at, location_of, elements_of, element_at}
 use Rattle.ba_tree.specs.Choices.{one_value, one_truth, all_elements, one_element, no_value}
-use Rattle.ba_tree.specs.Meaning.{Calls, Context, variable_of, type_of, eval, eval_arg, exec, exec_all, arg_step, expr_step, stmt_step, or_trap, truth_of, given_value, given_elements, given_element, condition, call_effect, print_effect, set_value, set_elements, set_element, declare, in_turn, turn_of, no_step, for_loop, do_loop, test_behind, stmts_in_order}
+use Rattle.ba_tree.specs.Meaning.{Calls, Context, variable_of, type_of, eval, eval_arg, exec, exec_all, arg_step, expr_step, stmt_step, or_trap, truth_of, given_value, given_elements, given_element, condition, call_effect, print_effect, set_value, set_elements, set_element, declare, in_turn, turn_of, no_step, for_loop, do_loop, test_behind, label_at, entered, stmts_in_order}
 use Rattle.ba_tree.specs.declared.run.Allowed.{Allowed}
 use Rattle.ba_tree.specs.declared.run.Argument.{Argument}
 use Rattle.ba_tree.specs.declared.run.Exit.{Exit}
@@ -274,6 +274,18 @@ module _ (p : Program) (turns : ℕ) where
         → Replays p (λ x. stmts_in_order path (map (exec (context x)) (map (λ s. s.0) stmts)))
     inner_stmts = replays_stmts_of (λ x. exec (context x)) (λ s. s.0) (λ s. s.1)
 
+    -- what is executed of a body, behind so many statements, or from a label on
+    inner_behind : (path : List Step) (at : ℕ) (stmts : List InnerStmt)
+        → Replays p (λ x. stmts_in_order path (drop at (map (exec (context x)) (map (λ s. s.0) stmts))))
+    inner_behind path zero stmts = inner_stmts path stmts
+    inner_behind path (suc at) [] = inner_stmts path []
+    inner_behind path (suc at) (s ∷ stmts) = inner_behind path at stmts
+
+    inner_entered : (path : List Step) (label : Option ℕ) (stmts : List InnerStmt)
+        → Replays p (λ x. stmts_in_order path (entered label (map (exec (context x)) (map (λ s. s.0) stmts))))
+    inner_entered path None stmts = inner_stmts path []
+    inner_entered path (Some at) stmts = inner_behind path at stmts
+
     stmt_form : (y : Stmt-F InnerStmt) (path : List Step) → Replays p (λ x. stmt_in x (bare_stmt y) path)
     stmt_form (Stmt-F.Block body) path = inner_stmts path body.items
     stmt_form (Stmt-F.Declare var) path =
@@ -294,6 +306,9 @@ module _ (p : Program) (turns : ℕ) where
         replays_then (replays_condition path here when) (replays_fork (a.value.1 path) (replays_give Next))
     stmt_form (Stmt-F.If here when a (Some b)) path =
         replays_then (replays_condition path here when) (replays_fork (a.value.1 path) (b.value.1 path))
+    stmt_form (Stmt-F.Switch here t on starts other body) path = replays_then (replays_value path here t on)
+        (λ z. replays_then (inner_entered path (label_at starts.items z other) body.items)
+        (λ flow. replays_give (flow_after_loop flow)))
     stmt_form (Stmt-F.While here when body) path =
         replays_for path here when (λ x. exec (context x) body.value.0) (λ x. no_step) body.value.1
         (λ inside. replays_give Next)

@@ -15,7 +15,7 @@ use Rattle.ba_tree.specs.Least.{stmt_of}
 use Rattle.ba_tree.specs.declared.tree.Program.{Program}
 use Rattle.ba_tree.specs.declared.tree.StmtInfo.{StmtInfo}
 use Rattle.ba_tree.specs.declared.tree.StmtKind.{StmtKind}
-use Rattle.ba_tree.specs.declared.tree.StmtKind.TheVariants.{Initialiser, Assignment, Store, Condition, Return, Call, Assert}
+use Rattle.ba_tree.specs.declared.tree.StmtKind.TheVariants.{Initialiser, Assignment, Store, Condition, Switch, Return, Call, Assert}
 
 -- the word for a kind of statement
 abbrev pub kind_word : StmtKind → List ℕ
@@ -23,6 +23,7 @@ kind_word Initialiser = codes "initialiser"
 kind_word Assignment = codes "assignment"
 kind_word Store = codes "store"
 kind_word Condition = codes "condition"
+kind_word Switch = codes "switch"
 kind_word Return = codes "return"
 kind_word Call = codes "call"
 kind_word Assert = codes "assert"

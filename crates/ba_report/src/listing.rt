@@ -24,6 +24,7 @@ fn kind_word(kind: StmtKind) -> &'static [u8]
         StmtKind::Assignment => b"assignment",
         StmtKind::Store => b"store",
         StmtKind::Condition => b"condition",
+        StmtKind::Switch => b"switch",
         StmtKind::Return => b"return",
         StmtKind::Call => b"call",
         StmtKind::Assert => b"assert",

@@ -1,5 +1,6 @@
 -- What each form of an expression and of a statement does, one equation a form.
-use Rattle.std.proofs.Common.{◌≡◌, ℤ, pos, Option, Ok, List, [], ◌∷◌, map, ◌∙◌, ap}
+use Rattle.std.proofs.Common.{◌≡◌, ℤ, pos, Option, Ok, List, [], ◌∷◌, map, ℕ, refl, ◌∙◌, ap}
+use Rattle.std.proofs.lemmas.List.{drop-map}
 use Rattle.std.specs.Prelude.{unwrap_or}
 use Rattle.std.specs.Global.{Box, Vec}
 use Rattle.ba_numbers.specs.Numbers.{value_of, value_of_one, converted}
@@ -11,9 +12,9 @@ use Rattle.ba_numbers.specs.declared.numbers.CType.{CType}
 use Rattle.ba_numbers.specs.declared.numbers.CType.TheVariants.{I32}
 use Rattle.ba_numbers.specs.declared.numbers.BinOp.{BinOp}
 use Rattle.ba_numbers.specs.declared.numbers.UnOp.{UnOp}
-use Rattle.ba_tree.specs.Acts.{give, then_do, each, fork, after_part}
+use Rattle.ba_tree.specs.Acts.{give, then_do, each, fork, after_part, flow_after_loop}
 use Rattle.ba_tree.specs.State.{State, Act, Execution, value_at, location_of, element_at}
-use Rattle.ba_tree.specs.Meaning.{Context, eval, eval_arg, expr_step, arg_step, or_trap, truth_of, exec, exec_all, stmt_step, condition, given_value, given_elements, given_element, set_value, set_elements, set_element, call_effect, print_effect, and_next, assert_that, declare, for_loop, do_loop, type_of, variable_of}
+use Rattle.ba_tree.specs.Meaning.{Context, eval, eval_arg, expr_step, arg_step, or_trap, truth_of, exec, exec_all, stmt_step, condition, given_value, given_elements, given_element, set_value, set_elements, set_element, call_effect, print_effect, and_next, assert_that, declare, for_loop, do_loop, label_at, entered, stmts_in_order, type_of, variable_of}
 use Rattle.ba_tree.specs.declared.run.Argument.{Argument}
 use Rattle.ba_tree.specs.declared.run.Exit.TheVariants.{Break, Continue, Return}
 use Rattle.ba_tree.specs.declared.run.Flow.TheVariants.{Next, Leaves}
@@ -25,6 +26,7 @@ use Rattle.ba_tree.specs.declared.tree.Expr.{Expr}
 use Rattle.ba_tree.specs.declared.tree.Expr as tree
 use Rattle.ba_tree.specs.declared.tree.Arg.TheOpen.{Arg-F, Expr-F}
 use Rattle.ba_tree.specs.declared.tree.Arg.TheFolds.{fold-roll-Arg, fold-roll-Expr}
+use Rattle.ba_tree.specs.declared.tree.Start.{Start}
 use Rattle.ba_tree.specs.declared.tree.Stmt.{Stmt}
 use Rattle.ba_tree.specs.declared.tree.Stmt as stmts
 use Rattle.ba_tree.specs.declared.tree.Stmt.TheOpen.{Stmt-F}
@@ -114,6 +116,17 @@ abbrev pub otherwise : Context → List Step → Option (Box Stmt) → Execution
 otherwise x path Option.None s = (Ok Next, s)
 otherwise x path (Option.Some part) s = exec x part.value path s
 
+-- what is entered of a row that is mapped
+pub entered-map : {A B : Type 0} (f : A → B) (label : Option ℕ) (parts : List A)
+    → entered label (map f parts) ≡ map f (entered label parts)
+entered-map f Option.None parts = refl
+entered-map f (Option.Some at) parts = drop-map f at parts
+
+-- the body of a `switch` from the label of this value on
+abbrev pub labelled : Context → List Step → List Start → Option ℕ → List Stmt → ℤ → Execution
+labelled x path starts other body z s =
+    then_do (exec_all x path (entered (label_at starts z other) body) s) (λ flow. give (flow_after_loop flow))
+
 module _ (x : Context) (path : List Step) (e : Stmt) (s : State) where
   pub exec-Block : (body : Vec Stmt) → e ≡ stmts.Block body
       → exec x e path s ≡ exec_all x path body.items s
@@ -158,6 +171,20 @@ module _ (x : Context) (path : List Step) (e : Stmt) (s : State) where
       ∙ ap (λ (f : List Step → Execution). f path s) (fold-roll-Stmt (List Step → Execution) (stmt_step x) (Stmt-F.If here when a Option.None))
   exec-If here when a (Option.Some b) is = ap (λ e. exec x e path s) is
       ∙ ap (λ (f : List Step → Execution). f path s) (fold-roll-Stmt (List Step → Execution) (stmt_step x) (Stmt-F.If here when a (Option.Some b)))
+
+  pub exec-Switch : (here : StmtId) (t : CType) (on : Expr) (starts : Vec Start) (other : Option ℕ) (body :
+      Vec Stmt)
+      → e ≡ stmts.Switch here t on starts other body
+      → exec x e path s ≡ then_do (given_value x path here t on s) (labelled x path starts.items other
+      body.items)
+  unfolding exec exec_all stmts.roll-Stmt denote.Hole.Carrier.roll
+  exec-Switch here t on starts other body is = ap (λ e. exec x e path s) is
+      ∙ ap (λ (f : List Step → Execution). f path s)
+      (fold-roll-Stmt (List Step → Execution) (stmt_step x) (Stmt-F.Switch here t on starts other body))
+      ∙ (λ i. then_do (given_value x path here t on s)
+      (λ z s. then_do (stmts_in_order path (entered-map (exec x) (label_at starts.items z other) body.items
+      i) s)
+      (λ flow. give (flow_after_loop flow))))
 
   pub exec-While : (here : StmtId) (when : Expr) (body : Box Stmt) → e ≡ stmts.While here when body
       → exec x e path s ≡ for_loop x path here when (exec x body.value) (λ inside. exec_all x inside []) s
@@ -219,4 +246,4 @@ module _ (x : Context) (path : List Step) (e : Stmt) (s : State) where
   exec-Assert here when is = ap (λ e. exec x e path s) is
       ∙ ap (λ (f : List Step → Execution). f path s) (fold-roll-Stmt (List Step → Execution) (stmt_step x) (Stmt-F.Assert here when))
 
-pub ruleset equations = (eval-Const, eval-Var, eval-Element, eval-Unary, eval-Binary, eval-AndAlso, eval-OrElse, eval-Select, eval-Convert, eval-Call, eval_arg-Value, eval_arg-Array, exec-Block, exec-Declare, exec-Init, exec-InitArray, exec-Assign, exec-Store, exec-If, exec-While, exec-DoWhile, exec-For, exec-Break, exec-Continue, exec-Return, exec-ReturnNone, exec-CallStmt, exec-Print, exec-Assert)
+pub ruleset equations = (eval-Const, eval-Var, eval-Element, eval-Unary, eval-Binary, eval-AndAlso, eval-OrElse, eval-Select, eval-Convert, eval-Call, eval_arg-Value, eval_arg-Array, exec-Block, exec-Declare, exec-Init, exec-InitArray, exec-Assign, exec-Store, exec-If, exec-Switch, exec-While, exec-DoWhile, exec-For, exec-Break, exec-Continue, exec-Return, exec-ReturnNone, exec-CallStmt, exec-Print, exec-Assert)

@@ -1,5 +1,6 @@
 -- What there is to say of each form of an expression and of a statement, one equation a form.
-use Rattle.std.proofs.Common.{◌≡◌, ◌&&◌, ◌++◌, ℤ, true, Option, List, [], ◌∷◌, map, ◌∙◌, ap}
+use Rattle.std.proofs.Common.{◌≡◌, ◌&&◌, ◌++◌, ℕ, ℤ, Bool, true, Option, List, [], ◌∷◌, map, length, ◌∙◌, ap}
+use Rattle.std.proofs.lemmas.List.{length-map}
 use Rattle.std.specs.Prelude.{unwrap_or}
 use Rattle.std.specs.Option.{is_some}
 use Rattle.std.specs.Global.{Box, Vec}
@@ -12,7 +13,7 @@ use Rattle.ba_numbers.specs.declared.numbers.BinOp.{BinOp}
 use Rattle.ba_numbers.specs.declared.numbers.CType.{CType}
 use Rattle.ba_numbers.specs.declared.numbers.UnOp.{UnOp}
 use Rattle.ba_numbers.specs.declared.numbers.CType.TheVariants.{I32}
-use Rattle.ba_tree.specs.Facts.{ArgFacts, ExprFacts, StmtFacts, are_simple, arg_facts, arg_facts_step, around, as_loop, calling, expr_facts, expr_facts_step, fits_array, fits_right, fits_type, givens, has_variable, holds, initialising, is_array, is_call, is_own_array, is_value, leaf_facts, naming, numbered, operator_facts, result_at, shape_at, stmt_facts, stmt_facts_step, type_at, with_call, with_variable}
+use Rattle.ba_tree.specs.Facts.{ArgFacts, ExprFacts, StmtFacts, are_labels, are_simple, arg_facts, arg_facts_step, around, as_loop, as_switch, calling, expr_facts, expr_facts_step, fits_array, fits_right, fits_type, givens, has_variable, holds, initialising, is_array, is_call, is_own_array, is_value, leaf_facts, naming, numbered, operator_facts, result_at, shape_at, stmt_facts, stmt_facts_step, type_at, with_call, with_variable}
 use Rattle.ba_numbers.specs.Types.{is_promoted, same_type, type_of_binary, type_of_unary}
 use Rattle.ba_tree.specs.declared.tree.Arg.{Arg}
 use Rattle.ba_tree.specs.declared.tree.Arg as arg
@@ -22,6 +23,7 @@ use Rattle.ba_tree.specs.declared.tree.Arg.TheOpen.{Arg-F, Expr-F}
 use Rattle.ba_tree.specs.declared.tree.Arg.TheFolds.{fold-roll-Arg, fold-roll-Expr}
 use Rattle.ba_tree.specs.declared.tree.Function.{Function}
 use Rattle.ba_tree.specs.declared.tree.Parts.{Parts}
+use Rattle.ba_tree.specs.declared.tree.Start.{Start}
 use Rattle.ba_tree.specs.declared.tree.Stmt.{Stmt}
 use Rattle.ba_tree.specs.declared.tree.Stmt as stmts
 use Rattle.ba_tree.specs.declared.tree.Stmt.TheOpen.{Stmt-F}
@@ -182,6 +184,21 @@ module _ (p : Parts) (f : Function) (s : Stmt) where
   stmt_facts-If stmt when a (Option.Some b) is = ap (stmt_facts p f) is
       ∙ fold-roll-Stmt StmtFacts (stmt_facts_step p f) (Stmt-F.If stmt when a (Option.Some b))
 
+  -- a `switch` over an expression that is as it should be
+  abbrev switch_facts : StmtId → CType → ExprFacts → Bool → List StmtFacts → StmtFacts
+  switch_facts stmt t e labels parts = as_switch (around
+      (leaf_facts (numbered stmt kind.Switch) (e ∷ []) (is_promoted t && fits_type t e && labels)) parts)
+
+  pub stmt_facts-Switch : (stmt : StmtId) (t : CType) (on : Expr) (starts : Vec Start) (other : Option ℕ)
+      (body : Vec Stmt) → s ≡ stmts.Switch stmt t on starts other body
+      → stmt_facts p f s ≡ switch_facts stmt t (expr_facts p on)
+      (are_labels t (length body.items) starts.items other) (map (stmt_facts p f) body.items)
+  unfolding stmt_facts stmts.roll-Stmt denote.Hole.Carrier.roll
+  stmt_facts-Switch stmt t on starts other body is = ap (stmt_facts p f) is
+      ∙ fold-roll-Stmt StmtFacts (stmt_facts_step p f) (Stmt-F.Switch stmt t on starts other body)
+      ∙ ap (λ n. switch_facts stmt t (expr_facts p on) (are_labels t n starts.items other)
+      (map (stmt_facts p f) body.items)) (length-map body.items (stmt_facts p f))
+
   pub stmt_facts-While : (stmt : StmtId) (when : Expr) (body : Box Stmt) → s ≡ stmts.While stmt when body
       → stmt_facts p f s ≡ as_loop (around (leaf_facts (numbered stmt kind.Condition) (expr_facts p when ∷
       []) true)
@@ -209,12 +226,12 @@ module _ (p : Parts) (f : Function) (s : Stmt) where
       (stmt_facts_step p f) (Stmt-F.For stmt first when step body)
 
   pub stmt_facts-Break : s ≡ stmts.Break
-      → stmt_facts p f s ≡ record (leaf_facts [] [] true) { leaves_loop = true }
+      → stmt_facts p f s ≡ record (leaf_facts [] [] true) { breaks = true }
   unfolding stmt_facts stmts.roll-Stmt denote.Hole.Carrier.roll
   stmt_facts-Break is = ap (stmt_facts p f) is ∙ fold-roll-Stmt StmtFacts (stmt_facts_step p f) Stmt-F.Break
 
   pub stmt_facts-Continue : s ≡ stmts.Continue
-      → stmt_facts p f s ≡ record (leaf_facts [] [] true) { leaves_loop = true }
+      → stmt_facts p f s ≡ record (leaf_facts [] [] true) { continues = true }
   unfolding stmt_facts stmts.roll-Stmt denote.Hole.Carrier.roll
   stmt_facts-Continue is = ap (stmt_facts p f) is ∙ fold-roll-Stmt StmtFacts (stmt_facts_step p f)
       Stmt-F.Continue

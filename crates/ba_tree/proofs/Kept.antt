@@ -105,7 +105,8 @@ pub record IsFitFunction (p : Parts) (is_main : Bool) (f : Function) : Type 0 wh
   pub locals : list_all (λ v. holds is_own_shape (shape_at p v)) f.locals ≡ true
   pub sound : (body_facts p f).is_sound ≡ true
   pub deep : nat_le (body_facts p f).depth 101 ≡ true
-  pub stays : not (body_facts p f).leaves_loop ≡ true
+  pub no_break : not (body_facts p f).breaks ≡ true
+  pub no_continue : not (body_facts p f).continues ≡ true
   pub named : list_all (has_variable (p.globals ++ f.params ++ f.locals)) (body_facts p f).variables ≡ true
 
 pub fit-function : (p : Parts) (is_main : Bool) (f : Function) → is_function p is_main f ≡ true →
@@ -117,7 +118,17 @@ fit-function p is_main f h =
     let d = both _ _ c.0 in
     let e = both _ _ d.0 in
     let g = both _ _ e.0 in
-    record { few = g.0; params = g.1; locals = e.1; sound = d.1; deep = c.1; stays = b.1; named = a.1 }
+    let i = both _ _ g.0 in
+    record {
+      few = i.0;
+      params = i.1;
+      locals = g.1;
+      sound = e.1;
+      deep = d.1;
+      no_break = c.1;
+      no_continue = b.1;
+      named = a.1;
+    }
 
 -- each function meets its constraint
 functions-at : (p : Parts) (k : ℕ) (fs : List Function) (i : ℕ) (d : Function) → are_functions p k fs ≡

@@ -51,7 +51,7 @@ abbrev pub in_order : {S E : Type 0} → List (Executes S E) → Executes S E
 in_order [] s = (Ok Next, s)
 in_order (part ∷ parts) s = then_do (part s) (after_part (in_order parts))
 
--- LOOPS (C90 6.6.5)
+-- LOOPS (C90 6.6.5) AND SWITCHES (C90 6.6.4.2)
 
 -- a `continue` goes on behind the body (C90 6.6.6.2)
 abbrev pub flow_after_body : Flow Exit → Flow Exit
@@ -60,7 +60,7 @@ flow_after_body (Leaves Break) = Leaves Break
 flow_after_body (Leaves (Return z)) = Leaves (Return z)
 flow_after_body Next = Next
 
--- a `break` goes on behind the loop (C90 6.6.6.3)
+-- a `break` goes on behind the loop or the `switch` (C90 6.6.6.3)
 abbrev pub flow_after_loop : Flow Exit → Flow Exit
 flow_after_loop (Leaves Break) = Next
 flow_after_loop (Leaves Continue) = Leaves Continue

@@ -90,7 +90,7 @@ value_by_choice admitted fitting written s = then_do (choice_at admitted s) (as_
 
 -- WHAT FITS: the values of Take for each kind of statement
 
--- an initialiser, an assignment, a return: one value of the type
+-- an initialiser, an assignment, a return, the controlling expression of a `switch`: one value of the type
 abbrev pub one_value : CType → List ℤ → Option ℤ
 one_value t [] = None
 one_value t (z ∷ []) = cond (is_in t z) (Some z) None

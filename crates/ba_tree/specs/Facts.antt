@@ -1,9 +1,10 @@
 -- What each program keeps: the constraints of C (C90 6.1.2, 6.3, 6.5 to 6.7) and the limits that have been tested.
 
-use Rattle.std.specs.Prelude.{ℕ, ◌+◌, ◌-◌, nat_le, nat_lt, Bool, true, false, not, ◌&&◌, ◌==◌, cond, max, Option, None, Some, option_map, option_and_then, unwrap_or, suc, List, [], ◌∷◌, ◌++◌, map, flat_map, length, slice_get, slice_index_or, sum_by}
+use Rattle.std.specs.Prelude.{ℕ, ℤ, ◌+◌, ◌-◌, nat_le, nat_lt, Bool, true, false, not, ◌&&◌, ◌==◌, cond, max, Option, None, Some, option_map, option_and_then, unwrap_or, suc, List, [], ◌∷◌, ◌++◌, map, flat_map, length, slice_get, slice_index_or, sum_by}
 use Rattle.std.specs.Global.{Box}
 use Rattle.std.specs.List.{list_all, list_any}
 use Rattle.std.specs.Option.{is_some}
+use Rattle.std.specs.Ordering.{int_eq}
 use Rattle.ba_numbers.specs.Numbers.{is_in}
 use Rattle.ba_numbers.specs.Types.{is_promoted, same_type, shifts, type_of_binary, type_of_unary}
 use Rattle.ba_numbers.specs.declared.ids.CallId.{CallId}
@@ -21,6 +22,7 @@ use Rattle.ba_tree.specs.declared.tree.Function.{Function}
 use Rattle.ba_tree.specs.declared.tree.Parts.{Parts}
 use Rattle.ba_tree.specs.declared.tree.Shape.{Shape}
 use Rattle.ba_tree.specs.declared.tree.Shape.TheVariants.{Value, Array, Passed}
+use Rattle.ba_tree.specs.declared.tree.Start.{Start}
 use Rattle.ba_tree.specs.declared.tree.Stmt.{Stmt}
 use Rattle.ba_tree.specs.declared.tree.Stmt.TheOpen.{Stmt-F}
 use Rattle.ba_tree.specs.declared.tree.Stmt.TheFolds.{fold-Stmt}
@@ -63,6 +65,7 @@ same_kind kind.Initialiser kind.Initialiser = true
 same_kind kind.Assignment kind.Assignment = true
 same_kind kind.Store kind.Store = true
 same_kind kind.Condition kind.Condition = true
+same_kind kind.Switch kind.Switch = true
 same_kind kind.Return kind.Return = true
 same_kind kind.Call kind.Call = true
 same_kind kind.Assert kind.Assert = true
@@ -206,7 +209,8 @@ arg_facts p = fold-Arg ArgFacts ExprFacts (arg_facts_step p) (expr_facts_step p)
 
 -- What there is to say of a statement: how deep statements nest in it; the numbers in it, with the kind of each statement; the
 -- variables that it names and the calls in it; the variable that it initialises, where it is an initialiser; that it may stand in the
--- head of a `for`; that a `break` or `continue` in it belongs to a loop around it; and that each part of it meets the constraints.
+-- head of a `for`; that a `break` in it belongs to a loop or `switch` around it, and a `continue` to a loop around it; and that each
+-- part of it meets the constraints.
 pub record StmtFacts : Type 0 where
   pub depth : ℕ
   pub numbers : List (StmtId × StmtKind)
@@ -214,7 +218,8 @@ pub record StmtFacts : Type 0 where
   pub calls : List CallId
   pub initialises : Option VarId
   pub is_simple : Bool
-  pub leaves_loop : Bool
+  pub breaks : Bool
+  pub continues : Bool
   pub is_sound : Bool
 
 -- an expression that is no part of another: within the limit on heights
@@ -234,7 +239,8 @@ leaf_facts numbers es meets = record {
   calls = flat_map (λ (e : ExprFacts). e.calls) es;
   initialises = None;
   is_simple = false;
-  leaves_loop = false;
+  breaks = false;
+  continues = false;
   is_sound = meets && list_all is_whole es;
 }
 
@@ -245,13 +251,18 @@ around own parts = record own {
   numbers = own.numbers ++ flat_map (λ (s : StmtFacts). s.numbers) parts;
   variables = own.variables ++ flat_map (λ (s : StmtFacts). s.variables) parts;
   calls = own.calls ++ flat_map (λ (s : StmtFacts). s.calls) parts;
-  leaves_loop = list_any (λ (s : StmtFacts). s.leaves_loop) parts;
+  breaks = list_any (λ (s : StmtFacts). s.breaks) parts;
+  continues = list_any (λ (s : StmtFacts). s.continues) parts;
   is_sound = own.is_sound && list_all (λ (s : StmtFacts). s.is_sound) parts;
 }
 
--- a loop takes each `break` and `continue` of its body
+-- a loop takes each `break` and `continue` of its body (C90 6.6.6.2, 6.6.6.3)
 abbrev pub as_loop : StmtFacts → StmtFacts
-as_loop s = record s { leaves_loop = false }
+as_loop s = record s { breaks = false; continues = false }
+
+-- a `switch` takes each `break` of its body, and no `continue`
+abbrev pub as_switch : StmtFacts → StmtFacts
+as_switch s = record s { breaks = false }
 
 abbrev pub as_simple : StmtFacts → StmtFacts
 as_simple s = record s { is_simple = true }
@@ -283,6 +294,21 @@ fits_array p array values = nat_le (length values) (own_elements (unwrap_or (sha
 abbrev pub are_simple : List StmtFacts → Bool
 are_simple = list_all (λ (s : StmtFacts). s.is_simple)
 
+-- LABELS (C90 6.6.4.2)
+
+abbrev pub values_differ : List ℤ → Bool
+values_differ [] = true
+values_differ (z ∷ zs) = not (list_any (λ y. int_eq y z) zs) && values_differ zs
+
+-- a label of a type, in a body of so many statements
+abbrev pub is_start : CType → ℕ → Start → Bool
+is_start t count start = is_in t start.value && nat_le start.at count
+
+-- the `case` labels and the `default` of a body of so many statements
+abbrev pub are_labels : CType → ℕ → List Start → Option ℕ → Bool
+are_labels t count starts other = values_differ (map (λ (start : Start). start.value) starts)
+    && list_all (is_start t count) starts && nat_le (unwrap_or other 0) count
+
 -- of a statement in this function
 abbrev pub stmt_facts_step : Parts → Function → Stmt-F StmtFacts → StmtFacts
 stmt_facts_step p f (Stmt-F.Block body) = around (leaf_facts [] [] true) body.items
@@ -298,6 +324,9 @@ stmt_facts_step p f (Stmt-F.Store stmt array index value) = let i = expr_facts p
     (is_array p array && is_promoted i.t && fits_type (type_at p array) e))
 stmt_facts_step p f (Stmt-F.If stmt when a b) = around
     (leaf_facts (numbered stmt kind.Condition) (expr_facts p when ∷ []) true) (a.value ∷ optional_facts b)
+stmt_facts_step p f (Stmt-F.Switch stmt t on starts other body) = let e = expr_facts p on in as_switch (around
+    (leaf_facts (numbered stmt kind.Switch) (e ∷ [])
+    (is_promoted t && fits_type t e && are_labels t (length body.items) starts.items other)) body.items)
 stmt_facts_step p f (Stmt-F.While stmt when body) = as_loop (around
     (leaf_facts (numbered stmt kind.Condition) (expr_facts p when ∷ []) true) (body.value ∷ []))
 stmt_facts_step p f (Stmt-F.DoWhile stmt when body) = as_loop (around
@@ -305,8 +334,8 @@ stmt_facts_step p f (Stmt-F.DoWhile stmt when body) = as_loop (around
 stmt_facts_step p f (Stmt-F.For stmt first when step body) = as_loop (around
     (leaf_facts (numbered stmt kind.Condition) (expr_facts p when ∷ []) (are_simple first.items && are_simple step.items))
     (first.items ++ step.items ++ body.value ∷ []))
-stmt_facts_step p f Stmt-F.Break = record (leaf_facts [] [] true) { leaves_loop = true }
-stmt_facts_step p f Stmt-F.Continue = record (leaf_facts [] [] true) { leaves_loop = true }
+stmt_facts_step p f Stmt-F.Break = record (leaf_facts [] [] true) { breaks = true }
+stmt_facts_step p f Stmt-F.Continue = record (leaf_facts [] [] true) { continues = true }
 stmt_facts_step p f (Stmt-F.Return stmt value) = let e = expr_facts p value in
     leaf_facts (numbered stmt kind.Return) (e ∷ []) (holds (λ t. fits_type t e) f.result)
 stmt_facts_step p f Stmt-F.ReturnNone = leaf_facts [] [] true
@@ -338,7 +367,8 @@ abbrev pub is_function : Parts → Bool → Function → Bool
 is_function p is_main f = nat_le (length f.params) 32
     && list_all (λ v. holds (is_parameter_shape is_main) (shape_at p v)) f.params
     && list_all (λ v. holds is_own_shape (shape_at p v)) f.locals
-    && (body_facts p f).is_sound && nat_le (body_facts p f).depth 101 && not (body_facts p f).leaves_loop
+    && (body_facts p f).is_sound && nat_le (body_facts p f).depth 101
+    && not (body_facts p f).breaks && not (body_facts p f).continues
     && list_all (has_variable (p.globals ++ f.params ++ f.locals)) (body_facts p f).variables
 
 -- the functions from this number on

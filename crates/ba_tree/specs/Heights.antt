@@ -57,6 +57,7 @@ height_step (Stmt-F.InitArray stmt array values) = weights values.items + 4
 height_step (Stmt-F.Assign stmt var value) = weight value + 4
 height_step (Stmt-F.Store stmt array index value) = weight index + weight value + 4
 height_step (Stmt-F.If stmt when a b) = weight when + a.value + optional_height b + 5
+height_step (Stmt-F.Switch stmt t on starts other body) = weight on + total body.items + 6
 height_step (Stmt-F.While stmt when body) = weight when + body.value + 7
 height_step (Stmt-F.DoWhile stmt when body) = weight when + body.value + 7
 height_step (Stmt-F.For stmt first when step body) = total first.items + weight when + total step.items +

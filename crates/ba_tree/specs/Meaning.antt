@@ -1,6 +1,6 @@
 -- What expressions and statements do (C90 6.3, 6.6), with statements that may be relaxed.
 
-use Rattle.std.specs.Prelude.{suc, zero, ℕ, ◌+◌, ℤ, pos, Bool, not, cond, Option, None, Some, List, ◌∷◌, ◌++◌, map, length, replicate, take, unwrap_or, slice_index_or, Ok, Err}
+use Rattle.std.specs.Prelude.{suc, zero, ℕ, ◌+◌, ℤ, pos, Bool, not, cond, Option, None, Some, List, [], ◌∷◌, ◌++◌, map, length, replicate, take, drop, unwrap_or, slice_index_or, Ok, Err}
 use Rattle.std.specs.Ordering.{int_eq}
 use Rattle.std.specs.Global.{Box}
 use Rattle.ba_numbers.specs.Numbers.{value_of, value_of_one, converted, truth}
@@ -27,6 +27,7 @@ use Rattle.ba_tree.specs.declared.tree.Expr.{Expr}
 use Rattle.ba_tree.specs.declared.tree.Program.{Program}
 use Rattle.ba_tree.specs.declared.tree.Shape.{Shape}
 use Rattle.ba_tree.specs.declared.tree.Shape.TheVariants.{Value, Array, Passed}
+use Rattle.ba_tree.specs.declared.tree.Start.{Start}
 use Rattle.ba_tree.specs.declared.tree.Stmt.{Stmt}
 use Rattle.ba_tree.specs.declared.tree.Stmt.TheOpen.{Stmt-F}
 use Rattle.ba_tree.specs.declared.tree.Stmt.TheFolds.{fold-Stmt}
@@ -96,7 +97,7 @@ eval_arg x path here = fold-Arg (Act Argument) (Act ℤ) arg_step (expr_step x p
 abbrev pub is_relaxed : Context → List Step → StmtId → Bool
 is_relaxed x path stmt = admits x.program x.allowed path stmt
 
--- a value of this type, as written or as the choice says: of an initialiser, an assignment or a return
+-- a value of this type, as written or as the choice says: of an initialiser, an assignment, a return or a controlling expression
 unfoldable pub given_value : Context → List Step → StmtId → CType → Expr → Act ℤ
 given_value x path stmt t value = value_by_choice (is_relaxed x path stmt) (one_value t) (eval x path stmt value)
 
@@ -190,6 +191,18 @@ do_loop x path stmt when body s = then_do
     (halt_with (Beyond stmt)) x.turns 0 s)
     (λ flow. give (flow_after_loop flow))
 
+-- SWITCHES (C90 6.6.4.2)
+
+-- where the label of this value stands, else `default`, else nowhere; of equal labels the first counts
+abbrev pub label_at : List Start → ℤ → Option ℕ → Option ℕ
+label_at [] z other = other
+label_at (start ∷ starts) z other = cond (int_eq start.value z) (Some start.at) (label_at starts z other)
+
+-- what is executed of a body: all that stands behind the label, and nothing where there is none
+abbrev pub entered : {A : Type 0} → Option ℕ → List A → List A
+entered None parts = []
+entered (Some at) parts = drop at parts
+
 -- STATEMENTS
 
 abbrev pub at_path : List Step → (List Step → Execution) → Execution
@@ -216,6 +229,10 @@ stmt_step x (Stmt-F.Store stmt array index value) path s =
     then_do (given_element x path stmt array index value s) (set_element stmt array)
 stmt_step x (Stmt-F.If stmt when if_not_zero if_zero) path s =
     then_do (condition x path stmt when s) (fork (if_not_zero.value path) (optional if_zero path))
+stmt_step x (Stmt-F.Switch stmt t on starts other body) path s =
+    then_do (given_value x path stmt t on s)
+    (λ z s. then_do (stmts_in_order path (entered (label_at starts.items z other) body.items) s)
+    (λ flow. give (flow_after_loop flow)))
 stmt_step x (Stmt-F.While stmt when body) path s = for_loop x path stmt when body.value no_step s
 stmt_step x (Stmt-F.DoWhile stmt when body) path s = do_loop x path stmt when body.value s
 stmt_step x (Stmt-F.For stmt first when step body) path s =

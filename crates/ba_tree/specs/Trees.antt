@@ -1,6 +1,6 @@
 -- The typed tree in the standard's terms: the same as the tree of the Rust types, without what vectors keep of their own.
 
-use Rattle.std.specs.Prelude.{ℤ, Option, None, Some, option_map, List, [], ◌∷◌, map}
+use Rattle.std.specs.Prelude.{ℕ, ℤ, Option, None, Some, option_map, List, [], ◌∷◌, map}
 use Rattle.ba_numbers.specs.declared.ids.CallId.{CallId}
 use Rattle.ba_numbers.specs.declared.ids.FnId.{FnId}
 use Rattle.ba_numbers.specs.declared.ids.StmtId.{StmtId}
@@ -15,6 +15,7 @@ use Rattle.ba_tree.specs.declared.tree.Expr.{Expr}
 use Rattle.ba_tree.specs.declared.tree.Function.{Function}
 use Rattle.ba_tree.specs.declared.tree.Parts.{Parts}
 use Rattle.ba_tree.specs.declared.tree.Program.{Program}
+use Rattle.ba_tree.specs.declared.tree.Start.{Start}
 use Rattle.ba_tree.specs.declared.tree.Stmt.{Stmt}
 use Rattle.ba_tree.specs.declared.tree.Stmt.TheOpen.{Stmt-F}
 use Rattle.ba_tree.specs.declared.tree.Stmt.TheFolds.{fold-Stmt}
@@ -84,6 +85,7 @@ mutual
     store : StmtId → VarId → ExprTree → ExprTree → StmtTree
     if_then : StmtId → ExprTree → StmtTree → StmtTree
     if_else : StmtId → ExprTree → StmtTree → StmtTree → StmtTree
+    switch : StmtId → CType → ExprTree → List Start → Option ℕ → StmtTrees → StmtTree
     while_loop : StmtId → ExprTree → StmtTree → StmtTree
     do_while : StmtId → ExprTree → StmtTree → StmtTree
     for_loop : StmtId → StmtTrees → ExprTree → StmtTrees → StmtTree → StmtTree
@@ -116,6 +118,8 @@ stmt_tree_step (Stmt-F.Assign stmt v e) = assign stmt v (tree_of_expr e)
 stmt_tree_step (Stmt-F.Store stmt v index e) = store stmt v (tree_of_expr index) (tree_of_expr e)
 stmt_tree_step (Stmt-F.If stmt when a b) = if_tree stmt (tree_of_expr when) a.value
     (option_map (λ b. b.value) b)
+stmt_tree_step (Stmt-F.Switch stmt t on starts other body) =
+    switch stmt t (tree_of_expr on) starts.items other (stmts_of body.items)
 stmt_tree_step (Stmt-F.While stmt when body) = while_loop stmt (tree_of_expr when) body.value
 stmt_tree_step (Stmt-F.DoWhile stmt when body) = do_while stmt (tree_of_expr when) body.value
 stmt_tree_step (Stmt-F.For stmt first when step body) =

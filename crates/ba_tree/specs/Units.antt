@@ -1,6 +1,6 @@
 -- The size of a program once its calls are replaced by bodies and its loops by turns.
 
-use Rattle.std.specs.Prelude.{ℕ, ◌+◌, ◌*◌, ◌/◌, ◌-◌, suc, zero, Option, None, Some, List, [], ◌∷◌, map, sum_by, slice_index_or, slice_set}
+use Rattle.std.specs.Prelude.{ℕ, ◌+◌, ◌*◌, ◌/◌, ◌-◌, suc, zero, Option, None, Some, List, [], ◌∷◌, map, length, sum_by, slice_index_or, slice_set}
 use Rattle.std.specs.Global.{Box}
 use Rattle.ba_numbers.specs.declared.ids.FnId.{FnId}
 use Rattle.ba_numbers.specs.declared.ids.VarId.{VarId}
@@ -99,7 +99,7 @@ abbrev pub loop_units : ℕ → ℕ → ℕ → ℕ → ℕ
 loop_units turns condition body step = (turns + 1) * condition + turns * (body + step)
 
 -- a numbered statement costs 1 and its expressions, a `break`, a `continue` and a `return` without a value 1; an initialiser costs its
--- expressions alone, since its declaration is counted
+-- expressions alone, since its declaration is counted; a `switch` costs 1 more for each `case`, and its body once
 abbrev pub stmt_units_step : Program → ℕ → Bodies → Stmt-F (Lengths → ℕ) → Lengths → ℕ
 stmt_units_step p turns bodies (Stmt-F.Block body) lengths = all_units body.items lengths
 stmt_units_step p turns bodies (Stmt-F.Declare var) lengths = declaration_units (variable_of p var).shape
@@ -111,6 +111,8 @@ stmt_units_step p turns bodies (Stmt-F.Store stmt array index value) lengths =
     1 + element_units (length_at lengths array) + units_of_expr bodies index lengths + units_of_expr bodies value lengths
 stmt_units_step p turns bodies (Stmt-F.If stmt when if_not_zero if_zero) lengths =
     1 + units_of_expr bodies when lengths + if_not_zero.value lengths + optional_units if_zero lengths
+stmt_units_step p turns bodies (Stmt-F.Switch stmt t on starts other body) lengths =
+    1 + units_of_expr bodies on lengths + length starts.items + all_units body.items lengths
 stmt_units_step p turns bodies (Stmt-F.While stmt when body) lengths =
     loop_units turns (1 + units_of_expr bodies when lengths) (body.value lengths) 0
 stmt_units_step p turns bodies (Stmt-F.DoWhile stmt when body) lengths =

@@ -1,10 +1,10 @@
-//! What a program declares, by its number.
+//! What a program declares, by its number, and where a `switch` is entered.
 
 ghost use Rattle.std.specs.Prelude.{◌≡◌, ◌<◌, length, MatchOption};
-ghost use Rattle.ba_tree.specs.Meaning.{variable_of};
+ghost use Rattle.ba_tree.specs.Meaning.{entered, label_at, variable_of};
 ghost use Rattle.ba_tree.specs.Run.{function_of, main_of, no_function};
 
-use crate::tree::{Function, Program, Shape, Stmt, Variable};
+use crate::tree::{Function, Program, Shape, Start, Stmt, Variable};
 use ba_numbers::ids::{FnId, VarId};
 use ba_numbers::numbers::CType;
 
@@ -67,5 +67,28 @@ pub fn main_body(program: &Program) -> &[Stmt]
     match function_of(program, program.main) {
         Some(main) => main.body.as_slice(),
         None => &[],
+    }
+}
+
+/// Where the label of this value stands in the body of a `switch`, else `default`, if one of them is there. Of equal labels the first
+/// counts.
+pub fn label_at(starts: &[Start], value: i64, other: Option<u32>) -> Option<u32>
+    ensures { result ≡ label_at starts.now value other }
+{
+    for start in starts {
+        if start.value == value {
+            return Some(start.at);
+        }
+    }
+    other
+}
+
+/// What is executed of the body of a `switch` that is entered at this label: nothing where there is none.
+pub fn entered(label: Option<u32>, body: &[Stmt]) -> &[Stmt]
+    ensures { result.now ≡ entered label body.now }
+{
+    match label {
+        None => &[],
+        Some(at) => body.get(at as usize..).unwrap_or(&[]),
     }
 }

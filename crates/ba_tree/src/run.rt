@@ -81,8 +81,8 @@ pub enum Flow<E> {
     Leaves(E),
 }
 
-/// How a statement of C leaves statements around it (C90 6.6.6): `break` and `continue` a loop, `return` its function, with the value
-/// that it gives.
+/// How a statement of C leaves statements around it (C90 6.6.6): `break` a loop or a `switch`, `continue` a turn of a loop, `return` its
+/// function, with the value that it gives.
 #[derive(Clone, Copy, Debug, PartialEq, Eq)]
 pub enum Exit {
     Break,

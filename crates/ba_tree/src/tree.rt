@@ -117,6 +117,14 @@ impl Drop for Arg {
     }
 }
 
+/// A `case` label of a `switch`: its constant, converted to the type of the controlling expression, and how many statements of the
+/// body stand before it (C90 6.6.1, 6.6.4.2).
+#[derive(Clone, Copy, Debug, PartialEq, Eq)]
+pub struct Start {
+    pub value: i64,
+    pub at: u32,
+}
+
 /// A statement (C90 6.6), or a declaration that is executed (C90 6.5). Those with a `stmt` are numbered: they are what a report
 /// can name, and the asserts.
 pub enum Stmt {
@@ -159,6 +167,16 @@ pub enum Stmt {
         when: Expr,
         yes: Box<Stmt>,
         no: Option<Box<Stmt>>,
+    },
+    /// C's `switch` (C90 6.6.4.2); `stmt` is its controlling expression, whose promoted type is `t`. The body is executed from the label
+    /// on that has its value, else from `default`, which stands behind `other` statements of the body, else not at all.
+    Switch {
+        stmt: StmtId,
+        t: CType,
+        on: Expr,
+        starts: Vec<Start>,
+        other: Option<u32>,
+        body: Vec<Stmt>,
     },
     /// C's `while` (C90 6.6.5.1); `stmt` is its condition.
     While {
@@ -241,6 +259,14 @@ impl Drop for Stmt {
                 when: _,
                 yes: _,
                 no: _,
+            } => {}
+            Stmt::Switch {
+                stmt: _,
+                t: _,
+                on: _,
+                starts: _,
+                other: _,
+                body: _,
             } => {}
             Stmt::While {
                 stmt: _,
@@ -325,6 +351,8 @@ pub enum StmtKind {
     Store,
     /// The condition of an `if` or of a loop.
     Condition,
+    /// The controlling expression of a `switch`.
+    Switch,
     /// A `return` with a value.
     Return,
     /// A call as a statement, or a `printf`.
@@ -353,8 +381,8 @@ pub struct Parts {
     pub statements: Items<StmtInfo>,
 }
 
-/// A program: parts that fit together. Its numbers name what is there, its expressions have types that fit, its `break`s and
-/// `continue`s stand in loops, and it is within the limits on its size.
+/// A program: parts that fit together. Its numbers name what is there, its expressions have types that fit, its `break`s
+/// stand in loops or `switch`es and its `continue`s in loops, and it is within the limits on its size.
 pub struct Program {
     pub variables: Items<Variable>,
     pub globals: Items<VarId>,

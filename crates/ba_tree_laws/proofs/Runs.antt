@@ -11,7 +11,7 @@ use Rattle.ba_numbers.specs.declared.numbers.CType.TheVariants.{I32}
 use Rattle.ba_tree.specs.Acts.{give, halt_with, then_do, each, fork, after_part, rounds, flow_after_loop}
 use Rattle.ba_tree.specs.State.{Act, Execution, element_at, elements_of}
 use Rattle.ba_tree.specs.Choices.{admits, value_by_choice, one_value, one_truth, all_elements, one_element, no_value}
-use Rattle.ba_tree.specs.Meaning.{Context, eval, eval_arg, exec, exec_all, arg_step, expr_step, stmt_step, or_trap, truth_of, given_value, given_elements, given_element, condition, call_effect, print_effect, set_value, set_elements, set_element, assert_that, and_next, in_turn, turn_of, no_step, for_loop, do_loop, test_behind, stmts_in_order}
+use Rattle.ba_tree.specs.Meaning.{Context, eval, eval_arg, exec, exec_all, arg_step, expr_step, stmt_step, or_trap, truth_of, given_value, given_elements, given_element, condition, call_effect, print_effect, set_value, set_elements, set_element, assert_that, and_next, in_turn, turn_of, no_step, for_loop, do_loop, test_behind, label_at, entered, stmts_in_order}
 use Rattle.ba_tree.specs.declared.run.Argument.{Argument}
 use Rattle.ba_tree.specs.declared.run.Exit.TheVariants.{Return}
 use Rattle.ba_tree.specs.declared.run.Flow.TheVariants.{Next, Leaves}
@@ -215,6 +215,10 @@ module _ (x : Context) where
       λ i path s. then_do (condition_is path stmt when i s) (fork (a.value.1 i path) (give Next))
   stmt_form (Stmt-F.If stmt when a (Some b)) =
       λ i path s. then_do (condition_is path stmt when i s) (fork (a.value.1 i path) (b.value.1 i path))
+  stmt_form (Stmt-F.Switch stmt t on starts other body) = λ i path s. then_do (value_is path stmt t on i s)
+      (λ z s. then_do
+      (stmts_in_order path (entered (label_at starts.items z other) (same_stmts body.items i)) s)
+      (λ flow. give (flow_after_loop flow)))
   stmt_form (Stmt-F.While stmt when body) =
       λ i path. for_is path stmt when (exec x body.value.0) (exec_tree k (tree_of_stmt body.value.0))
       no_step no_step body.value.1 refl i

@@ -11,7 +11,7 @@ use Rattle.ba_numbers.specs.declared.numbers.CType.TheVariants.{I32}
 use Rattle.ba_tree.specs.Acts.{give, halt_with, then_do, each, fork, after_part, rounds, flow_after_loop}
 use Rattle.ba_tree.specs.State.{Act, Execution, value_at, location_of, elements_of, element_at}
 use Rattle.ba_tree.specs.Choices.{lists, is_assert_info, value_by_choice, one_value, one_truth, all_elements, one_element, no_value}
-use Rattle.ba_tree.specs.Meaning.{Calls, Context, or_trap, truth_of, set_value, set_elements, set_element, declare, assert_that, and_next, in_turn, turn_of, no_step, test_behind, stmts_in_order}
+use Rattle.ba_tree.specs.Meaning.{Calls, Context, or_trap, truth_of, set_value, set_elements, set_element, declare, assert_that, and_next, in_turn, turn_of, no_step, test_behind, label_at, entered, stmts_in_order}
 use Rattle.ba_tree.specs.declared.run.Allowed.{Allowed}
 use Rattle.ba_tree.specs.declared.run.Argument.{Argument}
 use Rattle.ba_tree.specs.declared.run.Exit.TheVariants.{Break, Continue, Return}
@@ -163,6 +163,10 @@ module _ (k : Setting) where
         then_do (condition_in path stmt when s) (fork (exec_tree a path) (give Next))
     exec_tree (tree.if_else stmt when a b) path s =
         then_do (condition_in path stmt when s) (fork (exec_tree a path) (exec_tree b path))
+    exec_tree (tree.switch stmt t on starts other body) path s =
+        then_do (value_in path stmt t on s)
+        (λ z s. then_do (stmts_in_order path (entered (label_at starts z other) (exec_trees body)) s)
+        (λ flow. give (flow_after_loop flow)))
     exec_tree (tree.while_loop stmt when body) path s = for_in path stmt when (exec_tree body) no_step s
     exec_tree (tree.do_while stmt when body) path s = do_in path stmt when (exec_tree body) s
     exec_tree (tree.for_loop stmt first when step body) path s =

@@ -1,5 +1,5 @@
 -- What the typed tree in the standard's terms costs, by the same steps as the tree of the Rust types.
-use Rattle.std.proofs.Common.{◌≡◌, ℕ, ◌+◌, List, [], ◌∷◌, map, refl, ap}
+use Rattle.std.proofs.Common.{◌≡◌, ℕ, ◌+◌, List, [], ◌∷◌, map, length, refl, ap}
 use Rattle.std.specs.List.{sum}
 use Rattle.ba_tree.specs.Units.{Lengths, Bodies, ArgUnits, length_at, element_units, operator_units, call_units, declaration_units, all_units, loop_units}
 use Rattle.ba_tree.specs.declared.tree.Variable.{Variable}
@@ -64,6 +64,8 @@ module _ (variables : List Variable) (turns : ℕ) (bodies : Bodies) where
         1 + expr_units bodies when lengths + stmt_units a lengths + 0
     stmt_units (tree.if_else stmt when a b) lengths =
         1 + expr_units bodies when lengths + stmt_units a lengths + stmt_units b lengths
+    stmt_units (tree.switch stmt t on starts other body) lengths =
+        1 + expr_units bodies on lengths + length starts + all_units (stmts_units body) lengths
     stmt_units (tree.while_loop stmt when body) lengths =
         loop_units turns (1 + expr_units bodies when lengths) (stmt_units body lengths) 0
     stmt_units (tree.do_while stmt when body) lengths =

@@ -1,7 +1,7 @@
 -- The tree of the Rust types costs what the tree in the standard's terms costs, by induction, and so programs
 -- with the same tree cost the same.
 use Rattle.std.proofs.Common.{◌≡◌, suc, zero, ℕ, ◌+◌, ◌-◌, None, Some, List, [], ◌∷◌, map, refl, sym, ◌∙◌, ap, subst}
-use Rattle.std.specs.Prelude.{sum_by}
+use Rattle.std.specs.Prelude.{length, sum_by}
 use Rattle.std.specs.List.{sum}
 use Rattle.std.proofs.lemmas.List.Sums.{sum-map}
 use Rattle.ba_tree.specs.Run.{function_of, main_of}
@@ -164,6 +164,8 @@ module _ (p : Program) (turns : ℕ) (bodies : Bodies) where
       λ i lengths. 1 + expr_is bodies when i lengths + a.value.1 i lengths + 0
   stmt_form (Stmt-F.If stmt when a (Some b)) =
       λ i lengths. 1 + expr_is bodies when i lengths + a.value.1 i lengths + b.value.1 i lengths
+  stmt_form (Stmt-F.Switch stmt t on starts other body) = λ i lengths. 1 + expr_is bodies on i lengths
+      + length starts.items + all_units (same_stmts body.items i) lengths
   stmt_form (Stmt-F.While stmt when body) =
       λ i lengths. loop_units turns (1 + expr_is bodies when i lengths) (body.value.1 i lengths) 0
   stmt_form (Stmt-F.DoWhile stmt when body) =

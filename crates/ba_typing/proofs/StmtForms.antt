@@ -1,12 +1,14 @@
 -- What each form of a typed statement is in the standard's terms, one equation a form.
-use Rattle.std.proofs.Common.{◌≡◌, None, Some, map, ◌∙◌, ap}
+use Rattle.std.proofs.Common.{◌≡◌, ℕ, Option, None, Some, map, ◌∙◌, ap}
 use Rattle.std.specs.Global.{Box, Vec}
 use Rattle.ba_numbers.specs.declared.ids.CallId.{CallId}
 use Rattle.ba_numbers.specs.declared.ids.FnId.{FnId}
 use Rattle.ba_numbers.specs.declared.ids.StmtId.{StmtId}
 use Rattle.ba_numbers.specs.declared.ids.VarId.{VarId}
+use Rattle.ba_numbers.specs.declared.numbers.CType.{CType}
 use Rattle.ba_tree.specs.declared.tree.Arg.{Arg}
 use Rattle.ba_tree.specs.declared.tree.Expr.{Expr}
+use Rattle.ba_tree.specs.declared.tree.Start.{Start}
 use Rattle.ba_tree.specs.declared.tree.Stmt.{Stmt}
 use Rattle.ba_tree.specs.declared.tree.Stmt as code
 use Rattle.ba_tree.specs.declared.tree.Stmt.TheFolds.{fold-roll-Stmt}
@@ -75,6 +77,14 @@ pub tree-Block : (body : Vec Stmt)
     → tree_of_stmt (code.Block body) ≡ tree.block (stmts_of (map tree_of_stmt body.items))
 unfolding tree_of_stmt code.roll-Stmt denote.Hole.Carrier.roll
 tree-Block body = fold-roll-Stmt StmtTree stmt_tree_step (Stmt-F.Block body)
+
+pub tree-Switch : (stmt : StmtId) (t : CType) (on : Expr) (starts : Vec Start) (other : Option ℕ) (body :
+    Vec Stmt)
+    → tree_of_stmt (code.Switch stmt t on starts other body)
+    ≡ tree.switch stmt t (tree_of_expr on) starts.items other (stmts_of (map tree_of_stmt body.items))
+unfolding tree_of_stmt code.roll-Stmt denote.Hole.Carrier.roll
+tree-Switch stmt t on starts other body =
+    fold-roll-Stmt StmtTree stmt_tree_step (Stmt-F.Switch stmt t on starts other body)
 
 -- STATEMENTS THAT HOLD OTHERS, where the code has these as values of its own
 

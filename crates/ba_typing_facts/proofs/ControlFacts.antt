@@ -140,7 +140,7 @@ module _ (p : Parts) (owned : List VarId) (f : Function) where
       → AreStmts p owned (n.statements + 1) m (n.calls + w.calls) k in_loop parts
       → AreStmts p owned n.statements (1 + m) n.calls (w.calls + k) in_loop
       (condition_facts p (next_stmt n) w.tree true parts ∷ [])
-  controlled_are n w m k parts h g = around_are p owned (condition_leaf n w true) parts refl
+  controlled_are n w m k parts h g = around_are p owned (condition_leaf n w true) parts refl refl
       (stmts-append p owned h g)
 
   -- C90 6.6.4.1
@@ -303,7 +303,7 @@ module _ (p : Parts) (owned : List VarId) (f : Function) where
           (a.calls + w.calls)
           (let e = length-append a.statements c.statements in omega (arith, e)) refl
           (loop_are p owned scope.in_loop (around own (part ∷ []))
-          (around_are p owned own (part ∷ []) refl
+          (around_are p owned own (part ∷ []) refl refl
           (told_first p owned (part ∷ []) (own ∷ []) []
           (stmts-append p owned (one_are a.stmts (body_is.single (looping scope) n) inside.stmts)
           (condition_are scope (behind n a) w c_none true refl (test_is.by scope in_scope.sound

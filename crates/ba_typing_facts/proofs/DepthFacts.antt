@@ -15,6 +15,7 @@ abbrev mutual
   depth_of (tree.block body) = 1 + deepest body
   depth_of (tree.if_then stmt when a) = 1 + depth_of a
   depth_of (tree.if_else stmt when a b) = 1 + max (depth_of a) (depth_of b)
+  depth_of (tree.switch stmt t on starts other body) = 1 + deepest body
   depth_of (tree.while_loop stmt when body) = 1 + depth_of body
   depth_of (tree.do_while stmt when body) = 1 + depth_of body
   depth_of (tree.for_loop stmt first when step body) =
@@ -56,6 +57,7 @@ module _ (p : Parts) (f : Function) where
     depth_is (tree.store stmt v i e) = refl
     depth_is (tree.if_then stmt when a) = let h = depth_is a in omega (arith, h)
     depth_is (tree.if_else stmt when a b) = let h = depth_is a in let k = depth_is b in omega (arith, h, k)
+    depth_is (tree.switch stmt t on starts other body) = ap (λ n. 1 + n) (deepest_is body)
     depth_is (tree.while_loop stmt when body) = let h = depth_is body in omega (arith, h)
     depth_is (tree.do_while stmt when body) = let h = depth_is body in omega (arith, h)
     depth_is (tree.for_loop stmt first when step body) =

@@ -239,7 +239,7 @@ module _ (p : Parts) (owned : List VarId) (f : Function) where
     unfolding for_facts
     for_are {in_loop} front_are own_are step_are body_are =
         loop_are p owned in_loop (around own (fronts ++ steps ++ part ∷ []))
-        (around_are p owned own (fronts ++ steps ++ part ∷ []) refl
+        (around_are p owned own (fronts ++ steps ++ part ∷ []) refl refl
         (subst (λ xs. AreStmts p owned n.statements total n.calls total_calls true (own ∷ xs))
         (sym (append_assoc fronts steps (part ∷ [])))
         (told_first p owned fronts (own ∷ []) (steps ++ part ∷ [])

@@ -30,7 +30,7 @@ use Rattle.ba_typing_facts.proofs.ParameterListFacts.{params_statements, params_
 use Rattle.ba_typing_facts.proofs.ScopeFacts.{AreEntries, IsScope}
 use Rattle.ba_typing_facts.proofs.StatementFacts.{block_parts}
 use Rattle.ba_typing_facts.proofs.StatementTreeFacts.{stmt_facts_of, all_facts_are}
-use Rattle.ba_typing_facts.proofs.SequenceFacts.{AreTold, are_told, told-append, stmts_none, block_are, some_leaves}
+use Rattle.ba_typing_facts.proofs.SequenceFacts.{AreTold, are_told, told-append, stmts_none, block_are, some_break, some_continue}
 
 -- LISTS OF VARIABLES
 
@@ -371,11 +371,13 @@ module _ (p : Parts) where
         pub definition_good : nat_le (body_facts p g).depth 101 ≡ true → is_function p (d == p.main.0) g
             ≡ true
         definition_good shallow =
-            and_from _ _ (and_from _ _ (and_from _ _ (and_from _ _ (and_from _ _ (and_from _ _
+            and_from _ _ (and_from _ _ (and_from _ _ (and_from _ _ (and_from _ _ (and_from _ _ (and_from _ _
             (le-leb (length g.params) 32 few_of_params) shapes_of_params) shapes_of_locals)
             (ap (λ (x : StmtFacts). x.is_sound) (sym facts_are) ∙ body_fits.stmts.sound)) shallow)
-            (ap (λ (x : StmtFacts). not x.leaves_loop) (sym facts_are)
-            ∙ not_leaving (some_leaves (all_facts_of p g body.stmts)) body_fits.stmts.leaves))
+            (ap (λ (x : StmtFacts). not x.breaks) (sym facts_are)
+            ∙ not_leaving (some_break (all_facts_of p g body.stmts)) body_fits.stmts.breaks))
+            (ap (λ (x : StmtFacts). not x.continues) (sym facts_are)
+            ∙ not_leaving (some_continue (all_facts_of p g body.stmts)) body_fits.stmts.continues))
             (ap (λ (x : StmtFacts). list_all (has_variable owned) x.variables) (sym facts_are)
             ∙ body_fits.stmts.names)
 

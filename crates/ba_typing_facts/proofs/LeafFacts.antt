@@ -90,6 +90,7 @@ same_kind-self kind.Initialiser = refl
 same_kind-self kind.Assignment = refl
 same_kind-self kind.Store = refl
 same_kind-self kind.Condition = refl
+same_kind-self kind.Switch = refl
 same_kind-self kind.Return = refl
 same_kind-self kind.Call = refl
 same_kind-self kind.Assert = refl
@@ -157,7 +158,8 @@ module _ (p : Parts) (owned : List VarId) where
         kinds = and_from _ _ is_kind refl;
         each_call = each_is (ap call_numbers (append-nil (flat_map (λ (x : ExprFacts). x.calls) xs))
             ∙ all.numbers);
-        leaves = λ any. cc;
+        breaks = λ any. cc;
+        continues = λ any. cc;
       }
 
   -- one without a number or an expression
@@ -169,19 +171,22 @@ module _ (p : Parts) (owned : List VarId) where
     each_number = each_none (before + 1);
     kinds = refl;
     each_call = each_none (calls_before + 1);
-    leaves = λ any. cc;
+    breaks = λ any. cc;
+    continues = λ any. cc;
   }
 
-  pub jump_are : {before calls_before : ℕ}
-      → AreStmts p owned before 0 calls_before 0 true (record (leaf_facts [] [] true) { leaves_loop = true }
-      ∷ [])
-  jump_are {before} {calls_before} = record {
+  -- a `break` or a `continue`, in a loop
+  pub jump_are : {before calls_before : ℕ} (b c : Bool)
+      → AreStmts p owned before 0 calls_before 0 true
+      (record (leaf_facts [] [] true) { breaks = b; continues = c } ∷ [])
+  jump_are {before} {calls_before} b c = record {
     sound = refl;
     names = refl;
     each_number = each_none (before + 1);
     kinds = refl;
     each_call = each_none (calls_before + 1);
-    leaves = λ any. refl;
+    breaks = λ any. refl;
+    continues = λ any. refl;
   }
 
   -- a call as a statement, in front of the calls in its arguments
@@ -205,5 +210,6 @@ module _ (p : Parts) (owned : List VarId) where
             (ap call_numbers (append-nil (flat_map (λ (x : ExprFacts). x.calls) xs)) ∙ all.numbers)
             ∙ ap (range_with_len (n.calls + 1)) (let e : suc (calls_of es)
             ≡ 1 + calls_of es = omega arith in e));
-        leaves = λ any. cc;
+        breaks = λ any. cc;
+        continues = λ any. cc;
       }

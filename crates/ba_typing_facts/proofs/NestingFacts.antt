@@ -139,6 +139,7 @@ module _ (p : program.Parts) (f : Function) where
   simple_flat (tree.store stmt v i e) h = omega arith
   simple_flat (tree.if_then stmt when a) h = cc
   simple_flat (tree.if_else stmt when a b) h = cc
+  simple_flat (tree.switch stmt t on starts other body) h = cc
   simple_flat (tree.while_loop stmt when body) h = cc
   simple_flat (tree.do_while stmt when body) h = cc
   simple_flat (tree.for_loop stmt first when step body) h = cc

@@ -10,7 +10,7 @@ use Rattle.std.proofs.lemmas.List.Sorted.{IsPermutation-refl, IsPermutation-appe
 use Rattle.ba_numbers.specs.declared.ids.CallId.{CallId}
 use Rattle.ba_numbers.specs.declared.ids.StmtId.{StmtId}
 use Rattle.ba_numbers.specs.declared.ids.VarId.{VarId}
-use Rattle.ba_tree.specs.Facts.{StmtFacts, leaf_facts, around, as_loop, naming, initialising, has_kind, has_variable}
+use Rattle.ba_tree.specs.Facts.{StmtFacts, leaf_facts, around, as_loop, as_switch, naming, initialising, has_kind, has_variable}
 use Rattle.ba_tree.specs.declared.tree.Parts.{Parts}
 use Rattle.ba_tree.specs.declared.tree.StmtKind.{StmtKind}
 use Rattle.ba_typing_facts.proofs.FittingFacts.{call_numbers, range-append}
@@ -63,12 +63,14 @@ calls_in = flat_map (λ (s : StmtFacts). s.calls)
 abbrev pub all_sound : List StmtFacts → Bool
 all_sound = list_all (λ (s : StmtFacts). s.is_sound)
 
-abbrev pub some_leaves : List StmtFacts → Bool
-some_leaves = list_any (λ (s : StmtFacts). s.leaves_loop)
+abbrev pub some_break : List StmtFacts → Bool
+some_break = list_any (λ (s : StmtFacts). s.breaks)
+
+abbrev pub some_continue : List StmtFacts → Bool
+some_continue = list_any (λ (s : StmtFacts). s.continues)
 
 -- Behind so many statements and calls, there are so many of each; they name variables among these; a `break`
--- or `continue` that belongs
--- to a loop around them may stand in them.
+-- or `continue` that belongs to a statement around them may stand in them.
 pub record AreStmts (p : Parts) (owned : List VarId) (before count calls_before calls : ℕ) (in_loop : Bool)
     (ss : List StmtFacts) : Type 0 where
   pub sound : all_sound ss ≡ true
@@ -76,7 +78,8 @@ pub record AreStmts (p : Parts) (owned : List VarId) (before count calls_before 
   pub each_number : IsEach (before + 1) count (stmt_numbers (numbers_in ss))
   pub kinds : list_all (has_kind p) (numbers_in ss) ≡ true
   pub each_call : IsEach (calls_before + 1) calls (call_numbers (calls_in ss))
-  pub leaves : some_leaves ss ≡ true → in_loop ≡ true
+  pub breaks : some_break ss ≡ true → in_loop ≡ true
+  pub continues : some_continue ss ≡ true → in_loop ≡ true
 
 module _ (p : Parts) (owned : List VarId) where
   pub stmts_none : (before calls_before : ℕ) (in_loop : Bool) → AreStmts p owned before 0 calls_before 0
@@ -87,7 +90,8 @@ module _ (p : Parts) (owned : List VarId) where
     each_number = each_none (before + 1);
     kinds = refl;
     each_call = each_none (calls_before + 1);
-    leaves = λ wrong. cc;
+    breaks = λ wrong. cc;
+    continues = λ wrong. cc;
   }
 
   both_named : (test : VarId → Bool) (xs ys : List VarId) → list_all test xs ≡ true → list_all test ys ≡ true
@@ -130,9 +134,12 @@ module _ (p : Parts) (owned : List VarId) where
         each_call = subst (IsEach (calls_before + 1) (k + l)) (sym (calls_split xs ys))
             (each-append h.each_call
             (subst (λ i. IsEach i l (call_numbers (calls_in ys))) calls_place g.each_call));
-        leaves = λ any. elim (or_cases (some_leaves xs) (some_leaves ys)
-            (sym (list_any-append (λ (s : StmtFacts). s.leaves_loop) xs ys) ∙ any))
-            [ inl e ↦ h.leaves e | inr e ↦ g.leaves e ];
+        breaks = λ any. elim (or_cases (some_break xs) (some_break ys)
+            (sym (list_any-append (λ (s : StmtFacts). s.breaks) xs ys) ∙ any))
+            [ inl e ↦ h.breaks e | inr e ↦ g.breaks e ];
+        continues = λ any. elim (or_cases (some_continue xs) (some_continue ys)
+            (sym (list_any-append (λ (s : StmtFacts). s.continues) xs ys) ∙ any))
+            [ inl e ↦ h.continues e | inr e ↦ g.continues e ];
       }
 
   -- where a loop is around, or may be
@@ -144,7 +151,8 @@ module _ (p : Parts) (owned : List VarId) where
     each_number = h.each_number;
     kinds = h.kinds;
     each_call = h.each_call;
-    leaves = λ any. refl;
+    breaks = λ any. refl;
+    continues = λ any. refl;
   }
 
   all_front : {A : Type 0} (test : A → Bool) (xs ys zs : List A) → list_all test (xs ++ (ys ++ zs)) ≡ true
@@ -204,7 +212,8 @@ module _ (p : Parts) (owned : List VarId) where
         h.each_number;
     kinds = all_flat_front (λ (s : StmtFacts). s.numbers) (has_kind p) xs ys zs h.kinds;
     each_call = each_map (λ (s : StmtFacts). s.calls) (λ (c : CallId). c.0) xs ys zs h.each_call;
-    leaves = λ any. h.leaves (any_front (λ (s : StmtFacts). s.leaves_loop) xs ys zs any);
+    breaks = λ any. h.breaks (any_front (λ (s : StmtFacts). s.breaks) xs ys zs any);
+    continues = λ any. h.continues (any_front (λ (s : StmtFacts). s.continues) xs ys zs any);
   }
 
   -- STATEMENTS AROUND OTHERS
@@ -218,15 +227,18 @@ module _ (p : Parts) (owned : List VarId) where
 
   -- a statement that holds others, whose facts are its own and theirs
   pub around_are : {before m calls_before k : ℕ} {in_loop : Bool} (own : StmtFacts) (parts : List StmtFacts)
-      → own.leaves_loop ≡ false → AreStmts p owned before m calls_before k in_loop (own ∷ parts)
+      → own.breaks ≡ false → own.continues ≡ false
+      → AreStmts p owned before m calls_before k in_loop (own ∷ parts)
       → AreStmts p owned before m calls_before k in_loop (around own parts ∷ [])
-  around_are {before} {m} {calls_before} {k} own parts stays h = record {
+  around_are {before} {m} {calls_before} {k} own parts no_break no_continue h = record {
     sound = and_from _ _ h.sound refl;
     names = ap (list_all (has_variable owned)) (append-nil (own.variables ++ variables_in parts)) ∙ h.names;
     each_number = subst (IsEach (before + 1) m) (sym (one_number (around own parts))) h.each_number;
     kinds = ap (list_all (has_kind p)) (append-nil (own.numbers ++ numbers_in parts)) ∙ h.kinds;
     each_call = subst (IsEach (calls_before + 1) k) (sym (one_call (around own parts))) h.each_call;
-    leaves = λ any. h.leaves (ap (λ b. b || some_leaves parts) stays ∙ in_one (some_leaves parts) any);
+    breaks = λ any. h.breaks (ap (λ b. b || some_break parts) no_break ∙ in_one (some_break parts) any);
+    continues = λ any. h.continues
+        (ap (λ b. b || some_continue parts) no_continue ∙ in_one (some_continue parts) any);
   } where
     in_one : (b : Bool) → (b || false) ≡ true → b ≡ true
     in_one true h = refl
@@ -235,13 +247,14 @@ module _ (p : Parts) (owned : List VarId) where
   pub block_are : {before m calls_before k : ℕ} {in_loop : Bool} (parts : List StmtFacts)
       → AreStmts p owned before m calls_before k in_loop parts
       → AreStmts p owned before m calls_before k in_loop (around (leaf_facts [] [] true) parts ∷ [])
-  block_are parts h = around_are (leaf_facts [] [] true) parts refl (record {
+  block_are parts h = around_are (leaf_facts [] [] true) parts refl refl (record {
     sound = h.sound;
     names = h.names;
     each_number = h.each_number;
     kinds = h.kinds;
     each_call = h.each_call;
-    leaves = h.leaves;
+    breaks = h.breaks;
+    continues = h.continues;
   })
 
   -- a loop takes what leaves it
@@ -254,7 +267,22 @@ module _ (p : Parts) (owned : List VarId) where
     each_number = h.each_number;
     kinds = h.kinds;
     each_call = h.each_call;
-    leaves = λ any. cc;
+    breaks = λ any. cc;
+    continues = λ any. cc;
+  }
+
+  -- a `switch` takes each `break`
+  pub switch_are : {before m calls_before k : ℕ} {in_loop : Bool} (x : StmtFacts)
+      → AreStmts p owned before m calls_before k in_loop (x ∷ [])
+      → AreStmts p owned before m calls_before k in_loop (as_switch x ∷ [])
+  switch_are x h = record {
+    sound = h.sound;
+    names = h.names;
+    each_number = h.each_number;
+    kinds = h.kinds;
+    each_call = h.each_call;
+    breaks = λ any. cc;
+    continues = h.continues;
   }
 
   -- a statement that names a variable too
@@ -268,7 +296,8 @@ module _ (p : Parts) (owned : List VarId) where
     each_number = h.each_number;
     kinds = h.kinds;
     each_call = h.each_call;
-    leaves = h.leaves;
+    breaks = h.breaks;
+    continues = h.continues;
   }
 
   pub initialising_are : {before m calls_before k : ℕ} {in_loop : Bool} (v : VarId) (x : StmtFacts)
@@ -280,7 +309,8 @@ module _ (p : Parts) (owned : List VarId) where
     each_number = h.each_number;
     kinds = h.kinds;
     each_call = h.each_call;
-    leaves = h.leaves;
+    breaks = h.breaks;
+    continues = h.continues;
   }
 
 -- NUMBERS AND KINDS ALONE

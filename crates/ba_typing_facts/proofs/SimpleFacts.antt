@@ -235,25 +235,25 @@ module _ (p : Parts) (owned : List VarId) (f : Function) (inside : Bool) where
   }
 
   -- a `break` or `continue`
-  abbrev jump_facts : StmtFacts
-  jump_facts = record (leaf_facts [] [] true) { leaves_loop = true }
+  abbrev jump_facts : Bool → Bool → StmtFacts
+  jump_facts b c = record (leaf_facts [] [] true) { breaks = b; continues = c }
 
-  loop_jump_part : (at : At) (typed : StmtTree) → stmt_facts_of p f typed ≡ jump_facts
+  loop_jump_part : (at : At) (typed : StmtTree) (b c : Bool) → stmt_facts_of p f typed ≡ jump_facts b c
       → IsPart p owned f inside (add_loop_jump at typed)
-  loop_jump_part at typed is = record {
+  loop_jump_part at typed b c is = record {
     piece = record {
       by = λ scope in_scope n stands none. bare_piece n typed _
           (subst (λ x. AreStmts p owned n.statements 0 n.calls 0 scope.in_loop (x ∷ [])) (sym is)
-          (subst (λ b. AreStmts p owned n.statements 0 n.calls 0 b (jump_facts ∷ []))
+          (subst (λ in_loop. AreStmts p owned n.statements 0 n.calls 0 in_loop (jump_facts b c ∷ []))
           (sym (not-false scope.in_loop (not_so (not scope.in_loop) BreakOutside at none)))
-          (jump_are p owned)));
+          (jump_are p owned b c)));
     };
     counted = λ scope n none. none_counted _ refl refl;
   }
 
   jump_part : (at : At) (j : Jump) → IsPart p owned f inside (add_jump at j)
-  jump_part at jump.Break = loop_jump_part at tree.break_loop refl
-  jump_part at jump.Continue = loop_jump_part at tree.continue_loop refl
+  jump_part at jump.Break = loop_jump_part at tree.break_loop true false refl
+  jump_part at jump.Continue = loop_jump_part at tree.continue_loop false true refl
   jump_part at jump.Return = return_none_part
 
   pub jump_with_part : (keyword : Token) (o : Option Typing) → AreOptional p owned f inside o

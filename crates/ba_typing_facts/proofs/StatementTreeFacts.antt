@@ -1,9 +1,11 @@
 -- The facts of typed statements, and that they are those of the Rust trees.
-use Rattle.std.proofs.Common.{◌≡◌, Bool, true, None, Some, List, [], ◌∷◌, ◌++◌, map, refl, sym, ◌∙◌, ap, subst}
+use Rattle.std.proofs.Common.{◌≡◌, ℕ, Bool, true, Option, None, Some, List, [], ◌∷◌, ◌++◌, map, length, refl, sym, ◌∙◌, ap, subst}
 use Rattle.std.specs.Prelude.{◌&&◌}
 use Rattle.ba_numbers.specs.declared.ids.StmtId.{StmtId}
-use Rattle.ba_tree.specs.Facts.{ExprFacts, StmtFacts, leaf_facts, around, as_loop, naming, initialising, calling, numbered, are_simple, fits_array, fits_type, holds, is_own_array, is_value, is_array, has_variable, type_at, shape_at, is_call, givens, expr_facts, arg_facts, stmt_facts, stmt_facts_step}
+use Rattle.ba_tree.specs.Facts.{ExprFacts, StmtFacts, leaf_facts, around, as_loop, as_switch, naming, initialising, calling, numbered, are_labels, are_simple, fits_array, fits_type, holds, is_own_array, is_value, is_array, has_variable, type_at, shape_at, is_call, givens, expr_facts, arg_facts, stmt_facts, stmt_facts_step}
 use Rattle.ba_numbers.specs.Types.{is_promoted}
+use Rattle.ba_numbers.specs.declared.numbers.CType.{CType}
+use Rattle.ba_tree.specs.declared.tree.Start.{Start}
 use Rattle.ba_tree.specs.declared.tree.Arg.{Arg}
 use Rattle.ba_tree.specs.declared.tree.Expr.{Expr}
 use Rattle.ba_tree.specs.declared.tree.Function.{Function}
@@ -21,6 +23,13 @@ use Rattle.ba_typing_facts.proofs.TreeFacts.{facts_of, arg_facts_of, expr_facts_
 abbrev pub condition_facts : Parts → StmtId → ExprTree → Bool → List StmtFacts → StmtFacts
 condition_facts p stmt when meets parts =
     around (leaf_facts (numbered stmt kind.Condition) (facts_of p when ∷ []) meets) parts
+
+-- a `switch`, and its body
+abbrev pub switch_facts : Parts → StmtId → CType → ExprTree → List Start → Option ℕ → List StmtFacts →
+    StmtFacts
+switch_facts p stmt t on starts other parts = as_switch (around
+    (leaf_facts (numbered stmt kind.Switch) (facts_of p on ∷ [])
+    (is_promoted t && fits_type t (facts_of p on) && are_labels t (length parts) starts other)) parts)
 
 abbrev pub array_init_facts : Parts → StmtId → Rattle.ba_numbers.specs.declared.ids.VarId.VarId
     → List ExprFacts → StmtFacts
@@ -42,6 +51,8 @@ abbrev mutual
   stmt_facts_of p f (tree.if_then stmt when a) = condition_facts p stmt when true (stmt_facts_of p f a ∷ [])
   stmt_facts_of p f (tree.if_else stmt when a b) =
       condition_facts p stmt when true (stmt_facts_of p f a ∷ stmt_facts_of p f b ∷ [])
+  stmt_facts_of p f (tree.switch stmt t on starts other body) =
+      switch_facts p stmt t on starts other (stmts_facts_of p f body)
   stmt_facts_of p f (tree.while_loop stmt when body) =
       as_loop (condition_facts p stmt when true (stmt_facts_of p f body ∷ []))
   stmt_facts_of p f (tree.do_while stmt when body) =
@@ -49,8 +60,8 @@ abbrev mutual
   stmt_facts_of p f (tree.for_loop stmt first when step body) = as_loop (condition_facts p stmt when
       (are_simple (stmts_facts_of p f first) && are_simple (stmts_facts_of p f step))
       (stmts_facts_of p f first ++ stmts_facts_of p f step ++ stmt_facts_of p f body ∷ []))
-  stmt_facts_of p f tree.break_loop = record (leaf_facts [] [] true) { leaves_loop = true }
-  stmt_facts_of p f tree.continue_loop = record (leaf_facts [] [] true) { leaves_loop = true }
+  stmt_facts_of p f tree.break_loop = record (leaf_facts [] [] true) { breaks = true }
+  stmt_facts_of p f tree.continue_loop = record (leaf_facts [] [] true) { continues = true }
   stmt_facts_of p f (tree.return_value stmt e) = leaf_facts (numbered stmt kind.Return) (facts_of p e ∷ [])
       (holds (λ t. fits_type t (facts_of p e)) f.result)
   stmt_facts_of p f tree.return_none = leaf_facts [] [] true
@@ -110,6 +121,8 @@ module _ (p : Parts) where
     stmt_form (Stmt-F.Store stmt v i e) = rw (expr_facts_are p i, expr_facts_are p e) refl
     stmt_form (Stmt-F.If stmt when a None) = rw (expr_facts_are p when, a.value.1) refl
     stmt_form (Stmt-F.If stmt when a (Some b)) = rw (expr_facts_are p when, a.value.1, b.value.1) refl
+    stmt_form (Stmt-F.Switch stmt t on starts other body) =
+        rw (expr_facts_are p on, same_stmts body.items) refl
     stmt_form (Stmt-F.While stmt when body) = rw (expr_facts_are p when, body.value.1) refl
     stmt_form (Stmt-F.DoWhile stmt when body) = rw (expr_facts_are p when, body.value.1) refl
     stmt_form (Stmt-F.For stmt first when step body) =

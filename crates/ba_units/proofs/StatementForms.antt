@@ -1,14 +1,16 @@
 -- The units of each form of a statement, one equation a form.
-use Rattle.std.proofs.Common.{◌≡◌, ℕ, ◌+◌, Option, List, [], map, sum_by, sym, ◌∙◌, ap, add-zero}
+use Rattle.std.proofs.Common.{◌≡◌, ℕ, ◌+◌, Option, List, [], map, length, sum_by, sym, ◌∙◌, ap, add-zero}
 use Rattle.std.specs.Global.{Box, Vec}
 use Rattle.ba_numbers.specs.declared.ids.CallId.{CallId}
 use Rattle.ba_numbers.specs.declared.ids.FnId.{FnId}
 use Rattle.ba_numbers.specs.declared.ids.StmtId.{StmtId}
 use Rattle.ba_numbers.specs.declared.ids.VarId.{VarId}
+use Rattle.ba_numbers.specs.declared.numbers.CType.{CType}
 use Rattle.ba_tree.specs.Meaning.{variable_of}
 use Rattle.ba_tree.specs.Units.{Lengths, declaration_units, element_units, length_at, loop_units, stmt_units_step}
 use Rattle.ba_tree.specs.declared.tree.Arg.{Arg}
 use Rattle.ba_tree.specs.declared.tree.Expr.{Expr}
+use Rattle.ba_tree.specs.declared.tree.Start.{Start}
 use Rattle.ba_tree.specs.declared.tree.Stmt.{Stmt}
 use Rattle.ba_tree.specs.declared.tree.Stmt as stmts
 use Rattle.ba_tree.specs.declared.tree.Stmt.TheOpen.{Stmt-F}
@@ -115,6 +117,17 @@ module _ (w : Setting) (n : ℕ) (frame : Frame) (s : Stmt) where
   stmt-If-Some stmt when a b part x y is at_x some at_y = stmt-If stmt when a b x is at_x
       ∙ ap (λ b. 1 + expr_units w n frame when + stmt_units w n frame x + otherwise_units w n frame b) some
       ∙ ap (λ y. 1 + expr_units w n frame when + stmt_units w n frame x + stmt_units w n frame y) (sym at_y)
+
+  pub stmt-Switch : (stmt : StmtId) (t : CType) (on : Expr) (starts : Vec Start) (other : Option ℕ)
+      (body : Vec Stmt) (xs : List Stmt)
+      → s ≡ stmts.Switch stmt t on starts other body → xs ≡ body.items
+      → stmt_units w n frame s
+      ≡ 1 + expr_units w n frame on + length starts.items + stmts_units w n frame xs
+  unfolding stmt_units expr_units stmts.roll-Stmt denote.Hole.Carrier.roll
+  stmt-Switch stmt t on starts other body xs is at_xs = ap (stmt_units w n frame) is
+      ∙ ap (λ (f : Units). f lengths)
+      (fold-roll-Stmt Units step_units (Stmt-F.Switch stmt t on starts other body))
+      ∙ (λ i. 1 + expr_units w n frame on + length starts.items + row-is body.items xs at_xs i)
 
   pub stmt-While : (stmt : StmtId) (when : Expr) (body : Box Stmt) (x : Stmt) (zs : List Stmt)
       → s ≡ stmts.While stmt when body → x ≡ body.value → zs ≡ []

@@ -1,13 +1,13 @@
 //! What single forms cost.
 
-ghost use Rattle.std.specs.Prelude.{◌≡◌, ◌-◌, ℕ};
+ghost use Rattle.std.specs.Prelude.{◌≡◌, ◌-◌, ℕ, length};
 ghost use Rattle.ba_tree.specs.Meaning.{variable_of};
 ghost use Rattle.ba_tree.specs.Units.{declaration_units, declared_length, element_units, loop_units, operator_units};
 
 use ba_numbers::ids::VarId;
 use ba_numbers::numbers::BinOp;
 use ba_tree::lookup::variable_of;
-use ba_tree::tree::{Program, Shape};
+use ba_tree::tree::{Program, Shape, Start};
 
 /// How many elements a variable of this shape has of its own; none where it is no array.
 pub fn declared_length(shape: Shape) -> u32
@@ -55,6 +55,13 @@ pub fn operator_units(op: BinOp) -> u32
         BinOp::Shl | BinOp::Shr => 2,
         _ => 1,
     }
+}
+
+/// What is left behind the `case` labels of a `switch`, which cost 1 each.
+pub fn left_after_labels(left: u32, starts: &[Start]) -> u32
+    ensures { result ≡ left - length starts.now }
+{
+    (left as usize).saturating_sub(starts.len()) as u32
 }
 
 /// What is left behind a loop of so many turns, where `left` are left before it, `condition` behind one of its conditions, and `turn`

@@ -4,7 +4,9 @@ ghost use Rattle.std.specs.Prelude.{◌≡◌, ◌+◌, ◌-◌};
 ghost use Rattle.ba_tree.specs.Units.{loop_units};
 ghost use Rattle.ba_units.specs.Counts.{arg_units, args_units, expr_units, exprs_units, stmt_units, stmts_units, units_of_call};
 
-use crate::costs::{element_units, left_after_declaration, left_after_turns, operator_units};
+use crate::costs::{
+    element_units, left_after_declaration, left_after_labels, left_after_turns, operator_units,
+};
 use crate::frame::{Frame, length_of};
 use crate::setting::Setting;
 use ba_numbers::ids::FnId;
@@ -183,6 +185,17 @@ fn left_after_stmt<'t>(
                 None => left,
                 Some(no) => left_after_stmt(setting, frames, frame, left, no),
             }
+        }
+        Stmt::Switch {
+            on,
+            starts,
+            body,
+            ..
+        } => {
+            let left = left.saturating_sub(1);
+            let left = left_after_expr(setting, frames, frame, left, on);
+            let left = left_after_labels(left, starts.as_slice());
+            left_after_stmts(setting, frames, frame, left, body.as_slice())
         }
         Stmt::While { when, body, .. } => {
             left_after_loop(&*setting, frames, &*frame, left, when, body, &[])

@@ -1,4 +1,4 @@
-use Rattle.std.proofs.Common.{rules, true, false, ◌≡◌, ◌+◌, ◌-◌, ◌*◌, ◌<◌, suc, [], pos, sym, ◌∙◌, ap, subst}
+use Rattle.std.proofs.Common.{rules, true, false, ◌≡◌, ◌+◌, ◌-◌, ◌*◌, ◌<◌, ◌∷◌, ◌++◌, suc, [], pos, take, length, sym, ◌∙◌, ap, subst}
 use Rattle.std.proofs.lemmas.List.{take_all}
 use Rattle.std.proofs.lemmas.Result.{IfOk-weaker, on_ok_weaker}
 use Rattle.std.specs.List.{list_any}
@@ -8,24 +8,27 @@ use Rattle.ba_inline.proofs.Arms.{adds-old, argument-array, argument-value, call
 use Rattle.ba_inline.proofs.Branches.{adds-then, makes-and, makes-copy, makes-or, makes-select, makes-to, makes-truth}
 use Rattle.ba_inline.proofs.Effects.{makes-call_stmt, makes-print}
 use Rattle.ba_tree.proofs.Falling.{body-below, item-below}
-use Rattle.ba_inline.proofs.Forms.{form-Assign, form-Block, form-CallStmt, form-Declare, form-DoWhile, form-For, form-Init, form-InitArray, form-Print, form-Store, form-While}
+use Rattle.ba_inline.proofs.Forms.{form-Assign, form-Block, form-CallStmt, form-Declare, form-DoWhile, form-For, form-Init, form-InitArray, form-Print, form-Store, form-Switch, form-While}
+use Rattle.ba_inline.proofs.Guarding.{IsGrouped, flag-settled, grouped-grows, grouped-more, grouped-none, makes-group}
 use Rattle.ba_inline.proofs.Homes.{makes-row, row_part}
 use Rattle.ba_inline.proofs.Invoking.{makes-beyond}
 use Rattle.ba_inline.proofs.Joining.{makes-as}
 use Rattle.ba_inline.proofs.Keeping.{grows-same}
 use Rattle.ba_inline.proofs.Relaxing.{makes-given}
-use Rattle.ba_inline.proofs.Rows.{arguments-more, arguments-none, stmts-more, stmts-none, values-more, values-none}
+use Rattle.ba_inline.proofs.Rows.{arguments-more, arguments-none, next-taken, stmts-more, stmts-none, values-more, values-none}
 use Rattle.ba_inline.proofs.Scopes.{frame-later, scope-later, scope-of}
 use Rattle.ba_inline.proofs.Statements.{makes-assert, makes-assign, makes-break, makes-condition, makes-continue, makes-no-code, makes-return, makes-return-none}
+use Rattle.ba_inline.proofs.Switching.{switch-made}
 use Rattle.ba_inline.proofs.Values.{makes-binary, makes-const, makes-convert, makes-element, makes-unary, makes-variable}
 use Rattle.ba_inline.specs.Adding.{leave_act, pick_act, unary_act}
 use Rattle.ba_inline.specs.Calling.{arg_has_call, has_call}
 use Rattle.ba_inline.specs.Declarations.{with_var}
 use Rattle.ba_tree.specs.Heights.{arg_weight, arg_weights, height, heights, tallest, weight, weights}
 use Rattle.ba_inline.specs.Making.{Adds, Does, GivesTo, Makes, MakesArguments, MakesValue, MakesValues}
-use Rattle.ba_inline.specs.Names.{IsScope}
+use Rattle.ba_inline.specs.Names.{IsScope, with_home}
 use Rattle.ba_inline.specs.Parts.{arguments_part, assign_part, call_stmt_part, context_in_frame, declare_part, given_part, init_array_part, loop_now, loop_part, optional_now, optional_part, print_part, stmt_part, stmts_part, store_part, value_part, values_part}
 use Rattle.ba_inline.specs.Repeating.{parts_of}
+use Rattle.ba_inline.specs.Switching.{guarded_part, switch_part}
 use Rattle.ba_inline.specs.declared.frames.Wanted.TheVariants as wanted
 use Rattle.ba_numbers.specs.declared.numbers.CType.TheVariants.{I32}
 use Rattle.ba_numbers.specs.declared.numbers.UnOp.TheVariants.{IsZero}
@@ -780,6 +783,25 @@ control::statement-returns-in_ok-optional-in-If t c =
     c.in_ok-optional-in-If.ensures added)
     c.add_branches.ensures
 
+pub control::statement-returns-in-Switch : goal.control::statement-returns-in-Switch
+control::statement-returns-in-Switch t c =
+    let p = c.args.setting.now.program.now in
+    let names = c.args.scope.now in
+    let path = c.args.path.now in
+    let frame = c.args.frame in
+    let low = c.args.declared.now in
+    let old = c.args.out.now.items in
+    let stmt = c.args.stmt.now in
+    let starts = c.as_slice-in-Switch.result.now in
+    let body = c.as_slice-in-Switch-2.result.now in
+    on_ok_weaker c.switch.result (λ made is_frame.
+    makes-as p names path (stmt_part p frame stmt)
+    (switch_part p frame c.in-Switch.stmt c.in-Switch.t c.in-Switch.on starts c.in-Switch.other body)
+    (Does names frame.exits frame.home low) low c.switch.new.declared old c.switch.new.out.items
+    (λ w back t s. form-Switch p frame stmt w back t s c.in-Switch.stmt c.in-Switch.t c.in-Switch.on
+    c.in-Switch.starts c.in-Switch.other c.in-Switch.body starts body c.in-Switch.is
+    c.as_slice-in-Switch.ensures.value c.as_slice-in-Switch-2.ensures.value) (made is_frame)) c.switch.ensures
+
 pub control::statement-returns-in-While : goal.control::statement-returns-in-While
 control::statement-returns-in-While t c =
     let p = c.args.setting.now.program.now in
@@ -1075,3 +1097,92 @@ control::repeat-returns t c =
     c.new-whole.ensures.items c.in_body.ensures c.in_step.ensures c.in_ok-to.ensures c.in_ok-statement.ensures
     (adds-block _ _ _ _ c.in_ok-add.ensures) c.in_ok-statements.ensures
     (adds-loop _ _ _ _ _ _ _ _ c.in_ok-add-2.ensures) (adds-block _ _ _ _ added)) c.add-3.ensures
+
+-- SWITCHES
+
+pub switches::switch-returns : goal.switches::switch-returns
+switches::switch-returns t c =
+    let p = c.args.setting.now.program.now in
+    let names = c.args.scope.now in
+    let path = c.args.path.now in
+    let frame = c.args.frame in
+    let low = c.args.declared.now in
+    let old = c.args.out.now.items in
+    let labels = c.args.labels.now in
+    on_ok_weaker c.add.result (λ added is_frame.
+    switch-made p names path frame c.in_step.result low labels.stmt labels.t c.args.on.now labels.starts.now
+    labels.other c.args.body.now c.in_ok-to.to c.variable.new.self c.given_to.new.declared
+    c.entry_flags.new.declared c.guarded.new.declared old c.add.new.out.items c.new-whole.result.items
+    c.given_to.new.out.items c.entry_flags.new.out.items c.guarded.new.out.items c.as_slice.result.now
+    is_frame
+    c.in_ok-to.ensures.0 c.in_ok-to.ensures.1 c.new-whole.ensures.items c.in_step.ensures
+    c.in_ok-given_to.ensures (rw c.as_slice.ensures.value c.in_ok-flags.ensures.made)
+    (ap length c.as_slice.ensures.value ∙ c.in_ok-flags.ensures.long) c.in_ok-guarded.ensures
+    (adds-block _ _ _ _ added)) c.add.ensures
+
+pub switches::guarded-loop-place-init : goal.switches::guarded-loop-place-init
+switches::guarded-loop-place-init t c = λ is_frame long settled.
+    let p = c.args.setting.now.program.now in
+    let names = c.args.scope.now in
+    let path = c.args.path.now in
+    let frame = c.args.frame in
+    let low = c.args.declared.now in
+    let old = c.args.out.now.items in
+    grouped-none p names path frame low is_frame.naming old c.new.result.items c.new.ensures.items
+
+pub switches::guarded-loop-place-preserved : goal.switches::guarded-loop-place-preserved
+switches::guarded-loop-place-preserved t c = λ is_frame long settled.
+    let p = c.args.setting.now.program.now in
+    let names = c.args.scope.now in
+    let path = c.args.path.now in
+    let frame = c.args.frame in
+    let low = c.args.declared.now in
+    let old = c.args.out.now.items in
+    let i = c.loop-place.place in
+    let body = c.args.body.now in
+    let flags = c.args.flags.now in
+    let stmt = c.index-body-place.result in
+    let now = c.loop-place.declared in
+    let so_far = c.loop-place.invariant is_frame long settled in
+    let more = grouped-more p names path frame low is_frame.naming now c.statement.new.declared old
+    c.loop-place.out.items c.group_for.new.out.items c.loop-place.group.nodes.items
+    c.in_ok-group.group.nodes.items
+    c.statement.new.out.items c.loop-place.group.when c.flag_at.result c.in_ok-group.group.when (take i body)
+    (take i flags) stmt so_far
+    (flag-settled (with_home frame.home names) low flags i c.flag_at.result settled c.flag_at.ensures)
+    c.in_ok-group.ensures
+    (c.in_ok-statement.ensures (frame-later p frame.home names low now (grouped-grows so_far) is_frame)) in
+    subst (λ body. IsGrouped p names path frame low c.statement.new.declared old c.group_for.new.out.items
+    c.statement.new.out.items c.in_ok-group.group.when body (take (i + 1) flags))
+    (sym (next-taken body i stmt stmt c.loop-place-test.true c.index-body-place.is))
+    (subst (λ flags. IsGrouped p names path frame low c.statement.new.declared old c.group_for.new.out.items
+    c.statement.new.out.items c.in_ok-group.group.when (take i body ++ stmt ∷ []) flags)
+    (sym (next-taken flags i c.flag_at.result (Const (pos 0)) (search rules) c.flag_at.ensures)) more)
+
+pub switches::guarded-returns : goal.switches::guarded-returns
+switches::guarded-returns t c =
+    let p = c.args.setting.now.program.now in
+    let names = c.args.scope.now in
+    let path = c.args.path.now in
+    let frame = c.args.frame in
+    let low = c.args.declared.now in
+    let old = c.args.out.now.items in
+    let i = c.loop-place.place in
+    on_ok_weaker c.add_where.result (λ added is_frame long settled.
+    let so_far = c.loop-place.invariant is_frame long settled in
+    subst (λ body. Makes p names path (guarded_part p frame body c.args.flags.now) (Does names frame.exits
+    frame.home low)
+    low c.loop-place.declared old c.add_where.new.out.items) (take_all i c.args.body.now (search rules))
+    (subst (λ flags. Makes p names path (guarded_part p frame (take i c.args.body.now) flags)
+    (Does names frame.exits frame.home low) low c.loop-place.declared old c.add_where.new.out.items)
+    (take_all i c.args.flags.now (search rules))
+    (makes-group p names path frame low is_frame.naming c.loop-place.declared old c.loop-place.out.items
+    c.add_where.new.out.items c.loop-place.group.nodes.items c.loop-place.group.when (take i c.args.body.now)
+    (take i c.args.flags.now) so_far added))) c.add_where.ensures
+
+pub switches::guarded-statement-requires : goal.switches::guarded-statement-requires
+switches::guarded-statement-requires t c =
+    let h : height c.index-body-place.result < heights c.args.body.now =
+    item-below height c.args.body.now c.loop-place.place c.index-body-place.result (search rules) (search
+    rules) in
+    search (rules, h)

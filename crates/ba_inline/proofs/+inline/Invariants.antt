@@ -1,9 +1,10 @@
-use Rattle.std.proofs.Common.{◌+◌, ◌*◌, take}
+use Rattle.std.proofs.Common.{◌≡◌, true, ◌+◌, ◌*◌, take, length}
 use Rattle.std.specs.List.{list_any}
 use Rattle.ba_inline.specs.Calling.{arg_has_call, has_call}
 use Rattle.ba_tree.specs.Heights.{arg_weight, arg_weights, height, heights, optional_stmt_height, tallest, weight, weights}
-use Rattle.ba_inline.specs.Making.{Does, Makes, MakesArguments, MakesValues}
-use Rattle.ba_inline.specs.Names.{IsFrame, IsScope}
+use Rattle.ba_inline.proofs.Guarding.{IsGrouped}
+use Rattle.ba_inline.specs.Making.{AreSettled, Does, Makes, MakesArguments, MakesValues}
+use Rattle.ba_inline.specs.Names.{IsFrame, IsScope, with_home}
 use Rattle.ba_inline.specs.Parts.{arguments_part, stmts_part, values_part}
 use Rattle.ba_inline.proofs.+inline.Given as goal
 
@@ -80,6 +81,14 @@ abbrev pub decreases-control::repeat : goal.decreases-control::repeat
 decreases-control::repeat l = l.frame.frames * tallest l.setting.now.program.now
     + (weight l.parts.now.when.now + height l.parts.now.body.now + heights l.parts.now.step.now + 5)
 
+abbrev pub decreases-switches::switch : goal.decreases-switches::switch
+decreases-switches::switch l = l.frame.frames * tallest l.setting.now.program.now
+    + (weight l.on.now + heights l.body.now + 5)
+
+abbrev pub decreases-switches::guarded : goal.decreases-switches::guarded
+decreases-switches::guarded l = l.frame.frames * tallest l.setting.now.program.now
+    + (heights l.body.now + 1)
+
 -- ROWS: what is made of the first ones
 
 abbrev pub invariant-operands::expressions-loop-expr : goal.invariant-operands::expressions-loop-expr
@@ -102,3 +111,12 @@ invariant-control::statements-loop-stmt l = IsFrame l.setting.program.now l.fram
     (stmts_part l.setting.program.now l.frame (take l.stmt-index l.body))
     (Does l.scope l.frame.exits l.frame.home l.fn.declared)
     l.fn.declared l.declared l.fn.out.items l.out.items
+
+-- statements of a `switch`, of which the last ones stand in a group
+abbrev pub invariant-switches::guarded-loop-place : goal.invariant-switches::guarded-loop-place
+invariant-switches::guarded-loop-place l = IsFrame l.setting.program.now l.frame.home l.scope l.fn.declared
+    → length l.flags ≡ length l.body
+    → AreSettled true (with_home l.frame.home l.scope) l.fn.declared l.flags
+    → IsGrouped l.setting.program.now l.scope l.path l.frame l.fn.declared l.declared l.fn.out.items
+    l.out.items
+    l.group.nodes.items l.group.when (take l.place l.body) (take l.place l.flags)

@@ -20,7 +20,7 @@ use Rattle.ba_interp.proofs.StatementArms.{assign-parts, turn-parts, row-parts, 
 use Rattle.ba_interp.specs.Parts.{parts_of}
 use Rattle.ba_tree.proofs.Equations.{otherwise}
 use Rattle.ba_tree.specs.declared.run.Halt.TheVariants.{Beyond}
-use Rattle.ba_tree.specs.Meaning.{declare, elements_with, given_value, in_turn, set_value, test_behind, type_of}
+use Rattle.ba_tree.specs.Meaning.{declare, elements_with, entered, given_value, in_turn, set_value, test_behind, type_of}
 use Rattle.ba_tree.specs.Acts.{halt_with}
 use Rattle.ba_tree.specs.State.{elements_of, with_elements}
 use Rattle.std.proofs.Common.{zero, suc}
@@ -586,6 +586,52 @@ exec-returns-else-is_zero t c = let fits : SFits w64 c.in_ok-value-in-If.value =
     c.args.path.now) c.in-If.no) (simp to_z-of_z at (sym c.is_zero.ensures ∙ c.if-is_zero.false))
     (rw (← c.deref-else-is_zero.ensures) c.exec-else-is_zero.ensures))
 
+pub exec-returns-in_err-value-in-Switch : goal.exec-returns-in_err-value-in-Switch
+exec-returns-in_err-value-in-Switch t c = let p = err_from_is_err_and
+    c.from_residual-in_err-value-in-Switch.result c.from_residual-in_err-value-in-Switch.ensures.1 in
+    then-ends (forms.switch-parts c.args.setting.now c.args.frame (steps_of c.args.path.now)
+    c.args.machine.now c.args.stmt.now c.in-Switch.stmt c.in-Switch.t c.in-Switch.on c.in-Switch.starts
+    c.in-Switch.other c.in-Switch.body c.in-Switch.is)
+    c.from_residual-in_err-value-in-Switch.result c.given-in-Switch.new.machine p.1 (rw p.2
+    c.in_err-value-in-Switch.ensures)
+
+pub exec-returns-in_err-flow-in-Switch : goal.exec-returns-in_err-flow-in-Switch
+exec-returns-in_err-flow-in-Switch t c = let p = err_from_is_err_and
+    c.from_residual-in_err-flow-in-Switch.result c.from_residual-in_err-flow-in-Switch.ensures.1 in
+    let fits : SFits w64 c.in_ok-value-in-Switch.value = search rules in
+    then-goes (forms.switch-parts c.args.setting.now c.args.frame (steps_of c.args.path.now)
+    c.args.machine.now c.args.stmt.now c.in-Switch.stmt c.in-Switch.t c.in-Switch.on c.in-Switch.starts
+    c.in-Switch.other c.in-Switch.body c.in-Switch.is)
+    c.from_residual-in_err-flow-in-Switch.result c.given-in-Switch.new.machine
+    c.exec_all-in-Switch.new.machine c.in_ok-value-in-Switch.value c.in_ok-value-in-Switch.ensures
+    (then-ends (forms.labelled-parts (context_at c.args.setting.now c.args.frame) (steps_of
+    c.args.path.now) c.given-in-Switch.new.machine c.in-Switch.starts.items c.in-Switch.other
+    c.in-Switch.body.items c.entered-part.result.now c.in_ok-value-in-Switch.value
+    (forms.part-is c.in-Switch.starts.items c.as_slice-in-Switch.result.now c.in_ok-value-in-Switch.value
+    c.in-Switch.other c.label_at-label.result c.in-Switch.body.items c.as_slice-in-Switch-2.result.now
+    c.entered-part.result.now c.as_slice-in-Switch.ensures.value c.as_slice-in-Switch-2.ensures.value
+    (simp to_z-of_z at c.label_at-label.ensures) c.entered-part.ensures))
+    c.from_residual-in_err-flow-in-Switch.result c.exec_all-in-Switch.new.machine p.1 (rw p.2
+    c.in_err-flow-in-Switch.ensures))
+
+pub exec-returns-in_ok-flow-in-Switch : goal.exec-returns-in_ok-flow-in-Switch
+exec-returns-in_ok-flow-in-Switch t c = let fits : SFits w64 c.in_ok-value-in-Switch.value = search rules in
+    then-goes (forms.switch-parts c.args.setting.now c.args.frame (steps_of c.args.path.now)
+    c.args.machine.now c.args.stmt.now c.in-Switch.stmt c.in-Switch.t c.in-Switch.on c.in-Switch.starts
+    c.in-Switch.other c.in-Switch.body c.in-Switch.is)
+    (Ok c.flow_after_loop.result) c.given-in-Switch.new.machine c.exec_all-in-Switch.new.machine
+    c.in_ok-value-in-Switch.value c.in_ok-value-in-Switch.ensures
+    (then-goes (forms.labelled-parts (context_at c.args.setting.now c.args.frame) (steps_of
+    c.args.path.now) c.given-in-Switch.new.machine c.in-Switch.starts.items c.in-Switch.other
+    c.in-Switch.body.items c.entered-part.result.now c.in_ok-value-in-Switch.value
+    (forms.part-is c.in-Switch.starts.items c.as_slice-in-Switch.result.now c.in_ok-value-in-Switch.value
+    c.in-Switch.other c.label_at-label.result c.in-Switch.body.items c.as_slice-in-Switch-2.result.now
+    c.entered-part.result.now c.as_slice-in-Switch.ensures.value c.as_slice-in-Switch-2.ensures.value
+    (simp to_z-of_z at c.label_at-label.ensures) c.entered-part.ensures))
+    (Ok c.flow_after_loop.result) c.exec_all-in-Switch.new.machine c.exec_all-in-Switch.new.machine
+    c.in_ok-flow-in-Switch.flow c.in_ok-flow-in-Switch.ensures
+    (ap (λ flow. (Ok flow, c.exec_all-in-Switch.new.machine)) (sym c.flow_after_loop.ensures)))
+
 pub exec-returns-in-While : goal.exec-returns-in-While
 exec-returns-in-While t c = did-is c.for_loop.result c.for_loop.new.machine (exec (context_at
     c.args.setting.now c.args.frame) c.args.stmt.now (steps_of c.args.path.now) c.args.machine.now)
@@ -1083,6 +1129,14 @@ pub exec_all-exec-requires : goal.exec_all-exec-requires
 exec_all-exec-requires t c = let h : height c.stmt-item.result < heights c.args.body.now =
     item-below height c.args.body.now c.loop-stmt.stmt-index c.stmt-item.result (search rules) (search rules)
     in search (rules, h)
+
+pub exec-exec_all-requires-in-Switch : goal.exec-exec_all-requires-in-Switch
+exec-exec_all-requires-in-Switch t c = let h : heights c.entered-part.result.now + 1 < height
+    c.args.stmt.now =
+    forms.switch-below c.args.stmt.now c.in-Switch.stmt c.in-Switch.t c.in-Switch.on c.in-Switch.starts
+    c.in-Switch.other c.label_at-label.result c.in-Switch.body c.entered-part.result.now c.in-Switch.is
+    (c.entered-part.ensures ∙ ap (entered c.label_at-label.result) c.as_slice-in-Switch-2.ensures.value) in
+    search (rules, h)
 
 pub invoke-exec_all-requires : goal.invoke-exec_all-requires
 invoke-exec_all-requires t c = let frames : c.args.frame.frames ≡ suc (c.args.frame.frames - 1) = search rules

@@ -1,4 +1,4 @@
-use Rattle.std.proofs.Common.{rules, ◌≡◌, ◌+◌, ◌-◌, ◌*◌, ◌<◌, suc, [], sum_by, refl, ◌∙◌, ap}
+use Rattle.std.proofs.Common.{rules, ◌≡◌, ◌+◌, ◌-◌, ◌*◌, ◌<◌, suc, [], length, sum_by, refl, ◌∙◌, ap}
 use Rattle.ba_tree.specs.Heights.{weight, weights, arg_weight, arg_weights, height, heights, tallest}
 use Rattle.ba_tree.specs.Units.{element_units}
 use Rattle.ba_units.specs.Counts.{arg_units, expr_units, stmt_units}
@@ -214,6 +214,17 @@ left_after_stmt-returns-in-Some t c = behind-four _ _ _ _ _ c.args.left _ _ _ _
     c.deref.ensures c.in-Some.is c.deref-in-Some.ensures)
     c.saturating_sub-left-in-If.ensures c.left_after_expr-left-in-If.ensures c.left_after_stmt-left.ensures
     c.left_after_stmt.ensures
+
+pub left_after_stmt-returns-in-Switch : goal.left_after_stmt-returns-in-Switch
+left_after_stmt-returns-in-Switch t c = behind-four _ _ _ _ _ c.args.left _ _ _ _
+    (stmts.stmt-Switch c.args.setting.now c.args.frames c.args.frame.now c.args.stmt.now c.in-Switch.stmt
+    c.in-Switch.t c.in-Switch.on c.in-Switch.starts c.in-Switch.other c.in-Switch.body
+    c.as_slice-in-Switch-2.result.now c.in-Switch.is c.as_slice-in-Switch-2.ensures.value)
+    c.saturating_sub-left-in-Switch.ensures c.left_after_expr-left-in-Switch.ensures
+    (c.left_after_labels-left.ensures
+    ∙ ap (λ starts. c.left_after_expr-left-in-Switch.result - length starts)
+    c.as_slice-in-Switch.ensures.value)
+    c.left_after_stmts-in-Switch.ensures
 
 pub left_after_stmt-returns-in-While : goal.left_after_stmt-returns-in-While
 left_after_stmt-returns-in-While t c = behind-one _ _ c.args.left _
