@@ -597,7 +597,7 @@ two_files 4 'refused: input, error 3' \
 two_files 5 'refused: too large' \
     'p.c: too large: it has more than 20,000 units, its size with calls and loops written out; a lower --bound helps, or a lower --depth in recursion'
 two_files 6 'beyond bound at 1:5' \
-    'p.c:1:5: beyond bound: a loop goes past --bound or a call past --depth; raise --bound (turns, at most 64) or --depth (frames, at most 32)\nint main(int a) {\n    ^'
+    'p.c:1:5: beyond bound: a loop goes past --bound or a call past --depth; raise --bound (turns, at most 128) or --depth (frames, at most 32)\nint main(int a) {\n    ^'
 explained 10 'refused: certificate, error 1 at line 2' \
     'cert.txt:2: error 1: a hint is the number of no live clause\nl 1 -2 0 7 0' check p.c in.txt cert.txt --bound=3
 explained 10 'refused: certificate, error 21 at line 3' \
@@ -633,11 +633,11 @@ words '-b: this is no option of the mode, whose options are --bound --depth' run
 words '--: this is no option of the mode, whose options are none' sample --
 words '--bound: a value has to follow, which does not begin with a hyphen' run p i --bound
 words '--bound: a value has to follow, which does not begin with a hyphen' run p i --bound --depth 3
-words '--bound 65: the value is a whole number of at most seven digits, from 1 to 64' run p i --bound 65
+words '--bound 129: the value is a whole number of at most seven digits, from 1 to 128' run p i --bound 129
 words '--depth 3x: the value is a whole number of at most seven digits, from 1 to 32' run p i --bound 3 --depth=3x
 words '501: the value is a whole number of at most seven digits, from 1 to 500' sample 501
 words '--restart Luby: the value is luby or steady' localise p i --bound 3 --restart Luby
-words '--bound: the option has to be given: the turns of each entry of a loop, 1 to 64' localise p.c in.txt
+words '--bound: the option has to be given: the turns of each entry of a loop, 1 to 128' localise p.c in.txt
 words '--bound: an option stands at most once' run p i --bound 3 --bound=3
 words 'INPUT: this has to be given; the mode takes PROGRAM INPUT' run p --bound 3
 words 'c: this is one too many; the mode takes PROGRAM INPUT' run p i c --bound 3

@@ -61,7 +61,7 @@ is_number_to() {
 # Looks at the value of an option, or of N, by its name.
 read_value() {
     case $1 in
-        bound) most=64 ;;
+        bound) most=128 ;;
         depth) most=32 ;;
         conflicts) most=1000000 ;;
         sets) most=10000 ;;

@@ -19,8 +19,8 @@ bound_with_equals = refl
 
 options_in_any_order : command_of (codes "localise" ∷ codes "--runs" ∷ codes "p.c" ∷ codes "--weights"
     ∷ codes "a=b" ∷ codes "--restart=steady"
-    ∷ codes "in.txt" ∷ codes "--bound" ∷ codes "64" ∷ codes "--depth" ∷ codes "01" ∷ [])
-    ≡ Some (command.Localise (codes "p.c") (codes "in.txt") (record { turns = 64; frames = 1 })
+    ∷ codes "in.txt" ∷ codes "--bound" ∷ codes "128" ∷ codes "--depth" ∷ codes "01" ∷ [])
+    ≡ Some (command.Localise (codes "p.c") (codes "in.txt") (record { turns = 128; frames = 1 })
     (Some (codes "a=b")) 200000 1000 None true true)
 unfolding command_of
 options_in_any_order = refl

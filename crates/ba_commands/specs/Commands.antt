@@ -39,7 +39,7 @@ steady_in (Some word) =
 
 abbrev pub bounds_from : Option Word → Option Word → Option Bounds
 bounds_from bound depth = do
-  turns ← number_of 1 64 bound
+  turns ← number_of 1 128 bound
   frames ← number_or 16 1 32 depth
   Some (record { turns = turns; frames = frames })
 

@@ -150,7 +150,7 @@ fn bounds(matches: &ArgMatches<'_>) -> Option<Bounds>
     ensures { result ≡ bounds_with (first_value (found_of matches.now)) }
 {
     Some(Bounds {
-        turns: number_of(matches, "bound", 1, 64)?,
+        turns: number_of(matches, "bound", 1, 128)?,
         frames: number_or(matches, "depth", 16, 1, 32)?,
     })
 }

@@ -122,7 +122,7 @@ fn are_readable(mode: Mode, words: &[&str]) -> bool
 /// - `sample N`.
 ///
 /// Behind the mode, options and names of files stand in any order, and `--bound=3` is `--bound 3`. A number
-/// is one to seven decimal digits: B is 1 to 64, D 1 to 32, the number of conflicts 1 to 1,000,000, that of
+/// is one to seven decimal digits: B is 1 to 128, D 1 to 32, the number of conflicts 1 to 1,000,000, that of
 /// sets 1 to 10,000, and that of `sample` 1 to 500. Names and values are not empty and do not begin with `-`,
 /// and no option stands twice.
 ///

@@ -131,7 +131,7 @@ fn start<'a>(
 /// The outcome of a run of a program on an input within these bounds, where these statements or places may be relaxed, with these
 /// choices: exactly that of the definition (C90 5.1.2.3 in this profile), for every program and input.
 ///
-/// The bounds are within their limits: from 1 to 64 turns, and from 1 to 32 frames. The one error is want of memory.
+/// The bounds are within their limits: from 1 to 128 turns, and from 1 to 32 frames. The one error is want of memory.
 pub fn run(
     alloc: Global,
     program: &Program,

@@ -13,9 +13,9 @@ pub struct Setting<'a> {
     pub alloc: Global,
     pub program: &'a Program,
     pub allowed: &'a Allowed,
-    /// How many turns each entry of a loop may have, at most 64.
+    /// How many turns each entry of a loop may have, at most 128.
     pub turns: u32,
-    pub ghost few: { turns ≤ 64 },
+    pub ghost few: { turns ≤ 128 },
 }
 
 /// What stands still while a function's body runs: the type that it returns, and how many more frames may begin.

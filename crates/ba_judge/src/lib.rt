@@ -46,7 +46,7 @@ pub struct ProgramJudge<'a> {
 }
 
 impl<'a> ProgramJudge<'a> {
-    /// The judge of this program on this input, within these bounds: from 1 to 64 turns of a loop, and
+    /// The judge of this program on this input, within these bounds: from 1 to 128 turns of a loop, and
     /// from 1 to 32 frames. It takes no memory.
     pub fn new(
         alloc: Global,

@@ -82,10 +82,10 @@ both_true false b h k = h
 
 bounds_within : (bound depth : Option Word) → IfSome (bounds_from bound depth) AreWithin
 bounds_within bound depth =
-    then_if (IsFrom 1 64) AreWithin (number_of 1 64 bound) _ (number_of-range 1 64 bound)
+    then_if (IsFrom 1 128) AreWithin (number_of 1 128 bound) _ (number_of-range 1 128 bound)
     (λ turns few. then_if (IsFrom 1 32) AreWithin (number_or 16 1 32 depth) _ (number_or-range 16 1 32
     depth refl)
-    (λ frames shallow. both_true (is_from 1 64 turns) (is_from 1 32 frames) few shallow))
+    (λ frames shallow. both_true (is_from 1 128 turns) (is_from 1 32 frames) few shallow))
 
 -- conflicts have a number in a settings line
 countable : (n : ℕ) → IsFrom 1 1000000 n → n < 2 ^ 62

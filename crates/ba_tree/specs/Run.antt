@@ -113,7 +113,7 @@ main_of p = function_of p p.main
 
 -- the bounds are within their limits
 abbrev pub are_bounds : Bounds → Bool
-are_bounds b = (nat_le 1 b.turns && nat_le b.turns 64) && (nat_le 1 b.frames && nat_le b.frames 32)
+are_bounds b = (nat_le 1 b.turns && nat_le b.turns 128) && (nat_le 1 b.frames && nat_le b.frames 32)
 
 -- what stands still in main, whose frame is the first one, and in the initialisers of the globals
 abbrev pub context_of : Program → Bounds → Allowed → Context

@@ -14,7 +14,7 @@ pub struct Input {
     pub values: Items<Items<i64>>,
 }
 
-/// How far a run may go: `turns`, from 1 to 64, bounds the turns of each entry of a loop, and `frames`, from 1
+/// How far a run may go: `turns`, from 1 to 128, bounds the turns of each entry of a loop, and `frames`, from 1
 /// to 32, the frames that are active at a time, that of `main` among them.
 #[derive(Clone, Copy, Debug, PartialEq, Eq)]
 pub struct Bounds {

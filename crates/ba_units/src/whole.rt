@@ -32,7 +32,7 @@ fn left_after_declarations(program: &Program, left: u32, vars: &[VarId]) -> u32
 /// The units of a program within these bounds: the sum over the program of what its forms cost, with each call replaced by the
 /// function's body down to the depth, and each loop by its turns; or 20,001 where the sum is larger.
 ///
-/// The bounds are within their limits: from 1 to 64 turns, and from 1 to 32 frames. It takes no memory.
+/// The bounds are within their limits: from 1 to 128 turns, and from 1 to 32 frames. It takes no memory.
 pub fn units(program: &Program, bounds: Bounds) -> u32
     requires bounds { are_bounds bounds ≡ true }
     ensures { result ≡ min (units_of program.now bounds) 20001 }

@@ -188,7 +188,7 @@ fn each_form_of_a_line_is_read_and_written(rt: HostRuntime) {
 /// Settings lines, and the numbers that each names: the loop bound, the depth, the conflicts and the sets.
 static SETTINGS: [(&str, u32, u32, u64, u32); 5] = [
     ("b 5 16 200000 1000", 5, 16, 200_000, 1000),
-    ("b 64 32 1000000 10000", 64, 32, 1_000_000, 10_000),
+    ("b 128 32 1000000 10000", 128, 32, 1_000_000, 10_000),
     ("b 0 0 0 0", 0, 0, 0, 0),
     (
         "b 4294967295 1 1 4294967295",

@@ -19,7 +19,7 @@ use test_programs::examples::SUM;
 
 /// The list of a program and an input, within four frames and so many turns.
 fn list_of(rt: &impl Abort, alloc: Global, program: &str, input: &str, turns: u32) -> WordList {
-    assert!(rt; 1 <= turns && turns <= 64);
+    assert!(rt; 1 <= turns && turns <= 128);
     let program = program_of(rt, alloc, program);
     let input = input_of(rt, alloc, &program, input);
     assert!(rt; are_words(input.values.as_slice()));

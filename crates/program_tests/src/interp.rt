@@ -16,7 +16,7 @@ use test_programs::examples::{
 /// The outcome of a run.
 fn outcome(rt: &impl Abort, alloc: Global, example: &Example) -> Outcome {
     let (program, input, turns, frames, relaxed, choices, _) = *example;
-    assert!(rt; 1 <= turns && turns <= 64 && 1 <= frames && frames <= 32);
+    assert!(rt; 1 <= turns && turns <= 128 && 1 <= frames && frames <= 32);
     let program = program_of(rt, alloc, program);
     let input = input_of(rt, alloc, &program, input);
     let allowed = relaxed.allowed(alloc).expect(rt, "memory");
@@ -155,7 +155,7 @@ fn all_relaxed(rt: &impl Abort, alloc: Global, statements: &[StmtInfo]) -> Allow
 /// Whether a run is good in which every statement may be relaxed.
 fn is_good(rt: &impl Abort, alloc: Global, run_of: &Relaxed) -> bool {
     let (program, input, turns, choices, _) = *run_of;
-    assert!(rt; 1 <= turns && turns <= 64);
+    assert!(rt; 1 <= turns && turns <= 128);
     let program = program_of(rt, alloc, program);
     let input = input_of(rt, alloc, &program, input);
     let allowed = all_relaxed(rt, alloc, program.statements.as_slice());

@@ -12,7 +12,7 @@ use test_programs::examples::{
 
 /// The units of a program.
 fn counted(rt: &impl Abort, alloc: Global, program: &str, turns: u32, frames: u32) -> u32 {
-    assert!(rt; 1 <= turns && turns <= 64 && 1 <= frames && frames <= 32);
+    assert!(rt; 1 <= turns && turns <= 128 && 1 <= frames && frames <= 32);
     let program = program_of(rt, alloc, program);
     units(&program, Bounds { turns, frames })
 }
@@ -124,7 +124,7 @@ static UNITS: [Row; 40] = [
     (ARRAYS, 1, 1, 9),
     (ARRAYS, 1, 2, 23),
     (ARRAYS, 1, 16, 219),
-    (TURNS, 64, 16, 260),
+    (TURNS, 128, 16, 516),
     (JUMPS, 4, 16, 38),
     (BEHIND, 1, 16, 7),
     (BEHIND, 5, 16, 19),

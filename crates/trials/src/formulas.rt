@@ -35,7 +35,7 @@ pub fn try_formula<R: AllocGlobal + Clock + Eprint + Files + Print>(
 /// The bounds that are written so.
 fn bounds_of(turns: &str, frames: &str) -> Result<Bounds> {
     Ok(Bounds {
-        turns: number_to(64, turns)?,
+        turns: number_to(128, turns)?,
         frames: number_to(32, frames)?,
     })
 }

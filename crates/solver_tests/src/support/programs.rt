@@ -18,7 +18,7 @@ pub fn encoded_of(
     turns: u32,
     weights: &str,
 ) -> Encoded {
-    assert!(rt; input.len() <= 65_536 && 1 <= turns && turns <= 64);
+    assert!(rt; input.len() <= 65_536 && 1 <= turns && turns <= 128);
     let program = program_of(alloc, program).expect(rt, "a program");
     let input = read_input(alloc, &program, input.as_bytes()).expect(rt, "an input");
     let weights = read_weights(alloc, &program, weights.as_bytes()).expect(rt, "weights");
