@@ -5,7 +5,7 @@ use Rattle.std.specs.List.{list_any}
 use Rattle.std.specs.Map.{lookup}
 use Rattle.std.specs.Str.{bytes_eq}
 use Rattle.ba_tokens.specs.declared.token.Keyword.{Keyword}
-use Rattle.ba_tokens.specs.declared.token.Keyword.TheVariants.{Char, Short, Int, Long, Signed, Unsigned, Void, Const, Static, If, Else, While, Do, For, Break, Continue, Return, Assert, Printf}
+use Rattle.ba_tokens.specs.declared.token.Keyword.TheVariants.{Char, Short, Int, Long, Signed, Unsigned, Void, Const, Static, If, Else, Switch, Case, Default, While, Do, For, Break, Continue, Return, Assert, Printf}
 use Rattle.ba_tokens.specs.declared.token.Punct.{Punct}
 use Rattle.ba_tokens.specs.declared.token.Punct.TheVariants.{OpenBrace, CloseBrace, OpenParenthesis, CloseParenthesis, OpenBracket, CloseBracket, Semicolon, Comma, Question, Colon, Tilde, Exclamation, Plus, Minus, Star, Slash, Percent, Ampersand, Bar, Caret, Assign, Less, Greater, Dot, Increment, Decrement, ShiftLeft, ShiftRight, LessEqual, GreaterEqual, Equal, NotEqual, AndAnd, OrOr, PlusAssign, MinusAssign, StarAssign, SlashAssign, PercentAssign, AmpersandAssign, CaretAssign, BarAssign, Arrow, ShiftLeftAssign, ShiftRightAssign, Ellipsis}
 
@@ -24,6 +24,9 @@ keywords =
     (codes "static", Static) ∷
     (codes "if", If) ∷
     (codes "else", Else) ∷
+    (codes "switch", Switch) ∷
+    (codes "case", Case) ∷
+    (codes "default", Default) ∷
     (codes "while", While) ∷
     (codes "do", Do) ∷
     (codes "for", For) ∷
@@ -42,8 +45,6 @@ keyword_of word = lookup (bytes_eq word) keywords
 abbrev pub refused_words : List (List ℕ)
 refused_words =
     codes "auto" ∷
-    codes "case" ∷
-    codes "default" ∷
     codes "double" ∷
     codes "enum" ∷
     codes "extern" ∷
@@ -52,7 +53,6 @@ refused_words =
     codes "register" ∷
     codes "sizeof" ∷
     codes "struct" ∷
-    codes "switch" ∷
     codes "typedef" ∷
     codes "union" ∷
     codes "volatile" ∷

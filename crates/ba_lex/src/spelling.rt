@@ -39,6 +39,12 @@ pub(crate) fn keyword_of(word: &[u8]) -> Option<Keyword>
         Some(Keyword::If)
     } else if is_spelled(word, "else") {
         Some(Keyword::Else)
+    } else if is_spelled(word, "switch") {
+        Some(Keyword::Switch)
+    } else if is_spelled(word, "case") {
+        Some(Keyword::Case)
+    } else if is_spelled(word, "default") {
+        Some(Keyword::Default)
     } else if is_spelled(word, "while") {
         Some(Keyword::While)
     } else if is_spelled(word, "do") {
@@ -66,10 +72,6 @@ pub(crate) fn is_refused(word: &[u8]) -> bool
 {
     if is_spelled(word, "auto") {
         true
-    } else if is_spelled(word, "case") {
-        true
-    } else if is_spelled(word, "default") {
-        true
     } else if is_spelled(word, "double") {
         true
     } else if is_spelled(word, "enum") {
@@ -85,8 +87,6 @@ pub(crate) fn is_refused(word: &[u8]) -> bool
     } else if is_spelled(word, "sizeof") {
         true
     } else if is_spelled(word, "struct") {
-        true
-    } else if is_spelled(word, "switch") {
         true
     } else if is_spelled(word, "typedef") {
         true

@@ -8,9 +8,9 @@ use Rattle.ba_tokens.specs.declared.token.Punct.TheVariants as punct
 use Rattle.ba_trees.specs.declared.class.TokenClass.{TokenClass}
 use Rattle.ba_trees.specs.declared.class.TokenClass.TheVariants as class
 use Rattle.ba_trees.specs.Classes.{Classes, class_of, only, word, mark, ◌or◌, declaration_word, type_word, names_type}
-use Rattle.ba_trees.specs.Marks.{leaf, node_of, is_else, type_name, parameters, parameter, array_length, declarators, declarator, braced, declaration, block, statement, for_first, simples, simple, target, arguments, conditional, chain, unary, primary}
-use Rattle.ba_parse.specs.Grammar.{Part, is_nothing, is_words, is_rule, is_second, nothing, token, words, rule, many, deeper, ◌·◌, ◌∣◌, maybe, key, sign, name, in_parentheses, in_brackets, type_words, prefix_sign, step_sign, operand, chained, expression, semicolon, controlled, condition}
-use Rattle.ba_parse.specs.Readings.{operand_start, statement_start, item_start, simple_start}
+use Rattle.ba_trees.specs.Marks.{leaf, node_of, is_else, type_name, parameters, parameter, array_length, declarators, declarator, braced, declaration, block, statement, group, label, for_first, simples, simple, target, arguments, conditional, chain, unary, primary}
+use Rattle.ba_parse.specs.Grammar.{Part, is_nothing, is_words, is_rule, is_second, nothing, token, words, rule, many, deeper, ◌·◌, ◌∣◌, maybe, key, sign, name, in_parentheses, in_brackets, in_braces, type_words, prefix_sign, step_sign, operand, chained, expression, semicolon, controlled, condition}
+use Rattle.ba_parse.specs.Readings.{operand_start, statement_start, label_start, item_start, simple_start}
 use Rattle.ba_parse.proofs.Certified.{First, Sample}
 use Rattle.ba_parse.proofs.Combined.{Example}
 use Rattle.ba_parse.proofs.Repeated.{sample_many}
@@ -264,8 +264,11 @@ from_do = word keyword.Do or from_for
 abbrev from_while : Classes
 from_while = word keyword.While or from_do
 
+abbrev from_switch : Classes
+from_switch = word keyword.Switch or from_while
+
 abbrev from_if : Classes
-from_if = word keyword.If or from_while
+from_if = word keyword.If or from_switch
 
 abbrev from_semicolon : Classes
 from_semicolon = mark punct.Semicolon or simple_start or from_if
@@ -280,6 +283,7 @@ first_statement =
     (first_or_else from_semicolon (first_token (mark punct.Semicolon))
     (first_or_else (simple_start or from_if) (first_then first_simple)
     (first_or_else from_if (first_then (first_key keyword.If))
+    (first_or_else from_switch (first_then (first_key keyword.Switch))
     (first_or_else from_while (first_then (first_key keyword.While))
     (first_or_else from_do (first_then (first_key keyword.Do))
     (first_or_else from_for (first_then (first_key keyword.For))
@@ -287,7 +291,7 @@ first_statement =
     (first_or_else from_continue (first_then (first_key keyword.Continue))
     (first_or_else from_return (first_then (first_key keyword.Return))
     (first_or_else from_assert (first_then (first_key keyword.Assert)) (first_then (first_key keyword.Printf))
-    refl) refl) refl) refl) refl) refl) refl) refl) refl) refl) refl)
+    refl) refl) refl) refl) refl) refl) refl) refl) refl) refl) refl) refl)
 
 from_key : (k : Keyword) → FromAll (key k) (word k)
 from_key k = from_token (word k)
@@ -311,6 +315,10 @@ in_parentheses_sample : {a : Part} → Sample a → Sample (in_parentheses a)
 in_parentheses_sample s = sample_after (sign_sample punct.OpenParenthesis refl refl)
     (sample_after (sample_deeper s) (sign_sample punct.CloseParenthesis refl refl))
 
+in_braces_sample : {a : Part} → Sample a → Sample (in_braces a)
+in_braces_sample s = sample_after (sign_sample punct.OpenBrace refl refl)
+    (sample_after (sample_deeper s) (sign_sample punct.CloseBrace refl refl))
+
 pub from_statement : FromAll (rule statement) statement_start
 from_statement =
     from_rule statement refl
@@ -322,6 +330,8 @@ from_statement =
     (from_either (simple_start or from_if) (from_then from_simple semicolon_sample)
     (from_either from_if (from_then (from_key keyword.If)
     (sample_after condition_sample (sample_after controlled_sample (sample_second sample_no_else))))
+    (from_either from_switch (from_then (from_key keyword.Switch)
+    (sample_after condition_sample (in_braces_sample (sample_many (rule group)))))
     (from_either from_while (from_then (from_key keyword.While)
     (sample_after condition_sample controlled_sample))
     (from_either from_do
@@ -338,7 +348,33 @@ from_statement =
     (sample_after condition_sample semicolon_sample))
     (from_then (from_key keyword.Printf) (sample_after (in_parentheses_sample sample_printed)
     semicolon_sample))
-    refl) refl) refl) refl) refl) refl) refl) refl) refl) refl) refl)
+    refl) refl) refl) refl) refl) refl) refl) refl) refl) refl) refl) refl)
+
+-- GROUPS
+
+colon_sample : Sample (sign punct.Colon)
+colon_sample = sign_sample punct.Colon refl refl
+
+first_label : First (rule label) label_start false
+first_label = first_rule label (first_or_else label_start (first_then (first_key keyword.Case))
+    (first_then (first_key keyword.Default)) refl)
+
+from_label : FromAll (rule label) label_start
+from_label =
+    from_rule label refl
+    (from_either label_start (from_then (from_key keyword.Case) (sample_after sample_expression colon_sample))
+    (from_then (from_key keyword.Default) colon_sample) refl)
+
+pub first_group : First (rule group) label_start false
+first_group = first_rule group (first_then first_label)
+
+pub first_groups : First (many (rule group)) label_start true
+first_groups = first_of_many first_group
+
+pub from_groups : FromAll (many (rule group)) label_start
+from_groups = from_many (from_rule group refl (from_then from_label (sample_many (rule statement))))
+
+-- BLOCKS
 
 pub first_item : First (rule declaration ∣ rule statement) item_start false
 first_item = first_or_else item_start first_declaration first_statement refl

@@ -3,9 +3,9 @@
 use Rattle.std.proofs.Common.{◌≡◌, ℕ, zero, suc, Bool, true, false, if◌then◌else◌, List, [], ◌∷◌, ◌++◌, refl, sym, ap, ◌∙◌, inl, inr, subst}
 use Rattle.ba_tokens.specs.declared.token.Token.{Token}
 use Rattle.ba_trees.specs.Classes.{Classes, declaration_word}
-use Rattle.ba_trees.specs.Marks.{Mark, node_of, one_deeper, yield, is_else, file, parameters, parameter, declaration, statement, arguments}
+use Rattle.ba_trees.specs.Marks.{Mark, node_of, one_deeper, yield, is_else, file, parameters, parameter, declaration, statement, group, arguments}
 use Rattle.ba_parse.specs.Grammar.{Part, Spells, is_nothing, is_rule, is_second, is_none, is_deeper, nothing, rule, many, deeper, ◌∣◌, maybe, listed, expression}
-use Rattle.ba_parse.specs.Readings.{done, syntax, too_deep, Reading, Inner, lowered, next_is, shallow, in_parameters, deeper_in, levels_left, read_inside, operand_start, item_start, read_file}
+use Rattle.ba_parse.specs.Readings.{done, syntax, too_deep, Reading, Inner, lowered, next_is, shallow, in_parameters, deeper_in, levels_left, read_inside, operand_start, label_start, item_start, read_file}
 use Rattle.ba_parse.proofs.Forests.{yield_append, yield_node, yield_deeper}
 use Rattle.ba_parse.proofs.Certified.{Opened, Taken, Done, opened, head_of, always, BeginsWith, First, Sample, false_is_true, cons_is_nil}
 use Rattle.ba_parse.proofs.Combined.{none}
@@ -13,10 +13,10 @@ use Rattle.ba_parse.proofs.Deepened.{in_depth, reads_deeper, reads_shallow, read
 use Rattle.ba_parse.proofs.Tables.{lies_in, outside}
 use Rattle.ba_parse.proofs.Goods.{Good, good_more}
 use Rattle.ba_parse.proofs.ExpressionReadings.{Below, after_a_name, up_to, in_expression_goes, but_closing, but_parenthesis, but_brace, good_expression, good_arguments, good_unary, good_operand1, good_operand2, good_operand3, good_operand4, good_operand5, good_operand6, good_operand7, good_operand8, good_operand9, good_operand10}
-use Rattle.ba_parse.proofs.StatementReadings.{good_maybe_expression, good_statement}
+use Rattle.ba_parse.proofs.StatementReadings.{good_maybe_expression, good_statement, good_groups}
 use Rattle.ba_parse.proofs.DeclarationReadings.{good_type_words, good_parameters, good_items, good_for_head, good_printed, good_file}
 use Rattle.ba_parse.proofs.Starts.{FromAll, first_then, first_maybe, sample_deeper, from_first}
-use Rattle.ba_parse.proofs.Contents.{first_unary, first_chained, first_expression, sample_unary, sample_chained, sample_expression, from_unary, from_chained, from_expression, first_arguments, from_arguments, first_type_words, sample_type_words, from_type_words, first_parameter, first_parameters, from_parameters, sample_statement, first_statement, sample_for_head, from_statement, first_item, first_items, from_items, first_for_head, from_for_head, first_printed, printed_sample, from_printed}
+use Rattle.ba_parse.proofs.Contents.{first_unary, first_chained, first_expression, sample_unary, sample_chained, sample_expression, from_unary, from_chained, from_expression, first_arguments, from_arguments, first_type_words, sample_type_words, from_type_words, first_parameter, first_parameters, from_parameters, sample_statement, first_statement, sample_for_head, from_statement, first_group, first_groups, from_groups, first_item, first_items, from_items, first_for_head, from_for_head, first_printed, printed_sample, from_printed}
 
 deeper_begins : {a : Part} {starts : Classes} {empty : Bool} → First a starts empty →
     First (deeper a) starts empty
@@ -109,6 +109,10 @@ empty_block : Empty (many (rule declaration ∣ rule statement)) []
 empty_block = empty_nil (is_none (rule declaration ∣ rule statement))
     (λ f u h. alone_many (rule declaration ∣ rule statement) item_start first_item f (opened u) h)
 
+empty_groups : Empty (many (rule group)) []
+empty_groups = empty_nil (is_none (rule group))
+    (λ f u h. alone_many (rule group) label_start first_group f (opened u) h)
+
 empty_arguments : Empty (rule arguments) (node_of arguments [])
 empty_arguments = record {
   spelled = is_rule arguments [] (is_second (listed expression) nothing [] is_nothing);
@@ -160,6 +164,7 @@ below_none = record {
       (from_first from_expression) [] empty_length refl;
   below_block = good_shallow_or_empty but_brace first_items from_items [] empty_block refl;
   below_statement = good_shallow none first_statement from_statement sample_statement;
+  below_groups = good_shallow_or_empty but_brace first_groups from_groups [] empty_groups refl;
   below_for = good_shallow but_parenthesis first_for_head from_for_head sample_for_head;
   below_printf = good_shallow but_closing first_printed from_printed printed_sample;
 }
@@ -185,6 +190,7 @@ below_one_more n inner b = record {
   below_length = good_deeper (good_more operand_start but_closing (good_maybe_expression n inner b) refl);
   below_block = good_deeper (good_items n inner b);
   below_statement = good_deeper (good_statement n inner b);
+  below_groups = good_deeper (good_groups n inner b);
   below_for = good_deeper (good_for_head n inner b);
   below_printf = good_deeper (good_printed n inner b);
 }

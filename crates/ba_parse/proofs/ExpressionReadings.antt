@@ -12,9 +12,9 @@ use Rattle.std.specs.Prelude.{pos}
 use Rattle.ba_trees.specs.declared.class.TokenClass.{TokenClass}
 use Rattle.ba_trees.specs.declared.class.TokenClass.TheVariants as class
 use Rattle.ba_trees.specs.Classes.{Classes, class_of, only, word, mark, ◌or◌, declaration_word}
-use Rattle.ba_trees.specs.Marks.{Mark, yield, is_else, parameters, declaration, statement, for_first, simples, arguments, conditional, chain, unary, primary}
+use Rattle.ba_trees.specs.Marks.{Mark, yield, is_else, parameters, declaration, statement, group, for_first, simples, arguments, conditional, chain, unary, primary}
 use Rattle.ba_parse.specs.Grammar.{Part, Spells, token, rule, many, deeper, grammar, ◌·◌, ◌∣◌, maybe, key, sign, name, in_parentheses, in_brackets, type_words, prefix_sign, operator, operand, chained, expression, semicolon}
-use Rattle.ba_parse.specs.Readings.{Reading, Inner, Inside, in_parameters, in_length, in_block, in_statement, in_for, in_printf, in_expression, in_arguments, in_cast, in_unary, in_chained, deeper_in, read_sign, read_key, read_name, read_token, next_is, ◌▹◌, operand_start, statement_start, item_start, simple_start, read_parenthesized, read_bracketed, after_name, read_primary, is_cast, read_unary, read_chain, read_operand, read_branches, read_expression, read_arguments, read_either}
+use Rattle.ba_parse.specs.Readings.{Reading, Inner, Inside, in_parameters, in_length, in_block, in_statement, in_groups, in_for, in_printf, in_expression, in_arguments, in_cast, in_unary, in_chained, deeper_in, read_sign, read_key, read_name, read_token, next_is, ◌▹◌, operand_start, statement_start, label_start, item_start, simple_start, read_parenthesized, read_bracketed, after_name, read_primary, is_cast, read_unary, read_chain, read_operand, read_branches, read_expression, read_arguments, read_either}
 use Rattle.ba_parse.proofs.Forests.{yield_node}
 use Rattle.ba_parse.proofs.Certified.{Opened, opened}
 use Rattle.ba_parse.proofs.Combined.{none, Example}
@@ -127,6 +127,8 @@ pub record Below (n : ℕ) (inner : Inner) : Type 0 where
       (deeper_in inner in_block)
   pub below_statement : Good n (deeper (rule statement)) statement_start false none
       (deeper_in inner in_statement)
+  pub below_groups : Good n (deeper (many (rule group))) label_start true but_brace
+      (deeper_in inner in_groups)
   pub below_for : Good n (deeper for_head) for_start false but_parenthesis (deeper_in inner in_for)
   pub below_printf : Good n (deeper printed) (only class.Quoted) false but_closing (deeper_in inner in_printf)
 

@@ -7,15 +7,15 @@ use Rattle.ba_tokens.specs.declared.token.Keyword.TheVariants as keyword
 use Rattle.ba_tokens.specs.declared.token.Punct.TheVariants as punct
 use Rattle.ba_trees.specs.declared.class.TokenClass.TheVariants as class
 use Rattle.ba_trees.specs.Classes.{Classes, only, word, mark, ◌or◌, declaration_word}
-use Rattle.ba_trees.specs.Marks.{Mark, node_of, yield, is_else, no_else_lost, array_length, block, statement, no_else, simples, simple, target, arguments}
-use Rattle.ba_parse.specs.Grammar.{Part, Spells, is_node, is_nothing, nothing, token, node, rule, ◌·◌, ◌∣◌, maybe, key, name, in_parentheses, step_sign, assign_sign, expression, semicolon, controlled, condition}
-use Rattle.ba_parse.specs.Readings.{Reading, Inner, in_length, in_statement, in_for, in_printf, in_expression, in_arguments, deeper_in, read_key, read_name, read_token, read_node, read_nothing, read_either, read_maybe, next_is, ◌▹◌, operand_start, statement_start, item_start, simple_start, read_parenthesized, read_bracketed, read_expression, read_array_length, maybe_length, read_target, is_called, read_simple, read_simples, read_block, read_condition, maybe_expression, read_if, read_while, read_do, read_for, read_printf, read_keyword_statement, read_statement, read_semicolon}
+use Rattle.ba_trees.specs.Marks.{Mark, node_of, yield, is_else, no_else_lost, array_length, block, statement, no_else, group, label, simples, simple, target, arguments}
+use Rattle.ba_parse.specs.Grammar.{Part, Spells, is_node, is_nothing, nothing, token, node, rule, many, ◌·◌, ◌∣◌, maybe, key, name, in_parentheses, in_braces, step_sign, assign_sign, expression, semicolon, controlled, condition}
+use Rattle.ba_parse.specs.Readings.{Reading, Inner, in_length, in_statement, in_for, in_printf, in_expression, in_arguments, deeper_in, read_key, read_name, read_token, read_node, read_nothing, read_either, read_maybe, read_many, next_is, ◌▹◌, operand_start, statement_start, label_start, item_start, simple_start, read_parenthesized, read_bracketed, read_expression, read_array_length, maybe_length, read_target, is_called, read_simple, read_simples, read_block, read_condition, maybe_expression, read_if, read_switch, read_label, read_group, read_while, read_do, read_for, read_printf, read_keyword_statement, read_statement, read_semicolon}
 use Rattle.ba_parse.proofs.Certified.{Opened, opened, head_of, outcome, always, Reads, BeginsWith, Sample, reads_after, false_is_true}
 use Rattle.ba_parse.proofs.Combined.{none, left_of, reads_known}
 use Rattle.ba_parse.proofs.Repeated.{stays_next, reads_either}
 use Rattle.ba_parse.proofs.Goods.{Good, good_token, good_then, good_skip, good_either, good_maybe, good_many, good_rule, sample_second, first_either}
 use Rattle.ba_parse.proofs.Lookahead.{two, Takes, takes_token, takes_then, takes_node, second_token_then, second_rule, second_then, picks_true, picks_false, good_ahead, Second}
-use Rattle.ba_parse.proofs.ExpressionReadings.{Below, example, good_sign, good_key, good_name, in_expression_goes, for_head, printed, parenthesized, bracketed_or_empty, expression_in_parentheses, expression_in_brackets, arguments_in_parentheses, good_expression}
+use Rattle.ba_parse.proofs.ExpressionReadings.{Below, example, good_sign, good_key, good_name, in_expression_goes, but_brace, for_head, printed, parenthesized, bracketed_or_empty, expression_in_parentheses, expression_in_brackets, arguments_in_parentheses, good_expression}
 
 -- WHAT MAY GO ON
 
@@ -251,6 +251,15 @@ module _ (n : ℕ) (inner : Inner) (b : Below n inner) where
       good_then none (good_key n keyword.If refl refl)
       (good_then none good_condition (good_then none b.below_statement good_else refl) refl) refl
 
+  good_switch : Good n (key keyword.Switch · condition · in_braces (many (rule group))) (word keyword.Switch)
+      false none (read_switch inner)
+  good_switch =
+      good_then none (good_key n keyword.Switch refl refl)
+      (good_then none good_condition
+      (good_then none (good_sign n punct.OpenBrace refl refl)
+      (good_skip (label_start or mark punct.CloseBrace) none b.below_groups (good_sign n punct.CloseBrace refl
+      refl) refl refl) refl) refl) refl
+
   good_while : Good n (key keyword.While · condition · controlled) (word keyword.While) false none
       (read_while inner)
   good_while = good_then none (good_key n keyword.While refl refl)
@@ -300,11 +309,15 @@ module _ (n : ℕ) (inner : Inner) (b : Below n inner) where
   abbrev from_for : Classes
   from_for = word keyword.For or from_break
 
+  abbrev from_while : Classes
+  from_while = word keyword.While or word keyword.Do or from_for
+
   abbrev from_if : Classes
-  from_if = word keyword.If or word keyword.While or word keyword.Do or from_for
+  from_if = word keyword.If or word keyword.Switch or from_while
 
   good_keyword_statement : Good n
       (key keyword.If · condition · controlled · (key keyword.Else · controlled ∣ node no_else nothing)
+      ∣ key keyword.Switch · condition · in_braces (many (rule group))
       ∣ key keyword.While · condition · controlled
       ∣ key keyword.Do · controlled · key keyword.While · condition · semicolon
       ∣ key keyword.For · in_parentheses for_head · controlled
@@ -316,7 +329,8 @@ module _ (n : ℕ) (inner : Inner) (b : Below n inner) where
       from_if false none (read_keyword_statement inner)
   good_keyword_statement =
       good_either (word keyword.If) from_if none good_if
-      (good_either (word keyword.While) (word keyword.While or word keyword.Do or from_for) none good_while
+      (good_either (word keyword.Switch) (word keyword.Switch or from_while) none good_switch
+      (good_either (word keyword.While) from_while none good_while
       (good_either (word keyword.Do) (word keyword.Do or from_for) none good_do
       (good_either (word keyword.For) from_for none good_for
       (good_either (word keyword.Break) from_break none (good_then none (good_key n keyword.Break refl refl)
@@ -325,7 +339,7 @@ module _ (n : ℕ) (inner : Inner) (b : Below n inner) where
       (good_then none (good_key n keyword.Continue refl refl) good_semicolon refl)
       (good_either (word keyword.Return) from_return none good_return
       (good_either (word keyword.Assert) from_assert none good_assert good_printf refl refl) refl refl) refl
-      refl) refl refl) refl refl) refl refl) refl refl) refl refl
+      refl) refl refl) refl refl) refl refl) refl refl) refl refl) refl refl
 
   pub good_statement : Good n (rule statement) statement_start false none (read_statement inner)
   good_statement =
@@ -335,3 +349,24 @@ module _ (n : ℕ) (inner : Inner) (b : Below n inner) where
       good_semicolon
       (good_either simple_start (simple_start or from_if) none (good_then none good_simple good_semicolon
       refl) good_keyword_statement refl refl) refl refl) refl refl)
+
+  -- GROUPS
+
+  good_label : Good n (rule label) label_start false none (read_label inner)
+  good_label =
+      good_rule label refl
+      (good_either (word keyword.Case) label_start none
+      (good_then none (good_key n keyword.Case refl refl)
+      (good_then none (good_expression n inner b) (good_sign n punct.Colon refl refl) refl) refl)
+      (good_then none (good_key n keyword.Default refl refl) (good_sign n punct.Colon refl refl) refl)
+      refl refl)
+
+  good_group : Good n (rule group) label_start false statement_start (read_group inner)
+  good_group =
+      good_rule group refl
+      (good_then statement_start good_label (good_many statement_start statement_start good_statement refl)
+      refl)
+
+  pub good_groups : Good n (many (rule group)) label_start true but_brace
+      (read_many (next_is label_start) (read_group inner))
+  good_groups = good_many label_start but_brace good_group refl

@@ -17,11 +17,12 @@ all_classes =
     class.Name ∷ class.Constant ∷ class.Quoted ∷
     class.Keyword keyword.Char ∷ class.Keyword keyword.Short ∷ class.Keyword keyword.Int ∷
     class.Keyword keyword.Long ∷ class.Keyword keyword.Signed ∷ class.Keyword keyword.Unsigned ∷
-    class.Keyword keyword.Void ∷ class.Keyword keyword.Const ∷ class.Keyword keyword.Static ∷
-    class.Keyword keyword.If ∷ class.Keyword keyword.Else ∷ class.Keyword keyword.While ∷
-    class.Keyword keyword.Do ∷ class.Keyword keyword.For ∷ class.Keyword keyword.Break ∷
-    class.Keyword keyword.Continue ∷ class.Keyword keyword.Return ∷ class.Keyword keyword.Assert ∷
-    class.Keyword keyword.Printf ∷
+    class.Keyword keyword.Void ∷ class.Keyword keyword.Enum ∷ class.Keyword keyword.Const ∷
+    class.Keyword keyword.Static ∷ class.Keyword keyword.If ∷ class.Keyword keyword.Else ∷
+    class.Keyword keyword.Switch ∷ class.Keyword keyword.Case ∷ class.Keyword keyword.Default ∷
+    class.Keyword keyword.While ∷ class.Keyword keyword.Do ∷ class.Keyword keyword.For ∷
+    class.Keyword keyword.Break ∷ class.Keyword keyword.Continue ∷ class.Keyword keyword.Return ∷
+    class.Keyword keyword.Assert ∷ class.Keyword keyword.Printf ∷
     class.Punct punct.OpenBrace ∷ class.Punct punct.CloseBrace ∷ class.Punct punct.OpenParenthesis ∷
     class.Punct punct.CloseParenthesis ∷ class.Punct punct.OpenBracket ∷ class.Punct punct.CloseBracket ∷
     class.Punct punct.Semicolon ∷ class.Punct punct.Comma ∷ class.Punct punct.Question ∷
@@ -47,66 +48,70 @@ keyword_number keyword.Long = 6
 keyword_number keyword.Signed = 7
 keyword_number keyword.Unsigned = 8
 keyword_number keyword.Void = 9
-keyword_number keyword.Const = 10
-keyword_number keyword.Static = 11
-keyword_number keyword.If = 12
-keyword_number keyword.Else = 13
-keyword_number keyword.While = 14
-keyword_number keyword.Do = 15
-keyword_number keyword.For = 16
-keyword_number keyword.Break = 17
-keyword_number keyword.Continue = 18
-keyword_number keyword.Return = 19
-keyword_number keyword.Assert = 20
-keyword_number keyword.Printf = 21
+keyword_number keyword.Enum = 10
+keyword_number keyword.Const = 11
+keyword_number keyword.Static = 12
+keyword_number keyword.If = 13
+keyword_number keyword.Else = 14
+keyword_number keyword.Switch = 15
+keyword_number keyword.Case = 16
+keyword_number keyword.Default = 17
+keyword_number keyword.While = 18
+keyword_number keyword.Do = 19
+keyword_number keyword.For = 20
+keyword_number keyword.Break = 21
+keyword_number keyword.Continue = 22
+keyword_number keyword.Return = 23
+keyword_number keyword.Assert = 24
+keyword_number keyword.Printf = 25
 
 abbrev punct_number : Punct → ℕ
-punct_number punct.OpenBrace = 22
-punct_number punct.CloseBrace = 23
-punct_number punct.OpenParenthesis = 24
-punct_number punct.CloseParenthesis = 25
-punct_number punct.OpenBracket = 26
-punct_number punct.CloseBracket = 27
-punct_number punct.Semicolon = 28
-punct_number punct.Comma = 29
-punct_number punct.Question = 30
-punct_number punct.Colon = 31
-punct_number punct.Tilde = 32
-punct_number punct.Exclamation = 33
-punct_number punct.Plus = 34
-punct_number punct.Minus = 35
-punct_number punct.Star = 36
-punct_number punct.Slash = 37
-punct_number punct.Percent = 38
-punct_number punct.Ampersand = 39
-punct_number punct.Bar = 40
-punct_number punct.Caret = 41
-punct_number punct.Assign = 42
-punct_number punct.Less = 43
-punct_number punct.Greater = 44
-punct_number punct.Increment = 45
-punct_number punct.Decrement = 46
-punct_number punct.ShiftLeft = 47
-punct_number punct.ShiftRight = 48
-punct_number punct.LessEqual = 49
-punct_number punct.GreaterEqual = 50
-punct_number punct.Equal = 51
-punct_number punct.NotEqual = 52
-punct_number punct.AndAnd = 53
-punct_number punct.OrOr = 54
-punct_number punct.PlusAssign = 55
-punct_number punct.MinusAssign = 56
-punct_number punct.StarAssign = 57
-punct_number punct.SlashAssign = 58
-punct_number punct.PercentAssign = 59
-punct_number punct.AmpersandAssign = 60
-punct_number punct.CaretAssign = 61
-punct_number punct.BarAssign = 62
-punct_number punct.ShiftLeftAssign = 63
-punct_number punct.ShiftRightAssign = 64
-punct_number punct.Arrow = 65
-punct_number punct.Dot = 66
-punct_number punct.Ellipsis = 67
+punct_number punct.OpenBrace = 26
+punct_number punct.CloseBrace = 27
+punct_number punct.OpenParenthesis = 28
+punct_number punct.CloseParenthesis = 29
+punct_number punct.OpenBracket = 30
+punct_number punct.CloseBracket = 31
+punct_number punct.Semicolon = 32
+punct_number punct.Comma = 33
+punct_number punct.Question = 34
+punct_number punct.Colon = 35
+punct_number punct.Tilde = 36
+punct_number punct.Exclamation = 37
+punct_number punct.Plus = 38
+punct_number punct.Minus = 39
+punct_number punct.Star = 40
+punct_number punct.Slash = 41
+punct_number punct.Percent = 42
+punct_number punct.Ampersand = 43
+punct_number punct.Bar = 44
+punct_number punct.Caret = 45
+punct_number punct.Assign = 46
+punct_number punct.Less = 47
+punct_number punct.Greater = 48
+punct_number punct.Increment = 49
+punct_number punct.Decrement = 50
+punct_number punct.ShiftLeft = 51
+punct_number punct.ShiftRight = 52
+punct_number punct.LessEqual = 53
+punct_number punct.GreaterEqual = 54
+punct_number punct.Equal = 55
+punct_number punct.NotEqual = 56
+punct_number punct.AndAnd = 57
+punct_number punct.OrOr = 58
+punct_number punct.PlusAssign = 59
+punct_number punct.MinusAssign = 60
+punct_number punct.StarAssign = 61
+punct_number punct.SlashAssign = 62
+punct_number punct.PercentAssign = 63
+punct_number punct.AmpersandAssign = 64
+punct_number punct.CaretAssign = 65
+punct_number punct.BarAssign = 66
+punct_number punct.ShiftLeftAssign = 67
+punct_number punct.ShiftRightAssign = 68
+punct_number punct.Arrow = 69
+punct_number punct.Dot = 70
+punct_number punct.Ellipsis = 71
 
 abbrev class_number : TokenClass → ℕ
 class_number class.Name = 0

@@ -9,7 +9,7 @@ use Rattle.ba_tokens.specs.declared.token.Punct.{Punct}
 use Rattle.ba_tokens.specs.declared.token.Punct.TheVariants as punct
 use Rattle.ba_trees.specs.declared.class.TokenClass.TheVariants as class
 use Rattle.ba_trees.specs.Classes.{Classes, class_of, only, word, mark, ◌or◌, names_type}
-use Rattle.ba_trees.specs.Marks.{Rule, Mark, leaf, enter, leave, down, up, node_of, one_deeper, yield, file, external, type_name, parameters, parameter, no_name, array_length, declarators, declarator, braced, declaration, block, statement, no_else, for_first, simples, simple, target, arguments, conditional, chain, unary, primary}
+use Rattle.ba_trees.specs.Marks.{Rule, Mark, leaf, enter, leave, down, up, node_of, one_deeper, yield, file, external, type_name, parameters, parameter, no_name, array_length, declarators, declarator, braced, declaration, block, statement, no_else, group, label, for_first, simples, simple, target, arguments, conditional, chain, unary, primary}
 
 -- What stands on the right side of a rule. `after a k` is a part and then one that may depend on it; `words
 -- static`
@@ -55,6 +55,9 @@ in_parentheses a = sign punct.OpenParenthesis · deeper a · sign punct.ClosePar
 
 abbrev pub in_brackets : Part → Part
 in_brackets a = sign punct.OpenBracket · deeper a · sign punct.CloseBracket
+
+abbrev pub in_braces : Part → Part
+in_braces a = sign punct.OpenBrace · deeper a · sign punct.CloseBrace
 
 abbrev pub semicolon : Part
 semicolon = sign punct.Semicolon
@@ -152,6 +155,7 @@ statement_part =
     ∣ semicolon
     ∣ rule simple · semicolon
     ∣ key keyword.If · condition · controlled · (key keyword.Else · controlled ∣ node no_else nothing)
+    ∣ key keyword.Switch · condition · in_braces (many (rule group))
     ∣ key keyword.While · condition · controlled
     ∣ key keyword.Do · controlled · key keyword.While · condition · semicolon
     ∣ key keyword.For · in_parentheses (rule for_first · semicolon · maybe expression · semicolon · maybe
@@ -180,10 +184,13 @@ grammar braced =
     sign punct.OpenBrace · expression · many (sign punct.Comma · expression) · maybe (sign punct.Comma) · sign
     punct.CloseBrace
 grammar declaration = type_words false · rule declarators · semicolon
-grammar block = sign punct.OpenBrace · deeper (many (rule declaration ∣ rule statement)) · sign
-    punct.CloseBrace
+grammar block = in_braces (many (rule declaration ∣ rule statement))
 grammar statement = statement_part
 grammar no_else = nothing
+grammar group = rule label · many (rule statement)
+grammar label =
+    key keyword.Case · expression · sign punct.Colon
+    ∣ key keyword.Default · sign punct.Colon
 grammar for_first = type_words false · rule declarators ∣ rule simples ∣ nothing
 grammar simples = listed (rule simple)
 grammar simple =

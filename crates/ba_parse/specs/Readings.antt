@@ -13,7 +13,7 @@ use Rattle.ba_tokens.specs.declared.token.Punct.TheVariants as punct
 use Rattle.ba_trees.specs.declared.class.TokenClass.{TokenClass}
 use Rattle.ba_trees.specs.declared.class.TokenClass.TheVariants as class
 use Rattle.ba_trees.specs.Classes.{Classes, class_of, only, word, mark, ◌or◌, type_word, declaration_word, agree}
-use Rattle.ba_trees.specs.Marks.{Rule, Mark, leaf, node_of, one_deeper, file, external, type_name, parameters, parameter, no_name, array_length, declarators, declarator, braced, declaration, block, statement, no_else, for_first, simples, simple, target, arguments, conditional, chain, unary, primary}
+use Rattle.ba_trees.specs.Marks.{Rule, Mark, leaf, node_of, one_deeper, file, external, type_name, parameters, parameter, no_name, array_length, declarators, declarator, braced, declaration, block, statement, no_else, group, label, for_first, simples, simple, target, arguments, conditional, chain, unary, primary}
 use Rattle.ba_parse.specs.Grammar.{prefix_sign, step_sign, assign_sign, operator, takes_block}
 
 pub data Answer : Type 0 where
@@ -115,6 +115,7 @@ pub data Inside : Type 0 where
   in_length : Inside
   in_block : Inside
   in_statement : Inside
+  in_groups : Inside
   in_for : Inside
   in_printf : Inside
   in_expression : Inside
@@ -123,7 +124,7 @@ pub data Inside : Type 0 where
   in_unary : Inside
   in_chained : ℕ → Inside
 
--- what an expression, an assignment or the like, a statement begins with
+-- what an expression, an assignment or the like, a statement, a label, an item of a block begins with
 abbrev pub operand_start : Classes
 operand_start = only class.Name or only class.Constant or mark punct.OpenParenthesis or prefix_sign
 
@@ -132,11 +133,14 @@ simple_start = only class.Name or step_sign
 
 abbrev pub statement_start : Classes
 statement_start =
-    mark punct.OpenBrace or mark punct.Semicolon or simple_start or word keyword.If or word keyword.While or
-    word keyword.Do
+    mark punct.OpenBrace or mark punct.Semicolon or simple_start or word keyword.If or word keyword.Switch or
+    word keyword.While or word keyword.Do
     or word keyword.For or word keyword.Break or word keyword.Continue or word keyword.Return or word
     keyword.Assert
     or word keyword.Printf
+
+abbrev pub label_start : Classes
+label_start = word keyword.Case or word keyword.Default
 
 abbrev pub item_start : Classes
 item_start = declaration_word false or statement_start
@@ -146,6 +150,7 @@ starts_of in_parameters = declaration_word false
 starts_of in_length = operand_start
 starts_of in_block = item_start
 starts_of in_statement = statement_start
+starts_of in_groups = label_start
 starts_of in_for = declaration_word false or simple_start or mark punct.Semicolon
 starts_of in_printf = only class.Quoted
 starts_of in_expression = operand_start
@@ -160,6 +165,7 @@ when_empty in_parameters = read_node parameters read_nothing
 when_empty in_length = read_nothing
 when_empty in_block = read_nothing
 when_empty in_statement = syntax
+when_empty in_groups = read_nothing
 when_empty in_for = syntax
 when_empty in_printf = syntax
 when_empty in_expression = syntax
@@ -320,6 +326,16 @@ read_if inner =
     ▹ read_either (next_is (word keyword.Else)) (read_key keyword.Else ▹ deeper_in inner in_statement)
     (read_node no_else read_nothing)
 
+abbrev pub read_label : Inner → Reading
+read_label inner = read_node label
+    (read_either (next_is (word keyword.Case)) (read_key keyword.Case ▹ read_expression inner ▹ read_sign punct.Colon)
+    (read_key keyword.Default ▹ read_sign punct.Colon))
+
+abbrev pub read_switch : Inner → Reading
+read_switch inner =
+    read_key keyword.Switch ▹ read_condition inner ▹ read_sign punct.OpenBrace ▹ deeper_in inner in_groups
+    ▹ read_sign punct.CloseBrace
+
 abbrev pub read_while : Inner → Reading
 read_while inner = read_key keyword.While ▹ read_condition inner ▹ deeper_in inner in_statement
 
@@ -336,6 +352,7 @@ read_printf inner = read_key keyword.Printf ▹ read_parenthesized inner in_prin
 abbrev pub read_keyword_statement : Inner → Reading
 read_keyword_statement inner =
     read_either (next_is (word keyword.If)) (read_if inner)
+    (read_either (next_is (word keyword.Switch)) (read_switch inner)
     (read_either (next_is (word keyword.While)) (read_while inner)
     (read_either (next_is (word keyword.Do)) (read_do inner)
     (read_either (next_is (word keyword.For)) (read_for inner)
@@ -345,7 +362,7 @@ read_keyword_statement inner =
     ▹ read_semicolon)
     (read_either (next_is (word keyword.Assert)) (read_key keyword.Assert ▹ read_condition inner
     ▹ read_semicolon)
-    (read_printf inner))))))))
+    (read_printf inner)))))))))
 
 abbrev pub read_statement : Inner → Reading
 read_statement inner = read_node statement
@@ -381,6 +398,9 @@ abbrev pub read_item : Inner → Reading
 read_item inner = read_either (next_is (declaration_word false)) (read_declaration inner)
     (read_statement inner)
 
+abbrev pub read_group : Inner → Reading
+read_group inner = read_node group (read_label inner ▹ read_many (next_is statement_start) (read_statement inner))
+
 abbrev pub read_for_head : Inner → Reading
 read_for_head inner =
     read_for_first inner ▹ read_semicolon ▹ maybe_expression inner ▹ read_semicolon ▹ read_maybe simple_start
@@ -396,6 +416,7 @@ read_inside inner in_parameters = read_parameters inner
 read_inside inner in_length = maybe_expression inner
 read_inside inner in_block = read_many (next_is item_start) (read_item inner)
 read_inside inner in_statement = read_statement inner
+read_inside inner in_groups = read_many (next_is label_start) (read_group inner)
 read_inside inner in_for = read_for_head inner
 read_inside inner in_printf = read_printed inner
 read_inside inner in_expression = read_expression inner

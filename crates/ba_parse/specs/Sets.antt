@@ -7,7 +7,7 @@ use Rattle.ba_parse.specs.declared.sets.TokenSet.{TokenSet}
 use Rattle.ba_parse.specs.declared.sets.TokenSet.TheVariants as set
 use Rattle.ba_trees.specs.Classes.{Classes, only, word, mark, ◌or◌, declaration_word}
 use Rattle.ba_parse.specs.Grammar.{prefix_sign, step_sign, assign_sign, operator}
-use Rattle.ba_parse.specs.Readings.{operand_start, simple_start, statement_start, item_start}
+use Rattle.ba_parse.specs.Readings.{operand_start, simple_start, statement_start, label_start, item_start}
 
 abbrev pub classes : TokenSet → Classes
 classes set.Name = only class.Name
@@ -23,5 +23,6 @@ classes (set.Operator n) = operator n
 classes set.OperandStart = operand_start
 classes set.SimpleStart = simple_start
 classes set.StatementStart = statement_start
+classes set.LabelStart = label_start
 classes set.ItemStart = item_start
 classes set.ForStart = declaration_word false or simple_start or mark punct.Semicolon

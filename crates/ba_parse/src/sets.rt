@@ -3,7 +3,7 @@
 ghost use Rattle.std.specs.Prelude.{◌≡◌};
 ghost use Rattle.ba_trees.specs.Classes.{type_word, declaration_word, word, mark};
 ghost use Rattle.ba_parse.specs.Grammar.{prefix_sign, step_sign, assign_sign, operator};
-ghost use Rattle.ba_parse.specs.Readings.{operand_start, simple_start, statement_start};
+ghost use Rattle.ba_parse.specs.Readings.{operand_start, simple_start, statement_start, label_start};
 ghost use Rattle.ba_parse.specs.Sets.{classes};
 
 use ba_tokens::token::{Keyword, Punct};
@@ -33,6 +33,8 @@ pub enum TokenSet {
     SimpleStart,
     /// What a statement begins with.
     StatementStart,
+    /// What a label begins with.
+    LabelStart,
     /// What an item of a block begins with.
     ItemStart,
     /// What the head of a `for` begins with.
@@ -58,6 +60,7 @@ impl TokenSet {
             TokenSet::OperandStart => starts_operand(class),
             TokenSet::SimpleStart => starts_simple(class),
             TokenSet::StatementStart => starts_statement(class),
+            TokenSet::LabelStart => starts_label(class),
             TokenSet::ItemStart => is_declaration_word(class, false) || starts_statement(class),
             TokenSet::ForStart => {
                 is_declaration_word(class, false)
@@ -184,6 +187,7 @@ fn starts_statement(class: TokenClass) -> bool
         || is_mark(class, Punct::Semicolon)
         || starts_simple(class)
         || is_word(class, Keyword::If)
+        || is_word(class, Keyword::Switch)
         || is_word(class, Keyword::While)
         || is_word(class, Keyword::Do)
         || is_word(class, Keyword::For)
@@ -192,4 +196,10 @@ fn starts_statement(class: TokenClass) -> bool
         || is_word(class, Keyword::Return)
         || is_word(class, Keyword::Assert)
         || is_word(class, Keyword::Printf)
+}
+
+fn starts_label(class: TokenClass) -> bool
+    ensures { result ≡ label_start class }
+{
+    is_word(class, Keyword::Case) || is_word(class, Keyword::Default)
 }

@@ -9,10 +9,10 @@ ghost use Rattle.ba_trees.specs.declared.class.TokenClass.TheVariants as class;
 ghost use Rattle.ba_trees.specs.Classes.{mark, only};
 ghost use Rattle.ba_parse.specs.Grammar.{step_sign, assign_sign};
 ghost use Rattle.ba_trees.specs.Marks.{leaf, simple};
-ghost use Rattle.ba_parse.specs.Readings.{◌▹◌, read_maybe, read_either, read_many, read_token, read_node, read_name, read_sign, read_bracketed, read_parenthesized, next_is, levels_left, in_expression, in_arguments, in_for, in_printf, simple_start, read_expression, read_target, read_simple, read_simples, read_for_first, read_condition, read_for_head, read_printed};
+ghost use Rattle.ba_parse.specs.Readings.{◌▹◌, read_maybe, read_either, read_many, read_token, read_node, read_name, read_sign, read_bracketed, read_parenthesized, next_is, levels_left, in_expression, in_arguments, in_for, in_printf, simple_start, read_expression, read_target, read_simple, read_simples, read_for_first, read_condition, read_label, read_for_head, read_printed};
 ghost use Rattle.ba_parse.specs.Telling.{Told};
 ghost use Rattle.ba_trees.specs.Views.{optional, joined};
-ghost use Rattle.ba_trees.specs.SimpleMarks.{condition_marks, for_first_marks, for_head_marks, index_marks, listed_simple_marks, printed_marks, simple_marks, simples_marks, target_marks};
+ghost use Rattle.ba_trees.specs.SimpleMarks.{condition_marks, for_first_marks, for_head_marks, index_marks, label_marks, listed_simple_marks, printed_marks, simple_marks, simples_marks, target_marks};
 
 use crate::declarations::{declarators, maybe_expression};
 use crate::expressions::{
@@ -21,15 +21,17 @@ use crate::expressions::{
 use crate::reader::{Reader, Stop};
 use crate::sets::TokenSet;
 use crate::types::type_name;
-use ba_tokens::token::{Punct, Token};
+use ba_tokens::token::{Keyword, Punct, Token};
 use ba_trees::tree::statements::{
-    Condition, ForFirst, ForHead, Index, ListedSimple, Printed, Simple, Simples, Target,
+    Condition, ForFirst, ForHead, Index, Label, ListedSimple, Printed, Simple, Simples, Target,
 };
 use std::alloc::Global;
 
 const OPEN: TokenSet = TokenSet::Punct(Punct::OpenParenthesis);
 
 const CLOSE: TokenSet = TokenSet::Punct(Punct::CloseParenthesis);
+
+const COLON: TokenSet = TokenSet::Punct(Punct::Colon);
 
 const COMMA: TokenSet = TokenSet::Punct(Punct::Comma);
 
@@ -205,6 +207,30 @@ pub fn condition(alloc: Global, reader: &mut Reader, levels: u32) -> Result<Cond
     let test = inner_expression(alloc, reader, levels)?;
     let close = reader.take(CLOSE)?;
     Ok(Condition { open, test, close })
+}
+
+/// A label of a `switch` (C90 6.6.1).
+///
+/// # Errors
+///
+/// The reading's own, and want of memory.
+pub fn label(alloc: Global, reader: &mut Reader, levels: u32) -> Result<Label, Stop>
+    ensures { Told label_marks result (read_label (levels_left levels) reader.old) reader.new }
+{
+    if reader.next_is(TokenSet::Keyword(Keyword::Case)) {
+        let keyword = reader.take(TokenSet::Keyword(Keyword::Case))?;
+        let value = conditional(alloc, reader, levels)?;
+        let colon = reader.take(COLON)?;
+        Ok(Label::Case {
+            keyword,
+            value,
+            colon,
+        })
+    } else {
+        let keyword = reader.take(TokenSet::Keyword(Keyword::Default))?;
+        let colon = reader.take(COLON)?;
+        Ok(Label::Default { keyword, colon })
+    }
 }
 
 fn for_first(alloc: Global, reader: &mut Reader, levels: u32) -> Result<ForFirst, Stop>

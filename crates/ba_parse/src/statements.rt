@@ -4,23 +4,23 @@
 
 ghost use Rattle.std.specs.Prelude.{◌≡◌, ◌∷◌, [], map, option_map, MatchResult};
 ghost use Rattle.ba_tokens.specs.declared.token.Keyword.TheVariants as keyword;
-ghost use Rattle.ba_parse.specs.Readings.{◌▹◌, read_many, read_key, read_semicolon, next_is, item_start, levels_left, deeper_in, shallow, in_block, in_statement, in_for, maybe_expression, read_if, read_while, read_do, read_for, read_simple, read_block, read_item, read_statement, read_keyword_statement, read_condition, read_printf};
+ghost use Rattle.ba_parse.specs.Readings.{◌▹◌, read_many, read_key, read_semicolon, next_is, item_start, label_start, statement_start, levels_left, deeper_in, shallow, in_block, in_statement, in_groups, in_for, maybe_expression, read_if, read_switch, read_group, read_while, read_do, read_for, read_simple, read_block, read_item, read_statement, read_keyword_statement, read_condition, read_printf};
 ghost use Rattle.ba_parse.specs.Telling.{Told};
 ghost use Rattle.ba_trees.specs.Marks.{leaf, one_deeper};
 ghost use Rattle.ba_parse.specs.declared.reader.Stop.TheVariants.{Memory};
 ghost use Rattle.ba_parse.specs.Tails.{read_else, read_jump, read_statement_form};
 ghost use Rattle.ba_trees.specs.Views.{joined};
 ghost use Rattle.ba_trees.specs.SimpleMarks.{for_head_marks};
-ghost use Rattle.ba_trees.specs.StatementMarks.{or_no_else, block_marks, controlled_marks, else_marks, form_marks, item_marks, statement_marks};
+ghost use Rattle.ba_trees.specs.StatementMarks.{or_no_else, block_marks, controlled_marks, else_marks, form_marks, group_marks, item_marks, statement_marks};
 
 use crate::declarations::{declaration, maybe_expression};
 use crate::expressions::refusal;
 use crate::reader::{Reader, Stop};
 use crate::sets::TokenSet;
-use crate::simple::{condition, inner_for_head, inner_printed, simple};
+use crate::simple::{condition, inner_for_head, inner_printed, label, simple};
 use ba_tokens::token::{Keyword, Punct, Token};
 use ba_trees::tree::statements::{
-    Block, BlockItem, Controlled, DoWhile, Else, For, ForHead, Statement, StatementForm,
+    Block, BlockItem, Controlled, DoWhile, Else, For, ForHead, Group, Statement, StatementForm,
 };
 use std::alloc::Global;
 
@@ -165,6 +165,8 @@ fn keyword_statement(alloc: Global, reader: &mut Reader, levels: u32) -> Result<
 {
     if reader.next_is(TokenSet::Keyword(Keyword::If)) {
         if_statement(alloc, reader, levels)
+    } else if reader.next_is(TokenSet::Keyword(Keyword::Switch)) {
+        switch_statement(alloc, reader, levels)
     } else if reader.next_is(TokenSet::Keyword(Keyword::While)) {
         while_statement(alloc, reader, levels)
     } else if reader.next_is(TokenSet::Keyword(Keyword::Do)) {
@@ -206,6 +208,97 @@ fn maybe_else(alloc: Global, reader: &mut Reader, levels: u32) -> Result<Option<
         keyword,
         statement: body,
     }))
+}
+
+/// A `switch` (C90 6.6.4.2).
+#[cycle(statement)]
+fn switch_statement(alloc: Global, reader: &mut Reader, levels: u32) -> Result<StatementForm, Stop>
+    ensures { Told form_marks result (read_switch (levels_left levels) reader.old) reader.new }
+{
+    let keyword = reader.take(TokenSet::Keyword(Keyword::Switch))?;
+    let on = condition(alloc, reader, levels)?;
+    let open = reader.take(TokenSet::Punct(Punct::OpenBrace))?;
+    let groups = inner_groups(alloc, reader, levels)?;
+    let close = reader.take(TokenSet::Punct(Punct::CloseBrace))?;
+    Ok(StatementForm::Switch {
+        keyword,
+        condition: on,
+        open,
+        groups,
+        close,
+    })
+}
+
+/// What stands between the braces of a `switch`.
+#[cycle(statement)]
+fn inner_groups(alloc: Global, reader: &mut Reader, levels: u32) -> Result<Vec<Group>, Stop>
+    ensures { Told (λ v. joined (map group_marks v.items)) result
+        (levels_left levels in_groups reader.old) reader.new }
+{
+    if levels == 0 {
+        return no_groups(alloc, reader);
+    }
+    groups(alloc, reader, levels - 1)
+}
+
+/// The labels and their statements where no level is left: none, or refused.
+fn no_groups(alloc: Global, reader: &Reader) -> Result<Vec<Group>, Stop>
+    ensures { Told (λ v. joined (map group_marks v.items)) result (shallow in_groups reader.now)
+        reader.now }
+{
+    if reader.next_is(TokenSet::LabelStart) {
+        return Err(Stop::TooDeep);
+    }
+    Ok(Vec::new(alloc))
+}
+
+#[cycle(statement)]
+fn groups(alloc: Global, reader: &mut Reader, levels: u32) -> Result<Vec<Group>, Stop>
+    ensures { Told (λ v. joined (map group_marks v.items)) result
+        (read_many (next_is label_start) (read_group (levels_left levels)) reader.old)
+        reader.new }
+{
+    let mut all = Vec::new(alloc);
+    let most = reader.rest().len();
+    for _read in 0..most {
+        if !reader.next_is(TokenSet::LabelStart) {
+            return Ok(all);
+        }
+        let next = group(alloc, reader, levels)?;
+        all.push(next)?;
+    }
+    Ok(all)
+}
+
+/// A label, and the statements up to the next one.
+#[cycle(statement)]
+fn group(alloc: Global, reader: &mut Reader, levels: u32) -> Result<Group, Stop>
+    ensures { Told group_marks result (read_group (levels_left levels) reader.old) reader.new }
+{
+    let named = label(alloc, reader, levels)?;
+    let held = statements(alloc, reader, levels)?;
+    Ok(Group {
+        label: named,
+        statements: held,
+    })
+}
+
+#[cycle(statement)]
+fn statements(alloc: Global, reader: &mut Reader, levels: u32) -> Result<Vec<Statement>, Stop>
+    ensures { Told (λ v. joined (map statement_marks v.items)) result
+        (read_many (next_is statement_start) (read_statement (levels_left levels)) reader.old)
+        reader.new }
+{
+    let mut all = Vec::new(alloc);
+    let most = reader.rest().len();
+    for _read in 0..most {
+        if !reader.next_is(TokenSet::StatementStart) {
+            return Ok(all);
+        }
+        let next = statement(alloc, reader, levels)?;
+        all.push(next)?;
+    }
+    Ok(all)
 }
 
 #[cycle(statement)]

@@ -8,7 +8,7 @@ abbrev pub mark_of : Scope → Mark
 mark_of scope = record {
   count = length scope.known;
   depth = scope.depth;
-  in_loop = scope.in_loop;
+  exits = scope.exits;
   result =
       scope.result;
 }
@@ -17,7 +17,7 @@ abbrev pub back_to : Mark → Scope → Scope
 back_to mark scope = record scope {
   known = take mark.count scope.known;
   depth = mark.depth;
-  in_loop =
-      mark.in_loop;
+  exits =
+      mark.exits;
   result = mark.result;
 }

@@ -17,6 +17,7 @@ use ba_items::Items;
 use ba_numbers::ids::VarId;
 use ba_numbers::numbers::CType;
 use ba_typing::meanings::{Entry, Meaning, Signature};
+use ba_typing::names::Exits;
 use ba_typing::text::Text;
 use std::alloc::{AllocError, Global};
 use std::marker::Model;
@@ -335,13 +336,13 @@ fn undefine<'a>(definitions: &mut Places<'a>, name: &Text<'a>, is_first: bool)
 }
 
 /// What an expression or a statement finds around it: the functions of the file; the variables that are in scope; how many scopes are
-/// inside the file's, where parameters and a function's block are one; whether a loop is around; and the type that the function around
+/// inside the file's, where parameters and a function's block are one; which jumps are accepted; and the type that the function around
 /// returns, `None` for `void`.
 pub struct Scope<'a> {
     functions: Functions<'a>,
     variables: Variables<'a>,
     depth: u32,
-    in_loop: bool,
+    exits: Exits,
     result: Option<CType>,
 }
 
@@ -351,19 +352,19 @@ impl<'a> Drop for Scope<'a> {
             functions: _,
             variables: _,
             depth: _,
-            in_loop: _,
+            exits: _,
             result: _,
         } = self;
     }
 }
 
-/// What is around a part of the text: how many variables are in scope, how many scopes are inside the file's, whether a loop is around,
+/// What is around a part of the text: how many variables are in scope, how many scopes are inside the file's, which jumps are accepted,
 /// and the type that the function around returns.
 #[derive(Clone, Copy, Debug, PartialEq, Eq)]
 pub struct Mark {
     count: usize,
     depth: u32,
-    in_loop: bool,
+    exits: Exits,
     result: Option<CType>,
 }
 
@@ -376,7 +377,7 @@ impl<'a> Model for Scope<'a> {
       functions = scope.functions;
       known = scope.variables;
       depth = scope.depth;
-      in_loop = scope.in_loop;
+      exits = scope.exits;
       result = scope.result;
     } };
 }
@@ -390,7 +391,10 @@ impl<'a> Scope<'a> {
             functions,
             variables: Variables::new(alloc),
             depth: 0,
-            in_loop: false,
+            exits: Exits {
+                breaks: false,
+                continues: false,
+            },
             result: None,
         }
     }
@@ -402,11 +406,11 @@ impl<'a> Scope<'a> {
         self.depth
     }
 
-    /// Whether a loop is around.
-    pub fn is_in_loop(&self) -> bool
-        ensures { result ≡ self.now.in_loop }
+    /// Which jumps are accepted.
+    pub fn exits(&self) -> Exits
+        ensures { result ≡ self.now.exits }
     {
-        self.in_loop
+        self.exits
     }
 
     /// The type that the function around returns, `None` for `void`.
@@ -457,7 +461,7 @@ impl<'a> Scope<'a> {
         Mark {
             count: self.variables.len(),
             depth: self.depth,
-            in_loop: self.in_loop,
+            exits: self.exits,
             result: self.result,
         }
     }
@@ -468,15 +472,15 @@ impl<'a> Scope<'a> {
     {
         self.variables.truncate(mark.count);
         self.depth = mark.depth;
-        self.in_loop = mark.in_loop;
+        self.exits = mark.exits;
         self.result = mark.result;
     }
 
-    /// A loop is around from now on, or none.
-    pub fn set_in_loop(&mut self, in_loop: bool)
-        ensures { self.new ≡ record self.old { in_loop = in_loop } }
+    /// These jumps are accepted from now on.
+    pub fn set_exits(&mut self, exits: Exits)
+        ensures { self.new ≡ record self.old { exits = exits } }
     {
-        self.in_loop = in_loop;
+        self.exits = exits;
     }
 
     /// The function around returns this type from now on.

@@ -1,5 +1,5 @@
 -- What statements that hold others add, from what the code makes of their parts.
-use Rattle.std.proofs.Common.{◌≡◌, pos, Bool, Option, None, Some, Result, List, [], ◌∷◌, ◌++◌, map, length, take, refl, sym, ◌∙◌, ap, subst}
+use Rattle.std.proofs.Common.{◌≡◌, pos, Option, None, Some, Result, List, [], ◌∷◌, ◌++◌, map, length, take, refl, sym, ◌∙◌, ap, subst}
 use Rattle.std.specs.Prelude.{OnOk}
 use Rattle.std.proofs.lemmas.List.{take_at}
 use Rattle.std.proofs.lemmas.Result.{on_ok_weaker}
@@ -35,6 +35,7 @@ use Rattle.ba_statements.specs.declared.control.Head.{Head}
 use Rattle.ba_statements.specs.declared.control.Test.{Test}
 use Rattle.ba_expressions.specs.declared.judged.Judged.{Judged}
 use Rattle.ba_typing.specs.declared.meanings.Entry.{Entry}
+use Rattle.ba_typing.specs.declared.names.Exits.{Exits}
 use Rattle.ba_scopes.specs.declared.scopes.Mark.{Mark}
 use Rattle.ba_typing.specs.declared.meanings.Signature.{Signature}
 use Rattle.ba_expressions.specs.declared.tally.Tally.{Tally}
@@ -46,11 +47,11 @@ use Rattle.ba_statements.proofs.StatementSteps.{test-is}
 -- WHAT WAS ADDED
 
 -- what stands behind what was added
-behind-added : (w mid : Work) (a : Added) → mid ≡ with_added w a → before_of mid ≡ behind (before_of w) a
+pub behind-added : (w mid : Work) (a : Added) → mid ≡ with_added w a → before_of mid ≡ behind (before_of w) a
 behind-added w mid a is = ap before_of is ∙ before-added w a
 
 -- something, and then something else
-both-added : (w mid u : Work) (a b : Added) → mid ≡ with_added w a → u ≡ with_added mid b
+pub both-added : (w mid u : Work) (a b : Added) → mid ≡ with_added w a → u ≡ with_added mid b
     → u ≡ with_added w (a and b)
 both-added w mid u a b begun ended = ended ∙ ap (λ m. with_added m b) begun ∙ with_added-both w a b
 
@@ -128,12 +129,13 @@ for_scope-known (for_first.Declaration name declarators) scope = refl
 for_scope-known (for_first.Simples s) scope = refl
 for_scope-known for_first.Nothing scope = refl
 
--- behind the body of a loop
-pub loop-back : (scope around turned k : Scope) (is_in_loop : Bool) → is_in_loop ≡ scope.in_loop
-    → around ≡ looping scope → turned ≡ around → k ≡ record turned { in_loop = is_in_loop } → k ≡ scope
-loop-back scope around turned k is_in_loop was inside stays is =
-    is ∙ ap (λ (k : Scope). record k { in_loop = is_in_loop }) (stays ∙ inside)
-    ∙ ap (λ b. record scope { in_loop = b }) was
+-- behind the body of a loop or of a `switch`, where other jumps were accepted
+pub exits-back : (scope around turned k : Scope) (inside before : Exits) → before ≡ scope.exits
+    → around ≡ record scope { exits = inside } → turned ≡ around → k ≡ record turned { exits = before }
+    → k ≡ scope
+exits-back scope around turned k inside before was entered stays is =
+    is ∙ ap (λ (k : Scope). record k { exits = before }) (stays ∙ entered)
+    ∙ ap (λ (e : Exits). record scope { exits = e }) was
 
 -- BLOCKS
 

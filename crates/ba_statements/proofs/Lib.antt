@@ -6,3 +6,4 @@ pub mod Declaring
 pub mod CallSteps
 pub mod AssignmentSteps
 pub mod PrintSteps
+pub mod LabelSteps

@@ -1,5 +1,5 @@
 -- What statements add, from the judgements of their expressions.
-use Rattle.std.proofs.Common.{◌≡◌, not, List, [], ◌∷◌, ◌++◌, refl, ◌∙◌, ap}
+use Rattle.std.proofs.Common.{◌≡◌, Bool, not, List, [], ◌∷◌, ◌++◌, refl, ◌∙◌, ap}
 use Rattle.std.specs.Option.{is_some}
 use Rattle.std.specs.Prelude.{unwrap_or}
 use Rattle.ba_numbers.specs.declared.ids.At.{At}
@@ -9,12 +9,12 @@ use Rattle.ba_tree.specs.declared.tree.Expr.{Expr}
 use Rattle.ba_tree.specs.declared.tree.Stmt as code
 use Rattle.ba_tree.specs.declared.tree.StmtKind.TheVariants as kind
 use Rattle.ba_statements.specs.Adding.{GivesTest, Numbers, at_place, before_of, behind_part, with_judged, with_number}
-use Rattle.ba_typing.specs.Declarations.{next_stmt, whole_faults}
+use Rattle.ba_typing.specs.Declarations.{Part, next_stmt, whole_faults}
 use Rattle.ba_typing.specs.Expressions.{Typed, Typing, tree_as}
 use Rattle.ba_typing.specs.Faults.{fault_if, height_limit, limit_faults}
 use Rattle.ba_expressions.specs.Judging.{Judges, Stands, after, with_faults}
 use Rattle.ba_typing.specs.Names.{Scope}
-use Rattle.ba_typing.specs.Statements.{add_assert, add_loop_jump, add_return, add_return_none, unnumbered}
+use Rattle.ba_typing.specs.Statements.{add_assert, add_return, add_return_none, unnumbered}
 use Rattle.ba_tree.specs.Trees.{StmtTree, tree_of_expr, tree_of_stmt}
 use Rattle.ba_tree.specs.Trees as tree
 use Rattle.ba_typing.specs.declared.fault.Cause.TheVariants.{BreakOutside, WrongKind}
@@ -56,15 +56,15 @@ assert-is at typing scope w u j new stmt olds news judges counts counted pushed 
     ∙ ap (λ n. tree.assert n (tree_of_expr j.expr)) counted.0
     ∙ ap (λ x. tree.assert (next_stmt (before_of w)) x) (ap (λ (e : Typed). e.tree) judges)))
 
-pub jump-is : (at : At) (typed : StmtTree) (scope : Scope) (w u : Work) (olds news : List StmtTree)
-    → u ≡ record w { tally = with_faults w.tally (fault_if (not scope.in_loop) BreakOutside at) }
-    → news ≡ olds ++ typed ∷ [] →
-    at_place scope u news ≡ behind_part (add_loop_jump at typed) (at_place scope w
-    olds)
-jump-is at typed scope w u olds news counted pushed =
-    let faults = fault_if (not scope.in_loop) BreakOutside at in
-    in-scope (add_loop_jump at typed) (unnumbered typed faults) scope w u olds news refl refl
-    (counted ∙ faults-work w faults) pushed
+pub jump-is : (part : Part) (at : At) (typed : StmtTree) (is_inside : Bool) (scope : Scope) (w u : Work)
+    (olds news : List StmtTree)
+    → part scope (before_of w) ≡ unnumbered typed (fault_if (not is_inside) BreakOutside at)
+    → u ≡ record w { tally = with_faults w.tally (fault_if (not is_inside) BreakOutside at) }
+    → news ≡ olds ++ typed ∷ [] → at_place scope u news ≡ behind_part part (at_place scope w olds)
+jump-is part at typed is_inside scope w u olds news is counted pushed =
+    let faults = fault_if (not is_inside) BreakOutside at in
+    in-scope part (unnumbered typed faults) scope w u olds news is refl (counted ∙ faults-work w faults)
+    pushed
 
 pub return-none-is : (scope : Scope) (w : Work) (olds news : List StmtTree) → news ≡ olds ++
     tree.return_none ∷ []

@@ -4,5 +4,6 @@
 mod assignments;
 mod control;
 pub mod declarations;
+mod labels;
 pub mod statements;
 pub mod work;

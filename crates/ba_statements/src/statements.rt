@@ -1,13 +1,13 @@
 //! Statements (C90 6.6).
 
-ghost use Rattle.std.specs.Prelude.{◌≡◌, [], Some, OnOk, IfOk};
+ghost use Rattle.std.specs.Prelude.{◌≡◌, [], Some, map, OnOk, IfOk};
 ghost use Rattle.ba_statements.specs.Adding.{before_of, behind_part, keep_each, keep_one, kept, printing, state};
 ghost use Rattle.ba_statements.specs.Controlling.{GivesBody, GivesGuarded};
+ghost use Rattle.ba_statements.specs.Labelling.{behind_group, behind_groups, switch_state};
 ghost use Rattle.ba_typing.specs.Declarations.{Part, in_order};
 ghost use Rattle.ba_typing.specs.Expressions.{Typing, typed_conditional};
 ghost use Rattle.ba_typing.specs.Names.{jump_of, looping};
-ghost use Rattle.ba_typing.specs.Statements.{add_assert, add_block, add_do, add_for, add_if, add_item, add_jump, add_jump_with, add_loop_jump, add_printf, add_return, add_statement, add_while, optional_typing, parts_of_block, printed_typings, test_of};
-ghost use Rattle.ba_tree.specs.Trees.{break_loop, continue_loop};
+ghost use Rattle.ba_typing.specs.Statements.{add_assert, add_block, add_break, add_continue, add_do, add_for, add_if, add_item, add_jump, add_jump_with, add_printf, add_return, add_statement, add_switch, add_while, optional_typing, parts_of_block, parts_of_group, printed_typings, test_of};
 ghost use Rattle.ba_statements.specs.declared.work.Work.{Work};
 
 use crate::assignments::add_simple;
@@ -15,7 +15,8 @@ use crate::control::{
     Guarded, add_condition, add_head, first_stmt, put_do, put_for, put_if, put_if_else, put_while,
 };
 use crate::declarations::{add_declarators, whole};
-use crate::work::{Work, put};
+use crate::labels::{Controlling, add_controlling, add_label, no_labels, put_switch};
+use crate::work::{Work, number_of, put};
 use ba_expressions::tally::Tally;
 use ba_numbers::ids::At;
 use ba_numbers::numbers::CType;
@@ -24,10 +25,11 @@ use ba_tokens::token::Token;
 use ba_tree::tree::{Expr, Stmt, StmtKind};
 use ba_trees::tree::expressions::Conditional;
 use ba_trees::tree::statements::{
-    Block, BlockItem, Condition, ForHead, Printed, Statement, StatementForm,
+    Block, BlockItem, Condition, ForHead, Group, Printed, Statement, StatementForm,
 };
 use ba_typing::fault::Cause;
-use ba_typing::names::{Jump, jump_of, type_named};
+use ba_typing::meanings::Labels;
+use ba_typing::names::{Exits, Jump, jump_of, type_named};
 use std::alloc::{AllocError, Global};
 
 /// `return` with a value (C90 6.6.6.4).
@@ -144,10 +146,10 @@ fn add_break<'a>(
     stmts: &mut Vec<Stmt>,
 ) -> Result<(), AllocError>
     ensures { OnOk result (state scope.now work.new stmts.new
-        ≡ behind_part (add_loop_jump at break_loop) (state scope.now work.old stmts.old)) }
+        ≡ behind_part (add_break at) (state scope.now work.old stmts.old)) }
 {
-    let is_outside = !scope.is_in_loop();
-    work.tally.add_if(is_outside, Cause::BreakOutside, at);
+    work.tally
+        .add_if(!scope.exits().breaks, Cause::BreakOutside, at);
     put(stmts, Stmt::Break)
 }
 
@@ -161,10 +163,10 @@ fn add_continue<'a>(
     stmts: &mut Vec<Stmt>,
 ) -> Result<(), AllocError>
     ensures { OnOk result (state scope.now work.new stmts.new
-        ≡ behind_part (add_loop_jump at continue_loop) (state scope.now work.old stmts.old)) }
+        ≡ behind_part (add_continue at) (state scope.now work.old stmts.old)) }
 {
-    let is_outside = !scope.is_in_loop();
-    work.tally.add_if(is_outside, Cause::BreakOutside, at);
+    work.tally
+        .add_if(!scope.exits().continues, Cause::BreakOutside, at);
     put(stmts, Stmt::Continue)
 }
 
@@ -249,6 +251,11 @@ pub fn add_statement<'a>(
                 }
             }
         }
+        StatementForm::Switch {
+            condition,
+            groups,
+            ..
+        } => add_switch(alloc, condition, groups.as_slice(), scope, work, stmts),
         StatementForm::While {
             condition,
             body,
@@ -369,10 +376,13 @@ fn add_loop_body<'a>(
         (add_statement body.now (looping scope.old) (before_of work.old)) work.old work.new s) }
     ensures scope { OnOk result (scope.new ≡ scope.old) }
 {
-    let was_in_loop = scope.is_in_loop();
-    scope.set_in_loop(true);
+    let around = scope.exits();
+    scope.set_exits(Exits {
+        breaks: true,
+        continues: true,
+    });
     let held = add_controlled(alloc, body, scope, work)?;
-    scope.set_in_loop(was_in_loop);
+    scope.set_exits(around);
     Ok(held)
 }
 
@@ -414,6 +424,88 @@ fn add_else<'a>(
 {
     let held = add_controlled(alloc, other, scope, work)?;
     put_if_else(alloc, guarded, held, stmts)
+}
+
+/// A `switch` (C90 6.6.4.2).
+#[cycle(statement)]
+fn add_switch<'a>(
+    alloc: Global,
+    condition: &'a Condition,
+    groups: &'a [Group],
+    scope: &mut Scope<'a>,
+    work: &mut Work,
+    stmts: &mut Vec<Stmt>,
+) -> Result<(), AllocError>
+    ensures adds { OnOk result (state scope.new work.new stmts.new
+        ≡ behind_part (add_switch (test_of condition.now) (map parts_of_group groups.now))
+        (state scope.old work.old stmts.old)) }
+    ensures scope { OnOk result (scope.new ≡ scope.old) }
+{
+    let switch = add_controlling(alloc, condition, scope, work)?;
+    let around = scope.exits();
+    scope.set_exits(Exits {
+        breaks: true,
+        continues: around.continues,
+    });
+    let mut labels = no_labels(alloc);
+    let mut body = Vec::new(alloc);
+    add_groups(alloc, &switch, groups, scope, work, &mut labels, &mut body)?;
+    scope.set_exits(around);
+    put_switch(switch, labels, body, stmts)
+}
+
+/// What stands in the braces of a `switch`: labels, each with the statements behind it.
+#[cycle(statement)]
+fn add_groups<'a>(
+    alloc: Global,
+    switch: &Controlling,
+    groups: &'a [Group],
+    scope: &mut Scope<'a>,
+    work: &mut Work,
+    labels: &mut Labels,
+    body: &mut Vec<Stmt>,
+) -> Result<(), AllocError>
+    ensures adds { OnOk result (switch_state labels.new scope.new work.new body.new
+        ≡ behind_groups switch.now.t switch.now.at (map parts_of_group groups.now)
+        (switch_state labels.old scope.old work.old body.old)) }
+    ensures scope { OnOk result (scope.new ≡ scope.old) }
+{
+    for group in groups {
+        add_group(alloc, switch, group, scope, work, labels, body)?;
+    }
+    Ok(())
+}
+
+/// A label, and the statements behind it.
+#[cycle(statement)]
+fn add_group<'a>(
+    alloc: Global,
+    switch: &Controlling,
+    group: &'a Group,
+    scope: &mut Scope<'a>,
+    work: &mut Work,
+    labels: &mut Labels,
+    body: &mut Vec<Stmt>,
+) -> Result<(), AllocError>
+    ensures adds { OnOk result (switch_state labels.new scope.new work.new body.new
+        ≡ behind_group switch.now.t switch.now.at (parts_of_group group.now)
+        (switch_state labels.old scope.old work.old body.old)) }
+    ensures scope { OnOk result (scope.new ≡ scope.old) }
+{
+    let count = number_of(body.len())?;
+    add_label(
+        alloc,
+        switch,
+        &group.label,
+        count,
+        scope,
+        &mut work.tally,
+        labels,
+    )?;
+    for statement in &group.statements {
+        add_statement(alloc, statement, scope, work, body)?;
+    }
+    Ok(())
 }
 
 /// A `while` (C90 6.6.5.1).

@@ -96,7 +96,7 @@ impl Work {
 }
 
 /// A count as the number of what comes next. The one error is want of memory, which stands for want of numbers.
-fn number_of(count: usize) -> Result<u32, AllocError>
+pub(crate) fn number_of(count: usize) -> Result<u32, AllocError>
     ensures { IfOk result (λ number. number ≡ count) }
 {
     match u32::try_from(count) {

@@ -26,7 +26,7 @@ use Rattle.ba_typing.specs.Declarations.{nothing_added, ◌and◌, Before, behin
 use Rattle.ba_typing.specs.Expressions.{Typing}
 use Rattle.ba_typing.specs.Faults.{void_faults, limit_faults, parameter_limit}
 use Rattle.ba_typing.specs.Files.{FileAdded, add_external, add_externals, add_param, add_params, body_parts, declare_param, definitions_of, faults_of, file_of, file_scope, add_external_form, is_definition, signature_of_form, first_at, function_scope, function_tree, is_void_parameter, is_void_word, main_of, no_parts, params_of, params_of_list, program_of, says_params, signature_faults, signature_of, signatures_from, type_of_param, typed_of, with_functions, with_signature, without_void}
-use Rattle.ba_typing.specs.Names.{Scope, definition_in, is_main_name, knowing, main_name, name_of, type_of_words, words_of}
+use Rattle.ba_typing.specs.Names.{Scope, definition_in, is_main_name, knowing, main_name, name_of, no_exits, type_of_words, words_of}
 use Rattle.ba_typing.specs.Statements.{parts_of_block}
 use Rattle.ba_typing.specs.declared.meanings.ParamType.{ParamType}
 use Rattle.ba_typing.specs.declared.meanings.Signature.{Signature}
@@ -351,7 +351,7 @@ externals_are d (x ∷ xs) outer earlier n =
     (earlier ++ with_signature s []) (behind n a.added))
 
 abbrev scope_by : List Signature → Scope
-scope_by ss = record { functions = ss; known = []; depth = 0; in_loop = false; result = None }
+scope_by ss = record { functions = ss; known = []; depth = 0; exits = no_exits; result = None }
 
 abbrev file_by : List ExternalItem → FileAdded
 file_by xs = add_externals_by 0 xs (scope_by (signatures_by 0 xs)) [] no_parts

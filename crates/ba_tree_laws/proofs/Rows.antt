@@ -5,6 +5,7 @@ use Rattle.std.specs.Prelude.{flat_map, option_map, unwrap_or}
 use Rattle.std.specs.Option.{is_some}
 use Rattle.std.proofs.lemmas.List.{append-nil}
 use Rattle.ba_tokens.specs.declared.token.Token.{Token}
+use Rattle.ba_numbers.specs.Types.{promoted}
 use Rattle.ba_numbers.specs.declared.ids.At.{At}
 use Rattle.ba_numbers.specs.declared.ids.VarId.{VarId}
 use Rattle.ba_numbers.specs.declared.numbers.BinOp.{BinOp}
@@ -13,14 +14,15 @@ use Rattle.ba_numbers.specs.declared.numbers.CType.TheVariants.{I32}
 use Rattle.ba_trees.specs.Marks.{Mark, Rule, leaf, enter, leave, down, up, node_of, one_deeper}
 use Rattle.ba_trees.specs.Marks as rule
 use Rattle.ba_tree.specs.declared.tree.StmtKind.TheVariants as kind
-use Rattle.ba_typing.specs.Declarations.{Part, ◌and◌, ◌then◌, nothing, in_order, behind, numbered, next_stmt, faults_added, add_variable, add_declare, add_length, shape_of, written_count, exceeds, init_tree, typed_each, calls_in, initial_faults, TypedLength, typed_written_length, typed_counted_length}
-use Rattle.ba_typing.specs.Expressions.{Typing, BranchTypings, ChainTyping, typed_constant, typed_token, parenthesized, typed_element, typed_called, typed_call, typed_unary, typed_cast, chain_of, whole_operand, with_branches}
+use Rattle.ba_typing.specs.Declarations.{Before, Part, nothing_added, ◌and◌, ◌then◌, nothing, in_order, behind, numbered, next_stmt, faults_added, add_variable, add_declare, add_length, shape_of, written_count, exceeds, init_tree, typed_each, calls_in, initial_faults, TypedLength, typed_written_length, typed_counted_length}
+use Rattle.ba_typing.specs.Expressions.{Typing, tree_as, BranchTypings, ChainTyping, typed_constant, typed_token, parenthesized, typed_element, typed_called, typed_call, typed_unary, typed_cast, chain_of, whole_operand, with_branches}
 use Rattle.ba_typing.specs.Faults.{fault_if, void_faults, limit_faults, height_limit}
-use Rattle.ba_typing.specs.Names.{Scope, inner, knowing, looping, meaning_of, name_of, punct_of, unary_operator, binary_operator, type_of_words}
-use Rattle.ba_typing.specs.Statements.{typed_target, index_faults, changed, assigned_tree, kind_of_target, one, add_call, operator_at, add_test, enclosing, one_of, optional_part, add_if, add_while, add_do, add_jump_with, add_assert, add_printf, add_block}
+use Rattle.ba_typing.specs.Names.{Scope, inner, knowing, looping, switching, meaning_of, name_of, punct_of, unary_operator, binary_operator, type_of_words}
+use Rattle.ba_typing.specs.Statements.{typed_target, index_faults, changed, assigned_tree, kind_of_target, one, add_call, operator_at, add_test, Labelled, no_labels, add_case, add_default, add_controlling, enclosing, one_of, optional_part, add_if, add_while, add_do, add_jump_with, add_assert, add_printf, add_block}
 use Rattle.ba_tree.specs.Trees.{stmts_of}
 use Rattle.ba_tree.specs.Trees as tree
 use Rattle.ba_typing.specs.declared.fault.Cause.TheVariants.{WrongKind, WrongCount}
+use Rattle.ba_typing.specs.declared.meanings.Labels.{Labels}
 use Rattle.ba_typing.specs.declared.meanings.Signature.{Signature}
 
 -- WHAT STANDS IN A ROW: tokens, and what the nodes between them come to
@@ -39,6 +41,15 @@ pub record ParamItem : Type 0 where
 pub data ExternalItem : Type 0 where
   variables : List Token → Declaring → ExternalItem
   function : List Token → Token → List ParamItem → Option (List Part) → ExternalItem
+
+-- a label of a `switch`, by its constant or by where `default` stands, and the statements behind it
+pub data LabelItem : Type 0 where
+  valued : Typing → LabelItem
+  otherwise : At → LabelItem
+
+pub record GroupItem : Type 0 where
+  pub label : LabelItem
+  pub statements : List Part
 
 pub data Item : Type 0 where
   token : Token → Item
@@ -59,6 +70,8 @@ pub data Item : Type 0 where
   for_first : (Scope → Scope) → Part → Item
   block : List Part → Item
   statement : Part → Item
+  label : LabelItem → Item
+  group : GroupItem → Item
   parameter : ParamItem → Item
   parameters : List ParamItem → Item
   external : ExternalItem → Item
@@ -121,6 +134,10 @@ abbrev pub as_block_item : Item → Option Part
 as_block_item (declaration d) = Some d
 as_block_item (statement s) = Some s
 as_block_item _ = None
+
+abbrev pub as_group : Item → Option GroupItem
+as_group (group g) = Some g
+as_group _ = None
 
 abbrev pub as_parameter : Item → Option ParamItem
 as_parameter (parameter p) = Some p
@@ -327,10 +344,46 @@ controlling test body (absent ∷ is) = add_if test body None
 controlling test body (token t ∷ is) = add_if test body (first_of (items_of as_statement is))
 controlling test body _ = nothing
 
--- behind `if`, `while` or `assert` and its condition
+-- a label, a group and groups of a `switch`, by their items
+abbrev pub label_added : CType → At → LabelItem → Labels → ℕ → Scope → ℕ → Labelled
+label_added t at (valued e) labels count scope calls = add_case t at (e scope calls) labels count
+label_added t at (otherwise place) labels count scope calls = add_default place labels count
+
+abbrev pub group_added : CType → At → GroupItem → Labels → ℕ → Scope → Before → Labelled
+group_added t at g labels count scope n =
+    let l = label_added t at g.label labels count scope n.calls in
+    record { labels = l.labels; added = l.added and in_order g.statements scope (behind n l.added) }
+
+abbrev pub behind_group : Labelled → Labelled → Labelled
+behind_group a b = record { labels = b.labels; added = a.added and b.added }
+
+abbrev pub groups_added : CType → At → List GroupItem → Labels → ℕ → Scope → Before → Labelled
+groups_added t at [] labels count scope n = record { labels = labels; added = nothing_added }
+groups_added t at (g ∷ gs) labels count scope n =
+    let a = group_added t at g labels count scope n in
+    behind_group a (groups_added t at gs a.labels (count + length a.added.stmts)
+    (knowing a.added.entries scope) (behind n a.added))
+
+abbrev pub switched_by : Typing → List GroupItem → Part
+switched_by test groups scope n =
+    let w = test scope n.calls in
+    let t = promoted w.t in
+    let c = add_controlling w.first w scope n in
+    let b = groups_added t w.first groups no_labels 0 (switching scope) (behind n c) in
+    enclosing
+    (tree.switch (next_stmt n) t (tree_as t w) b.labels.starts b.labels.other (stmts_of b.added.stmts))
+    (c and b.added)
+
+-- behind the token behind a condition: behind a brace a brace stands at least
+abbrev pub ended : Token → Typing → Row → Part
+ended keyword test [] = add_assert keyword.at test
+ended keyword test (i ∷ is) = switched_by test (items_of as_group (i ∷ is))
+
+-- behind `if`, `while`, `assert` or `switch` and its condition
 abbrev pub conditioned : Token → Typing → Row → Part
 conditioned keyword test (statement s ∷ is) = controlling test s is
-conditioned keyword test _ = add_assert keyword.at test
+conditioned keyword test (token t ∷ is) = ended keyword test is
+conditioned keyword test _ = nothing
 
 abbrev pub closed : Token → Typing → Row → Part
 closed keyword test (token closer ∷ is) = conditioned keyword test is
@@ -356,6 +409,18 @@ statement_of (block parts ∷ is) = add_block parts
 statement_of (simple s ∷ is) = s
 statement_of (token t ∷ is) = keyword_statement t is
 statement_of _ = nothing
+
+abbrev pub labelled_by : Token → Row → LabelItem
+labelled_by keyword (conditional e ∷ is) = valued e
+labelled_by keyword _ = otherwise keyword.at
+
+abbrev pub label_of : Row → LabelItem
+label_of (token keyword ∷ is) = labelled_by keyword is
+label_of _ = valued no_typing
+
+abbrev pub group_of : Row → GroupItem
+group_of (label l ∷ is) = record { label = l; statements = items_of as_statement is }
+group_of _ = record { label = valued no_typing; statements = [] }
 
 -- PARAMETERS AND FILES
 
@@ -415,6 +480,8 @@ node_item rule.declaration is = declaration (declaration_of is)
 node_item rule.block is = block (items_of as_block_item is)
 node_item rule.statement is = statement (statement_of is)
 node_item rule.no_else is = absent
+node_item rule.group is = group (group_of is)
+node_item rule.label is = label (label_of is)
 node_item rule.for_first is = first_item is
 node_item rule.simples is = simples (in_order (items_of as_simple is))
 node_item rule.simple is = simple (simple_of is)

@@ -28,6 +28,8 @@ pub data Rule : Type 0 where
   block : Rule
   statement : Rule
   no_else : Rule
+  group : Rule
+  label : Rule
   for_first : Rule
   simples : Rule
   simple : Rule

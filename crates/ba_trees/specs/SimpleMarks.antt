@@ -9,11 +9,13 @@ use Rattle.ba_trees.specs.declared.tree.statements.Simple.TheVariants as form
 use Rattle.ba_trees.specs.declared.tree.statements.ListedSimple.{ListedSimple}
 use Rattle.ba_trees.specs.declared.tree.statements.Simples.{Simples}
 use Rattle.ba_trees.specs.declared.tree.statements.Condition.{Condition}
+use Rattle.ba_trees.specs.declared.tree.statements.Label.{Label}
+use Rattle.ba_trees.specs.declared.tree.statements.Label.TheVariants as labelled
 use Rattle.ba_trees.specs.declared.tree.statements.ForFirst.{ForFirst}
 use Rattle.ba_trees.specs.declared.tree.statements.ForFirst.TheVariants as first
 use Rattle.ba_trees.specs.declared.tree.statements.ForHead.{ForHead}
 use Rattle.ba_trees.specs.declared.tree.statements.Printed.{Printed}
-use Rattle.ba_trees.specs.Marks.{Mark, leaf, node_of, one_deeper, target, simple, simples, for_first}
+use Rattle.ba_trees.specs.Marks.{Mark, leaf, node_of, one_deeper, target, simple, simples, label, for_first}
 use Rattle.ba_trees.specs.Views.{joined, optional, optional_leaf}
 use Rattle.ba_trees.specs.ExpressionMarks.{type_name_marks, conditional_marks, arguments_marks, next_expression_marks}
 use Rattle.ba_trees.specs.DeclarationMarks.{declarators_marks}
@@ -41,6 +43,11 @@ simples_marks s = node_of simples (joined (map listed_simple_marks s.all.items))
 
 abbrev pub condition_marks : Condition → List Mark
 condition_marks c = leaf c.«open» ∷ one_deeper (conditional_marks c.test.value) ++ leaf c.close ∷ []
+
+abbrev pub label_marks : Label → List Mark
+label_marks (labelled.Case keyword value colon) = node_of label (leaf keyword ∷ conditional_marks value ++ leaf colon
+    ∷ [])
+label_marks (labelled.Default keyword colon) = node_of label (leaf keyword ∷ leaf colon ∷ [])
 
 abbrev pub for_first_marks : ForFirst → List Mark
 for_first_marks (first.Declaration name declarators) =

@@ -1,6 +1,6 @@
 -- Expressions (C90 6.3): type, typed tree, value as a constant, and faults.
 
-use Rattle.std.specs.Prelude.{ℕ, ◌+◌, nat_lt, ℤ, pos, Bool, true, false, not, ◌&&◌, ◌||◌, cond, Option, None, Some, option_map, option_and_then, unwrap_or, List, [], ◌∷◌, ◌++◌, map, flat_map, length, sum_by}
+use Rattle.std.specs.Prelude.{ℕ, ◌+◌, nat_lt, ℤ, pos, Bool, true, false, not, ◌&&◌, cond, Option, None, Some, option_map, option_and_then, unwrap_or, List, [], ◌∷◌, ◌++◌, map, flat_map, length, sum_by}
 use Rattle.std.specs.List.{list_all}
 use Rattle.std.specs.Global.{Box}
 use Rattle.std.specs.Ordering.{int_eq}

@@ -28,7 +28,7 @@ use Rattle.ba_tree.specs.declared.tree.Shape.TheVariants.{Value, Passed}
 use Rattle.ba_tree.specs.declared.tree.Variable.{Variable}
 use Rattle.ba_typing.specs.Declarations.{Added, nothing_added, ◌and◌, Before, behind, Part, ◌then◌, nothing, in_order, faults_added, add_variable, add_length, add_declarators, TypedLength, typed_array_length, shape_of}
 use Rattle.ba_typing.specs.Faults.{fault, fault_if, void_faults, twice_faults, limit_faults, function_limit, parameter_limit, IsFirst}
-use Rattle.ba_typing.specs.Names.{Scope, inner, knowing, name_of, words_of, type_named, is_main_name, main_name, is_declared_here, is_declared_in, definition_in, same_name}
+use Rattle.ba_typing.specs.Names.{Scope, no_exits, inner, knowing, name_of, words_of, type_named, is_main_name, main_name, is_declared_here, is_declared_in, definition_in, same_name}
 use Rattle.ba_typing.specs.Statements.{parts_of_block}
 use Rattle.ba_tree.specs.Trees.{FunctionTree, ProgramTree, tree_of}
 use Rattle.ba_typing.specs.declared.error.TypeError.{TypeError}
@@ -288,7 +288,7 @@ add_externals definitions (x ∷ xs) file earlier n =
 
 -- all functions of the file are known from its start
 abbrev pub file_scope : List External → Scope
-file_scope xs = record { functions = signatures xs; known = []; depth = 0; in_loop = false; result = None }
+file_scope xs = record { functions = signatures xs; known = []; depth = 0; exits = no_exits; result = None }
 
 abbrev pub no_parts : Before
 no_parts = record { variables = 0; statements = 0; calls = 0; elements = 0 }

@@ -19,6 +19,7 @@ use Rattle.ba_numbers.specs.declared.numbers.UnOp.TheVariants.{Neg, Flip, IsZero
 use Rattle.ba_trees.specs.Classes.{class_of, word}
 use Rattle.ba_trees.specs.declared.tree.expressions.TypeName.{TypeName}
 use Rattle.ba_tree.specs.Facts.{is_array_shape}
+use Rattle.ba_typing.specs.declared.names.Exits.{Exits}
 use Rattle.ba_typing.specs.declared.names.Jump.{Jump}
 use Rattle.ba_typing.specs.declared.names.Jump.TheVariants as jump
 use Rattle.ba_typing.specs.declared.names.Operator.{Operator}
@@ -131,15 +132,25 @@ main_name = 0x6d ∷ 0x61 ∷ 0x69 ∷ 0x6e ∷ []
 abbrev pub is_main_name : List ℕ → Bool
 is_main_name = same_name main_name
 
+-- outside of loops and `switch`es; in a loop; in a `switch`, where a `continue` belongs to what is around it
+abbrev pub no_exits : Exits
+no_exits = record { breaks = false; continues = false }
+
+abbrev pub exits_of_loop : Exits
+exits_of_loop = record { breaks = true; continues = true }
+
+abbrev pub exits_of_switch : Exits → Exits
+exits_of_switch around = record around { breaks = true }
+
 -- What an expression or statement finds around it. `functions` are all declarations of functions in the file, since a function is known
 -- in the whole file. `known` are the variables that are in scope, in the order of their declarations: a later one hides those of its
--- name before it. `depth` counts the scopes inside the file's; parameters and the outermost block are one scope. `result` is the type
--- that the function around returns, None for `void`.
+-- name before it. `depth` counts the scopes inside the file's; parameters and the outermost block are one scope. `exits` says which
+-- jumps are accepted. `result` is the type that the function around returns, None for `void`.
 pub record Scope : Type 0 where
   pub functions : List Signature
   pub known : List Entry
   pub depth : ℕ
-  pub in_loop : Bool
+  pub exits : Exits
   pub result : Option CType
 
 -- the file's scope with these functions, before its first variable
@@ -148,19 +159,22 @@ fresh_scope functions = record {
   functions = functions;
   known = [];
   depth = 0;
-  in_loop = false;
+  exits = no_exits;
   result = None;
 }
 
 abbrev pub knowing : List Entry → Scope → Scope
 knowing entries scope = record scope { known = scope.known ++ entries }
 
--- a block's scope, a loop's body
+-- a block's scope; the body of a loop, of a `switch`
 abbrev pub inner : Scope → Scope
 inner scope = record scope { depth = scope.depth + 1 }
 
 abbrev pub looping : Scope → Scope
-looping scope = record scope { in_loop = true }
+looping scope = record scope { exits = exits_of_loop }
+
+abbrev pub switching : Scope → Scope
+switching scope = record scope { exits = exits_of_switch scope.exits }
 
 -- the last entry of the name
 abbrev pub last_entry : List ℕ → List Entry → Option Entry → Option Entry

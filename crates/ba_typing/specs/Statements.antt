@@ -1,12 +1,15 @@
 -- Statements (C90 6.6): what each adds to a program.
 
-use Rattle.std.specs.Prelude.{ℕ, ◌+◌, nat_lt, pos, Bool, false, not, ◌&&◌, Option, None, Some, unwrap_or, List, [], ◌∷◌, ◌++◌, map, flat_map}
+use Rattle.std.specs.Prelude.{ℕ, ◌+◌, nat_lt, ℤ, pos, Bool, false, not, ◌&&◌, cond, Option, None, Some, unwrap_or, List, [], ◌∷◌, ◌++◌, map, flat_map, length}
+use Rattle.std.specs.List.{list_any}
+use Rattle.std.specs.Ordering.{int_eq}
 use Rattle.std.specs.Option.{is_some}
 use Rattle.ba_tokens.specs.declared.token.Token.{Token}
 use Rattle.ba_numbers.specs.declared.ids.At.{At}
 use Rattle.ba_numbers.specs.declared.ids.StmtId.{StmtId}
 use Rattle.ba_numbers.specs.declared.ids.VarId.{VarId}
 use Rattle.ba_numbers.specs.declared.numbers.BinOp.{BinOp}
+use Rattle.ba_numbers.specs.declared.numbers.CType.{CType}
 use Rattle.ba_numbers.specs.declared.numbers.CType.TheVariants.{I32}
 use Rattle.ba_trees.specs.declared.tree.expressions.Conditional.{Conditional}
 use Rattle.ba_trees.specs.declared.tree.statements.Target.{Target}
@@ -16,29 +19,34 @@ use Rattle.ba_trees.specs.declared.tree.statements.Simple.TheVariants as form
 use Rattle.ba_trees.specs.declared.tree.statements.ListedSimple.{ListedSimple}
 use Rattle.ba_trees.specs.declared.tree.statements.Simples.{Simples}
 use Rattle.ba_trees.specs.declared.tree.statements.Condition.{Condition}
+use Rattle.ba_trees.specs.declared.tree.statements.Label.{Label}
+use Rattle.ba_trees.specs.declared.tree.statements.Label.TheVariants as label
 use Rattle.ba_trees.specs.declared.tree.statements.ForFirst.{ForFirst}
 use Rattle.ba_trees.specs.declared.tree.statements.ForFirst.TheVariants as first
 use Rattle.ba_trees.specs.declared.tree.statements.ForHead.{ForHead}
 use Rattle.ba_trees.specs.declared.tree.statements.Printed.{Printed}
-use Rattle.ba_trees.specs.declared.tree.statements.BlockItem.TheOpen.{BlockItem-F, StatementForm-F, Block-F, Controlled-F, DoWhile-F, Else-F, For-F, Statement-F}
-use Rattle.ba_trees.specs.declared.tree.statements.BlockItem.TheFolds.{fold-BlockItem, fold-StatementForm, fold-Block, fold-Statement}
+use Rattle.ba_trees.specs.declared.tree.statements.BlockItem.TheOpen.{BlockItem-F, StatementForm-F, Block-F, Controlled-F, DoWhile-F, Else-F, For-F, Group-F, Statement-F}
+use Rattle.ba_trees.specs.declared.tree.statements.BlockItem.TheFolds.{fold-BlockItem, fold-StatementForm, fold-Block, fold-Group, fold-Statement}
 use Rattle.ba_trees.specs.declared.tree.statements.BlockItem.{BlockItem}
 use Rattle.ba_trees.specs.declared.tree.statements.StatementForm.{StatementForm}
 use Rattle.ba_trees.specs.declared.tree.statements.Statement.{Statement}
 use Rattle.ba_trees.specs.declared.tree.statements.Block.{Block}
+use Rattle.ba_trees.specs.declared.tree.statements.Group.{Group}
+use Rattle.ba_tree.specs.declared.tree.Start.{Start}
 use Rattle.ba_tree.specs.declared.tree.StmtKind.{StmtKind}
 use Rattle.ba_tree.specs.declared.tree.StmtKind.TheVariants as kind
-use Rattle.ba_typing.specs.Declarations.{Added, nothing_added, ◌and◌, behind, Part, nothing, in_order, numbered, next_stmt, whole_faults, typed_each, calls_in, add_declarators}
-use Rattle.ba_typing.specs.Expressions.{Typed, Typing, typed_conditional, typed_next, typed_arguments, typed_constant, typed_name, typed_element, typed_value, typed_call, trees_of_args, expressions_of_args, tree_as, array_of}
+use Rattle.ba_typing.specs.Declarations.{Added, nothing_added, ◌and◌, Before, behind, Part, nothing, in_order, numbered, next_stmt, faults_added, whole_faults, typed_each, calls_in, add_declarators}
+use Rattle.ba_typing.specs.Expressions.{Typed, Typing, typed_conditional, typed_next, typed_arguments, typed_constant, typed_name, typed_element, typed_value, typed_call, trees_of_args, expressions_of_args, tree_as, value_as, array_of}
 use Rattle.ba_numbers.specs.Types.{promoted}
-use Rattle.ba_typing.specs.Faults.{fault_if, limit_faults, height_limit}
-use Rattle.ba_typing.specs.Names.{Scope, meaning_of, inner, looping, knowing, name_of, punct_of, type_named, changing_operator, jump_of}
+use Rattle.ba_typing.specs.Faults.{fault, fault_if, limit_faults, height_limit}
+use Rattle.ba_typing.specs.Names.{Scope, meaning_of, inner, looping, switching, knowing, name_of, punct_of, type_named, changing_operator, jump_of}
 use Rattle.ba_tree.specs.Trees.{ExprTree, StmtTree, stmts_of}
 use Rattle.ba_tree.specs.Trees as tree
-use Rattle.ba_typing.specs.declared.fault.Cause.TheVariants.{WrongKind, BreakOutside, CallInIndex}
+use Rattle.ba_typing.specs.declared.fault.Cause.TheVariants.{Twice, WrongKind, BreakOutside, CallInIndex}
 use Rattle.ba_typing.specs.declared.fault.Fault.{Fault}
 use Rattle.ba_typing.specs.declared.names.Jump.{Jump}
 use Rattle.ba_typing.specs.declared.names.Jump.TheVariants as jump
+use Rattle.ba_typing.specs.declared.meanings.Labels.{Labels}
 use Rattle.ba_typing.specs.declared.meanings.Meaning.{Meaning}
 use Rattle.ba_typing.specs.declared.meanings.Meaning.TheVariants as meaning
 
@@ -134,6 +142,11 @@ abbrev pub add_test : At → Typed → Part
 add_test at e scope n = record (numbered n at kind.Condition tree.break_loop e.calls (whole_faults at e))
     { stmts = [] }
 
+-- the same of a controlling expression of a `switch` (C90 6.6.4.2)
+abbrev pub add_controlling : At → Typed → Part
+add_controlling at e scope n = record (numbered n at kind.Switch tree.break_loop e.calls (whole_faults at e))
+    { stmts = [] }
+
 -- a statement that holds others: what they declare is not known behind it
 abbrev pub enclosing : StmtTree → Added → Added
 enclosing typed a = record a { stmts = typed ∷ []; entries = [] }
@@ -212,6 +225,78 @@ add_for head body outside n =
     (tree.for_loop (next_stmt (behind n f)) (stmts_of f.stmts) w.tree (stmts_of s.stmts) (one_of a.stmts))
     (f and c and s and a)
 
+-- SWITCHES (C90 6.6.4.2)
+
+abbrev pub no_labels : Labels
+no_labels = record { starts = []; other = None }
+
+abbrev pub has_value : List Start → ℤ → Bool
+has_value starts z = list_any (λ (s : Start). int_eq s.value z) starts
+
+-- the value of a label's constant in the type of the `switch`, None where it is not constant or traps
+abbrev pub label_value : CType → Typed → Option ℤ
+label_value t e = cond e.is_constant (value_as t e) None
+
+-- a value that an earlier label has, or that there is none
+abbrev pub value_faults : Labels → Option ℤ → At → List Fault
+value_faults labels None at = fault WrongKind at
+value_faults labels (Some z) at = fault_if (has_value labels.starts z) Twice at
+
+abbrev pub with_start : Labels → Option ℤ → ℕ → Labels
+with_start labels None at = labels
+with_start labels (Some z) at = record labels { starts = labels.starts ++ record { value = z; at = at } ∷ [] }
+
+-- the labels behind a part of the text, and what it adds
+pub record Labelled : Type 0 where
+  pub labels : Labels
+  pub added : Added
+
+-- A label where so many statements stand before it in the body. The heights of constants are looked at where the `switch` stands.
+abbrev pub add_case : CType → At → Typed → Labels → ℕ → Labelled
+add_case t at e labels count = let z = label_value t e in record {
+  labels = with_start labels z count;
+  added = record (faults_added (whole_faults at e ++ value_faults labels z e.first)) { calls = e.calls };
+}
+
+abbrev pub add_default : At → Labels → ℕ → Labelled
+add_default at labels count = record {
+  labels = record labels { other = Some count };
+  added = faults_added (fault_if (is_some labels.other) Twice at);
+}
+
+abbrev pub add_label : CType → At → Label → Labels → ℕ → Scope → ℕ → Labelled
+add_label t at (label.Case keyword value colon) labels count scope calls =
+    add_case t at (typed_conditional value scope calls) labels count
+add_label t at (label.Default keyword colon) labels count scope calls = add_default keyword.at labels count
+
+-- a label, and the parts of the statements behind it
+pub record GroupParts : Type 0 where
+  pub label : Label
+  pub statements : List Part
+
+abbrev pub add_group : CType → At → GroupParts → Labels → ℕ → Scope → Before → Labelled
+add_group t at g labels count scope n =
+    let l = add_label t at g.label labels count scope n.calls in
+    record { labels = l.labels; added = l.added and in_order g.statements scope (behind n l.added) }
+
+abbrev pub add_groups : CType → At → List GroupParts → Labels → ℕ → Scope → Before → Labelled
+add_groups t at [] labels count scope n = record { labels = labels; added = nothing_added }
+add_groups t at (g ∷ gs) labels count scope n =
+    let a = add_group t at g labels count scope n in
+    let b = add_groups t at gs a.labels (count + length a.added.stmts)
+    (knowing a.added.entries scope) (behind n a.added) in
+    record { labels = b.labels; added = a.added and b.added }
+
+abbrev pub add_switch : Typing → List GroupParts → Part
+add_switch on groups scope n =
+    let w = on scope n.calls in
+    let t = promoted w.t in
+    let c = add_controlling w.first w scope n in
+    let b = add_groups t w.first groups no_labels 0 (switching scope) (behind n c) in
+    enclosing
+    (tree.switch (next_stmt n) t (tree_as t w) b.labels.starts b.labels.other (stmts_of b.added.stmts))
+    (c and b.added)
+
 -- OTHER STATEMENTS
 
 -- a statement without a number
@@ -237,16 +322,19 @@ add_printf at typings scope n = let es = typed_each scope n.calls typings in
     (flat_map (whole_faults at) es)
 
 -- C90 6.6.6.2, 6.6.6.3
-abbrev pub add_loop_jump : At → StmtTree → Part
-add_loop_jump at typed scope n = unnumbered typed (fault_if (not scope.in_loop) BreakOutside at)
+abbrev pub add_break : At → Part
+add_break at scope n = unnumbered tree.break_loop (fault_if (not scope.exits.breaks) BreakOutside at)
+
+abbrev pub add_continue : At → Part
+add_continue at scope n = unnumbered tree.continue_loop (fault_if (not scope.exits.continues) BreakOutside at)
 
 abbrev pub add_return_none : Part
 add_return_none scope n = unnumbered tree.return_none []
 
 -- without a value (C90 6.6.6)
 abbrev pub add_jump : At → Jump → Part
-add_jump at jump.Break = add_loop_jump at tree.break_loop
-add_jump at jump.Continue = add_loop_jump at tree.continue_loop
+add_jump at jump.Break = add_break at
+add_jump at jump.Continue = add_continue at
 add_jump at jump.Return = add_return_none
 
 -- with a value or without one
@@ -274,15 +362,17 @@ printed_typings p = map typed_next p.values.items
 abbrev pub PartList : Type 0
 PartList = List Part
 
-abbrev pub item_step : BlockItem-F Part Part PartList Part Part Part Part Part → Part
+abbrev pub item_step : BlockItem-F Part Part PartList Part Part Part Part GroupParts Part → Part
 item_step (BlockItem-F.Declaration d) = add_declarators [] (type_named d.name) d.declarators
 item_step (BlockItem-F.Statement s) = s
 
-abbrev pub form_step : StatementForm-F Part Part PartList Part Part Part Part Part → Part
+abbrev pub form_step : StatementForm-F Part Part PartList Part Part Part Part GroupParts Part → Part
 form_step (StatementForm-F.Block items) = add_block items
 form_step (StatementForm-F.Empty semicolon) = nothing
 form_step (StatementForm-F.Simple simple semicolon) = add_simple simple
 form_step (StatementForm-F.If keyword condition holds fails) = add_if (test_of condition) holds fails
+form_step (StatementForm-F.Switch keyword condition opener groups closer) = add_switch (test_of condition)
+    groups.items
 form_step (StatementForm-F.While keyword condition body) = add_while (test_of condition) body
 form_step (StatementForm-F.DoWhile d) = d
 form_step (StatementForm-F.For f) = f
@@ -293,38 +383,45 @@ form_step (StatementForm-F.Assert keyword condition semicolon) = add_assert keyw
 form_step (StatementForm-F.Printf keyword opener printed closer semicolon) =
     add_printf keyword.at (printed_typings printed)
 
-abbrev pub block_step : Block-F Part Part PartList Part Part Part Part Part → PartList
+abbrev pub block_step : Block-F Part Part PartList Part Part Part Part GroupParts Part → PartList
 block_step b = b.items.items
 
-abbrev pub controlled_step : Controlled-F Part Part PartList Part Part Part Part Part → Part
+abbrev pub controlled_step : Controlled-F Part Part PartList Part Part Part Part GroupParts Part → Part
 controlled_step c = c.statement.value
 
-abbrev pub do_step : DoWhile-F Part Part PartList Part Part Part Part Part → Part
+abbrev pub do_step : DoWhile-F Part Part PartList Part Part Part Part GroupParts Part → Part
 do_step d = add_do (test_of d.condition) d.body
 
-abbrev pub else_step : Else-F Part Part PartList Part Part Part Part Part → Part
+abbrev pub else_step : Else-F Part Part PartList Part Part Part Part GroupParts Part → Part
 else_step e = e.statement
 
-abbrev pub for_step : For-F Part Part PartList Part Part Part Part Part → Part
+abbrev pub for_step : For-F Part Part PartList Part Part Part Part GroupParts Part → Part
 for_step f = add_for f.head.value f.body
 
-abbrev pub statement_step : Statement-F Part Part PartList Part Part Part Part Part → Part
+abbrev pub group_step : Group-F Part Part PartList Part Part Part Part GroupParts Part → GroupParts
+group_step g = record { label = g.label; statements = g.statements.items }
+
+abbrev pub statement_step : Statement-F Part Part PartList Part Part Part Part GroupParts Part → Part
 statement_step s = s.form
 
 -- WHOLE TREES
 
 unfoldable pub add_item : BlockItem → Part
-add_item = fold-BlockItem Part Part PartList Part Part Part Part Part item_step form_step block_step
-    controlled_step do_step else_step for_step statement_step
+add_item = fold-BlockItem Part Part PartList Part Part Part Part GroupParts Part item_step form_step block_step
+    controlled_step do_step else_step for_step group_step statement_step
 
 unfoldable pub add_statement_form : StatementForm → Part
-add_statement_form = fold-StatementForm Part Part PartList Part Part Part Part Part item_step form_step
-    block_step controlled_step do_step else_step for_step statement_step
+add_statement_form = fold-StatementForm Part Part PartList Part Part Part Part GroupParts Part item_step form_step
+    block_step controlled_step do_step else_step for_step group_step statement_step
 
 unfoldable pub add_statement : Statement → Part
-add_statement = fold-Statement Part Part PartList Part Part Part Part Part item_step form_step block_step
-    controlled_step do_step else_step for_step statement_step
+add_statement = fold-Statement Part Part PartList Part Part Part Part GroupParts Part item_step form_step block_step
+    controlled_step do_step else_step for_step group_step statement_step
 
 unfoldable pub parts_of_block : Block → PartList
-parts_of_block = fold-Block Part Part PartList Part Part Part Part Part item_step form_step block_step
-    controlled_step do_step else_step for_step statement_step
+parts_of_block = fold-Block Part Part PartList Part Part Part Part GroupParts Part item_step form_step block_step
+    controlled_step do_step else_step for_step group_step statement_step
+
+unfoldable pub parts_of_group : Group → GroupParts
+parts_of_group = fold-Group Part Part PartList Part Part Part Part GroupParts Part item_step form_step block_step
+    controlled_step do_step else_step for_step group_step statement_step

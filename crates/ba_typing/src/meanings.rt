@@ -6,7 +6,7 @@ use crate::text::Text;
 use ba_items::Items;
 use ba_numbers::ids::{FnId, VarId};
 use ba_numbers::numbers::CType;
-use ba_tree::tree::Variable;
+use ba_tree::tree::{Start, Variable};
 
 /// A variable that is in scope: its name, how many scopes are around its declaration (0 for the file), its number and its type.
 pub struct Entry<'a> {
@@ -68,6 +68,14 @@ impl<'a> Drop for Signature<'a> {
             function: _,
         } = self;
     }
+}
+
+/// The labels of a `switch` so far, in the order of the text (C90 6.6.4.2): of each `case` its value and how many statements of the body
+/// stand before it; and how many stand before `default`.
+#[derive(Drop)]
+pub struct Labels {
+    pub starts: Items<Start>,
+    pub other: Option<u32>,
 }
 
 /// What a name means where it stands.

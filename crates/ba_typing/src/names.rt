@@ -25,6 +25,13 @@ pub enum Jump {
     Return,
 }
 
+/// Which jumps leave or go on with a statement around them: a `break` a loop or a `switch`, a `continue` a loop (C90 6.6.6.2, 6.6.6.3).
+#[derive(Clone, Copy, Debug, PartialEq, Eq)]
+pub struct Exits {
+    pub breaks: bool,
+    pub continues: bool,
+}
+
 /// The name that a token is, without bytes where it is none.
 pub fn name_of<'a>(token: &'a Token) -> Text<'a>
     ensures { result ≡ name_of token.now }

@@ -12,10 +12,11 @@ use Rattle.ba_tree.specs.declared.tree.Function.{Function}
 use Rattle.ba_tree.specs.declared.tree.Parts.{Parts}
 use Rattle.ba_tree.specs.declared.tree.Variable.{Variable}
 use Rattle.ba_typing.specs.Declarations.{Added, ◌and◌, Before, behind, Part, ◌then◌, nothing, in_order, faults_added}
-use Rattle.ba_typing.specs.Names.{Scope, knowing, looping}
+use Rattle.ba_typing.specs.Names.{Scope, knowing, looping, switching}
 use Rattle.ba_tree.specs.Trees.{StmtTree}
 use Rattle.ba_typing.specs.declared.fault.Fault.{Fault}
 use Rattle.ba_typing.specs.declared.meanings.Entry.{Entry}
+use Rattle.ba_typing.specs.declared.names.Exits.{Exits}
 use Rattle.ba_typing_facts.proofs.FittingFacts.{nil_left, nil_right}
 use Rattle.ba_typing_facts.proofs.LeafFacts.{HasAt, has_left, has_right}
 use Rattle.ba_typing_facts.proofs.ScopeFacts.{IsScope, AreEntries, entries-append, knowing_is}
@@ -146,21 +147,28 @@ module _ (p : Parts) (owned : List VarId) (f : Function) (inside : Bool) where
     place = h.place;
   }
 
+  pub in_switching : (scope : Scope) → InScope scope → InScope (switching scope)
+  in_switching scope h = record {
+    sound = record { entries = h.sound.entries; functions = h.sound.functions };
+    result = h.result;
+    place = h.place;
+  }
+
   -- what is added fits, and keeps the limits
-  pub record IsPiece (in_loop : Bool) (n : Before) (a : Added) : Type 0 where
-    pub stmts : AreStmts p owned n.statements (length a.statements) n.calls a.calls in_loop
+  pub record IsPiece (exits : Exits) (n : Before) (a : Added) : Type 0 where
+    pub stmts : AreStmts p owned n.statements (length a.statements) n.calls a.calls exits
         (all_facts_of p f a.stmts)
     pub entries : AreEntries p owned a.entries
     pub few : IsFew n a
 
-  pub piece-and : {in_loop : Bool} (n : Before) (a b : Added) → IsPiece in_loop n a → IsPiece in_loop
+  pub piece-and : {exits : Exits} (n : Before) (a b : Added) → IsPiece exits n a → IsPiece exits
       (behind n a) b
-      → IsPiece in_loop n (a and b)
-  piece-and {in_loop} n a b h k = record {
+      → IsPiece exits n (a and b)
+  piece-and {exits} n a b h k = record {
     stmts = subst (AreStmts p owned n.statements (length (a.statements ++ b.statements)) n.calls
-        (a.calls + b.calls) in_loop)
+        (a.calls + b.calls) exits)
         (sym (map-append (stmt_facts_of p f) a.stmts b.stmts))
-        (subst (λ count. AreStmts p owned n.statements count n.calls (a.calls + b.calls) in_loop
+        (subst (λ count. AreStmts p owned n.statements count n.calls (a.calls + b.calls) exits
         (all_facts_of p f a.stmts ++ all_facts_of p f b.stmts)) (sym
         (length-append a.statements b.statements))
         (stmts-append p owned h.stmts k.stmts));
@@ -168,10 +176,10 @@ module _ (p : Parts) (owned : List VarId) (f : Function) (inside : Bool) where
     few = few-and n a b h.few k.few;
   }
 
-  pub piece_none : {in_loop : Bool} (n : Before) (faults : List Fault) → IsPiece in_loop n
+  pub piece_none : {exits : Exits} (n : Before) (faults : List Fault) → IsPiece exits n
       (faults_added faults)
-  piece_none {in_loop} n faults = record {
-    stmts = stmts_none p owned n.statements n.calls in_loop;
+  piece_none {exits} n faults = record {
+    stmts = stmts_none p owned n.statements n.calls exits;
     entries = tt;
     few = few_none n faults;
   }
@@ -179,7 +187,7 @@ module _ (p : Parts) (owned : List VarId) (f : Function) (inside : Bool) where
   -- what a part adds in this scope and place
   abbrev pub PieceAt : Part → Scope → Before → Type 0
   PieceAt part scope n = Stands n (part scope n) → (part scope n).faults ≡ []
-      → IsPiece scope.in_loop n (part scope n)
+      → IsPiece scope.exits n (part scope n)
 
   pub then_at : (first second : Part) (scope : Scope) (n : Before) → InScope scope → PieceAt first scope n
       → (InScope (knowing (first scope n).entries scope)

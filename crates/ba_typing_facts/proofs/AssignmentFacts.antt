@@ -27,6 +27,7 @@ use Rattle.ba_tree.specs.Trees.{StmtTree}
 use Rattle.ba_tree.specs.Trees as tree
 use Rattle.ba_typing.specs.declared.fault.Cause.TheVariants.{WrongKind, CallInIndex}
 use Rattle.ba_typing.specs.declared.fault.Fault.{Fault}
+use Rattle.ba_typing.specs.declared.names.Exits.{Exits}
 use Rattle.ba_typing_facts.proofs.AdditionFacts.{InScope, IsPiece, PieceAt, all_facts_of}
 use Rattle.ba_typing_facts.proofs.FittingFacts.{calls_of, nil_left, nil_right}
 use Rattle.ba_typing_facts.proofs.LeafFacts.{AreWhole, within, kind_is, leaf_are}
@@ -39,11 +40,11 @@ use Rattle.ba_typing_facts.proofs.OperatorFacts.{IsWellTyped, as_typed, value_ty
 module _ (p : Parts) (owned : List VarId) (f : Function) (inside : Bool) where
   -- TREES
 
-  module _ {in_loop : Bool} (n : Before) (v : VarId) (t : CType) (w : Typed)
+  module _ {exits : Exits} (n : Before) (v : VarId) (t : CType) (w : Typed)
       (is_owned : has_variable owned v ≡ true) (typed : type_at p v ≡ t) where
     assign_are : IsWellTyped p owned n.calls w → AreWhole (w ∷ []) → is_value p v ≡ true
         → has_kind p (next_stmt n, kind.Assignment) ≡ true
-        → AreStmts p owned n.statements 1 n.calls (calls_of (w ∷ [])) in_loop
+        → AreStmts p owned n.statements 1 n.calls (calls_of (w ∷ [])) exits
         (all_facts_of p f (tree.assign (next_stmt n) v (tree_as t w) ∷ []))
     assign_are expression whole is_one is_kind =
         let x = as_typed p owned w t (expression.right whole.are_clean.0) in
@@ -57,7 +58,7 @@ module _ (p : Parts) (owned : List VarId) (f : Function) (inside : Bool) where
         AreWhole
         (i ∷ w ∷ [])
         → is_array p v ≡ true → has_kind p (next_stmt n, kind.Store) ≡ true
-        → AreStmts p owned n.statements 1 n.calls (calls_of (i ∷ w ∷ [])) in_loop
+        → AreStmts p owned n.statements 1 n.calls (calls_of (i ∷ w ∷ [])) exits
         (all_facts_of p f (tree.store (next_stmt n) v (tree_as (promoted i.t) i) (tree_as t w) ∷ []))
     store_are i index expression whole is_one is_kind =
         let y = as_typed p owned i (promoted i.t) (index.right whole.are_clean.0) in
@@ -131,11 +132,11 @@ module _ (p : Parts) (owned : List VarId) (f : Function) (inside : Bool) where
   changed_calls (Some op) target e none = omega arith
 
   -- a numbered statement whose facts are right, and nothing else
-  pub numbered_piece : {in_loop : Bool} (n : Before) (at : At) (k : StmtKind) (typed : StmtTree) (calls : ℕ)
+  pub numbered_piece : {exits : Exits} (n : Before) (at : At) (k : StmtKind) (typed : StmtTree) (calls : ℕ)
       (faults : List Fault)
-      → AreStmts p owned n.statements 1 n.calls calls in_loop (all_facts_of p f (typed ∷ []))
+      → AreStmts p owned n.statements 1 n.calls calls exits (all_facts_of p f (typed ∷ []))
       → limit_faults statement_limit (n.statements + 1) at ++ faults ≡ []
-      → IsPiece p owned f inside in_loop n (add.numbered n at k typed calls faults)
+      → IsPiece p owned f inside exits n (add.numbered n at k typed calls faults)
   numbered_piece n at k typed calls faults h none = record {
     stmts = h;
     entries = tt;
@@ -147,10 +148,10 @@ module _ (p : Parts) (owned : List VarId) (f : Function) (inside : Bool) where
     };
   }
 
-  pub counted_calls : {in_loop : Bool} (n : Before) (c d : ℕ) (ss : List StmtFacts) → c ≡ d
-      → AreStmts p owned n.statements 1 n.calls c in_loop ss → AreStmts p owned n.statements 1 n.calls d
-      in_loop ss
-  counted_calls {in_loop} n c d ss is = subst (λ k. AreStmts p owned n.statements 1 n.calls k in_loop ss) is
+  pub counted_calls : {exits : Exits} (n : Before) (c d : ℕ) (ss : List StmtFacts) → c ≡ d
+      → AreStmts p owned n.statements 1 n.calls c exits ss → AreStmts p owned n.statements 1 n.calls d
+      exits ss
+  counted_calls {exits} n c d ss is = subst (λ k. AreStmts p owned n.statements 1 n.calls k exits ss) is
 
   abbrev pub AreOptional : Option Typing → Type 0
   AreOptional None = Unit {0}

@@ -11,6 +11,7 @@ use Rattle.ba_typing.specs.Expressions.{Typed, Typing}
 use Rattle.ba_typing.specs.Faults.{limit_faults, statement_limit}
 use Rattle.ba_typing.specs.Names.{Scope, inner, looping}
 use Rattle.ba_typing.specs.Statements.{add_test, enclosing, one_of, add_if, add_while, add_do, add_block}
+use Rattle.ba_typing.specs.declared.names.Exits.{Exits}
 use Rattle.ba_tree.specs.Trees.{StmtTree, stmts_of}
 use Rattle.ba_tree.specs.Trees as tree
 use Rattle.ba_typing_facts.proofs.AdditionFacts.{Stands, stands_left, stands_right, InScope, in_looping, IsPiece, IsFew, few-and, few_none, PieceAt, IsPart, IsCounted, counted-and, AreParts, parts_in_order, all_facts_of}
@@ -53,9 +54,9 @@ module _ (p : Parts) (owned : List VarId) (f : Function) where
     pub fits : IsPart p owned f true part
     pub single : (scope : Scope) (n : Before) → length (part scope n).stmts ≤ 1
 
-  pub one_are : {before count calls_before calls : ℕ} {in_loop : Bool} (ss : List StmtTree) → length ss ≤ 1
-      → AreStmts p owned before count calls_before calls in_loop (all_facts_of p f ss)
-      → AreStmts p owned before count calls_before calls in_loop (stmt_facts_of p f (one_of ss) ∷ [])
+  pub one_are : {before count calls_before calls : ℕ} {exits : Exits} (ss : List StmtTree) → length ss ≤ 1
+      → AreStmts p owned before count calls_before calls exits (all_facts_of p f ss)
+      → AreStmts p owned before count calls_before calls exits (stmt_facts_of p f (one_of ss) ∷ [])
   one_are [] few h = block_are p owned [] h
   one_are (s ∷ []) few h = h
   one_are (s ∷ t ∷ ss) few h = absurd (let e : ⊥ = omega (arith, few) in e)
@@ -70,10 +71,10 @@ module _ (p : Parts) (owned : List VarId) (f : Function) where
   pub counted_enclosing : (typed : StmtTree) (a : Added) → IsCounted a → IsCounted (enclosing typed a)
   counted_enclosing typed a h = record { elements = h.elements; lengths = h.lengths; own = h.own }
 
-  pub piece_enclosing : {in_loop : Bool} (n : Before) (typed : StmtTree) (a : Added) → IsFew n a
-      → AreStmts p owned n.statements (length a.statements) n.calls a.calls in_loop
+  pub piece_enclosing : {exits : Exits} (n : Before) (typed : StmtTree) (a : Added) → IsFew n a
+      → AreStmts p owned n.statements (length a.statements) n.calls a.calls exits
       (stmt_facts_of p f typed ∷ [])
-      → IsPiece p owned f true in_loop n (enclosing typed a)
+      → IsPiece p owned f true exits n (enclosing typed a)
   piece_enclosing n typed a few h = record {
     stmts = h;
     entries = tt;
@@ -91,7 +92,7 @@ module _ (p : Parts) (owned : List VarId) (f : Function) where
             let whole = parts_in_order p owned f true parts h in
             let piece = whole.piece.by (inner scope) (in_inner scope in_scope) n stands none in
             piece_enclosing n (tree.block (stmts_of a.stmts)) a piece.few
-            (subst (λ xs. AreStmts p owned n.statements (length a.statements) n.calls a.calls scope.in_loop
+            (subst (λ xs. AreStmts p owned n.statements (length a.statements) n.calls a.calls scope.exits
             (around (leaf_facts [] [] true) xs ∷ [])) (sym (stmts_facts-map p f a.stmts))
             (block_are p owned (all_facts_of p f a.stmts) piece.stmts));
       };
@@ -107,17 +108,17 @@ module _ (p : Parts) (owned : List VarId) (f : Function) where
   abbrev pub condition_leaf : Before → Typed → Bool → StmtFacts
   condition_leaf n w meets = leaf_facts (numbered (next_stmt n) kind.Condition) (facts_of p w.tree ∷ []) meets
 
-  pub recount : {before calls_before : ℕ} {in_loop : Bool} {ss : List StmtFacts} (m n k l : ℕ) → m ≡ n → k ≡ l
-      → AreStmts p owned before m calls_before k in_loop ss → AreStmts p owned before n calls_before l
-      in_loop ss
-  recount {before} {calls_before} {in_loop} {ss} m n k l same same_calls h =
-      subst (λ c. AreStmts p owned before n calls_before c in_loop ss) same_calls
-      (subst (λ c. AreStmts p owned before c calls_before k in_loop ss) same h)
+  pub recount : {before calls_before : ℕ} {exits : Exits} {ss : List StmtFacts} (m n k l : ℕ) → m ≡ n → k ≡ l
+      → AreStmts p owned before m calls_before k exits ss → AreStmts p owned before n calls_before l
+      exits ss
+  recount {before} {calls_before} {exits} {ss} m n k l same same_calls h =
+      subst (λ c. AreStmts p owned before n calls_before c exits ss) same_calls
+      (subst (λ c. AreStmts p owned before c calls_before k exits ss) same h)
 
   module _ (scope : Scope) (n : Before) (w : Typed) (none : (add_test w.first w scope n).faults ≡ []) where
-    pub condition_are : {in_loop : Bool} (meets : Bool) → meets ≡ true → IsWellTyped p owned n.calls w
+    pub condition_are : {exits : Exits} (meets : Bool) → meets ≡ true → IsWellTyped p owned n.calls w
         → HasAt p.statements n.statements (add_test w.first w scope n).statements
-        → AreStmts p owned n.statements 1 n.calls w.calls in_loop (condition_leaf n w meets ∷ [])
+        → AreStmts p owned n.statements 1 n.calls w.calls exits (condition_leaf n w meets ∷ [])
     condition_are meets met expression stands =
         let limit = limit_faults statement_limit (n.statements + 1) w.first in
         let whole = one_whole w.first w (nil_right limit (whole_faults w.first w) none) in
@@ -135,10 +136,10 @@ module _ (p : Parts) (owned : List VarId) (f : Function) where
     }
 
   -- a condition and what it controls
-  controlled_are : {in_loop : Bool} (n : Before) (w : Typed) (m k : ℕ) (parts : List StmtFacts)
-      → AreStmts p owned n.statements 1 n.calls w.calls in_loop (condition_leaf n w true ∷ [])
-      → AreStmts p owned (n.statements + 1) m (n.calls + w.calls) k in_loop parts
-      → AreStmts p owned n.statements (1 + m) n.calls (w.calls + k) in_loop
+  controlled_are : {exits : Exits} (n : Before) (w : Typed) (m k : ℕ) (parts : List StmtFacts)
+      → AreStmts p owned n.statements 1 n.calls w.calls exits (condition_leaf n w true ∷ [])
+      → AreStmts p owned (n.statements + 1) m (n.calls + w.calls) k exits parts
+      → AreStmts p owned n.statements (1 + m) n.calls (w.calls + k) exits
       (condition_facts p (next_stmt n) w.tree true parts ∷ [])
   controlled_are n w m k parts h g = around_are p owned (condition_leaf n w true) parts refl refl
       (stmts-append p owned h g)
@@ -198,7 +199,7 @@ module _ (p : Parts) (owned : List VarId) (f : Function) where
           let c_none = nil_left c.faults (a.faults ++ b.faults) none in
           let left = holds_is.fits.piece.by scope in_scope (behind n c)
           (stands_left p owned f true (behind n c) a b others) (nil_left a.faults b.faults others_none) in
-          let right = subst (λ m. IsPiece p owned f true scope.in_loop m b) (behind-and n c a)
+          let right = subst (λ m. IsPiece p owned f true scope.exits m b) (behind-and n c a)
           (fails_is.fits.piece.by scope in_scope (behind n (c and a))
           (subst (λ m. Stands p owned f true m b) (sym (behind-and n c a)) (stands_right p owned f true
           (behind n c) a b others))
@@ -264,7 +265,7 @@ module _ (p : Parts) (owned : List VarId) (f : Function) where
           (recount (1 + length a.statements) (length (c.statements ++ a.statements)) (w.calls + a.calls)
           (w.calls + a.calls)
           (omega arith) refl
-          (loop_are p owned scope.in_loop _
+          (loop_are p owned scope.exits _
           (controlled_are n w (length a.statements) a.calls (stmt_facts_of p f (one_of a.stmts) ∷ [])
           (condition_are scope n w c_none true refl (test_is.by scope in_scope.sound n.calls)
           (stands_left p owned f true n c a stands).1)
@@ -302,7 +303,7 @@ module _ (p : Parts) (owned : List VarId) (f : Function) where
           (recount (length a.statements + 1) (length (a.statements ++ c.statements)) (a.calls + w.calls)
           (a.calls + w.calls)
           (let e = length-append a.statements c.statements in omega (arith, e)) refl
-          (loop_are p owned scope.in_loop (around own (part ∷ []))
+          (loop_are p owned scope.exits (around own (part ∷ []))
           (around_are p owned own (part ∷ []) refl refl
           (told_first p owned (part ∷ []) (own ∷ []) []
           (stmts-append p owned (one_are a.stmts (body_is.single (looping scope) n) inside.stmts)

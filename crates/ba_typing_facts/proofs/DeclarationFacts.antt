@@ -29,6 +29,7 @@ use Rattle.ba_typing.specs.Names.{Scope, knowing, name_of}
 use Rattle.ba_tree.specs.Trees as tree
 use Rattle.ba_typing.specs.declared.fault.Cause.TheVariants.{WrongKind, WrongCount}
 use Rattle.ba_typing.specs.declared.meanings.Signature.{Signature}
+use Rattle.ba_typing.specs.declared.names.Exits.{Exits}
 use Rattle.ba_typing_facts.proofs.AdditionFacts.{Stands, stands_right, InScope, IsPiece, piece_none, PieceAt, HasPiece, piece_then, IsPart, IsCounted, AreParts, parts_in_order, all_facts_of, elements_of, are_own}
 use Rattle.ba_typing_facts.proofs.ExpressionFacts.{conditional_typing, next_typing}
 use Rattle.ba_typing_facts.proofs.FittingFacts.{calls_of, AreFit, nil_left, nil_right}
@@ -48,27 +49,27 @@ IsGood (Some l) = is_some l.count ≡ true
 module _ (p : Parts) (owned : List VarId) (f : Function) (inside : Bool) where
   -- THE PIECES of a declarator
 
-  length_piece : (n : Before) (at : At) (l : TypedLength) {in_loop : Bool} → (l.faults ≡ [] → is_some l.count
+  length_piece : (n : Before) (at : At) (l : TypedLength) {exits : Exits} → (l.faults ≡ [] → is_some l.count
       ≡ true → l.calls ≡ 0)
       → length_faults n at l.count ++ l.faults ≡ []
-      → IsPiece p owned f inside in_loop n (record nothing_added {
+      → IsPiece p owned f inside exits n (record nothing_added {
         calls = l.calls;
         elements = unwrap_or l.count 0;
         faults = length_faults n at l.count ++ l.faults;
       })
-  length_piece n at l {in_loop} no_calls none =
+  length_piece n at l {exits} no_calls none =
       from l.count (nil_left (length_faults n at l.count) l.faults none)
       (no_calls (nil_right (length_faults n at l.count) l.faults none)) where
         from : (count : Option ℕ) → length_faults n at count ≡ [] → (is_some count ≡ true → l.calls ≡ 0)
-            → IsPiece p owned f inside in_loop n (record nothing_added {
+            → IsPiece p owned f inside exits n (record nothing_added {
               calls = l.calls;
               elements = unwrap_or count 0;
               faults = length_faults n at l.count ++ l.faults;
             })
         from None wrong zero_calls = cc
         from (Some c) fits zero_calls = record {
-          stmts = subst (λ k. AreStmts p owned n.statements 0 n.calls k in_loop []) (sym (zero_calls refl))
-              (stmts_none p owned n.statements n.calls in_loop);
+          stmts = subst (λ k. AreStmts p owned n.statements 0 n.calls k exits []) (sym (zero_calls refl))
+              (stmts_none p owned n.statements n.calls exits);
           entries = tt;
           few = record {
             variables = λ few. omega (arith, few);
@@ -87,7 +88,7 @@ module _ (p : Parts) (owned : List VarId) (f : Function) (inside : Bool) where
       (n : Before)
       → PieceAt p owned f inside (add_variable functions at name v) scope n
   variable_at functions at name v scope n stands none = record {
-    stmts = stmts_none p owned n.statements n.calls scope.in_loop;
+    stmts = stmts_none p owned n.statements n.calls scope.exits;
     entries = (
       record {
         place = stands.0.0;
@@ -102,11 +103,11 @@ module _ (p : Parts) (owned : List VarId) (f : Function) (inside : Bool) where
     };
   }
 
-  declare_stmts : (n : Before) (v : VarId) {in_loop : Bool} → (inside ≡ true → has_variable f.locals v ≡ true)
+  declare_stmts : (n : Before) (v : VarId) {exits : Exits} → (inside ≡ true → has_variable f.locals v ≡ true)
       → has_variable owned v ≡ true
       → (b : Bool) → b ≡ not inside
-      → AreStmts p owned n.statements 0 n.calls 0 in_loop (all_facts_of p f (cond b [] (tree.declare v ∷ [])))
-  declare_stmts n v {in_loop} local is_owned true out = stmts_none p owned n.statements n.calls in_loop
+      → AreStmts p owned n.statements 0 n.calls 0 exits (all_facts_of p f (cond b [] (tree.declare v ∷ [])))
+  declare_stmts n v {exits} local is_owned true out = stmts_none p owned n.statements n.calls exits
   declare_stmts n v local is_owned false out = naming_are p owned v (leaf_facts [] []
       (has_variable f.locals v))
       is_owned (bare_are p owned (has_variable f.locals v) (local (from inside out))) where
@@ -172,10 +173,10 @@ module _ (p : Parts) (owned : List VarId) (f : Function) (inside : Bool) where
   each_length scope calls [] = refl
   each_length scope calls (s ∷ ss) = ap suc (each_length scope (calls + (s scope calls).calls) ss)
 
-  array_init_are : {in_loop : Bool} (n : Before) (v : VarId) (t : CType) (count : ℕ) (es : List Typed)
+  array_init_are : {exits : Exits} (n : Before) (v : VarId) (t : CType) (count : ℕ) (es : List Typed)
       → IsTarget v t (Array count) → length es ≤ count → AreWellTyped p owned n.calls es → AreWhole es
       → has_kind p (next_stmt n, kind.Initialiser) ≡ true
-      → AreStmts p owned n.statements 1 n.calls (calls_of es) in_loop
+      → AreStmts p owned n.statements 1 n.calls (calls_of es) exits
       (all_facts_of p f (tree.init_array (next_stmt n) v (map (tree_as t) es) ∷ []))
   array_init_are n v t count es target few expression whole is_kind =
       let xs = map (facts_of p) (map (tree_as t) es) in
@@ -194,10 +195,10 @@ module _ (p : Parts) (owned : List VarId) (f : Function) (inside : Bool) where
       whole.are_clean)))
       is_kind))
 
-  value_init_are : {in_loop : Bool} (n : Before) (v : VarId) (t : CType) (e : Typed)
+  value_init_are : {exits : Exits} (n : Before) (v : VarId) (t : CType) (e : Typed)
       → IsTarget v t Value → IsWellTyped p owned n.calls e → AreWhole (e ∷ [])
       → has_kind p (next_stmt n, kind.Initialiser) ≡ true
-      → AreStmts p owned n.statements 1 n.calls (calls_of (e ∷ [])) in_loop
+      → AreStmts p owned n.statements 1 n.calls (calls_of (e ∷ [])) exits
       (all_facts_of p f (tree.init (next_stmt n) v (tree_as t e) ∷ []))
   value_init_are n v t e target expression whole is_kind =
       let x = as_typed p owned e t (expression.right whole.are_clean.0) in
@@ -211,7 +212,7 @@ module _ (p : Parts) (owned : List VarId) (f : Function) (inside : Bool) where
       (same_type-of (x.typed ∙ sym (target_type v t Value target)))) is_kind))
 
   -- what an initialiser adds, of a good length
-  initialiser_stmts : {in_loop : Bool} (n : Before) (at : At) (v : VarId) (t : CType) (l : Option TypedLength)
+  initialiser_stmts : {exits : Exits} (n : Before) (at : At) (v : VarId) (t : CType) (l : Option TypedLength)
       (init : Initialiser) (scope : Scope) → IsScope p owned scope
       → IsLengthOf p owned (Some (length (values_of init))) l → IsGood l
       → IsTarget v t (shape_of l)
@@ -219,7 +220,7 @@ module _ (p : Parts) (owned : List VarId) (f : Function) (inside : Bool) where
       → exceeds (written_count l) (length (typed_each scope n.calls (values_of init))) ≡ false
       → AreWhole (typed_each scope n.calls (values_of init))
       → has_kind p (next_stmt n, kind.Initialiser) ≡ true
-      → AreStmts p owned n.statements 1 n.calls (calls_of (typed_each scope n.calls (values_of init))) in_loop
+      → AreStmts p owned n.statements 1 n.calls (calls_of (typed_each scope n.calls (values_of init))) exits
       (all_facts_of p f (init_tree (next_stmt n) v t (is_some l) (typed_each scope n.calls
       (values_of init)) ∷ []))
   initialiser_stmts n at v t None (initialiser.Expression assign e) scope sound len good target braces few
@@ -383,7 +384,7 @@ module _ (p : Parts) (owned : List VarId) (f : Function) (inside : Bool) where
           (name_of d.name) declared) behind_variable
           variable_has (piece_then p owned f inside (add_declare number) _ declare_has initialised))
 
-      declarator_piece : IsPiece p owned f inside scope.in_loop n (add_declarator functions t d scope n)
+      declarator_piece : IsPiece p owned f inside scope.exits n (add_declarator functions t d scope n)
       declarator_piece = whole.by scope in_scope n stands none
 
     -- THE ELEMENTS AND LENGTHS of arrays

@@ -33,7 +33,7 @@ use Rattle.ba_typing_facts.proofs.OperatorFacts.{IsWellTyped, unary_typed, cast_
 use Rattle.ba_typing_facts.proofs.ScopeFacts.{IsScope, meaning_is}
 use Rattle.ba_typing_facts.proofs.PrimaryFacts.{IsWellTyping, AreWellTypings, name_typed, element_typed, called_typed}
 
-is_in_from : (t : CType) (z : ℤ) → IsIn t z → is_in t z ≡ true
+pub is_in_from : (t : CType) (z : ℤ) → IsIn t z → is_in t z ≡ true
 is_in_from t z h = and_from _ _ (from (int_le (least_of t) z) h.low.le) (from (int_le z
     (greatest_of t)) h.high.le)
   where

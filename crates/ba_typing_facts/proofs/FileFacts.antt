@@ -17,7 +17,7 @@ use Rattle.ba_tree.specs.Facts.{StmtFacts, around, leaf_facts, has_variable, hol
 use Rattle.ba_tree.specs.declared.tree.Parts.{Parts}
 use Rattle.ba_typing.specs.Declarations.{Added, nothing_added, Before, behind, add_declarators}
 use Rattle.ba_typing.specs.Files.{FileAdded, params_of, vars_of, vars_from, signature_of_form, signature_of, definitions_of, with_signature, signatures_from, add_external_form, add_external, add_externals, with_functions}
-use Rattle.ba_typing.specs.Names.{Scope, knowing, definition_in, is_main_name, main_name, type_named}
+use Rattle.ba_typing.specs.Names.{Scope, knowing, definition_in, is_main_name, main_name, no_exits, type_named}
 use Rattle.ba_tree.specs.Trees.{FunctionTree, StmtTree}
 use Rattle.ba_typing.specs.declared.meanings.Entry.{Entry}
 use Rattle.ba_typing.specs.declared.meanings.Signature.{Signature}
@@ -300,7 +300,7 @@ module _ (p : Parts) where
   in_file_knowing entries file h k = record {
     sound = knowing_is p p.globals file entries h.sound k;
     depth = h.depth;
-    in_loop = h.in_loop;
+    exits = h.exits;
     result = h.result;
   }
 
@@ -309,7 +309,7 @@ module _ (p : Parts) where
     few = few_none n [];
     sized = sized_none nothing_added refl refl;
     entries = tt;
-    told = are_told p (stmts_none p [] n.statements n.calls false);
+    told = are_told p (stmts_none p [] n.statements n.calls no_exits);
     owned = each_none n.variables;
     inits = refl;
     globals = refl;

@@ -25,7 +25,7 @@ use Rattle.ba_tree.specs.declared.tree.Parts.{Parts}
 use Rattle.ba_typing.specs.Declarations.{Added, ◌and◌, Before, behind, Part, ◌then◌, in_order, next_stmt, add_declarator, add_length, add_variable, add_declare, add_optional_initialiser, init_tree, TypedLength, typed_array_length, count_of_values, shape_of, faults_added}
 use Rattle.ba_typing.specs.Expressions.{Typed, Typing, typed_conditional}
 use Rattle.ba_typing.specs.Faults.{void_faults}
-use Rattle.ba_typing.specs.Names.{Scope, knowing, looping, type_named, name_of}
+use Rattle.ba_typing.specs.Names.{Scope, knowing, looping, exits_of_loop, type_named, name_of}
 use Rattle.ba_typing.specs.declared.meanings.Signature.{Signature}
 use Rattle.ba_tree.specs.declared.tree.Variable.{Variable}
 use Rattle.ba_numbers.specs.declared.ids.StmtId.{StmtId}
@@ -33,6 +33,7 @@ use Rattle.ba_numbers.specs.declared.numbers.CType.TheVariants.{I32}
 use Rattle.ba_numbers.specs.declared.numbers.BinOp.{BinOp}
 use Rattle.ba_trees.specs.declared.tree.statements.Target.{Target}
 use Rattle.ba_typing.specs.Statements.{add_assignment, assign_tree, typed_target, index_typing, one, add_simple, add_test, one_of, for_scope, add_first, add_step, for_test_or, for_test, add_for}
+use Rattle.ba_typing.specs.declared.names.Exits.{Exits}
 use Rattle.ba_tree.specs.Trees.{ExprTree, stmts_of}
 use Rattle.ba_tree.specs.Trees as tree
 use Rattle.ba_typing_facts.proofs.AdditionFacts.{Stands, stands_left, stands_right, InScope, in_knowing, in_looping, IsPiece, IsFew, few-and, IsPart, part_nothing, IsCounted, counted-and, all_facts_of}
@@ -227,20 +228,21 @@ module _ (p : Parts) (owned : List VarId) (f : Function) where
     behind_step : behind n (front and (c and s)) ≡ behind (behind (behind n front) c) s
     behind_step = behind-and n front (c and s) ∙ behind-and (behind n front) c s
 
-    for_are : {in_loop : Bool}
-        → AreStmts p owned n.statements (length front.statements) n.calls front.calls true fronts
-        → AreStmts p owned (behind n front).statements 1 (behind n front).calls w.calls true (own ∷ [])
+    for_are : {exits : Exits}
+        → AreStmts p owned n.statements (length front.statements) n.calls front.calls exits_of_loop fronts
+        → AreStmts p owned (behind n front).statements 1 (behind n front).calls w.calls exits_of_loop
+        (own ∷ [])
         → AreStmts p owned ((behind n front).statements + 1) (length s.statements)
-        ((behind n front).calls + w.calls) s.calls true steps
+        ((behind n front).calls + w.calls) s.calls exits_of_loop steps
         → AreStmts p owned (((behind n front).statements + 1) + length s.statements) (length a.statements)
-        (((behind n front).calls + w.calls) + s.calls) a.calls true (part ∷ [])
-        → AreStmts p owned n.statements total n.calls total_calls in_loop
+        (((behind n front).calls + w.calls) + s.calls) a.calls exits_of_loop (part ∷ [])
+        → AreStmts p owned n.statements total n.calls total_calls exits
         (for_facts stmt w.tree fronts steps part ∷ [])
     unfolding for_facts
-    for_are {in_loop} front_are own_are step_are body_are =
-        loop_are p owned in_loop (around own (fronts ++ steps ++ part ∷ []))
+    for_are {exits} front_are own_are step_are body_are =
+        loop_are p owned exits (around own (fronts ++ steps ++ part ∷ []))
         (around_are p owned own (fronts ++ steps ++ part ∷ []) refl refl
-        (subst (λ xs. AreStmts p owned n.statements total n.calls total_calls true (own ∷ xs))
+        (subst (λ xs. AreStmts p owned n.statements total n.calls total_calls exits_of_loop (own ∷ xs))
         (sym (append_assoc fronts steps (part ∷ [])))
         (told_first p owned fronts (own ∷ []) (steps ++ part ∷ [])
         (stmts-append p owned front_are (stmts-append p owned own_are
@@ -275,7 +277,7 @@ module _ (p : Parts) (owned : List VarId) (f : Function) where
       behind_test : Stands p owned f true (behind (behind n front) c) (s and a)
       behind_test = stands_right p owned f true (behind n front) c (s and a) behind_front
 
-      front_piece : IsPiece p owned f true scope.in_loop n front
+      front_piece : IsPiece p owned f true scope.exits n front
       front_piece = (first_part head.first).piece.by scope in_scope n
           (stands_left p owned f true n front (c and (s and a)) stands)
           (nil_left front.faults (c.faults ++ (s.faults ++ a.faults)) none)
@@ -283,15 +285,15 @@ module _ (p : Parts) (owned : List VarId) (f : Function) where
       in_inside : InScope p owned f true inside
       in_inside = in_knowing p owned f true front.entries scope in_scope front_piece.entries
 
-      step_piece : IsPiece p owned f true inside.in_loop (behind (behind n front) c) s
-      step_piece = subst (λ m. IsPiece p owned f true inside.in_loop m s) (behind-and n front c)
+      step_piece : IsPiece p owned f true inside.exits (behind (behind n front) c) s
+      step_piece = subst (λ m. IsPiece p owned f true inside.exits m s) (behind-and n front c)
           ((step_part head.step).piece.by inside in_inside (behind n (front and c))
           (subst (λ m. Stands p owned f true m s) (sym (behind-and n front c))
           (stands_left p owned f true (behind (behind n front) c) s a behind_test))
           (nil_left s.faults a.faults behind_test_none))
 
-      body_piece : IsPiece p owned f true true (behind (behind (behind n front) c) s) a
-      body_piece = subst (λ m. IsPiece p owned f true true m a) behind_step
+      body_piece : IsPiece p owned f true exits_of_loop (behind (behind (behind n front) c) s) a
+      body_piece = subst (λ m. IsPiece p owned f true exits_of_loop m a) behind_step
           (body_is.fits.piece.by (looping inside) (in_looping p owned f true inside in_inside)
           (behind n (front and (c and s)))
           (subst (λ m. Stands p owned f true m a) (sym behind_step)
@@ -303,7 +305,8 @@ module _ (p : Parts) (owned : List VarId) (f : Function) where
           (few-and (behind n front) c (s and a) (condition_few p owned f inside (behind n front) w c_none)
           (few-and (behind (behind n front) c) s a step_piece.few body_piece.few))
 
-      own_are : AreStmts p owned (behind n front).statements 1 (behind n front).calls w.calls true (own ∷ [])
+      own_are : AreStmts p owned (behind n front).statements 1 (behind n front).calls w.calls exits_of_loop
+          (own ∷ [])
       own_are = condition_are p owned f inside (behind n front) w c_none
           (are_simple fronts && are_simple steps)
           (and_from _ _ ((first_simple p f head.first).by scope n) ((step_simple p f head.step).by inside
@@ -312,12 +315,12 @@ module _ (p : Parts) (owned : List VarId) (f : Function) where
           (behind n front).calls)
           (stands_left p owned f true (behind n front) c (s and a) behind_front).1
 
-      for_piece : {in_loop : Bool} → IsPiece p owned f true in_loop n (add_for head body outside n)
-      for_piece {in_loop} = piece_enclosing p owned f n
+      for_piece : {exits : Exits} → IsPiece p owned f true exits n (add_for head body outside n)
+      for_piece {exits} = piece_enclosing p owned f n
           (tree.for_loop stmt (stmts_of front.stmts) w.tree (stmts_of s.stmts) (one_of a.stmts))
           (front and (c and (s and a))) for_few
           (subst (λ x. AreStmts p owned n.statements (length (front and (c and (s and a))).statements) n.calls
-          total_calls in_loop (x ∷ [])) (sym for_tree_facts)
+          total_calls exits (x ∷ [])) (sym for_tree_facts)
           (recount p owned f total (length (front and (c and (s and a))).statements) total_calls total_calls
           counts refl
           (for_are (loosen p owned front_piece.stmts) own_are (loosen p owned step_piece.stmts)

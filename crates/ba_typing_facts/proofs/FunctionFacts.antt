@@ -15,12 +15,13 @@ use Rattle.ba_tree.specs.declared.tree.Parts.{Parts}
 use Rattle.ba_tree.specs.declared.tree.Variable.{Variable}
 use Rattle.ba_typing.specs.Declarations.{Added, nothing_added, ◌and◌, Before, behind, in_order, faults_added}
 use Rattle.ba_typing.specs.Files.{FileAdded, vars_of, vars_from, add_params, function_scope, function_tree, signature_faults}
-use Rattle.ba_typing.specs.Names.{Scope, knowing, is_main_name}
+use Rattle.ba_typing.specs.Names.{Scope, knowing, is_main_name, no_exits}
 use Rattle.ba_typing.specs.Statements.{parts_of_block}
 use Rattle.ba_tree.specs.Trees.{FunctionTree, tree_of_function, tree_of_stmt}
 use Rattle.ba_typing.specs.declared.fault.Fault.{Fault}
 use Rattle.ba_typing.specs.declared.meanings.Entry.{Entry}
 use Rattle.ba_typing.specs.declared.meanings.Signature.{Signature}
+use Rattle.ba_typing.specs.declared.names.Exits.{Exits}
 use Rattle.ba_typing_facts.proofs.AdditionFacts.{HasVariables, Stands, InScope, in_knowing, IsPiece, IsFew, few-and, few_none, IsPart, parts_in_order, all_facts_of, are_own, IsCounted}
 use Rattle.ba_typing_facts.proofs.EntryFacts.{vars_has, vars-append, params_entries}
 use Rattle.ba_typing_facts.proofs.FittingFacts.{nil_left, nil_right}
@@ -100,7 +101,7 @@ module _ (p : Parts) where
   pub record IsFileScope (file : Scope) : Type 0 where
     pub sound : IsScope p p.globals file
     pub depth : file.depth ≡ 0
-    pub in_loop : file.in_loop ≡ false
+    pub exits : file.exits ≡ no_exits
     pub result : file.result ≡ None
 
   -- what functions add to a file, from this number on
@@ -174,8 +175,8 @@ module _ (p : Parts) where
       place = ne_eqb (file.depth + 1) 0 (λ e. omega (arith, e));
     }
 
-    params_told : (owned : List VarId) (f : Function) (defined : Bool) {in_loop : Bool}
-        → IsPiece p owned f true in_loop n (params_of defined)
+    params_told : (owned : List VarId) (f : Function) (defined : Bool) {exits : Exits}
+        → IsPiece p owned f true exits n (params_of defined)
         → AreTold p n.statements (length (params_of defined).statements) n.calls (params_of defined).calls []
     params_told owned f defined piece =
         subst (λ ss. AreTold p n.statements (length (params_of defined).statements) n.calls
@@ -191,7 +192,7 @@ module _ (p : Parts) where
       functions = [];
     }
 
-    prototype_piece : prototype.added.faults ≡ [] → IsPiece p p.globals (no_body []) true inside.in_loop n
+    prototype_piece : prototype.added.faults ≡ [] → IsPiece p p.globals (no_body []) true inside.exits n
         (params_of false)
     prototype_piece none = (params_piece p p.globals (no_body []) true
         (is_main_name s.name) false at 1 qs).by inside
@@ -216,7 +217,7 @@ module _ (p : Parts) where
               (subst (λ c. AreTold p n.statements c n.calls ((params_of false).calls + 0) [])
               (sym (length-append (params_of false).statements []))
               (told-append p (params_told p.globals (no_body []) false piece) (are_told p
-              (stmts_none p [] _ _ false))));
+              (stmts_none p [] _ _ no_exits))));
         }
 
     pub prototype_vars : prototype.added.variables ≡ []
@@ -290,7 +291,7 @@ module _ (p : Parts) where
           λ is. has_params,
         )
 
-        params_fit : IsPiece p owned (no_body g.params) true inside.in_loop n (params_of true)
+        params_fit : IsPiece p owned (no_body g.params) true inside.exits n (params_of true)
         params_fit = (params_piece p owned (no_body g.params) true (is_main_name s.name) true at 1 qs).by
             inside
             (in_inside owned g.params (weaker_entries g file.known file_scope.sound.entries)) n params_stand
@@ -317,7 +318,7 @@ module _ (p : Parts) where
         body_part : IsPart p owned g true (in_order (parts_of_block b))
         body_part = parts_in_order p owned g true (parts_of_block b) (block_parts p owned g b)
 
-        body_fits : IsPiece p owned g true file.in_loop (behind n (params_of true)) body
+        body_fits : IsPiece p owned g true file.exits (behind n (params_of true)) body
         body_fits = body_part.piece.by known in_known (behind n (params_of true)) body_stands body_none
 
         body_counted : IsCounted body
@@ -344,9 +345,9 @@ module _ (p : Parts) where
         facts_are = ap (λ ss. around (leaf_facts [] [] true) (map (stmt_facts_of p g) ss)) (sym body_is)
             ∙ ap (around (leaf_facts [] [] true)) (sym (all_facts_are p g g.body))
 
-        not_leaving : (b : Bool) → (b ≡ true → file.in_loop ≡ true) → not b ≡ true
-        not_leaving false h = refl
-        not_leaving true h = absurd (true≢false (sym (h refl) ∙ file_scope.in_loop))
+        not_leaving : (b way : Bool) → way ≡ false → (b ≡ true → way ≡ true) → not b ≡ true
+        not_leaving false way closed h = refl
+        not_leaving true way closed h = absurd (true≢false (sym (h refl) ∙ closed))
 
         few_of_params : length g.params ≤ 32
         few_of_params =
@@ -375,9 +376,11 @@ module _ (p : Parts) where
             (le-leb (length g.params) 32 few_of_params) shapes_of_params) shapes_of_locals)
             (ap (λ (x : StmtFacts). x.is_sound) (sym facts_are) ∙ body_fits.stmts.sound)) shallow)
             (ap (λ (x : StmtFacts). not x.breaks) (sym facts_are)
-            ∙ not_leaving (some_break (all_facts_of p g body.stmts)) body_fits.stmts.breaks))
+            ∙ not_leaving (some_break (all_facts_of p g body.stmts)) file.exits.breaks
+            (ap (λ (e : Exits). e.breaks) file_scope.exits) body_fits.stmts.breaks))
             (ap (λ (x : StmtFacts). not x.continues) (sym facts_are)
-            ∙ not_leaving (some_continue (all_facts_of p g body.stmts)) body_fits.stmts.continues))
+            ∙ not_leaving (some_continue (all_facts_of p g body.stmts)) file.exits.continues
+            (ap (λ (e : Exits). e.continues) file_scope.exits) body_fits.stmts.continues))
             (ap (λ (x : StmtFacts). list_all (has_variable owned) x.variables) (sym facts_are)
             ∙ body_fits.stmts.names)
 

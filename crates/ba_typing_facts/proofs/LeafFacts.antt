@@ -17,6 +17,7 @@ use Rattle.ba_typing.specs.Faults.{limit_faults, height_limit}
 use Rattle.ba_typing.specs.Names.{Scope}
 use Rattle.ba_tree.specs.Trees.{ExprTree}
 use Rattle.ba_typing.specs.declared.fault.Cause.TheVariants.{Limit}
+use Rattle.ba_typing.specs.declared.names.Exits.{Exits}
 use Rattle.ba_typing_facts.proofs.TreeFacts.{facts_of}
 use Rattle.ba_typing_facts.proofs.FittingFacts.{calls_of, Fits, AreFit, operator_fits, nil_left, nil_right, call_numbers}
 use Rattle.ba_typing_facts.proofs.OperatorFacts.{IsTyped, IsWellTyped, AreClean}
@@ -143,10 +144,10 @@ module _ (p : Parts) (owned : List VarId) where
   -- LEAVES
 
   -- a numbered statement of whole expressions
-  pub leaf_are : {in_loop : Bool} (n : Before) (k : StmtKind) (es : List Typed) (xs : List ExprFacts)
+  pub leaf_are : {exits : Exits} (n : Before) (k : StmtKind) (es : List Typed) (xs : List ExprFacts)
       (meets : Bool)
       → AreFit owned n.calls es xs → AreLow es → meets ≡ true → has_kind p (next_stmt n, k) ≡ true
-      → AreStmts p owned n.statements 1 n.calls (calls_of es) in_loop
+      → AreStmts p owned n.statements 1 n.calls (calls_of es) exits
       (leaf_facts (numbered (next_stmt n) k) xs meets ∷ [])
   leaf_are n k es xs meets fit low met is_kind =
       let all = operator_fits owned n.calls es xs I32 true fit refl in record {
@@ -163,8 +164,8 @@ module _ (p : Parts) (owned : List VarId) where
       }
 
   -- one without a number or an expression
-  pub bare_are : {before calls_before : ℕ} {in_loop : Bool} (meets : Bool) → meets ≡ true
-      → AreStmts p owned before 0 calls_before 0 in_loop (leaf_facts [] [] meets ∷ [])
+  pub bare_are : {before calls_before : ℕ} {exits : Exits} (meets : Bool) → meets ≡ true
+      → AreStmts p owned before 0 calls_before 0 exits (leaf_facts [] [] meets ∷ [])
   bare_are {before} {calls_before} meets met = record {
     sound = and_from _ _ (and_from meets true met refl) refl;
     names = refl;
@@ -175,27 +176,40 @@ module _ (p : Parts) (owned : List VarId) where
     continues = λ any. cc;
   }
 
-  -- a `break` or a `continue`, in a loop
-  pub jump_are : {before calls_before : ℕ} (b c : Bool)
-      → AreStmts p owned before 0 calls_before 0 true
-      (record (leaf_facts [] [] true) { breaks = b; continues = c } ∷ [])
-  jump_are {before} {calls_before} b c = record {
+  -- a `break`, where one may stand
+  pub break_are : {before calls_before : ℕ} {exits : Exits} → exits.breaks ≡ true
+      → AreStmts p owned before 0 calls_before 0 exits (record (leaf_facts [] [] true) { breaks = true } ∷ [])
+  break_are {before} {calls_before} accepted = record {
     sound = refl;
     names = refl;
     each_number = each_none (before + 1);
     kinds = refl;
     each_call = each_none (calls_before + 1);
-    breaks = λ any. refl;
-    continues = λ any. refl;
+    breaks = λ any. accepted;
+    continues = λ any. cc;
+  }
+
+  -- a `continue`, where one may stand
+  pub continue_are : {before calls_before : ℕ} {exits : Exits} → exits.continues ≡ true
+      → AreStmts p owned before 0 calls_before 0 exits
+      (record (leaf_facts [] [] true) { continues = true } ∷ [])
+  continue_are {before} {calls_before} accepted = record {
+    sound = refl;
+    names = refl;
+    each_number = each_none (before + 1);
+    kinds = refl;
+    each_call = each_none (calls_before + 1);
+    breaks = λ any. cc;
+    continues = λ any. accepted;
   }
 
   -- a call as a statement, in front of the calls in its arguments
-  pub calling_are : {in_loop : Bool} (n : Before) (es : List Typed) (xs : List ExprFacts) (meets : Bool)
+  pub calling_are : {exits : Exits} (n : Before) (es : List Typed) (xs : List ExprFacts) (meets : Bool)
       (c : CallId)
       → c.0 ≡ n.calls + 1
       → AreFit owned (n.calls + 1) es xs → AreLow es → meets ≡ true → has_kind p (next_stmt n, kind.Call)
       ≡ true
-      → AreStmts p owned n.statements 1 n.calls (1 + calls_of es) in_loop
+      → AreStmts p owned n.statements 1 n.calls (1 + calls_of es) exits
       (calling c (leaf_facts (numbered (next_stmt n) kind.Call) xs meets) ∷ [])
   calling_are n es xs meets c is fit low met is_kind =
       let all = operator_fits owned (n.calls + 1) es xs I32 true fit refl in record {

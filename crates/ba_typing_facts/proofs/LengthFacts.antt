@@ -80,7 +80,7 @@ counted_room true k some = omega arith
 counted_room false k some = cc
 
 module _ (p : Parts) (owned : List VarId) where
-  constant_calls : (before : ℕ) (e : Typed) → IsWellTyped p owned before e → e.faults ≡ [] →
+  pub constant_calls : (before : ℕ) (e : Typed) → IsWellTyped p owned before e → e.faults ≡ [] →
       e.is_constant ≡ true
       → e.calls ≡ 0
   constant_calls before e h none is =

@@ -5,7 +5,7 @@ use Rattle.std.proofs.lemmas.Bool.{and_from, le-leb}
 use Rattle.ba_trees.specs.Marks.{Mark, leaf, leave, levels}
 use Rattle.ba_trees.specs.Views.{joined}
 use Rattle.ba_trees.specs.ExpressionMarks.{M, conditional_marks}
-use Rattle.ba_trees.specs.StatementMarks.{item_step, form_step, block_step, controlled_step, do_step, else_step, for_step, statement_step, item_marks, form_marks, block_marks, controlled_marks, else_marks, statement_marks}
+use Rattle.ba_trees.specs.StatementMarks.{item_step, form_step, block_step, controlled_step, do_step, else_step, for_step, group_step, statement_step, item_marks, form_marks, block_marks, controlled_marks, else_marks, group_marks, statement_marks}
 use Rattle.ba_trees.specs.ExternalMarks.{external_form_marks, external_marks}
 use Rattle.ba_trees.specs.FileMarks.{file_marks}
 use Rattle.ba_trees.specs.declared.tree.statements.External.{External}
@@ -20,26 +20,27 @@ use Rattle.ba_trees.specs.declared.tree.statements.Controlled.{Controlled}
 use Rattle.ba_trees.specs.declared.tree.statements.DoWhile.{DoWhile}
 use Rattle.ba_trees.specs.declared.tree.statements.Else.{Else}
 use Rattle.ba_trees.specs.declared.tree.statements.For.{For}
+use Rattle.ba_trees.specs.declared.tree.statements.Group.{Group}
 use Rattle.ba_trees.specs.declared.tree.statements.Statement.{Statement}
-use Rattle.ba_trees.specs.declared.tree.statements.BlockItem.TheOpen.{BlockItem-F, StatementForm-F, Block-F, Controlled-F, DoWhile-F, Else-F, For-F, Statement-F}
-use Rattle.ba_trees.specs.declared.tree.statements.BlockItem.TheViews.{roll-BlockItem, roll-StatementForm, roll-Block, roll-Controlled, roll-DoWhile, roll-Else, roll-For, roll-Statement}
-use Rattle.ba_trees.specs.declared.tree.statements.BlockItem.TheFolds.{map-BlockItem, map-StatementForm, map-Block, map-Controlled, map-DoWhile, map-Else, map-For, map-Statement, ind-Block, fold-DoWhile, fold-For, fold-roll-BlockItem, fold-roll-StatementForm, fold-roll-Block, fold-roll-Controlled, fold-roll-DoWhile, fold-roll-Else, fold-roll-For, fold-roll-Statement}
+use Rattle.ba_trees.specs.declared.tree.statements.BlockItem.TheOpen.{BlockItem-F, StatementForm-F, Block-F, Controlled-F, DoWhile-F, Else-F, For-F, Group-F, Statement-F}
+use Rattle.ba_trees.specs.declared.tree.statements.BlockItem.TheViews.{roll-BlockItem, roll-StatementForm, roll-Block, roll-Controlled, roll-DoWhile, roll-Else, roll-For, roll-Group, roll-Statement}
+use Rattle.ba_trees.specs.declared.tree.statements.BlockItem.TheFolds.{map-BlockItem, map-StatementForm, map-Block, map-Controlled, map-DoWhile, map-Else, map-For, map-Group, map-Statement, ind-Block, fold-DoWhile, fold-For, fold-roll-BlockItem, fold-roll-StatementForm, fold-roll-Block, fold-roll-Controlled, fold-roll-DoWhile, fold-roll-Else, fold-roll-For, fold-roll-Group, fold-roll-Statement}
 use Rattle.ba_tree.specs.Facts.{greatest}
 use Rattle.ba_typing_facts.proofs.LevelFacts.{IsEven, none, front, both, inside, deeper, type_even, conditional_even}
-use Rattle.ba_typing_facts.proofs.NestingFacts.{item_depth, form_depth, block_depth, controlled_depth, do_depth, else_depth, for_depth, statement_depth, item_nesting, form_nesting, block_nesting, controlled_nesting, do_nesting, else_nesting, for_nesting, statement_nesting}
+use Rattle.ba_typing_facts.proofs.NestingFacts.{item_depth, form_depth, block_depth, controlled_depth, do_depth, else_depth, for_depth, group_depth, statement_depth, item_nesting, form_nesting, block_nesting, controlled_nesting, do_nesting, else_nesting, for_nesting, group_nesting, statement_nesting}
 use Rattle.ba_typing_facts.proofs.FileNesting.{form_of_nesting, nests_within}
-use Rattle.ba_typing_facts.proofs.PartLevels.{row, maybe, declarators_even, parameters_even, simple_even, condition_even, head_even, printed_even}
-use Rattle.ba_typing_facts.proofs.ReachFacts.{Reaches, IsBlock, IsStated, IsControlled, split, reach_both, reach_left, reach_right, reach_front, reach_leaf, reach_inside, reach_deeper, block_is}
+use Rattle.ba_typing_facts.proofs.PartLevels.{row, maybe, declarators_even, parameters_even, simple_even, condition_even, label_even, head_even, printed_even}
+use Rattle.ba_typing_facts.proofs.ReachFacts.{Reaches, IsBlock, IsStated, IsControlled, split, reach_both, reach_left, reach_right, reach_front, reach_leaf, reach_inside, reach_deeper, reach_opened, block_is}
 
 -- STATEMENTS, by induction on the parser's trees
 
 abbrev do_marks : DoWhile → M
-do_marks = fold-DoWhile M M M M M M M M item_step form_step block_step controlled_step do_step else_step
-    for_step statement_step
+do_marks = fold-DoWhile M M M M M M M M M item_step form_step block_step controlled_step do_step else_step
+    for_step group_step statement_step
 
 abbrev for_marks : For → M
-for_marks = fold-For M M M M M M M M item_step form_step block_step controlled_step do_step else_step
-    for_step statement_step
+for_marks = fold-For M M M M M M M M M item_step form_step block_step controlled_step do_step else_step
+    for_step group_step statement_step
 
 abbrev OfItem : Type 0
 OfItem = (x : BlockItem) × Reaches (item_nesting x) (item_marks x)
@@ -62,134 +63,154 @@ OfElse = (x : Else) × IsControlled (else_nesting x) (else_marks x)
 abbrev OfFor : Type 0
 OfFor = (x : For) × IsStated (for_nesting x) (for_marks x)
 
+abbrev OfGroup : Type 0
+OfGroup = (x : Group) × Reaches (group_nesting x) (group_marks x)
+
 abbrev OfStatement : Type 0
 OfStatement = (x : Statement) × IsStated (statement_nesting x) (statement_marks x)
 
-abbrev Bare : (Type 0 → Type 0 → Type 0 → Type 0 → Type 0 → Type 0 → Type 0 → Type 0 → Type 0) → Type 0
-Bare F = F BlockItem StatementForm Block Controlled DoWhile Else For Statement
+abbrev Bare : (Type 0 → Type 0 → Type 0 → Type 0 → Type 0 → Type 0 → Type 0 → Type 0 → Type 0 → Type 0)
+    → Type 0
+Bare F = F BlockItem StatementForm Block Controlled DoWhile Else For Group Statement
 
-abbrev Pieces : (Type 0 → Type 0 → Type 0 → Type 0 → Type 0 → Type 0 → Type 0 → Type 0 → Type 0) → Type 0
-Pieces F = F OfItem OfForm OfBlock OfControlled OfDo OfElse OfFor OfStatement
+abbrev Pieces : (Type 0 → Type 0 → Type 0 → Type 0 → Type 0 → Type 0 → Type 0 → Type 0 → Type 0 → Type 0)
+    → Type 0
+Pieces F = F OfItem OfForm OfBlock OfControlled OfDo OfElse OfFor OfGroup OfStatement
 
 abbrev bare_item : Pieces BlockItem-F → Bare BlockItem-F
-bare_item = map-BlockItem OfItem OfForm OfBlock OfControlled OfDo OfElse OfFor OfStatement
-    BlockItem StatementForm Block Controlled DoWhile Else For Statement
-    (λ e. e.0) (λ e. e.0) (λ e. e.0) (λ e. e.0) (λ e. e.0) (λ e. e.0) (λ e. e.0) (λ e. e.0)
+bare_item = map-BlockItem OfItem OfForm OfBlock OfControlled OfDo OfElse OfFor OfGroup OfStatement
+    BlockItem StatementForm Block Controlled DoWhile Else For Group Statement
+    (λ e. e.0) (λ e. e.0) (λ e. e.0) (λ e. e.0) (λ e. e.0) (λ e. e.0) (λ e. e.0) (λ e. e.0) (λ e. e.0)
 
-abbrev written_item : Bare BlockItem-F → BlockItem-F M M M M M M M M
-written_item = map-BlockItem BlockItem StatementForm Block Controlled DoWhile Else For Statement
-    M M M M M M M M item_marks form_marks block_marks controlled_marks do_marks else_marks for_marks
-    statement_marks
+abbrev written_item : Bare BlockItem-F → BlockItem-F M M M M M M M M M
+written_item = map-BlockItem BlockItem StatementForm Block Controlled DoWhile Else For Group Statement
+    M M M M M M M M M item_marks form_marks block_marks controlled_marks do_marks else_marks for_marks
+    group_marks statement_marks
 
-abbrev deep_item : Bare BlockItem-F → BlockItem-F ℕ ℕ ℕ ℕ ℕ ℕ ℕ ℕ
-deep_item = map-BlockItem BlockItem StatementForm Block Controlled DoWhile Else For Statement
-    ℕ ℕ ℕ ℕ ℕ ℕ ℕ ℕ item_nesting form_nesting block_nesting controlled_nesting do_nesting else_nesting
-    for_nesting statement_nesting
+abbrev deep_item : Bare BlockItem-F → BlockItem-F ℕ ℕ ℕ ℕ ℕ ℕ ℕ ℕ ℕ
+deep_item = map-BlockItem BlockItem StatementForm Block Controlled DoWhile Else For Group Statement
+    ℕ ℕ ℕ ℕ ℕ ℕ ℕ ℕ ℕ item_nesting form_nesting block_nesting controlled_nesting do_nesting else_nesting
+    for_nesting group_nesting statement_nesting
 
 abbrev bare_form : Pieces StatementForm-F → Bare StatementForm-F
-bare_form = map-StatementForm OfItem OfForm OfBlock OfControlled OfDo OfElse OfFor OfStatement
-    BlockItem StatementForm Block Controlled DoWhile Else For Statement
-    (λ e. e.0) (λ e. e.0) (λ e. e.0) (λ e. e.0) (λ e. e.0) (λ e. e.0) (λ e. e.0) (λ e. e.0)
+bare_form = map-StatementForm OfItem OfForm OfBlock OfControlled OfDo OfElse OfFor OfGroup OfStatement
+    BlockItem StatementForm Block Controlled DoWhile Else For Group Statement
+    (λ e. e.0) (λ e. e.0) (λ e. e.0) (λ e. e.0) (λ e. e.0) (λ e. e.0) (λ e. e.0) (λ e. e.0) (λ e. e.0)
 
-abbrev written_form : Bare StatementForm-F → StatementForm-F M M M M M M M M
-written_form = map-StatementForm BlockItem StatementForm Block Controlled DoWhile Else For Statement
-    M M M M M M M M item_marks form_marks block_marks controlled_marks do_marks else_marks for_marks
-    statement_marks
+abbrev written_form : Bare StatementForm-F → StatementForm-F M M M M M M M M M
+written_form = map-StatementForm BlockItem StatementForm Block Controlled DoWhile Else For Group Statement
+    M M M M M M M M M item_marks form_marks block_marks controlled_marks do_marks else_marks for_marks
+    group_marks statement_marks
 
-abbrev deep_form : Bare StatementForm-F → StatementForm-F ℕ ℕ ℕ ℕ ℕ ℕ ℕ ℕ
-deep_form = map-StatementForm BlockItem StatementForm Block Controlled DoWhile Else For Statement
-    ℕ ℕ ℕ ℕ ℕ ℕ ℕ ℕ item_nesting form_nesting block_nesting controlled_nesting do_nesting else_nesting
-    for_nesting statement_nesting
+abbrev deep_form : Bare StatementForm-F → StatementForm-F ℕ ℕ ℕ ℕ ℕ ℕ ℕ ℕ ℕ
+deep_form = map-StatementForm BlockItem StatementForm Block Controlled DoWhile Else For Group Statement
+    ℕ ℕ ℕ ℕ ℕ ℕ ℕ ℕ ℕ item_nesting form_nesting block_nesting controlled_nesting do_nesting else_nesting
+    for_nesting group_nesting statement_nesting
 
 abbrev bare_block : Pieces Block-F → Bare Block-F
-bare_block = map-Block OfItem OfForm OfBlock OfControlled OfDo OfElse OfFor OfStatement
-    BlockItem StatementForm Block Controlled DoWhile Else For Statement
-    (λ e. e.0) (λ e. e.0) (λ e. e.0) (λ e. e.0) (λ e. e.0) (λ e. e.0) (λ e. e.0) (λ e. e.0)
+bare_block = map-Block OfItem OfForm OfBlock OfControlled OfDo OfElse OfFor OfGroup OfStatement
+    BlockItem StatementForm Block Controlled DoWhile Else For Group Statement
+    (λ e. e.0) (λ e. e.0) (λ e. e.0) (λ e. e.0) (λ e. e.0) (λ e. e.0) (λ e. e.0) (λ e. e.0) (λ e. e.0)
 
-abbrev written_block : Bare Block-F → Block-F M M M M M M M M
-written_block = map-Block BlockItem StatementForm Block Controlled DoWhile Else For Statement
-    M M M M M M M M item_marks form_marks block_marks controlled_marks do_marks else_marks for_marks
-    statement_marks
+abbrev written_block : Bare Block-F → Block-F M M M M M M M M M
+written_block = map-Block BlockItem StatementForm Block Controlled DoWhile Else For Group Statement
+    M M M M M M M M M item_marks form_marks block_marks controlled_marks do_marks else_marks for_marks
+    group_marks statement_marks
 
-abbrev deep_block : Bare Block-F → Block-F ℕ ℕ ℕ ℕ ℕ ℕ ℕ ℕ
-deep_block = map-Block BlockItem StatementForm Block Controlled DoWhile Else For Statement
-    ℕ ℕ ℕ ℕ ℕ ℕ ℕ ℕ item_nesting form_nesting block_nesting controlled_nesting do_nesting else_nesting
-    for_nesting statement_nesting
+abbrev deep_block : Bare Block-F → Block-F ℕ ℕ ℕ ℕ ℕ ℕ ℕ ℕ ℕ
+deep_block = map-Block BlockItem StatementForm Block Controlled DoWhile Else For Group Statement
+    ℕ ℕ ℕ ℕ ℕ ℕ ℕ ℕ ℕ item_nesting form_nesting block_nesting controlled_nesting do_nesting else_nesting
+    for_nesting group_nesting statement_nesting
 
 abbrev bare_controlled : Pieces Controlled-F → Bare Controlled-F
-bare_controlled = map-Controlled OfItem OfForm OfBlock OfControlled OfDo OfElse OfFor OfStatement
-    BlockItem StatementForm Block Controlled DoWhile Else For Statement
-    (λ e. e.0) (λ e. e.0) (λ e. e.0) (λ e. e.0) (λ e. e.0) (λ e. e.0) (λ e. e.0) (λ e. e.0)
+bare_controlled = map-Controlled OfItem OfForm OfBlock OfControlled OfDo OfElse OfFor OfGroup OfStatement
+    BlockItem StatementForm Block Controlled DoWhile Else For Group Statement
+    (λ e. e.0) (λ e. e.0) (λ e. e.0) (λ e. e.0) (λ e. e.0) (λ e. e.0) (λ e. e.0) (λ e. e.0) (λ e. e.0)
 
-abbrev written_controlled : Bare Controlled-F → Controlled-F M M M M M M M M
-written_controlled = map-Controlled BlockItem StatementForm Block Controlled DoWhile Else For Statement
-    M M M M M M M M item_marks form_marks block_marks controlled_marks do_marks else_marks for_marks
-    statement_marks
+abbrev written_controlled : Bare Controlled-F → Controlled-F M M M M M M M M M
+written_controlled = map-Controlled BlockItem StatementForm Block Controlled DoWhile Else For Group Statement
+    M M M M M M M M M item_marks form_marks block_marks controlled_marks do_marks else_marks for_marks
+    group_marks statement_marks
 
-abbrev deep_controlled : Bare Controlled-F → Controlled-F ℕ ℕ ℕ ℕ ℕ ℕ ℕ ℕ
-deep_controlled = map-Controlled BlockItem StatementForm Block Controlled DoWhile Else For Statement
-    ℕ ℕ ℕ ℕ ℕ ℕ ℕ ℕ item_nesting form_nesting block_nesting controlled_nesting do_nesting else_nesting
-    for_nesting statement_nesting
+abbrev deep_controlled : Bare Controlled-F → Controlled-F ℕ ℕ ℕ ℕ ℕ ℕ ℕ ℕ ℕ
+deep_controlled = map-Controlled BlockItem StatementForm Block Controlled DoWhile Else For Group Statement
+    ℕ ℕ ℕ ℕ ℕ ℕ ℕ ℕ ℕ item_nesting form_nesting block_nesting controlled_nesting do_nesting else_nesting
+    for_nesting group_nesting statement_nesting
 
 abbrev bare_do : Pieces DoWhile-F → Bare DoWhile-F
-bare_do = map-DoWhile OfItem OfForm OfBlock OfControlled OfDo OfElse OfFor OfStatement
-    BlockItem StatementForm Block Controlled DoWhile Else For Statement
-    (λ e. e.0) (λ e. e.0) (λ e. e.0) (λ e. e.0) (λ e. e.0) (λ e. e.0) (λ e. e.0) (λ e. e.0)
+bare_do = map-DoWhile OfItem OfForm OfBlock OfControlled OfDo OfElse OfFor OfGroup OfStatement
+    BlockItem StatementForm Block Controlled DoWhile Else For Group Statement
+    (λ e. e.0) (λ e. e.0) (λ e. e.0) (λ e. e.0) (λ e. e.0) (λ e. e.0) (λ e. e.0) (λ e. e.0) (λ e. e.0)
 
-abbrev written_do : Bare DoWhile-F → DoWhile-F M M M M M M M M
-written_do = map-DoWhile BlockItem StatementForm Block Controlled DoWhile Else For Statement
-    M M M M M M M M item_marks form_marks block_marks controlled_marks do_marks else_marks for_marks
-    statement_marks
+abbrev written_do : Bare DoWhile-F → DoWhile-F M M M M M M M M M
+written_do = map-DoWhile BlockItem StatementForm Block Controlled DoWhile Else For Group Statement
+    M M M M M M M M M item_marks form_marks block_marks controlled_marks do_marks else_marks for_marks
+    group_marks statement_marks
 
-abbrev deep_do : Bare DoWhile-F → DoWhile-F ℕ ℕ ℕ ℕ ℕ ℕ ℕ ℕ
-deep_do = map-DoWhile BlockItem StatementForm Block Controlled DoWhile Else For Statement
-    ℕ ℕ ℕ ℕ ℕ ℕ ℕ ℕ item_nesting form_nesting block_nesting controlled_nesting do_nesting else_nesting
-    for_nesting statement_nesting
+abbrev deep_do : Bare DoWhile-F → DoWhile-F ℕ ℕ ℕ ℕ ℕ ℕ ℕ ℕ ℕ
+deep_do = map-DoWhile BlockItem StatementForm Block Controlled DoWhile Else For Group Statement
+    ℕ ℕ ℕ ℕ ℕ ℕ ℕ ℕ ℕ item_nesting form_nesting block_nesting controlled_nesting do_nesting else_nesting
+    for_nesting group_nesting statement_nesting
 
 abbrev bare_else : Pieces Else-F → Bare Else-F
-bare_else = map-Else OfItem OfForm OfBlock OfControlled OfDo OfElse OfFor OfStatement
-    BlockItem StatementForm Block Controlled DoWhile Else For Statement
-    (λ e. e.0) (λ e. e.0) (λ e. e.0) (λ e. e.0) (λ e. e.0) (λ e. e.0) (λ e. e.0) (λ e. e.0)
+bare_else = map-Else OfItem OfForm OfBlock OfControlled OfDo OfElse OfFor OfGroup OfStatement
+    BlockItem StatementForm Block Controlled DoWhile Else For Group Statement
+    (λ e. e.0) (λ e. e.0) (λ e. e.0) (λ e. e.0) (λ e. e.0) (λ e. e.0) (λ e. e.0) (λ e. e.0) (λ e. e.0)
 
-abbrev written_else : Bare Else-F → Else-F M M M M M M M M
-written_else = map-Else BlockItem StatementForm Block Controlled DoWhile Else For Statement
-    M M M M M M M M item_marks form_marks block_marks controlled_marks do_marks else_marks for_marks
-    statement_marks
+abbrev written_else : Bare Else-F → Else-F M M M M M M M M M
+written_else = map-Else BlockItem StatementForm Block Controlled DoWhile Else For Group Statement
+    M M M M M M M M M item_marks form_marks block_marks controlled_marks do_marks else_marks for_marks
+    group_marks statement_marks
 
-abbrev deep_else : Bare Else-F → Else-F ℕ ℕ ℕ ℕ ℕ ℕ ℕ ℕ
-deep_else = map-Else BlockItem StatementForm Block Controlled DoWhile Else For Statement
-    ℕ ℕ ℕ ℕ ℕ ℕ ℕ ℕ item_nesting form_nesting block_nesting controlled_nesting do_nesting else_nesting
-    for_nesting statement_nesting
+abbrev deep_else : Bare Else-F → Else-F ℕ ℕ ℕ ℕ ℕ ℕ ℕ ℕ ℕ
+deep_else = map-Else BlockItem StatementForm Block Controlled DoWhile Else For Group Statement
+    ℕ ℕ ℕ ℕ ℕ ℕ ℕ ℕ ℕ item_nesting form_nesting block_nesting controlled_nesting do_nesting else_nesting
+    for_nesting group_nesting statement_nesting
 
 abbrev bare_for : Pieces For-F → Bare For-F
-bare_for = map-For OfItem OfForm OfBlock OfControlled OfDo OfElse OfFor OfStatement
-    BlockItem StatementForm Block Controlled DoWhile Else For Statement
-    (λ e. e.0) (λ e. e.0) (λ e. e.0) (λ e. e.0) (λ e. e.0) (λ e. e.0) (λ e. e.0) (λ e. e.0)
+bare_for = map-For OfItem OfForm OfBlock OfControlled OfDo OfElse OfFor OfGroup OfStatement
+    BlockItem StatementForm Block Controlled DoWhile Else For Group Statement
+    (λ e. e.0) (λ e. e.0) (λ e. e.0) (λ e. e.0) (λ e. e.0) (λ e. e.0) (λ e. e.0) (λ e. e.0) (λ e. e.0)
 
-abbrev written_for : Bare For-F → For-F M M M M M M M M
-written_for = map-For BlockItem StatementForm Block Controlled DoWhile Else For Statement
-    M M M M M M M M item_marks form_marks block_marks controlled_marks do_marks else_marks for_marks
-    statement_marks
+abbrev written_for : Bare For-F → For-F M M M M M M M M M
+written_for = map-For BlockItem StatementForm Block Controlled DoWhile Else For Group Statement
+    M M M M M M M M M item_marks form_marks block_marks controlled_marks do_marks else_marks for_marks
+    group_marks statement_marks
 
-abbrev deep_for : Bare For-F → For-F ℕ ℕ ℕ ℕ ℕ ℕ ℕ ℕ
-deep_for = map-For BlockItem StatementForm Block Controlled DoWhile Else For Statement
-    ℕ ℕ ℕ ℕ ℕ ℕ ℕ ℕ item_nesting form_nesting block_nesting controlled_nesting do_nesting else_nesting
-    for_nesting statement_nesting
+abbrev deep_for : Bare For-F → For-F ℕ ℕ ℕ ℕ ℕ ℕ ℕ ℕ ℕ
+deep_for = map-For BlockItem StatementForm Block Controlled DoWhile Else For Group Statement
+    ℕ ℕ ℕ ℕ ℕ ℕ ℕ ℕ ℕ item_nesting form_nesting block_nesting controlled_nesting do_nesting else_nesting
+    for_nesting group_nesting statement_nesting
+
+abbrev bare_group : Pieces Group-F → Bare Group-F
+bare_group = map-Group OfItem OfForm OfBlock OfControlled OfDo OfElse OfFor OfGroup OfStatement
+    BlockItem StatementForm Block Controlled DoWhile Else For Group Statement
+    (λ e. e.0) (λ e. e.0) (λ e. e.0) (λ e. e.0) (λ e. e.0) (λ e. e.0) (λ e. e.0) (λ e. e.0) (λ e. e.0)
+
+abbrev written_group : Bare Group-F → Group-F M M M M M M M M M
+written_group = map-Group BlockItem StatementForm Block Controlled DoWhile Else For Group Statement
+    M M M M M M M M M item_marks form_marks block_marks controlled_marks do_marks else_marks for_marks
+    group_marks statement_marks
+
+abbrev deep_group : Bare Group-F → Group-F ℕ ℕ ℕ ℕ ℕ ℕ ℕ ℕ ℕ
+deep_group = map-Group BlockItem StatementForm Block Controlled DoWhile Else For Group Statement
+    ℕ ℕ ℕ ℕ ℕ ℕ ℕ ℕ ℕ item_nesting form_nesting block_nesting controlled_nesting do_nesting else_nesting
+    for_nesting group_nesting statement_nesting
 
 abbrev bare_statement : Pieces Statement-F → Bare Statement-F
-bare_statement = map-Statement OfItem OfForm OfBlock OfControlled OfDo OfElse OfFor OfStatement
-    BlockItem StatementForm Block Controlled DoWhile Else For Statement
-    (λ e. e.0) (λ e. e.0) (λ e. e.0) (λ e. e.0) (λ e. e.0) (λ e. e.0) (λ e. e.0) (λ e. e.0)
+bare_statement = map-Statement OfItem OfForm OfBlock OfControlled OfDo OfElse OfFor OfGroup OfStatement
+    BlockItem StatementForm Block Controlled DoWhile Else For Group Statement
+    (λ e. e.0) (λ e. e.0) (λ e. e.0) (λ e. e.0) (λ e. e.0) (λ e. e.0) (λ e. e.0) (λ e. e.0) (λ e. e.0)
 
-abbrev written_statement : Bare Statement-F → Statement-F M M M M M M M M
-written_statement = map-Statement BlockItem StatementForm Block Controlled DoWhile Else For Statement
-    M M M M M M M M item_marks form_marks block_marks controlled_marks do_marks else_marks for_marks
-    statement_marks
+abbrev written_statement : Bare Statement-F → Statement-F M M M M M M M M M
+written_statement = map-Statement BlockItem StatementForm Block Controlled DoWhile Else For Group Statement
+    M M M M M M M M M item_marks form_marks block_marks controlled_marks do_marks else_marks for_marks
+    group_marks statement_marks
 
-abbrev deep_statement : Bare Statement-F → Statement-F ℕ ℕ ℕ ℕ ℕ ℕ ℕ ℕ
-deep_statement = map-Statement BlockItem StatementForm Block Controlled DoWhile Else For Statement
-    ℕ ℕ ℕ ℕ ℕ ℕ ℕ ℕ item_nesting form_nesting block_nesting controlled_nesting do_nesting else_nesting
-    for_nesting statement_nesting
+abbrev deep_statement : Bare Statement-F → Statement-F ℕ ℕ ℕ ℕ ℕ ℕ ℕ ℕ ℕ
+deep_statement = map-Statement BlockItem StatementForm Block Controlled DoWhile Else For Group Statement
+    ℕ ℕ ℕ ℕ ℕ ℕ ℕ ℕ ℕ item_nesting form_nesting block_nesting controlled_nesting do_nesting else_nesting
+    for_nesting group_nesting statement_nesting
 
 leaf_stated : {f : List Mark} → Reaches 1 f → IsStated 1 f
 leaf_stated h = record { reaches = h; one = omega arith }
@@ -215,6 +236,18 @@ item_form (BlockItem-F.Declaration d) = reach_inside Rattle.ba_trees.specs.Marks
     (reach_right (both (type_even d.name) (declarators_even d.declarators)) (reach_leaf d.semicolon none))
 item_form (BlockItem-F.Statement s) = s.1.reaches
 
+groups_row : (gs : List OfGroup)
+    → Reaches (greatest (map group_nesting (map (λ e. e.0) gs)))
+    (joined (map group_marks (map (λ e. e.0) gs)))
+groups_row [] = record { even = none; deep = λ d. omega arith }
+groups_row (g ∷ gs) = reach_both g.1 (groups_row gs)
+
+statements_row : (ss : List OfStatement)
+    → Reaches (greatest (map statement_nesting (map (λ e. e.0) ss)))
+    (joined (map statement_marks (map (λ e. e.0) ss)))
+statements_row [] = record { even = none; deep = λ d. omega arith }
+statements_row (s ∷ ss) = reach_both s.1.reaches (statements_row ss)
+
 form_form : (y : Pieces StatementForm-F)
     → IsStated (form_depth (deep_form (bare_form y))) (form_step (written_form (bare_form y)))
 form_form (StatementForm-F.Block items) = record {
@@ -233,6 +266,11 @@ form_form (StatementForm-F.If keyword condition holds None) = record {
 form_form (StatementForm-F.If keyword condition holds (Some fails)) = record {
   reaches = reach_front keyword (both_fails (controlled_nesting holds.0) (else_nesting fails.0)
       (reach_right (condition_even condition) holds.1.reaches) fails.1.reaches);
+  one = omega arith;
+}
+form_form (StatementForm-F.Switch keyword condition opener groups closer) = record {
+  reaches = reach_front keyword (reach_left (reach_right (condition_even condition)
+      (reach_opened opener (groups_row groups.items))) (front closer none));
   one = omega arith;
 }
 form_form (StatementForm-F.While keyword condition body) = record {
@@ -285,6 +323,11 @@ for_form y = record {
   one = omega arith;
 }
 
+group_form : (y : Pieces Group-F)
+    → Reaches (group_depth (deep_group (bare_group y))) (group_step (written_group (bare_group y)))
+group_form y = reach_inside Rattle.ba_trees.specs.Marks.group (reach_right (label_even y.label)
+    (statements_row y.statements.items))
+
 statement_form : (y : Pieces Statement-F)
     → IsStated (statement_depth (deep_statement (bare_statement y))) (statement_step (written_statement
     (bare_statement y)))
@@ -305,97 +348,109 @@ by_form holds nesting marks roll deep step deep_is step_is z x is h =
 item_layer : (x : Bare BlockItem-F) (y : Pieces BlockItem-F) → bare_item y ≡ x
     → Reaches (item_nesting (roll-BlockItem x)) (item_marks (roll-BlockItem x))
 unfolding item_nesting form_nesting block_nesting controlled_nesting do_nesting else_nesting for_nesting
-    statement_nesting
+    group_nesting statement_nesting
 item_layer x y is = by_form Reaches item_nesting item_marks roll-BlockItem
     (λ z. item_depth (deep_item z)) (λ z. item_step (written_item z))
-    (fold-roll-BlockItem ℕ ℕ ℕ ℕ ℕ ℕ ℕ ℕ item_depth form_depth block_depth controlled_depth do_depth
-    else_depth for_depth statement_depth)
-    (fold-roll-BlockItem M M M M M M M M item_step form_step block_step controlled_step do_step else_step
-    for_step statement_step)
+    (fold-roll-BlockItem ℕ ℕ ℕ ℕ ℕ ℕ ℕ ℕ ℕ item_depth form_depth block_depth controlled_depth do_depth
+    else_depth for_depth group_depth statement_depth)
+    (fold-roll-BlockItem M M M M M M M M M item_step form_step block_step controlled_step do_step else_step
+    for_step group_step statement_step)
     (bare_item y) x is (item_form y)
 
 form_layer : (x : Bare StatementForm-F) (y : Pieces StatementForm-F) → bare_form y ≡ x
     → IsStated (form_nesting (roll-StatementForm x)) (form_marks (roll-StatementForm x))
 unfolding item_nesting form_nesting block_nesting controlled_nesting do_nesting else_nesting for_nesting
-    statement_nesting
+    group_nesting statement_nesting
 form_layer x y is = by_form IsStated form_nesting form_marks roll-StatementForm
     (λ z. form_depth (deep_form z)) (λ z. form_step (written_form z))
-    (fold-roll-StatementForm ℕ ℕ ℕ ℕ ℕ ℕ ℕ ℕ item_depth form_depth block_depth controlled_depth do_depth
-    else_depth for_depth statement_depth)
-    (fold-roll-StatementForm M M M M M M M M item_step form_step block_step controlled_step do_step
-    else_step for_step statement_step)
+    (fold-roll-StatementForm ℕ ℕ ℕ ℕ ℕ ℕ ℕ ℕ ℕ item_depth form_depth block_depth controlled_depth do_depth
+    else_depth for_depth group_depth statement_depth)
+    (fold-roll-StatementForm M M M M M M M M M item_step form_step block_step controlled_step do_step
+    else_step for_step group_step statement_step)
     (bare_form y) x is (form_form y)
 
 block_layer : (x : Bare Block-F) (y : Pieces Block-F) → bare_block y ≡ x
     → IsBlock (block_nesting (roll-Block x)) (block_marks (roll-Block x))
 unfolding item_nesting form_nesting block_nesting controlled_nesting do_nesting else_nesting for_nesting
-    statement_nesting
+    group_nesting statement_nesting
 block_layer x y is = by_form IsBlock block_nesting block_marks roll-Block
     (λ z. block_depth (deep_block z)) (λ z. block_step (written_block z))
-    (fold-roll-Block ℕ ℕ ℕ ℕ ℕ ℕ ℕ ℕ item_depth form_depth block_depth controlled_depth do_depth else_depth
-    for_depth statement_depth)
-    (fold-roll-Block M M M M M M M M item_step form_step block_step controlled_step do_step else_step
-    for_step statement_step)
+    (fold-roll-Block ℕ ℕ ℕ ℕ ℕ ℕ ℕ ℕ ℕ item_depth form_depth block_depth controlled_depth do_depth else_depth
+    for_depth group_depth statement_depth)
+    (fold-roll-Block M M M M M M M M M item_step form_step block_step controlled_step do_step else_step
+    for_step group_step statement_step)
     (bare_block y) x is (block_form y)
 
 controlled_layer : (x : Bare Controlled-F) (y : Pieces Controlled-F) → bare_controlled y ≡ x
     → IsControlled (controlled_nesting (roll-Controlled x)) (controlled_marks (roll-Controlled x))
 unfolding item_nesting form_nesting block_nesting controlled_nesting do_nesting else_nesting for_nesting
-    statement_nesting
+    group_nesting statement_nesting
 controlled_layer x y is = by_form IsControlled controlled_nesting controlled_marks roll-Controlled
     (λ z. controlled_depth (deep_controlled z)) (λ z. controlled_step (written_controlled z))
-    (fold-roll-Controlled ℕ ℕ ℕ ℕ ℕ ℕ ℕ ℕ item_depth form_depth block_depth controlled_depth do_depth
-    else_depth for_depth statement_depth)
-    (fold-roll-Controlled M M M M M M M M item_step form_step block_step controlled_step do_step else_step
-    for_step statement_step)
+    (fold-roll-Controlled ℕ ℕ ℕ ℕ ℕ ℕ ℕ ℕ ℕ item_depth form_depth block_depth controlled_depth do_depth
+    else_depth for_depth group_depth statement_depth)
+    (fold-roll-Controlled M M M M M M M M M item_step form_step block_step controlled_step do_step else_step
+    for_step group_step statement_step)
     (bare_controlled y) x is (controlled_form y)
 
 do_layer : (x : Bare DoWhile-F) (y : Pieces DoWhile-F) → bare_do y ≡ x
     → IsStated (do_nesting (roll-DoWhile x)) (do_marks (roll-DoWhile x))
 unfolding item_nesting form_nesting block_nesting controlled_nesting do_nesting else_nesting for_nesting
-    statement_nesting
+    group_nesting statement_nesting
 do_layer x y is = by_form IsStated do_nesting do_marks roll-DoWhile
     (λ z. do_depth (deep_do z)) (λ z. do_step (written_do z))
-    (fold-roll-DoWhile ℕ ℕ ℕ ℕ ℕ ℕ ℕ ℕ item_depth form_depth block_depth controlled_depth do_depth
-    else_depth for_depth statement_depth)
-    (fold-roll-DoWhile M M M M M M M M item_step form_step block_step controlled_step do_step else_step
-    for_step statement_step)
+    (fold-roll-DoWhile ℕ ℕ ℕ ℕ ℕ ℕ ℕ ℕ ℕ item_depth form_depth block_depth controlled_depth do_depth
+    else_depth for_depth group_depth statement_depth)
+    (fold-roll-DoWhile M M M M M M M M M item_step form_step block_step controlled_step do_step else_step
+    for_step group_step statement_step)
     (bare_do y) x is (do_form y)
 
 else_layer : (x : Bare Else-F) (y : Pieces Else-F) → bare_else y ≡ x
     → IsControlled (else_nesting (roll-Else x)) (else_marks (roll-Else x))
 unfolding item_nesting form_nesting block_nesting controlled_nesting do_nesting else_nesting for_nesting
-    statement_nesting
+    group_nesting statement_nesting
 else_layer x y is = by_form IsControlled else_nesting else_marks roll-Else
     (λ z. else_depth (deep_else z)) (λ z. else_step (written_else z))
-    (fold-roll-Else ℕ ℕ ℕ ℕ ℕ ℕ ℕ ℕ item_depth form_depth block_depth controlled_depth do_depth else_depth
-    for_depth statement_depth)
-    (fold-roll-Else M M M M M M M M item_step form_step block_step controlled_step do_step else_step
-    for_step statement_step)
+    (fold-roll-Else ℕ ℕ ℕ ℕ ℕ ℕ ℕ ℕ ℕ item_depth form_depth block_depth controlled_depth do_depth else_depth
+    for_depth group_depth statement_depth)
+    (fold-roll-Else M M M M M M M M M item_step form_step block_step controlled_step do_step else_step
+    for_step group_step statement_step)
     (bare_else y) x is (else_form y)
 
 for_layer : (x : Bare For-F) (y : Pieces For-F) → bare_for y ≡ x
     → IsStated (for_nesting (roll-For x)) (for_marks (roll-For x))
 unfolding item_nesting form_nesting block_nesting controlled_nesting do_nesting else_nesting for_nesting
-    statement_nesting
+    group_nesting statement_nesting
 for_layer x y is = by_form IsStated for_nesting for_marks roll-For
     (λ z. for_depth (deep_for z)) (λ z. for_step (written_for z))
-    (fold-roll-For ℕ ℕ ℕ ℕ ℕ ℕ ℕ ℕ item_depth form_depth block_depth controlled_depth do_depth else_depth
-    for_depth statement_depth)
-    (fold-roll-For M M M M M M M M item_step form_step block_step controlled_step do_step else_step for_step
-    statement_step)
+    (fold-roll-For ℕ ℕ ℕ ℕ ℕ ℕ ℕ ℕ ℕ item_depth form_depth block_depth controlled_depth do_depth else_depth
+    for_depth group_depth statement_depth)
+    (fold-roll-For M M M M M M M M M item_step form_step block_step controlled_step do_step else_step for_step
+    group_step statement_step)
     (bare_for y) x is (for_form y)
+
+group_layer : (x : Bare Group-F) (y : Pieces Group-F) → bare_group y ≡ x
+    → Reaches (group_nesting (roll-Group x)) (group_marks (roll-Group x))
+unfolding item_nesting form_nesting block_nesting controlled_nesting do_nesting else_nesting for_nesting
+    group_nesting statement_nesting
+group_layer x y is = by_form Reaches group_nesting group_marks roll-Group
+    (λ z. group_depth (deep_group z)) (λ z. group_step (written_group z))
+    (fold-roll-Group ℕ ℕ ℕ ℕ ℕ ℕ ℕ ℕ ℕ item_depth form_depth block_depth controlled_depth do_depth
+    else_depth for_depth group_depth statement_depth)
+    (fold-roll-Group M M M M M M M M M item_step form_step block_step controlled_step do_step else_step
+    for_step group_step statement_step)
+    (bare_group y) x is (group_form y)
 
 statement_layer : (x : Bare Statement-F) (y : Pieces Statement-F) → bare_statement y ≡ x
     → IsStated (statement_nesting (roll-Statement x)) (statement_marks (roll-Statement x))
 unfolding item_nesting form_nesting block_nesting controlled_nesting do_nesting else_nesting for_nesting
-    statement_nesting
+    group_nesting statement_nesting
 statement_layer x y is = by_form IsStated statement_nesting statement_marks roll-Statement
     (λ z. statement_depth (deep_statement z)) (λ z. statement_step (written_statement z))
-    (fold-roll-Statement ℕ ℕ ℕ ℕ ℕ ℕ ℕ ℕ item_depth form_depth block_depth controlled_depth do_depth
-    else_depth for_depth statement_depth)
-    (fold-roll-Statement M M M M M M M M item_step form_step block_step controlled_step do_step else_step
-    for_step statement_step)
+    (fold-roll-Statement ℕ ℕ ℕ ℕ ℕ ℕ ℕ ℕ ℕ item_depth form_depth block_depth controlled_depth do_depth
+    else_depth for_depth group_depth statement_depth)
+    (fold-roll-Statement M M M M M M M M M item_step form_step block_step controlled_step do_step else_step
+    for_step group_step statement_step)
     (bare_statement y) x is (statement_form y)
 
 blocks_are : (b : Block) → IsBlock (block_nesting b) (block_marks b)
@@ -407,8 +462,10 @@ blocks_are = ind-Block
     (λ x. IsStated (do_nesting x) (do_marks x))
     (λ x. IsControlled (else_nesting x) (else_marks x))
     (λ x. IsStated (for_nesting x) (for_marks x))
+    (λ x. Reaches (group_nesting x) (group_marks x))
     (λ x. IsStated (statement_nesting x) (statement_marks x))
-    item_layer form_layer block_layer controlled_layer do_layer else_layer for_layer statement_layer
+    item_layer form_layer block_layer controlled_layer do_layer else_layer for_layer group_layer
+    statement_layer
 
 -- FILES
 

@@ -14,6 +14,7 @@ pub mod AssignmentFacts
 pub mod SimpleFacts
 pub mod ControlFacts
 pub mod ForFacts
+pub mod SwitchFacts
 pub mod StatementFacts
 pub mod EntryFacts
 pub mod GlobalFacts

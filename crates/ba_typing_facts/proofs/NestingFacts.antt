@@ -8,9 +8,10 @@ use Rattle.ba_trees.specs.declared.tree.statements.Controlled.{Controlled}
 use Rattle.ba_trees.specs.declared.tree.statements.DoWhile.{DoWhile}
 use Rattle.ba_trees.specs.declared.tree.statements.Else.{Else}
 use Rattle.ba_trees.specs.declared.tree.statements.For.{For}
+use Rattle.ba_trees.specs.declared.tree.statements.Group.{Group}
 use Rattle.ba_trees.specs.declared.tree.statements.Statement.{Statement}
-use Rattle.ba_trees.specs.declared.tree.statements.BlockItem.TheOpen.{BlockItem-F, StatementForm-F, Block-F, Controlled-F, DoWhile-F, Else-F, For-F, Statement-F}
-use Rattle.ba_trees.specs.declared.tree.statements.BlockItem.TheFolds.{fold-BlockItem, fold-StatementForm, fold-Block, fold-Controlled, fold-DoWhile, fold-Else, fold-For, fold-Statement}
+use Rattle.ba_trees.specs.declared.tree.statements.BlockItem.TheOpen.{BlockItem-F, StatementForm-F, Block-F, Controlled-F, DoWhile-F, Else-F, For-F, Group-F, Statement-F}
+use Rattle.ba_trees.specs.declared.tree.statements.BlockItem.TheFolds.{fold-BlockItem, fold-StatementForm, fold-Block, fold-Controlled, fold-DoWhile, fold-Else, fold-For, fold-Group, fold-Statement}
 use Rattle.ba_tree.specs.Facts.{greatest, are_simple}
 use Rattle.ba_tree.specs.declared.tree.Function.{Function}
 use Rattle.ba_tree.specs.declared.tree.Parts as program
@@ -30,74 +31,82 @@ abbrev or_none : Option ℕ → ℕ
 or_none None = 0
 or_none (Some k) = k
 
-abbrev pub item_depth : BlockItem-F ℕ ℕ ℕ ℕ ℕ ℕ ℕ ℕ → ℕ
+abbrev pub item_depth : BlockItem-F ℕ ℕ ℕ ℕ ℕ ℕ ℕ ℕ ℕ → ℕ
 item_depth (BlockItem-F.Declaration d) = 1
 item_depth (BlockItem-F.Statement s) = s
 
-abbrev pub form_depth : StatementForm-F ℕ ℕ ℕ ℕ ℕ ℕ ℕ ℕ → ℕ
+abbrev pub form_depth : StatementForm-F ℕ ℕ ℕ ℕ ℕ ℕ ℕ ℕ ℕ → ℕ
 form_depth (StatementForm-F.Block items) = 1 + items
 form_depth (StatementForm-F.If keyword condition holds fails) = 1 + max holds (or_none fails)
+form_depth (StatementForm-F.Switch keyword condition opener groups closer) = 1 + greatest groups.items
 form_depth (StatementForm-F.While keyword condition body) = 1 + body
 form_depth (StatementForm-F.DoWhile d) = d
 form_depth (StatementForm-F.For f) = f
 form_depth _ = 1
 
-abbrev pub block_depth : Block-F ℕ ℕ ℕ ℕ ℕ ℕ ℕ ℕ → ℕ
+abbrev pub block_depth : Block-F ℕ ℕ ℕ ℕ ℕ ℕ ℕ ℕ ℕ → ℕ
 block_depth b = greatest b.items.items
 
-abbrev pub controlled_depth : Controlled-F ℕ ℕ ℕ ℕ ℕ ℕ ℕ ℕ → ℕ
+abbrev pub controlled_depth : Controlled-F ℕ ℕ ℕ ℕ ℕ ℕ ℕ ℕ ℕ → ℕ
 controlled_depth c = c.statement.value
 
-abbrev pub do_depth : DoWhile-F ℕ ℕ ℕ ℕ ℕ ℕ ℕ ℕ → ℕ
+abbrev pub do_depth : DoWhile-F ℕ ℕ ℕ ℕ ℕ ℕ ℕ ℕ ℕ → ℕ
 do_depth d = 1 + d.body
 
-abbrev pub else_depth : Else-F ℕ ℕ ℕ ℕ ℕ ℕ ℕ ℕ → ℕ
+abbrev pub else_depth : Else-F ℕ ℕ ℕ ℕ ℕ ℕ ℕ ℕ ℕ → ℕ
 else_depth e = e.statement
 
-abbrev pub for_depth : For-F ℕ ℕ ℕ ℕ ℕ ℕ ℕ ℕ → ℕ
+abbrev pub for_depth : For-F ℕ ℕ ℕ ℕ ℕ ℕ ℕ ℕ ℕ → ℕ
 for_depth f = 1 + f.body
 
-abbrev pub statement_depth : Statement-F ℕ ℕ ℕ ℕ ℕ ℕ ℕ ℕ → ℕ
+abbrev pub group_depth : Group-F ℕ ℕ ℕ ℕ ℕ ℕ ℕ ℕ ℕ → ℕ
+group_depth g = greatest g.statements.items
+
+abbrev pub statement_depth : Statement-F ℕ ℕ ℕ ℕ ℕ ℕ ℕ ℕ ℕ → ℕ
 statement_depth s = s.form
 
 unfoldable pub item_nesting : BlockItem → ℕ
-item_nesting = fold-BlockItem ℕ ℕ ℕ ℕ ℕ ℕ ℕ ℕ item_depth form_depth block_depth controlled_depth do_depth
-    else_depth for_depth statement_depth
+item_nesting = fold-BlockItem ℕ ℕ ℕ ℕ ℕ ℕ ℕ ℕ ℕ item_depth form_depth block_depth controlled_depth do_depth
+    else_depth for_depth group_depth statement_depth
 
 unfoldable pub form_nesting : StatementForm → ℕ
-form_nesting = fold-StatementForm ℕ ℕ ℕ ℕ ℕ ℕ ℕ ℕ item_depth form_depth block_depth controlled_depth
-    do_depth else_depth for_depth statement_depth
+form_nesting = fold-StatementForm ℕ ℕ ℕ ℕ ℕ ℕ ℕ ℕ ℕ item_depth form_depth block_depth controlled_depth
+    do_depth else_depth for_depth group_depth statement_depth
 
 unfoldable pub block_nesting : Block → ℕ
-block_nesting = fold-Block ℕ ℕ ℕ ℕ ℕ ℕ ℕ ℕ item_depth form_depth block_depth controlled_depth do_depth
-    else_depth for_depth statement_depth
+block_nesting = fold-Block ℕ ℕ ℕ ℕ ℕ ℕ ℕ ℕ ℕ item_depth form_depth block_depth controlled_depth do_depth
+    else_depth for_depth group_depth statement_depth
 
 unfoldable pub controlled_nesting : Controlled → ℕ
-controlled_nesting = fold-Controlled ℕ ℕ ℕ ℕ ℕ ℕ ℕ ℕ item_depth form_depth block_depth controlled_depth
-    do_depth else_depth for_depth statement_depth
+controlled_nesting = fold-Controlled ℕ ℕ ℕ ℕ ℕ ℕ ℕ ℕ ℕ item_depth form_depth block_depth controlled_depth
+    do_depth else_depth for_depth group_depth statement_depth
 
 unfoldable pub do_nesting : DoWhile → ℕ
-do_nesting = fold-DoWhile ℕ ℕ ℕ ℕ ℕ ℕ ℕ ℕ item_depth form_depth block_depth controlled_depth do_depth
-    else_depth for_depth statement_depth
+do_nesting = fold-DoWhile ℕ ℕ ℕ ℕ ℕ ℕ ℕ ℕ ℕ item_depth form_depth block_depth controlled_depth do_depth
+    else_depth for_depth group_depth statement_depth
 
 unfoldable pub else_nesting : Else → ℕ
-else_nesting = fold-Else ℕ ℕ ℕ ℕ ℕ ℕ ℕ ℕ item_depth form_depth block_depth controlled_depth do_depth
-    else_depth for_depth statement_depth
+else_nesting = fold-Else ℕ ℕ ℕ ℕ ℕ ℕ ℕ ℕ ℕ item_depth form_depth block_depth controlled_depth do_depth
+    else_depth for_depth group_depth statement_depth
 
 unfoldable pub for_nesting : For → ℕ
-for_nesting = fold-For ℕ ℕ ℕ ℕ ℕ ℕ ℕ ℕ item_depth form_depth block_depth controlled_depth do_depth
-    else_depth for_depth statement_depth
+for_nesting = fold-For ℕ ℕ ℕ ℕ ℕ ℕ ℕ ℕ ℕ item_depth form_depth block_depth controlled_depth do_depth
+    else_depth for_depth group_depth statement_depth
+
+unfoldable pub group_nesting : Group → ℕ
+group_nesting = fold-Group ℕ ℕ ℕ ℕ ℕ ℕ ℕ ℕ ℕ item_depth form_depth block_depth controlled_depth do_depth
+    else_depth for_depth group_depth statement_depth
 
 unfoldable pub statement_nesting : Statement → ℕ
-statement_nesting = fold-Statement ℕ ℕ ℕ ℕ ℕ ℕ ℕ ℕ item_depth form_depth block_depth controlled_depth
-    do_depth else_depth for_depth statement_depth
+statement_nesting = fold-Statement ℕ ℕ ℕ ℕ ℕ ℕ ℕ ℕ ℕ item_depth form_depth block_depth controlled_depth
+    do_depth else_depth for_depth group_depth statement_depth
 
 -- LISTS
 
 abbrev pub deep : List StmtTree → ℕ
 deep ss = deepest (stmts_of ss)
 
-deep-append : (xs ys : List StmtTree) → deep (xs ++ ys) ≡ max (deep xs) (deep ys)
+pub deep-append : (xs ys : List StmtTree) → deep (xs ++ ys) ≡ max (deep xs) (deep ys)
 deep-append [] ys = omega arith
 deep-append (x ∷ xs) ys = let rest = deep-append xs ys in omega (arith, rest)
 

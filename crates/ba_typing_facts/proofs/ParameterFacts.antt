@@ -20,6 +20,7 @@ use Rattle.ba_typing.specs.Faults.{void_faults, limit_faults, parameter_limit}
 use Rattle.ba_typing.specs.Files.{vars_of, add_param, add_params, declare_param, param_length, param_shape, place_of_param, name_of_param, check_length, bad_length_faults}
 use Rattle.ba_typing.specs.Names.{Scope, knowing, type_named}
 use Rattle.ba_typing.specs.declared.meanings.Entry.{Entry}
+use Rattle.ba_typing.specs.declared.names.Exits.{Exits}
 use Rattle.ba_typing_facts.proofs.AdditionFacts.{InScope, IsPiece, piece_none, HasPiece, piece_then, PieceAt, IsCounted, elements_of, few_none}
 use Rattle.ba_typing_facts.proofs.DeclarationFacts.{length_at, variable_at}
 use Rattle.ba_typing_facts.proofs.FittingFacts.{nil_left, nil_right}
@@ -31,24 +32,24 @@ use Rattle.ba_typing_facts.proofs.SequenceFacts.{AreStmts, stmts_none}
 -- PIECES
 
 module _ (p : Parts) (owned : List VarId) (f : Function) (inside : Bool) where
-  check_piece : {in_loop : Bool} (n : Before) (at : At) (l : TypedLength)
+  check_piece : {exits : Exits} (n : Before) (at : At) (l : TypedLength)
       → (l.faults ≡ [] → is_some l.count ≡ true → l.calls ≡ 0) → bad_length_faults at l.count ++ l.faults ≡ []
-      → IsPiece p owned f inside in_loop n (record nothing_added {
+      → IsPiece p owned f inside exits n (record nothing_added {
         calls = l.calls;
         faults = bad_length_faults at l.count ++ l.faults;
       })
-  check_piece {in_loop} n at l no_calls none =
+  check_piece {exits} n at l no_calls none =
       from l.count (nil_left (bad_length_faults at l.count) l.faults none)
       (no_calls (nil_right (bad_length_faults at l.count) l.faults none)) where
         from : (count : Option ℕ) → bad_length_faults at count ≡ [] → (is_some count ≡ true → l.calls ≡ 0)
-            → IsPiece p owned f inside in_loop n (record nothing_added {
+            → IsPiece p owned f inside exits n (record nothing_added {
               calls = l.calls;
               faults = bad_length_faults at l.count ++ l.faults;
             })
         from None wrong zero_calls = cc
         from (Some c) fits zero_calls = let few = few_none n [] in record {
-          stmts = subst (λ k. AreStmts p owned n.statements 0 n.calls k in_loop []) (sym (zero_calls refl))
-              (stmts_none p owned n.statements n.calls in_loop);
+          stmts = subst (λ k. AreStmts p owned n.statements 0 n.calls k exits []) (sym (zero_calls refl))
+              (stmts_none p owned n.statements n.calls exits);
           entries = tt;
           few = record { variables = few.variables; statements = few.statements; elements = few.elements };
         }

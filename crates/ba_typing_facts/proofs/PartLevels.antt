@@ -6,7 +6,7 @@ use Rattle.ba_trees.specs.Marks.{leaf}
 use Rattle.ba_trees.specs.Views.{joined, optional, optional_leaf, name_marks}
 use Rattle.ba_trees.specs.ExpressionMarks.{M, conditional_marks, next_expression_marks}
 use Rattle.ba_trees.specs.DeclarationMarks.{array_length_marks, initialiser_marks, declarator_marks, listed_declarator_marks, declarators_marks, parameter_marks, next_parameter_marks, parameter_list_marks, parameters_marks}
-use Rattle.ba_trees.specs.SimpleMarks.{index_marks, target_marks, simple_marks, listed_simple_marks, simples_marks, condition_marks, for_first_marks, for_head_marks, printed_marks}
+use Rattle.ba_trees.specs.SimpleMarks.{index_marks, target_marks, simple_marks, listed_simple_marks, simples_marks, condition_marks, label_marks, for_first_marks, for_head_marks, printed_marks}
 use Rattle.ba_trees.specs.declared.tree.declarations.ArrayLength.{ArrayLength}
 use Rattle.ba_trees.specs.declared.tree.declarations.Initialiser.{Initialiser}
 use Rattle.ba_trees.specs.declared.tree.declarations.Initialiser.TheVariants as initialiser
@@ -24,6 +24,8 @@ use Rattle.ba_trees.specs.declared.tree.statements.Simple.TheVariants as simple
 use Rattle.ba_trees.specs.declared.tree.statements.ListedSimple.{ListedSimple}
 use Rattle.ba_trees.specs.declared.tree.statements.Simples.{Simples}
 use Rattle.ba_trees.specs.declared.tree.statements.Condition.{Condition}
+use Rattle.ba_trees.specs.declared.tree.statements.Label.{Label}
+use Rattle.ba_trees.specs.declared.tree.statements.Label.TheVariants as label
 use Rattle.ba_trees.specs.declared.tree.statements.ForFirst.{ForFirst}
 use Rattle.ba_trees.specs.declared.tree.statements.ForFirst.TheVariants as first
 use Rattle.ba_trees.specs.declared.tree.statements.ForHead.{ForHead}
@@ -121,6 +123,12 @@ simples_even s = inside Rattle.ba_trees.specs.Marks.simples (row listed_simple_m
 
 pub condition_even : (c : Condition) → IsEven (condition_marks c)
 condition_even c = front c.«open» (both (deeper (conditional_even c.test.value)) (front c.close none))
+
+pub label_even : (l : Label) → IsEven (label_marks l)
+label_even (label.Case keyword value colon) = inside Rattle.ba_trees.specs.Marks.label (front keyword
+    (both (conditional_even value) (front colon none)))
+label_even (label.Default keyword colon) = inside Rattle.ba_trees.specs.Marks.label (front keyword
+    (front colon none))
 
 pub first_even : (f : ForFirst) → IsEven (for_first_marks f)
 first_even (first.Declaration name declarators) = inside Rattle.ba_trees.specs.Marks.for_first (both

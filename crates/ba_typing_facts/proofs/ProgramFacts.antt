@@ -183,7 +183,7 @@ module _ (xs : List External) (p : Parts) (none : (file_of xs).added.faults ≡ 
           (signatures_declared p 0 xs (file_scope xs) [] no_parts none variables_stand trees_stand);
     };
     depth = refl;
-    in_loop = refl;
+    exits = refl;
     result = refl;
   }
 

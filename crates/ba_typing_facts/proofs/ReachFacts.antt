@@ -57,6 +57,15 @@ reach_deeper {k} {f} one h = record {
       (arith, one, inner, same);
 }
 
+-- a brace, and what stands in it
+pub reach_opened : (s : Token) → {k : ℕ} {f : List Mark} → Reaches k f
+    → Reaches (1 + k) (leaf s ∷ one_deeper f)
+reach_opened s {k} {f} h = record {
+  even = front s (deeper h.even);
+  deep = λ d. let inner = h.deep (suc d) in let same = ap greatest (deep_levels h.even d) in omega
+      (arith, inner, same);
+}
+
 -- a block, whose statements nest so deep
 pub record IsBlock (k : ℕ) (f : List Mark) : Type 0 where
   pub even : IsEven f

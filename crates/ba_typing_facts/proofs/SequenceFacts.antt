@@ -13,6 +13,8 @@ use Rattle.ba_numbers.specs.declared.ids.VarId.{VarId}
 use Rattle.ba_tree.specs.Facts.{StmtFacts, leaf_facts, around, as_loop, as_switch, naming, initialising, has_kind, has_variable}
 use Rattle.ba_tree.specs.declared.tree.Parts.{Parts}
 use Rattle.ba_tree.specs.declared.tree.StmtKind.{StmtKind}
+use Rattle.ba_typing.specs.Names.{exits_of_loop, exits_of_switch}
+use Rattle.ba_typing.specs.declared.names.Exits.{Exits}
 use Rattle.ba_typing_facts.proofs.FittingFacts.{call_numbers, range-append}
 
 -- NUMBERS: each of so many from the first on stands once in the list
@@ -71,20 +73,20 @@ some_continue = list_any (λ (s : StmtFacts). s.continues)
 
 -- Behind so many statements and calls, there are so many of each; they name variables among these; a `break`
 -- or `continue` that belongs to a statement around them may stand in them.
-pub record AreStmts (p : Parts) (owned : List VarId) (before count calls_before calls : ℕ) (in_loop : Bool)
+pub record AreStmts (p : Parts) (owned : List VarId) (before count calls_before calls : ℕ) (exits : Exits)
     (ss : List StmtFacts) : Type 0 where
   pub sound : all_sound ss ≡ true
   pub names : list_all (has_variable owned) (variables_in ss) ≡ true
   pub each_number : IsEach (before + 1) count (stmt_numbers (numbers_in ss))
   pub kinds : list_all (has_kind p) (numbers_in ss) ≡ true
   pub each_call : IsEach (calls_before + 1) calls (call_numbers (calls_in ss))
-  pub breaks : some_break ss ≡ true → in_loop ≡ true
-  pub continues : some_continue ss ≡ true → in_loop ≡ true
+  pub breaks : some_break ss ≡ true → exits.breaks ≡ true
+  pub continues : some_continue ss ≡ true → exits.continues ≡ true
 
 module _ (p : Parts) (owned : List VarId) where
-  pub stmts_none : (before calls_before : ℕ) (in_loop : Bool) → AreStmts p owned before 0 calls_before 0
-      in_loop []
-  stmts_none before calls_before in_loop = record {
+  pub stmts_none : (before calls_before : ℕ) (exits : Exits) → AreStmts p owned before 0 calls_before 0
+      exits []
+  stmts_none before calls_before exits = record {
     sound = refl;
     names = refl;
     each_number = each_none (before + 1);
@@ -115,11 +117,11 @@ module _ (p : Parts) (owned : List VarId) where
       ∙ map-append (λ (c : CallId). c.0) (calls_in xs) (calls_in ys)
 
   -- one part after the other
-  pub stmts-append : {before m n calls_before k l : ℕ} {in_loop : Bool} {xs ys : List StmtFacts}
-      → AreStmts p owned before m calls_before k in_loop xs
-      → AreStmts p owned (before + m) n (calls_before + k) l in_loop ys
-      → AreStmts p owned before (m + n) calls_before (k + l) in_loop (xs ++ ys)
-  stmts-append {before} {m} {n} {calls_before} {k} {l} {in_loop} {xs} {ys} h g =
+  pub stmts-append : {before m n calls_before k l : ℕ} {exits : Exits} {xs ys : List StmtFacts}
+      → AreStmts p owned before m calls_before k exits xs
+      → AreStmts p owned (before + m) n (calls_before + k) l exits ys
+      → AreStmts p owned before (m + n) calls_before (k + l) exits (xs ++ ys)
+  stmts-append {before} {m} {n} {calls_before} {k} {l} {exits} {xs} {ys} h g =
       let place : (before + m) + 1 ≡ (before + 1) + m = omega arith in
       let calls_place : (calls_before + k) + 1 ≡ (calls_before + 1) + k = omega arith in record {
         sound = list_all-append (λ (s : StmtFacts). s.is_sound) xs ys
@@ -142,9 +144,10 @@ module _ (p : Parts) (owned : List VarId) where
             [ inl e ↦ h.continues e | inr e ↦ g.continues e ];
       }
 
-  -- where a loop is around, or may be
-  pub loosen : {before m calls_before k : ℕ} {in_loop : Bool} {xs : List StmtFacts}
-      → AreStmts p owned before m calls_before k in_loop xs → AreStmts p owned before m calls_before k true xs
+  -- where a loop is around
+  pub loosen : {before m calls_before k : ℕ} {exits : Exits} {xs : List StmtFacts}
+      → AreStmts p owned before m calls_before k exits xs
+      → AreStmts p owned before m calls_before k exits_of_loop xs
   loosen h = record {
     sound = h.sound;
     names = h.names;
@@ -202,9 +205,9 @@ module _ (p : Parts) (owned : List VarId) where
       (ap (list_all test) (sym (flat_front g xs ys zs)) ∙ h)
 
   -- the facts of a later part may be told first
-  pub told_first : {before m calls_before k : ℕ} {in_loop : Bool} (xs ys zs : List StmtFacts)
-      → AreStmts p owned before m calls_before k in_loop (xs ++ (ys ++ zs))
-      → AreStmts p owned before m calls_before k in_loop (ys ++ (xs ++ zs))
+  pub told_first : {before m calls_before k : ℕ} {exits : Exits} (xs ys zs : List StmtFacts)
+      → AreStmts p owned before m calls_before k exits (xs ++ (ys ++ zs))
+      → AreStmts p owned before m calls_before k exits (ys ++ (xs ++ zs))
   told_first xs ys zs h = record {
     sound = all_front (λ (s : StmtFacts). s.is_sound) xs ys zs h.sound;
     names = all_flat_front (λ (s : StmtFacts). s.variables) (has_variable owned) xs ys zs h.names;
@@ -226,10 +229,10 @@ module _ (p : Parts) (owned : List VarId) where
   one_call x = ap call_numbers (append-nil x.calls)
 
   -- a statement that holds others, whose facts are its own and theirs
-  pub around_are : {before m calls_before k : ℕ} {in_loop : Bool} (own : StmtFacts) (parts : List StmtFacts)
+  pub around_are : {before m calls_before k : ℕ} {exits : Exits} (own : StmtFacts) (parts : List StmtFacts)
       → own.breaks ≡ false → own.continues ≡ false
-      → AreStmts p owned before m calls_before k in_loop (own ∷ parts)
-      → AreStmts p owned before m calls_before k in_loop (around own parts ∷ [])
+      → AreStmts p owned before m calls_before k exits (own ∷ parts)
+      → AreStmts p owned before m calls_before k exits (around own parts ∷ [])
   around_are {before} {m} {calls_before} {k} own parts no_break no_continue h = record {
     sound = and_from _ _ h.sound refl;
     names = ap (list_all (has_variable owned)) (append-nil (own.variables ++ variables_in parts)) ∙ h.names;
@@ -244,9 +247,9 @@ module _ (p : Parts) (owned : List VarId) where
     in_one true h = refl
     in_one false h = h
 
-  pub block_are : {before m calls_before k : ℕ} {in_loop : Bool} (parts : List StmtFacts)
-      → AreStmts p owned before m calls_before k in_loop parts
-      → AreStmts p owned before m calls_before k in_loop (around (leaf_facts [] [] true) parts ∷ [])
+  pub block_are : {before m calls_before k : ℕ} {exits : Exits} (parts : List StmtFacts)
+      → AreStmts p owned before m calls_before k exits parts
+      → AreStmts p owned before m calls_before k exits (around (leaf_facts [] [] true) parts ∷ [])
   block_are parts h = around_are (leaf_facts [] [] true) parts refl refl (record {
     sound = h.sound;
     names = h.names;
@@ -258,10 +261,10 @@ module _ (p : Parts) (owned : List VarId) where
   })
 
   -- a loop takes what leaves it
-  pub loop_are : {before m calls_before k : ℕ} {in_loop : Bool} (b : Bool) (x : StmtFacts)
-      → AreStmts p owned before m calls_before k in_loop (x ∷ [])
-      → AreStmts p owned before m calls_before k b (as_loop x ∷ [])
-  loop_are b x h = record {
+  pub loop_are : {before m calls_before k : ℕ} {exits : Exits} (outside : Exits) (x : StmtFacts)
+      → AreStmts p owned before m calls_before k exits (x ∷ [])
+      → AreStmts p owned before m calls_before k outside (as_loop x ∷ [])
+  loop_are outside x h = record {
     sound = h.sound;
     names = h.names;
     each_number = h.each_number;
@@ -272,9 +275,9 @@ module _ (p : Parts) (owned : List VarId) where
   }
 
   -- a `switch` takes each `break`
-  pub switch_are : {before m calls_before k : ℕ} {in_loop : Bool} (x : StmtFacts)
-      → AreStmts p owned before m calls_before k in_loop (x ∷ [])
-      → AreStmts p owned before m calls_before k in_loop (as_switch x ∷ [])
+  pub switch_are : {before m calls_before k : ℕ} {exits : Exits} (x : StmtFacts)
+      → AreStmts p owned before m calls_before k (exits_of_switch exits) (x ∷ [])
+      → AreStmts p owned before m calls_before k exits (as_switch x ∷ [])
   switch_are x h = record {
     sound = h.sound;
     names = h.names;
@@ -286,9 +289,9 @@ module _ (p : Parts) (owned : List VarId) where
   }
 
   -- a statement that names a variable too
-  pub naming_are : {before m calls_before k : ℕ} {in_loop : Bool} (v : VarId) (x : StmtFacts)
-      → has_variable owned v ≡ true → AreStmts p owned before m calls_before k in_loop (x ∷ [])
-      → AreStmts p owned before m calls_before k in_loop (naming v x ∷ [])
+  pub naming_are : {before m calls_before k : ℕ} {exits : Exits} (v : VarId) (x : StmtFacts)
+      → has_variable owned v ≡ true → AreStmts p owned before m calls_before k exits (x ∷ [])
+      → AreStmts p owned before m calls_before k exits (naming v x ∷ [])
   naming_are v x is_owned h = record {
     sound = h.sound;
     names = and_from (has_variable owned v) (list_all (has_variable owned) (variables_in
@@ -300,9 +303,9 @@ module _ (p : Parts) (owned : List VarId) where
     continues = h.continues;
   }
 
-  pub initialising_are : {before m calls_before k : ℕ} {in_loop : Bool} (v : VarId) (x : StmtFacts)
-      → AreStmts p owned before m calls_before k in_loop (naming v x ∷ [])
-      → AreStmts p owned before m calls_before k in_loop (initialising v x ∷ [])
+  pub initialising_are : {before m calls_before k : ℕ} {exits : Exits} (v : VarId) (x : StmtFacts)
+      → AreStmts p owned before m calls_before k exits (naming v x ∷ [])
+      → AreStmts p owned before m calls_before k exits (initialising v x ∷ [])
   initialising_are v x h = record {
     sound = h.sound;
     names = h.names;
@@ -321,8 +324,8 @@ module _ (p : Parts) where
     pub kinds : list_all (has_kind p) (numbers_in ss) ≡ true
     pub each_call : IsEach (calls_before + 1) calls (call_numbers (calls_in ss))
 
-  pub are_told : {owned : List VarId} {before m calls_before k : ℕ} {in_loop : Bool} {xs : List StmtFacts}
-      → AreStmts p owned before m calls_before k in_loop xs → AreTold before m calls_before k xs
+  pub are_told : {owned : List VarId} {before m calls_before k : ℕ} {exits : Exits} {xs : List StmtFacts}
+      → AreStmts p owned before m calls_before k exits xs → AreTold before m calls_before k xs
   are_told h = record { each_number = h.each_number; kinds = h.kinds; each_call = h.each_call }
 
   pub told-append : {before m n calls_before k l : ℕ} {xs ys : List StmtFacts}

@@ -1,5 +1,5 @@
 -- Simple statements, and the others that hold none: what each adds fits the parts of the program.
-use Rattle.std.proofs.Common.{◌≡◌, ℕ, ◌+◌, pos, Bool, true, false, not, Option, None, Some, List, [], ◌∷◌, ◌++◌, map, flat_map, refl, sym, ◌∙◌, ap, subst, arith, sum_by, unwrap_or}
+use Rattle.std.proofs.Common.{◌≡◌, ℕ, ◌+◌, pos, Bool, true, false, not, Option, None, Some, List, [], ◌∷◌, ◌++◌, map, flat_map, refl, sym, ◌∙◌, ap, arith, sum_by, unwrap_or}
 use Rattle.std.specs.List.{list_all}
 use Rattle.std.specs.Option.{is_some}
 use Rattle.std.proofs.lemmas.Bool.{not-false}
@@ -14,7 +14,7 @@ use Rattle.ba_trees.specs.declared.tree.statements.Simple.{Simple}
 use Rattle.ba_trees.specs.declared.tree.statements.Simple.TheVariants as form
 use Rattle.ba_trees.specs.declared.tree.statements.ListedSimple.{ListedSimple}
 use Rattle.ba_trees.specs.declared.tree.statements.Simples.{Simples}
-use Rattle.ba_tree.specs.Facts.{ExprFacts, StmtFacts, holds, own_elements, is_own_length, is_own_shape, fits_type, leaf_facts, givens, is_call}
+use Rattle.ba_tree.specs.Facts.{ExprFacts, holds, own_elements, is_own_length, is_own_shape, fits_type, givens, is_call}
 use Rattle.ba_tree.specs.declared.tree.Function.{Function}
 use Rattle.ba_tree.specs.declared.tree.Parts.{Parts}
 use Rattle.ba_tree.specs.declared.tree.StmtKind.TheVariants as kind
@@ -24,7 +24,7 @@ use Rattle.ba_typing.specs.Declarations as add
 use Rattle.ba_typing.specs.Expressions.{Typed, Typing, typed_conditional, typed_arguments, typed_call, trees_of_args, expressions_of_args, tree_as}
 use Rattle.ba_typing.specs.Faults.{fault_if, limit_faults, statement_limit}
 use Rattle.ba_typing.specs.Names.{Scope, jump_of, name_of}
-use Rattle.ba_typing.specs.Statements.{index_typing, add_assignment, one, add_call, operator_at, add_simple, add_simples, unnumbered, add_return, add_return_none, add_assert, add_printf, add_loop_jump, add_jump, add_jump_with}
+use Rattle.ba_typing.specs.Statements.{index_typing, add_assignment, one, add_call, operator_at, add_simple, add_simples, unnumbered, add_return, add_return_none, add_assert, add_printf, add_break, add_continue, add_jump, add_jump_with}
 use Rattle.ba_tree.specs.Trees.{StmtTree}
 use Rattle.ba_tree.specs.Trees as tree
 use Rattle.ba_typing.specs.declared.fault.Cause.TheVariants.{WrongKind, BreakOutside}
@@ -32,15 +32,15 @@ use Rattle.ba_typing.specs.declared.fault.Fault.{Fault}
 use Rattle.ba_typing_facts.proofs.AdditionFacts.{InScope, IsPiece, few_none, PieceAt, IsPart, IsCounted, AreParts, parts_in_order, all_facts_of}
 use Rattle.ba_typing_facts.proofs.ExpressionFacts.{conditional_typing, arguments_typing}
 use Rattle.ba_typing_facts.proofs.FittingFacts.{calls_of, nil_left, nil_right}
-use Rattle.ba_typing_facts.proofs.LeafFacts.{one_whole, all_whole, kind_is, each_typed, each_fit, leaf_are, bare_are, jump_are, calling_are}
+use Rattle.ba_typing_facts.proofs.LeafFacts.{one_whole, all_whole, kind_is, each_typed, each_fit, leaf_are, bare_are, break_are, continue_are, calling_are}
 use Rattle.ba_typing_facts.proofs.PrimaryFacts.{IsWellTyping, AreWellTypings, not_so, call_is}
-use Rattle.ba_typing_facts.proofs.StatementTreeFacts.{stmt_facts_of}
 use Rattle.ba_typing_facts.proofs.SequenceFacts.{AreStmts}
 use Rattle.ba_typing_facts.proofs.TreeFacts.{facts_of, arg_facts_of}
 use Rattle.ba_typing_facts.proofs.OperatorFacts.{as_typed, constant_typed, same_type-of, AreClean}
 use Rattle.ba_tokens.specs.declared.token.Token.{Token}
 use Rattle.ba_typing.specs.declared.names.Jump.{Jump}
 use Rattle.ba_typing.specs.declared.names.Jump.TheVariants as jump
+use Rattle.ba_typing.specs.declared.names.Exits.{Exits}
 use Rattle.ba_typing_facts.proofs.AssignmentFacts.{assigned, AreOptional, numbered_piece, counted_calls}
 
 module _ (p : Parts) (owned : List VarId) (f : Function) (inside : Bool) where
@@ -162,9 +162,9 @@ module _ (p : Parts) (owned : List VarId) (f : Function) (inside : Bool) where
       (kind_is p owned n at kind.Return stands.1)))
       none
 
-  bare_piece : {in_loop : Bool} (n : Before) (typed : StmtTree) (faults : List Fault)
-      → AreStmts p owned n.statements 0 n.calls 0 in_loop (all_facts_of p f (typed ∷ []))
-      → IsPiece p owned f inside in_loop n (unnumbered typed faults)
+  bare_piece : {exits : Exits} (n : Before) (typed : StmtTree) (faults : List Fault)
+      → AreStmts p owned n.statements 0 n.calls 0 exits (all_facts_of p f (typed ∷ []))
+      → IsPiece p owned f inside exits n (unnumbered typed faults)
   bare_piece n typed faults h = let few = few_none n faults in record {
     stmts = h;
     entries = tt;
@@ -234,26 +234,27 @@ module _ (p : Parts) (owned : List VarId) (f : Function) (inside : Bool) where
     counted = λ scope n none. none_counted _ refl refl;
   }
 
-  -- a `break` or `continue`
-  abbrev jump_facts : Bool → Bool → StmtFacts
-  jump_facts b c = record (leaf_facts [] [] true) { breaks = b; continues = c }
-
-  loop_jump_part : (at : At) (typed : StmtTree) (b c : Bool) → stmt_facts_of p f typed ≡ jump_facts b c
-      → IsPart p owned f inside (add_loop_jump at typed)
-  loop_jump_part at typed b c is = record {
+  break_part : (at : At) → IsPart p owned f inside (add_break at)
+  break_part at = record {
     piece = record {
-      by = λ scope in_scope n stands none. bare_piece n typed _
-          (subst (λ x. AreStmts p owned n.statements 0 n.calls 0 scope.in_loop (x ∷ [])) (sym is)
-          (subst (λ in_loop. AreStmts p owned n.statements 0 n.calls 0 in_loop (jump_facts b c ∷ []))
-          (sym (not-false scope.in_loop (not_so (not scope.in_loop) BreakOutside at none)))
-          (jump_are p owned b c)));
+      by = λ scope in_scope n stands none. bare_piece n tree.break_loop _ (break_are p owned
+          (not-false scope.exits.breaks (not_so (not scope.exits.breaks) BreakOutside at none)));
+    };
+    counted = λ scope n none. none_counted _ refl refl;
+  }
+
+  continue_part : (at : At) → IsPart p owned f inside (add_continue at)
+  continue_part at = record {
+    piece = record {
+      by = λ scope in_scope n stands none. bare_piece n tree.continue_loop _ (continue_are p owned
+          (not-false scope.exits.continues (not_so (not scope.exits.continues) BreakOutside at none)));
     };
     counted = λ scope n none. none_counted _ refl refl;
   }
 
   jump_part : (at : At) (j : Jump) → IsPart p owned f inside (add_jump at j)
-  jump_part at jump.Break = loop_jump_part at tree.break_loop true false refl
-  jump_part at jump.Continue = loop_jump_part at tree.continue_loop false true refl
+  jump_part at jump.Break = break_part at
+  jump_part at jump.Continue = continue_part at
   jump_part at jump.Return = return_none_part
 
   pub jump_with_part : (keyword : Token) (o : Option Typing) → AreOptional p owned f inside o

@@ -100,19 +100,17 @@ static WORKED: [(&str, &str); 8] = [
 
 static WORDS: [(&str, &str); 2] = [
     (
-        "char\nshort\nint\nlong\nsigned\nunsigned\nvoid\nconst\nstatic\nif\nelse\nwhile\ndo\nfor\nbreak\ncontinue\nreturn\nassert\nprintf",
-        "Char@1:1 Short@2:1 Int@3:1 Long@4:1 Signed@5:1 Unsigned@6:1 Void@7:1 Const@8:1 Static@9:1 If@10:1 Else@11:1 While@12:1 Do@13:1 For@14:1 Break@15:1 Continue@16:1 Return@17:1 Assert@18:1 Printf@19:1",
+        "char\nshort\nint\nlong\nsigned\nunsigned\nvoid\nconst\nstatic\nif\nelse\nswitch\ncase\ndefault\nwhile\ndo\nfor\nbreak\ncontinue\nreturn\nassert\nprintf",
+        "Char@1:1 Short@2:1 Int@3:1 Long@4:1 Signed@5:1 Unsigned@6:1 Void@7:1 Const@8:1 Static@9:1 If@10:1 Else@11:1 Switch@12:1 Case@13:1 Default@14:1 While@15:1 Do@16:1 For@17:1 Break@18:1 Continue@19:1 Return@20:1 Assert@21:1 Printf@22:1",
     ),
     (
-        "Char chars _char char1 If",
-        "Char@1:1 chars@1:6 _char@1:12 char1@1:18 If@1:24",
+        "Char chars _char char1 If cases",
+        "Char@1:1 chars@1:6 _char@1:12 char1@1:18 If@1:24 cases@1:27",
     ),
 ];
 
-static REFUSED: [(&str, &str); 16] = [
+static REFUSED: [(&str, &str); 13] = [
     ("x auto; y", "NotInProfile 1:3"),
-    ("x case; y", "NotInProfile 1:3"),
-    ("x default; y", "NotInProfile 1:3"),
     ("x double; y", "NotInProfile 1:3"),
     ("x enum; y", "NotInProfile 1:3"),
     ("x extern; y", "NotInProfile 1:3"),
@@ -121,7 +119,6 @@ static REFUSED: [(&str, &str); 16] = [
     ("x register; y", "NotInProfile 1:3"),
     ("x sizeof; y", "NotInProfile 1:3"),
     ("x struct; y", "NotInProfile 1:3"),
-    ("x switch; y", "NotInProfile 1:3"),
     ("x typedef; y", "NotInProfile 1:3"),
     ("x union; y", "NotInProfile 1:3"),
     ("x volatile; y", "NotInProfile 1:3"),

@@ -24,7 +24,7 @@ fn add_repeated(
 /// The front, the part, how often it stands, the back, and the answer.
 type Row<'a> = (&'a str, &'a str, u32, &'a str, &'a str);
 
-static LIMITS: [Row; 15] = [
+static LIMITS: [Row; 18] = [
     ("int main(int x) {", "x=1;", 4000, "}", "fits"),
     ("int main(int x) {", "x=1;", 4001, "}", "9 at 1:16018"),
     ("int main(int x) {", "{int y;}", 1999, "}", "fits"),
@@ -38,6 +38,27 @@ static LIMITS: [Row; 15] = [
     ("int main(int a[2]) { a[0] *= ", "~", 99, "1;}", "9 at 1:22"),
     ("int main(int x) { x += ", "+ ", 98, "1;}", "fits"),
     ("int main(int x) { x += ", "+ ", 99, "1;}", "9 at 1:19"),
+    (
+        "int main(int x) { switch (x) { case 1*1*1*1*1*1*1*1*1*1*1",
+        "+1",
+        89,
+        ": ; } }",
+        "fits",
+    ),
+    (
+        "int main(int x) { switch (x) { case 1*1*1*1*1*1*1*1*1*1*1",
+        "+1",
+        90,
+        ": ; } }",
+        "9 at 1:27",
+    ),
+    (
+        "int main(int x) { switch (x*1*1*1*1*1*1*1*1*1*1",
+        "+1",
+        90,
+        ") { case 1: ; } }",
+        "9 at 1:27",
+    ),
     ("int x = 1", "+1", 99, "; int main(void) { }", "fits"),
     ("int x = 1", "+1", 100, "; int main(void) { }", "9 at 1:5"),
 ];

@@ -236,6 +236,160 @@ static REFUSED_OTHERS: [(&str, &str); 26] = [
     ("int main ( void ) { x = \"a\" ; }", "Syntax 8"),
 ];
 
+static PARSED_SWITCHES: [(&str, &str); 12] = [
+    ("int main ( void ) { switch ( x ) { } }", "parses"),
+    ("int main ( void ) { switch ( x ) { case 1 : } }", "parses"),
+    ("int main ( void ) { switch ( x ) { default : } }", "parses"),
+    (
+        "int main ( void ) { switch ( x ) { case 1 : case 2 : default : case 3 : break ; } }",
+        "parses",
+    ),
+    (
+        "int main ( void ) { switch ( x + 1 ) { case 1 : y = 1 ; break ; case 2 : y = 2 ; z = 3 ; default : y = 4 ; } }",
+        "parses",
+    ),
+    (
+        "int main ( void ) { switch ( x ) { case 1 : case 1 : default : default : } }",
+        "parses",
+    ),
+    (
+        "int main ( void ) { switch ( x ) { case 1 ? 2 : 3 : ; case - 1 : ; case ( char ) 2 : ; case 'a' + 1 : ; } }",
+        "parses",
+    ),
+    (
+        "int main ( void ) { switch ( x ) { case 1 : { int y = 2 ; y ++ ; } default : { } } }",
+        "parses",
+    ),
+    (
+        "int main ( void ) { switch ( x ) { case 1 : switch ( y ) { case 1 : ; default : ; } break ; case 2 : ; } }",
+        "parses",
+    ),
+    (
+        "int main ( void ) { switch ( x ) { case 1 : if ( x ) ; else ; case 2 : if ( x ) ; default : ; } }",
+        "parses",
+    ),
+    (
+        "int main ( void ) { if ( x ) switch ( x ) { case 1 : ; } else ; }",
+        "parses",
+    ),
+    (
+        "int main ( void ) { while ( x ) switch ( x ) { case 1 : continue ; default : break ; } }",
+        "parses",
+    ),
+];
+
+static REFUSED_SWITCHES: [(&str, &str); 20] = [
+    ("int main ( void ) { switch ( x ) ; }", "Syntax 10"),
+    ("int main ( void ) { switch ( x ) case 1 : ; }", "Syntax 10"),
+    ("int main ( void ) { switch ( x ) break ; }", "Syntax 10"),
+    ("int main ( void ) { switch x { } }", "Syntax 7"),
+    ("int main ( void ) { switch ( ) { } }", "Syntax 8"),
+    (
+        "int main ( void ) { switch ( x ) { ; case 1 : ; } }",
+        "Syntax 11",
+    ),
+    ("int main ( void ) { switch ( x ) { { } } }", "Syntax 11"),
+    (
+        "int main ( void ) { switch ( x ) { int y ; case 1 : ; } }",
+        "Syntax 11",
+    ),
+    ("int main ( void ) { switch ( x ) { 1 : ; } }", "Syntax 11"),
+    (
+        "int main ( void ) { switch ( x ) { case 1 : int y ; } }",
+        "Syntax 14",
+    ),
+    (
+        "int main ( void ) { switch ( x ) { default : const int y = 1 ; } }",
+        "Syntax 13",
+    ),
+    (
+        "int main ( void ) { switch ( x ) { case 1 : ; int y ; } }",
+        "Syntax 15",
+    ),
+    (
+        "int main ( void ) { switch ( x ) { case 1 ; } }",
+        "Syntax 13",
+    ),
+    ("int main ( void ) { switch ( x ) { case 1 } }", "Syntax 13"),
+    (
+        "int main ( void ) { switch ( x ) { case : ; } }",
+        "Syntax 12",
+    ),
+    (
+        "int main ( void ) { switch ( x ) { case 1 , 2 : ; } }",
+        "Syntax 13",
+    ),
+    (
+        "int main ( void ) { switch ( x ) { case 1 ? 2 : ; } }",
+        "Syntax 16",
+    ),
+    (
+        "int main ( void ) { switch ( x ) { default ; } }",
+        "Syntax 12",
+    ),
+    (
+        "int main ( void ) { switch ( x ) { default 1 : ; } }",
+        "Syntax 12",
+    ),
+    (
+        "int main ( void ) { switch ( x ) { case default : ; } }",
+        "Syntax 12",
+    ),
+];
+
+static REFUSED_LABELS: [(&str, &str); 20] = [
+    (
+        "int main ( void ) { switch ( x ) { case 1 : if ( x ) case 2 : ; } }",
+        "Syntax 18",
+    ),
+    (
+        "int main ( void ) { switch ( x ) { case 1 : if ( x ) ; else default : ; } }",
+        "Syntax 20",
+    ),
+    (
+        "int main ( void ) { switch ( x ) { case 1 : while ( x ) default : ; } }",
+        "Syntax 18",
+    ),
+    (
+        "int main ( void ) { switch ( x ) { case 1 : for ( ; ; ) case 2 : ; } }",
+        "Syntax 19",
+    ),
+    (
+        "int main ( void ) { switch ( x ) { case 1 : do case 2 : ; while ( x ) ; } }",
+        "Syntax 15",
+    ),
+    (
+        "int main ( void ) { switch ( x ) { case 1 : { case 2 : ; } } }",
+        "Syntax 15",
+    ),
+    (
+        "int main ( void ) { switch ( x ) { default : { ; default : ; } } }",
+        "Syntax 15",
+    ),
+    (
+        "int main ( void ) { switch ( x ) { case 1 : else ; } }",
+        "Syntax 14",
+    ),
+    (
+        "int main ( void ) { switch ( x ) { case 1 : ; } else ; }",
+        "Syntax 16",
+    ),
+    ("int main ( void ) { case 1 : ; }", "Syntax 6"),
+    ("int main ( void ) { default : ; }", "Syntax 6"),
+    ("int main ( void ) { { default : ; } }", "Syntax 7"),
+    ("int main ( void ) { if ( x ) case 1 : ; }", "Syntax 10"),
+    ("int main ( void ) { x = case ; }", "Syntax 8"),
+    ("int main ( void ) { x = switch ( x ) { } ; }", "Syntax 8"),
+    ("int main ( void ) { switch ( x ) { case 1 :", "Syntax 14"),
+    (
+        "int main ( void ) { switch ( x ) { case 1 : ; }",
+        "Syntax 16",
+    ),
+    ("case 1 : ;", "Syntax 0"),
+    ("switch ( x ) { }", "Syntax 0"),
+    ("int case ;", "Syntax 1"),
+];
+
 #[test]
 fn texts_parse_or_are_refused_at_the_first_token_that_cannot_stand(rt: HostRuntime) {
     let alloc = rt.alloc();
@@ -244,10 +398,13 @@ fn texts_parse_or_are_refused_at_the_first_token_that_cannot_stand(rt: HostRunti
     expect_answers(&rt, alloc, REFUSED_FILES.as_slice());
     expect_answers(&rt, alloc, REFUSED_STATEMENTS.as_slice());
     expect_answers(&rt, alloc, REFUSED_OTHERS.as_slice());
+    expect_answers(&rt, alloc, PARSED_SWITCHES.as_slice());
+    expect_answers(&rt, alloc, REFUSED_SWITCHES.as_slice());
+    expect_answers(&rt, alloc, REFUSED_LABELS.as_slice());
 }
 
 /// A front, a part so many times, a middle, another part as often, a back, how many times, and what the parser says: up to a hundred
-/// levels of parentheses, blocks, prefix operators, a chain, casts, controlled statements and branches are accepted.
+/// levels of parentheses, blocks, prefix operators, a chain, casts, controlled statements, branches and `switch`es are accepted.
 type Level = (
     &'static str,
     &'static str,
@@ -258,7 +415,7 @@ type Level = (
     &'static str,
 );
 
-static LEVELS: [Level; 14] = [
+static LEVELS: [Level; 22] = [
     (
         "int main(void) { return ",
         "(",
@@ -360,6 +517,78 @@ static LEVELS: [Level; 14] = [
         " ; }",
         100,
         "TooDeep 405",
+    ),
+    (
+        "int main(void) { ",
+        "switch (x) { case 1: ",
+        ";",
+        "}",
+        " }",
+        99,
+        "parses",
+    ),
+    (
+        "int main(void) { ",
+        "switch (x) { case 1: ",
+        ";",
+        "}",
+        " }",
+        100,
+        "TooDeep 800",
+    ),
+    (
+        "int main(void) { ",
+        "switch (x) { case 1: ",
+        "{ }",
+        "}",
+        " }",
+        99,
+        "parses",
+    ),
+    (
+        "int main(void) { ",
+        "switch (x) { case 1: ",
+        "{ ; }",
+        "}",
+        " }",
+        99,
+        "TooDeep 799",
+    ),
+    (
+        "int main(void) { ",
+        "switch (x) { case 1: ",
+        "switch (x) { case (1): ; default: f(); }",
+        "}",
+        " }",
+        97,
+        "parses",
+    ),
+    (
+        "int main(void) { ",
+        "switch (x) { case 1: ",
+        "switch (x) { case 1: case 2: f(); default: ; }",
+        "}",
+        " }",
+        98,
+        "parses",
+    ),
+    (
+        "int main(void) { ",
+        "switch (x) { case 1: ",
+        "switch (x) { case (1): ; }",
+        "}",
+        " }",
+        98,
+        "TooDeep 797",
+    ),
+    (
+        "int main(void) { ",
+        "switch (x) { case 1: ",
+        "switch (x) { case 1: default: f(1); }",
+        "}",
+        " }",
+        98,
+        "TooDeep 802",
     ),
 ];
 

@@ -306,7 +306,7 @@ static LENGTHS: [(&str, &str); 25] = [
 ];
 
 /// `break` and `continue`.
-static JUMPS: [(&str, &str); 8] = [
+static JUMPS: [(&str, &str); 17] = [
     ("int main(void) { break; }", "7 at 1:18"),
     ("int main(void) { while (1) break; }", "fits"),
     ("int main(void) { continue; }", "7 at 1:18"),
@@ -318,6 +318,121 @@ static JUMPS: [(&str, &str); 8] = [
     ("int main(void) { for (;;) { { break; } } }", "fits"),
     ("int main(void) { while (1) { } break; }", "7 at 1:32"),
     ("int main(void) { for (;;) ; continue; }", "7 at 1:29"),
+    ("int main(int x) { switch (x) { case 1: break; } }", "fits"),
+    (
+        "int main(int x) { switch (x) { case 1: continue; } }",
+        "7 at 1:40",
+    ),
+    (
+        "int main(int x) { switch (x) { default: while (x) { if (x) break; else continue; } } }",
+        "fits",
+    ),
+    (
+        "int main(int x) { while (x) { switch (x) { case 1: continue; default: break; } } }",
+        "fits",
+    ),
+    (
+        "int main(int x) { switch (x) { case 1: while (x) ; break; } }",
+        "fits",
+    ),
+    (
+        "int main(int x) { switch (x) { case 1: while (x) ; continue; } }",
+        "7 at 1:52",
+    ),
+    (
+        "int main(int x) { switch (x) { case 1: ; } break; }",
+        "7 at 1:44",
+    ),
+    (
+        "int main(int x) { for (;;) { switch (x) { default: ; } continue; } }",
+        "fits",
+    ),
+    (
+        "int main(int x) { switch (x) { case 1: { switch (x) { default: continue; } } } }",
+        "7 at 1:64",
+    ),
+];
+
+/// Labels of a `switch`, and its controlling expression.
+static LABELS: [(&str, &str); 21] = [
+    (
+        "int main(int x) { switch (x) { case 1: ; case 2: ; default: ; } }",
+        "fits",
+    ),
+    (
+        "int main(int x) { switch (x) { case 1: ; case 1: ; } }",
+        "2 at 1:47",
+    ),
+    (
+        "int main(int x) { switch (x) { case 1: case 2: ; case 1 + 1: ; } }",
+        "2 at 1:55",
+    ),
+    (
+        "int main(int x) { switch (x) { case 3: ; default: ; case -(-3): ; } }",
+        "2 at 1:58",
+    ),
+    (
+        "int main(int x) { switch (x) { case 1: ; case 1: ; case 1: ; } }",
+        "2 at 1:47",
+    ),
+    (
+        "int main(int x) { switch (x) { default: ; case 1: ; default: ; } }",
+        "2 at 1:53",
+    ),
+    ("int main(int x) { switch (x) { case x: ; } }", "3 at 1:37"),
+    (
+        "int main(int x) { switch (x) { case 1: ; case 1 + x: ; } }",
+        "3 at 1:47",
+    ),
+    (
+        "int f(void) { return 1; } int main(int x) { switch (x) { case f(): ; } }",
+        "3 at 1:63",
+    ),
+    (
+        "int main(int x) { switch (x) { case 1 / 0: ; } }",
+        "3 at 1:37",
+    ),
+    ("int main(int x) { switch (x) { case y: ; } }", "1 at 1:37"),
+    (
+        "int main(int x) { switch (x) { case 1 ? 2 : 3: ; case 3: ; } }",
+        "fits",
+    ),
+    (
+        "int main(unsigned u) { switch (u) { case -1: ; case 4294967295: ; } }",
+        "2 at 1:53",
+    ),
+    (
+        "int main(int x) { switch (x) { case -1: ; case 4294967295: ; } }",
+        "2 at 1:48",
+    ),
+    (
+        "int main(char x) { switch (x) { case 1: ; case 257: ; } }",
+        "fits",
+    ),
+    (
+        "int main(int x) { switch (x) { case 1: switch (x) { case 1: ; default: ; } default: ; } }",
+        "fits",
+    ),
+    (
+        "int main(int x) { switch (x) { case 1: while (x) { switch (x) { case 2: ; } } case 1: ; } }",
+        "2 at 1:84",
+    ),
+    (
+        "int main(int x) { switch (x) { case 1: ; } switch (x) { case 1: ; } }",
+        "fits",
+    ),
+    (
+        "int main(int a[2]) { switch (a) { case 1: ; } }",
+        "3 at 1:30",
+    ),
+    (
+        "void f(void) { } int main(void) { switch (f()) { case 1: ; } }",
+        "3 at 1:43",
+    ),
+    (
+        "int main(int x) { switch (x) { case 1: { int y; y = 1; } case 2: y = 2; } }",
+        "1 at 1:66",
+    ),
 ];
 
 /// Calls in indices.
@@ -345,7 +460,7 @@ static CALLS: [(&str, &str); 5] = [
 ];
 
 /// Two faults in a text: the leftmost one is answered, at one position the one of the smaller number.
-static FIRST: [(&str, &str); 26] = [
+static FIRST: [(&str, &str); 30] = [
     (
         "int f(void) { return x; } int f(void) { return 0; } int main(void) { return 0; }",
         "1 at 1:22",
@@ -389,6 +504,19 @@ static FIRST: [(&str, &str); 26] = [
         "int f(void) { return f(1, x); } int main(void) { return 0; }",
         "4 at 1:22",
     ),
+    ("int main(int x) { switch (y) { case x: ; } }", "1 at 1:27"),
+    (
+        "int main(int x) { switch (x) { case x: y = 1; } }",
+        "3 at 1:37",
+    ),
+    (
+        "int main(int x) { switch (x) { case 1: y = 1; case 1: ; } }",
+        "1 at 1:40",
+    ),
+    (
+        "int main(int x) { switch (x) { default: ; default: continue; } }",
+        "2 at 1:43",
+    ),
     ("#define A x = y\nint main(void) { A; }", "1 at 2:18"),
     (
         "#define A int x, x; break\nint main(void) { A; }",
@@ -420,8 +548,10 @@ fn faults_are_answered_at_their_places(rt: HostRuntime) {
     expect_answers(&rt, alloc, COUNTS.as_slice());
     // Lengths are constants from 1 to 256.
     expect_answers(&rt, alloc, LENGTHS.as_slice());
-    // `break` and `continue` stand in loops; an index that is used twice has no call.
+    // `break` stands in loops and `switch`es, `continue` in loops; a `switch` has constant labels, each once.
     expect_answers(&rt, alloc, JUMPS.as_slice());
+    expect_answers(&rt, alloc, LABELS.as_slice());
+    // An index that is used twice has no call.
     expect_answers(&rt, alloc, CALLS.as_slice());
     // The leftmost fault is answered.
     expect_answers(&rt, alloc, FIRST.as_slice());

@@ -6,8 +6,8 @@ use ba_units::units;
 use std::alloc::Global;
 use std::process::Abort;
 use test_programs::examples::{
-    ARGUMENTS, ARRAYS, BEHIND, CALL, DIVISION, DOWN, ELEMENT, ENDLESS, GLOBAL, INITIALISER, JUMPS,
-    OWN, STORE, SUM, TURNS, VALUES,
+    ARGUMENTS, ARRAYS, BEHIND, CALL, DIVISION, DOWN, ELEMENT, ENDLESS, FALLS, GLOBAL, INITIALISER,
+    JUMPS, LABELLED_ONE, NESTED, OWN, PATHS, STORE, SUM, TURNS, VALUES,
 };
 
 /// The units of a program.
@@ -104,7 +104,7 @@ fn first_difference(rt: &impl Abort, alloc: Global, rows: &[Row]) -> Option<usiz
     None
 }
 
-static UNITS: [Row; 40] = [
+static UNITS: [Row; 45] = [
     (ELEMENT, 1, 16, 17),
     (ELEMENT, 64, 32, 17),
     (CALL, 1, 16, 9),
@@ -125,6 +125,11 @@ static UNITS: [Row; 40] = [
     (ARRAYS, 1, 2, 23),
     (ARRAYS, 1, 16, 219),
     (TURNS, 128, 16, 516),
+    (FALLS, 1, 16, 11),
+    (PATHS, 1, 16, 24),
+    (NESTED, 9, 16, 1924),
+    (NESTED, 128, 16, 20_001),
+    (LABELLED_ONE, 1, 16, 45),
     (JUMPS, 4, 16, 38),
     (BEHIND, 1, 16, 7),
     (BEHIND, 5, 16, 19),

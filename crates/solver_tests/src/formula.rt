@@ -8,7 +8,9 @@ use ba_numbers::ids::StmtId;
 use std::alloc::Global;
 use std::panic::Expect;
 use std::process::Abort;
-use test_programs::examples::{CALL, DIVISION, DOWN, ELEMENT, GLOBAL, STORE, SUM, TWO};
+use test_programs::examples::{
+    CALL, DIVISION, DOWN, ELEMENT, FALLS, GLOBAL, LABELLED_ONE, STORE, SUM, TWO,
+};
 
 /// A parameter and an assert.
 const ASSERT: &str = "int main(int a) {
@@ -101,7 +103,7 @@ struct Row {
 }
 
 /// Programs with failing runs.
-static ROWS: [Row; 13] = [
+static ROWS: [Row; 15] = [
     Row {
         program: ASSERT,
         input: "1",
@@ -203,6 +205,24 @@ static ROWS: [Row; 13] = [
         weights: "",
         groups: &[(1, 1), (2, 1), (3, 1), (5, 1)],
         repairs: &[&[1], &[3]],
+    },
+    // The first assignment falls through to the second. Another value leads past it to the third, which is not 5 either.
+    Row {
+        program: FALLS,
+        input: "1",
+        turns: 1,
+        weights: "",
+        groups: &[(1, 1), (2, 1), (3, 1), (4, 1), (6, 1)],
+        repairs: &[&[3], &[1, 4]],
+    },
+    // A value of the `switch` that divides by 0 leads to the `return`.
+    Row {
+        program: LABELLED_ONE,
+        input: "0",
+        turns: 1,
+        weights: "",
+        groups: &[(1, 1), (2, 1), (4, 1)],
+        repairs: &[&[1]],
     },
     Row {
         program: TWO,

@@ -260,8 +260,109 @@ int main(void) {
 }
 ";
 
+/// A `switch` whose statements behind one label fall through to those behind the next.
+pub const FALLS: &str = "int main(int a) {
+    int r;
+    switch (a) {
+    case 1:
+        r = 5;
+    case 2:
+        r = 7;
+        break;
+    default:
+        r = 9;
+    }
+    assert(r == 5);
+    return 0;
+}
+";
+
+/// Several labels at one statement, a `default` in the middle, a negative label of an unsigned `switch`, a `return` in one.
+pub const PATHS: &str = "int path(unsigned u) {
+    int r;
+    r = 0;
+    switch (u) {
+    case 0:
+    case 1:
+        r = r + 1;
+    default:
+        r = r + 10;
+        break;
+    case -1:
+        r = r + 100;
+    case 7:
+        return r + 1000;
+    }
+    return r;
+}
+int main(unsigned u, int expected) {
+    int r;
+    r = path(u);
+    assert(r == expected);
+    return 0;
+}
+";
+
+/// A `switch` in another one, in each kind of loop, with `continue`, with a call, of a `char`, and without a label.
+pub const NESTED: &str = "int half(int n) {
+    return n / 2;
+}
+int main(int n, int expected) {
+    int i, s;
+    char c;
+    s = 0;
+    for (i = 0; i < n; i++) {
+        c = i % 4;
+        switch (c) {
+        case 0:
+            continue;
+        case 1:
+            switch (half(s)) {
+            case 0:
+                s = 3;
+                break;
+            default:
+                break;
+            }
+            s = s + 1;
+            break;
+        case 2:
+            s = s * 2;
+        }
+        s = s + 100;
+    }
+    while (1) {
+        switch (n) {
+        }
+        break;
+    }
+    do {
+        switch (s % 3) {
+        case 0:
+            continue;
+        default:
+            ;
+        }
+        s = s + 1;
+    } while (s % 3);
+    assert(s == expected);
+    return 0;
+}
+";
+
+/// A `switch` without `default`, over an expression that can trap.
+pub const LABELLED_ONE: &str = "int main(int a) {
+    switch (1 / a) {
+    case 1:
+        return 0;
+    }
+    assert(0);
+    return 0;
+}
+";
+
 /// Runs of these programs, with each way to end.
-pub static EXAMPLES: [Example; 76] = [
+pub static EXAMPLES: [Example; 96] = [
     (AGAIN, "", 2, 16, NONE, "", DONE),
     (AGAIN, "", 1, 16, NONE, "", Outcome::Beyond(StmtId(2))),
     (
@@ -511,6 +612,106 @@ pub static EXAMPLES: [Example; 76] = [
         16,
         Relaxed::Statements(&[2]),
         "t 6",
+        Outcome::AssertFails(StmtId(3)),
+    ),
+    (FALLS, "1", 1, 16, NONE, "", Outcome::AssertFails(StmtId(5))),
+    (FALLS, "1", 1, 16, Relaxed::Statements(&[3]), "t 5", DONE),
+    (
+        FALLS,
+        "1",
+        1,
+        16,
+        Relaxed::Statements(&[2]),
+        "t 5",
+        Outcome::AssertFails(StmtId(5)),
+    ),
+    (
+        FALLS,
+        "1",
+        1,
+        16,
+        Relaxed::Statements(&[1, 3, 4]),
+        "t 3 t 5",
+        DONE,
+    ),
+    (
+        FALLS,
+        "1",
+        1,
+        16,
+        Relaxed::Statements(&[1, 3, 4]),
+        "t 2 k t 5",
+        WRONG,
+    ),
+    (PATHS, "0 11", 1, 16, NONE, "", DONE),
+    (PATHS, "1 11", 1, 16, NONE, "", DONE),
+    (PATHS, "5 10", 1, 16, NONE, "", DONE),
+    (PATHS, "4294967295 1100", 1, 16, NONE, "", DONE),
+    (PATHS, "7 1000", 1, 16, NONE, "", DONE),
+    (
+        PATHS,
+        "5 1100",
+        1,
+        16,
+        Relaxed::Statements(&[2]),
+        "t 4294967295",
+        DONE,
+    ),
+    (
+        PATHS,
+        "5 1100",
+        1,
+        16,
+        Relaxed::Statements(&[2]),
+        "t -1",
+        WRONG,
+    ),
+    (NESTED, "8 1218", 8, 16, NONE, "", DONE),
+    (
+        NESTED,
+        "8 1218",
+        7,
+        16,
+        NONE,
+        "",
+        Outcome::Beyond(StmtId(4)),
+    ),
+    (
+        NESTED,
+        "1 0",
+        1,
+        16,
+        Relaxed::Place(&[Step::Turn(StmtId(4), 1)], 7),
+        "t 1000",
+        Outcome::AssertFails(StmtId(18)),
+    ),
+    (LABELLED_ONE, "1", 1, 16, NONE, "", DONE),
+    (LABELLED_ONE, "0", 1, 16, NONE, "", Outcome::Trap(StmtId(1))),
+    (
+        LABELLED_ONE,
+        "2",
+        1,
+        16,
+        NONE,
+        "",
+        Outcome::AssertFails(StmtId(3)),
+    ),
+    (
+        LABELLED_ONE,
+        "0",
+        1,
+        16,
+        Relaxed::Statements(&[1]),
+        "t 1",
+        DONE,
+    ),
+    (
+        LABELLED_ONE,
+        "0",
+        1,
+        16,
+        Relaxed::Statements(&[1]),
+        "t -2",
         Outcome::AssertFails(StmtId(3)),
     ),
 ];

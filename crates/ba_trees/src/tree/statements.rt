@@ -139,6 +139,37 @@ impl Drop for Condition {
     }
 }
 
+/// A label of a `switch` (C90 6.6.1).
+pub enum Label {
+    /// `case`, a constant expression, and `:`.
+    Case {
+        keyword: Token,
+        value: Conditional,
+        colon: Token,
+    },
+    /// `default` and `:`.
+    Default {
+        keyword: Token,
+        colon: Token,
+    },
+}
+
+impl Drop for Label {
+    fn drop(self) {
+        match self {
+            Label::Case {
+                keyword: _,
+                value: _,
+                colon: _,
+            } => {}
+            Label::Default {
+                keyword: _,
+                colon: _,
+            } => {}
+        }
+    }
+}
+
 /// What a `for` begins with (C90 6.6.5.3).
 pub enum ForFirst {
     /// A declaration of variables of the loop, which the profile has beyond C90.
@@ -280,6 +311,16 @@ pub enum StatementForm {
         holds: Controlled,
         fails: Option<Else>,
     },
+    /// C90 6.6.4.2. The profile lets labels stand directly in the braces alone.
+    Switch {
+        keyword: Token,
+        condition: Condition,
+        /// `{`
+        open: Token,
+        groups: Vec<Group>,
+        /// `}`
+        close: Token,
+    },
     /// C90 6.6.5.1.
     While {
         keyword: Token,
@@ -337,6 +378,13 @@ impl Drop for StatementForm {
                 condition: _,
                 holds: _,
                 fails: _,
+            } => {}
+            StatementForm::Switch {
+                keyword: _,
+                condition: _,
+                open: _,
+                groups: _,
+                close: _,
             } => {}
             StatementForm::While {
                 keyword: _,
@@ -452,6 +500,23 @@ impl Drop for For {
             head: _,
             close: _,
             body: _,
+        } = self;
+    }
+}
+
+/// A label in the braces of a `switch`, and the statements up to the next one (C90 6.6.1, 6.6.4.2).
+#[cycle(statement)]
+pub struct Group {
+    pub label: Label,
+    pub statements: Vec<Statement>,
+}
+
+impl Drop for Group {
+    #[cycle(statement)]
+    fn drop(self) {
+        let Group {
+            label: _,
+            statements: _,
         } = self;
     }
 }

@@ -1,20 +1,21 @@
--- Inside a construct, by whether a level is left; and the items of a block.
+-- Inside a construct, by whether a level is left; the items of a block, and the groups of a `switch`.
 
-use Rattle.std.proofs.Common.{append_assoc, option_map, ◌≡◌, ◌+◌, ◌-◌, true, false, List, [], ◌∷◌, Err, length, rules, arith, refl, ap, ◌∙◌, sym}
+use Rattle.std.proofs.Common.{append_assoc, option_map, ◌≡◌, ◌+◌, ◌-◌, true, false, List, [], ◌∷◌, Err, length, map, rules, arith, refl, ap, ◌∙◌, sym}
 use Rattle.std.proofs.lemmas.Result.{err_from_is_err_and}
 use Rattle.ba_trees.specs.Marks.{Mark, leaf, one_deeper}
 use Rattle.ba_tokens.specs.declared.token.Token.{Token}
 use Rattle.ba_tokens.specs.declared.token.Keyword.TheVariants as keyword
 use Rattle.ba_tokens.specs.declared.token.Punct.TheVariants as punct
-use Rattle.ba_parse.specs.Readings.{Answer, Inner, ◌▹◌, done, lowered, levels_left, in_block, in_for, in_statement, deeper_in, read_key, read_sign, read_condition, read_parenthesized}
+use Rattle.ba_parse.specs.Readings.{Answer, Inner, Reading, ◌▹◌, done, lowered, levels_left, in_block, in_groups, in_for, in_statement, deeper_in, read_key, read_sign, read_condition, read_parenthesized}
 use Rattle.ba_parse.specs.Tails.{read_else}
 use Rattle.ba_parse.specs.Telling.{Told}
+use Rattle.ba_trees.specs.Views.{joined}
 use Rattle.ba_trees.specs.SimpleMarks.{condition_marks, for_head_marks}
-use Rattle.ba_trees.specs.StatementMarks.{or_no_else, else_marks, controlled_marks, item_marks, statement_marks}
+use Rattle.ba_trees.specs.StatementMarks.{or_no_else, else_marks, controlled_marks, item_marks, group_marks, statement_marks}
 use Rattle.ba_parse.proofs.Levels.{both-read, levels_left-none, levels_left-some, none-told, lowered-stops, deeper-told}
 use Rattle.ba_parse.proofs.Repeats.{repeat-turn, repeat-end, repeat-out, repeat-stop}
-use Rattle.ba_parse.proofs.StatementBegins.{item, an_item}
-use Rattle.ba_parse.proofs.StatementForms.{if_marks, for_marks}
+use Rattle.ba_parse.proofs.StatementBegins.{item, an_item, labelled, a_group, statement, a_statement}
+use Rattle.ba_parse.proofs.StatementForms.{if_marks, switch_marks, for_marks}
 use Rattle.ba_parse.proofs.statements.+statement.Goals as goal
 
 pub inner_items-returns-then-levels-eq0 : goal.inner_items-returns-then-levels-eq0
@@ -75,6 +76,70 @@ items-loop-read-preserved t c =
     c.item.new.reader c.loop-read.all.items c.push.new.self.items _ c.loop-read.invariant some one
     c.in_ok-next.ensures c.in_ok-push.ensures.items
 
+pub inner_groups-returns-then-levels-eq0 : goal.inner_groups-returns-then-levels-eq0
+inner_groups-returns-then-levels-eq0 t c = rw (levels_left-none c.args.levels in_groups c.args.reader.now
+    c.if-levels-eq0.true) c.no_groups.ensures
+
+pub inner_groups-returns : goal.inner_groups-returns
+inner_groups-returns t c = rw (levels_left-some c.args.levels in_groups c.args.reader.now
+    c.if-levels-eq0.false) c.groups.ensures
+
+pub groups-returns-then-not-next_is : goal.groups-returns-then-not-next_is
+groups-returns-then-not-next_is t c =
+    let none : labelled c.loop-read.reader ≡ false = search rules in
+    repeat-end _ _ labelled (a_group (levels_left c.args.levels)) c.loop-read.reader _ c.loop-read.invariant
+    none
+
+pub groups-returns : goal.groups-returns
+groups-returns t c =
+    repeat-out _ _ labelled (a_group (levels_left c.args.levels)) c.loop-read.reader _ c.loop-read.invariant
+    (omega (arith, ap length c.rest-most.ensures))
+
+pub groups-returns-in_err-next : goal.groups-returns-in_err-next
+groups-returns-in_err-next t c =
+    let p = err_from_is_err_and c.from_residual.result c.from_residual.ensures.1 in
+    let some : labelled c.loop-read.reader ≡ true = search rules in
+    rw (p.1, p.2) (repeat-stop {A = List Mark} {B = List Mark} (λ f. f) (λ f. f) c.in_err-next.field-0.0 _ _
+    labelled (a_group (levels_left c.args.levels)) c.loop-read.reader c.group.new.reader _
+    c.loop-read.invariant some (omega (arith, ap length c.rest-most.ensures)) c.in_err-next.ensures)
+
+pub groups-loop-read-preserved : goal.groups-loop-read-preserved
+groups-loop-read-preserved t c =
+    let some : labelled c.loop-read.reader ≡ true = search rules in
+    let one : length c.args.reader.now - c.loop-read._read ≡ length c.args.reader.now
+    - (c.loop-read._read + 1) + 1 = omega (arith, ap length c.rest-most.ensures) in
+    repeat-turn group_marks _ _ _ labelled (a_group (levels_left c.args.levels)) c.loop-read.reader
+    c.group.new.reader c.loop-read.all.items c.push.new.self.items _ c.loop-read.invariant some one
+    c.in_ok-next.ensures c.in_ok-push.ensures.items
+
+pub statements-returns-then-not-next_is : goal.statements-returns-then-not-next_is
+statements-returns-then-not-next_is t c =
+    let none : statement c.loop-read.reader ≡ false = search rules in
+    repeat-end _ _ statement (a_statement (levels_left c.args.levels)) c.loop-read.reader _
+    c.loop-read.invariant none
+
+pub statements-returns : goal.statements-returns
+statements-returns t c =
+    repeat-out _ _ statement (a_statement (levels_left c.args.levels)) c.loop-read.reader _
+    c.loop-read.invariant (omega (arith, ap length c.rest-most.ensures))
+
+pub statements-returns-in_err-next : goal.statements-returns-in_err-next
+statements-returns-in_err-next t c =
+    let p = err_from_is_err_and c.from_residual.result c.from_residual.ensures.1 in
+    let some : statement c.loop-read.reader ≡ true = search rules in
+    rw (p.1, p.2) (repeat-stop {A = List Mark} {B = List Mark} (λ f. f) (λ f. f) c.in_err-next.field-0.0 _ _
+    statement (a_statement (levels_left c.args.levels)) c.loop-read.reader c.statement.new.reader _
+    c.loop-read.invariant some (omega (arith, ap length c.rest-most.ensures)) c.in_err-next.ensures)
+
+pub statements-loop-read-preserved : goal.statements-loop-read-preserved
+statements-loop-read-preserved t c =
+    let some : statement c.loop-read.reader ≡ true = search rules in
+    let one : length c.args.reader.now - c.loop-read._read ≡ length c.args.reader.now
+    - (c.loop-read._read + 1) + 1 = omega (arith, ap length c.rest-most.ensures) in
+    repeat-turn statement_marks _ _ _ statement (a_statement (levels_left c.args.levels)) c.loop-read.reader
+    c.statement.new.reader c.loop-read.all.items c.push.new.self.items _ c.loop-read.invariant some one
+    c.in_ok-next.ensures c.in_ok-push.ensures.items
+
 pub if_statement-returns : goal.if_statement-returns
 if_statement-returns t c =
     let inner : Inner = levels_left c.args.levels in
@@ -91,6 +156,27 @@ if_statement-returns t c =
     ∙ ap (λ f. done (leaf c.in_ok-keyword.keyword ∷ f) after) (sym (append_assoc condition holds fails))
     ∙ ap (λ f. done f after)
     (sym (if_marks c.in_ok-keyword.keyword c.in_ok-test.test c.in_ok-holds.holds c.in_ok-fails.fails))
+
+pub switch_statement-returns : goal.switch_statement-returns
+switch_statement-returns t c =
+    let inner : Inner = levels_left c.args.levels in
+    let after : List Token = c.take-3.new.self in
+    let condition : List Mark = condition_marks c.in_ok-on.on in
+    let groups : List Mark = one_deeper (joined (map group_marks c.in_ok-groups.groups.items)) in
+    let close : List Mark = leaf c.in_ok-close.close ∷ [] in
+    let inside : Reading = deeper_in inner in_groups ▹ read_sign punct.CloseBrace in
+    both-read (read_key keyword.Switch) (read_condition inner ▹ read_sign punct.OpenBrace ▹ inside)
+    c.args.reader.now _ _ _ _ c.in_ok-keyword.ensures
+    (both-read (read_condition inner) (read_sign punct.OpenBrace ▹ inside)
+    c.take.new.self _ _ _ _ c.in_ok-on.ensures
+    (both-read (read_sign punct.OpenBrace) inside
+    c.condition.new.reader _ _ _ _ c.in_ok-open.ensures
+    (both-read (deeper_in inner in_groups) (read_sign punct.CloseBrace)
+    c.take-2.new.self _ _ _ _ (ap lowered c.in_ok-groups.ensures) c.in_ok-close.ensures)))
+    ∙ ap (λ f. done (leaf c.in_ok-keyword.keyword ∷ f) after)
+    (sym (append_assoc condition (leaf c.in_ok-open.«open» ∷ groups) close))
+    ∙ ap (λ f. done f after) (sym (switch_marks c.in_ok-keyword.keyword c.in_ok-on.on c.in_ok-open.«open»
+    c.in_ok-groups.groups c.in_ok-close.close))
 
 pub for_statement-returns : goal.for_statement-returns
 for_statement-returns t c =

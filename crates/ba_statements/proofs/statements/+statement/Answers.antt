@@ -1,15 +1,21 @@
-use Rattle.std.proofs.Common.{◌≡◌, Some, List, [], ◌∷◌, ◌++◌, map, sym, ◌∙◌, ap, subst}
+use Rattle.std.proofs.Common.{◌≡◌, true, Some, List, [], ◌∷◌, ◌++◌, map, refl, sym, ◌∙◌, ap, subst}
+use Rattle.std.proofs.lemmas.List.{length-map}
 use Rattle.std.proofs.lemmas.Result.{on_ok_weaker}
 use Rattle.ba_trees.specs.declared.tree.statements.BlockItem.{BlockItem}
 use Rattle.ba_trees.specs.declared.tree.statements.BlockItem as item
+use Rattle.ba_trees.specs.declared.tree.statements.Group.{Group, out-Group}
+use Rattle.ba_trees.specs.declared.tree.statements.Statement.{Statement}
 use Rattle.ba_statements.specs.Adding.{GivesTest, at_place, before_of, behind_part, state}
 use Rattle.ba_statements.specs.Controlling.{GivesBody, GivesGuarded}
+use Rattle.ba_statements.specs.Labelling.{behind_group, behind_groups, switch_state}
 use Rattle.ba_typing.specs.Declarations.{Part, in_order}
-use Rattle.ba_typing.specs.Names.{Scope}
-use Rattle.ba_typing.specs.Statements.{add_if, add_item, add_statement, parts_of_block, test_of}
+use Rattle.ba_typing.specs.Names.{Scope, exits_of_loop, exits_of_switch, switching}
+use Rattle.ba_typing.specs.Statements.{GroupParts, add_if, add_item, add_statement, add_switch, parts_of_block, parts_of_group, test_of}
 use Rattle.ba_tree.specs.Trees.{StmtTree, tree_of_stmt}
+use Rattle.ba_typing.specs.declared.names.Exits.{Exits}
 use Rattle.ba_statements.proofs.Adding.{behind-nothing, next-part, no-part}
-use Rattle.ba_statements.proofs.ControlSteps.{at-scope, begun, block-adds, block-back, body-is, do-adds, for-adds, for-back, form-adds, form-answers, guarded-is, if-adds, if_else-adds, item-as, item-declares, loop-back, while-adds}
+use Rattle.ba_statements.proofs.ControlSteps.{at-scope, begun, block-adds, block-back, body-is, do-adds, for-adds, for-back, form-adds, form-answers, guarded-is, if-adds, if_else-adds, item-as, item-declares, exits-back, while-adds}
+use Rattle.ba_statements.proofs.LabelSteps.{group-adds, groups-begun, next-group, no-group, switch-adds}
 use Rattle.ba_typing.proofs.ParsedStatements as forms
 use Rattle.ba_typing.proofs.StmtForms.{tree-Block}
 use Rattle.ba_statements.proofs.statements.+statement.Goals as goal
@@ -72,6 +78,15 @@ pub add_statement-returns-in-Some-clause-scope : goal.add_statement-returns-in-S
 add_statement-returns-in-Some-clause-scope t c =
     on_ok_weaker c.add_else.result (λ stays. stays ∙ c.in_ok-guarded-in-If.ensures.scope)
     c.add_else.ensures.scope
+
+pub add_statement-returns-in-Switch-clause-adds : goal.add_statement-returns-in-Switch-clause-adds
+add_statement-returns-in-Switch-clause-adds t c = let k = c.in-Switch in
+    form-answers c.add_switch.result c.args.s.now _ _
+    (state c.args.scope.now c.args.work.now c.args.stmts.now)
+    (state c.add_switch.new.scope c.add_switch.new.work c.add_switch.new.stmts) k.is
+    (forms.switch-form k.keyword k.condition k.«open» k.groups k.close
+    ∙ ap (λ (gs : List Group). add_switch (test_of k.condition) (map parts_of_group gs))
+    (sym c.as_slice.ensures.value)) c.add_switch.ensures.adds
 
 pub add_statement-returns-in-While-clause-adds : goal.add_statement-returns-in-While-clause-adds
 add_statement-returns-in-While-clause-adds t c = let k = c.in-While in
@@ -216,12 +231,12 @@ add_controlled-returns-clause-gives t c =
 pub add_loop_body-returns-clause-gives : goal.add_loop_body-returns-clause-gives
 add_loop_body-returns-clause-gives t c = let w = c.args.work.now in
     subst (λ (s : Scope). GivesBody (add_statement c.args.body.now s (before_of w)) w
-    c.add_controlled.new.work c.in_ok-held.held) c.set_in_loop.ensures c.in_ok-held.ensures.gives
+    c.add_controlled.new.work c.in_ok-held.held) c.set_exits.ensures c.in_ok-held.ensures.gives
 
 pub add_loop_body-returns-clause-scope : goal.add_loop_body-returns-clause-scope
-add_loop_body-returns-clause-scope t c = loop-back c.args.scope.now c.set_in_loop.new.self
-    c.add_controlled.new.scope c.set_in_loop-2.new.self c.is_in_loop-was_in_loop.result
-    c.is_in_loop-was_in_loop.ensures c.set_in_loop.ensures c.in_ok-held.ensures.scope c.set_in_loop-2.ensures
+add_loop_body-returns-clause-scope t c = exits-back c.args.scope.now c.set_exits.new.self
+    c.add_controlled.new.scope c.set_exits-2.new.self exits_of_loop c.exits-around.result
+    c.exits-around.ensures c.set_exits.ensures c.in_ok-held.ensures.scope c.set_exits-2.ensures
 
 pub add_guarded-returns-clause-gives : goal.add_guarded-returns-clause-gives
 add_guarded-returns-clause-gives t c = guarded-is (test_of c.args.condition.now)
@@ -240,6 +255,105 @@ add_else-returns-clause-adds t c = let scope = c.args.scope.now in
 pub add_else-returns-clause-scope : goal.add_else-returns-clause-scope
 add_else-returns-clause-scope t c =
     on_ok_weaker c.put_if_else.result (λ pushed. c.in_ok-held.ensures.scope) c.put_if_else.ensures
+
+-- SWITCHES
+
+pub add_switch-returns-clause-adds : goal.add_switch-returns-clause-adds
+add_switch-returns-clause-adds t c =
+    let scope = c.args.scope.now in
+    let k = c.add_groups.new.scope in
+    let u = c.add_groups.new.work in
+    let held = c.add_groups.new.body in
+    let back : c.set_exits-2.new.self ≡ scope =
+    exits-back scope c.set_exits.new.self k c.set_exits-2.new.self
+    (record { breaks = true; continues = c.exits-around.result.continues }) c.exits-around.result
+    c.exits-around.ensures c.set_exits.ensures c.in_ok-add_groups.ensures.scope c.set_exits-2.ensures in
+    on_ok_weaker c.put_switch.result (λ pushed.
+    ap (λ (s : Scope). state s u c.put_switch.new.stmts) back
+    ∙ switch-adds (test_of c.args.condition.now) (map parts_of_group c.args.groups.now) scope k
+    c.args.work.now c.add_controlling.new.work u c.in_ok-switch.switch c.add_groups.new.labels
+    (map tree_of_stmt held.items) (map tree_of_stmt c.args.stmts.now.items) _ c.in_ok-switch.ensures
+    (groups-begun c.in_ok-switch.switch.t c.in_ok-switch.switch.at (map parts_of_group c.args.groups.now)
+    c.no_labels-labels.result c.set_exits.new.self (switching scope) c.add_controlling.new.work
+    c.new-body.result.items (switch_state c.add_groups.new.labels k u held) c.no_labels-labels.ensures
+    (c.set_exits.ensures ∙ ap (λ (e : Exits). record scope { exits = exits_of_switch e })
+    c.exits-around.ensures) c.new-body.ensures.items c.in_ok-add_groups.ensures.adds) pushed)
+    c.put_switch.ensures
+
+pub add_switch-returns-clause-scope : goal.add_switch-returns-clause-scope
+add_switch-returns-clause-scope t c =
+    on_ok_weaker c.put_switch.result (λ pushed.
+    exits-back c.args.scope.now c.set_exits.new.self c.add_groups.new.scope c.set_exits-2.new.self
+    (record { breaks = true; continues = c.exits-around.result.continues }) c.exits-around.result
+    c.exits-around.ensures c.set_exits.ensures c.in_ok-add_groups.ensures.scope c.set_exits-2.ensures)
+    c.put_switch.ensures
+
+pub add_groups-loop-group-preserved : goal.add_groups-loop-group-preserved
+add_groups-loop-group-preserved t c =
+    let switch = c.args.switch.now in
+    let i = c.loop-group in (
+      next-group parts_of_group switch.t switch.at c.args.groups.now i.group-index
+          (switch_state i.labels i.scope i.work i.body)
+          (behind_groups switch.t switch.at (map parts_of_group c.args.groups.now)
+          (switch_state c.args.labels.now c.args.scope.now c.args.work.now c.args.body.now)) i.invariant.0
+          c.group-item.result
+          (switch_state c.add_group.new.labels c.add_group.new.scope c.add_group.new.work
+          c.add_group.new.body) c.loop-group-test.true c.group-item.is c.in_ok-add_group.ensures.adds,
+      c.in_ok-add_group.ensures.scope ∙ i.invariant.1,
+    )
+
+pub add_groups-returns-clause-adds : goal.add_groups-returns-clause-adds
+add_groups-returns-clause-adds t c =
+    let switch = c.args.switch.now in
+    let i = c.loop-group in
+    no-group parts_of_group switch.t switch.at c.args.groups.now i.group-index
+    (switch_state i.labels i.scope i.work i.body)
+    (behind_groups switch.t switch.at (map parts_of_group c.args.groups.now)
+    (switch_state c.args.labels.now c.args.scope.now c.args.work.now c.args.body.now)) i.invariant.0
+    c.loop-group-test.false
+
+pub add_group-loop-statement-init : goal.add_group-loop-statement-init
+add_group-loop-statement-init t c = (refl, refl)
+
+pub add_group-loop-statement-preserved : goal.add_group-loop-statement-preserved
+add_group-loop-statement-preserved t c =
+    let w = c.args.work.now in
+    let xs = c.deref-statement-items.result.now in
+    let i = c.loop-statement in (
+      next-part add_statement xs i.statement-index c.statement-item.result (state i.scope i.work i.body)
+          (state c.add_statement.new.scope c.add_statement.new.work c.add_statement.new.stmts)
+          (behind_part (in_order (map add_statement xs))
+          (state c.args.scope.now (record w { tally = c.add_label.new.tally }) c.args.body.now))
+          c.loop-statement-test.true c.statement-item.is i.invariant.0 c.in_ok-add_statement.ensures.adds,
+      c.in_ok-add_statement.ensures.scope ∙ i.invariant.1,
+    )
+
+pub add_group-returns-clause-adds : goal.add_group-returns-clause-adds
+add_group-returns-clause-adds t c =
+    let switch = c.args.switch.now in
+    let group = c.args.group.now in
+    let labels = c.args.labels.now in
+    let scope = c.args.scope.now in
+    let w = c.args.work.now in
+    let olds = map tree_of_stmt c.args.body.now.items in
+    let xs = c.deref-statement-items.result.now in
+    let i = c.loop-statement in
+    let parts = λ (xs : List Statement). let g : GroupParts = record {
+      label = (out-Group group).label;
+      statements = map add_statement xs;
+    } in g in
+    group-adds switch.t switch.at (parts xs) labels c.add_label.new.labels c.in_ok-count.count scope i.scope
+    w i.work c.add_label.new.tally olds (map tree_of_stmt i.body.items)
+    (c.in_ok-count.ensures ∙ c.len.ensures ∙ c.args.body.now.ok.0
+    ∙ sym (length-map c.args.body.now.items tree_of_stmt))
+    c.in_ok-add_label.ensures
+    (no-part add_statement xs i.statement-index (state i.scope i.work i.body)
+    (behind_part (in_order (map add_statement xs))
+    (state scope (record w { tally = c.add_label.new.tally }) c.args.body.now)) c.loop-statement-test.false
+    i.invariant.0)
+    ∙ ap (λ (g : GroupParts). behind_group switch.t switch.at g
+    (switch_state labels scope w c.args.body.now))
+    (ap parts c.deref-statement-items.ensures.value ∙ sym (forms.group-is group))
 
 -- LOOPS
 

@@ -1,0 +1,1 @@
+int main(int a) { switch (a) { case 1: ; case 1: ; } }
