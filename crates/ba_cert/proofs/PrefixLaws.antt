@@ -1,6 +1,6 @@
 -- A file that holds the first bytes of a certificate.
 
-use Rattle.std.proofs.Common.{◌≡◌, ℕ, zero, suc, ◌+◌, ◌<◌, Option, None, Some, option_map, List, [], ◌∷◌, ◌++◌, length, take, drop, get_or, All, true, IfSome, refl, sym, ap, ◌∙◌, subst, append_assoc, append-nil, ◌≤◌, arith}
+use Rattle.std.proofs.Common.{◌≡◌, ◌⊎◌, inl, inr, ℕ, zero, suc, ◌+◌, ◌<◌, Option, None, Some, option_map, List, [], ◌∷◌, ◌++◌, length, take, drop, get_or, All, true, IfSome, refl, sym, ap, ◌∙◌, subst, append_assoc, append-nil, ◌≤◌, arith}
 use Rattle.std.proofs.lemmas.Grind.{flat_map-append}
 use Rattle.std.proofs.lemmas.List.Elements.{All-push, All-weaker}
 use Rattle.std.proofs.lemmas.List.{take_all, take_more, take-append-drop}
@@ -88,6 +88,12 @@ module _ (head : CertHead) where
   head-prefix steps (Some bytes) held =
       let front = front-of held.0 (head_text head) (step_lines steps) in
       (front.0, held.1 ∙ ap (take held.0) (append-nil (head_text head)) ∙ front.1)
+
+  pub or-prefix : (unbegun : Type 0) (steps : List CertStep) (kept : Option (List ℕ))
+      → unbegun ⊎ IfSome kept (λ bytes. IsPrefix bytes (text_of head [])) →
+      unbegun ⊎ IfSome kept (λ bytes. IsPrefix bytes (text_of head steps))
+  or-prefix unbegun steps kept (inl not) = inl not
+  or-prefix unbegun steps kept (inr held) = inr (head-prefix steps kept held)
 
   -- a whole text is some first bytes of it
   pub whole-prefix : (kept : Option (List ℕ)) (steps : List CertStep) (i : ℕ) → length steps ≤ i

@@ -8,7 +8,7 @@ use Rattle.std.proofs.lemmas.Slice.Eq.{bytes_eq-Decides}
 use Rattle.ba_steps.specs.Sinks.{MayAdd, with_told}
 use Rattle.ba_steps.specs.declared.sink.SinkError.TheVariants as sink
 use Rattle.ba_steps.specs.declared.step.CertStep.{CertStep}
-use Rattle.ba_world.specs.World.{Appends, AppendsPrefix, OnlyWrites, Outside}
+use Rattle.ba_world.specs.World.{Appends, AppendsPrefix, OnlyWrites, Outside, StillWrites}
 use Rattle.ba_world.specs.declared.world.WorldError.{WorldError}
 use Rattle.ba_world.specs.declared.world.WorldError.TheVariants as world
 use Rattle.ba_cert.specs.declared.head.CertHead.{CertHead}
@@ -115,15 +115,16 @@ prefixed name writing old new bytes text follows is added stays =
 
 -- only this file is written
 pub others-stay : (name : List ℕ) (old new : Outside) → IsFollowed name old.writing (old.kept name) →
-    ((other : List ℕ) → old.writing ≢ Some other → new.kept other ≡ old.kept other) → OnlyWrites old new →
-    OnlyWritesTo name old new
-others-stay name old new follows others stays = record {
-  kept = λ other apart. others other (λ is. apart (follows.named other is));
+    StillWrites old new → OnlyWrites old new → OnlyWritesTo name old new
+others-stay name old new follows still stays = record {
+  held = λ other apart. still.held other (λ is. apart (follows.named other is));
+  kept = λ other apart. still.kept other (λ is. apart (follows.named other is));
   stays = stays;
 }
 
 pub stays-self : (name : List ℕ) (old : Outside) → OnlyWritesTo name old old
 stays-self name old = record {
+  held = λ other apart. refl;
   kept = λ other apart. refl;
   stays = record {
     no_fall = omega arith;
@@ -139,6 +140,7 @@ stays-self name old = record {
 pub stays_then : (name : List ℕ) (a b c : Outside) → OnlyWritesTo name a b → OnlyWritesTo name b c →
     OnlyWritesTo name a c
 stays_then name a b c first second = record {
+  held = λ other apart. second.held other apart ∙ first.held other apart;
   kept = λ other apart. second.kept other apart ∙ first.kept other apart;
   stays = record {
     no_fall = let x = first.stays.no_fall in let y = second.stays.no_fall in omega (arith, x, y);

@@ -76,8 +76,13 @@ unfoldable pub is_sound : CertHead → Bool → List ℕ → Outside → Bool
 is_sound h whole name outside =
     is_written h whole name outside.is_writing outside.writing (outside.kept name)
 
+-- the file of this name was not begun: none is being written, and what is kept under this name is as it was
+abbrev pub IsUnbegun : List ℕ → Outside → Outside → Type 0
+IsUnbegun name old new = (new.is_writing ≡ false) × (new.kept name ≡ old.kept name)
+
 -- only the file of this name was written
 pub record OnlyWritesTo (name : List ℕ) (old new : Outside) : Type 0 where
+  pub held : StaysBut name old.held new.held
   pub kept : StaysBut name old.kept new.kept
   pub stays : OnlyWrites old new
 

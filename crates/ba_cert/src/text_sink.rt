@@ -1,12 +1,12 @@
 //! A certificate that is written as its steps are made.
 
-ghost use Rattle.std.specs.Prelude.{◌≡◌, ◌<◌, ◌≤◌, ◌++◌, ◌+◌, ◌^◌, ◌&&◌, bytes_eq, ℕ, List, true, false, [], ◌∷◌, None, Some, option_map, All, OnOk, OnErr};
+ghost use Rattle.std.specs.Prelude.{◌≡◌, ◌⊎◌, ◌<◌, ◌≤◌, ◌++◌, ◌+◌, ◌^◌, ◌&&◌, bytes_eq, ℕ, List, true, false, [], ◌∷◌, None, Some, option_map, All, OnOk, OnErr};
 ghost use Rattle.ba_world.specs.World.{HasWriteFault, Outside};
 ghost use Rattle.ba_cert.specs.declared.head.CertHead.{CertHead};
 ghost use Rattle.ba_steps.specs.Steps.{IsFormed};
 ghost use Rattle.ba_steps.specs.Sinks.{MayAdd, MayAddStep, RefusesInTurn, Rose, with_step, with_told};
 ghost use Rattle.ba_cert.specs.Text.{line_of, text_of, with_feed};
-ghost use Rattle.ba_cert.specs.Writing.{AppendsPrefixTo, AppendsTo, Holds, HoldsBeginning, HoldsPrefix, OnlyWritesTo, is_sound, logs_at, no_head, nothing_told, sink_error, steps_at};
+ghost use Rattle.ba_cert.specs.Writing.{AppendsPrefixTo, AppendsTo, Holds, HoldsBeginning, HoldsPrefix, IsUnbegun, OnlyWritesTo, is_sound, logs_at, no_head, nothing_told, sink_error, steps_at};
 
 use crate::head::CertHead;
 use crate::writer::{groups_have_32_bits, head_text, is_head, step_text};
@@ -41,8 +41,8 @@ pub fn begin_text<W: World>(
     ensures head { OnOk result (Holds name.now (text_of head.now []) (W.outside world.new)) }
     ensures no_step { OnOk result (steps_at head.now name.now (W.outside world.new)
         ≡ option_map (λ _. []) ((W.outside world.new).kept name.now)) }
-    ensures prefix { (W.outside world.new).is_writing ≡ true
-        → HoldsPrefix name.now (text_of head.now []) (W.outside world.new) }
+    ensures prefix { IsUnbegun name.now (W.outside world.old) (W.outside world.new)
+        ⊎ HoldsPrefix name.now (text_of head.now []) (W.outside world.new) }
     ensures cause { result ≡ Err SinkError.Failed
         → HasWriteFault (W.outside world.old) (W.outside world.new) }
     ensures stays { OnlyWritesTo name.now (W.outside world.old) (W.outside world.new) }
@@ -110,8 +110,8 @@ pub fn write_text<W: World>(
     requires formed { All IsFormed steps.now }
     ensures whole { OnOk result
         (Holds name.now (text_of head.now steps.now) (W.outside world.new)) }
-    ensures prefix { (W.outside world.new).is_writing ≡ true
-        → HoldsPrefix name.now (text_of head.now steps.now) (W.outside world.new) }
+    ensures prefix { IsUnbegun name.now (W.outside world.old) (W.outside world.new)
+        ⊎ HoldsPrefix name.now (text_of head.now steps.now) (W.outside world.new) }
     ensures cause { result ≡ Err SinkError.Failed
         → HasWriteFault (W.outside world.old) (W.outside world.new) }
     ensures stays { OnlyWritesTo name.now (W.outside world.old) (W.outside world.new) }

@@ -4,8 +4,6 @@ use Rattle.std.proofs.Common.{◌≡◌, ◌⊎◌, inl, inr, ℕ, List, ◌++�
 use Rattle.ba_commands.specs.Modes.{Word}
 use Rattle.ba_localise.specs.Verdicts.{Derivation}
 use Rattle.ba_world.specs.World.{HasReadFault, OnlyReads, Outside}
-use Rattle.ba_world.proofs.WholeReads.{only_reads_on}
-use Rattle.ba_jobs.specs.Files.{AreRead}
 use Rattle.ba_tool.specs.Calls.{Call, CheckComesTo, EndsWith, IsEndOfCheck, JobComesTo, RequestComesTo, TellsCheck, accepted, judging, not_there, read_fault, refused, too_long}
 use Rattle.ba_tool.specs.Certificates.{CertificateComesTo, Judging}
 use Rattle.ba_jobs.specs.Jobs.{request_of}
@@ -13,13 +11,12 @@ use Rattle.ba_answers.specs.Printed.{status_of}
 use Rattle.ba_answers.specs.declared.answers.Answer.{Answer}
 use Rattle.ba_answers.specs.declared.answers.Answer.TheVariants as answer
 use Rattle.ba_answers.specs.declared.file.File.TheVariants as file
-use Rattle.ba_jobs.specs.declared.files.Texts.{Texts}
-use Rattle.ba_jobs.specs.declared.jobs.Job.{Job}
 use Rattle.ba_jobs.specs.declared.jobs.Request.{Request}
 use Rattle.ba_answers.specs.declared.status.Status.{Status}
 use Rattle.ba_answers.specs.declared.status.Status.TheVariants as status
-use Rattle.ba_tool.proofs.Due.{ends_as, fault_later, job_ends, named_only, read_faults_stay, shown_ends}
+use Rattle.ba_tool.proofs.Due.{ends_as, fault_later, job_ends, read_faults_stay, shown_ends}
 use Rattle.ba_tool.proofs.Ending.{Ends}
+use Rattle.ba_tool.proofs.Leaving.{all_only}
 use Rattle.ba_tool.proofs.OneAnswer.{no_answer}
 
 -- WHAT IS TOLD OF A FILE that was read
@@ -103,11 +100,6 @@ module _ (c : Call) (result : Status) (told : Option (List ℕ)) (j : Judging) (
   certificate_ends (answer.TooManySets weight most) is e = absurd is
   certificate_ends (answer.BudgetSpent conflicts) is e = absurd is
   certificate_ends (answer.BadWeights line) is e = absurd is
-
-all_only : (j : Job) (x : Texts) (before after : Outside) → AreRead j x before after → OnlyReads before after
-all_only j x before after r = only_reads_on before r.input_read after
-    (only_reads_on before r.program_read r.input_read r.program.only r.input.only)
-    (named_only j.weights x.weights r.input_read after r.weights)
 
 names_same : (cert : Option Word) (one other : Word) → cert ≡ Some one → cert ≡ Some other → one ≡ other
 names_same cert one other is are = let e : Some one ≡ Some other = sym is ∙ are in cc

@@ -1,17 +1,16 @@
 -- What a job comes to, from what its files come to.
 
-use Rattle.std.proofs.Common.{◌≡◌, ℕ, true, Option, None, Some, Result, Ok, Err, IfErr, inl, inr, refl, arith, subst}
+use Rattle.std.proofs.Common.{◌≡◌, ℕ, true, Option, None, Some, refl, subst}
 use Rattle.ba_cert.specs.declared.head.CertHead.{CertHead}
 use Rattle.ba_commands.specs.Modes.{Word}
 use Rattle.ba_localise.specs.Verdicts.{Derivation, Told}
-use Rattle.ba_steps.specs.Sinks.{Rose}
 use Rattle.ba_world.specs.World.{OnlyReads, Outside}
 use Rattle.ba_world.specs.declared.read.ReadFileError.{ReadFileError}
 use Rattle.ba_world.specs.declared.read.ReadFileError.TheVariants as read
 use Rattle.ba_world.proofs.WholeReads.{only_reads_none, only_reads_on}
 use Rattle.ba_tool.specs.Answers.{Checks, IsAnswer}
 use Rattle.ba_jobs.specs.Files.{AreRead, StopsAt}
-use Rattle.ba_tool.specs.Calls.{Certifies, CheckComesTo, Comes, Concludes, ConcludesCheck, HasFaultOf, IsAbout, JobComesTo, MayBegin, Proceeds, Stops, StopsWith, UnreadComesTo, answer_for, by_certificate, by_texts, head_by}
+use Rattle.ba_tool.specs.Calls.{Certifies, CheckComesTo, Comes, Concludes, ConcludesCheck, IsAbout, JobComesTo, Proceeds, UnreadComesTo, answer_for, by_certificate, by_texts, head_by}
 use Rattle.ba_jobs.specs.Jobs.{is_search, sample_job, sample_texts, written_by}
 use Rattle.ba_answers.specs.declared.answers.Answer.{Answer}
 use Rattle.ba_answers.specs.declared.answers.Answer.TheVariants as answer
@@ -75,10 +74,6 @@ unread j which read.Memory before after a stops is = let no : ⊥ = cc in absurd
 nothing_written : (h : CertHead) (name : Option Word) (o : Outside) → Certifies h name None o o
 nothing_written h None o = refl
 nothing_written h (Some name) o = refl
-
-nothing_begun : (h : CertHead) (name : Option Word) (o : Outside) → MayBegin h name o o
-nothing_begun h None o = refl
-nothing_begun h (Some name) o = inl refl
 
 pub comes_unsearched : (j : Job) (before read : Outside) (t : Told) (a : Answer) → OnlyReads before read →
     JobComesTo j before read None a → Comes (request.Wanted j) before read t t a
@@ -190,12 +185,6 @@ sampled_as j x additions before after t u a job texts holds = comes_sampled addi
     (subst (λ x. Proceeds (sample_job additions) x before after t u a) texts
     (subst (λ j. Proceeds j x before after t u a) job holds))
 
-pub sample_stops : (j : Job) (additions : ℕ) (before after : Outside) → j ≡ sample_job additions →
-    StopsWith (head_by j) (written_by j.task j.cert) before after →
-    Stops (request.Sample additions) before after
-sample_stops j additions before after job stops =
-    subst (λ (j : Job). StopsWith (head_by j) (written_by j.task j.cert) before after) job stops
-
 -- texts that are answered at once, and a search
 pub proceeds_judged : (j : Job) (x : Texts) (o : Outside) (t : Told) (a : Answer) → IsAnswer j x None a →
     Proceeds j x o o t t a
@@ -203,7 +192,7 @@ proceeds_judged j x o t a is =
     by_texts None is (refl, refl) (nothing_written (head_by j) (written_by j.task j.cert) o)
 
 -- a job that searches writes the certificate that is named
-searches_write : (t : Task) (cert : Option Word) → is_search t ≡ true → cert ≡ written_by t cert
+pub searches_write : (t : Task) (cert : Option Word) → is_search t ≡ true → cert ≡ written_by t cert
 searches_write task.Localise cert is = refl
 searches_write (task.Sample additions) cert is = refl
 searches_write task.Check cert is = let no : ⊥ = cc in absurd no
@@ -215,44 +204,10 @@ proceeds_searched j x old new t u a is c = by_texts (Some c.derivation) c.is c.h
     (subst (λ cert. Certifies (head_by j) cert (Some c.derivation) old new)
     (searches_write j.task j.cert is) c.certifies)
 
-pub stops_searched : (j : Job) (old new : Outside) → is_search j.task ≡ true →
-    MayBegin (head_by j) j.cert old new →
-    StopsWith (head_by j) (written_by j.task j.cert) old new
-stops_searched j old new is may = record {
-  read = old;
-  reads = only_reads_none old;
-  may = subst (λ cert. MayBegin (head_by j) cert old new) (searches_write j.task j.cert is) may;
-}
-
--- and one that stops later
-pub stops_later : (h : CertHead) (cert : Option Word) (before read after : Outside) → OnlyReads before read →
-    StopsWith h cert read after → StopsWith h cert before after
-stops_later h cert before read after reads s = record {
-  read = s.read;
-  reads = only_reads_on before read s.read reads s.reads;
-  may = s.may;
-}
-
 pub proceeds_checked : (j : Job) (x : Texts) (p : Program) (old new : Outside) (t u : Told) (a : Answer) →
     Spells x.program p → Checks j x p → OnlyReads old new → ConcludesCheck j x p old new t u a →
     Proceeds j x old new t u a
 proceeds_checked j x p old new t u a spells checks only c = by_certificate p spells checks only c
-
--- a fault of the sink rises in a check, which writes nothing
-pub sink_faults : (old new : Outside) (t u : Told) → OnlyReads old new → Rose t.faults u.faults →
-    HasFaultOf old new t u
-sink_faults old new t u reads (inl rose) = let same = reads.write_faults in inl (omega (arith, same, rose))
-sink_faults old new t u reads (inr top) = inr (omega (arith, top))
-
--- what stops in reading has written nothing
-pub stops_read : (h : CertHead) (cert : Option Word) (before read : Outside) → OnlyReads before read →
-    StopsWith h cert before read
-stops_read h cert before read reads = record { read = read; reads = reads; may = nothing_begun h cert read }
-
--- a fact of all errors
-pub if_err : {A E : Type 0} (result : Result A E) (P : Type 0) → P → IfErr result (λ error. P)
-if_err (Ok value) P holds = tt
-if_err (Err error) P holds = holds
 
 -- words that are answered at once
 

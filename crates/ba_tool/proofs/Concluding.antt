@@ -1,6 +1,6 @@
 -- What a check comes to, by the formula that was made.
 
-use Rattle.std.proofs.Common.{◌≡◌, ◌∙◌, Some, List, [], refl, sym, ap, subst}
+use Rattle.std.proofs.Common.{◌≡◌, inl, inr, ◌∙◌, Some, List, [], refl, sym, ap, subst}
 use Rattle.ba_check.specs.Answers.{problem_of as problem_over}
 use Rattle.ba_check.specs.declared.settings.Settings.{Settings}
 use Rattle.ba_commands.specs.Modes.{Word}
@@ -12,12 +12,12 @@ use Rattle.ba_formula.specs.Formulas.{IsFormulaOf}
 use Rattle.ba_lits.specs.Formulas.{Cnf}
 use Rattle.ba_lits.specs.Satisfaction.{Soft}
 use Rattle.ba_localise.specs.Verdicts.{Derivation, Told, problem_of}
-use Rattle.ba_steps.specs.Sinks.{basis, with_told}
+use Rattle.ba_steps.specs.Sinks.{MayAdd, basis, with_told}
 use Rattle.ba_tree.specs.Least.{WeightList, judge_of}
 use Rattle.ba_tree.specs.declared.run.Input.{Input}
 use Rattle.ba_world.specs.World.{Outside}
 use Rattle.ba_tool.specs.Answers.{judge_in, weights_of}
-use Rattle.ba_tool.specs.Calls.{ConcludesCheck, head_by}
+use Rattle.ba_tool.specs.Calls.{CheckLeaves, ConcludesCheck, MayHandFormula, head_by}
 use Rattle.ba_tool.specs.Cases.{IsCaseOf}
 use Rattle.ba_tool.specs.Certificates.{CertificateComesTo}
 use Rattle.ba_answers.specs.declared.answers.Answer.{Answer}
@@ -89,3 +89,11 @@ module _ (j : Job) (x : Texts) (c : Case) (is : IsCaseOf x c) (encoded : Encoded
           comes;
     };
   }
+
+  -- where it stops, the sink may tell the formula, and no step
+  pub checks_formula : (t u : Told) → IsFormulaOf c.program c.input j.bounds c.weights.of encoded →
+      MayAdd (basis formula softs) t.over u.over → u.logs ≡ t.logs → CheckLeaves j x c.program t u
+  checks_formula t u f may logs = record { over = by may; no_step = logs } where
+    by : MayAdd (basis formula softs) t.over u.over → MayHandFormula j x c.program t u
+    by (inl same) = inl same
+    by (inr told) = inr (basis formula softs, faithful_too f, told)

@@ -81,11 +81,6 @@ read_only j file.Weights before opened (mid, program, input, f, g) = only_reads_
     g.only
 read_only j file.Certificate before opened never = absurd never
 
-pub named_only : (name : Option Word) (text : List ℕ) (old new : Outside) → IsReadIfNamed name text old new
-    → OnlyReads old new
-named_only None text old new (empty, same) = subst (OnlyReads old) (sym same) (only_reads_none old)
-named_only (Some name) text old new f = f.only
-
 -- the told bytes of the file that was named
 told_text : File → Texts → List ℕ
 told_text file.Program x = x.program
@@ -232,7 +227,7 @@ module _ (c : Call) (wanted : Status → Type 0) (result : Status) where
   shown_ends a s ends = by s.shown where
     by : IsShown a s.written c.after result → EndsWith c wanted result
     by (inl whole) = ends whole.0
-    by (inr (inl fault)) = write_fault fault.0 (fault_since c a result s fault.1)
+    by (inr (inl fault)) = write_fault fault.0 (inl (fault_since c a result s fault.1))
     by (inr (inr short)) = memory short.0
 
   pub ends_as : (other : Status) → wanted other → result ≡ other → EndsWith c wanted result

@@ -1,6 +1,6 @@
 -- How a call ends, by the answer that it comes to.
 
-use Rattle.std.proofs.Common.{◌≡◌, inl, inr, ℕ, ◌+◌, ◌≤◌, Option, None, Some, List, ◌++◌, length, take, option_map, All, IfSome, refl, sym, ap, subst, ◌∙◌, arith}
+use Rattle.std.proofs.Common.{◌≡◌, inl, inr, ℕ, ◌≤◌, Option, None, Some, List, ◌++◌, length, take, option_map, All, IfSome, refl, sym, ap, subst, ◌∙◌, arith}
 use Rattle.std.proofs.lemmas.List.Elements.{All-nil}
 use Rattle.std.proofs.lemmas.List.{take_all}
 use Rattle.ba_cert.specs.declared.head.CertHead.{CertHead}
@@ -12,12 +12,13 @@ use Rattle.ba_derivations.specs.declared.verdict.Verdict.TheVariants as verdict
 use Rattle.ba_localise.specs.Verdicts.{Derivation, Shows, Told}
 use Rattle.ba_steps.specs.Steps.{IsFormed}
 use Rattle.ba_steps.specs.declared.step.CertStep.{CertStep}
-use Rattle.ba_world.specs.World.{HasPrintShortage, HasWriteFault, OnlyPrints, OnlyReads, OnlyWrites, Outside, Prints, PrintsPrefix, Rose}
+use Rattle.ba_world.specs.World.{HasPrintShortage, HasWriteFault, OnlyPrints, OnlyReads, OnlyWrites, Outside, Prints, PrintsPrefix}
 use Rattle.ba_world.specs.declared.read.ReadFileError.{ReadFileError}
 use Rattle.ba_world.specs.declared.read.ReadFileError.TheVariants as read_error
 use Rattle.ba_world.proofs.WholeReads.{rose_since}
+use Rattle.ba_tool.proofs.Leaving.{MayBegin, Passes, passes_stops}
 use Rattle.ba_tool.specs.Answers.{Answers, IsAnswer}
-use Rattle.ba_tool.specs.Calls.{Answered, AnsweredInPart, Call, Certifies, CheckComesTo, Comes, ComesTo, HasFault, IsShown, JobComesTo, MayBegin, RequestComesTo, Says, Stops, UnreadComesTo, WritesOnly, head_in}
+use Rattle.ba_tool.specs.Calls.{Answered, AnsweredInPart, Call, Certifies, CheckComesTo, Comes, ComesTo, IsShown, JobComesTo, RequestComesTo, Says, Stops, UnreadComesTo, WritesOnly, head_in}
 use Rattle.ba_jobs.specs.Jobs.{cert_of, request_of, sample_job, sample_texts}
 use Rattle.ba_answers.specs.Printed.{status_of, text_of}
 use Rattle.ba_answers.specs.declared.answers.Answer.{Answer}
@@ -181,13 +182,13 @@ may_begin h None handed old new formed same = same
 may_begin h (Some name) None old new formed same = inl same
 may_begin h (Some name) (Some d) old new formed writes = inr (record {
   only = writes.only;
-  beginning = λ still. ∣ whole_begins h d.steps (new.kept name) formed writes.holds ∣₁;
+  beginning = inr ∣ whole_begins h d.steps (new.kept name) formed writes.holds ∣₁;
 })
 
-pub comes_stops : (r : Request) (before after : Outside) (t u : Told) (a : Answer) →
+comes_passes : (r : Request) (before after : Outside) (t u : Told) (a : Answer) →
     Comes r before after t u a
-    → Stops r before after
-comes_stops r before after t u a c = record {
+    → Passes (head_in r) (cert_of r) before after
+comes_passes r before after t u a c = record {
   read = c.read;
   reads = c.reads;
   may = may_begin (head_in r) (cert_of r) c.handed c.read after (formed_of r before c.read c.handed a c.comes)
@@ -224,9 +225,10 @@ pub record IsUnprinted (before after : Outside) : Type 0 where
   pub write_no_fall : before.write_faults ≤ after.write_faults
   pub shortages : after.print_shortages ≡ before.print_shortages
 
-pub unprinted : (r : Request) (before after : Outside) → Stops r before after → IsUnprinted before after
-unprinted r before after s =
-    let w = only_writes (head_in r) (cert_of r) s.read after s.may in record {
+unprinted : (h : CertHead) (name : Option Word) (before after : Outside) → Passes h name before after →
+    IsUnprinted before after
+unprinted h name before after s =
+    let w = only_writes h name s.read after s.may in record {
       printed = w.printed ∙ s.reads.printed;
       write_no_fall = let e = s.reads.write_faults in let h = w.no_fall in omega (arith, e, h);
       shortages = w.print_shortages ∙ s.reads.print_shortages;
@@ -247,21 +249,6 @@ shortage_since before mid after u rose =
     let same : before.print_shortages ≤ mid.print_shortages = let e = u.shortages in omega (arith, e) in
     rose_since before.print_shortages mid.print_shortages after.print_shortages same rose
 
--- a fault of the world is one of the world and the sink
-pub rose_with : (a b c d e : ℕ) → a ≤ b → d ≤ e → Rose b c → Rose (a + d) (c + e)
-rose_with a b c d e le up (inl more) = inl (omega (arith, le, up, more))
-rose_with a b c d e le up (inr far) = inr (omega (arith, far))
-
--- and so is one of the sink
-pub rose_beside : (a b d e : ℕ) → a ≤ b → Rose d e → Rose (a + d) (b + e)
-rose_beside a b d e le (inl more) = inl (omega (arith, le, more))
-rose_beside a b d e le (inr far) = inr (omega (arith, far))
-
--- and one that rose later
-pub rose_later : (a b c d e : ℕ) → a ≤ b → Rose (b + d) (c + e) → Rose (a + d) (c + e)
-rose_later a b c d e le (inl more) = inl (omega (arith, le, more))
-rose_later a b c d e le (inr far) = inr far
-
 -- A CALL THAT COMES TO AN ANSWER, and shows it
 pub record Ends (c : Call) (a : Answer) (result : Status) : Type 0 where
   pub written : Outside
@@ -269,33 +256,32 @@ pub record Ends (c : Call) (a : Answer) (result : Status) : Type 0 where
   pub prints : OnlyPrints written c.after
   pub shown : IsShown a written c.after result
   pub prefix : PrintsPrefix written c.after (text_of a)
-  pub no_fall : c.told_before.faults ≤ c.told_after.faults
+  pub stops : Stops (request_of c.words) c.before written c.told_before c.told_after
 
 module _ (c : Call) (a : Answer) (result : Status) (s : Ends c a result) where
   came : ComesTo c a
   came = record { written = s.written; comes = s.comes; prints = s.prints }
 
-  stopped : Stops (request_of c.words) c.before s.written
-  stopped = comes_stops (request_of c.words) c.before s.written c.told_before c.told_after a s.comes
-
   still : IsUnprinted c.before s.written
-  still = unprinted (request_of c.words) c.before s.written stopped
+  still = unprinted _ _ c.before s.written
+      (comes_passes (request_of c.words) c.before s.written c.told_before c.told_after a s.comes)
 
   in_part : AnsweredInPart c
   in_part = (a, came, part_since c.before s.written c.after (text_of a) still s.prefix)
 
-  pub fault_since : HasWriteFault s.written c.after → HasFault c
-  fault_since rose = rose_with c.before.write_faults s.written.write_faults c.after.write_faults
-      c.told_before.faults c.told_after.faults still.write_no_fall s.no_fall rose
+  pub fault_since : HasWriteFault s.written c.after → HasWriteFault c.before c.after
+  fault_since rose = rose_since c.before.write_faults s.written.write_faults c.after.write_faults
+      still.write_no_fall rose
 
   pub ends_says : Says c result
   ends_says = by s.shown where
     by : IsShown a s.written c.after result → Says c result
     by (inl whole) = subst (Says c) (sym whole.0)
         (said c a (came, prints_since c.before s.written c.after (text_of a) still whole.1))
-    by (inr (inl fault)) = subst (Says c) (sym fault.0) (fault_since fault.1, inl in_part)
+    by (inr (inl fault)) = subst (Says c) (sym fault.0) (inl (fault_since fault.1, in_part))
     by (inr (inr (is, inl same))) = subst (Says c) (sym is)
-        (inl (subst (Stops (request_of c.words) c.before) (sym same) stopped))
+        (inl (subst (λ o. Stops (request_of c.words) c.before o c.told_before c.told_after) (sym same)
+        s.stops))
     by (inr (inr (is, inr short))) = subst (Says c) (sym is)
         (inr (shortage_since c.before s.written c.after still short, in_part))
 
@@ -315,12 +301,17 @@ may_write h None before read mid after reads same prints =
     }
 may_write h (Some name) before read mid after reads (inl same) prints =
     let print : OnlyPrints read after = subst (λ o. OnlyPrints o after) same prints in record {
+      held = λ other apart. ap (λ (held : Word → Option (Option (List ℕ))). held other)
+          (print.held ∙ reads.held);
       kept = λ other apart. ap (λ (kept : Word → Option (List ℕ)). kept other) (print.kept ∙ reads.kept);
       read_no_fall = let e = print.read_faults in let h = reads.no_fall in omega (arith, e, h);
       write_no_fall = let e = reads.write_faults in let h = print.no_fall in omega (arith, e, h);
     }
 may_write h (Some name) before read mid after reads (inr begins) prints =
     let w = begins.only.stays in record {
+      held = λ other apart. ap (λ (held : Word → Option (Option (List ℕ))). held other) prints.held
+          ∙ begins.only.held other apart
+          ∙ ap (λ (held : Word → Option (Option (List ℕ))). held other) reads.held;
       kept = λ other apart. ap (λ (kept : Word → Option (List ℕ)). kept other) prints.kept
           ∙ begins.only.kept other apart ∙ ap (λ (kept : Word → Option (List ℕ)). kept other) reads.kept;
       read_no_fall = let e = prints.read_faults in let f = w.read_faults in let h = reads.no_fall in
@@ -329,10 +320,10 @@ may_write h (Some name) before read mid after reads (inr begins) prints =
           omega (arith, e, f, h);
     }
 
-pub stops_write : (r : Request) (before mid after : Outside) → Stops r before mid → OnlyPrints mid after
-    → WritesOnly (cert_of r) before after
-stops_write r before mid after s prints =
-    may_write (head_in r) (cert_of r) before s.read mid after s.reads s.may prints
+passes_write : (h : CertHead) (name : Option Word) (before mid after : Outside) → Passes h name before mid →
+    OnlyPrints mid after → WritesOnly name before after
+passes_write h name before mid after s prints =
+    may_write h name before s.read mid after s.reads s.may prints
 
 prints_none : (o : Outside) → OnlyPrints o o
 prints_none o = record {
@@ -348,12 +339,13 @@ prints_none o = record {
   given = refl;
 }
 
-pub stops_unprinted : (r : Request) (before after : Outside) → Stops r before after
+pub stops_unprinted : (r : Request) (before after : Outside) (t u : Told) → Stops r before after t u
     → WritesOnly (cert_of r) before after
-stops_unprinted r before after s = stops_write r before after after s (prints_none after)
+stops_unprinted r before after t u s = passes_write (head_in r) (cert_of r) before after after
+    (passes_stops r before after t u s) (prints_none after)
 
 pub comes_write : (r : Request) (before mid after : Outside) (t u : Told) (a : Answer) →
     Comes r before mid t u a
     → OnlyPrints mid after → WritesOnly (cert_of r) before after
 comes_write r before mid after t u a c prints =
-    stops_write r before mid after (comes_stops r before mid t u a c) prints
+    passes_write (head_in r) (cert_of r) before mid after (comes_passes r before mid t u a c) prints

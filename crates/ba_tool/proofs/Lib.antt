@@ -10,6 +10,7 @@ mod Checking
 mod Feeding
 mod Concluding
 mod Coming
+mod Leaving
 mod Faulty
 mod Answering
 mod Searching

@@ -1,15 +1,18 @@
 -- A CALL of the program: how its answer comes from the words and the files, what it hands to the sink of
 -- steps, and what it leaves of the outside.
 
-use Rattle.std.specs.Prelude.{◌≡◌, ◌⊎◌, ℕ, ◌+◌, ◌*◌, ◌<◌, ◌≤◌, true, Option, None, Some, List, [], map, length}
+use Rattle.std.specs.Prelude.{◌≡◌, ◌⊎◌, ℕ, ◌+◌, ◌*◌, ◌<◌, ◌≤◌, true, Option, None, Some, IfSome, List, [], ◌∷◌, map, length}
 use denote.Ref.{Bor}
 use Rattle.ba_cert.specs.declared.head.CertHead.{CertHead}
 use Rattle.ba_cert.specs.Text.{text_of as certificate_of}
-use Rattle.ba_cert.specs.Writing.{Holds, HoldsBeginning, OnlyWritesTo, no_head}
+use Rattle.ba_cert.specs.Writing.{Holds, HoldsBeginning, HoldsPrefix, IsUnbegun, OnlyWritesTo, no_head, steps_at}
 use Rattle.ba_commands.specs.Modes.{Word}
 use Rattle.ba_derivations.specs.Encodings.{IsFaithful}
-use Rattle.ba_localise.specs.Verdicts.{Derivation, Hands, Told, problem_of}
+use Rattle.ba_localise.specs.Verdicts.{Derivation, Hands, LeavesDerivation, Told, problem_of}
 use Rattle.ba_numbers.specs.declared.ids.At.{At}
+use Rattle.ba_steps.specs.Sinks.{with_told}
+use Rattle.ba_steps.specs.declared.sink.Basis.{Basis}
+use Rattle.ba_steps.specs.declared.step.CertStep.{CertStep}
 use Rattle.ba_world.specs.Read.{piece_size}
 use Rattle.ba_world.specs.declared.read.ReadFileError.{ReadFileError}
 use Rattle.ba_world.specs.declared.read.ReadFileError.TheVariants as read
@@ -56,13 +59,12 @@ call words before after told_before told_after = record {
   told_after = told_after;
 }
 
--- a fault of writing or of printing rose, of the world or of the sink, whose faults count together
-abbrev pub HasFaultOf : Outside → Outside → Told → Told → Type 0
-HasFaultOf before after told_before told_after =
+-- a fault of what a derivation is handed to: of the sink; and where a certificate of this name is written, of
+-- the sink or of the world, whose faults count together
+abbrev pub HasHandFault : Option Word → Outside → Outside → Told → Told → Type 0
+HasHandFault None before after told_before told_after = Rose told_before.faults told_after.faults
+HasHandFault (Some name) before after told_before told_after =
     Rose (before.write_faults + told_before.faults) (after.write_faults + told_after.faults)
-
-abbrev pub HasFault : Call → Type 0
-HasFault c = HasFaultOf c.before c.after c.told_before c.told_after
 
 -- the settings of a job, as a certificate names them
 abbrev pub head_by : Job → CertHead
@@ -164,16 +166,11 @@ Certifies h None handed old new = new ≡ old
 Certifies h (Some name) None old new = new ≡ old
 Certifies h (Some name) (Some d) old new = Writes name (certificate_of h d.steps) old new
 
--- the file of this name was begun: only it was written, and while it is open it holds the first bytes of a
--- certificate of these settings, where that is told
+-- only the file of this name was written: it holds the first bytes of a certificate of these settings, where
+-- that is told; or it couldn't be begun, and is as it was
 pub record Begins (h : CertHead) (name : List ℕ) (old new : Outside) : Type 0 where
   pub only : OnlyWritesTo name old new
-  pub beginning : new.is_writing ≡ true → HoldsBeginning h name new
-
--- the certificate may have been begun, if one is named
-abbrev pub MayBegin : CertHead → Option Word → Outside → Outside → Type 0
-MayBegin h None old new = new ≡ old
-MayBegin h (Some name) old new = (new ≡ old) ⊎ Begins h name old new
+  pub beginning : IsUnbegun name old new ⊎ HoldsBeginning h name new
 
 -- WHAT A SEARCH COMES TO: an answer with a derivation, which was handed to the sink of steps
 pub record HandsAnswer (j : Job) (x : Texts) (told_before told_after : Told) (a : Answer) : Type 0 where
@@ -219,14 +216,64 @@ pub record Comes (r : Request) (before after : Outside) (told_before told_after 
     pub hands : HandsOn handed told_before told_after
     pub certifies : Certifies (head_in r) (cert_of r) handed read after
 
--- it stopped on the way: it read, and may have begun the certificate
-pub record StopsWith (h : CertHead) (cert : Option Word) (before after : Outside) : Type 0 where
-  pub read : Outside
-  pub reads : OnlyReads before read
-  pub may : MayBegin h cert read after
+-- WHAT IS LEFT OF A DERIVATION, wherever a call stops
 
-abbrev pub Stops : Request → Outside → Outside → Type 0
-Stops r before after = StopsWith (head_in r) (cert_of r) before after
+-- by a search for the least sets of this program, as far as the sink tells
+abbrev pub LeavesPart : Job → Texts → Program → Told → Told → Type 0
+LeavesPart j x p t u = LeavesDerivation (weights_of p x) (judge_in j x p) j.conflicts j.sets t u
+
+-- what a sink tells, with one more log before its own
+abbrev pub with_log : Option (List CertStep) → Told → Told
+with_log log t = record { over = t.over; logs = log ∷ t.logs; faults = t.faults }
+
+-- a file is being written, of this name where that is told
+abbrev pub IsWriting : Word → Outside → Type 0
+IsWriting name o = (o.is_writing ≡ true) × IfSome o.writing (λ written. written ≡ name)
+
+-- by a search that writes the file of this name: nothing was handed on, and the file was not begun, or holds
+-- first bytes of its settings; or it is being written, and its steps, which were none at first, are one more
+-- log before those of the sink
+pub data LeavesWritten (j : Job) (x : Texts) (p : Program) (name : Word) (old new : Outside) (t u : Told) :
+    Type 0
+  where
+    writes_no_step : IsUnbegun name old new ⊎ HoldsPrefix name (certificate_of (head_by j) []) new →
+        HandsOn None t u → LeavesWritten j x p name old new t u
+    writes_steps : IsWriting name new → (first : Option (List CertStep)) →
+        IfSome first (λ steps. steps ≡ []) →
+        LeavesPart j x p (with_log first t) (with_log (steps_at (head_by j) name new) u) →
+        LeavesWritten j x p name old new t u
+
+-- by a search, which writes the certificate, if one is named, and else no file
+abbrev pub SearchLeaves : Job → Texts → Program → Option Word → Outside → Outside → Told → Told → Type 0
+SearchLeaves j x p None old new t u = (new ≡ old) × LeavesPart j x p t u
+SearchLeaves j x p (Some name) old new t u =
+    Begins (head_by j) name old new × LeavesWritten j x p name old new t u
+
+-- by a check: a formula that encodes faithfully which runs are good may have been handed to the sink
+abbrev pub MayHandFormula : Job → Texts → Program → Told → Told → Type 0
+MayHandFormula j x p t u = (u.over ≡ t.over) ⊎ ((begun : Basis)
+    × IsFaithful begun.formula begun.softs (weights_of p x) (judge_in j x p)
+    × (u.over ≡ with_told begun t.over))
+
+pub record CheckLeaves (j : Job) (x : Texts) (p : Program) (t u : Told) : Type 0 where
+  pub over : MayHandFormula j x p t u
+  pub no_step : u.logs ≡ t.logs
+
+-- A JOB STOPS whose files have these texts: at once; or in a search; or in a check, which only reads
+pub data StopsWith (j : Job) (x : Texts) (old new : Outside) (t u : Told) : Type 0 where
+  at_once : new ≡ old → HandsOn None t u → StopsWith j x old new t u
+  in_search : (p : Program) → Spells x.program p → Searches j x p → SearchLeaves j x p j.cert old new t u →
+      StopsWith j x old new t u
+  in_check : (p : Program) → Spells x.program p → Checks j x p → OnlyReads old new → CheckLeaves j x p t u →
+      StopsWith j x old new t u
+
+-- A REQUEST STOPS in reading, and nothing was handed on; or where all is read
+pub data Stops (r : Request) (before after : Outside) (t u : Told) : Type 0 where
+  in_reading : OnlyReads before after → HandsOn None t u → Stops r before after t u
+  in_sample : (additions : ℕ) → r ≡ request.Sample additions →
+      StopsWith (sample_job additions) (sample_texts additions) before after t u → Stops r before after t u
+  in_job : (j : Job) (x : Texts) (read : Outside) → r ≡ request.Wanted j → AreRead j x before read →
+      StopsWith j x read after t u → Stops r before after t u
 
 -- A CALL COMES TO AN ANSWER, and from then on only prints
 pub record ComesTo (c : Call) (a : Answer) : Type 0 where
@@ -244,7 +291,14 @@ AnsweredInPart c = (a : Answer) × ComesTo c a × PrintsPrefix c.before c.after 
 
 -- it ended before it printed anything
 abbrev pub Unanswered : Call → Type 0
-Unanswered c = Stops (request_of c.words) c.before c.after
+Unanswered c = Stops (request_of c.words) c.before c.after c.told_before c.told_after
+
+-- a fault of what its derivation is handed to rose; and that one, or a fault of writing or of printing
+abbrev pub HandFails : Call → Type 0
+HandFails c = HasHandFault (cert_of (request_of c.words)) c.before c.after c.told_before c.told_after
+
+abbrev pub HasFault : Call → Type 0
+HasFault c = HasWriteFault c.before c.after ⊎ HandFails c
 
 -- the text of an answer was printed, and the call ends with its status; or a fault of writing rose in
 -- printing it; or there was no memory to make it, or to print it
@@ -279,9 +333,10 @@ Says c status.BudgetSpent = (conflicts : ℕ) × Answered c (answer.BudgetSpent 
 -- the certificate is refused, at its first refused line
 Says c status.BadCertificate = (code line : ℕ) × Answered c (answer.BadCertificate code line)
 Says c status.ReadFault = (which : File) × Answered c (answer.Unreadable which)
--- a fault of writing rose; a prefix of the text of an answer was printed, or the call ended before it
--- printed
-Says c status.WriteFault = HasFault c × (AnsweredInPart c ⊎ Unanswered c)
+-- a fault of printing rose, and a prefix of the text of an answer was printed; or one of what a derivation is
+-- handed to rose, and the call ended before it printed
+Says c status.WriteFault =
+    (HasWriteFault c.before c.after × AnsweredInPart c) ⊎ (HandFails c × Unanswered c)
 -- it ended before it printed; or the printing found no memory, and a prefix of the text of an answer was
 -- printed
 Says c status.Memory = Unanswered c ⊎ (HasPrintShortage c.before c.after × AnsweredInPart c)
@@ -299,8 +354,9 @@ pub record WritesNoFile (old new : Outside) : Type 0 where
   pub read_no_fall : old.read_faults ≤ new.read_faults
   pub write_no_fall : old.write_faults ≤ new.write_faults
 
--- what is kept of every file stays, but of the one of this name
+-- what is held and kept of every file stays, but of the one of this name
 pub record WritesOneFile (name : List ℕ) (old new : Outside) : Type 0 where
+  pub held : StaysBut name old.held new.held
   pub kept : StaysBut name old.kept new.kept
   pub read_no_fall : old.read_faults ≤ new.read_faults
   pub write_no_fall : old.write_faults ≤ new.write_faults

@@ -13,7 +13,7 @@ ghost use Rattle.ba_tree.specs.Least.{AreWeightsOf};
 ghost use Rattle.ba_tree.specs.Run.{are_bounds, fits};
 ghost use Rattle.ba_world.specs.Read.{piece_size};
 ghost use Rattle.ba_world.specs.World.{OnlyReads, Outside};
-ghost use Rattle.ba_tool.specs.Calls.{ConcludesCheck};
+ghost use Rattle.ba_tool.specs.Calls.{CheckLeaves, ConcludesCheck};
 ghost use Rattle.ba_tool.specs.Cases.{IsCaseOf};
 ghost use Rattle.ba_tool.specs.Certificates.{CertificateComesTo, IsFed, IsUnfed, Judging, claim_of, unfed_answer};
 ghost use Rattle.ba_answers.specs.Limits.{certificate_limit};
@@ -188,6 +188,9 @@ where
         → IfOk result (λ answer. ConcludesCheck job.now x case.now.program
         (W.outside world.old) (W.outside world.new)
         (told D.over D.logs D.faults steps.old) (told D.over D.logs D.faults steps.new) answer) }
+    ensures leaves { (x : Texts) → IsCaseOf x case.now
+        → CheckLeaves job.now x case.now.program
+        (told D.over D.logs D.faults steps.old) (told D.over D.logs D.faults steps.new) }
     ensures cause { result ≡ Err SearchError.SinkFailed
         → Rose (D.faults steps.old) (D.faults steps.new) }
     ensures bounded { (W.outside world.new).given

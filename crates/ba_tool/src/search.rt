@@ -1,7 +1,8 @@
 //! The search for the least sets of a program that fails.
 
-ghost use Rattle.std.specs.Prelude.{◌≡◌, ◌<◌, ◌≤◌, ◌^◌, false, true, [], Err, IfOk, OnOk, Some, option_map};
-ghost use Rattle.ba_cert.specs.Writing.{is_sound, steps_at};
+ghost use Rattle.std.specs.Prelude.{◌≡◌, ◌⊎◌, ◌<◌, ◌≤◌, ◌^◌, false, true, [], Err, IfOk, OnOk, Some, option_map};
+ghost use Rattle.ba_cert.specs.Text.{text_of as certificate_of};
+ghost use Rattle.ba_cert.specs.Writing.{HoldsPrefix, IsUnbegun, is_sound, steps_at};
 ghost use Rattle.ba_world.specs.World.{HasWriteFault};
 ghost use Rattle.ba_derivations.specs.declared.verdict.Verdict.{Verdict};
 ghost use Rattle.ba_localise.specs.Verdicts.{told};
@@ -10,7 +11,7 @@ ghost use Rattle.ba_search.specs.declared.search.SearchError.{SearchError};
 ghost use Rattle.ba_steps.specs.Sinks.{Rose};
 ghost use Rattle.ba_tree.specs.Run.{are_bounds};
 ghost use Rattle.ba_tool.specs.Answers.{Searches, Tells};
-ghost use Rattle.ba_tool.specs.Calls.{Begins, Concludes, HandsAnswer, HasFaultOf, MayBegin, head_by};
+ghost use Rattle.ba_tool.specs.Calls.{Begins, Concludes, HandsAnswer, HasHandFault, LeavesPart, LeavesWritten, SearchLeaves, head_by};
 ghost use Rattle.ba_tool.specs.Cases.{IsCaseOf};
 ghost use Rattle.ba_answers.specs.declared.answers.Answer.{Answer};
 ghost use Rattle.ba_jobs.specs.declared.jobs.Job.{Job};
@@ -89,6 +90,8 @@ where
     requires keep { IsKeepRule (K.pre keep) (K.post keep) }
     ensures answer { IfOk result (λ answer. HandsAnswer job.now texts.now
         (told D.over D.logs D.faults steps.old) (told D.over D.logs D.faults steps.new) answer) }
+    ensures leaves { LeavesPart job.now texts.now case.now.program
+        (told D.over D.logs D.faults steps.old) (told D.over D.logs D.faults steps.new) }
     ensures cause { result ≡ Err SearchError.SinkFailed
         → Rose (D.faults steps.old) (D.faults steps.new) }
     ensures no_fall { D.faults steps.old ≤ D.faults steps.new }
@@ -134,6 +137,8 @@ where
     requires keep { IsKeepRule (K.pre rules.keep) (K.post rules.keep) }
     ensures answer { IfOk result (λ answer. HandsAnswer job.now texts.now
         (told D.over D.logs D.faults steps.old) (told D.over D.logs D.faults steps.new) answer) }
+    ensures leaves { LeavesPart job.now texts.now case.now.program
+        (told D.over D.logs D.faults steps.old) (told D.over D.logs D.faults steps.new) }
     ensures cause { result ≡ Err SearchError.SinkFailed
         → Rose (D.faults steps.old) (D.faults steps.new) }
     ensures no_fall { D.faults steps.old ≤ D.faults steps.new }
@@ -172,6 +177,8 @@ fn begin<W: World>(
     ensures no_step { OnOk result (steps_at head.now name.now (W.outside world.new)
         ≡ option_map (λ _. []) ((W.outside world.new).kept name.now)) }
     ensures begins { Begins head.now name.now (W.outside world.old) (W.outside world.new) }
+    ensures empty { IsUnbegun name.now (W.outside world.old) (W.outside world.new)
+        ⊎ HoldsPrefix name.now (certificate_of head.now []) (W.outside world.new) }
     ensures cause { result ≡ Err SearchError.SinkFailed
         → HasWriteFault (W.outside world.old) (W.outside world.new) }
 {
@@ -185,8 +192,9 @@ fn begin<W: World>(
 /// The same as [`locate_by`], with a certificate: its steps are written to the file of this name as
 /// they are made, and then handed on.
 ///
-/// `SinkFailed` comes only where a fault of writing rose, of the world or of `steps`; `Memory` for
-/// want of memory.
+/// `SinkFailed` comes only where the faults of `steps` and of the world's writing rose, which
+/// count together; `Memory` for want of memory. The file and `steps` then have the beginning of one
+/// derivation.
 fn certify<S, W, D, L, G, K>(
     alloc: Global,
     world: &mut W,
@@ -221,8 +229,11 @@ where
         (W.outside world.old) (W.outside world.new)
         (told D.over D.logs D.faults steps.old) (told D.over D.logs D.faults steps.new) answer) }
     ensures begins { Begins (head_by job.now) name.now (W.outside world.old) (W.outside world.new) }
+    ensures leaves { LeavesWritten job.now texts.now case.now.program name.now
+        (W.outside world.old) (W.outside world.new)
+        (told D.over D.logs D.faults steps.old) (told D.over D.logs D.faults steps.new) }
     ensures cause { result ≡ Err SearchError.SinkFailed
-        → HasFaultOf (W.outside world.old) (W.outside world.new)
+        → HasHandFault (Some name.now) (W.outside world.old) (W.outside world.new)
         (told D.over D.logs D.faults steps.old) (told D.over D.logs D.faults steps.new) }
     ensures no_fall { D.faults steps.old ≤ D.faults steps.new }
     ensures same_references { D.references steps.new ≡ D.references steps.old }
@@ -243,8 +254,9 @@ where
 /// What a search comes to; the derivation is handed to `steps`, and its steps are written to the
 /// file of this name, if one is named.
 ///
-/// `SinkFailed` comes only where a fault of writing rose, of the world or of `steps`; `Memory` for
-/// want of memory.
+/// `SinkFailed` comes only where the faults of `steps` rose, or, where a file is named, those of
+/// `steps` and of the world's writing together; `Memory` for want of memory. What was handed on
+/// before an error stays.
 pub fn conclude<W, D, L, G, K>(
     alloc: Global,
     world: &mut W,
@@ -272,10 +284,11 @@ where
     ensures answer { IfOk result (λ answer. Concludes job.now texts.now job.now.cert
         (W.outside world.old) (W.outside world.new)
         (told D.over D.logs D.faults steps.old) (told D.over D.logs D.faults steps.new) answer) }
-    ensures may { MayBegin (head_by job.now) job.now.cert
-        (W.outside world.old) (W.outside world.new) }
+    ensures leaves { SearchLeaves job.now texts.now case.now.program job.now.cert
+        (W.outside world.old) (W.outside world.new)
+        (told D.over D.logs D.faults steps.old) (told D.over D.logs D.faults steps.new) }
     ensures cause { result ≡ Err SearchError.SinkFailed
-        → HasFaultOf (W.outside world.old) (W.outside world.new)
+        → HasHandFault job.now.cert (W.outside world.old) (W.outside world.new)
         (told D.over D.logs D.faults steps.old) (told D.over D.logs D.faults steps.new) }
     ensures no_fall { D.faults steps.old ≤ D.faults steps.new }
     ensures same_references { D.references steps.new ≡ D.references steps.old }

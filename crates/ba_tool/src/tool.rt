@@ -7,7 +7,7 @@ ghost use Rattle.ba_search.specs.Rules.{IsKeepRule, IsRestartRule};
 ghost use Rattle.ba_search.specs.declared.search.SearchError.{SearchError};
 ghost use Rattle.ba_world.specs.Read.{piece_size};
 ghost use Rattle.ba_world.specs.World.{HasPrintShortage, HasWriteFault, OnlyPrints, Prints, PrintsPrefix};
-ghost use Rattle.ba_tool.specs.Calls.{Comes, EndsWith, HasFaultOf, IsDue, IsEndFor, IsEndOfCheck, IsEndOfSearch, IsShown, Proceeds, Says, Stops, StopsWith, TellsCheck, TellsFailing, WritesOnly, answer_for, call, most_given, most_of, head_by};
+ghost use Rattle.ba_tool.specs.Calls.{Comes, EndsWith, HasHandFault, IsDue, IsEndFor, IsEndOfCheck, IsEndOfSearch, IsShown, Proceeds, Says, Stops, StopsWith, TellsCheck, TellsFailing, WritesOnly, answer_for, call, most_given, most_of};
 ghost use Rattle.ba_answers.specs.Limits.{limit};
 ghost use Rattle.ba_jobs.specs.Jobs.{cert_of, request_of, steady_of, written_by};
 ghost use Rattle.ba_answers.specs.Printed.{text_of};
@@ -45,8 +45,8 @@ fn unread_answer(unread: Unread) -> Result<Answer, AllocError>
 /// What a job comes to where its files have these texts: they are judged, and where the run fails it
 /// searches for the least sets, or checks the certificate.
 ///
-/// `SinkFailed` comes only where a fault of writing rose, of the world or of `steps`; `Memory` for want
-/// of memory.
+/// `SinkFailed` comes only where the faults of `steps` rose, or, where a certificate is written,
+/// those of `steps` and of the world's writing together; `Memory` for want of memory.
 fn texts_answer<W, D, L, G, K>(
     alloc: Global,
     world: &mut W,
@@ -73,10 +73,11 @@ where
     ensures answer { IfOk result (λ answer. Proceeds job.now texts.now
         (W.outside world.old) (W.outside world.new)
         (told D.over D.logs D.faults steps.old) (told D.over D.logs D.faults steps.new) answer) }
-    ensures stops { IfErr result (λ _. StopsWith (head_by job.now)
-        (written_by job.now.task job.now.cert) (W.outside world.old) (W.outside world.new)) }
+    ensures stops { StopsWith job.now texts.now (W.outside world.old) (W.outside world.new)
+        (told D.over D.logs D.faults steps.old) (told D.over D.logs D.faults steps.new) }
     ensures cause { result ≡ Err SearchError.SinkFailed
-        → HasFaultOf (W.outside world.old) (W.outside world.new)
+        → HasHandFault (written_by job.now.task job.now.cert)
+        (W.outside world.old) (W.outside world.new)
         (told D.over D.logs D.faults steps.old) (told D.over D.logs D.faults steps.new) }
     ensures bounded { (W.outside world.new).given
         ≤ (W.outside world.old).given + most_of job.now.task }
@@ -92,8 +93,8 @@ where
 
 /// What a job comes to: its files are read whole, and then their texts are judged.
 ///
-/// `SinkFailed` comes only where a fault of writing rose, of the world or of `steps`; `Memory` for
-/// want of memory.
+/// `SinkFailed` comes only where the faults of `steps` rose, or, where a certificate is written,
+/// those of `steps` and of the world's writing together; `Memory` for want of memory.
 fn job_answer<W, D, L, G, K>(
     alloc: Global,
     world: &mut W,
@@ -117,10 +118,12 @@ where
     ensures answer { IfOk result (λ answer. Comes (Request.Wanted job.now)
         (W.outside world.old) (W.outside world.new)
         (told D.over D.logs D.faults steps.old) (told D.over D.logs D.faults steps.new) answer) }
-    ensures stops { IfErr result (λ _. Stops (Request.Wanted job.now)
-        (W.outside world.old) (W.outside world.new)) }
+    ensures stops { Stops (Request.Wanted job.now)
+        (W.outside world.old) (W.outside world.new)
+        (told D.over D.logs D.faults steps.old) (told D.over D.logs D.faults steps.new) }
     ensures cause { result ≡ Err SearchError.SinkFailed
-        → HasFaultOf (W.outside world.old) (W.outside world.new)
+        → HasHandFault (cert_of (Request.Wanted job.now))
+        (W.outside world.old) (W.outside world.new)
         (told D.over D.logs D.faults steps.old) (told D.over D.logs D.faults steps.new) }
     ensures bounded { (W.outside world.new).given
         ≤ (W.outside world.old).given + (3 * (limit + piece_size) + most_of job.now.task) }
@@ -135,8 +138,7 @@ where
 
 /// What a sample comes to: its text is judged, and its least sets are searched for.
 ///
-/// `SinkFailed` comes only where a fault of writing rose, of the world or of `steps`; `Memory` for want
-/// of memory.
+/// `SinkFailed` comes only where the faults of `steps` rose; `Memory` for want of memory.
 fn sample_answer<W, D, L, G, K>(
     alloc: Global,
     world: &mut W,
@@ -156,10 +158,12 @@ where
     ensures answer { IfOk result (λ answer. Comes (Request.Sample additions)
         (W.outside world.old) (W.outside world.new)
         (told D.over D.logs D.faults steps.old) (told D.over D.logs D.faults steps.new) answer) }
-    ensures stops { IfErr result (λ _. Stops (Request.Sample additions)
-        (W.outside world.old) (W.outside world.new)) }
+    ensures stops { Stops (Request.Sample additions)
+        (W.outside world.old) (W.outside world.new)
+        (told D.over D.logs D.faults steps.old) (told D.over D.logs D.faults steps.new) }
     ensures cause { result ≡ Err SearchError.SinkFailed
-        → HasFaultOf (W.outside world.old) (W.outside world.new)
+        → HasHandFault (cert_of (Request.Sample additions))
+        (W.outside world.old) (W.outside world.new)
         (told D.over D.logs D.faults steps.old) (told D.over D.logs D.faults steps.new) }
     ensures bounded { (W.outside world.new).given ≤ (W.outside world.old).given }
     ensures no_fall { D.faults steps.old ≤ D.faults steps.new }
@@ -173,8 +177,8 @@ where
 /// What a call comes to, before it is printed: it reads the words, then the files, and then judges their
 /// texts, and searches or checks.
 ///
-/// `SinkFailed` comes only where a fault of writing rose, of the world or of `steps`; `Memory` for
-/// want of memory.
+/// `SinkFailed` comes only where the faults of `steps` rose, or, where a certificate is written,
+/// those of `steps` and of the world's writing together; `Memory` for want of memory.
 fn answer<W, D, L, G, K>(
     alloc: Global,
     words: &[&str],
@@ -196,10 +200,12 @@ where
     ensures answer { IfOk result (λ answer. Comes (request_of (map (λ word. word.now) words.now))
         (W.outside world.old) (W.outside world.new)
         (told D.over D.logs D.faults steps.old) (told D.over D.logs D.faults steps.new) answer) }
-    ensures stops { IfErr result (λ _. Stops (request_of (map (λ word. word.now) words.now))
-        (W.outside world.old) (W.outside world.new)) }
+    ensures stops { Stops (request_of (map (λ word. word.now) words.now))
+        (W.outside world.old) (W.outside world.new)
+        (told D.over D.logs D.faults steps.old) (told D.over D.logs D.faults steps.new) }
     ensures cause { result ≡ Err SearchError.SinkFailed
-        → HasFaultOf (W.outside world.old) (W.outside world.new)
+        → HasHandFault (cert_of (request_of (map (λ word. word.now) words.now)))
+        (W.outside world.old) (W.outside world.new)
         (told D.over D.logs D.faults steps.old) (told D.over D.logs D.faults steps.new) }
     ensures bounded { (W.outside world.new).given
         ≤ (W.outside world.old).given + most_given (request_of (map (λ word. word.now) words.now)) }
@@ -257,8 +263,9 @@ fn finish<W: World>(alloc: Global, world: &mut W, answer: &Answer) -> Status
 /// refused line.
 ///
 /// It prints one text, made whole before. Where `steps` or the certificate fails, nothing is
-/// printed. Want of memory is the one answer that no clause ties to a cause. Every clause holds for
-/// all rules of the search that keep what is asked of them.
+/// printed, and both have the beginning of one derivation. Want of memory is the one answer that no
+/// clause ties to a cause. Every clause holds for all rules of the search that keep what is asked
+/// of them.
 pub fn tool<W, D, L, G, K>(
     alloc: Global,
     words: &[&str],

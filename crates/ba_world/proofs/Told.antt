@@ -1,7 +1,7 @@
 -- What a memory world tells, after what its calls do exactly.
 
 use Rattle.std.proofs.Common.{◌≡◌, ◌≢◌, ◌⊎◌, ℕ, ◌/◌, ◌<◌, min, Bool, true, false, cond, List, [], ◌∷◌, ◌++◌, length, take, drop, Option, None, Some, option_map, Result, Ok, Err, OnOk, IfOk, OnErr, IfSome, is_some, refl, sym, subst, ◌∙◌, ap, arith, inl, inr, append-nil, length-append}
-use Rattle.std.specs.Prelude.{option_and_then, unwrap_or}
+use Rattle.std.specs.Prelude.{option_and_then}
 use Rattle.std.specs.Option.{option_map_or}
 use Rattle.std.specs.Str.{bytes_eq}
 use Rattle.std.proofs.lemmas.Slice.Eq.{bytes_eq-Decides}
@@ -165,9 +165,7 @@ added_whole result bytes old new (ends e is) = rw e (go old.writing new.files (a
 pub held_in-written : (writing : Option (List ℕ)) (files after : List File) →
     ((other : List ℕ) → writing ≢ Some other → file_of after other ≡ file_of files other) →
     StaysButWritten writing (held_in files) (held_in after)
-held_in-written None files after stay = ([], λ other apart. held_in-same files after other (stay other (λ e. cc)))
-held_in-written (Some name) files after stay =
-    λ other apart. held_in-same files after other (stay other (λ e. apart (ap (λ o. unwrap_or o []) (sym e))))
+held_in-written writing files after stay = λ other apart. held_in-same files after other (stay other apart)
 
 -- the files after `begin_file`
 pub files-after_begin : (result : Result (Unit {0}) WorldError) (name : List ℕ) (old new : Memory)
@@ -194,14 +192,24 @@ begun_file result name old new none failed done (ends e is) made written =
       told = λ any there. written;
     }))
 
-pub writes_none : (result : Result (Unit {0}) WorldError) (new none failed done : Memory) →
+pub writes_none : (result : Result (Unit {0}) WorldError) (name : List ℕ)
+    (old new none failed done : Memory) →
     Ending result new none failed done → none.writing ≡ None → failed.writing ≡ None →
-    OnErr result (WritesNone (outside_of new))
-writes_none result new none failed done (without e is) of_none of_failed =
-    rw e (subst (λ (m : Memory). WritesNone (outside_of m)) (sym is) (record { closed = rw of_none refl; unnamed = of_none }))
-writes_none result new none failed done (fails e is) of_none of_failed =
-    rw e (subst (λ (m : Memory). WritesNone (outside_of m)) (sym is) (record { closed = rw of_failed refl; unnamed = of_failed }))
-writes_none result new none failed done (ends e is) of_none of_failed = rw e tt
+    none.files ≡ old.files → failed.files ≡ old.files →
+    OnErr result (WritesNone name (outside_of old) (outside_of new))
+writes_none result name old new none failed done (without e is) of_none of_failed same same_failed =
+    rw e (subst (λ (m : Memory). WritesNone name (outside_of old) (outside_of m)) (sym is) (record {
+      closed = rw of_none refl;
+      unnamed = of_none;
+      kept = inl (ap (λ files. kept_in files name) same);
+    }))
+writes_none result name old new none failed done (fails e is) of_none of_failed same same_failed =
+    rw e (subst (λ (m : Memory). WritesNone name (outside_of old) (outside_of m)) (sym is) (record {
+      closed = rw of_failed refl;
+      unnamed = of_failed;
+      kept = inl (ap (λ files. kept_in files name) same_failed);
+    }))
+writes_none result name old new none failed done (ends e is) of_none of_failed same same_failed = rw e tt
 
 -- the file that `open_file` opens
 pub after_open-opened : (name : List ℕ) (old : Memory) (end : After) → end ≡ after_open name old →

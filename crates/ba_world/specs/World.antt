@@ -11,7 +11,7 @@ pub record Outside : Type 0 where
   pub left : Option (List ℕ)
   -- the bytes added to the file begun under a name
   pub kept : List ℕ → Option (List ℕ)
-  -- the name of the file being written; a world that tells what it keeps tells this too
+  -- the name of the file being written; a world that tells what it holds or keeps tells this too
   pub writing : Option (List ℕ)
   -- all bytes printed
   pub printed : Option (List ℕ)
@@ -124,10 +124,9 @@ AppendsPrefix old new bytes = (count : ℕ) × Appends old new (take count bytes
 abbrev pub StaysBut : {T : Type 0} → List ℕ → (List ℕ → T) → (List ℕ → T) → Type 0
 StaysBut name old new = (other : List ℕ) → other ≢ name → new other ≡ old other
 
--- what is told of every name stays, but for the name of the file being written, whether that is told or not
+-- what is told of every name stays, but for the one that is told of the file being written
 abbrev pub StaysButWritten : {T : Type 0} → Option (List ℕ) → (List ℕ → T) → (List ℕ → T) → Type 0
-StaysButWritten None old new = (name : List ℕ) × StaysBut name old new
-StaysButWritten (Some name) old new = StaysBut name old new
+StaysButWritten writing old new = (other : List ℕ) → writing ≢ Some other → new other ≡ old other
 
 -- an empty file of this name is being written; where anything is told of what is kept, so is the name
 pub record IsBegun (name : List ℕ) (new : Outside) : Type 0 where
@@ -136,10 +135,11 @@ pub record IsBegun (name : List ℕ) (new : Outside) : Type 0 where
   pub named : IfSome new.writing (λ written. written ≡ name)
   pub told : (any : List ℕ) → IsSome (new.kept any) → new.writing ≡ Some name
 
--- no file is being written
-pub record WritesNone (new : Outside) : Type 0 where
+-- no file is being written, and what is kept under this name is as it was, or nothing
+pub record WritesNone (name : List ℕ) (old new : Outside) : Type 0 where
   pub closed : new.is_writing ≡ false
   pub unnamed : new.writing ≡ None
+  pub kept : (new.kept name ≡ old.kept name) ⊎ IfSome (new.kept name) (λ bytes. bytes ≡ [])
 
 -- of every file but the one of this name stays what is held and what is kept
 pub record OthersStay (name : List ℕ) (old new : Outside) : Type 0 where
@@ -158,7 +158,7 @@ pub record StillWrites (old new : Outside) : Type 0 where
   pub begun : new.is_writing ≡ old.is_writing
   pub named : new.writing ≡ old.writing
   pub held : StaysButWritten old.writing old.held new.held
-  pub kept : (other : List ℕ) → old.writing ≢ Some other → new.kept other ≡ old.kept other
+  pub kept : StaysButWritten old.writing old.kept new.kept
 
 -- the bytes were printed, where it is told what was; and some prefix of them was
 abbrev pub Prints : Outside → Outside → List ℕ → Type 0

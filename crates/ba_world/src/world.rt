@@ -65,10 +65,11 @@ pub trait World {
         ensures stays { OnlyReads (outside self.old) (outside self.new) };
 
     /// Makes an empty file of this name, in place of one that is there. It is the one that is written from
-    /// here on. After a refusal no file is being written.
+    /// here on. After a refusal no file is being written, and what is kept under this name is as it
+    /// was, or nothing.
     fn begin_file(&mut self, name: &str) -> Result<(), WorldError>
         ensures begun { OnOk result (IsBegun name.now (outside self.new)) }
-        ensures refused { OnErr result (WritesNone (outside self.new)) }
+        ensures refused { OnErr result (WritesNone name.now (outside self.old) (outside self.new)) }
         ensures cause { result ≡ Err WorldError.Failed
             → HasWriteFault (outside self.old) (outside self.new) }
         ensures others { OthersStay name.now (outside self.old) (outside self.new) }

@@ -125,7 +125,7 @@ returns-in-Err-clause-stays g c =
     let new = g.W.World.outside c.add.new.self in
     let sound = sym (sound-is head true name old) ∙ c.requires.sound in
     let follows = followed-sound head true name old.is_writing old.writing (old.kept name) sound in
-    others-stay name old new follows c.add.ensures.others.kept c.add.ensures.stays
+    others-stay name old new follows c.add.ensures.others c.add.ensures.stays
 
 pub returns-clause-stays : goal.returns-clause-stays
 returns-clause-stays g c =
@@ -137,7 +137,7 @@ returns-clause-stays g c =
     let new = g.W.World.outside c.add.new.self in
     let sound = sym (sound-is head true name old) ∙ c.requires.sound in
     let follows = followed-sound head true name old.is_writing old.writing (old.kept name) sound in
-    others-stay name old new follows c.add.ensures.others.kept c.add.ensures.stays
+    others-stay name old new follows c.add.ensures.others c.add.ensures.stays
 
 pub returns-clause-added : goal.returns-clause-added
 returns-clause-added g c =

@@ -1,4 +1,4 @@
-use Rattle.std.proofs.Common.{true, ◌∙◌}
+use Rattle.std.proofs.Common.{true, inr, ◌∙◌}
 use Rattle.ba_cert.specs.Text.{head_text}
 use Rattle.ba_cert.proofs.SinkLaws.{followed-begun, appended, prefixed, begun-sound, begun-head, begun-steps, sound-is, as-before}
 use Rattle.ba_cert.proofs.PrefixLaws.{begun-prefix, empty-prefix}
@@ -47,9 +47,9 @@ returns-in-Err-add-clause-prefix g c =
     let new = g.W.World.outside c.add.new.self in
     let begun = c.in_default.ensures.begun in
     let follows = followed-begun name mid.writing (mid.kept name) begun.named (begun.told name) in
-    λ _. begun-prefix head (mid.kept name) (new.kept name) begun.empty
+    inr (begun-prefix head (mid.kept name) (new.kept name) begun.empty
     (prefixed name mid.writing mid.kept new.kept c.as_slice.result.now (head_text head) follows
-    text_is c.add.ensures.prefix c.add.ensures.others.kept)
+    text_is c.add.ensures.prefix c.add.ensures.others.kept))
 
 pub returns-clause-prefix : goal.returns-clause-prefix
 returns-clause-prefix g c =
@@ -61,11 +61,11 @@ returns-clause-prefix g c =
     let new = g.W.World.outside c.add.new.self in
     let begun = c.in_default.ensures.begun in
     let follows = followed-begun name mid.writing (mid.kept name) begun.named (begun.told name) in
-    λ _. begun-prefix head (mid.kept name) (new.kept name) begun.empty
+    inr (begun-prefix head (mid.kept name) (new.kept name) begun.empty
     (prefixed name mid.writing mid.kept new.kept c.as_slice.result.now (head_text head) follows
-    text_is c.add.ensures.prefix c.add.ensures.others.kept)
+    text_is c.add.ensures.prefix c.add.ensures.others.kept))
 
 pub returns-in_err-lines-clause-prefix : goal.returns-in_err-lines-clause-prefix
 returns-in_err-lines-clause-prefix g c =
-    λ _. empty-prefix c.args.head.now ((g.W.World.outside c.begin_file.new.self).kept c.args.name.now)
-    c.in_default.ensures.begun.empty
+    inr (empty-prefix c.args.head.now ((g.W.World.outside c.begin_file.new.self).kept c.args.name.now)
+    c.in_default.ensures.begun.empty)

@@ -1,15 +1,12 @@
 use Rattle.std.proofs.Common.{◌∙◌, ◌+◌, ◌≤◌, sym, subst}
+use Rattle.ba_localise.specs.Verdicts.{told}
 use Rattle.ba_world.proofs.WholeReads.{only_reads_none}
-use Rattle.ba_tool.specs.Calls.{most_given}
+use Rattle.ba_tool.specs.Calls.{Stops, most_given}
 use Rattle.ba_jobs.specs.declared.jobs.Request.{Request}
 use Rattle.ba_tool.proofs.Bounded.{job_bounds, job_countable, sample_few}
-use Rattle.ba_tool.proofs.Coming.{if_err, refused_as, stops_read}
+use Rattle.ba_tool.proofs.Coming.{refused_as}
+use Rattle.ba_tool.proofs.Leaving.{reading_stops}
 use Rattle.ba_tool.proofs.tool.answer.Goals as goal
-
-pub returns-in_err-read_request-clause-stops : goal.returns-in_err-read_request-clause-stops
-returns-in_err-read_request-clause-stops g c =
-    let before = g.W.World.outside c.args.world.now in
-    if_err c.from_residual.result _ (stops_read _ _ before before (only_reads_none before))
 
 pub job_answer-requires-clause-bounds : goal.job_answer-requires-clause-bounds
 job_answer-requires-clause-bounds g c =
@@ -32,3 +29,25 @@ returns-in-Wanted-clause-bounded g c =
     subst (λ (r : Request). (g.W.World.outside c.job_answer.new.world).given
     ≤ (g.W.World.outside c.args.world.now).given + most_given r)
     (sym c.in-Wanted.is ∙ c.in_ok-read_request.ensures) c.job_answer.ensures.bounded
+
+pub returns-in_err-read_request-clause-stops : goal.returns-in_err-read_request-clause-stops
+returns-in_err-read_request-clause-stops g c = reading_stops _ _ _ _ (only_reads_none _)
+
+pub returns-in-Refused-clause-stops : goal.returns-in-Refused-clause-stops
+returns-in-Refused-clause-stops g c = reading_stops _ _ _ _ (only_reads_none _)
+
+pub returns-in-Sample-clause-stops : goal.returns-in-Sample-clause-stops
+returns-in-Sample-clause-stops g c =
+    subst (λ (r : Request). Stops r (g.W.World.outside c.args.world.now)
+    (g.W.World.outside c.sample_answer.new.world)
+    (told g.D.StepSink.over g.D.StepSink.logs g.D.StepSink.faults c.args.steps.now)
+    (told g.D.StepSink.over g.D.StepSink.logs g.D.StepSink.faults c.sample_answer.new.steps))
+    (sym c.in-Sample.is ∙ c.in_ok-read_request.ensures) c.sample_answer.ensures.stops
+
+pub returns-in-Wanted-clause-stops : goal.returns-in-Wanted-clause-stops
+returns-in-Wanted-clause-stops g c =
+    subst (λ (r : Request). Stops r (g.W.World.outside c.args.world.now)
+    (g.W.World.outside c.job_answer.new.world)
+    (told g.D.StepSink.over g.D.StepSink.logs g.D.StepSink.faults c.args.steps.now)
+    (told g.D.StepSink.over g.D.StepSink.logs g.D.StepSink.faults c.job_answer.new.steps))
+    (sym c.in-Wanted.is ∙ c.in_ok-read_request.ensures) c.job_answer.ensures.stops

@@ -55,7 +55,8 @@ begin_file-tells c =
     let stay = files-after_begin c.result c.args.name.now c.args.self.now c.new.self.now _ _ _ end refl refl refl in
     record {
       begun = begun_file c.result c.args.name.now c.args.self.now c.new.self.now _ _ _ end refl refl;
-      refused = writes_none c.result c.new.self.now _ _ _ end refl refl;
+      refused = writes_none c.result c.args.name.now c.args.self.now c.new.self.now _ _ _ end refl refl
+          refl refl;
       cause = search rules;
       others = record {
         held = λ other apart. held_in-same c.args.self.now.files c.new.self.now.files other (stay other apart);
