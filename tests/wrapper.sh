@@ -581,7 +581,7 @@ two_files 3 'refused: program, error 3.3 at 3:5' \
     'p.c:3:5: error 3.3: the name is not used as what it was declared, or what stands here is of a kind that cannot stand here\n    x = a; /* \303\244 */ y = 1;\n    ^'
 two_files 3 'refused: program, error 1.3 at 2:6' 'p.c:2:6: error 1.3: this word of C is left out\n\tint\tx;\n\t   \t^'
 two_files 3 'refused: program, error 3.1 at 3:21' \
-    'p.c:3:21: error 3.1: no declaration in scope has this name, or the function that is called has no definition\n    x = a; /* \303\244 */ y = 1;\n                   ^'
+    'p.c:3:21: error 3.1: no declaration in scope has this name or tag, or the function that is called has no definition\n    x = a; /* \303\244 */ y = 1;\n                   ^'
 two_files 3 'refused: program, error 2.1 at end' 'p.c: at the end: error 2.1: more has to follow the last token'
 two_files 3 'refused: program, error 3.5 at end' 'p.c: at the end: error 3.5: main has no definition'
 for code in 1.1 1.2 1.3 1.4 1.5 1.6 1.7 2.1 2.2 3.1 3.2 3.3 3.4 3.6 3.7 3.8 3.9; do

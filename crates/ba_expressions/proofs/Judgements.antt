@@ -1,5 +1,5 @@
 -- What is known of an expression from what the code keeps of it.
-use Rattle.std.proofs.Common.{◌≡◌, ℕ, ◌+◌, ℤ, pos, Bool, cond, Option, None, Some, Result, Ok, Err, List, [], ◌∷◌, sym, ◌∙◌, ap, subst}
+use Rattle.std.proofs.Common.{◌≡◌, ℕ, ◌+◌, ℤ, pos, Bool, cond, Option, None, Some, Result, Ok, Err, List, [], ◌∷◌, refl, sym, ◌∙◌, ap, subst}
 use Rattle.std.specs.Prelude.{option_map, option_and_then, IfOk, false, map}
 use Rattle.ba_numbers.specs.Numbers.{value_of}
 use Rattle.ba_numbers.specs.declared.ids.At.{At}
@@ -9,7 +9,7 @@ use Rattle.ba_numbers.specs.declared.numbers.CType.{CType}
 use Rattle.ba_numbers.specs.declared.numbers.CType.TheVariants.{I32}
 use Rattle.ba_numbers.specs.Types.{type_of_binary}
 use Rattle.ba_tree.specs.declared.tree.Expr.{Expr}
-use Rattle.ba_typing.specs.Expressions.{Typed, TypedCall, typed_called, expressions_of_args, placeholder, variable_tree, operator_over, typed_value, typed_binary, typed_select, typed_element, typed_with, tree_as, value_as, both_then, is_true, truth_of, element_type, array_of}
+use Rattle.ba_typing.specs.Expressions.{Typed, TypedCall, typed_called, expressions_of_args, placeholder, variable_tree, operator_over, typed_value, typed_binary, typed_select, typed_element, typed_name, typed_named, typed_with, tree_as, value_as, both_then, is_true, truth_of, element_type, array_of}
 use Rattle.ba_numbers.specs.Types.{working_type, right_type, promoted, usual}
 use Rattle.ba_typing.specs.Faults.{array_name_faults}
 use Rattle.ba_expressions.specs.Judging.{Judges, JudgesCall, are_constant, greatest_height, typed_from}
@@ -21,8 +21,8 @@ use Rattle.ba_expressions.specs.declared.judged.JudgedCall.{JudgedCall}
 use Rattle.ba_tree.specs.declared.tree.Expr as code
 use Rattle.ba_typing.proofs.TreeForms.{tree-Call, tree-Var}
 use Rattle.ba_typing.specs.declared.names.Operator.TheVariants.{AndAlso, OrElse}
-use Rattle.ba_typing.specs.Names.{is_array_entry}
-use Rattle.ba_typing.specs.declared.meanings.Entry.{Entry}
+use Rattle.ba_typing.specs.Names.{is_array_object}
+use Rattle.ba_typing.specs.declared.meanings.Object.{Object}
 use Rattle.ba_typing.specs.declared.meanings.Meaning.{Meaning}
 use Rattle.ba_typing.specs.declared.meanings.Meaning.TheVariants as meaning
 
@@ -152,7 +152,15 @@ called-is at j c height higher is =
     ∙ ap (λ args. tree.call c.call c.function (args_of args)) is.args)
 
 -- a variable of one value
-pub variable-is : (m : Meaning) (e : Entry) → m ≡ meaning.Variable e → is_array_entry e ≡ false
+pub variable-is : (m : Meaning) (e : Object) → m ≡ meaning.Variable e → is_array_object e ≡ false
     → tree_of_expr (code.Var e.var) ≡ variable_tree m
 variable-is m e is single = tree-Var e.var
     ∙ sym (ap variable_tree is ∙ ap (λ b. cond b placeholder (tree.var e.var)) single)
+
+-- a name that is no constant's
+pub other-name : (at : At) (name : List ℕ) (m : Meaning) → ((z : ℤ) → m ≡ meaning.Constant z → ⊥)
+    → typed_named at name m ≡ typed_name at name m
+other-name at name meaning.Unknown other = refl
+other-name at name meaning.Function other = refl
+other-name at name (meaning.Variable e) other = refl
+other-name at name (meaning.Constant z) other = absurd (other z refl)

@@ -8,7 +8,7 @@ use Rattle.ba_tokens.specs.declared.token.TokenKind.TheVariants as kind
 use Rattle.ba_numbers.specs.declared.ids.At.{At}
 use Rattle.ba_numbers.specs.declared.numbers.CType.{CType}
 use Rattle.ba_numbers.specs.declared.numbers.UnOp.{UnOp}
-use Rattle.ba_typing.specs.Expressions.{Typed, TypedCall, typed_unary, typed_cast, typed_binary, typed_select, typed_element, typed_constant_kind, typed_called}
+use Rattle.ba_typing.specs.Expressions.{Typed, TypedCall, typed_unary, typed_cast, typed_binary, typed_select, typed_element, typed_constant_kind, typed_called, with_more_faults}
 use Rattle.ba_typing.specs.Faults.{fault_if, array_name_faults}
 use Rattle.ba_expressions.specs.Judging.{Gives, Judges, JudgesCall, Stands, after, with_faults}
 use Rattle.ba_typing.specs.declared.fault.Cause.TheVariants.{WrongKind}
@@ -45,6 +45,25 @@ pub cast-faults : (at : At) (t : Option CType) (s : Typed)
     → (typed_cast at t s).faults ≡ fault_if (not (is_some t)) WrongKind at ++ s.faults
 cast-faults at None s = refl
 cast-faults at (Some t) s = append-nil s.faults
+
+-- the fault of the tag stands before the cast's own
+pub tagged-faults : (at : At) (t : Option CType) (tag : List Fault) (s : Typed)
+    → (with_more_faults tag (typed_cast at t s)).faults
+    ≡ (tag ++ fault_if (not (is_some t)) WrongKind at) ++ s.faults
+tagged-faults at t tag s = ap (λ xs. tag ++ xs) (cast-faults at t s)
+    ∙ sym (append_assoc tag (fault_if (not (is_some t)) WrongKind at) s.faults)
+
+tagged-cast : (at : At) (t : Option CType) (tag : List Fault) (a j : Judged)
+    → ((s : Typed) → Judges a s → Judges j (typed_cast at t s))
+    → (s : Typed) → Judges a s → Judges j (with_more_faults tag (typed_cast at t s))
+tagged-cast at t tag a j more s is = ap (with_more_faults tag) (more s is)
+
+pub tagged-casts : {E : Type 0} (at : At) (t : Option CType) (tag : List Fault) (a : Judged)
+    (r : Result Judged E)
+    → IfOk r (λ j. (s : Typed) → Judges a s → Judges j (typed_cast at t s))
+    → IfOk r (λ j. (s : Typed) → Judges a s → Judges j (with_more_faults tag (typed_cast at t s)))
+tagged-casts at t tag a (Ok j) more = tagged-cast at t tag a j more
+tagged-casts at t tag a (Err e) more = more
 
 pub element-calls : (at : At) (m : Meaning) (s : Typed) → (typed_element at m s).calls ≡ s.calls
 element-calls at m s = zero-more s.calls

@@ -1,6 +1,6 @@
 -- How what the code finds out about a program stands to what the definitions say of it.
 
-use Rattle.std.specs.Prelude.{◌≡◌, ℕ, ◌+◌, ◌-◌, Bool, true, ◌&&◌, nat_lt, nat_le, cond, Option, None, Some, Result, Ok, Err, List, [], ◌∷◌, ◌++◌, map, flat_map}
+use Rattle.std.specs.Prelude.{◌≡◌, ℕ, ◌+◌, Bool, true, ◌&&◌, nat_lt, nat_le, cond, Option, None, Some, Result, Ok, Err, List, [], ◌∷◌, ◌++◌, map, flat_map}
 use Rattle.std.specs.Global.{Box}
 use Rattle.std.specs.List.{list_all}
 use Rattle.ba_trees.specs.declared.tree.expressions.Chain.{Chain, out-Chain}

@@ -13,8 +13,8 @@ use crate::judged;
 use crate::judged::{Judged, JudgedCall};
 use crate::tally::Tally;
 use crate::uses::{
-    CallUse, add_array_name_faults, add_call_faults, add_height_fault, add_value_name_faults,
-    function_of, param_of, result_of,
+    CallUse, add_array_name_faults, add_call_faults, add_height_fault, add_tag_faults,
+    add_value_name_faults, function_of, param_of, result_of,
 };
 use ba_numbers::numbers::{CType, convert};
 use ba_scopes::scopes::Scope;
@@ -22,7 +22,9 @@ use ba_tokens::token::{Token, TokenKind};
 use ba_trees::tree::expressions::{Arguments, Chain, Conditional, Operand, Primary, Unary};
 use ba_typing::fault::Cause;
 use ba_typing::meanings::{ParamType, Signature};
-use ba_typing::names::{binary_operator, is_void, name_of, punct_of, type_named, unary_operator};
+use ba_typing::names::{
+    binary_operator, is_void, name_of, punct_of, tag_of_type, type_named, unary_operator,
+};
 use std::alloc::{AllocError, Global};
 
 /// An expression in a scope: what there is to say of it, and its calls and faults.
@@ -142,6 +144,7 @@ fn unary<'a>(
             ..
         } => {
             let to = type_named(name);
+            add_tag_faults(tag_of_type(name), scope, tally);
             tally.add_if(is_void(to), Cause::WrongKind, open.at);
             let a = unary(alloc, scope, operand, tally)?;
             judged::cast(alloc, open.at, to, a)

@@ -1,11 +1,11 @@
 //! What is found out about an expression, from what is found out about its operands (C90 6.3).
 
-ghost use Rattle.std.specs.Prelude.{◌≡◌, ◌&&◌, [], ◌∷◌, List, cond, option_map, IfOk};
+ghost use Rattle.std.specs.Prelude.{◌≡◌, ◌&&◌, [], ◌∷◌, List, Some, cond, option_map, IfOk};
 ghost use Rattle.ba_numbers.specs.Numbers.{value_of_one};
 ghost use Rattle.ba_numbers.specs.Types.{same_type, type_of_unary};
-ghost use Rattle.ba_typing.specs.Expressions.{Typed, TypedCall, array_of, element_type, placeholder, operator_over, typed_binary, typed_called, typed_cast, typed_constant, typed_element, typed_name, typed_select, typed_unary, typed_value, typed_with, tree_as, value_as, variable_tree, variable_type};
+ghost use Rattle.ba_typing.specs.Expressions.{Typed, TypedCall, array_of, element_type, placeholder, operator_over, typed_binary, typed_called, typed_cast, typed_constant, typed_element, typed_name, typed_named, typed_select, typed_unary, typed_value, typed_with, tree_as, value_as, variable_tree, variable_type};
 ghost use Rattle.ba_expressions.specs.Judging.{AreOperands, Judges, JudgesCall};
-ghost use Rattle.ba_typing.specs.Names.{is_array_entry};
+ghost use Rattle.ba_typing.specs.Names.{is_array_object};
 ghost use Rattle.ba_tree.specs.Trees.{convert, tree_of_expr, unary};
 ghost use Rattle.ba_typing.specs.declared.fault.Fault.{Fault};
 ghost use Rattle.ba_typing.specs.declared.names.Operator.TheVariants.{AndAlso, OrElse};
@@ -18,7 +18,7 @@ use ba_numbers::types::{
     promoted, right_type, same_type, type_of_binary, type_of_unary, usual, working_type,
 };
 use ba_tree::tree::{Arg, Expr, Shape};
-use ba_typing::meanings::{Entry, Meaning};
+use ba_typing::meanings::{Meaning, Object};
 use ba_typing::names::Operator;
 use ba_typing::text::Text;
 use std::alloc::{AllocError, Global};
@@ -93,6 +93,21 @@ impl<'a> Judged<'a> {
     {
         let from = self.t;
         tree_as(alloc, from, t, self.expr)
+    }
+
+    /// The same expression as the name that it is.
+    fn called(self, name: Text<'a>) -> Judged<'a>
+        ensures { (s : Typed) → Judges self.entry s → Judges result (record s { name = Some name.entry }) }
+    {
+        Judged {
+            first: self.first,
+            name: Some(name),
+            height: self.height,
+            is_constant: self.is_constant,
+            t: self.t,
+            expr: self.expr,
+            value: self.value,
+        }
     }
 
     /// The same expression behind an opening parenthesis at this position.
@@ -348,11 +363,26 @@ fn named<'a>(j: Judged<'a>, name: Option<Text<'a>>) -> Judged<'a>
     }
 }
 
-/// A name where a value is wanted, of this meaning (C90 6.3.1).
+/// A name where a value is wanted, of this meaning (C90 6.3.1). An enumeration constant is a constant of `int` (C90 6.1.3.3).
 ///
 /// The one error is want of memory, which never comes.
-pub fn name<'a>(at: At, name: Text<'a>, meaning: &Meaning<'a>) -> Result<Judged<'a>, AllocError>
+pub fn name<'a>(at: At, name: Text<'a>, meaning: &Meaning) -> Result<Judged<'a>, AllocError>
     ensures { IfOk result (λ j. Judges j (typed_name at name.entry meaning.now)) }
+{
+    match meaning {
+        Meaning::Constant(value) => {
+            let j = constant(at, CType::I32, *value)?;
+            Ok(j.called(name))
+        }
+        _ => name_of_variable(at, name, meaning),
+    }
+}
+
+/// A name of another meaning.
+///
+/// The one error is want of memory, which never comes.
+fn name_of_variable<'a>(at: At, name: Text<'a>, meaning: &Meaning) -> Result<Judged<'a>, AllocError>
+    ensures { IfOk result (λ j. Judges j (typed_named at name.entry meaning.now)) }
 {
     let expr = variable_tree(meaning);
     let j = over(at, Operands::none(), variable_type(meaning), expr, None)?;
@@ -364,14 +394,14 @@ fn variable_tree(meaning: &Meaning) -> Expr
     ensures { tree_of_expr result ≡ variable_tree meaning.now }
 {
     match meaning {
-        Meaning::Variable(entry) => {
-            if is_array(entry) {
+        Meaning::Variable(object) => {
+            if is_array(object) {
                 placeholder()
             } else {
-                Expr::Var { var: entry.var }
+                Expr::Var { var: object.var }
             }
         }
-        Meaning::Unknown | Meaning::Function => placeholder(),
+        Meaning::Unknown | Meaning::Function | Meaning::Constant(_) => placeholder(),
     }
 }
 
@@ -390,7 +420,7 @@ pub fn variable_type(meaning: &Meaning) -> CType
     ensures { result ≡ variable_type meaning.now }
 {
     match meaning {
-        Meaning::Variable(entry) if !is_array(entry) => entry.variable.t,
+        Meaning::Variable(object) if !is_array(object) => object.variable.t,
         _ => CType::I32,
     }
 }
@@ -401,7 +431,7 @@ pub fn variable_type(meaning: &Meaning) -> CType
 pub fn element<'a>(
     alloc: Global,
     at: At,
-    meaning: &Meaning<'a>,
+    meaning: &Meaning,
     index: Judged<'a>,
 ) -> Result<Judged<'a>, AllocError>
     ensures { IfOk result (λ j. (s : Typed) → Judges index.entry s →
@@ -420,7 +450,7 @@ pub fn array_of(meaning: &Meaning) -> VarId
     ensures { result ≡ array_of meaning.now }
 {
     match meaning {
-        Meaning::Variable(entry) if is_array(entry) => entry.var,
+        Meaning::Variable(object) if is_array(object) => object.var,
         _ => VarId(0),
     }
 }
@@ -430,7 +460,7 @@ pub fn element_type(meaning: &Meaning) -> CType
     ensures { result ≡ element_type meaning.now }
 {
     match meaning {
-        Meaning::Variable(entry) if is_array(entry) => entry.variable.t,
+        Meaning::Variable(object) if is_array(object) => object.variable.t,
         _ => CType::I32,
     }
 }
@@ -461,10 +491,10 @@ pub fn called<'a>(at: At, call: JudgedCall) -> Result<Judged<'a>, AllocError>
 }
 
 /// Whether a variable is an array.
-pub fn is_array(entry: &Entry) -> bool
-    ensures { result ≡ is_array_entry entry.now }
+pub fn is_array(object: &Object) -> bool
+    ensures { result ≡ is_array_object object.now }
 {
-    match entry.variable.shape {
+    match object.variable.shape {
         Shape::Value => false,
         Shape::Array(_) | Shape::Passed => true,
     }

@@ -2,7 +2,7 @@
 
 ghost use Rattle.std.specs.Prelude.{◌≡◌, ◌==◌, cond, option_map, slice_get, []};
 ghost use Rattle.ba_typing.specs.Expressions.{array_given, function_of, named_array, params_of_called, result_of};
-ghost use Rattle.ba_typing.specs.Faults.{array_name_faults, call_faults, count_of_params, definition_faults, height_limit, limit_faults, value_name_faults};
+ghost use Rattle.ba_typing.specs.Faults.{array_name_faults, call_faults, count_of_params, definition_faults, height_limit, limit_faults, tag_faults, target_name_faults, value_name_faults};
 ghost use Rattle.ba_expressions.specs.Judging.{with_faults};
 ghost use Rattle.ba_typing.specs.Names.{is_main_name};
 
@@ -12,8 +12,10 @@ use ba_numbers::ids::{At, FnId, VarId};
 use ba_numbers::numbers::CType;
 use ba_numbers::types::same_type;
 use ba_scopes::scopes::Scope;
+use ba_tokens::token::Token;
 use ba_typing::fault::Cause;
 use ba_typing::meanings::{Meaning, ParamType, Signature};
+use ba_typing::names::name_of;
 use ba_typing::text::Text;
 
 /// How a call is used: as a value or as a statement, and the position of the name that is called.
@@ -30,7 +32,8 @@ pub fn add_value_name_faults(meaning: &Meaning, at: At, tally: &mut Tally)
     match meaning {
         Meaning::Unknown => tally.add_if(true, Cause::UnknownName, at),
         Meaning::Function => tally.add_if(true, Cause::WrongKind, at),
-        Meaning::Variable(entry) => tally.add_if(is_array(entry), Cause::WrongKind, at),
+        Meaning::Variable(object) => tally.add_if(is_array(object), Cause::WrongKind, at),
+        Meaning::Constant(_) => {}
     }
 }
 
@@ -41,7 +44,29 @@ pub fn add_array_name_faults(meaning: &Meaning, at: At, tally: &mut Tally)
     match meaning {
         Meaning::Unknown => tally.add_if(true, Cause::UnknownName, at),
         Meaning::Function => tally.add_if(true, Cause::WrongKind, at),
-        Meaning::Variable(entry) => tally.add_if(!is_array(entry), Cause::WrongKind, at),
+        Meaning::Variable(object) => tally.add_if(!is_array(object), Cause::WrongKind, at),
+        Meaning::Constant(_) => tally.add_if(true, Cause::WrongKind, at),
+    }
+}
+
+/// That of an enumeration constant's name that is assigned to.
+pub fn add_target_name_faults(meaning: &Meaning, at: At, tally: &mut Tally)
+    ensures { tally.new ≡ with_faults tally.old (target_name_faults meaning.now at) }
+{
+    match meaning {
+        Meaning::Constant(_) => tally.add_if(true, Cause::WrongKind, at),
+        Meaning::Unknown | Meaning::Function | Meaning::Variable(_) => {}
+    }
+}
+
+/// That of a tag without a list, where no tag of its name is in scope.
+pub fn add_tag_faults<'a>(tag: Option<&'a Token>, scope: &Scope<'a>, tally: &mut Tally)
+    ensures { tally.new ≡ with_faults tally.old
+        (tag_faults scope.now (option_map (λ t. t.now) tag.entry)) }
+{
+    if let Some(tag) = tag {
+        let is_known = scope.is_tag_known(&name_of(tag));
+        tally.add_if(!is_known, Cause::UnknownName, tag.at);
     }
 }
 
@@ -59,7 +84,9 @@ pub fn add_call_faults(
 {
     match meaning {
         Meaning::Unknown => tally.add_if(true, Cause::UnknownName, call.at),
-        Meaning::Variable(_) => tally.add_if(true, Cause::WrongKind, call.at),
+        Meaning::Variable(_) | Meaning::Constant(_) => {
+            tally.add_if(true, Cause::WrongKind, call.at);
+        }
         Meaning::Function => {
             tally.add_if(is_main(name), Cause::WrongKind, call.at);
             add_definition_faults(definition, call, arguments, tally);
@@ -170,13 +197,13 @@ fn array_given(t: Option<CType>, meaning: &Meaning) -> Option<VarId>
 {
     let t = t?;
     match meaning {
-        Meaning::Variable(entry) => {
-            if is_array(entry) && same_type(entry.variable.t, t) {
-                Some(entry.var)
+        Meaning::Variable(object) => {
+            if is_array(object) && same_type(object.variable.t, t) {
+                Some(object.var)
             } else {
                 None
             }
         }
-        Meaning::Unknown | Meaning::Function => None,
+        Meaning::Unknown | Meaning::Function | Meaning::Constant(_) => None,
     }
 }

@@ -5,7 +5,7 @@ use Rattle.std.specs.List.{list_any}
 use Rattle.std.specs.Map.{lookup}
 use Rattle.std.specs.Str.{bytes_eq}
 use Rattle.ba_tokens.specs.declared.token.Keyword.{Keyword}
-use Rattle.ba_tokens.specs.declared.token.Keyword.TheVariants.{Char, Short, Int, Long, Signed, Unsigned, Void, Const, Static, If, Else, Switch, Case, Default, While, Do, For, Break, Continue, Return, Assert, Printf}
+use Rattle.ba_tokens.specs.declared.token.Keyword.TheVariants.{Char, Short, Int, Long, Signed, Unsigned, Void, Enum, Const, Static, If, Else, Switch, Case, Default, While, Do, For, Break, Continue, Return, Assert, Printf}
 use Rattle.ba_tokens.specs.declared.token.Punct.{Punct}
 use Rattle.ba_tokens.specs.declared.token.Punct.TheVariants.{OpenBrace, CloseBrace, OpenParenthesis, CloseParenthesis, OpenBracket, CloseBracket, Semicolon, Comma, Question, Colon, Tilde, Exclamation, Plus, Minus, Star, Slash, Percent, Ampersand, Bar, Caret, Assign, Less, Greater, Dot, Increment, Decrement, ShiftLeft, ShiftRight, LessEqual, GreaterEqual, Equal, NotEqual, AndAnd, OrOr, PlusAssign, MinusAssign, StarAssign, SlashAssign, PercentAssign, AmpersandAssign, CaretAssign, BarAssign, Arrow, ShiftLeftAssign, ShiftRightAssign, Ellipsis}
 
@@ -20,6 +20,7 @@ keywords =
     (codes "signed", Signed) ∷
     (codes "unsigned", Unsigned) ∷
     (codes "void", Void) ∷
+    (codes "enum", Enum) ∷
     (codes "const", Const) ∷
     (codes "static", Static) ∷
     (codes "if", If) ∷
@@ -46,7 +47,6 @@ abbrev pub refused_words : List (List ℕ)
 refused_words =
     codes "auto" ∷
     codes "double" ∷
-    codes "enum" ∷
     codes "extern" ∷
     codes "float" ∷
     codes "goto" ∷

@@ -31,6 +31,8 @@ pub(crate) fn keyword_of(word: &[u8]) -> Option<Keyword>
         Some(Keyword::Unsigned)
     } else if is_spelled(word, "void") {
         Some(Keyword::Void)
+    } else if is_spelled(word, "enum") {
+        Some(Keyword::Enum)
     } else if is_spelled(word, "const") {
         Some(Keyword::Const)
     } else if is_spelled(word, "static") {
@@ -73,8 +75,6 @@ pub(crate) fn is_refused(word: &[u8]) -> bool
     if is_spelled(word, "auto") {
         true
     } else if is_spelled(word, "double") {
-        true
-    } else if is_spelled(word, "enum") {
         true
     } else if is_spelled(word, "extern") {
         true

@@ -1,6 +1,6 @@
 -- What counts a level: what its trees begin with, some tree, and one for each token that it may begin with.
 
-use Rattle.std.proofs.Common.{◌≡◌, ℕ, zero, suc, true, false, not, ◌&&◌, ◌||◌, [], ◌∷◌, Some, refl}
+use Rattle.std.proofs.Common.{◌≡◌, ℕ, zero, suc, Bool, true, false, not, ◌&&◌, ◌||◌, if◌then◌else◌, [], ◌∷◌, Some, refl}
 use Rattle.ba_tokens.specs.declared.token.Keyword.{Keyword}
 use Rattle.ba_tokens.specs.declared.token.Keyword.TheVariants as keyword
 use Rattle.ba_tokens.specs.declared.token.Punct.{Punct}
@@ -8,18 +8,19 @@ use Rattle.ba_tokens.specs.declared.token.Punct.TheVariants as punct
 use Rattle.ba_trees.specs.declared.class.TokenClass.{TokenClass}
 use Rattle.ba_trees.specs.declared.class.TokenClass.TheVariants as class
 use Rattle.ba_trees.specs.Classes.{Classes, class_of, only, word, mark, ◌or◌, declaration_word, type_word, names_type}
-use Rattle.ba_trees.specs.Marks.{leaf, node_of, is_else, type_name, parameters, parameter, array_length, declarators, declarator, braced, declaration, block, statement, group, label, for_first, simples, simple, target, arguments, conditional, chain, unary, primary}
-use Rattle.ba_parse.specs.Grammar.{Part, is_nothing, is_words, is_rule, is_second, nothing, token, words, rule, many, deeper, ◌·◌, ◌∣◌, maybe, key, sign, name, in_parentheses, in_brackets, in_braces, type_words, prefix_sign, step_sign, operand, chained, expression, semicolon, controlled, condition}
+use Rattle.ba_trees.specs.Marks.{leaf, node_of, is_else, type_name, specifiers, enumerators, enumerator, parameters, parameter, array_length, declarators, declarator, braced, declaration, block, statement, group, label, for_first, simples, simple, target, arguments, conditional, chain, unary, primary}
+use Rattle.ba_parse.specs.Grammar.{Part, is_nothing, is_words, is_rule, is_second, nothing, token, words, rule, many, deeper, ◌·◌, ◌∣◌, maybe, key, sign, name, in_parentheses, in_brackets, in_braces, behind_words, type_words, declaration_words, has_enumerators, declared, prefix_sign, step_sign, operand, chained, expression, semicolon, controlled, condition}
 use Rattle.ba_parse.specs.Readings.{operand_start, statement_start, label_start, item_start, simple_start}
 use Rattle.ba_parse.proofs.Certified.{First, Sample}
 use Rattle.ba_parse.proofs.Combined.{Example}
 use Rattle.ba_parse.proofs.Repeated.{sample_many}
 use Rattle.ba_parse.proofs.Tables.{everywhere, or_not}
 use Rattle.ba_parse.proofs.WordReadings.{good_words}
+use Rattle.ba_parse.proofs.BehindWords.{sample_behind}
 use Rattle.ba_parse.proofs.StatementReadings.{sample_no_else}
 use Rattle.ba_parse.proofs.Goods.{sample_after, sample_first, sample_second}
-use Rattle.ba_parse.proofs.ExpressionReadings.{token_of, example, for_start, for_head, printed}
-use Rattle.ba_parse.proofs.Starts.{FromAll, Blank, first_token, first_then, first_skip, first_or_else, first_maybe, first_node, first_rule, first_of_many, sample_token, sample_nothing, sample_maybe, sample_node, sample_rule, sample_deeper, from_token, from_then, from_first, from_second, from_behind, from_both, from_either, from_node, from_rule, from_many}
+use Rattle.ba_parse.proofs.ExpressionReadings.{enumerator_list, token_of, example, for_start, for_head, printed}
+use Rattle.ba_parse.proofs.Starts.{FromAll, Blank, first_token, first_then, first_skip, first_or_else, first_maybe, first_node, first_rule, first_of_many, sample_token, sample_nothing, sample_maybe, sample_node, sample_rule, sample_deeper, from_token, from_then, from_after, from_first, from_second, from_behind, from_both, from_either, from_node, from_rule, from_many}
 
 -- TOKENS
 
@@ -156,15 +157,43 @@ from_other_word = record {
   };
 }
 
-pub first_type_words : First (type_words false) (declaration_word false) false
-first_type_words = first_node type_name (good_words 0 false).first
+from_words : FromAll (words false) (declaration_word false)
+from_words = from_both (declaration_word false) from_type_word from_other_word refl
 
-pub sample_type_words : Sample (type_words false)
-sample_type_words = sample_node type_name refl (good_words 0 false).sample
+pub first_type_words : First type_words (declaration_word false) false
+first_type_words = first_node type_name (first_then (good_words 0 false).first)
 
-pub from_type_words : FromAll (type_words false) (declaration_word false)
-from_type_words = from_node type_name refl (from_both (declaration_word false) from_type_word from_other_word
-    refl)
+pub sample_type_words : Sample type_words
+sample_type_words = sample_node type_name refl
+    (sample_after {k = behind_words false name} (good_words 0 false).sample
+    (sample_behind false name name_sample (good_words 0 false).sample.tree))
+
+pub from_type_words : FromAll type_words (declaration_word false)
+from_type_words = from_node type_name refl
+    (from_after (behind_words false name) from_words (sample_behind false name name_sample))
+
+-- ENUMERATORS
+
+first_enumerator : First (rule enumerator) (only class.Name) false
+first_enumerator = first_rule enumerator (first_then (first_token (only class.Name)))
+
+pub first_enumerators : First enumerator_list (only class.Name) false
+first_enumerators = first_then first_enumerator
+
+sample_behind_first : Sample (many (sign punct.Comma · rule enumerator) · maybe (sign punct.Comma))
+sample_behind_first = sample_after (sample_many (sign punct.Comma · rule enumerator))
+    (sample_maybe (sign punct.Comma))
+
+pub sample_enumerators : Sample enumerator_list
+sample_enumerators = sample_after
+    (sample_rule enumerator refl (sample_after name_sample (sample_maybe (sign punct.Assign · expression))))
+    sample_behind_first
+
+pub from_enumerators : FromAll enumerator_list (only class.Name)
+from_enumerators = from_then
+    (from_rule enumerator refl
+    (from_then (from_token (only class.Name)) (sample_maybe (sign punct.Assign · expression))))
+    sample_behind_first
 
 -- DECLARATIONS
 
@@ -182,12 +211,28 @@ sample_declarators = sample_rule declarators refl (sample_after sample_declarato
 semicolon_sample : Sample semicolon
 semicolon_sample = sign_sample punct.Semicolon refl refl
 
+abbrev enumerated : Part
+enumerated = name · maybe (rule enumerators) ∣ rule enumerators
+
+sample_enumerated : Sample enumerated
+sample_enumerated = sample_first (sample_after name_sample (sample_maybe (rule enumerators)))
+
 first_declaration : First (rule declaration) (declaration_word false) false
-first_declaration = first_rule declaration (first_then first_type_words)
+first_declaration = first_rule declaration
+    (first_then (first_then (first_node specifiers (first_then (good_words 0 false).first))))
+
+from_declaration_words : FromAll (declaration_words false) (declaration_word false)
+from_declaration_words = from_node specifiers refl
+    (from_after (behind_words false enumerated) from_words (sample_behind false enumerated sample_enumerated))
+
+sample_declared_if : (x : Bool) → Sample (if x then maybe (rule declarators) else rule declarators)
+sample_declared_if true = sample_maybe (rule declarators)
+sample_declared_if false = sample_declarators
 
 from_declaration : FromAll (rule declaration) (declaration_word false)
 from_declaration = from_rule declaration refl
-    (from_then from_type_words (sample_after sample_declarators semicolon_sample))
+    (from_then (from_after declared from_declaration_words (λ f. sample_declared_if (has_enumerators f)))
+    semicolon_sample)
 
 pub first_parameter : First (rule parameter) (declaration_word false) false
 first_parameter = first_rule parameter (first_then first_type_words)
@@ -410,7 +455,7 @@ from_for_first =
 blank_for_first : Blank (rule for_first)
 blank_for_first = record {
   tree = node_of for_first [];
-  spelled = is_rule for_first [] (is_second (type_words false · rule declarators) (rule simples ∣ nothing) []
+  spelled = is_rule for_first [] (is_second (type_words · rule declarators) (rule simples ∣ nothing) []
       (is_second (rule simples) nothing [] is_nothing));
   no_leaf = refl;
   pairs = λ next. refl;

@@ -14,9 +14,9 @@ use Rattle.ba_parse.proofs.Tables.{lies_in, outside}
 use Rattle.ba_parse.proofs.Goods.{Good, good_more}
 use Rattle.ba_parse.proofs.ExpressionReadings.{Below, after_a_name, up_to, in_expression_goes, but_closing, but_parenthesis, but_brace, good_expression, good_arguments, good_unary, good_operand1, good_operand2, good_operand3, good_operand4, good_operand5, good_operand6, good_operand7, good_operand8, good_operand9, good_operand10}
 use Rattle.ba_parse.proofs.StatementReadings.{good_maybe_expression, good_statement, good_groups}
-use Rattle.ba_parse.proofs.DeclarationReadings.{good_type_words, good_parameters, good_items, good_for_head, good_printed, good_file}
+use Rattle.ba_parse.proofs.DeclarationReadings.{good_type_words, good_enumerator_list, good_parameters, good_items, good_for_head, good_printed, good_file}
 use Rattle.ba_parse.proofs.Starts.{FromAll, first_then, first_maybe, sample_deeper, from_first}
-use Rattle.ba_parse.proofs.Contents.{first_unary, first_chained, first_expression, sample_unary, sample_chained, sample_expression, from_unary, from_chained, from_expression, first_arguments, from_arguments, first_type_words, sample_type_words, from_type_words, first_parameter, first_parameters, from_parameters, sample_statement, first_statement, sample_for_head, from_statement, first_group, first_groups, from_groups, first_item, first_items, from_items, first_for_head, from_for_head, first_printed, printed_sample, from_printed}
+use Rattle.ba_parse.proofs.Contents.{first_enumerators, sample_enumerators, from_enumerators, first_unary, first_chained, first_expression, sample_unary, sample_chained, sample_expression, from_unary, from_chained, from_expression, first_arguments, from_arguments, first_type_words, sample_type_words, from_type_words, first_parameter, first_parameters, from_parameters, sample_statement, first_statement, sample_for_head, from_statement, first_group, first_groups, from_groups, first_item, first_items, from_items, first_for_head, from_for_head, first_printed, printed_sample, from_printed}
 
 deeper_begins : {a : Part} {starts : Classes} {empty : Bool} → First a starts empty →
     First (deeper a) starts empty
@@ -162,6 +162,7 @@ below_none = record {
       (node_of parameters []) empty_parameters refl;
   below_length = good_shallow_or_empty but_closing (first_maybe first_expression refl)
       (from_first from_expression) [] empty_length refl;
+  below_enumerators = good_shallow but_brace first_enumerators from_enumerators sample_enumerators;
   below_block = good_shallow_or_empty but_brace first_items from_items [] empty_block refl;
   below_statement = good_shallow none first_statement from_statement sample_statement;
   below_groups = good_shallow_or_empty but_brace first_groups from_groups [] empty_groups refl;
@@ -173,7 +174,7 @@ below_one_more : (n : ℕ) (inner : Inner) → Below n inner → Below (suc n) (
 below_one_more n inner b = record {
   below_expression = good_deeper (good_expression n inner b);
   below_arguments = good_deeper (good_arguments n inner b);
-  below_cast = good_deeper (good_more (declaration_word false) but_closing (good_type_words n inner b false)
+  below_cast = good_deeper (good_more (declaration_word false) but_closing (good_type_words n inner b)
       refl);
   below_unary = good_deeper (good_unary n inner b);
   below_chained1 = good_deeper (good_operand1 n inner b);
@@ -188,6 +189,7 @@ below_one_more n inner b = record {
   below_chained10 = good_deeper (good_operand10 n inner b);
   below_parameters = good_deeper (good_parameters n inner b);
   below_length = good_deeper (good_more operand_start but_closing (good_maybe_expression n inner b) refl);
+  below_enumerators = good_deeper (good_enumerator_list n inner b);
   below_block = good_deeper (good_items n inner b);
   below_statement = good_deeper (good_statement n inner b);
   below_groups = good_deeper (good_groups n inner b);

@@ -12,9 +12,9 @@ use Rattle.std.specs.Prelude.{pos}
 use Rattle.ba_trees.specs.declared.class.TokenClass.{TokenClass}
 use Rattle.ba_trees.specs.declared.class.TokenClass.TheVariants as class
 use Rattle.ba_trees.specs.Classes.{Classes, class_of, only, word, mark, ◌or◌, declaration_word}
-use Rattle.ba_trees.specs.Marks.{Mark, yield, is_else, parameters, declaration, statement, group, for_first, simples, arguments, conditional, chain, unary, primary}
+use Rattle.ba_trees.specs.Marks.{Mark, yield, is_else, enumerator, parameters, declaration, statement, group, for_first, simples, arguments, conditional, chain, unary, primary}
 use Rattle.ba_parse.specs.Grammar.{Part, Spells, token, rule, many, deeper, grammar, ◌·◌, ◌∣◌, maybe, key, sign, name, in_parentheses, in_brackets, type_words, prefix_sign, operator, operand, chained, expression, semicolon}
-use Rattle.ba_parse.specs.Readings.{Reading, Inner, Inside, in_parameters, in_length, in_block, in_statement, in_groups, in_for, in_printf, in_expression, in_arguments, in_cast, in_unary, in_chained, deeper_in, read_sign, read_key, read_name, read_token, next_is, ◌▹◌, operand_start, statement_start, label_start, item_start, simple_start, read_parenthesized, read_bracketed, after_name, read_primary, is_cast, read_unary, read_chain, read_operand, read_branches, read_expression, read_arguments, read_either}
+use Rattle.ba_parse.specs.Readings.{Reading, Inner, Inside, in_parameters, in_length, in_enumerators, in_block, in_statement, in_groups, in_for, in_printf, in_expression, in_arguments, in_cast, in_unary, in_chained, deeper_in, read_sign, read_key, read_name, read_token, next_is, ◌▹◌, operand_start, statement_start, label_start, item_start, simple_start, read_parenthesized, read_bracketed, after_name, read_primary, is_cast, read_unary, read_chain, read_operand, read_branches, read_expression, read_arguments, read_either}
 use Rattle.ba_parse.proofs.Forests.{yield_node}
 use Rattle.ba_parse.proofs.Certified.{Opened, opened}
 use Rattle.ba_parse.proofs.Combined.{none, Example}
@@ -91,12 +91,15 @@ for_head = rule for_first · semicolon · maybe expression · semicolon · maybe
 abbrev pub printed : Part
 printed = token (only class.Quoted) · many (token (only class.Quoted)) · many (sign punct.Comma · expression)
 
+abbrev pub enumerator_list : Part
+enumerator_list = rule enumerator · many (sign punct.Comma · rule enumerator) · maybe (sign punct.Comma)
+
 pub record Below (n : ℕ) (inner : Inner) : Type 0 where
   pub below_expression : Good n (deeper expression) operand_start false in_expression_goes
       (deeper_in inner in_expression)
   pub below_arguments : Good n (deeper (rule arguments)) operand_start true but_closing
       (deeper_in inner in_arguments)
-  pub below_cast : Good n (deeper (type_words false)) (declaration_word false) false but_closing
+  pub below_cast : Good n (deeper type_words) (declaration_word false) false but_closing
       (deeper_in inner in_cast)
   pub below_unary : Good n (deeper (rule unary)) operand_start false after_a_name (deeper_in inner in_unary)
   pub below_chained1 : Good n (deeper (chained 1)) operand_start false (up_to 1)
@@ -123,6 +126,8 @@ pub record Below (n : ℕ) (inner : Inner) : Type 0 where
       (deeper_in inner in_parameters)
   pub below_length : Good n (deeper (maybe expression)) operand_start true but_closing
       (deeper_in inner in_length)
+  pub below_enumerators : Good n (deeper enumerator_list) (only class.Name) false but_brace
+      (deeper_in inner in_enumerators)
   pub below_block : Good n (deeper (many (rule declaration ∣ rule statement))) item_start true but_brace
       (deeper_in inner in_block)
   pub below_statement : Good n (deeper (rule statement)) statement_start false none
@@ -254,11 +259,11 @@ module _ (n : ℕ) (inner : Inner) (b : Below n inner) where
       ap (λ x. two (mark punct.OpenParenthesis) (declaration_word false) (x ++ rest)) (ap yield o.2
       ∙ yield_node primary o.0) ∙ no_cast_part o.0 rest o.1
 
-  cast_in_parentheses : Good n (in_parentheses (type_words false)) (mark punct.OpenParenthesis) false none
+  cast_in_parentheses : Good n (in_parentheses type_words) (mark punct.OpenParenthesis) false none
       (read_parenthesized inner in_cast)
   cast_in_parentheses = parenthesized inner in_cast b.below_cast refl refl
 
-  good_cast : Good n (in_parentheses (type_words false) · deeper (rule unary)) (mark punct.OpenParenthesis)
+  good_cast : Good n (in_parentheses type_words · deeper (rule unary)) (mark punct.OpenParenthesis)
       false after_a_name
       (read_parenthesized inner in_cast ▹ deeper_in inner in_unary)
   good_cast = good_then after_a_name cast_in_parentheses b.below_unary refl

@@ -6,7 +6,7 @@ use Rattle.ba_trees.specs.declared.class.TokenClass.{TokenClass}
 use Rattle.ba_trees.specs.Classes.{Classes, class_of}
 use Rattle.ba_trees.specs.Marks.{Rule, Mark, leaf, node_of, yield, first_or, is_else, is_no_else, no_else_lost}
 use Rattle.ba_parse.specs.Grammar.{Part, Spells, is_nothing, is_token, is_node, is_rule, is_after, is_first, is_second, nothing, token, node, rule, after, either, many, grammar, ◌·◌, maybe}
-use Rattle.ba_parse.specs.Readings.{Reading, next_is, read_token, read_nothing, read_node, read_either, read_maybe, read_many, ◌▹◌}
+use Rattle.ba_parse.specs.Readings.{Reading, next_is, read_token, read_nothing, read_node, read_either, read_maybe, read_many, read_after, ◌▹◌}
 use Rattle.ba_parse.proofs.Forests.{yield_append, yield_node, pairs_append}
 use Rattle.ba_parse.proofs.Certified.{Opened, opened, head_of, always, Reads, BeginsWith, First, Sample, Follows, reads_after, and_true, and_left, and_right, false_is_true, calm_or, calm_append}
 use Rattle.ba_parse.proofs.Combined.{none, Example, reads_nothing, reads_token, reads_same, reads_fewer, reads_node, reads_rule, node_pairs}
@@ -84,7 +84,7 @@ abbrev pub may_follow : Classes → Classes → Bool → Classes → Classes →
 may_follow goes_first starts empty goes_second goes = are_apart starts goes_first
     && ((not empty || lies_in goes_first goes) && lies_in goes_second goes)
 
-or_true : (b c : Bool) → (not b || c) ≡ true → b ≡ true → c ≡ true
+pub or_true : (b c : Bool) → (not b || c) ≡ true → b ≡ true → c ≡ true
 or_true true c h e = h
 or_true false c h e = absurd (false_is_true e)
 
@@ -104,25 +104,33 @@ follows_of goes_first starts empty goes_second goes h =
           (lies_in goes_second goes) rest);
     }
 
+-- the second part may depend on the tree of the first
+pub good_after : {n : ℕ} {a : Part} {starts second goes_first goes_second : Classes} {empty : Bool}
+    {r : Reading} → (k : List Mark → Part) (s : List Mark → Reading) (goes : Classes) →
+    Good n a starts false goes_first r → ((f : List Mark) → Good n (k f) second empty goes_second (s f)) →
+    may_follow goes_first second empty goes_second goes ≡ true →
+    Good n (after a k) starts false goes (read_after r s)
+good_after {n} {a} {starts} {second} {goes_first} {goes_second} {empty} {r} k s goes p q h = record {
+  reads =
+      reads_after n a k r s goes_first goes_second goes second empty always p.reads
+      (λ f u. (q f).reads) (λ f u. (q f).first) (λ f u. (q f).sample)
+      (follows_of goes_first second empty goes_second goes h);
+  first = record {
+    begins = λ f u.
+        let o : Opened (after a k) f = opened u in
+        subst (λ x. BeginsWith starts false (yield x)) (sym o.4)
+        (subst (BeginsWith starts false) (sym (yield_append o.0 o.1)) (begins_keep starts (yield o.0)
+        (yield o.1) (p.first.begins o.0 o.2)));
+  };
+  sample = sample_after p.sample (q p.sample.tree).sample;
+}
+
 pub good_then : {n : ℕ} {a b : Part} {starts second goes_first goes_second : Classes} {empty : Bool}
     {r s : Reading} → (goes : Classes) →
     Good n a starts false goes_first r → Good n b second empty goes_second s → may_follow goes_first second
     empty goes_second goes ≡ true →
     Good n (a · b) starts false goes (r ▹ s)
-good_then {n} {a} {b} {starts} {second} {goes_first} {goes_second} {empty} {r} {s} goes p q h = record {
-  reads =
-      reads_after n a (λ f. b) r (λ f. s) goes_first goes_second goes second empty always p.reads
-      (λ f u. q.reads) (λ f u. q.first) (λ f u. q.sample)
-      (follows_of goes_first second empty goes_second goes h);
-  first = record {
-    begins = λ f u.
-        let o : Opened (a · b) f = opened u in
-        subst (λ x. BeginsWith starts false (yield x)) (sym o.4)
-        (subst (BeginsWith starts false) (sym (yield_append o.0 o.1)) (begins_keep starts (yield o.0)
-        (yield o.1) (p.first.begins o.0 o.2)));
-  };
-  sample = sample_after p.sample q.sample;
-}
+good_then {b = b} {s = s} goes p q h = good_after (λ f. b) (λ f. s) goes p (λ f. q) h
 
 pub good_skip : {n : ℕ} {a b : Part} {starts second goes_first goes_second : Classes} {empty : Bool}
     {r s : Reading} → (more goes : Classes) →
@@ -326,6 +334,20 @@ good_same {n} {a} {b} {starts} {goes} {empty} {r} there back p = record {
         p.sample.pairs;
     calm = p.sample.calm;
   };
+}
+
+-- the part is said to be empty in some trees
+may_be_empty : (starts : Classes) (ts : List Token) → BeginsWith starts false ts →
+    BeginsWith starts true ts
+may_be_empty starts [] b = absurd (false_is_true b)
+may_be_empty starts (t ∷ ts) b = b
+
+pub good_empty : {n : ℕ} {a : Part} {starts goes : Classes} {r : Reading} → Good n a starts false goes r →
+    Good n a starts true goes r
+good_empty {n} {a} {starts} p = record {
+  reads = p.reads;
+  first = record { begins = λ f u. may_be_empty starts (yield f) (p.first.begins f u) };
+  sample = p.sample;
 }
 
 -- more classes are said to begin or go on

@@ -8,6 +8,7 @@ pub mod Goods
 pub mod Lookahead
 pub mod ExpressionReadings
 pub mod WordReadings
+pub mod BehindWords
 pub mod Braced
 pub mod StatementReadings
 pub mod DeclarationReadings
@@ -26,5 +27,6 @@ pub mod StatementBegins
 pub mod StatementForms
 pub mod Quiet
 pub mod Named
+pub mod EnumeratedTypes
 pub mod ToldOutcomes
 pub mod Sequences

@@ -140,11 +140,12 @@ from_token classes = record {
   };
 }
 
-then_from : {a b : Part} {t : Token} → From a t → Sample b → From (a · b) t
-then_from {a} {b} e s = record {
+then_from : {a : Part} {k : List Mark → Part} {t : Token} → (e : From a t) → Sample (k e.tree) →
+    From (after a k) t
+then_from {a} {k} e s = record {
   tree = e.tree ++ s.tree;
   beyond = e.beyond ++ yield s.tree;
-  spelled = is_after a (λ f. b) e.tree s.tree e.spelled s.spelled;
+  spelled = is_after a k e.tree s.tree e.spelled s.spelled;
   yields = yield_append e.tree s.tree ∙ ap (λ x. x ++ yield s.tree) e.yields;
   pairs = λ next k.
       pairs_append e.tree s.tree next
@@ -153,7 +154,15 @@ then_from {a} {b} e s = record {
 }
 
 pub from_then : {a b : Part} {starts : Classes} → FromAll a starts → Sample b → FromAll (a · b) starts
-from_then f s = record { from = λ t h. then_from (f.from t h) s }
+from_then {a} {b} f s = record { from = λ t h. then_from {k = λ g. b} (f.from t h) s }
+
+pub from_after : {a : Part} {starts : Classes} → (k : List Mark → Part) → FromAll a starts →
+    ((f : List Mark) → Sample (k f)) → FromAll (after a k) starts
+from_after k f s = record {
+  from = λ t h.
+      let e : From _ t = f.from t h in
+      then_from {k = k} e (s e.tree);
+}
 
 first_from : {a b : Part} {t : Token} → From a t → From (either a b) t
 first_from {a} {b} e = record {

@@ -9,8 +9,8 @@ use Rattle.ba_trees.specs.declared.class.TokenClass.{TokenClass}
 use Rattle.ba_parse.specs.declared.reader.Stop.{Stop}
 use Rattle.ba_parse.specs.declared.reader.Stop.TheVariants as stop
 use Rattle.ba_trees.specs.Classes.{class_of, type_word, declaration_word}
-use Rattle.ba_trees.specs.Marks.{Mark, leaf, node_of, type_name}
-use Rattle.ba_parse.specs.Readings.{Answer, done, syntax, too_deep, with_front, next_is, words_after, after_words, around}
+use Rattle.ba_trees.specs.Marks.{Mark, leaf}
+use Rattle.ba_parse.specs.Readings.{Answer, done, syntax, too_deep, with_front, next_is, words_after, after_words}
 use Rattle.ba_parse.specs.Telling.{Told, next_word, agrees_with}
 
 abbrev pub leaves : List Token → List Mark
@@ -126,7 +126,7 @@ words-turn whole static ws all w ts mid h d push =
 pub words-stop : (s : Stop) (whole : Answer) (static : Bool) (ws : List Token) (ts rest : List Token) →
     whole ≡ with_front (leaves ws) (words_after static (classes ws) ts) → next_is (declaration_word static) ts
     ≡ true → Told {A = List Mark} (λ f. f) (Err s) (next_word static (classes ws) ts) rest →
-    Told {A = List Mark} (λ f. f) (Err s) (around type_name whole) rest
+    Told {A = List Mark} (λ f. f) (Err s) whole rest
 words-stop stop.Syntax whole static ws ts rest h next d = rw (h, word-stop static ws ts rest next d) refl
 words-stop stop.TooDeep whole static ws ts rest h next d = absurd (never_deep static ws ts rest d)
 words-stop stop.Memory whole static ws ts rest h next d = tt
@@ -134,8 +134,7 @@ words-stop stop.Memory whole static ws ts rest h next d = tt
 -- or ends.
 pub words-all : (whole : Answer) (static : Bool) (ws : List Token) (ts : List Token) →
     whole ≡ with_front (leaves ws) (words_after static (classes ws) ts) → next_is (declaration_word static) ts
-    ≡ false → list_any type_word (classes ws) ≡ true → around type_name whole
-    ≡ done (node_of type_name (leaves ws)) ts
+    ≡ false → list_any type_word (classes ws) ≡ true → whole ≡ done (leaves ws) ts
 words-all whole static ws ts h next some = rw (
   h,
   words-end static (classes ws) ts next,
@@ -145,5 +144,5 @@ words-all whole static ws ts h next some = rw (
 
 pub words-none : (whole : Answer) (static : Bool) (ws : List Token) (ts : List Token) →
     whole ≡ with_front (leaves ws) (words_after static (classes ws) ts) → next_is (declaration_word static) ts
-    ≡ false → list_any type_word (classes ws) ≡ false → around type_name whole ≡ syntax ts
+    ≡ false → list_any type_word (classes ws) ≡ false → whole ≡ syntax ts
 words-none whole static ws ts h next some = rw (h, words-end static (classes ws) ts next, some) refl

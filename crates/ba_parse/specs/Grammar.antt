@@ -1,7 +1,8 @@
 -- The grammar (C90 6.3 to 6.7, in this profile), as a relation between its parts and trees written out.
 
-use Rattle.std.specs.Prelude.{◌≡◌, ℕ, Bool, true, false, not, ◌||◌, List, [], ◌∷◌, ◌++◌, map}
+use Rattle.std.specs.Prelude.{◌≡◌, ℕ, Bool, true, false, not, ◌&&◌, ◌||◌, if◌then◌else◌, List, [], ◌∷◌, ◌++◌, map}
 use Prim.Native.Nat.{zero, suc}
+use Rattle.std.specs.List.{list_any}
 use Rattle.ba_tokens.specs.declared.token.Token.{Token}
 use Rattle.ba_tokens.specs.declared.token.Keyword.{Keyword}
 use Rattle.ba_tokens.specs.declared.token.Keyword.TheVariants as keyword
@@ -9,11 +10,10 @@ use Rattle.ba_tokens.specs.declared.token.Punct.{Punct}
 use Rattle.ba_tokens.specs.declared.token.Punct.TheVariants as punct
 use Rattle.ba_trees.specs.declared.class.TokenClass.TheVariants as class
 use Rattle.ba_trees.specs.Classes.{Classes, class_of, only, word, mark, ◌or◌, names_type}
-use Rattle.ba_trees.specs.Marks.{Rule, Mark, leaf, enter, leave, down, up, node_of, one_deeper, yield, file, external, type_name, parameters, parameter, no_name, array_length, declarators, declarator, braced, declaration, block, statement, no_else, group, label, for_first, simples, simple, target, arguments, conditional, chain, unary, primary}
+use Rattle.ba_trees.specs.Marks.{Rule, Mark, leaf, enter, leave, down, up, node_of, one_deeper, yield, file, external, type_name, specifiers, enumerators, enumerator, parameters, parameter, no_name, array_length, declarators, declarator, braced, declaration, block, statement, no_else, group, label, for_first, simples, simple, target, arguments, conditional, chain, unary, primary}
 
 -- What stands on the right side of a rule. `after a k` is a part and then one that may depend on it; `words
--- static`
--- are the words that name a type; `deeper` counts a level.
+-- static` are the words that name a type, or those up to an `enum`; `deeper` counts a level.
 pub data Part : Type 0 where
   nothing : Part
   token : Classes → Part
@@ -62,9 +62,59 @@ in_braces a = sign punct.OpenBrace · deeper a · sign punct.CloseBrace
 abbrev pub semicolon : Part
 semicolon = sign punct.Semicolon
 
--- the words that name a type, with `static` where it is accepted
-abbrev pub type_words : Bool → Part
-type_words static = node type_name (words static)
+-- TYPES (C90 6.5.2, 6.5.3)
+
+-- the marks hold a token of these classes
+abbrev pub has_class : Classes → List Mark → Bool
+has_class classes f = list_any (λ t. classes (class_of t)) (yield f)
+
+-- `const` and `static` where they are still to come, each at most once
+abbrev pub qualifiers_left : Bool → Bool → Part
+qualifiers_left false false = nothing
+qualifiers_left true false = maybe (key keyword.Const)
+qualifiers_left false true = maybe (key keyword.Static)
+qualifiers_left true true =
+    key keyword.Const · maybe (key keyword.Static)
+    ∣ key keyword.Static · maybe (key keyword.Const)
+    ∣ nothing
+
+abbrev pub qualifiers_behind : Bool → List Mark → Part
+qualifiers_behind static f = qualifiers_left (not (has_class (word keyword.Const) f))
+    (static && not (has_class (word keyword.Static) f))
+
+-- what follows the words of a type: behind `enum` its tag or what may stand for it, and the words that are
+-- still to come
+abbrev pub behind_words : Bool → Part → List Mark → Part
+behind_words static tag f =
+    if has_class (word keyword.Enum) f then tag · qualifiers_behind static f else nothing
+
+-- the words that name a type
+abbrev pub type_words : Part
+type_words = node type_name (after (words false) (behind_words false name))
+
+-- those of a declaration of a file or of a block: `static` where it is accepted, and the constants of an
+-- enumerated type
+abbrev pub declaration_words : Bool → Part
+declaration_words static =
+    node specifiers
+    (after (words static) (behind_words static (name · maybe (rule enumerators) ∣ rule enumerators)))
+
+-- the marks hold the constants of an enumerated type
+abbrev pub is_enumerators : Rule → Bool
+is_enumerators enumerators = true
+is_enumerators r = false
+
+abbrev pub has_enumerators : List Mark → Bool
+has_enumerators [] = false
+has_enumerators (leaf t ∷ ms) = has_enumerators ms
+has_enumerators (enter r ∷ ms) = is_enumerators r || has_enumerators ms
+has_enumerators (leave r ∷ ms) = has_enumerators ms
+has_enumerators (down ∷ ms) = has_enumerators ms
+has_enumerators (up ∷ ms) = has_enumerators ms
+
+-- declarators, which may be absent behind such constants
+abbrev pub declared : List Mark → Part
+declared f = if has_enumerators f then maybe (rule declarators) else rule declarators
 
 -- OPERATORS
 
@@ -172,10 +222,16 @@ statement_part =
 -- the right side of a rule; the words of a type, and what is absent, stand in nodes of their own
 abbrev pub grammar : Rule → Part
 grammar file = many (rule external)
-grammar external = type_words true · (function_tail ∣ rule declarators · semicolon)
+grammar external =
+    after (declaration_words true) (λ f. if has_enumerators f then maybe (rule declarators) · semicolon
+    else function_tail ∣ rule declarators · semicolon)
 grammar type_name = nothing
+grammar specifiers = nothing
+grammar enumerators =
+    in_braces (rule enumerator · many (sign punct.Comma · rule enumerator) · maybe (sign punct.Comma))
+grammar enumerator = name · maybe (sign punct.Assign · expression)
 grammar parameters = listed (rule parameter) ∣ nothing
-grammar parameter = type_words false · (name ∣ node no_name nothing) · maybe (rule array_length)
+grammar parameter = type_words · (name ∣ node no_name nothing) · maybe (rule array_length)
 grammar no_name = nothing
 grammar array_length = in_brackets (maybe expression)
 grammar declarators = listed (rule declarator)
@@ -183,7 +239,7 @@ grammar declarator = name · maybe (rule array_length) · maybe (sign punct.Assi
 grammar braced =
     sign punct.OpenBrace · expression · many (sign punct.Comma · expression) · maybe (sign punct.Comma) · sign
     punct.CloseBrace
-grammar declaration = type_words false · rule declarators · semicolon
+grammar declaration = after (declaration_words false) declared · semicolon
 grammar block = in_braces (many (rule declaration ∣ rule statement))
 grammar statement = statement_part
 grammar no_else = nothing
@@ -191,7 +247,7 @@ grammar group = rule label · many (rule statement)
 grammar label =
     key keyword.Case · expression · sign punct.Colon
     ∣ key keyword.Default · sign punct.Colon
-grammar for_first = type_words false · rule declarators ∣ rule simples ∣ nothing
+grammar for_first = type_words · rule declarators ∣ rule simples ∣ nothing
 grammar simples = listed (rule simple)
 grammar simple =
     token step_sign · rule target
@@ -204,7 +260,7 @@ grammar conditional = operand 10 · maybe (sign punct.Question · deeper express
 grammar (chain n) = token (operator n) · deeper (chained n)
 grammar unary =
     token prefix_sign · deeper (rule unary)
-    ∣ in_parentheses (type_words false) · deeper (rule unary)
+    ∣ in_parentheses type_words · deeper (rule unary)
     ∣ rule primary
 grammar primary =
     name · (in_brackets expression ∣ maybe (in_parentheses (rule arguments)))

@@ -1,6 +1,5 @@
 -- What each function of the parser gives: the tree of a part, written out, with the tokens that are left; or
--- the tokens
--- from the refused one on. These are no definitions of the grammar: laws lead from here to it.
+-- the tokens from the refused one on. These are no definitions of the grammar: laws lead from here to it.
 
 use Rattle.std.specs.Prelude.{ℕ, Bool, true, false, not, ◌&&◌, if◌then◌else◌, List, [], ◌∷◌, ◌++◌, length}
 use Prim.Native.Nat.{zero, suc}
@@ -13,8 +12,8 @@ use Rattle.ba_tokens.specs.declared.token.Punct.TheVariants as punct
 use Rattle.ba_trees.specs.declared.class.TokenClass.{TokenClass}
 use Rattle.ba_trees.specs.declared.class.TokenClass.TheVariants as class
 use Rattle.ba_trees.specs.Classes.{Classes, class_of, only, word, mark, ◌or◌, type_word, declaration_word, agree}
-use Rattle.ba_trees.specs.Marks.{Rule, Mark, leaf, node_of, one_deeper, file, external, type_name, parameters, parameter, no_name, array_length, declarators, declarator, braced, declaration, block, statement, no_else, group, label, for_first, simples, simple, target, arguments, conditional, chain, unary, primary}
-use Rattle.ba_parse.specs.Grammar.{prefix_sign, step_sign, assign_sign, operator, takes_block}
+use Rattle.ba_trees.specs.Marks.{Rule, Mark, leaf, node_of, one_deeper, file, external, type_name, specifiers, enumerators, enumerator, parameters, parameter, no_name, array_length, declarators, declarator, braced, declaration, block, statement, no_else, group, label, for_first, simples, simple, target, arguments, conditional, chain, unary, primary}
+use Rattle.ba_parse.specs.Grammar.{prefix_sign, step_sign, assign_sign, operator, takes_block, has_class, has_enumerators}
 
 pub data Answer : Type 0 where
   done : List Mark → List Token → Answer
@@ -49,6 +48,10 @@ lowered (too_deep rest) = too_deep rest
 infixr 6 ◌▹◌
 abbrev pub ◌▹◌ : Reading → Reading → Reading
 (r ▹ s) ts = then_read (r ts) (λ f. s)
+
+-- a reading, and then one that depends on the tree that it gave
+abbrev pub read_after : Reading → (List Mark → Reading) → Reading
+read_after r k ts = then_read (r ts) k
 
 abbrev pub read_nothing : Reading
 read_nothing ts = done [] ts
@@ -105,14 +108,34 @@ words_after static before (t ∷ ts) =
     (words_after static (before ++ class_of t ∷ []) ts) else syntax (t ∷ ts))
     else after_words before (t ∷ ts)
 
-abbrev pub read_type_words : Bool → Reading
-read_type_words static = read_node type_name (words_after static [])
+-- `const` and `static` where they are still to come
+abbrev pub read_qualifiers_left : Bool → Bool → Reading
+read_qualifiers_left false false = read_nothing
+read_qualifiers_left true false = read_maybe (word keyword.Const) (read_key keyword.Const)
+read_qualifiers_left false true = read_maybe (word keyword.Static) (read_key keyword.Static)
+read_qualifiers_left true true =
+    read_either (next_is (word keyword.Const))
+    (read_key keyword.Const ▹ read_maybe (word keyword.Static) (read_key keyword.Static))
+    (read_maybe (word keyword.Static)
+    (read_key keyword.Static ▹ read_maybe (word keyword.Const) (read_key keyword.Const)))
+
+abbrev pub read_qualifiers_behind : Bool → List Mark → Reading
+read_qualifiers_behind static f = read_qualifiers_left (not (has_class (word keyword.Const) f))
+    (static && not (has_class (word keyword.Static) f))
+
+abbrev pub read_behind_words : Bool → Reading → List Mark → Reading
+read_behind_words static tag f = if has_class (word keyword.Enum) f then tag ▹ read_qualifiers_behind static f
+    else read_nothing
+
+abbrev pub read_type_words : Reading
+read_type_words = read_node type_name (read_after (words_after false []) (read_behind_words false read_name))
 
 -- WHAT COUNTS A LEVEL, by what is in it
 
 pub data Inside : Type 0 where
   in_parameters : Inside
   in_length : Inside
+  in_enumerators : Inside
   in_block : Inside
   in_statement : Inside
   in_groups : Inside
@@ -148,6 +171,7 @@ item_start = declaration_word false or statement_start
 abbrev pub starts_of : Inside → Classes
 starts_of in_parameters = declaration_word false
 starts_of in_length = operand_start
+starts_of in_enumerators = only class.Name
 starts_of in_block = item_start
 starts_of in_statement = statement_start
 starts_of in_groups = label_start
@@ -163,6 +187,7 @@ starts_of (in_chained n) = operand_start
 abbrev pub when_empty : Inside → Reading
 when_empty in_parameters = read_node parameters read_nothing
 when_empty in_length = read_nothing
+when_empty in_enumerators = syntax
 when_empty in_block = read_nothing
 when_empty in_statement = syntax
 when_empty in_groups = read_nothing
@@ -271,13 +296,32 @@ read_declarator inner = read_node declarator
 abbrev pub read_declarators : Inner → Reading
 read_declarators inner = read_node declarators (read_listed (read_declarator inner))
 
+abbrev pub read_enumerators : Inner → Reading
+read_enumerators inner = read_node enumerators (read_sign punct.OpenBrace ▹ deeper_in inner in_enumerators
+    ▹ read_sign punct.CloseBrace)
+
+-- what follows `enum` in a declaration of a file or a block
+abbrev pub read_enumerated : Inner → Reading
+read_enumerated inner = read_either (next_is (only class.Name))
+    (read_name ▹ read_maybe (mark punct.OpenBrace) (read_enumerators inner)) (read_enumerators inner)
+
+abbrev pub read_declaration_words : Inner → Bool → Reading
+read_declaration_words inner static = read_node specifiers (read_after (words_after static [])
+    (read_behind_words static (read_enumerated inner)))
+
+abbrev pub maybe_declarators : Inner → Reading
+maybe_declarators inner = read_maybe (only class.Name) (read_declarators inner)
+
+abbrev pub read_declared : Inner → List Mark → Reading
+read_declared inner f = if has_enumerators f then maybe_declarators inner else read_declarators inner
+
 abbrev pub read_declaration : Inner → Reading
-read_declaration inner = read_node declaration (read_type_words false ▹ read_declarators inner
-    ▹ read_semicolon)
+read_declaration inner = read_node declaration
+    (read_after (read_declaration_words inner false) (read_declared inner) ▹ read_semicolon)
 
 abbrev pub read_parameter : Inner → Reading
 read_parameter inner = read_node parameter
-    (read_type_words false ▹ read_either (next_is (only class.Name)) read_name
+    (read_type_words ▹ read_either (next_is (only class.Name)) read_name
     (read_node no_name read_nothing) ▹ maybe_length inner)
 
 abbrev pub read_parameters : Inner → Reading
@@ -307,7 +351,7 @@ read_simples inner = read_node simples (read_listed (read_simple inner))
 
 abbrev pub read_for_first : Inner → Reading
 read_for_first inner = read_node for_first
-    (read_either (next_is (declaration_word false)) (read_type_words false ▹ read_declarators inner)
+    (read_either (next_is (declaration_word false)) (read_type_words ▹ read_declarators inner)
     (read_maybe simple_start (read_simples inner)))
 
 abbrev pub read_block : Inner → Reading
@@ -328,7 +372,8 @@ read_if inner =
 
 abbrev pub read_label : Inner → Reading
 read_label inner = read_node label
-    (read_either (next_is (word keyword.Case)) (read_key keyword.Case ▹ read_expression inner ▹ read_sign punct.Colon)
+    (read_either (next_is (word keyword.Case))
+    (read_key keyword.Case ▹ read_expression inner ▹ read_sign punct.Colon)
     (read_key keyword.Default ▹ read_sign punct.Colon))
 
 abbrev pub read_switch : Inner → Reading
@@ -387,10 +432,14 @@ read_function_tail inner =
     read_name ▹ read_sign punct.OpenParenthesis ▹ λ ts. then_read (deeper_in inner in_parameters ts)
     (after_parameters inner)
 
+abbrev pub read_external_tail : Inner → List Mark → Reading
+read_external_tail inner f =
+    if has_enumerators f then maybe_declarators inner ▹ read_semicolon
+    else read_either is_function (read_function_tail inner) (read_declarators inner ▹ read_semicolon)
+
 abbrev pub read_external : Inner → Reading
 read_external inner = read_node external
-    (read_type_words true ▹ read_either is_function (read_function_tail inner) (read_declarators inner
-    ▹ read_semicolon))
+    (read_after (read_declaration_words inner true) (read_external_tail inner))
 
 -- WHAT IS INSIDE, at its own level, and then with so many levels left below
 
@@ -399,7 +448,8 @@ read_item inner = read_either (next_is (declaration_word false)) (read_declarati
     (read_statement inner)
 
 abbrev pub read_group : Inner → Reading
-read_group inner = read_node group (read_label inner ▹ read_many (next_is statement_start) (read_statement inner))
+read_group inner = read_node group
+    (read_label inner ▹ read_many (next_is statement_start) (read_statement inner))
 
 abbrev pub read_for_head : Inner → Reading
 read_for_head inner =
@@ -411,9 +461,24 @@ read_printed inner =
     read_token (only class.Quoted) ▹ read_many (next_is (only class.Quoted)) (read_token (only class.Quoted))
     ▹ read_many (next_is (mark punct.Comma)) (read_sign punct.Comma ▹ read_expression inner)
 
+abbrev pub read_enumerator : Inner → Reading
+read_enumerator inner = read_node enumerator
+    (read_name ▹ read_maybe (mark punct.Assign) (read_sign punct.Assign ▹ read_expression inner))
+
+-- a comma before no name is the last
+abbrev pub is_next_enumerator : List Token → Bool
+is_next_enumerator [] = false
+is_next_enumerator (t ∷ ts) = mark punct.Comma (class_of t) && next_is (only class.Name) ts
+
+abbrev pub read_enumerator_list : Inner → Reading
+read_enumerator_list inner =
+    read_enumerator inner ▹ read_many is_next_enumerator (read_sign punct.Comma ▹ read_enumerator inner)
+    ▹ read_maybe (mark punct.Comma) (read_sign punct.Comma)
+
 abbrev pub read_inside : Inner → Inner
 read_inside inner in_parameters = read_parameters inner
 read_inside inner in_length = maybe_expression inner
+read_inside inner in_enumerators = read_enumerator_list inner
 read_inside inner in_block = read_many (next_is item_start) (read_item inner)
 read_inside inner in_statement = read_statement inner
 read_inside inner in_groups = read_many (next_is label_start) (read_group inner)
@@ -421,7 +486,7 @@ read_inside inner in_for = read_for_head inner
 read_inside inner in_printf = read_printed inner
 read_inside inner in_expression = read_expression inner
 read_inside inner in_arguments = read_arguments inner
-read_inside inner in_cast = read_type_words false
+read_inside inner in_cast = read_type_words
 read_inside inner in_unary = read_unary inner
 read_inside inner (in_chained n) = read_chained inner n
 

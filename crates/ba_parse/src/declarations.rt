@@ -2,26 +2,28 @@
 //!
 //! `levels` is how many more constructs may be around a token.
 
-ghost use Rattle.std.specs.Prelude.{◌≡◌, ◌++◌, map, option_map, MatchResult};
+ghost use Rattle.std.specs.Prelude.{◌≡◌, if◌then◌else◌, ◌++◌, map, option_map, MatchResult};
 ghost use Rattle.ba_parse.specs.declared.reader.Stop.TheVariants.{Memory};
 ghost use Rattle.ba_tokens.specs.declared.token.Punct.TheVariants as punct;
 ghost use Rattle.ba_trees.specs.Classes.{mark, only};
 ghost use Rattle.ba_trees.specs.declared.class.TokenClass.TheVariants as class;
-ghost use Rattle.ba_trees.specs.Marks.{no_name};
-ghost use Rattle.ba_parse.specs.Readings.{◌▹◌, read_either, read_maybe, read_nothing, read_name, read_node, read_many, read_listed, read_sign, next_is, is_next_value, levels_left, shallow, in_length, in_parameters, maybe_expression, maybe_length, read_expression, read_braced, read_initialiser, read_declarator, read_declarators, read_declaration, read_parameter, read_parameters};
+ghost use Rattle.ba_trees.specs.Marks.{leaf, no_name, specifiers};
+ghost use Rattle.ba_parse.specs.Readings.{◌▹◌, around, with_front, read_either, read_maybe, read_nothing, read_name, read_node, read_many, read_listed, read_sign, next_is, is_next_value, is_next_enumerator, levels_left, shallow, in_enumerators, in_length, in_parameters, maybe_declarators, maybe_expression, maybe_length, read_declaration_words, read_enumerated, read_qualifiers_behind, read_enumerator, read_enumerator_list, read_enumerators, read_expression, read_braced, read_initialiser, read_declarator, read_declarators, read_declaration, read_parameter, read_parameters};
+ghost use Rattle.ba_parse.specs.Grammar.{has_enumerators};
 ghost use Rattle.ba_parse.specs.Telling.{Told};
 ghost use Rattle.ba_trees.specs.Views.{optional, optional_leaf, name_marks, joined};
 ghost use Rattle.ba_trees.specs.ExpressionMarks.{conditional_marks, next_expression_marks};
-ghost use Rattle.ba_trees.specs.DeclarationMarks.{array_length_marks, braced_marks, declaration_marks, declarator_marks, declarators_marks, initialiser_marks, listed_declarator_marks, next_parameter_marks, parameter_list_marks, parameter_marks, parameters_marks};
+ghost use Rattle.ba_trees.specs.DeclarationMarks.{array_length_marks, braced_marks, declaration_marks, declarator_marks, declarators_marks, enumerator_list_marks, enumerator_marks, enumerator_value_marks, enumerators_marks, initialiser_marks, listed_declarator_marks, next_enumerator_marks, next_parameter_marks, parameter_list_marks, parameter_marks, parameters_marks, specifiers_marks};
 
-use crate::expressions::{conditional, next_expression};
+use crate::expressions::{conditional, next_expression, refusal};
 use crate::reader::{Reader, Stop};
 use crate::sets::TokenSet;
-use crate::types::type_name;
-use ba_tokens::token::{Punct, Token};
+use crate::types::{has_word, qualifiers_behind, specifier_words, type_name};
+use ba_tokens::token::{Keyword, Punct, Token};
 use ba_trees::tree::declarations::{
-    ArrayLength, Braced, Declaration, Declarator, Declarators, Initialiser, ListedDeclarator,
-    NextParameter, Parameter, ParameterList, Parameters,
+    ArrayLength, Braced, Declaration, Declarator, Declarators, Enumerator, EnumeratorList,
+    EnumeratorValue, Enumerators, Initialiser, ListedDeclarator, NextEnumerator, NextParameter,
+    Parameter, ParameterList, Parameters, Specifiers,
 };
 use ba_trees::tree::expressions::{Conditional, NextExpression};
 use std::alloc::Global;
@@ -253,6 +255,225 @@ fn put_first(all: &mut Vec<ListedDeclarator>, first: Declarator) -> Result<(), S
     Ok(())
 }
 
+/// What a declaration of a file or of a block begins with: the words of a type, and the constants of an enumerated
+/// type among them. `static` is accepted where `with_static` says so.
+///
+/// # Errors
+///
+/// The reading's own, and want of memory.
+pub fn specifiers(
+    alloc: Global,
+    reader: &mut Reader,
+    levels: u32,
+    with_static: bool,
+) -> Result<Specifiers, Stop>
+    ensures { Told specifiers_marks result
+        (read_declaration_words (levels_left levels) with_static reader.old) reader.new }
+{
+    let words = specifier_words(alloc, reader, with_static)?;
+    if !has_word(words.as_slice(), Keyword::Enum) {
+        return Ok(Specifiers {
+            words,
+            enumerators: None,
+            behind: Vec::new(alloc),
+        });
+    }
+    behind_words(alloc, reader, levels, words, with_static)
+}
+
+/// These words, the last of which is `enum`, and what follows them.
+fn behind_words(
+    alloc: Global,
+    reader: &mut Reader,
+    levels: u32,
+    mut words: Vec<Token>,
+    with_static: bool,
+) -> Result<Specifiers, Stop>
+    ensures { Told specifiers_marks result (around specifiers (with_front (map leaf words.items)
+        ((read_enumerated (levels_left levels)
+        ▹ read_qualifiers_behind with_static (map leaf words.items)) reader.old))) reader.new }
+{
+    let (tag, list) = enumerated(alloc, reader, levels)?;
+    let behind = qualifiers_behind(alloc, reader, words.as_slice(), with_static)?;
+    put_tag(&mut words, tag)?;
+    Ok(Specifiers {
+        words,
+        enumerators: list,
+        behind,
+    })
+}
+
+/// The tag of an enumerated type, its constants in braces, or both.
+fn enumerated(
+    alloc: Global,
+    reader: &mut Reader,
+    levels: u32,
+) -> Result<(Option<Token>, Option<Enumerators>), Stop>
+    ensures { Told (λ e. optional_leaf e.0 ++ optional (option_map enumerators_marks e.1)) result
+        (read_enumerated (levels_left levels) reader.old) reader.new }
+{
+    if reader.next_is(TokenSet::Name) {
+        let tag = reader.take(TokenSet::Name)?;
+        let list = maybe_enumerators(alloc, reader, levels)?;
+        Ok((Some(tag), list))
+    } else {
+        let list = enumerators(alloc, reader, levels)?;
+        Ok((None, Some(list)))
+    }
+}
+
+fn maybe_enumerators(
+    alloc: Global,
+    reader: &mut Reader,
+    levels: u32,
+) -> Result<Option<Enumerators>, Stop>
+    ensures { Told (λ e. optional (option_map enumerators_marks e)) result
+        (read_maybe (mark punct.OpenBrace) (read_enumerators (levels_left levels)) reader.old)
+        reader.new }
+{
+    if !reader.next_is(TokenSet::Punct(Punct::OpenBrace)) {
+        return Ok(None);
+    }
+    let list = enumerators(alloc, reader, levels)?;
+    Ok(Some(list))
+}
+
+/// A tag, if there is one, behind these words. The one error is want of memory.
+fn put_tag(words: &mut Vec<Token>, tag: Option<Token>) -> Result<(), Stop>
+    ensures { MatchResult result
+        (λ _. map leaf words.new.items ≡ map leaf words.old.items ++ optional_leaf tag)
+        (λ stop. stop ≡ Memory) }
+{
+    if let Some(tag) = tag {
+        words.push(tag)?;
+    }
+    Ok(())
+}
+
+/// The constants of an enumerated type, in braces (C90 6.5.2.2).
+fn enumerators(alloc: Global, reader: &mut Reader, levels: u32) -> Result<Enumerators, Stop>
+    ensures { Told enumerators_marks result (read_enumerators (levels_left levels) reader.old)
+        reader.new }
+{
+    let open = reader.take(TokenSet::Punct(Punct::OpenBrace))?;
+    let list = inner_enumerators(alloc, reader, levels)?;
+    let close = reader.take(TokenSet::Punct(Punct::CloseBrace))?;
+    Ok(Enumerators { open, list, close })
+}
+
+/// What stands between the braces of an enumerated type.
+fn inner_enumerators(
+    alloc: Global,
+    reader: &mut Reader,
+    levels: u32,
+) -> Result<EnumeratorList, Stop>
+    ensures { Told enumerator_list_marks result (levels_left levels in_enumerators reader.old)
+        reader.new }
+{
+    if levels == 0 {
+        return Err(refusal(reader, TokenSet::Name));
+    }
+    enumerator_list(alloc, reader, levels - 1)
+}
+
+fn enumerator_list(alloc: Global, reader: &mut Reader, levels: u32) -> Result<EnumeratorList, Stop>
+    ensures { Told enumerator_list_marks result
+        (read_enumerator_list (levels_left levels) reader.old) reader.new }
+{
+    let first = enumerator(alloc, reader, levels)?;
+    let rest = next_enumerators(alloc, reader, levels)?;
+    let comma = maybe_comma(reader)?;
+    Ok(EnumeratorList { first, rest, comma })
+}
+
+fn enumerator(alloc: Global, reader: &mut Reader, levels: u32) -> Result<Enumerator, Stop>
+    ensures { Told enumerator_marks result (read_enumerator (levels_left levels) reader.old)
+        reader.new }
+{
+    let name = reader.take(TokenSet::Name)?;
+    let value = maybe_enumerator_value(alloc, reader, levels)?;
+    Ok(Enumerator { name, value })
+}
+
+fn maybe_enumerator_value(
+    alloc: Global,
+    reader: &mut Reader,
+    levels: u32,
+) -> Result<Option<EnumeratorValue>, Stop>
+    ensures { Told (λ v. optional (option_map enumerator_value_marks v)) result
+        (read_maybe (mark punct.Assign)
+        (read_sign punct.Assign ▹ read_expression (levels_left levels)) reader.old) reader.new }
+{
+    if !reader.next_is(TokenSet::Punct(Punct::Assign)) {
+        return Ok(None);
+    }
+    let assign = reader.take(TokenSet::Punct(Punct::Assign))?;
+    let value = conditional(alloc, reader, levels)?;
+    Ok(Some(EnumeratorValue { assign, value }))
+}
+
+fn next_enumerator(alloc: Global, reader: &mut Reader, levels: u32) -> Result<NextEnumerator, Stop>
+    ensures { Told next_enumerator_marks result
+        ((read_sign punct.Comma ▹ read_enumerator (levels_left levels)) reader.old) reader.new }
+{
+    let comma = reader.take(COMMA)?;
+    let next = enumerator(alloc, reader, levels)?;
+    Ok(NextEnumerator {
+        comma,
+        enumerator: next,
+    })
+}
+
+/// Constants, each after a comma; a comma before no name is the last.
+fn next_enumerators(
+    alloc: Global,
+    reader: &mut Reader,
+    levels: u32,
+) -> Result<Vec<NextEnumerator>, Stop>
+    ensures { Told (λ v. joined (map next_enumerator_marks v.items)) result
+        (read_many is_next_enumerator
+        (read_sign punct.Comma ▹ read_enumerator (levels_left levels)) reader.old) reader.new }
+{
+    let mut rest = Vec::new(alloc);
+    let most = reader.rest().len();
+    for _read in 0..most {
+        if !reader.next_are(COMMA, TokenSet::Name) {
+            return Ok(rest);
+        }
+        rest.push(next_enumerator(alloc, reader, levels)?)?;
+    }
+    Ok(rest)
+}
+
+/// Whether the constants of an enumerated type are among these words.
+pub fn has_list(words: &Specifiers) -> bool
+    ensures { result ≡ has_enumerators (specifiers_marks words.now) }
+{
+    words.enumerators.is_some()
+}
+
+/// Declarators, which may be absent behind the constants of an enumerated type.
+///
+/// # Errors
+///
+/// The reading's own, and want of memory.
+pub fn declared(
+    alloc: Global,
+    reader: &mut Reader,
+    levels: u32,
+    may_lack: bool,
+) -> Result<Option<Declarators>, Stop>
+    ensures { Told (λ d. optional (option_map declarators_marks d)) result
+        ((if may_lack then maybe_declarators (levels_left levels)
+        else read_declarators (levels_left levels)) reader.old) reader.new }
+{
+    if may_lack && !reader.next_is(TokenSet::Name) {
+        return Ok(None);
+    }
+    let all = declarators(alloc, reader, levels)?;
+    Ok(Some(all))
+}
+
 /// A declaration in a block.
 ///
 /// # Errors
@@ -262,11 +483,12 @@ pub fn declaration(alloc: Global, reader: &mut Reader, levels: u32) -> Result<De
     ensures { Told declaration_marks result (read_declaration (levels_left levels) reader.old)
         reader.new }
 {
-    let name = type_name(alloc, reader, false)?;
-    let all = declarators(alloc, reader, levels)?;
+    let words = specifiers(alloc, reader, levels, false)?;
+    let with_list = has_list(&words);
+    let all = declared(alloc, reader, levels, with_list)?;
     let semicolon = reader.take(TokenSet::Punct(Punct::Semicolon))?;
     Ok(Declaration {
-        name,
+        specifiers: words,
         declarators: all,
         semicolon,
     })
@@ -288,7 +510,7 @@ fn parameter(alloc: Global, reader: &mut Reader, levels: u32) -> Result<Paramete
     ensures { Told parameter_marks result (read_parameter (levels_left levels) reader.old)
         reader.new }
 {
-    let words = type_name(alloc, reader, false)?;
+    let words = type_name(alloc, reader)?;
     let name = maybe_name(reader)?;
     let length = maybe_length(alloc, reader, levels)?;
     Ok(Parameter {

@@ -229,7 +229,7 @@ fn inner_type_name(alloc: Global, reader: &mut Reader, levels: u32) -> Result<Ty
     if levels == 0 {
         return Err(refusal(reader, TokenSet::DeclarationWord { with_static: false }));
     }
-    type_name(alloc, reader, false)
+    type_name(alloc, reader)
 }
 
 #[cycle(expression)]

@@ -1,11 +1,11 @@
 //! Reading a file (C90 6.7).
 
-ghost use Rattle.std.specs.Prelude.{◌≡◌, ◌⊎◌, true, List, ◌++◌, map, Err};
+ghost use Rattle.std.specs.Prelude.{◌≡◌, ◌⊎◌, if◌then◌else◌, true, List, ◌++◌, map, Err};
 ghost use Rattle.ba_tokens.specs.declared.token.Token.{Token};
 ghost use Rattle.ba_trees.specs.Classes.{declaration_word};
 ghost use Rattle.ba_parse.specs.Grammar.{is_void, takes_block};
 ghost use Rattle.ba_trees.specs.Marks.{yield, one_deeper, node_of, file};
-ghost use Rattle.ba_parse.specs.Readings.{done, ◌▹◌, read_many, read_semicolon, next_is, levels_left, read_declarators, read_function_end, read_function_tail, read_external, read_file};
+ghost use Rattle.ba_parse.specs.Readings.{done, ◌▹◌, read_either, read_many, read_semicolon, next_is, is_function, levels_left, maybe_declarators, read_declarators, read_function_end, read_function_tail, read_external, read_file};
 ghost use Rattle.ba_parse.specs.Telling.{Told};
 ghost use Rattle.ba_trees.specs.Views.{joined};
 ghost use Rattle.ba_trees.specs.DeclarationMarks.{parameters_marks};
@@ -17,13 +17,12 @@ ghost use Rattle.ba_trees.specs.Marks.{has_accepted_levels};
 ghost use Rattle.ba_parse.specs.Told.{IsTold, result_of};
 ghost use Rattle.ba_parse.specs.declared.error.ParseError.TheVariants.{Memory};
 
-use crate::declarations::{declarators, inner_parameters};
+use crate::declarations::{declared, has_list, inner_parameters, specifiers};
 use crate::error::ParseError;
 use crate::naming::are_named;
 use crate::reader::{Reader, Stop};
 use crate::sets::TokenSet;
 use crate::statements::block;
-use crate::types::type_name;
 use ba_tokens::token::{Keyword, Punct, Token};
 use ba_trees::class::{TokenClass, class_of};
 use ba_trees::tree::declarations::Parameters;
@@ -113,20 +112,46 @@ fn external(alloc: Global, reader: &mut Reader, levels: u32) -> Result<External,
     ensures { Told external_marks result (read_external (levels_left levels) reader.old)
         reader.new }
 {
-    let name = type_name(alloc, reader, true)?;
-    let form = if reader.next_are(TokenSet::Name, OPEN) {
-        function(alloc, reader, levels)?
-    } else {
-        variables(alloc, reader, levels)?
-    };
-    Ok(External { name, form })
+    let words = specifiers(alloc, reader, levels, true)?;
+    let with_list = has_list(&words);
+    let form = external_form(alloc, reader, levels, with_list)?;
+    Ok(External {
+        specifiers: words,
+        form,
+    })
 }
 
-fn variables(alloc: Global, reader: &mut Reader, levels: u32) -> Result<ExternalForm, Stop>
+/// What follows the words of an external, with the constants of an enumerated type among them or without.
+fn external_form(
+    alloc: Global,
+    reader: &mut Reader,
+    levels: u32,
+    with_list: bool,
+) -> Result<ExternalForm, Stop>
     ensures { Told external_form_marks result
-        ((read_declarators (levels_left levels) ▹ read_semicolon) reader.old) reader.new }
+        ((if with_list then maybe_declarators (levels_left levels) ▹ read_semicolon
+        else read_either is_function (read_function_tail (levels_left levels))
+        (read_declarators (levels_left levels) ▹ read_semicolon)) reader.old) reader.new }
 {
-    let all = declarators(alloc, reader, levels)?;
+    if !with_list && reader.next_are(TokenSet::Name, OPEN) {
+        function(alloc, reader, levels)
+    } else {
+        variables(alloc, reader, levels, with_list)
+    }
+}
+
+/// Variables of the file, which may be absent behind the constants of an enumerated type.
+fn variables(
+    alloc: Global,
+    reader: &mut Reader,
+    levels: u32,
+    may_lack: bool,
+) -> Result<ExternalForm, Stop>
+    ensures { Told external_form_marks result
+        (((if may_lack then maybe_declarators (levels_left levels)
+        else read_declarators (levels_left levels)) ▹ read_semicolon) reader.old) reader.new }
+{
+    let all = declared(alloc, reader, levels, may_lack)?;
     let semicolon = reader.take(SEMICOLON)?;
     Ok(ExternalForm::Variables {
         declarators: all,

@@ -94,6 +94,7 @@ pub fn is_type_word(class: TokenClass) -> bool
         || is_word(class, Keyword::Long)
         || is_word(class, Keyword::Signed)
         || is_word(class, Keyword::Unsigned)
+        || is_word(class, Keyword::Enum)
 }
 
 /// Whether this is a word of a declaration; `static` only where it is accepted.

@@ -238,7 +238,7 @@ fn for_first(alloc: Global, reader: &mut Reader, levels: u32) -> Result<ForFirst
         reader.new }
 {
     if reader.next_is(TokenSet::DeclarationWord { with_static: false }) {
-        let name = type_name(alloc, reader, false)?;
+        let name = type_name(alloc, reader)?;
         let declarators = declarators(alloc, reader, levels)?;
         Ok(ForFirst::Declaration { name, declarators })
     } else if reader.next_is(TokenSet::SimpleStart) {

@@ -4,12 +4,13 @@ use Rattle.std.specs.List.{list_any}
 use Rattle.std.proofs.Math.ListN.{get_or-map}
 use Rattle.std.proofs.Math.Seq.{take-append_seam}
 use Rattle.std.proofs.lemmas.List.{append-nil, length-map}
-use Rattle.std.proofs.lemmas.Slice.Eq.{bytes_eq-Decides}
-use Rattle.ba_typing.specs.Names.{same_name}
-use Rattle.ba_scopes.specs.Storage.{AreStored, entries_of, last_place, place_from, place_in}
-use Rattle.ba_scopes.specs.declared.places.Places.{Places}
+use Rattle.ba_typing.specs.Names.{is_named, space_of}
+use Rattle.ba_scopes.specs.Storage.{AreStored, entries_of, last_place, newest_in, place_from}
+use Rattle.ba_scopes.specs.declared.places.Newest.{Newest}
 use Rattle.ba_typing.specs.declared.meanings.Entry.{Entry}
+use Rattle.ba_typing.specs.declared.meanings.Space.{Space}
 use Rattle.ba_scopes.specs.declared.scopes.Stored.{Stored}
+use Rattle.ba_scopes.proofs.Storing.{named-name, named-space}
 
 -- LISTS
 
@@ -48,48 +49,48 @@ or-swap false false c = refl
 
 -- THE LAST ENTRY OF A NAME, among those that pass a test
 
-module _ (name : List ℕ) (test : Entry → Bool) where
+module _ (within : Space) (name : List ℕ) (test : Entry → Bool) where
   abbrev mine : Entry → Bool
-  mine e = same_name e.name name && test e
+  mine e = is_named within name e && test e
 
   record IsLast (i : ℕ) (es : List Entry) (k : ℕ) : Type 0 where
     at : ℕ
     is : k ≡ i + at
-    within : at < length es
-    same : (d : Entry) → same_name (get_or es at d).name name ≡ true
+    inside : at < length es
+    same : (d : Entry) → is_named within name (get_or es at d) ≡ true
     any : (d : Entry) → list_any mine es ≡ (test (get_or es at d) || list_any mine (take at es))
 
-  first-is : (i k : ℕ) (e : Entry) (es : List Entry) (last : Option ℕ) (b : Bool) → same_name e.name name ≡ b
+  first-is : (i k : ℕ) (e : Entry) (es : List Entry) (last : Option ℕ) (b : Bool) → is_named within name e ≡ b
       → cond b (Some i) last ≡ Some k → list_any mine es ≡ false
       → ((last ≡ Some k) × (list_any mine (e ∷ es) ≡ false)) ⊎ IsLast i (e ∷ es) k
   first-is i k e es last true same found none =
       let here : i ≡ k = same-some i k found in inr (record {
         at = 0;
         is = omega (arith, here);
-        within = omega arith;
+        inside = omega arith;
         same = λ d. same;
         any = λ d. ap (λ c. (c && test e) || list_any mine es) same ∙ ap (λ x. test e || x) none;
       })
   first-is i k e es last false same found none =
       inl (found, ap (λ c. (c && test e) || list_any mine es) same ∙ none)
 
-  last-is : (i : ℕ) (es : List Entry) (last : Option ℕ) (k : ℕ) → place_from i name es last ≡ Some k
+  last-is : (i : ℕ) (es : List Entry) (last : Option ℕ) (k : ℕ) → place_from i within name es last ≡ Some k
       → ((last ≡ Some k) × (list_any mine es ≡ false)) ⊎ IsLast i es k
   last-is i [] last k found = inl (found, refl)
   last-is i (e ∷ es) last k found =
-      elim (last-is (i + 1) es (cond (same_name e.name name) (Some i) last) k found) [
-        | inl h ↦ first-is i k e es last (same_name e.name name) refl h.0 h.1
+      elim (last-is (i + 1) es (cond (is_named within name e) (Some i) last) k found) [
+        | inl h ↦ first-is i k e es last (is_named within name e) refl h.0 h.1
         | inr f ↦ inr (record {
           at = suc f.at;
           is = omega (arith, f.is);
-          within = omega (arith, f.within);
+          inside = omega (arith, f.inside);
           same = f.same;
           any = λ d. ap (λ x. mine e || x) (f.any d)
               ∙ or-swap (mine e) (test (get_or es f.at d)) (list_any mine (take f.at es));
         })
       ]
 
-  none-first : (i : ℕ) (e : Entry) (es : List Entry) (last : Option ℕ) (b : Bool) → same_name e.name name ≡ b
+  none-first : (i : ℕ) (e : Entry) (es : List Entry) (last : Option ℕ) (b : Bool) → is_named within name e ≡ b
       → cond b (Some i) last ≡ None → list_any mine es ≡ false → (last ≡ None) × (list_any mine (e ∷ es) ≡
       false)
   none-first i e es last true same found none = absurd (let no_place : ⊥ = cc in no_place)
@@ -99,14 +100,14 @@ module _ (name : List ℕ) (test : Entry → Bool) where
         none,
   )
 
-  none-is : (i : ℕ) (es : List Entry) (last : Option ℕ) → place_from i name es last ≡ None
+  none-is : (i : ℕ) (es : List Entry) (last : Option ℕ) → place_from i within name es last ≡ None
       → (last ≡ None) × (list_any mine es ≡ false)
   none-is i [] last found = (found, refl)
-  none-is i (e ∷ es) last found = let h = none-is (i + 1) es (cond (same_name e.name name) (Some i) last)
+  none-is i (e ∷ es) last found = let h = none-is (i + 1) es (cond (is_named within name e) (Some i) last)
       found in
-      none-first i e es last (same_name e.name name) refl h.0 h.1
+      none-first i e es last (is_named within name e) refl h.0 h.1
 
-  only-last : (es : List Entry) (k : ℕ) → last_place name es ≡ Some k → IsLast 0 es k
+  only-last : (es : List Entry) (k : ℕ) → last_place within name es ≡ Some k → IsLast 0 es k
   only-last es k found = elim (last-is 0 es None k found) [
     | inl h ↦ absurd (let no_place : ⊥ = let e = h.0 in cc in no_place)
     | inr f ↦ f
@@ -115,102 +116,107 @@ module _ (name : List ℕ) (test : Entry → Bool) where
 -- THE WALK
 
 -- those of the name in the front part are what is left to look at, and decide for all
-pub record Hides (es : List Entry) (name : List ℕ) (test : Entry → Bool) (place : Option ℕ) (n : ℕ) : Type
-    0 where
-  pub newest : last_place name (take n es) ≡ place
-  pub whole : list_any (λ (e : Entry). same_name e.name name && test e) (take n es)
-      ≡ list_any (λ (e : Entry). same_name e.name name && test e) es
+pub record Hides (es : List Entry) (within : Space) (name : List ℕ) (test : Entry → Bool) (place : Option ℕ)
+    (n : ℕ) : Type 0 where
+  pub newest : last_place within name (take n es) ≡ place
+  pub whole : list_any (λ (e : Entry). is_named within name e && test e) (take n es)
+      ≡ list_any (λ (e : Entry). is_named within name e && test e) es
 
 -- how many steps are left at most
 abbrev pub steps_left : Option ℕ → ℕ
 steps_left None = 0
 steps_left (Some i) = i + 1
 
-module _ (es : List Entry) (name : List ℕ) (test : Entry → Bool) where
-  pub hides-all : (place : Option ℕ) → place ≡ last_place name es → Hides es name test place (length es)
+module _ (es : List Entry) (within : Space) (name : List ℕ) (test : Entry → Bool) where
+  pub hides-all : (place : Option ℕ) → place ≡ last_place within name es
+      → Hides es within name test place (length es)
   hides-all place is =
       let all : take (length es) es ≡ es
       = ap (take (length es)) (sym (append-nil es)) ∙ take-append_seam es [] in
       record {
-        newest = ap (last_place name) all ∙ sym is;
-        whole = ap (list_any (λ (e : Entry). same_name e.name name && test e)) all;
+        newest = ap (last_place within name) all ∙ sym is;
+        whole = ap (list_any (λ (e : Entry). is_named within name e && test e)) all;
       }
 
-  pub hides-none : (n : ℕ) (place : Option ℕ) → place ≡ None → Hides es name test place n
-      → false ≡ list_any (λ (e : Entry). same_name e.name name && test e) es
-  hides-none n place none h = sym ((none-is name test 0 (take n es) None (h.newest ∙ none)).1) ∙ h.whole
+  pub hides-none : (n : ℕ) (place : Option ℕ) → place ≡ None → Hides es within name test place n
+      → false ≡ list_any (λ (e : Entry). is_named within name e && test e) es
+  hides-none n place none h = sym ((none-is within name test 0 (take n es) None (h.newest ∙ none)).1)
+      ∙ h.whole
 
-  module _ (n i : ℕ) (place : Option ℕ) (some : place ≡ Some i) (h : Hides es name test place n) where
-    last-one : IsLast name test 0 (take n es) i
-    last-one = only-last name test (take n es) i (h.newest ∙ some)
+  module _ (n i : ℕ) (place : Option ℕ) (some : place ≡ Some i) (h : Hides es within name test place n) where
+    last-one : IsLast within name test 0 (take n es) i
+    last-one = only-last within name test (take n es) i (h.newest ∙ some)
 
     pub hides-within : i < length es
     hides-within = let f = last-one in let short = take-short es n in
-        omega (arith, f.is, f.within, short.1)
+        omega (arith, f.is, f.inside, short.1)
 
     here : (e : Entry) → e ≡ get_or es i e → get_or (take n es) last-one.at e ≡ e
     here e is = let f = last-one in let same : f.at ≡ i = omega (arith, f.is) in
-        get-less es f.at n e f.within ∙ ap (λ k. get_or es k e) same ∙ sym is
+        get-less es f.at n e f.inside ∙ ap (λ k. get_or es k e) same ∙ sym is
 
-    any-here : (e : Entry) → e ≡ get_or es i e → (test e || list_any (λ (e : Entry). same_name e.name name
+    any-here : (e : Entry) → e ≡ get_or es i e → (test e || list_any (λ (e : Entry). is_named within name e
         && test e) (take i es))
-        ≡ list_any (λ (e : Entry). same_name e.name name && test e) es
+        ≡ list_any (λ (e : Entry). is_named within name e && test e) es
     any-here e is =
         let f = last-one in
         let same : i ≡ f.at = omega (arith, f.is) in
         let short = take-short es n in
-        let less : f.at ≤ n = omega (arith, f.within, short.0) in
-        ap (λ x. test x || list_any (λ (e : Entry). same_name e.name name && test e) (take i es)) (sym
+        let less : f.at ≤ n = omega (arith, f.inside, short.0) in
+        ap (λ x. test x || list_any (λ (e : Entry). is_named within name e && test e) (take i es)) (sym
         (here e is))
-        ∙ ap (λ k. test (get_or (take n es) f.at e) || list_any (λ (e : Entry). same_name e.name name &&
+        ∙ ap (λ k. test (get_or (take n es) f.at e) || list_any (λ (e : Entry). is_named within name e &&
         test e) (take k es)) same
-        ∙ ap (λ xs. test (get_or (take n es) f.at e) || list_any (λ (e : Entry). same_name e.name name &&
+        ∙ ap (λ xs. test (get_or (take n es) f.at e) || list_any (λ (e : Entry). is_named within name e &&
         test e) xs)
         (sym (take-less es f.at n less))
         ∙ sym (f.any e) ∙ h.whole
 
     pub hides-found : (e : Entry) → e ≡ get_or es i e → test e ≡ true
-        → true ≡ list_any (λ (e : Entry). same_name e.name name && test e) es
+        → true ≡ list_any (λ (e : Entry). is_named within name e && test e) es
     hides-found e is passes =
-        ap (λ b. b || list_any (λ (e : Entry). same_name e.name name && test e) (take i es)) (sym passes) ∙
+        ap (λ b. b || list_any (λ (e : Entry). is_named within name e && test e) (take i es)) (sym passes) ∙
         any-here e is
 
     pub hides-next : (e : Entry) (hidden : Option ℕ) → e ≡ get_or es i e → test e ≡ false
-        → hidden ≡ last_place e.name (take i es) → Hides es name test hidden i
+        → hidden ≡ last_place (space_of e.entity) e.name (take i es) → Hides es within name test hidden i
     hides-next e hidden is fails hides =
-        let named : e.name ≡ name = (bytes_eq-Decides e.name name).0
-        (ap (λ (x : Entry). same_name x.name name) (sym (here e is)) ∙ last-one.same e) in
+        let mine = ap (is_named within name) (sym (here e is)) ∙ last-one.same e in
         record {
-          newest = ap (λ m. last_place m (take i es)) (sym named) ∙ sym hides;
-          whole = ap (λ b. b || list_any (λ (e : Entry). same_name e.name name && test e) (take i es)) (sym
+          newest = ap (λ m. last_place within m (take i es)) (sym (named-name within name e mine))
+              ∙ ap (λ s. last_place s e.name (take i es)) (sym (named-space within name e mine)) ∙ sym hides;
+          whole = ap (λ b. b || list_any (λ (e : Entry). is_named within name e && test e) (take i es)) (sym
               fails)
               ∙ any-here e is;
         }
 
-  pub hides-falls : (i : ℕ) (place : Option ℕ) → Hides es name test place i → steps_left place ≤ i
+  pub hides-falls : (i : ℕ) (place : Option ℕ) → Hides es within name test place i → steps_left place ≤ i
   hides-falls i None h = omega arith
-  hides-falls i (Some j) h = let f = only-last name test (take i es) j h.newest in let short = take-short
-      es i in
-      omega (arith, f.is, f.within, short.0)
+  hides-falls i (Some j) h =
+      let f = only-last within name test (take i es) j h.newest in
+      let short = take-short es i in
+      omega (arith, f.is, f.inside, short.0)
 
 -- WHAT IS STORED
 
-module _ (items : List Stored) (newest : Places) (es : List Entry) (stored : AreStored items newest)
+module _ (items : List Stored) (newest : Newest) (es : List Entry) (stored : AreStored items newest)
     (view : entries_of items ≡ es) where
   pub as-long : length items ≡ length es
   as-long = sym (length-map items (λ (s : Stored). s.entry)) ∙ ap length view
 
-  pub hides-first : (name : List ℕ) (test : Entry → Bool) (place : Option ℕ) → place ≡ place_in newest name
-      → Hides es name test place (length es)
-  hides-first name test place is = hides-all es name test place (is ∙ stored.found name ∙ ap (last_place
-      name) view)
+  pub hides-first : (within : Space) (name : List ℕ) (test : Entry → Bool) (place : Option ℕ)
+      → place ≡ newest_in newest within name
+      → Hides es within name test place (length es)
+  hides-first within name test place is = hides-all es within name test place
+      (is ∙ stored.found within name ∙ ap (last_place within name) view)
 
   module _ (i : ℕ) (t : Stored) (within : i < length items) (is : t ≡ get_or items i t) where
     pub entry-at : t.entry ≡ get_or es i t.entry
     entry-at = ap (λ (s : Stored). s.entry) is ∙ sym (get_or-map (λ (s : Stored). s.entry) items i t)
         ∙ ap (λ xs. get_or xs i t.entry) view
 
-    pub hidden-at : t.hidden ≡ last_place t.entry.name (take i es)
+    pub hidden-at : t.hidden ≡ last_place (space_of t.entry.entity) t.entry.name (take i es)
     hidden-at = ap (λ (s : Stored). s.hidden) is ∙ stored.hides i t within
-        ∙ ap (λ (s : Stored). last_place s.entry.name (take i (entries_of items))) (sym is)
-        ∙ ap (λ xs. last_place t.entry.name (take i xs)) view
+        ∙ ap (λ (s : Stored). last_place (space_of s.entry.entity) s.entry.name (take i (entries_of items)))
+        (sym is)
+        ∙ ap (λ xs. last_place (space_of t.entry.entity) t.entry.name (take i xs)) view

@@ -1,50 +1,51 @@
 //! What the names of a program mean where they stand (C90 6.1.2.1).
 
-ghost use Rattle.std.specs.Prelude.{◌≡◌, ℕ, List, ◌+◌, ◌-◌, ◌==◌, ◌&&◌, not, cond, is_some, IfOk, false, ◌∷◌, [], ◌++◌, None, Some, option_map, length, map, take, drop, OnOk, OnErr};
+ghost use Rattle.std.specs.Prelude.{◌≡◌, ℕ, List, ◌+◌, ◌-◌, ◌==◌, ◌&&◌, not, cond, is_some, IfOk, false, ◌∷◌, [], ◌++◌, None, Some, option_map, length, map, flat_map, take, drop, OnOk, OnErr};
 ghost use Rattle.std.specs.List.{list_any};
 ghost use Rattle.ba_typing.specs.Expressions.{called};
-ghost use Rattle.ba_typing.specs.Files.{count_functions, vars_of};
+ghost use Rattle.ba_typing.specs.Files.{count_functions, var_in, vars_of};
 ghost use Rattle.ba_scopes.specs.Storage.{AreListed, HaveSamePlaces, place_in};
 ghost use Rattle.ba_typing.specs.declared.meanings.Entry.{Entry};
 ghost use Rattle.ba_typing.specs.declared.meanings.Signature.{Signature};
 ghost use Rattle.ba_scopes.specs.declared.scopes.Stored.{Stored};
 ghost use Rattle.ba_typing.specs.Names.{fresh_scope};
 ghost use Rattle.ba_scopes.specs.Marks.{back_to, mark_of};
-ghost use Rattle.ba_typing.specs.Names.{definition_in, inner, is_declared_here, is_declared_in, knowing, last_entry, meaning_of, same_name};
+ghost use Rattle.ba_typing.specs.Names.{definition_in, inner, is_declared_here, is_declared_in, is_named, is_tag_known, knowing, last_entry, meaning_of, same_name};
 
-use crate::places::Places;
+use crate::places::{Newest, Places};
 use ba_items::Items;
 use ba_numbers::ids::VarId;
 use ba_numbers::numbers::CType;
-use ba_typing::meanings::{Entry, Meaning, Signature};
+use ba_typing::meanings::{Entity, Entry, Meaning, Signature, Space};
 use ba_typing::names::Exits;
 use ba_typing::text::Text;
 use std::alloc::{AllocError, Global};
 use std::marker::Model;
 
-/// A variable that is in scope, and the number of the one of its name that it hides.
+/// An entry that is in scope, and the number of the one of its name and name space that it hides.
 #[derive(Drop)]
 pub struct Stored<'a> {
     entry: Entry<'a>,
     hidden: Option<usize>,
 }
 
-/// The variables that are in scope, in the order of their declarations. A name is found by a map.
-pub struct Variables<'a> {
+/// What is in scope, in the order of the declarations: variables, enumeration constants and tags. A name is found by the map of its
+/// name space.
+pub struct Declared<'a> {
     stored: Vec<Stored<'a>>,
-    newest: Places<'a>,
+    newest: Newest<'a>,
 }
 
-impl<'a> Drop for Variables<'a> {
+impl<'a> Drop for Declared<'a> {
     fn drop(self) {
-        let Variables {
+        let Declared {
             stored: _,
             newest: _,
         } = self;
     }
 }
 
-impl<'a> Model for Variables<'a> {
+impl<'a> Model for Declared<'a> {
     ghost use Rattle.std.specs.Prelude.{List};
     ghost use Rattle.ba_scopes.specs.Storage.{AreStored, entries_of};
     ghost use Rattle.ba_typing.specs.declared.meanings.Entry.{Entry};
@@ -56,41 +57,42 @@ impl<'a> Model for Variables<'a> {
     ghost invariant = { λ variables. AreStored variables.stored.items variables.newest };
 }
 
-impl<'a> Variables<'a> {
-    /// No variable. It takes no memory.
-    pub fn new(alloc: Global) -> Variables<'a>
+impl<'a> Declared<'a> {
+    /// Nothing is declared. It takes no memory.
+    pub fn new(alloc: Global) -> Declared<'a>
         ensures { result ≡ [] }
     {
-        Variables {
+        Declared {
             stored: Vec::new(alloc),
-            newest: Places::new(alloc),
+            newest: Newest::new(alloc),
         }
     }
 
-    /// How many variables are in scope.
+    /// How many entries are in scope.
     pub fn len(&self) -> usize
         ensures { result ≡ length self.now }
     {
         self.stored.len()
     }
 
-    /// One variable more. The one error is want of memory, which leaves all as it was.
+    /// One entry more. The one error is want of memory, which leaves all as it was.
     pub fn push(&mut self, entry: Entry<'a>) -> Result<(), AllocError>
         ensures ok { OnOk result (self.new ≡ self.old ++ entry.entry ∷ []) }
         ensures err { OnErr result (self.new ≡ self.old) }
     {
         let name = entry.name.copy();
-        let hidden = self.newest.get(&name);
+        let within = entry.entity.space();
+        let hidden = self.newest.get(within, &name);
         let place = self.stored.len();
         self.stored.push(Stored { entry, hidden })?;
-        if self.newest.set(&name, place).is_err() {
+        if self.newest.set(within, &name, place).is_err() {
             self.stored.truncate(place);
             return Err(AllocError);
         }
         Ok(())
     }
 
-    /// The numbers of the variables but for the first `count` ones. The one error is want of memory.
+    /// The numbers of the variables behind the first `count` entries. The one error is want of memory.
     fn vars_behind(&self, alloc: Global, count: usize) -> Result<Items<VarId>, AllocError>
         ensures { IfOk result (λ vars. vars ≡ vars_of (drop count self.now)) }
     {
@@ -98,7 +100,7 @@ impl<'a> Variables<'a> {
         Ok(Items::from_vec(vars))
     }
 
-    /// The first `count` variables alone.
+    /// The first `count` entries alone.
     pub fn truncate(&mut self, count: usize)
         ensures { self.new ≡ take count self.old }
     {
@@ -107,7 +109,7 @@ impl<'a> Variables<'a> {
         }
     }
 
-    /// All variables but the last one.
+    /// All entries but the last one.
     fn pop(&mut self)
         ensures { self.new ≡ take (length self.old - 1) self.old }
     {
@@ -115,26 +117,30 @@ impl<'a> Variables<'a> {
             return;
         };
         match last.hidden {
-            Some(place) => self.newest.replace(&last.entry.name, place),
-            None => self.newest.remove(&last.entry.name),
+            Some(place) => self
+                .newest
+                .replace(last.entry.entity.space(), &last.entry.name, place),
+            None => self
+                .newest
+                .remove(last.entry.entity.space(), &last.entry.name),
         }
     }
 
-    /// The variable of this name that was declared last, `None` where there is none.
-    pub fn find(&self, name: &Text<'a>) -> Option<Entry<'a>>
-        ensures { result ≡ last_entry name.now self.now None }
+    /// The entry of this name in a name space that was declared last, `None` where there is none.
+    pub fn find(&self, within: Space, name: &Text<'a>) -> Option<Entry<'a>>
+        ensures { result ≡ last_entry within name.now self.now None }
     {
-        let place = self.newest.get(name)?;
+        let place = self.newest.get(within, name)?;
         let stored = self.stored.get(place)?;
         Some(stored.entry.copy())
     }
 
-    /// Whether a variable of this name is declared in the scope of this depth.
-    fn is_declared_at(&self, name: &Text<'a>, depth: u32) -> bool
+    /// Whether an entry of this name in a name space is declared in the scope of this depth.
+    fn is_declared_at(&self, within: Space, name: &Text<'a>, depth: u32) -> bool
         ensures { result
-            ≡ list_any (λ (e : Entry). same_name e.name name.now && (e.depth == depth)) self.now }
+            ≡ list_any (λ (e : Entry). is_named within name.now e && (e.depth == depth)) self.now }
     {
-        let mut place = self.newest.get(name);
+        let mut place = self.newest.get(within, name);
         while let Some(number) = place {
             let Some(stored) = self.stored.get(number) else {
                 return false;
@@ -148,20 +154,30 @@ impl<'a> Variables<'a> {
     }
 }
 
-/// The numbers of these variables from this place on. The one error is want of memory.
+/// The numbers of the variables among these from this place on. The one error is want of memory.
 fn numbers_from<'a>(
     alloc: Global,
     stored: &[Stored<'a>],
     place: usize,
 ) -> Result<Vec<VarId>, AllocError>
     ensures { IfOk result (λ vars. vars.items
-        ≡ map (λ (s : Stored). s.entry.var) (drop place stored.now)) }
+        ≡ flat_map (λ (s : Stored). var_in s.entry.entity) (drop place stored.now)) }
 {
     let mut vars = Vec::new(alloc);
     for i in place..stored.len() {
-        vars.push(stored[i].entry.var)?;
+        add_number(&mut vars, stored[i].entry.entity)?;
     }
     Ok(vars)
+}
+
+/// The number of a variable behind these; nothing of a constant or a tag. The one error is want of memory.
+fn add_number(vars: &mut Vec<VarId>, entity: Entity) -> Result<(), AllocError>
+    ensures { OnOk result (vars.new.items ≡ vars.old.items ++ var_in entity) }
+{
+    if let Entity::Variable(object) = entity {
+        vars.push(object.var)?;
+    }
+    Ok(())
 }
 
 /// The declarations of functions in a file, in their order, and how many functions they declare. A name is found by maps.
@@ -335,12 +351,12 @@ fn undefine<'a>(definitions: &mut Places<'a>, name: &Text<'a>, is_first: bool)
     }
 }
 
-/// What an expression or a statement finds around it: the functions of the file; the variables that are in scope; how many scopes are
+/// What an expression or a statement finds around it: the functions of the file; what is declared and in scope; how many scopes are
 /// inside the file's, where parameters and a function's block are one; which jumps are accepted; and the type that the function around
 /// returns, `None` for `void`.
 pub struct Scope<'a> {
     functions: Functions<'a>,
-    variables: Variables<'a>,
+    known: Declared<'a>,
     depth: u32,
     exits: Exits,
     result: Option<CType>,
@@ -350,7 +366,7 @@ impl<'a> Drop for Scope<'a> {
     fn drop(self) {
         let Scope {
             functions: _,
-            variables: _,
+            known: _,
             depth: _,
             exits: _,
             result: _,
@@ -358,7 +374,7 @@ impl<'a> Drop for Scope<'a> {
     }
 }
 
-/// What is around a part of the text: how many variables are in scope, how many scopes are inside the file's, which jumps are accepted,
+/// What is around a part of the text: how many entries are in scope, how many scopes are inside the file's, which jumps are accepted,
 /// and the type that the function around returns.
 #[derive(Clone, Copy, Debug, PartialEq, Eq)]
 pub struct Mark {
@@ -375,7 +391,7 @@ impl<'a> Model for Scope<'a> {
 
     ghost view = { λ scope. record {
       functions = scope.functions;
-      known = scope.variables;
+      known = scope.known;
       depth = scope.depth;
       exits = scope.exits;
       result = scope.result;
@@ -389,7 +405,7 @@ impl<'a> Scope<'a> {
     {
         Scope {
             functions,
-            variables: Variables::new(alloc),
+            known: Declared::new(alloc),
             depth: 0,
             exits: Exits {
                 breaks: false,
@@ -420,26 +436,26 @@ impl<'a> Scope<'a> {
         self.result
     }
 
-    /// How many variables are in scope.
+    /// How many entries are in scope.
     pub fn count(&self) -> usize
         ensures { result ≡ length self.now.known }
     {
-        self.variables.len()
+        self.known.len()
     }
 
-    /// The numbers of the variables in scope but for the first `count` ones. The one error is want of memory.
+    /// The numbers of the variables in scope behind the first `count` entries. The one error is want of memory.
     pub fn vars_behind(&self, alloc: Global, count: usize) -> Result<Items<VarId>, AllocError>
         ensures { IfOk result (λ vars. vars ≡ vars_of (drop count self.now.known)) }
     {
-        self.variables.vars_behind(alloc, count)
+        self.known.vars_behind(alloc, count)
     }
 
-    /// One variable more is in scope. The one error is want of memory, which leaves all as it was.
+    /// One entry more is in scope. The one error is want of memory, which leaves all as it was.
     pub fn declare(&mut self, entry: Entry<'a>) -> Result<(), AllocError>
         ensures ok { OnOk result (self.new ≡ knowing (entry.entry ∷ []) self.old) }
         ensures err { OnErr result (self.new ≡ self.old) }
     {
-        self.variables.push(entry)
+        self.known.push(entry)
     }
 
     /// A scope begins. The one error is want of memory, which stands for want of numbers, and leaves all as it was.
@@ -459,7 +475,7 @@ impl<'a> Scope<'a> {
         ensures { result ≡ mark_of self.now }
     {
         Mark {
-            count: self.variables.len(),
+            count: self.known.len(),
             depth: self.depth,
             exits: self.exits,
             result: self.result,
@@ -470,7 +486,7 @@ impl<'a> Scope<'a> {
     pub fn back_to(&mut self, mark: Mark)
         ensures { self.new ≡ back_to mark self.old }
     {
-        self.variables.truncate(mark.count);
+        self.known.truncate(mark.count);
         self.depth = mark.depth;
         self.exits = mark.exits;
         self.result = mark.result;
@@ -490,19 +506,26 @@ impl<'a> Scope<'a> {
         self.result = result_type;
     }
 
-    /// Whether a variable of this name is declared in the innermost scope.
-    pub fn is_declared_here(&self, name: &Text<'a>) -> bool
-        ensures { result ≡ is_declared_here self.now name.now }
+    /// Whether a name of a name space is declared in the innermost scope.
+    pub fn is_declared_here(&self, within: Space, name: &Text<'a>) -> bool
+        ensures { result ≡ is_declared_here within self.now name.now }
     {
-        self.variables.is_declared_at(name, self.depth)
+        self.known.is_declared_at(within, name, self.depth)
+    }
+
+    /// Whether a tag is declared in a scope around.
+    pub fn is_tag_known(&self, tag: &Text<'a>) -> bool
+        ensures { result ≡ is_tag_known self.now tag.now }
+    {
+        self.known.find(Space::Tags, tag).is_some()
     }
 
     /// What a name means here.
-    pub fn meaning_of(&self, name: &Text<'a>) -> Meaning<'a>
+    pub fn meaning_of(&self, name: &Text<'a>) -> Meaning
         ensures { result ≡ meaning_of self.now name.now }
     {
-        match self.variables.find(name) {
-            Some(entry) => Meaning::Variable(entry),
+        match self.known.find(Space::Ordinary, name) {
+            Some(entry) => entry.entity.meaning(),
             None => {
                 if self.functions.is_declared(name) {
                     Meaning::Function
@@ -513,13 +536,13 @@ impl<'a> Scope<'a> {
         }
     }
 
-    /// The definition that a called name means, `None` where a variable hides it or there is none.
+    /// The definition that a called name means, `None` where a variable or a constant hides it or there is none.
     pub fn called(&self, name: &Text<'a>) -> Option<&Signature<'a>>
         ensures { option_map (λ s. s.now) result ≡ called self.now name.now }
     {
         match self.meaning_of(name) {
             Meaning::Function => self.functions.definition(name),
-            Meaning::Unknown | Meaning::Variable(_) => None,
+            Meaning::Unknown | Meaning::Variable(_) | Meaning::Constant(_) => None,
         }
     }
 }

@@ -1,22 +1,42 @@
 -- Parts of a text one after the other.
-use Rattle.std.proofs.Common.{◌≡◌, ℕ, ◌+◌, ◌<◌, ◌≤◌, List, [], ◌∷◌, ◌++◌, map, drop, get_or, length, refl, sym, ◌∙◌, ap, append_assoc, add_assoc, add-zero, length-append, append-nil}
+use Rattle.std.proofs.Common.{◌≡◌, ℕ, ℤ, Some, ◌+◌, ◌<◌, ◌≤◌, List, [], ◌∷◌, ◌++◌, map, drop, get_or, length, refl, sym, ◌∙◌, ap, append_assoc, add_assoc, add-zero, length-append, append-nil}
+use Rattle.ba_tokens.specs.declared.token.Token.{Token}
 use Rattle.ba_numbers.specs.declared.ids.At.{At}
 use Rattle.ba_numbers.specs.declared.ids.VarId.{VarId}
 use Rattle.ba_tree.specs.declared.tree.StmtKind.{StmtKind}
 use Rattle.ba_tree.specs.declared.tree.Variable.{Variable}
-use Rattle.ba_statements.specs.Adding.{State, at_place, extended, behind_part, before_of, with_added, with_judged, with_number, with_variable}
-use Rattle.ba_typing.specs.Declarations.{Added, nothing_added, ◌and◌, behind, Part, ◌then◌, nothing, in_order, numbered, faults_added, add_variable, is_declared}
+use Rattle.ba_statements.specs.Adding.{State, at_place, extended, behind_part, before_of, with_added, with_constant, with_judged, with_number, with_variable}
+use Rattle.ba_typing.specs.Declarations.{Added, nothing_added, ◌and◌, behind, Part, ◌then◌, nothing, in_order, numbered, faults_added, add_constant, add_tag, add_variable, is_declared, next_name}
 use Rattle.ba_typing.specs.Faults.{limit_faults, statement_limit, variable_limit, twice_faults}
 use Rattle.ba_expressions.specs.Judging.{after, least_with, with_faults}
-use Rattle.ba_typing.specs.Names.{Scope, knowing}
+use Rattle.ba_typing.specs.Names.{Scope, is_declared_here, knowing, name_of}
 use Rattle.ba_tree.specs.Trees.{StmtTree}
 use Rattle.ba_typing.specs.declared.fault.Fault.{Fault}
+use Rattle.ba_typing.specs.declared.meanings.Entity.TheVariants as entity
 use Rattle.ba_typing.specs.declared.meanings.Entry.{Entry}
+use Rattle.ba_typing.specs.declared.meanings.Space.TheVariants as space
 use Rattle.ba_typing.specs.declared.meanings.Signature.{Signature}
 use Rattle.ba_expressions.specs.declared.tally.Tally.{Tally}
 use Rattle.ba_statements.specs.declared.work.Work.{Work}
 use Rattle.ba_expressions.proofs.Least.{least-append, least-swap}
 use Rattle.ba_typing.proofs.Walks.{next_item, none_left}
+
+-- ENTRIES
+
+abbrev pub variable_entry : List ℕ → ℕ → VarId → Variable → Entry
+variable_entry name depth var v = record {
+  name = name;
+  depth = depth;
+  entity = entity.Variable (record { var = var; variable = v });
+}
+
+abbrev pub constant_entry : List ℕ → ℕ → ℤ → Entry
+constant_entry name depth z = record { name = name; depth = depth; entity = entity.Constant z }
+
+abbrev pub tag_entry : List ℕ → ℕ → Entry
+tag_entry name depth = record { name = name; depth = depth; entity = entity.Tag }
+
+-- WHAT IS ADDED
 
 -- calls and faults, and then others
 pub after-after : (t : Tally) (m n : ℕ) (fs gs : List Fault) → after (after t m fs) n gs ≡ after t (m + n)
@@ -30,6 +50,8 @@ with_added-both w a b =
     let whole = with_added w (a and b) in
     ap (λ v. record (with_added (with_added w a) b) { variables = v }) (append_assoc w.variables
     a.variables b.variables)
+    ∙ ap (λ k. record (with_added (with_added w a) b) { variables = whole.variables; constants = k })
+    (add_assoc w.constants a.constants b.constants)
     ∙ ap (λ s. record whole {
       statements = s;
       elements = w.elements + a.elements + b.elements;
@@ -69,7 +91,9 @@ after-nothing t = ap (λ c. record t { calls = c }) (sym (add-zero t.calls))
 pub with_added-nothing : (w : Work) → w ≡ with_added w nothing_added
 with_added-nothing w =
     ap (λ v. record w { variables = v }) (sym (append-nil w.variables))
-    ∙ ap (λ n. record w { variables = w.variables ++ []; statements = n }) (sym (append-nil w.statements))
+    ∙ ap (λ n. record w { variables = w.variables ++ []; constants = n }) (sym (add-zero w.constants))
+    ∙ ap (λ n. record (with_added w nothing_added) { statements = n; elements = w.elements; tally = w.tally })
+    (sym (append-nil w.statements))
     ∙ ap (λ n. record (with_added w nothing_added) { elements = n; tally = w.tally }) (sym (add-zero
     w.elements))
     ∙ ap (λ t. record (with_added w nothing_added) { tally = t }) (after-nothing w.tally)
@@ -130,7 +154,9 @@ numbered-work w at k typed calls faults =
     let limit = limit_faults statement_limit (length w.statements + 1) at in
     let whole = with_added w (numbered (before_of w) at k typed calls faults) in
     let t = with_faults (after w.tally calls faults) limit in
-    ap (λ v. record whole { variables = v; elements = w.elements; tally = t }) (sym (append-nil w.variables))
+    ap (λ v. record whole { variables = v; constants = w.constants; elements = w.elements; tally = t })
+    (sym (append-nil w.variables))
+    ∙ ap (λ n. record whole { constants = n; elements = w.elements; tally = t }) (sym (add-zero w.constants))
     ∙ ap (λ e. record whole { elements = e; tally = t }) (sym (add-zero w.elements))
     ∙ ap (λ l. record whole { tally = record { calls = w.tally.calls + calls; least = l } })
     (least-swap w.tally.least faults limit)
@@ -156,12 +182,28 @@ adds-is part a scope k w v old new is knows works pushed =
     ap (λ k. at_place k v new) knows ∙ ap (λ w. at_place (knowing a.entries scope) w new) works
     ∙ ap (λ t. record (extended s a) { stmts = t }) pushed ∙ ap (extended s) (sym is)
 
+-- calls and faults alone
+abbrev pub counted : ℕ → List Fault → Added
+counted calls faults = record (faults_added faults) { calls = calls }
+
+pub counted-work : (w : Work) (calls : ℕ) (faults : List Fault)
+    → with_judged w calls faults ≡ with_added w (counted calls faults)
+counted-work w calls faults =
+    let whole = with_added w (counted calls faults) in
+    ap (λ v. record w { variables = v; tally = whole.tally }) (sym (append-nil w.variables))
+    ∙ ap (λ n. record w { variables = whole.variables; constants = n; tally = whole.tally })
+    (sym (add-zero w.constants))
+    ∙ ap (λ n. record whole { statements = n; elements = w.elements }) (sym (append-nil w.statements))
+    ∙ ap (λ e. record whole { elements = e }) (sym (add-zero w.elements))
+
 -- faults alone
 pub faults-work : (w : Work) (faults : List Fault)
     → record w { tally = with_faults w.tally faults } ≡ with_added w (faults_added faults)
 faults-work w faults =
     let whole = with_added w (faults_added faults) in let t = with_faults w.tally faults in
     ap (λ v. record w { variables = v; tally = t }) (sym (append-nil w.variables))
+    ∙ ap (λ n. record w { variables = whole.variables; constants = n; tally = t })
+    (sym (add-zero w.constants))
     ∙ ap (λ n. record whole { statements = n; elements = w.elements; tally = t }) (sym (append-nil
     w.statements))
     ∙ ap (λ e. record whole { elements = e; tally = t }) (sym (add-zero w.elements))
@@ -174,17 +216,22 @@ faults-part faults scope w v stmts is = in-scope (λ scope n. faults_added fault
     scope w v stmts stmts
     refl refl (is ∙ faults-work w faults) (sym (append-nil stmts))
 
--- a variable
+faults-more : (t : Tally) (fs gs : List Fault)
+    → with_faults (with_faults t fs) gs ≡ after t 0 (fs ++ gs)
+faults-more t fs gs = ap (λ l. record { calls = t.calls; least = l }) (least-append t.least fs gs)
+    ∙ ap (λ c. record { calls = c; least = least_with t.least (fs ++ gs) }) (sym (add-zero t.calls))
+
+-- A NAME: a variable or an enumeration constant, with faults that are found before it
+
 pub variable-work : (w : Work) (at : At) (v : Variable) (entries : List Entry) (faults : List Fault)
     → with_variable (record w { tally = with_faults w.tally faults }) at v ≡ with_added w (record
     nothing_added {
       entries = entries;
       variables = v ∷ [];
-      faults = faults ++ limit_faults variable_limit (length
-          w.variables + 1) at;
+      faults = faults ++ limit_faults variable_limit (next_name (before_of w)) at;
     })
 variable-work w at v entries faults =
-    let limit = limit_faults variable_limit (length w.variables + 1) at in
+    let limit = limit_faults variable_limit (next_name (before_of w)) at in
     let whole = with_added w (record nothing_added {
       entries = entries;
       variables = v ∷ [];
@@ -192,36 +239,74 @@ variable-work w at v entries faults =
           ++ limit;
     }) in
     let t = with_faults (with_faults w.tally faults) limit in
-    ap (λ n. record whole { statements = n; elements = w.elements; tally = t }) (sym (append-nil
+    ap (λ n. record whole { constants = n; statements = w.statements; elements = w.elements; tally = t })
+    (sym (add-zero w.constants))
+    ∙ ap (λ n. record whole { statements = n; elements = w.elements; tally = t }) (sym (append-nil
     w.statements))
     ∙ ap (λ e. record whole { elements = e; tally = t }) (sym (add-zero w.elements))
-    ∙ ap (λ l. record whole { tally = record { calls = w.tally.calls; least = l } }) (least-append
-    w.tally.least faults limit)
-    ∙ ap (λ c. record whole {
-      tally = record {
-        calls = c;
-        least = least_with w.tally.least (faults ++
-            limit);
-      };
+    ∙ ap (λ t. record whole { tally = t }) (faults-more w.tally faults limit)
+
+pub constant-work : (w : Work) (at : At) (entries : List Entry) (faults : List Fault)
+    → with_constant (record w { tally = with_faults w.tally faults }) at
+    ≡ with_added w (record nothing_added {
+      entries = entries;
+      constants = 1;
+      faults = faults ++ limit_faults variable_limit (next_name (before_of w)) at;
     })
-    (sym (add-zero w.tally.calls))
+constant-work w at entries faults =
+    let limit = limit_faults variable_limit (next_name (before_of w)) at in
+    let whole = with_added w (record nothing_added {
+      entries = entries;
+      constants = 1;
+      faults = faults ++ limit;
+    }) in
+    let t = with_faults (with_faults w.tally faults) limit in
+    ap (λ v. record whole { variables = v; statements = w.statements; elements = w.elements; tally = t })
+    (sym (append-nil w.variables))
+    ∙ ap (λ n. record whole { statements = n; elements = w.elements; tally = t })
+    (sym (append-nil w.statements))
+    ∙ ap (λ e. record whole { elements = e; tally = t }) (sym (add-zero w.elements))
+    ∙ ap (λ t. record whole { tally = t }) (faults-more w.tally faults limit)
 
 pub variable-is : (functions : List Signature) (at : At) (name : List ℕ) (v : Variable) (scope k : Scope)
     (w mid new : Work)
     (var : VarId) (stmts : List StmtTree)
     → mid ≡ record w { tally = with_faults w.tally (twice_faults (is_declared scope functions name) at) }
     → new ≡ with_variable mid at v → var ≡ record { 0 = length mid.variables }
-    → k ≡ knowing (record { name = name; depth = scope.depth; var = var; variable = v } ∷ []) scope
+    → k ≡ knowing (variable_entry name scope.depth var v ∷ []) scope
     → at_place k new stmts ≡ behind_part (add_variable functions at name v) (at_place scope w stmts)
 variable-is functions at name v scope k w mid new var stmts twice works is knows =
-    let entry = λ (var : VarId). record { name = name; depth = scope.depth; var = var; variable = v } ∷ [] in
     adds-is (add_variable functions at name v) (add_variable functions at name v scope (before_of w)) scope
     k w new stmts stmts
-    refl (knows ∙ ap (λ var. knowing (entry var) scope) (is ∙ ap (λ (m : Work). record {
-      0 = length
-          m.variables;
-    }) twice))
+    refl
+    (knows ∙ ap (λ var. knowing (variable_entry name scope.depth var v ∷ []) scope)
+    (is ∙ ap (λ (m : Work). record { 0 = length m.variables }) twice))
     (works ∙ ap (λ m. with_variable m at v) twice
-    ∙ variable-work w at v (entry (record { 0 = length w.variables })) (twice_faults (is_declared scope
-    functions name) at))
+    ∙ variable-work w at v (variable_entry name scope.depth (record { 0 = length w.variables }) v ∷ [])
+    (twice_faults (is_declared scope functions name) at))
+    (sym (append-nil stmts))
+
+pub constant-is : (functions : List Signature) (at : At) (name : List ℕ) (z : ℤ) (scope k : Scope)
+    (w mid new : Work) (stmts : List StmtTree)
+    → mid ≡ record w { tally = with_faults w.tally (twice_faults (is_declared scope functions name) at) }
+    → new ≡ with_constant mid at → k ≡ knowing (constant_entry name scope.depth z ∷ []) scope
+    → at_place k new stmts ≡ behind_part (add_constant functions at name z) (at_place scope w stmts)
+constant-is functions at name z scope k w mid new stmts twice works knows =
+    adds-is (add_constant functions at name z) (add_constant functions at name z scope (before_of w)) scope
+    k w new stmts stmts refl knows
+    (works ∙ ap (λ m. with_constant m at) twice
+    ∙ constant-work w at (constant_entry name scope.depth z ∷ [])
+    (twice_faults (is_declared scope functions name) at))
+    (sym (append-nil stmts))
+
+-- a tag
+pub tag-is : (tag : Token) (scope k : Scope) (w new : Work) (stmts : List StmtTree)
+    → new ≡ record w {
+      tally = with_faults w.tally (twice_faults (is_declared_here space.Tags scope (name_of tag)) tag.at);
+    }
+    → k ≡ knowing (tag_entry (name_of tag) scope.depth ∷ []) scope
+    → at_place k new stmts ≡ behind_part (add_tag (Some tag)) (at_place scope w stmts)
+tag-is tag scope k w new stmts twice knows =
+    adds-is (add_tag (Some tag)) (add_tag (Some tag) scope (before_of w)) scope k w new stmts stmts refl knows
+    (twice ∙ faults-work w (twice_faults (is_declared_here space.Tags scope (name_of tag)) tag.at))
     (sym (append-nil stmts))

@@ -1,5 +1,5 @@
 -- What assignments add, from the judgements of what is assigned to and of what is assigned.
-use Rattle.std.proofs.Common.{◌≡◌, ℕ, ◌+◌, nat_lt, Bool, ◌&&◌, pos, Option, None, Some, option_map, Result, List, [], ◌∷◌, ◌++◌, refl, sym, ◌∙◌, ap, subst, arith, add-zero, append-nil}
+use Rattle.std.proofs.Common.{◌≡◌, ℕ, ◌+◌, nat_lt, Bool, ◌&&◌, pos, Option, None, Some, option_map, Result, Ok, Err, List, [], ◌∷◌, ◌++◌, refl, sym, ◌∙◌, ap, subst, arith, append-nil}
 use Rattle.std.specs.Option.{is_some}
 use Rattle.std.specs.Prelude.{IfOk}
 use Rattle.std.proofs.lemmas.Bool.Decides.{nat_tests}
@@ -17,43 +17,72 @@ use Rattle.ba_tree.specs.declared.tree.StmtKind.{StmtKind}
 use Rattle.ba_tree.specs.declared.tree.StmtKind.TheVariants as kind
 use Rattle.ba_statements.specs.Adding.{Assigns, GivesTarget, JudgesTarget, Numbers, at_place, before_of, behind_part, index_tree, typed_target_of, with_number}
 use Rattle.ba_typing.specs.Declarations.{next_stmt}
-use Rattle.ba_typing.specs.Expressions.{Typed, Typing, array_of, element_type, typed_constant, typed_element, typed_name, tree_as, variable_type}
+use Rattle.ba_typing.specs.Expressions.{Typed, Typing, array_of, element_type, typed_constant, typed_element, typed_name, tree_as, variable_type, with_more_faults}
 use Rattle.ba_numbers.specs.Types.{promoted}
-use Rattle.ba_typing.specs.Faults.{array_name_faults, fault_if, height_limit, limit_faults, value_name_faults}
-use Rattle.ba_expressions.specs.Judging.{Judges, Stands, after, least_with, with_faults}
+use Rattle.ba_typing.specs.Faults.{array_name_faults, fault_if, height_limit, limit_faults, target_name_faults, value_name_faults}
+use Rattle.ba_expressions.specs.Judging.{Judges, Stands, after, with_faults}
 use Rattle.ba_typing.specs.Names.{Scope, meaning_of, name_of}
 use Rattle.ba_typing.specs.Statements.{TypedTarget, add_assignment, assign_tree, assigned_tree, changed, index_faults, index_typing, kind_of_target, one, typed_target, var_of}
 use Rattle.ba_tree.specs.Trees.{ExprTree, StmtTree, tree_of_expr, tree_of_stmt}
 use Rattle.ba_tree.specs.Trees as tree
 use Rattle.ba_statements.specs.declared.assignments.JudgedTarget.{JudgedTarget}
 use Rattle.ba_typing.specs.declared.fault.Cause.TheVariants.{CallInIndex}
+use Rattle.ba_typing.specs.declared.fault.Fault.{Fault}
 use Rattle.ba_expressions.specs.declared.judged.Judged.{Judged}
 use Rattle.ba_typing.specs.declared.meanings.Meaning.{Meaning}
+use Rattle.ba_typing.specs.declared.meanings.Meaning.TheVariants as meaning
 use Rattle.ba_expressions.specs.declared.tally.Tally.{Tally}
 use Rattle.ba_statements.specs.declared.work.Work.{Work}
 use Rattle.ba_statements.proofs.Adding.{after-nothing, numbered-is}
 use Rattle.ba_typing.proofs.StmtForms.{tree-Assign, tree-Store}
-use Rattle.ba_expressions.proofs.Tallies.{after-as, after-then, faults-behind, faults-then}
+use Rattle.ba_expressions.proofs.Tallies.{after-as, after-then, faults-behind, faults-then, faults-twice}
 use Rattle.ba_expressions.proofs.Walking.{element-calls, element-faults}
 
 -- WHAT IS ASSIGNED TO
 
-pub variable-target-is : (at : At) (name : List ℕ) (scope : Scope) (old new : Tally) (v : VarId) (t : CType)
+name-calls : (at : At) (name : List ℕ) (m : Meaning) → (typed_name at name m).calls ≡ 0
+name-calls at name meaning.Unknown = refl
+name-calls at name meaning.Function = refl
+name-calls at name (meaning.Variable e) = refl
+name-calls at name (meaning.Constant z) = refl
+
+name-faults : (at : At) (name : List ℕ) (m : Meaning) → (typed_name at name m).faults ≡ value_name_faults m at
+name-faults at name meaning.Unknown = refl
+name-faults at name meaning.Function = refl
+name-faults at name (meaning.Variable e) = append-nil (value_name_faults (meaning.Variable e) at)
+name-faults at name (meaning.Constant z) = refl
+
+name-type : (at : At) (name : List ℕ) (m : Meaning) → (typed_name at name m).t ≡ variable_type m
+name-type at name meaning.Unknown = refl
+name-type at name meaning.Function = refl
+name-type at name (meaning.Variable e) = refl
+name-type at name (meaning.Constant z) = refl
+
+pub variable-target-is : (at : At) (name : List ℕ) (scope : Scope) (old mid new : Tally) (v : VarId)
+    (t : CType)
     (m : Meaning)
-    → m ≡ meaning_of scope name → v ≡ var_of m → t ≡ variable_type m → new ≡ with_faults old
-    (value_name_faults m at)
+    → m ≡ meaning_of scope name → v ≡ var_of m → t ≡ variable_type m
+    → mid ≡ with_faults old (target_name_faults m at) → new ≡ with_faults mid (value_name_faults m at)
     → GivesTarget at at None (typed_target at name None scope old.calls) old new (record {
       var = v;
       t = t;
       index = None;
     })
-variable-target-is at name scope old new v t m means names types named =
-    let fs = value_name_faults (meaning_of scope name) at in (
-      record { var = names ∙ ap var_of means; t = types ∙ ap variable_type means; index = refl },
-      named ∙ ap (λ m. with_faults old (value_name_faults m at)) means
-          ∙ ap (with_faults old) (sym (append-nil fs) ∙ sym (append-nil (fs ++ [])))
-          ∙ ap (λ n. record { calls = n; least = least_with old.least (fs ++ [] ++ []) }) (sym (add-zero
-          old.calls)),
+variable-target-is at name scope old mid new v t m means names types begun named =
+    let k = meaning_of scope name in
+    let s = (typed_target at name None scope old.calls).expression in
+    let fs = target_name_faults k at ++ value_name_faults k at in (
+      record {
+        var = names ∙ ap var_of means;
+        t = types ∙ ap variable_type means ∙ sym (name-type at name k);
+        index = refl;
+      },
+      after-as old new 0 s.calls fs (s.faults ++ []) (sym (name-calls at name k))
+          (ap (λ xs. target_name_faults k at ++ xs) (sym (name-faults at name k)) ∙ sym (append-nil s.faults))
+          (faults-twice old mid new (target_name_faults k at) (value_name_faults k at)
+          (begun ∙ ap (λ m. with_faults old (target_name_faults m at)) means)
+          (named ∙ ap (λ m. with_faults mid (value_name_faults m at)) means)
+          ∙ after-nothing (with_faults old fs)),
     )
 
 -- there are more calls behind than before where some were added
@@ -113,6 +142,12 @@ abbrev value_at : Target → Scope → ℕ → Option Index → Typed
 value_at target scope calls o =
     (typed_target target.name.at (name_of target.name) (index_typing o) scope calls).expression
 
+-- a judgement keeps no faults
+with-more : {E : Type 0} (r : Result Judged E) (fs : List Fault) (s : Typed) → IfOk r (λ j. Judges j s)
+    → IfOk r (λ j. Judges j (with_more_faults fs s))
+with-more (Ok j) fs s is = ap (with_more_faults fs) is
+with-more (Err e) fs s is = is
+
 module _ {E : Type 0} (target : Target) (scope : Scope) (calls : ℕ) (name : List ℕ) (m : Meaning)
     (r : Result Judged E) where
   pub name-value : name ≡ name_of target.name → m ≡ meaning_of scope name → target.index ≡ None
@@ -120,9 +155,11 @@ module _ {E : Type 0} (target : Target) (scope : Scope) (calls : ℕ) (name : Li
       → IfOk r (λ j. Judges j (typed_target_of target scope calls).expression)
   name-value names means none gives =
       let at = target.name.at in
+      let k = meaning_of scope (name_of target.name) in
       subst (λ o. IfOk r (λ j. Judges j (value_at target scope calls o))) (sym none)
+      (with-more r (target_name_faults k at) (typed_name at (name_of target.name) k)
       (subst (λ n. IfOk r (λ j. Judges j (typed_name at n (meaning_of scope n)))) names
-      (subst (λ m. IfOk r (λ j. Judges j (typed_name at name m))) means gives))
+      (subst (λ m. IfOk r (λ j. Judges j (typed_name at name m))) means gives)))
 
 -- THE STATEMENT
 

@@ -1,17 +1,16 @@
 -- What statements that hold others add, from what the code makes of their parts.
-use Rattle.std.proofs.Common.{◌≡◌, pos, Option, None, Some, Result, List, [], ◌∷◌, ◌++◌, map, length, take, refl, sym, ◌∙◌, ap, subst}
+use Rattle.std.proofs.Common.{◌≡◌, pos, Option, None, Some, Result, List, [], ◌∷◌, ◌++◌, map, length, take, refl, sym, ◌∙◌, ap, subst, append-nil}
 use Rattle.std.specs.Prelude.{OnOk}
 use Rattle.std.proofs.lemmas.List.{take_at}
 use Rattle.std.proofs.lemmas.Result.{on_ok_weaker}
+use Rattle.ba_tokens.specs.declared.token.Token.{Token}
 use Rattle.ba_numbers.specs.declared.ids.At.{At}
 use Rattle.ba_numbers.specs.declared.ids.StmtId.{StmtId}
 use Rattle.ba_numbers.specs.declared.numbers.CType.{CType}
 use Rattle.ba_numbers.specs.declared.numbers.CType.TheVariants.{I32}
-use Rattle.ba_trees.specs.declared.tree.declarations.Declaration.{Declaration}
 use Rattle.ba_trees.specs.declared.tree.declarations.Declarators.{Declarators}
 use Rattle.ba_trees.specs.declared.tree.expressions.TypeName.{TypeName}
 use Rattle.ba_trees.specs.declared.tree.statements.BlockItem.{BlockItem}
-use Rattle.ba_trees.specs.declared.tree.statements.BlockItem as item
 use Rattle.ba_trees.specs.declared.tree.statements.ForFirst.{ForFirst}
 use Rattle.ba_trees.specs.declared.tree.statements.ForFirst.TheVariants as for_first
 use Rattle.ba_trees.specs.declared.tree.statements.ForHead.{ForHead}
@@ -21,12 +20,12 @@ use Rattle.ba_tree.specs.declared.tree.Stmt.{Stmt}
 use Rattle.ba_tree.specs.declared.tree.StmtKind.TheVariants as kind
 use Rattle.ba_statements.specs.Adding.{GivesTest, Numbers, State, at_place, before_of, behind_part, with_added}
 use Rattle.ba_statements.specs.Controlling.{GivesBody, GivesGuarded, GivesHead}
-use Rattle.ba_typing.specs.Declarations.{Added, ◌and◌, Before, Part, add_declarators, behind, in_order, next_stmt, nothing_added}
+use Rattle.ba_typing.specs.Declarations.{Added, ◌and◌, Before, Part, ◌then◌, add_declarators, behind, faults_added, in_order, next_stmt, nothing_added}
 use Rattle.ba_typing.specs.Expressions.{Typing, typed_constant}
-use Rattle.ba_typing.specs.Faults.{height_limit, limit_faults}
+use Rattle.ba_typing.specs.Faults.{height_limit, limit_faults, tag_faults}
 use Rattle.ba_expressions.specs.Judging.{Judges, with_faults}
 use Rattle.ba_scopes.specs.Marks.{back_to, mark_of}
-use Rattle.ba_typing.specs.Names.{Scope, inner, knowing, looping, type_named}
+use Rattle.ba_typing.specs.Names.{Scope, inner, knowing, looping, tag_of, type_named, words_of}
 use Rattle.ba_typing.specs.Statements.{add_block, add_do, add_first, add_for, add_statement_form, add_if, add_item, add_statement, add_step, add_test, add_while, enclosing, for_scope, for_test, one, one_of}
 use Rattle.ba_tree.specs.Trees.{ExprTree, StmtTree, stmts_of, tree_of_expr, tree_of_stmt}
 use Rattle.ba_tree.specs.Trees as tree
@@ -40,8 +39,8 @@ use Rattle.ba_scopes.specs.declared.scopes.Mark.{Mark}
 use Rattle.ba_typing.specs.declared.meanings.Signature.{Signature}
 use Rattle.ba_expressions.specs.declared.tally.Tally.{Tally}
 use Rattle.ba_statements.specs.declared.work.Work.{Work}
-use Rattle.ba_statements.proofs.Adding.{after-nothing, before-added, in-scope, with_added-both, with_added-nothing}
-use Rattle.ba_typing.proofs.ParsedStatements.{by-form, declaration-is}
+use Rattle.ba_statements.proofs.Adding.{after-nothing, and-then, before-added, faults-work, in-scope, with_added-both, with_added-nothing}
+use Rattle.ba_typing.proofs.ParsedStatements.{by-form}
 use Rattle.ba_statements.proofs.StatementSteps.{test-is}
 
 -- WHAT WAS ADDED
@@ -276,18 +275,28 @@ absent-is at scope w u j new stmt judges more counted =
 
 module _ (f : ForFirst) (scope : Scope) (w : Work) (stmts : List StmtTree) (new : State) where
   pub first-declares : (name : TypeName) (declarators : Declarators) (functions : List Signature)
-      (t : Option CType)
-      (inside : Scope) → f ≡ for_first.Declaration name declarators → functions ≡ [] → t ≡ type_named name
-      → inside ≡ inner scope
-      → new ≡ behind_part (add_declarators functions t declarators) (at_place inside w stmts)
+      (t : Option CType) (tag : Option Token) (inside : Scope) (mid : Tally)
+      → f ≡ for_first.Declaration name declarators → functions ≡ [] → t ≡ type_named name
+      → tag ≡ tag_of (words_of name) → inside ≡ inner scope
+      → mid ≡ with_faults w.tally (tag_faults inside tag)
+      → new ≡ behind_part (add_declarators functions t declarators)
+      (at_place inside (record w { tally = mid }) stmts)
       → new ≡ behind_part (add_first f) (at_place (for_scope f scope) w stmts)
-  first-declares name declarators functions t inside is none types enters adds = adds
-      ∙ ap (λ (fs : List Signature). behind_part (add_declarators fs t declarators)
-      (at_place inside w stmts)) none
-      ∙ ap (λ (t : Option CType). behind_part (add_declarators [] t declarators)
-      (at_place inside w stmts)) types
-      ∙ ap (λ (k : Scope). behind_part (add_declarators [] (type_named name) declarators)
-      (at_place k w stmts)) enters
+  first-declares name declarators functions t tag inside mid is none types tags enters counted adds =
+      let looks : Part = λ scope n. faults_added (tag_faults scope (tag_of (words_of name))) in
+      let rest = add_declarators [] (type_named name) declarators in
+      let v = record w { tally = mid } in
+      and-then looks rest (at_place inside w stmts) (at_place inside v stmts) new
+      (in-scope looks (faults_added (tag_faults inside (tag_of (words_of name)))) inside w v stmts stmts
+      refl refl
+      (ap (λ t. record w { tally = t }) (counted ∙ ap (λ tag. with_faults w.tally (tag_faults inside tag))
+      tags)
+      ∙ faults-work w (tag_faults inside (tag_of (words_of name)))) (sym (append-nil stmts)))
+      (adds ∙ ap (λ (fs : List Signature). behind_part (add_declarators fs t declarators)
+      (at_place inside v stmts)) none
+      ∙ ap (λ (t : Option CType). behind_part (add_declarators [] t declarators) (at_place inside v stmts))
+      types)
+      ∙ ap (λ (k : Scope). behind_part (looks then rest) (at_place k w stmts)) enters
       ∙ ap (λ (f : ForFirst). behind_part (add_first f) (at_place (for_scope f scope) w stmts)) (sym is)
 
   pub first-as : (g : ForFirst) → f ≡ g
@@ -372,16 +381,6 @@ module _ (head : ForHead) (outside inside : Scope) (w mid : Work) (h : Head)
 -- IN A BLOCK
 
 module _ (b : BlockItem) (old new : State) where
-  pub item-declares : (d : Declaration) (functions : List Signature) (t : Option CType)
-      → b ≡ item.Declaration d
-      → functions ≡ [] → t ≡ type_named d.name
-      → new ≡ behind_part (add_declarators functions t d.declarators) old → new ≡ behind_part (add_item b) old
-  item-declares d functions t is none types adds = adds
-      ∙ ap (λ (fs : List Signature). behind_part (add_declarators fs t d.declarators) old) none
-      ∙ ap (λ (t : Option CType). behind_part (add_declarators [] t d.declarators) old) types
-      ∙ ap (λ (part : Part). behind_part part old) (sym (declaration-is d))
-      ∙ ap (λ (b : BlockItem). behind_part (add_item b) old) (sym is)
-
   pub item-as : (c : BlockItem) (part : Part) → b ≡ c → add_item c ≡ part → new ≡ behind_part part old
       → new ≡ behind_part (add_item b) old
   item-as c part is makes adds = adds

@@ -13,18 +13,20 @@ use Rattle.ba_numbers.specs.declared.numbers.CType.TheVariants.{I32}
 use Rattle.ba_trees.specs.declared.tree.declarations.ArrayLength.{ArrayLength}
 use Rattle.ba_trees.specs.declared.tree.declarations.Braced.{Braced}
 use Rattle.ba_trees.specs.declared.tree.declarations.Declarator.{Declarator}
+use Rattle.ba_trees.specs.declared.tree.declarations.Declarators.{Declarators}
 use Rattle.ba_trees.specs.declared.tree.declarations.Initialiser.{Initialiser}
 use Rattle.ba_trees.specs.declared.tree.declarations.Initialiser.TheVariants as initialiser
+use Rattle.ba_trees.specs.declared.tree.declarations.Specifiers.{Specifiers}
 use Rattle.ba_trees.specs.declared.tree.expressions.Conditional.{Conditional}
 use Rattle.ba_tree.specs.declared.tree.Expr.{Expr}
 use Rattle.ba_tree.specs.declared.tree.Shape.{Shape}
 use Rattle.ba_tree.specs.declared.tree.StmtKind.TheVariants as kind
 use Rattle.ba_statements.specs.Adding.{AddsLength, IsLength, Keeping, Kept, Numbers, State, at_place, before_of, behind_part, initialising, keep_each, keep_one, plain_length, with_added, with_count}
-use Rattle.ba_typing.specs.Declarations.{Part, ◌then◌, TypedLength, add_declarator, add_declare, add_initialiser, add_length, add_optional_initialiser, add_variable, braced_values, calls_in, count_of_values, exceeds, faults_added, has_braces, init_tree, initial_faults, length_faults, length_in_range, written_count, next_stmt, nothing_added, typed_array_length, typed_each, typed_length, shape_of, values_of, whole_faults, written_length}
+use Rattle.ba_typing.specs.Declarations.{Part, ◌then◌, TypedLength, add_declaration, add_declarator, add_declare, add_initialiser, add_length, add_optional_declarators, add_optional_initialiser, add_specifiers, add_variable, braced_values, calls_in, count_of_values, exceeds, faults_added, has_braces, init_tree, initial_faults, length_faults, length_in_range, written_count, next_stmt, nothing_added, typed_array_length, typed_each, typed_length, shape_of, values_of, whole_faults, written_length}
 use Rattle.ba_typing.specs.Expressions.{Typed, Typing, typed_conditional, tree_as}
 use Rattle.ba_typing.specs.Faults.{fault, fault_if, limit_faults, element_limit, void_faults}
 use Rattle.ba_expressions.specs.Judging.{Judges, after, with_faults}
-use Rattle.ba_typing.specs.Names.{Scope, name_of}
+use Rattle.ba_typing.specs.Names.{Scope, name_of, type_specified}
 use Rattle.ba_tree.specs.Trees.{StmtTree, tree_of_expr}
 use Rattle.ba_tree.specs.Trees as tree
 use Rattle.ba_statements.specs.declared.declarations.Length.{Length}
@@ -57,6 +59,8 @@ count-work w at None calls faults =
     }) in
     let t = with_faults (after w.tally calls faults) more in
     ap (λ v. record w { variables = v; tally = t }) (sym (append-nil w.variables))
+    ∙ ap (λ n. record w { variables = whole.variables; constants = n; tally = t })
+    (sym (add-zero w.constants))
     ∙ ap (λ n. record whole { statements = n; elements = w.elements; tally = t }) (sym (append-nil
     w.statements))
     ∙ ap (λ e. record whole { elements = e; tally = t }) (sym (add-zero w.elements))
@@ -71,8 +75,10 @@ count-work w at (Some count) calls faults =
           faults;
     }) in
     let t = with_faults (after w.tally calls faults) more in
-    ap (λ v. record whole { variables = v; statements = w.statements; tally = t }) (sym (append-nil
-    w.variables))
+    ap (λ v. record whole { variables = v; constants = w.constants; statements = w.statements; tally = t })
+    (sym (append-nil w.variables))
+    ∙ ap (λ n. record whole { constants = n; statements = w.statements; tally = t })
+    (sym (add-zero w.constants))
     ∙ ap (λ n. record whole { statements = n; tally = t }) (sym (append-nil w.statements))
     ∙ ap (λ l. record whole { tally = record { calls = w.tally.calls + calls; least = l } })
     (least-swap w.tally.least faults more)
@@ -324,3 +330,16 @@ pub some-length-some : (k : Option Length) (l : Option TypedLength) → k ≡ pl
     is_some l
 some-length-some k None same = ap is_some same
 some-length-some k (Some l) same = ap is_some same
+
+-- a declaration of a block, before which no function is declared in it
+pub declaration-adds : (words : Specifiers) (declarators : Option Declarators) (functions : List Signature)
+    (t : Option CType) (old mid new : State) → functions ≡ [] → t ≡ type_specified words
+    → mid ≡ behind_part (add_specifiers functions words) old
+    → new ≡ behind_part (add_optional_declarators functions t declarators) mid
+    → new ≡ behind_part (add_declaration [] words declarators) old
+declaration-adds words declarators functions t old mid new none types begun ended =
+    and-then (add_specifiers functions words) (add_optional_declarators functions t declarators) old mid new
+    begun
+    ended
+    ∙ ap (λ fs. behind_part (add_specifiers fs words then add_optional_declarators fs t declarators) old) none
+    ∙ ap (λ t. behind_part (add_specifiers [] words then add_optional_declarators [] t declarators) old) types

@@ -13,22 +13,21 @@ use Rattle.ba_tree.specs.declared.tree.Stmt.{Stmt}
 use Rattle.ba_tree.specs.declared.tree.StmtKind.TheVariants as kind
 use Rattle.ba_statements.specs.Adding.{Numbers, State, at_place, before_of, behind_part, extended, with_added, with_judged, with_number}
 use Rattle.ba_statements.specs.Labelling.{AddsLabel, GivesControlling, SwitchState, behind_group, behind_groups, behind_labelled}
-use Rattle.ba_typing.specs.Declarations.{Added, ◌and◌, Before, behind, faults_added, in_order, next_stmt, whole_faults}
-use Rattle.ba_typing.specs.Expressions.{Typed, Typing, tree_as}
+use Rattle.ba_typing.specs.Declarations.{Added, ◌and◌, Before, behind, in_order, next_stmt, whole_faults}
+use Rattle.ba_typing.specs.Expressions.{Typed, Typing, constant_value, tree_as}
 use Rattle.ba_typing.specs.Faults.{fault_if, height_limit, limit_faults}
 use Rattle.ba_expressions.specs.Judging.{Judges, Stands, after, least_with, with_faults}
 use Rattle.ba_typing.specs.Names.{Scope, knowing, switching}
-use Rattle.ba_typing.specs.Statements.{GroupParts, add_case, add_controlling, add_default, add_group, add_groups, add_label, add_switch, enclosing, label_value, no_labels, value_faults, with_start}
+use Rattle.ba_typing.specs.Statements.{GroupParts, add_case, add_controlling, add_default, add_group, add_groups, add_label, add_switch, enclosing, label_faults, no_labels, with_start}
 use Rattle.ba_tree.specs.Trees.{StmtTree, stmts_of, tree_of_expr, tree_of_stmt}
 use Rattle.ba_tree.specs.Trees as tree
 use Rattle.ba_typing.specs.declared.fault.Cause.TheVariants.{Twice}
-use Rattle.ba_typing.specs.declared.fault.Fault.{Fault}
 use Rattle.ba_typing.specs.declared.meanings.Labels.{Labels}
 use Rattle.ba_expressions.specs.declared.judged.Judged.{Judged}
 use Rattle.ba_expressions.specs.declared.tally.Tally.{Tally}
 use Rattle.ba_statements.specs.declared.labels.Controlling.{Controlling}
 use Rattle.ba_statements.specs.declared.work.Work.{Work}
-use Rattle.ba_statements.proofs.Adding.{before-added, behind-nothing, extended-both, in-scope, numbered-work}
+use Rattle.ba_statements.proofs.Adding.{before-added, behind-nothing, counted, counted-work, extended-both, in-scope, numbered-work}
 use Rattle.ba_statements.proofs.ControlSteps.{behind-added, both-added}
 use Rattle.ba_statements.proofs.KeptValues.{whole-is}
 use Rattle.ba_expressions.proofs.Tallies.{faults-behind}
@@ -63,14 +62,15 @@ both-ok P Q (Err e) p q = tt
 
 pub case-is : (t : CType) (at : At) (s : Typed) (j : Judged) (old mid new : Tally) (value : Option ℤ)
     (count : ℕ) (begun labels : Labels)
-    → Judges j s → mid ≡ after old s.calls (whole_faults at s) → value ≡ label_value t s
-    → labels ≡ with_start begun value count → new ≡ with_faults mid (value_faults begun value j.first)
+    → Judges j s → mid ≡ after old s.calls (whole_faults at s) → value ≡ constant_value t s
+    → labels ≡ with_start begun value count → new ≡ with_faults mid (label_faults begun value j.first)
     → AddsLabel (add_case t at s begun count) old new labels
 case-is t at s j old mid new value count begun labels judges counts is starts more = (
   starts ∙ ap (λ z. with_start begun z count) is,
-  faults-behind old mid new s.calls (whole_faults at s) (value_faults begun (label_value t s) s.first) counts
-      (more ∙ ap (λ z. with_faults mid (value_faults begun z j.first)) is
-      ∙ ap (λ (e : Typed). with_faults mid (value_faults begun (label_value t s) e.first)) judges),
+  faults-behind old mid new s.calls (whole_faults at s) (label_faults begun (constant_value t s) s.first)
+      counts
+      (more ∙ ap (λ z. with_faults mid (label_faults begun z j.first)) is
+      ∙ ap (λ (e : Typed). with_faults mid (label_faults begun (constant_value t s) e.first)) judges),
 )
 
 pub default-is : (at : At) (count : ℕ) (begun labels : Labels) (old new : Tally) (b : Bool)
@@ -85,22 +85,10 @@ default-is at count begun labels old new b is given more = (
       }) (sym (add-zero old.calls)),
 )
 
--- calls and faults alone
-abbrev counted : ℕ → List Fault → Added
-counted calls faults = record (faults_added faults) { calls = calls }
-
 label-counts : (t : CType) (at : At) (l : Label) (labels : Labels) (count : ℕ) (scope : Scope) (calls : ℕ)
     → let a = (add_label t at l labels count scope calls).added in a ≡ counted a.calls a.faults
 label-counts t at (label.Case keyword value colon) labels count scope calls = refl
 label-counts t at (label.Default keyword colon) labels count scope calls = refl
-
-counted-work : (w : Work) (calls : ℕ) (faults : List Fault)
-    → with_judged w calls faults ≡ with_added w (counted calls faults)
-counted-work w calls faults =
-    let whole = with_added w (counted calls faults) in
-    ap (λ v. record w { variables = v; tally = whole.tally }) (sym (append-nil w.variables))
-    ∙ ap (λ n. record whole { statements = n; elements = w.elements }) (sym (append-nil w.statements))
-    ∙ ap (λ e. record whole { elements = e }) (sym (add-zero w.elements))
 
 -- behind calls and faults the statements and the scope are as they were
 counted-added : (a : Added) (w mid : Work) → a ≡ counted a.calls a.faults

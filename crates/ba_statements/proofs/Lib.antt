@@ -3,6 +3,7 @@ pub mod KeptValues
 pub mod StatementSteps
 pub mod ControlSteps
 pub mod Declaring
+pub mod Enumerating
 pub mod CallSteps
 pub mod AssignmentSteps
 pub mod PrintSteps

@@ -1,19 +1,21 @@
 -- What typing has made of the text so far, and what a part of the text adds to it.
 
-use Rattle.std.specs.Prelude.{◌≡◌, ℕ, ◌+◌, Bool, Option, None, Some, option_map, Result, Ok, Err, List, [], ◌∷◌, ◌++◌, map, length}
+use Rattle.std.specs.Prelude.{◌≡◌, ℕ, ℤ, ◌+◌, Bool, Option, None, Some, option_map, Result, Ok, Err, List, [], ◌∷◌, ◌++◌, map, length}
 use Rattle.std.specs.Global.{Vec}
 use Rattle.std.specs.Option.{is_some}
 use Rattle.ba_numbers.specs.declared.ids.At.{At}
 use Rattle.ba_numbers.specs.declared.ids.StmtId.{StmtId}
 use Rattle.ba_numbers.specs.declared.numbers.BinOp.{BinOp}
 use Rattle.ba_numbers.specs.declared.numbers.CType.{CType}
+use Rattle.ba_numbers.specs.declared.numbers.CType.TheVariants.{I32}
+use Rattle.ba_trees.specs.declared.tree.declarations.Enumerator.{Enumerator}
 use Rattle.ba_trees.specs.declared.tree.statements.Target.{Target}
 use Rattle.ba_tree.specs.declared.tree.Expr.{Expr}
 use Rattle.ba_tree.specs.declared.tree.Stmt.{Stmt}
 use Rattle.ba_tree.specs.declared.tree.StmtKind.{StmtKind}
 use Rattle.ba_tree.specs.declared.tree.Variable.{Variable}
-use Rattle.ba_typing.specs.Declarations.{Added, Before, Part, TypedLength, add_length, initial_faults, next_stmt, whole_faults}
-use Rattle.ba_typing.specs.Expressions.{Typed, Typing, placeholder, tree_as}
+use Rattle.ba_typing.specs.Declarations.{Added, Before, Part, TypedLength, add_enumerator, add_length, enumerator_value, initial_faults, next_name, next_stmt, value_faults, whole_faults, written_value}
+use Rattle.ba_typing.specs.Expressions.{Typed, Typing, constant_value, placeholder, tree_as}
 use Rattle.ba_numbers.specs.Types.{promoted}
 use Rattle.ba_typing.specs.Faults.{fault, limit_faults, statement_limit, variable_limit, element_limit, height_limit}
 use Rattle.ba_expressions.specs.Judging.{Judges, after, nothing_found, with_faults}
@@ -26,6 +28,7 @@ use Rattle.ba_statements.specs.declared.declarations.Length.{Length}
 use Rattle.ba_typing.specs.declared.fault.Cause.TheVariants.{BadLength}
 use Rattle.ba_typing.specs.declared.fault.Fault.{Fault}
 use Rattle.ba_expressions.specs.declared.judged.Judged.{Judged}
+use Rattle.ba_typing.specs.declared.meanings.Signature.{Signature}
 use Rattle.ba_expressions.specs.declared.tally.Tally.{Tally}
 use Rattle.ba_statements.specs.declared.work.Work.{Work}
 
@@ -33,6 +36,7 @@ use Rattle.ba_statements.specs.declared.work.Work.{Work}
 abbrev pub before_of : Work → Before
 before_of w = record {
   variables = length w.variables;
+  constants = w.constants;
   statements = length w.statements;
   calls = w.tally.calls;
   elements = w.elements;
@@ -42,6 +46,7 @@ before_of w = record {
 abbrev pub with_added : Work → Added → Work
 with_added w a = record {
   variables = w.variables ++ a.variables;
+  constants = w.constants + a.constants;
   statements = w.statements ++ a.statements;
   elements = w.elements + a.elements;
   tally = after w.tally a.calls a.faults;
@@ -73,7 +78,7 @@ behind_part part s = extended s (part s.scope (before_of s.work))
 
 -- nothing was made yet
 abbrev pub no_work : Work
-no_work = record { variables = []; statements = []; elements = 0; tally = nothing_found }
+no_work = record { variables = []; constants = 0; statements = []; elements = 0; tally = nothing_found }
 
 -- WHAT THE CODE MAKES AT ONCE
 
@@ -92,8 +97,36 @@ Numbers at k stmt old new = (stmt ≡ next_stmt (before_of old)) × (new ≡ wit
 abbrev pub with_variable : Work → At → Variable → Work
 with_variable w at v = record w {
   variables = w.variables ++ v ∷ [];
-  tally = with_faults w.tally (limit_faults variable_limit (length w.variables + 1) at);
+  tally = with_faults w.tally (limit_faults variable_limit (next_name (before_of w)) at);
 }
+
+-- one more enumeration constant, whose name stands at this position
+abbrev pub with_constant : Work → At → Work
+with_constant w at = record w {
+  constants = w.constants + 1;
+  tally = with_faults w.tally (limit_faults variable_limit (next_name (before_of w)) at);
+}
+
+-- the answer is the value of a written constant, None where it is at fault
+abbrev pub GivesValue : At → Typed → Tally → Tally → Option ℤ → Type 0
+GivesValue at e old new z = (z ≡ constant_value I32 e) × (new ≡ after old e.calls (value_faults at e))
+
+-- the same where it may be absent
+abbrev pub GivesWritten : At → Option Typed → Tally → Tally → Option ℤ → Type 0
+GivesWritten at None old new z = (z ≡ None) × (new ≡ old)
+GivesWritten at (Some e) old new z = GivesValue at e old new z
+
+-- what there is to say of a written value in a scope, behind so many calls
+abbrev pub value_at : Enumerator → Scope → ℕ → Option Typed
+value_at e scope calls = option_map (λ (typing : Typing). typing scope calls) (written_value e)
+
+-- A constant behind one of the value `last`, if there is one, was added: its value, and the state.
+abbrev pub AddsEnumerator : List Signature → Option ℤ → Enumerator → Scope → Work → Scope → Work → ℤ → Type 0
+AddsEnumerator functions last e scope old k new z =
+    let v = value_at e scope old.tally.calls in
+    (z ≡ enumerator_value last v)
+    × ((stmts : List StmtTree) → at_place k new stmts
+    ≡ behind_part (add_enumerator functions last e v) (at_place scope old stmts))
 
 -- so many elements of an array more
 abbrev pub with_elements : Work → ℕ → At → Work

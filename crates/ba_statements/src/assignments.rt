@@ -15,7 +15,7 @@ use ba_expressions::expressions::{call, conditional};
 use ba_expressions::judged;
 use ba_expressions::judged::{Judged, array_of, element_type, variable_type};
 use ba_expressions::tally::{HEIGHT_LIMIT, Tally};
-use ba_expressions::uses::{add_array_name_faults, add_value_name_faults};
+use ba_expressions::uses::{add_array_name_faults, add_target_name_faults, add_value_name_faults};
 use ba_numbers::ids::{At, StmtId, VarId};
 use ba_numbers::numbers::{BinOp, CType};
 use ba_numbers::types::promoted;
@@ -50,8 +50,8 @@ fn var_of(meaning: &Meaning) -> VarId
     ensures { result ≡ var_of meaning.now }
 {
     match meaning {
-        Meaning::Variable(entry) => entry.var,
-        Meaning::Unknown | Meaning::Function => VarId(0),
+        Meaning::Variable(object) => object.var,
+        Meaning::Unknown | Meaning::Function | Meaning::Constant(_) => VarId(0),
     }
 }
 
@@ -62,6 +62,7 @@ fn variable_target<'a>(scope: &Scope<'a>, name: &'a Token, tally: &mut Tally) ->
         tally.old tally.new result }
 {
     let meaning = scope.meaning_of(&name_of(name));
+    add_target_name_faults(&meaning, name.at, tally);
     add_value_name_faults(&meaning, name.at, tally);
     JudgedTarget {
         var: var_of(&meaning),

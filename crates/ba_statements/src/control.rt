@@ -14,13 +14,14 @@ use crate::work::{Work, put};
 use ba_expressions::expressions::conditional;
 use ba_expressions::judged;
 use ba_expressions::tally::HEIGHT_LIMIT;
+use ba_expressions::uses::add_tag_faults;
 use ba_numbers::ids::{At, StmtId};
 use ba_numbers::numbers::CType;
 use ba_scopes::scopes::{Functions, Scope};
 use ba_tree::tree::{Expr, Stmt, StmtKind};
 use ba_trees::tree::expressions::Conditional;
 use ba_trees::tree::statements::{Condition, ForFirst, ForHead, Simples};
-use ba_typing::names::type_named;
+use ba_typing::names::{tag_of_type, type_named};
 use std::alloc::{AllocError, Global};
 
 /// A numbered condition: its number and its typed tree.
@@ -127,6 +128,7 @@ fn add_first<'a>(
     match first {
         ForFirst::Declaration { name, declarators } => {
             scope.enter()?;
+            add_tag_faults(tag_of_type(name), scope, &mut work.tally);
             let functions = Functions::new(alloc);
             let t = type_named(name);
             add_declarators(alloc, &functions, t, declarators, scope, work, stmts)

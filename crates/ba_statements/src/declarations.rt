@@ -1,9 +1,9 @@
 //! Declarations of variables (C90 6.5).
 
 ghost use Rattle.std.specs.Prelude.{◌≡◌, ◌==◌, ◌&&◌, not, ◌∷◌, [], List, Option, None, Some, false, cond, pos, option_map, is_some, length, map, unsigned_abs, IfOk, OnOk, MatchOption};
-ghost use Rattle.ba_statements.specs.Adding.{AddsLength, GivesWhole, IsLength, at_place, behind_part, first_of, initialising, keep_each, keep_one, kept, plain_length, state, with_count};
-ghost use Rattle.ba_typing.specs.Declarations.{TypedLength, add_declarator, add_declarators, add_declare, add_initialiser, add_optional_initialiser, add_variable, braced_values, count_of_values, exceeds, has_braces, init_tree, is_declared, is_length, length_in_range, written_count, typed_array_length, shape_of, values_of, written_length};
-ghost use Rattle.ba_typing.specs.Expressions.{Typed, typed_conditional, tree_as};
+ghost use Rattle.ba_statements.specs.Adding.{AddsEnumerator, AddsLength, GivesValue, GivesWhole, GivesWritten, IsLength, at_place, behind_part, first_of, initialising, keep_each, keep_one, kept, plain_length, state, value_at, with_count};
+ghost use Rattle.ba_typing.specs.Declarations.{TypedLength, add_constant, add_declaration, add_declarator, add_declarators, add_declare, add_enumerator_list, add_initialiser, add_optional_declarators, add_optional_initialiser, add_specifiers, add_tag, add_variable, braced_values, count_of_values, enumerators_in, exceeds, following, has_braces, init_tree, is_declared, is_length, length_in_range, written_count, typed_array_length, shape_of, values_of, written_length};
+ghost use Rattle.ba_typing.specs.Expressions.{Typed, constant_value, typed_conditional, tree_as};
 ghost use Rattle.ba_expressions.specs.Judging.{Judges};
 ghost use Rattle.ba_tree.specs.Trees.{StmtTree, tree_of_expr, tree_of_stmt};
 ghost use Rattle.ba_statements.specs.declared.work.Work.{Work};
@@ -12,15 +12,20 @@ use crate::work::{Work, put};
 use ba_expressions::expressions::conditional;
 use ba_expressions::judged::{Judged, placeholder};
 use ba_expressions::tally::{HEIGHT_LIMIT, Tally};
+use ba_expressions::uses::add_tag_faults;
 use ba_numbers::ids::{At, StmtId, VarId};
-use ba_numbers::numbers::CType;
+use ba_numbers::numbers::{BinOp, CType, apply, convert};
 use ba_scopes::scopes::{Functions, Scope};
+use ba_tokens::token::Token;
 use ba_tree::tree::{Expr, Shape, Stmt, StmtKind, Variable};
-use ba_trees::tree::declarations::{ArrayLength, Braced, Declarator, Declarators, Initialiser};
+use ba_trees::tree::declarations::{
+    ArrayLength, Braced, Declaration, Declarator, Declarators, Enumerator, EnumeratorList,
+    Initialiser, Specifiers,
+};
 use ba_trees::tree::expressions::Conditional;
 use ba_typing::fault::Cause;
-use ba_typing::meanings::Entry;
-use ba_typing::names::name_of;
+use ba_typing::meanings::{Entity, Entry, Object, Space};
+use ba_typing::names::{name_of, tag_of_declaration, type_specified};
 use ba_typing::text::Text;
 use std::alloc::{AllocError, Global};
 
@@ -66,6 +71,19 @@ fn in_range(value: i64) -> Option<u32>
         u32::try_from(value).ok()
     } else {
         None
+    }
+}
+
+/// The value of a constant expression converted to a type, `None` where it is not constant or traps.
+pub(crate) fn constant_value(t: CType, j: &Judged) -> Option<i64>
+    ensures { (s : Typed) → Judges j.now s → result ≡ constant_value t s }
+{
+    if !j.is_constant {
+        return None;
+    }
+    match j.value {
+        None => None,
+        Some(value) => Some(convert(t, value)),
     }
 }
 
@@ -180,7 +198,8 @@ pub fn shape_of(length: Option<Length>) -> Shape
 fn is_declared<'a>(scope: &Scope<'a>, functions: &Functions<'a>, name: &Text<'a>) -> bool
     ensures { result ≡ is_declared scope.now functions.now name.now }
 {
-    scope.is_declared_here(name) || (scope.depth() == 0 && functions.is_declared(name))
+    scope.is_declared_here(Space::Ordinary, name)
+        || (scope.depth() == 0 && functions.is_declared(name))
 }
 
 /// A variable whose name stands at this position, behind the functions that are declared before it: it is in scope from now on.
@@ -205,9 +224,180 @@ pub fn add_variable<'a>(
     scope.declare(Entry {
         name,
         depth,
-        var,
-        variable,
+        entity: Entity::Variable(Object { var, variable }),
     })
+}
+
+/// A tag whose list stands behind it: it is in scope from now on.
+///
+/// The one error is want of memory.
+fn add_tag<'a>(
+    tag: Option<&'a Token>,
+    scope: &mut Scope<'a>,
+    tally: &mut Tally,
+) -> Result<(), AllocError>
+    ensures { OnOk result ((work : Work) (stmts : List StmtTree) → work.tally ≡ tally.old →
+        at_place scope.new (record work { tally = tally.new }) stmts
+        ≡ behind_part (add_tag (option_map (λ t. t.now) tag.entry)) (at_place scope.old work stmts)) }
+{
+    let Some(tag) = tag else {
+        return Ok(());
+    };
+    let name = name_of(tag);
+    tally.add_if(
+        scope.is_declared_here(Space::Tags, &name),
+        Cause::Twice,
+        tag.at,
+    );
+    let depth = scope.depth();
+    scope.declare(Entry {
+        name,
+        depth,
+        entity: Entity::Tag,
+    })
+}
+
+/// An enumeration constant of this value whose name stands at this position, behind the functions that are declared before it: it is in
+/// scope from now on.
+///
+/// The one error is want of memory, which also stands for want of numbers.
+fn add_constant<'a>(
+    functions: &Functions<'a>,
+    at: At,
+    name: Text<'a>,
+    value: i64,
+    scope: &mut Scope<'a>,
+    work: &mut Work,
+) -> Result<(), AllocError>
+    ensures { OnOk result ((stmts : List StmtTree) → at_place scope.new work.new stmts
+        ≡ behind_part (add_constant functions.now at name.entry value)
+        (at_place scope.old work.old stmts)) }
+{
+    work.tally
+        .add_if(is_declared(scope, functions, &name), Cause::Twice, at);
+    work.add_constant(at)?;
+    let depth = scope.depth();
+    scope.declare(Entry {
+        name,
+        depth,
+        entity: Entity::Constant(value),
+    })
+}
+
+/// The value of an enumeration constant that is written, `None` where it is not constant or traps.
+///
+/// The one error is want of memory, which also stands for want of numbers for calls and heights.
+fn written_value<'a>(
+    alloc: Global,
+    at: At,
+    c: &'a Conditional,
+    scope: &Scope<'a>,
+    tally: &mut Tally,
+) -> Result<Option<i64>, AllocError>
+    ensures { IfOk result (λ z. GivesValue at (typed_conditional c.now scope.now tally.old.calls)
+        tally.old tally.new z) }
+{
+    let j = whole(alloc, scope, at, c, tally)?;
+    let value = constant_value(CType::I32, &j);
+    tally.add_if(value.is_none(), Cause::WrongKind, j.first);
+    Ok(value)
+}
+
+/// The value of a constant without a written one, behind one of the value `last`, if there is one.
+fn following(last: Option<i64>) -> i64
+    ensures { result ≡ following last }
+{
+    match last {
+        None => 0,
+        Some(value) => apply(BinOp::Add, CType::I32, value, 1).unwrap_or(0),
+    }
+}
+
+/// The same, where one is written.
+fn optional_value<'a>(
+    alloc: Global,
+    enumerator: &'a Enumerator,
+    scope: &Scope<'a>,
+    tally: &mut Tally,
+) -> Result<Option<i64>, AllocError>
+    ensures { IfOk result (λ z. GivesWritten enumerator.now.name.at
+        (value_at enumerator.now scope.now tally.old.calls) tally.old tally.new z) }
+{
+    match &enumerator.value {
+        None => Ok(None),
+        Some(written) => written_value(alloc, enumerator.name.at, &written.value, scope, tally),
+    }
+}
+
+/// An enumeration constant behind one of the value `last`, if there is one, and its own value. It is known from its end on.
+///
+/// The one error is want of memory, which also stands for want of numbers.
+fn add_enumerator<'a>(
+    alloc: Global,
+    functions: &Functions<'a>,
+    last: Option<i64>,
+    enumerator: &'a Enumerator,
+    scope: &mut Scope<'a>,
+    work: &mut Work,
+) -> Result<i64, AllocError>
+    ensures { IfOk result (λ z. AddsEnumerator functions.now last enumerator.now scope.old work.old
+        scope.new work.new z) }
+{
+    let at = enumerator.name.at;
+    let written = optional_value(alloc, enumerator, scope, &mut work.tally)?;
+    let value = written.unwrap_or(following(last));
+    let name = name_of(&enumerator.name);
+    add_constant(functions, at, name, value, scope, work)?;
+    Ok(value)
+}
+
+/// The constants of an enumerated type, the first of which is 0 where nothing else is written (C90 6.5.2.2).
+///
+/// The one error is want of memory, which also stands for want of numbers.
+fn add_enumerators<'a>(
+    alloc: Global,
+    functions: &Functions<'a>,
+    list: &'a EnumeratorList,
+    scope: &mut Scope<'a>,
+    work: &mut Work,
+) -> Result<(), AllocError>
+    ensures { OnOk result ((stmts : List StmtTree) → at_place scope.new work.new stmts
+        ≡ behind_part (add_enumerator_list functions.now None (enumerators_in list.now))
+        (at_place scope.old work.old stmts)) }
+{
+    let mut last = add_enumerator(alloc, functions, None, &list.first, scope, work)?;
+    for next in &list.rest {
+        last = add_enumerator(alloc, functions, Some(last), &next.enumerator, scope, work)?;
+    }
+    Ok(())
+}
+
+/// What a declaration of a file or of a block begins with, behind the functions that are declared before it: a list declares its tag and
+/// its constants; a tag without one is known.
+///
+/// The one error is want of memory, which also stands for want of numbers.
+pub fn add_specifiers<'a>(
+    alloc: Global,
+    functions: &Functions<'a>,
+    specifiers: &'a Specifiers,
+    scope: &mut Scope<'a>,
+    work: &mut Work,
+) -> Result<(), AllocError>
+    ensures { OnOk result ((stmts : List StmtTree) → at_place scope.new work.new stmts
+        ≡ behind_part (add_specifiers functions.now specifiers.now)
+        (at_place scope.old work.old stmts)) }
+{
+    let tag = tag_of_declaration(specifiers);
+    match &specifiers.enumerators {
+        None => {
+            add_tag_faults(tag, scope, &mut work.tally);
+            Ok(())
+        }
+        Some(enumerators) => {
+            add_tag(tag, scope, &mut work.tally)?;
+            add_enumerators(alloc, functions, &enumerators.list, scope, work)
+        }
+    }
 }
 
 /// The declaration of a local variable is executed; that of a global is not.
@@ -492,4 +682,56 @@ pub fn add_declarators<'a>(
         add_declarator(alloc, functions, t, &listed.declarator, scope, work, stmts)?;
     }
     Ok(())
+}
+
+/// The declarators of a list, where there is one.
+///
+/// The one error is want of memory, which also stands for want of numbers.
+pub fn add_optional_declarators<'a>(
+    alloc: Global,
+    functions: &Functions<'a>,
+    t: Option<CType>,
+    declarators: &'a Option<Declarators>,
+    scope: &mut Scope<'a>,
+    work: &mut Work,
+    stmts: &mut Vec<Stmt>,
+) -> Result<(), AllocError>
+    ensures { OnOk result (state scope.new work.new stmts.new
+        ≡ behind_part (add_optional_declarators functions.now t declarators.now)
+        (state scope.old work.old stmts.old)) }
+{
+    match declarators {
+        None => Ok(()),
+        Some(declarators) => {
+            add_declarators(alloc, functions, t, declarators, scope, work, stmts)
+        }
+    }
+}
+
+/// A declaration of a block (C90 6.5).
+///
+/// The one error is want of memory, which also stands for want of numbers.
+pub fn add_declaration<'a>(
+    alloc: Global,
+    declaration: &'a Declaration,
+    scope: &mut Scope<'a>,
+    work: &mut Work,
+    stmts: &mut Vec<Stmt>,
+) -> Result<(), AllocError>
+    ensures { OnOk result (state scope.new work.new stmts.new
+        ≡ behind_part (add_declaration [] declaration.now.specifiers declaration.now.declarators)
+        (state scope.old work.old stmts.old)) }
+{
+    let functions = Functions::new(alloc);
+    add_specifiers(alloc, &functions, &declaration.specifiers, scope, work)?;
+    let t = type_specified(&declaration.specifiers);
+    add_optional_declarators(
+        alloc,
+        &functions,
+        t,
+        &declaration.declarators,
+        scope,
+        work,
+        stmts,
+    )
 }

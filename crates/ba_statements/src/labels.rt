@@ -2,19 +2,18 @@
 
 ghost use Rattle.std.specs.Prelude.{◌≡◌, ◌∷◌, ◌++◌, [], map, IfOk, OnOk};
 ghost use Rattle.ba_statements.specs.Labelling.{AddsLabel, GivesControlling};
-ghost use Rattle.ba_typing.specs.Expressions.{Typed, typed_conditional};
-ghost use Rattle.ba_typing.specs.Statements.{add_case, add_default, add_label, has_value, label_value, no_labels, test_of, value_faults, with_start};
-ghost use Rattle.ba_expressions.specs.Judging.{Judges, with_faults};
+ghost use Rattle.ba_typing.specs.Expressions.{typed_conditional};
+ghost use Rattle.ba_typing.specs.Statements.{add_case, add_default, add_label, has_value, label_faults, no_labels, test_of, with_start};
+ghost use Rattle.ba_expressions.specs.Judging.{with_faults};
 ghost use Rattle.ba_tree.specs.Trees.{stmts_of, switch, tree_of_expr, tree_of_stmt};
 
-use crate::declarations::whole;
+use crate::declarations::{constant_value, whole};
 use crate::work::{Work, put};
 use ba_expressions::expressions::conditional;
-use ba_expressions::judged::Judged;
 use ba_expressions::tally::{HEIGHT_LIMIT, Tally};
 use ba_items::Items;
 use ba_numbers::ids::{At, StmtId};
-use ba_numbers::numbers::{CType, convert};
+use ba_numbers::numbers::CType;
 use ba_numbers::types::promoted;
 use ba_scopes::scopes::Scope;
 use ba_tree::tree::{Expr, Start, Stmt, StmtKind};
@@ -64,19 +63,6 @@ pub(crate) fn no_labels(alloc: Global) -> Labels
     }
 }
 
-/// The value of a label's constant in the type of the `switch`, `None` where it is not constant or traps.
-fn label_value(t: CType, j: &Judged) -> Option<i64>
-    ensures { (s : Typed) → Judges j.now s → result ≡ label_value t s }
-{
-    if !j.is_constant {
-        return None;
-    }
-    match j.value {
-        None => None,
-        Some(value) => Some(convert(t, value)),
-    }
-}
-
 /// Whether one of these labels has the value.
 fn has_value(starts: &[Start], value: i64) -> bool
     ensures { result ≡ has_value starts.now value }
@@ -96,7 +82,7 @@ fn add_start(
 ) -> Result<(), AllocError>
     ensures labels { OnOk result (labels.new ≡ with_start labels.old value count) }
     ensures tally { OnOk result (tally.new
-        ≡ with_faults tally.old (value_faults labels.old value at)) }
+        ≡ with_faults tally.old (label_faults labels.old value at)) }
 {
     match value {
         None => {
@@ -128,7 +114,7 @@ fn add_case<'a>(
         labels.old count) tally.old tally.new labels.new) }
 {
     let j = whole(alloc, scope, switch.at, c, tally)?;
-    let value = label_value(switch.t, &j);
+    let value = constant_value(switch.t, &j);
     add_start(value, j.first, count, tally, labels)
 }
 

@@ -14,13 +14,13 @@ use crate::assignments::add_simple;
 use crate::control::{
     Guarded, add_condition, add_head, first_stmt, put_do, put_for, put_if, put_if_else, put_while,
 };
-use crate::declarations::{add_declarators, whole};
+use crate::declarations::{add_declaration, whole};
 use crate::labels::{Controlling, add_controlling, add_label, no_labels, put_switch};
 use crate::work::{Work, number_of, put};
 use ba_expressions::tally::Tally;
 use ba_numbers::ids::At;
 use ba_numbers::numbers::CType;
-use ba_scopes::scopes::{Functions, Scope};
+use ba_scopes::scopes::Scope;
 use ba_tokens::token::Token;
 use ba_tree::tree::{Expr, Stmt, StmtKind};
 use ba_trees::tree::expressions::Conditional;
@@ -29,7 +29,7 @@ use ba_trees::tree::statements::{
 };
 use ba_typing::fault::Cause;
 use ba_typing::meanings::Labels;
-use ba_typing::names::{Exits, Jump, jump_of, type_named};
+use ba_typing::names::{Exits, Jump, jump_of};
 use std::alloc::{AllocError, Global};
 
 /// `return` with a value (C90 6.6.6.4).
@@ -316,11 +316,7 @@ fn add_item<'a>(
         ≡ behind_part (add_item item.now) (state scope.old work.old stmts.old)) }
 {
     match item {
-        BlockItem::Declaration(d) => {
-            let functions = Functions::new(alloc);
-            let t = type_named(&d.name);
-            add_declarators(alloc, &functions, t, &d.declarators, scope, work, stmts)
-        }
+        BlockItem::Declaration(d) => add_declaration(alloc, d, scope, work, stmts),
         BlockItem::Statement(s) => add_statement(alloc, s, scope, work, stmts),
     }
 }

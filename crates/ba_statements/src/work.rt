@@ -1,7 +1,7 @@
 //! What typing has made of a program so far.
 
 ghost use Rattle.std.specs.Prelude.{◌≡◌, [], ◌∷◌, ◌++◌, ◌+◌, IfOk, OnOk, length, map};
-ghost use Rattle.ba_statements.specs.Adding.{Numbers, no_work, with_elements, with_variable};
+ghost use Rattle.ba_statements.specs.Adding.{Numbers, no_work, with_constant, with_elements, with_variable};
 ghost use Rattle.ba_tree.specs.Trees.{tree_of_stmt};
 
 use ba_expressions::tally::Tally;
@@ -10,7 +10,7 @@ use ba_numbers::ids::{At, StmtId, VarId};
 use ba_tree::tree::{Stmt, StmtInfo, StmtKind, Variable};
 use std::alloc::{AllocError, Global};
 
-/// The greatest number of variables.
+/// The greatest number of variables and enumeration constants.
 const VARIABLE_LIMIT: u32 = 2000;
 
 /// The greatest number of numbered statements.
@@ -19,10 +19,12 @@ const STATEMENT_LIMIT: u32 = 4000;
 /// The greatest number of elements of all arrays.
 const ELEMENT_LIMIT: u32 = 1024;
 
-/// The variables and the numbered statements in the order of the text, how many elements the arrays have, and the calls and faults.
+/// The variables and the numbered statements in the order of the text, how many enumeration constants there are, how many elements the
+/// arrays have, and the calls and faults.
 #[derive(Drop)]
 pub struct Work {
     pub variables: Items<Variable>,
+    pub constants: u32,
     pub statements: Items<StmtInfo>,
     pub elements: u32,
     pub tally: Tally,
@@ -35,6 +37,7 @@ impl Work {
     {
         Work {
             variables: Items::new(alloc),
+            constants: 0,
             statements: Items::new(alloc),
             elements: 0,
             tally: Tally::new(),
@@ -57,12 +60,40 @@ impl Work {
         ensures added { OnOk result (self.new ≡ with_variable self.old at variable) }
     {
         let count = number_of(self.variables.len())?;
-        let Some(number) = count.checked_add(1) else {
-            return Err(AllocError);
-        };
+        let number = self.next_name(count)?;
         self.variables.push(variable)?;
         self.tally.add_limit(VARIABLE_LIMIT, number, at);
         Ok(VarId(count))
+    }
+
+    /// One more enumeration constant, whose name stands at this position; one past the limit is a fault.
+    ///
+    /// The one error is want of memory, which stands for want of numbers.
+    pub fn add_constant(&mut self, at: At) -> Result<(), AllocError>
+        ensures { OnOk result (self.new ≡ with_constant self.old at) }
+    {
+        let count = number_of(self.variables.len())?;
+        let number = self.next_name(count)?;
+        let Some(constants) = self.constants.checked_add(1) else {
+            return Err(AllocError);
+        };
+        self.constants = constants;
+        self.tally.add_limit(VARIABLE_LIMIT, number, at);
+        Ok(())
+    }
+
+    /// The number of the next variable or constant, behind so many variables. The one error is want of memory, which stands for want of
+    /// numbers.
+    fn next_name(&self, variables: u32) -> Result<u32, AllocError>
+        ensures { IfOk result (λ number. number ≡ variables + self.now.constants + 1) }
+    {
+        let Some(names) = variables.checked_add(self.constants) else {
+            return Err(AllocError);
+        };
+        match names.checked_add(1) {
+            Some(number) => Ok(number),
+            None => Err(AllocError),
+        }
     }
 
     /// A statement of this kind, whose first token stands at this position, gets the next number; one past the limit is a fault.

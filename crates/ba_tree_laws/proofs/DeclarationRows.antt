@@ -1,5 +1,5 @@
 -- Declarations and what stands between the parentheses of a statement, read back.
-use Rattle.std.proofs.Common.{◌≡◌, Option, None, Some, List, [], ◌∷◌, ◌++◌, map, refl, ◌∙◌, ap}
+use Rattle.std.proofs.Common.{◌≡◌, ℤ, Option, None, Some, List, [], ◌∷◌, ◌++◌, map, refl, ◌∙◌, ap}
 use Rattle.std.specs.Prelude.{option_map}
 use Rattle.std.proofs.lemmas.List.{append-nil}
 use Rattle.ba_tokens.specs.declared.token.Token.{Token}
@@ -8,7 +8,7 @@ use Rattle.ba_trees.specs.Marks.{leaf}
 use Rattle.ba_trees.specs.Marks as rule
 use Rattle.ba_trees.specs.Views.{joined, optional, optional_leaf, name_marks}
 use Rattle.ba_trees.specs.ExpressionMarks.{M, conditional_marks}
-use Rattle.ba_trees.specs.DeclarationMarks.{array_length_marks, braced_marks, initialiser_marks, declarator_marks, listed_declarator_marks, declarators_marks, declaration_marks, parameter_marks, next_parameter_marks, parameter_list_marks, parameters_marks}
+use Rattle.ba_trees.specs.DeclarationMarks.{enumerator_value_marks, enumerator_marks, next_enumerator_marks, enumerators_marks, specifiers_marks, array_length_marks, braced_marks, initialiser_marks, declarator_marks, listed_declarator_marks, declarators_marks, declaration_marks, parameter_marks, next_parameter_marks, parameter_list_marks, parameters_marks}
 use Rattle.ba_trees.specs.SimpleMarks.{index_marks, target_marks, simple_marks, listed_simple_marks, simples_marks, condition_marks, for_first_marks, printed_marks}
 use Rattle.ba_trees.specs.declared.tree.declarations.ArrayLength.{ArrayLength}
 use Rattle.ba_trees.specs.declared.tree.declarations.Braced.{Braced}
@@ -18,6 +18,11 @@ use Rattle.ba_trees.specs.declared.tree.declarations.Declarator.{Declarator}
 use Rattle.ba_trees.specs.declared.tree.declarations.ListedDeclarator.{ListedDeclarator}
 use Rattle.ba_trees.specs.declared.tree.declarations.Declarators.{Declarators}
 use Rattle.ba_trees.specs.declared.tree.declarations.Declaration.{Declaration}
+use Rattle.ba_trees.specs.declared.tree.declarations.Enumerator.{Enumerator}
+use Rattle.ba_trees.specs.declared.tree.declarations.EnumeratorValue.{EnumeratorValue}
+use Rattle.ba_trees.specs.declared.tree.declarations.Enumerators.{Enumerators}
+use Rattle.ba_trees.specs.declared.tree.declarations.NextEnumerator.{NextEnumerator}
+use Rattle.ba_trees.specs.declared.tree.declarations.Specifiers.{Specifiers}
 use Rattle.ba_trees.specs.declared.tree.declarations.Parameter.{Parameter}
 use Rattle.ba_trees.specs.declared.tree.declarations.NextParameter.{NextParameter}
 use Rattle.ba_trees.specs.declared.tree.declarations.ParameterList.{ParameterList}
@@ -33,14 +38,15 @@ use Rattle.ba_trees.specs.declared.tree.statements.Condition.{Condition}
 use Rattle.ba_trees.specs.declared.tree.statements.ForFirst.{ForFirst}
 use Rattle.ba_trees.specs.declared.tree.statements.ForFirst.TheVariants as first
 use Rattle.ba_trees.specs.declared.tree.statements.Printed.{Printed}
-use Rattle.ba_typing.specs.Declarations.{in_order, add_declarator, add_declarators, braced_values}
+use Rattle.ba_typing.specs.Declarations.{Before, Part, ◌then◌, in_order, faults_added, written_value, enumerator_value, add_tag, add_enumerator_list, enumerators_in, add_listed, add_specifiers, add_declarator, add_declarators, add_optional_declarators, add_declaration, braced_values}
 use Rattle.ba_typing.specs.Expressions.{Typing, typed_conditional}
+use Rattle.ba_typing.specs.Faults.{tag_faults}
 use Rattle.ba_typing.specs.Files.{params_of_list}
-use Rattle.ba_typing.specs.Names.{words_of, type_named}
+use Rattle.ba_typing.specs.Names.{Scope, words_of, words_of_declaration, type_of_words, tag_of}
 use Rattle.ba_typing.specs.Statements.{add_simple, add_simples, add_first, for_scope, index_typing, optional_typing, printed_typings, test_of}
 use Rattle.ba_typing.specs.declared.meanings.Signature.{Signature}
-use Rattle.ba_tree_laws.proofs.ExpressionRows.{type_row, conditional_row, arguments_row, nexts_row}
-use Rattle.ba_tree_laws.proofs.Rows.{Item, Row, ParamItem, Declaring, Reads, token, conditional, array_length, braced, declarator, declarators, declaration, target, simple, simples, for_first, parameter, parameters, absent, as_conditional, as_length, as_braced, as_declarator, as_simple, as_parameter, items_of, items_append, first_of, with_item, declarators_of, declaring, named_by, values_item, none, both, front, deeper, inside, as_row}
+use Rattle.ba_tree_laws.proofs.ExpressionRows.{leaves, words_all, type_row, conditional_row, arguments_row, nexts_row}
+use Rattle.ba_tree_laws.proofs.Rows.{Item, Row, ConstantItem, SpecifierItem, ParamItem, Declaring, Reads, token, specifiers, enumerators, enumerator, conditional, array_length, braced, declarator, declarators, declaration, target, simple, simples, for_first, parameter, parameters, absent, as_token, as_enumerators, as_enumerator, as_conditional, as_length, as_braced, as_declarator, as_simple, as_parameter, items_of, items_append, items_none, first_of, constant_added, constants_added, list_added, specified_by, declared_by, declaring_nothing, with_item, declarators_of, declaring, named_by, values_item, none, both, front, deeper, inside, as_row}
 
 -- MANY OF A KIND: marks whose row has these of a kind
 
@@ -212,7 +218,7 @@ declarators_at functions t (l ∷ ls) = ap (λ ps. add_declarator functions t l.
 abbrev pub add_all : Declarators → Declaring
 add_all ds functions t = add_declarators functions t ds
 
-pub declarators_row : (ds : Declarators) → Reads (declarators_marks ds) (declarators (add_all ds) ∷ [])
+declarators_row : (ds : Declarators) → Reads (declarators_marks ds) (declarators (add_all ds) ∷ [])
 declarators_row ds =
     let all = all_of as_declarator listed_declarator_marks (λ (l : ListedDeclarator). adds l.declarator)
     (λ l. behind_comma as_declarator l.comma (declarator_marks l.declarator) (declarator (adds l.declarator))
@@ -222,10 +228,170 @@ declarators_row ds =
     ∙ ap in_order (declarators_at functions t ds.all.items)) i in
     as_row (ap (λ x. declarators x ∷ []) same) (inside rule.declarators all.reads)
 
+-- ENUMERATIONS, and what a declaration begins with
+
+abbrev constant_item : Enumerator → ConstantItem
+constant_item e = record { name = e.name; value = written_value e }
+
+abbrev written_items : Option EnumeratorValue → Row
+written_items None = []
+written_items (Some v) = token v.assign ∷ conditional (typed_conditional v.value) ∷ []
+
+written_row : (o : Option EnumeratorValue) →
+    Reads (optional (option_map enumerator_value_marks o)) (written_items o)
+written_row None = none
+written_row (Some v) = front v.assign (conditional_row v.value)
+
+written_is : (o : Option EnumeratorValue) → first_of (items_of as_conditional (written_items o))
+    ≡ option_map (λ (v : EnumeratorValue). typed_conditional v.value) o
+written_is None = refl
+written_is (Some v) = refl
+
+enumerator_row : (e : Enumerator) → Reads (enumerator_marks e) (enumerator (constant_item e) ∷ [])
+enumerator_row e = as_row (ap (λ v. enumerator (record { name = e.name; value = v }) ∷ [])
+    (written_is e.value)) (inside rule.enumerator (front e.name (written_row e.value)))
+
+next_enumerator_all : (n : NextEnumerator) →
+    AllOf as_enumerator (next_enumerator_marks n) (constant_item n.enumerator ∷ [])
+next_enumerator_all n = record {
+  row = token n.comma ∷ enumerator (constant_item n.enumerator) ∷ [];
+  reads = front n.comma (enumerator_row n.enumerator);
+  are = refl;
+}
+
+constants_next : (ns : List NextEnumerator) → map (λ (n : NextEnumerator). constant_item n.enumerator) ns
+    ≡ map constant_item (map (λ (n : NextEnumerator). n.enumerator) ns)
+constants_next [] = refl
+constants_next (n ∷ ns) = ap (λ xs. constant_item n.enumerator ∷ xs) (constants_next ns)
+
+abbrev constants_in : Enumerators → List ConstantItem
+constants_in e = map constant_item (enumerators_in e.list)
+
+enumerators_row : (e : Enumerators) → Reads (enumerators_marks e) (enumerators (constants_in e) ∷ [])
+enumerators_row e =
+    let l = e.list in
+    let rest = all_of as_enumerator next_enumerator_marks
+    (λ (n : NextEnumerator). constant_item n.enumerator) next_enumerator_all l.rest.items in
+    let first = constant_item l.first in
+    let behind = (enumerator first ∷ rest.row) ++ comma_items l.comma in
+    let constants : items_of as_enumerator (behind ++ token e.close ∷ []) ≡ constants_in e
+    = items_append as_enumerator behind (token e.close ∷ [])
+    ∙ append-nil (items_of as_enumerator behind)
+    ∙ items_append as_enumerator (enumerator first ∷ rest.row) (comma_items l.comma)
+    ∙ ap (λ cs. (first ∷ items_of as_enumerator rest.row) ++ cs) (no_commas l.comma)
+    ∙ append-nil (first ∷ items_of as_enumerator rest.row)
+    ∙ ap (λ cs. first ∷ cs) (rest.are ∙ constants_next l.rest.items) in
+    as_row (ap (λ cs. enumerators cs ∷ []) constants) (inside rule.enumerators (front e.«open»
+    (both (deeper (both (both (enumerator_row l.first) rest.reads) (comma_row l.comma)))
+    (front e.close none))))
+  where
+    no_commas : (o : Option Token) → items_of as_enumerator (comma_items o) ≡ []
+    no_commas None = refl
+    no_commas (Some t) = refl
+
+abbrev list_items : Option Enumerators → Row
+list_items None = []
+list_items (Some e) = enumerators (constants_in e) ∷ []
+
+list_row : (o : Option Enumerators) → Reads (optional (option_map enumerators_marks o)) (list_items o)
+list_row None = none
+list_row (Some e) = enumerators_row e
+
+abbrev pub specifier_item : Specifiers → SpecifierItem
+specifier_item s = record {
+  words = words_of_declaration s;
+  constants = option_map constants_in s.enumerators;
+}
+
+-- the words before and behind a list are those of one row
+pub specifiers_row : (s : Specifiers) → Reads (specifiers_marks s) (specifiers (specifier_item s) ∷ [])
+specifiers_row s =
+    let before = map token s.words.items in
+    let list = list_items s.enumerators in
+    let behind = map token s.behind.items in
+    let words : items_of as_token (before ++ list ++ behind) ≡ words_of_declaration s
+    = items_append as_token (before ++ list) behind
+    ∙ ap (λ ts. ts ++ items_of as_token behind) (items_append as_token before list
+    ∙ ap (λ ts. ts ++ items_of as_token list) (words_all s.words.items)
+    ∙ ap (λ ts. s.words.items ++ ts) (no_words s.enumerators) ∙ append-nil s.words.items)
+    ∙ ap (λ ts. s.words.items ++ ts) (words_all s.behind.items) in
+    let constants : first_of (items_of as_enumerators (before ++ list ++ behind))
+    ≡ option_map constants_in s.enumerators
+    = ap first_of (items_append as_enumerators (before ++ list) behind
+    ∙ ap (λ cs. cs ++ items_of as_enumerators behind) (items_append as_enumerators before list
+    ∙ ap (λ cs. cs ++ items_of as_enumerators list)
+    (items_none as_enumerators token (λ t. refl) s.words.items))
+    ∙ ap (λ cs. items_of as_enumerators list ++ cs)
+    (items_none as_enumerators token (λ t. refl) s.behind.items)) ∙ one_list s.enumerators in
+    as_row (ap (λ ws. specifiers (record {
+      words = ws;
+      constants = first_of (items_of as_enumerators (before ++ list ++ behind));
+    }) ∷ []) words
+    ∙ ap (λ cs. specifiers (record { words = words_of_declaration s; constants = cs }) ∷ []) constants)
+    (inside rule.specifiers (both (both (leaves s.words.items) (list_row s.enumerators))
+    (leaves s.behind.items)))
+  where
+    no_words : (o : Option Enumerators) → items_of as_token (list_items o) ≡ []
+    no_words None = refl
+    no_words (Some e) = refl
+
+    one_list : (o : Option Enumerators) → first_of (items_of as_enumerators (list_items o) ++ [])
+        ≡ option_map constants_in o
+    one_list None = refl
+    one_list (Some e) = refl
+
+constants_are : (functions : List Signature) (last : Option ℤ) (es : List Enumerator) (scope : Scope)
+    (n : Before) → constants_added functions last (map constant_item es) scope n
+    ≡ add_enumerator_list functions last es scope n
+constants_are functions last [] scope n = refl
+constants_are functions last (e ∷ es) scope n =
+    let v = option_map (λ (typing : Typing). typing scope n.calls) (written_value e) in
+    let z = enumerator_value last v in
+    ap (λ (part : Part). (constant_added functions last e.name v then part) scope n)
+    (λ i scope n. constants_are functions (Some z) es scope n i)
+
+list_is : (functions : List Signature) (tag : Option Token) (o : Option Enumerators)
+    → list_added functions tag (option_map constants_in o) ≡ add_listed functions tag o
+list_is functions tag None = λ i scope n. faults_added (tag_faults scope tag)
+list_is functions tag (Some e) = λ i scope n. (add_tag tag
+    then (λ scope n. constants_are functions None (enumerators_in e.list) scope n i)) scope n
+
+pub specified_is : (functions : List Signature) (s : Specifiers)
+    → specified_by functions (specifier_item s) ≡ add_specifiers functions s
+specified_is functions s = list_is functions (tag_of (words_of_declaration s)) s.enumerators
+
+-- DECLARATIONS
+
+abbrev pub add_optional : Option Declarators → Declaring
+add_optional None = declaring_nothing
+add_optional (Some ds) = add_all ds
+
+abbrev pub declarators_items : Option Declarators → Row
+declarators_items None = []
+declarators_items (Some ds) = declarators (add_all ds) ∷ []
+
+pub declarators_optional : (o : Option Declarators) →
+    Reads (optional (option_map declarators_marks o)) (declarators_items o)
+declarators_optional None = none
+declarators_optional (Some ds) = declarators_row ds
+
+declared_all : (ws : List Token) (o : Option Declarators) (semicolon : Token)
+    → declared_by ws (declarators_items o ++ token semicolon ∷ [])
+    ≡ add_optional_declarators [] (type_of_words ws) o
+declared_all ws None semicolon = refl
+declared_all ws (Some ds) semicolon = refl
+
 pub declaration_row : (d : Declaration)
-    → Reads (declaration_marks d) (declaration (add_declarators [] (type_named d.name) d.declarators) ∷ [])
-declaration_row d = inside rule.declaration (both (both (type_row d.name) (declarators_row d.declarators))
-    (front d.semicolon none))
+    → Reads (declaration_marks d) (declaration (add_declaration [] d.specifiers d.declarators) ∷ [])
+declaration_row d =
+    let s = d.specifiers in
+    let behind = declared_by (words_of_declaration s) (declarators_items d.declarators
+    ++ token d.semicolon ∷ []) in
+    as_row (ap (λ part. declaration (part then behind) ∷ []) (specified_is [] s)
+    ∙ ap (λ part. declaration (add_specifiers [] s then part) ∷ [])
+    (declared_all (words_of_declaration s) d.declarators d.semicolon))
+    (inside rule.declaration (both (both (specifiers_row s) (declarators_optional d.declarators))
+    (front d.semicolon none)))
 
 -- PARAMETERS
 

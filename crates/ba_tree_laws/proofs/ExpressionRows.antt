@@ -28,12 +28,12 @@ use Rattle.ba_tree_laws.proofs.Rows.{Row, Reads, token, words, primary, unary, c
 
 -- WORDS OF A TYPE
 
-leaves : (ts : List Token) →
+pub leaves : (ts : List Token) →
     Reads (map leaf ts) (map token ts)
 leaves [] = none
 leaves (t ∷ ts) = front t (leaves ts)
 
-words_all : (ts : List Token) →
+pub words_all : (ts : List Token) →
     items_of as_token (map token ts) ≡ ts
 words_all [] = refl
 words_all (t ∷ ts) = ap (λ us. t ∷ us) (words_all ts)

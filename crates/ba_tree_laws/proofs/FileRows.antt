@@ -22,17 +22,16 @@ use Rattle.ba_trees.specs.declared.tree.statements.FunctionEnd.TheVariants as en
 use Rattle.ba_trees.specs.declared.tree.statements.RawProgram.{RawProgram}
 use Rattle.ba_tree.specs.declared.tree.Shape.{Shape}
 use Rattle.ba_tree.specs.declared.tree.Shape.TheVariants.{Value, Passed}
-use Rattle.ba_typing.specs.Declarations.{nothing_added, ◌and◌, Before, behind, Part, ◌then◌, nothing, in_order, faults_added, TypedLength, shape_of}
+use Rattle.ba_typing.specs.Declarations.{Added, nothing_added, ◌and◌, add_specifiers, Before, behind, Part, ◌then◌, nothing, in_order, faults_added, TypedLength, shape_of}
 use Rattle.ba_typing.specs.Expressions.{Typing}
-use Rattle.ba_typing.specs.Faults.{void_faults, limit_faults, parameter_limit}
+use Rattle.ba_typing.specs.Faults.{void_faults, tag_faults, limit_faults, parameter_limit}
 use Rattle.ba_typing.specs.Files.{FileAdded, add_external, add_externals, add_param, add_params, body_parts, declare_param, definitions_of, faults_of, file_of, file_scope, add_external_form, is_definition, signature_of_form, first_at, function_scope, function_tree, is_void_parameter, is_void_word, main_of, no_parts, params_of, params_of_list, program_of, says_params, signature_faults, signature_of, signatures_from, type_of_param, typed_of, with_functions, with_signature, without_void}
-use Rattle.ba_typing.specs.Names.{Scope, definition_in, is_main_name, knowing, main_name, name_of, no_exits, type_of_words, words_of}
+use Rattle.ba_typing.specs.Names.{Scope, definition_in, is_main_name, knowing, main_name, name_of, no_exits, tag_of, type_of_words, words_of}
 use Rattle.ba_typing.specs.Statements.{parts_of_block}
 use Rattle.ba_typing.specs.declared.meanings.ParamType.{ParamType}
 use Rattle.ba_typing.specs.declared.meanings.Signature.{Signature}
-use Rattle.ba_tree_laws.proofs.DeclarationRows.{AllOf, all_of, add_all, declarators_row, lengths, param_item, parameters_row}
-use Rattle.ba_tree_laws.proofs.ExpressionRows.{type_row}
-use Rattle.ba_tree_laws.proofs.Rows.{Row, ParamItem, ExternalItem, variables, function, Reads, read, token, words, block, declarators, parameters, external, file, as_external, length_of, none, both, front, deeper, inside, as_row, external_of}
+use Rattle.ba_tree_laws.proofs.DeclarationRows.{AllOf, all_of, add_optional, declarators_items, declarators_optional, specifier_item, specifiers_row, specified_is, lengths, param_item, parameters_row}
+use Rattle.ba_tree_laws.proofs.Rows.{Row, SpecifierItem, ParamItem, ExternalItem, variables, function, Reads, read, token, specifiers, block, parameters, external, file, as_external, length_of, none, both, front, deeper, inside, as_row, specified_by, external_of}
 use Rattle.ba_tree_laws.proofs.StatementRows.{block_row}
 
 -- THE ROW OF A FILE
@@ -41,13 +40,13 @@ abbrev end_item : FunctionEnd → Option (List Part)
 end_item (end.Body b) = Some (parts_of_block b)
 end_item (end.Prototype semicolon) = None
 
-abbrev form_item : List Token → ExternalForm → ExternalItem
-form_item ws (form.Variables ds semicolon) = variables ws (add_all ds)
-form_item ws (form.Function name opener ps closer e) =
-    function ws name (map param_item (params_of_list ps.list)) (end_item e)
+abbrev form_item : SpecifierItem → ExternalForm → ExternalItem
+form_item s (form.Variables ds semicolon) = variables s (add_optional ds)
+form_item s (form.Function name opener ps closer e) =
+    function s name (map param_item (params_of_list ps.list)) (end_item e)
 
 abbrev external_item : External → ExternalItem
-external_item x = form_item (words_of x.name) x.form
+external_item x = form_item (specifier_item x.specifiers) x.form
 
 abbrev end_items : FunctionEnd → Row
 end_items (end.Body b) = block (parts_of_block b) ∷ []
@@ -58,26 +57,27 @@ end_row (end.Body b) = block_row b
 end_row (end.Prototype semicolon) = front semicolon none
 
 abbrev form_items : ExternalForm → Row
-form_items (form.Variables ds semicolon) = declarators (add_all ds) ∷ token semicolon ∷ []
+form_items (form.Variables ds semicolon) = declarators_items ds ++ token semicolon ∷ []
 form_items (form.Function name opener ps closer e) =
     token name ∷ token opener ∷ parameters (map param_item (params_of_list ps.list)) ∷ token
     closer ∷ end_items e
 
 form_row : (f : ExternalForm) → Reads (external_form_marks f) (form_items f)
-form_row (form.Variables ds semicolon) = both (declarators_row ds) (front semicolon none)
+form_row (form.Variables ds semicolon) = both (declarators_optional ds) (front semicolon none)
 form_row (form.Function name opener ps closer e) =
     front name (front opener (both (deeper (parameters_row ps)) (front closer (end_row e))))
 
-form_is : (ws : List Token) (f : ExternalForm) → external_of (words ws ∷ form_items f) ≡ form_item ws f
-form_is ws (form.Variables ds semicolon) = refl
-form_is ws (form.Function name opener ps closer (end.Body b)) = refl
-form_is ws (form.Function name opener ps closer (end.Prototype semicolon)) = refl
+form_is : (s : SpecifierItem) (f : ExternalForm) → external_of (specifiers s ∷ form_items f) ≡ form_item s f
+form_is s (form.Variables None semicolon) = refl
+form_is s (form.Variables (Some ds) semicolon) = refl
+form_is s (form.Function name opener ps closer (end.Body b)) = refl
+form_is s (form.Function name opener ps closer (end.Prototype semicolon)) = refl
 
 external_row : (x : External) → AllOf as_external (external_marks x) (external_item x ∷ [])
 external_row x = record {
   row = external (external_item x) ∷ [];
-  reads = as_row (ap (λ i. external i ∷ []) (form_is (words_of x.name) x.form))
-      (inside rule.external (both (type_row x.name) (form_row x.form)));
+  reads = as_row (ap (λ i. external i ∷ []) (form_is (specifier_item x.specifiers) x.form))
+      (inside rule.external (both (specifiers_row x.specifiers) (form_row x.form)));
   are = refl;
 }
 
@@ -158,7 +158,8 @@ add_param_by is_main defined function_at number p scope n =
       shape = shape_by is_main
           p.length l;
     }) l
-    then (λ scope n. faults_added (void_faults t at ++ limit_faults parameter_limit number at))) scope n
+    then (λ scope n. faults_added (void_faults t at ++ limit_faults parameter_limit number at
+    ++ tag_faults scope (tag_of p.words)))) scope n
 
 param_plain : (is_main defined : Bool) (at : At) (number : ℕ) (kind : TypeName) (name : Option Token)
     → add_param is_main defined at number (record { type_name = kind; name = name; length = None })
@@ -223,10 +224,10 @@ says_by None [] = false
 says_by None (p ∷ ps) = true
 
 abbrev signature_by : ℕ → ExternalItem → Option Signature
-signature_by definitions (variables ws ds) = None
-signature_by definitions (function ws name ps e) = Some (record {
+signature_by definitions (variables s ds) = None
+signature_by definitions (function s name ps e) = Some (record {
   name = name_of name;
-  result = type_of_words ws;
+  result = type_of_words s.words;
   params = cond (says_by e ps) (Some (map type_by (without_void_item ps))) None;
   is_definition = is_some e;
   function = record { 0 = definitions };
@@ -242,15 +243,15 @@ defined_is : (e : FunctionEnd) → is_some (end_item e) ≡ is_definition e
 defined_is (end.Body b) = refl
 defined_is (end.Prototype semicolon) = refl
 
-form_signature : (d : ℕ) (ws : List Token) (f : ExternalForm)
-    → signature_by d (form_item ws f) ≡ signature_of_form d (type_of_words ws) f
-form_signature d ws (form.Variables ds semicolon) = refl
-form_signature d ws (form.Function name opener ps closer e) =
+form_signature : (d : ℕ) (s : SpecifierItem) (f : ExternalForm)
+    → signature_by d (form_item s f) ≡ signature_of_form d (type_of_words s.words) f
+form_signature d s (form.Variables ds semicolon) = refl
+form_signature d s (form.Function name opener ps closer e) =
     let qs = params_of_list ps.list in
     let sign : Option (List ParamType) → Bool → Option Signature
     = λ params defined. Some (record {
       name = name_of name;
-      result = type_of_words ws;
+      result = type_of_words s.words;
       params = params;
       is_definition = defined;
       function = record { 0 = d };
@@ -263,7 +264,7 @@ form_signature d ws (form.Function name opener ps closer e) =
     ∙ ap (λ b. sign (cond (says_params e ps) (Some (map type_of_param (params_of ps))) None) b) (defined_is e)
 
 signature_is : (d : ℕ) (x : External) → signature_of d x ≡ signature_by d (external_item x)
-signature_is d x = sym (form_signature d (words_of x.name) x.form)
+signature_is d x = sym (form_signature d (specifier_item x.specifiers) x.form)
 
 abbrev signatures_by : ℕ → List ExternalItem → List Signature
 signatures_by definitions [] = []
@@ -292,18 +293,16 @@ add_function_by params_part body_parts at s outer earlier n =
       functions = cond s.is_definition (function_tree n s.result params body ∷ []) [];
     }
 
-abbrev add_external_by : ExternalItem → Option Signature → Scope → List Signature → Before → FileAdded
-add_external_by (variables ws ds) s outer earlier n = record {
-  added = ds earlier (type_of_words ws) outer
-      n;
+abbrev add_form_by : ExternalItem → Option Signature → Scope → List Signature → Before → FileAdded
+add_form_by (variables w ds) s outer earlier n = record {
+  added = ds earlier (type_of_words w.words) outer n;
   functions = [];
 }
-add_external_by (function ws name ps e) None outer earlier n = record {
+add_form_by (function w name ps e) None outer earlier n = record {
   added = nothing_added;
-  functions =
-      [];
+  functions = [];
 }
-add_external_by (function ws name ps e) (Some s) outer earlier n =
+add_form_by (function w name ps e) (Some s) outer earlier n =
     add_function_by (add_params_by (is_main_name s.name) s.is_definition name.at 1 (without_void_item ps))
     (unwrap_or e []) name.at s outer earlier n
 
@@ -311,13 +310,14 @@ body_is : (e : FunctionEnd) → body_parts e ≡ unwrap_or (end_item e) []
 body_is (end.Body b) = refl
 body_is (end.Prototype semicolon) = refl
 
-form_added : (ws : List Token) (f : ExternalForm) (s : Option Signature) (outer : Scope) (earlier : List
+form_added : (w : SpecifierItem) (f : ExternalForm) (s : Option Signature) (outer : Scope) (earlier : List
     Signature) (n : Before)
-    → add_external_form (type_of_words ws) f s outer earlier n ≡ add_external_by (form_item ws f) s outer
+    → add_external_form (type_of_words w.words) f s outer earlier n ≡ add_form_by (form_item w f) s outer
     earlier n
-form_added ws (form.Variables ds semicolon) s outer earlier n = refl
-form_added ws (form.Function name opener ps closer e) None outer earlier n = refl
-form_added ws (form.Function name opener ps closer e) (Some s) outer earlier n =
+form_added w (form.Variables None semicolon) s outer earlier n = refl
+form_added w (form.Variables (Some ds) semicolon) s outer earlier n = refl
+form_added w (form.Function name opener ps closer e) None outer earlier n = refl
+form_added w (form.Function name opener ps closer e) (Some s) outer earlier n =
     let qs = params_of_list ps.list in
     let at = name.at in
     let main = is_main_name s.name in
@@ -327,6 +327,36 @@ form_added ws (form.Function name opener ps closer e) (Some s) outer earlier n =
     ∙ ap (λ parts. add_function_by (add_params_by main s.is_definition at 1 (without_void_item (map
     param_item qs))) parts
     at s outer earlier n) (body_is e)
+
+-- what a declaration or a function begins with, and what stands behind it
+abbrev behind_specifiers : ExternalItem → Option Signature → Scope → List Signature → Before → Added →
+    FileAdded
+behind_specifiers x s outer earlier n w =
+    let a = add_form_by x s (knowing w.entries outer) earlier (behind n w) in
+    record { added = w and a.added; functions = a.functions }
+
+abbrev specifiers_in : ExternalItem → SpecifierItem
+specifiers_in (variables w ds) = w
+specifiers_in (function w name ps e) = w
+
+abbrev add_external_by : ExternalItem → Option Signature → Scope → List Signature → Before → FileAdded
+add_external_by x s outer earlier n =
+    behind_specifiers x s outer earlier n (specified_by earlier (specifiers_in x) outer n)
+
+specifiers_are : (w : SpecifierItem) (f : ExternalForm) → specifiers_in (form_item w f) ≡ w
+specifiers_are w (form.Variables ds semicolon) = refl
+specifiers_are w (form.Function name opener ps closer e) = refl
+
+external_added : (x : External) (s : Option Signature) (outer : Scope) (earlier : List Signature) (n : Before)
+    → add_external x s outer earlier n ≡ add_external_by (external_item x) s outer earlier n
+external_added x s outer earlier n =
+    let i = specifier_item x.specifiers in
+    let w = add_specifiers earlier x.specifiers outer n in
+    ap (λ (a : FileAdded). record { added = w and a.added; functions = a.functions })
+    (form_added i x.form s (knowing w.entries outer) earlier (behind n w))
+    ∙ ap (behind_specifiers (external_item x) s outer earlier n)
+    (ap (λ (part : Part). part outer n) (sym (specified_is earlier x.specifiers))
+    ∙ ap (λ w. specified_by earlier w outer n) (sym (specifiers_are i x.form)))
 
 abbrev add_externals_by : ℕ → List ExternalItem → Scope → List Signature → Before → FileAdded
 add_externals_by definitions [] outer earlier n = record { added = nothing_added; functions = [] }
@@ -346,7 +376,7 @@ externals_are d (x ∷ xs) outer earlier n =
     let s = signature_by d (external_item x) in
     let a = add_external_by (external_item x) s outer earlier n in
     ap (λ s. rest s (add_external x s outer earlier n)) (signature_is d x)
-    ∙ ap (rest s) (form_added (words_of x.name) x.form s outer earlier n)
+    ∙ ap (rest s) (external_added x s outer earlier n)
     ∙ ap (with_functions a) (externals_are (d + definitions_of s) xs (knowing a.added.entries outer)
     (earlier ++ with_signature s []) (behind n a.added))
 

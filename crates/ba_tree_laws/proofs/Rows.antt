@@ -1,6 +1,6 @@
 -- A tree written out, read back: a node is known by the row of what stands in it, and what typing makes of a
 -- tree is a function of these rows.
-use Rattle.std.proofs.Common.{◌≡◌, ℕ, ◌+◌, pos, Bool, true, false, not, ◌==◌, cond, Option, None, Some, List, [], ◌∷◌, ◌++◌, map, length, refl, sym, ◌∙◌, ap, subst, append_assoc}
+use Rattle.std.proofs.Common.{◌≡◌, ℕ, ◌+◌, ℤ, pos, Bool, true, false, not, ◌==◌, cond, Option, None, Some, List, [], ◌∷◌, ◌++◌, map, length, refl, sym, ◌∙◌, ap, subst, append_assoc}
 use Rattle.std.specs.Prelude.{flat_map, option_map, unwrap_or}
 use Rattle.std.specs.Option.{is_some}
 use Rattle.std.proofs.lemmas.List.{append-nil}
@@ -14,10 +14,10 @@ use Rattle.ba_numbers.specs.declared.numbers.CType.TheVariants.{I32}
 use Rattle.ba_trees.specs.Marks.{Mark, Rule, leaf, enter, leave, down, up, node_of, one_deeper}
 use Rattle.ba_trees.specs.Marks as rule
 use Rattle.ba_tree.specs.declared.tree.StmtKind.TheVariants as kind
-use Rattle.ba_typing.specs.Declarations.{Before, Part, nothing_added, ◌and◌, ◌then◌, nothing, in_order, behind, numbered, next_stmt, faults_added, add_variable, add_declare, add_length, shape_of, written_count, exceeds, init_tree, typed_each, calls_in, initial_faults, TypedLength, typed_written_length, typed_counted_length}
-use Rattle.ba_typing.specs.Expressions.{Typing, tree_as, BranchTypings, ChainTyping, typed_constant, typed_token, parenthesized, typed_element, typed_called, typed_call, typed_unary, typed_cast, chain_of, whole_operand, with_branches}
-use Rattle.ba_typing.specs.Faults.{fault_if, void_faults, limit_faults, height_limit}
-use Rattle.ba_typing.specs.Names.{Scope, inner, knowing, looping, switching, meaning_of, name_of, punct_of, unary_operator, binary_operator, type_of_words}
+use Rattle.ba_typing.specs.Declarations.{Before, Part, nothing_added, ◌and◌, ◌then◌, nothing, in_order, behind, numbered, next_stmt, faults_added, add_written, add_tag, add_constant, enumerator_value, add_variable, add_declare, add_length, shape_of, written_count, exceeds, init_tree, typed_each, calls_in, initial_faults, TypedLength, typed_written_length, typed_counted_length}
+use Rattle.ba_typing.specs.Expressions.{Typed, Typing, tree_as, BranchTypings, ChainTyping, typed_constant, typed_token, parenthesized, typed_element, typed_called, typed_call, typed_unary, typed_cast, with_more_faults, chain_of, whole_operand, with_branches}
+use Rattle.ba_typing.specs.Faults.{fault_if, void_faults, tag_faults, limit_faults, height_limit}
+use Rattle.ba_typing.specs.Names.{Scope, inner, knowing, looping, switching, meaning_of, name_of, punct_of, unary_operator, binary_operator, type_of_words, tag_of}
 use Rattle.ba_typing.specs.Statements.{typed_target, index_faults, changed, assigned_tree, kind_of_target, one, add_call, operator_at, add_test, Labelled, no_labels, add_case, add_default, add_controlling, enclosing, one_of, optional_part, add_if, add_while, add_do, add_jump_with, add_assert, add_printf, add_block}
 use Rattle.ba_tree.specs.Trees.{stmts_of}
 use Rattle.ba_tree.specs.Trees as tree
@@ -31,6 +31,16 @@ use Rattle.ba_typing.specs.declared.meanings.Signature.{Signature}
 abbrev pub Declaring : Type 0
 Declaring = List Signature → Option CType → Part
 
+-- an enumeration constant, with its value if one is written
+pub record ConstantItem : Type 0 where
+  pub name : Token
+  pub value : Option Typing
+
+-- what a declaration begins with: its words, and the constants of an enumerated type, if there are some
+pub record SpecifierItem : Type 0 where
+  pub words : List Token
+  pub constants : Option (List ConstantItem)
+
 -- the words of a parameter's type, its name, and its length, which may have no expression
 pub record ParamItem : Type 0 where
   pub words : List Token
@@ -39,8 +49,8 @@ pub record ParamItem : Type 0 where
 
 -- what stands at the level of the file; a function has a body or none
 pub data ExternalItem : Type 0 where
-  variables : List Token → Declaring → ExternalItem
-  function : List Token → Token → List ParamItem → Option (List Part) → ExternalItem
+  variables : SpecifierItem → Declaring → ExternalItem
+  function : SpecifierItem → Token → List ParamItem → Option (List Part) → ExternalItem
 
 -- a label of a `switch`, by its constant or by where `default` stands, and the statements behind it
 pub data LabelItem : Type 0 where
@@ -54,6 +64,9 @@ pub record GroupItem : Type 0 where
 pub data Item : Type 0 where
   token : Token → Item
   words : List Token → Item
+  specifiers : SpecifierItem → Item
+  enumerators : List ConstantItem → Item
+  enumerator : ConstantItem → Item
   primary : Typing → Item
   unary : Typing → Item
   conditional : Typing → Item
@@ -114,6 +127,14 @@ abbrev pub as_braced : Item → Option (List Typing)
 as_braced (braced b) = Some b
 as_braced _ = None
 
+abbrev pub as_enumerators : Item → Option (List ConstantItem)
+as_enumerators (enumerators cs) = Some cs
+as_enumerators _ = None
+
+abbrev pub as_enumerator : Item → Option ConstantItem
+as_enumerator (enumerator c) = Some c
+as_enumerator _ = None
+
 abbrev pub as_declarator : Item → Option Declaring
 as_declarator (declarator d) = Some d
 as_declarator _ = None
@@ -169,14 +190,18 @@ abbrev pub primary_of : Row → Typing
 primary_of (token t ∷ is) = from_token t is
 primary_of _ = no_typing
 
-abbrev pub cast_of : At → Option CType → Row → Typing
-cast_of at t (unary a ∷ is) scope calls = typed_cast at t (a scope calls)
-cast_of at t (token closer ∷ unary a ∷ is) scope calls = typed_cast at t (a scope calls)
-cast_of at t _ scope calls = no_typing scope calls
+abbrev pub cast_to : At → List Token → Typing → Typing
+cast_to at ws a scope calls = with_more_faults (tag_faults scope (tag_of ws))
+    (typed_cast at (type_of_words ws) (a scope calls))
+
+abbrev pub cast_of : At → List Token → Row → Typing
+cast_of at ws (unary a ∷ is) scope calls = cast_to at ws a scope calls
+cast_of at ws (token closer ∷ unary a ∷ is) scope calls = cast_to at ws a scope calls
+cast_of at ws _ scope calls = no_typing scope calls
 
 abbrev pub prefixed : Token → Row → Typing
 prefixed t (unary a ∷ is) scope calls = typed_unary t.at (unary_operator (punct_of t)) (a scope calls)
-prefixed t (words ws ∷ is) scope calls = cast_of t.at (type_of_words ws) is scope calls
+prefixed t (words ws ∷ is) scope calls = cast_of t.at ws is scope calls
 prefixed t _ scope calls = no_typing scope calls
 
 abbrev pub unary_of : Row → Typing
@@ -253,13 +278,44 @@ declarator_of _ = λ functions t. nothing
 abbrev pub declarators_of : Row → Declaring
 declarators_of is functions t = in_order (map (λ (d : Declaring). d functions t) (items_of as_declarator is))
 
+-- a constant behind one of this value
+abbrev pub constant_added : List Signature → Option ℤ → Token → Option Typed → Part
+constant_added functions last name v =
+    add_written name.at v
+    then add_constant functions name.at (name_of name) (enumerator_value last v)
+
+abbrev pub constants_added : List Signature → Option ℤ → List ConstantItem → Part
+constants_added functions last [] scope n = nothing_added
+constants_added functions last (c ∷ cs) scope n =
+    let v = option_map (λ (typing : Typing). typing scope n.calls) c.value in
+    (constant_added functions last c.name v
+    then constants_added functions (Some (enumerator_value last v)) cs) scope n
+
+-- a tag that words without a list name
+abbrev pub tag_used : Option Token → Part
+tag_used tag scope n = faults_added (tag_faults scope tag)
+
+abbrev pub list_added : List Signature → Option Token → Option (List ConstantItem) → Part
+list_added functions tag None = tag_used tag
+list_added functions tag (Some cs) = add_tag tag then constants_added functions None cs
+
+abbrev pub specified_by : List Signature → SpecifierItem → Part
+specified_by functions s = list_added functions (tag_of s.words) s.constants
+
+abbrev pub enumerator_of : Row → Item
+enumerator_of (token name ∷ is) = enumerator (record {
+  name = name;
+  value = first_of (items_of as_conditional is);
+})
+enumerator_of _ = absent
+
 -- the declarators of a row, of the type that these words name
 abbrev pub declared_by : List Token → Row → Part
 declared_by ws (declarators d ∷ is) = d [] (type_of_words ws)
 declared_by ws _ = nothing
 
 abbrev pub declaration_of : Row → Part
-declaration_of (words ws ∷ is) = declared_by ws is
+declaration_of (specifiers s ∷ is) = specified_by [] s then declared_by s.words is
 declaration_of _ = nothing
 
 -- STATEMENTS
@@ -301,7 +357,7 @@ target_of (token name ∷ is) = target name (first_of (items_of as_conditional i
 target_of _ = absent
 
 abbrev pub first_item : Row → Item
-first_item (words ws ∷ is) = for_first inner (declared_by ws is)
+first_item (words ws ∷ is) = for_first inner (tag_used (tag_of ws) then declared_by ws is)
 first_item (simples s ∷ is) = for_first (λ scope. scope) s
 first_item _ = for_first (λ scope. scope) nothing
 
@@ -449,19 +505,22 @@ abbrev pub other_items : Row → Row
 other_items [] = []
 other_items (i ∷ is) = is
 
-abbrev pub function_of : List Token → Token → Row → ExternalItem
-function_of ws name (token opener ∷ is) =
-    function ws name (parameters_of is) (end_of (other_items (other_items is)))
-function_of ws name _ = variables ws (λ functions t. nothing)
+abbrev pub declaring_nothing : Declaring
+declaring_nothing functions t = nothing
 
-abbrev pub external_of_words : List Token → Row → ExternalItem
-external_of_words ws (declarators d ∷ is) = variables ws d
-external_of_words ws (token name ∷ is) = function_of ws name is
-external_of_words ws _ = variables ws (λ functions t. nothing)
+abbrev pub function_of : SpecifierItem → Token → Row → ExternalItem
+function_of s name (token opener ∷ is) =
+    function s name (parameters_of is) (end_of (other_items (other_items is)))
+function_of s name _ = variables s declaring_nothing
+
+abbrev pub external_behind : SpecifierItem → Row → ExternalItem
+external_behind s (declarators d ∷ is) = variables s d
+external_behind s (token name ∷ is) = function_of s name is
+external_behind s _ = variables s declaring_nothing
 
 abbrev pub external_of : Row → ExternalItem
-external_of (words ws ∷ is) = external_of_words ws is
-external_of _ = variables [] (λ functions t. nothing)
+external_of (specifiers s ∷ is) = external_behind s is
+external_of _ = variables (record { words = []; constants = None }) declaring_nothing
 
 -- WHAT A NODE COMES TO, by its rule and its row
 
@@ -469,6 +528,12 @@ abbrev pub node_item : Rule → Row → Item
 node_item rule.file is = file (items_of as_external is)
 node_item rule.external is = external (external_of is)
 node_item rule.type_name is = words (items_of as_token is)
+node_item rule.specifiers is = specifiers (record {
+  words = items_of as_token is;
+  constants = first_of (items_of as_enumerators is);
+})
+node_item rule.enumerators is = enumerators (items_of as_enumerator is)
+node_item rule.enumerator is = enumerator_of is
 node_item rule.parameters is = parameters (items_of as_parameter is)
 node_item rule.parameter is = parameter (param_of is)
 node_item rule.no_name is = absent

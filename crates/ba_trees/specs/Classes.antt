@@ -45,23 +45,28 @@ abbrev pub ◌or◌ : Classes → Classes → Classes
 -- a word that names a type, alone or with others
 abbrev pub type_word : Classes
 type_word = word keyword.Void or word keyword.Char or word keyword.Short or word keyword.Int or word
-    keyword.Long or word keyword.Signed or word keyword.Unsigned
+    keyword.Long or word keyword.Signed or word keyword.Unsigned or word keyword.Enum
 
--- a word of a declaration; `static` only where it is accepted
+-- a word beside those that name a type; `static` only where it is accepted
+abbrev pub qualifier : Bool → Classes
+qualifier static c = word keyword.Const c || (static && word keyword.Static c)
+
+-- a word of a declaration
 abbrev pub declaration_word : Bool → Classes
-declaration_word static c = type_word c || word keyword.Const c || (static && word keyword.Static c)
+declaration_word static c = type_word c || qualifier static c
 
--- the first of two words excludes the second: void all others, char the lengths, short long, signed unsigned
+-- the first of two words excludes the second: void and enum all others, char the lengths, short long, signed
+-- unsigned
 abbrev pub excludes : TokenClass → TokenClass → Bool
 excludes c d =
-    (word keyword.Void c && type_word d)
+    ((word keyword.Void or word keyword.Enum) c && type_word d)
     || (word keyword.Char c && (word keyword.Short or word keyword.Int or word keyword.Long) d)
     || (word keyword.Short c && word keyword.Long d)
     || (word keyword.Signed c && word keyword.Unsigned d)
 
--- two words stand in one list
+-- two words stand in one list, the first one before the second; `enum` is the last of its list (C90 6.5.2.2)
 abbrev pub agree : TokenClass → TokenClass → Bool
-agree c d = not (eq-value.it c d || excludes c d || excludes d c)
+agree c d = not (word keyword.Enum c || eq-value.it c d || excludes c d || excludes d c)
 
 -- no word stands twice, and each two agree
 abbrev pub all_agree : List TokenClass → Bool

@@ -9,13 +9,40 @@ use Rattle.ba_trees.specs.declared.tree.declarations.Declarator.{Declarator}
 use Rattle.ba_trees.specs.declared.tree.declarations.ListedDeclarator.{ListedDeclarator}
 use Rattle.ba_trees.specs.declared.tree.declarations.Declarators.{Declarators}
 use Rattle.ba_trees.specs.declared.tree.declarations.Declaration.{Declaration}
+use Rattle.ba_trees.specs.declared.tree.declarations.Enumerator.{Enumerator}
+use Rattle.ba_trees.specs.declared.tree.declarations.EnumeratorList.{EnumeratorList}
+use Rattle.ba_trees.specs.declared.tree.declarations.EnumeratorValue.{EnumeratorValue}
+use Rattle.ba_trees.specs.declared.tree.declarations.Enumerators.{Enumerators}
+use Rattle.ba_trees.specs.declared.tree.declarations.NextEnumerator.{NextEnumerator}
+use Rattle.ba_trees.specs.declared.tree.declarations.Specifiers.{Specifiers}
 use Rattle.ba_trees.specs.declared.tree.declarations.Parameter.{Parameter}
 use Rattle.ba_trees.specs.declared.tree.declarations.NextParameter.{NextParameter}
 use Rattle.ba_trees.specs.declared.tree.declarations.ParameterList.{ParameterList}
 use Rattle.ba_trees.specs.declared.tree.declarations.Parameters.{Parameters}
-use Rattle.ba_trees.specs.Marks.{Mark, leaf, node_of, one_deeper, array_length, braced, declarator, declarators, declaration, parameter, parameters}
+use Rattle.ba_trees.specs.Marks.{Mark, leaf, node_of, one_deeper, specifiers, enumerators, enumerator, array_length, braced, declarator, declarators, declaration, parameter, parameters}
 use Rattle.ba_trees.specs.Views.{joined, optional, optional_leaf, name_marks}
 use Rattle.ba_trees.specs.ExpressionMarks.{type_name_marks, conditional_marks, next_expression_marks}
+
+abbrev pub enumerator_value_marks : EnumeratorValue → List Mark
+enumerator_value_marks v = leaf v.assign ∷ conditional_marks v.value
+
+abbrev pub enumerator_marks : Enumerator → List Mark
+enumerator_marks e = node_of enumerator (leaf e.name ∷ optional (option_map enumerator_value_marks e.value))
+
+abbrev pub next_enumerator_marks : NextEnumerator → List Mark
+next_enumerator_marks n = leaf n.comma ∷ enumerator_marks n.enumerator
+
+abbrev pub enumerator_list_marks : EnumeratorList → List Mark
+enumerator_list_marks l = enumerator_marks l.first ++ joined (map next_enumerator_marks l.rest.items)
+    ++ optional_leaf l.comma
+
+abbrev pub enumerators_marks : Enumerators → List Mark
+enumerators_marks e = node_of enumerators (leaf e.«open» ∷ one_deeper (enumerator_list_marks e.list)
+    ++ leaf e.close ∷ [])
+
+abbrev pub specifiers_marks : Specifiers → List Mark
+specifiers_marks s = node_of specifiers (map leaf s.words.items ++ optional (option_map enumerators_marks
+    s.enumerators) ++ map leaf s.behind.items)
 
 abbrev pub array_length_marks : ArrayLength → List Mark
 array_length_marks a =
@@ -43,8 +70,8 @@ abbrev pub declarators_marks : Declarators → List Mark
 declarators_marks d = node_of declarators (joined (map listed_declarator_marks d.all.items))
 
 abbrev pub declaration_marks : Declaration → List Mark
-declaration_marks d = node_of declaration (type_name_marks d.name ++ declarators_marks d.declarators
-    ++ leaf d.semicolon ∷ [])
+declaration_marks d = node_of declaration (specifiers_marks d.specifiers ++ optional
+    (option_map declarators_marks d.declarators) ++ leaf d.semicolon ∷ [])
 
 abbrev pub parameter_marks : Parameter → List Mark
 parameter_marks p =

@@ -17,6 +17,9 @@ pub data Rule : Type 0 where
   file : Rule
   external : Rule
   type_name : Rule
+  specifiers : Rule
+  enumerators : Rule
+  enumerator : Rule
   parameters : Rule
   parameter : Rule
   no_name : Rule

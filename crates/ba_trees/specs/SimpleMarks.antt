@@ -45,8 +45,8 @@ abbrev pub condition_marks : Condition → List Mark
 condition_marks c = leaf c.«open» ∷ one_deeper (conditional_marks c.test.value) ++ leaf c.close ∷ []
 
 abbrev pub label_marks : Label → List Mark
-label_marks (labelled.Case keyword value colon) = node_of label (leaf keyword ∷ conditional_marks value ++ leaf colon
-    ∷ [])
+label_marks (labelled.Case keyword value colon) =
+    node_of label (leaf keyword ∷ conditional_marks value ++ leaf colon ∷ [])
 label_marks (labelled.Default keyword colon) = node_of label (leaf keyword ∷ leaf colon ∷ [])
 
 abbrev pub for_first_marks : ForFirst → List Mark

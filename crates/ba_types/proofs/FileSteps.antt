@@ -1,5 +1,5 @@
 -- What the parts of a file add, one after the other, and the answer for the whole.
-use Rattle.std.proofs.Common.{◌≡◌, ℕ, ◌+◌, ◌<◌, ◌≤◌, Option, None, Some, Ok, Err, List, [], ◌∷◌, ◌++◌, map, length, get_or, drop, refl, sym, ◌∙◌, ap, append_assoc, append-nil, option_map}
+use Rattle.std.proofs.Common.{◌≡◌, ℕ, ◌+◌, ◌<◌, ◌≤◌, Option, None, Some, Ok, Err, List, [], ◌∷◌, ◌++◌, map, length, get_or, drop, sym, ◌∙◌, ap, append_assoc, append-nil, option_map}
 use Rattle.std.specs.Global.{Vec}
 use Rattle.std.specs.Prelude.{MatchOption}
 use Rattle.ba_tokens.specs.declared.token.Token.{Token}
@@ -14,13 +14,13 @@ use Rattle.ba_tree.specs.declared.tree.Function.{Function}
 use Rattle.ba_tree.specs.declared.tree.Parts.{Parts}
 use Rattle.ba_tree.specs.declared.tree.Stmt.{Stmt}
 use Rattle.ba_statements.specs.Adding.{State, at_place, before_of, behind_part, extended, no_work, state}
-use Rattle.ba_typing.specs.Declarations.{Before, add_declarators, behind, nothing_added}
+use Rattle.ba_typing.specs.Declarations.{Before, add_optional_declarators, add_specifiers, behind, nothing_added}
 use Rattle.ba_typing.specs.Faults.{IsFirst}
 use Rattle.ba_typing.specs.Files.{FileAdded, FirstFault, add_external, add_externals, add_external_form, definitions_of, faults_of, file_of, file_scope, main_of, program_of, signature_of, typed_of, vars_of, with_functions, with_signature}
-use Rattle.ba_types.specs.Filing.{CheckedParts, FileState, IsTyped, behind_externals, error_of, file_state, with_part}
-use Rattle.ba_tree.specs.Trees.{tree_of_parts}
+use Rattle.ba_types.specs.Filing.{CheckedParts, FileState, IsTyped, behind_externals, error_of, file_place, file_state, with_part}
+use Rattle.ba_tree.specs.Trees.{StmtTree, tree_of_parts}
 use Rattle.ba_expressions.specs.Judging.{after, nothing_found}
-use Rattle.ba_typing.specs.Names.{Scope, knowing, type_named}
+use Rattle.ba_typing.specs.Names.{Scope, knowing, type_specified}
 use Rattle.ba_tree.specs.Trees.{tree_of_function, tree_of_stmt}
 use Rattle.ba_typing.specs.declared.error.TypeError.TheVariants as error
 use Rattle.ba_typing.specs.declared.fault.Cause.{Cause}
@@ -105,33 +105,43 @@ all-externals xs earlier s t none is = is ∙ ap (λ ss. behind_externals 0 xs s
 
 -- ONE PART
 
--- a part of this form, which says this of a function
-pub filed-as : (x : External) (f : ExternalForm) (o p : Option Signature) (earlier : List Signature)
-    (s t : FileState)
-    → x.form ≡ f → o ≡ p
-    → t ≡ with_part s (add_external_form (type_named x.name) f p s.state.scope earlier (before_of
-    s.state.work))
-    → t ≡ with_part s (add_external x o s.state.scope earlier (before_of s.state.work))
-filed-as x f o p earlier s t is says added =
-    let from : ExternalForm → Option Signature → FileState = λ f o.
-    with_part s (add_external_form (type_named x.name) f o s.state.scope earlier (before_of s.state.work)) in
-    added ∙ ap (from f) (sym says) ∙ ap (λ f. from f o) (sym is)
-
-pub variables-filed : (x : External) (o : Option Signature) (earlier : List Signature)
-    (s0 s1 : Scope) (w0 w1 : Work) (i0 i1 : Vec Stmt) (fs : Vec Function) (t : Option CType)
-    (ds : Declarators)
-    (semicolon : Token) → x.form ≡ form.Variables ds semicolon → t ≡ type_named x.name
-    → state s1 w1 i1 ≡ behind_part (add_declarators earlier t ds) (state s0 w0 i0)
-    → file_state s1 w1 i1 fs ≡ with_part (file_state s0 w0 i0 fs) (add_external x o s0 earlier (before_of w0))
+-- the words that it begins with, and then what stands behind them
+pub specified : (x : External) (o : Option Signature) (earlier : List Signature) (s0 k : Scope) (w0 v : Work)
+    (inits : List StmtTree) (fs : Vec Function) (t : FileState)
+    → at_place k v inits ≡ behind_part (add_specifiers earlier x.specifiers) (at_place s0 w0 inits)
+    → t ≡ with_part (file_place k v inits fs)
+    (add_external_form (type_specified x.specifiers) x.form o k earlier (before_of v))
+    → t ≡ with_part (file_place s0 w0 inits fs) (add_external x o s0 earlier (before_of w0))
 unfolding behind_part
-variables-filed x o earlier s0 s1 w0 w1 i0 i1 fs t ds semicolon is types added =
+specified x o earlier s0 k w0 v inits fs t begun ended =
+    let a = add_specifiers earlier x.specifiers s0 (before_of w0) in
+    let form : Scope → Before → FileAdded = λ k n.
+    add_external_form (type_specified x.specifiers) x.form o k earlier n in
+    let place : State → FileState = λ s. record { state = s; functions = map tree_of_function fs.items } in
+    let s = at_place s0 w0 inits in
+    let known = knowing a.entries s0 in
+    let b = form known (behind (before_of w0) a) in
+    ended ∙ ap (λ (s : State). with_part (place s) (form s.scope (before_of s.work))) begun
+    ∙ ap (λ n. with_part (place (extended s a)) (form known n)) (before-added w0 a)
+    ∙ ap (λ s. record { state = s; functions = map tree_of_function fs.items ++ b.functions })
+    (extended-both s a b.added)
+
+-- variables
+pub variables-filed : (f : ExternalForm) (o : Option Signature) (earlier : List Signature)
+    (s0 s1 : Scope) (w0 w1 : Work) (i0 i1 : Vec Stmt) (fs : Vec Function) (t u : Option CType)
+    (ds : Option Declarators)
+    (semicolon : Token) → f ≡ form.Variables ds semicolon → t ≡ u
+    → state s1 w1 i1 ≡ behind_part (add_optional_declarators earlier t ds) (state s0 w0 i0)
+    → file_state s1 w1 i1 fs ≡ with_part (file_state s0 w0 i0 fs)
+    (add_external_form u f o s0 earlier (before_of w0))
+unfolding behind_part
+variables-filed f o earlier s0 s1 w0 w1 i0 i1 fs t u ds semicolon is types added =
     let s : FileState = file_state s0 w0 i0 fs in
-    let from : Option CType → FileState = λ t.
-    with_part s (add_external_form t (form.Variables ds semicolon) o s0 earlier (before_of w0)) in
-    let here : file_state s1 w1 i1 fs ≡ from t
+    let from : ExternalForm → Option CType → FileState = λ f t.
+    with_part s (add_external_form t f o s0 earlier (before_of w0)) in
+    let here : file_state s1 w1 i1 fs ≡ from (form.Variables ds semicolon) t
     = λ i. record { state = added i; functions = sym (append-nil (map tree_of_function fs.items)) i } in
-    filed-as x (form.Variables ds semicolon) o o earlier s (file_state s1 w1 i1 fs) is refl
-    (here ∙ ap from types)
+    here ∙ ap (from (form.Variables ds semicolon)) types ∙ ap (λ f. from f u) (sym is)
 
 -- THE WHOLE FILE
 

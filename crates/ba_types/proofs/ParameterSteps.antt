@@ -1,28 +1,30 @@
 -- What the parameters of a function add, from what their parts add.
 use Rattle.std.proofs.Common.{◌≡◌, ℕ, ◌+◌, ◌<◌, ◌≤◌, Bool, true, false, not, Option, None, Some, List, [], ◌∷◌, ◌++◌, length, get_or, drop, refl, sym, ◌∙◌, ap, add-zero, append-nil, is_some}
 use Rattle.std.specs.Prelude.{unwrap_or}
+use Rattle.ba_tokens.specs.declared.token.Token.{Token}
 use Rattle.ba_numbers.specs.declared.ids.At.{At}
 use Rattle.ba_numbers.specs.declared.numbers.CType.{CType}
 use Rattle.ba_numbers.specs.declared.numbers.CType.TheVariants.{I32}
 use Rattle.ba_trees.specs.declared.tree.declarations.NextParameter.{NextParameter}
 use Rattle.ba_trees.specs.declared.tree.declarations.Parameter.{Parameter}
+use Rattle.ba_trees.specs.declared.tree.expressions.TypeName.{TypeName}
 use Rattle.ba_tree.specs.declared.tree.Shape.{Shape}
 use Rattle.ba_statements.specs.Adding.{AddsLength, IsLength, State, at_place, before_of, behind_part, with_added, with_judged}
 use Rattle.ba_typing.specs.Declarations.{Part, TypedLength, add_length, add_variable, faults_added, nothing_added}
-use Rattle.ba_typing.specs.Faults.{fault_if, limit_faults, parameter_limit, void_faults}
+use Rattle.ba_typing.specs.Faults.{fault_if, limit_faults, parameter_limit, tag_faults, void_faults}
 use Rattle.ba_typing.specs.Files.{add_param, add_params, bad_length_faults, check_length, name_of_param, param_length, param_shape, place_of_param}
 use Rattle.ba_types.specs.Filing.{declaring_param, is_bad, next_params}
 use Rattle.ba_expressions.specs.Judging.{after, with_faults}
-use Rattle.ba_typing.specs.Names.{Scope, type_named}
+use Rattle.ba_typing.specs.Names.{Scope, tag_of, type_named, words_of}
 use Rattle.ba_tree.specs.Trees.{StmtTree}
 use Rattle.ba_statements.specs.declared.declarations.Length.{Length}
 use Rattle.ba_typing.specs.declared.fault.Cause.TheVariants.{BadLength}
 use Rattle.ba_typing.specs.declared.fault.Fault.{Fault}
 use Rattle.ba_expressions.specs.declared.tally.Tally.{Tally}
 use Rattle.ba_statements.specs.declared.work.Work.{Work}
-use Rattle.ba_statements.proofs.Adding.{after-nothing, and-then, behind-nothing, behind-then, in-scope, with_added-nothing}
+use Rattle.ba_statements.proofs.Adding.{after-nothing, and-then, behind-nothing, behind-then, faults-work, in-scope, with_added-nothing}
 use Rattle.ba_statements.proofs.Declaring.{length-part}
-use Rattle.ba_expressions.proofs.Tallies.{faults-before}
+use Rattle.ba_expressions.proofs.Tallies.{faults-before, faults-twice}
 use Rattle.ba_typing.proofs.Walks.{next_item, none_left}
 
 -- THE LENGTH OF AN ARRAY PARAMETER
@@ -32,6 +34,7 @@ pub judged-work : (w : Work) (calls : ℕ) (faults : List Fault)
     → with_judged w calls faults ≡ with_added w (record nothing_added { calls = calls; faults = faults })
 judged-work w calls faults = λ i. record {
   variables = sym (append-nil w.variables) i;
+  constants = sym (add-zero w.constants) i;
   statements = sym (append-nil w.statements) i;
   elements = sym (add-zero w.elements) i;
   tally = after w.tally calls faults;
@@ -96,18 +99,39 @@ module _ (is_main : Bool) (at : At) (t : Option CType) (p : Parameter) where
   unfolding behind_part
   looked-is scope w u stmts checked = checked
 
+-- its own faults, and that of its tag
+abbrev pub param_faults : At → Option CType → ℕ → TypeName → Part
+param_faults at t number name scope n = faults_added (void_faults t at
+    ++ limit_faults parameter_limit number at
+    ++ tag_faults scope (tag_of (words_of name)))
+
+pub faults-are : (at : At) (t : Option CType) (number : ℕ) (name : TypeName) (tag : Option Token)
+    (scope : Scope)
+    (w : Work) (mid new : Tally) (stmts : List StmtTree) → tag ≡ tag_of (words_of name)
+    → mid ≡ with_faults w.tally (void_faults t at ++ limit_faults parameter_limit number at)
+    → new ≡ with_faults mid (tag_faults scope tag)
+    → at_place scope (record w { tally = new }) stmts
+    ≡ behind_part (param_faults at t number name) (at_place scope w stmts)
+faults-are at t number name tag scope w mid new stmts tags own tagged =
+    let fs = void_faults t at ++ limit_faults parameter_limit number at in
+    let gs = tag_faults scope (tag_of (words_of name)) in
+    in-scope (param_faults at t number name) (faults_added (fs ++ gs)) scope w
+    (record w { tally = new }) stmts stmts
+    refl refl
+    (ap (λ t. record w { tally = t }) (faults-twice w.tally mid new fs gs own
+    (tagged ∙ ap (λ tag. with_faults mid (tag_faults scope tag)) tags)) ∙ faults-work w (fs ++ gs))
+    (sym (append-nil stmts))
+
 module _ (is_main defined : Bool) (function_at : At) (number : ℕ) (p : Parameter) (s0 s1 s2 : State) where
   -- and then its faults
   pub param-is : (at : At) (t : Option CType) → at ≡ place_of_param function_at p → t ≡ type_named p.type_name
       → s1 ≡ behind_part (declaring_param is_main defined at t p) s0
-      → s2 ≡ behind_part (λ scope n. faults_added
-      (void_faults t at ++ limit_faults parameter_limit number at)) s1
+      → s2 ≡ behind_part (param_faults at t number p.type_name) s1
       → s2 ≡ behind_part (add_param is_main defined function_at number p) s0
   unfolding behind_part
   param-is at t places types declares faults =
       let place = place_of_param function_at p in let type = type_named p.type_name in
-      let own : At → Option CType → Part = λ at t scope n.
-      faults_added (void_faults t at ++ limit_faults parameter_limit number at) in
+      let own : At → Option CType → Part = λ at t. param_faults at t number p.type_name in
       and-then (declaring_param is_main defined place type p) (own place type) s0 s1 s2
       (declares ∙ ap (λ at. behind_part (declaring_param is_main defined at t p) s0) places
       ∙ ap (λ t. behind_part (declaring_param is_main defined place t p) s0) types)

@@ -4,9 +4,9 @@ ghost use Rattle.std.specs.Prelude.{◌≡◌, ◌-◌, cond, ◌∷◌, ◌++�
 ghost use Rattle.ba_trees.specs.declared.tree.statements.External.{External};
 ghost use Rattle.ba_statements.specs.Adding.{before_of, behind_part, state};
 ghost use Rattle.ba_typing.specs.Declarations.{in_order};
-ghost use Rattle.ba_typing.specs.Files.{Checked, add_external, add_externals, add_function, body_parts, params_of, vars_from};
+ghost use Rattle.ba_typing.specs.Files.{Checked, add_external, add_external_form, add_externals, add_function, body_parts, params_of, vars_from};
 ghost use Rattle.ba_types.specs.Filing.{CheckedParts, GivesFunction, IsTyped, behind_externals, error_of, file_place, file_state, with_part};
-ghost use Rattle.ba_typing.specs.Names.{definition_in, main_name};
+ghost use Rattle.ba_typing.specs.Names.{definition_in, main_name, type_specified};
 ghost use Rattle.ba_tree.specs.Trees.{StmtTree, tree_of_function};
 ghost use Rattle.ba_typing.specs.declared.meanings.Signature.{Signature};
 
@@ -19,7 +19,7 @@ use ba_items::Items;
 use ba_numbers::ids::{At, FnId, VarId};
 use ba_numbers::numbers::CType;
 use ba_scopes::scopes::{Functions, Scope};
-use ba_statements::declarations::add_declarators;
+use ba_statements::declarations::{add_optional_declarators, add_specifiers};
 use ba_statements::statements::add_items;
 use ba_statements::work::Work;
 use ba_tree::tree::{Function, Parts, Program, Stmt};
@@ -28,7 +28,7 @@ use ba_trees::tree::statements::{External, ExternalForm, FunctionEnd, RawProgram
 use ba_typing::error::TypeError;
 use ba_typing::fault::{Cause, Fault};
 use ba_typing::meanings::Signature;
-use ba_typing::names::type_named;
+use ba_typing::names::type_specified;
 use ba_typing::text::Text;
 use std::alloc::{AllocError, Global};
 
@@ -145,6 +145,46 @@ fn add_function<'a>(
     put_function(functions, signature.is_definition, function)
 }
 
+/// What stands behind the words that a part of a file begins with, which says this of a function, behind the functions that are declared
+/// before it.
+///
+/// The one error is want of memory, which also stands for want of numbers.
+fn add_external_form<'a>(
+    alloc: Global,
+    external: &'a External,
+    signature: &Option<Signature<'a>>,
+    earlier: &Functions<'a>,
+    scope: &mut Scope<'a>,
+    work: &mut Work,
+    inits: &mut Vec<Stmt>,
+    functions: &mut Vec<Function>,
+) -> Result<(), AllocError>
+    ensures { OnOk result (file_state scope.new work.new inits.new functions.new
+        ≡ with_part (file_state scope.old work.old inits.old functions.old)
+        (add_external_form (type_specified external.now.specifiers) external.now.form signature.now
+        scope.old earlier.now (before_of work.old))) }
+{
+    match &external.form {
+        ExternalForm::Variables { declarators, .. } => {
+            let t = type_specified(&external.specifiers);
+            add_optional_declarators(alloc, earlier, t, declarators, scope, work, inits)
+        }
+        ExternalForm::Function {
+            name,
+            parameters,
+            end,
+            ..
+        } => {
+            let Some(signature) = signature else {
+                return Ok(());
+            };
+            add_function(
+                alloc, name.at, signature, parameters, end, earlier, scope, work, functions,
+            )
+        }
+    }
+}
+
 /// A part of a file, which says this of a function, behind the functions that are declared before it.
 ///
 /// The one error is want of memory, which also stands for want of numbers.
@@ -162,25 +202,10 @@ fn add_external<'a>(
         ≡ with_part (file_state scope.old work.old inits.old functions.old)
         (add_external external.now signature.now scope.old earlier.now (before_of work.old))) }
 {
-    match &external.form {
-        ExternalForm::Variables { declarators, .. } => {
-            let t = type_named(&external.name);
-            add_declarators(alloc, earlier, t, declarators, scope, work, inits)
-        }
-        ExternalForm::Function {
-            name,
-            parameters,
-            end,
-            ..
-        } => {
-            let Some(signature) = signature else {
-                return Ok(());
-            };
-            add_function(
-                alloc, name.at, signature, parameters, end, earlier, scope, work, functions,
-            )
-        }
-    }
+    add_specifiers(alloc, earlier, &external.specifiers, scope, work)?;
+    add_external_form(
+        alloc, external, signature, earlier, scope, work, inits, functions,
+    )
 }
 
 /// Parts of a file, behind the functions that are declared before them, which are counted on.

@@ -12,6 +12,7 @@ ghost use Rattle.ba_tree.specs.Trees.{StmtTree};
 
 use crate::signatures::{listed, number_behind};
 use ba_expressions::tally::Tally;
+use ba_expressions::uses::add_tag_faults;
 use ba_numbers::ids::At;
 use ba_numbers::numbers::CType;
 use ba_scopes::scopes::{Functions, Scope};
@@ -21,7 +22,7 @@ use ba_tree::tree::{Shape, Variable};
 use ba_trees::tree::declarations::{ArrayLength, NextParameter, Parameter, Parameters};
 use ba_trees::tree::expressions::TypeName;
 use ba_typing::fault::Cause;
-use ba_typing::names::{is_void, name_of, type_named};
+use ba_typing::names::{is_void, name_of, tag_of_type, type_named};
 use ba_typing::text::Text;
 use std::alloc::{AllocError, Global};
 
@@ -229,6 +230,7 @@ fn add_param<'a>(
     let t = type_named(&parameter.type_name);
     declare_param(alloc, owner, at, t, parameter, scope, work)?;
     add_param_faults(at, t, number, &mut work.tally);
+    add_tag_faults(tag_of_type(&parameter.type_name), scope, &mut work.tally);
     Ok(())
 }
 

@@ -22,8 +22,8 @@ use ba_trees::tree::declarations::{NextParameter, Parameter, ParameterList, Para
 use ba_trees::tree::expressions::TypeName;
 use ba_trees::tree::statements::{External, ExternalForm, FunctionEnd};
 use ba_typing::fault::Cause;
-use ba_typing::meanings::{ParamType, Signature};
-use ba_typing::names::{is_keyword, name_of, type_named};
+use ba_typing::meanings::{ParamType, Signature, Space};
+use ba_typing::names::{is_keyword, name_of, type_named, type_specified};
 use ba_typing::text::Text;
 use std::alloc::{AllocError, Global};
 
@@ -162,7 +162,7 @@ pub(crate) fn signature<'a>(
             let params = said_types(alloc, parameters, end)?;
             Ok(Some(Signature {
                 name: name_of(name),
-                result: type_named(&external.name),
+                result: type_specified(&external.specifiers),
                 params,
                 is_definition: is_definition(end),
                 function: FnId(definitions),
@@ -378,7 +378,11 @@ pub(crate) fn add_signature_faults<'a>(
         ≡ with_faults tally.old (signature_faults scope.now earlier.now signature.now at) }
 {
     let name = &signature.name;
-    tally.add_if(scope.is_declared_here(name), Cause::Twice, at);
+    tally.add_if(
+        scope.is_declared_here(Space::Ordinary, name),
+        Cause::Twice,
+        at,
+    );
     tally.add_if(is_past_limit(name, earlier), Cause::Limit, at);
     tally.add_if(is_second_definition(signature, earlier), Cause::Twice, at);
     let agrees = agrees_with_each(signature, earlier.as_slice());

@@ -21,8 +21,8 @@ use Rattle.ba_trees.specs.declared.tree.statements.Group.{Group, out-Group}
 use Rattle.ba_trees.specs.declared.tree.statements.Statement.{Statement, out-Statement}
 use Rattle.ba_trees.specs.declared.tree.statements.StatementForm.{StatementForm}
 use Rattle.ba_trees.specs.declared.tree.statements.StatementForm as form
-use Rattle.ba_typing.specs.Declarations.{Part, add_declarators, nothing}
-use Rattle.ba_typing.specs.Names.{jump_of, type_named}
+use Rattle.ba_typing.specs.Declarations.{Part, add_declaration, nothing}
+use Rattle.ba_typing.specs.Names.{jump_of}
 use Rattle.ba_typing.specs.Statements as statements
 use Rattle.ba_typing.specs.Statements.{GroupParts, PartList, add_assert, add_block, add_statement_form, add_if, add_item, add_jump, add_jump_with, add_printf, add_simple, add_statement, add_switch, add_while, block_step, controlled_step, do_step, else_step, for_step, form_step, group_step, item_step, optional_typing, parts_of_block, parts_of_group, printed_typings, statement_step, test_of}
 
@@ -81,7 +81,7 @@ block-is b = fold_out-Block Part Part PartList Part Part Part Part GroupParts Pa
     controlled_step do_step else_step for_step group_step statement_step b
 
 pub declaration-is : (d : Declaration)
-    → add_item (item.Declaration d) ≡ add_declarators [] (type_named d.name) d.declarators
+    → add_item (item.Declaration d) ≡ add_declaration [] d.specifiers d.declarators
 unfolding add_item add_statement_form add_statement parts_of_block parts_of_group item.roll-BlockItem
     denote.Hole.Carrier.roll
 declaration-is d = fold-roll-BlockItem Part Part PartList Part Part Part Part GroupParts Part item_step form_step

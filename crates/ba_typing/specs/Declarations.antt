@@ -1,6 +1,6 @@
 -- Declarations of variables (C90 6.5): types, lengths, initialisers, and what they add to a program.
 
-use Rattle.std.specs.Prelude.{ℕ, ◌+◌, nat_lt, ℤ, pos, Bool, true, false, not, ◌&&◌, ◌||◌, ◌==◌, cond, Option, None, Some, option_map, unwrap_or, List, [], ◌∷◌, ◌++◌, map, flat_map, length, int_le, unsigned_abs, sum_by}
+use Rattle.std.specs.Prelude.{ℕ, ◌+◌, nat_lt, ℤ, pos, ◌+ℤ◌, Bool, true, false, not, ◌&&◌, ◌||◌, ◌==◌, cond, Option, None, Some, option_map, unwrap_or, List, [], ◌∷◌, ◌++◌, map, flat_map, length, int_le, unsigned_abs, sum_by}
 use Rattle.std.specs.Option.{is_some}
 use Rattle.ba_numbers.specs.declared.ids.At.{At}
 use Rattle.ba_numbers.specs.declared.ids.StmtId.{StmtId}
@@ -9,6 +9,12 @@ use Rattle.ba_numbers.specs.declared.numbers.CType.{CType}
 use Rattle.ba_numbers.specs.declared.numbers.CType.TheVariants.{I32}
 use Rattle.ba_trees.specs.declared.tree.declarations.ArrayLength.{ArrayLength}
 use Rattle.ba_trees.specs.declared.tree.declarations.Braced.{Braced}
+use Rattle.ba_trees.specs.declared.tree.declarations.Enumerator.{Enumerator}
+use Rattle.ba_trees.specs.declared.tree.declarations.EnumeratorList.{EnumeratorList}
+use Rattle.ba_trees.specs.declared.tree.declarations.EnumeratorValue.{EnumeratorValue}
+use Rattle.ba_trees.specs.declared.tree.declarations.Enumerators.{Enumerators}
+use Rattle.ba_trees.specs.declared.tree.declarations.NextEnumerator.{NextEnumerator}
+use Rattle.ba_trees.specs.declared.tree.declarations.Specifiers.{Specifiers}
 use Rattle.ba_trees.specs.declared.tree.declarations.Initialiser.{Initialiser}
 use Rattle.ba_trees.specs.declared.tree.declarations.Initialiser.TheVariants as initialiser
 use Rattle.ba_trees.specs.declared.tree.declarations.Declarator.{Declarator}
@@ -21,9 +27,13 @@ use Rattle.ba_tree.specs.declared.tree.StmtInfo.{StmtInfo}
 use Rattle.ba_tree.specs.declared.tree.StmtKind.{StmtKind}
 use Rattle.ba_tree.specs.declared.tree.StmtKind.TheVariants as kind
 use Rattle.ba_tree.specs.declared.tree.Variable.{Variable}
-use Rattle.ba_typing.specs.Expressions.{Typed, Typing, typed_conditional, typed_next, tree_as, placeholder}
-use Rattle.ba_typing.specs.Faults.{fault, fault_if, void_faults, twice_faults, limit_faults, statement_limit, variable_limit, element_limit, height_limit}
-use Rattle.ba_typing.specs.Names.{Scope, knowing, is_declared_here, is_declared_in, name_of}
+use Rattle.ba_tokens.specs.declared.token.Token.{Token}
+use Rattle.ba_numbers.specs.Numbers.{converted}
+use Rattle.ba_typing.specs.Expressions.{Typed, Typing, typed_conditional, typed_next, tree_as, constant_value, placeholder}
+use Rattle.ba_typing.specs.Faults.{fault, fault_if, void_faults, twice_faults, tag_faults, limit_faults, statement_limit, variable_limit, element_limit, height_limit}
+use Rattle.ba_typing.specs.Names.{Scope, knowing, is_declared_here, is_declared_in, name_of, tag_of, words_of_declaration, type_specified}
+use Rattle.ba_typing.specs.declared.meanings.Entity.TheVariants as entity
+use Rattle.ba_typing.specs.declared.meanings.Space.TheVariants as space
 use Rattle.ba_tree.specs.Trees.{ExprTree, StmtTree}
 use Rattle.ba_tree.specs.Trees as tree
 use Rattle.ba_typing.specs.declared.fault.Cause.TheVariants.{WrongKind, WrongCount, BadLength}
@@ -32,11 +42,13 @@ use Rattle.ba_typing.specs.declared.meanings.Entry.{Entry}
 use Rattle.ba_typing.specs.declared.meanings.Signature.{Signature}
 
 -- WHAT DECLARATIONS AND STATEMENTS ADD, one after the other: typed statements; the names that the scope around knows from then on;
--- variables and numbered statements in the order of the text; how many calls and how many elements of arrays; and the faults in them.
+-- variables and numbered statements in the order of the text; how many enumeration constants, calls and elements of arrays; and the
+-- faults in them.
 pub record Added : Type 0 where
   pub stmts : List StmtTree
   pub entries : List Entry
   pub variables : List Variable
+  pub constants : ℕ
   pub statements : List StmtInfo
   pub calls : ℕ
   pub elements : ℕ
@@ -47,6 +59,7 @@ nothing_added = record {
   stmts = [];
   entries = [];
   variables = [];
+  constants = 0;
   statements = [];
   calls = 0;
   elements =
@@ -60,6 +73,7 @@ abbrev pub ◌and◌ : Added → Added → Added
   stmts = a.stmts ++ b.stmts;
   entries = a.entries ++ b.entries;
   variables = a.variables ++ b.variables;
+  constants = a.constants + b.constants;
   statements = a.statements ++ b.statements;
   calls = a.calls + b.calls;
   elements = a.elements + b.elements;
@@ -69,6 +83,7 @@ abbrev pub ◌and◌ : Added → Added → Added
 -- how many of each stand before
 pub record Before : Type 0 where
   pub variables : ℕ
+  pub constants : ℕ
   pub statements : ℕ
   pub calls : ℕ
   pub elements : ℕ
@@ -76,6 +91,7 @@ pub record Before : Type 0 where
 abbrev pub behind : Before → Added → Before
 behind n a = record {
   variables = n.variables + length a.variables;
+  constants = n.constants + a.constants;
   statements = n.statements + length a.statements;
   calls = n.calls + a.calls;
   elements = n.elements + a.elements;
@@ -121,19 +137,90 @@ whole_faults at e = limit_faults height_limit e.height at ++ e.faults
 
 -- VARIABLES
 
+-- the number of the next variable or constant, counted together from 1
+abbrev pub next_name : Before → ℕ
+next_name n = n.variables + n.constants + 1
+
 -- a name that the file declares before, as a variable, or as a function among these
 abbrev pub is_declared : Scope → List Signature → List ℕ → Bool
-is_declared scope functions name = is_declared_here scope name
+is_declared scope functions name = is_declared_here space.Ordinary scope name
     || ((scope.depth == 0) && is_declared_in functions name)
 
 -- a variable with its name at this position, behind the functions that are declared before it
 abbrev pub add_variable : List Signature → At → List ℕ → Variable → Part
 add_variable functions at name v scope n = record nothing_added {
-  entries = record { name = name; depth = scope.depth; var = record { 0 = n.variables }; variable = v } ∷ [];
+  entries = record {
+    name = name;
+    depth = scope.depth;
+    entity = entity.Variable (record { var = record { 0 = n.variables }; variable = v });
+  } ∷ [];
   variables = v ∷ [];
   faults = twice_faults (is_declared scope functions name) at
-      ++ limit_faults variable_limit (n.variables + 1) at;
+      ++ limit_faults variable_limit (next_name n) at;
 }
+
+-- ENUMERATIONS (C90 6.5.2.2)
+
+-- a tag is known from where it appears
+abbrev pub add_tag : Option Token → Part
+add_tag None scope n = nothing_added
+add_tag (Some tag) scope n = record nothing_added {
+  entries = record { name = name_of tag; depth = scope.depth; entity = entity.Tag } ∷ [];
+  faults = twice_faults (is_declared_here space.Tags scope (name_of tag)) tag.at;
+}
+
+-- a constant of this value with its name at this position, behind the functions that are declared before it
+abbrev pub add_constant : List Signature → At → List ℕ → ℤ → Part
+add_constant functions at name z scope n = record nothing_added {
+  entries = record { name = name; depth = scope.depth; entity = entity.Constant z } ∷ [];
+  constants = 1;
+  faults = twice_faults (is_declared scope functions name) at ++ limit_faults variable_limit (next_name n) at;
+}
+
+-- A value that is written; its height is looked at where the constant's name stands. A value at fault counts as one that is not written.
+abbrev pub value_faults : At → Typed → List Fault
+value_faults at e = whole_faults at e ++ fault_if (not (is_some (constant_value I32 e))) WrongKind e.first
+
+abbrev pub written_value : Enumerator → Option Typing
+written_value e = option_map (λ (v : EnumeratorValue). typed_conditional v.value) e.value
+
+-- the value of a constant without a written one: 0 for the first one, and else one more than that of the one before it
+abbrev pub following : Option ℤ → ℤ
+following None = pos 0
+following (Some z) = converted I32 (z +ℤ pos 1)
+
+-- a constant's value, where that of the one before it is `last`
+abbrev pub enumerator_value : Option ℤ → Option Typed → ℤ
+enumerator_value last None = following last
+enumerator_value last (Some e) = unwrap_or (constant_value I32 e) (following last)
+
+abbrev pub add_written : At → Option Typed → Part
+add_written at None scope n = nothing_added
+add_written at (Some e) scope n = record (faults_added (value_faults at e)) { calls = e.calls }
+
+-- a constant is known from the end of its enumerator on
+abbrev pub add_enumerator : List Signature → Option ℤ → Enumerator → Option Typed → Part
+add_enumerator functions last e v =
+    add_written e.name.at v
+    then add_constant functions e.name.at (name_of e.name) (enumerator_value last v)
+
+abbrev pub add_enumerator_list : List Signature → Option ℤ → List Enumerator → Part
+add_enumerator_list functions last [] scope n = nothing_added
+add_enumerator_list functions last (e ∷ es) scope n =
+    let v = option_map (λ (typing : Typing). typing scope n.calls) (written_value e) in
+    (add_enumerator functions last e v then add_enumerator_list functions (Some (enumerator_value last v)) es) scope n
+
+abbrev pub enumerators_in : EnumeratorList → List Enumerator
+enumerators_in l = l.first ∷ map (λ (n : NextEnumerator). n.enumerator) l.rest.items
+
+-- Words of a type with a list declare its tag and its constants, the first of which is 0; those without one name a tag that is known.
+abbrev pub add_listed : List Signature → Option Token → Option Enumerators → Part
+add_listed functions tag None scope n = faults_added (tag_faults scope tag)
+add_listed functions tag (Some e) scope n =
+    (add_tag tag then add_enumerator_list functions None (enumerators_in e.list)) scope n
+
+abbrev pub add_specifiers : List Signature → Specifiers → Part
+add_specifiers functions s = add_listed functions (tag_of (words_of_declaration s)) s.enumerators
 
 -- LENGTHS OF ARRAYS (C90 6.5.4.2)
 
@@ -282,3 +369,12 @@ add_declarator functions t d scope n =
 abbrev pub add_declarators : List Signature → Option CType → Declarators → Part
 add_declarators functions t ds = in_order (map
     (λ (l : ListedDeclarator). add_declarator functions t l.declarator) ds.all.items)
+
+abbrev pub add_optional_declarators : List Signature → Option CType → Option Declarators → Part
+add_optional_declarators functions t None = nothing
+add_optional_declarators functions t (Some ds) = add_declarators functions t ds
+
+-- a declaration of a file or of a block, behind these functions
+abbrev pub add_declaration : List Signature → Specifiers → Option Declarators → Part
+add_declaration functions s ds =
+    add_specifiers functions s then add_optional_declarators functions (type_specified s) ds

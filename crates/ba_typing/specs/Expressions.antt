@@ -29,8 +29,8 @@ use Rattle.ba_trees.specs.declared.tree.expressions.NextExpression.{NextExpressi
 use Rattle.ba_trees.specs.declared.tree.expressions.Operand.{Operand}
 use Rattle.ba_numbers.specs.Types.{same_type, promoted, type_of_binary, type_of_unary, usual, working_type, right_type}
 use Rattle.ba_tree.specs.Facts.{greatest}
-use Rattle.ba_typing.specs.Faults.{fault, value_name_faults, array_name_faults, call_faults}
-use Rattle.ba_typing.specs.Names.{Scope, meaning_of, definition_in, is_main_name, is_array_entry, name_of, punct_of, type_named, unary_operator, binary_operator}
+use Rattle.ba_typing.specs.Faults.{fault, value_name_faults, array_name_faults, call_faults, tag_faults}
+use Rattle.ba_typing.specs.Names.{Scope, meaning_of, definition_in, is_main_name, is_array_object, name_of, punct_of, words_of, type_named, tag_of, unary_operator, binary_operator}
 use Rattle.ba_tree.specs.Trees.{ExprTree, ArgTree, args_of}
 use Rattle.ba_tree.specs.Trees as tree
 use Rattle.ba_typing.specs.declared.fault.Cause.TheVariants.{WrongKind}
@@ -42,9 +42,10 @@ use Rattle.ba_typing.specs.declared.meanings.Meaning.TheVariants as meaning
 use Rattle.ba_typing.specs.declared.meanings.ParamType.{ParamType}
 use Rattle.ba_typing.specs.declared.meanings.Signature.{Signature}
 
--- WHAT THERE IS TO SAY OF AN EXPRESSION: the position of its first token; the name that it is, in parentheses or not; its height; that it
--- is constant, which is to say without names and calls (C90 6.4); how many calls are in it; its type and its typed tree; its value where it
--- is constant, None where that traps; and the faults in it.
+-- WHAT THERE IS TO SAY OF AN EXPRESSION: the position of its first token; the name that it is, in parentheses or not;
+-- its height; that it is constant: it has no call, and no name but those of enumeration constants (C90 6.4); how many
+-- calls are in it; its type and its typed tree; its value where it is constant, None where that traps; and the faults
+-- in it.
 pub record Typed : Type 0 where
   pub first : At
   pub name : Option (List ℕ)
@@ -67,6 +68,10 @@ tree_as t e = cond (same_type e.t t) e.tree (tree.convert t e.tree)
 -- its value converted to this type
 abbrev pub value_as : CType → Typed → Option ℤ
 value_as t e = option_map (converted t) e.value
+
+-- the value of a constant expression converted to this type, None where it is not constant or traps
+abbrev pub constant_value : CType → Typed → Option ℤ
+constant_value t e = cond e.is_constant (value_as t e) None
 
 -- OPERATORS
 
@@ -96,6 +101,9 @@ abbrev pub typed_cast : At → Option CType → Typed → Typed
 typed_cast first None a = record (operator_over first (a ∷ []) I32 (tree_as I32 a) (value_as I32 a))
     { faults = fault WrongKind first ++ a.faults }
 typed_cast first (Some t) a = operator_over first (a ∷ []) t (tree_as t a) (value_as t a)
+
+abbrev pub with_more_faults : List Fault → Typed → Typed
+with_more_faults faults e = record e { faults = faults ++ e.faults }
 
 -- the value of an operator whose operands have these values, None where one has none
 abbrev pub both_then : (ℤ → ℤ → Option ℤ) → Option ℤ → Option ℤ → Option ℤ
@@ -149,27 +157,36 @@ typed_with e name faults = record e {
 abbrev pub variable_tree : Meaning → ExprTree
 variable_tree meaning.Unknown = placeholder
 variable_tree meaning.Function = placeholder
-variable_tree (meaning.Variable e) = cond (is_array_entry e) placeholder (tree.var e.var)
+variable_tree (meaning.Constant z) = placeholder
+variable_tree (meaning.Variable e) = cond (is_array_object e) placeholder (tree.var e.var)
 
 abbrev pub variable_type : Meaning → CType
 variable_type meaning.Unknown = I32
 variable_type meaning.Function = I32
-variable_type (meaning.Variable e) = cond (is_array_entry e) I32 e.variable.t
+variable_type (meaning.Constant z) = I32
+variable_type (meaning.Variable e) = cond (is_array_object e) I32 e.variable.t
+
+-- an enumeration constant is a constant of I32 (C90 6.1.3.3)
+abbrev pub typed_named : At → List ℕ → Meaning → Typed
+typed_named at name m = typed_with (operator_over at [] (variable_type m) (variable_tree m) None) (Some name)
+    (value_name_faults m at)
 
 abbrev pub typed_name : At → List ℕ → Meaning → Typed
-typed_name at name m = typed_with (operator_over at [] (variable_type m) (variable_tree m) None) (Some name)
-    (value_name_faults m at)
+typed_name at name (meaning.Constant z) = record (typed_constant at I32 z) { name = Some name }
+typed_name at name m = typed_named at name m
 
 -- the array whose element is taken; where the name is at fault, anything
 abbrev pub array_of : Meaning → VarId
 array_of meaning.Unknown = record { 0 = 0 }
 array_of meaning.Function = record { 0 = 0 }
-array_of (meaning.Variable e) = cond (is_array_entry e) e.var (record { 0 = 0 })
+array_of (meaning.Constant z) = record { 0 = 0 }
+array_of (meaning.Variable e) = cond (is_array_object e) e.var (record { 0 = 0 })
 
 abbrev pub element_type : Meaning → CType
 element_type meaning.Unknown = I32
 element_type meaning.Function = I32
-element_type (meaning.Variable e) = cond (is_array_entry e) e.variable.t I32
+element_type (meaning.Constant z) = I32
+element_type (meaning.Variable e) = cond (is_array_object e) e.variable.t I32
 
 abbrev pub typed_element : At → Meaning → Typed → Typed
 typed_element at m index = typed_with
@@ -189,7 +206,8 @@ abbrev pub array_given : Option CType → Meaning → Option VarId
 array_given t meaning.Unknown = None
 array_given t meaning.Function = None
 array_given None (meaning.Variable e) = None
-array_given (Some t) (meaning.Variable e) = cond (is_array_entry e && same_type e.variable.t t) (Some e.var)
+array_given t (meaning.Constant z) = None
+array_given (Some t) (meaning.Variable e) = cond (is_array_object e && same_type e.variable.t t) (Some e.var)
     None
 
 abbrev pub named_array : Scope → Option CType → Option (List ℕ) → Option VarId
@@ -242,9 +260,10 @@ result_of (Some f) = unwrap_or f.result I32
 abbrev pub definition_of_meaning : Meaning → Option Signature → Option Signature
 definition_of_meaning meaning.Unknown definition = None
 definition_of_meaning (meaning.Variable e) definition = None
+definition_of_meaning (meaning.Constant z) definition = None
 definition_of_meaning meaning.Function definition = definition
 
--- the definition that a called name means, where no variable hides it
+-- the definition that a called name means, where no variable and no constant hides it
 abbrev pub called : Scope → List ℕ → Option Signature
 called scope name = definition_of_meaning (meaning_of scope name) (definition_in scope.functions name)
 
@@ -338,7 +357,8 @@ abbrev pub unary_step : Unary-F Typing Typing Typings BranchTypings ChainTyping 
 unary_step (Unary-F.Prefix operator operand) scope calls =
     typed_unary operator.at (unary_operator (punct_of operator)) (operand.value scope calls)
 unary_step (Unary-F.Cast opener name closer operand) scope calls =
-    typed_cast opener.at (type_named name) (operand.value scope calls)
+    with_more_faults (tag_faults scope (tag_of (words_of name)))
+    (typed_cast opener.at (type_named name) (operand.value scope calls))
 unary_step (Unary-F.Primary p) scope calls = p scope calls
 
 abbrev pub arguments_step : Arguments-F Typing Typing Typings BranchTypings ChainTyping Typing Typings

@@ -4,7 +4,8 @@ use Rattle.std.specs.Prelude.{ℕ, nat_lt, Bool, true, false, not, ◌&&◌, ◌
 use Rattle.std.specs.Option.{is_some}
 use Rattle.ba_numbers.specs.declared.ids.At.{At}
 use Rattle.ba_numbers.specs.declared.numbers.CType.{CType}
-use Rattle.ba_typing.specs.Names.{is_array_entry}
+use Rattle.ba_tokens.specs.declared.token.Token.{Token}
+use Rattle.ba_typing.specs.Names.{Scope, is_array_object, is_tag_known, name_of}
 use Rattle.ba_typing.specs.declared.fault.Cause.{Cause}
 use Rattle.ba_typing.specs.declared.fault.Cause.TheVariants.{UnknownName, Twice, WrongKind, WrongCount, BadLength, BreakOutside, CallInIndex, Limit}
 use Rattle.ba_typing.specs.declared.fault.Fault.{Fault}
@@ -26,13 +27,22 @@ fault = fault_if true
 abbrev pub value_name_faults : Meaning → At → List Fault
 value_name_faults meaning.Unknown at = fault UnknownName at
 value_name_faults meaning.Function at = fault WrongKind at
-value_name_faults (meaning.Variable e) at = fault_if (is_array_entry e) WrongKind at
+value_name_faults (meaning.Variable e) at = fault_if (is_array_object e) WrongKind at
+value_name_faults (meaning.Constant z) at = []
 
 -- a name whose element is taken: unknown, or no array's
 abbrev pub array_name_faults : Meaning → At → List Fault
 array_name_faults meaning.Unknown at = fault UnknownName at
 array_name_faults meaning.Function at = fault WrongKind at
-array_name_faults (meaning.Variable e) at = fault_if (not (is_array_entry e)) WrongKind at
+array_name_faults (meaning.Variable e) at = fault_if (not (is_array_object e)) WrongKind at
+array_name_faults (meaning.Constant z) at = fault WrongKind at
+
+-- a name that is assigned to: what it is at fault for as a value, or that it is a constant's
+abbrev pub target_name_faults : Meaning → At → List Fault
+target_name_faults meaning.Unknown at = []
+target_name_faults meaning.Function at = []
+target_name_faults (meaning.Variable e) at = []
+target_name_faults (meaning.Constant z) at = fault WrongKind at
 
 -- how many parameters a declaration has; a definition with empty parentheses has none
 abbrev pub count_of_params : Option (List ParamType) → ℕ
@@ -46,12 +56,18 @@ definition_faults (Some f) as_value arguments at =
     fault_if (as_value && not (is_some f.result)) WrongKind at
     ++ fault_if (not (arguments == count_of_params f.params)) WrongCount at
 
--- a name that is called: unknown, a variable's, main's
+-- a name that is called: unknown, a variable's or constant's, main's
 abbrev pub call_faults : Meaning → Bool → Option Signature → Bool → ℕ → At → List Fault
 call_faults meaning.Unknown is_main definition as_value arguments at = fault UnknownName at
 call_faults (meaning.Variable e) is_main definition as_value arguments at = fault WrongKind at
+call_faults (meaning.Constant z) is_main definition as_value arguments at = fault WrongKind at
 call_faults meaning.Function is_main definition as_value arguments at =
     fault_if is_main WrongKind at ++ definition_faults definition as_value arguments at
+
+-- TYPES: a tag without its list that no declaration in scope has. The position is the tag's.
+abbrev pub tag_faults : Scope → Option Token → List Fault
+tag_faults scope None = []
+tag_faults scope (Some tag) = fault_if (not (is_tag_known scope (name_of tag))) UnknownName tag.at
 
 -- DECLARATIONS. The position is the declared name's.
 
@@ -71,6 +87,7 @@ statement_limit = 4000
 abbrev pub function_limit : ℕ
 function_limit = 100
 
+-- of variables and enumeration constants together
 abbrev pub variable_limit : ℕ
 variable_limit = 2000
 

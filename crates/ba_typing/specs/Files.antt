@@ -1,6 +1,6 @@
 -- Functions and files (C90 6.7), and the typed program of a tree.
 
-use Rattle.std.specs.Prelude.{◌≡◌, ℕ, ◌+◌, Bool, true, false, not, ◌&&◌, ◌||◌, cond, Option, None, Some, option_map, unwrap_or, List, [], ◌∷◌, ◌++◌, map, filter, length, Result, Ok, Err}
+use Rattle.std.specs.Prelude.{◌≡◌, ℕ, ◌+◌, Bool, true, false, not, ◌&&◌, ◌||◌, cond, Option, None, Some, option_map, unwrap_or, List, [], ◌∷◌, ◌++◌, map, flat_map, filter, length, Result, Ok, Err}
 use Rattle.std.specs.List.{list_all, list_any, range_with_len}
 use Rattle.std.specs.Option.{is_some}
 use Rattle.ba_tokens.specs.declared.token.Token.{Token}
@@ -26,9 +26,9 @@ use Rattle.ba_tree.specs.declared.tree.Program.{Program}
 use Rattle.ba_tree.specs.declared.tree.Shape.{Shape}
 use Rattle.ba_tree.specs.declared.tree.Shape.TheVariants.{Value, Passed}
 use Rattle.ba_tree.specs.declared.tree.Variable.{Variable}
-use Rattle.ba_typing.specs.Declarations.{Added, nothing_added, ◌and◌, Before, behind, Part, ◌then◌, nothing, in_order, faults_added, add_variable, add_length, add_declarators, TypedLength, typed_array_length, shape_of}
-use Rattle.ba_typing.specs.Faults.{fault, fault_if, void_faults, twice_faults, limit_faults, function_limit, parameter_limit, IsFirst}
-use Rattle.ba_typing.specs.Names.{Scope, no_exits, inner, knowing, name_of, words_of, type_named, is_main_name, main_name, is_declared_here, is_declared_in, definition_in, same_name}
+use Rattle.ba_typing.specs.Declarations.{Added, nothing_added, ◌and◌, Before, behind, Part, ◌then◌, nothing, in_order, faults_added, add_variable, add_length, add_specifiers, add_optional_declarators, TypedLength, typed_array_length, shape_of}
+use Rattle.ba_typing.specs.Faults.{fault, fault_if, void_faults, twice_faults, tag_faults, limit_faults, function_limit, parameter_limit, IsFirst}
+use Rattle.ba_typing.specs.Names.{Scope, no_exits, inner, knowing, name_of, words_of, type_named, type_specified, tag_of, is_main_name, main_name, is_declared_here, is_declared_in, definition_in, same_name}
 use Rattle.ba_typing.specs.Statements.{parts_of_block}
 use Rattle.ba_tree.specs.Trees.{FunctionTree, ProgramTree, tree_of}
 use Rattle.ba_typing.specs.declared.error.TypeError.{TypeError}
@@ -36,7 +36,10 @@ use Rattle.ba_typing.specs.declared.error.TypeError.TheVariants as error
 use Rattle.ba_typing.specs.declared.fault.Cause.{Cause}
 use Rattle.ba_typing.specs.declared.fault.Cause.TheVariants.{UnknownName, Twice, WrongKind, WrongCount, BadLength, BreakOutside, CallInIndex, Limit}
 use Rattle.ba_typing.specs.declared.fault.Fault.{Fault}
+use Rattle.ba_typing.specs.declared.meanings.Entity.{Entity}
+use Rattle.ba_typing.specs.declared.meanings.Entity.TheVariants as entity
 use Rattle.ba_typing.specs.declared.meanings.Entry.{Entry}
+use Rattle.ba_typing.specs.declared.meanings.Space.TheVariants as space
 use Rattle.ba_typing.specs.declared.meanings.ParamType.{ParamType}
 use Rattle.ba_typing.specs.declared.meanings.Signature.{Signature}
 
@@ -89,7 +92,7 @@ signature_of_form definitions result (form.Function name opener params closer e)
 
 -- behind so many definitions
 abbrev pub signature_of : ℕ → External → Option Signature
-signature_of definitions x = signature_of_form definitions (type_named x.name) x.form
+signature_of definitions x = signature_of_form definitions (type_specified x.specifiers) x.form
 
 abbrev pub definitions_of : Option Signature → ℕ
 definitions_of None = 0
@@ -145,12 +148,12 @@ abbrev pub count_functions : List Signature → ℕ
 count_functions [] = 0
 count_functions (s ∷ ss) = cond (is_declared_in ss s.name) (count_functions ss) (1 + count_functions ss)
 
--- The faults of a declared function's name, behind these declarations: a variable's name, a hundred others before it, a second
--- definition, another result or other parameters than before, a main with another result.
+-- The faults of a declared function's name, behind these declarations: a variable's or constant's name, a hundred
+-- others before it, a second definition, another result or other parameters than before, a main with another result.
 abbrev pub signature_faults : Scope → List Signature → Signature → At → List Fault
 signature_faults scope earlier s at =
     let same = filter (λ (e : Signature). same_name e.name s.name) earlier in
-    twice_faults (is_declared_here scope s.name) at
+    twice_faults (is_declared_here space.Ordinary scope s.name) at
     ++ limit_faults function_limit (count_functions earlier + cond (is_declared_in earlier s.name) 0 1) at
     ++ twice_faults (s.is_definition && list_any (λ (e : Signature). e.is_definition) same) at
     ++ fault_if (not (list_all (agrees s) same)) WrongKind at
@@ -209,7 +212,8 @@ add_param is_main defined function_at number p scope n =
     let l = param_length is_main at p.length scope n.calls in
     (declare_param defined at (name_of_param p.name)
     (record { t = unwrap_or t I32; shape = param_shape is_main p.length l }) l
-    then (λ scope n. faults_added (void_faults t at ++ limit_faults parameter_limit number at))) scope n
+    then (λ scope n. faults_added (void_faults t at ++ limit_faults parameter_limit number at
+    ++ tag_faults scope (tag_of (words_of p.type_name))))) scope n
 
 abbrev pub add_params : Bool → Bool → At → ℕ → List Parameter → Part
 add_params is_main defined at number [] = nothing
@@ -218,8 +222,14 @@ add_params is_main defined at number (p ∷ ps) =
 
 -- FUNCTIONS AND FILES
 
+-- the variables among what was declared
+abbrev pub var_in : Entity → List VarId
+var_in (entity.Variable o) = o.var ∷ []
+var_in (entity.Constant z) = []
+var_in entity.Tag = []
+
 abbrev pub vars_of : List Entry → List VarId
-vars_of = map (λ (e : Entry). e.var)
+vars_of = flat_map (λ (e : Entry). var_in e.entity)
 
 -- so many variables from this number on
 abbrev pub vars_from : ℕ → ℕ → List VarId
@@ -265,14 +275,17 @@ add_function at s ps e file earlier n =
 abbrev pub add_external_form : Option CType → ExternalForm → Option Signature → Scope → List Signature →
     Before → FileAdded
 add_external_form t (form.Variables declarators semicolon) s file earlier n =
-    record { added = add_declarators earlier t declarators file n; functions = [] }
+    record { added = add_optional_declarators earlier t declarators file n; functions = [] }
 add_external_form t (form.Function name opener params closer e) None file earlier n =
     record { added = nothing_added; functions = [] }
 add_external_form t (form.Function name opener params closer e) (Some s) file earlier n =
     add_function name.at s (params_of params) e file earlier n
 
 abbrev pub add_external : External → Option Signature → Scope → List Signature → Before → FileAdded
-add_external x s = add_external_form (type_named x.name) x.form s
+add_external x s file earlier n =
+    let w = add_specifiers earlier x.specifiers file n in
+    let a = add_external_form (type_specified x.specifiers) x.form s (knowing w.entries file) earlier (behind n w) in
+    record { added = w and a.added; functions = a.functions }
 
 abbrev pub with_functions : FileAdded → FileAdded → FileAdded
 with_functions a b = record { added = a.added and b.added; functions = a.functions ++ b.functions }
@@ -291,7 +304,7 @@ abbrev pub file_scope : List External → Scope
 file_scope xs = record { functions = signatures xs; known = []; depth = 0; exits = no_exits; result = None }
 
 abbrev pub no_parts : Before
-no_parts = record { variables = 0; statements = 0; calls = 0; elements = 0 }
+no_parts = record { variables = 0; constants = 0; statements = 0; calls = 0; elements = 0 }
 
 abbrev pub file_of : List External → FileAdded
 file_of xs = add_externals 0 xs (file_scope xs) [] no_parts

@@ -2,6 +2,7 @@
 
 use Rattle.std.specs.Prelude.{ℕ, Bool, true, false, ◌&&◌, ◌==◌, cond, nat_eq, ◌+◌, ◌++◌, Option, None, Some, List, [], ◌∷◌}
 use Rattle.std.specs.List.{list_any}
+use Rattle.std.specs.Option.{is_some}
 use Rattle.std.specs.Cmp.Lexicographic.{pointwise}
 use Rattle.ba_tokens.specs.declared.token.Token.{Token}
 use Rattle.ba_tokens.specs.declared.token.TokenKind.{TokenKind}
@@ -16,19 +17,28 @@ use Rattle.ba_numbers.specs.declared.numbers.CType.{CType}
 use Rattle.ba_numbers.specs.declared.numbers.CType.TheVariants.{I8, U8, I16, U16, I32, U32}
 use Rattle.ba_numbers.specs.declared.numbers.UnOp.{UnOp}
 use Rattle.ba_numbers.specs.declared.numbers.UnOp.TheVariants.{Neg, Flip, IsZero}
-use Rattle.ba_trees.specs.Classes.{class_of, word}
+use Rattle.ba_trees.specs.Classes.{class_of, only, word}
+use Rattle.ba_trees.specs.declared.class.TokenClass.TheVariants as class
+use Rattle.ba_trees.specs.declared.tree.declarations.Specifiers.{Specifiers}
 use Rattle.ba_trees.specs.declared.tree.expressions.TypeName.{TypeName}
 use Rattle.ba_tree.specs.Facts.{is_array_shape}
 use Rattle.ba_typing.specs.declared.names.Exits.{Exits}
 use Rattle.ba_typing.specs.declared.names.Jump.{Jump}
 use Rattle.ba_typing.specs.declared.names.Jump.TheVariants as jump
 use Rattle.ba_typing.specs.declared.names.Operator.{Operator}
+use Rattle.ba_typing.specs.declared.names.TypeWords.{TypeWords}
 use Rattle.ba_typing.specs.declared.names.Operator.TheVariants as operator
 use Rattle.ba_typing.specs.declared.names.Operator.TheVariants.{AndAlso, OrElse}
+use Rattle.ba_typing.specs.declared.meanings.Entity.{Entity}
+use Rattle.ba_typing.specs.declared.meanings.Entity.TheVariants as entity
 use Rattle.ba_typing.specs.declared.meanings.Entry.{Entry}
 use Rattle.ba_typing.specs.declared.meanings.Meaning.{Meaning}
 use Rattle.ba_typing.specs.declared.meanings.Meaning.TheVariants as meaning
+use Rattle.ba_typing.specs.declared.meanings.Object.{Object}
 use Rattle.ba_typing.specs.declared.meanings.Signature.{Signature}
+use Rattle.ba_typing.specs.declared.meanings.Space.{Space}
+use Rattle.ba_typing.specs.declared.meanings.Space.TheVariants as space
+use Rattle.ba_typing.specs.contracts.meanings.SpacePartialEq.TheImpl.{eq-value}
 
 -- TOKENS. A token that isn't of the kind that its place in the tree asks for stands in no tree that the grammar has.
 
@@ -46,7 +56,7 @@ punct_of_kind _ = None
 abbrev pub punct_of : Token → Option Punct
 punct_of token = punct_of_kind token.kind
 
--- TYPE NAMES (C90 6.5.2): the type that the words name, None for `void`
+-- TYPE NAMES (C90 6.5.2): the type that the words name, None for `void`. An enumerated type is I32.
 
 abbrev pub has_word : List Token → Keyword → Bool
 has_word words k = list_any (λ token. word k (class_of token)) words
@@ -54,17 +64,43 @@ has_word words k = list_any (λ token. word k (class_of token)) words
 abbrev pub by_sign : Bool → CType → CType → CType
 by_sign is_unsigned signed unsigned = cond is_unsigned unsigned signed
 
+-- by the words that tell it
+abbrev pub type_of_told : TypeWords → Option CType
+type_of_told w = cond w.is_void None (Some (cond w.is_char (by_sign w.is_unsigned I8 U8)
+    (cond w.is_short (by_sign w.is_unsigned I16 U16) (by_sign w.is_unsigned I32 U32))))
+
 abbrev pub type_of_words : List Token → Option CType
-type_of_words words = let is_unsigned = has_word words keyword.Unsigned in
-    cond (has_word words keyword.Void) None (Some
-    (cond (has_word words keyword.Char) (by_sign is_unsigned I8 U8)
-    (cond (has_word words keyword.Short) (by_sign is_unsigned I16 U16) (by_sign is_unsigned I32 U32))))
+type_of_words words = type_of_told (record {
+  is_void = has_word words keyword.Void;
+  is_char = has_word words keyword.Char;
+  is_short = has_word words keyword.Short;
+  is_unsigned = has_word words keyword.Unsigned;
+})
 
 abbrev pub words_of : TypeName → List Token
 words_of name = name.words.items
 
 abbrev pub type_named : TypeName → Option CType
 type_named name = type_of_words (words_of name)
+
+-- those of a declaration, without the constants of an enumerated type
+abbrev pub words_of_declaration : Specifiers → List Token
+words_of_declaration s = s.words.items ++ s.behind.items
+
+abbrev pub type_specified : Specifiers → Option CType
+type_specified s = type_of_words (words_of_declaration s)
+
+-- the tag behind `enum`, where one stands there (C90 6.5.2.3)
+abbrev pub is_name : Token → Bool
+is_name token = only class.Name (class_of token)
+
+abbrev pub first_name : List Token → Option Token
+first_name [] = None
+first_name (w ∷ ws) = cond (is_name w) (Some w) None
+
+abbrev pub tag_of : List Token → Option Token
+tag_of [] = None
+tag_of (w ∷ ws) = cond (word keyword.Enum (class_of w)) (first_name ws) (tag_of ws)
 
 -- OPERATORS (C90 6.3.3.3, 6.3.5 to 6.3.12). Unary `+` has none.
 
@@ -143,7 +179,7 @@ abbrev pub exits_of_switch : Exits → Exits
 exits_of_switch around = record around { breaks = true }
 
 -- What an expression or statement finds around it. `functions` are all declarations of functions in the file, since a function is known
--- in the whole file. `known` are the variables that are in scope, in the order of their declarations: a later one hides those of its
+-- in the whole file. `known` are the variables, constants and tags that are in scope, in the order of their declarations: a later one hides those of its
 -- name before it. `depth` counts the scopes inside the file's; parameters and the outermost block are one scope. `exits` says which
 -- jumps are accepted. `result` is the type that the function around returns, None for `void`.
 pub record Scope : Type 0 where
@@ -176,10 +212,22 @@ looping scope = record scope { exits = exits_of_loop }
 abbrev pub switching : Scope → Scope
 switching scope = record scope { exits = exits_of_switch scope.exits }
 
+-- an entry of the name in a name space (C90 6.1.2.3)
+abbrev pub space_of : Entity → Space
+space_of (entity.Variable o) = space.Ordinary
+space_of (entity.Constant z) = space.Ordinary
+space_of entity.Tag = space.Tags
+
+abbrev pub same_space : Space → Space → Bool
+same_space = eq-value.it
+
+abbrev pub is_named : Space → List ℕ → Entry → Bool
+is_named within name e = same_name e.name name && same_space (space_of e.entity) within
+
 -- the last entry of the name
-abbrev pub last_entry : List ℕ → List Entry → Option Entry → Option Entry
-last_entry name [] last = last
-last_entry name (e ∷ es) last = last_entry name es (cond (same_name e.name name) (Some e) last)
+abbrev pub last_entry : Space → List ℕ → List Entry → Option Entry → Option Entry
+last_entry within name [] last = last
+last_entry within name (e ∷ es) last = last_entry within name es (cond (is_named within name e) (Some e) last)
 
 abbrev pub is_declared_in : List Signature → List ℕ → Bool
 is_declared_in functions name = list_any (λ (s : Signature). same_name s.name name) functions
@@ -193,18 +241,27 @@ definition_in (s ∷ ss) name = cond (s.is_definition && same_name s.name name) 
 abbrev pub function_or_unknown : Bool → Meaning
 function_or_unknown is_declared = cond is_declared meaning.Function meaning.Unknown
 
+abbrev pub meaning_of_entity : Entity → Meaning
+meaning_of_entity (entity.Variable o) = meaning.Variable o
+meaning_of_entity (entity.Constant z) = meaning.Constant z
+meaning_of_entity entity.Tag = meaning.Unknown
+
 abbrev pub meaning_or : Option Entry → Meaning → Meaning
 meaning_or None other = other
-meaning_or (Some e) other = meaning.Variable e
+meaning_or (Some e) other = meaning_of_entity e.entity
 
 abbrev pub meaning_of : Scope → List ℕ → Meaning
 meaning_of scope name =
-    meaning_or (last_entry name scope.known None) (function_or_unknown (is_declared_in scope.functions name))
+    meaning_or (last_entry space.Ordinary name scope.known None) (function_or_unknown (is_declared_in scope.functions name))
 
 -- a name is declared in the innermost scope
-abbrev pub is_declared_here : Scope → List ℕ → Bool
-is_declared_here scope name = list_any (λ (e : Entry). same_name e.name name && (e.depth == scope.depth))
+abbrev pub is_declared_here : Space → Scope → List ℕ → Bool
+is_declared_here within scope name = list_any (λ (e : Entry). is_named within name e && (e.depth == scope.depth))
     scope.known
 
-abbrev pub is_array_entry : Entry → Bool
-is_array_entry e = is_array_shape e.variable.shape
+-- a tag is declared in a scope around
+abbrev pub is_tag_known : Scope → List ℕ → Bool
+is_tag_known scope tag = is_some (last_entry space.Tags tag scope.known None)
+
+abbrev pub is_array_object : Object → Bool
+is_array_object o = is_array_shape o.variable.shape

@@ -1,6 +1,6 @@
 -- Statements (C90 6.6): what each adds to a program.
 
-use Rattle.std.specs.Prelude.{ℕ, ◌+◌, nat_lt, ℤ, pos, Bool, false, not, ◌&&◌, cond, Option, None, Some, unwrap_or, List, [], ◌∷◌, ◌++◌, map, flat_map, length}
+use Rattle.std.specs.Prelude.{ℕ, ◌+◌, nat_lt, ℤ, pos, Bool, false, not, ◌&&◌, Option, None, Some, unwrap_or, List, [], ◌∷◌, ◌++◌, map, flat_map, length}
 use Rattle.std.specs.List.{list_any}
 use Rattle.std.specs.Ordering.{int_eq}
 use Rattle.std.specs.Option.{is_some}
@@ -35,11 +35,11 @@ use Rattle.ba_trees.specs.declared.tree.statements.Group.{Group}
 use Rattle.ba_tree.specs.declared.tree.Start.{Start}
 use Rattle.ba_tree.specs.declared.tree.StmtKind.{StmtKind}
 use Rattle.ba_tree.specs.declared.tree.StmtKind.TheVariants as kind
-use Rattle.ba_typing.specs.Declarations.{Added, nothing_added, ◌and◌, Before, behind, Part, nothing, in_order, numbered, next_stmt, faults_added, whole_faults, typed_each, calls_in, add_declarators}
-use Rattle.ba_typing.specs.Expressions.{Typed, Typing, typed_conditional, typed_next, typed_arguments, typed_constant, typed_name, typed_element, typed_value, typed_call, trees_of_args, expressions_of_args, tree_as, value_as, array_of}
+use Rattle.ba_typing.specs.Declarations.{Added, nothing_added, ◌and◌, Before, behind, Part, nothing, in_order, numbered, next_stmt, faults_added, whole_faults, typed_each, calls_in, add_declaration, add_declarators, ◌then◌}
+use Rattle.ba_typing.specs.Expressions.{Typed, Typing, typed_conditional, typed_next, typed_arguments, typed_constant, typed_name, typed_element, typed_value, typed_call, trees_of_args, expressions_of_args, tree_as, constant_value, with_more_faults, array_of}
 use Rattle.ba_numbers.specs.Types.{promoted}
-use Rattle.ba_typing.specs.Faults.{fault, fault_if, limit_faults, height_limit}
-use Rattle.ba_typing.specs.Names.{Scope, meaning_of, inner, looping, switching, knowing, name_of, punct_of, type_named, changing_operator, jump_of}
+use Rattle.ba_typing.specs.Faults.{fault, fault_if, target_name_faults, tag_faults, limit_faults, height_limit}
+use Rattle.ba_typing.specs.Names.{Scope, meaning_of, inner, looping, switching, knowing, name_of, punct_of, words_of, type_named, tag_of, changing_operator, jump_of}
 use Rattle.ba_tree.specs.Trees.{ExprTree, StmtTree, stmts_of}
 use Rattle.ba_tree.specs.Trees as tree
 use Rattle.ba_typing.specs.declared.fault.Cause.TheVariants.{Twice, WrongKind, BreakOutside, CallInIndex}
@@ -63,10 +63,15 @@ abbrev pub var_of : Meaning → VarId
 var_of meaning.Unknown = record { 0 = 0 }
 var_of meaning.Function = record { 0 = 0 }
 var_of (meaning.Variable e) = e.var
+var_of (meaning.Constant z) = record { 0 = 0 }
 
 abbrev pub typed_target : At → List ℕ → Option Typing → Scope → ℕ → TypedTarget
 typed_target at name None scope calls = let m = meaning_of scope name in
-    record { expression = typed_name at name m; index = None; var = var_of m }
+    record {
+      expression = with_more_faults (target_name_faults m at) (typed_name at name m);
+      index = None;
+      var = var_of m;
+    }
 typed_target at name (Some typing) scope calls = let m = meaning_of scope name in let index =
     typing scope calls in
     record { expression = typed_element at m index; index = Some index; var = array_of m }
@@ -196,7 +201,9 @@ for_scope (first.Simples s) scope = scope
 for_scope first.Nothing scope = scope
 
 abbrev pub add_first : ForFirst → Part
-add_first (first.Declaration name declarators) = add_declarators [] (type_named name) declarators
+add_first (first.Declaration name declarators) =
+    (λ scope n. faults_added (tag_faults scope (tag_of (words_of name))))
+    then add_declarators [] (type_named name) declarators
 add_first (first.Simples s) = add_simples s
 add_first first.Nothing = nothing
 
@@ -233,14 +240,10 @@ no_labels = record { starts = []; other = None }
 abbrev pub has_value : List Start → ℤ → Bool
 has_value starts z = list_any (λ (s : Start). int_eq s.value z) starts
 
--- the value of a label's constant in the type of the `switch`, None where it is not constant or traps
-abbrev pub label_value : CType → Typed → Option ℤ
-label_value t e = cond e.is_constant (value_as t e) None
-
 -- a value that an earlier label has, or that there is none
-abbrev pub value_faults : Labels → Option ℤ → At → List Fault
-value_faults labels None at = fault WrongKind at
-value_faults labels (Some z) at = fault_if (has_value labels.starts z) Twice at
+abbrev pub label_faults : Labels → Option ℤ → At → List Fault
+label_faults labels None at = fault WrongKind at
+label_faults labels (Some z) at = fault_if (has_value labels.starts z) Twice at
 
 abbrev pub with_start : Labels → Option ℤ → ℕ → Labels
 with_start labels None at = labels
@@ -253,9 +256,9 @@ pub record Labelled : Type 0 where
 
 -- A label where so many statements stand before it in the body. The heights of constants are looked at where the `switch` stands.
 abbrev pub add_case : CType → At → Typed → Labels → ℕ → Labelled
-add_case t at e labels count = let z = label_value t e in record {
+add_case t at e labels count = let z = constant_value t e in record {
   labels = with_start labels z count;
-  added = record (faults_added (whole_faults at e ++ value_faults labels z e.first)) { calls = e.calls };
+  added = record (faults_added (whole_faults at e ++ label_faults labels z e.first)) { calls = e.calls };
 }
 
 abbrev pub add_default : At → Labels → ℕ → Labelled
@@ -363,7 +366,7 @@ abbrev pub PartList : Type 0
 PartList = List Part
 
 abbrev pub item_step : BlockItem-F Part Part PartList Part Part Part Part GroupParts Part → Part
-item_step (BlockItem-F.Declaration d) = add_declarators [] (type_named d.name) d.declarators
+item_step (BlockItem-F.Declaration d) = add_declaration [] d.specifiers d.declarators
 item_step (BlockItem-F.Statement s) = s
 
 abbrev pub form_step : StatementForm-F Part Part PartList Part Part Part Part GroupParts Part → Part

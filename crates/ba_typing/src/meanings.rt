@@ -1,6 +1,7 @@
-//! What names mean: variables and functions (C90 6.1.2).
+//! What names mean: variables, enumeration constants, tags and functions (C90 6.1.2).
 
 ghost use Rattle.std.specs.Prelude.{◌≡◌};
+ghost use Rattle.ba_typing.specs.Names.{meaning_of_entity, space_of};
 
 use crate::text::Text;
 use ba_items::Items;
@@ -8,12 +9,33 @@ use ba_numbers::ids::{FnId, VarId};
 use ba_numbers::numbers::CType;
 use ba_tree::tree::{Start, Variable};
 
-/// A variable that is in scope: its name, how many scopes are around its declaration (0 for the file), its number and its type.
+/// A name space (C90 6.1.2.3): tags have one of their own.
+#[derive(Clone, Copy, Debug, PartialEq, Eq)]
+pub enum Space {
+    Ordinary,
+    Tags,
+}
+
+/// A variable or an array: its number and its type.
+#[derive(Clone, Copy, Debug, PartialEq, Eq)]
+pub struct Object {
+    pub var: VarId,
+    pub variable: Variable,
+}
+
+/// What a declared name denotes, if it is no function (C90 6.1.2): a variable, an enumeration constant with its value, or a tag.
+#[derive(Clone, Copy, Debug, PartialEq, Eq)]
+pub enum Entity {
+    Variable(Object),
+    Constant(i64),
+    Tag,
+}
+
+/// A name that is in scope: how many scopes are around its declaration (0 for the file), and what it denotes.
 pub struct Entry<'a> {
     pub name: Text<'a>,
     pub depth: u32,
-    pub var: VarId,
-    pub variable: Variable,
+    pub entity: Entity,
 }
 
 impl<'a> Drop for Entry<'a> {
@@ -21,9 +43,31 @@ impl<'a> Drop for Entry<'a> {
         let Entry {
             name: _,
             depth: _,
-            var: _,
-            variable: _,
+            entity: _,
         } = self;
+    }
+}
+
+impl Entity {
+    /// The name space of its name.
+    pub fn space(self) -> Space
+        ensures { result ≡ space_of self }
+    {
+        match self {
+            Entity::Variable(_) | Entity::Constant(_) => Space::Ordinary,
+            Entity::Tag => Space::Tags,
+        }
+    }
+
+    /// What its name means; that of a tag means nothing among the ordinary names.
+    pub fn meaning(self) -> Meaning
+        ensures { result ≡ meaning_of_entity self }
+    {
+        match self {
+            Entity::Variable(object) => Meaning::Variable(object),
+            Entity::Constant(value) => Meaning::Constant(value),
+            Entity::Tag => Meaning::Unknown,
+        }
     }
 }
 
@@ -35,8 +79,7 @@ impl<'a> Entry<'a> {
         Entry {
             name: self.name.copy(),
             depth: self.depth,
-            var: self.var,
-            variable: self.variable,
+            entity: self.entity,
         }
     }
 }
@@ -78,10 +121,11 @@ pub struct Labels {
     pub other: Option<u32>,
 }
 
-/// What a name means where it stands.
-#[derive(Drop)]
-pub enum Meaning<'a> {
+/// What a name of the ordinary name space means where it stands.
+#[derive(Clone, Copy, Debug, PartialEq, Eq)]
+pub enum Meaning {
     Unknown,
     Function,
-    Variable(Entry<'a>),
+    Variable(Object),
+    Constant(i64),
 }

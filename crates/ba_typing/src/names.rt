@@ -1,12 +1,13 @@
 //! What the names, words and operators of a program mean.
 
-ghost use Rattle.std.specs.Prelude.{◌≡◌, is_some, not};
+ghost use Rattle.std.specs.Prelude.{◌≡◌, ◌++◌, is_some, not, option_map, option_to_list};
 ghost use Rattle.ba_trees.specs.Classes.{class_of, word};
-ghost use Rattle.ba_typing.specs.Names.{binary_operator, by_sign, changing_operator, has_word, jump_of, name_of, punct_of, type_named, unary_operator, words_of};
+ghost use Rattle.ba_typing.specs.Names.{binary_operator, by_sign, changing_operator, first_name, has_word, jump_of, name_of, punct_of, tag_of, type_named, type_of_told, type_specified, unary_operator, words_of, words_of_declaration};
 
 use crate::text::Text;
 use ba_numbers::numbers::{BinOp, CType, UnOp};
 use ba_tokens::token::{Keyword, Punct, Token, TokenKind};
+use ba_trees::tree::declarations::Specifiers;
 use ba_trees::tree::expressions::TypeName;
 
 /// A binary operator: one with a value of two operands, or one whose left operand may decide alone.
@@ -52,11 +53,19 @@ pub fn punct_of(token: &Token) -> Option<Punct>
     }
 }
 
-/// Whether a keyword is among the words of a type's name.
-fn has_word(name: &TypeName, keyword: Keyword) -> bool
-    ensures { result ≡ has_word (words_of name.now) keyword }
+/// Whether a keyword is among the words of a type.
+fn has_word(words: &[Token], keyword: Keyword) -> bool
+    ensures { result ≡ has_word words.now keyword }
 {
-    name.words.iter().any(|word| is_keyword(word, keyword))
+    words.iter().any(|word| is_keyword(word, keyword))
+}
+
+/// Whether a keyword is among the words of a declaration.
+fn specifies(specifiers: &Specifiers, keyword: Keyword) -> bool
+    ensures { result ≡ has_word (words_of_declaration specifiers.now) keyword }
+{
+    has_word(specifiers.words.as_slice(), keyword)
+        || has_word(specifiers.behind.as_slice(), keyword)
 }
 
 /// Whether a token is this keyword.
@@ -69,21 +78,122 @@ pub fn is_keyword(token: &Token, keyword: Keyword) -> bool
     }
 }
 
+/// Which words that tell a type are among the words of a type or of a declaration.
+#[derive(Clone, Copy)]
+struct TypeWords {
+    is_void: bool,
+    is_char: bool,
+    is_short: bool,
+    is_unsigned: bool,
+}
+
+impl TypeWords {
+    /// The type that the words name, `None` for `void`.
+    fn named(self) -> Option<CType>
+        ensures { result ≡ type_of_told self }
+    {
+        if self.is_void {
+            return None;
+        }
+        Some(if self.is_char {
+            by_sign(self.is_unsigned, CType::I8, CType::U8)
+        } else if self.is_short {
+            by_sign(self.is_unsigned, CType::I16, CType::U16)
+        } else {
+            by_sign(self.is_unsigned, CType::I32, CType::U32)
+        })
+    }
+}
+
 /// The type that the words name (C90 6.5.2), `None` for `void`.
 pub fn type_named(name: &TypeName) -> Option<CType>
     ensures { result ≡ type_named name.now }
 {
-    if has_word(name, Keyword::Void) {
-        return None;
+    let words = name.words.as_slice();
+    TypeWords {
+        is_void: has_word(words, Keyword::Void),
+        is_char: has_word(words, Keyword::Char),
+        is_short: has_word(words, Keyword::Short),
+        is_unsigned: has_word(words, Keyword::Unsigned),
     }
-    let is_unsigned = has_word(name, Keyword::Unsigned);
-    Some(if has_word(name, Keyword::Char) {
-        by_sign(is_unsigned, CType::I8, CType::U8)
-    } else if has_word(name, Keyword::Short) {
-        by_sign(is_unsigned, CType::I16, CType::U16)
-    } else {
-        by_sign(is_unsigned, CType::I32, CType::U32)
-    })
+    .named()
+}
+
+/// The type that the words of a declaration name, `None` for `void`.
+pub fn type_specified(specifiers: &Specifiers) -> Option<CType>
+    ensures { result ≡ type_specified specifiers.now }
+{
+    TypeWords {
+        is_void: specifies(specifiers, Keyword::Void),
+        is_char: specifies(specifiers, Keyword::Char),
+        is_short: specifies(specifiers, Keyword::Short),
+        is_unsigned: specifies(specifiers, Keyword::Unsigned),
+    }
+    .named()
+}
+
+/// The tag in the words of a type, `None` where there is none (C90 6.5.2.3).
+pub fn tag_of_type(name: &TypeName) -> Option<&Token>
+    ensures { option_map (λ tag. tag.now) result ≡ tag_of (words_of name.now) }
+{
+    tag_in(name.words.as_slice())
+}
+
+/// The tag in the words of a declaration, `None` where there is none.
+pub fn tag_of_declaration(specifiers: &Specifiers) -> Option<&Token>
+    ensures { option_map (λ tag. tag.now) result ≡ tag_of (words_of_declaration specifiers.now) }
+{
+    tag_of(specifiers.words.as_slice(), specifiers.behind.as_slice())
+}
+
+/// The name behind the first `enum` of these words and those behind them, `None` where none stands there.
+fn tag_of<'a>(words: &'a [Token], behind: &'a [Token]) -> Option<&'a Token>
+    ensures { option_map (λ tag. tag.now) result ≡ tag_of (words.now ++ behind.now) }
+{
+    let mut rest = words;
+    while let Some((word, others)) = rest.split_first() {
+        if is_keyword(word, Keyword::Enum) {
+            return first_name(others, behind);
+        }
+        rest = others;
+    }
+    tag_in(behind)
+}
+
+/// The name behind the first `enum` of these words, `None` where none stands there.
+fn tag_in(words: &[Token]) -> Option<&Token>
+    ensures { option_map (λ tag. tag.now) result ≡ tag_of words.now }
+{
+    let mut rest = words;
+    while let Some((word, others)) = rest.split_first() {
+        if is_keyword(word, Keyword::Enum) {
+            return named(others.first());
+        }
+        rest = others;
+    }
+    None
+}
+
+/// The first of these words and those behind them, where it is a name.
+fn first_name<'a>(words: &'a [Token], behind: &'a [Token]) -> Option<&'a Token>
+    ensures { option_map (λ name. name.now) result ≡ first_name (words.now ++ behind.now) }
+{
+    match words.first() {
+        None => named(behind.first()),
+        Some(first) => named(Some(first)),
+    }
+}
+
+/// A token that is a name.
+fn named(token: Option<&Token>) -> Option<&Token>
+    ensures { option_map (λ name. name.now) result
+        ≡ first_name (option_to_list (option_map (λ t. t.now) token.entry)) }
+{
+    let token = token?;
+    match &token.kind {
+        TokenKind::Name(_) => Some(token),
+        _ => None,
+    }
 }
 
 /// Whether it is `void` that is named.

@@ -16,10 +16,10 @@ use Rattle.ba_tree.specs.declared.tree.StmtKind.{StmtKind}
 use Rattle.ba_tree.specs.declared.tree.StmtKind.TheVariants as kind
 use Rattle.ba_typing.specs.Declarations.{Before, Part, next_stmt}
 use Rattle.ba_typing.specs.Declarations as add
-use Rattle.ba_typing.specs.Expressions.{Typed, Typing, typed_name, typed_element, typed_value, tree_as, variable_type, element_type, array_of}
+use Rattle.ba_typing.specs.Expressions.{Typed, Typing, typed_name, typed_element, typed_value, tree_as, with_more_faults, element_type, array_of}
 use Rattle.ba_numbers.specs.Types.{promoted}
-use Rattle.ba_typing.specs.Faults.{fault_if, limit_faults, statement_limit, height_limit, value_name_faults, array_name_faults}
-use Rattle.ba_typing.specs.Names.{Scope, meaning_of, is_array_entry}
+use Rattle.ba_typing.specs.Faults.{fault_if, limit_faults, statement_limit, height_limit, array_name_faults, target_name_faults}
+use Rattle.ba_typing.specs.Names.{Scope, meaning_of, is_array_object}
 use Rattle.ba_typing.specs.declared.meanings.Meaning.{Meaning}
 use Rattle.ba_typing.specs.declared.meanings.Meaning.TheVariants as meaning
 use Rattle.ba_typing.specs.Statements.{var_of, typed_target, index_faults, changed, assigned_tree, kind_of_target}
@@ -31,11 +31,11 @@ use Rattle.ba_typing.specs.declared.names.Exits.{Exits}
 use Rattle.ba_typing_facts.proofs.AdditionFacts.{InScope, IsPiece, PieceAt, all_facts_of}
 use Rattle.ba_typing_facts.proofs.FittingFacts.{calls_of, nil_left, nil_right}
 use Rattle.ba_typing_facts.proofs.LeafFacts.{AreWhole, within, kind_is, leaf_are}
-use Rattle.ba_typing_facts.proofs.PrimaryFacts.{IsWellTyping, not_so, name_typed, element_typed}
+use Rattle.ba_typing_facts.proofs.PrimaryFacts.{IsWellTyping, not_so, name_typed, name_calls, element_typed}
 use Rattle.ba_typing_facts.proofs.ScopeFacts.{IsMeaning, meaning_is, value_is, array_is, type_is}
 use Rattle.ba_typing_facts.proofs.SequenceFacts.{AreStmts, naming_are}
 use Rattle.ba_typing_facts.proofs.TreeFacts.{facts_of}
-use Rattle.ba_typing_facts.proofs.OperatorFacts.{IsWellTyped, as_typed, value_typed, promoted_is, same_type-of}
+use Rattle.ba_typing_facts.proofs.OperatorFacts.{IsWellTyped, as_typed, more_typed, value_typed, promoted_is, same_type-of}
 
 module _ (p : Parts) (owned : List VarId) (f : Function) (inside : Bool) where
   -- TREES
@@ -78,12 +78,15 @@ module _ (p : Parts) (owned : List VarId) (f : Function) (inside : Bool) where
     typed : type_at p v ≡ t
     shaped : test v ≡ true
 
-  variable_target : (at : At) (m : Meaning) → IsMeaning p owned m → value_name_faults m at ≡ []
-      → IsTarget (var_of m) (variable_type m) (is_value p)
-  variable_target at meaning.Unknown h none = cc
-  variable_target at meaning.Function h none = cc
-  variable_target at (meaning.Variable e) h none =
-      from (is_array_entry e) (not_so (is_array_entry e) WrongKind at none) (value_is p owned e h) where
+  variable_target : (at : At) (name : List ℕ) (m : Meaning) → IsMeaning p owned m
+      → (typed_name at name m).faults ≡ [] → target_name_faults m at ≡ []
+      → IsTarget (var_of m) (typed_name at name m).t (is_value p)
+  variable_target at name meaning.Unknown h none assigned = cc
+  variable_target at name meaning.Function h none assigned = cc
+  variable_target at name (meaning.Constant z) h none assigned = cc
+  variable_target at name (meaning.Variable e) h none assigned =
+      from (is_array_object e) (not_so (is_array_object e) WrongKind at (nil_left _ [] none))
+      (value_is p owned e h) where
         from : (b : Bool) → b ≡ false → (b ≡ false → is_value p e.var ≡ true)
             → IsTarget e.var (cond b I32 e.variable.t) (is_value p)
         from true wrong there = cc
@@ -98,8 +101,10 @@ module _ (p : Parts) (owned : List VarId) (f : Function) (inside : Bool) where
       → IsTarget (array_of m) (element_type m) (is_array p)
   array_target at meaning.Unknown h none = cc
   array_target at meaning.Function h none = cc
+  array_target at (meaning.Constant z) h none = cc
   array_target at (meaning.Variable e) h none =
-      from (is_array_entry e) (not_so (not (is_array_entry e)) WrongKind at none) (array_is p owned e h) where
+      from (is_array_object e) (not_so (not (is_array_object e)) WrongKind at none)
+      (array_is p owned e h) where
         from : (b : Bool) → not b ≡ false → (b ≡ true → is_array p e.var ≡ true)
             → IsTarget (cond b e.var (record { 0 = 0 })) (cond b e.variable.t I32) (is_array p)
         from false wrong there = cc
@@ -174,7 +179,9 @@ module _ (p : Parts) (owned : List VarId) (f : Function) (inside : Bool) where
     variable_assigned : PieceAt p owned f inside (assignment at name_at name None op typing) scope n
     variable_assigned stands none =
         let m = meaning_of scope name in
-        let t = typed_name name_at name m in
+        let named = typed_name name_at name m in
+        let more = target_name_faults m name_at in
+        let t = with_more_faults more named in
         let e = typing scope (n.calls + t.calls) in
         let whole = changed op t e in
         let limit = limit_faults statement_limit (n.statements + 1) at in
@@ -183,15 +190,17 @@ module _ (p : Parts) (owned : List VarId) (f : Function) (inside : Bool) where
         let before_low = nil_left (t.faults ++ [] ++ e.faults) low own in
         let target_none = nil_left t.faults [] (nil_left (t.faults ++ []) e.faults before_low) in
         let meant = meaning_is p owned scope in_scope.sound name in
-        let target = variable_target name_at m meant (nil_left (value_name_faults m name_at) [] target_none)
-        in
+        let target = variable_target name_at name m meant (nil_right more named.faults target_none)
+        (nil_left more named.faults target_none) in
+        let no_calls = name_calls p owned n.calls name_at name m in
         numbered_piece n at kind.Assignment (assigned_tree (next_stmt n)
         (typed_target name_at name None scope n.calls) whole)
         (t.calls + e.calls) _
-        (counted_calls n (calls_of (whole ∷ [])) (t.calls + e.calls) _ (changed_calls op t e refl)
-        (assign_are n (var_of m) (variable_type m) whole target.is_owned target.typed
-        (changed_typed n.calls op t e (name_typed p owned n.calls name_at name m meant)
-        (is.by scope in_scope.sound (n.calls + t.calls)) refl)
+        (counted_calls n (calls_of (whole ∷ [])) (t.calls + e.calls) _ (changed_calls op t e no_calls)
+        (assign_are n (var_of m) named.t whole target.is_owned target.typed
+        (changed_typed n.calls op t e
+        (more_typed p owned n.calls more named (name_typed p owned n.calls name_at name m meant))
+        (is.by scope in_scope.sound (n.calls + t.calls)) no_calls)
         (record {
           are_clean = (changed_clean op t e target_none (nil_right (t.faults ++ []) e.faults before_low), tt);
           are_low = (

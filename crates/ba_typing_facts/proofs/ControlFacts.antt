@@ -34,18 +34,23 @@ behind-and n a b =
     let ss : n.statements + length (a.statements ++ b.statements) ≡
     (n.statements + length a.statements) + length b.statements
     = (let e = length-append a.statements b.statements in omega (arith, e)) in
+    let ns : n.constants + (a.constants + b.constants) ≡ (n.constants + a.constants) + b.constants
+    = omega arith in
     let cs : n.calls + (a.calls + b.calls) ≡ (n.calls + a.calls) + b.calls = omega arith in
     let es : n.elements + (a.elements + b.elements) ≡ (n.elements + a.elements) + b.elements = omega arith in
-    ap (λ v. make v (n.statements + length (a.statements ++ b.statements)) (n.calls + (a.calls + b.calls))
+    let last = behind (behind n a) b in
+    ap (λ v. make v (n.constants + (a.constants + b.constants))
+    (n.statements + length (a.statements ++ b.statements)) (n.calls + (a.calls + b.calls))
     (n.elements + (a.elements + b.elements))) vs
-    ∙ ap (λ s. make (behind (behind n a) b).variables s (n.calls + (a.calls + b.calls)) (n.elements +
-    (a.elements + b.elements))) ss
-    ∙ ap (λ c. make (behind (behind n a) b).variables (behind (behind n a) b).statements c (n.elements +
-    (a.elements + b.elements))) cs
-    ∙ ap (make (behind (behind n a) b).variables (behind (behind n a) b).statements (behind
-    (behind n a) b).calls) es where
-      make : ℕ → ℕ → ℕ → ℕ → Before
-      make v s c e = record { variables = v; statements = s; calls = c; elements = e }
+    ∙ ap (λ k. make last.variables k (n.statements + length (a.statements ++ b.statements))
+    (n.calls + (a.calls + b.calls)) (n.elements + (a.elements + b.elements))) ns
+    ∙ ap (λ s. make last.variables last.constants s (n.calls + (a.calls + b.calls))
+    (n.elements + (a.elements + b.elements))) ss
+    ∙ ap (λ c. make last.variables last.constants last.statements c
+    (n.elements + (a.elements + b.elements))) cs
+    ∙ ap (make last.variables last.constants last.statements last.calls) es where
+      make : ℕ → ℕ → ℕ → ℕ → ℕ → Before
+      make v k s c e = record { variables = v; constants = k; statements = s; calls = c; elements = e }
 
 module _ (p : Parts) (owned : List VarId) (f : Function) where
   -- CONTROLLED STATEMENTS, which are one statement or none

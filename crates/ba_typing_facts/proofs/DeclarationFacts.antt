@@ -22,15 +22,15 @@ use Rattle.ba_tree.specs.declared.tree.Shape.{Shape}
 use Rattle.ba_tree.specs.declared.tree.Shape.TheVariants.{Value, Array}
 use Rattle.ba_tree.specs.declared.tree.StmtKind.TheVariants as kind
 use Rattle.ba_tree.specs.declared.tree.Variable.{Variable}
-use Rattle.ba_typing.specs.Declarations.{Added, nothing_added, Before, behind, Part, ◌then◌, faults_added, next_stmt, initial_faults, add_variable, values_of, has_braces, typed_each, init_tree, TypedLength, typed_array_length, length_faults, add_length, shape_of, written_count, exceeds, add_initialiser, add_optional_initialiser, add_declare, count_of_values, add_declarator, add_declarators}
+use Rattle.ba_typing.specs.Declarations.{Added, nothing_added, Before, behind, Part, ◌then◌, faults_added, next_stmt, next_name, is_declared, initial_faults, add_variable, values_of, has_braces, typed_each, init_tree, TypedLength, typed_array_length, length_faults, add_length, shape_of, written_count, exceeds, add_initialiser, add_optional_initialiser, add_declare, count_of_values, add_declarator, add_declarators, add_optional_declarators}
 use Rattle.ba_typing.specs.Expressions.{Typed, Typing, typed_conditional, typed_next, tree_as}
-use Rattle.ba_typing.specs.Faults.{fault_if, limit_faults, statement_limit, variable_limit, element_limit, void_faults}
+use Rattle.ba_typing.specs.Faults.{fault_if, limit_faults, statement_limit, variable_limit, element_limit, void_faults, twice_faults}
 use Rattle.ba_typing.specs.Names.{Scope, knowing, name_of}
 use Rattle.ba_tree.specs.Trees as tree
 use Rattle.ba_typing.specs.declared.fault.Cause.TheVariants.{WrongKind, WrongCount}
 use Rattle.ba_typing.specs.declared.meanings.Signature.{Signature}
 use Rattle.ba_typing.specs.declared.names.Exits.{Exits}
-use Rattle.ba_typing_facts.proofs.AdditionFacts.{Stands, stands_right, InScope, IsPiece, piece_none, PieceAt, HasPiece, piece_then, IsPart, IsCounted, AreParts, parts_in_order, all_facts_of, elements_of, are_own}
+use Rattle.ba_typing_facts.proofs.AdditionFacts.{Stands, stands_right, InScope, IsPiece, piece_none, PieceAt, HasPiece, piece_then, IsPart, part_nothing, IsCounted, AreParts, parts_in_order, all_facts_of, elements_of, are_own}
 use Rattle.ba_typing_facts.proofs.ExpressionFacts.{conditional_typing, next_typing}
 use Rattle.ba_typing_facts.proofs.FittingFacts.{calls_of, AreFit, nil_left, nil_right}
 use Rattle.ba_typing_facts.proofs.LeafFacts.{AreWhole, all_initial, within, kind_is, AreWellTyped, each_typed, each_fit, leaf_are, bare_are}
@@ -97,7 +97,12 @@ module _ (p : Parts) (owned : List VarId) (f : Function) (inside : Bool) where
       tt,
     );
     few = record {
-      variables = λ few. within variable_limit (n.variables + 1) at (nil_right _ _ none);
+      variables = λ few.
+          let twice = twice_faults (is_declared scope functions name) at in
+          let limit = limit_faults variable_limit (next_name n) at in
+          let all : next_name n ≤ 2000 = within variable_limit (next_name n) at
+          (nil_right twice limit none) in
+          omega (arith, all);
       statements = λ few. omega (arith, few);
       elements = λ few. omega (arith, few);
     };
@@ -466,3 +471,8 @@ module _ (p : Parts) (owned : List VarId) (f : Function) (inside : Bool) where
   declarators_part functions t ds = parts_in_order p owned f inside
       (map (λ (l : ListedDeclarator). add_declarator functions t l.declarator) ds.all.items)
       (declarator_parts functions t ds.all.items)
+
+  pub optional_declarators_part : (functions : List Signature) (t : Option CType) (o : Option Declarators)
+      → IsPart p owned f inside (add_optional_declarators functions t o)
+  optional_declarators_part functions t None = part_nothing p owned f inside
+  optional_declarators_part functions t (Some ds) = declarators_part functions t ds

@@ -4,6 +4,7 @@ use Rattle.std.specs.Prelude.{unwrap_or}
 use Rattle.std.specs.List.{range_with_len}
 use Rattle.std.proofs.lemmas.Bool.{eqb-false}
 use Rattle.std.proofs.lemmas.List.{map-append}
+use Rattle.std.proofs.lemmas.List.Concat.{flat_map-append}
 use Rattle.ba_numbers.specs.declared.ids.At.{At}
 use Rattle.ba_numbers.specs.declared.ids.VarId.{VarId}
 use Rattle.ba_numbers.specs.declared.numbers.CType.{CType}
@@ -15,10 +16,10 @@ use Rattle.ba_trees.specs.declared.tree.declarations.ListedDeclarator.{ListedDec
 use Rattle.ba_trees.specs.declared.tree.declarations.Parameter.{Parameter}
 use Rattle.ba_tree.specs.Facts.{has_variable}
 use Rattle.ba_tree.specs.declared.tree.Variable.{Variable}
-use Rattle.ba_typing.specs.Declarations.{Added, ◌and◌, Before, behind, Part, ◌then◌, in_order, faults_added, add_length, add_variable, add_declare, add_optional_initialiser, add_declarator, add_declarators, TypedLength, typed_array_length, count_of_values, shape_of}
-use Rattle.ba_typing.specs.Faults.{void_faults, limit_faults, parameter_limit}
-use Rattle.ba_typing.specs.Files.{vars_of, vars_from, add_param, add_params, param_length, param_shape, place_of_param, name_of_param}
-use Rattle.ba_typing.specs.Names.{Scope, knowing, name_of, type_named}
+use Rattle.ba_typing.specs.Declarations.{Added, ◌and◌, Before, behind, Part, ◌then◌, in_order, faults_added, add_length, add_variable, add_declare, add_optional_initialiser, add_declarator, add_declarators, add_optional_declarators, TypedLength, typed_array_length, count_of_values, shape_of}
+use Rattle.ba_typing.specs.Faults.{void_faults, limit_faults, parameter_limit, tag_faults}
+use Rattle.ba_typing.specs.Files.{var_in, vars_of, vars_from, add_param, add_params, param_length, param_shape, place_of_param, name_of_param}
+use Rattle.ba_typing.specs.Names.{Scope, knowing, name_of, words_of, type_named, tag_of}
 use Rattle.ba_typing.specs.declared.meanings.Entry.{Entry}
 use Rattle.ba_typing.specs.declared.meanings.Signature.{Signature}
 use Rattle.ba_typing_facts.proofs.FittingFacts.{range-append}
@@ -33,7 +34,7 @@ abbrev pub Declares : Before → Added → Type 0
 Declares n a = vars_of a.entries ≡ vars_from n.variables (length a.variables)
 
 pub declares-and : (n : Before) (a b : Added) → Declares n a → Declares (behind n a) b → Declares n (a and b)
-declares-and n a b h k = map-append (λ (e : Entry). e.var) a.entries b.entries
+declares-and n a b h k = flat_map-append (λ (e : Entry). var_in e.entity) a.entries b.entries
     ∙ ap (λ vs. vs ++ vars_of b.entries) h
     ∙ ap (λ vs. vars_from n.variables (length a.variables) ++ vs) k
     ∙ vars-append n.variables (length a.variables) (length b.variables)
@@ -96,9 +97,14 @@ listed_entries functions t [] = record { by = λ scope n. refl }
 listed_entries functions t (d ∷ ds) = entries_then (add_declarator functions t d.declarator) _
     (declarator_entries functions t d.declarator) (listed_entries functions t ds)
 
-pub declarators_entries : (functions : List Signature) (t : Option CType) (ds : Declarators)
+declarators_entries : (functions : List Signature) (t : Option CType) (ds : Declarators)
     → HasEntries (add_declarators functions t ds)
 declarators_entries functions t ds = listed_entries functions t ds.all.items
+
+pub optional_entries : (functions : List Signature) (t : Option CType) (o : Option Declarators)
+    → HasEntries (add_optional_declarators functions t o)
+optional_entries functions t None = record { by = λ scope n. refl }
+optional_entries functions t (Some ds) = declarators_entries functions t ds
 
 -- PARAMETERS of a definition
 
@@ -111,7 +117,8 @@ param_entries is_main function_at number q = record {
       let l = param_length is_main at q.length scope n.calls in
       let w : Variable = record { t = unwrap_or t I32; shape = param_shape is_main q.length l } in
       (entries_then (add_length at l then add_variable [] at (name_of_param q.name) w)
-      (λ scope n. faults_added (void_faults t at ++ limit_faults parameter_limit number at))
+      (λ scope n. faults_added (void_faults t at ++ limit_faults parameter_limit number at
+      ++ tag_faults scope (tag_of (words_of q.type_name))))
       (entries_then (add_length at l) (add_variable [] at (name_of_param q.name) w) (length_entries at l)
       (variable_entries [] at (name_of_param q.name) w)) (record { by = λ scope n. refl })).by scope n;
 }

@@ -12,6 +12,7 @@ use Rattle.ba_numbers.specs.declared.ids.At.{At}
 use Rattle.ba_numbers.specs.declared.ids.VarId.{VarId}
 use Rattle.ba_numbers.specs.declared.numbers.CType.{CType}
 use Rattle.ba_numbers.specs.declared.numbers.CType.TheVariants.{I32}
+use Rattle.ba_numbers.specs.declared.numbers.UnOp.{UnOp}
 use Rattle.ba_trees.specs.declared.tree.expressions.Primary.{Primary}
 use Rattle.ba_trees.specs.declared.tree.expressions.Unary.{Unary}
 use Rattle.ba_trees.specs.declared.tree.expressions.Arguments.{Arguments}
@@ -26,12 +27,14 @@ use Rattle.ba_trees.specs.declared.tree.expressions.Primary.TheShapes.{former-Ar
 use Rattle.ba_trees.specs.declared.tree.expressions.Primary.TheViews.{roll-Primary, roll-Unary, roll-Arguments, roll-Branches, roll-Chain, roll-Conditional, roll-Expressions, roll-NextExpression, roll-Operand}
 use Rattle.ba_trees.specs.declared.tree.expressions.Primary.TheFolds.{map-Primary, map-Unary, map-Arguments, map-Branches, map-Chain, map-Conditional, map-Expressions, map-NextExpression, map-Operand, ind-Arguments, ind-Conditional, ind-NextExpression, fold-roll-Primary, fold-roll-Unary, fold-roll-Arguments, fold-roll-Branches, fold-roll-Chain, fold-roll-Conditional, fold-roll-Expressions, fold-roll-NextExpression, fold-roll-Operand}
 use Rattle.ba_tree.specs.declared.tree.Parts.{Parts}
-use Rattle.ba_typing.specs.Expressions.{Typed, OperandTyping, chain_of, whole_operand, tighter, from_looser, typed_token_kind, Typing, Typings, BranchTypings, ChainTyping, typed_binary, typed_constant_kind, parenthesized, select_typing, with_branches, rest_of_chain, after_chains, primary_step, unary_step, arguments_step, branches_step, chain_step, conditional_step, expressions_step, next_expression_step, operand_step, typed_conditional, typed_operand, typed_chain, typed_unary_expression, typed_primary, typed_arguments, typed_next, typed_branches, typed_expressions}
+use Rattle.ba_typing.specs.Expressions.{Typed, OperandTyping, chain_of, whole_operand, tighter, from_looser, typed_token_kind, Typing, Typings, BranchTypings, ChainTyping, typed_unary, typed_cast, with_more_faults, typed_binary, typed_constant_kind, parenthesized, select_typing, with_branches, rest_of_chain, after_chains, primary_step, unary_step, arguments_step, branches_step, chain_step, conditional_step, expressions_step, next_expression_step, operand_step, typed_conditional, typed_operand, typed_chain, typed_unary_expression, typed_primary, typed_arguments, typed_next, typed_branches, typed_expressions}
+use Rattle.ba_typing.specs.Faults.{tag_faults}
 use Rattle.ba_typing.specs.declared.names.Operator.{Operator}
-use Rattle.ba_typing.specs.Names.{Scope, meaning_of, name_of, punct_of, type_named, unary_operator, binary_operator}
-use Rattle.ba_typing_facts.proofs.OperatorFacts.{IsWellTyped, unary_typed, cast_typed, binary_typed, select_typed, constant_typed}
+use Rattle.ba_typing.specs.declared.names.Operator.TheVariants as operator
+use Rattle.ba_typing.specs.Names.{Scope, meaning_of, name_of, punct_of, words_of, type_named, tag_of, unary_operator, binary_operator}
+use Rattle.ba_typing_facts.proofs.OperatorFacts.{IsWellTyped, unary_typed, more_typed, cast_typed, binary_typed, select_typed, constant_typed}
 use Rattle.ba_typing_facts.proofs.ScopeFacts.{IsScope, meaning_is}
-use Rattle.ba_typing_facts.proofs.PrimaryFacts.{IsWellTyping, AreWellTypings, name_typed, element_typed, called_typed}
+use Rattle.ba_typing_facts.proofs.PrimaryFacts.{IsNoArray, unnamed, IsWellTyping, AreWellTypings, name_typed, name_no_array, element_typed, called_typed}
 
 pub is_in_from : (t : CType) (z : ℤ) → IsIn t z → is_in t z ≡ true
 is_in_from t z h = and_from _ _ (from (int_le (least_of t) z) h.low.le) (from (int_le z
@@ -50,6 +53,7 @@ module _ (p : Parts) (owned : List VarId) where
     by : (scope : Scope) → IsScope p owned scope → (before : ℕ) (left : Typed) →
         IsWellTyped p owned before left
         → IsWellTyped p owned before (c.over scope before left)
+    no_name : (scope : Scope) (before : ℕ) (left : Typed) → (c.over scope before left).name ≡ None
 
   abbrev AreChains : List ChainTyping → Type 0
   AreChains [] = Unit {0}
@@ -241,27 +245,41 @@ module _ (p : Parts) (owned : List VarId) where
   inside : (at : At) (s : Typing) → IsWellTyping p owned s → IsWellTyping p owned (parenthesized at s)
   inside at s h = record {
     by = λ scope sound before. let e = h.by scope sound before in record {
-      named = λ name is. let b = e.named name is in
-          record { calls = b.calls; height = b.height; changes = b.changes };
+      named = λ name is. let b = e.named name is in record { calls = b.calls; height = b.height };
       right = e.right;
     };
+    no_array = h.no_array;
   }
+
+  constant_unnamed : (at : At) (k : TokenKind) → (typed_constant_kind at k).name ≡ None
+  constant_unnamed at (kind.Constant t z) = refl
+  constant_unnamed at k = refl
+
+  constant_token : (at : At) (k : TokenKind) (scope : Scope) → IsNoArray scope (typed_constant_kind at k)
+  constant_token at k scope = unnamed scope (typed_constant_kind at k) (constant_unnamed at k)
 
   token_form : (at : At) (k : TokenKind) → IsWellTyping p owned (typed_token_kind at k)
   token_form at (kind.Name name) = record {
     by = λ scope sound before. name_typed p owned before at name
         (meaning_of scope name) (meaning_is p owned scope sound name);
+    no_array = λ scope before. name_no_array scope at name;
   }
   token_form at (kind.Keyword k) = record {
-    by = λ scope sound before. constant_form before at
-        (kind.Keyword k);
+    by = λ scope sound before. constant_form before at (kind.Keyword k);
+    no_array = λ scope before. constant_token at (kind.Keyword k) scope;
   }
   token_form at (kind.Constant t z) = record {
-    by = λ scope sound before. constant_form before at
-        (kind.Constant t z);
+    by = λ scope sound before. constant_form before at (kind.Constant t z);
+    no_array = λ scope before. constant_token at (kind.Constant t z) scope;
   }
-  token_form at kind.Quoted = record { by = λ scope sound before. constant_form before at kind.Quoted }
-  token_form at (kind.Punct q) = record { by = λ scope sound before. constant_form before at (kind.Punct q) }
+  token_form at kind.Quoted = record {
+    by = λ scope sound before. constant_form before at kind.Quoted;
+    no_array = λ scope before. constant_token at kind.Quoted scope;
+  }
+  token_form at (kind.Punct q) = record {
+    by = λ scope sound before. constant_form before at (kind.Punct q);
+    no_array = λ scope before. constant_token at (kind.Punct q) scope;
+  }
 
   primary_form : (y : Pieces Primary-F) →
       IsWellTyping p owned (primary_step (attributes_primary (bare_primary y)))
@@ -270,24 +288,45 @@ module _ (p : Parts) (owned : List VarId) where
     by = λ scope sound before. element_typed p owned before name.at (meaning_of scope (name_of name))
         (typed_conditional index.value.0 scope before) (meaning_is p owned scope sound (name_of name))
         (index.value.1.by scope sound before);
+    no_array = λ scope before t v wrong. cc;
   }
   primary_form (Primary-F.Call name opener arguments closer) = record {
     by = λ scope sound before. called_typed p owned scope sound name.at (name_of name)
         (typed_arguments arguments.0) arguments.1 before;
+    no_array = λ scope before t v wrong. cc;
   }
   primary_form (Primary-F.Constant constant) = token_form constant.at constant.kind
   primary_form (Primary-F.Parenthesized opener e closer) = inside opener.at
       (typed_conditional e.value.0) e.value.1
+
+  unary_unnamed : (at : At) (op : Option UnOp) (a : Typed) → (typed_unary at op a).name ≡ None
+  unary_unnamed at None a = refl
+  unary_unnamed at (Some op) a = refl
+
+  cast_unnamed : (at : At) (t : Option CType) (a : Typed) → (typed_cast at t a).name ≡ None
+  cast_unnamed at None a = refl
+  cast_unnamed at (Some t) a = refl
 
   unary_form : (y : Pieces Unary-F) → IsWellTyping p owned (unary_step (attributes_unary (bare_unary y)))
   unary_form (Unary-F.Prefix operator operand) = record {
     by = λ scope sound before. unary_typed p owned before operator.at (unary_operator
         (punct_of operator))
         (typed_unary_expression operand.value.0 scope before) (operand.value.1.by scope sound before);
+    no_array = λ scope before.
+        let e = typed_unary_expression operand.value.0 scope before in
+        let op = unary_operator (punct_of operator) in
+        unnamed scope (typed_unary operator.at op e) (unary_unnamed operator.at op e);
   }
   unary_form (Unary-F.Cast opener name closer operand) = record {
-    by = λ scope sound before. cast_typed p owned before opener.at (type_named name)
-        (typed_unary_expression operand.value.0 scope before) (operand.value.1.by scope sound before);
+    by = λ scope sound before.
+        let e = typed_unary_expression operand.value.0 scope before in
+        more_typed p owned before (tag_faults scope (tag_of (words_of name)))
+        (typed_cast opener.at (type_named name) e)
+        (cast_typed p owned before opener.at (type_named name) e (operand.value.1.by scope sound before));
+    no_array = λ scope before.
+        let e = typed_unary_expression operand.value.0 scope before in
+        unnamed scope (with_more_faults (tag_faults scope (tag_of (words_of name)))
+        (typed_cast opener.at (type_named name) e)) (cast_unnamed opener.at (type_named name) e);
   }
   unary_form (Unary-F.Primary e) = e.1
 
@@ -331,11 +370,30 @@ module _ (p : Parts) (owned : List VarId) where
   over_chains scope sound before left h (c ∷ cs) k =
       over_chains scope sound before (c.over scope before left) (k.0.by scope sound before left h) cs k.1
 
+  still_unnamed : (scope : Scope) (before : ℕ) (left : Typed) → left.name ≡ None → (cs : List ChainTyping)
+      → AreChains cs → (after_chains scope before left cs).name ≡ None
+  still_unnamed scope before left h [] k = h
+  still_unnamed scope before left h (c ∷ cs) k =
+      still_unnamed scope before (c.over scope before left) (k.0.no_name scope before left) cs k.1
+
+  no_array_over : (scope : Scope) (before : ℕ) (left : Typed) → IsNoArray scope left
+      → (cs : List ChainTyping) → AreChains cs → IsNoArray scope (after_chains scope before left cs)
+  no_array_over scope before left h [] k = h
+  no_array_over scope before left h (c ∷ cs) k = unnamed scope (after_chains scope before left (c ∷ cs))
+      (still_unnamed scope before (c.over scope before left) (k.0.no_name scope before left) cs k.1)
+
   operand_whole : (o : OperandTyping) → IsOperand o → IsWellTyping p owned (whole_operand o)
   operand_whole o h = record {
     by = λ scope sound before. over_chains scope sound before (o.first scope before)
         (h.0.by scope sound before) o.chains h.1;
+    no_array = λ scope before. no_array_over scope before (o.first scope before) (h.0.no_array scope before)
+        o.chains h.1;
   }
+
+  binary_unnamed : (op : Operator) (a b : Typed) → (typed_binary op a b).name ≡ None
+  binary_unnamed (operator.Value op) a b = refl
+  binary_unnamed operator.AndAlso a b = refl
+  binary_unnamed operator.OrElse a b = refl
 
   chain_whole : (level : ℕ) (op : Operator) (first : Typing) (cs : List ChainTyping) →
       IsWellTyping p owned first
@@ -347,6 +405,11 @@ module _ (p : Parts) (owned : List VarId) where
         over_chains scope sound before (typed_binary op left e)
         (binary_typed p owned before left e is
         ((operand_whole o (h, tighter_chains level cs k)).by scope sound (before + left.calls)) op)
+        (from_looser level cs) (looser_chains level cs k);
+    no_name = λ scope before left.
+        let o : OperandTyping = record { first = first; chains = tighter level cs } in
+        let e = whole_operand o scope (before + left.calls) in
+        still_unnamed scope before (typed_binary op left e) (binary_unnamed op left e)
         (from_looser level cs) (looser_chains level cs k);
   }
 
@@ -374,6 +437,7 @@ module _ (p : Parts) (owned : List VarId) where
         let y = b.1 scope (before + w.calls + x.calls) in
         select_typed p owned before w x y (h.by scope sound before) (k.0.by scope sound (before + w.calls))
         (k.1.by scope sound (before + w.calls + x.calls));
+    no_array = λ scope before t v wrong. cc;
   }
 
   with_branches_form : (test : Typing) → IsWellTyping p owned test → (o : Option OfBranches)

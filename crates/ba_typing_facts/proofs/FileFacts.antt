@@ -9,26 +9,28 @@ use Rattle.std.proofs.lemmas.List.Folds.{list_all-append}
 use Rattle.ba_numbers.specs.declared.ids.VarId.{VarId}
 use Rattle.ba_numbers.specs.declared.numbers.CType.{CType}
 use Rattle.ba_trees.specs.declared.tree.declarations.Declarators.{Declarators}
+use Rattle.ba_trees.specs.declared.tree.declarations.Specifiers.{Specifiers}
 use Rattle.ba_trees.specs.declared.tree.statements.External.{External}
 use Rattle.ba_trees.specs.declared.tree.statements.ExternalForm.{ExternalForm}
 use Rattle.ba_trees.specs.declared.tree.statements.ExternalForm.TheVariants as form
 use Rattle.ba_trees.specs.declared.tree.statements.FunctionEnd.TheVariants as end
 use Rattle.ba_tree.specs.Facts.{StmtFacts, around, leaf_facts, has_variable, holds, shape_at, is_own_shape, is_function, body_facts, no_function, is_global_initialiser}
 use Rattle.ba_tree.specs.declared.tree.Parts.{Parts}
-use Rattle.ba_typing.specs.Declarations.{Added, nothing_added, Before, behind, add_declarators}
-use Rattle.ba_typing.specs.Files.{FileAdded, params_of, vars_of, vars_from, signature_of_form, signature_of, definitions_of, with_signature, signatures_from, add_external_form, add_external, add_externals, with_functions}
-use Rattle.ba_typing.specs.Names.{Scope, knowing, definition_in, is_main_name, main_name, no_exits, type_named}
+use Rattle.ba_typing.specs.Declarations.{Added, nothing_added, Before, behind, add_specifiers, add_optional_declarators}
+use Rattle.ba_typing.specs.Files.{FileAdded, params_of, var_in, vars_of, vars_from, signature_of_form, signature_of, definitions_of, with_signature, signatures_from, add_external_form, add_external, add_externals, with_functions}
+use Rattle.ba_typing.specs.Names.{Scope, knowing, definition_in, is_main_name, main_name, no_exits, type_specified}
 use Rattle.ba_tree.specs.Trees.{FunctionTree, StmtTree}
 use Rattle.ba_typing.specs.declared.meanings.Entry.{Entry}
 use Rattle.ba_typing.specs.declared.meanings.Signature.{Signature}
 use Rattle.ba_typing_facts.proofs.AdditionFacts.{HasVariables, Stands, InScope, IsFew, few-and, few_none, all_facts_of}
-use Rattle.ba_typing_facts.proofs.DeclarationFacts.{declarators_part}
-use Rattle.ba_typing_facts.proofs.EntryFacts.{declarators_entries}
+use Rattle.ba_typing_facts.proofs.DeclarationFacts.{optional_declarators_part}
+use Rattle.ba_typing_facts.proofs.EntryFacts.{optional_entries}
+use Rattle.ba_typing_facts.proofs.EnumeratorFacts.{specifiers_names, specifiers_part, names_counted}
 use Rattle.ba_typing_facts.proofs.FileSignatureFacts.{declared_as, trees, form_count, signature-append, main_is}
 use Rattle.ba_typing_facts.proofs.FittingFacts.{nil_left, nil_right}
 use Rattle.ba_typing_facts.proofs.FunctionFacts
-use Rattle.ba_typing_facts.proofs.FunctionFacts.{own_at, function_at, bodies_of, tree_at, IsFileScope, AreFunctionsAdded, var_numbers, prototype, prototype_is, prototype_vars, t, defined, definition_added, definition_good, definition_vars}
-use Rattle.ba_typing_facts.proofs.GlobalFacts.{is_init, declarators_inits}
+use Rattle.ba_typing_facts.proofs.FunctionFacts.{own_at, function_at, bodies_of, tree_at, IsFileScope, AreFunctionsAdded, var_numbers, nothing_stands, prototype, prototype_is, prototype_vars, t, defined, definition_added, definition_good, definition_vars}
+use Rattle.ba_typing_facts.proofs.GlobalFacts.{is_init, optional_inits}
 use Rattle.ba_typing_facts.proofs.LeafFacts.{HasAt, has_left, has_right}
 use Rattle.ba_typing_facts.proofs.ParameterFacts.{IsSized, sized-and, sized_none, sized_counted}
 use Rattle.ba_typing.proofs.SignatureFacts.{AreNumbered, AreNew}
@@ -126,7 +128,7 @@ module _ (p : Parts) where
       ≡ (vars a ++ vars b) ++ (owns a ++ owns b)
   owned_split a b =
       ap (λ xs. xs ++ owns (with_functions a b))
-      (ap (var_numbers p) (map-append (λ (e : Entry). e.var) a.added.entries b.added.entries)
+      (ap (var_numbers p) (flat_map-append (λ (e : Entry). var_in e.entity) a.added.entries b.added.entries)
       ∙ map-append (λ (v : VarId). v.0) (vars_of a.added.entries) (vars_of b.added.entries))
       ∙ ap (λ xs. (vars a ++ vars b) ++ xs)
       (ap (var_numbers p) (flat_map-append (λ (t : FunctionTree). t.params ++ t.locals) a.functions
@@ -160,8 +162,8 @@ module _ (p : Parts) where
         b.added.stmts)
         ∙ list_all-append (is_global_initialiser p) (inits_of a.added.stmts) (inits_of b.added.stmts)
         ∙ and_from _ _ h.inits k.inits;
-    globals = ap (list_all (λ v. holds is_own_shape (shape_at p v))) (map-append
-        (λ (e : Entry). e.var) a.added.entries b.added.entries)
+    globals = ap (list_all (λ v. holds is_own_shape (shape_at p v))) (flat_map-append
+        (λ (e : Entry). var_in e.entity) a.added.entries b.added.entries)
         ∙ list_all-append (λ v. holds is_own_shape (shape_at p v)) (vars_of a.added.entries)
         (vars_of b.added.entries)
         ∙ and_from _ _ h.globals k.globals;
@@ -187,22 +189,25 @@ module _ (p : Parts) where
       and_from _ _ (and_from _ _ (and_from _ _ (and_from _ _ sound.0 vars.0) vars.1) calls.1)
       (all_inits ss sound.1 inits.1)
 
+  in_the_file : (file : Scope) → IsFileScope p file → InScope p p.globals no_function false file
+  in_the_file file h = record {
+    sound = h.sound;
+    result = h.result;
+    place = ap (λ d. d == 0) h.depth;
+  }
+
   -- global variables
-  module _ (t : Option CType) (ds : Declarators) (file : Scope) (earlier : List Signature) (d : ℕ)
+  module _ (t : Option CType) (ds : Option Declarators) (file : Scope) (earlier : List Signature) (d : ℕ)
       (n : Before)
       (file_scope : IsFileScope p file) where
     abbrev a : Added
-    a = add_declarators earlier t ds file n
+    a = add_optional_declarators earlier t ds file n
 
     variables_are : StandsIn d n (record { added = a; functions = [] }) → a.faults ≡ []
         → IsFile d n (record { added = a; functions = [] })
     variables_are stands none =
-        let declared = (declarators_entries earlier t ds).by file n in
-        let in_file : InScope p p.globals no_function false file = record {
-          sound = file_scope.sound;
-          result = file_scope.result;
-          place = ap (λ d. d == 0) file_scope.depth;
-        } in
+        let declared = (optional_entries earlier t ds).by file n in
+        let in_file = in_the_file file file_scope in
         let all_there : Stands p p.globals no_function false n a = (
           stands.0,
           stands.1,
@@ -210,7 +215,7 @@ module _ (p : Parts) where
               (sym declared) ∙ stands.3),
           λ wrong. cc,
         ) in
-        let part = declarators_part p p.globals no_function false earlier t ds in
+        let part = optional_declarators_part p p.globals no_function false earlier t ds in
         let piece = part.piece.by file in_file n all_there none in
         let counted = part.counted file n none in record {
           few = piece.few;
@@ -222,7 +227,7 @@ module _ (p : Parts) where
           owned = each_is (append-nil (var_numbers p (vars_of a.entries)) ∙ ap (var_numbers p) declared
               ∙ numbers_from n.variables (length a.variables));
           inits = all_inits (inits_of a.stmts) piece.stmts.sound
-              ((declarators_inits p p.globals no_function earlier t ds).by file in_file n all_there none);
+              ((optional_inits p p.globals no_function earlier t ds).by file in_file n all_there none);
           globals = ap (list_all (λ v. holds is_own_shape (shape_at p v))) declared
               ∙ own_at p n.variables a.variables stands.0 counted.own;
           good = tt;
@@ -304,6 +309,59 @@ module _ (p : Parts) where
     result = h.result;
   }
 
+  -- what a declaration begins with
+  specifiers_file : (s : Specifiers) (earlier : List Signature) (file : Scope) (d : ℕ) (n : Before)
+      → IsFileScope p file → (add_specifiers earlier s file n).faults ≡ []
+      → IsFile d n (record { added = add_specifiers earlier s file n; functions = [] })
+  specifiers_file s earlier file d n file_scope none =
+      let a = add_specifiers earlier s file n in
+      let names = (specifiers_names earlier s).by file n in
+      let part = specifiers_part p p.globals no_function false earlier s in
+      let piece = part.piece.by file (in_the_file file file_scope) n
+      (nothing_stands p p.globals no_function n a names.variables names.statements) none in record {
+        few = piece.few;
+        sized = sized_counted a (names_counted a names);
+        entries = piece.entries;
+        told = subst (AreTold p n.statements (length a.statements) n.calls a.calls)
+            (sym (append-nil (inits_of a.stmts))) (are_told p piece.stmts);
+        owned = subst (λ vs. IsEach n.variables (length a.variables) (var_numbers p vs ++ []))
+            (sym names.vars) (subst (λ vs. IsEach n.variables (length vs) []) (sym names.variables)
+            (each_none n.variables));
+        inits = ap (λ ss. list_all (is_global_initialiser p) (inits_of ss)) names.stmts;
+        globals = ap (list_all (λ v. holds is_own_shape (shape_at p v))) names.vars;
+        good = tt;
+      }
+
+  -- a declaration or a function
+  external_is : (d : ℕ) (x : External) (file : Scope) (earlier : List Signature) (n : Before)
+      → IsFileScope p file → (add_external x (signature_of d x) file earlier n).added.faults ≡ []
+      → StandsIn d n (add_external x (signature_of d x) file earlier n)
+      → ((s : Signature) → signature_of d x ≡ Some s → s.is_definition ≡ true
+      → is_main_name s.name ≡ (s.function.0 == p.main.0))
+      → IsFile d n (add_external x (signature_of d x) file earlier n)
+  external_is d x file earlier n file_scope none stands main =
+      let t = type_specified x.specifiers in
+      let w = add_specifiers earlier x.specifiers file n in
+      let known = knowing w.entries file in
+      let a = add_external_form t x.form (signature_of d x) known earlier (behind n w) in
+      let globals = and_parts (list_all (has_variable p.globals) (vars_of w.entries)) (list_all
+      (has_variable p.globals) (vars_of a.added.entries))
+      (sym (ap (list_all (has_variable p.globals)) (flat_map-append (λ (e : Entry). var_in e.entity)
+      w.entries a.added.entries)
+      ∙ list_all-append (has_variable p.globals) (vars_of w.entries) (vars_of a.added.entries))
+      ∙ stands.3) in
+      let first = specifiers_file x.specifiers earlier file d n file_scope
+      (nil_left w.faults a.added.faults none) in
+      let second = form_is d t x.form known earlier (behind n w)
+      (in_file_knowing w.entries file file_scope first.entries) (nil_right w.faults a.added.faults none) (
+        has_right p.variables n.variables w.variables a.added.variables stands.0,
+        has_right p.statements n.statements w.statements a.added.statements stands.1,
+        stands.2,
+        globals.1,
+      ) main in
+      file-and d n (record { added = w; functions = [] }) a first
+      (subst (λ k. IsFile k (behind n w) a) (let e : d ≡ d + 0 = omega arith in e) second)
+
   nothing_file : (d : ℕ) (n : Before) → IsFile d n (record { added = nothing_added; functions = [] })
   nothing_file d n = record {
     few = few_none n [];
@@ -349,12 +407,14 @@ module _ (p : Parts) where
         (earlier ++ with_signature s []) (behind n a.added) in
         let globals = and_parts (list_all (has_variable p.globals) (vars_of a.added.entries)) (list_all
         (has_variable p.globals) (vars_of b.added.entries))
-        (sym (ap (list_all (has_variable p.globals)) (map-append (λ (e : Entry). e.var) a.added.entries
-        b.added.entries)
+        (sym (ap (list_all (has_variable p.globals)) (flat_map-append (λ (e : Entry). var_in e.entity)
+        a.added.entries b.added.entries)
         ∙ list_all-append (has_variable p.globals) (vars_of a.added.entries) (vars_of b.added.entries))
         ∙ stands.3) in
-        let count = form_count p d (type_named x.name) x.form file earlier n in
-        let first = form_is d (type_named x.name) x.form file earlier n file_scope
+        let w = add_specifiers earlier x.specifiers file n in
+        let count = form_count p d (type_specified x.specifiers) x.form (knowing w.entries file) earlier
+        (behind n w) in
+        let first = external_is d x file earlier n file_scope
         (nil_left a.added.faults b.added.faults none) (
           has_left p.variables n.variables a.added.variables b.added.variables stands.0,
           has_left p.statements n.statements a.added.statements b.added.statements stands.1,

@@ -14,8 +14,8 @@ use Rattle.ba_trees.specs.declared.tree.statements.FunctionEnd.TheVariants as en
 use Rattle.ba_tree.specs.Facts.{no_function}
 use Rattle.ba_tree.specs.declared.tree.Function.{Function}
 use Rattle.ba_tree.specs.declared.tree.Parts as program
-use Rattle.ba_typing.specs.Declarations.{Before, behind, in_order}
-use Rattle.ba_typing.specs.Names.{Scope, knowing, type_named, name_of, is_main_name}
+use Rattle.ba_typing.specs.Declarations.{Before, behind, in_order, add_specifiers}
+use Rattle.ba_typing.specs.Names.{Scope, knowing, type_specified, name_of, is_main_name}
 use Rattle.ba_typing.specs.Statements.{parts_of_block}
 use Rattle.ba_typing.specs.Files.{params_of, signature_of_form, signature_of, definitions_of, with_signature, function_scope, add_params, add_external_form, add_external, add_externals, file_scope, no_parts, file_of, program_of, main_of, typed_of}
 use Rattle.ba_tree.specs.Trees.{FunctionTree, ProgramTree, stmts_of}
@@ -61,12 +61,14 @@ module _ (p : program.Parts) (f : Function) where
   externals_shallow d [] file earlier n h = refl
   externals_shallow d (x ∷ xs) file earlier n h =
       let s = signature_of d x in
+      let w = add_specifiers earlier x.specifiers file n in
       let a = add_external x s file earlier n in
       let b = add_externals (d + definitions_of s) xs (knowing a.added.entries file)
       (earlier ++ with_signature s []) (behind n a.added) in
       let both = and_parts (nat_le (form_of_nesting x.form) 100) (nests_within xs) h in
       list_all-append (λ (f : FunctionTree). nat_le (deepest (stmts_of f.body)) 100) a.functions b.functions
-      ∙ and_from _ _ (form_shallow d (type_named x.name) x.form file earlier n both.0)
+      ∙ and_from _ _ (form_shallow d (type_specified x.specifiers) x.form (knowing w.entries file) earlier
+      (behind n w) both.0)
       (externals_shallow (d + definitions_of s) xs (knowing a.added.entries file)
       (earlier ++ with_signature s []) (behind n a.added) both.1)
 

@@ -18,14 +18,15 @@ use Rattle.ba_trees.specs.declared.tree.statements.FunctionEnd.{FunctionEnd}
 use Rattle.ba_trees.specs.declared.tree.statements.FunctionEnd.TheVariants as end
 use Rattle.ba_tree.specs.declared.tree.Function.{Function}
 use Rattle.ba_tree.specs.declared.tree.Parts.{Parts}
-use Rattle.ba_typing.specs.Declarations.{Before, behind, in_order}
+use Rattle.ba_typing.specs.Declarations.{Before, behind, in_order, add_specifiers}
 use Rattle.ba_typing.specs.Statements.{parts_of_block}
 use Rattle.ba_typing.specs.Faults.{twice_faults, limit_faults, function_limit}
 use Rattle.ba_typing.specs.Files.{params_of, type_of_param, signature_of_form, signature_of, definitions_of, with_signature, signatures_from, count_functions, signature_faults, vars_of, add_external_form, add_external, add_externals, function_scope, function_tree, add_params, body_parts, says_params, is_definition}
-use Rattle.ba_typing.specs.Names.{Scope, knowing, name_of, same_name, is_declared_here, is_declared_in, definition_in, is_main_name, main_name, type_named}
+use Rattle.ba_typing.specs.Names.{Scope, knowing, name_of, same_name, is_declared_here, is_declared_in, definition_in, is_main_name, main_name, type_specified}
 use Rattle.ba_tree.specs.Trees.{FunctionTree, tree_of_function}
 use Rattle.ba_typing.specs.declared.fault.Cause.TheVariants.{Twice}
 use Rattle.ba_typing.specs.declared.meanings.Signature.{Signature}
+use Rattle.ba_typing.specs.declared.meanings.Space.TheVariants as space
 use Rattle.ba_typing_facts.proofs.FittingFacts.{nil_left, nil_right}
 use Rattle.ba_typing_facts.proofs.FunctionFacts.{function_at, tree_at}
 use Rattle.ba_typing_facts.proofs.LeafFacts.{HasAt, has_left, has_right, within}
@@ -55,7 +56,7 @@ form_numbered d t (form.Function name opener params closer e) ss h = (refl, h)
 
 pub signatures_numbered : (d : ℕ) (xs : List External) → AreNumbered d (signatures_from d xs)
 signatures_numbered d [] = tt
-signatures_numbered d (x ∷ xs) = form_numbered d (type_named x.name) x.form _
+signatures_numbered d (x ∷ xs) = form_numbered d (type_specified x.specifiers) x.form _
     (signatures_numbered (d + definitions_of (signature_of d x)) xs)
 
 pub signature-append : (s : Option Signature) (ss : List Signature) → with_signature s ss
@@ -98,7 +99,7 @@ none_before name (s ∷ ss) h = from (same_name s.name name) h (none_before name
 module _ (file : Scope) (earlier : List Signature) (s : Signature) (at : At)
     (none : signature_faults file earlier s at ≡ []) where
   abbrev here_fault : List Rattle.ba_typing.specs.declared.fault.Fault.Fault
-  here_fault = twice_faults (is_declared_here file s.name) at
+  here_fault = twice_faults (is_declared_here space.Ordinary file s.name) at
 
   abbrev limit_fault : List Rattle.ba_typing.specs.declared.fault.Fault.Fault
   limit_fault = limit_faults function_limit (count_functions earlier + cond
@@ -175,8 +176,11 @@ signatures_new d (x ∷ xs) file earlier n none few =
     let a = add_external x s file earlier n in
     let b = add_externals (d + definitions_of s) xs (knowing a.added.entries file)
     (earlier ++ with_signature s []) (behind n a.added) in
-    let step = form_step d (type_named x.name) x.form file earlier n
-    (nil_left a.added.faults b.added.faults none) few in
+    let w = add_specifiers earlier x.specifiers file n in
+    let t = type_specified x.specifiers in
+    let form = add_external_form t x.form s (knowing w.entries file) earlier (behind n w) in
+    let step = form_step d t x.form (knowing w.entries file) earlier (behind n w)
+    (nil_right w.faults form.added.faults (nil_left a.added.faults b.added.faults none)) few in
     let rest = signatures_new (d + definitions_of s) xs (knowing a.added.entries file)
     (earlier ++ with_signature s [])
     (behind n a.added) (nil_right a.added.faults b.added.faults none) step.few in
@@ -317,12 +321,18 @@ module _ (p : Parts) where
       let a = add_external x s file earlier n in
       let b = add_externals (d + definitions_of s) xs (knowing a.added.entries file)
       (earlier ++ with_signature s []) (behind n a.added) in
-      form_declared d (type_named x.name) x.form file earlier n (nil_left a.added.faults b.added.faults none)
-      (has_left p.variables n.variables a.added.variables b.added.variables variables)
+      let w = add_specifiers earlier x.specifiers file n in
+      let t = type_specified x.specifiers in
+      let form = add_external_form t x.form s (knowing w.entries file) earlier (behind n w) in
+      form_declared d t x.form (knowing w.entries file) earlier (behind n w)
+      (nil_right w.faults form.added.faults (nil_left a.added.faults b.added.faults none))
+      (has_right p.variables n.variables w.variables form.added.variables
+      (has_left p.variables n.variables a.added.variables b.added.variables variables))
       (has_left trees d a.functions b.functions functions) (signatures_from (d + definitions_of s) xs)
       (signatures_declared (d + definitions_of s) xs (knowing a.added.entries file)
       (earlier ++ with_signature s [])
       (behind n a.added) (nil_right a.added.faults b.added.faults none)
       (has_right p.variables n.variables a.added.variables b.added.variables variables)
-      (subst (λ k. HasAt trees (d + k) b.functions) (form_count d (type_named x.name) x.form file earlier n)
+      (subst (λ k. HasAt trees (d + k) b.functions) (form_count d t x.form (knowing w.entries file)
+      earlier (behind n w))
       (has_right trees d a.functions b.functions functions)))

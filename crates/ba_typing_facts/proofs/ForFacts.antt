@@ -10,6 +10,8 @@ use Rattle.ba_numbers.specs.declared.ids.VarId.{VarId}
 use Rattle.ba_numbers.specs.declared.numbers.CType.{CType}
 use Rattle.ba_trees.specs.declared.tree.declarations.ListedDeclarator.{ListedDeclarator}
 use Rattle.ba_trees.specs.declared.tree.declarations.Declarator.{Declarator}
+use Rattle.ba_trees.specs.declared.tree.declarations.Declarators.{Declarators}
+use Rattle.ba_trees.specs.declared.tree.declarations.Specifiers.{Specifiers}
 use Rattle.ba_trees.specs.declared.tree.declarations.Initialiser.{Initialiser}
 use Rattle.ba_trees.specs.declared.tree.expressions.Conditional.{Conditional}
 use Rattle.ba_trees.specs.declared.tree.statements.ForFirst.{ForFirst}
@@ -22,10 +24,10 @@ use Rattle.ba_trees.specs.declared.tree.statements.Simples.{Simples}
 use Rattle.ba_tree.specs.Facts.{StmtFacts, around, as_loop, are_simple}
 use Rattle.ba_tree.specs.declared.tree.Function.{Function}
 use Rattle.ba_tree.specs.declared.tree.Parts.{Parts}
-use Rattle.ba_typing.specs.Declarations.{Added, ◌and◌, Before, behind, Part, ◌then◌, in_order, next_stmt, add_declarator, add_length, add_variable, add_declare, add_optional_initialiser, init_tree, TypedLength, typed_array_length, count_of_values, shape_of, faults_added}
+use Rattle.ba_typing.specs.Declarations.{Added, ◌and◌, Before, behind, Part, ◌then◌, in_order, next_stmt, add_declarator, add_optional_declarators, add_specifiers, add_declaration, add_length, add_variable, add_declare, add_optional_initialiser, init_tree, TypedLength, typed_array_length, count_of_values, shape_of, faults_added}
 use Rattle.ba_typing.specs.Expressions.{Typed, Typing, typed_conditional}
-use Rattle.ba_typing.specs.Faults.{void_faults}
-use Rattle.ba_typing.specs.Names.{Scope, knowing, looping, exits_of_loop, type_named, name_of}
+use Rattle.ba_typing.specs.Faults.{void_faults, tag_faults}
+use Rattle.ba_typing.specs.Names.{Scope, knowing, looping, exits_of_loop, words_of, type_named, type_specified, tag_of, name_of}
 use Rattle.ba_typing.specs.declared.meanings.Signature.{Signature}
 use Rattle.ba_tree.specs.declared.tree.Variable.{Variable}
 use Rattle.ba_numbers.specs.declared.ids.StmtId.{StmtId}
@@ -36,8 +38,9 @@ use Rattle.ba_typing.specs.Statements.{add_assignment, assign_tree, typed_target
 use Rattle.ba_typing.specs.declared.names.Exits.{Exits}
 use Rattle.ba_tree.specs.Trees.{ExprTree, stmts_of}
 use Rattle.ba_tree.specs.Trees as tree
-use Rattle.ba_typing_facts.proofs.AdditionFacts.{Stands, stands_left, stands_right, InScope, in_knowing, in_looping, IsPiece, IsFew, few-and, IsPart, part_nothing, IsCounted, counted-and, all_facts_of}
+use Rattle.ba_typing_facts.proofs.AdditionFacts.{Stands, stands_left, stands_right, InScope, in_knowing, in_looping, IsPiece, IsFew, few-and, IsPart, part_then, part_nothing, IsCounted, counted-and, all_facts_of}
 use Rattle.ba_typing_facts.proofs.DeclarationFacts.{declarators_part}
+use Rattle.ba_typing_facts.proofs.EnumeratorFacts.{specifiers_names, faults_part}
 use Rattle.ba_typing_facts.proofs.ExpressionFacts.{conditional_typing}
 use Rattle.ba_typing_facts.proofs.FittingFacts.{nil_left, nil_right}
 use Rattle.ba_typing_facts.proofs.PrimaryFacts.{IsWellTyping}
@@ -111,11 +114,25 @@ module _ (p : Parts) (f : Function) where
         (length_simple at l) known).by scope n;
   }
 
-  pub declarators_simple : (functions : List Signature) (t : Option CType) (ds : List ListedDeclarator)
+  declarators_simple : (functions : List Signature) (t : Option CType) (ds : List ListedDeclarator)
       → HasSimple (in_order (map (λ (l : ListedDeclarator). add_declarator functions t l.declarator) ds))
   declarators_simple functions t [] = record { by = λ scope n. refl }
   declarators_simple functions t (d ∷ ds) = simple_then (add_declarator functions t d.declarator) _
       (declarator_simple functions t d.declarator) (declarators_simple functions t ds)
+
+  optional_simple : (functions : List Signature) (t : Option CType) (o : Option Declarators)
+      → HasSimple (add_optional_declarators functions t o)
+  optional_simple functions t None = record { by = λ scope n. refl }
+  optional_simple functions t (Some ds) = declarators_simple functions t ds.all.items
+
+  pub declaration_simple : (functions : List Signature) (s : Specifiers) (o : Option Declarators)
+      → HasSimple (add_declaration functions s o)
+  declaration_simple functions s o = simple_then (add_specifiers functions s)
+      (add_optional_declarators functions (type_specified s) o)
+      (record {
+        by = λ scope n. ap (λ ss. are_simple (all_facts_of p f ss))
+            ((specifiers_names functions s).by scope n).stmts;
+      }) (optional_simple functions (type_specified s) o)
 
   -- assignments, steps and calls
 
@@ -144,8 +161,9 @@ module _ (p : Parts) (f : Function) where
   simples_simple (s ∷ ss) = simple_then (add_simple s.simple) _ (simple_simple s.simple) (simples_simple ss)
 
   pub first_simple : (first : ForFirst) → HasSimple (add_first first)
-  first_simple (first.Declaration name declarators) = declarators_simple []
-      (type_named name) declarators.all.items
+  first_simple (first.Declaration name declarators) = simple_then
+      (λ scope n. faults_added (tag_faults scope (tag_of (words_of name)))) _
+      (record { by = λ scope n. refl }) (declarators_simple [] (type_named name) declarators.all.items)
   first_simple (first.Simples s) = simples_simple s.all.items
   first_simple first.Nothing = record { by = λ scope n. refl }
 
@@ -157,8 +175,10 @@ module _ (p : Parts) (f : Function) where
 
 module _ (p : Parts) (owned : List VarId) (f : Function) where
   first_part : (first : ForFirst) → IsPart p owned f true (add_first first)
-  first_part (first.Declaration name declarators) = declarators_part p owned f true []
-      (type_named name) declarators
+  first_part (first.Declaration name declarators) = part_then p owned f true
+      (λ scope n. faults_added (tag_faults scope (tag_of (words_of name)))) _
+      (faults_part p owned f true (λ scope. tag_faults scope (tag_of (words_of name))))
+      (declarators_part p owned f true [] (type_named name) declarators)
   first_part (first.Simples s) = simples_part p owned f true s
   first_part first.Nothing = part_nothing p owned f true
 

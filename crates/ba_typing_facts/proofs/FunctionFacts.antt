@@ -2,7 +2,6 @@
 use Rattle.std.proofs.Common.{true≢false, ◌≡◌, ℕ, ◌+◌, ◌≤◌, Bool, true, false, not, ◌==◌, Option, None, Some, List, [], ◌∷◌, ◌++◌, map, length, length-append, refl, sym, ◌∙◌, ap, subst, arith, slice_get, slice_index_or, nat_le, option_map}
 use Rattle.std.specs.List.{list_all}
 use Rattle.std.proofs.lemmas.Bool.{and_from, and_parts, or_left, or_right, le-leb, ne_eqb}
-use Rattle.std.proofs.lemmas.List.{length-map}
 use Rattle.std.proofs.lemmas.List.Folds.{list_any-append}
 use Rattle.std.proofs.lemmas.Option.{get_or_from_slice_get, slice_get-map, same_Some}
 use Rattle.ba_numbers.specs.declared.ids.At.{At}
@@ -19,6 +18,8 @@ use Rattle.ba_typing.specs.Names.{Scope, knowing, is_main_name, no_exits}
 use Rattle.ba_typing.specs.Statements.{parts_of_block}
 use Rattle.ba_tree.specs.Trees.{FunctionTree, tree_of_function, tree_of_stmt}
 use Rattle.ba_typing.specs.declared.fault.Fault.{Fault}
+use Rattle.ba_typing.specs.declared.meanings.Entity.{Entity}
+use Rattle.ba_typing.specs.declared.meanings.Entity.TheVariants as entity
 use Rattle.ba_typing.specs.declared.meanings.Entry.{Entry}
 use Rattle.ba_typing.specs.declared.meanings.Signature.{Signature}
 use Rattle.ba_typing.specs.declared.names.Exits.{Exits}
@@ -26,9 +27,9 @@ use Rattle.ba_typing_facts.proofs.AdditionFacts.{HasVariables, Stands, InScope, 
 use Rattle.ba_typing_facts.proofs.EntryFacts.{vars_has, vars-append, params_entries}
 use Rattle.ba_typing_facts.proofs.FittingFacts.{nil_left, nil_right}
 use Rattle.ba_typing_facts.proofs.LeafFacts.{HasAt, has_left, has_right}
-use Rattle.ba_typing_facts.proofs.ParameterFacts.{params_piece, params_shaped, shaped_are, few_params, IsSized, sized-and, sized_none, sized_counted}
+use Rattle.ba_typing_facts.proofs.ParameterFacts.{params_piece, params_shaped, shaped_are, few_vars, few_params, IsSized, sized-and, sized_none, sized_counted}
 use Rattle.ba_typing_facts.proofs.ParameterListFacts.{params_statements, params_stmts, prototype_bare, params_sized}
-use Rattle.ba_typing_facts.proofs.ScopeFacts.{AreEntries, IsScope}
+use Rattle.ba_typing_facts.proofs.ScopeFacts.{IsEntity, AreEntries, IsScope}
 use Rattle.ba_typing_facts.proofs.StatementFacts.{block_parts}
 use Rattle.ba_typing_facts.proofs.StatementTreeFacts.{stmt_facts_of, all_facts_are}
 use Rattle.ba_typing_facts.proofs.SequenceFacts.{AreTold, are_told, told-append, stmts_none, block_are, some_break, some_continue}
@@ -69,14 +70,15 @@ module _ (p : Parts) where
 
   weaker_entries : (f : Function) (es : List Entry) → AreEntries p p.globals es → AreEntries p (owned_in f) es
   weaker_entries f [] h = tt
-  weaker_entries f (e ∷ es) h = (
-    record {
-      place = h.0.place;
-      is_owned = weaker_any e.var (p.globals ++ f.params) f.locals
-          (weaker_any e.var p.globals f.params h.0.is_owned);
-    },
-    weaker_entries f es h.1,
-  )
+  weaker_entries f (e ∷ es) h = (from e.entity h.0, weaker_entries f es h.1) where
+    from : (x : Entity) → IsEntity p p.globals x → IsEntity p (owned_in f) x
+    from (entity.Variable o) here = record {
+      place = here.place;
+      is_owned = weaker_any o.var (p.globals ++ f.params) f.locals
+          (weaker_any o.var p.globals f.params here.is_owned);
+    }
+    from (entity.Constant z) here = here
+    from entity.Tag here = tt
 
   -- the function of a number has this tree
   pub record IsTree (k : ℕ) (t : FunctionTree) : Type 0 where
@@ -142,9 +144,8 @@ module _ (p : Parts) where
   no_vars : (vs : List VarId) (first : ℕ) → HasVariables vs first 0
   no_vars vs first k low high = absurd (let e : ⊥ = omega (arith, low, high) in e)
 
-  nothing_stands : (owned : List VarId) (f : Function) (n : Before) (a : Added) → a.variables ≡ []
-      → a.statements ≡ []
-      → Stands p owned f true n a
+  pub nothing_stands : (owned : List VarId) (f : Function) {inside : Bool} (n : Before) (a : Added)
+      → a.variables ≡ [] → a.statements ≡ [] → Stands p owned f inside n a
   nothing_stands owned f n a vs ss = (
     subst (HasAt p.variables n.variables) (sym vs) tt,
     subst (HasAt p.statements n.statements) (sym ss) tt,
@@ -353,8 +354,9 @@ module _ (p : Parts) where
         few_of_params =
             let few = few_params (is_main_name s.name) at 1 qs inside n params_none
             (let e : 1 ≤ 33 = omega arith in e) in
-            let same = ap length params_are ∙ length-map (params_of true).entries (λ (e : Entry). e.var) in
-            omega (arith, few, same)
+            let same = ap length params_are in
+            let fewer = few_vars (params_of true).entries in
+            omega (arith, few, same, fewer)
 
         shapes_of_params : list_all (λ v. holds (is_parameter_shape (d == p.main.0))
             (shape_at p v)) g.params ≡ true

@@ -21,7 +21,7 @@ use Rattle.ba_tree.specs.declared.tree.Function.{Function}
 use Rattle.ba_tree.specs.declared.tree.Parts.{Parts}
 use Rattle.ba_tree.specs.declared.tree.StmtKind.{StmtKind}
 use Rattle.ba_tree.specs.declared.tree.StmtKind.TheVariants as kind
-use Rattle.ba_typing.specs.Declarations.{Added, ◌and◌, Before, behind, Part, ◌then◌, in_order, next_stmt, add_length, add_variable, add_declare, add_optional_initialiser, add_declarator, add_declarators, init_tree, has_braces, values_of, typed_each, written_count, exceeds, whole_faults, initial_faults, TypedLength}
+use Rattle.ba_typing.specs.Declarations.{Added, ◌and◌, Before, behind, Part, ◌then◌, in_order, next_stmt, add_length, add_variable, add_declare, add_optional_initialiser, add_declarator, add_optional_declarators, init_tree, has_braces, values_of, typed_each, written_count, exceeds, whole_faults, initial_faults, TypedLength}
 use Rattle.ba_typing.specs.Expressions.{Typed, typed_conditional, tree_as}
 use Rattle.ba_typing.specs.Faults.{fault_if, limit_faults, statement_limit}
 use Rattle.ba_typing.specs.Names.{Scope, knowing, name_of}
@@ -209,6 +209,7 @@ module _ (p : Parts) (globals : List VarId) (f : Function) where
       (record { by = λ scope in_scope n. declarator_inits functions t d.declarator scope n in_scope })
       (listed_inits functions t ds)
 
-  pub declarators_inits : (functions : List Signature) (t : Option CType) (ds : Declarators)
-      → HasInits (add_declarators functions t ds)
-  declarators_inits functions t ds = listed_inits functions t ds.all.items
+  pub optional_inits : (functions : List Signature) (t : Option CType) (o : Option Declarators)
+      → HasInits (add_optional_declarators functions t o)
+  optional_inits functions t None = record { by = λ scope in_scope n stands none. refl }
+  optional_inits functions t (Some ds) = listed_inits functions t ds.all.items

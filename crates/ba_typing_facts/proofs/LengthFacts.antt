@@ -79,6 +79,11 @@ counted_room : (b : Bool) (k : ℕ) → is_some (cond b (Some k) None) ≡ true 
 counted_room true k some = omega arith
 counted_room false k some = cc
 
+-- what has a value as a constant is constant
+pub some_constant : {A : Type 0} (b : Bool) (o : Option A) → is_some (cond b o None) ≡ true → b ≡ true
+some_constant true o h = refl
+some_constant false o h = cc
+
 module _ (p : Parts) (owned : List VarId) where
   pub constant_calls : (before : ℕ) (e : Typed) → IsWellTyped p owned before e → e.faults ≡ [] →
       e.is_constant ≡ true
@@ -88,10 +93,6 @@ module _ (p : Parts) (owned : List VarId) where
       range_empty (before + 1) e.calls
       (ap (map (λ (c : Rattle.ba_numbers.specs.declared.ids.CallId.CallId). c.0)) (sym (x.plain is).1)
       ∙ x.numbers)
-
-  some_constant : (b : Bool) (o : Option ℕ) → is_some (cond b o None) ≡ true → b ≡ true
-  some_constant true o h = refl
-  some_constant false o h = cc
 
   written_is : (at : At) (values : Option ℕ) (before : ℕ) (e : Typed) → IsWellTyped p owned before e
       → IsLength values (typed_written_length at e)

@@ -5,6 +5,7 @@ use Rattle.std.proofs.lemmas.Bool.{and_from, le-leb}
 use Rattle.ba_trees.specs.Marks.{Mark, leaf, leave, levels}
 use Rattle.ba_trees.specs.Views.{joined}
 use Rattle.ba_trees.specs.ExpressionMarks.{M, conditional_marks}
+use Rattle.ba_trees.specs.DeclarationMarks.{declarators_marks}
 use Rattle.ba_trees.specs.StatementMarks.{item_step, form_step, block_step, controlled_step, do_step, else_step, for_step, group_step, statement_step, item_marks, form_marks, block_marks, controlled_marks, else_marks, group_marks, statement_marks}
 use Rattle.ba_trees.specs.ExternalMarks.{external_form_marks, external_marks}
 use Rattle.ba_trees.specs.FileMarks.{file_marks}
@@ -26,10 +27,10 @@ use Rattle.ba_trees.specs.declared.tree.statements.BlockItem.TheOpen.{BlockItem-
 use Rattle.ba_trees.specs.declared.tree.statements.BlockItem.TheViews.{roll-BlockItem, roll-StatementForm, roll-Block, roll-Controlled, roll-DoWhile, roll-Else, roll-For, roll-Group, roll-Statement}
 use Rattle.ba_trees.specs.declared.tree.statements.BlockItem.TheFolds.{map-BlockItem, map-StatementForm, map-Block, map-Controlled, map-DoWhile, map-Else, map-For, map-Group, map-Statement, ind-Block, fold-DoWhile, fold-For, fold-roll-BlockItem, fold-roll-StatementForm, fold-roll-Block, fold-roll-Controlled, fold-roll-DoWhile, fold-roll-Else, fold-roll-For, fold-roll-Group, fold-roll-Statement}
 use Rattle.ba_tree.specs.Facts.{greatest}
-use Rattle.ba_typing_facts.proofs.LevelFacts.{IsEven, none, front, both, inside, deeper, type_even, conditional_even}
+use Rattle.ba_typing_facts.proofs.LevelFacts.{IsEven, none, front, both, inside, deeper, conditional_even}
 use Rattle.ba_typing_facts.proofs.NestingFacts.{item_depth, form_depth, block_depth, controlled_depth, do_depth, else_depth, for_depth, group_depth, statement_depth, item_nesting, form_nesting, block_nesting, controlled_nesting, do_nesting, else_nesting, for_nesting, group_nesting, statement_nesting}
 use Rattle.ba_typing_facts.proofs.FileNesting.{form_of_nesting, nests_within}
-use Rattle.ba_typing_facts.proofs.PartLevels.{row, maybe, declarators_even, parameters_even, simple_even, condition_even, label_even, head_even, printed_even}
+use Rattle.ba_typing_facts.proofs.PartLevels.{row, maybe, specifiers_even, declarators_even, parameters_even, simple_even, condition_even, label_even, head_even, printed_even}
 use Rattle.ba_typing_facts.proofs.ReachFacts.{Reaches, IsBlock, IsStated, IsControlled, split, reach_both, reach_left, reach_right, reach_front, reach_leaf, reach_inside, reach_deeper, reach_opened, block_is}
 
 -- STATEMENTS, by induction on the parser's trees
@@ -233,7 +234,8 @@ items_row (x ∷ xs) = reach_both x.1 (items_row xs)
 item_form : (y : Pieces BlockItem-F)
     → Reaches (item_depth (deep_item (bare_item y))) (item_step (written_item (bare_item y)))
 item_form (BlockItem-F.Declaration d) = reach_inside Rattle.ba_trees.specs.Marks.declaration
-    (reach_right (both (type_even d.name) (declarators_even d.declarators)) (reach_leaf d.semicolon none))
+    (reach_right (both (specifiers_even d.specifiers)
+    (maybe declarators_marks declarators_even d.declarators)) (reach_leaf d.semicolon none))
 item_form (BlockItem-F.Statement s) = s.1.reaches
 
 groups_row : (gs : List OfGroup)
@@ -470,8 +472,8 @@ blocks_are = ind-Block
 -- FILES
 
 form_even : (x : ExternalForm) → IsEven (external_form_marks x)
-form_even (form.Variables declarators semicolon) = both (declarators_even declarators)
-    (front semicolon none)
+form_even (form.Variables declarators semicolon) =
+    both (maybe declarators_marks declarators_even declarators) (front semicolon none)
 form_even (form.Function name opener params closer (end.Prototype semicolon)) = front name
     (front opener
     (both (deeper (parameters_even params)) (front closer (front semicolon none))))
@@ -487,13 +489,14 @@ form_deep (form.Function name opener params closer (end.Body b)) d =
     (arith, body, all)
 
 external_even : (x : External) → IsEven (external_marks x)
-external_even x = inside Rattle.ba_trees.specs.Marks.external (both (type_even x.name) (form_even x.form))
+external_even x = inside Rattle.ba_trees.specs.Marks.external (both (specifiers_even x.specifiers)
+    (form_even x.form))
 
 external_deep : (x : External) (d : ℕ) → form_of_nesting x.form ≤ greatest (levels d (external_marks x))
 external_deep x d =
     let here = form_deep x.form d in
-    let parts = split (external_form_marks x.form) (type_even x.name) d in
-    let all = split (leave Rattle.ba_trees.specs.Marks.external ∷ []) (both (type_even x.name)
+    let parts = split (external_form_marks x.form) (specifiers_even x.specifiers) d in
+    let all = split (leave Rattle.ba_trees.specs.Marks.external ∷ []) (both (specifiers_even x.specifiers)
     (form_even x.form)) d in
     omega (arith, here, parts, all)
 

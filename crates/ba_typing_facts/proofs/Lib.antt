@@ -10,6 +10,7 @@ pub mod LeafFacts
 pub mod AdditionFacts
 pub mod LengthFacts
 pub mod DeclarationFacts
+pub mod EnumeratorFacts
 pub mod AssignmentFacts
 pub mod SimpleFacts
 pub mod ControlFacts

@@ -23,10 +23,10 @@ use Rattle.ba_tree.specs.declared.tree.Function.{Function}
 use Rattle.ba_tree.specs.declared.tree.Parts as program
 use Rattle.ba_typing.specs.Declarations.{Before, behind, Part, ◌and◌, in_order}
 use Rattle.ba_typing.specs.Expressions.{Typing}
-use Rattle.ba_typing.specs.Names.{Scope, jump_of, knowing, inner, looping, switching, type_named}
+use Rattle.ba_typing.specs.Names.{Scope, jump_of, knowing, inner, looping, switching}
 use Rattle.ba_typing.specs.Statements as statements
 use Rattle.ba_typing.specs.Statements.{GroupParts, PartList, add_jump, add_jump_with, optional_typing, item_step, form_step, block_step, controlled_step, do_step, else_step, for_step, group_step, statement_step, add_item, add_statement, parts_of_block, parts_of_group, add_first, add_step, add_test, add_controlling, add_label, add_group, add_groups, no_labels, for_scope, for_test, test_of}
-use Rattle.ba_typing_facts.proofs.ForFacts.{declarators_simple, simple_simple, first_simple, step_simple}
+use Rattle.ba_typing_facts.proofs.ForFacts.{declaration_simple, simple_simple, first_simple, step_simple}
 use Rattle.ba_typing.proofs.ParsedStatements.{add_controlled, add_do, add_else, add_for}
 use Rattle.ba_tokens.specs.declared.token.Token.{Token}
 use Rattle.ba_typing.specs.declared.meanings.Labels.{Labels}
@@ -242,8 +242,7 @@ module _ (p : program.Parts) (f : Function) where
 
   item_form : (y : Pieces BlockItem-F) → IsNested (item_depth (deep_item (bare_item y))) (item_step
       (added_item (bare_item y)))
-  item_form (BlockItem-F.Declaration d) = flat p f _ (declarators_simple p f []
-      (type_named d.name) d.declarators.all.items)
+  item_form (BlockItem-F.Declaration d) = flat p f _ (declaration_simple p f [] d.specifiers d.declarators)
   item_form (BlockItem-F.Statement s) = s.1.nested
 
   -- a label adds no statement

@@ -13,8 +13,9 @@ use Rattle.ba_numbers.specs.declared.numbers.UnOp.{UnOp}
 use Rattle.ba_numbers.specs.Types.{is_promoted, same_type, shifts, type_of_binary, type_of_unary}
 use Rattle.ba_tree.specs.Facts.{fits_right}
 use Rattle.ba_tree.specs.declared.tree.Parts.{Parts}
-use Rattle.ba_typing.specs.Expressions.{Typed, tree_as, typed_unary, typed_cast, typed_value, typed_binary, typed_select, typed_constant}
+use Rattle.ba_typing.specs.Expressions.{Typed, tree_as, typed_unary, typed_cast, typed_value, typed_binary, typed_select, typed_constant, with_more_faults}
 use Rattle.ba_numbers.specs.Types.{promoted, usual, is_u32, working_type, right_type}
+use Rattle.ba_typing.specs.declared.fault.Fault.{Fault}
 use Rattle.ba_typing.specs.declared.names.Operator.{Operator}
 use Rattle.ba_typing.specs.declared.names.Operator.TheVariants as operator
 use Rattle.ba_tree.specs.Trees.{ExprTree}
@@ -79,7 +80,6 @@ pub record IsTyped (p : Parts) (owned : List VarId) (before count height : ℕ) 
 pub record IsBare (e : Typed) : Type 0 where
   pub calls : e.calls ≡ 0
   pub height : 1 ≤ e.height
-  pub changes : e.is_constant ≡ false
 
 -- what is said of an expression behind so many calls
 pub record IsWellTyped (p : Parts) (owned : List VarId) (before : ℕ) (e : Typed) : Type 0 where
@@ -151,6 +151,14 @@ module _ (p : Parts) (owned : List VarId) where
             (and_from _ _ (promoted_is a.t) (same_type-of x.typed));
         typed = refl;
       };
+    }
+
+    -- faults of something in it that is no expression
+    pub more_typed : (faults : List Fault) (a : Typed) → IsWellTyped p owned before a
+        → IsWellTyped p owned before (with_more_faults faults a)
+    more_typed faults a h = record {
+      named = λ name is. let b = h.named name is in record { calls = b.calls; height = b.height };
+      right = λ none. h.right (nil_right faults a.faults none);
     }
 
     pub cast_typed : (at : At) (t : Option CType) (a : Typed) → IsWellTyped p owned before a

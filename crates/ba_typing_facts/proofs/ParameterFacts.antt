@@ -16,9 +16,11 @@ use Rattle.ba_tree.specs.declared.tree.Function.{Function}
 use Rattle.ba_tree.specs.declared.tree.Parts.{Parts}
 use Rattle.ba_tree.specs.declared.tree.Variable.{Variable}
 use Rattle.ba_typing.specs.Declarations.{Added, nothing_added, ◌and◌, Before, behind, Part, faults_added, add_length, add_variable, TypedLength}
-use Rattle.ba_typing.specs.Faults.{void_faults, limit_faults, parameter_limit}
-use Rattle.ba_typing.specs.Files.{vars_of, add_param, add_params, declare_param, param_length, param_shape, place_of_param, name_of_param, check_length, bad_length_faults}
-use Rattle.ba_typing.specs.Names.{Scope, knowing, type_named}
+use Rattle.ba_typing.specs.Faults.{void_faults, limit_faults, parameter_limit, tag_faults}
+use Rattle.ba_typing.specs.Files.{var_in, vars_of, add_param, add_params, declare_param, param_length, param_shape, place_of_param, name_of_param, check_length, bad_length_faults}
+use Rattle.ba_typing.specs.Names.{Scope, knowing, words_of, type_named, tag_of}
+use Rattle.ba_typing.specs.declared.meanings.Entity.{Entity}
+use Rattle.ba_typing.specs.declared.meanings.Entity.TheVariants as entity
 use Rattle.ba_typing.specs.declared.meanings.Entry.{Entry}
 use Rattle.ba_typing.specs.declared.names.Exits.{Exits}
 use Rattle.ba_typing_facts.proofs.AdditionFacts.{InScope, IsPiece, piece_none, HasPiece, piece_then, PieceAt, IsCounted, elements_of, few_none}
@@ -26,7 +28,7 @@ use Rattle.ba_typing_facts.proofs.DeclarationFacts.{length_at, variable_at}
 use Rattle.ba_typing_facts.proofs.FittingFacts.{nil_left, nil_right}
 use Rattle.ba_typing_facts.proofs.LeafFacts.{within}
 use Rattle.ba_typing_facts.proofs.LengthFacts.{IsLengthOf, array_length_is}
-use Rattle.ba_typing_facts.proofs.ScopeFacts.{AreEntries}
+use Rattle.ba_typing_facts.proofs.ScopeFacts.{IsEntity, AreEntries}
 use Rattle.ba_typing_facts.proofs.SequenceFacts.{AreStmts, stmts_none}
 
 -- PIECES
@@ -83,7 +85,7 @@ module _ (p : Parts) (owned : List VarId) (f : Function) (inside : Bool) where
         let l = param_length is_main at q.length scope n.calls in
         let w : Variable = record { t = unwrap_or t I32; shape = param_shape is_main q.length l } in
         let faulty : Part = (λ scope n. faults_added (void_faults t at ++ limit_faults parameter_limit
-        number at)) in
+        number at ++ tag_faults scope (tag_of (words_of q.type_name)))) in
         (piece_then p owned f inside (declare_param defined at (name_of_param q.name) w l) faulty
         (declared_piece defined at (name_of_param q.name) w l (param_length_is is_main at q.length scope
         in_scope n.calls))
@@ -110,13 +112,18 @@ param_shape_is false (Some length) l = refl
 param_shape_is true (Some length) None = refl
 param_shape_is true (Some length) (Some l) = refl
 
+abbrev is_shaped : Bool → Entity → Bool
+is_shaped is_main (entity.Variable o) = is_parameter_shape is_main o.variable.shape
+is_shaped is_main (entity.Constant z) = true
+is_shaped is_main entity.Tag = true
+
 abbrev pub AreShaped : Bool → List Entry → Type 0
-AreShaped is_main es = list_all (λ (e : Entry). is_parameter_shape is_main e.variable.shape) es ≡ true
+AreShaped is_main es = list_all (λ (e : Entry). is_shaped is_main e.entity) es ≡ true
 
 shaped-and : (is_main : Bool) (es fs : List Entry) → AreShaped is_main es → AreShaped is_main fs
     → AreShaped is_main (es ++ fs)
 shaped-and is_main es fs h k =
-    list_all-append (λ (e : Entry). is_parameter_shape is_main e.variable.shape) es fs ∙ and_from _ _ h k
+    list_all-append (λ (e : Entry). is_shaped is_main e.entity) es fs ∙ and_from _ _ h k
 
 no_entries : (at : At) (l : Option TypedLength) (scope : Scope) (n : Before) →
     (add_length at l scope n).entries ≡ []
@@ -131,11 +138,13 @@ entry_of is_main function_at q scope n =
     let a = add_length at l scope n in record {
       name = name_of_param q.name;
       depth = scope.depth;
-      var = record { 0 = (behind n a).variables };
-      variable = record {
-        t = unwrap_or (type_named q.type_name) I32;
-        shape = param_shape is_main q.length l;
-      };
+      entity = entity.Variable (record {
+        var = record { 0 = (behind n a).variables };
+        variable = record {
+          t = unwrap_or (type_named q.type_name) I32;
+          shape = param_shape is_main q.length l;
+        };
+      });
     }
 
 pub one_entry : (is_main : Bool) (at : At) (number : ℕ) (q : Parameter) (scope : Scope) (n : Before)
@@ -162,12 +171,31 @@ pub shaped_are : (p : Parts) (owned : List VarId) (is_main : Bool) (es : List En
     ≡ true
 shaped_are p owned is_main [] h shaped = refl
 shaped_are p owned is_main (e ∷ es) h shaped =
-    let both = and_parts (is_parameter_shape is_main e.variable.shape) _ shaped in
-    and_from _ _ (ap (λ o. holds (is_parameter_shape is_main) (option_map
-    (λ (w : Variable). w.shape) o)) h.0.place ∙ both.0)
-    (shaped_are p owned is_main es h.1 both.1)
+    let both = and_parts (is_shaped is_main e.entity) _ shaped in
+    let test : VarId → Bool = (λ v. holds (is_parameter_shape is_main) (shape_at p v)) in
+    list_all-append test (var_in e.entity) (vars_of es)
+    ∙ and_from _ _ (from e.entity h.0 both.0) (shaped_are p owned is_main es h.1 both.1) where
+      from : (x : Entity) → IsEntity p owned x → is_shaped is_main x ≡ true
+          → list_all (λ v. holds (is_parameter_shape is_main) (shape_at p v)) (var_in x) ≡ true
+      from (entity.Variable o) there is = and_from _ _ (ap (λ s. holds (is_parameter_shape is_main)
+          (option_map (λ (w : Variable). w.shape) s)) there.place ∙ is) refl
+      from (entity.Constant z) there is = refl
+      from entity.Tag there is = refl
 
 -- HOW MANY
+
+-- at most as many variables as entries
+pub few_vars : (es : List Entry) → length (vars_of es) ≤ length es
+few_vars [] = omega arith
+few_vars (e ∷ es) =
+    let rest = few_vars es in
+    let split = length-append (var_in e.entity) (vars_of es) in
+    let here = from e.entity in
+    omega (arith, rest, split, here) where
+      from : (x : Entity) → length (var_in x) ≤ 1
+      from (entity.Variable o) = omega arith
+      from (entity.Constant z) = omega arith
+      from entity.Tag = omega arith
 
 pub few_params : (is_main : Bool) (at : At) (number : ℕ) (qs : List Parameter) (scope : Scope) (n : Before)
     → (add_params is_main true at number qs scope n).faults ≡ [] → number ≤ 33
@@ -183,8 +211,9 @@ few_params is_main at number (q ∷ qs) scope n none few =
     }) (param_length is_main (place_of_param at q) q.length scope n.calls) scope n in
     let void_none = void_faults (type_named q.type_name) (place_of_param at q) in
     let limit = limit_faults parameter_limit number (place_of_param at q) in
-    let own = nil_right void_none limit (nil_right declared.faults (void_none ++ limit)
-    (nil_left a.faults b.faults none)) in
+    let tags = tag_faults (knowing declared.entries scope) (tag_of (words_of q.type_name)) in
+    let own = nil_right void_none limit (nil_left (void_none ++ limit) tags
+    (nil_right declared.faults (void_none ++ limit ++ tags) (nil_left a.faults b.faults none))) in
     let below = within parameter_limit number (place_of_param at q) own in
     let more : number + 1 ≤ 33 = omega (arith, below) in
     let rest = few_params is_main at (number + 1) qs (knowing a.entries scope) (behind n a)

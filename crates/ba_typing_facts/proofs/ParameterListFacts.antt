@@ -14,9 +14,9 @@ use Rattle.ba_tree.specs.Facts.{holds, is_value_shape, is_passed_shape, own_elem
 use Rattle.ba_tree.specs.declared.tree.Parts.{Parts}
 use Rattle.ba_tree.specs.declared.tree.Variable.{Variable}
 use Rattle.ba_typing.specs.Declarations.{Added, nothing_added, ◌and◌, Before, behind, faults_added, add_length, TypedLength, typed_length, length_faults}
-use Rattle.ba_typing.specs.Faults.{void_faults, limit_faults, parameter_limit}
+use Rattle.ba_typing.specs.Faults.{void_faults, limit_faults, parameter_limit, tag_faults}
 use Rattle.ba_typing.specs.Files.{vars_of, type_of_param, add_param, add_params, declare_param, param_length, param_shape, place_of_param, name_of_param, check_length}
-use Rattle.ba_typing.specs.Names.{Scope, knowing, type_named}
+use Rattle.ba_typing.specs.Names.{Scope, knowing, words_of, type_named, tag_of}
 use Rattle.ba_typing.specs.declared.fault.Cause.TheVariants.{WrongKind}
 use Rattle.ba_typing_facts.proofs.AdditionFacts.{elements_of}
 use Rattle.ba_typing_facts.proofs.FittingFacts.{nil_left, nil_right}
@@ -127,7 +127,8 @@ prototype_bare is_main function_at number (q ∷ qs) scope n =
     let a = add_param is_main false function_at number q scope n in
     bare-and a (add_params is_main false function_at (number + 1) qs (knowing a.entries scope) (behind n a))
     (bare-and (check_length at l scope n)
-    (faults_added (void_faults (type_named q.type_name) at ++ limit_faults parameter_limit number at))
+    (faults_added (void_faults (type_named q.type_name) at ++ limit_faults parameter_limit number at
+    ++ tag_faults (knowing (check_length at l scope n).entries scope) (tag_of (words_of q.type_name))))
     (check_bare at l scope n) (record { no_variables = refl; no_entries = refl; no_elements = refl }))
     (prototype_bare is_main function_at (number + 1) qs (knowing a.entries scope) (behind n a))
 
@@ -225,11 +226,18 @@ module _ (p : Parts) where
       let b = add_params false true at (number + 1) qs (knowing a.entries scope) (behind n a) in
       let void_none = void_faults (type_named q.type_name) (place_of_param at q) in
       let limit = limit_faults parameter_limit number (place_of_param at q) in
+      let w : Variable = record {
+        t = unwrap_or (type_named q.type_name) I32;
+        shape = param_shape false q.length None;
+      } in
+      let known = knowing (declare_param true (place_of_param at q) (name_of_param q.name) w None scope
+      n).entries scope in
+      let tags = tag_faults known (tag_of (words_of q.type_name)) in
       let own = nil_left a.faults b.faults none in (
         subst (λ k. FitsParam p (record { 0 = k }) (type_of_param q))
             (let e : n.variables ≡ n.variables + 0 = omega arith in e)
             (param_fits q n.variables (not_so _ WrongKind (place_of_param at q) (nil_left void_none limit
-            (nil_right _ (void_none ++ limit) own))) stands.0),
+            (nil_left (void_none ++ limit) tags (nil_right _ (void_none ++ limit ++ tags) own)))) stands.0),
         params_fit at (number + 1) qs (knowing a.entries scope) (behind n a) stands.1
             (nil_right a.faults b.faults none),
       )

@@ -5,7 +5,7 @@ use Rattle.ba_tokens.specs.declared.token.Token.{Token}
 use Rattle.ba_trees.specs.Marks.{leaf}
 use Rattle.ba_trees.specs.Views.{joined, optional, optional_leaf, name_marks}
 use Rattle.ba_trees.specs.ExpressionMarks.{M, conditional_marks, next_expression_marks}
-use Rattle.ba_trees.specs.DeclarationMarks.{array_length_marks, initialiser_marks, declarator_marks, listed_declarator_marks, declarators_marks, parameter_marks, next_parameter_marks, parameter_list_marks, parameters_marks}
+use Rattle.ba_trees.specs.DeclarationMarks.{enumerator_value_marks, enumerator_marks, next_enumerator_marks, enumerator_list_marks, enumerators_marks, specifiers_marks, array_length_marks, initialiser_marks, declarator_marks, listed_declarator_marks, declarators_marks, parameter_marks, next_parameter_marks, parameter_list_marks, parameters_marks}
 use Rattle.ba_trees.specs.SimpleMarks.{index_marks, target_marks, simple_marks, listed_simple_marks, simples_marks, condition_marks, label_marks, for_first_marks, for_head_marks, printed_marks}
 use Rattle.ba_trees.specs.declared.tree.declarations.ArrayLength.{ArrayLength}
 use Rattle.ba_trees.specs.declared.tree.declarations.Initialiser.{Initialiser}
@@ -13,6 +13,12 @@ use Rattle.ba_trees.specs.declared.tree.declarations.Initialiser.TheVariants as 
 use Rattle.ba_trees.specs.declared.tree.declarations.Declarator.{Declarator}
 use Rattle.ba_trees.specs.declared.tree.declarations.ListedDeclarator.{ListedDeclarator}
 use Rattle.ba_trees.specs.declared.tree.declarations.Declarators.{Declarators}
+use Rattle.ba_trees.specs.declared.tree.declarations.Enumerator.{Enumerator}
+use Rattle.ba_trees.specs.declared.tree.declarations.EnumeratorList.{EnumeratorList}
+use Rattle.ba_trees.specs.declared.tree.declarations.EnumeratorValue.{EnumeratorValue}
+use Rattle.ba_trees.specs.declared.tree.declarations.Enumerators.{Enumerators}
+use Rattle.ba_trees.specs.declared.tree.declarations.NextEnumerator.{NextEnumerator}
+use Rattle.ba_trees.specs.declared.tree.declarations.Specifiers.{Specifiers}
 use Rattle.ba_trees.specs.declared.tree.declarations.Parameter.{Parameter}
 use Rattle.ba_trees.specs.declared.tree.declarations.NextParameter.{NextParameter}
 use Rattle.ba_trees.specs.declared.tree.declarations.ParameterList.{ParameterList}
@@ -75,6 +81,28 @@ listed_even l = both (maybe_leaf l.comma) (declarator_even l.declarator)
 pub declarators_even : (d : Declarators) → IsEven (declarators_marks d)
 declarators_even d = inside Rattle.ba_trees.specs.Marks.declarators
     (row listed_declarator_marks listed_even d.all.items)
+
+enumerator_value_even : (v : EnumeratorValue) → IsEven (enumerator_value_marks v)
+enumerator_value_even v = front v.assign (conditional_even v.value)
+
+enumerator_even : (e : Enumerator) → IsEven (enumerator_marks e)
+enumerator_even e = inside Rattle.ba_trees.specs.Marks.enumerator (front e.name
+    (maybe enumerator_value_marks enumerator_value_even e.value))
+
+next_enumerator_even : (n : NextEnumerator) → IsEven (next_enumerator_marks n)
+next_enumerator_even n = front n.comma (enumerator_even n.enumerator)
+
+enumerator_list_even : (l : EnumeratorList) → IsEven (enumerator_list_marks l)
+enumerator_list_even l = both (both (enumerator_even l.first)
+    (row next_enumerator_marks next_enumerator_even l.rest.items)) (maybe_leaf l.comma)
+
+enumerators_even : (e : Enumerators) → IsEven (enumerators_marks e)
+enumerators_even e = inside Rattle.ba_trees.specs.Marks.enumerators (front e.«open»
+    (both (deeper (enumerator_list_even e.list)) (front e.close none)))
+
+pub specifiers_even : (s : Specifiers) → IsEven (specifiers_marks s)
+specifiers_even s = inside Rattle.ba_trees.specs.Marks.specifiers (both (both (words s.words.items)
+    (maybe enumerators_marks enumerators_even s.enumerators)) (words s.behind.items))
 
 pub name_even : (o : Option Token) → IsEven (name_marks o)
 name_even None = inside Rattle.ba_trees.specs.Marks.no_name none

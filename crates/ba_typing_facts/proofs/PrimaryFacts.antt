@@ -1,23 +1,25 @@
 -- Names, elements of arrays, arguments and calls: what is said of them holds of their typed trees, where
 -- there is no fault.
-use Rattle.std.proofs.Common.{◌≡◌, ℕ, ◌+◌, max, Bool, true, false, ◌&&◌, not, cond, ◌==◌, Option, None, Some, List, [], ◌∷◌, ◌++◌, map, flat_map, length, refl, sym, ◌∙◌, ap, subst, arith}
+use Rattle.std.proofs.Common.{◌≡◌, ℕ, ◌+◌, ◌≤◌, max, Bool, true, false, ◌&&◌, not, cond, ◌==◌, Option, None, Some, List, [], ◌∷◌, ◌++◌, map, flat_map, length, refl, sym, ◌∙◌, ap, subst, arith}
 use Rattle.std.specs.Prelude.{option_and_then, unwrap_or}
 use Rattle.std.specs.Option.{is_some}
 use Rattle.std.specs.List.{range_with_len}
 use Rattle.std.proofs.lemmas.Bool.{and_from, eqb-true, not-false}
+use Rattle.std.proofs.lemmas.Option.{none-some}
 use Rattle.ba_numbers.specs.declared.ids.At.{At}
 use Rattle.ba_numbers.specs.declared.ids.FnId.{FnId}
 use Rattle.ba_numbers.specs.declared.ids.VarId.{VarId}
 use Rattle.ba_numbers.specs.declared.numbers.CType.{CType}
 use Rattle.ba_numbers.specs.declared.numbers.CType.TheVariants.{I32}
 use Rattle.ba_tree.specs.Facts.{holds, shape_at, type_at, is_value, is_array, is_value_shape, is_passed_shape, fits_parameter, fits_parameters, is_call, result_at, givens}
+use Rattle.ba_numbers.specs.Numbers.{is_in}
 use Rattle.ba_numbers.specs.Types.{is_promoted}
 use Rattle.ba_tree.specs.declared.tree.Function.{Function}
 use Rattle.ba_tree.specs.declared.tree.Parts.{Parts}
-use Rattle.ba_typing.specs.Expressions.{Typed, Typing, TypedArg, tree_as, placeholder, typed_name, typed_element, named_array, value_arg, array_arg, typed_arg, typed_args, params_of_called, function_of, result_of, definition_of_meaning, typed_call, typed_called, trees_of_args, expressions_of_args}
+use Rattle.ba_typing.specs.Expressions.{Typed, Typing, TypedArg, tree_as, placeholder, typed_name, typed_element, array_given, named_array, value_arg, array_arg, typed_arg, typed_args, params_of_called, function_of, result_of, definition_of_meaning, typed_call, typed_called, trees_of_args, expressions_of_args}
 use Rattle.ba_numbers.specs.Types.{promoted}
 use Rattle.ba_typing.specs.Faults.{array_name_faults, fault, fault_if, count_of_params, definition_faults, call_faults}
-use Rattle.ba_typing.specs.Names.{Scope, meaning_of, definition_in, is_main_name, is_array_entry}
+use Rattle.ba_typing.specs.Names.{Scope, meaning_of, definition_in, is_main_name, is_array_object}
 use Rattle.ba_typing.specs.declared.meanings.Meaning.{Meaning}
 use Rattle.ba_typing.specs.declared.meanings.Meaning.TheVariants as meaning
 use Rattle.ba_tree.specs.Trees.{ArgTree, args_of}
@@ -38,40 +40,76 @@ not_so false cause at h = refl
 
 -- EXPRESSIONS IN EVERY SCOPE
 
+-- what names an array is not constant
+abbrev pub IsNoArray : Scope → Typed → Type 0
+IsNoArray scope e = (t : Option CType) (v : VarId) → named_array scope t e.name ≡ Some v
+    → e.is_constant ≡ false
+
+pub unnamed : (scope : Scope) (e : Typed) → e.name ≡ None → IsNoArray scope e
+unnamed scope e is t v named = absurd (none-some v (ap (named_array scope t) (sym is) ∙ named))
+
 pub record IsWellTyping (p : Parts) (owned : List VarId) (s : Typing) : Type 0 where
   pub by : (scope : Scope) → IsScope p owned scope → (before : ℕ) →
       IsWellTyped p owned before (s scope before)
+  pub no_array : (scope : Scope) (before : ℕ) → IsNoArray scope (s scope before)
 
 abbrev pub AreWellTypings : Parts → List VarId → List Typing → Type 0
 AreWellTypings p owned [] = Unit {0}
 AreWellTypings p owned (s ∷ ss) = IsWellTyping p owned s × AreWellTypings p owned ss
+
+-- a name that means a constant means no array
+pub name_no_array : (scope : Scope) (at : At) (name : List ℕ)
+    → IsNoArray scope (typed_name at name (meaning_of scope name))
+name_no_array scope at name = from (meaning_of scope name) refl where
+  from : (m : Meaning) → meaning_of scope name ≡ m → IsNoArray scope (typed_name at name m)
+  from meaning.Unknown is t v named = refl
+  from meaning.Function is t v named = refl
+  from (meaning.Variable o) is t v named = refl
+  from (meaning.Constant z) is t v named = absurd (none-some v (sym (ap (array_given t) is) ∙ named))
 
 module _ (p : Parts) (owned : List VarId) where
   -- NAMES
 
   module _ (before : ℕ) (at : At) where
     name_right : (name : List ℕ) (m : Meaning) → IsMeaning p owned m → (typed_name at name m).faults ≡ []
-        → IsTyped p owned before (typed_name at name m).calls (typed_name at name m).height false
-        (typed_name at name m).t (typed_name at name m).tree
+        → IsTyped p owned before (typed_name at name m).calls (typed_name at name m).height
+        (typed_name at name m).is_constant (typed_name at name m).t (typed_name at name m).tree
     name_right name meaning.Unknown h none = cc
     name_right name meaning.Function h none = cc
-    name_right name (meaning.Variable e) h none =
-        from (is_array_entry e) (not_so (is_array_entry e) _ at (nil_left _ [] none))
-        (value_is p owned e h) where
-          from : (b : Bool) → b ≡ false → (b ≡ false → is_value p e.var ≡ true)
-              → IsTyped p owned before 0 (1 + 0) false (cond b I32 e.variable.t) (cond b placeholder
-              (tree.var e.var))
+    name_right name (meaning.Constant z) h none = record {
+      fits = operator_fits owned before [] [] I32 (is_in I32 z) tt h;
+      typed = refl;
+    }
+    name_right name (meaning.Variable o) h none =
+        from (is_array_object o) (not_so (is_array_object o) _ at (nil_left _ [] none))
+        (value_is p owned o h) where
+          from : (b : Bool) → b ≡ false → (b ≡ false → is_value p o.var ≡ true)
+              → IsTyped p owned before 0 (1 + 0) false (cond b I32 o.variable.t) (cond b placeholder
+              (tree.var o.var))
           from true wrong h = cc
           from false is there = record {
-            fits = variable_fits owned e.var h.is_owned
-                (operator_fits owned before [] [] (type_at p e.var) (is_value p e.var) tt (there refl));
-            typed = type_is p owned e h;
+            fits = variable_fits owned o.var h.is_owned
+                (operator_fits owned before [] [] (type_at p o.var) (is_value p o.var) tt (there refl));
+            typed = type_is p owned o h;
           }
+
+    -- a name has no calls
+    pub name_calls : (name : List ℕ) (m : Meaning) → (typed_name at name m).calls ≡ 0
+    name_calls name meaning.Unknown = refl
+    name_calls name meaning.Function = refl
+    name_calls name (meaning.Constant z) = refl
+    name_calls name (meaning.Variable o) = refl
+
+    name_height : (name : List ℕ) (m : Meaning) → 1 ≤ (typed_name at name m).height
+    name_height name meaning.Unknown = omega arith
+    name_height name meaning.Function = omega arith
+    name_height name (meaning.Constant z) = omega arith
+    name_height name (meaning.Variable o) = omega arith
 
     pub name_typed : (name : List ℕ) (m : Meaning) → IsMeaning p owned m → IsWellTyped p owned before
         (typed_name at name m)
     name_typed name m h = record {
-      named = λ n is. record { calls = refl; height = omega arith; changes = refl };
+      named = λ n is. record { calls = name_calls name m; height = name_height name m };
       right = name_right name m h;
     }
 
@@ -81,11 +119,12 @@ module _ (p : Parts) (owned : List VarId) where
         (typed_element at m i).t (typed_element at m i).tree
     element_right meaning.Unknown i h k none = cc
     element_right meaning.Function i h k none = cc
+    element_right (meaning.Constant z) i h k none = cc
     element_right (meaning.Variable e) i h k none =
         let index = as_typed p owned i (promoted i.t)
         (k.right (clean (i ∷ []) (nil_right (array_name_faults (meaning.Variable e) at) (i.faults ++ [])
         none)).0) in
-        from (is_array_entry e) (not_so (not (is_array_entry e)) _ at (nil_left (array_name_faults
+        from (is_array_object e) (not_so (not (is_array_object e)) _ at (nil_left (array_name_faults
         (meaning.Variable e) at) (i.faults ++ []) none))
         (array_is p owned e h) index where
           from : (b : Bool) → not b ≡ false → (b ≡ true → is_array p e.var ≡ true)
@@ -130,17 +169,18 @@ module _ (p : Parts) (owned : List VarId) where
 
   array_arg_is : (before : ℕ) (v : VarId) (e : Typed) (o : Option VarId)
       → ((w : VarId) → o ≡ Some w → IsGiven p owned w (type_at p v)) → ((w : VarId) → o ≡ Some w → IsBare e)
-      → holds is_passed_shape (shape_at p v) ≡ true → (array_arg o e).expression.faults ≡ []
+      → ((w : VarId) → o ≡ Some w → e.is_constant ≡ false) → holds is_passed_shape (shape_at p v) ≡ true
+      → (array_arg o e).expression.faults ≡ []
       → IsArg before e.calls v (array_arg o e)
-  array_arg_is before v e None given bare shape none = cc
-  array_arg_is before v e (Some w) given bare shape none =
+  array_arg_is before v e None given bare changes shape none = cc
+  array_arg_is before v e (Some w) given bare changes shape none =
       let g = given w refl in let b = bare w refl in record {
         fits = record {
           sound = and_from _ _ g.array refl;
           low = let h = b.height in omega (arith, h);
           names = and_from _ _ g.is_owned refl;
           numbers = ap (range_with_len (before + 1)) (sym b.calls);
-          plain = λ wrong. let c = b.changes in cc;
+          plain = λ wrong. let c = changes w refl in cc;
         };
         fits_param = and_from _ _ (same_type-of g.typed) shape;
         same_calls = refl;
@@ -155,10 +195,10 @@ module _ (p : Parts) (owned : List VarId) where
 
   module _ (scope : Scope) (sound : IsScope p owned scope) where
     arg_is : (before : ℕ) (v : VarId) (q : ParamType) (e : Typed) → FitsParam p v q →
-        IsWellTyped p owned before e
+        IsWellTyped p owned before e → IsNoArray scope e
         → (typed_arg scope (Some q) e).expression.faults ≡ [] →
         IsArg before e.calls v (typed_arg scope (Some q) e)
-    arg_is before v q e fit h none = from q.is_array fit.shape none where
+    arg_is before v q e fit h changes none = from q.is_array fit.shape none where
       from : (b : Bool) → holds (cond b is_passed_shape is_value_shape) (shape_at p v) ≡ true
           → (cond b (array_arg (named_array scope q.t e.name) e) (value_arg q.t e)).expression.faults ≡ []
           → IsArg before e.calls v (cond b (array_arg (named_array scope q.t e.name) e) (value_arg q.t e))
@@ -166,7 +206,7 @@ module _ (p : Parts) (owned : List VarId) where
       from true shape none = array_arg_is before v e (named_array scope q.t e.name)
           (λ w is. given_is p owned scope sound (type_at p v) e.name w
           (ap (λ t. named_array scope t e.name) (sym fit.typed) ∙ is))
-          (bare_from scope before q.t e e.name refl h) shape none
+          (bare_from scope before q.t e e.name refl h) (changes q.t) shape none
 
     -- arguments fit, and fit the parameters
     pub record AreArgs (before : ℕ) (vs : List VarId) (args : List TypedArg) : Type 0 where
@@ -200,7 +240,8 @@ module _ (p : Parts) (owned : List VarId) where
         let args = typed_args scope (before + e.calls) qs ss in
         let rest = flat_map (λ (e : Typed). e.faults) (expressions_of_args args) in
         one_more before v vs e.calls a args
-        (arg_is before v q e fit.0 (h.0.by scope sound before) (nil_left a.expression.faults rest none))
+        (arg_is before v q e fit.0 (h.0.by scope sound before) (h.0.no_array scope before)
+        (nil_left a.expression.faults rest none))
         (args_are (before + e.calls) vs qs ss h.1 fit.1 (let fewer : length ss
         ≡ length qs = omega arith in fewer)
         (nil_right a.expression.faults rest none))
@@ -261,6 +302,7 @@ module _ (p : Parts) (owned : List VarId) where
           (typed_args scope (before + 1) (params_of_called (definition_of_meaning m d)) typings)
       called_from meaning.Unknown d is_main f none args_none = cc
       called_from (meaning.Variable e) d is_main f none args_none = cc
+      called_from (meaning.Constant z) d is_main f none args_none = cc
       called_from meaning.Function None is_main f none args_none =
           let missing = nil_right (fault_if is_main WrongKind at) (fault UnknownName at) none in cc
       called_from meaning.Function (Some s) is_main f none args_none =

@@ -15,10 +15,10 @@ use Rattle.ba_tree.specs.declared.tree.Function.{Function}
 use Rattle.ba_tree.specs.declared.tree.Parts.{Parts}
 use Rattle.ba_tree.specs.declared.tree.StmtKind.{StmtKind}
 use Rattle.ba_tree.specs.declared.tree.Variable.{Variable}
-use Rattle.ba_typing.specs.Declarations.{Before, behind}
+use Rattle.ba_typing.specs.Declarations.{Before, behind, add_specifiers}
 use Rattle.ba_typing.specs.Files.{FileAdded, vars_of, signature_of, definitions_of, with_signature, signatures_from, signatures, add_external, add_externals, file_scope, no_parts, file_of, faults_of, program_of, typed_of}
 use Rattle.ba_tree.specs.Trees.{tree_of_parts}
-use Rattle.ba_typing.specs.Names.{Scope, knowing, same_name, definition_in, main_name, type_named}
+use Rattle.ba_typing.specs.Names.{Scope, knowing, same_name, definition_in, main_name, type_specified}
 use Rattle.ba_tree.specs.Trees.{FunctionTree, ProgramTree, tree_of_stmt, tree_of_function, stmts_of}
 use Rattle.ba_typing.specs.declared.meanings.Signature.{Signature}
 use Rattle.ba_typing_facts.proofs.AdditionFacts.{all_facts_of}
@@ -79,7 +79,9 @@ functions_count p d (x ∷ xs) file earlier n =
     let b = add_externals (d + definitions_of s) xs (knowing a.added.entries file)
     (earlier ++ with_signature s []) (behind n a.added) in
     let both = length-append a.functions b.functions in
-    let first = form_count p d (type_named x.name) x.form file earlier n in
+    let w = add_specifiers earlier x.specifiers file n in
+    let first = form_count p d (type_specified x.specifiers) x.form (knowing w.entries file) earlier
+    (behind n w) in
     let rest = functions_count p (d + definitions_of s) xs (knowing a.added.entries file)
     (earlier ++ with_signature s []) (behind n a.added) in
     let all = definitions-with s (signatures_from (d + definitions_of s) xs) in

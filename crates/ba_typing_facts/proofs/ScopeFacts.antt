@@ -4,7 +4,9 @@ use Rattle.std.specs.Prelude.{option_map, unwrap_or, slice_get}
 use Rattle.std.proofs.lemmas.Bool.{and_parts}
 use Rattle.std.proofs.lemmas.Option.{get_or_from_slice_get, cond_some}
 use Rattle.ba_numbers.specs.declared.ids.VarId.{VarId}
+use Rattle.ba_numbers.specs.Numbers.{is_in}
 use Rattle.ba_numbers.specs.declared.numbers.CType.{CType}
+use Rattle.ba_numbers.specs.declared.numbers.CType.TheVariants.{I32}
 use Rattle.ba_tree.specs.Facts.{has_variable, holds, shape_at, type_at, is_value, is_array, is_value_shape, is_array_shape, is_passed_shape}
 use Rattle.ba_numbers.specs.Types.{same_type}
 use Rattle.ba_tree.specs.declared.tree.Function.{Function}
@@ -13,24 +15,35 @@ use Rattle.ba_tree.specs.declared.tree.Shape.{Shape}
 use Rattle.ba_tree.specs.declared.tree.Shape.TheVariants.{Value, Array, Passed}
 use Rattle.ba_tree.specs.declared.tree.Variable.{Variable}
 use Rattle.ba_typing.specs.Expressions.{array_given, named_array}
-use Rattle.ba_typing.specs.Names.{Scope, meaning_of, meaning_or, function_or_unknown, is_declared_in, last_entry, definition_in, is_main_name, is_array_entry, same_name}
+use Rattle.ba_typing.specs.Names.{Scope, meaning_of, meaning_of_entity, meaning_or, function_or_unknown, is_declared_in, is_named, last_entry, definition_in, is_main_name, is_array_object}
 use Rattle.ba_typing.specs.declared.meanings.Meaning.{Meaning}
 use Rattle.ba_typing.specs.declared.meanings.Meaning.TheVariants as meaning
+use Rattle.ba_typing.specs.declared.meanings.Entity.{Entity}
+use Rattle.ba_typing.specs.declared.meanings.Entity.TheVariants as entity
 use Rattle.ba_typing.specs.declared.meanings.Entry.{Entry}
+use Rattle.ba_typing.specs.declared.meanings.Object.{Object}
+use Rattle.ba_typing.specs.declared.meanings.Space.{Space}
+use Rattle.ba_typing.specs.declared.meanings.Space.TheVariants as space
 use Rattle.ba_typing.specs.declared.meanings.ParamType.{ParamType}
 use Rattle.ba_typing.specs.declared.meanings.Signature.{Signature}
 use Rattle.ba_typing_facts.proofs.OperatorFacts.{same_type-equal}
 
--- VARIABLES
+-- VARIABLES AND CONSTANTS
 
--- the number of an entry names its variable, which is among these
-pub record IsEntry (p : Parts) (owned : List VarId) (e : Entry) : Type 0 where
-  pub place : slice_get p.variables e.var.0 ≡ Some e.variable
-  pub is_owned : has_variable owned e.var ≡ true
+-- the number of a variable names it, and it is among these
+pub record IsObject (p : Parts) (owned : List VarId) (o : Object) : Type 0 where
+  pub place : slice_get p.variables o.var.0 ≡ Some o.variable
+  pub is_owned : has_variable owned o.var ≡ true
+
+-- a constant's value is one of I32
+abbrev pub IsEntity : Parts → List VarId → Entity → Type 0
+IsEntity p owned (entity.Variable o) = IsObject p owned o
+IsEntity p owned (entity.Constant z) = is_in I32 z ≡ true
+IsEntity p owned entity.Tag = Unit {0}
 
 abbrev pub AreEntries : Parts → List VarId → List Entry → Type 0
 AreEntries p owned [] = Unit {0}
-AreEntries p owned (e ∷ es) = IsEntry p owned e × AreEntries p owned es
+AreEntries p owned (e ∷ es) = IsEntity p owned e.entity × AreEntries p owned es
 
 pub entries-append : (p : Parts) (owned : List VarId) (es fs : List Entry)
     → AreEntries p owned es → AreEntries p owned fs → AreEntries p owned (es ++ fs)
@@ -68,55 +81,62 @@ pub record IsScope (p : Parts) (owned : List VarId) (scope : Scope) : Type 0 whe
 abbrev pub IsMeaning : Parts → List VarId → Meaning → Type 0
 IsMeaning p owned meaning.Unknown = Unit {0}
 IsMeaning p owned meaning.Function = Unit {0}
-IsMeaning p owned (meaning.Variable e) = IsEntry p owned e
+IsMeaning p owned (meaning.Variable o) = IsObject p owned o
+IsMeaning p owned (meaning.Constant z) = is_in I32 z ≡ true
 
 module _ (p : Parts) (owned : List VarId) where
   abbrev IsLast : Option Entry → Type 0
   IsLast None = Unit {0}
-  IsLast (Some e) = IsEntry p owned e
+  IsLast (Some e) = IsEntity p owned e.entity
 
-  chosen_last : (b : Bool) (e : Entry) (last : Option Entry) → IsEntry p owned e → IsLast last
+  chosen_last : (b : Bool) (e : Entry) (last : Option Entry) → IsEntity p owned e.entity → IsLast last
       → IsLast (cond b (Some e) last)
   chosen_last true e last h k = h
   chosen_last false e last h k = k
 
-  last_is : (name : List ℕ) (es : List Entry) (last : Option Entry) → AreEntries p owned es → IsLast last
-      → IsLast (last_entry name es last)
-  last_is name [] last h k = k
-  last_is name (e ∷ es) last h k = last_is name es (cond (same_name e.name name) (Some e) last) h.1
-      (chosen_last (same_name e.name name) e last h.0 k)
+  last_is : (within : Space) (name : List ℕ) (es : List Entry) (last : Option Entry) → AreEntries p owned es
+      → IsLast last → IsLast (last_entry within name es last)
+  last_is within name [] last h k = k
+  last_is within name (e ∷ es) last h k =
+      last_is within name es (cond (is_named within name e) (Some e) last) h.1
+      (chosen_last (is_named within name e) e last h.0 k)
 
   other_meaning : (b : Bool) → IsMeaning p owned (function_or_unknown b)
   other_meaning true = tt
   other_meaning false = tt
 
+  entity_meaning : (e : Entity) → IsEntity p owned e → IsMeaning p owned (meaning_of_entity e)
+  entity_meaning (entity.Variable o) h = h
+  entity_meaning (entity.Constant z) h = h
+  entity_meaning entity.Tag h = tt
+
   meaning_from : (o : Option Entry) (b : Bool) → IsLast o → IsMeaning p owned (meaning_or o
       (function_or_unknown b))
   meaning_from None b h = other_meaning b
-  meaning_from (Some e) b h = h
+  meaning_from (Some e) b h = entity_meaning e.entity h
 
   pub meaning_is : (scope : Scope) → IsScope p owned scope → (name : List ℕ) → IsMeaning p owned
       (meaning_of scope name)
-  meaning_is scope h name = meaning_from (last_entry name scope.known None)
-      (is_declared_in scope.functions name) (last_is name scope.known None h.entries tt)
+  meaning_is scope h name = meaning_from (last_entry space.Ordinary name scope.known None)
+      (is_declared_in scope.functions name) (last_is space.Ordinary name scope.known None h.entries tt)
 
   -- what the parts say of a variable in scope
-  module _ (e : Entry) (h : IsEntry p owned e) where
-    pub shape_is : shape_at p e.var ≡ Some e.variable.shape
+  module _ (o : Object) (h : IsObject p owned o) where
+    pub shape_is : shape_at p o.var ≡ Some o.variable.shape
     shape_is = ap (option_map (λ (w : Variable). w.shape)) h.place
 
-    pub type_is : type_at p e.var ≡ e.variable.t
-    type_is = ap (λ (w : Variable). w.t) (get_or_from_slice_get p.variables e.var.0 e.variable _ h.place)
+    pub type_is : type_at p o.var ≡ o.variable.t
+    type_is = ap (λ (w : Variable). w.t) (get_or_from_slice_get p.variables o.var.0 o.variable _ h.place)
 
     value_from : (s : Shape) → is_array_shape s ≡ false → is_value_shape s ≡ true
     value_from Value k = refl
     value_from (Array n) k = cc
     value_from Passed k = cc
 
-    pub value_is : is_array_entry e ≡ false → is_value p e.var ≡ true
-    value_is k = ap (holds is_value_shape) shape_is ∙ value_from e.variable.shape k
+    pub value_is : is_array_object o ≡ false → is_value p o.var ≡ true
+    value_is k = ap (holds is_value_shape) shape_is ∙ value_from o.variable.shape k
 
-    pub array_is : is_array_entry e ≡ true → is_array p e.var ≡ true
+    pub array_is : is_array_object o ≡ true → is_array p o.var ≡ true
     array_is k = ap (holds is_array_shape) shape_is ∙ k
 
   -- an array that is given for a parameter of this element type
@@ -130,12 +150,13 @@ module _ (p : Parts) (owned : List VarId) where
       → IsGiven v t
   given_meaning t meaning.Unknown h v k = cc
   given_meaning t meaning.Function h v k = cc
-  given_meaning t (meaning.Variable e) h v k =
-      let both = cond_some (is_array_entry e && same_type e.variable.t t) e.var v k in
-      let parts = and_parts (is_array_entry e) (same_type e.variable.t t) both.0 in record {
+  given_meaning t (meaning.Constant z) h v k = cc
+  given_meaning t (meaning.Variable o) h v k =
+      let both = cond_some (is_array_object o && same_type o.variable.t t) o.var v k in
+      let parts = and_parts (is_array_object o) (same_type o.variable.t t) both.0 in record {
         is_owned = ap (has_variable owned) (sym both.1) ∙ h.is_owned;
-        array = ap (is_array p) (sym both.1) ∙ array_is e h parts.0;
-        typed = ap (type_at p) (sym both.1) ∙ type_is e h ∙ same_type-equal e.variable.t t parts.1;
+        array = ap (is_array p) (sym both.1) ∙ array_is o h parts.0;
+        typed = ap (type_at p) (sym both.1) ∙ type_is o h ∙ same_type-equal o.variable.t t parts.1;
       }
 
   pub given_is : (scope : Scope) → IsScope p owned scope → (t : CType) (name : Option (List ℕ)) (v : VarId)

@@ -55,7 +55,10 @@ module _ (p : Parts) (owned : List VarId) (f : Function) (inside : Bool) where
   -- ASSIGNMENTS AND STEPS
 
   pub one_typing : (at : At) → IsWellTyping p owned (one at)
-  one_typing at = record { by = λ scope sound before. constant_typed p owned before at I32 (pos 1) refl }
+  one_typing at = record {
+    by = λ scope sound before. constant_typed p owned before at I32 (pos 1) refl;
+    no_array = λ scope before t v wrong. cc;
+  }
 
   index_is : (o : Option Index) → AreOptional p owned f inside (index_typing o)
   index_is None = tt

@@ -24,12 +24,12 @@ use Rattle.ba_tree.specs.declared.tree.Function.{Function}
 use Rattle.ba_tree.specs.declared.tree.Parts as program
 use Rattle.ba_typing.specs.Declarations.{Before, Part, nothing}
 use Rattle.ba_typing.specs.Expressions.{Typing, typed_next}
-use Rattle.ba_typing.specs.Names.{Scope, jump_of, type_named}
+use Rattle.ba_typing.specs.Names.{Scope, jump_of}
 use Rattle.ba_typing.specs.Statements.{GroupParts, PartList, add_simple, add_jump, add_jump_with, optional_typing, printed_typings, test_of, item_step, form_step, block_step, controlled_step, do_step, else_step, for_step, group_step, statement_step, add_item, add_statement_form, add_statement, parts_of_block, parts_of_group}
 use Rattle.ba_typing_facts.proofs.AdditionFacts.{IsPart, part_nothing, AreParts}
 use Rattle.ba_typing_facts.proofs.AssignmentFacts.{AreOptional}
 use Rattle.ba_typing_facts.proofs.ControlFacts.{IsStatement, block_part, if_part, while_part, do_part}
-use Rattle.ba_typing_facts.proofs.DeclarationFacts.{declarators_part}
+use Rattle.ba_typing_facts.proofs.EnumeratorFacts.{declaration_part}
 use Rattle.ba_typing_facts.proofs.ExpressionFacts.{conditional_typing, next_typing}
 use Rattle.ba_typing_facts.proofs.ForFacts.{for_part}
 use Rattle.ba_typing_facts.proofs.SwitchFacts.{IsGroup, AreGroups, switch_part}
@@ -198,7 +198,7 @@ module _ (p : program.Parts) (owned : List VarId) (f : Function) where
   -- THE FORMS
 
   item_form : (y : Pieces BlockItem-F) → IsPart p owned f true (item_step (added_item (bare_item y)))
-  item_form (BlockItem-F.Declaration d) = declarators_part p owned f true [] (type_named d.name) d.declarators
+  item_form (BlockItem-F.Declaration d) = declaration_part p owned f true [] d.specifiers d.declarators
   item_form (BlockItem-F.Statement s) = s.1.fits
 
   empty_statement : IsStatement p owned f nothing

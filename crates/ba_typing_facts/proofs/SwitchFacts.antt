@@ -7,8 +7,6 @@ use Rattle.std.proofs.lemmas.Bool.{and_from, and_parts, le-leb, leb-true, not_fr
 use Rattle.std.proofs.lemmas.Cmp.{int_eq_equiv}
 use Rattle.std.proofs.lemmas.List.{length-map, map-append}
 use Rattle.std.proofs.lemmas.List.Folds.{list_all-append, list_any-append}
-use Rattle.std.proofs.lemmas.Option.{same_Some}
-use Rattle.ba_numbers.proofs.Conversions.{converted_in_range}
 use Rattle.ba_numbers.specs.Numbers.{converted, is_in}
 use Rattle.ba_numbers.specs.Types.{is_promoted, promoted}
 use Rattle.ba_numbers.specs.declared.ids.At.{At}
@@ -24,15 +22,16 @@ use Rattle.ba_tree.specs.declared.tree.StmtKind.TheVariants as kind
 use Rattle.ba_tree.specs.Trees.{stmts_of}
 use Rattle.ba_tree.specs.Trees as tree
 use Rattle.ba_typing.specs.Declarations.{◌and◌, Before, behind, in_order, next_stmt, whole_faults}
-use Rattle.ba_typing.specs.Expressions.{Typed, Typing, typed_conditional, tree_as}
+use Rattle.ba_typing.specs.Expressions.{Typed, Typing, typed_conditional, tree_as, constant_value}
 use Rattle.ba_typing.specs.Faults.{limit_faults, statement_limit, height_limit}
 use Rattle.ba_typing.specs.Names.{Scope, knowing, switching}
-use Rattle.ba_typing.specs.Statements.{no_labels, has_value, label_value, value_faults, with_start, add_label, GroupParts, add_group, add_groups, add_controlling, add_switch}
+use Rattle.ba_typing.specs.Statements.{no_labels, has_value, label_faults, with_start, add_label, GroupParts, add_group, add_groups, add_controlling, add_switch}
 use Rattle.ba_typing.specs.declared.fault.Cause.TheVariants.{Twice}
 use Rattle.ba_typing.specs.declared.meanings.Labels.{Labels}
 use Rattle.ba_typing_facts.proofs.AdditionFacts.{Stands, stands_left, stands_right, InScope, in_knowing, in_switching, IsPiece, piece-and, piece_none, few-and, few_none, PieceAt, IsCounted, counted-and, counted_none, AreParts, parts_in_order, all_facts_of}
 use Rattle.ba_typing_facts.proofs.ControlFacts.{IsStatement, counted_enclosing, piece_enclosing, recount, condition_few}
-use Rattle.ba_typing_facts.proofs.ExpressionFacts.{conditional_typing, is_in_from}
+use Rattle.ba_typing_facts.proofs.EnumeratorFacts.{constant_in}
+use Rattle.ba_typing_facts.proofs.ExpressionFacts.{conditional_typing}
 use Rattle.ba_typing_facts.proofs.FittingFacts.{nil_left, nil_right}
 use Rattle.ba_typing_facts.proofs.LeafFacts.{one_whole, kind_is, leaf_are}
 use Rattle.ba_typing_facts.proofs.LengthFacts.{constant_calls}
@@ -112,17 +111,8 @@ start_so_far t count labels z within new h = let one : Start = record { value = 
   other = h.other;
 }
 
--- a label's value is of the type
-label_in : (t : CType) (e : Typed) (z : ℤ) → label_value t e ≡ Some z → is_in t z ≡ true
-label_in t e z = from e.is_constant e.value where
-  from : (b : Bool) (o : Option ℤ) → cond b (option_map (converted t) o) None ≡ Some z → is_in t z ≡ true
-  from true None h = cc
-  from true (Some y) h = subst (λ x. is_in t x ≡ true) (same_Some (converted t y) z h)
-      (is_in_from t (converted t y) (converted_in_range t y))
-  from false o h = cc
-
 value_so_far : (t : CType) (count : ℕ) (labels : Labels) (at : At) (o : Option ℤ)
-    → ((z : ℤ) → o ≡ Some z → is_in t z ≡ true) → value_faults labels o at ≡ [] → AreSoFar t count labels
+    → ((z : ℤ) → o ≡ Some z → is_in t z ≡ true) → label_faults labels o at ≡ [] → AreSoFar t count labels
     → AreSoFar t count (with_start labels o count)
 value_so_far t count labels at None within none h = cc
 value_so_far t count labels at (Some z) within none h = start_so_far t count labels z (within z refl)
@@ -130,9 +120,9 @@ value_so_far t count labels at (Some z) within none h = start_so_far t count lab
 
 -- a label without a fault is constant
 label_constant : (t : CType) (labels : Labels) (at : At) (e : Typed)
-    → value_faults labels (label_value t e) at ≡ [] → e.is_constant ≡ true
+    → label_faults labels (constant_value t e) at ≡ [] → e.is_constant ≡ true
 label_constant t labels at e = from e.is_constant where
-  from : (b : Bool) → value_faults labels (cond b (option_map (converted t) e.value) None) at ≡ [] → b ≡ true
+  from : (b : Bool) → label_faults labels (cond b (option_map (converted t) e.value) None) at ≡ [] → b ≡ true
   from true none = refl
   from false none = cc
 
@@ -141,8 +131,8 @@ label_so_far : (t : CType) (at : At) (l : Label) (labels : Labels) (count : ℕ)
     → AreSoFar t count (add_label t at l labels count scope calls).labels
 label_so_far t at (label.Case keyword value colon) labels count scope calls none h =
     let e = typed_conditional value scope calls in
-    value_so_far t count labels e.first (label_value t e) (label_in t e)
-    (nil_right (whole_faults at e) (value_faults labels (label_value t e) e.first) none) h
+    value_so_far t count labels e.first (constant_value t e) (constant_in t e)
+    (nil_right (whole_faults at e) (label_faults labels (constant_value t e) e.first) none) h
 label_so_far t at (label.Default keyword colon) labels count scope calls none h = record {
   differ = h.differ;
   starts = h.starts;
@@ -182,7 +172,7 @@ module _ (p : Parts) (owned : List VarId) (f : Function) where
   label_piece t at (label.Case keyword value colon) labels count scope in_scope n none =
       let e = typed_conditional value scope n.calls in
       let whole = whole_faults at e in
-      let faults = value_faults labels (label_value t e) e.first in
+      let faults = label_faults labels (constant_value t e) e.first in
       let typed = (conditional_typing p owned value).by scope in_scope.sound n.calls in
       let no_calls = constant_calls p owned n.calls e typed
       (nil_right (limit_faults height_limit e.height at) e.faults (nil_left whole faults none))

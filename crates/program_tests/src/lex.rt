@@ -100,19 +100,18 @@ static WORKED: [(&str, &str); 8] = [
 
 static WORDS: [(&str, &str); 2] = [
     (
-        "char\nshort\nint\nlong\nsigned\nunsigned\nvoid\nconst\nstatic\nif\nelse\nswitch\ncase\ndefault\nwhile\ndo\nfor\nbreak\ncontinue\nreturn\nassert\nprintf",
-        "Char@1:1 Short@2:1 Int@3:1 Long@4:1 Signed@5:1 Unsigned@6:1 Void@7:1 Const@8:1 Static@9:1 If@10:1 Else@11:1 Switch@12:1 Case@13:1 Default@14:1 While@15:1 Do@16:1 For@17:1 Break@18:1 Continue@19:1 Return@20:1 Assert@21:1 Printf@22:1",
+        "char\nshort\nint\nlong\nsigned\nunsigned\nvoid\nenum\nconst\nstatic\nif\nelse\nswitch\ncase\ndefault\nwhile\ndo\nfor\nbreak\ncontinue\nreturn\nassert\nprintf",
+        "Char@1:1 Short@2:1 Int@3:1 Long@4:1 Signed@5:1 Unsigned@6:1 Void@7:1 Enum@8:1 Const@9:1 Static@10:1 If@11:1 Else@12:1 Switch@13:1 Case@14:1 Default@15:1 While@16:1 Do@17:1 For@18:1 Break@19:1 Continue@20:1 Return@21:1 Assert@22:1 Printf@23:1",
     ),
     (
-        "Char chars _char char1 If cases",
-        "Char@1:1 chars@1:6 _char@1:12 char1@1:18 If@1:24 cases@1:27",
+        "Char chars _char char1 If cases Enum enums",
+        "Char@1:1 chars@1:6 _char@1:12 char1@1:18 If@1:24 cases@1:27 Enum@1:33 enums@1:38",
     ),
 ];
 
-static REFUSED: [(&str, &str); 13] = [
+static REFUSED: [(&str, &str); 12] = [
     ("x auto; y", "NotInProfile 1:3"),
     ("x double; y", "NotInProfile 1:3"),
-    ("x enum; y", "NotInProfile 1:3"),
     ("x extern; y", "NotInProfile 1:3"),
     ("x float; y", "NotInProfile 1:3"),
     ("x goto; y", "NotInProfile 1:3"),

@@ -24,11 +24,21 @@ fn add_repeated(
 /// The front, the part, how often it stands, the back, and the answer.
 type Row<'a> = (&'a str, &'a str, u32, &'a str, &'a str);
 
-static LIMITS: [Row; 18] = [
+static LIMITS: [Row; 24] = [
     ("int main(int x) {", "x=1;", 4000, "}", "fits"),
     ("int main(int x) {", "x=1;", 4001, "}", "9 at 1:16018"),
     ("int main(int x) {", "{int y;}", 1999, "}", "fits"),
     ("int main(int x) {", "{int y;}", 2000, "}", "9 at 1:16015"),
+    ("int main(int x) {", "{enum{A};}", 1999, "}", "fits"),
+    ("int main(int x) {", "{enum{A};}", 2000, "}", "9 at 1:20014"),
+    ("int main(int x) {", "{int y;enum{A};}", 999, "}", "fits"),
+    (
+        "int main(int x) {",
+        "{int y;enum{A};}",
+        1000,
+        "}",
+        "9 at 1:16014",
+    ),
     ("int f(int", ",int", 31, ");int main(void){}", "fits"),
     ("int f(int", ",int", 32, ");int main(void){}", "9 at 1:135"),
     ("int main(int x) { x = 1", "+1", 99, ";}", "fits"),
@@ -58,6 +68,20 @@ static LIMITS: [Row; 18] = [
         90,
         ") { case 1: ; } }",
         "9 at 1:27",
+    ),
+    (
+        "enum { A = 1*1*1*1*1*1*1*1*1*1*1",
+        "+1",
+        89,
+        "}; int main(void) { }",
+        "fits",
+    ),
+    (
+        "enum { A = 1*1*1*1*1*1*1*1*1*1*1",
+        "+1",
+        90,
+        "}; int main(void) { }",
+        "9 at 1:8",
     ),
     ("int x = 1", "+1", 99, "; int main(void) { }", "fits"),
     ("int x = 1", "+1", 100, "; int main(void) { }", "9 at 1:5"),

@@ -390,6 +390,139 @@ static REFUSED_LABELS: [(&str, &str); 20] = [
     ("int case ;", "Syntax 1"),
 ];
 
+static PARSED_ENUMS: [(&str, &str); 14] = [
+    ("enum e { A } ;", "parses"),
+    ("enum { A , B , } ;", "parses"),
+    (
+        "enum e { A = 1 , B , C = A + 2 ? 3 : 4 , } x , y = B ;",
+        "parses",
+    ),
+    ("enum e x ; enum e y [ 3 ] = { A , B , } ;", "parses"),
+    (
+        "const enum e x ; enum e const y ; static enum e z ; enum e static w ;",
+        "parses",
+    ),
+    (
+        "const static enum e x ; static enum e const y ; const enum e static z ; enum e const static v ; enum e static const w ;",
+        "parses",
+    ),
+    (
+        "enum e { A } const x ; const enum { B } y ; static enum { C } ; enum { D } const static ;",
+        "parses",
+    ),
+    (
+        "static const enum e { A } x ; static enum e { B } const ;",
+        "parses",
+    ),
+    (
+        "enum e f ( enum e x , const enum e y [ ] , enum e const ) ; static enum e g ( enum e x ) { return x ; }",
+        "parses",
+    ),
+    ("enum A { A } A ; enum A { A } ;", "parses"),
+    (
+        "int main ( void ) { enum e { A , B } x = A ; enum { C } ; const enum e y = B , z ; enum e const w ; ; }",
+        "parses",
+    ),
+    (
+        "int main ( void ) { x = ( enum e ) 1 ; x = ( const enum e ) 1 ; x = ( enum e const ) - y ; }",
+        "parses",
+    ),
+    (
+        "int main ( void ) { for ( enum e i = A ; ; ) ; for ( const enum e i ; ; ) ; }",
+        "parses",
+    ),
+    (
+        "int main ( void ) { switch ( x ) { case A : { enum { B } ; x = B ; } } }",
+        "parses",
+    ),
+];
+
+static REFUSED_ENUMS: [(&str, &str); 24] = [
+    ("enum ;", "Syntax 1"),
+    ("enum", "Syntax 1"),
+    ("enum 1 ;", "Syntax 1"),
+    ("const enum = 1 ;", "Syntax 2"),
+    ("int enum ;", "Syntax 1"),
+    ("unsigned enum e x ;", "Syntax 1"),
+    ("void enum e x ;", "Syntax 1"),
+    ("enum int e x ;", "Syntax 1"),
+    ("enum enum e x ;", "Syntax 1"),
+    ("enum const e x ;", "Syntax 1"),
+    ("enum static e x ;", "Syntax 1"),
+    ("enum e int x ;", "Syntax 2"),
+    ("enum e enum f x ;", "Syntax 2"),
+    ("const const enum e x ;", "Syntax 1"),
+    ("const enum e const x ;", "Syntax 3"),
+    ("static enum e static x ;", "Syntax 3"),
+    ("enum e const const x ;", "Syntax 3"),
+    ("enum e const static const x ;", "Syntax 4"),
+    ("enum e static const static x ;", "Syntax 4"),
+    ("enum e ;", "Syntax 2"),
+    ("enum e const ;", "Syntax 3"),
+    ("enum e", "Syntax 2"),
+    ("enum e x y ;", "Syntax 3"),
+    ("enum e f ( enum e ) { }", "Syntax 7"),
+];
+
+static REFUSED_LISTS: [(&str, &str); 24] = [
+    ("enum e { } ;", "Syntax 3"),
+    ("enum { } x ;", "Syntax 2"),
+    ("enum e { , } ;", "Syntax 3"),
+    ("enum e { A , , } ;", "Syntax 5"),
+    ("enum e { A B } ;", "Syntax 4"),
+    ("enum e { A = } ;", "Syntax 5"),
+    ("enum e { A = 1 , 2 } ;", "Syntax 7"),
+    ("enum e { A = B = 1 } ;", "Syntax 6"),
+    ("enum e { A = { 1 } } ;", "Syntax 5"),
+    ("enum e { A ;", "Syntax 4"),
+    ("enum e { A , ;", "Syntax 5"),
+    ("enum e { A", "Syntax 4"),
+    ("enum e { A ,", "Syntax 5"),
+    ("enum e { 1 } ;", "Syntax 3"),
+    ("enum e { int } ;", "Syntax 3"),
+    ("enum e { enum f { A } } ;", "Syntax 3"),
+    ("enum e { A } { B } ;", "Syntax 5"),
+    ("enum e { A } e", "Syntax 6"),
+    ("enum e { A } int x ;", "Syntax 5"),
+    ("const enum e { A } const x ;", "Syntax 6"),
+    ("enum e { A } x y ;", "Syntax 6"),
+    ("enum e { A } , x ;", "Syntax 5"),
+    ("enum e { A } f ( void ) ;", "Syntax 6"),
+    ("enum { A } f ( void ) { }", "Syntax 5"),
+];
+
+static REFUSED_INNER_ENUMS: [(&str, &str); 20] = [
+    ("int f ( enum e { A } x ) ;", "Syntax 5"),
+    ("int f ( enum { A } x ) ;", "Syntax 4"),
+    ("int f ( enum e static x ) ;", "Syntax 5"),
+    ("int f ( int x , enum ) ;", "Syntax 7"),
+    (
+        "int main ( void ) { for ( enum e { A } i ; ; ) ; }",
+        "Syntax 10",
+    ),
+    ("int main ( void ) { for ( enum { A } ; ; ) ; }", "Syntax 9"),
+    ("int main ( void ) { for ( enum e ; ; ) ; }", "Syntax 10"),
+    (
+        "int main ( void ) { x = ( enum e { A } ) 1 ; }",
+        "Syntax 11",
+    ),
+    ("int main ( void ) { x = ( enum { A } ) 1 ; }", "Syntax 10"),
+    ("int main ( void ) { x = ( enum ) 1 ; }", "Syntax 10"),
+    ("int main ( void ) { x = ( enum e x ) 1 ; }", "Syntax 11"),
+    ("int main ( void ) { static enum { A } ; }", "Syntax 6"),
+    ("int main ( void ) { enum e { A } static x ; }", "Syntax 11"),
+    ("int main ( void ) { enum e ; }", "Syntax 8"),
+    ("int main ( void ) { enum e { A } x y ; }", "Syntax 12"),
+    ("int main ( void ) { enum e { A } f ( ) ; }", "Syntax 12"),
+    ("int main ( void ) { enum e { A } }", "Syntax 11"),
+    ("int main ( void ) { if ( x ) enum { A } ; }", "Syntax 10"),
+    (
+        "int main ( void ) { switch ( x ) { case 1 : enum { A } ; } }",
+        "Syntax 14",
+    ),
+    ("int main ( void ) { x = enum ; }", "Syntax 8"),
+];
+
 #[test]
 fn texts_parse_or_are_refused_at_the_first_token_that_cannot_stand(rt: HostRuntime) {
     let alloc = rt.alloc();
@@ -401,10 +534,15 @@ fn texts_parse_or_are_refused_at_the_first_token_that_cannot_stand(rt: HostRunti
     expect_answers(&rt, alloc, PARSED_SWITCHES.as_slice());
     expect_answers(&rt, alloc, REFUSED_SWITCHES.as_slice());
     expect_answers(&rt, alloc, REFUSED_LABELS.as_slice());
+    expect_answers(&rt, alloc, PARSED_ENUMS.as_slice());
+    expect_answers(&rt, alloc, REFUSED_ENUMS.as_slice());
+    expect_answers(&rt, alloc, REFUSED_LISTS.as_slice());
+    expect_answers(&rt, alloc, REFUSED_INNER_ENUMS.as_slice());
 }
 
 /// A front, a part so many times, a middle, another part as often, a back, how many times, and what the parser says: up to a hundred
-/// levels of parentheses, blocks, prefix operators, a chain, casts, controlled statements, branches and `switch`es are accepted.
+/// levels of parentheses, blocks, prefix operators, a chain, casts, controlled statements, branches, `switch`es and lists of constants
+/// are accepted.
 type Level = (
     &'static str,
     &'static str,
@@ -415,7 +553,7 @@ type Level = (
     &'static str,
 );
 
-static LEVELS: [Level; 22] = [
+static LEVELS: [Level; 31] = [
     (
         "int main(void) { return ",
         "(",
@@ -590,6 +728,63 @@ static LEVELS: [Level; 22] = [
         98,
         "TooDeep 802",
     ),
+    (
+        "int main(void) ",
+        "{",
+        "enum e { A };",
+        "}",
+        "",
+        99,
+        "parses",
+    ),
+    (
+        "int main(void) ",
+        "{",
+        "enum { A };",
+        "}",
+        "",
+        100,
+        "TooDeep 107",
+    ),
+    (
+        "int main(void) ",
+        "{",
+        "enum { A = 1, B, } const x = A;",
+        "}",
+        "",
+        99,
+        "parses",
+    ),
+    (
+        "int main(void) ",
+        "{",
+        "const enum e { A = (1) } x[(1)];",
+        "}",
+        "",
+        98,
+        "parses",
+    ),
+    (
+        "int main(void) ",
+        "{",
+        "enum { A, B = (1) };",
+        "}",
+        "",
+        99,
+        "TooDeep 111",
+    ),
+    (
+        "int main(void) ",
+        "{",
+        "enum { };",
+        "}",
+        "",
+        100,
+        "Syntax 107",
+    ),
+    ("int main(void) ", "{", "enum e x;", "}", "", 100, "parses"),
+    ("enum e { A = ", "(", "1", ")", " };", 99, "parses"),
+    ("enum e { A = ", "(", "1", ")", " };", 100, "TooDeep 105"),
 ];
 
 /// Adds a piece so many times.

@@ -435,6 +435,223 @@ static LABELS: [(&str, &str); 21] = [
     ),
 ];
 
+/// Tags of enumerations, which have scopes of their own.
+static TAGS: [(&str, &str); 27] = [
+    ("int main(void) { enum E x; }", "1 at 1:23"),
+    ("enum E x; int main(void) { }", "1 at 1:6"),
+    ("enum E { A }; int main(void) { enum E x; x = A; }", "fits"),
+    ("int main(void) { enum E x; enum E { A }; }", "1 at 1:23"),
+    (
+        "int main(void) { { enum E { A }; } enum E x; }",
+        "1 at 1:41",
+    ),
+    (
+        "int f(enum E a) { return a; } int main(void) { return 0; }",
+        "1 at 1:12",
+    ),
+    (
+        "int f(int, enum E); int main(void) { return 0; }",
+        "1 at 1:17",
+    ),
+    (
+        "enum E { A }; int f(enum E a) { return a; } int main(void) { return f(A); }",
+        "fits",
+    ),
+    ("int main(void) { int x; x = (enum E) 1; }", "1 at 1:35"),
+    (
+        "enum E { A }; int main(void) { int x; x = (enum E) 1; }",
+        "fits",
+    ),
+    (
+        "int main(void) { for (enum E i = 0; i < 1; i++) ; }",
+        "1 at 1:28",
+    ),
+    (
+        "enum E { A }; int main(void) { for (enum E i = A; i < 1; i++) ; }",
+        "fits",
+    ),
+    (
+        "enum E f(void) { return 0; } int main(void) { return 0; }",
+        "1 at 1:6",
+    ),
+    (
+        "enum E { A }; enum E f(void) { return A; } int main(void) { return f(); }",
+        "fits",
+    ),
+    (
+        "enum E { A = (enum E) 3 }; int main(void) { return A; }",
+        "fits",
+    ),
+    (
+        "enum E { A = (enum F) 3 }; int main(void) { return A; }",
+        "1 at 1:20",
+    ),
+    (
+        "enum E { A }; enum E { B }; int main(void) { }",
+        "2 at 1:20",
+    ),
+    (
+        "int main(void) { enum E { A }; enum E { B }; }",
+        "2 at 1:37",
+    ),
+    (
+        "enum E { A }; int main(void) { enum E { B }; enum E x; x = B; }",
+        "fits",
+    ),
+    ("enum E { A } E; int main(void) { E = A; }", "fits"),
+    ("int main(void) { int E; enum E { A } x; E = x; }", "fits"),
+    ("enum E { E }; int main(void) { return E; }", "fits"),
+    ("enum E { A }; int main(void) { E = 1; }", "1 at 1:32"),
+    ("int E; int main(void) { enum E x; }", "1 at 1:30"),
+    (
+        "int main(void) { enum { A } x; enum { B } y; x = B; y = A; }",
+        "fits",
+    ),
+    (
+        "enum E { A }; enum E f(void); int f(void) { return A; } enum E main(void) { return f(); }",
+        "fits",
+    ),
+    (
+        "enum E { A }; int f(int a[]) { return a[0]; } int main(void) { enum E x[2]; return f(x); }",
+        "fits",
+    ),
+];
+
+/// Enumeration constants among the other names, and where a variable is wanted.
+static CONSTANTS: [(&str, &str); 26] = [
+    ("int main(void) { int A; enum { A }; }", "2 at 1:32"),
+    ("int main(void) { enum { A }; int A; }", "2 at 1:34"),
+    ("int main(void) { enum { A, A }; }", "2 at 1:28"),
+    ("enum { A }; enum { A }; int main(void) { }", "2 at 1:20"),
+    ("int A; enum { A }; int main(void) { }", "2 at 1:15"),
+    (
+        "int f(int A) { enum { A }; return 0; } int main(void) { }",
+        "2 at 1:23",
+    ),
+    ("int f(void); enum { f }; int main(void) { }", "2 at 1:21"),
+    ("enum { f }; int f(void); int main(void) { }", "2 at 1:17"),
+    (
+        "int main(void) { enum { f }; return f; } int f(void) { return 1; }",
+        "fits",
+    ),
+    ("int A[2]; int main(void) { enum { A }; return A; }", "fits"),
+    ("int A; int main(void) { enum { A }; A = 1; }", "3 at 1:37"),
+    ("enum { A }; int main(void) { int A; A = 1; }", "fits"),
+    (
+        "enum { A }; int main(void) { { int A[2]; A[0] = 1; } return A; }",
+        "fits",
+    ),
+    ("enum { A }; int main(int A) { A = 1; }", "fits"),
+    ("int main(void) { { enum { A }; } return A; }", "1 at 1:41"),
+    ("enum { A }; int main(void) { A(); }", "3 at 1:30"),
+    ("enum { A }; int main(void) { return A(); }", "3 at 1:37"),
+    ("enum { A }; int main(void) { A = 1; }", "3 at 1:30"),
+    ("enum { A }; int main(void) { A += 1; }", "3 at 1:30"),
+    ("enum { A }; int main(void) { A++; }", "3 at 1:30"),
+    ("enum { A }; int main(void) { --A; }", "3 at 1:32"),
+    ("enum { A }; int main(void) { return A[0]; }", "3 at 1:37"),
+    ("enum { A }; int main(void) { A[0] = 1; }", "3 at 1:30"),
+    (
+        "enum { A }; int f(int a[]) { return a[0]; } int main(void) { return f(A); }",
+        "3 at 1:71",
+    ),
+    (
+        "enum { A }; int f(int a[]) { return a[0]; } int main(void) { return f((A)); }",
+        "3 at 1:71",
+    ),
+    (
+        "enum { A }; int f(int a) { return a; } int main(void) { return f(A) + (A); }",
+        "fits",
+    ),
+];
+
+/// Values of enumeration constants.
+static VALUES: [(&str, &str); 26] = [
+    (
+        "enum { A = 3 }; int main(void) { int x[A] = {1, 2, 3}; }",
+        "fits",
+    ),
+    (
+        "enum { A = 3 }; int main(void) { int x[A] = {1, 2, 3, 4}; }",
+        "4 at 1:38",
+    ),
+    ("enum { A }; int main(void) { int x[A]; }", "6 at 1:34"),
+    (
+        "enum { A = 3 }; int x = A + 1; int main(void) { return x; }",
+        "fits",
+    ),
+    (
+        "enum { A, B }; int main(int x) { switch (x) { case A: ; case B: ; } }",
+        "fits",
+    ),
+    (
+        "enum { A, B }; int main(int x) { switch (x) { case A: ; case 0: ; } }",
+        "2 at 1:62",
+    ),
+    (
+        "enum { A = 1, B = A + 1, C = A + B }; int main(int x) { switch (x) { case C: ; case 3: ; } }",
+        "2 at 1:85",
+    ),
+    (
+        "enum { A = 7 }; int main(int x) { enum { A = A }; switch (x) { case 7: ; case A: ; } }",
+        "2 at 1:79",
+    ),
+    ("enum { A = A }; int main(void) { }", "1 at 1:12"),
+    ("int A; int main(void) { enum { A = A }; }", "3 at 1:36"),
+    ("int x; enum { A = x }; int main(void) { }", "3 at 1:19"),
+    ("int x; enum { A = 1 + x }; int main(void) { }", "3 at 1:19"),
+    (
+        "int f(void) { return 1; } enum { A = f() }; int main(void) { }",
+        "3 at 1:38",
+    ),
+    ("enum { A = 1 / 0 }; int main(void) { }", "3 at 1:12"),
+    (
+        "enum { A = 1 || 1 / 0 }; int main(void) { return A; }",
+        "fits",
+    ),
+    (
+        "enum { A, B, C = 5, D }; int main(int x) { switch (x) { case B: ; case D: ; case 0: ; case 5: ; case 6: ; } }",
+        "2 at 1:102",
+    ),
+    (
+        "enum { A, B, C = 5, D }; int main(int x) { switch (x) { case B: ; case D: ; case 0: ; case 5: ; case 1: ; } }",
+        "2 at 1:102",
+    ),
+    (
+        "enum { A = 2147483647, B }; int main(int x) { switch (x) { case B: ; case -2147483647 - 1: ; } }",
+        "2 at 1:75",
+    ),
+    (
+        "enum { A = 2147483647, B }; int main(int x) { switch (x) { case B: ; case 0: ; case 2147483647: ; } }",
+        "fits",
+    ),
+    (
+        "enum { A = 4294967295u }; int main(int x) { switch (x) { case A: ; case -1: ; } }",
+        "2 at 1:73",
+    ),
+    (
+        "#define M enum { A = 5, B = 1 / 0 }; switch (x) { case B: ; case 6: ; }\nint main(int x) { M }",
+        "2 at 2:19",
+    ),
+    (
+        "#define M enum { A = 5, B = 1 / 0, C }; switch (x) { case C: ; case 7: ; }\nint main(int x) { M }",
+        "2 at 2:19",
+    ),
+    (
+        "#define M enum { A = 5, B = x }; switch (x) { case B: ; case 6: ; }\nint main(int x) { M }",
+        "2 at 2:19",
+    ),
+    (
+        "#define M enum { A = 5, B = 1 / 0 }; switch (x) { case B: ; case 5: ; case 0: ; }\nint main(int x) { M }",
+        "3 at 2:19",
+    ),
+    (
+        "#define M enum { B = 1 / 0 }; switch (x) { case B: ; case 0: ; }\nint main(int x) { M }",
+        "2 at 2:19",
+    ),
+    ("int main(void) { enum { A = x }; int A; }", "1 at 1:29"),
+];
+
 /// Calls in indices.
 static CALLS: [(&str, &str); 5] = [
     (
@@ -551,6 +768,10 @@ fn faults_are_answered_at_their_places(rt: HostRuntime) {
     // `break` stands in loops and `switch`es, `continue` in loops; a `switch` has constant labels, each once.
     expect_answers(&rt, alloc, JUMPS.as_slice());
     expect_answers(&rt, alloc, LABELS.as_slice());
+    // Tags and constants of enumerations have their scopes, constants their values.
+    expect_answers(&rt, alloc, TAGS.as_slice());
+    expect_answers(&rt, alloc, CONSTANTS.as_slice());
+    expect_answers(&rt, alloc, VALUES.as_slice());
     // An index that is used twice has no call.
     expect_answers(&rt, alloc, CALLS.as_slice());
     // The leftmost fault is answered.

@@ -679,7 +679,7 @@ pub static EXAMPLES: [Example; 96] = [
     (
         NESTED,
         "1 0",
-        1,
+        2,
         16,
         Relaxed::Place(&[Step::Turn(StmtId(4), 1)], 7),
         "t 1000",

@@ -1,26 +1,29 @@
+enum state { START, ONE, BOTH };
+
 int main(int a, int b, int c) {
     int input[3];
-    int state, i;
+    enum state state;
+    int i;
     input[0] = a;
     input[1] = b;
     input[2] = c;
-    state = 0;
+    state = START;
     for (i = 0; i < 3; i++) {
         switch (state) {
-        case 0:
+        case START:
             if (input[i] == 1)
-                state = 1;
+                state = ONE;
             break;
-        case 2:
+        case BOTH:
             if (input[i] == 2)
-                state = 2;
+                state = BOTH;
             else
-                state = 0;
+                state = START;
             break;
         default:
-            state = 0;
+            state = START;
         }
     }
-    assert(state == 2 || c != 2);
+    assert(state == BOTH || b != 1 || c != 2);
     return 0;
 }

@@ -112,17 +112,113 @@ impl Drop for Declarators {
     }
 }
 
-/// A declaration in a block (C90 6.5).
+/// An enumeration constant, with its value if one is written (C90 6.5.2.2).
+pub struct Enumerator {
+    pub name: Token,
+    pub value: Option<EnumeratorValue>,
+}
+
+impl Drop for Enumerator {
+    fn drop(self) {
+        let Enumerator { name: _, value: _ } = self;
+    }
+}
+
+/// `=` and the value of an enumeration constant.
+pub struct EnumeratorValue {
+    pub assign: Token,
+    pub value: Conditional,
+}
+
+impl Drop for EnumeratorValue {
+    fn drop(self) {
+        let EnumeratorValue {
+            assign: _,
+            value: _,
+        } = self;
+    }
+}
+
+/// A comma and the enumeration constant after it.
+pub struct NextEnumerator {
+    pub comma: Token,
+    pub enumerator: Enumerator,
+}
+
+impl Drop for NextEnumerator {
+    fn drop(self) {
+        let NextEnumerator {
+            comma: _,
+            enumerator: _,
+        } = self;
+    }
+}
+
+/// One enumeration constant or more, with commas between, and the comma before the `}`, if there is one.
+pub struct EnumeratorList {
+    pub first: Enumerator,
+    pub rest: Vec<NextEnumerator>,
+    pub comma: Option<Token>,
+}
+
+impl Drop for EnumeratorList {
+    fn drop(self) {
+        let EnumeratorList {
+            first: _,
+            rest: _,
+            comma: _,
+        } = self;
+    }
+}
+
+/// The constants of an enumerated type, in braces (C90 6.5.2.2).
+pub struct Enumerators {
+    /// `{`
+    pub open: Token,
+    pub list: EnumeratorList,
+    /// `}`
+    pub close: Token,
+}
+
+impl Drop for Enumerators {
+    fn drop(self) {
+        let Enumerators {
+            open: _,
+            list: _,
+            close: _,
+        } = self;
+    }
+}
+
+/// What a declaration of a file or of a block begins with (C90 6.5): the words that name a type; or the words up
+/// to `enum` and its tag, the constants in braces, and the words behind them.
+pub struct Specifiers {
+    pub words: Vec<Token>,
+    pub enumerators: Option<Enumerators>,
+    pub behind: Vec<Token>,
+}
+
+impl Drop for Specifiers {
+    fn drop(self) {
+        let Specifiers {
+            words: _,
+            enumerators: _,
+            behind: _,
+        } = self;
+    }
+}
+
+/// A declaration in a block (C90 6.5). It has declarators, or the constants of an enumerated type, or both.
 pub struct Declaration {
-    pub name: TypeName,
-    pub declarators: Declarators,
+    pub specifiers: Specifiers,
+    pub declarators: Option<Declarators>,
     pub semicolon: Token,
 }
 
 impl Drop for Declaration {
     fn drop(self) {
         let Declaration {
-            name: _,
+            specifiers: _,
             declarators: _,
             semicolon: _,
         } = self;

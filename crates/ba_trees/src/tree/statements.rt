@@ -6,7 +6,7 @@ ghost use Rattle.ba_trees.specs.Marks.{has_accepted_levels};
 ghost use Rattle.ba_trees.specs.Marks.{node_of, file};
 ghost use Rattle.ba_trees.specs.Views.{joined};
 
-use crate::tree::declarations::{Declaration, Declarators, Parameters};
+use crate::tree::declarations::{Declaration, Declarators, Parameters, Specifiers};
 use crate::tree::expressions::{Arguments, Conditional, NextExpression, TypeName};
 use ba_tokens::token::Token;
 
@@ -523,21 +523,24 @@ impl Drop for Group {
 
 /// What stands at the level of the file: variables or a function (C90 6.7).
 pub struct External {
-    pub name: TypeName,
+    pub specifiers: Specifiers,
     pub form: ExternalForm,
 }
 
 impl Drop for External {
     fn drop(self) {
-        let External { name: _, form: _ } = self;
+        let External {
+            specifiers: _,
+            form: _,
+        } = self;
     }
 }
 
 /// The forms of what stands at the level of the file.
 pub enum ExternalForm {
-    /// Variables of the file (C90 6.7.2).
+    /// Variables of the file (C90 6.7.2), or none behind the constants of an enumerated type.
     Variables {
-        declarators: Declarators,
+        declarators: Option<Declarators>,
         semicolon: Token,
     },
     /// A function's definition or prototype (C90 6.7.1, 6.5.4.3).

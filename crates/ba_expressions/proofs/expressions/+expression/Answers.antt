@@ -6,16 +6,16 @@ use Rattle.ba_trees.specs.declared.tree.expressions.Branches.{out-Branches}
 use Rattle.ba_trees.specs.declared.tree.expressions.Chain.{out-Chain}
 use Rattle.ba_trees.specs.declared.tree.expressions.Expressions.{out-Expressions}
 use Rattle.ba_trees.specs.declared.tree.expressions.Operand.{out-Operand}
-use Rattle.ba_typing.specs.Expressions.{Typed, Typing, after_chains, params_of_called, typed_arg, typed_args, typed_arguments, typed_binary, typed_call, typed_cast, typed_chain, typed_conditional, typed_element, typed_next, typed_operand, typed_primary, typed_unary, typed_unary_expression, whole_operand}
-use Rattle.ba_typing.specs.Faults.{fault_if, array_name_faults, limit_faults, height_limit}
+use Rattle.ba_typing.specs.Expressions.{Typed, Typing, after_chains, params_of_called, typed_arg, typed_args, typed_arguments, typed_binary, typed_call, typed_cast, typed_chain, typed_conditional, typed_element, typed_next, typed_operand, typed_primary, typed_unary, typed_unary_expression, whole_operand, with_more_faults}
+use Rattle.ba_typing.specs.Faults.{fault_if, array_name_faults, limit_faults, height_limit, tag_faults}
 use Rattle.ba_expressions.specs.Judging.{Gives, GivesArg, Stands, Judges, after, with_faults, faults_of_arg, faults_of_args, calls_of_args, AreArgs}
-use Rattle.ba_typing.specs.Names.{binary_operator, meaning_of, name_of, punct_of, unary_operator}
+use Rattle.ba_typing.specs.Names.{binary_operator, meaning_of, name_of, punct_of, tag_of, unary_operator, words_of}
 use Rattle.ba_typing.specs.declared.fault.Cause.TheVariants.{WrongKind}
 use Rattle.ba_typing.specs.declared.meanings.Signature.{Signature}
 use Rattle.ba_expressions.proofs.ArgumentSteps.{Looked, arg-calls, arg-height, as-many, looked-all, looked-more, looked-none, usage-faults}
 use Rattle.ba_expressions.proofs.ParsedForms as forms
-use Rattle.ba_expressions.proofs.Tallies.{after-as, faults-before}
-use Rattle.ba_expressions.proofs.Walking.{cast-calls, cast-faults, chain-step, element-calls, element-faults, gives-called, gives-over, gives-select, nothing-more, unary-calls, unary-faults}
+use Rattle.ba_expressions.proofs.Tallies.{after-as, faults-before, faults-twice}
+use Rattle.ba_expressions.proofs.Walking.{cast-calls, chain-step, element-calls, element-faults, gives-called, gives-over, gives-select, nothing-more, tagged-casts, tagged-faults, unary-calls, unary-faults}
 use Rattle.ba_typing.proofs.Walks.{next_item, none_left}
 use Rattle.ba_expressions.proofs.expressions.+expression.Goals as goal
 
@@ -140,20 +140,25 @@ unary-returns-in_ok-a-in-Cast t c =
     let scope = c.args.scope.now in let old = c.args.tally.now in let new = c.unary-in-Cast.new.tally in
     let at = c.in-Cast.«open».at in
     let to = c.type_named-to.result in
-    let mid = c.add_if.new.self in
+    let tag = tag_faults scope (tag_of (words_of c.in-Cast.name)) in
+    let tagged = c.add_tag_faults.new.tally in let mid = c.add_if.new.self in
     let typing = λ (n : ℕ). typed_unary_expression c.in-Cast.operand.value scope n in
     let r = c.cast.result in
     subst (λ s. Gives s old new r)
     (sym (ap (λ u. typed_unary_expression u scope old.calls) c.in-Cast.is
     ∙ forms.cast-is c.in-Cast.«open» c.in-Cast.name c.in-Cast.close c.in-Cast.operand scope old.calls))
-    (subst (λ to. Gives (typed_cast at to (typing old.calls)) old new r) c.type_named-to.ensures
-    (gives-over (typed_cast at to) typing (fault_if (not (is_some to)) WrongKind at) c.in_ok-a-in-Cast.a old
-    mid new r
-    (c.add_if.ensures ∙ ap (λ b. with_faults old (fault_if b WrongKind at)) c.is_void.ensures)
+    (subst (λ to. Gives (with_more_faults tag (typed_cast at to (typing old.calls))) old new r)
+    c.type_named-to.ensures
+    (gives-over (λ s. with_more_faults tag (typed_cast at to s)) typing
+    (tag ++ fault_if (not (is_some to)) WrongKind at) c.in_ok-a-in-Cast.a old mid new r
+    (faults-twice old tagged mid tag (fault_if (not (is_some to)) WrongKind at)
+    (c.add_tag_faults.ensures ∙ ap (λ tag. with_faults old (tag_faults scope tag)) c.tag_of_type.ensures)
+    (c.add_if.ensures ∙ ap (λ b. with_faults tagged (fault_if b WrongKind at)) c.is_void.ensures))
     (subst (λ e. Stands c.in_ok-a-in-Cast.a (typed_unary_expression e scope mid.calls) mid new)
     c.deref-in-Cast.ensures
     c.in_ok-a-in-Cast.ensures)
-    (cast-calls at to) (cast-faults at to) c.cast.ensures))
+    (cast-calls at to) (tagged-faults at to tag) (tagged-casts at to tag c.in_ok-a-in-Cast.a r
+    c.cast.ensures)))
 
 pub unary-returns-in-Primary : goal.unary-returns-in-Primary
 unary-returns-in-Primary t c =

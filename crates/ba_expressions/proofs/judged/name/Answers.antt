@@ -1,16 +1,21 @@
-use Rattle.std.proofs.Common.{[], None, refl}
-use Rattle.ba_typing.specs.Expressions.{operator_over}
-use Rattle.ba_tree.specs.Trees.{tree_of_expr}
-use Rattle.ba_expressions.proofs.Judgements.{as-over}
-use Rattle.ba_typing.specs.Expressions.{variable_tree, variable_type}
-use Rattle.ba_typing.specs.Faults.{value_name_faults}
+use Rattle.std.proofs.Common.{◌≡◌, SFits, w64, to_z, of_z, to_z-of_z, rules, sym, subst}
+use Rattle.ba_numbers.specs.declared.numbers.CType.TheVariants.{I32}
+use Rattle.ba_typing.specs.Expressions.{typed_constant, typed_name}
+use Rattle.ba_expressions.specs.Judging.{Judges}
+use Rattle.ba_expressions.proofs.Judgements.{if-ok, other-name}
 use Rattle.ba_expressions.proofs.judged.name.Goals as goal
 
-pub returns : goal.returns
-returns c = let m = c.args.meaning.now in
-    c.named.ensures (operator_over c.args.at [] (variable_type m) (variable_tree m) None)
-    (value_name_faults m c.args.at)
-    (as-over c.in_ok-j.j c.args.at [] c.variable_type.result (variable_type m) (tree_of_expr
-    c.variable_tree-expr.result)
-    (variable_tree m) None None c.variable_type.ensures c.variable_tree-expr.ensures refl
-    (c.in_ok-j.ensures [] c.none.ensures))
+pub returns-in_ok-j-in-Constant : goal.returns-in_ok-j-in-Constant
+returns-in_ok-j-in-Constant c =
+    let z = c.in-Constant.value in
+    let fits : SFits w64 z = search rules in
+    let same : to_z w64 (of_z w64 z) ≡ z = to_z-of_z fits in
+    subst (λ m. Judges c.called.result (typed_name c.args.at c.args.name m)) (sym c.in-Constant.is)
+    (c.called.ensures (typed_constant c.args.at I32 z)
+    (subst (λ z. Judges c.in_ok-j-in-Constant.j (typed_constant c.args.at I32 z)) same
+    c.in_ok-j-in-Constant.ensures))
+
+pub returns-in_default : goal.returns-in_default
+returns-in_default c = if-ok c.name_of_variable.result _ _ (λ j is.
+    subst (Judges j) (other-name c.args.at c.args.name c.args.meaning.now c.in_default.not-Constant) is)
+    c.name_of_variable.ensures

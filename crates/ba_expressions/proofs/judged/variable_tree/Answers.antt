@@ -4,5 +4,5 @@ use Rattle.ba_expressions.proofs.judged.variable_tree.Goals as goal
 
 pub returns-else-is_array : goal.returns-else-is_array
 returns-else-is_array c =
-    variable-is c.args.meaning.now c.in-Variable.entry c.in-Variable.is (sym c.is_array.ensures ∙
+    variable-is c.args.meaning.now c.in-Variable.object c.in-Variable.is (sym c.is_array.ensures ∙
     c.if-is_array.false)

@@ -5,7 +5,7 @@ use Rattle.ba_expressions.specs.Judging.{with_faults}
 use Rattle.ba_typing.specs.Names.{knowing}
 use Rattle.ba_typing.specs.declared.fault.Cause.TheVariants.{Twice}
 use Rattle.ba_expressions.specs.declared.tally.Tally.{Tally}
-use Rattle.ba_statements.proofs.Adding.{variable-is}
+use Rattle.ba_statements.proofs.Adding.{variable-is, variable_entry}
 use Rattle.ba_statements.proofs.declarations.add_variable.Goals as goal
 
 pub returns : goal.returns
@@ -17,10 +17,5 @@ returns c = let w = c.args.work.now in let scope = c.args.scope.now in
     (ap (λ (t : Tally). record w { tally = t }) (c.add_if.ensures
     ∙ ap (λ (b : Bool). with_faults w.tally (fault_if b Twice c.args.at)) c.is_declared.ensures))
     c.in_ok-var.ensures.added c.in_ok-var.ensures.var
-    (knows ∙ ap (λ (n : ℕ). knowing (record {
-      name = c.args.name;
-      depth = n;
-      var = c.in_ok-var.var;
-      variable = c.args.variable;
-    }
-    ∷ []) scope) c.depth-depth.ensures)) c.declare.ensures.ok
+    (knows ∙ ap (λ (n : ℕ). knowing (variable_entry c.args.name n c.in_ok-var.var c.args.variable ∷ []) scope)
+    c.depth-depth.ensures)) c.declare.ensures.ok

@@ -10,6 +10,6 @@ returns c =
     let r = c.add_start.result in
     on_ok_weaker r (λ added.
     case-is switch.t switch.at s c.in_ok-j.j c.args.tally.now c.whole.new.tally c.add_start.new.tally
-    c.label_value-value.result c.args.count c.args.labels.now c.add_start.new.labels c.in_ok-j.ensures.0
-    c.in_ok-j.ensures.1 (c.label_value-value.ensures s c.in_ok-j.ensures.0) added.0 added.1)
+    c.constant_value-value.result c.args.count c.args.labels.now c.add_start.new.labels c.in_ok-j.ensures.0
+    c.in_ok-j.ensures.1 (c.constant_value-value.ensures s c.in_ok-j.ensures.0) added.0 added.1)
     (both-ok _ _ r c.add_start.ensures.labels c.add_start.ensures.tally)

@@ -8,13 +8,13 @@ use Rattle.ba_trees.specs.declared.tree.statements.Statement.{Statement}
 use Rattle.ba_statements.specs.Adding.{GivesTest, at_place, before_of, behind_part, state}
 use Rattle.ba_statements.specs.Controlling.{GivesBody, GivesGuarded}
 use Rattle.ba_statements.specs.Labelling.{behind_group, behind_groups, switch_state}
-use Rattle.ba_typing.specs.Declarations.{Part, in_order}
+use Rattle.ba_typing.specs.Declarations.{Part, add_declaration, in_order}
 use Rattle.ba_typing.specs.Names.{Scope, exits_of_loop, exits_of_switch, switching}
 use Rattle.ba_typing.specs.Statements.{GroupParts, add_if, add_item, add_statement, add_switch, parts_of_block, parts_of_group, test_of}
 use Rattle.ba_tree.specs.Trees.{StmtTree, tree_of_stmt}
 use Rattle.ba_typing.specs.declared.names.Exits.{Exits}
 use Rattle.ba_statements.proofs.Adding.{behind-nothing, next-part, no-part}
-use Rattle.ba_statements.proofs.ControlSteps.{at-scope, begun, block-adds, block-back, body-is, do-adds, for-adds, for-back, form-adds, form-answers, guarded-is, if-adds, if_else-adds, item-as, item-declares, exits-back, while-adds}
+use Rattle.ba_statements.proofs.ControlSteps.{at-scope, begun, block-adds, block-back, body-is, do-adds, for-adds, for-back, form-adds, form-answers, guarded-is, if-adds, if_else-adds, item-as, exits-back, while-adds}
 use Rattle.ba_statements.proofs.LabelSteps.{group-adds, groups-begun, next-group, no-group, switch-adds}
 use Rattle.ba_typing.proofs.ParsedStatements as forms
 use Rattle.ba_typing.proofs.StmtForms.{tree-Block}
@@ -167,12 +167,13 @@ add_items-returns t c = no-part add_item c.deref-item-items.result.now c.loop-it
     (state c.args.scope.now c.args.work.now c.args.stmts.now)) c.loop-item-test.false c.loop-item.invariant
 
 pub add_item-returns-in-Declaration : goal.add_item-returns-in-Declaration
-add_item-returns-in-Declaration t c = on_ok_weaker c.add_declarators.result
-    (item-declares c.args.item.now (state c.args.scope.now c.args.work.now c.args.stmts.now)
-    (state c.add_declarators.new.scope c.add_declarators.new.work c.add_declarators.new.stmts)
-    c.in-Declaration.d c.new-functions.result c.type_named-t.result c.in-Declaration.is
-    c.new-functions.ensures c.type_named-t.ensures)
-    c.add_declarators.ensures
+add_item-returns-in-Declaration t c =
+    let d = c.in-Declaration.d in
+    on_ok_weaker c.add_declaration.result
+    (item-as c.args.item.now (state c.args.scope.now c.args.work.now c.args.stmts.now)
+    (state c.add_declaration.new.scope c.add_declaration.new.work c.add_declaration.new.stmts)
+    (item.Declaration d) (add_declaration [] d.specifiers d.declarators) c.in-Declaration.is
+    (forms.declaration-is d)) c.add_declaration.ensures
 
 pub add_item-returns-in-Statement : goal.add_item-returns-in-Statement
 add_item-returns-in-Statement t c = on_ok_weaker c.add_statement.result

@@ -1,10 +1,13 @@
+use Rattle.std.proofs.Common.{map}
 use Rattle.std.proofs.lemmas.Result.{on_ok_weaker}
-use Rattle.ba_types.proofs.FileSteps.{variables-filed}
+use Rattle.ba_tree.specs.Trees.{tree_of_stmt}
+use Rattle.ba_types.proofs.FileSteps.{specified}
 use Rattle.ba_types.proofs.files.add_external.Goals as goal
 
-pub returns-in-Variables : goal.returns-in-Variables
-returns-in-Variables c = on_ok_weaker c.add_declarators.result (λ added.
-    variables-filed c.args.external.now c.args.signature.now c.args.earlier.now c.args.scope.now
-    c.add_declarators.new.scope c.args.work.now c.add_declarators.new.work c.args.inits.now
-    c.add_declarators.new.stmts c.args.functions.now c.type_named-t.result c.in-Variables.declarators
-    c.in-Variables.semicolon c.in-Variables.is c.type_named-t.ensures added) c.add_declarators.ensures
+pub returns : goal.returns
+returns c =
+    let inits = map tree_of_stmt c.args.inits.now.items in
+    on_ok_weaker c.add_external_form.result
+    (specified c.args.external.now c.args.signature.now c.args.earlier.now c.args.scope.now
+    c.add_specifiers.new.scope c.args.work.now c.add_specifiers.new.work inits c.args.functions.now _
+    (c.in_ok-add_specifiers.ensures inits)) c.add_external_form.ensures

@@ -1,0 +1,6 @@
+enum color { RED };
+int main(void) {
+    enum colour c;
+    c = RED;
+    return 0;
+}
