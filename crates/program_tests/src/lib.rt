@@ -19,6 +19,8 @@ mod items;
 #[cfg(test)]
 mod laws;
 #[cfg(test)]
+mod levels;
+#[cfg(test)]
 mod lex;
 #[cfg(test)]
 mod limits;
