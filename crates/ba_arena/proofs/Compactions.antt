@@ -1,10 +1,10 @@
 -- What a compaction leaves: planned, rewritten, moved.
 
-use Rattle.std.proofs.Common.{◌≡◌, ℕ, suc, ◌<◌, Option, None, Some, IsSome, is_some, List, [], ◌∷◌, length, get_or, map, refl, sym, ap, ◌∙◌, arith, ◌⊎◌, inl, inr, ⊎_elim}
+use Rattle.std.proofs.Common.{◌≡◌, ℕ, suc, ◌+◌, ◌<◌, Option, None, Some, IsSome, is_some, List, [], ◌∷◌, length, get_or, map, refl, sym, ap, ◌∙◌, arith, ◌⊎◌, inl, inr, ⊎_elim}
 use Rattle.std.specs.Option.{option_map}
 use Rattle.ba_arena.specs.Clauses.{Stored, Clauses, IsLive, IsOutside, AreReferences, clause_at, lits_of, link_at, link_of, linked}
 use Rattle.ba_arena.specs.Compaction.{size_of, moved, compacted, forwarded, followed, link_or, led, Compacts, Plans}
-use Rattle.ba_arena.proofs.Moves.{moved-there, moved-from, moved-same, moved-lt}
+use Rattle.ba_arena.proofs.Moves.{moved-there, moved-from, moved-same, moved-lt, moved-length, moved-past}
 use Rattle.ba_arena.proofs.Reading.{stored_some}
 use Rattle.ba_arena.proofs.Writing.{cons_both}
 
@@ -91,4 +91,6 @@ module _ (a0 a1 : Clauses) (plans : Plans a0 a1) where
           to = sym (to source.from) ∙ source.to;
         };
     order = λ a b live h. moved-lt a0 a b h live;
+    words = ap length is ∙ (moved-length a1 ∙ (sym (moved-past a1 (length a0 + length a1) (omega arith))
+        ∙ (to (length a0 + length a1) ∙ moved-past a0 (length a0 + length a1) (omega arith))));
   }

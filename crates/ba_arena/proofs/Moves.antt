@@ -1,7 +1,8 @@
 -- Where the clauses are after a compaction.
 
-use Rattle.std.proofs.Common.{◌≡◌, ℕ, suc, zero, ◌+◌, ◌-◌, ◌<◌, None, Some, [], ◌∷◌, ◌++◌, length, replicate, refl, sym, ap, ◌∙◌, arith, zero-add, ⊎_elim}
+use Rattle.std.proofs.Common.{◌≡◌, ℕ, suc, zero, ◌+◌, ◌-◌, ◌<◌, ◌≤◌, Option, None, Some, [], ◌∷◌, ◌++◌, length, replicate, length-append, refl, sym, ap, ◌∙◌, arith, zero-add, ⊎_elim}
 use Rattle.std.proofs.lemmas.Bool.{cases_lt}
+use Rattle.std.proofs.lemmas.List.{length-replicate}
 use Rattle.ba_arena.specs.Clauses.{Stored, Clauses, clause_at, IsLive}
 use Rattle.ba_arena.specs.Compaction.{size_of, moved, compacted}
 
@@ -31,6 +32,27 @@ moved-there (Some t ∷ cs) (suc r) s e =
   where
     index : (n m : ℕ) → 4 + n + m ≡ suc (3 + n + m)
     index n m = omega arith
+
+-- the live clauses take all words
+pub moved-length : (cs : Clauses) → length (compacted cs) ≡ moved cs (length cs)
+moved-length [] = refl
+moved-length (None ∷ cs) = omega (arith, moved-length cs)
+moved-length (Some t ∷ cs) =
+    omega (
+      arith,
+      length-append (replicate (3 + length t.lits) none) (compacted cs),
+      length-replicate (3 + length t.lits) none,
+      moved-length cs,
+    )
+  where
+    none : Option Stored
+    none = None
+
+-- past the last word nothing moves
+pub moved-past : (cs : Clauses) (n : ℕ) → length cs ≤ n → moved cs n ≡ moved cs (length cs)
+moved-past [] n h = refl
+moved-past (c ∷ cs) zero h = absurd (omega (arith, h))
+moved-past (c ∷ cs) (suc n) h = ap (λ m. size_of c + m) (moved-past cs n (omega (arith, h)))
 
 -- and each clause that is there then has moved there
 pub record Source (cs : Clauses) (q : ℕ) (s : Stored) : Type 0 where

@@ -63,9 +63,10 @@ pub record Came (old : Clauses) (place : ℕ) : Type 0 where
   pub to : moved old from ≡ place
 
 -- each live clause is at its new place, which its first link names. Its literals, its number and its second
--- link stay. There are no other clauses, and the order stays
+-- link stay. There are no other clauses and no other words, and the order stays
 pub record Compacts (old new : Clauses) : Type 0 where
   pub there : (clause : ℕ) → IsLive old clause →
       clause_at new (moved old clause) ≡ linked 0 (Some (moved old clause)) (clause_at old clause)
   pub only : (place : ℕ) → IsLive new place → Came old place
   pub order : (a b : ℕ) → IsLive old a → a < b → moved old a < moved old b
+  pub words : length new ≡ moved old (length old)

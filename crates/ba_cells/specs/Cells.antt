@@ -1,9 +1,10 @@
 -- Cells of words, read and written at an index that is a word itself.
 
-use Rattle.std.specs.Prelude.{◌≡◌, ℕ, ◌<◌, ◌==◌, Bool, ◌&&◌, nat_lt, List, [], length, slice_index_or, if◌then◌else◌}
+use Rattle.std.specs.Prelude.{◌≡◌, ℕ, ◌<◌, ◌==◌, Bool, ◌&&◌, ◌*◌, ◌/◌, ◌%◌, ◌≤◌, nat_lt, List, [], length, slice_index_or, if◌then◌else◌}
 use Rattle.ba_nodes.specs.declared.Bit.{Bit}
 use Rattle.ba_nodes.specs.declared.Node.{Node}
-use Rattle.ba_words.specs.Words.{number_of, low_number, AreBitsOf}
+use Rattle.ba_nodes.specs.Gates.{HasValue}
+use Rattle.ba_words.specs.Words.{number_of, low_number, bit_at, AreBitsOf}
 
 -- the cell at a place
 abbrev pub cell_at : List (List Bit) → ℕ → List Bit
@@ -36,3 +37,18 @@ AreWritten holds index old cells value new written =
     (free : ℕ → Bool) (place : ℕ) → place < length cells →
     number_of free new (cell_at written place) ≡ (if holds free
     && (index free == place) then number_of free old value else number_of free old (cell_at cells place))
+
+-- the bits of the numbers below a count tell which of them this number is
+abbrev pub Spells : List Node → List Bit → (count : ℕ) → (number : (ℕ → Bool) → ℕ) → Type 0
+Spells nodes bits count number =
+    (n : ℕ) → n < count → HasValue nodes (bit_at bits n) (λ free. number free == n)
+
+-- bits of rows and of columns tell where the low 8 bits of an index lead among so many places
+pub record IsGrid (nodes : List Node) (index : List Bit) (cells : ℕ) (rows columns : List Bit) (width : ℕ) :
+    Type 0 where
+  pub some : 0 < width
+  pub wide : width ≤ 16
+  pub all : cells ≤ 16 * width
+  pub row : (n : ℕ) → n * width < cells →
+      HasValue nodes (bit_at rows n) (λ free. low_number free nodes index 8 / width == n)
+  pub column : Spells nodes columns width (λ free. low_number free nodes index 8 % width)

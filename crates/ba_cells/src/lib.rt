@@ -1,16 +1,16 @@
 //! Reading and writing one of many words at an index that is a word itself.
 //!
-//! Whether the index is a place is one gate, which all reads and writes at this index share. A read is a chain of selects
-//! by these, one select less than there are cells, and a write selects in each cell. The one error is want of memory,
-//! which leaves every bit its value; further gates may have been added.
+//! Whether the index is a place is one gate, which all reads and writes at this index share: the `and` of its row and
+//! of its column. A read is a chain of selects by these, one select less than there are cells, and a write selects in
+//! each cell. The one error is want of memory, which leaves every bit its value; further gates may have been added.
 #![tactic(auto)]
 
-ghost use Rattle.std.specs.Prelude.{◌≡◌, ℕ, ◌+◌, ◌*◌, ◌/◌, ◌%◌, ◌<◌, ◌≤◌, ◌^◌, ◌==◌, Bool, not, nat_lt, List, length, IfOk, if◌then◌else◌};
+ghost use Rattle.std.specs.Prelude.{◌≡◌, ℕ, ◌+◌, ◌*◌, ◌/◌, ◌%◌, ◌<◌, ◌≤◌, ◌^◌, ◌==◌, Bool, ◌&&◌, nat_lt, List, length, IfOk};
 ghost use Rattle.ba_nodes.specs.declared.Bit.{Bit};
 ghost use Rattle.ba_nodes.specs.declared.Node.{Node};
 ghost use Rattle.ba_nodes.specs.Gates.{truth, IsBitOf, gates_in, Extends, HasValue};
-ghost use Rattle.ba_words.specs.Words.{number_of, low_number, AreBitsOf};
-ghost use Rattle.ba_cells.specs.Cells.{AreCellsOf, IsCellAt, IsCellRead, AreWritten};
+ghost use Rattle.ba_words.specs.Words.{digit, number_of, low_number, bit_at, AreBitsOf};
+ghost use Rattle.ba_cells.specs.Cells.{AreCellsOf, IsCellAt, IsCellRead, AreWritten, Spells, IsGrid};
 
 use ba_nodes::{Bit, Nodes};
 use ba_words::{Word, select};
@@ -19,8 +19,14 @@ use std::alloc::{AllocError, Global};
 /// How many bits of an index tell 256 cells apart.
 const INDEX_BITS: usize = 8;
 
-/// The cell at the index, by at most 96 gates a cell. Where that is out of range it is the cell at the low 8 bits of
-/// the index, or the first one where these lead behind the last.
+/// How many cells have rows of four places, and more have rows of 16.
+const FEW_CELLS: usize = 64;
+
+/// For each number below 16, a bit that tells whether it is meant.
+type Numbers = [Bit; 16];
+
+/// The cell at the index, by at most 96 gates a cell and 224 besides. Where that is out of range it is the cell at the
+/// low 8 bits of the index, or the first one where these lead behind the last.
 pub fn read_cell(nodes: &mut Nodes, cells: &[Word], index: &Word) -> Result<Word, AllocError>
     requires some { 0 < length cells.now }
     requires few { length cells.now ≤ 256 }
@@ -31,11 +37,12 @@ pub fn read_cell(nodes: &mut Nodes, cells: &[Word], index: &Word) -> Result<Word
         cells.now nodes.new) }
     ensures read { IfOk result (IsCellRead nodes.old cells.now index.now nodes.new) }
     ensures extends { Extends nodes.old nodes.new }
-    ensures count { gates_in nodes.new ≤ gates_in nodes.old + 96 * length cells.now }
+    ensures count { gates_in nodes.new ≤ gates_in nodes.old + 96 * length cells.now + 224 }
 {
+    let (rows, columns, width) = grid_of(nodes, index, cells.len())?;
     let mut word = cells[0];
     for place in 1..cells.len() {
-        let here = is_at(nodes, index, place)?;
+        let here = is_at(nodes, index, &rows, &columns, width, place)?;
         word = select(nodes, here, &cells[place], &word)?;
     }
     Ok(word)
@@ -66,9 +73,10 @@ pub fn write_cell(
 {
     let beyond = is_beyond(nodes, index)?;
     let hit = nodes.and(when, Nodes::not(beyond))?;
+    let (rows, columns, width) = grid_of(nodes, index, cells.len())?;
     let mut written = Vec::new(alloc);
     for place in 0..cells.len() {
-        let here = is_at(nodes, index, place)?;
+        let here = is_at(nodes, index, &rows, &columns, width, place)?;
         let replaced = nodes.and(hit, here)?;
         let cell = select(nodes, replaced, value, &cells[place])?;
         written.push(cell)?;
@@ -92,47 +100,100 @@ fn is_beyond(nodes: &mut Nodes, index: &Word) -> Result<Bit, AllocError>
     Ok(some)
 }
 
-/// Whether the low 8 bits of the index spell this place. They are compared from the highest on, so that places with the
-/// same high bits share gates.
-fn is_at(nodes: &mut Nodes, index: &Word, place: usize) -> Result<Bit, AllocError>
-    requires place { place < 256 }
-    requires index { AreBitsOf nodes.old index.now }
+/// Whether the low 8 bits of the index spell this place: its row and its column.
+fn is_at(
+    nodes: &mut Nodes,
+    index: &Word,
+    rows: &Numbers,
+    columns: &Numbers,
+    width: usize,
+    place: usize,
+) -> Result<Bit, AllocError>
+    requires some { 0 < width }
+    requires wide { width ≤ 16 }
+    requires place { place < 16 * width }
+    requires row { HasValue nodes.old (bit_at rows.now (place / width))
+        (λ free. low_number free nodes.old index.now 8 / width == place / width) }
+    requires column { HasValue nodes.old (bit_at columns.now (place % width))
+        (λ free. low_number free nodes.old index.now 8 % width == place % width) }
     ensures value { IfOk result (λ bit.
         HasValue nodes.new bit (λ free. low_number free nodes.old index.now 8 == place)) }
     ensures extends { Extends nodes.old nodes.new }
-    ensures count { gates_in nodes.new ≤ gates_in nodes.old + 8 }
+    ensures count { gates_in nodes.new ≤ gates_in nodes.old + 1 }
 {
-    let mut here = Nodes::constant(true);
-    for i in 0..INDEX_BITS {
-        let height = INDEX_BITS - 1 - i;
-        let same = turned(index[height], has_one(place, height));
-        here = nodes.and(here, same)?;
+    nodes.and(rows[place / width], columns[place % width])
+}
+
+/// Bits that tell which row and which column the low 8 bits of the index spell, and how many columns there are. Few
+/// cells take the fewest clauses by four columns, many the fewest gates by 16.
+fn grid_of(
+    nodes: &mut Nodes,
+    index: &Word,
+    cells: usize,
+) -> Result<(Numbers, Numbers, usize), AllocError>
+    requires few { cells ≤ 256 }
+    requires index { AreBitsOf nodes.old index.now }
+    ensures grid { IfOk result (λ r. IsGrid nodes.new index.now cells r.0 r.1 r.2) }
+    ensures long { IfOk result (λ r. (length r.0 ≡ 16) × (length r.1 ≡ 16)) }
+    ensures extends { Extends nodes.old nodes.new }
+    ensures count { gates_in nodes.new ≤ gates_in nodes.old + 48 }
+{
+    let lowest = pair_of(nodes, index, 0)?;
+    let low = pair_of(nodes, index, 2)?;
+    let high = pair_of(nodes, index, 4)?;
+    let highest = pair_of(nodes, index, 6)?;
+    let upper = combined(nodes, &highest, &high, (cells + 15) / 16)?;
+    if cells > FEW_CELLS {
+        let columns = combined(nodes, &low, &lowest, 16)?;
+        Ok((upper, columns, 16))
+    } else {
+        let rows = combined(nodes, &upper, &low, (cells + 3) / 4)?;
+        Ok((rows, lowest, 4))
     }
-    Ok(here)
 }
 
-/// The bit, or its opposite where it is not wanted.
-fn turned(bit: Bit, wanted: bool) -> Bit
-    ensures index { result.index ≡ bit.index }
-    ensures value { (nodes : List Node) (free : ℕ → Bool)
-        → truth free nodes result ≡ (if wanted then truth free nodes bit
-        else not (truth free nodes bit)) }
+/// Which number two bits of the index spell, from this place on.
+fn pair_of(nodes: &mut Nodes, index: &Word, place: usize) -> Result<Numbers, AllocError>
+    requires within { place < 31 }
+    requires index { AreBitsOf nodes.old index.now }
+    ensures long { IfOk result (λ bits. length bits ≡ 16) }
+    ensures bits { IfOk result (AreBitsOf nodes.new) }
+    ensures value { IfOk result (λ bits. Spells nodes.new bits 4
+        (λ free. digit (truth free nodes.old (bit_at index.now place))
+        + 2 * digit (truth free nodes.old (bit_at index.now (place + 1))))) }
+    ensures extends { Extends nodes.old nodes.new }
+    ensures count { gates_in nodes.new ≤ gates_in nodes.old + 4 }
 {
-    if wanted { bit } else { Nodes::not(bit) }
+    let (first, second) = (index[place], index[place + 1]);
+    let mut bits = [Nodes::constant(false); 16];
+    bits[0] = nodes.and(Nodes::not(second), Nodes::not(first))?;
+    bits[1] = nodes.and(Nodes::not(second), first)?;
+    bits[2] = nodes.and(second, Nodes::not(first))?;
+    bits[3] = nodes.and(second, first)?;
+    Ok(bits)
 }
 
-/// Whether a place, as a number in base 2, has a one at this height.
-fn has_one(place: usize, height: usize) -> bool
-    requires { height < 8 }
-    ensures { result ≡ (place / 2 ^ height % 2 == 1) }
+/// For each number below `count`, whether `upper` means its fourth part and `lower` what is left.
+fn combined(
+    nodes: &mut Nodes,
+    upper: &Numbers,
+    lower: &Numbers,
+    count: usize,
+) -> Result<Numbers, AllocError>
+    requires few { count ≤ 16 }
+    requires first { AreBitsOf nodes.old upper.now }
+    requires second { AreBitsOf nodes.old lower.now }
+    ensures long { IfOk result (λ bits. length bits ≡ 16) }
+    ensures bits { IfOk result (AreBitsOf nodes.new) }
+    ensures value { IfOk result (λ bits. (n : ℕ) → n < count → HasValue nodes.new (bit_at bits n)
+        (λ free. truth free nodes.old (bit_at upper.now (n / 4))
+        && truth free nodes.old (bit_at lower.now (n % 4)))) }
+    ensures extends { Extends nodes.old nodes.new }
+    ensures count { gates_in nodes.new ≤ gates_in nodes.old + count }
 {
-    (place / power_of_two(height)) % 2 == 1
-}
-
-/// Two to the power of `exponent`.
-fn power_of_two(exponent: usize) -> usize
-    requires { exponent ≤ 8 }
-    ensures { result ≡ 2 ^ exponent }
-{
-    1 << exponent
+    let mut bits = [Nodes::constant(false); 16];
+    for n in 0..count {
+        bits[n] = nodes.and(upper[n / 4], lower[n % 4])?;
+    }
+    Ok(bits)
 }

@@ -12,4 +12,5 @@ pub mod LastingLaws
 pub mod StateLaws
 pub mod PutLaws
 pub mod OnceLaws
+pub mod BoundLaws
 pub mod DropSteps

@@ -20,6 +20,7 @@ pub mod Doubles
 pub mod Filling
 pub mod Arrays
 pub mod Folding
+pub mod Chunks
 pub mod Building
 pub mod Inputs
 pub mod Beginning

@@ -11,6 +11,7 @@ ghost use Rattle.ba_wordlist.specs.declared.words.WordOp.TheVariants.{Const};
 use crate::choices::Offer;
 use crate::exits::{Exit, Exits};
 use crate::names::Names;
+use crate::variables::Variables;
 use crate::words::{ONE, Words, ZERO};
 use ba_code::nodes::Operand;
 use ba_items::Items;
@@ -26,7 +27,7 @@ pub struct Builder {
     pub words: Words,
     pub require: Names,
     pub places: Items<PlaceWords>,
-    pub vars: Names,
+    pub vars: Variables,
     pub arrays: Names,
     pub live: u32,
     pub exits: Exits,
@@ -36,7 +37,7 @@ pub struct Builder {
 #[derive(Drop)]
 pub struct Branch {
     pub live: u32,
-    pub vars: Names,
+    pub vars: Variables,
 }
 
 /// A branch whose first side was begun: the word of its condition, where the run stood before, and the word `first` of whether it came to
@@ -153,9 +154,9 @@ impl Builder {
     {
         let after = sides.after;
         if (after.live == sides.first) & (self.live == sides.second) {
-            let vars = self
-                .words
-                .merged(alloc, sides.which, &after.vars, &self.vars)?;
+            let vars = after
+                .vars
+                .merged(alloc, &mut self.words, sides.which, &self.vars)?;
             self.vars = vars;
             self.live = sides.live;
             return Ok(());
@@ -259,9 +260,9 @@ fn either_way(
     alloc: Global,
     words: &mut Words,
     live: u32,
-    vars: &Names,
+    vars: &Variables,
     other_live: u32,
-    other_vars: &Names,
+    other_vars: &Variables,
 ) -> Result<Branch, AllocError>
     ensures { IfOk result (λ to. are_words words.old ≡ true
         → slice_get words.old 1 ≡ Some (Const (pos 1))
@@ -283,7 +284,7 @@ fn either_way(
             vars: vars.copied(alloc)?,
         });
     }
-    let merged = words.merged(alloc, live, vars, other_vars)?;
+    let merged = vars.merged(alloc, words, live, other_vars)?;
     let live = words.select(live, ONE, other_live)?;
     Ok(Branch { live, vars: merged })
 }

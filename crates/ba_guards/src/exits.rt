@@ -4,7 +4,7 @@ ghost use Rattle.std.specs.Prelude.{◌≡◌, ◌==◌, cond, ◌++◌, ◌∷�
 ghost use Rattle.ba_guards.specs.Continuing.{exit_of, labels_of};
 ghost use Rattle.ba_guards.specs.declared.exits.Exit.{Exit};
 
-use crate::names::Names;
+use crate::variables::Variables;
 use std::alloc::{AllocError, Global};
 use std::marker::Model;
 
@@ -13,7 +13,7 @@ use std::marker::Model;
 pub struct Exit {
     pub label: u32,
     pub live: u32,
-    pub vars: Names,
+    pub vars: Variables,
 }
 
 /// The exits of blocks, the outermost first. Contracts see their list.
@@ -57,7 +57,7 @@ impl Exits {
     }
 
     /// Puts other words at an exit.
-    pub fn set(&mut self, index: usize, live: u32, vars: Names)
+    pub fn set(&mut self, index: usize, live: u32, vars: Variables)
         ensures { (exit : Exit) → slice_get self.old index ≡ Some exit
             → self.new ≡ slice_set self.old index (record exit { live = live; vars = vars }) }
     {

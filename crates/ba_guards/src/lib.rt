@@ -13,6 +13,7 @@ mod expressions;
 mod names;
 mod starting;
 mod steps;
+mod variables;
 mod walking;
 mod whole;
 mod words;

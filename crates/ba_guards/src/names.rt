@@ -1,4 +1,4 @@
-//! The words of variables and of arrays.
+//! Lists of words by their numbers.
 
 ghost use Rattle.std.specs.Prelude.{◌≡◌, ◌++◌, ◌∷◌, [], IfOk, OnOk, length, replicate, slice_index_or, slice_set};
 
@@ -6,7 +6,7 @@ use ba_items::Items;
 use std::alloc::{AllocError, Global};
 use std::marker::Model;
 
-/// Numbers of words, one for each variable or array. Contracts see their list.
+/// Numbers of words, as one for each array. Contracts see their list.
 #[derive(Drop)]
 pub struct Names {
     items: Vec<u32>,
@@ -70,9 +70,15 @@ impl Names {
     pub fn set(&mut self, number: u32, name: u32)
         ensures { self.new ≡ slice_set self.old number name }
     {
-        let number = number as usize;
-        if number < self.items.len() {
-            self.items[number] = name;
+        self.set_index(number as usize, name);
+    }
+
+    /// The same. It takes no memory.
+    pub fn set_index(&mut self, index: usize, name: u32)
+        ensures { self.new ≡ slice_set self.old index name }
+    {
+        if index < self.items.len() {
+            self.items[index] = name;
         }
     }
 

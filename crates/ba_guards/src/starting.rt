@@ -16,6 +16,7 @@ use crate::builder::Builder;
 use crate::exits::{Exit, Exits};
 use crate::names::Names;
 use crate::steps::{fill, length_of, set};
+use crate::variables::Variables;
 use crate::words::{ONE, Words, ZERO};
 use ba_code::nodes::{ArrayInfo, Operand, Param};
 use ba_items::Items;
@@ -36,9 +37,9 @@ pub fn start(alloc: Global, vars: u32, arrays: &[ArrayInfo]) -> Result<Builder, 
     exits.push(Exit {
         label: 0,
         live: ZERO,
-        vars: Names::zeros(alloc, vars as usize)?,
+        vars: Variables::zeros(alloc, vars as usize)?,
     })?;
-    let zeros = Names::zeros(alloc, vars as usize)?;
+    let zeros = Variables::zeros(alloc, vars as usize)?;
     Ok(Builder {
         words,
         require: Names::new(alloc),

@@ -135,11 +135,11 @@ pub fn take_values(
 {
     match take {
         Take::Value { to, .. } => {
-            b.vars.set(to, word_at(&values, 0));
+            b.vars.set(to, word_at(&values, 0))?;
             Ok(())
         }
         Take::Truth { to } => {
-            b.vars.set(to, word_at(&values, 0));
+            b.vars.set(to, word_at(&values, 0))?;
             Ok(())
         }
         Take::Cell { array } => {

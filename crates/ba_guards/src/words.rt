@@ -251,7 +251,7 @@ impl Words {
         }
     }
 
-    /// For each variable the word of `yes` where `which` isn't 0, and else that of `no`.
+    /// For each number the word of `yes` where `which` isn't 0, and else that of `no`.
     pub fn merged(
         &mut self,
         alloc: Global,
@@ -259,7 +259,8 @@ impl Words {
         yes: &Names,
         no: &Names,
     ) -> Result<Names, AllocError>
-        ensures { IfOk result (λ merged. are_words self.old ≡ true → which < length self.old
+        ensures length { IfOk result (λ merged. length merged ≡ length no.now) }
+        ensures merges { IfOk result (λ merged. are_words self.old ≡ true → which < length self.old
             → are_names (length self.old) yes.now ≡ true → are_names (length self.old) no.now ≡ true
             → length yes.now ≡ length no.now
             → Merges self.old self.new (length no.now)

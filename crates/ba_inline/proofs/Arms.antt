@@ -1,5 +1,5 @@
 -- What the functions of the inliner make, with the declarations and the nodes that are there at their ends.
-use Rattle.std.proofs.Common.{◌≡◌, ℕ, ◌+◌, ◌≤◌, suc, ℤ, pos, Bool, true, false, ◌||◌, List, [], ◌∷◌, ◌++◌, map, length, replicate, refl, sym, ◌∙◌, ap, subst, arith, append-nil, zero}
+use Rattle.std.proofs.Common.{◌≡◌, ℕ, ◌+◌, ◌<◌, ◌≤◌, suc, ℤ, pos, Bool, true, false, ◌||◌, List, [], ◌∷◌, ◌++◌, map, length, replicate, refl, sym, ◌∙◌, ap, subst, arith, append-nil, zero}
 use Rattle.std.specs.Global.{Box, Vec}
 use Rattle.std.specs.Prelude.{None, Ok, Option, Some, slice_get}
 use Rattle.ba_code.specs.Meaning.{InTurns, Setting, path_in, run_nodes}
@@ -21,6 +21,7 @@ use Rattle.ba_inline.proofs.Scopes.{frame-begun, frame-later, scope-later, scope
 use Rattle.ba_inline.proofs.Statements.{makes-if}
 use Rattle.ba_inline.proofs.Stores.{makes-init_array, makes-store}
 use Rattle.ba_inline.proofs.Values.{both-values}
+use Rattle.ba_inline.proofs.Wiping.{does-cleared, gives-cleared, makes-behind-zero, wipes-one, wipes-since}
 use Rattle.ba_inline.specs.Adding.{block_act, fill_act, if_act, loop_act, pick_act, save_act, set_act}
 use Rattle.ba_inline.specs.Arrays.{IsArrayOf}
 use Rattle.ba_inline.specs.Binding.{Binds}
@@ -30,7 +31,8 @@ use Rattle.ba_inline.specs.Ends.{Meets}
 use Rattle.ba_inline.specs.Invoking.{invoke_part}
 use Rattle.ba_inline.specs.Making.{Adds, AreGiven, Does, Gives, GivesTo, IsSettled, Makes, MakesArgument, MakesArguments, MakesValue, MakesValues, Part, Standing, argument_in, body_exits, reading, reading_arguments, turn_exits}
 use Rattle.ba_inline.specs.Names.{IsFrame, IsScope, Names, location_at, seen}
-use Rattle.ba_inline.specs.Parts.{LoopParts, argument_part, arguments_part, call_part, context_in_frame, given_part, init_array_part, loop_part, optional_part, stmt_part, stmts_part, store_part, value_part, values_part}
+use Rattle.ba_inline.specs.Parts.{LoopParts, argument_part, arguments_part, call_part, context_in_frame, given_part, init_array_part, loop_part, optional_now, optional_part, stmt_part, stmts_part, store_part, value_part, values_part}
+use Rattle.ba_inline.specs.Wiping.{Wipes}
 use Rattle.ba_inline.specs.Worlds.{code_setting}
 use Rattle.ba_inline.specs.declared.frames.Exits.{Exits}
 use Rattle.ba_inline.specs.declared.frames.Frame.{Frame}
@@ -45,7 +47,7 @@ use Rattle.ba_numbers.specs.declared.numbers.CType.{CType}
 use Rattle.ba_numbers.specs.declared.numbers.CType.TheVariants.{I32}
 use Rattle.ba_tree.proofs.Equations.{eval-Call, eval_arg-Array, eval_arg-Value}
 use Rattle.ba_tree.specs.Acts.{each, give, then_do}
-use Rattle.ba_tree.specs.Meaning.{eval_arg}
+use Rattle.ba_tree.specs.Meaning.{eval_arg, exec}
 use Rattle.ba_tree.specs.Run.{begin_frame, function_of}
 use Rattle.ba_tree.specs.declared.run.Argument.{Argument}
 use Rattle.ba_tree.specs.declared.run.Step.{Step}
@@ -229,8 +231,9 @@ called_frame home result frames = record { home = home; exits = no_exits; result
 
 pub invoke-made : (p : Program) (names inner : Names) (path : List Step) (frame : Frame) (here : StmtId)
     (fn : FnId) (n : ℕ)
-    (f : Function) (gives : List Given) (low mid d high : Types) (old out then_out new first body : List
-    Node) (home : ℕ)
+    (f : Function) (gives : List Given) (low mid d high : Types) (old out then_out called new first body :
+    List
+    Node) (from home : ℕ)
     (ty : CType) (stmts : List Stmt)
     → frame.frames ≡ suc n → function_of p fn ≡ f → stmts ≡ f.body → first ≡ [] → home ≡ length mid.vars
     → d ≡ with_var ty mid
@@ -239,11 +242,13 @@ pub invoke-made : (p : Program) (names inner : Names) (path : List Step) (frame 
     → Adds out then_out (set_act home (Const (pos 0)))
     → (IsFrame p home inner d → Makes p inner path (stmts_part p (called_frame home f.result n) stmts)
     (Does inner no_exits home d) d high first body)
-    → Adds then_out new (block_act 0 body)
+    → Adds then_out called (block_act 0 body)
+    → IsScope p names low → from ≡ length low.vars → Wipes from home called new
     → MakesValue p names path (invoke_part p frame here fn gives) true false (Var home) low high old new
-invoke-made p names inner path frame here fn n f gives low mid d high old out then_out new first body home
+invoke-made p names inner path frame here fn n f gives low mid d high old out then_out called new first body
+    from home
     ty stmts is_frames
-    is_function is_stmts is_first is_home is_d binds zeroed more blocked =
+    is_function is_stmts is_first is_home is_d binds zeroed more blocked scope is_from wipes =
     let made : Makes p inner path (stmts_part p (called_frame home f.result n) f.body) (Does inner no_exits
     home (with_var ty mid))
     (with_var ty mid) high [] body =
@@ -259,11 +264,14 @@ invoke-made p names inner path frame here fn n f gives low mid d high old out th
     let many : length (with_var ty mid).vars ≤ length high.vars = made.grows.vars in
     record {
       settled = (omega (arith, count, many, is_home), tt);
-      makes = makes-invoked p names inner f (λ t. begin_frame p f (reading_arguments gives t) (seen names
+      makes = gives-cleared p names path (invoke_part p frame here fn gives) true home low high old called new
+          scope.naming
+          (makes-invoked p names inner f (λ t. begin_frame p f (reading_arguments gives t) (seen names
           t)) low mid old out
-          binds home ty is_home path frame here fn n gives high then_out new body is_frames is_function (λ
+          binds home ty is_home path frame here fn n gives high then_out called body is_frames is_function (λ
           t. refl) zeroed made
-          blocked;
+          blocked)
+          (wipes-since is_from wipes);
     }
 
 -- STATEMENTS
@@ -285,19 +293,20 @@ module _ (p : Program) (names : Names) (path : List Step) (frame : Frame) (low :
   abbrev own_scope : IsScope p names low
   own_scope = scope-of p frame.home names low is_frame
 
-  pub store-made : (here : StmtId) (array : VarId) (index value : Expr) (n : ℕ) (keep : Bool) (a b : Operand)
-      (mid high : Types) (old new none one two three : List Node)
+  pub store-made : (here : StmtId) (array : VarId) (index value : Expr) (n from : ℕ) (keep : Bool) (a b :
+      Operand)
+      (mid high : Types) (old new none one two three four : List Node)
       → IsArrayOf p names low array n → none ≡ [] → keep ≡ has_call value
       → (IsScope p names low
       → MakesValue p names path (value_part p frame here index) (has_call index) keep a low mid none one)
       → (IsScope p names mid
       → MakesValue p names path (value_part p frame here value) (has_call value) false b mid high one two)
-      → Adds two three (save_act n a b here) → Adds old new (pick_act path here (code.Cell n) three)
+      → Adds two three (save_act n a b here) → from ≡ length low.vars → Wipes from frame.home three four
+      → Adds old new (pick_act path here (code.Cell n) four)
       → Makes p names path (store_part p frame here array index value) (Does names frame.exits frame.home
       low) low high old new
-  store-made here array index value n keep a b mid high old new none one two three is_array is_none is_keep
-      index_made
-      value_made saved added =
+  store-made here array index value n from keep a b mid high old new none one two three four is_array is_none
+      is_keep index_made value_made saved is_from wipes added =
       let first : MakesValue p names path (value_part p frame here index) (has_call index) (has_call value)
       a low mid none one =
       subst (λ keep. MakesValue p names path (value_part p frame here index) (has_call index) keep a low
@@ -309,88 +318,104 @@ module _ (p : Program) (names : Names) (path : List Step) (frame : Frame) (low :
       makes-store p names path frame low is_frame.naming array n is_array.found high is_array.info
       (declared-later low high n is_array.info (grows-then low mid high first.makes.grows
       second.makes.grows) is_array.is_declared)
-      is_array.same_type here index value (has_call index || has_call value) a b old new three two
+      is_array.same_type here index value (has_call index || has_call value) a b old new four three two
       (makes-old is_none (both-values p names path frame here index index value low mid high none one two
       two a b
-      (length high.vars) I32 own_scope.naming first second refl)) saved added
+      (length high.vars) I32 own_scope.naming first second refl)) saved
+      (wipes-since is_from wipes) added
 
-  pub init-made : (here : StmtId) (array : VarId) (values : List Expr) (n : ℕ) (c keep : Bool) (os filled :
-      List Operand)
-      (high : Types) (old new none one two : List Node)
+  pub init-made : (here : StmtId) (array : VarId) (values : List Expr) (n from : ℕ) (c keep : Bool) (os
+      filled : List Operand)
+      (high : Types) (old new none one two three : List Node)
       → IsArrayOf p names low array n → none ≡ []
       → ((count : ℕ) × (filled ≡ os ++ replicate count (Const (pos 0))))
       → (IsScope p names low →
       MakesValues p names path (values_part p frame here values) c keep os low high none one)
-      → Adds one two (fill_act n filled) → Adds old new (pick_act path here (code.Cells n) two)
+      → Adds one two (fill_act n filled) → from ≡ length low.vars → Wipes from frame.home two three
+      → Adds old new (pick_act path here (code.Cells n) three)
       → Makes p names path (init_array_part p frame here array values) (Does names frame.exits frame.home
       low) low high old new
-  init-made here array values n c keep os filled high old new none one two is_array is_none up values_made
-      filled_by added =
+  init-made here array values n from c keep os filled high old new none one two three is_array is_none up
+      values_made filled_by is_from wipes added =
       let made : MakesValues p names path (values_part p frame here values) c keep os low high none one =
       values_made own_scope in
       makes-init_array p names path frame low is_frame.naming array n is_array.found high is_array.info
       (declared-later low high n is_array.info made.makes.grows is_array.is_declared) is_array.same_type
       here values c os
-      (replicate up.0 (Const (pos 0))) up.0 (λ t. constants-zero t up.0) old new two one
-      (makes-old is_none made.makes) (subst (λ filled. Adds one two (fill_act n filled)) up.1 filled_by) added
+      (replicate up.0 (Const (pos 0))) up.0 (λ t. constants-zero t up.0) old new three two one
+      (makes-old is_none made.makes) (subst (λ filled. Adds one two (fill_act n filled)) up.1 filled_by)
+      (wipes-since is_from wipes) added
 
   pub if-made : (stmt : Stmt) (here : StmtId) (e : Expr) (box : Box Stmt) (other : Option (Box Stmt))
       (inner : Stmt) (to : ℕ)
-      (first then_one high : Types) (old out new none₁ yeses none₂ noes : List Node)
+      (first then_one high : Types) (old out new none₁ start₁ yeses none₂ start₂ noes : List Node)
       → stmt ≡ stmts.If here e box other → inner ≡ box.value → none₁ ≡ [] → none₂ ≡ []
+      → to ≡ length low.vars
       → (IsScope p names low → Makes p names path (given_part p frame here wanted.Truth e)
       (Gives names (has_call e) low (reading (Var to))) low first old out)
+      → Adds none₁ start₁ (set_act to (Const (pos 0)))
       → (IsFrame p frame.home names first → Makes p names path (stmt_part p frame inner)
-      (Does names frame.exits frame.home first) first then_one none₁ yeses)
+      (Does names frame.exits frame.home first) first then_one start₁ yeses)
+      → Adds none₂ start₂ (set_act to (Const (pos 0)))
       → (IsFrame p frame.home names then_one → Makes p names path (optional_part p frame other)
-      (Does names frame.exits frame.home then_one) then_one high none₂ noes)
+      (Does names frame.exits frame.home then_one) then_one high start₂ noes)
       → Adds out new (if_act (Var to) yeses noes)
       → Makes p names path (stmt_part p frame stmt) (Does names frame.exits frame.home low) low high old new
-  if-made stmt here e box other inner to first then_one high old out new none₁ yeses none₂ noes is is_inner
-      is_none₁ is_none₂
-      tested yes_made no_made added =
+  if-made stmt here e box other inner to first then_one high old out new none₁ start₁ yeses none₂ start₂
+      noes is
+      is_inner is_none₁ is_none₂ is_to tested zero₁ yes_made zero₂ no_made added =
       let test : Makes p names path (given_part p frame here wanted.Truth e) (Gives names (has_call e) low
       (reading (Var to)))
       low first old out = tested own_scope in
+      let late : length low.vars ≤ to = omega (arith, is_to) in
       let at_first : IsFrame p frame.home names first = frame-later p frame.home names low first test.grows
       is_frame in
       let one : Makes p names path (stmt_part p frame inner) (Does names frame.exits frame.home first)
-      first then_one none₁ yeses =
+      first then_one start₁ yeses =
       yes_made at_first in
       let two : Makes p names path (optional_part p frame other) (Does names frame.exits frame.home
-      then_one) then_one high none₂ noes =
+      then_one) then_one high start₂ noes =
       no_made (frame-later p frame.home names first then_one one.grows at_first) in
       makes-if p names path frame low is_frame.naming stmt here e box other (has_call e) to first then_one
       high old out new
-      yeses noes is test
-      (makes-old is_none₁ (subst (λ inner. Makes p names path (stmt_part p frame inner)
-      (Does names frame.exits frame.home first) first then_one none₁ yeses) is_inner one))
-      (makes-old is_none₂ two) added
+      yeses noes is test one.grows two.grows
+      (makes-behind-zero p names path frame (λ w back. exec (context_in_frame p frame w) box.value back)
+      low first
+      then_one to [] start₁ yeses is_frame.naming test.grows late (adds-old is_none₁ zero₁)
+      (subst (λ inner. Makes p names path (stmt_part p frame inner)
+      (Does names frame.exits frame.home first) first then_one start₁ yeses) is_inner one))
+      (makes-behind-zero p names path frame (λ w back. optional_now p frame other w back) low then_one high
+      to []
+      start₂ noes is_frame.naming (grows-then low first then_one test.grows one.grows) late
+      (adds-old is_none₂ zero₂) two) added
 
   pub loop-made : (parts : LoopParts) (body_frame step_frame : Frame) (inside₁ inside₂ inside₃ : List Step)
       (to : ℕ)
-      (test_end body_end high : Types) (old new none₁ heads none₂ bodies none₃ turned none₄ steps none₅
-      loops : List Node)
+      (test_end body_end high : Types) (old out new none₁ heads none₂ start bodies none₃ turned none₄ steps
+      none₅ loops : List Node)
       → inside₁ ≡ path ++ Turn parts.stmt 0 ∷ [] → inside₂ ≡ path ++ Turn parts.stmt 0 ∷ []
       → inside₃ ≡ path ++ Turn parts.stmt 0 ∷ []
       → none₁ ≡ [] → none₂ ≡ [] → none₃ ≡ [] → none₄ ≡ [] → none₅ ≡ []
       → body_frame ≡ record frame { exits = body_exits } →
-      step_frame ≡ record frame { exits = turn_exits frame.exits }
+      step_frame ≡ record frame { exits = turn_exits frame.exits } → to ≡ length low.vars
       → (IsScope p names low → Makes p names inside₁ (given_part p frame parts.stmt wanted.Truth parts.when)
       (Gives names (has_call parts.when) low (reading (Var to))) low test_end none₁ heads)
+      → Adds none₂ start (set_act to (Const (pos 0)))
       → (IsFrame p body_frame.home names test_end → Makes p names inside₂ (stmt_part p body_frame parts.body)
-      (Does names body_frame.exits body_frame.home test_end) test_end body_end none₂ bodies)
+      (Does names body_frame.exits body_frame.home test_end) test_end body_end start bodies)
       → Adds none₃ turned (block_act 2 bodies)
       → (IsFrame p step_frame.home names body_end → Makes p names inside₃ (stmts_part p step_frame parts.step)
       (Does names step_frame.exits step_frame.home body_end) body_end high none₄ steps)
       → Adds none₅ loops (loop_act parts.after heads (Var to) turned steps parts.stmt)
-      → Adds old new (block_act 1 loops)
+      → Adds old out (block_act 1 loops) → Adds out new (set_act to (Const (pos 0)))
       → Makes p names path (loop_part p frame parts) (Does names frame.exits frame.home low) low high old new
-  loop-made parts body_frame step_frame inside₁ inside₂ inside₃ to test_end body_end high old new none₁
-      heads none₂ bodies none₃
+  loop-made parts body_frame step_frame inside₁ inside₂ inside₃ to test_end body_end high old out new none₁
+      heads none₂ start bodies none₃
       turned none₄ steps none₅ loops is_inside₁ is_inside₂ is_inside₃ is_none₁ is_none₂ is_none₃ is_none₄
-      is_none₅ is_body is_step
-      tested run_body blocked run_step looped outer =
+      is_none₅ is_body is_step is_to
+      tested first_zero run_body blocked run_step looped outer last_zero =
+      let late : length low.vars ≤ to = omega (arith, is_to) in
+      let few : frame.home < length low.vars = is_frame.naming.below.0 in
       let inside : List Step = path ++ Turn parts.stmt 0 ∷ [] in
       let test : Makes p names inside (given_part p frame parts.stmt wanted.Truth parts.when)
       (Gives names (has_call parts.when) low (reading (Var to))) low test_end [] heads =
@@ -398,10 +423,10 @@ module _ (p : Program) (names : Names) (path : List Step) (frame : Frame) (low :
       let at_test : IsFrame p frame.home names test_end = frame-later p frame.home names low test_end
       test.grows is_frame in
       let body : Makes p names inside (stmt_part p (record frame { exits = body_exits }) parts.body)
-      (Does names body_exits frame.home test_end) test_end body_end [] bodies =
+      (Does names body_exits frame.home test_end) test_end body_end start bodies =
       subst (λ (f : Frame). IsFrame p f.home names test_end → Makes p names inside (stmt_part p f parts.body)
-      (Does names f.exits f.home test_end) test_end body_end [] bodies) is_body
-      (λ at. makes-along is_inside₂ (makes-old is_none₂ (run_body at))) at_test in
+      (Does names f.exits f.home test_end) test_end body_end start bodies) is_body
+      (λ at. makes-along is_inside₂ (run_body at)) at_test in
       let step : Makes p names inside (stmts_part p (record frame { exits = turn_exits frame.exits })
       parts.step)
       (Does names (turn_exits frame.exits) frame.home body_end) body_end high [] steps =
@@ -409,8 +434,16 @@ module _ (p : Program) (names : Names) (path : List Step) (frame : Frame) (low :
       (Does names f.exits f.home body_end) body_end high [] steps) is_step
       (λ at. makes-along is_inside₃ (makes-old is_none₄ (run_step at)))
       (frame-later p frame.home names test_end body_end body.grows at_test) in
-      makes-loop p names path frame parts.stmt parts.when parts.body parts.step (has_call parts.when) to
+      does-cleared p names path (loop_part p frame parts) frame frame.home low high old out new
+      is_frame.naming
+      (makes-loop p names path frame parts.stmt parts.when parts.body parts.step (has_call parts.when) to
       low test_end body_end
-      high heads bodies steps turned is_frame.naming test body (adds-old is_none₃ blocked) step old new
-      loops parts.after
-      (adds-old is_none₅ looped) outer
+      high heads bodies steps turned is_frame.naming test
+      (makes-behind-zero p names inside (record frame { exits = body_exits })
+      (λ w back. exec (context_in_frame p (record frame { exits = body_exits }) w) parts.body back) low
+      test_end
+      body_end to [] start bodies is_frame.naming test.grows late (adds-old is_none₂ first_zero) body)
+      body.grows (adds-old is_none₃ blocked) step old out loops parts.after
+      (adds-old is_none₅ looped) outer)
+      (wipes-one (length low.vars) frame.home to out new
+      (late, λ same. absurd (omega (arith, late, few, same))) last_zero)

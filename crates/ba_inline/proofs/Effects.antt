@@ -1,5 +1,5 @@
 -- The code of statements that evaluate something and give nothing.
-use Rattle.std.proofs.Common.{◌≡◌, ℕ, ℤ, Bool, true, Ok, List, [], ◌∷◌, map, refl, sym, subst}
+use Rattle.std.proofs.Common.{◌≡◌, ℕ, ℤ, Bool, true, Ok, List, [], ◌∷◌, map, length, refl, sym, subst}
 use Rattle.ba_choices.specs.declared.Choice.{Choice}
 use Rattle.ba_code.specs.Meaning.{if_taken, taken}
 use Rattle.ba_code.specs.State.{CodeState}
@@ -12,11 +12,13 @@ use Rattle.ba_inline.proofs.Homes.{home-stays, keeps-with}
 use Rattle.ba_inline.proofs.Joining.{makes-pure}
 use Rattle.ba_inline.proofs.Picks.{fits-meets, with_choices}
 use Rattle.ba_inline.proofs.Relaxing.{does-lead, makes-pick}
+use Rattle.ba_inline.proofs.Wiping.{does-cleared}
 use Rattle.ba_inline.specs.Adding.{pick_act}
 use Rattle.ba_inline.specs.Ends.{Meets}
 use Rattle.ba_inline.specs.Making.{Adds, Does, Gives, Makes, Part, reading, reading_all}
 use Rattle.ba_inline.specs.Names.{IsNaming, Names, seen, with_home}
 use Rattle.ba_inline.specs.Parts.{call_part, call_stmt_part, context_in_frame, print_part, values_part}
+use Rattle.ba_inline.specs.Wiping.{Wipes}
 use Rattle.ba_inline.specs.Worlds.{IsReady, World, context_with}
 use Rattle.ba_inline.specs.declared.frames.Frame.{Frame}
 use Rattle.ba_numbers.specs.declared.ids.CallId.{CallId}
@@ -36,7 +38,8 @@ use Rattle.ba_tree.specs.declared.tree.Expr.{Expr}
 use Rattle.ba_tree.specs.declared.tree.Program.{Program}
 
 module _ (p : Program) (names : Names) (path : List Step) (frame : Frame) (low high : Types)
-    (naming : IsNaming (with_home frame.home names) low) (here : StmtId) (old new keep : List Node) where
+    (naming : IsNaming (with_home frame.home names) low) (here : StmtId) (old new evaluated keep : List Node)
+    (wipes : Wipes (length low.vars) frame.home evaluated keep) where
   abbrev DoesNow : CodeState → Flow Exit → State → Flow ℕ → CodeState → Type 0
   DoesNow = Does names frame.exits frame.home low
 
@@ -54,16 +57,19 @@ module _ (p : Program) (names : Names) (path : List Step) (frame : Frame) (low h
       })
 
   module _ {A : Type 0} (first : World → List Step → Act A) (c : Bool) (read : CodeState → A)
-      (made : Makes p names path (λ w back t. first w back) (Gives names c low read) low high [] keep)
+      (made : Makes p names path (λ w back t. first w back) (Gives names c low read) low high []
+      evaluated)
       (added : Adds old new (pick_act path here code.Nothing keep)) where
     abbrev effect : World → List Step → Act (Unit {0})
     effect w back s = then_do (first w back s) (λ a. give (tt {0}))
 
     effect-made : Makes p names path (λ w back t s. then_do (effect w back s) and_next)
         (Does names frame.exits frame.home low) low high [] keep
-    effect-made = makes-pure p names path (λ w back t. first w back) (λ w back t s. then_do (effect w back
-        s) and_next)
-        (Gives names c low read) (Does names frame.exits frame.home low) low high [] keep (λ w back a.
+    effect-made = does-cleared p names path (λ w back t s. then_do (effect w back s) and_next) frame
+        frame.home
+        low high [] evaluated keep naming
+        (makes-pure p names path (λ w back t. first w back) (λ w back t s. then_do (effect w back s) and_next)
+        (Gives names c low read) (Does names frame.exits frame.home low) low high [] evaluated (λ w back a.
         and_next (tt {0}))
         (λ w back t s. then-give (first w back s) (λ a. tt {0}) and_next)
         (λ w back t a s way u given.
@@ -73,7 +79,7 @@ module _ (p : Program) (names : Names) (path : List Step) (frame : Frame) (low h
               naming.apart.0);
           sees = given.sees;
           keeps = keeps-with c names frame.home low t u given.keeps;
-        })) made
+        })) made) wipes
 
     makes-effect : (part : Part (Flow Exit))
         → ((w : World) (back : List Step) (t : CodeState) → part w back t (seen names t)
@@ -88,7 +94,7 @@ module _ (p : Program) (names : Names) (path : List Step) (frame : Frame) (low h
 
   pub makes-call_stmt : (call : CallId) (fn : FnId) (args : List Arg) (o : Operand)
       → Makes p names path (call_part p frame here call fn args) (Gives names true low (reading o)) low
-      high [] keep
+      high [] evaluated
       → Adds old new (pick_act path here code.Nothing keep)
       → Makes p names path (call_stmt_part p frame here call fn args) (Does names frame.exits frame.home
       low) low high old new
@@ -100,7 +106,7 @@ module _ (p : Program) (names : Names) (path : List Step) (frame : Frame) (low h
 
   pub makes-print : (values : List Expr) (c : Bool) (os : List Operand)
       → Makes p names path (values_part p frame here values) (Gives names c low (reading_all os)) low high
-      [] keep
+      [] evaluated
       → Adds old new (pick_act path here code.Nothing keep)
       → Makes p names path (print_part p frame here values) (Does names frame.exits frame.home low) low
       high old new

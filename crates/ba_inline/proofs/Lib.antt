@@ -11,6 +11,7 @@ mod Picks
 mod Homes
 mod Relaxing
 mod Statements
+mod Wiping
 mod Loops
 mod Scopes
 mod Hiding

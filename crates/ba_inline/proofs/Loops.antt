@@ -7,7 +7,7 @@ use Rattle.ba_code.specs.Types.{Types}
 use Rattle.ba_inline.proofs.Ends.{meets-fork, meets-from, meets-then}
 use Rattle.ba_inline.proofs.Homes.{after-does, does-then, home-stays, keeps-with}
 use Rattle.ba_inline.proofs.Joining.{goes-on}
-use Rattle.ba_inline.proofs.Keeping.{grows-same, grows-then, keeps-from, keeps-same, ready-after, ready-before}
+use Rattle.ba_inline.proofs.Keeping.{grows-same, grows-then, keeps-same, ready-after, ready-before}
 use Rattle.ba_inline.specs.Declarations.{Grows}
 use Rattle.ba_inline.specs.Ends.{Meets}
 use Rattle.ba_inline.specs.Keeping.{Keeps}
@@ -157,8 +157,8 @@ module _ (p : Program) (names : Names) (path : List Step) (frame : Frame) (stmt 
     (tested : Makes p names (path ++ Turn stmt 0 ∷ []) (given_part p frame stmt wanted.Truth when)
     (Gives names c low (reading (Var to))) low test_end [] heads)
     (run_body : Makes p names (path ++ Turn stmt 0 ∷ [])
-    (stmt_part p (record frame { exits = body_exits }) body) (Does names body_exits frame.home test_end)
-    test_end body_end [] bodies)
+    (stmt_part p (record frame { exits = body_exits }) body) (Does names body_exits frame.home low)
+    low body_end [] bodies) (grows_test : Grows test_end body_end)
     (blocked : Adds [] turned (block_act 2 bodies))
     (run_step : Makes p names (path ++ Turn stmt 0 ∷ [])
     (stmts_part p (record frame { exits = turn_exits frame.exits }) step)
@@ -167,7 +167,7 @@ module _ (p : Program) (names : Names) (path : List Step) (frame : Frame) (stmt 
   DoesTurn = Does names (turn_exits frame.exits) frame.home low
 
   grows-body : Grows low body_end
-  grows-body = grows-then low test_end body_end tested.grows run_body.grows
+  grows-body = run_body.grows
 
   few-of-home : frame.home < length low.vars
   few-of-home = naming.below.0
@@ -217,12 +217,12 @@ module _ (p : Program) (names : Names) (path : List Step) (frame : Frame) (stmt 
         ∷ turns) u))
         (turn-path stmt k turns path)
         (tested.runs w (k ∷ turns) u (ready-before w test_end high u
-        (grows-then test_end body_end high run_body.grows run_step.grows) ready)))
+        (grows-then test_end body_end high grows_test run_step.grows) ready)))
 
     -- a body's end, and then the step
     body-step : (k : ℕ) (u : CodeState) → Fit u →
         (flow : Flow Exit) (s : State) (way : Flow ℕ) (v : CodeState)
-        → Does names body_exits frame.home test_end u flow s way v
+        → Does names body_exits frame.home low u flow s way v
         → Meets (DoesTurn u) (after_part (exec_all (context_in_frame p frame w) (in_turn stmt k back) step)
         (flow_after_body flow) s)
         (after_part (run_nodes g steps (k ∷ turns)) (flow_after_block 2 way) v)
@@ -242,7 +242,7 @@ module _ (p : Program) (names : Names) (path : List Step) (frame : Frame) (stmt 
         (record {
           flows = flow-of-body frame.exits frame.home u flow way v given.flows;
           sees = given.sees;
-          keeps = keeps-from true (with_home frame.home names) low test_end u v tested.grows given.keeps;
+          keeps = given.keeps;
         })
 
     turned-is : (k : ℕ) (u : CodeState) → turned_now k u
@@ -258,17 +258,17 @@ module _ (p : Program) (names : Names) (path : List Step) (frame : Frame) (stmt 
     turn-meets : (k : ℕ) (u : CodeState) → Fit u →
         Meets (DoesTurn u) (turn_now k (seen names u)) (turned_now k u)
     turn-meets k u ready = subst (Meets (DoesTurn u) (turn_now k (seen names u))) (sym (turned-is k u))
-        (meets-then (Does names body_exits frame.home test_end u) (DoesTurn u)
+        (meets-then (Does names body_exits frame.home low u) (DoesTurn u)
         (exec (context_in_frame p frame w) body (in_turn stmt k back) (seen names u)) (run_nodes g bodies
         (k ∷ turns) u)
         (λ flow. after_part (exec_all (context_in_frame p frame w) (in_turn stmt k back) step)
         (flow_after_body flow))
         (λ way. after_part (run_nodes g steps (k ∷ turns)) (flow_after_block 2 way))
-        (subst (λ ns. Meets (Does names body_exits frame.home test_end u)
+        (subst (λ ns. Meets (Does names body_exits frame.home low u)
         (exec (context_in_frame p frame w) body (in_turn stmt k back) (seen names u)) (run_nodes g ns (k ∷
         turns) u))
         (sym run_body.is)
-        (subst (λ path. Meets (Does names body_exits frame.home test_end u)
+        (subst (λ path. Meets (Does names body_exits frame.home low u)
         (exec (context_in_frame p frame w) body path (seen names u)) (run_nodes g run_body.nodes (k ∷
         turns) u))
         (turn-path stmt k turns path)

@@ -1,5 +1,5 @@
 -- The program's state through names, where the code's state changes.
-use Rattle.std.proofs.Common.{◌≡◌, ℕ, zero, suc, ℤ, pos, cond, None, Some, List, [], ◌∷◌, map, refl, sym, ◌∙◌, ap, subst, arith}
+use Rattle.std.proofs.Common.{◌≡◌, ℕ, zero, suc, ◌<◌, ℤ, pos, cond, None, Some, List, [], ◌∷◌, map, refl, sym, ◌∙◌, ap, subst, arith}
 use Rattle.std.specs.Prelude.{slice_get, slice_index_or, slice_set}
 use Rattle.std.proofs.lemmas.Bool.{eq-eqb, ne_eqb}
 use Rattle.ba_code.specs.State.{CodeState, operand_value, with_array, with_at, with_variable}
@@ -90,6 +90,26 @@ module _ (names : Names) (t : CodeState) where
 
   pub seen-value : (v : VarId) → value_at (seen names t) v ≡ operand_value t (name_of names v)
   seen-value v = operand-at t names.values v.0
+
+-- WHAT IS SEEN is the same where what stands below a number is
+
+operands-same : (base : ℕ) (os : List Operand) (t u : CodeState) → AreBelow base os
+    → ((n : ℕ) → n < base → u.variables n ≡ t.variables n) → map (operand_value u) os ≡ map (operand_value
+    t) os
+operands-same base [] t u below same = refl
+operands-same base (Const z ∷ os) t u below same = ap (λ zs. z ∷ zs) (operands-same base os t u below.1 same)
+operands-same base (Var n ∷ os) t u below same =
+    λ i. same n below.0 i ∷ operands-same base os t u below.1 same i
+
+pub seen-still : (names : Names) (base : ℕ) (t u : CodeState) → AreBelow base names.values
+    → ((n : ℕ) → n < base → u.variables n ≡ t.variables n) → u.arrays ≡ t.arrays → u.choices ≡ t.choices
+    → seen names u ≡ seen names t
+seen-still names base t u below same arrays choices = λ i. record {
+  values = operands-same base names.values t u below same i;
+  arrays = map (arrays i) names.arrays;
+  locations = names.locations;
+  choices = choices i;
+}
 
 -- ARRAYS
 

@@ -292,29 +292,31 @@ module _ (p : Program) (names : Names) (path : List Step) (frame : Frame) (low :
     other-is w back s None = refl
     other-is w back s (Some b) = refl
 
-    branch-meets : (from : Types) (t u : CodeState) (x : Ending (Flow Exit)) (y : CodeEnding (Flow ℕ)) →
-        Grows low from
-        → Keeps c names low t u → Meets (Does names frame.exits frame.home from u) x y
+    branch-meets : (t u : CodeState) (x : Ending (Flow Exit)) (y : CodeEnding (Flow ℕ))
+        → Keeps c names low t u → Meets (Does names frame.exits frame.home low u) x y
         → Meets (Does names frame.exits frame.home low t) x y
-    branch-meets from t u x y grows k met = meets-from (Does names frame.exits frame.home from u)
+    branch-meets t u x y k met = meets-from (Does names frame.exits frame.home low u)
         (Does names frame.exits frame.home low t) x y met
-        (λ flow s way v given. does-then names frame.exits frame.home low from grows t u flow s way v
+        (λ flow s way v given. does-then names frame.exits frame.home low low (grows-same low) t u flow s
+        way v
         (home-kept c t u k)
         (keeps-with c names frame.home low t u k) given)
 
     pub makes-if : stmt ≡ stmts.If here e one two
         → Makes p names path (given_part p frame here wanted.Truth e) (Gives names c low (reading (Var
         to))) low first old out
-        → Makes p names path (λ w back t. branch_part w back) (Does names frame.exits frame.home first)
-        first then_one [] yeses
-        → Makes p names path (λ w back t. other_part w back) (Does names frame.exits frame.home then_one)
-        then_one high [] noes
+        → Grows first then_one → Grows then_one high
+        → Makes p names path (λ w back t. branch_part w back) (Does names frame.exits frame.home low)
+        low then_one [] yeses
+        → Makes p names path (λ w back t. other_part w back) (Does names frame.exits frame.home low)
+        low high [] noes
         → Adds out new (if_act (Var to) yeses noes) → MakesStmt (stmt_part p frame stmt) high old new
-    makes-if is made yes_made no_made added = makes-tail p names path (given_part p frame here wanted.Truth e)
+    makes-if is made grows_one grows_two yes_made no_made added = makes-tail p names path (given_part p
+        frame here wanted.Truth e)
         (stmt_part p frame stmt) (Does names frame.exits frame.home low) c (reading (Var to)) low first
         high old out new
         (if_act (Var to) yeses noes) (λ w back t. fork (branch_part w back) (other_part w back)) made
-        (grows-then first then_one high yes_made.grows no_made.grows) added
+        (grows-then first then_one high grows_one grows_two) added
         (λ w back t s. exec-If (context_in_frame p frame w) back stmt s here e one two is
         ∙ ap (λ (f : Execution). then_do (given_part p frame here wanted.Truth e w back t s) (fork
         (branch_part w back) f))
@@ -327,14 +329,13 @@ module _ (p : Program) (names : Names) (path : List Step) (frame : Frame) (low :
         (subst (λ ns. Meets (Does names frame.exits frame.home low t) (branch_part w back (seen names u))
         (run_nodes g ns turns u))
         (sym yes_made.is)
-        (branch-meets first t u (branch_part w back (seen names u)) (run_nodes g yes_made.nodes turns u)
-        made.grows k
-        (yes_made.runs w turns u (ready-before w then_one high u no_made.grows ready))))
+        (branch-meets t u (branch_part w back (seen names u)) (run_nodes g yes_made.nodes turns u) k
+        (yes_made.runs w turns u (ready-before w then_one high u grows_two ready))))
         (subst (λ ns. Meets (Does names frame.exits frame.home low t) (other_part w back (seen names u))
         (run_nodes g ns turns u))
         (sym no_made.is)
-        (branch-meets then_one t u (other_part w back (seen names u)) (run_nodes g no_made.nodes turns u)
-        (grows-then low first then_one made.grows yes_made.grows) k (no_made.runs w turns u ready))))
+        (branch-meets t u (other_part w back (seen names u)) (run_nodes g no_made.nodes turns u) k
+        (no_made.runs w turns u ready))))
 
 -- CONDITIONS, whose value is in a variable of its own
 

@@ -18,12 +18,14 @@ use Rattle.ba_inline.proofs.Keeping.{grows-same}
 use Rattle.ba_inline.proofs.Picks.{fits-meets, with_choices}
 use Rattle.ba_inline.proofs.Relaxing.{does-lead, makes-pick}
 use Rattle.ba_inline.proofs.Seeing.{at-other, at-self, other-array, seen-array, seen-elements}
+use Rattle.ba_inline.proofs.Wiping.{does-cleared}
 use Rattle.ba_inline.specs.Adding.{fill_act, pick_act, save_act}
 use Rattle.ba_inline.specs.Ends.{Meets}
 use Rattle.ba_inline.specs.Keeping.{Keeps}
 use Rattle.ba_inline.specs.Making.{Adds, Does, Gives, Makes, reading_all, reading_two}
 use Rattle.ba_inline.specs.Names.{IsNaming, Names, OutsideArrays, array_of, location_at, seen, with_home}
 use Rattle.ba_inline.specs.Parts.{context_in_frame, declare_part, init_array_part, store_part, values_part}
+use Rattle.ba_inline.specs.Wiping.{Wipes}
 use Rattle.ba_inline.specs.Worlds.{IsReady, World, code_setting, context_with}
 use Rattle.ba_inline.specs.declared.frames.Frame.{Frame}
 use Rattle.ba_numbers.specs.Numbers.{is_in}
@@ -122,10 +124,10 @@ module _ (p : Program) (names : Names) (path : List Step) (frame : Frame) (low :
     stored-by true here c t u cells same k = with-cells c t u cells same k
     stored-by false here c t u cells same k = (refl, refl)
 
-    stored : (here : StmtId) (c : Bool) (t u : CodeState) (i z : ℤ) → Keeps c names low t u
+    stores : (here : StmtId) (c : Bool) (t u : CodeState) (i z : ℤ) → Keeps c names low t u
         → Meets (DoesNow t) (set_element here array (i, z) (seen names u))
         (then_do (or_trap_at here (with_cell (u.arrays n) i z) u) (set_array n))
-    stored here c t u i z k = subst
+    stores here c t u i z k = subst
         (λ cells. Meets (DoesNow t)
         (or_trapped here (cond (is_index (length cells) i)
         (Some (with_elements (seen names u) array (slice_set cells (unsigned_abs i) z))) None) (seen names u))
@@ -142,7 +144,7 @@ module _ (p : Program) (names : Names) (path : List Step) (frame : Frame) (low :
         (λ b. Meets (DoesNow t) (set_element here array (i, z) (seen names u))
         (then_do (or_trap_at here (cond b (Some (slice_set (u.arrays n) (unsigned_abs i) z)) None) u)
         (set_array n)))
-        within (stored here c t u i z k)
+        within (stores here c t u i z k)
 
     -- what the array was declared as
     module _ (high : Types) (info : ArrayInfo) (declared : slice_get high.arrays n ≡ Some info)
@@ -185,7 +187,7 @@ module _ (p : Program) (names : Names) (path : List Step) (frame : Frame) (low :
           (record { variables = λ m few out. refl; arrays = λ m few out. refl; lengths = λ m. refl })))
 
       module _ (here : StmtId) (index value : Expr) (c : Bool) (a b : Operand)
-          (old new keep more : List Node) where
+          (old new keep stored more : List Node) where
         abbrev index_now : World → List Step → Act ℤ
         index_now w back = eval (context_in_frame p frame w) back here index
 
@@ -198,21 +200,24 @@ module _ (p : Program) (names : Names) (path : List Step) (frame : Frame) (low :
 
         pub makes-store : Makes p names path (both_part index_now value_now) (Gives names c low
             (reading_two a b)) low high [] more
-            → Adds more keep (save_act n a b here) → Adds old new (pick_act path here (code.Cell n) keep)
+            → Adds more stored (save_act n a b here) → Wipes (length low.vars) frame.home stored keep
+            → Adds old new (pick_act path here (code.Cell n) keep)
             → Makes p names path (store_part p frame here array index value) (Does names frame.exits
             frame.home low) low high old new
         unfolding given_element context_with
-        makes-store made saved added = makes-pick p names path here (code.Cell n) pair_now cell_fits
+        makes-store made saved wipes added = makes-pick p names path here (code.Cell n) pair_now cell_fits
             (λ w back. set_element here array) (store_part p frame here array index value)
             (Does names frame.exits frame.home low) low high old new keep added (λ w back t. refl)
             (λ t choices flow s way u. does-lead names frame.exits frame.home low t choices flow s way u)
             (cell-taken here)
+            (does-cleared p names path (λ w back t s. then_do (pair_now w back s) (set_element here array))
+            frame frame.home low high [] stored keep naming
             (makes-tail p names path (both_part index_now value_now) (λ w back t s. then_do (pair_now w
             back s) (set_element here array))
-            (Does names frame.exits frame.home low) c (reading_two a b) low high high [] more keep
+            (Does names frame.exits frame.home low) c (reading_two a b) low high high [] more stored
             (save_act n a b here)
             (λ w back t. set_element here array) made (grows-same high) saved (λ w back t s. refl)
-            (λ w turns t u ready k. stored here c t u (operand_value u a) (operand_value u b) k))
+            (λ w turns t u ready k. stores here c t u (operand_value u a) (operand_value u b) k)) wipes)
 
       -- THE INITIALISER of an array
 
@@ -253,33 +258,36 @@ module _ (p : Program) (names : Names) (path : List Step) (frame : Frame) (low :
 
       module _ (here : StmtId) (values : List Expr) (c : Bool) (os zeros : List Operand) (count : ℕ)
           (all_zero : (t : CodeState) → map (operand_value t) zeros ≡ replicate count (pos 0))
-          (old new keep more : List Node) where
+          (old new keep filled_nodes more : List Node) where
         abbrev values_now : World → List Step → Act (List ℤ)
         values_now w back = each (map (eval (context_in_frame p frame w) back here) values)
 
         pub makes-init_array : Makes p names path (values_part p frame here values) (Gives names c low
             (reading_all os)) low high [] more
-            → Adds more keep (fill_act n (os ++ zeros)) →
-            Adds old new (pick_act path here (code.Cells n) keep)
+            → Adds more filled_nodes (fill_act n (os ++ zeros))
+            → Wipes (length low.vars) frame.home filled_nodes keep
+            → Adds old new (pick_act path here (code.Cells n) keep)
             → Makes p names path (init_array_part p frame here array values) (Does names frame.exits
             frame.home low) low high old new
         unfolding given_elements context_with
-        makes-init_array made filled_by added = makes-pick p names path here (code.Cells n) values_now
+        makes-init_array made filled_by wipes added = makes-pick p names path here (code.Cells n) values_now
             cells_fit
             (λ w back. set_elements array) (init_array_part p frame here array values)
             (Does names frame.exits frame.home low) low high old new keep added (λ w back t. refl)
             (λ t choices flow s way u. does-lead names frame.exits frame.home low t choices flow s way u)
             cells-taken
+            (does-cleared p names path (λ w back t s. then_do (values_now w back s) (set_elements array))
+            frame frame.home low high [] filled_nodes keep naming
             (makes-tail p names path (values_part p frame here values) (λ w back t s. then_do (values_now w
             back s) (set_elements array))
-            (Does names frame.exits frame.home low) c (reading_all os) low high high [] more keep (fill_act
-            n (os ++ zeros))
+            (Does names frame.exits frame.home low) c (reading_all os) low high high [] more filled_nodes
+            (fill_act n (os ++ zeros))
             (λ w back t. set_elements array) made (grows-same high) filled_by (λ w back t s. refl)
             (λ w turns t u ready k. filled c t u (reading_all os u)
             (elements_with (length (u.arrays n)) (map (operand_value u) (os ++ zeros))) k
             (ap (elements_with (length (u.arrays n)))
             (map-append (operand_value u) os zeros ∙ ap (λ zs. reading_all os u ++ zs) (all_zero u))
-            ∙ filled-up (length (u.arrays n)) count (reading_all os u))))
+            ∙ filled-up (length (u.arrays n)) count (reading_all os u)))) wipes)
 
     -- THE DECLARATION of an array
 

@@ -16,6 +16,7 @@ use Rattle.ba_inline.proofs.Joining.{goes-on}
 use Rattle.ba_inline.proofs.Keeping.{grows-then, grows-var, ready-after, ready-before, with_var-length}
 use Rattle.ba_inline.proofs.Loops.{flow-of-loop}
 use Rattle.ba_inline.proofs.Scopes.{frame-later, scope-later, scope-of}
+use Rattle.ba_inline.proofs.Seeing.{seen-still}
 use Rattle.ba_inline.proofs.Statements.{makes-condition}
 use Rattle.ba_inline.specs.Adding.{block_act}
 use Rattle.ba_inline.specs.Calling.{has_call}
@@ -63,26 +64,6 @@ flags-settled names base d (Var n ∷ os) below between = (
   flags-settled names base d os below
       between.1,
 )
-
--- what is seen is the same where what stands below a number is
-
-operands-same : (base : ℕ) (os : List Operand) (t u : CodeState) → AreBelow base os
-    → ((n : ℕ) → n < base → u.variables n ≡ t.variables n) → map (operand_value u) os ≡ map (operand_value
-    t) os
-operands-same base [] t u below same = refl
-operands-same base (Const z ∷ os) t u below same = ap (λ zs. z ∷ zs) (operands-same base os t u below.1 same)
-operands-same base (Var n ∷ os) t u below same =
-    λ i. same n below.0 i ∷ operands-same base os t u below.1 same i
-
-seen-still : (names : Names) (base : ℕ) (t u : CodeState) → AreBelow base names.values
-    → ((n : ℕ) → n < base → u.variables n ≡ t.variables n) → u.arrays ≡ t.arrays → u.choices ≡ t.choices
-    → seen names u ≡ seen names t
-seen-still names base t u below same arrays choices = λ i. record {
-  values = operands-same base names.values t u below same i;
-  arrays = map (arrays i) names.arrays;
-  locations = names.locations;
-  choices = choices i;
-}
 
 plain-setting : (p : Program) (w : World) → (code_setting p w).operators ≡ plain
 unfolding code_setting

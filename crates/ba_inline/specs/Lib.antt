@@ -6,6 +6,7 @@ pub mod Worlds
 pub mod Keeping
 pub mod Making
 pub mod Adding
+pub mod Wiping
 pub mod Parts
 pub mod Binding
 pub mod Invoking

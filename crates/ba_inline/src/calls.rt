@@ -57,6 +57,7 @@ fn argument(
 
 /// The code of arguments, from the left to the right, and what they give to the parameters.
 #[cycle(inline)]
+#[inline(never)]
 fn arguments(
     setting: &Setting,
     scope: &Scope,
@@ -117,6 +118,7 @@ pub fn call_value(
 
 /// The code of a function's body in a frame of its own, and the operand that has what the function gives.
 #[cycle(inline)]
+#[inline(never)]
 fn invoke(
     setting: &Setting,
     scope: &Scope,
@@ -141,6 +143,7 @@ fn invoke(
     let Some(function) = function_of(setting.program, function) else {
         return Err(AllocError);
     };
+    let since = declared.moment();
     let inner = begin_frame(setting, scope, declared, out, function, given)?;
     let home = declared.variable(function.result.unwrap_or(CType::I32))?;
     add(
@@ -170,6 +173,8 @@ fn invoke(
         function.body.as_slice(),
     )?;
     add_body(out, body)?;
+    declared.give_back(since, home, out)?;
+    declared.use_on(home)?;
     Ok(Operand::Var(home))
 }
 
@@ -220,9 +225,11 @@ pub fn call_statement(
         (Does scope.now frame.exits frame.home declared.old)
         declared.old declared.new out.old.items out.new.items) }
 {
+    let since = declared.moment();
     let mut keep = Vec::new(setting.alloc);
     call_value(
         setting, scope, frame, path, stmt, declared, &mut keep, call, function, args,
     )?;
+    declared.give_back(since, frame.home, &mut keep)?;
     add_pick(setting.alloc, out, path, stmt, Take::Nothing, keep)
 }

@@ -9,7 +9,7 @@ ghost use Rattle.ba_inline.specs.Repeating.{parts_of};
 use crate::blocks::add_branches;
 use crate::calls::{call_statement, given_to};
 use crate::declared::Declared;
-use crate::emit::add;
+use crate::emit::{add, add_zero};
 use crate::frames::{
     BROKEN, CONTINUED, Frame, RETURNED, Setting, Wanted, break_label, continue_label, in_body,
     in_step,
@@ -86,8 +86,10 @@ pub fn statement(
         } => {
             let to = condition(setting, scope, frame, path, *stmt, declared, out, when)?;
             let mut one = Vec::new(setting.alloc);
+            add_zero(&mut one, to)?;
             statement(setting, scope, frame, path, declared, &mut one, yes)?;
             let mut other = Vec::new(setting.alloc);
+            add_zero(&mut other, to)?;
             optional(setting, scope, frame, path, declared, &mut other, no)?;
             add_branches(out, Operand::Var(to), one, other)
         }
@@ -183,13 +185,7 @@ pub fn statement(
             add(out, Node::Leave { label: RETURNED })
         }
         Stmt::ReturnNone => {
-            add(
-                out,
-                Node::Set {
-                    to: frame.home,
-                    from: Operand::Const(0),
-                },
-            )?;
+            add_zero(out, frame.home)?;
             add(out, Node::Leave { label: RETURNED })
         }
         Stmt::CallStmt {
@@ -220,6 +216,7 @@ pub fn statement(
             args.as_slice(),
         ),
         Stmt::Assert { stmt, when } => {
+            let since = declared.moment();
             let value = expression(setting, scope, frame, path, *stmt, declared, out, when)?;
             add(
                 out,
@@ -227,7 +224,8 @@ pub fn statement(
                     when: value,
                     stmt: *stmt,
                 },
-            )
+            )?;
+            declared.give_back(since, frame.home, out)
         }
     }
 }
@@ -318,6 +316,7 @@ fn repeat(
         parts.when,
     )?;
     let mut body = Vec::new(setting.alloc);
+    add_zero(&mut body, to)?;
     statement(
         setting,
         scope,
@@ -363,5 +362,6 @@ fn repeat(
             label: BROKEN,
             body: whole,
         },
-    )
+    )?;
+    add_zero(out, to)
 }

@@ -1,22 +1,30 @@
 //! What the code declares.
 
-ghost use Rattle.std.specs.Prelude.{◌≡◌, [], length, slice_get, IfOk};
+ghost use Rattle.std.specs.Prelude.{◌≡◌, [], length, slice_get, IfOk, OnOk};
 ghost use Rattle.ba_inline.specs.Declarations.{with_array_info, with_var};
+ghost use Rattle.ba_inline.specs.Wiping.{Wipes};
 
-use ba_code::nodes::ArrayInfo;
+use crate::emit::add_zero;
+use ba_code::nodes::{ArrayInfo, Node};
 use ba_numbers::numbers::CType;
 use std::alloc::{AllocError, Global};
 use std::marker::Model;
 
-/// The variables of the code, by their types, and its arrays. Those that are made keep their numbers.
+/// The variables of the code, by their types, and its arrays. Those that are made keep their numbers. Variables that are still read, or may
+/// have been left with a value, are `in_use`.
 pub struct Declared {
     vars: Vec<CType>,
     arrays: Vec<ArrayInfo>,
+    in_use: Vec<u32>,
 }
 
 impl Drop for Declared {
     fn drop(self) {
-        let Declared { vars: _, arrays: _ } = self;
+        let Declared {
+            vars: _,
+            arrays: _,
+            in_use: _,
+        } = self;
     }
 }
 
@@ -38,6 +46,13 @@ pub struct Counts {
     pub arrays: usize,
 }
 
+/// A moment: how many variables are declared, and how many of them are in use.
+#[derive(Clone, Copy)]
+pub struct Moment {
+    pub vars: usize,
+    pub in_use: usize,
+}
+
 /// The number of the part that comes next in a list. Numbers have 32 bits; past them the answer is that for want of memory.
 fn next_number(count: usize) -> Result<u32, AllocError>
     ensures { IfOk result (λ number. number ≡ count) }
@@ -57,17 +72,72 @@ impl Declared {
         Declared {
             vars: Vec::new(alloc),
             arrays: Vec::new(alloc),
+            in_use: Vec::new(alloc),
         }
     }
 
-    /// Declares a variable that holds numbers of the type, and gives its number.
-    pub fn variable(&mut self, t: CType) -> Result<u32, AllocError>
+    /// Declares a variable that holds numbers of the type, and gives its number. Who declares it sets it to 0 when it is read no more.
+    pub fn own_variable(&mut self, t: CType) -> Result<u32, AllocError>
         ensures { IfOk result (λ number. (number ≡ length self.old.vars)
             × (self.new ≡ with_var t self.old)) }
     {
         let number = next_number(self.vars.len())?;
         self.vars.push(t)?;
         Ok(number)
+    }
+
+    /// Declares a variable that holds numbers of the type, and gives its number. It is in use from now on.
+    pub fn variable(&mut self, t: CType) -> Result<u32, AllocError>
+        ensures { IfOk result (λ number. (number ≡ length self.old.vars)
+            × (self.new ≡ with_var t self.old)) }
+    {
+        let number = self.own_variable(t)?;
+        self.use_on(number)?;
+        Ok(number)
+    }
+
+    /// A variable is in use from now on.
+    pub fn use_on(&mut self, number: u32) -> Result<(), AllocError>
+        ensures { self.new ≡ self.old }
+    {
+        self.in_use.push(number)?;
+        Ok(())
+    }
+
+    /// The present moment.
+    pub fn moment(&self) -> Moment
+        ensures { result.vars ≡ length self.now.vars }
+    {
+        Moment {
+            vars: self.vars.len(),
+            in_use: self.in_use.len(),
+        }
+    }
+
+    /// Sets to 0 what was declared since a moment and is in use, but for one variable.
+    pub fn wipe(&self, since: Moment, kept: u32, out: &mut Vec<Node>) -> Result<(), AllocError>
+        ensures { OnOk result (Wipes since.vars kept out.old.items out.new.items) }
+    {
+        if since.in_use >= self.in_use.len() {
+            return Ok(());
+        }
+        let (_, dead) = self.in_use.as_slice().split_at(since.in_use);
+        wipe_all(since.vars, kept, out, dead)
+    }
+
+    /// Sets to 0 what was declared since a moment and is in use, but for one variable: it is in use no more.
+    pub fn give_back(
+        &mut self,
+        since: Moment,
+        kept: u32,
+        out: &mut Vec<Node>,
+    ) -> Result<(), AllocError>
+        ensures same { self.new ≡ self.old }
+        ensures wipes { OnOk result (Wipes since.vars kept out.old.items out.new.items) }
+    {
+        self.wipe(since, kept, out)?;
+        self.in_use.truncate(since.in_use);
+        Ok(())
     }
 
     /// Declares an array, and gives its number.
@@ -125,7 +195,31 @@ impl Declared {
     pub fn into_arrays(self) -> Vec<ArrayInfo>
         ensures { result.items ≡ self.arrays }
     {
-        let Declared { vars: _, arrays } = self;
+        let Declared {
+            vars: _,
+            arrays,
+            in_use: _,
+        } = self;
         arrays
     }
+}
+
+/// Sets variables to 0 that have this number or a later one, but for one of them.
+fn wipe_all(from: usize, kept: u32, out: &mut Vec<Node>, numbers: &[u32]) -> Result<(), AllocError>
+    ensures { OnOk result (Wipes from kept out.old.items out.new.items) }
+{
+    for number in numbers {
+        wipe_one(from, kept, out, *number)?;
+    }
+    Ok(())
+}
+
+/// Sets a variable to 0 if it has this number or a later one, and isn't the one.
+fn wipe_one(from: usize, kept: u32, out: &mut Vec<Node>, number: u32) -> Result<(), AllocError>
+    ensures { OnOk result (Wipes from kept out.old.items out.new.items) }
+{
+    if (number as usize) < from || number == kept {
+        return Ok(());
+    }
+    add_zero(out, number)
 }

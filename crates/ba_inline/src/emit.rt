@@ -1,10 +1,10 @@
 //! Nodes that are put behind others.
 
-ghost use Rattle.std.specs.Prelude.{◌≡◌, ◌++◌, ◌∷◌, [], OnOk};
-ghost use Rattle.ba_inline.specs.Adding.{pick_act};
+ghost use Rattle.std.specs.Prelude.{◌≡◌, ◌++◌, ◌∷◌, [], pos, OnOk};
+ghost use Rattle.ba_inline.specs.Adding.{pick_act, set_act};
 ghost use Rattle.ba_inline.specs.Making.{Adds};
 
-use ba_code::nodes::{Node, Take};
+use ba_code::nodes::{Node, Operand, Take};
 use ba_items::Items;
 use ba_numbers::ids::StmtId;
 use ba_tree::run::{Place, Step};
@@ -15,6 +15,17 @@ pub fn add(out: &mut Vec<Node>, node: Node) -> Result<(), AllocError>
     ensures { OnOk result (out.new.items ≡ out.old.items ++ node ∷ []) }
 {
     out.push(node)?;
+    Ok(())
+}
+
+/// A variable is set to 0.
+pub fn add_zero(out: &mut Vec<Node>, to: u32) -> Result<(), AllocError>
+    ensures { OnOk result (Adds out.old.items out.new.items (set_act to (Operand.Const (pos 0)))) }
+{
+    out.push(Node::Set {
+        to,
+        from: Operand::Const(0),
+    })?;
     Ok(())
 }
 

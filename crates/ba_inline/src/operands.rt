@@ -1,6 +1,6 @@
 //! The code of expressions, and the operands that have their values.
 
-ghost use Rattle.std.specs.Prelude.{false, IfOk, OnOk};
+ghost use Rattle.std.specs.Prelude.{◌≡◌, false, length, IfOk, OnOk};
 ghost use Rattle.std.specs.List.{list_any};
 ghost use Rattle.ba_inline.specs.Calling.{has_call};
 ghost use Rattle.ba_inline.specs.Making.{Gives, GivesTo, Makes, MakesValue, MakesValues, reading};
@@ -212,8 +212,10 @@ pub fn expression_to(
         (GivesTo scope.now (has_call expr.now) declared.old to)
         declared.old declared.new out.old.items out.new.items) }
 {
+    let since = declared.moment();
     let operand = expression(setting, scope, frame, path, here, declared, out, expr)?;
-    add(out, Node::Set { to, from: operand })
+    add(out, Node::Set { to, from: operand })?;
+    declared.give_back(since, to, out)
 }
 
 /// The code that puts into a variable whether the value of an expression isn't 0.
@@ -235,6 +237,7 @@ fn truth_to(
         (GivesTo scope.now (has_call expr.now) declared.old to)
         declared.old declared.new out.old.items out.new.items) }
 {
+    let since = declared.moment();
     let operand = expression(setting, scope, frame, path, here, declared, out, expr)?;
     let between = declared.variable(CType::I32)?;
     let t = tested_in(type_of(setting.program, expr));
@@ -255,7 +258,8 @@ fn truth_to(
             t: CType::I32,
             a: Operand::Var(between),
         },
-    )
+    )?;
+    declared.give_back(since, to, out)
 }
 
 /// The code of values, from the left to the right, and the operands that have them behind it.
@@ -286,7 +290,7 @@ pub fn expressions(
     Ok(operands)
 }
 
-/// The code of a condition, and the variable that has its value behind it.
+/// The code of a condition, and the variable that has its value behind it. Who asks for it sets it to 0 when it is read no more.
 #[cycle(inline)]
 pub fn condition(
     setting: &Setting,
@@ -298,13 +302,14 @@ pub fn condition(
     out: &mut Vec<Node>,
     when: &Expr,
 ) -> Result<u32, AllocError>
-    ensures { IfOk result (λ to. IsScope setting.now.program.now scope.now declared.old
+    ensures number { IfOk result (λ to. to ≡ length declared.old.vars) }
+    ensures made { IfOk result (λ to. IsScope setting.now.program.now scope.now declared.old
         → Makes setting.now.program.now scope.now path.now
         (given_part setting.now.program.now frame stmt Wanted.Truth when.now)
         (Gives scope.now (has_call when.now) declared.old (reading (Operand.Var to)))
         declared.old declared.new out.old.items out.new.items) }
 {
-    let to = declared.variable(type_of(setting.program, when))?;
+    let to = declared.own_variable(type_of(setting.program, when))?;
     given_to(
         setting,
         scope,

@@ -77,6 +77,7 @@ pub fn store(
         declared.old declared.new out.old.items out.new.items) }
 {
     let (number, _) = array_of(setting, scope, declared, array)?;
+    let since = declared.moment();
     let mut keep = Vec::new(setting.alloc);
     let settled = has_call(value);
     let index = kept_expression(
@@ -94,6 +95,7 @@ pub fn store(
             stmt,
         },
     )?;
+    declared.give_back(since, frame.home, &mut keep)?;
     add_pick(
         setting.alloc,
         out,
@@ -124,6 +126,7 @@ pub fn init_array(
         declared.old declared.new out.old.items out.new.items) }
 {
     let (number, len) = array_of(setting, scope, declared, array)?;
+    let since = declared.moment();
     let mut keep = Vec::new(setting.alloc);
     let values = expressions(
         setting, scope, frame, path, stmt, declared, &mut keep, values,
@@ -136,6 +139,7 @@ pub fn init_array(
             values: filled,
         },
     )?;
+    declared.give_back(since, frame.home, &mut keep)?;
     add_pick(
         setting.alloc,
         out,
@@ -164,7 +168,9 @@ pub fn print(
         (Does scope.now frame.exits frame.home declared.old)
         declared.old declared.new out.old.items out.new.items) }
 {
+    let since = declared.moment();
     let mut keep = Vec::new(setting.alloc);
     expressions(setting, scope, frame, path, stmt, declared, &mut keep, args)?;
+    declared.give_back(since, frame.home, &mut keep)?;
     add_pick(setting.alloc, out, path, stmt, Take::Nothing, keep)
 }

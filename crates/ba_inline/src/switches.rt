@@ -38,6 +38,7 @@ pub fn switch(
         (Does scope.now frame.exits frame.home declared.old)
         declared.old declared.new out.old.items out.new.items) }
 {
+    let since = declared.moment();
     let to = declared.variable(labels.t)?;
     let mut whole = Vec::new(setting.alloc);
     given_to(
@@ -76,7 +77,8 @@ pub fn switch(
             label: BROKEN,
             body: whole,
         },
-    )
+    )?;
+    declared.wipe(since, frame.home, out)
 }
 
 /// The code of statements in a row, each of which is run where its flag is set. Those in a row that have the same flag stand together.

@@ -1,3 +1,5 @@
 pub mod Inputs
+pub mod InputLines
+pub mod Adding
 pub mod Weights
 pub mod Tables

@@ -74,7 +74,7 @@ pub enum LineContent {
 const LINES: usize = 100_000;
 
 /// Whether a piece begins a comment.
-fn begins_comment(piece: &[u8]) -> bool
+pub(crate) fn begins_comment(piece: &[u8]) -> bool
     ensures { result ≡ begins_comment piece.now }
 {
     match piece.first() {

@@ -5,3 +5,5 @@ pub mod Outcomes
 pub mod MoreStatements
 pub mod Plain
 pub mod PlainRuns
+pub mod Naming
+pub mod NamingRuns

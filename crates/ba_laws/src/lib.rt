@@ -4,6 +4,7 @@
 
 ghost use Rattle.std.specs.Prelude.{◌≢◌, ℕ, List, Contains};
 ghost use Rattle.ba_choices.specs.declared.Choice.{Choice};
+ghost use Rattle.ba_laws.specs.Names.{NamesStatement};
 ghost use Rattle.ba_laws.specs.Visits.{HasVisits};
 ghost use Rattle.ba_tree.specs.Least.{IsFeasible, judge_of};
 ghost use Rattle.ba_tree.specs.Run.{plain_run, run_of};
@@ -32,4 +33,11 @@ pub fn keep_choices_can_be_left_out()
 /// A run as written makes no choices, so it doesn't end by wrong ones.
 pub fn plain_runs_make_no_choices()
     ensures { (p : Program) (i : Input) (b : Bounds) → plain_run p i b ≢ WrongChoices }
+{}
+
+/// The statement that an outcome names is one that the program has, whatever may be relaxed and whatever the
+/// choices are.
+pub fn outcomes_name_statements()
+    ensures { (p : Program) (i : Input) (b : Bounds) (allowed : Allowed) (choices : List Choice)
+        → NamesStatement p (run_of p i b allowed choices) }
 {}

@@ -1,16 +1,19 @@
 -- Bounds of what is left in a division: the places of it that may be true.
 
-use Rattle.std.proofs.Common.{◌≡◌, ℕ, ◌+◌, ◌-◌, ◌*◌, ◌%◌, ◌^◌, ◌<◌, ◌≤◌, Bool, true, false, nat_le, ◌&&◌, List, length, refl, sym, ap, ◌∙◌, arith, if◌then◌else◌}
+use Rattle.std.proofs.Common.{◌≡◌, ℕ, ◌+◌, ◌-◌, ◌*◌, ◌%◌, ◌^◌, ◌<◌, ◌≤◌, Bool, true, false, nat_le, ◌&&◌, List, length, replicate, refl, sym, ap, subst, ◌∙◌, arith, if◌then◌else◌}
+use Rattle.std.proofs.lemmas.List.{get_or_past}
 use Rattle.std.proofs.lemmas.Nat.{pow_pos}
+use Rattle.std.proofs.Math.Nat.{pow-le-pow_right}
 use Rattle.ba_nodes.specs.declared.Bit.{Bit}
 use Rattle.ba_nodes.specs.declared.Node.{Node}
-use Rattle.ba_nodes.specs.Gates.{truth, IsBitOf, Extends}
-use Rattle.ba_nodes.proofs.Truths.{Extends-through}
+use Rattle.ba_nodes.specs.Gates.{constant_bit, truth, IsBitOf, Extends, HasValue}
+use Rattle.ba_nodes.proofs.Truths.{Extends-through, truth-constant}
+use Rattle.ba_words.proofs.Circuits.{HasValue-extends, HasValue-same, number_small}
 use Rattle.ba_words.specs.Words.{digit, number_of, bit_at, AreBitsOf}
 use Rattle.ba_words.proofs.Places.{are_bits-extends, number_of-extends}
-use Rattle.ba_muldiv.specs.Division.{IsBounded, high_number}
+use Rattle.ba_muldiv.specs.Division.{IsBounded, AreOnesFrom, high_number}
 use Rattle.ba_muldiv.proofs.Rows.{number_above, next_is}
-use Rattle.ba_muldiv.proofs.Steps.{le_from_true}
+use Rattle.ba_muldiv.proofs.Steps.{le_false, le_from_true}
 
 -- zero has any bounds
 pub bounded_zero : (free : ℕ → Bool) (nodes : List Node) (bounds : List Bit) (n : ℕ) → n ≡ 0 →
@@ -85,3 +88,44 @@ bounded_place free nodes word bounds place long within is =
   where
     apart : number_of free nodes word < 2 ^ place → 2 ^ place ≤ number_of free nodes word → ⊥
     apart below above = absurd (omega arith)
+
+-- ---- from which places on a word has a one
+
+-- no word of 32 places has a one past the last
+pub none_past : (nodes : List Node) (word : List Bit) (bit : Bit) (place : ℕ) → length word ≡ 32 →
+    32 ≤ place →
+    HasValue nodes (bit_at (replicate 32 bit) place) (λ free. nat_le (2 ^ place) (number_of free nodes word))
+none_past nodes word bit place long past =
+    subst (λ b. HasValue nodes b (λ free. nat_le (2 ^ place) (number_of free nodes word)))
+    (sym (get_or_past (replicate 32 bit) place (constant_bit false) past))
+    (record {
+      is_bit = omega arith;
+      holds = λ free.
+          let most : 2 ^ 32 ≤ 2 ^ place = pow-le-pow_right {n = 2} (omega arith) past in
+          truth-constant free nodes false
+          ∙ sym (le_false (2 ^ place) (number_of free nodes word)
+          (omega (arith, most, number_small free nodes word long)));
+    })
+
+-- what was told of a word holds as nodes are added
+pub ones_later : (old new : List Node) (word above : List Bit) → Extends old new → AreBitsOf old word →
+    ((place : ℕ) → place ≤ 32 → HasValue new (bit_at above place) (λ free. nat_le (2 ^ place) (number_of
+    free old word))) →
+    AreOnesFrom new word above
+ones_later old new word above extends bits ones place within =
+    HasValue-same new (bit_at above place) _ _ (ones place within)
+    (λ free. ap (nat_le (2 ^ place)) (sym (number_of-extends free old new word extends bits)))
+
+pub ones-extends : (old new : List Node) (word above : List Bit) → Extends old new → AreBitsOf old word →
+    AreOnesFrom old word above → AreOnesFrom new word above
+ones-extends old new word above extends bits ones =
+    ones_later old new word above extends bits
+    (λ place within. HasValue-extends old new (bit_at above place) _ extends (ones place within))
+
+-- zero has no one
+pub no_ones : (free : ℕ → Bool) (old new : List Node) (word above : List Bit) → Extends old new →
+    AreBitsOf old word →
+    AreOnesFrom old word above → number_of free new word ≡ 0 → truth free new (bit_at above 0) ≡ false
+no_ones free old new word above extends bits ones none =
+    (ones-extends old new word above extends bits ones 0 (omega arith)).holds free
+    ∙ le_false (2 ^ 0) (number_of free new word) (omega arith)

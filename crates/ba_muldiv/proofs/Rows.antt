@@ -1,10 +1,12 @@
 -- Words of digits, and the rows of a product.
 
-use Rattle.std.proofs.Common.{◌≡◌, ℕ, zero, suc, ◌+◌, ◌-◌, ◌*◌, ◌%◌, ◌^◌, ◌<◌, ◌≤◌, Bool, true, false, not, nat_lt, nat_le, ◌&&◌, ◌||◌, List, [], ◌∷◌, length, map, get_or, set, drop, replicate, ◌⊎◌, inl, inr, refl, sym, ap, subst, ◌∙◌, arith, if◌then◌else◌}
-use Rattle.std.proofs.lemmas.List.{same_lists, get_or-map, get_or_past, length-map, drop_more, length-drop}
-use Rattle.std.proofs.lemmas.Nat.{mod-mul-add, mul-mod_second, pow_pos}
-use Rattle.std.proofs.Math.Nat.{mul-add, mul-suc, pow-le-pow_right}
-use Rattle.std.proofs.Math.Bool.{and-true}
+use mathlib.Core.Bool.{beq}
+use Rattle.std.proofs.Common.{◌≡◌, ℕ, zero, suc, ◌+◌, ◌-◌, ◌*◌, ◌/◌, ◌%◌, ◌^◌, ◌<◌, ◌≤◌, ◌==◌, Bool, true, false, not, nat_lt, nat_le, ◌&&◌, ◌||◌, List, [], ◌∷◌, length, map, set, drop, replicate, ◌⊎◌, inl, inr, refl, sym, ap, subst, ◌∙◌, arith, if◌then◌else◌, true≢false}
+use Rattle.std.proofs.lemmas.List.{get_or-map, get_or_past, length-map, drop_more, length-drop}
+use Rattle.std.proofs.lemmas.Nat.{div-add-mod', mod-mul-add, mod-pow-add, mod_below, mul-mod_second, pow-add, pow_pos}
+use Rattle.std.proofs.Math.Nat.{mul-add, mul-suc, mul-add-mod_self_right, mul-mod_left, pow-le-pow_right}
+use Rattle.std.proofs.Math.Bool.{and-true, or-false}
+use Rattle.std.proofs.lemmas.Bool.{false≢true}
 use Rattle.std.proofs.lemmas.Bool.{cases_lt}
 use Rattle.std.proofs.lemmas.Bool.Decides.{nat_tests}
 use Rattle.ba_nodes.specs.declared.Bit.{Bit}
@@ -17,31 +19,10 @@ use Rattle.ba_words.proofs.Places.{power_more, low_number-more, low_number-all}
 use Rattle.ba_words.proofs.Circuits.{low_number_below, argument-more, number_small, number-highest}
 use Rattle.ba_words.proofs.Shapes.{number-split, filled-number, low_number-same}
 use Rattle.ba_words.proofs.Values.{powers}
-use Rattle.ba_muldiv.specs.Division.{is_negative, high_number, sum_or_difference}
+use Rattle.ba_muldiv.specs.Division.{is_negative, high_number, multiple_of, sum_or_difference}
 use Rattle.ba_muldiv.proofs.Steps.{next_value, wider_step, whole_fits, whole_left, narrow_fits, narrow_left, le_false, le_from_true, lt_from_false, top_is}
 
 -- ---- words
-
--- the bits of a word are constants of these digits
-pub constants-number : (free : ℕ → Bool) (nodes : List Node) (word : List Bit) (digits : List Bool) →
-    length word ≡ length digits
-    → ((place : ℕ) → place < length digits → bit_at word place ≡ constant_bit (get_or digits place false)) →
-    number_of free nodes word ≡ spelled digits
-constants-number free nodes word digits long places =
-    ap spelled (same_lists (map (truth free nodes) word) digits (length-map word (truth free nodes) ∙ long)
-    (λ k d within.
-    let inside : k < length word = omega (arith, length-map word (truth free nodes)) in
-    let within_digits : k < length digits = omega (arith, long) in
-    get_or-map (truth free nodes) word k (constant_bit false) d inside
-    ∙ ap (truth free nodes) (places k within_digits)
-    ∙ truth-constant free nodes (get_or digits k false)
-    ∙ other_default digits k d within_digits))
-  where
-    other_default : (digits : List Bool) (k : ℕ) (d : Bool) → k < length digits →
-        get_or digits k false ≡ get_or digits k d
-    other_default [] k d within = absurd (omega arith)
-    other_default (x ∷ digits) zero d within = refl
-    other_default (x ∷ digits) (suc k) d within = other_default digits k d (omega arith)
 
 -- the places of a word of zeros
 pub zeros-places : (n place : ℕ) (bit : Bit) → bit ≡ constant_bit false →
@@ -127,7 +108,7 @@ rows_more p q a t next r low lower minus less power factor r_is is low_is minus_
     ∙ before
     ∙ (λ i. (a * factor + (ap (λ n. a * n) minus_is ∙ spread_digit a less power (digit q)) i) % 2 ^ 32))
 
-zero_first : (n : ℕ) → (0 + n) % 2 ^ 32 ≡ n % 2 ^ 32
+pub zero_first : (n : ℕ) → (0 + n) % 2 ^ 32 ≡ n % 2 ^ 32
 zero_first n = omega arith
 
 -- before the first row all digits are still to come
@@ -142,6 +123,163 @@ rows_first a t plus factor minus none is =
 pub rows_last : (a t factor : ℕ) → t < 2 ^ 32 → (t + a * 0) % 2 ^ 32 ≡ (a * factor + a * 0) % 2 ^ 32 →
     t ≡ (a * factor) % 2 ^ 32
 rows_last a t factor small before = omega arith
+
+-- a digit more of a number
+pub digits_more : (n k d : ℕ) → d ≡ n / 2 ^ k % 2 → n % 2 ^ (k + 1) ≡ n % 2 ^ k + 2 ^ k * d
+digits_more n k d is =
+    let next : k + 1 ≡ 1 + k = omega arith in
+    ap (λ e. n % 2 ^ e) next ∙ mod-pow-add n 1 k ∙ turned_sum (n / 2 ^ k % 2) (2 ^ k) (n % 2 ^ k)
+    ∙ ap (λ d. n % 2 ^ k + 2 ^ k * d) (sym is)
+  where
+    turned_sum : (d p r : ℕ) → d * p + r ≡ r + p * d
+    turned_sum d p r = grind arith
+
+-- the digit of a test for an odd number
+pub digit_odd : (n : ℕ) → digit (n % 2 == 1) ≡ n % 2
+digit_odd n = by_rest (n % 2) (mod_below n 2 (omega arith))
+  where
+    by_rest : (r : ℕ) → r < 2 → digit (r == 1) ≡ r
+    by_rest zero small = refl
+    by_rest (suc zero) small = refl
+    by_rest (suc (suc r)) small = absurd (omega arith)
+
+-- nothing is left of a number by the first power
+pub mod_first : (n k : ℕ) → k ≡ 0 → n % 2 ^ k ≡ 0
+mod_first n k is = ap (λ e. n % 2 ^ e) is ∙ omega (arith, mod_below n (2 ^ 0) (omega arith))
+
+-- the other digit of two that differ
+pub other_false : (p q : Bool) → beq p q ≡ false → q ≡ true → p ≡ false
+other_false true q differ is = absurd (true≢false (sym (ap (beq true) is) ∙ differ))
+other_false false q differ is = refl
+
+pub other_true : (p q : Bool) → beq p q ≡ false → q ≡ false → p ≡ true
+other_true true q differ is = refl
+other_true false q differ is = absurd (true≢false (sym (ap (beq false) is) ∙ differ))
+
+-- a row without a word
+pub row_none : (p q : Bool) (s x : ℕ) → beq p q ≡ true → s < 2 ^ 32 →
+    s ≡ sum_or_difference q s (if bool_xor q p then x else 0)
+row_none true true s x same small = omega arith
+row_none true false s x same small = absurd (false≢true same)
+row_none false true s x same small = absurd (false≢true same)
+row_none false false s x same small = omega arith
+
+-- a row with the word taken away, by its complement f and a carry
+pub row_taken : (p : Bool) (s f a power : ℕ) → p ≡ false → f + a + 1 ≡ 2 ^ 32 →
+    (s + (f + 1) * power) % 2 ^ 32 ≡ sum_or_difference true s (if bool_xor true p then (a * power) % 2 ^ 32
+    else 0)
+row_taken true s f a power none whole = absurd (true≢false none)
+row_taken false s f a power none whole =
+    let parts : (f + 1) * power + a * power ≡ (f + a + 1) * power = joined f a power in
+    let all : (f + a + 1) * power ≡ 2 ^ 32 * power = ap (λ n. n * power) whole in
+    omega arith
+  where
+    joined : (f a p : ℕ) → (f + 1) * p + a * p ≡ (f + a + 1) * p
+    joined f a p = grind arith
+
+-- a row with the word added
+pub row_added : (p : Bool) (s a power : ℕ) → p ≡ true →
+    (s + (a + 0) * power) % 2 ^ 32 ≡ sum_or_difference false s (if bool_xor false p then (a * power) % 2 ^
+    32 else 0)
+row_added true s a power one =
+    let plain : (a + 0) * power ≡ a * power = grind arith in
+    omega arith
+row_added false s a power one = absurd (false≢true one)
+
+-- ---- multiples
+
+-- the one of three numbers that two digits say, or 0
+abbrev pub chosen_of : Bool → Bool → ℕ → ℕ → ℕ → ℕ
+chosen_of true true m n k = k
+chosen_of true false m n k = n
+chosen_of false true m n k = m
+chosen_of false false m n k = 0
+
+-- a place more of it
+pub chosen_more : (high low : Bool) (p m n k : ℕ) (x y z : Bool) →
+    chosen_of high low m n k + p * digit ((((low && not high) && x) || ((high && not low) && y)) || ((high
+    && low) && z))
+    ≡ chosen_of high low (m + p * digit x) (n + p * digit y) (k + p * digit z)
+chosen_more true true p m n k x y z = refl
+chosen_more true false p m n k x y z = ap (λ t. n + p * digit t) (or-false y)
+chosen_more false true p m n k x y z =
+    ap (λ t. m + p * digit t) (or-false (x || false) ∙ or-false x)
+chosen_more false false p m n k x y z = omega arith
+
+mod_mod : (n w z : ℕ) → z * 2 ^ w ≡ 2 ^ 32 → (n % 2 ^ 32) % 2 ^ w ≡ n % 2 ^ w
+mod_mod n w z whole =
+    let split : n / 2 ^ 32 * 2 ^ 32 + n % 2 ^ 32 ≡ n = div-add-mod' n (2 ^ 32) in
+    let turns : n / 2 ^ 32 * z * 2 ^ w ≡ n / 2 ^ 32 * 2 ^ 32 =
+    regrouped (n / 2 ^ 32) z (2 ^ w) ∙ ap (λ m. n / 2 ^ 32 * m) whole in
+    sym (ap (λ m. m % 2 ^ w) (sym split ∙ ap (λ m. m + n % 2 ^ 32) (sym turns))
+    ∙ mul-add-mod_self_right (n / 2 ^ 32 * z) (2 ^ w) (n % 2 ^ 32))
+  where
+    regrouped : (a b c : ℕ) → a * b * c ≡ a * (b * c)
+    regrouped a b c = grind arith
+
+-- the low places of a word, of its double or of its triple
+pub multiple_low : (high low : Bool) (n m k w : ℕ) → w ≤ 32 → m ≡ (n * 2 ^ 1) % 2 ^ 32 →
+    k ≡ (3 * n) % 2 ^ 32 →
+    chosen_of high low (n % 2 ^ w) (m % 2 ^ w) (k % 2 ^ w) ≡ multiple_of high low n % 2 ^ w
+multiple_low true true n m k w few m_is k_is =
+    ap (λ x. x % 2 ^ w) k_is ∙ mod_mod (3 * n) w (2 ^ (32 - w)) (powers w few)
+multiple_low true false n m k w few m_is k_is =
+    let double : n * 2 ^ 1 ≡ (0 + 2 * 1) * n = omega arith in
+    ap (λ x. x % 2 ^ w) m_is ∙ mod_mod (n * 2 ^ 1) w (2 ^ (32 - w)) (powers w few) ∙ ap (λ x. x % 2 ^ w)
+    double
+multiple_low false true n m k w few m_is k_is =
+    let same : n ≡ (1 + 2 * 0) * n = omega arith in
+    ap (λ x. x % 2 ^ w) same
+multiple_low false false n m k w few m_is k_is =
+    let none : (0 + 2 * 0) * n ≡ 0 * 2 ^ w = omega arith in
+    sym (ap (λ x. x % 2 ^ w) none ∙ mul-mod_left 0 (2 ^ w))
+
+pub chosen_zero : (high low : Bool) → 0 ≡ chosen_of high low 0 0 0
+chosen_zero true true = refl
+chosen_zero true false = refl
+chosen_zero false true = refl
+chosen_zero false false = refl
+
+pub triple : (n t d : ℕ) → d ≡ 0 → t ≡ (n + (n + d) * 2 ^ 1) % 2 ^ 32 → t ≡ (3 * n) % 2 ^ 32
+triple n t d none is = omega arith
+
+pub multiples_last : (a t whole : ℕ) → t < 2 ^ 32 → (t + a * 0) % 2 ^ 32 ≡ whole → t ≡ whole
+multiples_last a t whole small holds = omega arith
+
+-- the sum with a multiple of which the low places alone are known, moved up
+pub moved_multiple : (t x d w p : ℕ) → x ≡ d % 2 ^ w → w + p ≡ 32 →
+    (t + (x + 0) * 2 ^ p) % 2 ^ 32 ≡ (t + d * 2 ^ p) % 2 ^ 32
+moved_multiple t x d w p is whole =
+    let split : d / 2 ^ w * 2 ^ w + d % 2 ^ w ≡ d = div-add-mod' d (2 ^ w) in
+    let power : 2 ^ w * 2 ^ p ≡ 2 ^ 32 = sym (pow-add 2 w p) ∙ ap (λ e. 2 ^ e) whole in
+    let parts : (d / 2 ^ w * 2 ^ w + x) * 2 ^ p ≡ d / 2 ^ w * (2 ^ w * 2 ^ p) + (x + 0) * 2 ^ p =
+    spread (d / 2 ^ w) (2 ^ w) x (2 ^ p) in
+    let turns : d / 2 ^ w * (2 ^ w * 2 ^ p) ≡ d / 2 ^ w * 2 ^ 32 = ap (λ n. d / 2 ^ w * n) power in
+    let all : d * 2 ^ p ≡ d / 2 ^ w * 2 ^ 32 + (x + 0) * 2 ^ p =
+    ap (λ n. n * 2 ^ p) (sym split ∙ ap (λ n. d / 2 ^ w * 2 ^ w + n) (sym is)) ∙ parts
+    ∙ ap (λ n. n + (x + 0) * 2 ^ p) turns in
+    omega arith
+  where
+    spread : (q a x b : ℕ) → (q * a + x) * b ≡ q * (a * b) + (x + 0) * b
+    spread q a x b = grind arith
+
+-- what is still to come, with two digits less
+pub multiples_more : (high low : Bool) (a t x next before after w p : ℕ) → w + p ≡ 32 →
+    x ≡ multiple_of high low a % 2 ^ w → next ≡ (t + (x + 0) * 2 ^ p) % 2 ^ 32 →
+    before ≡ after + 2 ^ p * (digit low + 2 * digit high) → (whole : ℕ) →
+    (t + a * before) % 2 ^ 32 ≡ whole → (next + a * after) % 2 ^ 32 ≡ whole
+multiples_more high low a t x next before after w p split x_is is before_is whole holds =
+    let value : next ≡ (t + multiple_of high low a * 2 ^ p) % 2 ^ 32 =
+    is ∙ moved_multiple t x (multiple_of high low a) w p x_is split in
+    let parts : a * before ≡ multiple_of high low a * 2 ^ p + a * after =
+    ap (λ n. a * n) before_is ∙ spread a after (2 ^ p) (digit low + 2 * digit high) in
+    step next t (multiple_of high low a * 2 ^ p) (a * after) (a * before) value parts ∙ holds
+  where
+    spread : (a r p d : ℕ) → a * (r + p * d) ≡ d * a * p + a * r
+    spread a r p d = grind arith
+
+    step : (next t u v b : ℕ) → next ≡ (t + u) % 2 ^ 32 → b ≡ u + v → (next + v) % 2 ^ 32 ≡ (t + b) % 2 ^ 32
+    step next t u v b value parts = omega arith
 
 -- ---- divisions
 

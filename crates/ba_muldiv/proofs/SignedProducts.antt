@@ -1,6 +1,6 @@
 -- Products of numbers by their magnitudes.
 
-use Rattle.std.proofs.Common.{◌≡◌, ℕ, ◌+◌, ◌-◌, ◌*◌, ◌%◌, ◌^◌, ◌<◌, Bool, true, false, refl, sym, ap, ◌∙◌, arith, mul_comm}
+use Rattle.std.proofs.Common.{◌≡◌, ℕ, ◌+◌, ◌-◌, ◌*◌, ◌%◌, ◌^◌, ◌<◌, Bool, true, false, refl, ap, ◌∙◌, arith, mul_comm}
 use Rattle.std.proofs.lemmas.Nat.{mul-mod_second}
 use Rattle.ba_nodes.specs.Gates.{bool_xor}
 use Rattle.ba_muldiv.specs.Division.{negated_where}

@@ -1,12 +1,12 @@
 -- Products, quotients and remainders of words, as numbers and as numbers of C.
 
-use Rattle.std.specs.Prelude.{◌≡◌, ℕ, ◌+◌, ◌-◌, ◌/◌, ◌%◌, ◌^◌, ◌<◌, ◌==◌, Bool, true, false, ◌&&◌, nat_lt, nat_le, List, map, drop, Some, ℤ, if◌then◌else◌}
+use Rattle.std.specs.Prelude.{◌≡◌, ℕ, ◌+◌, ◌-◌, ◌*◌, ◌/◌, ◌%◌, ◌^◌, ◌<◌, ◌≤◌, ◌==◌, Bool, true, false, ◌&&◌, nat_lt, nat_le, List, map, drop, Some, ℤ, if◌then◌else◌}
 use Rattle.ba_nodes.specs.declared.Bit.{Bit}
 use Rattle.ba_nodes.specs.declared.Node.{Node}
-use Rattle.ba_nodes.specs.Gates.{bool_xor, truth}
+use Rattle.ba_nodes.specs.Gates.{bool_xor, truth, HasValue}
 use Rattle.ba_numbers.specs.declared.numbers.BinOp.{BinOp}
 use Rattle.ba_numbers.specs.Numbers.{value_of}
-use Rattle.ba_words.specs.Words.{digit, spelled, bit_at, shifted_down, word_type, word_value}
+use Rattle.ba_words.specs.Words.{digit, spelled, number_of, bit_at, shifted_down, word_type, word_value}
 
 -- a number of 32 places is negative, where it is read as signed
 abbrev pub is_negative : Bool → ℕ → Bool
@@ -53,6 +53,12 @@ abbrev pub IsBounded : (ℕ → Bool) → List Node → List Bit → ℕ → Typ
 IsBounded free nodes bounds n =
     (place : ℕ) → place < 32 → truth free nodes (bit_at bounds place) ≡ false → n < 2 ^ place
 
+-- the bits tell for each place whether the word has a one there or above it
+abbrev pub AreOnesFrom : List Node → List Bit → List Bit → Type 0
+AreOnesFrom nodes word above =
+    (place : ℕ) → place ≤ 32 →
+    HasValue nodes (bit_at above place) (λ free. nat_le (2 ^ place) (number_of free nodes word))
+
 -- a sum of words, or a difference
 abbrev pub sum_or_difference : Bool → ℕ → ℕ → ℕ
 sum_or_difference minus m n = if minus then (m + (2 ^ 32 - n)) % 2 ^ 32 else (m + n) % 2 ^ 32
@@ -64,3 +70,7 @@ has_negative_remainder n exponent = is_negative true n && nat_lt 0 (n % 2 ^ expo
 -- a number of 32 places moved down with its sign, and one more where the bit is true
 abbrev pub shifted_sum : ℕ → ℕ → Bool → ℕ
 shifted_sum n by bit = (shifted_down n (is_negative true n) by + digit bit) % 2 ^ 32
+
+-- the multiple of a number that two digits say, the higher first
+abbrev pub multiple_of : Bool → Bool → ℕ → ℕ
+multiple_of high low n = (digit low + 2 * digit high) * n

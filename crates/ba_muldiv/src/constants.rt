@@ -1,10 +1,9 @@
 //! Constants among words.
 
-ghost use Rattle.std.specs.Prelude.{◌≡◌, ℕ, ◌≤◌, Bool, List, length, IfSome};
+ghost use Rattle.std.specs.Prelude.{◌≡◌, ℕ, ◌≤◌, Bool, List, IfSome};
 ghost use Rattle.ba_nodes.specs.declared.Node.{Node};
-ghost use Rattle.ba_words.specs.Words.{spelled, number_of, AreBitsOf};
+ghost use Rattle.ba_words.specs.Words.{number_of};
 
-use ba_nodes::Nodes;
 use ba_words::Word;
 
 /// How many bits of the word are constants.
@@ -34,18 +33,4 @@ pub(crate) fn constant_of(word: &Word) -> Option<u32>
         value = 2 * value + u32::from(bit.negated);
     }
     Some(value)
-}
-
-/// The word of these digits.
-pub(crate) fn constant_word(digits: &[bool; 32]) -> Word
-    ensures bits { (nodes : List Node) → AreBitsOf nodes result }
-    ensures number { (nodes : List Node) (free : ℕ → Bool) → number_of free nodes result
-        ≡ spelled digits.now }
-    ensures long { length result ≡ 32 }
-{
-    let mut word = [Nodes::constant(false); 32];
-    for i in 0..32 {
-        word[i] = Nodes::constant(digits[i]);
-    }
-    word
 }

@@ -7,7 +7,7 @@ ghost use Rattle.ba_nodes.specs.declared.Bit.{Bit};
 ghost use Rattle.ba_nodes.specs.declared.Node.{Node};
 ghost use Rattle.ba_nodes.specs.Gates.{bool_xor, truth, IsBitOf, gates_in, Extends, HasValue};
 ghost use Rattle.ba_words.specs.Words.{digit, spelled, number_of, bit_at, AreBitsOf, HasNumber, IsValueOf};
-ghost use Rattle.ba_muldiv.specs.Division.{negated_where, long_quotient, quotient_of, remainder_of, IsValueWhereDefined, IsBounded, high_number, sum_or_difference};
+ghost use Rattle.ba_muldiv.specs.Division.{negated_where, long_quotient, quotient_of, remainder_of, IsValueWhereDefined, IsBounded, AreOnesFrom, high_number};
 
 use crate::powers::{constant_power, quotient_by_power, remainder_by_power};
 use ba_nodes::{Bit, Nodes};
@@ -107,7 +107,7 @@ pub(crate) fn negated_where(nodes: &mut Nodes, negative: Bit, a: &Word) -> Resul
         HasNumber nodes.new word (λ free.
         negated_where (truth free nodes.old negative) (number_of free nodes.old a.now))) }
     ensures extends { Extends nodes.old nodes.new }
-    ensures count { gates_in nodes.new ≤ gates_in nodes.old + 63 }
+    ensures count { gates_in nodes.new ≤ gates_in nodes.old + 189 }
 {
     let mut word = *a;
     let mut turned = Nodes::constant(false);
@@ -128,13 +128,34 @@ fn long_quotient(nodes: &mut Nodes, dividend: &Word, divisor: &Word) -> Result<W
         long_quotient 32 (number_of free nodes.old dividend.now)
         (number_of free nodes.old divisor.now))) }
     ensures extends { Extends nodes.old nodes.new }
-    ensures count { gates_in nodes.new ≤ gates_in nodes.old + 229 * 32 }
+    ensures count { gates_in nodes.new ≤ gates_in nodes.old + 32 + 421 * 32 }
 {
-    let (quotient, rest, bounds) = upper_steps(nodes, dividend, divisor)?;
+    let above = ones_from(nodes, divisor)?;
+    quotient_by_steps(nodes, dividend, divisor, &above)
+}
+
+/// The quotient of two unsigned words. `above` tells from which places on the divisor has a one.
+fn quotient_by_steps(
+    nodes: &mut Nodes,
+    dividend: &Word,
+    divisor: &Word,
+    above: &Word,
+) -> Result<Word, AllocError>
+    requires first { AreBitsOf nodes.old dividend.now }
+    requires second { AreBitsOf nodes.old divisor.now }
+    requires above { AreOnesFrom nodes.old divisor.now above.now }
+    ensures number { IfOk result (λ word.
+        HasNumber nodes.new word (λ free.
+        long_quotient 32 (number_of free nodes.old dividend.now)
+        (number_of free nodes.old divisor.now))) }
+    ensures extends { Extends nodes.old nodes.new }
+    ensures count { gates_in nodes.new ≤ gates_in nodes.old + 421 * 32 }
+{
+    let (quotient, rest, bounds) = upper_steps(nodes, dividend, divisor, above)?;
     let last = brought_down(&rest, dividend[0]);
     let last_bounds = next_bounds(nodes, &bounds, dividend[0])?;
     let exceeds = less(nodes, &last, divisor, false)?;
-    let fits = fits_into_nonzero(nodes, Nodes::not(exceeds), last_bounds[0], divisor)?;
+    let fits = fits_into_nonzero(nodes, Nodes::not(exceeds), last_bounds[0], above[0])?;
     Ok(brought_down(&quotient, fits))
 }
 
@@ -146,12 +167,33 @@ fn long_remainder(nodes: &mut Nodes, dividend: &Word, divisor: &Word) -> Result<
         HasNumber nodes.new word (λ free.
         number_of free nodes.old dividend.now % number_of free nodes.old divisor.now)) }
     ensures extends { Extends nodes.old nodes.new }
-    ensures count { gates_in nodes.new ≤ gates_in nodes.old + 229 * 32 }
+    ensures count { gates_in nodes.new ≤ gates_in nodes.old + 32 + 421 * 32 }
 {
-    let (_, rest, bounds) = upper_steps(nodes, dividend, divisor)?;
+    let above = ones_from(nodes, divisor)?;
+    remainder_by_steps(nodes, dividend, divisor, &above)
+}
+
+/// The remainder of two unsigned words. `above` tells from which places on the divisor has a one.
+fn remainder_by_steps(
+    nodes: &mut Nodes,
+    dividend: &Word,
+    divisor: &Word,
+    above: &Word,
+) -> Result<Word, AllocError>
+    requires first { AreBitsOf nodes.old dividend.now }
+    requires second { AreBitsOf nodes.old divisor.now }
+    requires above { AreOnesFrom nodes.old divisor.now above.now }
+    ensures number { IfOk result (λ word.
+        HasNumber nodes.new word (λ free.
+        number_of free nodes.old dividend.now % number_of free nodes.old divisor.now)) }
+    ensures extends { Extends nodes.old nodes.new }
+    ensures count { gates_in nodes.new ≤ gates_in nodes.old + 421 * 32 }
+{
+    let (_, rest, bounds) = upper_steps(nodes, dividend, divisor, above)?;
     let last = brought_down(&rest, dividend[0]);
     let last_bounds = next_bounds(nodes, &bounds, dividend[0])?;
-    let (_, left) = bounded_step(nodes, &last, &last_bounds, divisor, known_width(divisor))?;
+    let known = known_width(divisor);
+    let (_, left) = bounded_step(nodes, &last, &last_bounds, divisor, above, known)?;
     Ok(left)
 }
 
@@ -162,9 +204,11 @@ fn upper_steps(
     nodes: &mut Nodes,
     dividend: &Word,
     divisor: &Word,
+    above: &Word,
 ) -> Result<(Word, Word, Word), AllocError>
     requires first { AreBitsOf nodes.old dividend.now }
     requires second { AreBitsOf nodes.old divisor.now }
+    requires above { AreOnesFrom nodes.old divisor.now above.now }
     ensures quotient { IfOk result (λ r.
         HasNumber nodes.new r.0 (λ free.
         long_quotient 31 (high_number free nodes.old dividend.now 1)
@@ -177,7 +221,7 @@ fn upper_steps(
     ensures bounds { IfOk result (λ r. (free : ℕ → Bool)
         → IsBounded free nodes.new r.2 (number_of free nodes.new r.1)) }
     ensures extends { Extends nodes.old nodes.new }
-    ensures count { gates_in nodes.new ≤ gates_in nodes.old + 229 * 31 }
+    ensures count { gates_in nodes.new ≤ gates_in nodes.old + 421 * 31 }
 {
     let known = known_width(divisor);
     let zero = [Nodes::constant(false); 32];
@@ -190,7 +234,7 @@ fn upper_steps(
     for i in 0..31 {
         let next = brought_down(&rest, dividend[31 - i]);
         bounds = next_bounds(nodes, &bounds, dividend[31 - i])?;
-        let (fits, left) = bounded_step(nodes, &next, &bounds, divisor, known)?;
+        let (fits, left) = bounded_step(nodes, &next, &bounds, divisor, above, known)?;
         quotient = brought_down(&quotient, fits);
         rest = left;
     }
@@ -220,11 +264,13 @@ fn bounded_step(
     rest: &Word,
     bounds: &Word,
     divisor: &Word,
+    above: &Word,
     known: usize,
 ) -> Result<(Bit, Word), AllocError>
     requires first { AreBitsOf nodes.old rest.now }
     requires second { AreBitsOf nodes.old divisor.now }
     requires third { AreBitsOf nodes.old bounds.now }
+    requires above { AreOnesFrom nodes.old divisor.now above.now }
     requires bounds { (free : ℕ → Bool)
         → IsBounded free nodes.old bounds.now (number_of free nodes.old rest.now) }
     requires known { known ≤ 32 }
@@ -239,10 +285,12 @@ fn bounded_step(
         then number_of free nodes.old rest.now - number_of free nodes.old divisor.now
         else number_of free nodes.old rest.now)) }
     ensures extends { Extends nodes.old nodes.new }
-    ensures count { gates_in nodes.new ≤ gates_in nodes.old + 228 }
+    ensures count { gates_in nodes.new ≤ gates_in nodes.old + 420 }
 {
-    let (enough, difference) = step(nodes, rest, divisor, width_of(rest), known)?;
-    let fits = fits_into_nonzero(nodes, enough, bounds[0], divisor)?;
+    let width = width_of(rest);
+    let wider = bit_at(above, width);
+    let (enough, difference) = step(nodes, rest, divisor, wider, width, known)?;
+    let fits = fits_into_nonzero(nodes, enough, bounds[0], above[0])?;
     let left = bounded(nodes, &difference, bounds)?;
     Ok((fits, left))
 }
@@ -253,19 +301,18 @@ fn fits_into_nonzero(
     nodes: &mut Nodes,
     fits: Bit,
     some: Bit,
-    divisor: &Word,
+    divides: Bit,
 ) -> Result<Bit, AllocError>
     requires first { IsBitOf nodes.old fits }
     requires second { IsBitOf nodes.old some }
-    requires third { AreBitsOf nodes.old divisor.now }
+    requires third { IsBitOf nodes.old divides }
     requires none { (free : ℕ → Bool) → truth free nodes.old some ≡ false
-        → truth free nodes.old fits ≡ true → number_of free nodes.old divisor.now ≡ 0 }
+        → truth free nodes.old fits ≡ true → truth free nodes.old divides ≡ false }
     ensures value { IfOk result (λ bit.
         HasValue nodes.new bit (λ free. truth free nodes.old fits)) }
     ensures extends { Extends nodes.old nodes.new }
-    ensures count { gates_in nodes.new ≤ gates_in nodes.old + 34 }
+    ensures count { gates_in nodes.new ≤ gates_in nodes.old + 2 }
 {
-    let divides = is_wider(nodes, divisor, 0)?;
     let possible = nodes.or(some, Nodes::not(divides))?;
     nodes.and(fits, possible)
 }
@@ -288,18 +335,22 @@ fn bounded(nodes: &mut Nodes, word: &Word, bounds: &Word) -> Result<Word, AllocE
     Ok(out)
 }
 
-/// Whether the divisor fits into what is left, of this width, and what is left then. Where the width of the
+/// Whether the divisor fits into what is left, of this width, and what is left then. `wider` tells whether the divisor
+/// has more places. Where the width of the
 /// divisor is known, no more places can be left, and only these are subtracted: there is one more at most, and the
 /// divisor fits where it is true.
 fn step(
     nodes: &mut Nodes,
     rest: &Word,
     divisor: &Word,
+    wider: Bit,
     width: usize,
     known: usize,
 ) -> Result<(Bit, Word), AllocError>
     requires first { AreBitsOf nodes.old rest.now }
     requires second { AreBitsOf nodes.old divisor.now }
+    requires wider { HasValue nodes.old wider
+        (λ free. nat_le (2 ^ width) (number_of free nodes.old divisor.now)) }
     requires width { width ≤ 32 }
     requires small { (free : ℕ → Bool) → number_of free nodes.old rest.now < 2 ^ width }
     requires known { known ≤ 32 }
@@ -314,7 +365,7 @@ fn step(
         then number_of free nodes.old rest.now - number_of free nodes.old divisor.now
         else number_of free nodes.old rest.now)) }
     ensures extends { Extends nodes.old nodes.new }
-    ensures count { gates_in nodes.new ≤ gates_in nodes.old + 162 }
+    ensures count { gates_in nodes.new ≤ gates_in nodes.old + 386 }
 {
     let no = Nodes::constant(false);
     if is_surely_wider(divisor, width) {
@@ -325,7 +376,6 @@ fn step(
     let complement = flip(&extended(divisor, kept, no));
     let (difference, carry) = add_with_carry(nodes, &low, &complement, Nodes::constant(true))?;
     let enough = nodes.or(carry, bit_at(rest, kept))?;
-    let wider = is_wider(nodes, divisor, width)?;
     let fits = nodes.and(enough, Nodes::not(wider))?;
     let left = select(nodes, fits, &extended(&difference, kept, no), &low)?;
     Ok((fits, left))
@@ -402,20 +452,20 @@ fn is_surely_wider(word: &Word, width: usize) -> bool
     false
 }
 
-/// Whether the word has a one at this place or above it.
-fn is_wider(nodes: &mut Nodes, word: &Word, width: usize) -> Result<Bit, AllocError>
-    requires first { AreBitsOf nodes.old word.now }
-    requires width { width ≤ 32 }
-    ensures value { IfOk result (λ bit.
-        HasValue nodes.new bit (λ free. nat_le (2 ^ width) (number_of free nodes.old word.now))) }
+/// For each place, whether the word has a one there or above it.
+fn ones_from(nodes: &mut Nodes, word: &Word) -> Result<Word, AllocError>
+    requires { AreBitsOf nodes.old word.now }
+    ensures value { IfOk result (λ above. AreOnesFrom nodes.new word.now above) }
     ensures extends { Extends nodes.old nodes.new }
     ensures count { gates_in nodes.new ≤ gates_in nodes.old + 32 }
 {
     let mut some = Nodes::constant(false);
-    for i in 0..32 - width {
+    let mut above = [some; 32];
+    for i in 0..32 {
         some = nodes.or(some, word[31 - i])?;
+        above[31 - i] = some;
     }
-    Ok(some)
+    Ok(above)
 }
 
 /// The word moved up by one place, with the bit as its lowest.

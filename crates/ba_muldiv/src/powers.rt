@@ -73,7 +73,7 @@ pub(crate) fn quotient_by_power(
         quotient_of true (number_of free nodes.old a.now)
         (signed_power power.negative power.exponent))) }
     ensures extends { Extends nodes.old nodes.new }
-    ensures count { gates_in nodes.new ≤ gates_in nodes.old + 129 }
+    ensures count { gates_in nodes.new ≤ gates_in nodes.old + 321 }
 {
     let below = has_negative_remainder(nodes, a, power.exponent)?;
     if power.negative {
@@ -124,7 +124,7 @@ fn shifted_sum(nodes: &mut Nodes, a: &Word, by: usize, bit: Bit) -> Result<Word,
     ensures number { IfOk result (λ word. HasNumber nodes.new word (λ free.
         shifted_sum (number_of free nodes.old a.now) by (truth free nodes.old bit))) }
     ensures extends { Extends nodes.old nodes.new }
-    ensures count { gates_in nodes.new ≤ gates_in nodes.old + 97 }
+    ensures count { gates_in nodes.new ≤ gates_in nodes.old + 289 }
 {
     let zero = [Nodes::constant(false); 32];
     let (sum, _) = add_with_carry(nodes, &upper_places(a, by), &zero, bit)?;

@@ -1,17 +1,17 @@
 //! Products, by shifted sums.
 
-ghost use Rattle.std.specs.Prelude.{◌≡◌, ℕ, ◌+◌, ◌-◌, ◌*◌, ◌/◌, ◌%◌, ◌<◌, ◌≤◌, ◌^◌, ◌==◌, Bool, true, false, not, nat_lt, nat_le, ◌&&◌, List, length, IfOk, if◌then◌else◌};
+ghost use Rattle.std.specs.Prelude.{◌≡◌, ℕ, ◌+◌, ◌-◌, ◌*◌, ◌/◌, ◌%◌, ◌<◌, ◌≤◌, ◌^◌, ◌==◌, Bool, true, false, not, nat_lt, nat_le, ◌&&◌, ◌||◌, List, length, IfOk, if◌then◌else◌};
 ghost use Rattle.ba_numbers.specs.declared.numbers.BinOp.{BinOp};
 ghost use Rattle.ba_nodes.specs.declared.Bit.{Bit};
 ghost use Rattle.ba_nodes.specs.declared.Node.{Node};
 ghost use Rattle.ba_nodes.specs.Gates.{bool_xor, truth, IsBitOf, gates_in, Extends, HasValue};
 ghost use Rattle.ba_words.specs.Words.{digit, spelled, number_of, bit_at, AreBitsOf, HasNumber, IsValueOf};
-ghost use Rattle.ba_muldiv.specs.Division.{negated_where, long_quotient, quotient_of, remainder_of, IsValueWhereDefined, high_number, sum_or_difference};
+ghost use Rattle.ba_muldiv.specs.Division.{multiple_of, sum_or_difference};
 
-use crate::constants::{constant_of, constant_word, known_bits};
+use crate::constants::{constant_of, known_bits};
 use crate::division::negated_where;
 use ba_nodes::{Bit, Nodes};
-use ba_words::{Word, add, moved_up, select, sub};
+use ba_words::{Word, add_moved_up, flip, moved_up};
 use std::alloc::AllocError;
 
 /// The product of two words modulo 2^32 (C90 6.3.5), by at most 5,000 gates. Where neither sign is known it is made of
@@ -59,12 +59,12 @@ fn product_by_magnitudes(nodes: &mut Nodes, a: &Word, b: &Word) -> Result<Word, 
 {
     let first = negated_where(nodes, a[31], a)?;
     let second = negated_where(nodes, b[31], b)?;
-    let product = plain_product(nodes, &first, &second)?;
+    let product = free_product(nodes, &first, &second)?;
     let negative = nodes.xor(a[31], b[31])?;
     negated_where(nodes, negative, &product)
 }
 
-/// The product of two words, of which that with fewer known bits is moved up.
+/// The product of two words as they are: by the digits of a constant one, if there is one.
 fn plain_product(nodes: &mut Nodes, a: &Word, b: &Word) -> Result<Word, AllocError>
     requires first { AreBitsOf nodes.old a.now }
     requires second { AreBitsOf nodes.old b.now }
@@ -72,101 +72,198 @@ fn plain_product(nodes: &mut Nodes, a: &Word, b: &Word) -> Result<Word, AllocErr
         HasNumber nodes.new word (λ free.
         (number_of free nodes.old a.now * number_of free nodes.old b.now) % 2 ^ 32)) }
     ensures extends { Extends nodes.old nodes.new }
-    ensures count { gates_in nodes.new ≤ gates_in nodes.old + 4200 }
+    ensures count { gates_in nodes.new ≤ gates_in nodes.old + 4752 }
 {
-    if known_bits(a) > known_bits(b) {
-        times(nodes, b, a)
-    } else {
-        times(nodes, a, b)
+    if let Some(value) = constant_of(b) {
+        return constant_product(nodes, a, value);
+    }
+    match constant_of(a) {
+        Some(value) => constant_product(nodes, b, value),
+        None => free_product(nodes, a, b),
     }
 }
 
-/// The product of a word and a factor, whose digits say which shifted words are summed.
-fn times(nodes: &mut Nodes, a: &Word, factor: &Word) -> Result<Word, AllocError>
+/// The product of two words, of which that with more known bits tells by its digits which multiples of the other are
+/// summed.
+fn free_product(nodes: &mut Nodes, a: &Word, b: &Word) -> Result<Word, AllocError>
+    requires first { AreBitsOf nodes.old a.now }
+    requires second { AreBitsOf nodes.old b.now }
+    ensures number { IfOk result (λ word.
+        HasNumber nodes.new word (λ free.
+        (number_of free nodes.old a.now * number_of free nodes.old b.now) % 2 ^ 32)) }
+    ensures extends { Extends nodes.old nodes.new }
+    ensures count { gates_in nodes.new ≤ gates_in nodes.old + 4135 }
+{
+    if known_bits(a) > known_bits(b) {
+        sum_of_multiples(nodes, b, a)
+    } else {
+        sum_of_multiples(nodes, a, b)
+    }
+}
+
+/// The product of a word and a factor, by the factor's digits to base 4, from the highest down.
+fn sum_of_multiples(nodes: &mut Nodes, a: &Word, factor: &Word) -> Result<Word, AllocError>
     requires first { AreBitsOf nodes.old a.now }
     requires second { AreBitsOf nodes.old factor.now }
     ensures number { IfOk result (λ word.
         HasNumber nodes.new word (λ free.
         (number_of free nodes.old a.now * number_of free nodes.old factor.now) % 2 ^ 32)) }
     ensures extends { Extends nodes.old nodes.new }
-    ensures count { gates_in nodes.new ≤ gates_in nodes.old + 4200 }
+    ensures count { gates_in nodes.new ≤ gates_in nodes.old + 4135 }
 {
-    let minus = taken_digits(factor);
-    let plus = add(nodes, factor, &constant_word(&minus))?;
-    sum_of_rows(nodes, a, &plus, &minus)
-}
-
-/// The word times the digits, which are those of `plus` less those of `minus`, from the highest place down.
-fn sum_of_rows(
-    nodes: &mut Nodes,
-    a: &Word,
-    plus: &Word,
-    minus: &[bool; 32],
-) -> Result<Word, AllocError>
-    requires first { AreBitsOf nodes.old a.now }
-    requires second { AreBitsOf nodes.old plus.now }
-    ensures number { IfOk result (λ word. (factor : (ℕ → Bool) → ℕ) →
-        ((free : ℕ → Bool)
-        → number_of free nodes.old plus.now ≡ (factor free + spelled minus.now) % 2 ^ 32) →
-        HasNumber nodes.new word
-        (λ free. (number_of free nodes.old a.now * factor free) % 2 ^ 32)) }
-    ensures extends { Extends nodes.old nodes.new }
-    ensures count { gates_in nodes.new ≤ gates_in nodes.old + 32 * 128 }
-{
-    let mut sum = [Nodes::constant(false); 32];
-    for i in 0..32 {
-        let place = 31 - i;
-        sum = row(nodes, &sum, a, place, plus[place], minus[place])?;
+    let no = Nodes::constant(false);
+    let thrice = add_moved_up(nodes, a, a, no, 1)?;
+    let mut sum = [no; 32];
+    for i in 0..16 {
+        let place = 30 - 2 * i;
+        let (low, high) = (factor[place], factor[place + 1]);
+        let more = multiple(nodes, a, &thrice, low, high, 32 - place)?;
+        sum = add_moved_up(nodes, &sum, &more, no, place)?;
     }
     Ok(sum)
 }
 
-/// The sum and the word moved up to a place, if the digit there is true: less the word, if it stands for the
-/// digit less one.
+/// The low places of a multiple of a word: by 0, by 1, by 2 or by 3, as two digits say.
+fn multiple(
+    nodes: &mut Nodes,
+    a: &Word,
+    thrice: &Word,
+    low: Bit,
+    high: Bit,
+    width: usize,
+) -> Result<Word, AllocError>
+    requires few { width ≤ 32 }
+    requires first { AreBitsOf nodes.old a.now }
+    requires second { AreBitsOf nodes.old thrice.now }
+    requires third { IsBitOf nodes.old low }
+    requires fourth { IsBitOf nodes.old high }
+    requires thrice { (free : ℕ → Bool) → number_of free nodes.old thrice.now
+        ≡ (3 * number_of free nodes.old a.now) % 2 ^ 32 }
+    ensures number { IfOk result (λ word.
+        HasNumber nodes.new word (λ free.
+        multiple_of (truth free nodes.old high) (truth free nodes.old low)
+        (number_of free nodes.old a.now) % 2 ^ width)) }
+    ensures extends { Extends nodes.old nodes.new }
+    ensures count { gates_in nodes.new ≤ gates_in nodes.old + 5 * width + 3 }
+{
+    let twice = moved_up(a, 1);
+    let one = nodes.and(low, Nodes::not(high))?;
+    let two = nodes.and(high, Nodes::not(low))?;
+    let three = nodes.and(high, low)?;
+    let mut word = [Nodes::constant(false); 32];
+    for place in 0..width {
+        let (x, y, z) = (a[place], twice[place], thrice[place]);
+        word[place] = some_pair(nodes, (one, x), (two, y), (three, z))?;
+    }
+    Ok(word)
+}
+
+/// Whether both bits of one of three pairs are true.
+fn some_pair(
+    nodes: &mut Nodes,
+    first: (Bit, Bit),
+    second: (Bit, Bit),
+    third: (Bit, Bit),
+) -> Result<Bit, AllocError>
+    requires first { IsBitOf nodes.old first.0 × IsBitOf nodes.old first.1 }
+    requires second { IsBitOf nodes.old second.0 × IsBitOf nodes.old second.1 }
+    requires third { IsBitOf nodes.old third.0 × IsBitOf nodes.old third.1 }
+    ensures value { IfOk result (λ bit. HasValue nodes.new bit (λ free.
+        ((truth free nodes.old first.0 && truth free nodes.old first.1)
+        || (truth free nodes.old second.0 && truth free nodes.old second.1))
+        || (truth free nodes.old third.0 && truth free nodes.old third.1))) }
+    ensures extends { Extends nodes.old nodes.new }
+    ensures count { gates_in nodes.new ≤ gates_in nodes.old + 5 }
+{
+    let x = nodes.and(first.0, first.1)?;
+    let y = nodes.and(second.0, second.1)?;
+    let z = nodes.and(third.0, third.1)?;
+    let either = nodes.or(x, y)?;
+    nodes.or(either, z)
+}
+
+/// The product of a word and a constant, which is made by as few sums and differences as its digits allow.
+fn constant_product(nodes: &mut Nodes, a: &Word, factor: u32) -> Result<Word, AllocError>
+    requires { AreBitsOf nodes.old a.now }
+    ensures number { IfOk result (λ word.
+        HasNumber nodes.new word (λ free. (number_of free nodes.old a.now * factor) % 2 ^ 32)) }
+    ensures extends { Extends nodes.old nodes.new }
+    ensures count { gates_in nodes.new ≤ gates_in nodes.old + 4752 }
+{
+    let minus = taken_digits(factor);
+    sum_of_rows(nodes, a, factor.wrapping_add(minus), minus)
+}
+
+/// The word times the difference of two numbers, by their digits, from the highest place down.
+fn sum_of_rows(nodes: &mut Nodes, a: &Word, plus: u32, minus: u32) -> Result<Word, AllocError>
+    requires { AreBitsOf nodes.old a.now }
+    ensures number { IfOk result (λ word. (factor : ℕ) → plus ≡ (factor + minus) % 2 ^ 32 →
+        HasNumber nodes.new word (λ free. (number_of free nodes.old a.now * factor) % 2 ^ 32)) }
+    ensures extends { Extends nodes.old nodes.new }
+    ensures count { gates_in nodes.new ≤ gates_in nodes.old + 4752 }
+{
+    let mut sum = [Nodes::constant(false); 32];
+    for i in 0..32 {
+        let place = 31 - i;
+        sum = row(
+            nodes,
+            &sum,
+            a,
+            place,
+            has_one(plus, place),
+            has_one(minus, place),
+        )?;
+    }
+    Ok(sum)
+}
+
+/// The sum and the word moved up to a place, where the digit to add is one, less that word where the digit to take
+/// away is.
 fn row(
     nodes: &mut Nodes,
     sum: &Word,
     a: &Word,
     place: usize,
-    digit: Bit,
+    plus: bool,
     minus: bool,
 ) -> Result<Word, AllocError>
     requires small { place < 32 }
     requires first { AreBitsOf nodes.old sum.now }
     requires second { AreBitsOf nodes.old a.now }
-    requires third { IsBitOf nodes.old digit }
     ensures number { IfOk result (λ word. HasNumber nodes.new word (λ free.
         sum_or_difference minus (number_of free nodes.old sum.now)
-        (if bool_xor minus (truth free nodes.old digit) then
+        (if bool_xor minus plus then
         (number_of free nodes.old a.now * 2 ^ place) % 2 ^ 32 else 0))) }
     ensures extends { Extends nodes.old nodes.new }
-    ensures count { gates_in nodes.new ≤ gates_in nodes.old + 128 }
+    ensures count { gates_in nodes.new ≤ gates_in nodes.old + 9 * (32 - place) }
 {
-    let shifted = moved_up(a, place);
-    let zero = [Nodes::constant(false); 32];
+    if plus == minus {
+        return Ok(*sum);
+    }
     if minus {
-        let taken = select(nodes, Nodes::not(digit), &shifted, &zero)?;
-        sub(nodes, sum, &taken)
+        add_moved_up(nodes, sum, &flip(a), Nodes::constant(true), place)
     } else {
-        let more = select(nodes, digit, &shifted, &zero)?;
-        add(nodes, sum, &more)
+        add_moved_up(nodes, sum, a, Nodes::constant(false), place)
     }
 }
 
+/// Whether the number has a one at this place.
+fn has_one(number: u32, place: usize) -> bool
+    requires { place < 32 }
+    ensures { digit result ≡ number / 2 ^ place % 2 }
+{
+    (number >> place) % 2 == 1
+}
+
 /// The digits to take away, so that few are left: a constant c is c + c / 2 less c / 2, and where both have the
-/// same digit no word is summed (G. W. Reitwiesner, "Binary arithmetic"). None are taken from a factor that is not
-/// a constant, or whose own bits are as few.
-fn taken_digits(factor: &Word) -> [bool; 32] {
-    let mut taken = [false; 32];
-    let Some(value) = constant_of(factor) else {
-        return taken;
-    };
-    let half = value >> 1;
-    let signed = value.wrapping_add(half) ^ half;
-    if signed.count_ones() < value.count_ones() {
-        for i in 0..32 {
-            taken[i] = half >> i & 1 == 1;
-        }
+/// same digit no word is summed (G. W. Reitwiesner, "Binary arithmetic"). None are taken from a number whose own bits
+/// are as few.
+fn taken_digits(factor: u32) -> u32 {
+    let half = factor >> 1;
+    let signed = factor.wrapping_add(half) ^ half;
+    if signed.count_ones() < factor.count_ones() {
+        half
+    } else {
+        0
     }
-    taken
 }

@@ -8,7 +8,7 @@ use Rattle.std.specs.declared.alloc.AllocError.{AllocError}
 use Rattle.ba_nodes.specs.declared.Bit.{Bit}
 use Rattle.ba_nodes.specs.declared.Node.{Node}
 use Rattle.ba_nodes.specs.declared.Node.TheVariants.{Free, And}
-use Rattle.ba_nodes.specs.Gates.{node_bit, node_truth, is_gate, gates_in, MayStandAt, AreOrdered, Puts, Extends, HasValue, IsGateOf, folded, IsMade}
+use Rattle.ba_nodes.specs.Gates.{node_bit, node_truth, weight, gates_in, MayStandAt, AreOrdered, Puts, Extends, HasValue, IsGateOf, folded, IsMade}
 use Rattle.ba_nodes.proofs.Folding.{folded_turned}
 use Rattle.ba_nodes.proofs.Truths.{truth-node, node_truth-append, Extends_refl, Extends-append, AreOrdered-push, gates-push}
 
@@ -47,17 +47,17 @@ added_before old new node number known sound puts found before =
       | inr more ↦ absurd (more.1 known before)
     ]
 
--- a gate is counted where the list grew
-pub added_gates : (old new : List Node) (node : Node) (count more : ℕ) → Puts old node new → count ≡ gates_in old → more ≡ (if nat_lt (length old) (length new) then (if is_gate node then 1 else 0) else 0) → count + more ≡ gates_in new
+-- a node is counted where the list grew
+pub added_gates : (old new : List Node) (node : Node) (count more : ℕ) → Puts old node new → count ≡ gates_in old → more ≡ (if nat_lt (length old) (length new) then weight node else 0) → count + more ≡ gates_in new
 added_gates old new node count more puts counted is =
     elim puts [
       | inl same ↦
           let as_long : nat_lt (length old) (length new) ≡ false = grind (arith, nat_tests, ap length same) in
-          let none : more ≡ 0 = is ∙ ap (λ b. if b then (if is_gate node then 1 else 0) else 0) as_long in
+          let none : more ≡ 0 = is ∙ ap (λ b. if b then weight node else 0) as_long in
           omega (arith, counted, ap gates_in same)
       | inr longer ↦
           let grown : nat_lt (length old) (length new) ≡ true = grind (arith, nat_tests, ap length longer.0, length_push old node) in
-          let one : more ≡ (if is_gate node then 1 else 0) = is ∙ ap (λ b. if b then (if is_gate node then 1 else 0) else 0) grown in
+          let one : more ≡ weight node = is ∙ ap (λ b. if b then weight node else 0) grown in
           ap (λ n. n + more) counted ∙ ap (λ n. gates_in old + n) one ∙ sym (gates-push old node) ∙ sym (ap gates_in longer.0)
     ]
 

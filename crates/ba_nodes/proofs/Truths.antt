@@ -1,13 +1,14 @@
 -- What a bit's truth value is as nodes are added.
 
-use Rattle.std.proofs.Common.{◌≡◌, ℕ, zero, suc, ◌+◌, ◌<◌, Bool, true, false, not, ◌&&◌, List, [], ◌∷◌, ◌++◌, length, get_or, take, drop, fold, Some, slice_get, ◌⊎◌, inl, inr, refl, sym, ap, subst, ◌∙◌, arith, length-append, append_assoc, if◌then◌else◌}
-use Rattle.std.proofs.lemmas.Grind.{fold-append, common_steps}
+use Rattle.std.proofs.Common.{◌≡◌, ℕ, zero, suc, ◌+◌, ◌*◌, ◌<◌, ◌≤◌, Bool, true, false, not, ◌&&◌, List, [], ◌∷◌, ◌++◌, length, get_or, take, drop, fold, Some, slice_get, ◌⊎◌, inl, inr, refl, sym, ap, subst, ◌∙◌, arith, length-append, append_assoc, if◌then◌else◌}
+use Rattle.std.proofs.lemmas.Grind.{fold-append}
+use Rattle.std.proofs.lemmas.List.Sums.{sum_by-cons, sum_by_push}
 use Rattle.std.proofs.lemmas.List.{get_or_append_left, get_or_at, length_push, take-append-drop, length-take-le, drop_more}
 use Rattle.std.proofs.lemmas.Option.{slice_get_within, slice_get-get_or, get_or_from_slice_get}
 use Rattle.ba_nodes.specs.declared.Bit.{Bit}
 use Rattle.ba_nodes.specs.declared.Node.{Node}
 use Rattle.ba_nodes.specs.declared.Node.TheVariants.{Free, And, Xor, Mux, Majority}
-use Rattle.ba_nodes.specs.Gates.{bool_xor, bool_majority, constant_bit, node_bit, opposite, value_in, node_value, values_of, truth, node_truth, IsBitOf, is_gate, gates_in, MayStandAt, AreOrdered, Extends}
+use Rattle.ba_nodes.specs.Gates.{bool_xor, bool_majority, constant_bit, node_bit, opposite, value_in, node_value, values_of, truth, node_truth, IsBitOf, weight, gates_in, MayStandAt, AreOrdered, Extends}
 
 abbrev step : (ℕ → Bool) → List Bool → Node → List Bool
 step free values node = values ++ node_value free values node ∷ []
@@ -177,5 +178,17 @@ AreOrdered-push nodes last sound may new = record {
       ];
 }
 
-pub gates-push : (nodes : List Node) (last : Node) → gates_in (nodes ++ last ∷ []) ≡ gates_in nodes + (if is_gate last then 1 else 0)
-gates-push nodes last = grind (arith, common_steps)
+pub gates-push : (nodes : List Node) (last : Node) → gates_in (nodes ++ last ∷ []) ≡ gates_in nodes + weight last
+gates-push nodes last = sum_by_push weight nodes last
+
+-- a node counts three at most
+pub gates-few : (nodes : List Node) → gates_in nodes ≤ 3 * length nodes
+gates-few [] = omega arith
+gates-few (node ∷ nodes) = omega (arith, sum_by-cons weight node nodes, gates-few nodes, weight-small node)
+  where
+    weight-small : (node : Node) → weight node ≤ 3
+    weight-small (Free number) = omega arith
+    weight-small (And a b) = omega arith
+    weight-small (Xor a b) = omega arith
+    weight-small (Mux a b c) = omega arith
+    weight-small (Majority a b c) = omega arith

@@ -1,7 +1,7 @@
 -- Gates over free bits, and what they mean: under each assignment of the free bits every node and
 -- every bit has a truth value. An assignment gives a free bit its value by the number of its node.
 
-use Rattle.std.specs.Prelude.{◌≡◌, ℕ, ◌+◌, ◌<◌, ◌≤◌, ◌==◌, Bool, true, false, not, ◌&&◌, ◌||◌, ◌≢◌, List, [], ◌∷◌, ◌++◌, length, fold, Option, Some, None, slice_get, slice_index_or, count_by, if◌then◌else◌, ◌⊎◌, IsNone}
+use Rattle.std.specs.Prelude.{◌≡◌, ℕ, ◌+◌, ◌<◌, ◌≤◌, ◌==◌, Bool, true, false, not, ◌&&◌, ◌||◌, ◌≢◌, List, [], ◌∷◌, ◌++◌, length, fold, Option, Some, None, slice_get, slice_index_or, sum_by, if◌then◌else◌, ◌⊎◌, IsNone}
 use Rattle.ba_nodes.specs.declared.Bit.{Bit}
 use Rattle.ba_nodes.specs.declared.Node.{Node}
 use Rattle.ba_nodes.specs.declared.Node.TheVariants.{Free, And, Xor, Mux, Majority}
@@ -59,16 +59,17 @@ node_truth free nodes (Majority a b c) = bool_majority (truth free nodes a) (tru
 abbrev pub IsBitOf : List Node → Bit → Type 0
 IsBitOf nodes bit = bit.index ≤ length nodes
 
-abbrev pub is_gate : Node → Bool
-is_gate (Free number) = false
-is_gate (And a b) = true
-is_gate (Xor a b) = true
-is_gate (Mux a b c) = true
-is_gate (Majority a b c) = true
+-- how many and-gates a node counts as
+abbrev pub weight : Node → ℕ
+weight (Free number) = 0
+weight (And a b) = 1
+weight (Xor a b) = 3
+weight (Mux a b c) = 3
+weight (Majority a b c) = 3
 
--- how many of the nodes are gates, each of which counts one
+-- gates, counted as and-gates
 abbrev pub gates_in : List Node → ℕ
-gates_in nodes = count_by is_gate nodes
+gates_in nodes = sum_by weight nodes
 
 -- three bits of different nodes before this number
 pub record AreApart (number : ℕ) (a b c : Bit) : Type 0 where

@@ -10,7 +10,7 @@
 ghost use Rattle.std.specs.Prelude.{◌≡◌, ℕ, ◌+◌, ◌<◌, ◌≤◌, ◌^◌, ◌⊎◌, ◌==◌, ◌≢◌, Bool, true, false, not, ◌&&◌, ◌||◌, List, [], ◌∷◌, ◌++◌, length, slice_get, IfOk, OnOk, OnErr, IfSome, IsNone, Ok, Some, if◌then◌else◌};
 ghost use Rattle.ba_nodes.specs.declared.Bit.{Bit};
 ghost use Rattle.ba_nodes.specs.declared.Node.{Node};
-ghost use Rattle.ba_nodes.specs.Gates.{bool_xor, bool_majority, constant_bit, node_bit, opposite, truth, node_truth, IsBitOf, gates_in, MayStandAt, AreOrdered, IsGateOf, IsMade, folded, Extends, HasValue, Puts, IsAbsent, is_gate};
+ghost use Rattle.ba_nodes.specs.Gates.{bool_xor, bool_majority, constant_bit, node_bit, opposite, truth, node_truth, IsBitOf, gates_in, MayStandAt, AreOrdered, IsGateOf, IsMade, folded, Extends, HasValue, Puts, IsAbsent, weight};
 
 use indexmap::IndexSet;
 use std::alloc::{AllocError, Global};
@@ -101,8 +101,8 @@ impl Nodes {
         }
     }
 
-    /// How many gates there are: each counts one, whatever its kind, and a free bit counts nothing. It takes no
-    /// memory.
+    /// How many gates there are, counted as and-gates: an `and` counts one, an exclusive `or`, a choice or a
+    /// majority three, and a free bit nothing. It takes no memory.
     pub fn count(&self) -> u64
         ensures { result ≡ gates_in self.now }
     {
@@ -172,7 +172,7 @@ impl Nodes {
         Ok(Nodes::not(neither))
     }
 
-    /// The bit that is true where just one of `a` and `b` is, by at most one new gate.
+    /// The bit that is true where just one of `a` and `b` is, by at most one new gate, which counts three.
     ///
     /// The one error is want of memory, which leaves the nodes as they were.
     pub fn xor(&mut self, a: Bit, b: Bit) -> Result<Bit, AllocError>
@@ -182,7 +182,7 @@ impl Nodes {
             HasValue self.new bit (λ free. bool_xor (truth free self.old a)
             (truth free self.old b))) }
         ensures extends { Extends self.old self.new }
-        ensures count { gates_in self.new ≤ gates_in self.old + 1 }
+        ensures count { gates_in self.new ≤ gates_in self.old + 3 }
         ensures err { OnErr result (self.new ≡ self.old) }
     {
         if a.index == 0 {
@@ -198,7 +198,8 @@ impl Nodes {
         Ok(negated_if(negated_if(gate, a.negated), b.negated))
     }
 
-    /// The bit that has the value of `yes` where `which` is true, and else that of `no`, by at most one new gate.
+    /// The bit that has the value of `yes` where `which` is true, and else that of `no`, by at most one new gate, which
+    /// counts three.
     ///
     /// The one error is want of memory, which leaves the nodes as they were.
     pub fn mux(&mut self, which: Bit, yes: Bit, no: Bit) -> Result<Bit, AllocError>
@@ -209,7 +210,7 @@ impl Nodes {
             HasValue self.new bit (λ free. if truth free self.old which then truth free self.old yes
             else truth free self.old no)) }
         ensures extends { Extends self.old self.new }
-        ensures count { gates_in self.new ≤ gates_in self.old + 1 }
+        ensures count { gates_in self.new ≤ gates_in self.old + 3 }
         ensures err { OnErr result (self.new ≡ self.old) }
     {
         if which.index == 0 {
@@ -220,7 +221,7 @@ impl Nodes {
         self.choice(which, on, off)
     }
 
-    /// The bit that is true where at least two of the three are, by at most one new gate.
+    /// The bit that is true where at least two of the three are, by at most one new gate, which counts three.
     ///
     /// The one error is want of memory, which leaves the nodes as they were.
     pub fn majority(&mut self, a: Bit, b: Bit, c: Bit) -> Result<Bit, AllocError>
@@ -231,7 +232,7 @@ impl Nodes {
             HasValue self.new bit (λ free. bool_majority (truth free self.old a)
             (truth free self.old b) (truth free self.old c))) }
         ensures extends { Extends self.old self.new }
-        ensures count { gates_in self.new ≤ gates_in self.old + 1 }
+        ensures count { gates_in self.new ≤ gates_in self.old + 3 }
         ensures err { OnErr result (self.new ≡ self.old) }
     {
         if a.index > b.index {
@@ -250,7 +251,7 @@ impl Nodes {
             HasValue self.new bit (λ free. bool_majority (truth free self.old a)
             (truth free self.old b) (truth free self.old c))) }
         ensures extends { Extends self.old self.new }
-        ensures count { gates_in self.new ≤ gates_in self.old + 1 }
+        ensures count { gates_in self.new ≤ gates_in self.old + 3 }
         ensures err { OnErr result (self.new ≡ self.old) }
     {
         if c.index < a.index {
@@ -273,7 +274,7 @@ impl Nodes {
             HasValue self.new bit (λ free. bool_majority (truth free self.old a)
             (truth free self.old b) (truth free self.old c))) }
         ensures extends { Extends self.old self.new }
-        ensures count { gates_in self.new ≤ gates_in self.old + 1 }
+        ensures count { gates_in self.new ≤ gates_in self.old + 3 }
         ensures err { OnErr result (self.new ≡ self.old) }
     {
         if a.index == 0 {
@@ -325,7 +326,7 @@ impl Nodes {
             HasValue self.new bit (λ free. if truth free self.old which then truth free self.old yes
             else truth free self.old no)) }
         ensures extends { Extends self.old self.new }
-        ensures count { gates_in self.new ≤ gates_in self.old + 1 }
+        ensures count { gates_in self.new ≤ gates_in self.old + 3 }
         ensures err { OnErr result (self.new ≡ self.old) }
     {
         if yes.index == no.index {
@@ -354,7 +355,7 @@ impl Nodes {
             HasValue self.new bit (λ free. if truth free self.old which then truth free self.old yes
             else truth free self.old no)) }
         ensures extends { Extends self.old self.new }
-        ensures count { gates_in self.new ≤ gates_in self.old + 1 }
+        ensures count { gates_in self.new ≤ gates_in self.old + 3 }
         ensures err { OnErr result (self.new ≡ self.old) }
     {
         if yes.negated == no.negated {
@@ -393,7 +394,7 @@ impl Nodes {
             HasValue self.new bit (λ free. if truth free self.old which then truth free self.old yes
             else truth free self.old no)) }
         ensures extends { Extends self.old self.new }
-        ensures count { gates_in self.new ≤ gates_in self.old + 1 }
+        ensures count { gates_in self.new ≤ gates_in self.old + 3 }
         ensures err { OnErr result (self.new ≡ self.old) }
     {
         let negated = yes.negated;
@@ -410,7 +411,7 @@ impl Nodes {
             HasValue self.new bit (λ free. bool_xor (truth free self.old a)
             (truth free self.old b))) }
         ensures extends { Extends self.old self.new }
-        ensures count { gates_in self.new ≤ gates_in self.old + 1 }
+        ensures count { gates_in self.new ≤ gates_in self.old + 3 }
         ensures err { OnErr result (self.new ≡ self.old) }
     {
         if a.index < b.index {
@@ -454,7 +455,7 @@ impl Nodes {
         ensures made { IfOk result (λ bit. (number : ℕ) × (bit ≡ node_bit number)
             × (slice_get self.new number ≡ Some node)) }
         ensures extends { Extends self.old self.new }
-        ensures count { gates_in self.new ≤ gates_in self.old + (if is_gate node then 1 else 0) }
+        ensures count { gates_in self.new ≤ gates_in self.old + weight node }
         ensures err { OnErr result (self.new ≡ self.old) }
     {
         let before = self.nodes.len();
@@ -476,16 +477,17 @@ impl Nodes {
 }
 
 impl Node {
-    /// How many gates there are more, where the node was added or not.
+    /// How many gates there are more, counted as and-gates, where the node was added or not.
     fn gates_more(&self, added: bool) -> u64
-        ensures { result ≡ (if added then (if is_gate self.now then 1 else 0) else 0) }
+        ensures { result ≡ (if added then weight self.now else 0) }
     {
         if !added {
             return 0;
         }
         match self {
             Node::Free(_) => 0,
-            Node::And(_, _) | Node::Xor(_, _) | Node::Mux(_, _, _) | Node::Majority(_, _, _) => 1,
+            Node::And(_, _) => 1,
+            Node::Xor(_, _) | Node::Mux(_, _, _) | Node::Majority(_, _, _) => 3,
         }
     }
 }

@@ -1,12 +1,11 @@
 -- What a deletion leaves of a search's clauses and of its marks.
 
-use Rattle.std.proofs.Common.{◌≡◌, ◌≢◌, ℕ, suc, zero, ◌+◌, ◌<◌, ◌≤◌, ◌==◌, ◌||◌, Bool, true, false, ltb, Option, None, Some, List, [], ◌∷◌, All, length, get_or, set, map, refl, sym, ap, subst, ◌∙◌, arith, ⊎_elim, get_or-set_same, get_or-set_other}
-use Rattle.std.specs.List.{list_all, Contains}
+use Rattle.std.proofs.Common.{◌≡◌, ◌≢◌, ℕ, suc, zero, ◌+◌, ◌<◌, ◌==◌, ◌||◌, Bool, true, false, Option, None, Some, List, [], ◌∷◌, All, length, get_or, set, map, refl, sym, ap, subst, ◌∙◌, arith, ⊎_elim, get_or-set_same, get_or-set_other}
+use Rattle.std.specs.List.{Contains}
 use Rattle.std.specs.Option.{option_map}
-use Rattle.std.proofs.lemmas.Bool.{and_parts, cases_eq, cases_lt}
+use Rattle.std.proofs.lemmas.Bool.{cases_eq, cases_lt}
 use Rattle.std.proofs.lemmas.Bool.Decides.{nat_tests}
 use Rattle.std.proofs.lemmas.List.Elements.{All-contains}
-use Rattle.std.proofs.lemmas.List.Sorted.{length_permutation}
 use Rattle.std.proofs.lemmas.Option.{none-some}
 use Rattle.ba_lits.specs.Literals.{Literal}
 use Rattle.ba_watch.specs.Threads.{Clause}
@@ -14,11 +13,11 @@ use Rattle.ba_watch.specs.Propagation.{State as Watching}
 use Rattle.ba_watch.specs.Deletion.{KeepsOthers, Deletes, MayDelete, IsNamed}
 use Rattle.ba_watch.proofs.Deleted.{named_from, contains_from}
 use Rattle.ba_watch.proofs.DeletedSound.{some_within}
-use Rattle.ba_checker.specs.States.{Kept, State, is_learnt_at, clause_at, width_at, without, without_all}
-use Rattle.ba_checker.specs.Judging.{may_go, after_delete}
+use Rattle.ba_checker.specs.States.{Kept, State, clause_at, without, without_all}
+use Rattle.ba_checker.specs.Judging.{after_delete}
 use Rattle.ba_learn.specs.Live.{AreLive, IsSame}
 use Rattle.ba_search.specs.Iterations.{Numbering, MarksLive, MarksOne, IsNoReason, Forgets, AreDecisions, IsUnderway}
-use Rattle.ba_search.proofs.DeletionLaws.{width_live, length-without_all, without_other}
+use Rattle.ba_search.proofs.DeletionLaws.{length-without_all, without_other}
 
 -- the marks of so many numbers are taken off
 pub record HasForgotten (numbers : List ℕ) (count : ℕ) (old new : List Bool) : Type 0 where
@@ -158,43 +157,14 @@ marks_deleted old new ns moved before after keeps forgets marks = record {
     clash : false ≡ true → ⊥
     clash e = cc e
 
--- what the numbers that the keep rule discards have to be
-list_all_at : (p : ℕ → Bool) (ns : List ℕ) (k : ℕ) → list_all p ns ≡ true → k < length ns →
-    p (get_or ns k 0) ≡ true
-list_all_at p [] k all h = absurd (omega (arith, h))
-list_all_at p (n ∷ ns) zero all h = (and_parts (p n) (list_all p ns) all).0
-list_all_at p (n ∷ ns) (suc k) all h = list_all_at p ns k (and_parts (p n) (list_all p ns) all).1
-    (omega (arith, h))
-
-pub may_delete : (s : Watching) (c : State) (taken : List Bool) (ns : List ℕ) → MarksLive s.clauses taken
-    → AreLive s.clauses (clause_at c.clauses) → list_all (may_go c) ns ≡ true → All (IsNoReason s) ns →
-    MayDelete s ns
-may_delete s c taken ns marks live go none = record {
+-- the numbers that the keep rule discards may be deleted
+pub may_delete : (s : Watching) (taken : List Bool) (ns : List ℕ) → MarksLive s.clauses taken →
+    All (IsNoReason s) ns → MayDelete s ns
+may_delete s taken ns marks none = record {
   alone = marks.alone;
   no_reason = λ p r d is at has.
       All-contains (IsNoReason s) ns d.number none has p r d (some_within s.reasons p r is) is at refl;
-  long = λ r d at has.
-      let named = named_from ns d.number has in
-      let goes : may_go c d.number ≡ true = subst (λ m. may_go c m ≡ true) named.2
-      (list_all_at (may_go c) ns named.0 go named.1) in
-      let wide : ltb 2 (width_at c.clauses d.number) ≡ true =
-      (and_parts (is_learnt_at c.clauses d.number) (ltb 2 (width_at c.clauses d.number)) goes).1 in
-      long_at d (clause_at c.clauses d.number) refl (live.each r d at) wide;
 }
-  where
-    wide_is : (w : ℕ) → ltb 2 w ≡ true → 2 ≤ w
-    wide_is w e = grind (arith, nat_tests, e)
-
-    long_at : (d : Clause) (o : Option (List Literal)) → clause_at c.clauses d.number ≡ o → IsSame o d.lits
-        → ltb 2 (width_at c.clauses d.number) ≡ true → 2 ≤ length d.lits
-    long_at d None is same wide = absurd same
-    long_at d (Some given) is same wide =
-        omega (
-          arith,
-          wide_is (width_at c.clauses d.number) wide,
-          width_live c.clauses d.number given is,
-          length_permutation given d.lits same,
-        )
 
 -- the search goes on
 pub underway_deleted : (a : List Literal) (s t : Watching) (old new : Numbering) (c d : State) (ns : List ℕ)

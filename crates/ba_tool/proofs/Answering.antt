@@ -20,7 +20,7 @@ use Rattle.ba_tree.specs.declared.run.Outcome.TheVariants as outcome
 use Rattle.ba_tree.specs.declared.run.Weights.{Weights}
 use Rattle.ba_tree.specs.declared.tree.Program.{Program}
 use Rattle.ba_report.specs.Report.{report_text}
-use Rattle.ba_tool.specs.Answers.{Answers, AnswersAtOnce, AreAccepted, Checks, IsAnswer, IsOfSearch, RunsTo, Searches, Tells, input_answer, input_of, is_failure, position_of, program_answer, sets_answer}
+use Rattle.ba_tool.specs.Answers.{Answers, AnswersAtOnce, AreAccepted, Checks, IsAnswer, IsOfSearch, RunsTo, Searches, Tells, input_answer, input_of, is_failure, position_of, sets_answer}
 use Rattle.ba_tool.specs.Cases.{IsCaseOf}
 use Rattle.ba_jobs.specs.Jobs.{is_search}
 use Rattle.ba_tree_laws.specs.Spelling.{Spells}
@@ -135,10 +135,9 @@ answered j x p handed (answer.Accepted claimed) spelled h = (p, spelled, h)
 answered j x p handed (answer.BadCertificate code line) spelled h = (p, spelled, h)
 
 -- the answer for the fault of a program
-pub refused : (j : Job) (x : Texts) (fault : Option Fault) (a : Answer) → TellsFault x.program fault
-    → program_answer fault ≡ Some a → IsAnswer j x None a
-refused j x None a told is = let no : ⊥ = cc in absurd no
-refused j x (Some fault) a told is = subst (IsAnswer j x None) (in_some is) (told, refl)
+pub refused : (j : Job) (x : Texts) (fault : Fault) → TellsFault x.program (Some fault)
+    → IsAnswer j x None (answer.BadProgram fault)
+refused j x fault told = (told, refl)
 
 -- the answer for an error of an input
 pub input_answered : (j : Job) (x : Texts) (p : Program) (e : InputError) (a : Answer)

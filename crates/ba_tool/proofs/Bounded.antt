@@ -1,6 +1,6 @@
--- The bounds and the conflicts that words name are within their limits.
+-- The bounds and the conflicts that words name are within their limits, and a check has a certificate.
 
-use Rattle.std.proofs.Common.{◌≡◌, ℕ, nat_le, Bool, true, false, ◌&&◌, if◌then◌else◌, Option, None, Some, option_and_then, IfSome, List, [], ◌∷◌, codes, ◌<◌, ◌≤◌, ◌^◌, refl, ap, sym, subst, ◌∙◌, arith}
+use Rattle.std.proofs.Common.{◌≡◌, ℕ, nat_le, Bool, true, false, ◌&&◌, if◌then◌else◌, Option, None, Some, option_and_then, IfSome, IsSome, is_some, List, [], ◌∷◌, codes, ◌<◌, ◌≤◌, ◌^◌, refl, ap, sym, subst, ◌∙◌, arith}
 use Rattle.std.proofs.lemmas.Bool.Decides.{nat_tests}
 use Rattle.std.specs.List.{list_all}
 use Rattle.ba_tree.specs.Run.{are_bounds}
@@ -13,9 +13,10 @@ use Rattle.ba_commands.specs.declared.commands.Command.{Command}
 use Rattle.ba_commands.specs.declared.commands.Command.TheVariants as command
 use Rattle.ba_commands.specs.declared.modes.Mode.{Mode}
 use Rattle.ba_commands.specs.declared.modes.Mode.TheVariants.{Localise, Check, Run, Sample}
-use Rattle.ba_jobs.specs.Jobs.{request_by, request_of}
+use Rattle.ba_jobs.specs.Jobs.{request_by, request_of, sample_job}
 use Rattle.ba_jobs.specs.declared.jobs.Job.{Job}
 use Rattle.ba_jobs.specs.declared.jobs.Request.TheVariants as request
+use Rattle.ba_jobs.specs.declared.jobs.Task.TheVariants as task
 
 -- NUMBERS of a range
 
@@ -183,6 +184,28 @@ job_bounds words j is = (wanted_within (command_of words) j (command_within word
 -- and so are its conflicts
 pub job_countable : (words : List Word) (j : Job) → request_of words ≡ request.Wanted j → j.conflicts < 2 ^ 62
 job_countable words j is = (wanted_within (command_of words) j (command_within words) is).1
+
+-- a job that checks names its certificate
+wanted_named : (o : Option Command) (j : Job) → request_by o ≡ request.Wanted j → j.task ≡ task.Check
+    → IsSome j.cert
+wanted_named None j is checks = absurd (let no : ⊥ = cc in no)
+wanted_named (Some (command.Localise program input bounds weights conflicts sets cert runs steady)) j is
+    checks = let same : task.Localise ≡ j.task = cc in let no : ⊥ = cc in absurd no
+wanted_named (Some (command.Check program input cert bounds weights conflicts sets)) j is checks =
+    let same : Some cert ≡ j.cert = cc in ap is_some (sym same)
+wanted_named (Some (command.Run program input bounds)) j is checks =
+    let same : task.Run ≡ j.task = cc in let no : ⊥ = cc in absurd no
+wanted_named (Some (command.Sample additions)) j is checks = absurd (let no : ⊥ = cc in no)
+
+pub job_named : (words : List Word) (j : Job) → request_of words ≡ request.Wanted j → j.task ≡ task.Check
+    → IsSome j.cert
+job_named words j is checks = wanted_named (command_of words) j is checks
+
+-- a sample checks none
+pub sample_named : (j : Job) (additions : ℕ) → j ≡ sample_job additions → j.task ≡ task.Check → IsSome j.cert
+sample_named j additions is checks =
+    let same : j.task ≡ task.Sample additions = ap (λ (j : Job). j.task) is in
+    let no : ⊥ = cc in absurd no
 
 -- and a sample has no more additions than it may have
 sampled_within : (o : Option Command) (additions : ℕ) → IfWithin o → request_by o ≡ request.Sample additions →

@@ -11,7 +11,7 @@ use Rattle.ba_tree_laws.specs.Spelling.{Spells}
 use Rattle.ba_world.proofs.WholeReads.{only_reads_none, only_reads_on, past_longer, rose_since}
 use Rattle.ba_tool.specs.Answers.{Agree, Checks, IsAnswer, IsOfSearch, are_one, first_spent, runs_differ, second_spent}
 use Rattle.ba_jobs.specs.Files.{AreRead, IsReadFile, IsReadIfNamed, StopsAt, WasReadBefore, name_of}
-use Rattle.ba_tool.specs.Calls.{Call, CheckComesTo, EndsWith, HasFault, IsDue, IsDueToJob, IsEndFor, IsEndOfSearch, IsShown, JobComesTo, RequestComesTo, TellsAbsent, TellsAll, TellsEarlier, TellsFailing, TellsFile, TellsIfNamed, TellsLong, TellsShort, TellsText, TellsTexts, UnreadComesTo, absent, as_wanted, located, long, memory, no_repair, of_files, of_sample, of_texts, read_fault, spent, too_many, write_fault}
+use Rattle.ba_tool.specs.Calls.{Call, CheckComesTo, EndsWith, HasFault, IsDue, IsDueToJob, IsEndFor, IsEndOfSearch, IsShown, JobComesTo, RequestComesTo, TellsAbsent, TellsAll, TellsEarlier, TellsFailing, TellsFile, TellsIfNamed, TellsLong, TellsShort, TellsText, UnreadComesTo, absent, as_wanted, located, long, memory, no_repair, of_texts, read_fault, spent, too_many, write_fault}
 use Rattle.ba_answers.specs.Limits.{limit}
 use Rattle.ba_answers.specs.Printed.{status_of}
 use Rattle.ba_answers.specs.declared.answers.Answer.{Answer}
@@ -642,27 +642,17 @@ ends_due c a due result s is =
 failing_ends : (c : Call) (r : Request) (a : Answer) (result : Status) (mid : Outside)
     (handed : Option Derivation) → TellsFailing r c.before → c.after.read_faults ≡ mid.read_faults
     → RequestComesTo r c.before mid handed a → result ≡ status_of a → EndsWith c IsEndOfSearch result
-failing_ends c r a result mid handed f same comes e = by f.told where
-  unchecked : (t : Task) → is_search t ≡ true → t ≡ task.Check → ⊥
-  unchecked task.Localise search is = let no : ⊥ = cc in no
-  unchecked (task.Sample additions) search is = let no : ⊥ = cc in no
-  unchecked task.Check search is = let no : ⊥ = cc in no
-  unchecked task.Run search is = let no : ⊥ = cc in no
-
-  by : TellsTexts r c.before f.job f.texts → EndsWith c IsEndOfSearch result
-  by (of_files wanted told) =
-      let job_comes : JobComesTo f.job c.before mid handed a =
-      subst (λ r. RequestComesTo r c.before mid handed a) wanted comes in
-      job_ends c IsEndOfSearch result f.job f.texts mid told same
-      (λ h b holds. ends_search b (is_of_search f.job f.texts f.program f.spelled f.searches h b holds))
-      (λ h b check e. absurd (unchecked f.job.task f.searches.0 check.checks.0)) handed a job_comes e
-  by (of_sample additions asked job texts) =
-      let answers : (mid ≡ c.before) × IsAnswer (sample_job additions) (sample_texts additions) handed a =
-      subst (λ r. RequestComesTo r c.before mid handed a) asked comes in
-      let holds : IsAnswer f.job f.texts handed a = subst (λ x. IsAnswer f.job x handed a) (sym texts)
-      (subst (λ j. IsAnswer j (sample_texts additions) handed a) (sym job) answers.1) in
-      ends_as c IsEndOfSearch result (status_of a)
-      (ends_search a (is_of_search f.job f.texts f.program f.spelled f.searches handed a holds)) e
+failing_ends c r a result mid handed f same comes e =
+    job_ends c IsEndOfSearch result f.job f.texts mid f.told same
+    (λ h b holds. ends_search b (is_of_search f.job f.texts f.program f.spelled f.searches h b holds))
+    (λ h b check e. absurd (unchecked f.job.task f.searches.0 check.checks.0)) handed a
+    (subst (λ r. RequestComesTo r c.before mid handed a) f.wanted comes) e
+  where
+    unchecked : (t : Task) → is_search t ≡ true → t ≡ task.Check → ⊥
+    unchecked task.Localise search is = let no : ⊥ = cc in no
+    unchecked (task.Sample additions) search is = let no : ⊥ = cc in no
+    unchecked task.Check search is = let no : ⊥ = cc in no
+    unchecked task.Run search is = let no : ⊥ = cc in no
 
 pub ends_failing : (c : Call) (a : Answer) (result : Status) → Ends c a result
     → TellsFailing (request_of c.words) c.before → EndsWith c IsEndOfSearch result

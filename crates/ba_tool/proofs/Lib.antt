@@ -14,3 +14,4 @@ mod Leaving
 mod Faulty
 mod Answering
 mod Searching
+mod SampleAnswers

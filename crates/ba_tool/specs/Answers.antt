@@ -1,6 +1,6 @@
 -- WHAT A JOB COMES TO, where its files have these texts: a row for each answer. It says nothing of a world.
 
-use Rattle.std.specs.Prelude.{◌≡◌, ℕ, ◌<◌, ◌≤◌, Bool, true, false, Option, None, Some, option_map, List, length}
+use Rattle.std.specs.Prelude.{◌≡◌, ◌⊎◌, ℕ, ◌+◌, ◌<◌, ◌≤◌, Bool, true, false, Option, None, Some, option_map, List, length}
 use Rattle.ba_inputs.specs.Weights.{bad_line, weights_in}
 use Rattle.ba_derivations.specs.declared.verdict.Verdict.{Verdict}
 use Rattle.ba_derivations.specs.declared.verdict.Verdict.TheVariants.{Located, NoRepair, TooMany, Spent}
@@ -23,13 +23,12 @@ use Rattle.ba_tree.specs.declared.run.Outcome.TheVariants as outcome
 use Rattle.ba_tree.specs.declared.tree.Program.{Program}
 use Rattle.ba_tree.specs.declared.tree.StmtInfo.{StmtInfo}
 use Rattle.ba_tree_laws.specs.Spelling.{Spells}
-use Rattle.ba_jobs.specs.Jobs.{is_search}
+use Rattle.ba_jobs.specs.Jobs.{is_search, sample_job}
 use Rattle.ba_tool.specs.Programs.{IsFault}
 use Rattle.ba_answers.specs.declared.answers.Answer.{Answer}
 use Rattle.ba_answers.specs.declared.answers.Answer.TheVariants as answer
 use Rattle.ba_answers.specs.declared.answers.InputFault.{InputFault}
 use Rattle.ba_answers.specs.declared.answers.InputFault.TheVariants as fault
-use Rattle.ba_answers.specs.declared.fault.Fault.{Fault}
 use Rattle.ba_jobs.specs.declared.files.Texts.{Texts}
 use Rattle.ba_jobs.specs.declared.jobs.Job.{Job}
 use Rattle.ba_jobs.specs.declared.jobs.Task.{Task}
@@ -52,11 +51,6 @@ abbrev pub text_fault : InputFault → TextFault
 text_fault (fault.NotANumber number) = inputs.NotANumber number
 text_fault (fault.OutOfRange number) = inputs.OutOfRange number
 text_fault fault.WrongCount = inputs.WrongCount
-
--- the answer for the fault of a program; none for want of memory
-abbrev pub program_answer : Option Fault → Option Answer
-program_answer None = None
-program_answer (Some fault) = Some (answer.BadProgram fault)
 
 -- the answer for an error of an input; none for want of memory
 abbrev pub input_answer : InputError → Option Answer
@@ -167,3 +161,9 @@ pub data Agree (j : Job) (a b : Answer) : Type 0 where
   second_spent : (conflicts : ℕ) → b ≡ answer.BudgetSpent conflicts → IsOfSearch a → Agree j a b
   runs_differ : (bytes others : List ℕ) → a ≡ answer.Located bytes → b ≡ answer.Located others →
       j.runs ≡ true → Agree j a b
+
+-- THE ANSWER TO A SAMPLE with so many additions: it has one set more than these, each of weight 1; or its
+-- conflicts are spent
+abbrev pub IsAnswerOfSample : ℕ → Answer → Type 0
+IsAnswerOfSample n a =
+    (a ≡ answer.Sampled n 1 (n + 1)) ⊎ (a ≡ answer.BudgetSpent (sample_job n).conflicts)

@@ -383,6 +383,11 @@ pub data IsEndOfSearch : Status → Type 0 where
   too_many : IsEndOfSearch status.TooManySets
   spent : IsEndOfSearch status.BudgetSpent
 
+-- a sample ends with its least sets, or with that its conflicts are spent
+pub data IsEndOfSample : Status → Type 0 where
+  sampled : IsEndOfSample status.Ok
+  sample_spent : IsEndOfSample status.BudgetSpent
+
 -- How a call ends to which an answer is due: with the answer's status. A search may end with that its
 -- conflicts are spent in its place; and where this is due, it may also end otherwise.
 abbrev pub IsEndFor : Answer → Status → Type 0
@@ -452,23 +457,18 @@ IsDue (request.Sample additions) before a =
     (handed : Option Derivation) × IsAnswer (sample_job additions) (sample_texts additions) handed a
 IsDue (request.Wanted j) before a = IsDueToJob j before a
 
--- words ask for a job, and the world tells all of its files, of which none is too long; or they ask for a
--- sample
-pub data TellsTexts (asked : Request) (before : Outside) (j : Job) (x : Texts) : Type 0 where
-  of_files : asked ≡ request.Wanted j → TellsAll before j x → TellsTexts asked before j x
-  of_sample : (additions : ℕ) → asked ≡ request.Sample additions → j ≡ sample_job additions →
-      x ≡ sample_texts additions → TellsTexts asked before j x
-
--- they ask for the least sets of a program; its text spells it, and its run fails
+-- words ask for the least sets of a program; the world tells all files of the job, and none of them is too
+-- long; the text of the program spells it, and its run fails
 pub record TellsFailing (asked : Request) (before : Outside) : Type 0 where
   pub job : Job
+  pub wanted : asked ≡ request.Wanted job
   pub texts : Texts
-  pub told : TellsTexts asked before job texts
+  pub told : TellsAll before job texts
   pub program : Program
   pub spelled : Spells texts.program program
   pub searches : Searches job texts program
 
--- they ask to check the certificate of this name, and the run fails
+-- words ask to check the certificate of this name, and the run fails
 pub record TellsCheck (asked : Request) (before : Outside) (name : Word) : Type 0 where
   pub job : Job
   pub wanted : asked ≡ request.Wanted job

@@ -1,6 +1,6 @@
 //! The certificate of a check, judged as it is read.
 
-ghost use Rattle.std.specs.Prelude.{◌≡◌, ◌≤◌, ◌+◌, ◌++◌, ℕ, [], true, Some, Err, IfOk, IfErr};
+ghost use Rattle.std.specs.Prelude.{◌≡◌, ◌≤◌, ◌+◌, ◌++◌, ℕ, [], true, Some, Err, IfOk, IfErr, IsSome};
 ghost use Rattle.ba_check.specs.Answers.{confirmed_of};
 ghost use Rattle.ba_check.specs.Readers.{seen};
 ghost use Rattle.ba_check.specs.Readings.{HasRead};
@@ -96,21 +96,17 @@ fn feed_file<W: World>(world: &mut W, name: &str, confirm: &mut Confirm) -> Resu
     }
 }
 
-/// The answer where a certificate wasn't read to its end.
-///
-/// The one error is want of memory.
-fn unfed_answer(unfed: Unfed) -> Result<Answer, AllocError>
-    ensures { IfOk result (λ answer. unfed_answer unfed ≡ Some answer) }
+/// The answer where a certificate wasn't read to its end; none for want of memory.
+fn unfed_answer(unfed: Unfed) -> Option<Answer>
+    ensures { result ≡ unfed_answer unfed }
 {
     match unfed {
-        Unfed::Unread(ReadFileError::Failed) => Ok(Answer::Unreadable(File::Certificate)),
-        Unfed::Unread(ReadFileError::TooLong) => Ok(Answer::TooLong(File::Certificate)),
+        Unfed::Unread(ReadFileError::Failed) => Some(Answer::Unreadable(File::Certificate)),
+        Unfed::Unread(ReadFileError::TooLong) => Some(Answer::TooLong(File::Certificate)),
         Unfed::Refused(CheckError::Line { line, code }) => {
-            Ok(Answer::BadCertificate { code, line })
+            Some(Answer::BadCertificate { code, line })
         }
-        Unfed::Unread(ReadFileError::Memory) | Unfed::Refused(CheckError::Memory) => Err(
-            AllocError,
-        ),
+        Unfed::Unread(ReadFileError::Memory) | Unfed::Refused(CheckError::Memory) => None,
     }
 }
 
@@ -161,7 +157,10 @@ fn file_answer<W: World>(
 {
     match feed_file(world, name, &mut confirm) {
         Ok(()) => read_answer(confirm),
-        Err(unfed) => unfed_answer(unfed),
+        Err(unfed) => match unfed_answer(unfed) {
+            Some(answer) => Ok(answer),
+            None => Err(AllocError),
+        },
     }
 }
 
@@ -169,8 +168,7 @@ fn file_answer<W: World>(
 /// and no step; then the file is read in pieces, and judged over this formula, up to its first refused
 /// line.
 ///
-/// `SinkFailed` comes only where the faults of `steps` rose; `Memory` for want of memory, and where no
-/// certificate is named.
+/// `SinkFailed` comes only where the faults of `steps` rose; `Memory` for want of memory.
 pub fn check<W, D>(
     alloc: Global,
     world: &mut W,
@@ -181,6 +179,7 @@ pub fn check<W, D>(
 where
     W: World,
     D: StepSink + Drop,
+    requires named { IsSome job.now.cert }
     requires bounds { are_bounds job.now.bounds ≡ true }
     requires fits { fits case.now.program case.now.input ≡ true }
     requires weights { AreWeightsOf case.now.program case.now.weights.of }
@@ -201,7 +200,7 @@ where
 {
     let name = match &job.cert {
         Some(name) => name,
-        None => return Err(SearchError::Memory),
+        None => unreachable!(),
     };
     let settings = Settings {
         bounds: job.bounds,

@@ -1,10 +1,11 @@
 //! What a job comes to before any search or check, where its files have these texts.
 
-ghost use Rattle.std.specs.Prelude.{◌≡◌, ◌≢◌, ◌≤◌, true, Some, length, IfOk};
+ghost use Rattle.std.specs.Prelude.{◌≡◌, ◌≢◌, ◌≤◌, true, Some, length, IfOk, IsSome};
+ghost use Rattle.ba_laws.specs.Names.{NamesStatement};
 ghost use Rattle.ba_tree.specs.Choices.{info_of};
 ghost use Rattle.ba_tree.specs.Run.{are_bounds, plain_run};
 ghost use Rattle.ba_tree_laws.specs.Spelling.{Spells};
-ghost use Rattle.ba_tool.specs.Answers.{RunsTo, input_answer, position_of, program_answer};
+ghost use Rattle.ba_tool.specs.Answers.{RunsTo, input_answer, position_of};
 ghost use Rattle.ba_answers.specs.Limits.{limit};
 ghost use Rattle.ba_tool.specs.Cases.{IsCaseOf, IsJudged};
 ghost use Rattle.ba_answers.specs.declared.answers.Answer.{Answer};
@@ -13,7 +14,6 @@ ghost use Rattle.ba_tree.specs.declared.run.Outcome.{Outcome};
 
 use crate::faults::read_program;
 use ba_answers::answers::{Answer, InputFault};
-use ba_answers::fault::Fault;
 use ba_inputs::{InputError, WeightsError, read_input, read_weights};
 use ba_interp::run;
 use ba_items::Items;
@@ -21,7 +21,7 @@ use ba_jobs::files::Texts;
 use ba_jobs::jobs::{Job, Task};
 use ba_numbers::ids::{At, StmtId};
 use ba_tree::run::{Allowed, Bounds, Input, Outcome, Weights};
-use ba_tree::tree::{Program, StmtInfo};
+use ba_tree::tree::Program;
 use ba_units::units;
 use std::alloc::{AllocError, Global};
 
@@ -56,25 +56,12 @@ pub enum Judged {
     ToCheck(Case),
 }
 
-/// What the program says of a statement.
-fn info_of(program: &Program, stmt: StmtId) -> Option<StmtInfo>
-    ensures { result ≡ info_of program.now stmt }
+/// Where a statement of the program begins.
+fn position_of(program: &Program, stmt: StmtId) -> At
+    requires there { IsSome (info_of program.now stmt) }
+    ensures { position_of program.now stmt ≡ Some result }
 {
-    let place = stmt.0.checked_sub(1)?;
-    program.statements.as_slice().get(place as usize).copied()
-}
-
-/// Where a statement begins.
-///
-/// The one error is want of memory, which is answered for a statement that the program doesn't
-/// have.
-fn position_of(program: &Program, stmt: StmtId) -> Result<At, AllocError>
-    ensures { IfOk result (λ at. position_of program.now stmt ≡ Some at) }
-{
-    match info_of(program, stmt) {
-        Some(info) => Ok(info.at),
-        None => Err(AllocError),
-    }
+    program.statements.as_slice()[stmt.0 as usize - 1].at
 }
 
 /// The outcome of the run as written.
@@ -93,29 +80,15 @@ fn plain_run(
     run(alloc, program, input, bounds, &nothing, &[])
 }
 
-/// The answer for the fault of a program.
-///
-/// The one error is want of memory, where there is no fault.
-fn program_answer(fault: Option<Fault>) -> Result<Answer, AllocError>
-    ensures { IfOk result (λ answer. program_answer fault ≡ Some answer) }
-{
-    match fault {
-        Some(fault) => Ok(Answer::BadProgram(fault)),
-        None => Err(AllocError),
-    }
-}
-
-/// The answer for an error of an input.
-///
-/// The one error is want of memory.
-fn input_answer(error: InputError) -> Result<Answer, AllocError>
-    ensures { IfOk result (λ answer. input_answer error ≡ Some answer) }
+/// The answer for an error of an input; none for want of memory.
+fn input_answer(error: InputError) -> Option<Answer>
+    ensures { result ≡ input_answer error }
 {
     match error {
-        InputError::NotANumber(number) => Ok(Answer::BadInput(InputFault::NotANumber(number))),
-        InputError::OutOfRange(number) => Ok(Answer::BadInput(InputFault::OutOfRange(number))),
-        InputError::WrongCount => Ok(Answer::BadInput(InputFault::WrongCount)),
-        InputError::Memory => Err(AllocError),
+        InputError::NotANumber(number) => Some(Answer::BadInput(InputFault::NotANumber(number))),
+        InputError::OutOfRange(number) => Some(Answer::BadInput(InputFault::OutOfRange(number))),
+        InputError::WrongCount => Some(Answer::BadInput(InputFault::WrongCount)),
+        InputError::Memory => None,
     }
 }
 
@@ -133,7 +106,8 @@ pub fn judge(alloc: Global, job: &Job, texts: &Texts) -> Result<Judged, AllocErr
 {
     match read_program(alloc, texts.program.as_slice()) {
         Ok(program) => judge_program(alloc, job, texts, program),
-        Err(fault) => Ok(Judged::Answered(program_answer(fault)?)),
+        Err(Some(fault)) => Ok(Judged::Answered(Answer::BadProgram(fault))),
+        Err(None) => Err(AllocError),
     }
 }
 
@@ -151,7 +125,10 @@ fn judge_program(
 {
     let input = match read_input(alloc, &program, texts.input.as_slice()) {
         Ok(input) => input,
-        Err(error) => return Ok(Judged::Answered(input_answer(error)?)),
+        Err(error) => match input_answer(error) {
+            Some(answer) => return Ok(Judged::Answered(answer)),
+            None => return Err(AllocError),
+        },
     };
     let weights = match read_weights(alloc, &program, texts.weights.as_slice()) {
         Ok(weights) => weights,
@@ -167,39 +144,31 @@ fn judge_program(
         input,
         weights,
     };
-    judge_run(job, case, outcome)
+    Ok(judge_run(job, case, outcome))
 }
 
 /// What a job comes to where its case is this one, which isn't too large, and the run as written
-/// ends so.
-///
-/// The one error is want of memory.
-fn judge_run(job: &Job, case: Case, outcome: Outcome) -> Result<Judged, AllocError>
+/// ends so, at a statement of the program if at one.
+fn judge_run(job: &Job, case: Case, outcome: Outcome) -> Judged
     requires unchosen { outcome ≢ Outcome.WrongChoices }
+    requires named { NamesStatement case.program outcome }
     ensures { (x : Texts) → IsCaseOf x case → RunsTo job.now x case.program outcome
-        → IfOk result (IsJudged job.now x) }
+        → IsJudged job.now x result }
 {
     match outcome {
-        Outcome::Done => Ok(Judged::Answered(Answer::NotFailing)),
+        Outcome::Done => Judged::Answered(Answer::NotFailing),
         Outcome::Beyond(stmt) => {
-            let at = position_of(&case.program, stmt)?;
-            Ok(Judged::Answered(Answer::BeyondBound(at)))
+            Judged::Answered(Answer::BeyondBound(position_of(&case.program, stmt)))
         }
         Outcome::AssertFails(stmt) => match job.task {
-            Task::Run => {
-                let at = position_of(&case.program, stmt)?;
-                Ok(Judged::Answered(Answer::AssertFails(at)))
-            }
-            Task::Localise | Task::Sample(_) => Ok(Judged::ToSearch(case)),
-            Task::Check => Ok(Judged::ToCheck(case)),
+            Task::Run => Judged::Answered(Answer::AssertFails(position_of(&case.program, stmt))),
+            Task::Localise | Task::Sample(_) => Judged::ToSearch(case),
+            Task::Check => Judged::ToCheck(case),
         },
         Outcome::Trap(stmt) => match job.task {
-            Task::Run => {
-                let at = position_of(&case.program, stmt)?;
-                Ok(Judged::Answered(Answer::Trap(at)))
-            }
-            Task::Localise | Task::Sample(_) => Ok(Judged::ToSearch(case)),
-            Task::Check => Ok(Judged::ToCheck(case)),
+            Task::Run => Judged::Answered(Answer::Trap(position_of(&case.program, stmt))),
+            Task::Localise | Task::Sample(_) => Judged::ToSearch(case),
+            Task::Check => Judged::ToCheck(case),
         },
         // Nothing may be relaxed, so no choice is missing.
         Outcome::WrongChoices => unreachable!(),

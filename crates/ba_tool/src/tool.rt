@@ -1,19 +1,20 @@
 //! The top call of the program.
 
-ghost use Rattle.std.specs.Prelude.{◌≡◌, ◌⊎◌, ℕ, ◌+◌, ◌*◌, ◌≤◌, false, true, Err, List, Option, Some, length, map, IfOk, IfErr, ◌<◌, ◌^◌};
+ghost use Rattle.std.specs.Prelude.{◌≡◌, ◌⊎◌, ℕ, ◌+◌, ◌*◌, ◌≤◌, false, true, Err, List, Option, Some, length, map, IfOk, IfErr, IsSome, ◌<◌, ◌^◌};
 ghost use Rattle.ba_commands.specs.Modes.{Word};
 ghost use Rattle.ba_localise.specs.Verdicts.{told};
 ghost use Rattle.ba_search.specs.Rules.{IsKeepRule, IsRestartRule};
 ghost use Rattle.ba_search.specs.declared.search.SearchError.{SearchError};
 ghost use Rattle.ba_world.specs.Read.{piece_size};
 ghost use Rattle.ba_world.specs.World.{HasPrintShortage, HasWriteFault, OnlyPrints, Prints, PrintsPrefix};
-ghost use Rattle.ba_tool.specs.Calls.{Comes, EndsWith, HasHandFault, IsDue, IsEndFor, IsEndOfCheck, IsEndOfSearch, IsShown, Proceeds, Says, Stops, StopsWith, TellsCheck, TellsFailing, WritesOnly, answer_for, call, most_given, most_of};
+ghost use Rattle.ba_tool.specs.Calls.{Comes, EndsWith, HasHandFault, IsDue, IsEndFor, IsEndOfCheck, IsEndOfSample, IsEndOfSearch, IsShown, Proceeds, Says, Stops, StopsWith, TellsCheck, TellsFailing, WritesOnly, answer_for, call, most_given, most_of};
 ghost use Rattle.ba_answers.specs.Limits.{limit};
 ghost use Rattle.ba_jobs.specs.Jobs.{cert_of, request_of, steady_of, written_by};
 ghost use Rattle.ba_answers.specs.Printed.{text_of};
 ghost use Rattle.ba_tree.specs.Run.{are_bounds};
 ghost use Rattle.ba_answers.specs.declared.answers.Answer.{Answer};
 ghost use Rattle.ba_jobs.specs.declared.jobs.Request.{Request};
+ghost use Rattle.ba_jobs.specs.declared.jobs.Task.{Task};
 
 use crate::certificates::check;
 use crate::judge::{Judged, judge};
@@ -27,18 +28,16 @@ use ba_jobs::samples::sample_texts;
 use ba_search::SearchError;
 use ba_steps::StepSink;
 use ba_world::{ReadFileError, World, WorldError};
-use std::alloc::{AllocError, Global};
+use std::alloc::Global;
 
-/// The answer where a file of a job wasn't read.
-///
-/// The one error is want of memory.
-fn unread_answer(unread: Unread) -> Result<Answer, AllocError>
-    ensures { IfOk result (λ answer. answer_for unread.file unread.error ≡ Some answer) }
+/// The answer where a file of a job wasn't read; none for want of memory.
+fn unread_answer(unread: Unread) -> Option<Answer>
+    ensures { result ≡ answer_for unread.file unread.error }
 {
     match unread.error {
-        ReadFileError::Failed => Ok(Answer::Unreadable(unread.file)),
-        ReadFileError::TooLong => Ok(Answer::TooLong(unread.file)),
-        ReadFileError::Memory => Err(AllocError),
+        ReadFileError::Failed => Some(Answer::Unreadable(unread.file)),
+        ReadFileError::TooLong => Some(Answer::TooLong(unread.file)),
+        ReadFileError::Memory => None,
     }
 }
 
@@ -65,6 +64,7 @@ where
     requires input_short { length texts.now.input ≤ limit }
     requires countable { job.now.conflicts < 2 ^ 62 }
     requires bounds { are_bounds job.now.bounds ≡ true }
+    requires named { job.now.task ≡ Task.Check → IsSome job.now.cert }
     requires luby { job.now.steady ≡ false
         → IsRestartRule (L.pre rules.luby) (L.post rules.luby) }
     requires steady { job.now.steady ≡ true
@@ -110,6 +110,7 @@ where
     K: Fn(u64, u64) -> bool + Drop,
     requires countable { job.now.conflicts < 2 ^ 62 }
     requires bounds { are_bounds job.now.bounds ≡ true }
+    requires named { job.now.task ≡ Task.Check → IsSome job.now.cert }
     requires luby { job.now.steady ≡ false
         → IsRestartRule (L.pre rules.luby) (L.post rules.luby) }
     requires steady { job.now.steady ≡ true
@@ -132,7 +133,10 @@ where
 {
     match read_texts(alloc, world, job) {
         Ok(texts) => texts_answer(alloc, world, job, &texts, steps, rules),
-        Err(unread) => Ok(unread_answer(unread)?),
+        Err(unread) => match unread_answer(unread) {
+            Some(answer) => Ok(answer),
+            None => Err(SearchError::Memory),
+        },
     }
 }
 
@@ -298,12 +302,19 @@ where
         (told D.over D.logs D.faults steps.old) (told D.over D.logs D.faults steps.new))
         (IsEndFor due) result }
 
-    // A search for the least sets of a program that fails, also of a sample, comes to an end.
+    // A search for the least sets of a program that fails comes to an end.
     ensures where_failing { TellsFailing (request_of (map (λ word. word.now) words.now))
         (W.outside world.old)
         → EndsWith (call words.now (W.outside world.old) (W.outside world.new)
         (told D.over D.logs D.faults steps.old) (told D.over D.logs D.faults steps.new))
         IsEndOfSearch result }
+
+    // A sample comes to an end: with its least sets, or with that its conflicts are spent.
+    ensures where_sample { (additions : ℕ)
+        → request_of (map (λ word. word.now) words.now) ≡ Request.Sample additions
+        → EndsWith (call words.now (W.outside world.old) (W.outside world.new)
+        (told D.over D.logs D.faults steps.old) (told D.over D.logs D.faults steps.new))
+        IsEndOfSample result }
 
     // A check comes to an end, by what the world tells of its certificate. Which it is of accepted and
     // refused, and where, `says` tells: over the formula that was handed to the sink.

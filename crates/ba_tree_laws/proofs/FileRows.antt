@@ -6,6 +6,7 @@ use Rattle.std.proofs.lemmas.List.{append-nil}
 use Rattle.ba_tokens.specs.declared.token.Token.{Token}
 use Rattle.ba_numbers.specs.declared.ids.At.{At}
 use Rattle.ba_numbers.specs.declared.numbers.CType.TheVariants.{I32}
+use Rattle.ba_trees.specs.Marks.{Mark}
 use Rattle.ba_trees.specs.Marks as rule
 use Rattle.ba_trees.specs.ExternalMarks.{end_marks, external_form_marks, external_marks}
 use Rattle.ba_trees.specs.FileMarks.{file_marks}
@@ -20,6 +21,7 @@ use Rattle.ba_trees.specs.declared.tree.statements.ExternalForm.TheVariants as f
 use Rattle.ba_trees.specs.declared.tree.statements.FunctionEnd.{FunctionEnd}
 use Rattle.ba_trees.specs.declared.tree.statements.FunctionEnd.TheVariants as end
 use Rattle.ba_trees.specs.declared.tree.statements.RawProgram.{RawProgram}
+use Rattle.ba_tree.specs.Trees.{ProgramTree}
 use Rattle.ba_tree.specs.declared.tree.Shape.{Shape}
 use Rattle.ba_tree.specs.declared.tree.Shape.TheVariants.{Value, Passed}
 use Rattle.ba_typing.specs.Declarations.{Added, nothing_added, ◌and◌, add_specifiers, Before, behind, Part, ◌then◌, nothing, in_order, faults_added, TypedLength, shape_of}
@@ -28,6 +30,7 @@ use Rattle.ba_typing.specs.Faults.{void_faults, tag_faults, limit_faults, parame
 use Rattle.ba_typing.specs.Files.{FileAdded, add_external, add_externals, add_param, add_params, body_parts, declare_param, definitions_of, faults_of, file_of, file_scope, add_external_form, is_definition, signature_of_form, first_at, function_scope, function_tree, is_void_parameter, is_void_word, main_of, no_parts, params_of, params_of_list, program_of, says_params, signature_faults, signature_of, signatures_from, type_of_param, typed_of, with_functions, with_signature, without_void}
 use Rattle.ba_typing.specs.Names.{Scope, definition_in, is_main_name, knowing, main_name, name_of, no_exits, tag_of, type_of_words, words_of}
 use Rattle.ba_typing.specs.Statements.{parts_of_block}
+use Rattle.ba_typing.specs.declared.fault.Fault.{Fault}
 use Rattle.ba_typing.specs.declared.meanings.ParamType.{ParamType}
 use Rattle.ba_typing.specs.declared.meanings.Signature.{Signature}
 use Rattle.ba_tree_laws.proofs.DeclarationRows.{AllOf, all_of, add_optional, declarators_items, declarators_optional, specifier_item, specifiers_row, specified_is, lengths, param_item, parameters_row}
@@ -85,7 +88,7 @@ file_row : (p : RawProgram) → Reads (file_marks p) (file (map external_item p.
 file_row p = let all = all_of as_external external_marks external_item external_row p.externals.items in
     as_row (ap (λ xs. file xs ∷ []) all.are) (inside rule.file all.reads)
 
-abbrev items_in : Row → List ExternalItem
+abbrev pub items_in : Row → List ExternalItem
 items_in (file xs ∷ is) = xs
 items_in _ = []
 
@@ -280,7 +283,7 @@ signatures_are d (x ∷ xs) =
 
 -- FUNCTIONS AND FILES, from their items
 
-abbrev add_function_by : Part → List Part → At → Signature → Scope → List Signature → Before → FileAdded
+abbrev pub add_function_by : Part → List Part → At → Signature → Scope → List Signature → Before → FileAdded
 add_function_by params_part body_parts at s outer earlier n =
     let inside = function_scope s.result outer in
     let params = params_part inside n in
@@ -293,7 +296,7 @@ add_function_by params_part body_parts at s outer earlier n =
       functions = cond s.is_definition (function_tree n s.result params body ∷ []) [];
     }
 
-abbrev add_form_by : ExternalItem → Option Signature → Scope → List Signature → Before → FileAdded
+abbrev pub add_form_by : ExternalItem → Option Signature → Scope → List Signature → Before → FileAdded
 add_form_by (variables w ds) s outer earlier n = record {
   added = ds earlier (type_of_words w.words) outer n;
   functions = [];
@@ -339,7 +342,7 @@ abbrev specifiers_in : ExternalItem → SpecifierItem
 specifiers_in (variables w ds) = w
 specifiers_in (function w name ps e) = w
 
-abbrev add_external_by : ExternalItem → Option Signature → Scope → List Signature → Before → FileAdded
+abbrev pub add_external_by : ExternalItem → Option Signature → Scope → List Signature → Before → FileAdded
 add_external_by x s outer earlier n =
     behind_specifiers x s outer earlier n (specified_by earlier (specifiers_in x) outer n)
 
@@ -358,7 +361,7 @@ external_added x s outer earlier n =
     (ap (λ (part : Part). part outer n) (sym (specified_is earlier x.specifiers))
     ∙ ap (λ w. specified_by earlier w outer n) (sym (specifiers_are i x.form)))
 
-abbrev add_externals_by : ℕ → List ExternalItem → Scope → List Signature → Before → FileAdded
+abbrev pub add_externals_by : ℕ → List ExternalItem → Scope → List Signature → Before → FileAdded
 add_externals_by definitions [] outer earlier n = record { added = nothing_added; functions = [] }
 add_externals_by definitions (x ∷ xs) outer earlier n =
     let s = signature_by definitions x in
@@ -383,7 +386,7 @@ externals_are d (x ∷ xs) outer earlier n =
 abbrev scope_by : List Signature → Scope
 scope_by ss = record { functions = ss; known = []; depth = 0; exits = no_exits; result = None }
 
-abbrev file_by : List ExternalItem → FileAdded
+abbrev pub file_by : List ExternalItem → FileAdded
 file_by xs = add_externals_by 0 xs (scope_by (signatures_by 0 xs)) [] no_parts
 
 file_is : (xs : List External) → file_of xs ≡ file_by (map external_item xs)
@@ -407,19 +410,30 @@ unfolding typed_of
 typed_is xs = ap (λ f. option_map (program_of f) (main_of xs)) (file_is xs)
     ∙ ap (option_map (program_of (file_by (map external_item xs)))) (main_is xs)
 
--- TREES THAT ARE THE SAME WRITTEN OUT are typed alike
+-- WHAT A TREE WRITTEN OUT comes to: the items of its file, their faults and their typed program
 
-same_items : (p q : RawProgram) → file_marks p ≡ file_marks q
-    → map external_item p.externals.items ≡ map external_item q.externals.items
-same_items p q same = sym (read_file p) ∙ ap (λ ms. items_in (read ms [] [])) same ∙ read_file q
+abbrev pub items_by : List Mark → List ExternalItem
+items_by ms = items_in (read ms [] [])
+
+abbrev pub faults_from : List ExternalItem → List Fault
+faults_from xs = (file_by xs).added.faults
+
+abbrev pub typed_from : List ExternalItem → Option ProgramTree
+typed_from xs = option_map (program_of (file_by xs))
+    (option_map (λ (s : Signature). s.function) (definition_in (signatures_by 0 xs) main_name))
+
+pub faults_by : (p : RawProgram) → faults_of p.externals.items ≡ faults_from (items_by (file_marks p))
+faults_by p = faults_are p.externals.items ∙ ap faults_from (sym (read_file p))
+
+pub typed_by : (p : RawProgram) → typed_of p.externals.items ≡ typed_from (items_by (file_marks p))
+typed_by p = typed_is p.externals.items ∙ ap typed_from (sym (read_file p))
+
+-- TREES THAT ARE THE SAME WRITTEN OUT are typed alike
 
 pub same_faults : (p q : RawProgram) → file_marks p ≡ file_marks q →
     faults_of p.externals.items ≡ faults_of q.externals.items
-same_faults p q same = faults_are p.externals.items
-    ∙ ap (λ xs. (file_by xs).added.faults) (same_items p q same) ∙ sym (faults_are q.externals.items)
+same_faults p q same = faults_by p ∙ ap (λ ms. faults_from (items_by ms)) same ∙ sym (faults_by q)
 
 pub same_typed : (p q : RawProgram) → file_marks p ≡ file_marks q →
     typed_of p.externals.items ≡ typed_of q.externals.items
-same_typed p q same = typed_is p.externals.items
-    ∙ ap (λ xs. option_map (program_of (file_by xs)) (option_map (λ (s : Signature). s.function)
-    (definition_in (signatures_by 0 xs) main_name))) (same_items p q same) ∙ sym (typed_is q.externals.items)
+same_typed p q same = typed_by p ∙ ap (λ ms. typed_from (items_by ms)) same ∙ sym (typed_by q)

@@ -198,7 +198,7 @@ module _ (p : Program) (turns : ℕ) (bodies : Bodies) where
   each_stmt_is (a ∷ body) lengths = λ i. stmt_is a i lengths ∷ each_stmt_is body lengths i
 
   -- a body costs what its tree costs
-  body_is : (body : List Stmt) (lengths : Lengths) → units_of_body p turns bodies body lengths
+  pub body_is : (body : List Stmt) (lengths : Lengths) → units_of_body p turns bodies body lengths
       ≡ sum (map (λ a. tree_units a lengths) (map tree_of_stmt body))
   body_is body lengths = sym (sum-map (λ a. units_of_stmt p turns bodies a lengths) body)
       ∙ ap sum (each_stmt_is body lengths)

@@ -1,13 +1,16 @@
 //! Nodes whose loops become turns.
 
-ghost use Rattle.std.specs.Prelude.{◌≡◌, ◌++◌, ◌∷◌, ℕ, OnOk, IfOk, []};
+ghost use Rattle.std.specs.Prelude.{◌≡◌, ◌++◌, ◌∷◌, ℕ, OnOk, IfOk, List, []};
 ghost use Rattle.ba_code.specs.Meaning.{Setting};
 ghost use Rattle.ba_code.specs.State.{CodeExecution};
+ghost use Rattle.ba_code.specs.declared.nodes.Node as node;
 ghost use Rattle.ba_unroll.specs.Unrolling.{Adds, all_inside, loop_act, loop_inside, node_act, nodes_act, node_inside, turn_act, turns_act};
 
 use crate::places::place_in;
 use crate::turns::{Parts, turn_behind, with_turn};
-use ba_code::nodes::Node;
+use ba_code::nodes::{Node, Operand, Take};
+use ba_numbers::ids::StmtId;
+use ba_tree::run::Place;
 use std::alloc::{AllocError, Global};
 
 /// Puts a node behind the others.
@@ -18,16 +21,53 @@ fn add(out: &mut Vec<Node>, node: Node) -> Result<(), AllocError>
     Ok(())
 }
 
-/// Adds what the node does in these turns of the loops around, innermost first, where each entry of a loop has at most so many turns.
-#[cycle(unroll)]
-fn add_node(
-    alloc: Global,
-    bound: u32,
-    turns: &[u32],
-    node: &Node,
+/// Adds an execution of a statement that may be relaxed.
+#[inline(never)]
+fn add_pick(
     out: &mut Vec<Node>,
+    place: Place,
+    take: Take,
+    keep: Vec<Node>,
 ) -> Result<(), AllocError>
-    ensures { OnOk result (Adds (node_act bound turns.now node.now) (node_inside node.now)
+    ensures { OnOk result (out.new.items ≡ out.old.items ++ node.Pick place take keep ∷ []) }
+{
+    add(out, Node::Pick { place, take, keep })
+}
+
+/// Adds a branch with these sides.
+#[inline(never)]
+fn add_if(
+    out: &mut Vec<Node>,
+    when: Operand,
+    yes: Vec<Node>,
+    no: Vec<Node>,
+) -> Result<(), AllocError>
+    ensures { OnOk result (out.new.items ≡ out.old.items ++ node.If when yes no ∷ []) }
+{
+    add(out, Node::If { when, yes, no })
+}
+
+/// Adds a block with this body.
+#[inline(never)]
+fn add_block(out: &mut Vec<Node>, label: u32, body: Vec<Node>) -> Result<(), AllocError>
+    ensures { OnOk result (out.new.items ≡ out.old.items ++ node.Block label body ∷ []) }
+{
+    add(out, Node::Block { label, body })
+}
+
+/// Adds the end of a run that needs one more turn of the loop of this statement.
+#[inline(never)]
+fn add_beyond(out: &mut Vec<Node>, stmt: StmtId) -> Result<(), AllocError>
+    ensures { OnOk result (out.new.items ≡ out.old.items ++ node.Beyond stmt ∷ []) }
+{
+    add(out, Node::Beyond { stmt })
+}
+
+/// Adds a node without nodes inside once more; others are answered as if out of memory.
+#[inline(never)]
+fn add_leaf(alloc: Global, node: &Node, out: &mut Vec<Node>) -> Result<(), AllocError>
+    ensures { OnOk result ((bound : ℕ) (turns : List ℕ)
+        → Adds (node_act bound turns node.now) (node_inside node.now)
         out.old.items out.new.items) }
 {
     match node {
@@ -111,45 +151,52 @@ fn add_node(
                 },
             )
         }
+        Node::Leave { label } => add(out, Node::Leave { label: *label }),
+        Node::Assert { when, stmt } => add(
+            out,
+            Node::Assert {
+                when: *when,
+                stmt: *stmt,
+            },
+        ),
+        Node::Beyond { stmt } => add(out, Node::Beyond { stmt: *stmt }),
+        Node::Pick { .. } | Node::If { .. } | Node::Block { .. } | Node::Loop { .. } => {
+            Err(AllocError)
+        }
+    }
+}
+
+/// Adds what the node does in these turns of the loops around, innermost first, where each entry of a loop has at most so many turns.
+#[cycle(unroll)]
+fn add_node(
+    alloc: Global,
+    bound: u32,
+    turns: &[u32],
+    node: &Node,
+    out: &mut Vec<Node>,
+) -> Result<(), AllocError>
+    ensures { OnOk result (Adds (node_act bound turns.now node.now) (node_inside node.now)
+        out.old.items out.new.items) }
+{
+    match node {
         Node::Pick { place, take, keep } => {
             let place = place_in(alloc, turns, place)?;
             let mut made = Vec::new(alloc);
             add_nodes(alloc, bound, turns, keep.as_slice(), &mut made)?;
-            add(
-                out,
-                Node::Pick {
-                    place,
-                    take: *take,
-                    keep: made,
-                },
-            )
+            add_pick(out, place, *take, made)
         }
         Node::If { when, yes, no } => {
             let mut first = Vec::new(alloc);
             add_nodes(alloc, bound, turns, yes.as_slice(), &mut first)?;
             let mut second = Vec::new(alloc);
             add_nodes(alloc, bound, turns, no.as_slice(), &mut second)?;
-            add(
-                out,
-                Node::If {
-                    when: *when,
-                    yes: first,
-                    no: second,
-                },
-            )
+            add_if(out, *when, first, second)
         }
         Node::Block { label, body } => {
             let mut made = Vec::new(alloc);
             add_nodes(alloc, bound, turns, body.as_slice(), &mut made)?;
-            add(
-                out,
-                Node::Block {
-                    label: *label,
-                    body: made,
-                },
-            )
+            add_block(out, *label, made)
         }
-        Node::Leave { label } => add(out, Node::Leave { label: *label }),
         Node::Loop {
             after,
             head,
@@ -168,14 +215,16 @@ fn add_node(
             };
             add_loop(alloc, bound, turns, &parts, out)
         }
-        Node::Assert { when, stmt } => add(
-            out,
-            Node::Assert {
-                when: *when,
-                stmt: *stmt,
-            },
-        ),
-        Node::Beyond { stmt } => add(out, Node::Beyond { stmt: *stmt }),
+        Node::Set { .. }
+        | Node::Unary { .. }
+        | Node::Binary { .. }
+        | Node::Convert { .. }
+        | Node::Load { .. }
+        | Node::Save { .. }
+        | Node::Fill { .. }
+        | Node::Leave { .. }
+        | Node::Assert { .. }
+        | Node::Beyond { .. } => add_leaf(alloc, node, out),
     }
 }
 
@@ -218,14 +267,7 @@ fn turn_before(
     add_nodes(alloc, bound, inner.as_slice(), parts.body, &mut made)?;
     add_nodes(alloc, bound, inner.as_slice(), parts.step, &mut made)?;
     add_nodes(alloc, bound, behind.as_slice(), parts.head, &mut made)?;
-    add(
-        &mut made,
-        Node::If {
-            when: parts.when,
-            yes: rest,
-            no: Vec::new(alloc),
-        },
-    )?;
+    add_if(&mut made, parts.when, rest, Vec::new(alloc))?;
     Ok(made)
 }
 
@@ -241,7 +283,7 @@ fn all_turns(
         (loop_inside parts.now) [] made.items) }
 {
     let mut rest = Vec::new(alloc);
-    add(&mut rest, Node::Beyond { stmt: parts.stmt })?;
+    add_beyond(&mut rest, parts.stmt)?;
     for left in 0..bound {
         rest = turn_before(alloc, bound, turns, parts, bound - left, rest)?;
     }
@@ -267,12 +309,5 @@ fn add_loop(
     }
     let first = with_turn(alloc, 1, turns)?;
     add_nodes(alloc, bound, first.as_slice(), parts.head, out)?;
-    add(
-        out,
-        Node::If {
-            when: parts.when,
-            yes: rest,
-            no: Vec::new(alloc),
-        },
-    )
+    add_if(out, parts.when, rest, Vec::new(alloc))
 }

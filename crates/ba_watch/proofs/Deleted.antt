@@ -13,7 +13,7 @@ use Rattle.ba_arena.proofs.Compactions.{map_agree}
 use Rattle.ba_watch.specs.Threads.{Clause, plain, plain_at, SamePlain}
 use Rattle.ba_watch.specs.Propagation.{clause_in}
 use Rattle.ba_watch.specs.Trails.{Assignments}
-use Rattle.ba_watch.specs.Deletion.{KeepsOthers, DeletesAll, IsKept, number_of, numbered, AreReferenced, IsNamed, IsWithout}
+use Rattle.ba_watch.specs.Deletion.{KeepsOthers, DeletesAll, IsKept, number_of, numbered, AreReferenced, IsNamed, IsWithout, unnamed_of}
 use Rattle.ba_watch.proofs.Sounds.{clause_in-map}
 
 -- a number of the list, read in two ways
@@ -197,21 +197,22 @@ module _ (a0 a1 : Clauses) (numbers : List ℕ)
 abbrev with_reasons : Assignments → List (Option ℕ) → Assignments
 with_reasons t rs = record t { reasons = rs }
 
-pub deletes_all : (a0 a1 a3 a4 : Clauses) (t u : Assignments) (w w' numbers : List ℕ)
+pub deletes_all : (a0 a1 a3 a4 : Clauses) (t u : Assignments) (w w1 w' numbers : List ℕ)
     (refs refs' : List (Option ℕ))
     → IsWithout (IsNamed numbers (length numbers)) a0 a1 → AreReferenced a1 refs → Compacts a1 a3 →
     SamePlain a3 a4
     → ((p r : ℕ) → get_or t.reasons p None ≡ Some r → IsKept a0 numbers r)
-    → u ≡ record t { reasons = map (led a1) t.reasons } → w' ≡ map (moved a1) w → refs' ≡ map (led a1) refs
-    → DeletesAll a0 a4 t u w w' refs' numbers
-deletes_all a0 a1 a3 a4 t u w w' numbers refs refs' without r compacts same reasons u_is w'_is refs'_is =
+    → u ≡ record t { reasons = map (led a1) t.reasons } → w1 ≡ unnamed_of a0 numbers w →
+    w' ≡ map (moved a1) w1 → refs' ≡ map (led a1) refs → DeletesAll a0 a4 t u w w' refs' numbers
+deletes_all a0 a1 a3 a4 t u w w1 w' numbers refs refs' without r compacts same reasons u_is w1_is w'_is
+    refs'_is =
     record {
       moved = moved a1;
       clauses = keeps_others a0 a1 numbers without a3 a4 compacts same;
       trail = u_is ∙ ap (with_reasons t)
           (map_agree (led a1) (option_map (moved a1)) t.reasons None
           (λ k h. lead (get_or t.reasons k None) (λ q is. kept_live a0 a1 numbers without q (reasons k q is))));
-      waiting_moved = w'_is;
+      waiting_moved = w'_is ∙ ap (map (moved a1)) w1_is;
       referenced = subst (λ (rs : List (Option ℕ)). AreReferenced a4 rs) (sym refs'_is)
           (references_moved a0 a1 numbers without a3 a4 compacts same refs r);
     }

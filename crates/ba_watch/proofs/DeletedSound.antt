@@ -1,6 +1,7 @@
 -- The facts of a watch after a deletion.
 
 use Rattle.std.proofs.Common.{◌≡◌, ◌≢◌, ℕ, suc, zero, ◌+◌, ◌*◌, ◌<◌, ◌≤◌, Bool, true, false, Option, None, Some, IsSome, is_some, List, [], ◌∷◌, length, get_or, take, map, eqb, cond, refl, sym, ap, subst, ◌∙◌, arith, ⊎_elim}
+use Rattle.std.specs.List.{Contains}
 use Rattle.std.specs.Option.{option_map}
 use Rattle.std.proofs.lemmas.Bool.{cases_eq, cases_lt}
 use Rattle.std.proofs.lemmas.Bool.Decides.{nat_tests}
@@ -14,12 +15,13 @@ use Rattle.ba_watch.specs.Chains.{occurrences}
 use Rattle.ba_watch.specs.Threads.{Clause, plain, plain_at}
 use Rattle.ba_watch.specs.Trails.{Assignments, value_of, place_of, decided, level_at}
 use Rattle.ba_watch.specs.Propagation.{clause_in, plain_lits, IsReason, IsGuarded, AreFacts, AreUnits, IsSound}
-use Rattle.ba_watch.specs.Deletion.{Deletes, DeletesAll, MayDelete, MayLink, IsKept, AreAlone, number_of}
+use Rattle.ba_watch.specs.Deletion.{Deletes, DeletesAll, MayDelete, MayLink, IsKept, AreAlone, number_of, unnamed_of}
 use Rattle.ba_watch.proofs.Visits.{lits-plain, some-plain}
 use Rattle.ba_watch.proofs.Levels.{decided-take_drop}
 use Rattle.ba_watch.proofs.Follows.{Agrees, decided_map, agrees_take, level_map}
 use Rattle.ba_watch.proofs.Sounds.{clause_in-map, state}
 use Rattle.ba_watch.proofs.Walks.{at_occurs}
+use Rattle.ba_watch.proofs.Unnamed.{unnamed_kept, unnamed_stands, unnamed_occurs}
 
 -- a list of waiting clauses and their new places
 one_less : (x r y z n : ℕ) → (x ≡ r → y ≡ z) → cond (eqb y z) 1 0 + n ≡ 0 → cond {A = ℕ} (eqb x r) 1 0 ≡ 0
@@ -101,17 +103,18 @@ module _ (a : Clauses) (n : ℕ) (p : Option ℕ) (t : Assignments) (h : ℕ) (w
       has_live None l e = absurd (cc e)
       has_live (Some x) l e = refl
 
-  pub waiting_kept : (k : ℕ) → k < length w → IsKept a numbers (get_or w k 0)
-  waiting_kept k k_in =
-      let r = get_or w k 0 in
-      let there : 0 < occurrences r w = at_occurs w k k_in in
-      let x = stored_some (clause_at a r) (sound.units.live r there) in
-      let short : length x.0.lits < 2 = subst (λ (o : Option Stored). length (lits_of o) < 2) x.1
-      (sound.units.short r there) in
-      (x.0, x.1, λ named. clash (length x.0.lits) short (may.long r _ (seen r x.0 x.1) named))
-    where
-      clash : (m : ℕ) → m < 2 → 2 ≤ m → ⊥
-      clash m below above = omega (arith, below, above)
+  pub waiting_live : (k : ℕ) → k < length w → IsLive a (get_or w k 0)
+  waiting_live k k_in = sound.units.live (get_or w k 0) (at_occurs w k k_in)
+
+  -- the clauses that wait on
+  abbrev waiting_on : List ℕ
+  waiting_on = unnamed_of a numbers w
+
+  waits_on : (k : ℕ) → k < length waiting_on → IsKept a numbers (get_or waiting_on k 0)
+  waits_on = unnamed_kept a numbers w waiting_live
+
+  still_short : (k : ℕ) → k < length waiting_on → length (lits_at a (get_or waiting_on k 0)) < 2
+  still_short k k_in = sound.units.short (get_or waiting_on k 0) (unnamed_stands a numbers w k k_in)
 
   pub may_link : (r : ℕ) → MayLink (lits_at a r) n
   may_link r k k_in counted =
@@ -145,8 +148,19 @@ module _ (a : Clauses) (n : ℕ) (p : Option ℕ) (t : Assignments) (h : ℕ) (w
     record From (q : ℕ) : Type 0 where
       pub from : ℕ
       pub live : IsLive a from
+      pub stays : IsKept a numbers from
       pub same : lits_at a from ≡ lits_at a' q
       pub to : d.moved from ≡ q
+
+    kept_from : (r : ℕ) (c : Clause) → plain_at a r ≡ Some c → (Contains numbers c.number → ⊥) →
+        IsKept a numbers r
+    kept_from r c is other = of (clause_at a r) refl is
+      where
+        of : (o : Option Stored) → clause_at a r ≡ o → plain o ≡ Some c → IsKept a numbers r
+        of None there e = absurd (cc e)
+        of (Some x) there e =
+            let same : ◌≡◌ {A = Clause} (record { lits = x.lits; number = x.number }) c = cc e in
+            (x, there, λ named. other (subst (λ (d : Clause). Contains numbers d.number) same named))
 
     source : (q : ℕ) → IsLive a' q → From q
     source q live =
@@ -157,6 +171,7 @@ module _ (a : Clauses) (n : ℕ) (p : Option ℕ) (t : Assignments) (h : ℕ) (w
         record {
           from = out.from;
           live = some-plain a out.from ∙ ap is_some was;
+          stays = kept_from out.from c.0 was out.stays;
           same = lits-plain a out.from ∙ (ap plain_lits (was ∙ sym c.1) ∙ sym (lits-plain a' q));
           to = out.to;
         }
@@ -268,9 +283,11 @@ module _ (a : Clauses) (n : ℕ) (p : Option ℕ) (t : Assignments) (h : ℕ) (w
         let r = f.from in
         let old_short : length (lits_at a r) < 2 = subst (λ (ls : List Literal). length ls < 2) (sym f.same)
         short in
-        let moved_none : occurrences (d.moved r) (map d.moved w) ≡ 0 =
-        ap (λ m. occurrences m (map d.moved w)) f.to ∙ (ap (occurrences q) (sym d.waiting_moved) ∙ none) in
-        let absent : occurrences r w ≡ 0 = absent_before d.moved w r moved_none in
+        let moved_none : occurrences (d.moved r) (map d.moved waiting_on) ≡ 0 =
+        ap (λ m. occurrences m (map d.moved waiting_on)) f.to
+        ∙ (ap (occurrences q) (sym d.waiting_moved) ∙ none) in
+        let absent : occurrences r w ≡ 0 =
+        sym (unnamed_occurs a numbers w r f.stays) ∙ absent_before d.moved waiting_on r moved_none in
         record {
           one = ap (λ (ls : List Literal). length ls) (sym f.same)
               ∙ sound.units.one r f.live old_short absent;
@@ -282,9 +299,9 @@ module _ (a : Clauses) (n : ℕ) (p : Option ℕ) (t : Assignments) (h : ℕ) (w
               ∙ sound.units.level r f.live old_short absent);
         }
 
-    in_waiting : (q : ℕ) → 0 < occurrences q w' → Stands d.moved w q
-    in_waiting q some = stands d.moved w q (subst (λ (ws : List ℕ). 0 < occurrences q ws) d.waiting_moved
-        some)
+    in_waiting : (q : ℕ) → 0 < occurrences q w' → Stands d.moved waiting_on q
+    in_waiting q some = stands d.moved waiting_on q
+        (subst (λ (ws : List ℕ). 0 < occurrences q ws) d.waiting_moved some)
 
     units : AreUnits a' t.lits (map (option_map d.moved) t.reasons) w'
     units = record {
@@ -293,17 +310,18 @@ module _ (a : Clauses) (n : ℕ) (p : Option ℕ) (t : Assignments) (h : ℕ) (w
       level = λ q live short none. (unit_at q live short none).level;
       live = λ q some.
           let x = in_waiting q some in
-          subst (λ m. IsLive a' m) x.is (live_there (get_or w x.place 0) (waiting_kept x.place x.within));
+          subst (λ m. IsLive a' m) x.is
+          (live_there (get_or waiting_on x.place 0) (waits_on x.place x.within));
       short = λ q some.
           let x = in_waiting q some in
-          let r = get_or w x.place 0 in
+          let r = get_or waiting_on x.place 0 in
           subst (λ m. length (lits_at a' m) < 2) x.is
-          (subst (λ (ls : List Literal). length ls < 2) (sym (lits_there r (waiting_kept x.place x.within)))
-          (sound.units.short r (at_occurs w x.place x.within)));
+          (subst (λ (ls : List Literal). length ls < 2) (sym (lits_there r (waits_on x.place x.within)))
+          (still_short x.place x.within));
     }
 
     none_left : w ≡ [] → w' ≡ []
-    none_left e = d.waiting_moved ∙ ap (map d.moved) e
+    none_left e = d.waiting_moved ∙ ap (λ (ws : List ℕ). map d.moved (unnamed_of a numbers ws)) e
 
     pub Sound-delete : (n' : ℕ) (p' : Option ℕ) → n' ≡ n → p' ≡ None →
         IsSound a' n' p' u.variables u.lits u.reasons h w' s

@@ -17,6 +17,7 @@ pub mod Sounds
 pub mod NewClauses
 pub mod Deletions
 pub mod Deleted
+pub mod Unnamed
 pub mod Follows
 pub mod DeletedSound
 pub mod References

@@ -1,10 +1,10 @@
 -- Clauses that are deleted, and where the others are then.
 
-use Rattle.std.specs.Prelude.{◌≡◌, ℕ, ◌<◌, ◌≤◌, ◌⊎◌, Option, None, Some, IsSome, List, length, get_or, map}
-use Rattle.std.specs.List.{Contains}
+use Rattle.std.specs.Prelude.{◌≡◌, ℕ, ◌<◌, ◌≤◌, ◌⊎◌, Bool, nat_eq, not, Option, None, Some, IsSome, List, length, get_or, map, filter}
+use Rattle.std.specs.List.{Contains, list_any}
 use Rattle.std.specs.Option.{option_map}
 use Rattle.ba_lits.specs.Literals.{Literal, lit_at}
-use Rattle.ba_arena.specs.Clauses.{Clauses, Stored, clause_at}
+use Rattle.ba_arena.specs.Clauses.{Clauses, Stored, clause_at, number_at}
 use Rattle.ba_watch.specs.Threads.{Clause, plain, index_at}
 use Rattle.ba_watch.specs.Trails.{Assignments}
 use Rattle.ba_watch.specs.Propagation.{State, clause_in}
@@ -27,16 +27,12 @@ pub record KeepsOthers (numbers : List ℕ) (moved : ℕ → ℕ) (old new : Lis
   pub apart : (a b : ℕ) (c d : Clause) → clause_in old a ≡ Some c → (Contains numbers c.number → ⊥) →
       clause_in old b ≡ Some d → (Contains numbers d.number → ⊥) → moved a ≡ moved b → a ≡ b
 
--- numbers that may be deleted: no two clauses have the same number, and none of them is that of a reason or of a clause of
--- less than two literals
+-- numbers that may be deleted: no two clauses have the same number, and none of them is that of a reason
 pub record MayDelete (s : State) (numbers : List ℕ) : Type 0 where
   pub alone : (a b : ℕ) (c d : Clause) → clause_in s.clauses a ≡ Some c → clause_in s.clauses b ≡ Some d →
       c.number ≡ d.number → a ≡ b
   pub no_reason : (p reference : ℕ) (c : Clause) → get_or s.reasons p None ≡ Some reference →
       clause_in s.clauses reference ≡ Some c → Contains numbers c.number → ⊥
-  pub long : (reference : ℕ) (c : Clause) → clause_in s.clauses reference ≡ Some c →
-      Contains numbers c.number →
-      2 ≤ length c.lits
 
 -- the clauses of some numbers were deleted; reasons name the same clauses as before, and the rest stays
 pub record Deletes (old new : State) (numbers : List ℕ) : Type 0 where
@@ -71,6 +67,15 @@ AreAlone clauses = (a b number : ℕ) → numbered clauses a ≡ Some number →
 abbrev pub IsNamed : List ℕ → ℕ → ℕ → Type 0
 IsNamed numbers count number = (k : ℕ) × (k < count) × (get_or numbers k 0 ≡ number)
 
+-- the same as a test
+abbrev pub is_named : List ℕ → ℕ → Bool
+is_named numbers number = list_any (λ n. nat_eq n number) numbers
+
+-- the references whose clauses none of the numbers names
+abbrev pub unnamed_of : Clauses → List ℕ → List ℕ → List ℕ
+unnamed_of clauses numbers references =
+    filter (λ clause. not (is_named numbers (number_at clauses clause))) references
+
 -- the clauses whose numbers are named are gone, and the others stay
 pub record IsWithout (named : ℕ → Type 0) (old new : Clauses) : Type 0 where
   pub either : (r : ℕ) → (clause_at new r ≡ None) ⊎ (clause_at new r ≡ clause_at old r)
@@ -84,7 +89,7 @@ pub record DeletesAll (old new : Clauses) (t u : Assignments) (waiting left : Li
   pub moved : ℕ → ℕ
   pub clauses : KeepsOthers numbers moved (map plain old) (map plain new)
   pub trail : u ≡ record t { reasons = map (option_map moved) t.reasons }
-  pub waiting_moved : left ≡ map moved waiting
+  pub waiting_moved : left ≡ map moved (unnamed_of old numbers waiting)
   pub referenced : AreReferenced new references
 
 -- there are lists for the literals of a clause

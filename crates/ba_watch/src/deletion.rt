@@ -5,7 +5,7 @@ ghost use Rattle.std.specs.List.{Contains};
 ghost use Rattle.ba_lits.specs.Literals.{lit_at};
 ghost use Rattle.ba_arena.specs.Clauses.{Clauses, IsLive, lits_at};
 ghost use Rattle.ba_watch.specs.Threads.{AreThreaded, AreApart, SamePlain, index_at};
-ghost use Rattle.ba_watch.specs.Deletion.{AreReferenced, AreAlone, IsNamed, IsWithout, IsKept, DeletesAll, MayLink};
+ghost use Rattle.ba_watch.specs.Deletion.{AreReferenced, AreAlone, IsNamed, IsWithout, IsKept, DeletesAll, MayLink, unnamed_of};
 
 use crate::lists::Lists;
 use crate::trail::Trail;
@@ -25,6 +25,23 @@ pub fn make_room(references: &mut Vec<Option<ClauseRef>>, number: u64) -> Result
         return Err(AllocError);
     }
     fill_up(references, number as usize + 1, None)
+}
+
+/// Takes the clauses of the numbers off a list of live clauses.
+fn keep_unnamed(arena: &Arena, list: &mut Vec<ClauseRef>, numbers: &[u64])
+    requires live { (k : ℕ) → k < length list.old.items → IsLive arena.now (get_or list.old.items k 0) }
+    ensures { list.new.items ≡ unnamed_of arena.now numbers.now list.old.items }
+{
+    let mut count = 0;
+    for place in 0..list.len() {
+        let clause = list[place];
+        let number = arena.number(clause);
+        list[count] = clause;
+        if !numbers.contains(&number) {
+            count += 1;
+        }
+    }
+    list.truncate(count);
 }
 
 /// Marks the clauses of the numbers dead.
@@ -105,7 +122,8 @@ fn link_clause(arena: &mut Arena, heads: &mut Vec<Link>, clause: ClauseRef)
     heads[two] = Link::some(clause);
 }
 
-/// Deletes the clauses of the numbers: trail, waiting clauses and table follow the others to their new places.
+/// Deletes the clauses of the numbers, which no longer wait: trail, waiting clauses and table follow the others to their
+/// new places.
 pub fn delete_all(
     lists: &mut Lists,
     trail: &mut Trail,
@@ -119,7 +137,7 @@ pub fn delete_all(
     requires reasons { (p clause : ℕ) → get_or trail.old.reasons p None ≡ Some clause
         → IsKept lists.old.arena numbers.now clause }
     requires waiting { (k : ℕ) → k < length waiting.old.items
-        → IsKept lists.old.arena numbers.now (get_or waiting.old.items k 0) }
+        → IsLive lists.old.arena (get_or waiting.old.items k 0) }
     requires room { (clause : ℕ) → MayLink (lits_at lists.old.arena clause)
         (length lists.old.heads.items) }
     ensures pending { lists.new.pending ≡ None }
@@ -128,6 +146,7 @@ pub fn delete_all(
         waiting.old.items waiting.new.items references.new.items numbers.now }
 {
     let arena = &mut lists.arena;
+    keep_unnamed(arena, waiting, numbers);
     mark_all(arena, references, numbers);
     trail.compact(arena, references, waiting);
     relink(arena, &mut lists.heads);

@@ -9,7 +9,7 @@ use Rattle.ba_nodes.specs.declared.Node.{Node}
 use Rattle.ba_nodes.specs.Gates.{bool_xor, truth, Extends, HasValue}
 use Rattle.ba_words.specs.Words.{digit, number_of, low_number, bit_at, AreBitsOf, HasNumber}
 use Rattle.ba_words.proofs.Digits.{spelled_below, digit-and, digit-or, digit-xor}
-use Rattle.ba_words.proofs.Places.{are_bits-extends, are_bits-set, low_number-extends, low_number-more, low_number-set_more, low_number-all}
+use Rattle.ba_words.proofs.Places.{are_bits-extends, are_bits-set, low_number-extends, low_number-more, low_number-set_more, low_number-all, power_more}
 
 -- the low places of a word of these nodes have this number under each assignment
 pub record LowIs (nodes : List Node) (word : List Bit) (places : ℕ) (number : (ℕ → Bool) → ℕ) : Type 0 where
@@ -54,6 +54,30 @@ pub argument-more : (free : ℕ → Bool) (initial nodes : List Node) (word : Li
 argument-more free initial nodes word i within bits extends =
     low_number-more free initial word i within
     ∙ ap (λ t. low_number free initial word i + 2 ^ i * digit t) (sym (extends.keeps free (bit_at word i) (bits i)))
+
+-- two places of an argument, read after nodes were added
+pub low_number-two_more : (free : ℕ → Bool) (initial nodes : List Node) (word : List Bit) (place : ℕ) →
+    place + 1 < length word → AreBitsOf initial word → Extends initial nodes →
+    low_number free initial word (place + 1 + 1) ≡ low_number free initial word place
+    + 2 ^ place * (digit (truth free nodes (bit_at word place)) + 2 * digit (truth free nodes (bit_at word
+    (place + 1))))
+low_number-two_more free initial nodes word place within bits extends =
+    argument-more free initial nodes word (place + 1) within bits extends
+    ∙ (λ i. argument-more free initial nodes word place (omega arith) bits extends i
+    + power_more place i * digit (truth free nodes (bit_at word (place + 1))))
+    ∙ together (low_number free initial word place) (2 ^ place) (digit (truth free nodes (bit_at word place)))
+    (digit (truth free nodes (bit_at word (place + 1))))
+  where
+    together : (l p d e : ℕ) → l + p * d + 2 * p * e ≡ l + p * (d + 2 * e)
+    together l p d e = grind arith
+
+-- a bit keeps its value as nodes are added
+pub HasValue-extends : (old new : List Node) (bit : Bit) (value : (ℕ → Bool) → Bool) → Extends old new →
+    HasValue old bit value → HasValue new bit value
+HasValue-extends old new bit value extends has = record {
+  is_bit = omega (arith, has.is_bit, extends.grows);
+  holds = λ free. extends.keeps free bit has.is_bit ∙ has.holds free;
+}
 
 -- ---- operators on each place alone
 

@@ -76,19 +76,19 @@ full_sum false true false = refl
 full_sum false false true = refl
 full_sum false false false = refl
 
-pub add_step : (p q s d c n x y a b k : ℕ) → q ≡ 2 * p → s + p * c ≡ x + y + k → d + 2 * n ≡ a + b + c → (s + p * d) + q * n ≡ (x + p * a) + (y + p * b) + k
-add_step p q s d c n x y a b k double before here =
+pub add_step : (p q s d c n x y a b k m : ℕ) → q ≡ 2 * p → s + p * c + m ≡ x + y + k → d + 2 * n ≡ a + b + c → (s + p * d) + q * n + m ≡ (x + p * a) + (y + p * b) + k
+add_step p q s d c n x y a b k m double before here =
     let scaled : p * (d + 2 * n) ≡ p * (a + b + c) = ap (λ e. p * e) here in
     let turned : q * n ≡ 2 * p * n = ap (λ e. e * n) double in
     grind arith
 
-pub AddUp-more : (initial nodes new : List Node) (a b : List Bit) (carry : Bit) (sums : List Bit) (carried : Bit) (i : ℕ) (sum next : Bit)
+pub AddUp-more : (initial nodes new : List Node) (a b : List Bit) (carry : Bit) (from : ℕ) (sums : List Bit) (carried : Bit) (i : ℕ) (sum next : Bit)
     → i < 32 → i < length a → i < length b → AreBitsOf initial a → AreBitsOf initial b → Extends initial nodes → Extends nodes new
-    → AddUp initial a b carry nodes sums carried i
+    → AddUp initial a b carry from nodes sums carried i
     → HasValue new sum (λ free. bool_xor (bool_xor (truth free nodes (bit_at a i)) (truth free nodes (bit_at b i))) (truth free nodes carried))
     → HasValue new next (λ free. (truth free nodes (bit_at a i) && truth free nodes (bit_at b i)) || (bool_xor (truth free nodes (bit_at a i)) (truth free nodes (bit_at b i)) && truth free nodes carried))
-    → AddUp initial a b carry new (set sums i sum) next (i + 1)
-AddUp-more initial nodes new a b carry sums carried i sum next small in_a in_b a_bits b_bits first second before is_sum is_next = record {
+    → AddUp initial a b carry from new (set sums i sum) next (i + 1)
+AddUp-more initial nodes new a b carry from sums carried i sum next small in_a in_b a_bits b_bits first second before is_sum is_next = record {
   long = length-set sums i sum ∙ before.long;
   are_bits = are_bits-set new sums i sum (are_bits-extends nodes new sums second before.are_bits) is_sum.is_bit;
   is_bit = is_next.is_bit;
@@ -102,7 +102,7 @@ AddUp-more initial nodes new a b carry sums carried i sum next small in_a in_b a
       low_number-more free initial b i in_b ∙ ap (λ t. low_number free initial b i + 2 ^ i * digit t) (sym (first.keeps free (bit_at b i) (b_bits i))) in
       let here : digit (truth free new sum) + 2 * digit (truth free new next) ≡ digit (truth free nodes (bit_at a i)) + digit (truth free nodes (bit_at b i)) + digit (truth free nodes carried) =
       (λ j. digit (is_sum.holds free j) + 2 * digit (is_next.holds free j)) ∙ full_sum (truth free nodes (bit_at a i)) (truth free nodes (bit_at b i)) (truth free nodes carried) in
-      (λ j. sums_now j + 2 ^ (i + 1) * digit (truth free new next))
-      ∙ add_step (2 ^ i) (2 ^ (i + 1)) (low_number free nodes sums i) (digit (truth free new sum)) (digit (truth free nodes carried)) (digit (truth free new next)) (low_number free initial a i) (low_number free initial b i) (digit (truth free nodes (bit_at a i))) (digit (truth free nodes (bit_at b i))) (digit (truth free initial carry)) (power_more i) (before.holds free) here
-      ∙ sym (λ j. a_now j + b_now j + digit (truth free initial carry));
+      (λ j. sums_now j + 2 ^ (i + 1) * digit (truth free new next) + low_number free initial b from)
+      ∙ add_step (2 ^ i) (2 ^ (i + 1)) (low_number free nodes sums i) (digit (truth free new sum)) (digit (truth free nodes carried)) (digit (truth free new next)) (low_number free initial a i) (low_number free initial b i) (digit (truth free nodes (bit_at a i))) (digit (truth free nodes (bit_at b i))) (2 ^ from * digit (truth free initial carry)) (low_number free initial b from) (power_more i) (before.holds free) here
+      ∙ sym (λ j. a_now j + b_now j + 2 ^ from * digit (truth free initial carry));
 }

@@ -12,7 +12,6 @@ use Rattle.ba_nodes.proofs.Truths.{truth-opposite, truth-constant}
 use Rattle.ba_words.specs.Words.{digit, spelled, number_of, low_number, bit_at}
 use Rattle.ba_words.proofs.Digits.{spelled-append, twice}
 use Rattle.ba_words.proofs.Places.{low_number-more, low_number-all}
-use Rattle.ba_words.proofs.Carries.{wrapped}
 use Rattle.ba_words.proofs.Values.{powers}
 use Rattle.ba_words.proofs.Circuits.{low_number_below, number_small}
 
@@ -91,6 +90,23 @@ filled-number free nodes word n v long within fill =
 
 -- ---- moved
 
+wrapped : (total value n : ℕ) → value + 2 ^ 32 * n ≡ total → value < 2 ^ 32 → value ≡ total % 2 ^ 32
+wrapped total value n e small = omega arith
+
+-- no bit below the place to which a word is moved up
+pub moved_up-none : (free : ℕ → Bool) (nodes : List Node) (moved word : List Bit) (by : ℕ) → by ≤ 32 → length moved ≡ 32
+    → ((place : ℕ) → place < 32 → bit_at moved place ≡ (if nat_lt place by then constant_bit false else bit_at word (place - by)))
+    → low_number free nodes moved by ≡ 0
+moved_up-none free nodes moved word by few long places =
+    let below : (place : ℕ) → 0 ≤ place → place < by → truth free nodes (bit_at moved place) ≡ false =
+    λ place low within.
+    let tests : nat_lt place by ≡ true = grind (arith, nat_tests) in
+    ap (truth free nodes) (places place (omega arith) ∙ ap (λ t. if t then constant_bit false else bit_at word (place - by)) tests) ∙ truth-constant free nodes false in
+    let filled : low_number free nodes moved (0 + by) + digit false * 2 ^ 0 ≡ low_number free nodes moved 0 + digit false * 2 ^ (0 + by) =
+    filled-low free nodes moved 0 by false (omega (arith, long)) below by (omega arith) in
+    let start : 0 + by ≡ by = omega arith in
+    ap (low_number free nodes moved) (sym start) ∙ omega arith
+
 up_step : (p q w l d : ℕ) → w ≡ p * l → w + p * q * d ≡ p * (l + q * d)
 up_step p q w l d e = ap (λ x. x + p * q * d) e ∙ spread_up p q l d
   where
@@ -117,19 +133,11 @@ pub moved_up-number : (free : ℕ → Bool) (nodes : List Node) (moved word : Li
     → ((place : ℕ) → place < 32 → bit_at moved place ≡ (if nat_lt place by then constant_bit false else bit_at word (place - by)))
     → number_of free nodes moved ≡ (number_of free nodes word * 2 ^ by) % 2 ^ 32
 moved_up-number free nodes moved word by few long word_long places =
-    let below : (place : ℕ) → 0 ≤ place → place < by → truth free nodes (bit_at moved place) ≡ false =
-    λ place low within.
-    let tests : nat_lt place by ≡ true = grind (arith, nat_tests) in
-    ap (truth free nodes) (places place (omega arith) ∙ ap (λ t. if t then constant_bit false else bit_at word (place - by)) tests) ∙ truth-constant free nodes false in
     let above : (place : ℕ) → by ≤ place → place < 32 → truth free nodes (bit_at moved place) ≡ truth free nodes (bit_at word (place - by)) =
     λ place from within.
     let tests : nat_lt place by ≡ false = grind (arith, nat_tests) in
     ap (truth free nodes) (places place within ∙ ap (λ t. if t then constant_bit false else bit_at word (place - by)) tests) in
-    let none : low_number free nodes moved by ≡ 0 =
-    let filled : low_number free nodes moved (0 + by) + digit false * 2 ^ 0 ≡ low_number free nodes moved 0 + digit false * 2 ^ (0 + by) =
-    filled-low free nodes moved 0 by false (omega (arith, long)) below by (omega arith) in
-    let start : 0 + by ≡ by = omega arith in
-    ap (low_number free nodes moved) (sym start) ∙ omega arith in
+    let none : low_number free nodes moved by ≡ 0 = moved_up-none free nodes moved word by few long places in
     let whole : by + (32 - by) ≡ 32 = omega arith in
     let value : number_of free nodes moved ≡ 2 ^ by * low_number free nodes word (32 - by) =
     sym (low_number-all free nodes moved 32 (omega (arith, long))) ∙ ap (low_number free nodes moved) (sym whole)

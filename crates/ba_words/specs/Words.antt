@@ -76,12 +76,12 @@ IsValueOfOne op signed old a new word =
 abbrev pub low_number : (ℕ → Bool) → List Node → List Bit → ℕ → ℕ
 low_number free nodes word places = spelled (take places (map (truth free nodes) word))
 
--- the low places of sums, and a carry behind them, add up to those of a and b and a carry
-pub record AddUp (old : List Node) (a b : List Bit) (carry : Bit) (new : List Node) (sums : List Bit) (carried : Bit) (places : ℕ) : Type 0 where
+-- the low places of sums, and a carry behind them, add up to those of a, and to those of b and a carry from a place on
+pub record AddUp (old : List Node) (a b : List Bit) (carry : Bit) (from : ℕ) (new : List Node) (sums : List Bit) (carried : Bit) (places : ℕ) : Type 0 where
   pub long : length sums ≡ 32
   pub are_bits : AreBitsOf new sums
   pub is_bit : IsBitOf new carried
-  pub holds : (free : ℕ → Bool) → low_number free new sums places + 2 ^ places * digit (truth free new carried) ≡ low_number free old a places + low_number free old b places + digit (truth free old carry)
+  pub holds : (free : ℕ → Bool) → low_number free new sums places + 2 ^ places * digit (truth free new carried) + low_number free old b from ≡ low_number free old a places + low_number free old b places + 2 ^ from * digit (truth free old carry)
 
 -- the bit tells whether the word is not zero, read as signed or as unsigned
 abbrev pub IsTest : Bool → List Node → List Bit → List Node → Bit → Type 0

@@ -52,7 +52,7 @@ pub fn bit_or(nodes: &mut Nodes, a: &Word, b: &Word) -> Result<Word, AllocError>
     Ok(word)
 }
 
-/// The exclusive `or` of the bits of two words (C90 6.3.11), by at most 32 gates.
+/// The exclusive `or` of the bits of two words (C90 6.3.11), by at most 96 gates.
 pub fn bit_xor(nodes: &mut Nodes, a: &Word, b: &Word) -> Result<Word, AllocError>
     requires first { AreBitsOf nodes.old a.now }
     requires second { AreBitsOf nodes.old b.now }
@@ -62,7 +62,7 @@ pub fn bit_xor(nodes: &mut Nodes, a: &Word, b: &Word) -> Result<Word, AllocError
     ensures value { IfOk result (λ word. (signed : Bool)
         → IsValueOf BinOp.Xor signed nodes.old a.now b.now nodes.new word) }
     ensures extends { Extends nodes.old nodes.new }
-    ensures count { gates_in nodes.new ≤ gates_in nodes.old + 32 }
+    ensures count { gates_in nodes.new ≤ gates_in nodes.old + 96 }
 {
     let mut word = *a;
     for i in 0..32 {
@@ -71,7 +71,7 @@ pub fn bit_xor(nodes: &mut Nodes, a: &Word, b: &Word) -> Result<Word, AllocError
     Ok(word)
 }
 
-/// The word `yes` where `which` is true, and else `no`, by at most 32 gates.
+/// The word `yes` where `which` is true, and else `no`, by at most 96 gates.
 pub fn select(nodes: &mut Nodes, which: Bit, yes: &Word, no: &Word) -> Result<Word, AllocError>
     requires chooser { IsBitOf nodes.old which }
     requires first { AreBitsOf nodes.old yes.now }
@@ -81,7 +81,7 @@ pub fn select(nodes: &mut Nodes, which: Bit, yes: &Word, no: &Word) -> Result<Wo
         if truth free nodes.old which then number_of free nodes.old yes.now else number_of free
         nodes.old no.now)) }
     ensures extends { Extends nodes.old nodes.new }
-    ensures count { gates_in nodes.new ≤ gates_in nodes.old + 32 }
+    ensures count { gates_in nodes.new ≤ gates_in nodes.old + 96 }
 {
     let mut word = *yes;
     for i in 0..32 {

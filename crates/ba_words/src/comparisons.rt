@@ -11,7 +11,7 @@ use crate::Word;
 use ba_nodes::{Bit, Nodes};
 use std::alloc::AllocError;
 
-/// Whether `a` is less than `b`, read as signed or as unsigned (C90 6.3.8), by at most 32 gates: the borrow
+/// Whether `a` is less than `b`, read as signed or as unsigned (C90 6.3.8), by at most 288 gates: the borrow
 /// of their difference, where the highest places change sides if they are signs.
 pub fn less(nodes: &mut Nodes, a: &Word, b: &Word, signed: bool) -> Result<Bit, AllocError>
     requires first { AreBitsOf nodes.old a.now }
@@ -23,7 +23,7 @@ pub fn less(nodes: &mut Nodes, a: &Word, b: &Word, signed: bool) -> Result<Bit, 
         → HasValue nodes.new bit (λ free.
         nat_lt (number_of free nodes.old a.now) (number_of free nodes.old b.now))) }
     ensures extends { Extends nodes.old nodes.new }
-    ensures count { gates_in nodes.new ≤ gates_in nodes.old + 32 }
+    ensures count { gates_in nodes.new ≤ gates_in nodes.old + 288 }
 {
     let low = low_less(nodes, a, b)?;
     if signed {
@@ -41,7 +41,7 @@ fn low_less(nodes: &mut Nodes, a: &Word, b: &Word) -> Result<Bit, AllocError>
         HasValue nodes.new bit (λ free.
         nat_lt (low_number free nodes.old a.now 31) (low_number free nodes.old b.now 31))) }
     ensures extends { Extends nodes.old nodes.new }
-    ensures count { gates_in nodes.new ≤ gates_in nodes.old + 31 }
+    ensures count { gates_in nodes.new ≤ gates_in nodes.old + 3 * 31 }
 {
     let mut below = Nodes::constant(false);
     for i in 0..31 {
@@ -62,12 +62,12 @@ fn borrow(nodes: &mut Nodes, a: Bit, b: Bit, below: Bit) -> Result<Bit, AllocErr
         || (not (truth free nodes.old a && not (truth free nodes.old b))
         && truth free nodes.old below))) }
     ensures extends { Extends nodes.old nodes.new }
-    ensures count { gates_in nodes.new ≤ gates_in nodes.old + 1 }
+    ensures count { gates_in nodes.new ≤ gates_in nodes.old + 3 }
 {
     nodes.majority(Nodes::not(a), b, below)
 }
 
-/// Whether two words are equal (C90 6.3.9), by at most 63 gates.
+/// Whether two words are equal (C90 6.3.9), by at most 127 gates.
 pub fn equal(nodes: &mut Nodes, a: &Word, b: &Word) -> Result<Bit, AllocError>
     requires first { AreBitsOf nodes.old a.now }
     requires second { AreBitsOf nodes.old b.now }
@@ -77,7 +77,7 @@ pub fn equal(nodes: &mut Nodes, a: &Word, b: &Word) -> Result<Bit, AllocError>
     ensures value { IfOk result (λ bit. (signed : Bool)
         → IsComparison BinOp.Eq signed nodes.old a.now b.now nodes.new bit) }
     ensures extends { Extends nodes.old nodes.new }
-    ensures count { gates_in nodes.new ≤ gates_in nodes.old + 63 }
+    ensures count { gates_in nodes.new ≤ gates_in nodes.old + 127 }
 {
     let mut same = Nodes::not(nodes.xor(a[0], b[0])?);
     for i in 1..32 {
@@ -94,7 +94,7 @@ fn also_equal(nodes: &mut Nodes, same: Bit, a: Bit, b: Bit) -> Result<Bit, Alloc
     ensures value { IfOk result (λ bit. HasValue nodes.new bit (λ free. truth free nodes.old same
         && not (bool_xor (truth free nodes.old a) (truth free nodes.old b)))) }
     ensures extends { Extends nodes.old nodes.new }
-    ensures count { gates_in nodes.new ≤ gates_in nodes.old + 2 }
+    ensures count { gates_in nodes.new ≤ gates_in nodes.old + 4 }
 {
     let differ = nodes.xor(a, b)?;
     nodes.and(same, Nodes::not(differ))

@@ -17,7 +17,7 @@ pub use bitwise::{bit_and, bit_or, bit_xor, flip, select};
 pub use comparisons::{equal, less, nonzero};
 pub use conversions::{convert_word, extended};
 pub use shifts::{moved_up, shl, shr, sign_of};
-pub use sums::{add, add_with_carry, neg, sub};
+pub use sums::{add, add_moved_up, add_with_carry, neg, sub};
 
 /// A word of 32 bits, the lowest bit first.
 pub type Word = [Bit; 32];

@@ -12,7 +12,7 @@ use crate::{Word, select};
 use ba_nodes::{Bit, Nodes};
 use std::alloc::AllocError;
 
-/// The word times two to the power of the low five bits of `count`, modulo 2^32 (C90 6.3.7), by at most 160
+/// The word times two to the power of the low five bits of `count`, modulo 2^32 (C90 6.3.7), by at most 480
 /// gates.
 pub fn shl(nodes: &mut Nodes, a: &Word, count: &Word) -> Result<Word, AllocError>
     requires first { AreBitsOf nodes.old a.now }
@@ -24,7 +24,7 @@ pub fn shl(nodes: &mut Nodes, a: &Word, count: &Word) -> Result<Word, AllocError
     ensures value { IfOk result (λ word. (signed counted : Bool)
         → IsShift BinOp.Shl signed counted nodes.old a.now count.now nodes.new word) }
     ensures extends { Extends nodes.old nodes.new }
-    ensures count { gates_in nodes.new ≤ gates_in nodes.old + 160 }
+    ensures count { gates_in nodes.new ≤ gates_in nodes.old + 480 }
 {
     let mut word = *a;
     for level in 0..5 {
@@ -35,7 +35,7 @@ pub fn shl(nodes: &mut Nodes, a: &Word, count: &Word) -> Result<Word, AllocError
 }
 
 /// The word divided by two to the power of the low five bits of `count`, rounded down (C90 6.3.7), by at most
-/// 160 gates. A signed word keeps its sign.
+/// 480 gates. A signed word keeps its sign.
 pub fn shr(nodes: &mut Nodes, a: &Word, count: &Word, signed: bool) -> Result<Word, AllocError>
     requires first { AreBitsOf nodes.old a.now }
     requires second { AreBitsOf nodes.old count.now }
@@ -45,7 +45,7 @@ pub fn shr(nodes: &mut Nodes, a: &Word, count: &Word, signed: bool) -> Result<Wo
     ensures value { IfOk result (λ word. (counted : Bool)
         → IsShift BinOp.Shr signed counted nodes.old a.now count.now nodes.new word) }
     ensures extends { Extends nodes.old nodes.new }
-    ensures count { gates_in nodes.new ≤ gates_in nodes.old + 160 }
+    ensures count { gates_in nodes.new ≤ gates_in nodes.old + 480 }
 {
     let sign = sign_of(a, signed);
     let mut word = *a;

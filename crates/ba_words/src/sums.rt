@@ -7,13 +7,13 @@ ghost use Rattle.ba_numbers.specs.declared.numbers.UnOp.{UnOp};
 ghost use Rattle.ba_numbers.specs.declared.numbers.UnOp.TheVariants.{Neg};
 ghost use Rattle.ba_nodes.specs.declared.Bit.{Bit};
 ghost use Rattle.ba_nodes.specs.Gates.{bool_xor, truth, IsBitOf, gates_in, Extends, HasValue};
-ghost use Rattle.ba_words.specs.Words.{digit, number_of, AreBitsOf, HasNumber, AddUp, IsValueOf, IsValueOfOne};
+ghost use Rattle.ba_words.specs.Words.{digit, number_of, low_number, AreBitsOf, HasNumber, AddUp, IsValueOf, IsValueOfOne};
 
-use crate::{Word, flip};
+use crate::{Word, flip, moved_up};
 use ba_nodes::{Bit, Nodes};
 use std::alloc::AllocError;
 
-/// The sum of two words modulo 2^32 (C90 6.3.6), by at most 96 gates.
+/// The sum of two words modulo 2^32 (C90 6.3.6), by at most 288 gates.
 pub fn add(nodes: &mut Nodes, a: &Word, b: &Word) -> Result<Word, AllocError>
     requires first { AreBitsOf nodes.old a.now }
     requires second { AreBitsOf nodes.old b.now }
@@ -23,12 +23,12 @@ pub fn add(nodes: &mut Nodes, a: &Word, b: &Word) -> Result<Word, AllocError>
     ensures value { IfOk result (λ word. (signed : Bool)
         → IsValueOf BinOp.Add signed nodes.old a.now b.now nodes.new word) }
     ensures extends { Extends nodes.old nodes.new }
-    ensures count { gates_in nodes.new ≤ gates_in nodes.old + 96 }
+    ensures count { gates_in nodes.new ≤ gates_in nodes.old + 288 }
 {
     sum(nodes, a, b, Nodes::constant(false))
 }
 
-/// The difference of two words modulo 2^32 (C90 6.3.6), by at most 96 gates.
+/// The difference of two words modulo 2^32 (C90 6.3.6), by at most 288 gates.
 pub fn sub(nodes: &mut Nodes, a: &Word, b: &Word) -> Result<Word, AllocError>
     requires first { AreBitsOf nodes.old a.now }
     requires second { AreBitsOf nodes.old b.now }
@@ -38,13 +38,13 @@ pub fn sub(nodes: &mut Nodes, a: &Word, b: &Word) -> Result<Word, AllocError>
     ensures value { IfOk result (λ word. (signed : Bool)
         → IsValueOf BinOp.Sub signed nodes.old a.now b.now nodes.new word) }
     ensures extends { Extends nodes.old nodes.new }
-    ensures count { gates_in nodes.new ≤ gates_in nodes.old + 96 }
+    ensures count { gates_in nodes.new ≤ gates_in nodes.old + 288 }
 {
     let complement = flip(b);
     sum(nodes, a, &complement, Nodes::constant(true))
 }
 
-/// The word with the opposite sign, modulo 2^32 (C90 6.3.3.3), by at most 96 gates.
+/// The word with the opposite sign, modulo 2^32 (C90 6.3.3.3), by at most 288 gates.
 pub fn neg(nodes: &mut Nodes, a: &Word) -> Result<Word, AllocError>
     requires { AreBitsOf nodes.old a.now }
     ensures number { IfOk result (λ word.
@@ -52,14 +52,14 @@ pub fn neg(nodes: &mut Nodes, a: &Word) -> Result<Word, AllocError>
     ensures value { IfOk result (λ word. (signed : Bool)
         → IsValueOfOne UnOp.Neg signed nodes.old a.now nodes.new word) }
     ensures extends { Extends nodes.old nodes.new }
-    ensures count { gates_in nodes.new ≤ gates_in nodes.old + 96 }
+    ensures count { gates_in nodes.new ≤ gates_in nodes.old + 288 }
 {
     let complement = flip(a);
     let zero = [Nodes::constant(false); 32];
     sum(nodes, &zero, &complement, Nodes::constant(true))
 }
 
-/// The sum of two words and a carry, and the carry out of the highest place, by at most 96 gates.
+/// The sum of two words and a carry, and the carry out of the highest place, by at most 288 gates.
 pub fn add_with_carry(
     nodes: &mut Nodes,
     a: &Word,
@@ -76,12 +76,35 @@ pub fn add_with_carry(
         ≡ number_of free nodes.old a.now + number_of free nodes.old b.now
         + digit (truth free nodes.old carry)) }
     ensures extends { Extends nodes.old nodes.new }
-    ensures count { gates_in nodes.new ≤ gates_in nodes.old + 96 }
+    ensures count { gates_in nodes.new ≤ gates_in nodes.old + 288 }
 {
-    let (mut sums, carried) = low_sums(nodes, a, b, carry)?;
+    let (mut sums, carried) = low_sums(nodes, a, b, carry, 0)?;
     let (highest, carry_out) = full_adder(nodes, a[31], b[31], carried)?;
     sums[31] = highest;
     Ok((sums, carry_out))
+}
+
+/// The sum of `a` and of `b` and a carry, both moved up by `place` places, modulo 2^32, by at most 9 gates for each
+/// place from there on.
+pub fn add_moved_up(
+    nodes: &mut Nodes,
+    a: &Word,
+    b: &Word,
+    carry: Bit,
+    place: usize,
+) -> Result<Word, AllocError>
+    requires small { place < 32 }
+    requires first { AreBitsOf nodes.old a.now }
+    requires second { AreBitsOf nodes.old b.now }
+    requires third { IsBitOf nodes.old carry }
+    ensures number { IfOk result (λ word.
+        HasNumber nodes.new word (λ free.
+        (number_of free nodes.old a.now + (number_of free nodes.old b.now + digit
+        (truth free nodes.old carry)) * 2 ^ place) % 2 ^ 32)) }
+    ensures extends { Extends nodes.old nodes.new }
+    ensures count { gates_in nodes.new ≤ gates_in nodes.old + 9 * (32 - place) }
+{
+    sum_from(nodes, a, &moved_up(b, place), carry, place)
 }
 
 /// The sum of two words and a carry modulo 2^32.
@@ -94,9 +117,32 @@ fn sum(nodes: &mut Nodes, a: &Word, b: &Word, carry: Bit) -> Result<Word, AllocE
         (number_of free nodes.old a.now + number_of free nodes.old b.now + digit
         (truth free nodes.old carry)) % 2 ^ 32)) }
     ensures extends { Extends nodes.old nodes.new }
-    ensures count { gates_in nodes.new ≤ gates_in nodes.old + 96 }
+    ensures count { gates_in nodes.new ≤ gates_in nodes.old + 288 }
 {
-    let (mut sums, carried) = low_sums(nodes, a, b, carry)?;
+    sum_from(nodes, a, b, carry, 0)
+}
+
+/// The sum of a word, the places of another from one on and a carry into that place, modulo 2^32.
+fn sum_from(
+    nodes: &mut Nodes,
+    a: &Word,
+    b: &Word,
+    carry: Bit,
+    from: usize,
+) -> Result<Word, AllocError>
+    requires small { from < 32 }
+    requires first { AreBitsOf nodes.old a.now }
+    requires second { AreBitsOf nodes.old b.now }
+    requires third { IsBitOf nodes.old carry }
+    ensures number { IfOk result (λ word.
+        HasNumber nodes.new word (λ free.
+        (number_of free nodes.old a.now
+        + (number_of free nodes.old b.now - low_number free nodes.old b.now from)
+        + 2 ^ from * digit (truth free nodes.old carry)) % 2 ^ 32)) }
+    ensures extends { Extends nodes.old nodes.new }
+    ensures count { gates_in nodes.new ≤ gates_in nodes.old + 9 * (32 - from) }
+{
+    let (mut sums, carried) = low_sums(nodes, a, b, carry, from)?;
     sums[31] = sum_bit(nodes, a[31], b[31], carried)?;
     Ok(sums)
 }
@@ -111,24 +157,33 @@ fn sum_bit(nodes: &mut Nodes, a: Bit, b: Bit, carry: Bit) -> Result<Bit, AllocEr
         bool_xor (bool_xor (truth free nodes.old a) (truth free nodes.old b))
         (truth free nodes.old carry))) }
     ensures extends { Extends nodes.old nodes.new }
-    ensures count { gates_in nodes.new ≤ gates_in nodes.old + 2 }
+    ensures count { gates_in nodes.new ≤ gates_in nodes.old + 6 }
 {
     let half = nodes.xor(a, b)?;
     nodes.xor(half, carry)
 }
 
-/// The sums of the low 31 places, and the carry into the highest.
-fn low_sums(nodes: &mut Nodes, a: &Word, b: &Word, carry: Bit) -> Result<(Word, Bit), AllocError>
+/// The sums of the places from one on and below the highest, and the carry into that. The places before are those of
+/// `a`.
+fn low_sums(
+    nodes: &mut Nodes,
+    a: &Word,
+    b: &Word,
+    carry: Bit,
+    from: usize,
+) -> Result<(Word, Bit), AllocError>
+    requires small { from < 32 }
     requires first { AreBitsOf nodes.old a.now }
     requires second { AreBitsOf nodes.old b.now }
     requires third { IsBitOf nodes.old carry }
-    ensures sums { IfOk result (λ r. AddUp nodes.old a.now b.now carry nodes.new r.0 r.1 31) }
+    ensures sums { IfOk result (λ r.
+        AddUp nodes.old a.now b.now carry from nodes.new r.0 r.1 31) }
     ensures extends { Extends nodes.old nodes.new }
-    ensures count { gates_in nodes.new ≤ gates_in nodes.old + 3 * 31 }
+    ensures count { gates_in nodes.new ≤ gates_in nodes.old + 9 * (31 - from) }
 {
     let mut sums = *a;
     let mut carried = carry;
-    for i in 0..31 {
+    for i in from..31 {
         let (sum, next) = full_adder(nodes, a[i], b[i], carried)?;
         sums[i] = sum;
         carried = next;
@@ -151,7 +206,7 @@ fn full_adder(nodes: &mut Nodes, a: Bit, b: Bit, carry: Bit) -> Result<(Bit, Bit
         || (bool_xor (truth free nodes.old a) (truth free nodes.old b)
         && truth free nodes.old carry))) }
     ensures extends { Extends nodes.old nodes.new }
-    ensures count { gates_in nodes.new ≤ gates_in nodes.old + 3 }
+    ensures count { gates_in nodes.new ≤ gates_in nodes.old + 9 }
 {
     let half = nodes.xor(a, b)?;
     let sum = nodes.xor(half, carry)?;

@@ -27,6 +27,8 @@ mod tool_damage;
 #[cfg(test)]
 mod tool_faults;
 #[cfg(test)]
+mod tool_laws;
+#[cfg(test)]
 mod tool_searches;
 #[cfg(test)]
 mod weights;

@@ -33,15 +33,15 @@ fn restarts_follow_the_sequence(rt: HostRuntime) {
 }
 
 /// A program whose search restarts by Luby's sequence, and not yet at the steady pace.
-const SQUARE: &str = "int main(int a) {
+const CUBE: &str = "int main(int a) {
     int x;
     x = a + 1;
-    assert(x * x == 49);
+    assert(x * x * x == 343);
 }
 ";
 
 /// Its report on the input 5.
-const SQUARE_REPORT: &str = "located: weight 1, sets 1
+const CUBE_REPORT: &str = "located: weight 1, sets 1
 set 1:
   3:5 assignment | x = a + 1;
 ";
@@ -49,7 +49,7 @@ set 1:
 /// The certificate of a search with this option, by the program's rules, or with its two restart rules exchanged.
 fn certificate(rt: &impl Abort, alloc: Global, option: &str, exchanged: bool) -> Vec<u8> {
     let words = ["localise", "p.c", "in.txt", "--bound=1", "--cert=c", option];
-    let mut world = world_of(rt, alloc, SQUARE, "5", &[], 4096);
+    let mut world = world_of(rt, alloc, CUBE, "5", &[], 4096);
     let status = if exchanged {
         tool(
             alloc,
@@ -95,11 +95,11 @@ fn keep_narrow(width: u64, _age: u64) -> bool
 fn a_search_that_keeps_few_clauses_lists_the_same_sets(rt: HostRuntime) {
     let alloc = rt.alloc();
     let words = ["localise", "p.c", "in.txt", "--bound=1"];
-    let mut world = world_of(&rt, alloc, SQUARE, "5", &[], 4096);
+    let mut world = world_of(&rt, alloc, CUBE, "5", &[], 4096);
     let rules = Rules::new(luby, steady, keep_narrow);
     assert_eq!(rt;
         tool(alloc, &words, &mut world, &mut NoSink, rules),
         Status::Ok
     );
-    assert!(rt; world.printed() == SQUARE_REPORT.as_bytes());
+    assert!(rt; world.printed() == CUBE_REPORT.as_bytes());
 }

@@ -162,24 +162,36 @@ const INSIDE: &str = "int main(void) {
 
 /// Programs with bounds on frames, and the nodes that stand for them.
 static SHAPES: [(&str, u32, &str); 14] = [
-    (GLOBAL, 16, "sp(sp(s)p(s)s)bap(s)"),
-    (GLOBAL, 1, "sp(xs)bap(s)"),
-    (KEPT, 16, "sp(ssp(s)p(s)bs)p(s)"),
-    (INITIALISER, 1, "p(bs)p(s)"),
-    (SUM, 1, "ssp(cs)p(cs)B1(o(p(bs)|B2(p(bs))|p(cbs)))cbap(s)"),
+    (GLOBAL, 16, "sp(sp(s)p(s)ss)basp(s)"),
+    (GLOBAL, 1, "sp(xs)basp(s)"),
+    (KEPT, 16, "sp(ssp(s)p(s)bssss)p(s)"),
+    (INITIALISER, 1, "p(bss)p(s)"),
+    (
+        SUM,
+        1,
+        "ssp(css)p(css)B1(o(p(bss)|B2(sp(bss))|p(cbsss)))scbassp(s)",
+    ),
     (
         ARRAYS,
         3,
-        "fp(sfsfp(s)i(p(bsfsfp(s)i(p(bx)|)lbap(S))|)lbap(S))lba",
+        "fp(sfsfp(s)i(sp(bsfsfp(s)i(sp(bxs)|s)lbassp(S)sss)|s)lbassp(S)ss)lbass",
     ),
-    (VALUES, 1, "succbbap(cs)cbi(i(s|buu)uu|s)ai(s|bs)bap(b)"),
-    (JUMPS, 1, "sp(s)B1(o(p(bs)|B2(p(bs)i(^1|)^2)|p(bs)))ba"),
-    (BEHIND, 1, "sB1(o(p(s)|B2(p(bs))|))ba"),
-    (OWN, 1, "fp(lf)lba"),
-    (LAST, 2, "ssssp(bs)p(s)bap(s)"),
-    (EARLY, 2, "p(ssB0(p(s)i(p(s)^0|)p(s))s)"),
-    (BRANCHES, 2, "p(ssp(s)i(p(s)|p(s)i(p(s)|p(s)))s)"),
-    (INSIDE, 1, "B0(sB1(o(p(s)|B2(p(s)^0)|))p(s))"),
+    (
+        VALUES,
+        1,
+        "succbbasssssp(css)cbi(i(s|buuss)uuss|s)asssi(s|bss)bassp(bs)",
+    ),
+    (
+        JUMPS,
+        1,
+        "sp(s)B1(o(p(bss)|B2(sp(bss)i(s^1|s)^2)|p(bss)))sbas",
+    ),
+    (BEHIND, 1, "sB1(o(p(s)|B2(sp(bss))|))sbas"),
+    (OWN, 1, "fp(lfs)lbass"),
+    (LAST, 2, "ssssp(bss)p(s)ssbassp(s)"),
+    (EARLY, 2, "p(ssB0(p(s)i(sp(s)^0|s)p(s))sss)"),
+    (BRANCHES, 2, "p(ssp(s)i(sp(s)|sp(s)i(sp(s)|sp(s)))sss)"),
+    (INSIDE, 1, "B0(sB1(o(p(s)|B2(sp(s)^0)|))sp(s))"),
 ];
 
 #[test]

@@ -29,6 +29,8 @@ mod numbers;
 #[cfg(test)]
 mod parse;
 #[cfg(test)]
+mod ranks;
+#[cfg(test)]
 mod support;
 #[cfg(test)]
 mod types;

@@ -5,6 +5,7 @@ ghost use Rattle.ba_lits.specs.Literals.{IsClause};
 ghost use Rattle.ba_steps.specs.Steps.{IsFormed, AreFormedLits, AreNumbers, AreAbove, IsFormedChoice, IsValue};
 
 use ba_checker::Checker;
+use ba_checker::laws::{core_bound_law, facts_law, implied_law, learnt_once_law};
 use ba_choices::{Choice, Values};
 use ba_items::{Items, TryClone};
 use ba_lits::{Formula, Lit, is_clause};
@@ -610,4 +611,12 @@ fn a_learnt_clause_is_deleted_after_a_thousand(rt: HostRuntime) {
     let alloc = rt.alloc();
     let mut checker = start(&rt, alloc, &row(&rt, alloc), &[], 2000);
     assert_deleted(&rt, alloc, &mut checker);
+}
+
+#[test]
+fn laws_return(_rt: HostRuntime) {
+    implied_law();
+    facts_law();
+    learnt_once_law();
+    core_bound_law();
 }

@@ -33,7 +33,7 @@ enum Circuit {
 /// ones, two for each place, and one over all.
 static SIZES: [(Circuit, u64, u64); 5] = [
     (Circuit::Sum, 158, 435),
-    (Circuit::Product, 2205, 8873),
+    (Circuit::Product, 2151, 7945),
     (Circuit::Less, 95, 95),
     (Circuit::Equal, 96, 96),
     (Circuit::Different, 96, 65),

@@ -1,4 +1,4 @@
-//! The gates that each circuit takes.
+//! The gates that each circuit takes, counted as and-gates.
 
 use crate::support::operators::{Operator, circuit};
 use crate::support::words::{free_word, word};
@@ -19,31 +19,37 @@ static SECOND: [Option<u32>; 9] = [
     Some(4294967295),
 ];
 
-/// Each circuit with its gates on a free word and each second operand.
+/// Each circuit with its gates, counted as and-gates, on a free word and each second operand.
 static COUNTS: [(Operator, [u64; 9]); 18] = [
-    (Operator::Add, [94, 0, 61, 59, 61, 61, 45, 55, 61]),
-    (Operator::Sub, [94, 0, 61, 59, 61, 61, 45, 55, 61]),
-    (Operator::Less(true), [32, 0, 31, 30, 31, 31, 23, 28, 31]),
-    (Operator::Less(false), [32, 0, 31, 30, 31, 31, 23, 28, 31]),
-    (Operator::Equal, [63, 31, 31, 31, 31, 31, 31, 31, 31]),
+    (Operator::Add, [280, 0, 123, 119, 123, 123, 91, 111, 123]),
+    (Operator::Sub, [280, 0, 123, 119, 123, 123, 91, 111, 123]),
+    (Operator::Less(true), [94, 0, 31, 30, 31, 31, 23, 28, 31]),
+    (Operator::Less(false), [94, 0, 31, 30, 31, 31, 23, 28, 31]),
+    (Operator::Equal, [127, 31, 31, 31, 31, 31, 31, 31, 31]),
     (Operator::And, [32, 0, 0, 0, 0, 0, 0, 0, 0]),
     (Operator::Or, [32, 0, 0, 0, 0, 0, 0, 0, 0]),
-    (Operator::Xor, [32, 0, 0, 0, 0, 0, 0, 0, 0]),
-    (Operator::Shl, [160, 0, 0, 0, 0, 0, 0, 0, 0]),
-    (Operator::Shr(true), [155, 0, 0, 0, 0, 0, 0, 0, 0]),
-    (Operator::Shr(false), [160, 0, 0, 0, 0, 0, 0, 0, 0]),
-    (Operator::Mul, [2141, 0, 0, 0, 88, 85, 0, 55, 61]),
-    (Operator::Div(true), [2825, 62, 0, 64, 355, 670, 57, 62, 63]),
-    (Operator::Div(false), [2638, 0, 0, 0, 234, 559, 0, 28, 31]),
-    (Operator::Rem(true), [2951, 123, 0, 1, 306, 651, 8, 3, 0]),
-    (Operator::Rem(false), [2765, 0, 0, 0, 239, 574, 0, 85, 94]),
+    (Operator::Xor, [96, 0, 0, 0, 0, 0, 0, 0, 0]),
+    (Operator::Shl, [418, 0, 0, 0, 0, 0, 0, 0, 0]),
+    (Operator::Shr(true), [465, 0, 0, 0, 0, 0, 0, 0, 0]),
+    (Operator::Shr(false), [418, 0, 0, 0, 0, 0, 0, 0, 0]),
+    (Operator::Mul, [4242, 0, 0, 0, 262, 241, 0, 111, 123]),
+    (
+        Operator::Div(true),
+        [7099, 184, 0, 126, 883, 1608, 105, 120, 125],
+    ),
+    (Operator::Div(false), [6544, 0, 0, 0, 524, 1279, 0, 28, 31]),
+    (Operator::Rem(true), [7413, 367, 0, 1, 736, 1551, 8, 3, 0]),
+    (
+        Operator::Rem(false),
+        [6861, 0, 0, 0, 539, 1324, 0, 199, 220],
+    ),
     (
         Operator::DivAndRem(true),
-        [3014, 123, 0, 64, 365, 700, 57, 62, 63],
+        [7600, 367, 0, 126, 911, 1696, 105, 120, 125],
     ),
     (
         Operator::DivAndRem(false),
-        [2765, 0, 0, 0, 239, 574, 0, 85, 94],
+        [6861, 0, 0, 0, 539, 1324, 0, 199, 220],
     ),
 ];
 
@@ -113,5 +119,5 @@ fn takes_fewer_gates_for_a_small_dividend(rt: HostRuntime) {
         gates_of_dividend(&rt, alloc, 255),
         gates_of_dividend(&rt, alloc, 4294967295),
     ];
-    assert_eq!(rt; counts, [63, 62, 175, 2046]);
+    assert_eq!(rt; counts, [63, 62, 371, 5890]);
 }

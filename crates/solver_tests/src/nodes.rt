@@ -83,7 +83,7 @@ fn folds(rt: &impl Abort, nodes: &mut Nodes, a: Bit, b: Bit) -> bool
     same == a && none == Nodes::constant(false) && choice == one
 }
 
-/// The gates of three free bits, where each is met again and counts once.
+/// The gates of three free bits, where each is met again: an `and` and an `or` count one each, the others three.
 fn gates_met_again(rt: &impl Abort, nodes: &mut Nodes) -> Option<[Bit; 5]> {
     let a = nodes.free().expect(rt, "memory");
     let b = nodes.free().expect(rt, "memory");
@@ -91,7 +91,7 @@ fn gates_met_again(rt: &impl Abort, nodes: &mut Nodes) -> Option<[Bit; 5]> {
     let made = gates(rt, nodes, a, b, c);
     let turned = turned_gates(rt, nodes, a, b, c);
     let folded = folds(rt, nodes, a, b);
-    if folded && turned == made && nodes.count() == 5 {
+    if folded && turned == made && nodes.count() == 11 {
         Some(made)
     } else {
         None

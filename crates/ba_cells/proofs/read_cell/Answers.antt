@@ -1,19 +1,47 @@
-use Rattle.std.proofs.Common.{◌≡◌, ◌+◌, ◌==◌, sym, refl, ap, ◌∙◌, arith, if◌then◌else◌}
-use Rattle.ba_nodes.proofs.Truths.{Extends-through, Extends_refl}
+use Rattle.std.proofs.Common.{◌≡◌, ◌<◌, ◌==◌, length, sym, ap, ◌∙◌, arith, if◌then◌else◌}
+use Rattle.ba_nodes.proofs.Truths.{Extends-through}
 use Rattle.ba_words.specs.Words.{low_number, number_of}
 use Rattle.ba_words.proofs.Places.{are_bits-extends, low_number-extends, number_of-extends}
 use Rattle.ba_cells.specs.Cells.{cell_at, place_read}
-use Rattle.ba_cells.proofs.Places.{read-one, read-more, read_in_range, cells-extends}
+use Rattle.ba_cells.proofs.Places.{read-one, read-more, read_in_range, grid-extends, row_at, column_at}
 use Rattle.ba_cells.proofs.read_cell.Goals as goal
 
 pub loop-place-init : goal.loop-place-init
 loop-place-init c = record {
-  extends = Extends_refl c.args.nodes.now;
-  are_bits = c.requires.cells 0;
-  holds = λ free. ap (λ k. number_of free c.args.nodes.now (cell_at c.args.cells.now k))
+  extends = c.grid_of.ensures.extends;
+  are_bits = are_bits-extends c.args.nodes.now c.grid_of.new.nodes (cell_at c.args.cells.now 0)
+      c.grid_of.ensures.extends (c.requires.cells 0);
+  holds = λ free.
+      number_of-extends free c.args.nodes.now c.grid_of.new.nodes (cell_at c.args.cells.now 0)
+      c.grid_of.ensures.extends (c.requires.cells 0)
+      ∙ ap (λ k. number_of free c.args.nodes.now (cell_at c.args.cells.now k))
       (sym (read-one (low_number free c.args.nodes.now c.args.index.now 8)));
+  grid = c.in_ok-rows.ensures.grid;
   count = omega arith;
 }
+
+pub is_at-requires-clause-some : goal.is_at-requires-clause-some
+is_at-requires-clause-some c = c.loop-place.invariant.grid.some
+
+pub is_at-requires-clause-wide : goal.is_at-requires-clause-wide
+is_at-requires-clause-wide c = c.loop-place.invariant.grid.wide
+
+pub is_at-requires-clause-place : goal.is_at-requires-clause-place
+is_at-requires-clause-place c =
+    let within : c.loop-place.place < length c.args.cells.now = omega arith in
+    omega (arith, c.loop-place.invariant.grid.all, within)
+
+pub is_at-requires-clause-row : goal.is_at-requires-clause-row
+is_at-requires-clause-row c =
+    row_at c.loop-place.nodes c.args.index.now c.in_ok-rows.rows c.in_ok-rows.columns (length
+    c.args.cells.now)
+    c.in_ok-rows.width c.loop-place.place c.loop-place.invariant.grid (omega arith)
+
+pub is_at-requires-clause-column : goal.is_at-requires-clause-column
+is_at-requires-clause-column c =
+    column_at c.loop-place.nodes c.args.index.now c.in_ok-rows.rows c.in_ok-rows.columns (length
+    c.args.cells.now)
+    c.in_ok-rows.width c.loop-place.place c.loop-place.invariant.grid
 
 pub loop-place-preserved : goal.loop-place-preserved
 loop-place-preserved c =
@@ -39,6 +67,13 @@ loop-place-preserved c =
           index
           ∙ read-more (λ k. number_of free c.args.nodes.now (cell_at c.args.cells.now k)) c.loop-place.place n
           (omega arith);
+      grid = grid-extends c.loop-place.nodes c.select.new.nodes c.args.index.now c.in_ok-rows.rows
+          c.in_ok-rows.columns (length c.args.cells.now) c.in_ok-rows.width (Extends-through
+          c.loop-place.nodes
+          c.is_at.new.nodes c.select.new.nodes c.is_at.ensures.extends c.select.ensures.extends)
+          (are_bits-extends c.args.nodes.now c.loop-place.nodes c.args.index.now
+          c.loop-place.invariant.extends
+          c.requires.index) c.loop-place.invariant.grid;
       count = omega (arith, c.select.ensures.count, c.is_at.ensures.count, c.loop-place.invariant.count);
     }
 

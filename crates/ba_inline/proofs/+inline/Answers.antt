@@ -19,6 +19,7 @@ use Rattle.ba_inline.proofs.Rows.{arguments-more, arguments-none, next-taken, st
 use Rattle.ba_inline.proofs.Scopes.{frame-later, scope-later, scope-of}
 use Rattle.ba_inline.proofs.Statements.{makes-assert, makes-assign, makes-break, makes-condition, makes-continue, makes-no-code, makes-return, makes-return-none}
 use Rattle.ba_inline.proofs.Switching.{switch-made}
+use Rattle.ba_inline.proofs.Wiping.{does-cleared, gives-to-cleared, wipes-since}
 use Rattle.ba_inline.proofs.Values.{makes-binary, makes-const, makes-convert, makes-element, makes-unary, makes-variable}
 use Rattle.ba_inline.specs.Adding.{leave_act, pick_act, unary_act}
 use Rattle.ba_inline.specs.Calling.{arg_has_call, has_call}
@@ -26,7 +27,7 @@ use Rattle.ba_inline.specs.Declarations.{with_var}
 use Rattle.ba_tree.specs.Heights.{arg_weight, arg_weights, height, heights, tallest, weight, weights}
 use Rattle.ba_inline.specs.Making.{Adds, Does, GivesTo, Makes, MakesArguments, MakesValue, MakesValues}
 use Rattle.ba_inline.specs.Names.{IsScope, with_home}
-use Rattle.ba_inline.specs.Parts.{arguments_part, assign_part, call_stmt_part, context_in_frame, declare_part, given_part, init_array_part, loop_now, loop_part, optional_now, optional_part, print_part, stmt_part, stmts_part, store_part, value_part, values_part}
+use Rattle.ba_inline.specs.Parts.{arguments_part, assign_part, call_stmt_part, context_in_frame, declare_part, given_part, init_array_part, loop_now, loop_part, optional_now, optional_part, print_part, stmt_part, stmts_part, store_part, truth_part, value_part, values_part}
 use Rattle.ba_inline.specs.Repeating.{parts_of}
 use Rattle.ba_inline.specs.Switching.{guarded_part, switch_part}
 use Rattle.ba_inline.specs.declared.frames.Wanted.TheVariants as wanted
@@ -308,12 +309,16 @@ operands::expression_to-returns t c =
     let old = c.args.out.now.items in
     let here = c.args.here in
     let e = c.args.expr.now in
-    on_ok_weaker c.add.result (λ added scope.
-    makes-to p names path (λ w back. eval (context_in_frame p frame w) back here e) (has_call e)
+    on_ok_weaker c.give_back.result (λ wipes scope.
+    makes-high c.give_back.ensures.same
+    (gives-to-cleared p names path (value_part p frame here e) (has_call e) c.args.to low
+    c.expression.new.declared old c.add.new.out.items c.give_back.new.out.items scope.naming
+    (makes-to p names path (λ w back. eval (context_in_frame p frame w) back here e) (has_call e)
     c.in_ok-operand.operand
     low c.expression.new.declared old c.expression.new.out.items c.add.new.out.items
     (c.in_ok-operand.ensures scope)
-    c.args.to (adds-set _ _ _ _ added)) c.add.ensures
+    c.args.to (adds-set _ _ _ _ c.in_ok-add.ensures)) (wipes-since c.moment-since.ensures wipes)))
+    c.give_back.ensures.wipes
 
 pub operands::truth_to-returns : goal.operands::truth_to-returns
 operands::truth_to-returns t c =
@@ -328,15 +333,19 @@ operands::truth_to-returns t c =
     let mid = c.expression.new.declared in
     let out = c.expression.new.out.items in
     let between = c.in_ok-between.between in
-    on_ok_weaker c.add-2.result (λ added scope.
-    makes-high c.in_ok-between.ensures.1
+    on_ok_weaker c.give_back.result (λ wipes scope.
+    makes-high (c.give_back.ensures.same ∙ c.in_ok-between.ensures.1)
+    (gives-to-cleared p names path (truth_part p frame here e) (has_call e) c.args.to low (with_var I32
+    mid) old
+    c.add-2.new.out.items c.give_back.new.out.items scope.naming
     (makes-truth p names path frame here e c.in_ok-operand.operand low mid old out
     c.add-2.new.out.items scope.naming
     (c.in_ok-operand.ensures scope) between c.args.to c.in_ok-between.ensures.0 c.tested_in-t.result I32
     (adds-then out c.add.new.out.items c.add-2.new.out.items
     (unary_act between IsZero c.tested_in-t.result c.in_ok-operand.operand) (unary_act c.args.to IsZero I32
     (Var between))
-    (adds-unary _ _ _ _ _ _ c.in_ok-add.ensures) (adds-unary _ _ _ _ _ _ added)))) c.add-2.ensures
+    (adds-unary _ _ _ _ _ _ c.in_ok-add.ensures) (adds-unary _ _ _ _ _ _ c.in_ok-add-2.ensures)))
+    (wipes-since c.moment-since.ensures wipes))) c.give_back.ensures.wipes
 
 -- ROWS of values and of arguments
 
@@ -529,15 +538,18 @@ calls::invoke-returns t c = λ scope given.
     let old = c.args.out.now.items in
     let here = c.args.here in
     let frames : frame.frames ≡ suc (frame.frames - 1) = search rules in
-    invoke-made p names c.in_ok-inner.inner path frame here c.args.function (frame.frames - 1)
+    value-high (c.use_on.ensures ∙ c.give_back.ensures.same)
+    (invoke-made p names c.in_ok-inner.inner path frame here c.args.function (frame.frames - 1)
     c.in-Some.function.now
     c.args.given.now low c.begin_frame.new.declared c.variable.new.self c.statements.new.declared old
-    c.begin_frame.new.out.items c.add-2.new.out.items c.add_body.new.out.items c.new-body.result.items
-    c.statements.new.out.items c.in_ok-home.home c.unwrap_or.result c.as_slice.result.now frames
+    c.begin_frame.new.out.items c.add-2.new.out.items c.add_body.new.out.items c.give_back.new.out.items
+    c.new-body.result.items
+    c.statements.new.out.items c.moment-since.result.vars c.in_ok-home.home c.unwrap_or.result
+    c.as_slice.result.now frames
     c.in-Some.ensures.1
     c.as_slice.ensures c.new-body.ensures.items c.in_ok-home.ensures.0 c.in_ok-home.ensures.1
     (c.in_ok-inner.ensures scope given) (adds-set _ _ _ _ c.in_ok-add-2.ensures) c.in_ok-statements.ensures
-    c.in_ok-add_body.ensures
+    c.in_ok-add_body.ensures scope c.moment-since.ensures c.in_ok-give_back.ensures.wipes)
 
 -- CHOICES
 
@@ -559,8 +571,8 @@ calls::given_to-returns t c =
     (subst (λ take. Adds old c.add_pick.new.out.items (pick_act path here take c.expression_to.new.out.items))
     c.take_of.ensures added)) c.add_pick.ensures
 
-pub operands::condition-returns : goal.operands::condition-returns
-operands::condition-returns t c = λ scope.
+pub operands::condition-returns-clause-made : goal.operands::condition-returns-clause-made
+operands::condition-returns-clause-made t c = λ scope.
     let p = c.args.setting.now.program.now in
     let names = c.args.scope.now in
     let path = c.args.path.now in
@@ -573,7 +585,7 @@ operands::condition-returns t c = λ scope.
     makes-condition p names path (given_part p frame here wanted.Truth e) (has_call e) c.in_ok-to.to ty low
     c.given_to.new.declared old c.given_to.new.out.items scope.naming c.in_ok-to.ensures.0
     (to-low c.in_ok-to.ensures.1 (c.in_ok-given_to.ensures
-    (scope-var p names low low c.variable.new.self ty c.in_ok-to.ensures.1 (grows-same low) scope)))
+    (scope-var p names low low c.own_variable.new.self ty c.in_ok-to.ensures.1 (grows-same low) scope)))
 
 pub simple::assign-returns : goal.simple::assign-returns
 simple::assign-returns t c =
@@ -603,14 +615,16 @@ simple::store-returns t c =
     let old = c.args.out.now.items in
     let here = c.args.stmt in
     on_ok_weaker c.add_pick.result (λ added is_frame.
-    store-made p names path frame low is_frame here c.args.array c.args.index.now c.args.value.now
-    c.in_ok-number.number
+    makes-high c.give_back.ensures.same
+    (store-made p names path frame low is_frame here c.args.array c.args.index.now c.args.value.now
+    c.in_ok-number.number c.moment-since.result.vars
     c.has_call-settled.result c.in_ok-index.index c.in_ok-value.value c.kept_expression.new.declared
     c.expression.new.declared old c.add_pick.new.out.items c.new-keep.result.items
     c.kept_expression.new.out.items
-    c.expression.new.out.items c.add.new.out.items c.in_ok-number.ensures c.new-keep.ensures.items
+    c.expression.new.out.items c.add.new.out.items c.give_back.new.out.items c.in_ok-number.ensures
+    c.new-keep.ensures.items
     c.has_call-settled.ensures c.in_ok-index.ensures c.in_ok-value.ensures
-    (adds-save _ _ _ _ _ _ c.in_ok-add.ensures) added)
+    (adds-save _ _ _ _ _ _ c.in_ok-add.ensures) c.moment-since.ensures c.in_ok-give_back.ensures.wipes added))
     c.add_pick.ensures
 
 pub simple::init_array-returns : goal.simple::init_array-returns
@@ -623,12 +637,17 @@ simple::init_array-returns t c =
     let old = c.args.out.now.items in
     let here = c.args.stmt in
     on_ok_weaker c.add_pick.result (λ added is_frame.
-    init-made p names path frame low is_frame here c.args.array c.args.values.now c.in_ok-number.number
-    (list_any has_call c.args.values.now) (list_any has_call c.args.values.now) c.in_ok-values.values.items
+    makes-high c.give_back.ensures.same
+    (init-made p names path frame low is_frame here c.args.array c.args.values.now c.in_ok-number.number
+    c.moment-since.result.vars (list_any has_call c.args.values.now) (list_any has_call c.args.values.now)
+    c.in_ok-values.values.items
     c.in_ok-filled.filled.items c.expressions.new.declared old c.add_pick.new.out.items
     c.new-keep.result.items
-    c.expressions.new.out.items c.add.new.out.items c.in_ok-number.ensures c.new-keep.ensures.items
-    c.in_ok-filled.ensures c.in_ok-values.ensures (adds-fill _ _ _ _ c.in_ok-add.ensures) added)
+    c.expressions.new.out.items c.add.new.out.items c.give_back.new.out.items c.in_ok-number.ensures
+    c.new-keep.ensures.items
+    c.in_ok-filled.ensures c.in_ok-values.ensures (adds-fill _ _ _ _ c.in_ok-add.ensures)
+    c.moment-since.ensures
+    c.in_ok-give_back.ensures.wipes added))
     c.add_pick.ensures
 
 pub calls::call_statement-returns : goal.calls::call_statement-returns
@@ -641,11 +660,14 @@ calls::call_statement-returns t c =
     let old = c.args.out.now.items in
     let here = c.args.stmt in
     on_ok_weaker c.add_pick.result (λ added is_frame.
-    makes-call_stmt p names path frame low c.call_value.new.declared is_frame.naming here old
+    makes-high c.give_back.ensures.same
+    (makes-call_stmt p names path frame low c.call_value.new.declared is_frame.naming here old
     c.add_pick.new.out.items
-    c.call_value.new.out.items c.args.call c.args.function c.args.args.now c.in_ok-call_value.field-0
+    c.call_value.new.out.items c.give_back.new.out.items
+    (wipes-since c.moment-since.ensures c.in_ok-give_back.ensures.wipes)
+    c.args.call c.args.function c.args.args.now c.in_ok-call_value.field-0
     (makes-old c.new-keep.ensures.items
-    (c.in_ok-call_value.ensures (scope-of p frame.home names low is_frame)).makes) added) c.add_pick.ensures
+    (c.in_ok-call_value.ensures (scope-of p frame.home names low is_frame)).makes) added)) c.add_pick.ensures
 
 pub simple::print-returns : goal.simple::print-returns
 simple::print-returns t c =
@@ -657,12 +679,15 @@ simple::print-returns t c =
     let old = c.args.out.now.items in
     let here = c.args.stmt in
     on_ok_weaker c.add_pick.result (λ added is_frame.
-    makes-print p names path frame low c.expressions.new.declared is_frame.naming here old
+    makes-high c.give_back.ensures.same
+    (makes-print p names path frame low c.expressions.new.declared is_frame.naming here old
     c.add_pick.new.out.items
-    c.expressions.new.out.items c.args.args.now (list_any has_call c.args.args.now)
+    c.expressions.new.out.items c.give_back.new.out.items
+    (wipes-since c.moment-since.ensures c.in_ok-give_back.ensures.wipes)
+    c.args.args.now (list_any has_call c.args.args.now)
     c.in_ok-expressions.field-0.items
     (makes-old c.new-keep.ensures.items
-    (c.in_ok-expressions.ensures (scope-of p frame.home names low is_frame)).makes) added) c.add_pick.ensures
+    (c.in_ok-expressions.ensures (scope-of p frame.home names low is_frame)).makes) added)) c.add_pick.ensures
 
 -- STATEMENTS
 
@@ -777,10 +802,14 @@ control::statement-returns-in_ok-optional-in-If t c =
     if-made p names path frame low is_frame stmt c.in-If.stmt c.in-If.when c.in-If.yes c.in-If.no
     c.deref.result.now
     c.in_ok-to-in-If.to c.condition.new.declared c.statement.new.declared c.optional.new.declared old
-    c.condition.new.out.items c.add_branches.new.out.items c.new-one.result.items c.statement.new.out.items
-    c.new-other.result.items c.optional.new.out.items c.in-If.is c.deref.ensures c.new-one.ensures.items
-    c.new-other.ensures.items c.in_ok-to-in-If.ensures c.in_ok-statement-in-If.ensures
-    c.in_ok-optional-in-If.ensures added)
+    c.condition.new.out.items c.add_branches.new.out.items c.new-one.result.items c.add_zero.new.out.items
+    c.statement.new.out.items
+    c.new-other.result.items c.add_zero-in-If.new.out.items c.optional.new.out.items c.in-If.is
+    c.deref.ensures
+    c.new-one.ensures.items
+    c.new-other.ensures.items c.in_ok-to-in-If.ensures.number c.in_ok-to-in-If.ensures.made
+    c.in_ok-add_zero-in-If.ensures c.in_ok-statement-in-If.ensures
+    c.in_ok-add_zero-in-If-2.ensures c.in_ok-optional-in-If.ensures added)
     c.add_branches.ensures
 
 pub control::statement-returns-in-Switch : goal.control::statement-returns-in-Switch
@@ -948,9 +977,9 @@ control::statement-returns-in_ok-given_to-in-Return t c =
     (c.in_ok-given_to-in-Return.ensures (scope-of p frame.home names low is_frame))) (adds-leave _ _ _ added))
     c.add-in-Return.ensures
 
-pub control::statement-returns-in_ok-add-in-ReturnNone :
-    goal.control::statement-returns-in_ok-add-in-ReturnNone
-control::statement-returns-in_ok-add-in-ReturnNone t c =
+pub control::statement-returns-in_ok-add_zero-in-ReturnNone :
+    goal.control::statement-returns-in_ok-add_zero-in-ReturnNone
+control::statement-returns-in_ok-add_zero-in-ReturnNone t c =
     let p = c.args.setting.now.program.now in
     let names = c.args.scope.now in
     let path = c.args.path.now in
@@ -958,11 +987,11 @@ control::statement-returns-in_ok-add-in-ReturnNone t c =
     let low = c.args.declared.now in
     let old = c.args.out.now.items in
     let stmt = c.args.stmt.now in
-    on_ok_weaker c.add-in-ReturnNone-2.result (λ added is_frame.
-    makes-return-none p names path frame low is_frame.naming stmt old c.add-in-ReturnNone.new.out.items
-    c.add-in-ReturnNone-2.new.out.items c.in-ReturnNone.is (adds-set _ _ _ _
-    c.in_ok-add-in-ReturnNone.ensures) (adds-leave _ _ _ added))
-    c.add-in-ReturnNone-2.ensures
+    on_ok_weaker c.add-in-ReturnNone.result (λ added is_frame.
+    makes-return-none p names path frame low is_frame.naming stmt old c.add_zero-in-ReturnNone.new.out.items
+    c.add-in-ReturnNone.new.out.items c.in-ReturnNone.is
+    c.in_ok-add_zero-in-ReturnNone.ensures (adds-leave _ _ _ added))
+    c.add-in-ReturnNone.ensures
 
 pub control::statement-returns-in-CallStmt : goal.control::statement-returns-in-CallStmt
 control::statement-returns-in-CallStmt t c =
@@ -1001,8 +1030,8 @@ control::statement-returns-in-Print t c =
     c.as_slice-in-Print.result.now c.in-Print.is
     c.as_slice-in-Print.ensures.value) (made is_frame)) c.print.ensures
 
-pub control::statement-returns-in_ok-value-in-Assert : goal.control::statement-returns-in_ok-value-in-Assert
-control::statement-returns-in_ok-value-in-Assert t c =
+pub control::statement-returns-in_ok-add-in-Assert : goal.control::statement-returns-in_ok-add-in-Assert
+control::statement-returns-in_ok-add-in-Assert t c =
     let p = c.args.setting.now.program.now in
     let names = c.args.scope.now in
     let path = c.args.path.now in
@@ -1010,14 +1039,17 @@ control::statement-returns-in_ok-value-in-Assert t c =
     let low = c.args.declared.now in
     let old = c.args.out.now.items in
     let stmt = c.args.stmt.now in
-    on_ok_weaker c.add-in-Assert.result (λ added is_frame.
-    makes-assert p names path frame low is_frame.naming stmt c.in-Assert.stmt c.in-Assert.when (has_call
+    on_ok_weaker c.give_back.result (λ wipes is_frame.
+    makes-high c.give_back.ensures.same
+    (does-cleared p names path (stmt_part p frame stmt) frame frame.home low c.expression.new.declared old
+    c.add-in-Assert.new.out.items c.give_back.new.out.items is_frame.naming
+    (makes-assert p names path frame low is_frame.naming stmt c.in-Assert.stmt c.in-Assert.when (has_call
     c.in-Assert.when)
     false c.in_ok-value-in-Assert.value c.expression.new.declared old c.expression.new.out.items
     c.add-in-Assert.new.out.items
     c.in-Assert.is (c.in_ok-value-in-Assert.ensures (scope-of p frame.home names low is_frame))
-    (adds-assert _ _ _ _ added))
-    c.add-in-Assert.ensures
+    (adds-assert _ _ _ _ c.in_ok-add-in-Assert.ensures)) (wipes-since c.moment-since.ensures wipes)))
+    c.give_back.ensures.wipes
 
 pub control::optional-returns-in-None : goal.control::optional-returns-in-None
 control::optional-returns-in-None t c = λ is_frame.
@@ -1083,20 +1115,24 @@ control::repeat-returns t c =
     let frame = c.args.frame in
     let low = c.args.declared.now in
     let old = c.args.out.now.items in
-    on_ok_weaker c.add-3.result (λ added is_frame.
+    on_ok_weaker c.add_zero-2.result (λ last is_frame.
     loop-made p names path frame low is_frame (parts_of c.args.parts.now) c.in_body.result c.in_step.result
     c.as_slice.result.now c.as_slice-2.result.now c.as_slice-3.result.now c.in_ok-to.to
     c.condition.new.declared
-    c.statement.new.declared c.statements.new.declared old c.add-3.new.out.items c.new-head.result.items
-    c.condition.new.out.items c.new-body.result.items c.statement.new.out.items c.new-turn.result.items
+    c.statement.new.declared c.statements.new.declared old c.add-3.new.out.items c.add_zero-2.new.out.items
+    c.new-head.result.items
+    c.condition.new.out.items c.new-body.result.items c.add_zero.new.out.items c.statement.new.out.items
+    c.new-turn.result.items
     c.add.new.out.items c.new-step.result.items c.statements.new.out.items c.new-whole.result.items
     c.add-2.new.out.items (c.as_slice.ensures.value ∙ c.in_ok-inside.ensures)
     (c.as_slice-2.ensures.value ∙ c.in_ok-inside.ensures) (c.as_slice-3.ensures.value ∙
     c.in_ok-inside.ensures)
     c.new-head.ensures.items c.new-body.ensures.items c.new-turn.ensures.items c.new-step.ensures.items
-    c.new-whole.ensures.items c.in_body.ensures c.in_step.ensures c.in_ok-to.ensures c.in_ok-statement.ensures
+    c.new-whole.ensures.items c.in_body.ensures c.in_step.ensures c.in_ok-to.ensures.number
+    c.in_ok-to.ensures.made c.in_ok-add_zero.ensures c.in_ok-statement.ensures
     (adds-block _ _ _ _ c.in_ok-add.ensures) c.in_ok-statements.ensures
-    (adds-loop _ _ _ _ _ _ _ _ c.in_ok-add-2.ensures) (adds-block _ _ _ _ added)) c.add-3.ensures
+    (adds-loop _ _ _ _ _ _ _ _ c.in_ok-add-2.ensures) (adds-block _ _ _ _ c.in_ok-add-3.ensures) last)
+    c.add_zero-2.ensures
 
 -- SWITCHES
 
@@ -1109,8 +1145,11 @@ switches::switch-returns t c =
     let low = c.args.declared.now in
     let old = c.args.out.now.items in
     let labels = c.args.labels.now in
-    on_ok_weaker c.add.result (λ added is_frame.
-    switch-made p names path frame c.in_step.result low labels.stmt labels.t c.args.on.now labels.starts.now
+    on_ok_weaker c.wipe.result (λ wipes is_frame.
+    does-cleared p names path (switch_part p frame labels.stmt labels.t c.args.on.now labels.starts.now
+    labels.other c.args.body.now) frame frame.home low c.guarded.new.declared old c.add.new.out.items
+    c.wipe.new.out.items is_frame.naming
+    (switch-made p names path frame c.in_step.result low labels.stmt labels.t c.args.on.now labels.starts.now
     labels.other c.args.body.now c.in_ok-to.to c.variable.new.self c.given_to.new.declared
     c.entry_flags.new.declared c.guarded.new.declared old c.add.new.out.items c.new-whole.result.items
     c.given_to.new.out.items c.entry_flags.new.out.items c.guarded.new.out.items c.as_slice.result.now
@@ -1118,7 +1157,7 @@ switches::switch-returns t c =
     c.in_ok-to.ensures.0 c.in_ok-to.ensures.1 c.new-whole.ensures.items c.in_step.ensures
     c.in_ok-given_to.ensures (rw c.as_slice.ensures.value c.in_ok-flags.ensures.made)
     (ap length c.as_slice.ensures.value ∙ c.in_ok-flags.ensures.long) c.in_ok-guarded.ensures
-    (adds-block _ _ _ _ added)) c.add.ensures
+    (adds-block _ _ _ _ c.in_ok-add.ensures)) (wipes-since c.moment-since.ensures wipes)) c.wipe.ensures
 
 pub switches::guarded-loop-place-init : goal.switches::guarded-loop-place-init
 switches::guarded-loop-place-init t c = λ is_frame long settled.

@@ -27,5 +27,5 @@ pub returns : goal.returns
 returns c = λ fit one below names other_below other_names long.
     either-merged c.args.words.now c.select.new.self (length c.args.other_vars.now) c.args.live
     c.args.vars.now c.args.other_live
-    c.args.other_vars.now c.merged.new.self c.in_ok-live.live c.in_ok-merged.merged one below other_below
+    c.args.other_vars.now c.merged.new.words c.in_ok-live.live c.in_ok-merged.merged one below other_below
     (c.in_ok-merged.ensures fit below names other_names long) c.in_ok-live.ensures

@@ -10,4 +10,4 @@ returns c = λ d fits h. binary-arm d c.args.b.now c.operand.new.self c.operand-
     c.in_ok-right.ensures.same c.in_ok-right.ensures.word c.in_ok-demand_divisor.ensures c.binary.new.self
     c.in_ok-word.word
     c.in_ok-word.ensures (ap (λ vs. record c.demand_divisor.new.b { words = c.binary.new.self; vars = vs })
-    c.set.ensures)
+    c.in_ok-set.ensures)

@@ -7,4 +7,4 @@ returns c = λ d fits h. set-arm d c.args.b.now c.operand.new.self _ c.args.to c
     fits
     c.in_ok-word.ensures.same c.in_ok-word.ensures.word h (ap (λ vs. record c.operand.new.self {
       vars = vs;
-    }) c.set.ensures)
+    }) c.in_ok-set.ensures)

@@ -12,8 +12,8 @@ use Rattle.ba_tree.specs.declared.run.Halt.TheVariants.{WrongChoices}
 use Rattle.ba_wordlist.specs.Meaning.{Assignment}
 use Rattle.ba_guards.proofs.walking.take_values.Goals as goal
 
-pub returns-in-Value : goal.returns-in-Value
-returns-in-Value c = λ vars infos fits fit sides second names right.
+pub returns-in_ok-set-in-Value : goal.returns-in_ok-set-in-Value
+returns-in_ok-set-in-Value c = λ vars infos fits fit sides second names right.
     let d = declared vars c.args.arrays.now in
     let b = c.args.b.now in
     let there = subst (λ k. is_take d k ≡ true) c.in-Value.is fit in
@@ -23,12 +23,12 @@ returns-in-Value c = λ vars infos fits fit sides second names right.
     f r. picked d c.args.take (values_in b.words c.args.values f)) b _
     (value-arm d b _ c.in-Value.to c.word_at.result c.in-Value.t c.args.values fits there names good
     c.word_at.ensures
-    (ap (λ vs. record b { vars = vs }) c.set.ensures))
+    (ap (λ vs. record b { vars = vs }) c.in_ok-set-in-Value.ensures))
     (λ f r cs. ap (λ k. picked d k (values_in b.words c.args.values f) (traced_of f b cs)) (sym
     c.in-Value.is))
 
-pub returns-in-Truth : goal.returns-in-Truth
-returns-in-Truth c = λ vars infos fits fit sides second names right.
+pub returns-in_ok-set-in-Truth : goal.returns-in_ok-set-in-Truth
+returns-in_ok-set-in-Truth c = λ vars infos fits fit sides second names right.
     let d = declared vars c.args.arrays.now in
     let b = c.args.b.now in
     let there = subst (λ k. is_take d k ≡ true) c.in-Truth.is fit in
@@ -38,7 +38,7 @@ returns-in-Truth c = λ vars infos fits fit sides second names right.
     c.args.take (values_in b.words c.args.values f)) b _
     (truth-arm d b _ c.in-Truth.to c.word_at-in-Truth.result c.args.values fits there names good
     c.word_at-in-Truth.ensures
-    (ap (λ vs. record b { vars = vs }) c.set-in-Truth.ensures))
+    (ap (λ vs. record b { vars = vs }) c.in_ok-set-in-Truth.ensures))
     (λ f r cs. ap (λ k. picked d k (values_in b.words c.args.values f) (traced_of f b cs)) (sym
     c.in-Truth.is))
 

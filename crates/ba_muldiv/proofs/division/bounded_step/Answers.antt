@@ -1,19 +1,32 @@
-use Rattle.std.proofs.Common.{◌≡◌, ◌≤◌, ◌-◌, nat_le, sym, subst, ◌∙◌, if◌then◌else◌}
-use Rattle.ba_nodes.specs.Gates.{truth}
+use Rattle.std.proofs.Common.{◌≡◌, ◌≤◌, ◌-◌, ◌^◌, nat_le, sym, subst, ◌∙◌, arith, if◌then◌else◌}
+use Rattle.ba_nodes.specs.Gates.{truth, HasValue}
 use Rattle.ba_nodes.proofs.Truths.{Extends-through}
 use Rattle.ba_words.specs.Words.{number_of}
 use Rattle.ba_words.proofs.Places.{number_of-extends}
-use Rattle.ba_muldiv.proofs.Bounds.{bounded_later, none_fits, left_below}
+use Rattle.ba_muldiv.proofs.Bounds.{bounded_later, none_fits, left_below, ones-extends, no_ones}
 use Rattle.ba_muldiv.proofs.division.bounded_step.Goals as goal
 
 pub fits_into_nonzero-requires-clause-none : goal.fits_into_nonzero-requires-clause-none
 fits_into_nonzero-requires-clause-none c free none does =
-    number_of-extends free c.args.nodes.now c.step.new.nodes c.args.divisor.now c.step.ensures.extends
+    no_ones free c.args.nodes.now c.step.new.nodes c.args.divisor.now c.args.above.now c.step.ensures.extends
+    c.requires.second c.requires.above
+    (number_of-extends free c.args.nodes.now c.step.new.nodes c.args.divisor.now c.step.ensures.extends
     c.requires.second
     ∙ none_fits free c.args.nodes.now c.step.new.nodes c.args.bounds.now
     (number_of free c.args.nodes.now c.args.divisor.now) (number_of free c.args.nodes.now c.args.rest.now)
     (truth free c.step.new.nodes c.in_ok-enough.enough) c.step.ensures.extends c.requires.third
-    (c.requires.bounds free) (c.in_ok-enough.ensures.fits.holds free) none does
+    (c.requires.bounds free) (c.in_ok-enough.ensures.fits.holds free) none does)
+
+pub fits_into_nonzero-requires-clause-third : goal.fits_into_nonzero-requires-clause-third
+fits_into_nonzero-requires-clause-third c =
+    (ones-extends c.args.nodes.now c.step.new.nodes c.args.divisor.now c.args.above.now c.step.ensures.extends
+    c.requires.second c.requires.above 0 (omega arith)).is_bit
+
+pub step-requires-clause-wider : goal.step-requires-clause-wider
+step-requires-clause-wider c =
+    subst (λ b. HasValue c.args.nodes.now b (λ free. nat_le (2 ^ c.width_of-width.result)
+    (number_of free c.args.nodes.now c.args.divisor.now))) (sym c.bit_at-wider.ensures)
+    (c.requires.above c.width_of-width.result c.width_of-width.ensures.few)
 
 pub bounded-requires-clause-small : goal.bounded-requires-clause-small
 bounded-requires-clause-small c free =

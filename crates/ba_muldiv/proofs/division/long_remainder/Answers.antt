@@ -1,65 +1,19 @@
-use Rattle.std.proofs.Common.{◌<◌, ◌*◌, ◌-◌, ◌%◌, nat_le, sym, ap, subst, ◌∙◌, arith, if◌then◌else◌}
-use Rattle.ba_nodes.specs.Gates.{truth}
-use Rattle.ba_nodes.proofs.Truths.{Extends-through}
-use Rattle.ba_words.specs.Words.{number_of, bit_at}
+use Rattle.std.proofs.Common.{◌%◌, ◌∙◌}
+use Rattle.ba_words.proofs.Outcomes.{on_ok}
 use Rattle.ba_words.proofs.Places.{number_of-extends}
-use Rattle.ba_muldiv.specs.Division.{high_number}
-use Rattle.ba_muldiv.proofs.Bounds.{later_is, later_bounded}
-use Rattle.ba_muldiv.proofs.Rows.{high_number-more}
-use Rattle.ba_muldiv.proofs.Steps.{rest_step, next_twice}
 use Rattle.ba_muldiv.proofs.division.long_remainder.Goals as goal
 
-pub bounded_step-requires-clause-bounds : goal.bounded_step-requires-clause-bounds
-bounded_step-requires-clause-bounds c free =
-    later_bounded free c.args.nodes.now c.upper_steps.new.nodes c.next_bounds.new.nodes c.args.dividend.now
-    c.in_ok-rest.rest c.brought_down-last.result 31 (omega arith) c.requires.first
-    c.in_ok-rest.ensures.rest.are_bits c.upper_steps.ensures.extends c.next_bounds.ensures.extends
-    (c.brought_down-last.ensures.number c.next_bounds.new.nodes free)
-    c.in_ok-last_bounds.last_bounds
-    (c.in_ok-last_bounds.ensures.more free (number_of free c.upper_steps.new.nodes c.in_ok-rest.rest)
-    (c.in_ok-rest.ensures.bounds free))
-
-pub bounded_step-requires-clause-twice : goal.bounded_step-requires-clause-twice
-bounded_step-requires-clause-twice c below free =
-    let kept = number_of-extends free c.args.nodes.now c.next_bounds.new.nodes c.args.divisor.now
-    (Extends-through c.args.nodes.now c.upper_steps.new.nodes c.next_bounds.new.nodes
-    c.upper_steps.ensures.extends c.next_bounds.ensures.extends) c.requires.second in
-    subst (λ d. number_of free c.next_bounds.new.nodes c.brought_down-last.result < 2 * d) (sym kept)
-    (next_twice (high_number free c.args.nodes.now c.args.dividend.now 1)
-    (number_of free c.args.nodes.now c.args.divisor.now)
-    (number_of free c.next_bounds.new.nodes c.brought_down-last.result)
-    (truth free c.args.nodes.now (bit_at c.args.dividend.now 0))
-    (c.known_width.ensures.some below c.args.nodes.now free)
-    (later_is free c.args.nodes.now c.upper_steps.new.nodes c.next_bounds.new.nodes c.args.dividend.now
-    c.in_ok-rest.rest c.brought_down-last.result 31 (omega arith) c.requires.first
-    c.in_ok-rest.ensures.rest.are_bits c.upper_steps.ensures.extends c.next_bounds.ensures.extends
-    (c.brought_down-last.ensures.number c.next_bounds.new.nodes free)
-    (number_of free c.args.nodes.now c.args.divisor.now) c.told-dividend
-    (c.in_ok-rest.ensures.rest.holds free)))
-
 pub returns-clause-number : goal.returns-clause-number
-returns-clause-number c = record {
-  long = c.in_ok-left.ensures.left.long;
-  are_bits = c.in_ok-left.ensures.left.are_bits;
-  holds = λ free.
-      let kept = number_of-extends free c.args.nodes.now c.next_bounds.new.nodes c.args.divisor.now
-      (Extends-through c.args.nodes.now c.upper_steps.new.nodes c.next_bounds.new.nodes
-      c.upper_steps.ensures.extends c.next_bounds.ensures.extends) c.requires.second in
-      let now_is = later_is free c.args.nodes.now c.upper_steps.new.nodes c.next_bounds.new.nodes
-      c.args.dividend.now c.in_ok-rest.rest c.brought_down-last.result 31 (omega arith) c.requires.first
-      c.in_ok-rest.ensures.rest.are_bits c.upper_steps.ensures.extends c.next_bounds.ensures.extends
-      (c.brought_down-last.ensures.number c.next_bounds.new.nodes free)
-      (number_of free c.args.nodes.now c.args.divisor.now) c.told-dividend
-      (c.in_ok-rest.ensures.rest.holds free) in
-      c.in_ok-left.ensures.left.holds free
-      ∙ ap (λ d. if nat_le d (number_of free c.next_bounds.new.nodes c.brought_down-last.result)
-      then number_of free c.next_bounds.new.nodes c.brought_down-last.result - d else number_of free
-      c.next_bounds.new.nodes c.brought_down-last.result) kept
-      ∙ rest_step (high_number free c.args.nodes.now c.args.dividend.now 1)
-      (number_of free c.args.nodes.now c.args.divisor.now)
-      (number_of free c.next_bounds.new.nodes c.brought_down-last.result)
-      (truth free c.args.nodes.now (bit_at c.args.dividend.now 0)) now_is
-      ∙ ap (λ h. h % number_of free c.args.nodes.now c.args.divisor.now)
-      (sym (high_number-more free c.args.nodes.now c.args.dividend.now 0
-      (omega (arith, c.told-dividend))));
-}
+returns-clause-number c =
+    on_ok c.remainder_by_steps.result _ _
+    (λ word has. record {
+      long = has.long;
+      are_bits = has.are_bits;
+      holds = λ free.
+          let first = number_of-extends free c.args.nodes.now c.ones_from.new.nodes c.args.dividend.now
+          c.ones_from.ensures.extends c.requires.first in
+          let second = number_of-extends free c.args.nodes.now c.ones_from.new.nodes c.args.divisor.now
+          c.ones_from.ensures.extends c.requires.second in
+          has.holds free ∙ (λ i. first i % second i);
+    })
+    c.remainder_by_steps.ensures.number

@@ -12,5 +12,5 @@ invariant-loop-place l = record {
       l.fn.nodes l.a l.place));
   number : LowIs l.nodes l.word l.place (λ free. low_opposite (truth free l.fn.nodes l.negative) (2 ^
       l.place) (low_number free l.fn.nodes l.a l.place));
-  count : gates_in l.nodes ≤ gates_in l.fn.nodes + 2 * l.place;
+  count : gates_in l.nodes ≤ gates_in l.fn.nodes + 6 * l.place;
 }

@@ -62,13 +62,10 @@ module _ (c : goal.In_ok-left) (free : ℕ → Bool) where
       let above = ap (truth free c.add_with_carry.new.nodes) c.bit_at.ensures
       ∙ c.add_with_carry.ensures.extends.keeps free (bit_at c.args.rest.now c.least-kept.result)
       (c.requires.first c.least-kept.result) in
-      let enough = c.is_wider.ensures.extends.keeps free c.in_ok-enough.enough
-      c.in_ok-enough.ensures.value.is_bit ∙ c.in_ok-enough.ensures.value.holds free
+      let enough = c.in_ok-enough.ensures.value.holds free
       ∙ ap (λ t. truth free c.add_with_carry.new.nodes c.in_ok-difference.carry || t) above in
-      let wider = c.not.ensures.value c.is_wider.new.nodes free ∙ ap not (c.in_ok-wider.ensures.value.holds
-      free
-      ∙ ap (nat_le (2 ^ c.args.width)) (number_of-extends free c.args.nodes.now c.or.new.self
-      c.args.divisor.now lower c.requires.second)) in
+      let wider = c.not.ensures.value c.or.new.self free
+      ∙ ap not (lower.keeps free c.args.wider c.requires.wider.is_bit ∙ c.requires.wider.holds free) in
       c.in_ok-fits.ensures.value.holds free
       ∙ (λ i. enough i && wider i)
       ∙ fits_value free c.args.nodes.now c.add_with_carry.new.nodes c.args.rest.now c.args.divisor.now
@@ -90,11 +87,8 @@ returns-clause-left c = record {
   long = c.in_ok-left.ensures.number.long;
   are_bits = c.in_ok-left.ensures.number.are_bits;
   holds = λ free.
-      let first : Extends c.add_with_carry.new.nodes c.is_wider.new.nodes = Extends-through
-      c.add_with_carry.new.nodes c.or.new.self c.is_wider.new.nodes c.or.ensures.extends
-      c.is_wider.ensures.extends in
       let upper : Extends c.add_with_carry.new.nodes c.and.new.self = Extends-through
-      c.add_with_carry.new.nodes c.is_wider.new.nodes c.and.new.self first c.and.ensures.extends in
+      c.add_with_carry.new.nodes c.or.new.self c.and.new.self c.or.ensures.extends c.and.ensures.extends in
       let all : Extends c.args.nodes.now c.and.new.self = Extends-through c.args.nodes.now
       c.add_with_carry.new.nodes c.and.new.self c.add_with_carry.ensures.extends upper in
       let difference : number_of free c.and.new.self c.extended-2.result ≡ low_number free

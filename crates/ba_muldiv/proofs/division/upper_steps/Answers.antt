@@ -5,7 +5,7 @@ use Rattle.ba_words.specs.Words.{digit, number_of, bit_at}
 use Rattle.ba_words.proofs.Carries.{are_bits-replicate, number-zeros}
 use Rattle.ba_words.proofs.Places.{are_bits-extends, number_of-extends}
 use Rattle.ba_muldiv.specs.Division.{long_quotient, high_number}
-use Rattle.ba_muldiv.proofs.Bounds.{bounded_zero, bounded_later, left_below, later_is, later_bounded}
+use Rattle.ba_muldiv.proofs.Bounds.{ones-extends, bounded_zero, bounded_later, left_below, later_is, later_bounded}
 use Rattle.ba_muldiv.proofs.Rows.{high_number-more, high_number_below}
 use Rattle.ba_muldiv.proofs.Steps.{no_quotient, no_rest, next_twice, quotient_value, quotient_step, rest_step}
 use Rattle.ba_muldiv.proofs.division.upper_steps.Goals as goal
@@ -57,6 +57,12 @@ bounded_step-requires-clause-bounds c free =
     c.in_ok-bounds.bounds
     (c.in_ok-bounds.ensures.more free (number_of free c.loop-i.nodes c.loop-i.rest)
     (c.loop-i.invariant.bounded free))
+
+pub bounded_step-requires-clause-above : goal.bounded_step-requires-clause-above
+bounded_step-requires-clause-above c =
+    ones-extends c.args.nodes.now c.next_bounds.new.nodes c.args.divisor.now c.args.above.now
+    (Extends-through c.args.nodes.now c.loop-i.nodes c.next_bounds.new.nodes c.loop-i.invariant.extends
+    c.next_bounds.ensures.extends) c.requires.second c.requires.above
 
 pub bounded_step-requires-clause-narrow : goal.bounded_step-requires-clause-narrow
 bounded_step-requires-clause-narrow c free =

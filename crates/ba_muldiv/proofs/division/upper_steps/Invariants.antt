@@ -14,5 +14,5 @@ invariant-loop-i l = record {
   bounds_long : length l.bounds ≡ 32;
   bounds_bits : AreBitsOf l.nodes l.bounds;
   bounded : (free : ℕ → Bool) → IsBounded free l.nodes l.bounds (number_of free l.nodes l.rest);
-  gates : gates_in l.nodes ≤ gates_in l.fn.nodes + 229 * l.i;
+  gates : gates_in l.nodes ≤ gates_in l.fn.nodes + 421 * l.i;
 }

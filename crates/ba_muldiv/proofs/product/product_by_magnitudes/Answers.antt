@@ -36,13 +36,13 @@ returns-clause-number c =
           let lower : Extends old c.negated_where-2.new.nodes =
           Extends-through old c.negated_where.new.nodes c.negated_where-2.new.nodes
           c.negated_where.ensures.extends c.negated_where-2.ensures.extends in
-          let all : Extends old c.plain_product.new.nodes =
-          Extends-through old c.negated_where-2.new.nodes c.plain_product.new.nodes lower
-          c.plain_product.ensures.extends in
+          let all : Extends old c.free_product.new.nodes =
+          Extends-through old c.negated_where-2.new.nodes c.free_product.new.nodes lower
+          c.free_product.ensures.extends in
           let negative = c.in_ok-negative.ensures.value.holds free
           ∙ (λ i. bool_xor (all.keeps free (bit_at a 31) (c.requires.first 31) i)
           (all.keeps free (bit_at b 31) (c.requires.second 31) i)) in
-          let product = number_of-extends free c.plain_product.new.nodes c.xor.new.self
+          let product = number_of-extends free c.free_product.new.nodes c.xor.new.self
           c.in_ok-product.product c.xor.ensures.extends c.in_ok-product.ensures.number.are_bits
           ∙ c.in_ok-product.ensures.number.holds free
           ∙ (λ i. (first i * second i) % 2 ^ 32) in

@@ -3,7 +3,7 @@ use Rattle.ba_localise.specs.Verdicts.{told}
 use Rattle.ba_world.proofs.WholeReads.{only_reads_none}
 use Rattle.ba_tool.specs.Calls.{Stops, most_given}
 use Rattle.ba_jobs.specs.declared.jobs.Request.{Request}
-use Rattle.ba_tool.proofs.Bounded.{job_bounds, job_countable, sample_few}
+use Rattle.ba_tool.proofs.Bounded.{job_bounds, job_countable, job_named, sample_few}
 use Rattle.ba_tool.proofs.Coming.{refused_as}
 use Rattle.ba_tool.proofs.Leaving.{reading_stops}
 use Rattle.ba_tool.proofs.tool.answer.Goals as goal
@@ -15,6 +15,10 @@ job_answer-requires-clause-bounds g c =
 pub job_answer-requires-clause-countable : goal.job_answer-requires-clause-countable
 job_answer-requires-clause-countable g c =
     job_countable _ c.in-Wanted.job (sym c.in_ok-read_request.ensures ∙ c.in-Wanted.is)
+
+pub job_answer-requires-clause-named : goal.job_answer-requires-clause-named
+job_answer-requires-clause-named g c =
+    job_named _ c.in-Wanted.job (sym c.in_ok-read_request.ensures ∙ c.in-Wanted.is)
 
 pub returns-in-Refused-clause-answer : goal.returns-in-Refused-clause-answer
 returns-in-Refused-clause-answer g c = refused_as _ (g.W.World.outside c.args.world.now) _

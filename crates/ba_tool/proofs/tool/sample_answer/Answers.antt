@@ -5,6 +5,7 @@ use Rattle.ba_world.proofs.WholeReads.{only_reads_none}
 use Rattle.ba_tree.specs.Run.{are_bounds}
 use Rattle.ba_tool.specs.Calls.{most_of}
 use Rattle.ba_jobs.specs.declared.jobs.Job.{Job}
+use Rattle.ba_tool.proofs.Bounded.{sample_named}
 use Rattle.ba_tool.proofs.Coming.{sampled_as}
 use Rattle.ba_tool.proofs.Leaving.{reading_stops, sample_faults, sample_stops}
 use Rattle.ba_jobs.proofs.Sampling.{inputs_short, texts_short}
@@ -24,6 +25,9 @@ texts_answer-requires-clause-bounds g c = ap (λ (j : Job). are_bounds j.bounds)
 pub texts_answer-requires-clause-countable : goal.texts_answer-requires-clause-countable
 texts_answer-requires-clause-countable g c =
     let is = ap (λ (j : Job). j.conflicts) c.sample_job-job.ensures in omega (arith, is)
+
+pub texts_answer-requires-clause-named : goal.texts_answer-requires-clause-named
+texts_answer-requires-clause-named g c = sample_named _ c.args.additions c.sample_job-job.ensures
 
 pub returns-clause-answer : goal.returns-clause-answer
 returns-clause-answer g c = IfOk-weaker c.texts_answer.result _ _

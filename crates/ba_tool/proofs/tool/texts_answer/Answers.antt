@@ -31,6 +31,11 @@ returns-in-ToSearch-clause-bounded g c =
     c.conclude.ensures.leaves) in
     let same = wrote.given in omega (arith, same)
 
+pub check-requires-clause-named : goal.check-requires-clause-named
+check-requires-clause-named g c =
+    let judged = subst (IsJudged c.args.job.now c.args.texts.now) c.in-ToCheck.is c.in_ok-answer.ensures in
+    c.requires.named judged.1.0
+
 pub returns-in-ToCheck-clause-answer : goal.returns-in-ToCheck-clause-answer
 returns-in-ToCheck-clause-answer g c =
     let judged = subst (IsJudged c.args.job.now c.args.texts.now) c.in-ToCheck.is c.in_ok-answer.ensures in

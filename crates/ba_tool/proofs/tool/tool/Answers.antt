@@ -2,6 +2,7 @@ use Rattle.std.proofs.Common.{inl, inr, rules}
 use Rattle.ba_tool.proofs.Ending.{comes_write, ends_says}
 use Rattle.ba_tool.proofs.Checking.{ends_checking}
 use Rattle.ba_tool.proofs.Due.{ends_due, ends_failing}
+use Rattle.ba_tool.proofs.SampleAnswers.{ends_sample}
 use Rattle.ba_tool.proofs.tool.tool.Goals as goal
 
 pub returns-in-Ok-clause-says : goal.returns-in-Ok-clause-says
@@ -33,6 +34,16 @@ returns-in-Ok-clause-where_failing g c = λ failing. ends_failing _ c.in-Ok.answ
   prefix = c.finish.ensures.prefix;
   stops = c.answer.ensures.stops;
 }) failing
+
+pub returns-in-Ok-clause-where_sample : goal.returns-in-Ok-clause-where_sample
+returns-in-Ok-clause-where_sample g c = λ additions asked. ends_sample _ c.in-Ok.answer c.finish.result (record {
+  written = g.W.World.outside c.answer.new.world;
+  comes = c.in-Ok.ensures.answer;
+  prints = c.finish.ensures.stays;
+  shown = c.finish.ensures.shown;
+  prefix = c.finish.ensures.prefix;
+  stops = c.answer.ensures.stops;
+}) additions asked
 
 pub returns-in-Ok-clause-where_checking : goal.returns-in-Ok-clause-where_checking
 returns-in-Ok-clause-where_checking g c = λ name file checking told. ends_checking _ c.in-Ok.answer

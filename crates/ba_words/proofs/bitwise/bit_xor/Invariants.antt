@@ -1,4 +1,4 @@
-use Rattle.std.proofs.Common.{◌+◌, ◌≤◌, bit_xor}
+use Rattle.std.proofs.Common.{◌+◌, ◌*◌, ◌≤◌, bit_xor}
 use Rattle.ba_nodes.specs.Gates.{gates_in, Extends}
 use Rattle.ba_words.specs.Words.{low_number}
 use Rattle.ba_words.proofs.Circuits.{LowIs}
@@ -8,5 +8,5 @@ abbrev pub invariant-loop-i : goal.invariant-loop-i
 invariant-loop-i l = record {
   extends : Extends l.initial.nodes l.nodes;
   number : LowIs l.nodes l.word l.i (λ free. bit_xor (low_number free l.initial.nodes l.a l.i) (low_number free l.initial.nodes l.b l.i));
-  count : gates_in l.nodes ≤ gates_in l.initial.nodes + l.i;
+  count : gates_in l.nodes ≤ gates_in l.initial.nodes + 3 * l.i;
 }

@@ -7,5 +7,5 @@ abbrev pub invariant-loop-level : goal.invariant-loop-level
 invariant-loop-level l = record {
   extends : Extends l.fn.nodes l.nodes;
   number : HasNumber l.nodes l.word (λ free. shifted_down (number_of free l.fn.nodes l.a) (truth free l.fn.nodes l.sign) (low_number free l.fn.nodes l.count l.level));
-  gates : gates_in l.nodes ≤ gates_in l.fn.nodes + 32 * l.level;
+  gates : gates_in l.nodes ≤ gates_in l.fn.nodes + 96 * l.level;
 }

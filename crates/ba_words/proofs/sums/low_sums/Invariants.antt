@@ -6,6 +6,6 @@ use Rattle.ba_words.proofs.sums.low_sums.Given as goal
 abbrev pub invariant-loop-i : goal.invariant-loop-i
 invariant-loop-i l = record {
   extends : Extends l.initial.nodes l.nodes;
-  sums : AddUp l.initial.nodes l.a l.b l.initial.carried l.nodes l.sums l.carried l.i;
-  count : gates_in l.nodes ≤ gates_in l.initial.nodes + 3 * l.i;
+  sums : AddUp l.initial.nodes l.a l.b l.initial.carried l.from l.nodes l.sums l.carried l.i;
+  count : gates_in l.nodes + 9 * l.from ≤ gates_in l.initial.nodes + 9 * l.i;
 }

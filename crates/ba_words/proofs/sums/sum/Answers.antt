@@ -1,7 +1,14 @@
-use Rattle.ba_words.proofs.Carries.{highest_sum}
+use Rattle.std.proofs.Common.{refl}
+use Rattle.ba_nodes.specs.Gates.{truth}
+use Rattle.ba_words.specs.Words.{digit, number_of, low_number}
+use Rattle.ba_words.proofs.Carries.{from_lowest}
+use Rattle.ba_words.proofs.Outcomes.{on_ok}
 use Rattle.ba_words.proofs.sums.sum.Goals as goal
 
 pub returns-clause-number : goal.returns-clause-number
 returns-clause-number c =
-    highest_sum c.args.nodes.now c.low_sums.new.nodes c.sum_bit.new.nodes c.args.a.now c.args.b.now c.args.carry c.in_ok-sums.sums c.in_ok-sums.carried c.in_ok-sums-2.field-0
-    c.told-a c.told-b c.requires.first c.requires.second c.low_sums.ensures.extends c.sum_bit.ensures.extends c.in_ok-sums.ensures.sums c.in_ok-sums-2.ensures.sum
+    on_ok c.sum_from.result _ _
+    (λ word has. from_lowest c.sum_from.new.nodes word (λ free. number_of free c.args.nodes.now c.args.a.now)
+    (λ free. number_of free c.args.nodes.now c.args.b.now) (λ free. low_number free c.args.nodes.now c.args.b.now 0)
+    (λ free. digit (truth free c.args.nodes.now c.args.carry)) (λ free. refl) has)
+    c.sum_from.ensures.number

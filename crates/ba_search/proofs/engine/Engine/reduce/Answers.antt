@@ -1,8 +1,6 @@
-use Rattle.std.proofs.Common.{◌≡◌, ℕ, true, List, vec_len, sym, ap, subst, arith, refl}
-use Rattle.std.specs.List.{list_all}
+use Rattle.std.proofs.Common.{ℕ, List, vec_len, sym, ap, subst, arith, refl}
 use Rattle.ba_watch.specs.Deletion.{Deletes, MayDelete}
 use Rattle.ba_checker.specs.States.{State}
-use Rattle.ba_checker.specs.Judging.{may_go}
 use Rattle.ba_search.specs.Iterations.{Forgets}
 use Rattle.ba_search.proofs.StepLaws.{puts_none, leaves_none}
 use Rattle.ba_search.proofs.DeletedSteps.{some_items, delete_step, named_formed, named_allowed, delete_taken, delete_puts, delete_left, delete_tried}
@@ -87,15 +85,9 @@ returns-in_err-put-clause-leaves g c =
 
 pub delete-requires : goal.delete-requires
 delete-requires g c =
-    let k = c.args.checked.now.checker in
-    let u = c.requires.underway in
-    let go : list_all (may_go k) c.discarded-numbers.result.items ≡ true =
-    subst (λ (x : State). list_all (may_go x) c.discarded-numbers.result.items ≡ true) c.checker.ensures
-    c.discarded-numbers.ensures.may_go in
     subst (λ (ns : List ℕ). MayDelete c.args.self.now.watch ns) (sym c.as_slice.ensures.value)
-    (may_delete c.args.self.now.watch k c.args.self.now.numbers.taken c.discarded-numbers.result.items
-    u.numbered u.live go
-    c.discarded-numbers.ensures.no_reasons)
+    (may_delete c.args.self.now.watch c.args.self.now.numbers.taken c.discarded-numbers.result.items
+    c.requires.underway.numbered c.discarded-numbers.ensures.no_reasons)
 
 pub returns-clause-goes_on : goal.returns-clause-goes_on
 returns-clause-goes_on g c =

@@ -2,7 +2,7 @@ use Rattle.std.proofs.Common.{length, subst, sym}
 use Rattle.ba_watch.specs.Propagation.{State}
 use Rattle.ba_watch.specs.Deletion.{MayDelete}
 use Rattle.ba_watch.proofs.Sounds.{state}
-use Rattle.ba_watch.proofs.DeletedSound.{alone_in, reasons_kept, waiting_kept, Sound-delete}
+use Rattle.ba_watch.proofs.DeletedSound.{alone_in, reasons_kept, waiting_live, Sound-delete}
 use Rattle.ba_watch.proofs.watch.Watch.delete.Goals as goal
 
 pub delete_all-requires-clause-alone : goal.delete_all-requires-clause-alone
@@ -28,7 +28,7 @@ delete_all-requires-clause-waiting c =
     let i = c.self.inside in
     let may : MayDelete (state i.lists.arena i.trail i.settled) c.args.numbers.now =
     subst (λ (s : State). MayDelete s c.args.numbers.now) (sym c.self.view_is) c.requires in
-    waiting_kept i.lists.arena (length i.lists.heads.items) i.lists.pending i.trail i.head i.waiting.items
+    waiting_live i.lists.arena (length i.lists.heads.items) i.lists.pending i.trail i.head i.waiting.items
     i.settled
     c.args.numbers.now c.self.invariant.0 may
 

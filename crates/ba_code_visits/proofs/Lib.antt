@@ -1,0 +1,3 @@
+pub mod Steady
+pub mod Replays
+pub mod Runs

@@ -1,0 +1,238 @@
+//! The words of all variables, in chunks that copies share.
+
+ghost use Rattle.std.specs.Prelude.{◌≡◌, ◌<◌, ℕ, true, [], ◌∷◌, length, map, replicate, IfOk, OnOk, slice_index_or, slice_set};
+ghost use Rattle.std.specs.List.{concat};
+ghost use Rattle.std.specs.Rc.{rc_value};
+ghost use Rattle.ba_guards.specs.Chunks.{AreChunks};
+ghost use Rattle.ba_guards.specs.Making.{Merges, holds_in};
+ghost use Rattle.ba_wordlist.specs.Facts.{are_names, are_words};
+
+use crate::names::Names;
+use crate::words::Words;
+use std::alloc::{AllocError, Global};
+use std::marker::Model;
+use std::rc::Rc;
+
+/// How many variables have their words in one chunk.
+const CHUNK: usize = 32;
+
+/// A word for each variable. A copy shares the chunks of words, and a write copies its chunk alone.
+/// Contracts see the list of words.
+#[derive(Drop)]
+pub struct Variables {
+    chunks: Vec<Rc<Names>>,
+}
+
+impl Model for Variables {
+    ghost use Rattle.std.specs.Prelude.{List, ℕ, map};
+    ghost use Rattle.std.specs.List.{concat};
+    ghost use Rattle.std.specs.Rc.{rc_value};
+    ghost use Rattle.ba_guards.specs.Chunks.{AreChunks};
+
+    ghost Value = { List ℕ };
+
+    ghost view = { λ variables. concat (map rc_value variables.chunks.items) };
+
+    ghost invariant = { λ variables. AreChunks 32 (map rc_value variables.chunks.items) };
+}
+
+impl Variables {
+    /// So many variables of word 0.
+    ///
+    /// The one error is want of memory.
+    pub fn zeros(alloc: Global, count: usize) -> Result<Variables, AllocError>
+        ensures { IfOk result (λ variables. variables ≡ replicate count 0) }
+    {
+        let mut chunks = full_chunks(alloc, count / CHUNK)?;
+        let rest = Names::zeros(alloc, count % CHUNK)?;
+        let rest = Rc::new(alloc, rest)?;
+        chunks.push(rest)?;
+        Ok(Variables { chunks })
+    }
+
+    /// The word of a variable, and word 0 where there is none. It takes no memory.
+    pub fn at(&self, number: u32) -> u32
+        ensures { result ≡ slice_index_or self.now number 0 }
+    {
+        word_at(self.chunks.as_slice(), number as usize)
+    }
+
+    /// Gives a variable another word.
+    ///
+    /// The one error is want of memory.
+    pub fn set(&mut self, number: u32, word: u32) -> Result<(), AllocError>
+        ensures { OnOk result (self.new ≡ slice_set self.old number word) }
+    {
+        let alloc = *self.chunks.allocator();
+        set_word(alloc, self.chunks.as_mut_slice(), number as usize, word)?;
+        Ok(())
+    }
+
+    /// The words once more. Both share their chunks.
+    ///
+    /// The one error is want of memory.
+    pub fn copied(&self, alloc: Global) -> Result<Variables, AllocError>
+        ensures { IfOk result (λ variables. variables ≡ self.now) }
+    {
+        Ok(Variables {
+            chunks: Vec::from_clones(alloc, self.chunks.as_slice())?,
+        })
+    }
+
+    /// For each variable its word where `which` isn't 0, and else that in `no`. A chunk that is the
+    /// same in both is shared.
+    ///
+    /// The one error is want of memory.
+    pub fn merged(
+        &self,
+        alloc: Global,
+        words: &mut Words,
+        which: u32,
+        no: &Variables,
+    ) -> Result<Variables, AllocError>
+        ensures { IfOk result (λ merged. are_words words.old ≡ true → which < length words.old
+            → are_names (length words.old) self.now ≡ true
+            → are_names (length words.old) no.now ≡ true → length self.now ≡ length no.now
+            → Merges words.old words.new (length no.now)
+            (holds_in words.old which) self.now no.now merged) }
+    {
+        Ok(Variables {
+            chunks: merged_chunks(
+                alloc,
+                words,
+                which,
+                self.chunks.as_slice(),
+                no.chunks.as_slice(),
+            )?,
+        })
+    }
+}
+
+/// So many full chunks of word 0, which are one.
+fn full_chunks(alloc: Global, count: usize) -> Result<Vec<Rc<Names>>, AllocError>
+    ensures { IfOk result (λ chunks. map rc_value chunks.items ≡ replicate count (replicate 32 0)) }
+{
+    let zeros = Names::zeros(alloc, CHUNK)?;
+    let zeros = Rc::new(alloc, zeros)?;
+    let mut chunks = Vec::new(alloc);
+    for _chunk in 0..count {
+        let chunk = zeros.clone()?;
+        chunks.push(chunk)?;
+    }
+    Ok(chunks)
+}
+
+/// The word of this number in chunks, and word 0 where there is none.
+fn word_at(chunks: &[Rc<Names>], number: usize) -> u32
+    ensures { AreChunks 32 (map rc_value chunks.now)
+        → result ≡ slice_index_or (concat (map rc_value chunks.now)) number 0 }
+{
+    let index = number / CHUNK;
+    if index < chunks.len() {
+        chunks[index].at_index(number % CHUNK)
+    } else {
+        0
+    }
+}
+
+/// Puts another word at a number in chunks.
+fn set_word(
+    alloc: Global,
+    chunks: &mut [Rc<Names>],
+    number: usize,
+    word: u32,
+) -> Result<(), AllocError>
+    ensures set { OnOk result (AreChunks 32 (map rc_value chunks.old)
+        → concat (map rc_value chunks.new) ≡ slice_set (concat (map rc_value chunks.old)) number word) }
+    ensures shape { AreChunks 32 (map rc_value chunks.old) → AreChunks 32 (map rc_value chunks.new) }
+{
+    let index = number / CHUNK;
+    if index < chunks.len() {
+        set_in_chunk(alloc, &mut chunks[index], number % CHUNK, word)?;
+    }
+    Ok(())
+}
+
+/// Puts another word at an index of a chunk, which is copied first if it is shared.
+fn set_in_chunk(
+    alloc: Global,
+    chunk: &mut Rc<Names>,
+    index: usize,
+    word: u32,
+) -> Result<(), AllocError>
+    ensures set { OnOk result (rc_value chunk.new ≡ slice_set (rc_value chunk.old) index word) }
+    ensures length { length (rc_value chunk.new) ≡ length (rc_value chunk.old) }
+{
+    if let Some(words) = Rc::get_mut(chunk) {
+        words.set_index(index, word);
+        return Ok(());
+    }
+    let mut words = chunk.copied(alloc)?;
+    words.set_index(index, word);
+    *chunk = Rc::new(alloc, words)?;
+    Ok(())
+}
+
+/// The chunks of `yes` where `which` isn't 0, and else those of `no`.
+fn merged_chunks(
+    alloc: Global,
+    words: &mut Words,
+    which: u32,
+    yes: &[Rc<Names>],
+    no: &[Rc<Names>],
+) -> Result<Vec<Rc<Names>>, AllocError>
+    ensures shape { IfOk result (λ merged. map length (map rc_value merged.items)
+        ≡ map length (map rc_value no.now)) }
+    ensures merges { IfOk result (λ merged. are_words words.old ≡ true → which < length words.old
+        → are_names (length words.old) (concat (map rc_value yes.now)) ≡ true
+        → are_names (length words.old) (concat (map rc_value no.now)) ≡ true
+        → map length (map rc_value yes.now) ≡ map length (map rc_value no.now)
+        → Merges words.old words.new (length (concat (map rc_value no.now)))
+        (holds_in words.old which) (concat (map rc_value yes.now)) (concat (map rc_value no.now))
+        (concat (map rc_value merged.items))) }
+{
+    let mut merged = Vec::new(alloc);
+    for index in 0..no.len() {
+        let other = &no[index];
+        let chunk = merged_chunk(alloc, words, which, chunk_or(yes, index, other), other)?;
+        merged.push(chunk)?;
+    }
+    Ok(merged)
+}
+
+/// The chunk of this number, and another where there is none.
+fn chunk_or<'a>(chunks: &'a [Rc<Names>], index: usize, other: &'a Rc<Names>) -> &'a Rc<Names>
+    ensures { rc_value result.now
+        ≡ slice_index_or (map rc_value chunks.now) index (rc_value other.now) }
+{
+    if index < chunks.len() {
+        &chunks[index]
+    } else {
+        other
+    }
+}
+
+/// For each word of two chunks that of `yes` where `which` isn't 0, and else that of `no`.
+fn merged_chunk(
+    alloc: Global,
+    words: &mut Words,
+    which: u32,
+    yes: &Rc<Names>,
+    no: &Rc<Names>,
+) -> Result<Rc<Names>, AllocError>
+    ensures length { IfOk result (λ merged. length (rc_value merged) ≡ length (rc_value no.now)) }
+    ensures merges { IfOk result (λ merged. are_words words.old ≡ true → which < length words.old
+        → are_names (length words.old) (rc_value yes.now) ≡ true
+        → are_names (length words.old) (rc_value no.now) ≡ true
+        → length (rc_value yes.now) ≡ length (rc_value no.now)
+        → Merges words.old words.new (length (rc_value no.now))
+        (holds_in words.old which) (rc_value yes.now) (rc_value no.now) (rc_value merged)) }
+{
+    if yes.as_slice() == no.as_slice() {
+        let same = no.clone()?;
+        return Ok(same);
+    }
+    let merged = words.merged(alloc, which, yes, no)?;
+    let merged = Rc::new(alloc, merged)?;
+    Ok(merged)
+}

@@ -1,0 +1,13 @@
+pub mod Values
+pub mod Statements
+pub mod Runs
+pub mod Numbered
+pub mod Sets
+pub mod Costs
+pub mod Tokens
+pub mod Digits
+pub mod Lexing
+pub mod Marks
+pub mod Parsing
+pub mod Typing
+pub mod Reading
