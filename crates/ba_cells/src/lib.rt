@@ -67,7 +67,9 @@ pub fn write_cell(
     ensures cells { IfOk result (λ written. (length written.items ≡ length cells.now)
         × AreCellsOf nodes.new written.items) }
     ensures value { IfOk result (λ written.
-        AreWritten (λ free. truth free nodes.old when) (λ free. number_of free nodes.old index.now) nodes.old cells.now value.now nodes.new written.items) }
+        AreWritten (λ free. truth free nodes.old when)
+        (λ free. number_of free nodes.old index.now)
+        nodes.old cells.now value.now nodes.new written.items) }
     ensures extends { Extends nodes.old nodes.new }
     ensures count { gates_in nodes.new ≤ gates_in nodes.old + 104 * length cells.now + 224 }
 {

@@ -1,10 +1,11 @@
 -- A certificate that is written to a file of a world, which may tell what it keeps under the file's name.
 
+use base.Fml.{GName}
 use Rattle.std.specs.Prelude.{◌≡◌, ℕ, Bool, true, false, ◌&&◌, is_some, Option, None, Some, option_and_then, List, [], ◌∷◌, take, bytes_eq, All, IfSome}
 use Rattle.ba_steps.specs.declared.sink.SinkError.{SinkError}
 use Rattle.ba_steps.specs.declared.sink.SinkError.TheVariants as sink
 use Rattle.ba_steps.specs.declared.step.CertStep.{CertStep}
-use Rattle.ba_steps.specs.Sinks.{Logs}
+use Rattle.ba_steps.specs.Sinks.{Logs, Told}
 use Rattle.ba_steps.specs.Steps.{IsFormed}
 use Rattle.ba_world.specs.World.{Appends, AppendsPrefix, OnlyWrites, Outside, StaysBut}
 use Rattle.ba_world.specs.declared.world.WorldError.{WorldError}
@@ -29,6 +30,15 @@ steps_at h name outside = steps_kept h (outside.kept name)
 -- as the one log of a sink
 abbrev pub logs_at : CertHead → List ℕ → Outside → Logs
 logs_at h name outside = steps_at h name outside ∷ []
+
+-- what the sink tells that writes there, through a reference of this name
+abbrev pub told_at : CertHead → List ℕ → Outside → GName → Told
+told_at h name outside world = record {
+  over = None;
+  logs = logs_at h name outside;
+  faults = outside.write_faults;
+  references = world ∷ [];
+}
 
 -- the file of this name holds this text, where what it holds is told; and text was appended to it
 abbrev pub Holds : List ℕ → List ℕ → Outside → Type 0

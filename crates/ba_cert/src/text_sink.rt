@@ -4,9 +4,9 @@ ghost use Rattle.std.specs.Prelude.{◌≡◌, ◌⊎◌, ◌<◌, ◌≤◌, �
 ghost use Rattle.ba_world.specs.World.{HasWriteFault, Outside};
 ghost use Rattle.ba_cert.specs.declared.head.CertHead.{CertHead};
 ghost use Rattle.ba_steps.specs.Steps.{IsFormed};
-ghost use Rattle.ba_steps.specs.Sinks.{MayAdd, MayAddStep, RefusesInTurn, Rose, with_step, with_told};
+ghost use Rattle.ba_steps.specs.Sinks.{MayAdd, RefusesInTurn, Takes, told_by_both, with_told};
 ghost use Rattle.ba_cert.specs.Text.{line_of, text_of, with_feed};
-ghost use Rattle.ba_cert.specs.Writing.{AppendsPrefixTo, AppendsTo, Holds, HoldsBeginning, HoldsPrefix, IsUnbegun, OnlyWritesTo, is_sound, logs_at, no_head, nothing_told, sink_error, steps_at};
+ghost use Rattle.ba_cert.specs.Writing.{AppendsPrefixTo, AppendsTo, Holds, HoldsBeginning, HoldsPrefix, IsUnbegun, OnlyWritesTo, is_sound, logs_at, no_head, nothing_told, sink_error, steps_at, told_at};
 
 use crate::head::CertHead;
 use crate::writer::{groups_have_32_bits, head_text, is_head, step_text};
@@ -215,13 +215,8 @@ impl<'a, W: World, S: Start> TextSink<'a, W, S> {
 }
 
 impl<'a, W: World, S: Start> StepSink for TextSink<'a, W, S> {
-    ghost over = { λ _. None };
-
-    ghost logs = { λ sink. logs_at sink.head sink.name.now (W.outside sink.world.now) };
-
-    ghost faults = { λ sink. (W.outside sink.world.now).write_faults };
-
-    ghost references = { λ sink. sink.world.ghost_name ∷ [] };
+    ghost told = { λ sink. told_at sink.head sink.name.now (W.outside sink.world.now)
+        sink.world.ghost_name };
 
     fn begin(&mut self, _formula: &Formula, _softs: &[(Lit, u32)]) -> Result<(), SinkError>
         ensures never { result ≡ Ok tt }
@@ -239,18 +234,11 @@ impl<'a, W: World, S: Start> StepSink for TextSink<'a, W, S> {
         ensures not_whole { OnErr result (self.new.whole ≡ false) }
         ensures again { self.old.whole ≡ false
             → (result ≡ Err SinkError.Memory) × (self.new ≡ self.old) }
-        ensures told { OnOk result
-            (logs_at self.new.head self.new.name.now (W.outside self.new.world.now)
-            ≡ with_step step.now
-            (logs_at self.old.head self.old.name.now (W.outside self.old.world.now))) }
-        ensures refused { OnErr result (MayAddStep step.now
-            (logs_at self.old.head self.old.name.now (W.outside self.old.world.now))
-            (logs_at self.new.head self.new.name.now (W.outside self.new.world.now))) }
-        ensures cause { result ≡ Err SinkError.Failed
-            → HasWriteFault (W.outside self.old.world.now) (W.outside self.new.world.now) }
-        ensures no_fall { (W.outside self.old.world.now).write_faults
-            ≤ (W.outside self.new.world.now).write_faults }
-        ensures same_references { self.new.world.ghost_name ≡ self.old.world.ghost_name }
+        ensures takes { Takes step.now result
+            (told_at self.old.head self.old.name.now (W.outside self.old.world.now)
+            self.old.world.ghost_name)
+            (told_at self.new.head self.new.name.now (W.outside self.new.world.now)
+            self.new.world.ghost_name) }
     {
         if !self.whole {
             return Err(SinkError::Memory);
@@ -268,20 +256,13 @@ impl<'a, W: World, S: Start> StepSink for TextSink<'a, W, S> {
 pub struct CertSink<'a, 'b, W: World, S: Start, D: StepSink> {
     pub text: TextSink<'a, W, S>,
     pub next: &'b mut D,
-    ghost no_fall: { S.faults ≤ D.faults next.now },
+    ghost no_fall: { S.faults ≤ (D.told next.now).faults },
 }
 
 impl<'a, 'b, W: World, S: Start, D: StepSink> StepSink for CertSink<'a, 'b, W, S, D> {
-    ghost over = { λ sink. D.over sink.next.now };
-
-    ghost logs = { λ sink.
-        steps_at sink.text.head sink.text.name.now (W.outside sink.text.world.now)
-        ∷ D.logs sink.next.now };
-
-    ghost faults = { λ sink. (W.outside sink.text.world.now).write_faults + D.faults sink.next.now };
-
-    ghost references = { λ sink. sink.text.world.ghost_name ∷ sink.next.ghost_name
-        ∷ D.references sink.next.now };
+    ghost told = { λ sink. told_by_both sink.next.ghost_name
+        (told_at sink.text.head sink.text.name.now (W.outside sink.text.world.now)
+        sink.text.world.ghost_name) (D.told sink.next.now) };
 
     fn begin(&mut self, formula: &Formula, softs: &[(Lit, u32)]) -> Result<(), SinkError> {
         self.next.begin(formula, softs)
@@ -289,32 +270,19 @@ impl<'a, 'b, W: World, S: Start, D: StepSink> StepSink for CertSink<'a, 'b, W, S
 
     fn take(&mut self, step: &CertStep) -> Result<(), SinkError>
         requires formed { IsFormed step.now }
-        ensures told { OnOk result (logs_at self.new.text.head self.new.text.name.now
-            (W.outside self.new.text.world.now) ++ D.logs self.new.next.now
-            ≡ with_step step.now (logs_at self.old.text.head self.old.text.name.now
-            (W.outside self.old.text.world.now) ++ D.logs self.old.next.now)) }
-        ensures refused { OnErr result (MayAddStep step.now
-            (logs_at self.old.text.head self.old.text.name.now
-            (W.outside self.old.text.world.now) ++ D.logs self.old.next.now)
-            (logs_at self.new.text.head self.new.text.name.now
-            (W.outside self.new.text.world.now) ++ D.logs self.new.next.now)) }
+        ensures takes { Takes step.now result
+            (told_by_both self.old.next.ghost_name
+            (told_at self.old.text.head self.old.text.name.now (W.outside self.old.text.world.now)
+            self.old.text.world.ghost_name) (D.told self.old.next.now))
+            (told_by_both self.new.next.ghost_name
+            (told_at self.new.text.head self.new.text.name.now (W.outside self.new.text.world.now)
+            self.new.text.world.ghost_name) (D.told self.new.next.now)) }
         ensures in_turn { OnErr result (RefusesInTurn step.now
             (logs_at self.old.text.head self.old.text.name.now
             (W.outside self.old.text.world.now))
             (logs_at self.new.text.head self.new.text.name.now
             (W.outside self.new.text.world.now))
-            (D.logs self.old.next.now) (D.logs self.new.next.now)) }
-        ensures over_stays { D.over self.new.next.now ≡ D.over self.old.next.now }
-        ensures cause { result ≡ Err SinkError.Failed
-            → Rose ((W.outside self.old.text.world.now).write_faults + D.faults self.old.next.now)
-            ((W.outside self.new.text.world.now).write_faults + D.faults self.new.next.now) }
-        ensures no_fall { (W.outside self.old.text.world.now).write_faults
-            + D.faults self.old.next.now
-            ≤ (W.outside self.new.text.world.now).write_faults + D.faults self.new.next.now }
-        ensures same_references { self.new.text.world.ghost_name ∷ self.new.next.ghost_name
-            ∷ D.references self.new.next.now
-            ≡ self.old.text.world.ghost_name ∷ self.old.next.ghost_name
-            ∷ D.references self.old.next.now }
+            (D.told self.old.next.now).logs (D.told self.new.next.now).logs) }
     {
         self.text.take(step)?;
         self.next.take(step)

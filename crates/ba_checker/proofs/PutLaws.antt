@@ -1,14 +1,12 @@
 -- Steps that were put, one after the other.
 
-use base.Fml.{GName}
-use Rattle.std.proofs.Common.{◌≡◌, ℕ, Option, List, [], ◌∷◌, ◌++◌, refl, sym, ap, subst, ◌∙◌, arith}
+use Rattle.std.proofs.Common.{◌≡◌, List, [], ◌∷◌, ◌++◌, refl, sym, ap, subst, ◌∙◌, arith}
 use Rattle.std.proofs.lemmas.List.{append_assoc}
 use Rattle.ba_steps.specs.Sinks.{Logs, with_step, MayAddStep}
-use Rattle.ba_steps.specs.declared.sink.Basis.{Basis}
 use Rattle.ba_steps.specs.declared.step.CertStep.{CertStep}
 use Rattle.ba_checker.specs.States.{State}
 use Rattle.ba_checker.specs.Judging.{after}
-use Rattle.ba_checker.specs.Puts.{Putting, Lasts, with_steps, LeavesSteps, leaves_all, leaves_last}
+use Rattle.ba_checker.specs.Puts.{Checking, Lasts, with_steps, LeavesSteps, leaves_all, leaves_last}
 
 with_steps-append : (xs ys : List CertStep) (logs : Logs) →
     with_steps (xs ++ ys) logs ≡ with_steps ys (with_steps xs logs)
@@ -43,19 +41,11 @@ leaves_after {lead} {more} xs new k l m first then_ (leaves_last steps last befo
     taken (subst Q (logs_then xs steps k l (with_steps steps l) first refl) may)
 
 -- what lasts where nothing is done, and over two calls
-pub lasts_same : {S J : Type 0} (over : S → Option (List Basis)) (faults : S → ℕ)
-    (references : S → List GName) (p : Putting S J) → Lasts over faults references p p
-lasts_same over faults references p = record {
-  judge_stays = refl;
-  over_stays = refl;
-  no_fall = omega arith;
-  same_references = refl;
-}
+pub lasts_same : (p : Checking) → Lasts p p
+lasts_same p = record { judge_stays = refl; over_stays = refl; no_fall = omega arith; same_references = refl }
 
-pub lasts_then : {S J : Type 0} (over : S → Option (List Basis)) (faults : S → ℕ)
-    (references : S → List GName) (p q r : Putting S J) → Lasts over faults references p q →
-    Lasts over faults references q r → Lasts over faults references p r
-lasts_then over faults references p q r first second = record {
+pub lasts_then : (p q r : Checking) → Lasts p q → Lasts q r → Lasts p r
+lasts_then p q r first second = record {
   judge_stays = second.judge_stays ∙ first.judge_stays;
   over_stays = second.over_stays ∙ first.over_stays;
   no_fall = omega (arith, first.no_fall, second.no_fall);

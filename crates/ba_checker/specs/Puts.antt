@@ -1,28 +1,42 @@
 -- A checker whose steps go to a sink.
 
-use base.Fml.{GName}
-use Rattle.std.specs.Prelude.{◌≡◌, ℕ, ◌≤◌, ◌⊎◌, true, Option, None, Some, Result, Ok, Err, List, [], ◌∷◌, ◌++◌}
-use Rattle.ba_steps.specs.Sinks.{Logs, with_step, MayAddStep}
-use Rattle.ba_steps.specs.declared.sink.Basis.{Basis}
+use Rattle.std.specs.Prelude.{◌≡◌, ◌≤◌, ◌⊎◌, true, false, Option, None, Some, Result, Ok, Err, IfErr, OnErr, OnOk, List, [], ◌∷◌, ◌++◌}
+use Rattle.ba_choices.specs.Judges.{Judge}
+use Rattle.ba_steps.specs.Sinks.{HasFault, Logs, MayAddStep, Told, with_step}
 use Rattle.ba_steps.specs.declared.step.CertStep.{CertStep}
 use Rattle.ba_steps.specs.declared.sink.SinkError.{SinkError}
+use Rattle.ba_steps.specs.declared.sink.SinkError.TheVariants.{Failed}
 use Rattle.ba_checker.specs.States.{State}
-use Rattle.ba_checker.specs.Judging.{after}
+use Rattle.ba_checker.specs.Judging.{after, error_of}
 
-pub record Putting (S J : Type 0) : Type 0 where
+-- a checker with a judge of runs and a sink, by what the sink tells
+pub record Putting (J : Type 0) : Type 0 where
   pub checker : State
   pub judge : J
-  pub sink : S
+  pub told : Told
   pub refusal : Option SinkError
 
--- what no call changes, by what the sink tells of its formulas, its faults and its references: the judge, the formulas and the
--- references stay the same, and the faults don't fall
-pub record Lasts {S J : Type 0} (over : S → Option (List Basis)) (faults : S → ℕ)
-    (references : S → List GName) (old new : Putting S J) : Type 0 where
-  pub judge_stays : new.judge ≡ old.judge
-  pub over_stays : over new.sink ≡ over old.sink
-  pub no_fall : faults old.sink ≤ faults new.sink
-  pub same_references : references new.sink ≡ references old.sink
+-- A LOG OF PROOFS: a checker, which runs its judge accepts, what its sink tells, and the refusal that is answered from now on
+pub record Checking : Type 0 where
+  pub checker : State
+  pub accepts : Judge
+  pub told : Told
+  pub refusal : Option SinkError
+
+abbrev pub log_of : {J : Type 0} → (J → Judge) → Putting J → Checking
+log_of accepts c = record {
+  checker = c.checker;
+  accepts = accepts c.judge;
+  told = c.told;
+  refusal = c.refusal;
+}
+
+-- what no call changes: the judge, the formulas and the references stay the same, and the faults don't fall
+pub record Lasts (old new : Checking) : Type 0 where
+  pub judge_stays : new.accepts ≡ old.accepts
+  pub over_stays : new.told.over ≡ old.told.over
+  pub no_fall : old.told.faults ≤ new.told.faults
+  pub same_references : new.told.references ≡ old.told.references
 
 -- the refusal that an answer is
 abbrev pub refusal_of : Result Unit SinkError → Option SinkError
@@ -32,6 +46,37 @@ refusal_of (Err error) = Some error
 -- the checker has taken the step, or refuses every step from now on
 abbrev pub IsTakenOrAsleep : State → CertStep → State → Type 0
 IsTakenOrAsleep old step new = (new ≡ after old step) ⊎ (new.refused ≡ true)
+
+-- the step is allowed, where the checker is asked
+abbrev pub IsAllowed : CertStep → Checking → Type 0
+IsAllowed step s = s.checker.refused ≡ false → error_of s.accepts s.checker step ≡ None
+
+-- a step is put through the checker, and then handed to the sink, where nothing was refused before
+pub record HandsOn (step : CertStep) (result : Result Unit SinkError) (old new : Checking) : Type 0 where
+  pub lasts : Lasts old new
+  pub refusal_stays : new.refusal ≡ old.refusal
+  pub taken : OnOk result (new.checker ≡ after old.checker step)
+  pub awake : OnOk result (new.checker.refused ≡ false)
+  pub told : OnOk result (new.told.logs ≡ with_step step old.told.logs)
+  pub taken_too : result ≡ Err Failed → new.checker ≡ after old.checker step
+  pub taken_or_asleep : OnErr result (IsTakenOrAsleep old.checker step new.checker)
+  pub refused : OnErr result (MayAddStep step old.told.logs new.told.logs)
+  pub cause : result ≡ Err Failed → HasFault old.told new.told
+
+-- A STEP IS PUT: it is handed on, and a refusal is answered from then on; after one nothing changes any more
+pub record Puts (step : CertStep) (result : Result Unit SinkError) (old new : Checking) : Type 0 where
+  pub lasts : Lasts old new
+  pub fresh : OnOk result (old.refusal ≡ None)
+  pub taken : OnOk result (new.checker ≡ after old.checker step)
+  pub awake : OnOk result (new.checker.refused ≡ false)
+  pub told : OnOk result (new.told.logs ≡ with_step step old.told.logs)
+  pub still_fresh : OnOk result (new.refusal ≡ None)
+  pub taken_too : old.refusal ≡ None → result ≡ Err Failed → new.checker ≡ after old.checker step
+  pub taken_or_asleep : old.refusal ≡ None → OnErr result (IsTakenOrAsleep old.checker step new.checker)
+  pub refused : OnErr result (MayAddStep step old.told.logs new.told.logs)
+  pub keeps : IfErr result (λ error. new.refusal ≡ Some error)
+  pub again : (error : SinkError) → old.refusal ≡ Some error → (result ≡ Err error) × (new ≡ old)
+  pub cause : result ≡ Err Failed → (old.refusal ≡ Some Failed) ⊎ HasFault old.told new.told
 
 -- the logs of a sink with these steps more, each in every told log
 abbrev pub with_steps : List CertStep → Logs → Logs

@@ -1,11 +1,9 @@
 //! A checker whose allowed steps go to a sink.
 
-ghost use Rattle.std.specs.Prelude.{◌≡◌, ◌⊎◌, true, false, None, Some, OnOk, OnErr, IfErr};
+ghost use Rattle.std.specs.Prelude.{◌≡◌, true, false, None};
 ghost use Rattle.ba_steps.specs.Steps.{IsFormed};
-ghost use Rattle.ba_steps.specs.Sinks.{with_step, MayAddStep, Rose};
-ghost use Rattle.ba_steps.specs.declared.sink.SinkError.{SinkError};
 ghost use Rattle.ba_checker.specs.Judging.{error_of, after};
-ghost use Rattle.ba_checker.specs.Puts.{Lasts, refusal_of, IsTakenOrAsleep};
+ghost use Rattle.ba_checker.specs.Puts.{Checking, HandsOn, IsAllowed, Puts, log_of, refusal_of};
 
 use crate::checker::Checker;
 use ba_steps::{CertStep, RunJudge, SinkError, StepSink};
@@ -13,14 +11,14 @@ use std::marker::Model;
 
 /// A checker, with a judge of runs and a sink. Each step goes through the checker and then to the sink. After a refusal
 /// every further step is refused in the same way.
-pub struct Checked<S, J> {
+pub struct Checked<S: StepSink, J: RunJudge> {
     checker: Checker,
     judge: J,
     sink: S,
     refusal: Option<SinkError>,
 }
 
-impl<S: Drop, J: Drop> Drop for Checked<S, J> {
+impl<S: StepSink + Drop, J: RunJudge + Drop> Drop for Checked<S, J> {
     fn drop(self) {
         let Checked {
             checker: _,
@@ -31,27 +29,26 @@ impl<S: Drop, J: Drop> Drop for Checked<S, J> {
     }
 }
 
-impl<S, J> Model for Checked<S, J> {
+impl<S: StepSink, J: RunJudge> Model for Checked<S, J> {
     ghost use Rattle.ba_checker.specs.Puts.{Putting};
 
-    ghost Value = { Putting S J };
+    ghost Value = { Putting J };
 
     ghost view = { λ c. record {
       checker = c.checker;
       judge = c.judge;
-      sink = c.sink;
-      refusal =
-          c.refusal;
+      told = S.told c.sink;
+      refusal = c.refusal;
     } };
 }
 
-impl<S: Drop, J: Drop> Checked<S, J> {
+impl<S: StepSink + Drop, J: RunJudge + Drop> Checked<S, J> {
     /// Puts the three together. It takes no memory.
     pub fn new(checker: Checker, judge: J, sink: S) -> Checked<S, J>
         ensures { result ≡ record {
           checker = checker;
           judge = judge;
-          sink = sink;
+          told = S.told sink;
           refusal = None;
         } }
     {
@@ -63,17 +60,10 @@ impl<S: Drop, J: Drop> Checked<S, J> {
         }
     }
 
-    /// The checker.
-    pub fn checker(&self) -> &Checker
-        ensures { result.now ≡ self.now.checker }
-    {
-        &self.checker
-    }
-
     /// Gives the checker and the sink back. It takes no memory.
     pub fn finish(self) -> (Checker, S)
         ensures checker { result.0 ≡ self.checker }
-        ensures sink { result.1 ≡ self.sink }
+        ensures told { S.told result.1 ≡ self.told }
     {
         let Checked {
             checker,
@@ -86,6 +76,13 @@ impl<S: Drop, J: Drop> Checked<S, J> {
 }
 
 impl<S: StepSink, J: RunJudge> Checked<S, J> {
+    /// The checker.
+    pub fn checker(&self) -> &Checker
+        ensures { result.now ≡ self.now.checker }
+    {
+        &self.checker
+    }
+
     /// Puts a step that is allowed through the checker, and hands it to the sink.
     ///
     /// `Failed` comes only where the sink's faults rose in this call, or answered an earlier one; the checker has then
@@ -93,27 +90,9 @@ impl<S: StepSink, J: RunJudge> Checked<S, J> {
     /// answers `Memory` from then on. After a refusal nothing changes any more, and the answer stays the same.
     pub fn put(&mut self, step: &CertStep) -> Result<(), SinkError>
         requires formed { IsFormed step.now }
-        requires allowed { self.old.refusal ≡ None → self.old.checker.refused ≡ false
-            → error_of (J.accepts self.old.judge) self.old.checker step.now ≡ None }
-        ensures lasts { Lasts S.over S.faults S.references self.old self.new }
-        ensures fresh { OnOk result (self.old.refusal ≡ None) }
-        ensures taken { OnOk result (self.new.checker ≡ after self.old.checker step.now) }
-        ensures awake { OnOk result (self.new.checker.refused ≡ false) }
-        ensures taken_too { self.old.refusal ≡ None → result ≡ Err SinkError.Failed
-            → self.new.checker ≡ after self.old.checker step.now }
-        ensures taken_or_asleep { self.old.refusal ≡ None
-            → OnErr result (IsTakenOrAsleep self.old.checker step.now self.new.checker) }
-        ensures told { OnOk result (S.logs self.new.sink
-            ≡ with_step step.now (S.logs self.old.sink)) }
-        ensures still_fresh { OnOk result (self.new.refusal ≡ None) }
-        ensures refused { OnErr result (MayAddStep step.now (S.logs self.old.sink)
-            (S.logs self.new.sink)) }
-        ensures keeps { IfErr result (λ error. self.new.refusal ≡ Some error) }
-        ensures again { (error : SinkError) → self.old.refusal ≡ Some error → (result ≡ Err error)
-            × (self.new ≡ self.old) }
-        ensures cause { result ≡ Err SinkError.Failed
-            → (self.old.refusal ≡ Some SinkError.Failed)
-            ⊎ Rose (S.faults self.old.sink) (S.faults self.new.sink) }
+        requires allowed { self.old.refusal ≡ None
+            → IsAllowed step.now (log_of J.accepts self.old) }
+        ensures { Puts step.now result (log_of J.accepts self.old) (log_of J.accepts self.new) }
     {
         if let Some(refusal) = self.refusal {
             return Err(refusal);
@@ -126,27 +105,49 @@ impl<S: StepSink, J: RunJudge> Checked<S, J> {
     /// Puts a step through the checker and hands it to the sink.
     fn hand_on(&mut self, step: &CertStep) -> Result<(), SinkError>
         requires formed { IsFormed step.now }
-        requires allowed { self.old.checker.refused ≡ false
-            → error_of (J.accepts self.old.judge) self.old.checker step.now ≡ None }
-        ensures lasts { Lasts S.over S.faults S.references self.old self.new }
-        ensures refusal_stays { self.new.refusal ≡ self.old.refusal }
-        ensures taken { OnOk result (self.new.checker ≡ after self.old.checker step.now) }
-        ensures awake { OnOk result (self.new.checker.refused ≡ false) }
-        ensures taken_too { result ≡ Err SinkError.Failed → self.new.checker
-            ≡ after self.old.checker step.now }
-        ensures taken_or_asleep { OnErr result
-            (IsTakenOrAsleep self.old.checker step.now self.new.checker) }
-        ensures told { OnOk result (S.logs self.new.sink
-            ≡ with_step step.now (S.logs self.old.sink)) }
-        ensures refused { OnErr result (MayAddStep step.now (S.logs self.old.sink)
-            (S.logs self.new.sink)) }
-        ensures cause { result ≡ Err SinkError.Failed
-            → Rose (S.faults self.old.sink) (S.faults self.new.sink) }
+        requires allowed { IsAllowed step.now (log_of J.accepts self.old) }
+        ensures { HandsOn step.now result (log_of J.accepts self.old) (log_of J.accepts self.new) }
     {
         if !advance(&mut self.checker, step, &self.judge) {
             return Err(SinkError::Memory);
         }
         self.sink.take(step)
+    }
+}
+
+/// A log of proofs, to which the steps of a derivation go one by one. A checker, a judge of runs and a sink of steps
+/// implement it together ([`Checked`]). Steps that learn or delete clauses, and cores, ask no judge.
+pub trait ProofLog {
+    // The checker, which runs the judge accepts, and what the sink tells.
+    ghost log: { Self → Checking };
+
+    /// The checker.
+    fn checker(&self) -> &Checker
+        ensures { result.now ≡ (log self.now).checker };
+
+    /// Puts a step that is allowed, as [`Checked::put`] does.
+    fn put(&mut self, step: &CertStep) -> Result<(), SinkError>
+        requires formed { IsFormed step.now }
+        requires allowed { (log self.old).refusal ≡ None → IsAllowed step.now (log self.old) }
+        ensures { Puts step.now result (log self.old) (log self.new) };
+}
+
+impl<S: StepSink, J: RunJudge> ProofLog for Checked<S, J> {
+    ghost log = { log_of J.accepts };
+
+    fn checker(&self) -> &Checker
+        ensures { result.now ≡ self.now.checker }
+    {
+        Checked::checker(self)
+    }
+
+    fn put(&mut self, step: &CertStep) -> Result<(), SinkError>
+        requires formed { IsFormed step.now }
+        requires allowed { self.old.refusal ≡ None
+            → IsAllowed step.now (log_of J.accepts self.old) }
+        ensures { Puts step.now result (log_of J.accepts self.old) (log_of J.accepts self.new) }
+    {
+        Checked::put(self, step)
     }
 }
 

@@ -25,7 +25,8 @@ pub fn implied_law()
 pub fn facts_law()
     ensures { (good : Judge) (formula : Cnf) (softs : List Soft) (conflicts sets : ℕ)
         → IsStart formula softs → (steps : List CertStep) → All IsFormed steps → (s : State)
-        → after_all good (first_state formula softs conflicts sets) steps ≡ Some s → Holds good formula softs (splits_of (first_state formula softs conflicts sets) steps) s }
+        → after_all good (first_state formula softs conflicts sets) steps ≡ Some s
+        → Holds good formula softs (splits_of (first_state formula softs conflicts sets) steps) s }
 {}
 
 /// No clause of at most two literals is learnt twice, whatever allowed steps come between.

@@ -18,5 +18,5 @@ mod replay;
 mod split;
 mod store;
 
-pub use checked::Checked;
+pub use checked::{Checked, ProofLog};
 pub use checker::{APART_BY, Checker};

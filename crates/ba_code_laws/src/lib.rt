@@ -16,5 +16,6 @@ pub fn places_change_no_run()
         (s : Traced)
         → list_all is_unrolled nodes ≡ true
         → without_trace (trace_nodes relaxes arrays nodes s) ≡ run_nodes
-        (record { relaxes = relaxes; turns = bound; arrays = arrays; operators = converting }) nodes [] s.code }
+        (record { relaxes = relaxes; turns = bound; arrays = arrays; operators = converting })
+        nodes [] s.code }
 {}

@@ -1,8 +1,9 @@
 -- Parts of code whose ends depend on what may be relaxed by nothing but the choices that are made. Where code
 -- has no loops, a traced run of them notes the same places.
 use Rattle.std.proofs.Common.{◌≡◌, suc, zero, ℕ, ◌+◌, ℤ, pos, Bool, true, false, Result, Ok, Err, List, [], ◌∷◌, ◌++◌, append-nil, append_assoc, refl, sym, ◌∙◌, ap}
+use Rattle.std.proofs.lemmas.Bool.{and_from, and_parts}
 use Rattle.std.proofs.lemmas.List.{map-append}
-use Rattle.std.specs.Prelude.{cond}
+use Rattle.std.specs.Prelude.{◌&&◌, cond}
 use Rattle.std.specs.Ordering.{int_eq}
 use Rattle.ba_choices.specs.declared.Choice.{Choice}
 use Rattle.ba_choices.specs.declared.Choice.TheVariants.{Keep, Take}
@@ -11,19 +12,21 @@ use Rattle.ba_code.specs.State.{CodeAct, CodeEnding, CodeExecution, CodeState}
 use Rattle.ba_code.specs.declared.nodes.ArrayInfo.{ArrayInfo}
 use Rattle.ba_code.specs.declared.nodes.Take as code
 use Rattle.ba_code_laws.specs.Tracing.{Relaxes, Traced, TracedExecution, at_place, is_relaxed, traced_picked, untraced, with_trace}
+use Rattle.ba_code_laws.specs.Visits.{Visit, are_kept, chosen}
 use Rattle.ba_tree.specs.Acts.{ActOn, EndOn, give, halt_with, then_do, fork, after_part}
 use Rattle.ba_tree.specs.declared.run.Flow.{Flow}
 use Rattle.ba_tree.specs.declared.run.Flow.TheVariants.{Next, Leaves}
 use Rattle.ba_tree.specs.declared.run.Halt.{Halt}
 use Rattle.ba_tree.specs.declared.run.Halt.TheVariants.{AssertFails, Trap, Beyond, WrongChoices}
 use Rattle.ba_tree.specs.declared.run.Place.{Place}
-use Rattle.ba_code_visits.specs.Visits.{Visit, chosen, AreKept, choices_in, places_in}
+use Rattle.ba_code_visits.specs.Visits.{choices_in, places_in}
 use Rattle.ba_code_visits.proofs.Steady.{with_choices, with_left, Steady, Reads, take_steady}
 
 -- VISITS
 
 chosen_append : (x : Relaxes) (before after : List Visit) (rest : List Choice)
     → chosen x (before ++ after) ++ rest ≡ chosen x before ++ (chosen x after ++ rest)
+unfolding chosen
 chosen_append x [] after rest = refl
 chosen_append x (visit ∷ before) after rest = elim (is_relaxed x visit.place) as (λ b.
     cond b (visit.choice ∷ chosen x (before ++ after)) (chosen x (before ++ after)) ++ rest
@@ -43,18 +46,25 @@ places_append : (noted : List Place) (before after : List Visit)
 places_append noted before after = append_assoc noted (places_in before) (places_in after)
     ∙ ap (λ places. noted ++ places) (sym (map-append (λ (visit : Visit). visit.place) before after))
 
-kept_append : (x : Relaxes) (before after : List Visit) → AreKept x before → AreKept x after
-    → AreKept x (before ++ after)
+kept_append : (x : Relaxes) (before after : List Visit) → are_kept x before ≡ true
+    → are_kept x after ≡ true → are_kept x (before ++ after) ≡ true
+unfolding are_kept
 kept_append x [] after h k = k
-kept_append x (visit ∷ before) after h k = (h.0, kept_append x before after h.1 k)
+kept_append x (visit ∷ before) after h k =
+    let parts = and_parts _ _ h in and_from _ _ parts.0 (kept_append x before after parts.1 k)
 
-kept_before : (x : Relaxes) (before after : List Visit) → AreKept x (before ++ after) → AreKept x before
-kept_before x [] after h = tt
-kept_before x (visit ∷ before) after h = (h.0, kept_before x before after h.1)
+kept_before : (x : Relaxes) (before after : List Visit) → are_kept x (before ++ after) ≡ true
+    → are_kept x before ≡ true
+unfolding are_kept
+kept_before x [] after h = refl
+kept_before x (visit ∷ before) after h =
+    let parts = and_parts _ _ h in and_from _ _ parts.0 (kept_before x before after parts.1)
 
-kept_after : (x : Relaxes) (before after : List Visit) → AreKept x (before ++ after) → AreKept x after
+kept_after : (x : Relaxes) (before after : List Visit) → are_kept x (before ++ after) ≡ true
+    → are_kept x after ≡ true
+unfolding are_kept
 kept_after x [] after h = h
-kept_after x (visit ∷ before) after h = kept_after x before after h.1
+kept_after x (visit ∷ before) after h = kept_after x before after (and_parts _ _ h).1
 
 -- PARTS: a function gives the part for each way to say what may be relaxed
 
@@ -77,9 +87,9 @@ noting places s = record { code = s; places = places }
 pub record Replay {A : Type 0} (known : Type 0) (f : Relaxes → CodeAct A) (g : ActOn Traced A) (x : Relaxes)
     (s : CodeState) (r : Result A Halt) (t : CodeState) : Type 0 where
   pub visits : List Visit
-  pub kept : AreKept x visits
+  pub kept : are_kept x visits ≡ true
   pub used : s.choices ≡ chosen x visits ++ t.choices
-  pub runs : (y : Relaxes) → AreKept y visits → (rest : List Choice)
+  pub runs : (y : Relaxes) → are_kept y visits ≡ true → (rest : List Choice)
       → f y (with_choices s (chosen y visits ++ rest)) ≡ (r, with_choices t rest)
   pub noted : known → (rest : List Choice) (places : List Place)
       → g (noting places (with_choices s (choices_in visits ++ rest)))
@@ -140,10 +150,11 @@ replays_but {known = known} {f = f} {g = g} never replays = record {
 
 pub replays_steady : {A : Type 0} {known : Type 0} (f : CodeAct A) → Steady f
     → Replays known (λ x. f) (untraced f)
+unfolding chosen are_kept
 replays_steady {A = A} f steady = record {
   by = λ x s r t is right. record {
     visits = [];
-    kept = tt;
+    kept = refl;
     used = ap (λ (e : CodeEnding A). e.1.choices) (sym (steady s s.choices) ∙ is);
     runs = λ y kept rest. steady s rest ∙ ap (λ (e : CodeEnding A). with_left rest e) is;
     noted = λ is_known rest places.
@@ -274,14 +285,18 @@ kept_first arrays take false f s choices rest e is = is
 
 taken_first : (arrays : List ArrayInfo) (take : code.Take) (b : Bool) (f : CodeExecution) (s : CodeState)
     (values : List ℤ) (rest : List Choice)
-    → (b ≡ false → Take values ≡ Keep)
+    → cond b true false ≡ true
     → then_do (choice_where b (with_choices s (cond b (Take values ∷ []) [] ++ rest)))
     (as_picked arrays take f)
     ≡ with_left rest (if_taken (taken arrays take values s) s)
 taken_first arrays take true f s values rest kept = take_steady arrays take values s rest
-taken_first arrays take false f s values rest kept = absurd (differ (kept refl)) where
-  differ : Take values ≡ Keep → ⊥
+taken_first arrays take false f s values rest kept = absurd (differ kept) where
+  differ : false ≡ true → ⊥
   differ h = cc
+
+keep_first : (b : Bool) → cond b true true ≡ true
+keep_first true = refl
+keep_first false = refl
 
 -- a place as it stands in the code, and as it is come to
 module _ (known : Type 0) (written at : Place) (same : known → written ≡ at) (arrays : List ArrayInfo)
@@ -302,15 +317,16 @@ module _ (known : Type 0) (written at : Place) (same : known → written ≡ at)
       → ((used : List Choice) → choices ≡ used ++ t.choices
       → s.choices ≡ cond (is_relaxed x at) (Keep ∷ used) used ++ t.choices)
       → Replay known by_choice traced x s r t
+  unfolding chosen are_kept
   kept_replay x s choices r t is right used =
       let e : Replay known f g x (with_choices s choices) r t =
       replays.by x (with_choices s choices) r t is right in
       record {
         visits = visit Keep ∷ e.visits;
-        kept = (λ h. refl, e.kept);
+        kept = and_from _ _ (keep_first (is_relaxed x at)) e.kept;
         used = used (chosen x e.visits) e.used;
         runs = λ y kept rest. kept_first arrays take (is_relaxed y at) (f y) s (chosen y e.visits) rest
-            (r, with_choices t rest) (e.runs y kept.1 rest);
+            (r, with_choices t rest) (e.runs y (and_parts _ _ kept).1 rest);
         noted = λ is_known rest places. e.noted is_known rest (places ++ written ∷ [])
             ∙ ap (λ noted. with_trace noted (r, with_choices t rest))
             (append_assoc places (written ∷ []) (places_in e.visits)
@@ -322,6 +338,7 @@ module _ (known : Type 0) (written at : Place) (same : known → written ≡ at)
       → (choices : List Choice) → s.choices ≡ choices
       → then_do (first_choice choices s) (as_picked arrays take (f x)) ≡ (r, t)
       → is_wrong r ≡ false → Replay known by_choice traced x s r t
+  unfolding chosen are_kept
   relaxed_replay x s r t relaxed [] given is right =
       absurd (differ (ap (λ (e : CodeEnding (Flow ℕ)). is_wrong e.0) is ∙ right)) where
         differ : true ≡ false → ⊥
@@ -333,21 +350,19 @@ module _ (known : Type 0) (written at : Place) (same : known → written ≡ at)
       let steady : Steady (λ s. if_taken (taken arrays take values s) s) = take_steady arrays take values in
       record {
         visits = visit (Take values) ∷ [];
-        kept = (λ not_relaxed. absurd (differ (sym relaxed ∙ not_relaxed)), tt);
+        kept = ap (λ b. cond b true false && true) relaxed;
         used = given ∙ ap (λ choices. Take values ∷ choices)
             (ap (λ (e : CodeEnding (Flow ℕ)). e.1.choices)
             (sym (steady (with_choices s choices) choices) ∙ is))
             ∙ ap (λ b. cond b (Take values ∷ []) [] ++ t.choices) (sym relaxed);
         runs = λ y kept rest. taken_first arrays take (is_relaxed y at) (f y) (with_choices s choices)
-            values rest kept.0
+            values rest (and_parts _ _ kept).0
             ∙ ap (λ (e : CodeEnding (Flow ℕ)). with_left rest e) is;
         noted = λ is_known rest places.
             ap (with_trace (places ++ written ∷ [])) (steady (with_choices s choices) rest
             ∙ ap (λ (e : CodeEnding (Flow ℕ)). with_left rest e) is)
             ∙ ap (λ place. with_trace (places ++ place ∷ []) (r, with_choices t rest)) (same is_known);
-      } where
-        differ : true ≡ false → ⊥
-        differ h = cc
+      }
 
   choice_replay : (x : Relaxes) (s : CodeState) (r : Result (Flow ℕ) Halt) (t : CodeState) (b : Bool)
       → is_relaxed x at ≡ b

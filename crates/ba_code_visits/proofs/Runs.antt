@@ -18,6 +18,7 @@ use Rattle.ba_code.specs.declared.nodes.Node.TheViews.{roll-Node}
 use Rattle.ba_code.specs.declared.trees.Code.{Code}
 use Rattle.ba_code.proofs.Paths.{filled-none}
 use Rattle.ba_code_laws.specs.Tracing.{Relaxes, Traced, TracedExecution, everywhere, trace_node, trace_nodes, trace_step}
+use Rattle.ba_code_laws.specs.Visits.{chosen}
 use Rattle.ba_tree.specs.Acts.{EndOn, in_order, then_do}
 use Rattle.ba_tree.specs.Meaning.{elements_with}
 use Rattle.ba_tree.specs.Run.{if_none_left, outcome_of_halt}
@@ -30,7 +31,7 @@ use Rattle.ba_tree.specs.declared.run.Outcome.{Outcome}
 use Rattle.ba_tree.specs.declared.run.Outcome.TheVariants.{Done, WrongChoices}
 use Rattle.ba_tree.specs.declared.run.Place.{Place}
 use Rattle.ba_tree.specs.declared.run.Step.{Step}
-use Rattle.ba_code_visits.specs.Visits.{HasVisits, choices_in, chosen}
+use Rattle.ba_code_visits.specs.Visits.{HasVisits, choices_in}
 use Rattle.ba_code_visits.proofs.Steady.{with_choices, Reads, operand_reads, two_read, all_read, value_reads, read_steady, value_steady, cells_steady, assert_steady, start_again, start_choices}
 use Rattle.ba_code_visits.proofs.Replays.{is_wrong, noting, nothing, Replay, Replays, replays_as, replays_where, replays_but, replays_steady, replays_give, replays_then, replays_choose, replays_after, replays_rounds, replays_pick}
 

@@ -13,14 +13,14 @@ use Rattle.ba_steps.specs.declared.step.CertStep.TheVariants.{Learn, Core, Delet
 use Rattle.ba_checker.specs.States.{State, first_state}
 use Rattle.ba_choices.specs.Judges.{Judge}
 use Rattle.ba_checker.specs.Judging.{error_of, after, after_all}
-use Rattle.ba_checker.specs.Puts.{IsTakenOrAsleep, with_steps, leaves_all, leaves_last}
+use Rattle.ba_checker.specs.Puts.{IsTakenOrAsleep, leaves_all, leaves_last}
 use Rattle.ba_checker.proofs.PutLaws.{logs_then, leaves_weaker, leaves_after}
 use Rattle.ba_checker.proofs.FactLaws.{next_allowed, after_append}
-use Rattle.ba_search.specs.Searching.{Searches, searches_none, searches_learn, searches_delete, Leaves as LeavesSearched}
+use Rattle.ba_search.specs.Searching.{Searches, searches_none, searches_learn, searches_delete, LeavesBetween as LeavesSearched, PutsBetween as PutsSearched}
 use Rattle.ba_search.proofs.StepLaws.{Gives}
-use Rattle.ba_cores.specs.Derivations.{Derives, derives_none, derives_learn, derives_delete, derives_core, Leaves, IsReached}
+use Rattle.ba_cores.specs.Derivations.{Derives, derives_none, derives_learn, derives_delete, derives_core, LeavesBetween, IsReached}
 use Rattle.ba_cores.specs.Findings.{IsFound}
-use Rattle.ba_cores.specs.Rounds.{IsReady, Puts, EndsRound}
+use Rattle.ba_cores.specs.Rounds.{IsReady, PutsBetween, EndsRoundBetween}
 use Rattle.ba_cores.specs.declared.costs.Found.{Found}
 use Rattle.ba_cores.specs.declared.costs.Found.TheVariants.{Least, NoModel, Spent}
 
@@ -140,16 +140,16 @@ found_on d c (NoModel hints) is = (
 found_on d c Spent is = is
 
 round_from : {good : Judge} {a b : State} {xs : List CertStep} → Derives good a xs b →
-    (c : State) (v w : ℕ) (found : Option Found) → EndsRound good b c v w found → EndsRound good a c v w found
+    (c : State) (v w : ℕ) (found : Option Found) → EndsRoundBetween good b c v w found → EndsRoundBetween good a c v w found
 round_from d c v w (Some found) is = found_on d c found is
 round_from d c v w None is = let s = derives_stays d in omega (arith, is, s.budget, s.conflicts)
 
 -- THE STEPS OF ROUNDS
-pub puts_none : (good : Judge) (s : State) (logs : Logs) → Puts good s s logs logs
+pub puts_none : (good : Judge) (s : State) (logs : Logs) → PutsBetween good s s logs logs
 puts_none good s logs = record { steps = []; leads = derives_none s; logs = refl }
 
-pub puts_on : (good : Judge) (a b c : State) (l m n : Logs) → Puts good a b l m → Puts good b c m n →
-    Puts good a c l n
+pub puts_on : (good : Judge) (a b c : State) (l m n : Logs) → PutsBetween good a b l m → PutsBetween good b c m n →
+    PutsBetween good a c l n
 puts_on good a b c l m n p q = record {
   steps = p.steps ++ q.steps;
   leads = derives_append p.leads c q.steps q.leads;
@@ -158,7 +158,7 @@ puts_on good a b c l m n p q = record {
 
 pub puts_core : (good : Judge) (s t : State) (lits : List Literal) (hints : List ℕ) (l m : Logs) →
     IsFormed (Core lits hints) → error_of good s (Core lits hints) ≡ None → t ≡ after s (Core lits hints) →
-    m ≡ with_step (Core lits hints) l → Puts good s t l m
+    m ≡ with_step (Core lits hints) l → PutsBetween good s t l m
 puts_core good s t lits hints l m formed allowed taken told = record {
   steps = Core lits hints ∷ [];
   leads = derives_core s t lits hints [] formed allowed
@@ -168,21 +168,21 @@ puts_core good s t lits hints l m formed allowed taken told = record {
 
 -- Learn and Delete steps, as the search tells them
 pub puts_searched : (good : Judge) {gives : Gives} {learnt all : List ℕ} (a b : State) (l m : Logs) →
-    (xs : List CertStep) × Searches good gives a learnt xs b all × (m ≡ with_steps xs l) → Puts good a b l m
-puts_searched good a b l m (xs, searches, logs) =
-    record { steps = xs; leads = searches_derives searches; logs = logs }
+    PutsSearched good gives a b learnt all l m → PutsBetween good a b l m
+puts_searched good a b l m searched =
+    record { steps = searched.steps; leads = searches_derives searched.leads; logs = searched.logs }
 
-pub puts_ready : (good : Judge) (a b : State) (l m : Logs) → Puts good a b l m → IsReady a → IsReady b
+pub puts_ready : (good : Judge) (a b : State) (l m : Logs) → PutsBetween good a b l m → IsReady a → IsReady b
 puts_ready good a b l m p r =
     let s = derives_stays p.leads in
     record { begun = s.ended ∙ r.begun; awake = s.refused ∙ r.awake; none_blocked = s.sets ∙ r.none_blocked }
 
 pub round_on : (good : Judge) (a b c : State) (l m : Logs) (v w : ℕ) (found : Option Found) →
-    Puts good a b l m →
-    EndsRound good b c v w found → EndsRound good a c v w found
+    PutsBetween good a b l m →
+    EndsRoundBetween good b c v w found → EndsRoundBetween good a c v w found
 round_on good a b c l m v w found p is = round_from p.leads c v w found is
 
-pub found_later : (good : Judge) (a b c : State) (l m : Logs) (found : Found) → Puts good a b l m →
+pub found_later : (good : Judge) (a b c : State) (l m : Logs) (found : Found) → PutsBetween good a b l m →
     IsFound good b c found → IsFound good a c found
 found_later good a b c l m found p is = found_on p.leads c found is
 
@@ -204,47 +204,47 @@ on_ok (Ok x) p = p
 on_ok (Err e) p = tt
 
 -- the same with a judge that is the same
-pub puts_as : (good same : Judge) (a b : State) (l m : Logs) → good ≡ same → Puts good a b l m →
-    Puts same a b l m
-puts_as good same a b l m is p = let P : Judge → Type 0 = λ g. Puts g a b l m in subst P is p
+pub puts_as : (good same : Judge) (a b : State) (l m : Logs) → good ≡ same → PutsBetween good a b l m →
+    PutsBetween same a b l m
+puts_as good same a b l m is p = let P : Judge → Type 0 = λ g. PutsBetween g a b l m in subst P is p
 
 pub found_as : (good same : Judge) (a b : State) (v w : ℕ) (o : Option Found) (found : Found) → good ≡ same →
-    o ≡ Some found → EndsRound good a b v w o → IsFound same a b found
+    o ≡ Some found → EndsRoundBetween good a b v w o → IsFound same a b found
 found_as good same a b v w o found is some ends =
-    let P : Option Found → Type 0 = λ p. EndsRound good a b v w p in
+    let P : Option Found → Type 0 = λ p. EndsRoundBetween good a b v w p in
     let Q : Judge → Type 0 = λ g. IsFound g a b found in
     subst Q is (subst P some ends)
 
 pub round_as : (good same : Judge) (a b c : State) (l m : Logs) (v w : ℕ) (found : Option Found) →
     same ≡ good →
-    Puts good a b l m → EndsRound same b c v w found → EndsRound good a c v w found
+    PutsBetween good a b l m → EndsRoundBetween same b c v w found → EndsRoundBetween good a c v w found
 round_as good same a b c l m v w found is p ends = let P : Judge → Type 0 =
-    λ g. EndsRound g b c v w found in round_on good a b c l m v w found p (subst P is ends)
+    λ g. EndsRoundBetween g b c v w found in round_on good a b c l m v w found p (subst P is ends)
 
 -- a round that leaves the weight from which on soft literals are assumed
 pub round_weight : (good : Judge) (a b : State) (v : ℕ) (found : Option Found) →
-    EndsRound good a b 0 0 found →
-    EndsRound good a b v v found
+    EndsRoundBetween good a b 0 0 found →
+    EndsRoundBetween good a b v v found
 round_weight good a b v (Some found) is = is
 round_weight good a b v None is = omega (arith, is)
 
 -- a round that ends with a model
 pub round_model : (good : Judge) (s : State) (v w : ℕ) (found : Option Found) →
     IfSome found (IsFound good s s) →
-    IfNone found (w < v) → EndsRound good s s v w found
+    IfNone found (w < v) → EndsRoundBetween good s s v w found
 round_model good s v w (Some found) is less = is
 round_model good s v w None is less = omega (arith, less)
 
 -- WHAT IS LEFT
-pub leaves_none : (good : Judge) (s : State) (logs : Logs) → Leaves good s logs s logs
+pub leaves_none : (good : Judge) (s : State) (logs : Logs) → LeavesBetween good s logs s logs
 leaves_none good s logs = leaves_all [] (derives_none s) refl
 
-pub leaves_put : (good : Judge) (a b : State) (l m : Logs) → Puts good a b l m → Leaves good a l b m
+pub leaves_put : (good : Judge) (a b : State) (l m : Logs) → PutsBetween good a b l m → LeavesBetween good a l b m
 leaves_put good a b l m p = leaves_all p.steps p.leads p.logs
 
 pub leaves_core : (good : Judge) (s t : State) (lits : List Literal) (hints : List ℕ) (l m : Logs) →
     IsFormed (Core lits hints) → error_of good s (Core lits hints) ≡ None →
-    IsTakenOrAsleep s (Core lits hints) t → MayAddStep (Core lits hints) l m → Leaves good s l t m
+    IsTakenOrAsleep s (Core lits hints) t → MayAddStep (Core lits hints) l m → LeavesBetween good s l t m
 leaves_core good s t lits hints l m formed allowed taken told =
     leaves_last [] (Core lits hints) s (derives_none s)
     (derives_core s (after s (Core lits hints)) lits hints [] formed allowed
@@ -252,11 +252,11 @@ leaves_core good s t lits hints l m formed allowed taken told =
     taken told
 
 pub leaves_searches : (good : Judge) {gives : Gives} {learnt : List ℕ} (a b : State) (l m : Logs) →
-    LeavesSearched good gives learnt a l b m → Leaves good a l b m
+    LeavesSearched good gives learnt a l b m → LeavesBetween good a l b m
 leaves_searches good a b l m left = leaves_weaker (λ steps t s. searches_derives s.1) left
 
-pub leaves_on : (good same : Judge) (a b c : State) (l m n : Logs) → same ≡ good → Puts good a b l m →
-    Leaves same b m c n → Leaves good a l c n
+pub leaves_on : (good same : Judge) (a b c : State) (l m n : Logs) → same ≡ good → PutsBetween good a b l m →
+    LeavesBetween same b m c n → LeavesBetween good a l c n
 leaves_on good same a b c l m n is p left =
-    let P : Judge → Type 0 = λ g. Leaves g b m c n in
+    let P : Judge → Type 0 = λ g. LeavesBetween g b m c n in
     leaves_after p.steps c l m n p.logs (λ steps t d. derives_append p.leads t steps d) (subst P is left)

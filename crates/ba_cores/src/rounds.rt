@@ -2,7 +2,6 @@
 //! answer means.
 
 ghost use Rattle.std.specs.Prelude.{◌≡◌, ◌-◌, ◌<◌, ◌≤◌, ◌∷◌, ◌++◌, [], None, true, false, length, IfOk, IfSome, IfNone, OnOk, Err};
-ghost use Rattle.ba_search.specs.Rules.{IsRestartRule, IsKeepRule};
 ghost use Rattle.ba_search.specs.Answers.{IsAnswer, IsCore, IsModel};
 ghost use Rattle.ba_search.specs.Searching.{MayGoOn, RanSearch};
 ghost use Rattle.ba_cores.specs.Derivations.{Leaves};
@@ -10,11 +9,11 @@ ghost use Rattle.ba_cores.specs.Findings.{IsFound};
 ghost use Rattle.ba_cores.specs.Rounds.{literals_of, heavy, IsReady, Puts, EndsRound};
 
 use crate::costs::Found;
-use ba_checker::Checked;
+use ba_checker::ProofLog;
 use ba_learn::Learnt;
 use ba_lits::{Lit, Model};
-use ba_search::{Answer, Search, SearchError};
-use ba_steps::{CertStep, RunJudge, StepSink};
+use ba_search::{Answer, Search, SearchError, SearchRules};
+use ba_steps::CertStep;
 use std::alloc::{AllocError, Global};
 
 /// Searches once for a model that satisfies the present soft literals of at least a weight. What is found, or nothing
@@ -22,93 +21,68 @@ use std::alloc::{AllocError, Global};
 /// smaller one.
 ///
 /// `SinkFailed` comes only where the sink's faults rose; `Memory` for want of memory.
-pub fn round<S, J, R, K>(
+pub fn round<L: ProofLog, R: SearchRules + Drop>(
     alloc: Global,
-    search: &mut Search<R, K>,
-    checked: &mut Checked<S, J>,
+    search: &mut Search<R>,
+    log: &mut L,
     weight: &mut u32,
 ) -> Result<Option<Found>, SearchError>
-where
-    S: StepSink + Drop,
-    J: RunJudge + Drop,
-    R: Fn(u64) -> u64 + Drop,
-    K: Fn(u64, u64) -> bool + Drop,
-    requires restart { IsRestartRule (R.pre search.old.restart) (R.post search.old.restart) }
-    requires keep { IsKeepRule (K.pre search.old.keep) (K.post search.old.keep) }
-    requires goes_on { MayGoOn search.old checked.old }
-    requires ready { IsReady checked.old.checker }
-    ensures found { IfOk result (λ found.
-        EndsRound (J.accepts checked.old.judge) checked.old.checker checked.new.checker weight.old
-        weight.new found) }
-    ensures goes_on { OnOk result (MayGoOn search.new checked.new) }
-    ensures puts { OnOk result (Puts (J.accepts checked.old.judge) checked.old.checker
-        checked.new.checker (S.logs checked.old.sink) (S.logs checked.new.sink)) }
-    ensures leaves { Leaves (J.accepts checked.old.judge) checked.old.checker
-        (S.logs checked.old.sink) checked.new.checker (S.logs checked.new.sink) }
-    ensures ran { RanSearch S.over S.faults S.references result search.old search.new
-        checked.old checked.new }
+    requires rules { R.are_rules search.old.rules }
+    requires goes_on { MayGoOn search.old (L.log log.old) }
+    requires ready { IsReady (L.log log.old).checker }
+    ensures found { IfOk result (EndsRound (L.log log.old) (L.log log.new) weight.old weight.new) }
+    ensures goes_on { OnOk result (MayGoOn search.new (L.log log.new)) }
+    ensures puts { OnOk result (Puts (L.log log.old) (L.log log.new)) }
+    ensures leaves { Leaves (L.log log.old) (L.log log.new) }
+    ensures ran { RanSearch result search.old search.new
+        (L.log log.old) (L.log log.new) }
 {
-    let Ok(assumptions) = heavy_literals(alloc, checked.checker().softs(), *weight) else {
+    let Ok(assumptions) = heavy_literals(alloc, log.checker().softs(), *weight) else {
         return Err(SearchError::Memory);
     };
-    let answer = search.solve(assumptions.as_slice(), checked)?;
-    take_answer(search, checked, weight, answer)
+    let answer = search.solve(assumptions.as_slice(), log)?;
+    take_answer(search, log, weight, answer)
 }
 
 /// Takes what a search under the soft literals of at least a weight answers: a model, which is of least cost where there
 /// are no lighter ones, or a core.
 ///
 /// `SinkFailed` comes only where the sink's faults rose; `Memory` for want of memory.
-fn take_answer<S, J, R, K>(
-    search: &mut Search<R, K>,
-    checked: &mut Checked<S, J>,
+fn take_answer<L: ProofLog, R: SearchRules + Drop>(
+    search: &mut Search<R>,
+    log: &mut L,
     weight: &mut u32,
     answer: Answer,
 ) -> Result<Option<Found>, SearchError>
-where
-    S: StepSink + Drop,
-    J: RunJudge + Drop,
-    R: Fn(u64) -> u64 + Drop,
-    K: Fn(u64, u64) -> bool + Drop,
-    requires restart { IsRestartRule (R.pre search.old.restart) (R.post search.old.restart) }
-    requires keep { IsKeepRule (K.pre search.old.keep) (K.post search.old.keep) }
-    requires answer { IsAnswer checked.old.checker
-        (literals_of (heavy weight.old checked.old.checker.softs)) answer }
-    requires goes_on { MayGoOn search.old checked.old }
-    requires ready { IsReady checked.old.checker }
-    ensures found { IfOk result (λ found.
-        EndsRound (J.accepts checked.old.judge) checked.old.checker checked.new.checker weight.old
-        weight.new found) }
-    ensures goes_on { OnOk result (MayGoOn search.new checked.new) }
-    ensures puts { OnOk result (Puts (J.accepts checked.old.judge) checked.old.checker
-        checked.new.checker (S.logs checked.old.sink) (S.logs checked.new.sink)) }
-    ensures leaves { Leaves (J.accepts checked.old.judge) checked.old.checker
-        (S.logs checked.old.sink) checked.new.checker (S.logs checked.new.sink) }
-    ensures ran { RanSearch S.over S.faults S.references result search.old search.new
-        checked.old checked.new }
+    requires answer { IsAnswer (L.log log.old).checker
+        (literals_of (heavy weight.old (L.log log.old).checker.softs)) answer }
+    requires goes_on { MayGoOn search.old (L.log log.old) }
+    requires ready { IsReady (L.log log.old).checker }
+    ensures found { IfOk result (EndsRound (L.log log.old) (L.log log.new) weight.old weight.new) }
+    ensures goes_on { OnOk result (MayGoOn search.new (L.log log.new)) }
+    ensures puts { OnOk result (Puts (L.log log.old) (L.log log.new)) }
+    ensures leaves { Leaves (L.log log.old) (L.log log.new) }
+    ensures ran { RanSearch result search.old search.new
+        (L.log log.old) (L.log log.new) }
 {
     match answer {
-        Answer::Model(model) => Ok(take_model(checked, weight, model)),
-        Answer::Core(core) => take_core(search, checked, core),
+        Answer::Model(model) => Ok(take_model(log, weight, model)),
+        Answer::Core(core) => take_core(search, log, core),
         Answer::Spent => Ok(Some(Found::Spent)),
     }
 }
 
 /// Takes a model of the soft literals of at least a weight. It is of least cost where there are no lighter ones; else
 /// the weight gets smaller.
-fn take_model<S: Drop, J: RunJudge + Drop>(
-    checked: &Checked<S, J>,
-    weight: &mut u32,
-    model: Model,
-) -> Option<Found>
-    requires model { IsModel checked.now.checker
-        (literals_of (heavy weight.old checked.now.checker.softs)) model.values }
-    requires ready { IsReady checked.now.checker }
-    ensures found { IfSome result (IsFound (J.accepts checked.now.judge) checked.now.checker
-        checked.now.checker) }
+fn take_model<L: ProofLog>(log: &L, weight: &mut u32, model: Model) -> Option<Found>
+    requires model { IsModel (L.log log.now).checker
+        (literals_of (heavy weight.old (L.log log.now).checker.softs)) model.values }
+    requires ready { IsReady (L.log log.now).checker }
+    ensures found { IfSome result (IsFound (L.log log.now).accepts (L.log log.now).checker
+        (L.log log.now).checker) }
     ensures less { IfNone result (weight.new < weight.old) }
 {
-    let checker = checked.checker();
+    let checker = log.checker();
     if !are_heavy(checker.softs(), *weight) {
         *weight = next_weight(checker.softs(), *weight).min(*weight / 2);
         return None;
@@ -122,74 +96,59 @@ fn take_model<S: Drop, J: RunJudge + Drop>(
 /// Takes a core: without a literal it says that there is no model, else it is put as a step.
 ///
 /// `SinkFailed` comes only where the sink's faults rose; `Memory` for want of memory.
-fn take_core<S, J, R, K>(
-    search: &mut Search<R, K>,
-    checked: &mut Checked<S, J>,
+fn take_core<L: ProofLog, R: SearchRules + Drop>(
+    search: &mut Search<R>,
+    log: &mut L,
     core: Learnt,
 ) -> Result<Option<Found>, SearchError>
-where
-    S: StepSink + Drop,
-    J: RunJudge + Drop,
-    R: Fn(u64) -> u64 + Drop,
-    K: Fn(u64, u64) -> bool + Drop,
-    requires core { IsCore checked.old.checker (literals_of checked.old.checker.softs) core.lits
+    requires core { IsCore (L.log log.old).checker (literals_of (L.log log.old).checker.softs) core.lits
         core.hints core.back }
-    requires goes_on { MayGoOn search.old checked.old }
-    requires ready { IsReady checked.old.checker }
-    ensures found { IfOk result (λ found.
-        EndsRound (J.accepts checked.old.judge) checked.old.checker checked.new.checker 0 0 found) }
-    ensures goes_on { OnOk result (MayGoOn search.new checked.new) }
-    ensures puts { OnOk result (Puts (J.accepts checked.old.judge) checked.old.checker
-        checked.new.checker (S.logs checked.old.sink) (S.logs checked.new.sink)) }
-    ensures leaves { Leaves (J.accepts checked.old.judge) checked.old.checker
-        (S.logs checked.old.sink) checked.new.checker (S.logs checked.new.sink) }
-    ensures ran { RanSearch S.over S.faults S.references result search.old search.new
-        checked.old checked.new }
+    requires goes_on { MayGoOn search.old (L.log log.old) }
+    requires ready { IsReady (L.log log.old).checker }
+    ensures found { IfOk result (EndsRound (L.log log.old) (L.log log.new) 0 0) }
+    ensures goes_on { OnOk result (MayGoOn search.new (L.log log.new)) }
+    ensures puts { OnOk result (Puts (L.log log.old) (L.log log.new)) }
+    ensures leaves { Leaves (L.log log.old) (L.log log.new) }
+    ensures ran { RanSearch result search.old search.new
+        (L.log log.old) (L.log log.new) }
 {
     if core.lits.is_empty() {
         return Ok(Some(Found::NoModel { hints: core.hints }));
     }
-    put_core(search, checked, core)?;
+    put_core(search, log, core)?;
     Ok(None)
 }
 
 /// Puts a core with literals as a step, and hands the new clauses to the search.
 ///
 /// `SinkFailed` comes only where the sink's faults rose; `Memory` for want of memory.
-fn put_core<S, J, R, K>(
-    search: &mut Search<R, K>,
-    checked: &mut Checked<S, J>,
+fn put_core<L: ProofLog, R: SearchRules + Drop>(
+    search: &mut Search<R>,
+    log: &mut L,
     core: Learnt,
 ) -> Result<(), SearchError>
-where
-    S: StepSink + Drop,
-    J: RunJudge + Drop,
-    R: Fn(u64) -> u64 + Drop,
-    K: Fn(u64, u64) -> bool + Drop,
-    requires core { IsCore checked.old.checker (literals_of checked.old.checker.softs) core.lits
+    requires core { IsCore (L.log log.old).checker (literals_of (L.log log.old).checker.softs) core.lits
         core.hints core.back }
     requires some { 0 < length core.lits }
-    requires goes_on { MayGoOn search.old checked.old }
-    requires ready { IsReady checked.old.checker }
-    ensures puts { OnOk result (Puts (J.accepts checked.old.judge) checked.old.checker
-        checked.new.checker (S.logs checked.old.sink) (S.logs checked.new.sink)) }
-    ensures leaves { Leaves (J.accepts checked.old.judge) checked.old.checker
-        (S.logs checked.old.sink) checked.new.checker (S.logs checked.new.sink) }
-    ensures fewer { OnOk result (checked.new.checker.budget - checked.new.checker.conflicts <
-        checked.old.checker.budget - checked.old.checker.conflicts) }
-    ensures goes_on { OnOk result (MayGoOn search.new checked.new) }
-    ensures ran { RanSearch S.over S.faults S.references result search.old search.new
-        checked.old checked.new }
+    requires goes_on { MayGoOn search.old (L.log log.old) }
+    requires ready { IsReady (L.log log.old).checker }
+    ensures puts { OnOk result (Puts (L.log log.old) (L.log log.new)) }
+    ensures leaves { Leaves (L.log log.old) (L.log log.new) }
+    ensures fewer { OnOk result ((L.log log.new).checker.budget - (L.log log.new).checker.conflicts <
+        (L.log log.old).checker.budget - (L.log log.old).checker.conflicts) }
+    ensures goes_on { OnOk result (MayGoOn search.new (L.log log.new)) }
+    ensures ran { RanSearch result search.old search.new
+        (L.log log.old) (L.log log.new) }
 {
-    checked.checker().keeps_facts();
+    log.checker().keeps_facts();
     let step = CertStep::Core {
         lits: core.lits,
         hints: core.hints,
     };
-    if let Err(refusal) = checked.put(&step) {
+    if let Err(refusal) = log.put(&step) {
         return Err(SearchError::from(refusal));
     }
-    search.take_new(checked)
+    search.take_new(log)
 }
 
 /// The soft literals of at least a weight, without their weights, in their order.

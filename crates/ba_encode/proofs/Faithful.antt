@@ -16,6 +16,7 @@ use Rattle.ba_clauses.specs.Encodings.{AreRead, IsEncoding, all_hold, reading_by
 use Rattle.ba_clauses.specs.declared.encoding.Reading.{Reading}
 use Rattle.ba_clauses.specs.declared.encoding.Reading.TheVariants.{Constant, Variable}
 use Rattle.ba_code_laws.specs.Tracing.{is_relaxed}
+use Rattle.ba_code_laws.specs.Visits.{are_kept, chosen}
 use Rattle.ba_encode.proofs.Choosing.{choices-by, choices-same, same-from, same-left, same-right}
 use Rattle.ba_encode.proofs.Meant.{chosen-is, kept-is, met-is}
 use Rattle.ba_encode.proofs.Relaxed.{group-within, is_member, no_group, relaxed-is}
@@ -43,7 +44,7 @@ use Rattle.ba_nodes.specs.Gates.{Extends, constant_bit, truth}
 use Rattle.ba_numbers.specs.Numbers.{converted}
 use Rattle.ba_words.specs.Words.{number_of, word_type}
 use Rattle.ba_wordlist.specs.Facts.{shows_type}
-use Rattle.ba_wordlist.specs.Meaning.{are_kept, are_met, chosen, is_nonzero, value_at, values_of, visits_in}
+use Rattle.ba_wordlist.specs.Meaning.{are_met, is_nonzero, value_at, values_of, visits_in}
 use Rattle.ba_wordlist.specs.declared.words.PlaceWords.{PlaceWords}
 use Rattle.ba_wordlist.specs.declared.words.WordList.{WordList}
 use Rattle.ba_wordlist.specs.declared.words.WordOp.TheVariants.{Free}

@@ -9,6 +9,7 @@ use Rattle.ba_bits.specs.Needs.{are_needed}
 use Rattle.ba_choices.specs.declared.Choice.{Choice}
 use Rattle.ba_choices.specs.declared.Choice.TheVariants.{Keep, Take}
 use Rattle.ba_code_laws.specs.Tracing.{Relaxes, is_relaxed}
+use Rattle.ba_code_laws.specs.Visits.{Visit, are_kept, chosen, is_keep}
 use Rattle.ba_encode.proofs.Choosing.{choice_with, choices_where, choices_with, number_with}
 use Rattle.ba_encode.specs.Parts.{ArePlaces, IsPlace, is_fixed, is_set, is_signed, roots_along, roots_at, selector_at, stays, value_bits}
 use Rattle.ba_encode.specs.declared.places.PlaceBits.{PlaceBits}
@@ -21,7 +22,7 @@ use Rattle.ba_words.specs.Words.{number_of, word_type}
 use Rattle.ba_wordlist.proofs.Choices.{chosen-first, kept-first}
 use Rattle.ba_wordlist.proofs.Values.{of_name}
 use Rattle.ba_wordlist.specs.Facts.{are_names, are_typed, is_name, is_place, is_typed, shows_type}
-use Rattle.ba_wordlist.specs.Meaning.{Visit, are_kept, are_met, choice_of, chosen, is_keep, is_nonzero, value_at, visit_of, visits_in}
+use Rattle.ba_wordlist.specs.Meaning.{are_met, choice_of, is_nonzero, value_at, visit_of, visits_in}
 use Rattle.ba_wordlist.specs.declared.words.PlaceWords.{PlaceWords}
 use Rattle.ba_wordlist.specs.declared.words.WordOp.{WordOp}
 use Rattle.ba_wordlist.specs.declared.words.WordOp.TheVariants.{Free}

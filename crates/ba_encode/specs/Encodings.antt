@@ -2,6 +2,7 @@
 
 use Rattle.std.specs.Prelude.{◌≡◌, ℕ, ◌≤◌, Bool, true, false, not, List, map, Contains}
 use Rattle.ba_code_laws.specs.Tracing.{Relaxes}
+use Rattle.ba_code_laws.specs.Visits.{are_kept, chosen}
 use Rattle.ba_encode.specs.Groups.{groups_of, numbered, relaxes_in}
 use Rattle.ba_encode.specs.Readings.{choices_read}
 use Rattle.ba_encode.specs.declared.encoded.Encoded.{Encoded}
@@ -11,7 +12,7 @@ use Rattle.ba_encode.specs.declared.grouping.Numbered.{Numbered}
 use Rattle.ba_lits.specs.Formulas.{Cnf}
 use Rattle.ba_lits.specs.Satisfaction.{Assignment, all_true, lit_true}
 use Rattle.ba_wordlist.specs.Meaning as words
-use Rattle.ba_wordlist.specs.Meaning.{are_kept, chosen, holds, visits_of}
+use Rattle.ba_wordlist.specs.Meaning.{holds, visits_of}
 use Rattle.ba_wordlist.specs.declared.words.WordList.{WordList}
 
 -- A good run in which these executions may be relaxed: an assignment of the list's words under which all

@@ -10,7 +10,7 @@ use Rattle.ba_derivations.specs.declared.verdict.FoundSet.{FoundSet}
 use Rattle.ba_derivations.proofs.GroupLaws.{cost_is}
 use Rattle.ba_encode.specs.Readings.{choices_read, is_in_range}
 use Rattle.ba_encode.specs.declared.encoded.Encoded.{Encoded}
-use Rattle.ba_enum.specs.Leading.{IsReached, IsNext, IsReady, Puts}
+use Rattle.ba_enum.specs.Leading.{IsReached, IsNext, IsReady, PutsBetween}
 use Rattle.ba_enum.specs.Problems.{IsReadable}
 use Rattle.ba_encode.specs.Softs.{softs_of}
 use Rattle.ba_enum.proofs.GroupLaws.{groups_ascend, some_groups, groups_exist, not_among}
@@ -134,7 +134,7 @@ pub block_puts : (good : Judge) (encoded : Encoded) (s t : State) (values : List
     IsReadable encoded good → IsReached good encoded.formula (softs_of encoded.groups) s found →
     IsNext encoded.formula (softs_of encoded.groups) s values → IsReady s → IsRead encoded values set →
     t ≡ after s (Block set.groups set.run) → m ≡ with_step (Block set.groups set.run) l →
-    Puts good encoded.formula (softs_of encoded.groups) s t (set ∷ []) l m
+    PutsBetween good encoded.formula (softs_of encoded.groups) s t (set ∷ []) l m
 block_puts good encoded s t values found set l m readable reached next ready read taken told = record {
   steps = Block set.groups set.run ∷ [];
   leads = record {

@@ -13,7 +13,7 @@ use Rattle.ba_derivations.specs.declared.verdict.FoundSet.{FoundSet}
 use Rattle.ba_derivations.specs.declared.verdict.Verdict.{Verdict}
 use Rattle.ba_enum.specs.Enumerating.{Enumerates, Ends, Finishes}
 use Rattle.ba_encode.specs.declared.encoded.Encoded.{Encoded}
-use Rattle.ba_enum.specs.Leading.{IsReached, IsNext, Puts, Adds}
+use Rattle.ba_enum.specs.Leading.{IsReached, IsNext, PutsBetween, Adds}
 use Rattle.ba_enum.specs.Problems.{IsFresh, problem_in}
 use Rattle.ba_encode.specs.Softs.{softs_of}
 use Rattle.ba_enum.proofs.LeadLaws.{reached_start, reached_on, reached_facts, reached_sets, puts_on}
@@ -28,7 +28,7 @@ use Rattle.ba_steps.specs.Sinks.{Logs}
 use Rattle.ba_steps.specs.Steps.{IsFormed}
 use Rattle.ba_checker.specs.Facts.{IsStart}
 use Rattle.ba_choices.specs.Judges.{Judge}
-use Rattle.ba_checker.specs.Puts.{Putting}
+use Rattle.ba_checker.specs.Puts.{Checking}
 use Rattle.ba_checker.specs.States.{State, first_state}
 use Rattle.ba_checker.proofs.FactLaws.{distinct_none}
 
@@ -53,7 +53,7 @@ finishes_of good same formula softs s t u found l m n verdict is adds ends = rec
   found = found;
   between = t;
   logs = m;
-  puts = let P : List FoundSet → Type 0 = λ fs. Puts good formula softs s t fs l m in
+  puts = let P : List FoundSet → Type 0 = λ fs. PutsBetween good formula softs s t fs l m in
       subst P (sym adds.found) adds.puts;
   ends = let Q : Judge → Type 0 = λ j. Ends j t found m verdict u n in subst Q is ends;
 }
@@ -61,7 +61,7 @@ finishes_of good same formula softs s t u found l m n verdict is adds ends = rec
 -- the whole: the search for the least cost, further sets, and the end
 pub enumerates_on : (p : Problem) (same : Judge) (start s u : State) (k l n : Logs) (verdict : Verdict) →
     IsStart p.formula p.softs → same ≡ p.good → start ≡ start_of p →
-    Puts p.good p.formula p.softs start s [] k l →
+    PutsBetween p.good p.formula p.softs start s [] k l →
     Finishes same p.formula p.softs s l verdict u n → Enumerates p k verdict u n
 enumerates_on p same start s u k l n verdict clauses is first puts finishes =
     let P : Judge → Type 0 = λ j. Finishes j p.formula p.softs s l verdict u n in
@@ -73,23 +73,23 @@ enumerates_on p same start s u k l n verdict clauses is first puts finishes =
 pub enumerates_end : (p : Problem) (same : Judge) (start s u : State) (found : List FoundSet) (k l n : Logs)
     (verdict : Verdict) →
     IsStart p.formula p.softs → same ≡ p.good → start ≡ start_of p →
-    Puts p.good p.formula p.softs start s [] k l →
+    PutsBetween p.good p.formula p.softs start s [] k l →
     found ≡ [] → Ends same s found l verdict u n → Enumerates p k verdict u n
 enumerates_end p same start s u found k l n verdict clauses is first puts none ends =
     let P : Judge → Type 0 = λ j. Ends j s found l verdict u n in
-    let Q : List FoundSet → Type 0 = λ fs. Puts p.good p.formula p.softs start s fs k l in
+    let Q : List FoundSet → Type 0 = λ fs. PutsBetween p.good p.formula p.softs start s fs k l in
     enumerates p start s u found k l n verdict clauses first (subst Q (sym none) puts) (subst P is ends)
 
 -- THE START
-module _ {R K S J : Type 0} {encoded : Encoded} {sets : ℕ} {search : Searching R K} {checked : Putting S J}
-    (fresh : IsFresh encoded sets search checked) where
-  pub fresh_sets : checked.checker.most_sets ≡ sets
+module _ {R : Type 0} {encoded : Encoded} {sets : ℕ} {search : Searching R} {log : Checking}
+    (fresh : IsFresh encoded sets search log) where
+  pub fresh_sets : log.checker.most_sets ≡ sets
   fresh_sets = ap (λ (s : State). s.most_sets) fresh.starts
 
-  pub fresh_start : (good : Judge) → checked.checker ≡ start_of (problem_in encoded good checked.checker)
+  pub fresh_start : (good : Judge) → log.checker ≡ start_of (problem_in encoded good log.checker)
   fresh_start good =
       fresh.starts
-      ∙ ap (first_state encoded.formula (softs_of encoded.groups) checked.checker.budget) (sym fresh_sets)
+      ∙ ap (first_state encoded.formula (softs_of encoded.groups) log.checker.budget) (sym fresh_sets)
 
 -- THE SEARCH FOR THE LEAST COST
 pub was_working : {X : Type 0} (failure : Option SearchError) (result : Result X SearchError) (x : X) →
@@ -115,7 +115,7 @@ cores_reached good encoded start clauses first = record {
 
 pub least_reached : (good same : Judge) (encoded : Encoded) (start s : State) (l m : Logs) → same ≡ good →
     IsStart encoded.formula (softs_of encoded.groups) → start ≡ start_of (problem_in encoded good start) →
-    Puts good encoded.formula (softs_of encoded.groups) start s [] l m →
+    PutsBetween good encoded.formula (softs_of encoded.groups) start s [] l m →
     IsReached same encoded.formula (softs_of encoded.groups) s []
 least_reached good same encoded start s l m is clauses first puts =
     let P : Judge → Type 0 = λ j. IsReached j encoded.formula (softs_of encoded.groups) s [] in

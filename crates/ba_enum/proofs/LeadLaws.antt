@@ -20,7 +20,7 @@ use Rattle.ba_derivations.specs.Derivations.{blocked_by, sets_of}
 use Rattle.ba_derivations.specs.Encodings.{HasModelFor}
 use Rattle.ba_derivations.specs.declared.verdict.FoundSet.{FoundSet}
 use Rattle.ba_derivations.proofs.StepLaws.{limits_stay, sets_gathered, blocked_append, sets_append}
-use Rattle.ba_enum.specs.Leading.{AreNew, Leads, IsReached, Puts, Leaves}
+use Rattle.ba_enum.specs.Leading.{AreNew, Leads, IsReached, PutsBetween, LeavesBetween}
 
 pub one_after : (good : Judge) (s t : State) (step : CertStep) → error_of good s step ≡ None →
     t ≡ after s step →
@@ -150,7 +150,7 @@ reached_wide {good} {formula} {softs} {s} r =
 
 -- STEPS THAT WERE PUT
 pub puts_none : (good : Judge) (formula : Cnf) (softs : List Soft) (s : State) (logs : Logs) →
-    Puts good formula softs s s [] logs logs
+    PutsBetween good formula softs s s [] logs logs
 puts_none good formula softs s logs = record {
   steps = [];
   leads = leads_none good formula softs s;
@@ -160,8 +160,8 @@ puts_none good formula softs s logs = record {
 
 pub puts_on : (good : Judge) (formula : Cnf) (softs : List Soft) (a b c : State) (found more : List FoundSet)
     (l m n : Logs) →
-    Puts good formula softs a b found l m → Puts good formula softs b c more m n →
-    Puts good formula softs a c (found ++ more) l n
+    PutsBetween good formula softs a b found l m → PutsBetween good formula softs b c more m n →
+    PutsBetween good formula softs a c (found ++ more) l n
 puts_on good formula softs a b c found more l m n p q = record {
   steps = p.steps ++ q.steps;
   leads = leads_append p.leads c q.steps more q.leads;
@@ -171,39 +171,39 @@ puts_on good formula softs a b c found more l m n p q = record {
 -- the same with a judge that is the same
 pub puts_as : (good same : Judge) (formula : Cnf) (softs : List Soft) (a b : State) (found : List FoundSet)
     (l m : Logs) → good ≡ same →
-    Puts good formula softs a b found l m → Puts same formula softs a b found l m
+    PutsBetween good formula softs a b found l m → PutsBetween same formula softs a b found l m
 puts_as good same formula softs a b found l m is p =
-    let P : Judge → Type 0 = λ g. Puts g formula softs a b found l m in subst P is p
+    let P : Judge → Type 0 = λ g. PutsBetween g formula softs a b found l m in subst P is p
 
 pub puts_most : (good : Judge) (formula : Cnf) (softs : List Soft) (a b : State) (found : List FoundSet)
     (l m : Logs) →
-    Puts good formula softs a b found l m → b.most_sets ≡ a.most_sets
+    PutsBetween good formula softs a b found l m → b.most_sets ≡ a.most_sets
 puts_most good formula softs a b found l m p = (limits_stay good a p.steps b p.leads.reaches).most_sets
 
 -- WHAT IS LEFT
-pub leaves_none : (good : Judge) (s : State) (logs : Logs) → Leaves good s logs s logs
+pub leaves_none : (good : Judge) (s : State) (logs : Logs) → LeavesBetween good s logs s logs
 leaves_none good s logs = leaves_all [] refl refl
 
 pub leaves_put : (good : Judge) (formula : Cnf) (softs : List Soft) (a b : State) (found : List FoundSet)
     (l m : Logs) →
-    Puts good formula softs a b found l m → Leaves good a l b m
+    PutsBetween good formula softs a b found l m → LeavesBetween good a l b m
 leaves_put good formula softs a b found l m p = leaves_all p.steps p.leads.reaches p.logs
 
 pub leaves_one : (good : Judge) (s t : State) (step : CertStep) (l m : Logs) → error_of good s step ≡ None →
-    t ≡ after s step → m ≡ with_step step l → Leaves good s l t m
+    t ≡ after s step → m ≡ with_step step l → LeavesBetween good s l t m
 leaves_one good s t step l m allowed taken told =
     leaves_all (step ∷ []) (one_after good s t step allowed taken) told
 
 pub leaves_tried : (good : Judge) (s t : State) (step : CertStep) (l m : Logs) → error_of good s step ≡ None →
-    IsTakenOrAsleep s step t → MayAddStep step l m → Leaves good s l t m
+    IsTakenOrAsleep s step t → MayAddStep step l m → LeavesBetween good s l t m
 leaves_tried good s t step l m allowed taken told =
     leaves_last [] step s refl (one_after good s (after s step) step allowed refl) taken told
 
 pub leaves_on : (good same : Judge) (formula : Cnf) (softs : List Soft) (a b c : State)
     (found : List FoundSet)
     (l m n : Logs) → same ≡ good →
-    Puts good formula softs a b found l m → Leaves same b m c n → Leaves good a l c n
+    PutsBetween good formula softs a b found l m → LeavesBetween same b m c n → LeavesBetween good a l c n
 leaves_on good same formula softs a b c found l m n is p left =
-    let P : Judge → Type 0 = λ g. Leaves g b m c n in
+    let P : Judge → Type 0 = λ g. LeavesBetween g b m c n in
     leaves_after p.steps c l m n p.logs (λ steps t d. after_append good p.steps steps a b t p.leads.reaches
     d) (subst P is left)

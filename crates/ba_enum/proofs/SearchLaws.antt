@@ -7,15 +7,15 @@ use Rattle.ba_cores.specs.Derivations.{derives_none, derives_learn, derives_dele
 use Rattle.ba_cores.proofs.DerivesLaws.{searches_derives, derives_formed, derives_after}
 use Rattle.ba_derivations.specs.Derivations.{blocked_by}
 use Rattle.ba_derivations.specs.Encodings.{HasModelFor}
-use Rattle.ba_enum.specs.Leading.{AreNew, Leads, Puts, Leaves}
+use Rattle.ba_enum.specs.Leading.{AreNew, Leads, PutsBetween, LeavesBetween}
 use Rattle.ba_lits.specs.Formulas.{Cnf}
 use Rattle.ba_lits.specs.Satisfaction.{Soft}
-use Rattle.ba_search.specs.Searching.{Searches, Leaves as LeavesSearched}
+use Rattle.ba_cores.specs.Rounds.{PutsBetween as DerivedPuts}
+use Rattle.ba_search.specs.Searching.{LeavesBetween as LeavesSearched, PutsBetween as PutsSearched}
 use Rattle.ba_search.proofs.StepLaws.{Gives}
 use Rattle.ba_steps.specs.Sinks.{Logs}
 use Rattle.ba_steps.specs.declared.step.CertStep.{CertStep}
 use Rattle.ba_choices.specs.Judges.{Judge}
-use Rattle.ba_checker.specs.Puts.{with_steps}
 use Rattle.ba_checker.specs.States.{State}
 use Rattle.ba_checker.proofs.PutLaws.{leaves_weaker}
 
@@ -44,22 +44,23 @@ derives_leads formula softs d = record {
 }
 
 pub puts_derived : (good : Judge) (formula : Cnf) (softs : List Soft) (a b : State) (l m : Logs) →
-    (xs : List CertStep) × cores.Derives good a xs b × (m ≡ with_steps xs l) →
-    Puts good formula softs a b [] l m
-puts_derived good formula softs a b l m (xs, derives, logs) =
-    record { steps = xs; leads = derives_leads formula softs derives; logs = logs }
+    DerivedPuts good a b l m → PutsBetween good formula softs a b [] l m
+puts_derived good formula softs a b l m derived =
+    record { steps = derived.steps; leads = derives_leads formula softs derived.leads; logs = derived.logs }
 
 pub puts_searched : (good : Judge) (formula : Cnf) (softs : List Soft) {gives : Gives} {learnt all : List ℕ}
     (a b : State) (l m : Logs) →
-    (xs : List CertStep) × Searches good gives a learnt xs b all × (m ≡ with_steps xs l) →
-    Puts good formula softs a b [] l m
-puts_searched good formula softs a b l m (xs, searches, logs) =
-    record { steps = xs; leads = derives_leads formula softs (searches_derives searches); logs = logs }
+    PutsSearched good gives a b learnt all l m → PutsBetween good formula softs a b [] l m
+puts_searched good formula softs a b l m searched = record {
+  steps = searched.steps;
+  leads = derives_leads formula softs (searches_derives searched.leads);
+  logs = searched.logs;
+}
 
 pub leaves_searches : (good : Judge) {gives : Gives} {learnt : List ℕ} (a b : State) (l m : Logs) →
-    LeavesSearched good gives learnt a l b m → Leaves good a l b m
+    LeavesSearched good gives learnt a l b m → LeavesBetween good a l b m
 leaves_searches good a b l m left = leaves_weaker (λ steps t s. derives_after (searches_derives s.1)) left
 
-pub leaves_derived : (good : Judge) (a b : State) (l m : Logs) → cores.Leaves good a l b m →
-    Leaves good a l b m
+pub leaves_derived : (good : Judge) (a b : State) (l m : Logs) → cores.LeavesBetween good a l b m →
+    LeavesBetween good a l b m
 leaves_derived good a b l m left = leaves_weaker (λ steps t d. derives_after d) left

@@ -5,7 +5,7 @@ use Rattle.std.proofs.lemmas.List.{append-nil, append_assoc}
 use Rattle.ba_cores.specs.Rounds.{literals_of}
 use Rattle.ba_cores.proofs.CoreLaws.{softs_assumed}
 use Rattle.ba_derivations.specs.declared.verdict.FoundSet.{FoundSet}
-use Rattle.ba_enum.specs.Leading.{IsReached, IsReady, Puts, Blocks, Adds, Leaves}
+use Rattle.ba_enum.specs.Leading.{IsReached, IsReady, PutsBetween, Blocks, Adds, LeavesBetween}
 use Rattle.ba_enum.specs.Turning.{next_of, Comes}
 use Rattle.ba_enum.proofs.LeadLaws.{reached_on, reached_facts, puts_none, puts_on, puts_as, leaves_put, leaves_on}
 use Rattle.ba_enum.proofs.NextLaws.{next_of_model}
@@ -92,11 +92,11 @@ adds_none good formula softs s found l = record {
 -- sets, and then steps that block none
 pub adds_then : (good same : Judge) (formula : Cnf) (softs : List Soft) (s t u : State) (f h : List FoundSet)
     (l m n : Logs) → same ≡ good →
-    Adds good formula softs s t f h l m → Puts same formula softs t u [] m n →
+    Adds good formula softs s t f h l m → PutsBetween same formula softs t u [] m n →
     Adds good formula softs s u f h l n
 adds_then good same formula softs s t u f h l m n is adds puts = record {
   more = adds.more;
-  puts = let P : List FoundSet → Type 0 = λ found. Puts good formula softs s u found l n in
+  puts = let P : List FoundSet → Type 0 = λ found. PutsBetween good formula softs s u found l n in
       subst P (append-nil adds.more)
       (puts_on good formula softs s t u adds.more [] l m n adds.puts
       (puts_as same good formula softs t u [] m n is puts));
@@ -124,13 +124,13 @@ adds_reached {good} {formula} {softs} {s} {t} {f} {h} adds reached =
 
 pub adds_leaves : {good : Judge} {formula : Cnf} {softs : List Soft} {s t : State} {f h : List FoundSet}
     {l m : Logs} →
-    Adds good formula softs s t f h l m → Leaves good s l t m
+    Adds good formula softs s t f h l m → LeavesBetween good s l t m
 adds_leaves {good} {formula} {softs} {s} {t} {l = l} {m = m} adds =
     leaves_put good formula softs s t adds.more l m adds.puts
 
 pub adds_leave : (good same : Judge) (formula : Cnf) (softs : List Soft) (s t u : State) (f h : List FoundSet)
     (l m n : Logs) → same ≡ good →
-    Adds good formula softs s t f h l m → Leaves same t m u n → Leaves good s l u n
+    Adds good formula softs s t f h l m → LeavesBetween same t m u n → LeavesBetween good s l u n
 adds_leave good same formula softs s t u f h l m n is adds left =
     leaves_on good same formula softs s t u adds.more l m n is adds.puts left
 

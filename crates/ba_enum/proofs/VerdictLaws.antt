@@ -12,7 +12,7 @@ use Rattle.ba_derivations.specs.declared.verdict.Verdict.TheVariants.{Located, N
 use Rattle.ba_derivations.proofs.StepLaws.{before_end, blocked_append, limits_stay}
 use Rattle.ba_derivations.proofs.VerdictLaws.{no_sets}
 use Rattle.ba_enum.specs.Enumerating.{HaveSame, Says, Enumerates, Fits, Ends}
-use Rattle.ba_enum.specs.Leading.{IsNewIn, IsReached, Puts}
+use Rattle.ba_enum.specs.Leading.{IsNewIn, IsReached, PutsBetween}
 use Rattle.ba_enum.proofs.LeadLaws.{one_after, news_append, reached_facts}
 use Rattle.ba_lits.specs.Formulas.{Cnf}
 use Rattle.ba_lits.specs.Satisfaction.{Assignment, all_true, Soft}
@@ -101,13 +101,13 @@ says_of p s found steps Spent said derives fits most blocked none =
 -- from the start: sets are blocked, and an End step is put
 pub enumerates : (p : Problem) (start s t : State) (found : List FoundSet) (k l m : Logs)
     (verdict : Verdict) →
-    IsStart p.formula p.softs → start ≡ start_of p → Puts p.good p.formula p.softs start s found k l →
+    IsStart p.formula p.softs → start ≡ start_of p → PutsBetween p.good p.formula p.softs start s found k l →
     Ends p.good s found l verdict t m → Enumerates p k verdict t m
 enumerates p start s t found k l m verdict clauses same puts ends =
-    let P : State → Type 0 = λ u. Puts p.good p.formula p.softs u s found k l in
+    let P : State → Type 0 = λ u. PutsBetween p.good p.formula p.softs u s found k l in
     from_start (subst P same puts)
   where
-    from_start : Puts p.good p.formula p.softs (start_of p) s found k l → Enumerates p k verdict t m
+    from_start : PutsBetween p.good p.formula p.softs (start_of p) s found k l → Enumerates p k verdict t m
     from_start q = record {
       steps = q.steps ++ ends.last ∷ [];
       logs = logs_then q.steps (ends.last ∷ []) k l m q.logs ends.told;

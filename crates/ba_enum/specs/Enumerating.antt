@@ -7,7 +7,10 @@ use Rattle.ba_derivations.specs.Encodings.{HasModelFor}
 use Rattle.ba_derivations.specs.declared.verdict.FoundSet.{FoundSet}
 use Rattle.ba_derivations.specs.declared.verdict.Verdict.{Verdict}
 use Rattle.ba_derivations.specs.declared.verdict.Verdict.TheVariants.{Located, NoRepair, TooMany, Spent}
-use Rattle.ba_enum.specs.Leading.{AreNew, Puts}
+use Rattle.ba_encode.specs.Softs.{softs_of}
+use Rattle.ba_encode.specs.declared.encoded.Encoded.{Encoded}
+use Rattle.ba_enum.specs.Problems.{problem_in}
+use Rattle.ba_enum.specs.Leading.{AreNew, PutsBetween}
 use Rattle.ba_lits.specs.Formulas.{Cnf}
 use Rattle.ba_lits.specs.Satisfaction.{Assignment, all_true, Soft}
 use Rattle.ba_steps.specs.Sinks.{Logs, with_step}
@@ -15,7 +18,7 @@ use Rattle.ba_steps.specs.Steps.{IsFormed}
 use Rattle.ba_steps.specs.declared.step.CertStep.{CertStep}
 use Rattle.ba_choices.specs.Judges.{Judge}
 use Rattle.ba_checker.specs.Judging.{error_of, after, after_all}
-use Rattle.ba_checker.specs.Puts.{with_steps}
+use Rattle.ba_checker.specs.Puts.{Checking, with_steps}
 use Rattle.ba_checker.specs.States.{State}
 use Rattle.ba_tree.specs.Least.{AreInOrder}
 
@@ -79,5 +82,22 @@ pub record Finishes (good : Judge) (formula : Cnf) (softs : List Soft) (old : St
   pub found : List FoundSet
   pub between : State
   pub logs : Logs
-  pub puts : Puts good formula softs old between found old_logs logs
+  pub puts : PutsBetween good formula softs old between found old_logs logs
   pub ends : Ends good between found logs verdict new new_logs
+
+-- OVER A LOG
+
+-- all least sets over an encoding were searched for
+abbrev pub EnumeratesIn : Encoded → Checking → Checking → Verdict → Type 0
+EnumeratesIn encoded old new verdict = Enumerates (problem_in encoded old.accepts old.checker) old.told.logs verdict
+    new.checker new.told.logs
+
+-- an End step was put that says the verdict, where these sets are blocked
+abbrev pub EndsWith : List FoundSet → Checking → Checking → Verdict → Type 0
+EndsWith found old new verdict =
+    Ends old.accepts old.checker found old.told.logs verdict new.checker new.told.logs
+
+-- sets were blocked, and then such a step was put
+abbrev pub FinishesIn : Encoded → Checking → Checking → Verdict → Type 0
+FinishesIn encoded old new verdict = Finishes old.accepts encoded.formula (softs_of encoded.groups) old.checker
+    old.told.logs verdict new.checker new.told.logs

@@ -4,6 +4,8 @@ use Rattle.std.specs.Prelude.{◌≡◌, ℕ, Bool, true, false, Some, List, [],
 use Rattle.ba_derivations.specs.Derivations.{blocked_by, sets_of}
 use Rattle.ba_derivations.specs.Encodings.{HasModelFor}
 use Rattle.ba_derivations.specs.declared.verdict.FoundSet.{FoundSet}
+use Rattle.ba_encode.specs.Softs.{softs_of}
+use Rattle.ba_encode.specs.declared.encoded.Encoded.{Encoded}
 use Rattle.ba_learn.specs.Live.{IsNew}
 use Rattle.ba_lits.specs.Formulas.{Cnf}
 use Rattle.ba_lits.specs.Satisfaction.{all_true, assignment_of, Soft, cost}
@@ -15,7 +17,7 @@ use Rattle.ba_checker.specs.Blocks.{block_clauses}
 use Rattle.ba_checker.specs.Facts.{IsStart}
 use Rattle.ba_choices.specs.Judges.{Judge}
 use Rattle.ba_checker.specs.Judging.{after, after_all, after_block}
-use Rattle.ba_checker.specs.Puts.{PutsSteps, LeavesSteps}
+use Rattle.ba_checker.specs.Puts.{Checking, LeavesSteps, PutsSteps}
 use Rattle.ba_checker.specs.States.{State, clause_at, first_state, present}
 
 -- the clause of a Learn step is new to propagation for the clauses that are live in the state
@@ -55,14 +57,17 @@ pub record IsReached (good : Judge) (formula : Cnf) (softs : List Soft) (s : Sta
   pub leads : Leads good formula softs (first_state formula softs conflicts most_sets) steps s found
 
 -- such steps were put
-abbrev pub Puts : Judge → Cnf → List Soft → State → State → List FoundSet → Logs → Logs → Type 0
-Puts good formula softs old new found old_logs new_logs =
+abbrev pub PutsBetween : Judge → Cnf → List Soft → State → State → List FoundSet → Logs → Logs → Type 0
+PutsBetween good formula softs old new found old_logs new_logs =
     PutsSteps (λ steps. Leads good formula softs old steps new found) old_logs new_logs
 
 -- what allowed steps leave, also after an error
-abbrev pub Leaves : Judge → State → Logs → State → Logs → Type 0
-Leaves good old old_logs new new_logs =
+abbrev pub LeavesBetween : Judge → State → Logs → State → Logs → Type 0
+LeavesBetween good old old_logs new new_logs =
     LeavesSteps (λ steps s. after_all good old steps ≡ Some s) old_logs new new_logs
+
+abbrev pub Leaves : Checking → Checking → Type 0
+Leaves old new = LeavesBetween old.accepts old.checker old.told.logs new.checker new.told.logs
 
 -- values of all variables that satisfy the formula and the clauses of all blocked sets, and cost the bound
 pub record IsNext (formula : Cnf) (softs : List Soft) (s : State) (values : List Bool) : Type 0 where
@@ -81,7 +86,7 @@ pub record Blocks (good : Judge) (formula : Cnf) (softs : List Soft) (old new : 
     (old_found new_found : List FoundSet)
     (old_logs new_logs : Logs) : Type 0 where
   pub set : FoundSet
-  pub puts : Puts good formula softs old new (set ∷ []) old_logs new_logs
+  pub puts : PutsBetween good formula softs old new (set ∷ []) old_logs new_logs
   pub taken : new ≡ after_block old set.groups
   pub found : new_found ≡ old_found ++ set ∷ []
 
@@ -90,5 +95,21 @@ pub record Adds (good : Judge) (formula : Cnf) (softs : List Soft) (old new : St
     (old_found new_found : List FoundSet)
     (old_logs new_logs : Logs) : Type 0 where
   pub more : List FoundSet
-  pub puts : Puts good formula softs old new more old_logs new_logs
+  pub puts : PutsBetween good formula softs old new more old_logs new_logs
   pub found : new_found ≡ old_found ++ more
+
+-- OVER AN ENCODING, whose groups are the soft literals, and a log
+
+abbrev pub HasReached : Encoded → Checking → List FoundSet → Type 0
+HasReached encoded log = IsReached log.accepts encoded.formula (softs_of encoded.groups) log.checker
+
+abbrev pub IsNextModel : Encoded → Checking → List Bool → Type 0
+IsNextModel encoded log = IsNext encoded.formula (softs_of encoded.groups) log.checker
+
+abbrev pub BlocksSet : Encoded → Checking → Checking → List FoundSet → List FoundSet → Type 0
+BlocksSet encoded old new old_found new_found = Blocks old.accepts encoded.formula (softs_of encoded.groups)
+    old.checker new.checker old_found new_found old.told.logs new.told.logs
+
+abbrev pub AddsSets : Encoded → Checking → Checking → List FoundSet → List FoundSet → Type 0
+AddsSets encoded old new old_found new_found = Adds old.accepts encoded.formula (softs_of encoded.groups)
+    old.checker new.checker old_found new_found old.told.logs new.told.logs

@@ -10,7 +10,7 @@ use Rattle.ba_learn.specs.Live.{AreLive}
 use Rattle.ba_lits.specs.Satisfaction.{Assignment, all_true}
 use Rattle.ba_search.specs.Searching.{Searching}
 use Rattle.ba_choices.specs.Judges.{Judge}
-use Rattle.ba_checker.specs.Puts.{Putting}
+use Rattle.ba_checker.specs.Puts.{Checking}
 use Rattle.ba_checker.specs.States.{State, clause_at, first_state}
 
 -- the problem, with as many conflicts as the checker counts, and as many sets as it allows
@@ -23,15 +23,13 @@ problem_in encoded good s = record {
   most_sets = s.most_sets;
 }
 
--- a search and a checker at the start: the search has the live clauses of the checker, which is in the first state, over the
+-- a search and a log at the start: the search has the live clauses of the checker, which is in the first state, over the
 -- formula with the soft literals of its groups, lists at most so many sets, and has had no step refused
-pub record IsFresh {R K S J : Type 0} (encoded : Encoded) (sets : ℕ) (search : Searching R K)
-    (checked : Putting S J) :
-    Type 0 where
-  pub same : AreLive search.clauses (clause_at checked.checker.clauses)
-  pub starts : checked.checker ≡ first_state encoded.formula (softs_of encoded.groups)
-      checked.checker.budget sets
-  pub accepted : checked.refusal ≡ None
+pub record IsFresh {R : Type 0} (encoded : Encoded) (sets : ℕ) (search : Searching R) (log : Checking) : Type 0 where
+  pub same : AreLive search.clauses (clause_at log.checker.clauses)
+  pub starts : log.checker ≡ first_state encoded.formula (softs_of encoded.groups)
+      log.checker.budget sets
+  pub accepted : log.refusal ≡ None
 
 -- for each model of the formula some selector is false, and the choices that are read from it are good for the groups
 -- whose selectors are false

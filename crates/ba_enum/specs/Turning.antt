@@ -3,9 +3,12 @@
 use Rattle.std.specs.Prelude.{◌≡◌, ℕ, ◌+◌, ◌<◌, ◌≤◌, List, [], length}
 use Rattle.ba_cores.specs.Rounds.{literals_of}
 use Rattle.ba_derivations.specs.declared.verdict.FoundSet.{FoundSet}
-use Rattle.ba_enum.specs.Leading.{IsNext}
+use Rattle.ba_encode.specs.Softs.{softs_of}
+use Rattle.ba_encode.specs.declared.encoded.Encoded.{Encoded}
+use Rattle.ba_enum.specs.Leading.{AddsSets, HasReached, IsNext, IsReady}
 use Rattle.ba_enum.specs.declared.endings.End.{End}
 use Rattle.ba_enum.specs.declared.endings.End.TheVariants.{NoModel, TooMany, NoMore, Spent}
+use Rattle.ba_enum.specs.declared.task.Task.{Task}
 use Rattle.ba_enum.specs.declared.turns.Next.{Next}
 use Rattle.ba_enum.specs.declared.turns.Next.TheVariants as nexts
 use Rattle.ba_lits.specs.Formulas.{Cnf}
@@ -13,9 +16,11 @@ use Rattle.ba_lits.specs.Hints.{FollowsByHints}
 use Rattle.ba_lits.specs.Literals.{Literal}
 use Rattle.ba_lits.specs.Satisfaction.{Soft}
 use Rattle.ba_search.specs.Answers.{IsCore}
+use Rattle.ba_search.specs.Searching.{MayGoOn, Searching}
 use Rattle.ba_search.specs.declared.search.Answer.{Answer}
 use Rattle.ba_search.specs.declared.search.Answer.TheVariants as answers
 use Rattle.ba_steps.specs.Steps.{AreNumbers}
+use Rattle.ba_checker.specs.Puts.{Checking}
 use Rattle.ba_checker.specs.States.{State, clause_at}
 
 -- the clause of a core after which no further set is of least weight
@@ -43,3 +48,25 @@ next_of answers.Spent = nexts.End Spent
 abbrev pub Comes : Cnf → List Soft → State → List FoundSet → Next → Type 0
 Comes formula softs s found (nexts.Model m) = IsNext formula softs s m.values × (length found ≤ s.most_sets)
 Comes formula softs s found (nexts.End end) = IsEnd s found end
+
+abbrev pub ComesTo : Encoded → Checking → List FoundSet → Next → Type 0
+ComesTo encoded log = Comes encoded.formula (softs_of encoded.groups) log.checker
+
+-- a search stands between two turns of a task: it may go on, these sets were blocked, the present soft literals are assumed,
+-- and no more sets are found than may be listed
+pub record Stands {R : Type 0} (task : Task) (found : List FoundSet) (search : Searching R) (log : Checking) : Type 0 where
+  pub goes_on : MayGoOn search log
+  pub reached : HasReached task.encoded.now log found
+  pub assumed : task.assumptions.items ≡ literals_of log.checker.softs
+  pub listed : log.checker.most_sets ≡ task.sets
+  pub few : length found ≤ task.sets
+  pub ready : IsReady log.checker
+
+-- a turn has blocked one more set, and the search may go on under the same soft literals
+pub record HasTurned {R : Type 0} (encoded : Encoded) (old_found found : List FoundSet) (search : Searching R)
+    (old log : Checking) : Type 0 where
+  pub goes_on : MayGoOn search log
+  pub adds : AddsSets encoded old log old_found found
+  pub one_more : length found ≡ length old_found + 1
+  pub ready : IsReady log.checker
+  pub softs_stay : log.checker.softs ≡ old.checker.softs

@@ -1,10 +1,10 @@
 //! Blocking the set of a model.
 
-ghost use Rattle.std.specs.Prelude.{◌≡◌, ◌+◌, ◌<◌, ◌≤◌, true, None, length, IfOk, OnOk, Err};
+ghost use Rattle.std.specs.Prelude.{◌≡◌, ◌+◌, ◌<◌, ◌≤◌, true, None, length, IfOk, OnOk};
 ghost use Rattle.std.specs.List.{list_all};
 ghost use Rattle.ba_derivations.specs.Encodings.{is_false_group, false_groups};
 ghost use Rattle.ba_encode.specs.Readings.{choices_read, is_in_range};
-ghost use Rattle.ba_enum.specs.Leading.{IsNext, IsReached, IsReady, Blocks, Leaves};
+ghost use Rattle.ba_enum.specs.Leading.{BlocksSet, HasReached, IsNextModel, IsReady, Leaves};
 ghost use Rattle.ba_enum.specs.Problems.{IsReadable};
 ghost use Rattle.ba_encode.specs.Softs.{softs_of};
 ghost use Rattle.ba_lits.specs.Satisfaction.{assignment_of};
@@ -14,49 +14,41 @@ ghost use Rattle.ba_checker.specs.States.{present};
 
 use crate::putting::put;
 use crate::task::Task;
-use ba_checker::Checked;
+use ba_checker::ProofLog;
 use ba_derivations::FoundSet;
 use ba_encode::choices_of;
 use ba_items::{Items, TryClone};
 use ba_lits::{Lit, Model};
 use ba_search::SearchError;
-use ba_steps::{CertStep, RunJudge, StepSink};
+use ba_steps::CertStep;
 use std::alloc::{AllocError, Global};
 
 /// Blocks the set of a model, with the run that is read from it, and adds it to those found.
 ///
 /// `SinkFailed` comes only where the sink's faults rose; `Memory` for want of memory.
-pub fn block<S, J>(
+pub fn block<L: ProofLog>(
     alloc: Global,
     task: &Task,
     model: &Model,
-    checked: &mut Checked<S, J>,
+    log: &mut L,
     found: &mut Items<FoundSet>,
 ) -> Result<(), SearchError>
-where
-    S: StepSink + Drop,
-    J: RunJudge + Drop,
-    requires readable { IsReadable task.now.encoded.now (J.accepts checked.old.judge) }
-    requires reached { IsReached (J.accepts checked.old.judge) task.now.encoded.now.formula
-        (softs_of task.now.encoded.now.groups) checked.old.checker found.old }
-    requires next { IsNext task.now.encoded.now.formula (softs_of task.now.encoded.now.groups)
-        checked.old.checker model.now.values }
-    requires ready { IsReady checked.old.checker }
-    requires fresh { checked.old.refusal ≡ None }
-    ensures blocks { OnOk result (Blocks (J.accepts checked.old.judge)
-        task.now.encoded.now.formula (softs_of task.now.encoded.now.groups) checked.old.checker
-        checked.new.checker found.old found.new
-        (S.logs checked.old.sink) (S.logs checked.new.sink)) }
-    ensures leaves { Leaves (J.accepts checked.old.judge) checked.old.checker
-        (S.logs checked.old.sink) checked.new.checker (S.logs checked.new.sink) }
-    ensures ran { Ran S.over S.faults S.references result checked.old checked.new }
+    requires readable { IsReadable task.now.encoded.now (L.log log.old).accepts }
+    requires reached { HasReached task.now.encoded.now (L.log log.old) found.old }
+    requires next { IsNextModel task.now.encoded.now (L.log log.old) model.now.values }
+    requires ready { IsReady (L.log log.old).checker }
+    requires fresh { (L.log log.old).refusal ≡ None }
+    ensures blocks { OnOk result (BlocksSet task.now.encoded.now
+        (L.log log.old) (L.log log.new) found.old found.new) }
+    ensures leaves { Leaves (L.log log.old) (L.log log.new) }
+    ensures ran { Ran result (L.log log.old) (L.log log.new) }
 {
     let set = found_set(alloc, task, model)?;
     let step = CertStep::Block {
         groups: Items::from_slice(alloc, set.groups.as_slice())?,
         run: set.run.try_clone(alloc)?,
     };
-    put(checked, &step)?;
+    put(log, &step)?;
     found.push(set)?;
     Ok(())
 }

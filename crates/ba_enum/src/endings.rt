@@ -4,19 +4,19 @@ ghost use Rattle.std.specs.Prelude.{◌≡◌, ◌≤◌, None, IfOk, OnOk, Err,
 ghost use Rattle.std.specs.Cmp.Lexicographic.{pointwise};
 ghost use Rattle.std.specs.List.{IsDistinct};
 ghost use Rattle.ba_derivations.specs.Derivations.{sets_of};
-ghost use Rattle.ba_enum.specs.Enumerating.{Ends, HaveSame};
+ghost use Rattle.ba_enum.specs.Enumerating.{EndsWith, HaveSame};
 ghost use Rattle.ba_enum.specs.Turning.{IsEnd, IsLast};
 ghost use Rattle.ba_enum.specs.Leading.{IsReady, Leaves};
 ghost use Rattle.ba_search.specs.Searching.{Ran};
 ghost use Rattle.ba_tree.specs.Least.{AreInOrder};
 
 use crate::putting::put;
-use ba_checker::Checked;
+use ba_checker::ProofLog;
 use ba_derivations::{FoundSet, Verdict};
 use ba_items::Items;
 use ba_learn::Learnt;
 use ba_search::SearchError;
-use ba_steps::{CertStep, RunJudge, StepSink};
+use ba_steps::CertStep;
 use std::alloc::AllocError;
 
 /// Why the search ends.
@@ -35,42 +35,36 @@ pub enum End {
 /// Puts the End step, and gives the verdict that it says.
 ///
 /// `SinkFailed` comes only where the sink's faults rose; `Memory` for want of memory.
-pub fn finish<S, J>(
+pub fn finish<L: ProofLog>(
     end: End,
     found: Items<FoundSet>,
-    checked: &mut Checked<S, J>,
+    log: &mut L,
 ) -> Result<Verdict, SearchError>
-where
-    S: StepSink + Drop,
-    J: RunJudge + Drop,
-    requires end { IsEnd checked.old.checker found end }
-    requires sets { checked.old.checker.sets ≡ sets_of found }
+    requires end { IsEnd (L.log log.old).checker found end }
+    requires sets { (L.log log.old).checker.sets ≡ sets_of found }
     requires differ { IsDistinct (pointwise nat_eq) (sets_of found) }
-    requires ready { IsReady checked.old.checker }
-    requires fresh { checked.old.refusal ≡ None }
-    ensures ends { IfOk result (λ verdict.
-        Ends (J.accepts checked.old.judge) checked.old.checker found (S.logs checked.old.sink)
-        verdict checked.new.checker (S.logs checked.new.sink)) }
-    ensures leaves { Leaves (J.accepts checked.old.judge) checked.old.checker
-        (S.logs checked.old.sink) checked.new.checker (S.logs checked.new.sink) }
-    ensures ran { Ran S.over S.faults S.references result checked.old checked.new }
+    requires ready { IsReady (L.log log.old).checker }
+    requires fresh { (L.log log.old).refusal ≡ None }
+    ensures ends { IfOk result (EndsWith found (L.log log.old) (L.log log.new)) }
+    ensures leaves { Leaves (L.log log.old) (L.log log.new) }
+    ensures ran { Ran result (L.log log.old) (L.log log.new) }
 {
-    let weight = checked.checker().bound();
+    let weight = log.checker().bound();
     match end {
         End::NoModel(hints) => {
-            put(checked, &CertStep::EndNoRepair { hints })?;
+            put(log, &CertStep::EndNoRepair { hints })?;
             Ok(Verdict::NoRepair)
         }
         End::TooMany => {
-            put(checked, &CertStep::EndTooMany)?;
+            put(log, &CertStep::EndTooMany)?;
             Ok(Verdict::TooMany {
                 weight,
                 sets: found,
             })
         }
-        End::NoMore(core) => locate(weight, core, found, checked),
+        End::NoMore(core) => locate(weight, core, found, log),
         End::Spent => {
-            put(checked, &CertStep::EndSpent)?;
+            put(log, &CertStep::EndSpent)?;
             Ok(Verdict::Spent)
         }
     }
@@ -79,35 +73,29 @@ where
 /// Puts the End step that no further set is of least weight, and gives the found ones in order.
 ///
 /// `SinkFailed` comes only where the sink's faults rose; `Memory` for want of memory.
-fn locate<S, J>(
+fn locate<L: ProofLog>(
     weight: u64,
     core: Learnt,
     found: Items<FoundSet>,
-    checked: &mut Checked<S, J>,
+    log: &mut L,
 ) -> Result<Verdict, SearchError>
-where
-    S: StepSink + Drop,
-    J: RunJudge + Drop,
-    requires weight { weight ≡ checked.old.checker.bound }
-    requires core { IsLast checked.old.checker found core.lits core.hints core.back }
-    requires sets { checked.old.checker.sets ≡ sets_of found }
+    requires weight { weight ≡ (L.log log.old).checker.bound }
+    requires core { IsLast (L.log log.old).checker found core.lits core.hints core.back }
+    requires sets { (L.log log.old).checker.sets ≡ sets_of found }
     requires differ { IsDistinct (pointwise nat_eq) (sets_of found) }
-    requires ready { IsReady checked.old.checker }
-    requires fresh { checked.old.refusal ≡ None }
-    ensures ends { IfOk result (λ verdict.
-        Ends (J.accepts checked.old.judge) checked.old.checker found (S.logs checked.old.sink)
-        verdict checked.new.checker (S.logs checked.new.sink)) }
-    ensures leaves { Leaves (J.accepts checked.old.judge) checked.old.checker
-        (S.logs checked.old.sink) checked.new.checker (S.logs checked.new.sink) }
-    ensures ran { Ran S.over S.faults S.references result checked.old checked.new }
+    requires ready { IsReady (L.log log.old).checker }
+    requires fresh { (L.log log.old).refusal ≡ None }
+    ensures ends { IfOk result (EndsWith found (L.log log.old) (L.log log.new)) }
+    ensures leaves { Leaves (L.log log.old) (L.log log.new) }
+    ensures ran { Ran result (L.log log.old) (L.log log.new) }
 {
     let sets = in_order(found)?;
-    checked.checker().keeps_facts();
+    log.checker().keeps_facts();
     let step = CertStep::EndLocated {
         lits: core.lits,
         hints: core.hints,
     };
-    put(checked, &step)?;
+    put(log, &step)?;
     Ok(Verdict::Located { weight, sets })
 }
 

@@ -7,31 +7,28 @@ ghost use Rattle.ba_steps.specs.Steps.{IsFormed};
 ghost use Rattle.ba_checker.specs.Judging.{error_of, after};
 ghost use Rattle.ba_checker.specs.Puts.{IsTakenOrAsleep};
 
-use ba_checker::Checked;
+use ba_checker::ProofLog;
 use ba_search::SearchError;
-use ba_steps::{CertStep, RunJudge, StepSink};
+use ba_steps::CertStep;
 
 /// Puts an allowed step.
 ///
 /// `SinkFailed` comes only where the sink's faults rose; `Memory` for want of memory.
-pub fn put<S, J>(checked: &mut Checked<S, J>, step: &CertStep) -> Result<(), SearchError>
-where
-    S: StepSink + Drop,
-    J: RunJudge + Drop,
+pub fn put<L: ProofLog>(log: &mut L, step: &CertStep) -> Result<(), SearchError>
     requires formed { IsFormed step.now }
-    requires allowed { error_of (J.accepts checked.old.judge) checked.old.checker step.now ≡ None }
-    requires fresh { checked.old.refusal ≡ None }
-    ensures taken { OnOk result (checked.new.checker ≡ after checked.old.checker step.now) }
-    ensures told { OnOk result (S.logs checked.new.sink
-        ≡ with_step step.now (S.logs checked.old.sink)) }
-    ensures awake { OnOk result (checked.new.checker.refused ≡ false) }
+    requires allowed { error_of (L.log log.old).accepts (L.log log.old).checker step.now ≡ None }
+    requires fresh { (L.log log.old).refusal ≡ None }
+    ensures taken { OnOk result ((L.log log.new).checker ≡ after (L.log log.old).checker step.now) }
+    ensures told { OnOk result ((L.log log.new).told.logs
+        ≡ with_step step.now (L.log log.old).told.logs) }
+    ensures awake { OnOk result ((L.log log.new).checker.refused ≡ false) }
     ensures taken_or_asleep { OnErr result
-        (IsTakenOrAsleep checked.old.checker step.now checked.new.checker) }
+        (IsTakenOrAsleep (L.log log.old).checker step.now (L.log log.new).checker) }
     ensures refused { OnErr result
-        (MayAddStep step.now (S.logs checked.old.sink) (S.logs checked.new.sink)) }
-    ensures ran { Ran S.over S.faults S.references result checked.old checked.new }
+        (MayAddStep step.now (L.log log.old).told.logs (L.log log.new).told.logs) }
+    ensures ran { Ran result (L.log log.old) (L.log log.new) }
 {
-    if let Err(refusal) = checked.put(step) {
+    if let Err(refusal) = log.put(step) {
         return Err(SearchError::from(refusal));
     }
     Ok(())

@@ -102,7 +102,8 @@ fn array_arg<'a>(
     j: Judged<'a>,
     tally: &mut Tally,
 ) -> Arg
-    ensures tree { (s : Typed) → Judges j.entry s → tree_of_arg result ≡ (array_arg array s).given }
+    ensures tree { (s : Typed) → Judges j.entry s
+        → tree_of_arg result ≡ (array_arg array s).given }
     ensures faults { (base : Tally) (s : Typed) → before ≡ base.least →
         Stands j.entry s base tally.old →
         tally.new ≡ after base s.calls (array_arg array s).expression.faults }

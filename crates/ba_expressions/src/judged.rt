@@ -97,7 +97,8 @@ impl<'a> Judged<'a> {
 
     /// The same expression as the name that it is.
     fn called(self, name: Text<'a>) -> Judged<'a>
-        ensures { (s : Typed) → Judges self.entry s → Judges result (record s { name = Some name.entry }) }
+        ensures { (s : Typed) → Judges self.entry s
+            → Judges result (record s { name = Some name.entry }) }
     {
         Judged {
             first: self.first,
@@ -228,7 +229,8 @@ pub fn cast<'a>(
     to: Option<CType>,
     a: Judged<'a>,
 ) -> Result<Judged<'a>, AllocError>
-    ensures { IfOk result (λ j. (s : Typed) → Judges a.entry s → Judges j (typed_cast first to s)) }
+    ensures { IfOk result (λ j. (s : Typed) → Judges a.entry s
+        → Judges j (typed_cast first to s)) }
 {
     match to {
         None => converted(alloc, first, CType::I32, a),

@@ -5,6 +5,7 @@ use Rattle.ba_code.specs.Run.{code_of_bound, outcome_of_code}
 use Rattle.ba_code.specs.declared.trees.BoundTree.{BoundTree}
 use Rattle.ba_code.specs.declared.trees.LoopTree.{LoopTree}
 use Rattle.ba_code_laws.specs.Tracing.{Relaxes}
+use Rattle.ba_code_laws.specs.Visits.{Visit, chosen}
 use Rattle.ba_derivations.specs.Encodings.{HasModelFor, false_groups}
 use Rattle.ba_encode.specs.Encodings.{AreGivenUp, IsEncodingOf}
 use Rattle.ba_encode.specs.Groups.{relaxes_in}
@@ -30,7 +31,7 @@ use Rattle.ba_tree.specs.declared.run.Outcome.{Outcome}
 use Rattle.ba_tree.specs.declared.run.Outcome.TheVariants.{Done, AssertFails, Trap, Beyond, WrongChoices}
 use Rattle.ba_tree.specs.declared.run.Weights.{Weights}
 use Rattle.ba_tree.specs.declared.tree.Program.{Program}
-use Rattle.ba_wordlist.specs.Meaning.{Visit, chosen, visits_of}
+use Rattle.ba_wordlist.specs.Meaning.{visits_of}
 use Rattle.ba_wordlist.specs.declared.words.WordList.{WordList}
 
 done-is : (o : Outcome) → is_done o ≡ true → o ≡ Done

@@ -16,6 +16,7 @@ use Rattle.ba_code.specs.declared.nodes.Param.{Param}
 use Rattle.ba_code.specs.declared.nodes.Param.TheVariants.{Var, Array}
 use Rattle.ba_code.specs.declared.trees.Code.{Code}
 use Rattle.ba_code_laws.specs.Tracing.{TracedExecution, everywhere, untraced}
+use Rattle.ba_code_laws.specs.Visits.{Visit, chosen}
 use Rattle.ba_guards.proofs.Filling.{elements-all}
 use Rattle.ba_guards.proofs.Going.{ended-some, means-as, traced_of}
 use Rattle.ba_guards.proofs.Growing.{array-long, extensional, same-grown, all-at}
@@ -35,7 +36,7 @@ use Rattle.ba_wordlist.proofs.Choices.{chosen-nothing, kept-everywhere, visits-n
 use Rattle.ba_wordlist.proofs.Lengths.{lengths-kept}
 use Rattle.ba_wordlist.proofs.Values.{SameBelow, names-more, to_name, value-const}
 use Rattle.ba_wordlist.specs.Facts.{are_names, are_typed, are_words, is_name, is_place, is_word_list, is_word_value, lengths_of}
-use Rattle.ba_wordlist.specs.Meaning.{Assignment, Visit, chosen, elements_at, is_nonzero, value_at, values_of}
+use Rattle.ba_wordlist.specs.Meaning.{Assignment, elements_at, is_nonzero, value_at, values_of}
 use Rattle.ba_wordlist.specs.declared.words.PlaceWords.{PlaceWords}
 use Rattle.ba_wordlist.specs.declared.words.WordOp.{WordOp}
 use Rattle.ba_wordlist.specs.declared.words.WordOp.TheVariants.{Const}

@@ -5,6 +5,7 @@ use Rattle.std.proofs.lemmas.List.{length-append}
 use Rattle.ba_choices.specs.declared.Choice.{Choice}
 use Rattle.ba_code.specs.Facts.{Declared}
 use Rattle.ba_code_laws.specs.Tracing.{Relaxes}
+use Rattle.ba_code_laws.specs.Visits.{Visit, are_kept, chosen}
 use Rattle.ba_guards.proofs.Going.{is_running, left-resting, live-running, quiet}
 use Rattle.ba_guards.proofs.Growing.{arrays-same, fits-grown, left-kept, met-kept, same-grown, variables-same, visits-kept}
 use Rattle.ba_guards.specs.Continuing.{continued, ended, labels_of}
@@ -14,7 +15,7 @@ use Rattle.ba_guards.specs.Reading.Status.{idle, running}
 use Rattle.ba_guards.specs.declared.builder.Builder.{Builder}
 use Rattle.ba_tree.specs.declared.run.Place.{Place}
 use Rattle.ba_wordlist.proofs.Values.{SameBelow, names-more, value-same, values-agree}
-use Rattle.ba_wordlist.specs.Meaning.{Assignment, Visit, are_kept, are_met, chosen, is_nonzero, value_at, values_of, visits_in}
+use Rattle.ba_wordlist.specs.Meaning.{Assignment, are_met, is_nonzero, value_at, values_of, visits_in}
 use Rattle.ba_wordlist.specs.declared.words.WordOp.{WordOp}
 
 -- a snapshot by its parts

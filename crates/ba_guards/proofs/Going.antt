@@ -5,6 +5,7 @@ use Rattle.std.proofs.lemmas.List.{length-append}
 use Rattle.ba_choices.specs.declared.Choice.{Choice}
 use Rattle.ba_code.specs.Facts.{Declared}
 use Rattle.ba_code_laws.specs.Tracing.{Relaxes, Traced, TracedExecution, everywhere}
+use Rattle.ba_code_laws.specs.Visits.{are_kept, chosen}
 use Rattle.ba_guards.proofs.Growing.{met-kept, same-grown, snapshot-agree, snapshot-kept, visits-kept}
 use Rattle.ba_guards.specs.Continuing.{Further, after_end, continued, continued_from, ended, labels_of, then_go, traced_from}
 use Rattle.ba_guards.specs.Making.{Extends, Fits, Found, Means, Part}
@@ -18,7 +19,7 @@ use Rattle.ba_tree.specs.declared.run.Flow.TheVariants.{Next, Leaves}
 use Rattle.ba_tree.specs.declared.run.Place.{Place}
 use Rattle.ba_wordlist.proofs.Choices.{chosen-append, chosen-none, chosen-nothing, kept-append, kept-everywhere, kept-none}
 use Rattle.ba_wordlist.specs.Facts.{are_words}
-use Rattle.ba_wordlist.specs.Meaning.{Assignment, are_kept, chosen, is_nonzero, value_at, values_of}
+use Rattle.ba_wordlist.specs.Meaning.{Assignment, is_nonzero, value_at, values_of}
 use Rattle.ba_wordlist.specs.declared.words.WordOp.{WordOp}
 
 -- ENDS

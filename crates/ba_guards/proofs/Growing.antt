@@ -15,7 +15,8 @@ use Rattle.ba_wordlist.proofs.Choices.{visits-same}
 use Rattle.ba_wordlist.proofs.Lengths.{length-elements, lengths-kept}
 use Rattle.ba_wordlist.proofs.Values.{SameBelow, elements-kept, met-same, name-more, names-more, of_name, value-same, values-agree}
 use Rattle.ba_wordlist.specs.Facts.{are_names, are_typed, are_words, is_name, is_place, is_typed, lengths_of, shows_type}
-use Rattle.ba_wordlist.specs.Meaning.{Assignment, Visit, are_met, is_nonzero, value_at, values_of, visits_in}
+use Rattle.ba_code_laws.specs.Visits.{Visit}
+use Rattle.ba_wordlist.specs.Meaning.{Assignment, are_met, is_nonzero, value_at, values_of, visits_in}
 use Rattle.ba_wordlist.specs.declared.words.PlaceWords.{PlaceWords}
 use Rattle.ba_wordlist.specs.declared.words.WordOp.{WordOp}
 use Rattle.ba_wordlist.specs.declared.words.WordOp.TheVariants.{Const}

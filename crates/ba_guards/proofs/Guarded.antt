@@ -11,6 +11,7 @@ use Rattle.ba_code.specs.declared.nodes.Param.{Param}
 use Rattle.ba_code.specs.declared.trees.BoundTree.{BoundTree}
 use Rattle.ba_code_laws.proofs.Erasing.{erases-nodes}
 use Rattle.ba_code_laws.specs.Tracing.{Relaxes, Traced, everywhere, places_used, trace_nodes, without_trace}
+use Rattle.ba_code_laws.specs.Visits.{Visit, are_kept, chosen}
 use Rattle.ba_guards.proofs.Beginning.{list-fits, param-keeps, tree-keeps, with_choices}
 use Rattle.ba_guards.proofs.Going.{ended-some}
 use Rattle.ba_guards.specs.Continuing.{after_end, continued, ended, labels_of, status_after}
@@ -31,7 +32,7 @@ use Rattle.ba_tree.specs.declared.run.Outcome.{Outcome}
 use Rattle.ba_tree.specs.declared.run.Outcome.TheVariants.{Done}
 use Rattle.ba_tree.specs.declared.run.Place.{Place}
 use Rattle.ba_wordlist.proofs.Choices.{chosen-everywhere, kept-everywhere}
-use Rattle.ba_wordlist.specs.Meaning.{Assignment, Visit, are_kept, are_met, chosen, holds, spelled, values_of, visits_in, visits_of}
+use Rattle.ba_wordlist.specs.Meaning.{Assignment, are_met, holds, spelled, values_of, visits_in, visits_of}
 use Rattle.ba_wordlist.specs.Facts.{is_word_list, is_word_value}
 use Rattle.ba_wordlist.specs.declared.words.WordList.{WordList}
 use Rattle.ba_wordlist.specs.declared.words.WordOp.{WordOp}

@@ -11,6 +11,7 @@ use Rattle.ba_code.specs.Meaning.{choice_where, if_taken, taken}
 use Rattle.ba_code.specs.State.{CodeState}
 use Rattle.ba_code.specs.declared.nodes.Take.{Take}
 use Rattle.ba_code_laws.specs.Tracing.{Relaxes, Traced, TracedExecution, at_place, is_relaxed, traced_picked, untraced}
+use Rattle.ba_code_laws.specs.Visits.{Visit, are_kept, chosen, is_keep}
 use Rattle.ba_guards.proofs.Forks.{cells_at, forked, list_at, on_at, rest_at, snap, vars_at}
 use Rattle.ba_guards.proofs.Going.{is_running, live-running, quiet, resting}
 use Rattle.ba_guards.proofs.Growing.{array-long, fits-grown, met-kept, same-grown, snapshot-agree, snapshot-kept, visits-kept}
@@ -23,7 +24,7 @@ use Rattle.ba_tree.specs.declared.run.Place.{Place}
 use Rattle.ba_wordlist.proofs.Choices.{chosen-first, chosen-none, kept-first, kept-none, visits-append, visits-one}
 use Rattle.ba_wordlist.proofs.Values.{to_name, values-agree}
 use Rattle.ba_wordlist.specs.Facts.{are_names, are_typed, are_words, is_name, is_place, is_typed}
-use Rattle.ba_wordlist.specs.Meaning.{Assignment, Visit, are_kept, chosen, is_keep, values_of, visit_of}
+use Rattle.ba_wordlist.specs.Meaning.{Assignment, values_of, visit_of}
 use Rattle.ba_wordlist.specs.declared.words.PlaceWords.{PlaceWords}
 use Rattle.ba_wordlist.specs.declared.words.WordOp.{WordOp}
 

@@ -10,6 +10,7 @@ use Rattle.ba_choices.specs.declared.Choice.{Choice}
 use Rattle.ba_code.specs.Facts.{Declared}
 use Rattle.ba_code.specs.Meaning.{flow_after_block}
 use Rattle.ba_code_laws.specs.Tracing.{Relaxes, Traced, TracedExecution, untraced}
+use Rattle.ba_code_laws.specs.Visits.{chosen}
 use Rattle.ba_guards.proofs.Exiting.{exit-more, exit-within, idle-off, labels-set, left-append, left-within, off-idle, or_left, set-left, set-single, single-init, single-more, unset-left, unset-single}
 use Rattle.ba_guards.proofs.Forks.{cells_at, later-cells, later-list, later-met, later-vars, later-visits, later-word, list_at, on_at, rest_at, snap, vars_at, ways-stand}
 use Rattle.ba_guards.proofs.Going.{is_running, left-resting, live-running, means-before, means-steady, resting}
@@ -26,7 +27,7 @@ use Rattle.ba_tree.specs.declared.run.Flow.TheVariants.{Next, Leaves}
 use Rattle.ba_tree.specs.declared.run.Place.{Place}
 use Rattle.ba_wordlist.proofs.Values.{of_name, to_name, value-const}
 use Rattle.ba_wordlist.specs.Facts.{are_names, is_name}
-use Rattle.ba_wordlist.specs.Meaning.{Assignment, are_met, chosen, is_nonzero, value_at, values_of, visits_in}
+use Rattle.ba_wordlist.specs.Meaning.{Assignment, are_met, is_nonzero, value_at, values_of, visits_in}
 
 -- A BLOCK is left by its exit
 

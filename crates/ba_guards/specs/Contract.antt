@@ -6,10 +6,11 @@ use Rattle.ba_choices.specs.declared.Choice.{Choice}
 use Rattle.ba_code.specs.Run.{code_of_bound, outcome_of_code}
 use Rattle.ba_code.specs.declared.trees.BoundTree.{BoundTree}
 use Rattle.ba_code_laws.specs.Tracing.{Relaxes, places_used}
+use Rattle.ba_code_laws.specs.Visits.{Visit, are_kept, chosen}
 use Rattle.ba_tree.specs.declared.run.Input.{Input}
 use Rattle.ba_tree.specs.declared.run.Outcome.TheVariants.{Done}
 use Rattle.ba_wordlist.specs.Facts.{is_word_value}
-use Rattle.ba_wordlist.specs.Meaning.{Assignment, Visit, are_kept, chosen, holds, spelled, visits_of}
+use Rattle.ba_wordlist.specs.Meaning.{Assignment, holds, spelled, visits_of}
 use Rattle.ba_wordlist.specs.declared.words.WordList.{WordList}
 
 -- THE INPUT

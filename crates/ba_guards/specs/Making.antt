@@ -13,6 +13,7 @@ use Rattle.ba_code.specs.declared.nodes.Take.{Take}
 use Rattle.ba_code.specs.declared.nodes.Operand.TheVariants as operand
 use Rattle.ba_code.specs.declared.nodes.Take.TheVariants as kind
 use Rattle.ba_code_laws.specs.Tracing.{Relaxes, TracedExecution, untraced}
+use Rattle.ba_code_laws.specs.Visits.{Visit, are_kept, chosen}
 use Rattle.ba_guards.specs.Continuing.{continued, ended, exit_of, labels_of}
 use Rattle.ba_guards.specs.Reading.{Snapshot, is_live, left_from, met, snapshot, variables_at, visits}
 use Rattle.ba_guards.specs.Reading.Status.{idle}
@@ -28,7 +29,7 @@ use Rattle.ba_tree.specs.declared.run.Flow.TheVariants.{Next}
 use Rattle.ba_tree.specs.declared.run.Halt.{Halt}
 use Rattle.ba_tree.specs.declared.run.Place.{Place}
 use Rattle.ba_wordlist.specs.Facts.{are_names, are_typed, are_words, is_name, is_place, lengths_of, shows_type}
-use Rattle.ba_wordlist.specs.Meaning.{Assignment, Visit, are_kept, chosen, elements_at, is_nonzero, value_at, values_of}
+use Rattle.ba_wordlist.specs.Meaning.{Assignment, elements_at, is_nonzero, value_at, values_of}
 use Rattle.ba_wordlist.specs.declared.words.WordOp.{WordOp}
 use Rattle.ba_wordlist.specs.declared.words.WordOp.TheVariants.{Const}
 

@@ -4,7 +4,8 @@ use Rattle.std.specs.Prelude.{ℕ, ◌+◌, ℤ, Bool, cond, Option, None, Some,
 use Rattle.ba_tree.specs.declared.run.Place.{Place}
 use Rattle.ba_guards.specs.declared.builder.Builder.{Builder}
 use Rattle.ba_guards.specs.declared.exits.Exit.{Exit}
-use Rattle.ba_wordlist.specs.Meaning.{Assignment, Visit, are_met, elements_at, is_nonzero, value_at, values_of, visits_in}
+use Rattle.ba_code_laws.specs.Visits.{Visit}
+use Rattle.ba_wordlist.specs.Meaning.{Assignment, are_met, elements_at, is_nonzero, value_at, values_of, visits_in}
 
 -- where a run stands at the end of the list: it doesn't come there; it does, with these variables; or it has
 -- left a block on the way, by its exit

@@ -92,6 +92,7 @@ impl Builder {
     }
 
     /// Begins the side of a branch that is taken where a word isn't 0.
+    #[inline(never)]
     pub fn open(&mut self, alloc: Global, which: u32) -> Result<Fork, AllocError>
         ensures fork { IfOk result
             (λ fork. fork ≡ fork_at which self.new.live self.old.live self.old.vars) }
@@ -114,6 +115,7 @@ impl Builder {
     }
 
     /// Begins the other side, from where the run stood before.
+    #[inline(never)]
     pub fn switch(&mut self, fork: Fork) -> Result<Sides, AllocError>
         ensures sides { IfOk result
             (λ sides. sides ≡ sides_at fork self.new.live self.old.live self.old.vars) }
@@ -144,6 +146,7 @@ impl Builder {
     }
 
     /// Ends both sides of a branch. Where neither side leaves a block, the run comes here where it came to the branch.
+    #[inline(never)]
     pub fn join(&mut self, alloc: Global, sides: Sides) -> Result<(), AllocError>
         ensures { OnOk result ((d : Declared) → Fits d self.old
             → sides.after.live < length self.old.words
@@ -175,6 +178,7 @@ impl Builder {
     }
 
     /// Begins a block.
+    #[inline(never)]
     pub fn begin_block(&mut self, alloc: Global, label: u32) -> Result<(), AllocError>
         ensures { OnOk result (Scopes self.old self.new label) }
     {
@@ -188,6 +192,7 @@ impl Builder {
     }
 
     /// Ends the innermost block.
+    #[inline(never)]
     pub fn end_block(&mut self, alloc: Global) -> Result<(), AllocError>
         ensures { OnOk result ((d : Declared) → Fits d self.old
             → (exit : Exit) × Closes self.old self.new exit) }
@@ -230,6 +235,7 @@ impl Builder {
     }
 
     /// Adds an execution of a statement that may be relaxed, where the run stands, with the words of its choice.
+    #[inline(never)]
     pub fn add_place(
         &mut self,
         alloc: Global,
@@ -256,6 +262,7 @@ impl Builder {
 /// Where the run stands behind two ways, of which it takes at most one.
 ///
 /// The one error is want of memory.
+#[inline(never)]
 fn either_way(
     alloc: Global,
     words: &mut Words,

@@ -25,6 +25,7 @@ pub struct Offer {
 /// Words that can be each choice of a statement.
 ///
 /// The one error is want of memory.
+#[inline(never)]
 pub fn offered(
     alloc: Global,
     arrays: &[ArrayInfo],

@@ -143,8 +143,10 @@ fn set_word(
     word: u32,
 ) -> Result<(), AllocError>
     ensures set { OnOk result (AreChunks 32 (map rc_value chunks.old)
-        → concat (map rc_value chunks.new) ≡ slice_set (concat (map rc_value chunks.old)) number word) }
-    ensures shape { AreChunks 32 (map rc_value chunks.old) → AreChunks 32 (map rc_value chunks.new) }
+        → concat (map rc_value chunks.new)
+        ≡ slice_set (concat (map rc_value chunks.old)) number word) }
+    ensures shape { AreChunks 32 (map rc_value chunks.old)
+        → AreChunks 32 (map rc_value chunks.new) }
 {
     let index = number / CHUNK;
     if index < chunks.len() {

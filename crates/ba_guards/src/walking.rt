@@ -55,30 +55,6 @@ fn guard_node(
         return Ok(());
     }
     match node {
-        Node::Set { to, from } => set(b, *to, *from),
-        Node::Unary { to, op, t, a } => unary(b, *to, *op, *t, *a),
-        Node::Binary {
-            to,
-            op,
-            t,
-            a,
-            b: right,
-            stmt,
-        } => binary(b, *to, *op, *t, *a, *right, *stmt),
-        Node::Convert { to, t, a } => convert(b, *to, *t, *a),
-        Node::Load {
-            to,
-            array,
-            index,
-            stmt,
-        } => load(b, arrays, *to, *array, *index, *stmt),
-        Node::Save {
-            array,
-            index,
-            value,
-            stmt,
-        } => save(b, arrays, *array, *index, *value, *stmt),
-        Node::Fill { array, values } => fill(alloc, b, *array, values.as_slice()),
         Node::Pick { place, take, keep } => {
             let offer = offered(alloc, arrays, &mut b.words, *take)?;
             b.add_place(alloc, place, &offer)?;
@@ -107,14 +83,68 @@ fn guard_node(
             guard_nodes(alloc, arrays, b, body.as_slice())?;
             b.end_block(alloc)
         }
+        Node::Set { .. }
+        | Node::Unary { .. }
+        | Node::Binary { .. }
+        | Node::Convert { .. }
+        | Node::Load { .. }
+        | Node::Save { .. }
+        | Node::Fill { .. }
+        | Node::Leave { .. }
+        | Node::Loop { .. }
+        | Node::Assert { .. }
+        | Node::Beyond { .. } => guard_leaf(alloc, arrays, b, node),
+    }
+}
+
+/// Adds the words of a node without nodes inside; others are answered as if out of memory.
+#[inline(never)]
+fn guard_leaf(
+    alloc: Global,
+    arrays: &[ArrayInfo],
+    b: &mut Builder,
+    node: &Node,
+) -> Result<(), AllocError>
+    ensures { OnOk result ((vars : ℕ) → list_all is_array_info arrays.now ≡ true
+        → Fits (declared vars arrays.now) b.old
+        → IsFit (declared vars arrays.now) node.now
+        → Means (declared vars arrays.now) (λ f r. trace_node r arrays.now node.now) b.old b.new) }
+{
+    match node {
+        Node::Set { to, from } => set(b, *to, *from),
+        Node::Unary { to, op, t, a } => unary(b, *to, *op, *t, *a),
+        Node::Binary {
+            to,
+            op,
+            t,
+            a,
+            b: right,
+            stmt,
+        } => binary(b, *to, *op, *t, *a, *right, *stmt),
+        Node::Convert { to, t, a } => convert(b, *to, *t, *a),
+        Node::Load {
+            to,
+            array,
+            index,
+            stmt,
+        } => load(b, arrays, *to, *array, *index, *stmt),
+        Node::Save {
+            array,
+            index,
+            value,
+            stmt,
+        } => save(b, arrays, *array, *index, *value, *stmt),
+        Node::Fill { array, values } => fill(alloc, b, *array, values.as_slice()),
         Node::Leave { label } => b.leave(alloc, *label),
         Node::Loop { .. } => Ok(()),
         Node::Assert { when, stmt } => assert_nonzero(b, *when, *stmt),
         Node::Beyond { stmt } => beyond(b, *stmt),
+        Node::Pick { .. } | Node::If { .. } | Node::Block { .. } => Err(AllocError),
     }
 }
 
 /// Does what the values of a choice do, which are those of words, on the second side of a branch.
+#[inline(never)]
 pub fn take_values(
     arrays: &[ArrayInfo],
     b: &mut Builder,

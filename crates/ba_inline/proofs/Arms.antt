@@ -1,5 +1,5 @@
 -- What the functions of the inliner make, with the declarations and the nodes that are there at their ends.
-use Rattle.std.proofs.Common.{◌≡◌, ℕ, ◌+◌, ◌<◌, ◌≤◌, suc, ℤ, pos, Bool, true, false, ◌||◌, List, [], ◌∷◌, ◌++◌, map, length, replicate, refl, sym, ◌∙◌, ap, subst, arith, append-nil, zero}
+use Rattle.std.proofs.Common.{◌≡◌, ℕ, ◌+◌, ◌<◌, ◌≤◌, suc, ℤ, pos, Bool, true, false, ◌||◌, List, [], ◌∷◌, ◌++◌, map, length, vec_len, replicate, refl, sym, ◌∙◌, ap, subst, arith, append-nil, zero}
 use Rattle.std.specs.Global.{Box, Vec}
 use Rattle.std.specs.Prelude.{None, Ok, Option, Some, slice_get}
 use Rattle.ba_code.specs.Meaning.{InTurns, Setting, path_in, run_nodes}
@@ -86,6 +86,31 @@ pub makes-old : {A : Type 0} {p : Program} {names : Names} {path : List Step} {p
 makes-old {p = p} {names = names} {path = path} {part = part} {stands = stands} {low = low} {high = high}
     {new = new} is made =
     subst (λ old. Makes p names path part stands low high old new) is made
+
+-- how long a list of nodes is
+pub nodes-len : (nodes : Vec Node) → vec_len nodes ≡ length nodes.items
+nodes-len nodes = omega (arith, nodes.ok.0)
+
+-- the same nodes behind others
+pub makes-from : {A : Type 0} {p : Program} {names : Names} {path : List Step} {part : Part A}
+    {stands : CodeState → Standing A} {low high : Types} {old new : List Node} (other : List Node)
+    → (made : Makes p names path part stands low high old new)
+    → Makes p names path part stands low high other (other ++ made.nodes)
+makes-from other made = record {
+  nodes = made.nodes;
+  is = refl;
+  grows = made.grows;
+  runs = made.runs;
+}
+
+-- the same nodes behind none
+pub adds-alone : {old new : List Node} {act : Setting → InTurns} → (added : Adds old new act)
+    → Adds [] added.nodes act
+adds-alone added = record {
+  nodes = added.nodes;
+  is = refl;
+  runs = added.runs;
+}
 
 pub makes-along : {A : Type 0} {p : Program} {names : Names} {path other : List Step} {part : Part A}
     {stands : CodeState → Standing A} {low high : Types} {old new : List Node} → path ≡ other

@@ -1,5 +1,5 @@
 -- The flags of a `switch`, place by place.
-use Rattle.std.proofs.Common.{◌≡◌, ℕ, zero, suc, ◌+◌, ◌<◌, ◌≤◌, ℤ, pos, Bool, true, false, not, ◌&&◌, ◌||◌, ◌==◌, Option, None, Some, List, [], ◌∷◌, ◌++◌, map, take, length, get_or, refl, sym, ◌∙◌, ap, subst, arith}
+use Rattle.std.proofs.Common.{◌≡◌, ℕ, zero, suc, ◌+◌, ℤ, pos, Bool, true, false, not, ◌&&◌, ◌||◌, ◌==◌, Option, None, Some, List, [], ◌∷◌, ◌++◌, map, length, refl, sym, ◌∙◌, ap, subst}
 use Rattle.std.specs.Prelude.{slice_index_or}
 use Rattle.std.specs.List.{list_any}
 use Rattle.std.proofs.lemmas.List.{map_push}
@@ -9,10 +9,9 @@ use Rattle.ba_code.specs.declared.nodes.Node.{Node}
 use Rattle.ba_code.specs.declared.nodes.Operand.{Operand}
 use Rattle.ba_code.specs.declared.nodes.Operand.TheVariants.{Const}
 use Rattle.ba_inline.proofs.Entering.{before-first, before-next, flags-next, joined-is}
-use Rattle.ba_inline.proofs.FlagSteps.{are-between-more, are-between-push, computes-as, computes-none, computes-then, flag-is, flag-truth, flags-truths, operand-still, operands-still, set-truth, sets-truths, any-truths}
-use Rattle.ba_inline.specs.Flags.{AreBetween, AreFlags, Computes, IsBetween, IsFlag, IsLater, IsNone, MakesFlags, MakesFrom, is_set}
+use Rattle.ba_inline.proofs.FlagSteps.{are-between-more, are-between-push, computes-as, computes-none, computes-then, flag-is, flags-truths, operand-still, operands-still, set-truth, sets-truths, any-truths}
+use Rattle.ba_inline.specs.Flags.{AreBetween, AreFlags, IsBetween, IsFlag, IsLater, IsNone, MakesFlags, MakesFrom, is_set}
 use Rattle.ba_inline.specs.Labels.{AreEntered, IsDefault, IsJoined, MakesEntered, entry_flags, is_before, is_default, is_entered, some_start, stands_at, tests_of}
-use Rattle.ba_inline.specs.Names.{IsBelow}
 use Rattle.ba_numbers.specs.Numbers.{truth}
 use Rattle.ba_tree.specs.Facts.{values_differ}
 use Rattle.ba_tree.specs.Meaning.{label_at}

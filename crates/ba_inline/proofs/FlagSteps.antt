@@ -1,5 +1,5 @@
 -- Code of flags, put together.
-use Rattle.std.proofs.Common.{◌≡◌, ℕ, zero, suc, ◌+◌, ◌<◌, ◌≤◌, ℤ, pos, Bool, true, false, not, ◌&&◌, ◌||◌, Option, None, Some, Ok, List, [], ◌∷◌, ◌++◌, map, take, length, get_or, refl, sym, ◌∙◌, ap, subst, arith, append-nil}
+use Rattle.std.proofs.Common.{◌≡◌, ℕ, zero, suc, ◌+◌, ◌<◌, ◌≤◌, ℤ, pos, Bool, true, false, not, ◌||◌, Some, List, [], ◌∷◌, ◌++◌, map, length, get_or, refl, sym, ◌∙◌, ap, subst, arith, append-nil}
 use Rattle.std.specs.Prelude.{bit_or}
 use Rattle.std.specs.List.{list_any}
 use Rattle.std.specs.Ordering.{int_eq}
@@ -16,7 +16,7 @@ use Rattle.ba_inline.proofs.Joining.{joined}
 use Rattle.ba_inline.proofs.Keeping.{grows-same, grows-then, grows-var, with_var-length}
 use Rattle.ba_inline.proofs.Seeing.{at-other, at-self}
 use Rattle.ba_inline.specs.Adding.{binary_act, unary_act}
-use Rattle.ba_inline.specs.Declarations.{Grows, with_var}
+use Rattle.ba_inline.specs.Declarations.{with_var}
 use Rattle.ba_inline.specs.Flags.{AreBetween, AreFlags, Computes, IsAny, IsBetween, IsEither, IsFlag, IsLater, IsNone, MakesFlag, MakesFlags, MakesFrom, is_set}
 use Rattle.ba_inline.specs.Labels.{tests_of}
 use Rattle.ba_inline.specs.Making.{Adds}
@@ -32,7 +32,6 @@ use Rattle.ba_numbers.specs.declared.numbers.CType.TheVariants.{I32}
 use Rattle.ba_tree.specs.Acts.{after_part, then_do}
 use Rattle.ba_tree.specs.declared.run.Flow.{Flow}
 use Rattle.ba_tree.specs.declared.tree.Start.{Start}
-use Rattle.ba_tree.specs.declared.run.Flow.TheVariants.{Next}
 
 abbrev pub Told : Type 1
 Told = CodeState → CodeState → Type 0

@@ -1,21 +1,21 @@
 -- Statements that are run where a flag is set, in groups.
-use Rattle.std.proofs.Common.{◌≡◌, ℕ, zero, suc, ◌+◌, ℤ, pos, Bool, true, false, cond, Ok, List, [], ◌∷◌, ◌++◌, map, take, length, get_or, refl, sym, ◌∙◌, ap, subst, arith, append-nil, append_assoc}
+use Rattle.std.proofs.Common.{◌≡◌, ℕ, zero, suc, ◌+◌, ℤ, pos, Bool, true, false, cond, List, [], ◌∷◌, ◌++◌, map, length, refl, sym, ◌∙◌, ap, subst, append-nil, append_assoc}
 use Rattle.std.specs.Prelude.{slice_index_or}
 use Rattle.std.specs.Ordering.{int_eq}
-use Rattle.std.proofs.lemmas.List.{length-map, length-append, map-append, map_push, take_more}
+use Rattle.std.proofs.lemmas.List.{length-map, length-append, map-append, map_push}
 use Rattle.ba_code.proofs.Rows.{in_order-one, run-append, run-none}
 use Rattle.ba_code.specs.Meaning.{Setting, path_in, run_nodes}
-use Rattle.ba_code.specs.State.{CodeEnding, CodeExecution, CodeState, operand_value}
+use Rattle.ba_code.specs.State.{CodeState, operand_value}
 use Rattle.ba_code.specs.Types.{Types}
 use Rattle.ba_code.specs.declared.nodes.Node.{Node}
 use Rattle.ba_code.specs.declared.nodes.Operand.{Operand}
-use Rattle.ba_code.specs.declared.nodes.Operand.TheVariants.{Const, Var}
+use Rattle.ba_code.specs.declared.nodes.Operand.TheVariants.{Const}
 use Rattle.ba_inline.proofs.Ends.{meets-fork, meets-is, meets-then}
 use Rattle.ba_inline.proofs.Entering.{guarded-append, guarded-same}
 use Rattle.ba_inline.proofs.Forms.{exec_all-more}
 use Rattle.ba_inline.proofs.Homes.{after-does, makes-row}
 use Rattle.ba_inline.proofs.Joining.{joined, makes-as, settled-stays}
-use Rattle.ba_inline.proofs.Keeping.{grows-same, grows-then, keeps-same, ready-after, ready-before}
+use Rattle.ba_inline.proofs.Keeping.{grows-then, keeps-same, ready-after, ready-before}
 use Rattle.ba_inline.proofs.Statements.{makes-no-code}
 use Rattle.ba_inline.specs.Adding.{if_act}
 use Rattle.ba_inline.specs.Declarations.{Grows}
@@ -30,8 +30,6 @@ use Rattle.ba_inline.specs.declared.frames.Frame.{Frame}
 use Rattle.ba_tree.specs.Acts.{after_part, fork, give, then_do}
 use Rattle.ba_tree.specs.Meaning.{exec, exec_all}
 use Rattle.ba_tree.specs.State.{Execution, State}
-use Rattle.ba_tree.specs.declared.run.Exit.{Exit}
-use Rattle.ba_tree.specs.declared.run.Flow.{Flow}
 use Rattle.ba_tree.specs.declared.run.Flow.TheVariants.{Next}
 use Rattle.ba_tree.specs.declared.run.Step.{Step}
 use Rattle.ba_tree.specs.declared.tree.Program.{Program}

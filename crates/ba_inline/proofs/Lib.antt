@@ -11,6 +11,8 @@ mod Picks
 mod Homes
 mod Relaxing
 mod Statements
+mod Weighing
+mod Wrapping
 mod Wiping
 mod Loops
 mod Scopes

@@ -1,14 +1,13 @@
 -- The code of a whole `switch`.
-use Rattle.std.proofs.Common.{◌≡◌, ℕ, ◌+◌, ◌<◌, ◌≤◌, ℤ, Bool, true, Ok, Option, List, [], ◌∷◌, ◌++◌, map, length, refl, sym, ◌∙◌, ap, subst, arith, append_assoc}
+use Rattle.std.proofs.Common.{◌≡◌, ℕ, ◌+◌, ◌<◌, ◌≤◌, ℤ, true, Option, List, [], ◌∷◌, ◌++◌, map, length, refl, sym, ◌∙◌, ap, subst, arith, append_assoc}
 use Rattle.ba_code.proofs.Rows.{run-append}
-use Rattle.ba_code.specs.Meaning.{Setting, block, flow_after_block, path_in, run_nodes}
+use Rattle.ba_code.specs.Meaning.{Setting, flow_after_block, path_in, run_nodes}
 use Rattle.ba_code.specs.Operators.{plain}
 use Rattle.ba_code.specs.State.{CodeEnding, CodeState, operand_value}
 use Rattle.ba_code.specs.Types.{Types}
 use Rattle.ba_code.specs.declared.nodes.Node.{Node}
 use Rattle.ba_code.specs.declared.nodes.Operand.{Operand}
 use Rattle.ba_code.specs.declared.nodes.Operand.TheVariants.{Const, Var}
-use Rattle.ba_inline.proofs.Arms.{makes-old}
 use Rattle.ba_inline.proofs.Ends.{meets-from, meets-is, meets-then, then-assoc}
 use Rattle.ba_inline.proofs.Entering.{entered-row}
 use Rattle.ba_inline.proofs.Homes.{does-then, home-stays, keeps-with}
@@ -25,7 +24,7 @@ use Rattle.ba_inline.specs.Ends.{Meets}
 use Rattle.ba_inline.specs.Flags.{AreBetween, Computed, MakesFlags}
 use Rattle.ba_inline.specs.Keeping.{Keeps}
 use Rattle.ba_inline.specs.Labels.{entry_flags}
-use Rattle.ba_inline.specs.Making.{Adds, AreSettled, Does, Gives, GivesTo, IsSettled, Makes, reading, turn_exits}
+use Rattle.ba_inline.specs.Making.{Adds, AreSettled, Does, Gives, GivesTo, Makes, reading, turn_exits}
 use Rattle.ba_inline.specs.Names.{AreBelow, IsBelow, IsFrame, IsScope, Names, Outside, seen, with_home}
 use Rattle.ba_inline.specs.Parts.{context_in_frame, given_part}
 use Rattle.ba_inline.specs.Switching.{guarded_part, guarded_row, switch_part}
@@ -40,7 +39,6 @@ use Rattle.ba_tree.specs.Meaning.{entered, exec_all, label_at}
 use Rattle.ba_tree.specs.State.{Act, Ending, State}
 use Rattle.ba_tree.specs.declared.run.Exit.{Exit}
 use Rattle.ba_tree.specs.declared.run.Flow.{Flow}
-use Rattle.ba_tree.specs.declared.run.Flow.TheVariants.{Next}
 use Rattle.ba_tree.specs.declared.run.Step.{Step}
 use Rattle.ba_tree.specs.declared.tree.Expr.{Expr}
 use Rattle.ba_tree.specs.declared.tree.Program.{Program}
@@ -72,9 +70,9 @@ plain-setting p w = refl
 module _ (p : Program) (names : Names) (path : List Step) (frame : Frame) (low : Types)
     (is_frame : IsFrame p frame.home names low) (here : StmtId) (t : CType) (e : Expr) (starts : List Start)
     (other : Option ℕ) (body : List Stmt) (to : ℕ) (is_to : to ≡ length low.vars) (mid flagged high : Types)
-    (out tested whole : List Node) (flags : List Operand)
+    (start out tested whole : List Node) (flags : List Operand)
     (given : Makes p names path (given_part p frame here (wanted.Value t) e)
-    (Gives names (has_call e) low (reading (Var to))) low mid [] out)
+    (Gives names (has_call e) low (reading (Var to))) low mid start out)
     (flagging : MakesFlags (λ s. entry_flags (label_at starts (operand_value s (Var to)) other) 0 (length
     body))
     (length low.vars) flags mid flagged out tested)
@@ -173,13 +171,18 @@ module _ (p : Program) (names : Names) (path : List Step) (frame : Frame) (low :
         (given.runs w turns s (ready-before w mid flagged s flagging.computes.grows at_flagged))
         (λ u k. flagged-meets s u ready k))
 
-  whole-is : whole ≡ (given.nodes ++ flagging.computes.nodes) ++ guarding.nodes
+  abbrev pub switch-nodes : List Node
+  switch-nodes = (given.nodes ++ flagging.computes.nodes) ++ guarding.nodes
+
+  pub whole-is : whole ≡ start ++ switch-nodes
   whole-is = guarding.is
-      ∙ ap (λ ns. ns ++ guarding.nodes) (flagging.computes.is ∙ ap (λ ns. ns ++ flagging.computes.nodes)
-      given.is)
+      ∙ ap (λ ns. ns ++ guarding.nodes) (flagging.computes.is
+      ∙ ap (λ ns. ns ++ flagging.computes.nodes) given.is
+      ∙ append_assoc start given.nodes flagging.computes.nodes)
+      ∙ append_assoc start (given.nodes ++ flagging.computes.nodes) guarding.nodes
 
   -- in a block
-  pub makes-switch : (old new : List Node) → Adds old new (block_act 1 whole)
+  pub makes-switch : (old new : List Node) → Adds old new (block_act 1 switch-nodes)
       → Makes p names path (switch_part p frame here t e starts other body) (Does names frame.exits
       frame.home low)
       low high old new
@@ -198,7 +201,7 @@ module _ (p : Program) (names : Names) (path : List Step) (frame : Frame) (low :
         (run_nodes g outer.nodes turns s) (then_do (run_nodes g nodes turns s) (λ way. give
         (flow_after_block 1 way)))
         (sym (then-assoc first (chosen w turns) (λ flow. give (flow_after_loop flow))))
-        (outer.runs g turns s ∙ ap (λ ns. block 1 (run_nodes g ns turns) s) whole-is)
+        (outer.runs g turns s)
         (meets-then (Inside s) (Does names frame.exits frame.home low s) (then_do first (chosen w turns))
         (run_nodes g nodes turns s) (λ flow. give (flow_after_loop flow)) (λ way. give (flow_after_block 1
         way))
@@ -215,11 +218,11 @@ module _ (p : Program) (names : Names) (path : List Step) (frame : Frame) (low :
 pub switch-made : (p : Program) (names : Names) (path : List Step) (frame inner : Frame) (low : Types)
     (here : StmtId) (t : CType) (e : Expr) (starts : List Start) (other : Option ℕ) (body : List Stmt) (to
     : ℕ)
-    (declared mid flagged high : Types) (old new none out tested whole : List Node) (flags : List Operand)
-    → IsFrame p frame.home names low → to ≡ length low.vars → declared ≡ with_var t low → none ≡ []
+    (declared mid flagged high : Types) (old new start out tested whole : List Node) (flags : List Operand)
+    → IsFrame p frame.home names low → to ≡ length low.vars → declared ≡ with_var t low
     → inner ≡ record frame { exits = turn_exits frame.exits }
     → (IsScope p names declared → Makes p names path (given_part p frame here (wanted.Value t) e)
-    (GivesTo names (has_call e) declared to) declared mid none out)
+    (GivesTo names (has_call e) declared to) declared mid start out)
     → ((base : ℕ) → base ≤ length mid.vars → IsBelow (length mid.vars) (Var to)
     → MakesFlags (λ s. entry_flags (label_at starts (operand_value s (Var to)) other) 0 (length body)) base
     flags
@@ -229,24 +232,24 @@ pub switch-made : (p : Program) (names : Names) (path : List Step) (frame inner 
     → AreSettled true (with_home inner.home names) flagged flags
     → Makes p names path (guarded_part p inner body flags) (Does names inner.exits inner.home flagged)
     flagged high tested whole)
-    → Adds old new (block_act 1 whole)
+    → ((made : List Node) → whole ≡ start ++ made → Adds old new (block_act 1 made))
     → Makes p names path (switch_part p frame here t e starts other body) (Does names frame.exits
     frame.home low)
     low high old new
 switch-made p names path frame inner low here t e starts other body to declared mid flagged high old new
-    none out tested
-    whole flags is_frame is_to is_declared is_none is_inner made flagged_by long guarded_by outer =
+    start out tested
+    whole flags is_frame is_to is_declared is_inner made flagged_by long guarded_by outer =
     let scope : IsScope p names low = scope-of p frame.home names low is_frame in
     let first : Makes p names path (given_part p frame here (wanted.Value t) e) (GivesTo names (has_call e)
     (with_var t low) to)
-    (with_var t low) mid [] out = makes-old is_none
+    (with_var t low) mid start out =
     (subst (λ d. IsScope p names d → Makes p names path (given_part p frame here (wanted.Value t) e)
-    (GivesTo names (has_call e) d to) d mid none out) is_declared made
+    (GivesTo names (has_call e) d to) d mid start out) is_declared made
     (scope-later p names low (with_var t low) (grows-var t low) scope)) in
     let given : Makes p names path (given_part p frame here (wanted.Value t) e) (Gives names (has_call e)
     low (reading (Var to)))
-    low mid [] out = makes-condition p names path (given_part p frame here (wanted.Value t) e) (has_call e)
-    to t low mid [] out
+    low mid start out = makes-condition p names path (given_part p frame here (wanted.Value t) e) (has_call e)
+    to t low mid start out
     scope.naming is_to first in
     let more : length (with_var t low).vars ≡ length low.vars + 1 = with_var-length t low in
     let flagging : MakesFlags (λ s. entry_flags (label_at starts (operand_value s (Var to)) other) 0
@@ -257,12 +260,16 @@ switch-made p names path frame inner low here t e starts other body to declared 
     let settled : AreSettled true (with_home frame.home names) flagged flags =
     flags-settled (with_home frame.home names) (length low.vars) flagged flags is_frame.naming.below
     flagging.between in
-    makes-switch p names path frame low is_frame here t e starts other body to is_to mid flagged high out
-    tested whole flags
-    given flagging
-    (subst (λ (f : Frame). IsFrame p f.home names flagged → length flags ≡ length body
+    let guarding : Makes p names path (guarded_part p (record frame { exits = turn_exits frame.exits }) body
+    flags) (Does names (turn_exits frame.exits) frame.home flagged) flagged high tested whole =
+    subst (λ (f : Frame). IsFrame p f.home names flagged → length flags ≡ length body
     → AreSettled true (with_home f.home names) flagged flags
     → Makes p names path (guarded_part p f body flags) (Does names f.exits f.home flagged) flagged high
     tested whole)
-    is_inner guarded_by (frame-later p frame.home names low flagged grows is_frame) long settled) old new
-    outer
+    is_inner guarded_by (frame-later p frame.home names low flagged grows is_frame) long settled in
+    makes-switch p names path frame low is_frame here t e starts other body to is_to mid flagged high start
+    out tested whole flags given flagging guarding old new
+    (outer (switch-nodes p names path frame low is_frame here t e starts other body to is_to mid flagged high
+    start out tested whole flags given flagging guarding)
+    (whole-is p names path frame low is_frame here t e starts other body to is_to mid flagged high start
+    out tested whole flags given flagging guarding))

@@ -8,6 +8,7 @@ pub mod Making
 pub mod Adding
 pub mod Wiping
 pub mod Parts
+pub mod Forms
 pub mod Binding
 pub mod Invoking
 pub mod Arrays

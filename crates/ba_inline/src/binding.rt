@@ -166,6 +166,7 @@ pub fn begin_all(
 }
 
 /// The frame of a function that was given these arguments.
+#[inline(never)]
 pub fn begin_frame(
     setting: &Setting,
     scope: &Scope,

@@ -1,15 +1,18 @@
 //! Blocks and leaves that need not be: a `return` that stands at the end of a function's body.
 
-ghost use Rattle.std.specs.Prelude.{◌≡◌, OnOk};
+ghost use Rattle.std.specs.Prelude.{◌≡◌, ◌++◌, length, List, OnOk};
 ghost use Rattle.std.specs.Bool.{OnTrue};
+ghost use Rattle.ba_code.specs.declared.nodes.Node.{Node};
 ghost use Rattle.ba_inline.specs.Adding.{block_act, if_act};
 ghost use Rattle.ba_inline.specs.Leaving.{AreSameBlock, EndsInReturn, never_leaves, none_leaves};
 ghost use Rattle.ba_inline.specs.Making.{Adds, return_label};
+ghost use Rattle.ba_inline.specs.Repeating.{AddsLoop};
 
-use crate::emit::add;
-use crate::frames::RETURNED;
+use crate::emit::{add, add_block, taken_off};
+use crate::frames::{BROKEN, CONTINUED, RETURNED};
 use ba_code::nodes::{Node, Operand};
-use std::alloc::AllocError;
+use ba_numbers::ids::StmtId;
+use std::alloc::{AllocError, Global};
 
 /// Whether a node never ends by leaving a block of this label.
 #[cycle(never)]
@@ -80,6 +83,7 @@ fn without_last_return(mut nodes: Vec<Node>) -> Vec<Node>
 }
 
 /// The body of a function: a block that each `return` in it leaves, or where none stands before the end, its nodes alone.
+#[inline(never)]
 pub fn add_body(out: &mut Vec<Node>, body: Vec<Node>) -> Result<(), AllocError>
     ensures { OnOk result (Adds out.old.items out.new.items (block_act return_label body.items)) }
 {
@@ -98,6 +102,7 @@ pub fn add_body(out: &mut Vec<Node>, body: Vec<Node>) -> Result<(), AllocError>
 }
 
 /// The one or the other. A `return` that ends both stands once, behind them.
+#[inline(never)]
 pub fn add_branches(
     out: &mut Vec<Node>,
     when: Operand,
@@ -113,4 +118,75 @@ pub fn add_branches(
     no.pop();
     add(out, Node::If { when, yes, no })?;
     add(out, Node::Leave { label: RETURNED })
+}
+
+/// The nodes from one place on, and from another, become the sides of a branch. A `return` that ends both stands once, behind them.
+#[inline(never)]
+pub fn wrap_branches(
+    alloc: Global,
+    out: &mut Vec<Node>,
+    start: usize,
+    middle: usize,
+    when: Operand,
+) -> Result<(), AllocError>
+    ensures { OnOk result ((old yes no : List Node) → start ≡ length old
+        → middle ≡ length (old ++ yes) → out.old.items ≡ (old ++ yes) ++ no
+        → Adds old out.new.items (if_act when yes no)) }
+{
+    let no = taken_off(alloc, out, middle)?;
+    let yes = taken_off(alloc, out, start)?;
+    add_branches(out, when, yes, no)
+}
+
+/// The nodes from this place on become the body of a block.
+#[inline(never)]
+pub fn wrap_block(
+    alloc: Global,
+    out: &mut Vec<Node>,
+    start: usize,
+    label: u32,
+) -> Result<(), AllocError>
+    ensures { OnOk result ((old made : List Node) → start ≡ length old
+        → out.old.items ≡ old ++ made → Adds old out.new.items (block_act label made)) }
+{
+    let body = taken_off(alloc, out, start)?;
+    add_block(out, label, body)
+}
+
+/// The nodes from three places on become a loop: what comes before each condition, the body, and the step. A `break` leaves the block
+/// around it, and a `continue` that of its body.
+#[inline(never)]
+pub fn wrap_loop(
+    alloc: Global,
+    out: &mut Vec<Node>,
+    start: usize,
+    head_end: usize,
+    body_end: usize,
+    after: bool,
+    stmt: StmtId,
+    to: u32,
+) -> Result<(), AllocError>
+    ensures { OnOk result ((old heads bodies steps : List Node) → start ≡ length old
+        → head_end ≡ length (old ++ heads) → body_end ≡ length ((old ++ heads) ++ bodies)
+        → out.old.items ≡ ((old ++ heads) ++ bodies) ++ steps
+        → AddsLoop after stmt to heads bodies steps old out.new.items) }
+{
+    let step = taken_off(alloc, out, body_end)?;
+    let body = taken_off(alloc, out, head_end)?;
+    let head = taken_off(alloc, out, start)?;
+    let mut turn = Vec::new(alloc);
+    add_block(&mut turn, CONTINUED, body)?;
+    let mut whole = Vec::new(alloc);
+    add(
+        &mut whole,
+        Node::Loop {
+            after,
+            head,
+            when: Operand::Var(to),
+            body: turn,
+            step,
+            stmt,
+        },
+    )?;
+    add_block(out, BROKEN, whole)
 }

@@ -12,7 +12,7 @@ use crate::binding::begin_frame;
 use crate::blocks::add_body;
 use crate::control::statements;
 use crate::declared::Declared;
-use crate::emit::{add, add_pick};
+use crate::emit::{add, add_pick, add_set};
 use crate::expressions::{any_arg_has_call, arg_has_call, has_call};
 use crate::frames::{Exits, Frame, Given, Setting, Wanted, take_of};
 use crate::leaves::extended;
@@ -57,7 +57,6 @@ fn argument(
 
 /// The code of arguments, from the left to the right, and what they give to the parameters.
 #[cycle(inline)]
-#[inline(never)]
 fn arguments(
     setting: &Setting,
     scope: &Scope,
@@ -84,6 +83,7 @@ fn arguments(
 
 /// The code of a call, and the operand that has what the function gives.
 #[cycle(inline)]
+#[inline(never)]
 pub fn call_value(
     setting: &Setting,
     scope: &Scope,
@@ -146,13 +146,7 @@ fn invoke(
     let since = declared.moment();
     let inner = begin_frame(setting, scope, declared, out, function, given)?;
     let home = declared.variable(function.result.unwrap_or(CType::I32))?;
-    add(
-        out,
-        Node::Set {
-            to: home,
-            from: Operand::Const(0),
-        },
-    )?;
+    add_set(out, home, Operand::Const(0))?;
     let inside = Frame {
         home,
         exits: Exits {
@@ -180,6 +174,7 @@ fn invoke(
 
 /// The code that puts into a variable the value of an expression, or what the choice gives in its place.
 #[cycle(inline)]
+#[inline(never)]
 pub fn given_to(
     setting: &Setting,
     scope: &Scope,
@@ -207,6 +202,7 @@ pub fn given_to(
 
 /// The code of a call as a statement.
 #[cycle(inline)]
+#[inline(never)]
 pub fn call_statement(
     setting: &Setting,
     scope: &Scope,

@@ -6,13 +6,12 @@ ghost use Rattle.ba_inline.specs.Names.{IsFrame};
 ghost use Rattle.ba_inline.specs.Parts.{loop_part, optional_part, stmt_part, stmts_part};
 ghost use Rattle.ba_inline.specs.Repeating.{parts_of};
 
-use crate::blocks::add_branches;
+use crate::blocks::{wrap_branches, wrap_loop};
 use crate::calls::{call_statement, given_to};
 use crate::declared::Declared;
-use crate::emit::{add, add_zero};
+use crate::emit::{add_assert, add_leave, add_zero};
 use crate::frames::{
-    BROKEN, CONTINUED, Frame, RETURNED, Setting, Wanted, break_label, continue_label, in_body,
-    in_step,
+    Frame, RETURNED, Setting, Wanted, break_label, continue_label, in_body, in_step,
 };
 use crate::labels::Labels;
 use crate::leaves::{declare, extended};
@@ -85,13 +84,13 @@ pub fn statement(
             no,
         } => {
             let to = condition(setting, scope, frame, path, *stmt, declared, out, when)?;
-            let mut one = Vec::new(setting.alloc);
-            add_zero(&mut one, to)?;
-            statement(setting, scope, frame, path, declared, &mut one, yes)?;
-            let mut other = Vec::new(setting.alloc);
-            add_zero(&mut other, to)?;
-            optional(setting, scope, frame, path, declared, &mut other, no)?;
-            add_branches(out, Operand::Var(to), one, other)
+            let start = out.len();
+            add_zero(out, to)?;
+            statement(setting, scope, frame, path, declared, out, yes)?;
+            let middle = out.len();
+            add_zero(out, to)?;
+            optional(setting, scope, frame, path, declared, out, no)?;
+            wrap_branches(setting.alloc, out, start, middle, Operand::Var(to))
         }
         Stmt::Switch {
             stmt,
@@ -119,26 +118,32 @@ pub fn statement(
                 body.as_slice(),
             )
         }
-        Stmt::While { stmt, when, body } => {
-            let parts = Loop {
-                after: false,
-                stmt: *stmt,
-                when,
-                body,
-                step: &[],
-            };
-            repeat(setting, scope, frame, path, declared, out, &parts)
-        }
-        Stmt::DoWhile { stmt, when, body } => {
-            let parts = Loop {
-                after: true,
-                stmt: *stmt,
-                when,
-                body,
-                step: &[],
-            };
-            repeat(setting, scope, frame, path, declared, out, &parts)
-        }
+        Stmt::While { stmt, when, body } => repeat(
+            setting,
+            scope,
+            frame,
+            path,
+            declared,
+            out,
+            false,
+            *stmt,
+            when,
+            body,
+            &[],
+        ),
+        Stmt::DoWhile { stmt, when, body } => repeat(
+            setting,
+            scope,
+            frame,
+            path,
+            declared,
+            out,
+            true,
+            *stmt,
+            when,
+            body,
+            &[],
+        ),
         Stmt::For {
             stmt,
             first,
@@ -147,27 +152,22 @@ pub fn statement(
             body,
         } => {
             statements(setting, scope, frame, path, declared, out, first.as_slice())?;
-            let parts = Loop {
-                after: false,
-                stmt: *stmt,
+            repeat(
+                setting,
+                scope,
+                frame,
+                path,
+                declared,
+                out,
+                false,
+                *stmt,
                 when,
                 body,
-                step: step.as_slice(),
-            };
-            repeat(setting, scope, frame, path, declared, out, &parts)
+                step.as_slice(),
+            )
         }
-        Stmt::Break => add(
-            out,
-            Node::Leave {
-                label: break_label(frame.exits),
-            },
-        ),
-        Stmt::Continue => add(
-            out,
-            Node::Leave {
-                label: continue_label(frame.exits),
-            },
-        ),
+        Stmt::Break => add_leave(out, break_label(frame.exits)),
+        Stmt::Continue => add_leave(out, continue_label(frame.exits)),
         Stmt::Return { stmt, value } => {
             let t = frame.result.unwrap_or(CType::I32);
             given_to(
@@ -182,11 +182,11 @@ pub fn statement(
                 out,
                 value,
             )?;
-            add(out, Node::Leave { label: RETURNED })
+            add_leave(out, RETURNED)
         }
         Stmt::ReturnNone => {
             add_zero(out, frame.home)?;
-            add(out, Node::Leave { label: RETURNED })
+            add_leave(out, RETURNED)
         }
         Stmt::CallStmt {
             stmt,
@@ -218,13 +218,7 @@ pub fn statement(
         Stmt::Assert { stmt, when } => {
             let since = declared.moment();
             let value = expression(setting, scope, frame, path, *stmt, declared, out, when)?;
-            add(
-                out,
-                Node::Assert {
-                    when: value,
-                    stmt: *stmt,
-                },
-            )?;
+            add_assert(out, value, *stmt)?;
             declared.give_back(since, frame.home, out)
         }
     }
@@ -276,18 +270,9 @@ pub fn statements(
     Ok(())
 }
 
-/// What a loop is made of: its condition, its body, the step of a `for`, and whether the condition comes behind the body.
-#[derive(Clone, Copy)]
-struct Loop<'a> {
-    after: bool,
-    stmt: StmtId,
-    when: &'a Expr,
-    body: &'a Stmt,
-    step: &'a [Stmt],
-}
-
-/// The code of a loop.
+/// The code of a loop: its condition comes before each iteration, or `after` it; `step` is that of a `for`.
 #[cycle(inline)]
+#[inline(never)]
 fn repeat(
     setting: &Setting,
     scope: &Scope,
@@ -295,73 +280,36 @@ fn repeat(
     path: &[Step],
     declared: &mut Declared,
     out: &mut Vec<Node>,
-    parts: &Loop,
+    after: bool,
+    stmt: StmtId,
+    when: &Expr,
+    body: &Stmt,
+    step: &[Stmt],
 ) -> Result<(), AllocError>
     ensures { OnOk result (IsFrame setting.now.program.now frame.home scope.now declared.old
         → Makes setting.now.program.now scope.now path.now
-        (loop_part setting.now.program.now frame (parts_of parts.now))
+        (loop_part setting.now.program.now frame (parts_of after stmt when.now body.now step.now))
         (Does scope.now frame.exits frame.home declared.old)
         declared.old declared.new out.old.items out.new.items) }
 {
-    let inside = extended(setting.alloc, path, Step::Turn(parts.stmt, 0))?;
-    let mut head = Vec::new(setting.alloc);
-    let to = condition(
-        setting,
-        scope,
-        frame,
-        inside.as_slice(),
-        parts.stmt,
-        declared,
-        &mut head,
-        parts.when,
-    )?;
-    let mut body = Vec::new(setting.alloc);
-    add_zero(&mut body, to)?;
-    statement(
-        setting,
-        scope,
-        in_body(frame),
-        inside.as_slice(),
-        declared,
-        &mut body,
-        parts.body,
-    )?;
-    let mut turn = Vec::new(setting.alloc);
-    add(
-        &mut turn,
-        Node::Block {
-            label: CONTINUED,
-            body,
-        },
-    )?;
-    let mut step = Vec::new(setting.alloc);
-    statements(
-        setting,
-        scope,
-        in_step(frame),
-        inside.as_slice(),
-        declared,
-        &mut step,
-        parts.step,
-    )?;
-    let mut whole = Vec::new(setting.alloc);
-    add(
-        &mut whole,
-        Node::Loop {
-            after: parts.after,
-            head,
-            when: Operand::Var(to),
-            body: turn,
-            step,
-            stmt: parts.stmt,
-        },
-    )?;
-    add(
+    let inside = extended(setting.alloc, path, Step::Turn(stmt, 0))?;
+    let inside = inside.as_slice();
+    let start = out.len();
+    let to = condition(setting, scope, frame, inside, stmt, declared, out, when)?;
+    let head_end = out.len();
+    add_zero(out, to)?;
+    statement(setting, scope, in_body(frame), inside, declared, out, body)?;
+    let body_end = out.len();
+    statements(setting, scope, in_step(frame), inside, declared, out, step)?;
+    wrap_loop(
+        setting.alloc,
         out,
-        Node::Block {
-            label: BROKEN,
-            body: whole,
-        },
+        start,
+        head_end,
+        body_end,
+        after,
+        stmt,
+        to,
     )?;
     add_zero(out, to)
 }

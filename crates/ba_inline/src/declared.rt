@@ -77,6 +77,7 @@ impl Declared {
     }
 
     /// Declares a variable that holds numbers of the type, and gives its number. Who declares it sets it to 0 when it is read no more.
+    #[inline(never)]
     pub fn own_variable(&mut self, t: CType) -> Result<u32, AllocError>
         ensures { IfOk result (λ number. (number ≡ length self.old.vars)
             × (self.new ≡ with_var t self.old)) }
@@ -87,6 +88,7 @@ impl Declared {
     }
 
     /// Declares a variable that holds numbers of the type, and gives its number. It is in use from now on.
+    #[inline(never)]
     pub fn variable(&mut self, t: CType) -> Result<u32, AllocError>
         ensures { IfOk result (λ number. (number ≡ length self.old.vars)
             × (self.new ≡ with_var t self.old)) }
@@ -115,6 +117,7 @@ impl Declared {
     }
 
     /// Sets to 0 what was declared since a moment and is in use, but for one variable.
+    #[inline(never)]
     pub fn wipe(&self, since: Moment, kept: u32, out: &mut Vec<Node>) -> Result<(), AllocError>
         ensures { OnOk result (Wipes since.vars kept out.old.items out.new.items) }
     {
@@ -126,6 +129,7 @@ impl Declared {
     }
 
     /// Sets to 0 what was declared since a moment and is in use, but for one variable: it is in use no more.
+    #[inline(never)]
     pub fn give_back(
         &mut self,
         since: Moment,

@@ -101,8 +101,8 @@ fn either(
 ) -> Result<Operand, AllocError>
     ensures { IfOk result (λ flag. (base : ℕ) → base ≤ length declared.old.vars
         → IsBetween base (length declared.old.vars) b
-        → MakesFrom (λ s u. IsEither (operand_value s a) (operand_value s b) (operand_value u flag)) base flag
-        declared.old declared.new out.old.items out.new.items) }
+        → MakesFrom (λ s u. IsEither (operand_value s a) (operand_value s b) (operand_value u flag))
+        base flag declared.old declared.new out.old.items out.new.items) }
 {
     if is_never(a) {
         return Ok(b);
@@ -151,8 +151,8 @@ fn none_of(
 ) -> Result<Operand, AllocError>
     ensures { IfOk result (λ flag. (base : ℕ) → base ≤ length declared.old.vars
         → AreBetween base (length declared.old.vars) flags.now
-        → MakesFrom (λ s u. IsNone (map (operand_value s) flags.now) (operand_value u flag)) base flag
-        declared.old declared.new out.old.items out.new.items) }
+        → MakesFrom (λ s u. IsNone (map (operand_value s) flags.now) (operand_value u flag))
+        base flag declared.old declared.new out.old.items out.new.items) }
 {
     let mut any = Operand::Const(0);
     for flag in flags {
@@ -201,8 +201,8 @@ fn either_where(
 ) -> Result<Operand, AllocError>
     ensures { IfOk result (λ flag. (base : ℕ) → base ≤ length declared.old.vars
         → AreBetween base (length declared.old.vars) (a ∷ b ∷ [])
-        → MakesFrom (λ s u. IsLater holds (operand_value s a) (operand_value s b) (operand_value u flag))
-        base flag
+        → MakesFrom (λ s u. IsLater holds (operand_value s a) (operand_value s b)
+        (operand_value u flag)) base flag
         declared.old declared.new out.old.items out.new.items) }
 {
     if holds {
@@ -250,6 +250,7 @@ fn joined(
 
 /// The flags that have for each of so many statements whether the `switch` is entered before it. In a program no two labels have the same
 /// value.
+#[inline(never)]
 pub fn entry_flags(
     alloc: Global,
     declared: &mut Declared,
@@ -262,8 +263,8 @@ pub fn entry_flags(
     ensures made { IfOk result (λ flags. (base : ℕ) → base ≤ length declared.old.vars
         → IsBelow (length declared.old.vars) a
         → MakesFlags (λ s. entry_flags
-        (label_at labels.now.starts.now (operand_value s a) labels.now.other) 0 count) base flags.items
-        declared.old declared.new out.old.items out.new.items) }
+        (label_at labels.now.starts.now (operand_value s a) labels.now.other) 0 count)
+        base flags.items declared.old declared.new out.old.items out.new.items) }
 {
     if !values_differ(labels.starts) {
         return Err(AllocError);
@@ -318,6 +319,7 @@ pub fn group_for(
 }
 
 /// Puts nodes behind others, to be run where a flag is set.
+#[inline(never)]
 pub fn add_where(
     alloc: Global,
     out: &mut Vec<Node>,

@@ -21,6 +21,7 @@ use ba_tree::tree::Shape;
 use std::alloc::{AllocError, Global};
 
 /// A path with one more step inside.
+#[inline(never)]
 pub fn extended(alloc: Global, path: &[Step], step: Step) -> Result<Vec<Step>, AllocError>
     ensures { IfOk result (λ inside. inside.items ≡ path.now ++ step ∷ []) }
 {
@@ -61,6 +62,7 @@ pub fn filled_up(values: Vec<Operand>, len: u32) -> Result<Vec<Operand>, AllocEr
 }
 
 /// The code of a declaration.
+#[inline(never)]
 pub fn declare(
     setting: &Setting,
     scope: &Scope,

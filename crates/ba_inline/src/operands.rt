@@ -3,13 +3,16 @@
 ghost use Rattle.std.specs.Prelude.{◌≡◌, false, length, IfOk, OnOk};
 ghost use Rattle.std.specs.List.{list_any};
 ghost use Rattle.ba_inline.specs.Calling.{has_call};
+ghost use Rattle.ba_inline.specs.Forms.{HoldsThree, HoldsTwo};
 ghost use Rattle.ba_inline.specs.Making.{Gives, GivesTo, Makes, MakesValue, MakesValues, reading};
 ghost use Rattle.ba_inline.specs.Names.{IsScope};
 ghost use Rattle.ba_inline.specs.Parts.{given_part, truth_part, value_part, values_part};
+ghost use Rattle.ba_tree.specs.declared.tree.Expr as tree;
+ghost use Rattle.ba_tree.specs.declared.tree.Expr.{Expr};
 
 use crate::calls::{call_value, given_to};
 use crate::declared::Declared;
-use crate::emit::add;
+use crate::emit::{add_binary, add_convert, add_if, add_load, add_set, add_unary};
 use crate::expressions::{any_has_call, has_call, tested_in, type_of};
 use crate::frames::{Frame, Setting, Wanted};
 use crate::scope::Scope;
@@ -46,29 +49,13 @@ pub fn expression(
             let number = scope.array(*array)?;
             let index = expression(setting, scope, frame, path, here, declared, out, index)?;
             let to = declared.variable(variable_of(setting.program, *array).t)?;
-            add(
-                out,
-                Node::Load {
-                    to,
-                    array: number,
-                    index,
-                    stmt: here,
-                },
-            )?;
+            add_load(out, to, number, index, here)?;
             Ok(Operand::Var(to))
         }
         Expr::Unary { op, t, a } => {
             let a = expression(setting, scope, frame, path, here, declared, out, a)?;
             let to = declared.variable(type_of_unary(*op, *t))?;
-            add(
-                out,
-                Node::Unary {
-                    to,
-                    op: *op,
-                    t: *t,
-                    a,
-                },
-            )?;
+            add_unary(out, to, *op, *t, a)?;
             Ok(Operand::Var(to))
         }
         Expr::Binary { op, t, a, b } => {
@@ -76,70 +63,18 @@ pub fn expression(
             let a = kept_expression(setting, scope, frame, path, here, declared, out, a, keep)?;
             let b = expression(setting, scope, frame, path, here, declared, out, b)?;
             let to = declared.variable(type_of_binary(*op, *t))?;
-            add(
-                out,
-                Node::Binary {
-                    to,
-                    op: *op,
-                    t: *t,
-                    a,
-                    b,
-                    stmt: here,
-                },
-            )?;
+            add_binary(out, to, *op, *t, a, b, here)?;
             Ok(Operand::Var(to))
         }
-        Expr::AndAlso { a, b } => {
-            let a = expression(setting, scope, frame, path, here, declared, out, a)?;
-            let to = declared.variable(CType::I32)?;
-            let mut yes = Vec::new(setting.alloc);
-            truth_to(setting, scope, frame, path, here, declared, &mut yes, b, to)?;
-            let mut no = Vec::new(setting.alloc);
-            add(
-                &mut no,
-                Node::Set {
-                    to,
-                    from: Operand::Const(0),
-                },
-            )?;
-            add(out, Node::If { when: a, yes, no })?;
-            Ok(Operand::Var(to))
-        }
-        Expr::OrElse { a, b } => {
-            let a = expression(setting, scope, frame, path, here, declared, out, a)?;
-            let to = declared.variable(CType::I32)?;
-            let mut yes = Vec::new(setting.alloc);
-            add(
-                &mut yes,
-                Node::Set {
-                    to,
-                    from: Operand::Const(1),
-                },
-            )?;
-            let mut no = Vec::new(setting.alloc);
-            truth_to(setting, scope, frame, path, here, declared, &mut no, b, to)?;
-            add(out, Node::If { when: a, yes, no })?;
-            Ok(Operand::Var(to))
-        }
-        Expr::Select {
-            t,
-            when,
-            yes: a,
-            no: b,
-        } => {
-            let when = expression(setting, scope, frame, path, here, declared, out, when)?;
-            let to = declared.variable(*t)?;
-            let mut yes = Vec::new(setting.alloc);
-            expression_to(setting, scope, frame, path, here, declared, &mut yes, a, to)?;
-            let mut no = Vec::new(setting.alloc);
-            expression_to(setting, scope, frame, path, here, declared, &mut no, b, to)?;
-            add(out, Node::If { when, yes, no })?;
-            Ok(Operand::Var(to))
-        }
+        Expr::AndAlso { a, b } => and_also(setting, scope, frame, path, here, declared, out, a, b),
+        Expr::OrElse { a, b } => or_else(setting, scope, frame, path, here, declared, out, a, b),
+        Expr::Select { t, when, yes, no } => selected(
+            setting, scope, frame, path, here, declared, out, *t, when, yes, no,
+        ),
         Expr::Convert { t, a } => {
             let a = expression(setting, scope, frame, path, here, declared, out, a)?;
             let to = declared.variable(*t)?;
-            add(out, Node::Convert { to, t: *t, a })?;
+            add_convert(out, to, *t, a)?;
             Ok(Operand::Var(to))
         }
         Expr::Call {
@@ -159,6 +94,98 @@ pub fn expression(
             args.as_slice(),
         ),
     }
+}
+
+/// The code of `a && b`, and the operand that has its value.
+#[cycle(inline)]
+#[inline(never)]
+fn and_also(
+    setting: &Setting,
+    scope: &Scope,
+    frame: Frame,
+    path: &[Step],
+    here: StmtId,
+    declared: &mut Declared,
+    out: &mut Vec<Node>,
+    a: &Expr,
+    b: &Expr,
+) -> Result<Operand, AllocError>
+    ensures { IfOk result (λ operand. IsScope setting.now.program.now scope.now declared.old
+        → (whole : Expr) → HoldsTwo tree.AndAlso whole a.now b.now
+        → MakesValue setting.now.program.now scope.now path.now
+        (value_part setting.now.program.now frame here whole) (has_call whole) false
+        operand declared.old declared.new out.old.items out.new.items) }
+{
+    let a = expression(setting, scope, frame, path, here, declared, out, a)?;
+    let to = declared.variable(CType::I32)?;
+    let mut yes = Vec::new(setting.alloc);
+    truth_to(setting, scope, frame, path, here, declared, &mut yes, b, to)?;
+    let mut no = Vec::new(setting.alloc);
+    add_set(&mut no, to, Operand::Const(0))?;
+    add_if(out, a, yes, no)?;
+    Ok(Operand::Var(to))
+}
+
+/// The code of `a || b`, and the operand that has its value.
+#[cycle(inline)]
+#[inline(never)]
+fn or_else(
+    setting: &Setting,
+    scope: &Scope,
+    frame: Frame,
+    path: &[Step],
+    here: StmtId,
+    declared: &mut Declared,
+    out: &mut Vec<Node>,
+    a: &Expr,
+    b: &Expr,
+) -> Result<Operand, AllocError>
+    ensures { IfOk result (λ operand. IsScope setting.now.program.now scope.now declared.old
+        → (whole : Expr) → HoldsTwo tree.OrElse whole a.now b.now
+        → MakesValue setting.now.program.now scope.now path.now
+        (value_part setting.now.program.now frame here whole) (has_call whole) false
+        operand declared.old declared.new out.old.items out.new.items) }
+{
+    let a = expression(setting, scope, frame, path, here, declared, out, a)?;
+    let to = declared.variable(CType::I32)?;
+    let mut yes = Vec::new(setting.alloc);
+    add_set(&mut yes, to, Operand::Const(1))?;
+    let mut no = Vec::new(setting.alloc);
+    truth_to(setting, scope, frame, path, here, declared, &mut no, b, to)?;
+    add_if(out, a, yes, no)?;
+    Ok(Operand::Var(to))
+}
+
+/// The code of `when ? a : b`, of this type, and the operand that has its value.
+#[cycle(inline)]
+#[inline(never)]
+fn selected(
+    setting: &Setting,
+    scope: &Scope,
+    frame: Frame,
+    path: &[Step],
+    here: StmtId,
+    declared: &mut Declared,
+    out: &mut Vec<Node>,
+    t: CType,
+    when: &Expr,
+    a: &Expr,
+    b: &Expr,
+) -> Result<Operand, AllocError>
+    ensures { IfOk result (λ operand. IsScope setting.now.program.now scope.now declared.old
+        → (whole : Expr) → HoldsThree (tree.Select t) whole when.now a.now b.now
+        → MakesValue setting.now.program.now scope.now path.now
+        (value_part setting.now.program.now frame here whole) (has_call whole) false
+        operand declared.old declared.new out.old.items out.new.items) }
+{
+    let when = expression(setting, scope, frame, path, here, declared, out, when)?;
+    let to = declared.variable(t)?;
+    let mut yes = Vec::new(setting.alloc);
+    expression_to(setting, scope, frame, path, here, declared, &mut yes, a, to)?;
+    let mut no = Vec::new(setting.alloc);
+    expression_to(setting, scope, frame, path, here, declared, &mut no, b, to)?;
+    add_if(out, when, yes, no)?;
+    Ok(Operand::Var(to))
 }
 
 /// The code of an expression, and an operand that has its value also behind calls, where they come (`keep`).
@@ -187,7 +214,7 @@ pub fn kept_expression(
         Operand::Const(_) => Ok(operand),
         Operand::Var(_) => {
             let to = declared.variable(type_of(setting.program, expr))?;
-            add(out, Node::Set { to, from: operand })?;
+            add_set(out, to, operand)?;
             Ok(Operand::Var(to))
         }
     }
@@ -214,7 +241,7 @@ pub fn expression_to(
 {
     let since = declared.moment();
     let operand = expression(setting, scope, frame, path, here, declared, out, expr)?;
-    add(out, Node::Set { to, from: operand })?;
+    add_set(out, to, operand)?;
     declared.give_back(since, to, out)
 }
 
@@ -241,24 +268,8 @@ fn truth_to(
     let operand = expression(setting, scope, frame, path, here, declared, out, expr)?;
     let between = declared.variable(CType::I32)?;
     let t = tested_in(type_of(setting.program, expr));
-    add(
-        out,
-        Node::Unary {
-            to: between,
-            op: UnOp::IsZero,
-            t,
-            a: operand,
-        },
-    )?;
-    add(
-        out,
-        Node::Unary {
-            to,
-            op: UnOp::IsZero,
-            t: CType::I32,
-            a: Operand::Var(between),
-        },
-    )?;
+    add_unary(out, between, UnOp::IsZero, t, operand)?;
+    add_unary(out, to, UnOp::IsZero, CType::I32, Operand::Var(between))?;
     declared.give_back(since, to, out)
 }
 

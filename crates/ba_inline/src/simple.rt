@@ -23,6 +23,7 @@ use std::alloc::AllocError;
 
 /// The code of an assignment to a variable, or of its initialiser.
 #[cycle(inline)]
+#[inline(never)]
 pub fn assign(
     setting: &Setting,
     scope: &Scope,
@@ -58,6 +59,7 @@ pub fn assign(
 
 /// The code of a store to an element.
 #[cycle(inline)]
+#[inline(never)]
 pub fn store(
     setting: &Setting,
     scope: &Scope,
@@ -108,6 +110,7 @@ pub fn store(
 
 /// The code of an array's initialiser.
 #[cycle(inline)]
+#[inline(never)]
 pub fn init_array(
     setting: &Setting,
     scope: &Scope,
@@ -152,6 +155,7 @@ pub fn init_array(
 
 /// The code of a `printf`.
 #[cycle(inline)]
+#[inline(never)]
 pub fn print(
     setting: &Setting,
     scope: &Scope,

@@ -5,10 +5,10 @@ ghost use Rattle.ba_inline.specs.Making.{AreSettled, Does, Makes};
 ghost use Rattle.ba_inline.specs.Names.{IsFrame, with_home};
 ghost use Rattle.ba_inline.specs.Switching.{guarded_part, switch_part};
 
+use crate::blocks::wrap_block;
 use crate::calls::given_to;
 use crate::control::statement;
 use crate::declared::Declared;
-use crate::emit::add;
 use crate::frames::{BROKEN, Frame, Setting, Wanted, in_step};
 use crate::labels::{Group, Labels, add_where, entry_flags, flag_at, group_for};
 use crate::scope::Scope;
@@ -20,6 +20,7 @@ use std::alloc::AllocError;
 /// The code of a `switch`: a block that a `break` leaves, in which each statement is run where a label that has the value, or else
 /// `default`, stands before it.
 #[cycle(inline)]
+#[inline(never)]
 pub fn switch(
     setting: &Setting,
     scope: &Scope,
@@ -40,7 +41,7 @@ pub fn switch(
 {
     let since = declared.moment();
     let to = declared.variable(labels.t)?;
-    let mut whole = Vec::new(setting.alloc);
+    let start = out.len();
     given_to(
         setting,
         scope,
@@ -50,13 +51,13 @@ pub fn switch(
         Wanted::Value(labels.t),
         to,
         declared,
-        &mut whole,
+        out,
         on,
     )?;
     let flags = entry_flags(
         setting.alloc,
         declared,
-        &mut whole,
+        out,
         labels,
         Operand::Var(to),
         body.len(),
@@ -67,17 +68,11 @@ pub fn switch(
         in_step(frame),
         path,
         declared,
-        &mut whole,
+        out,
         body,
         flags.as_slice(),
     )?;
-    add(
-        out,
-        Node::Block {
-            label: BROKEN,
-            body: whole,
-        },
-    )?;
+    wrap_block(setting.alloc, out, start, BROKEN)?;
     declared.wipe(since, frame.home, out)
 }
 

@@ -2,3 +2,4 @@ pub mod Jobs
 pub mod Samples
 pub mod Luby
 pub mod Files
+pub mod Rules

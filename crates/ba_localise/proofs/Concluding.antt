@@ -1,5 +1,5 @@
 -- What steps over a faithful encoding derive holds of the program.
-use Rattle.std.proofs.Common.{◌≡◌, ℕ, suc, zero, ◌+◌, ◌<◌, List, [], ◌∷◌, length, All, refl, sym, ◌∙◌, ap, subst, arith}
+use Rattle.std.proofs.Common.{inl, inr, ◌≡◌, ℕ, suc, zero, ◌+◌, ◌<◌, List, [], ◌∷◌, length, All, refl, sym, ◌∙◌, ap, subst, arith}
 use Rattle.std.specs.Prelude.{Contains, get_or}
 use Rattle.ba_derivations.proofs.VerdictLaws.{good_runs, located, no_repair, ordered, spent, too_many}
 use Rattle.ba_derivations.specs.Derivations as derived
@@ -9,9 +9,9 @@ use Rattle.ba_derivations.specs.declared.verdict.FoundSet.{FoundSet}
 use Rattle.ba_derivations.specs.declared.verdict.Verdict.{Verdict}
 use Rattle.ba_derivations.specs.declared.verdict.Verdict.TheVariants.{Located, NoRepair, TooMany, Spent}
 use Rattle.ba_enum.specs.Enumerating.{Enumerates, HaveSame, Says}
-use Rattle.ba_enum.specs.Leading.{Leaves}
-use Rattle.ba_localise.specs.Verdicts.{AreLocated, Finds, IsVerdict, LeavesDerivation, Told, leaves_steps, problem_of}
-use Rattle.ba_steps.specs.Sinks.{Logs, Rose, with_told}
+use Rattle.ba_enum.specs.Leading.{LeavesBetween}
+use Rattle.ba_localise.specs.Verdicts.{AreLocated, Finds, IsVerdict, LeavesDerivation, leaves_steps, problem_of}
+use Rattle.ba_steps.specs.Sinks.{Logs, Rose, Told, with_told}
 use Rattle.ba_steps.specs.declared.sink.Basis.{Basis}
 use Rattle.ba_steps.specs.declared.step.CertStep.{CertStep}
 use Rattle.ba_checker.specs.Puts.{with_steps}
@@ -142,31 +142,29 @@ finds weights good same begun s last conflicts most old mid new verdict faithful
 pub left : (weights : WeightList) (good same : Judge) (begun : Basis) (s last : State) (conflicts most : ℕ)
     (old mid new : Told) → IsFaithful begun.formula begun.softs weights good → same ≡ good
     → s ≡ first_state begun.formula begun.softs conflicts most → mid.over ≡ with_told begun old.over
-    → mid.logs ≡ old.logs → new.over ≡ mid.over → Leaves same s mid.logs last new.logs
+    → mid.logs ≡ old.logs → new.over ≡ mid.over → LeavesBetween same s mid.logs last new.logs
     → LeavesDerivation weights good conflicts most old new
 left weights good same begun s last conflicts most old mid new faithful judges starts begins stay over has =
-    let judged : Leaves good s mid.logs last new.logs =
-    subst (λ (g : Judge). Leaves g s mid.logs last new.logs) judges has in
-    let started : Leaves good (first_state begun.formula begun.softs conflicts most) mid.logs last new.logs =
-    subst (λ (t : State). Leaves good t mid.logs last new.logs) starts judged in
+    let judged : LeavesBetween good s mid.logs last new.logs =
+    subst (λ (g : Judge). LeavesBetween g s mid.logs last new.logs) judges has in
+    let started : LeavesBetween good (first_state begun.formula begun.softs conflicts most) mid.logs last new.logs =
+    subst (λ (t : State). LeavesBetween good t mid.logs last new.logs) starts judged in
     leaves_steps begun last faithful (over ∙ begins)
-    (subst (λ (logs : Logs). Leaves good (first_state begun.formula begun.softs conflicts most) logs last
+    (subst (λ (logs : Logs). LeavesBetween good (first_state begun.formula begun.softs conflicts most) logs last
     new.logs)
     stay started)
 
 -- the same of equal judges, states and logs
 pub leaves-same : (good better : Judge) (s t last end : State) (old first new final : Logs) → good ≡ better → s ≡ t
-    → old ≡ first → last ≡ end → new ≡ final → Leaves good s old last new → Leaves better t first end final
+    → old ≡ first → last ≡ end → new ≡ final → LeavesBetween good s old last new → LeavesBetween better t first end final
 leaves-same good better s t last end old first new final judges starts begins ends stops has =
-    subst (λ (logs : Logs). Leaves better t first end logs) stops
-    (subst (λ (e : State). Leaves better t first e new) ends
-    (subst (λ (logs : Logs). Leaves better t logs last new) begins
-    (subst (λ (u : State). Leaves better u old last new) starts
-    (subst (λ (g : Judge). Leaves g s old last new) judges has))))
+    subst (λ (logs : Logs). LeavesBetween better t first end logs) stops
+    (subst (λ (e : State). LeavesBetween better t first e new) ends
+    (subst (λ (logs : Logs). LeavesBetween better t logs last new) begins
+    (subst (λ (u : State). LeavesBetween better u old last new) starts
+    (subst (λ (g : Judge). LeavesBetween g s old last new) judges has))))
 
 -- A COUNT that rose beside one of no faults
-pub rose-second : (a b c d : ℕ) → a ≡ c → b ≡ d → Rose (0 + a) (0 + b) → Rose c d
-rose-second a b c d first second rose =
-    let zero-a : 0 + a ≡ c = omega (arith, first) in
-    let zero-b : 0 + b ≡ d = omega (arith, second) in
-    subst (λ n. Rose n d) zero-a (subst (Rose (0 + a)) zero-b rose)
+pub rose-second : (a b c d : ℕ) → a ≡ 0 + c → b ≡ 0 + d → Rose a b → Rose c d
+rose-second a b c d first second (inl rose) = inl (omega (arith, first, second, rose))
+rose-second a b c d first second (inr most) = inr (omega (arith, second, most))

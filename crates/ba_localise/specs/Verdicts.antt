@@ -1,29 +1,20 @@
 -- What a search for the least sets of a program comes to, and what it hands to a sink of steps.
 
-use Rattle.std.specs.Prelude.{◌≡◌, ◌≢◌, ℕ, ◌≤◌, Option, List, [], All, Contains, length}
+use Rattle.std.specs.Prelude.{◌≡◌, ◌≢◌, ℕ, ◌≤◌, List, [], All, Contains, length}
 use Rattle.ba_derivations.specs.Derivations.{AreTooMany, IsGood, Problem, conflicts_in, sets_of, start_of}
 use Rattle.ba_derivations.specs.Encodings.{IsFaithful}
 use Rattle.ba_derivations.specs.declared.verdict.FoundSet.{FoundSet}
 use Rattle.ba_derivations.specs.declared.verdict.Verdict.{Verdict}
 use Rattle.ba_derivations.specs.declared.verdict.Verdict.TheVariants.{Located, NoRepair, TooMany, Spent}
 use Rattle.ba_enum.specs.Enumerating.{Says}
-use Rattle.ba_enum.specs.Leading.{AreNew, Leaves}
-use Rattle.ba_steps.specs.Sinks.{Logs, MayAdd, with_told}
+use Rattle.ba_enum.specs.Leading.{AreNew, LeavesBetween}
+use Rattle.ba_steps.specs.Sinks.{MayAdd, Told, with_told}
 use Rattle.ba_steps.specs.declared.sink.Basis.{Basis}
 use Rattle.ba_steps.specs.declared.step.CertStep.{CertStep}
 use Rattle.ba_checker.specs.Puts.{with_steps}
 use Rattle.ba_checker.specs.States.{State, first_state}
 use Rattle.ba_tree.specs.Least.{AreLeast, WeightList, weight_of}
 use Rattle.ba_choices.specs.Judges.{Judge}
-
--- WHAT A SINK OF STEPS TELLS at one moment: its formulas, its logs, and how often what it writes to has failed
-pub record Told : Type 0 where
-  pub over : Option (List Basis)
-  pub logs : Logs
-  pub faults : ℕ
-
-abbrev pub told : {D : Type 0} → (D → Option (List Basis)) → (D → Logs) → (D → ℕ) → D → Told
-told over logs faults sink = record { over = over sink; logs = logs sink; faults = faults sink }
 
 -- A DERIVATION: a formula with its soft literals, and steps over it
 pub record Derivation : Type 0 where
@@ -93,5 +84,5 @@ pub data LeavesDerivation (weights : WeightList) (good : Judge) (conflicts most 
       new.logs ≡ old.logs → LeavesDerivation weights good conflicts most old new
   leaves_steps : (begun : Basis) (last : State) → IsFaithful begun.formula begun.softs weights good →
       new.over ≡ with_told begun old.over →
-      Leaves good (first_state begun.formula begun.softs conflicts most) old.logs last new.logs →
+      LeavesBetween good (first_state begun.formula begun.softs conflicts most) old.logs last new.logs →
       LeavesDerivation weights good conflicts most old new

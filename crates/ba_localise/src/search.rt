@@ -1,17 +1,15 @@
 //! The search for the least sets of a program.
 
-ghost use Rattle.std.specs.Prelude.{◌≡◌, ◌≢◌, ◌≤◌, true, None, Err, IfOk};
+ghost use Rattle.std.specs.Prelude.{◌≡◌, ◌≢◌, true, Err, IfOk};
 ghost use Rattle.ba_encode.specs.Softs.{softs_of};
 ghost use Rattle.ba_enum.specs.Enumerating.{Enumerates};
-ghost use Rattle.ba_enum.specs.Leading.{Leaves};
+ghost use Rattle.ba_enum.specs.Leading.{LeavesBetween};
 ghost use Rattle.ba_enum.specs.Problems.{IsReadable, problem_in};
-ghost use Rattle.ba_learn.specs.Live.{AreLive};
-ghost use Rattle.ba_localise.specs.Verdicts.{Finds, LeavesDerivation, told};
-ghost use Rattle.ba_search.specs.Rules.{IsKeepRule, IsRestartRule};
+ghost use Rattle.ba_localise.specs.Starting.{IsStarted};
+ghost use Rattle.ba_localise.specs.Verdicts.{Finds, LeavesDerivation};
 ghost use Rattle.ba_search.specs.declared.search.SearchError.{SearchError};
-ghost use Rattle.ba_steps.specs.Sinks.{Rose};
+ghost use Rattle.ba_steps.specs.Sinks.{HasFault, Outlasts};
 ghost use Rattle.ba_checker.specs.Facts.{IsStart};
-ghost use Rattle.ba_checker.specs.States.{clause_at, first_state};
 ghost use Rattle.ba_tree.specs.Least.{AreWeightsOf, judge_of};
 ghost use Rattle.ba_tree.specs.Run.{are_bounds, fits, plain_run};
 ghost use Rattle.ba_tree.specs.declared.run.Outcome.{Outcome};
@@ -22,7 +20,7 @@ use ba_encode::{Encoded, softs_of};
 use ba_enum::all_sets;
 use ba_formula::formula_of;
 use ba_judge::ProgramJudge;
-use ba_search::{Search, SearchError};
+use ba_search::{Search, SearchError, SearchRules};
 use ba_steps::{Both, NoSink, RunJudge, StepSink};
 use ba_tree::run::{Bounds, Input, Weights};
 use ba_tree::tree::Program;
@@ -38,7 +36,7 @@ use std::alloc::Global;
 /// The search restarts and keeps learnt clauses by these rules; what is promised holds for all of them. `SinkFailed` comes only where
 /// the faults of `steps` rose; `Memory` for want of memory. What was handed on before an error stays there: the formula, and steps over it
 /// that are allowed one after the other.
-pub fn localise<D, R, K>(
+pub fn localise<D: StepSink + Drop, R: SearchRules + Drop>(
     alloc: Global,
     program: &Program,
     input: &Input,
@@ -46,35 +44,26 @@ pub fn localise<D, R, K>(
     weights: &Weights,
     conflicts: u64,
     sets: u32,
-    restart: R,
-    keep: K,
+    rules: R,
     steps: &mut D,
 ) -> Result<Verdict, SearchError>
-where
-    D: StepSink + Drop,
-    R: Fn(u64) -> u64 + Drop,
-    K: Fn(u64, u64) -> bool + Drop,
     requires fits { fits program.now input.now ≡ true }
     requires bounds { are_bounds bounds ≡ true }
     requires weights { AreWeightsOf program.now weights.now.of }
     requires failing { plain_run program.now input.now bounds ≢ Outcome.Done }
-    requires restart { IsRestartRule (R.pre restart) (R.post restart) }
-    requires keep { IsKeepRule (K.pre keep) (K.post keep) }
-    ensures finds { IfOk result (λ verdict. Finds weights.now.of
-        (judge_of program.now input.now bounds) conflicts sets
-        (told D.over D.logs D.faults steps.old) (told D.over D.logs D.faults steps.new) verdict) }
-    ensures leaves { LeavesDerivation weights.now.of
-        (judge_of program.now input.now bounds) conflicts sets
-        (told D.over D.logs D.faults steps.old) (told D.over D.logs D.faults steps.new) }
+    requires rules { R.are_rules rules }
+    ensures finds { IfOk result (Finds weights.now.of (judge_of program.now input.now bounds)
+        conflicts sets (D.told steps.old) (D.told steps.new)) }
+    ensures leaves { LeavesDerivation weights.now.of (judge_of program.now input.now bounds)
+        conflicts sets (D.told steps.old) (D.told steps.new) }
     ensures cause { result ≡ Err SearchError.SinkFailed
-        → Rose (D.faults steps.old) (D.faults steps.new) }
-    ensures no_fall { D.faults steps.old ≤ D.faults steps.new }
-    ensures same_references { D.references steps.new ≡ D.references steps.old }
+        → HasFault (D.told steps.old) (D.told steps.new) }
+    ensures outlasts { Outlasts (D.told steps.old) (D.told steps.new) }
 {
     let encoded = formula_of(alloc, program, input, bounds, weights)?;
     let softs = softs_of(alloc, &encoded)?;
     let checker = Checker::new(alloc, encoded.formula(), softs.as_slice(), conflicts, sets)?;
-    let mut search = Search::new(alloc, encoded.formula(), restart, keep)?;
+    let mut search = Search::by_rules(alloc, encoded.formula(), rules)?;
     steps.begin(encoded.formula(), softs.as_slice())?;
     let judge = ProgramJudge::new(alloc, program, input, bounds);
     let (answer, _) = all_sets_into(alloc, &encoded, sets, &mut search, checker, judge, steps);
@@ -84,11 +73,11 @@ where
 /// All least sets, by steps that go through the checker to the sink. Gives the checker back.
 ///
 /// `SinkFailed` comes only where the sink's faults rose; `Memory` for want of memory.
-fn all_sets_into<D, J, R, K>(
+fn all_sets_into<D, J, R>(
     alloc: Global,
     encoded: &Encoded,
     sets: u32,
-    search: &mut Search<R, K>,
+    search: &mut Search<R>,
     checker: Checker,
     judge: J,
     steps: &mut D,
@@ -96,26 +85,20 @@ fn all_sets_into<D, J, R, K>(
 where
     D: StepSink + Drop,
     J: RunJudge + Drop,
-    R: Fn(u64) -> u64 + Drop,
-    K: Fn(u64, u64) -> bool + Drop,
-    requires restart { IsRestartRule (R.pre search.old.restart) (R.post search.old.restart) }
-    requires keep { IsKeepRule (K.pre search.old.keep) (K.post search.old.keep) }
-    requires working { search.old.failure ≡ None }
-    requires same { AreLive search.old.clauses (clause_at checker.clauses) }
-    requires starts { checker ≡ first_state encoded.now.formula (softs_of encoded.now.groups)
-        checker.budget sets }
+    R: SearchRules + Drop,
+    requires rules { R.are_rules search.old.rules }
+    requires started { IsStarted encoded.now sets search.old checker }
     requires clauses { IsStart encoded.now.formula (softs_of encoded.now.groups) }
     requires readable { IsReadable encoded.now (J.accepts judge) }
     ensures verdict { IfOk result.0 (λ verdict.
         Enumerates (problem_in encoded.now (J.accepts judge) checker)
-        (D.logs steps.old) verdict result.1 (D.logs steps.new)) }
-    ensures leaves { Leaves (J.accepts judge) checker (D.logs steps.old) result.1
-        (D.logs steps.new) }
-    ensures over_stays { D.over steps.new ≡ D.over steps.old }
+        (D.told steps.old).logs verdict result.1 (D.told steps.new).logs) }
+    ensures leaves { LeavesBetween (J.accepts judge) checker (D.told steps.old).logs result.1
+        (D.told steps.new).logs }
+    ensures over_stays { (D.told steps.new).over ≡ (D.told steps.old).over }
     ensures cause { result.0 ≡ Err SearchError.SinkFailed
-        → Rose (D.faults steps.old) (D.faults steps.new) }
-    ensures no_fall { D.faults steps.old ≤ D.faults steps.new }
-    ensures same_references { D.references steps.new ≡ D.references steps.old }
+        → HasFault (D.told steps.old) (D.told steps.new) }
+    ensures outlasts { Outlasts (D.told steps.old) (D.told steps.new) }
 {
     let sink = Both {
         first: NoSink,

@@ -209,7 +209,8 @@ impl<'a> Model for Functions<'a> {
     ghost view = { λ functions. functions.declarations.items };
 
     ghost invariant = { λ functions.
-        AreCounted functions.declarations.items functions.names functions.definitions functions.count };
+        AreCounted functions.declarations.items functions.names functions.definitions
+        functions.count };
 }
 
 impl<'a> Functions<'a> {

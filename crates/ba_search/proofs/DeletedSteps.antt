@@ -11,8 +11,8 @@ use Rattle.ba_checker.specs.States.{State}
 use Rattle.ba_choices.specs.Judges.{Judge}
 use Rattle.ba_checker.specs.Judging.{may_go, error_of, after, after_delete}
 use Rattle.ba_checker.specs.Puts.{IsTakenOrAsleep}
-use Rattle.ba_search.specs.Searching.{IsDiscarded, Leaves}
-use Rattle.ba_search.specs.Iterations.{Numbering, IsUnderway, Puts}
+use Rattle.ba_search.specs.Searching.{IsDiscarded, LeavesBetween, PutsBetween}
+use Rattle.ba_search.specs.Iterations.{Numbering, IsUnderway}
 use Rattle.ba_search.proofs.DeletionLaws.{delete_allowed}
 use Rattle.ba_search.proofs.StepLaws.{Gives, puts_delete, leaves_put, leaves_delete}
 
@@ -68,17 +68,17 @@ delete_taken k d numbers named is taken = let P : List ℕ → Type 0 = λ x. d 
 pub delete_puts : (good : Judge) (gives : Gives) (k d : State) (learnt all : List ℕ) (logs logs' : Logs)
     (numbers named : List ℕ) →
     named ≡ numbers → IsDeleteStep good gives k learnt numbers → d ≡ after k (Delete named) → all ≡ learnt →
-    logs' ≡ with_step (Delete named) logs → Puts good gives k d learnt all logs logs'
+    logs' ≡ with_step (Delete named) logs → PutsBetween good gives k d learnt all logs logs'
 delete_puts good gives k d learnt all logs logs' numbers named is step taken same told =
     let P : List ℕ → Type 0 = λ x. logs' ≡ with_step (Delete x) logs in
-    subst (λ (ns : List ℕ). Puts good gives k d learnt ns logs logs') (sym same)
+    subst (λ (ns : List ℕ). PutsBetween good gives k d learnt ns logs logs') (sym same)
     (puts_delete good gives k d learnt logs logs' numbers step.formed step.allowed step.given
     (delete_taken k d numbers named is taken) (subst P is told))
 
 pub delete_left : (good : Judge) (gives : Gives) (k d : State) (learnt : List ℕ) (logs logs' : Logs)
     (numbers named : List ℕ) →
     named ≡ numbers → IsDeleteStep good gives k learnt numbers → d ≡ after k (Delete named) →
-    logs' ≡ with_step (Delete named) logs → Leaves good gives learnt k logs d logs'
+    logs' ≡ with_step (Delete named) logs → LeavesBetween good gives learnt k logs d logs'
 delete_left good gives k d learnt logs logs' numbers named is step taken told =
     leaves_put good gives learnt learnt k d logs logs'
     (delete_puts good gives k d learnt learnt logs logs' numbers named is step taken refl told)
@@ -87,7 +87,7 @@ delete_left good gives k d learnt logs logs' numbers named is step taken told =
 pub delete_tried : (good : Judge) (gives : Gives) (k d : State) (learnt : List ℕ) (logs logs' : Logs)
     (numbers named : List ℕ) →
     named ≡ numbers → IsDeleteStep good gives k learnt numbers → IsTakenOrAsleep k (Delete named) d →
-    MayAddStep (Delete named) logs logs' → Leaves good gives learnt k logs d logs'
+    MayAddStep (Delete named) logs logs' → LeavesBetween good gives learnt k logs d logs'
 delete_tried good gives k d learnt logs logs' numbers named is step taken told =
     let P : List ℕ → Type 0 = λ x. IsTakenOrAsleep k (Delete x) d in
     let Q : List ℕ → Type 0 = λ x. MayAddStep (Delete x) logs logs' in

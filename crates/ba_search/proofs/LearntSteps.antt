@@ -15,8 +15,8 @@ use Rattle.ba_checker.specs.declared.store.Origin.TheVariants.{Learnt}
 use Rattle.ba_choices.specs.Judges.{Judge}
 use Rattle.ba_checker.specs.Judging.{error_of, after, after_learn}
 use Rattle.ba_checker.specs.Puts.{IsTakenOrAsleep}
-use Rattle.ba_search.specs.Searching.{Leaves}
-use Rattle.ba_search.specs.Iterations.{Numbering, IsUnderway, Puts}
+use Rattle.ba_search.specs.Searching.{LeavesBetween, PutsBetween}
+use Rattle.ba_search.specs.Iterations.{Numbering, IsUnderway}
 use Rattle.ba_search.proofs.LearnLaws.{Formed, learnt_clause, learnt_numbers, learnt_formed, learn_allowed}
 use Rattle.ba_search.proofs.StepLaws.{Gives, puts_learn, leaves_put, leaves_tried}
 
@@ -64,7 +64,7 @@ pub learnt_puts : (good : Judge) (gives : Gives) (k d : State) (learnt all : Lis
     (lits : List Literal) (hints : List ℕ) (step : CertStep) →
     step ≡ Learn lits hints → IsLearntStep good k lits hints →
     d ≡ after k step → all ≡ learnt ++ length d.clauses ∷ [] → logs' ≡ with_step step logs →
-    Puts good gives k d learnt all logs logs'
+    PutsBetween good gives k d learnt all logs logs'
 learnt_puts good gives k d learnt all logs logs' lits hints step is step_is taken grown told =
     let P : CertStep → Type 0 = λ x. logs' ≡ with_step x logs in
     let d_is : d ≡ after_learn k lits = step_taken k d lits hints step is taken in
@@ -76,7 +76,7 @@ learnt_puts good gives k d learnt all logs logs' lits hints step is step_is take
 pub learnt_left : (good : Judge) (gives : Gives) (k d : State) (learnt : List ℕ) (logs logs' : Logs)
     (lits : List Literal) (hints : List ℕ) (step : CertStep) →
     step ≡ Learn lits hints → IsLearntStep good k lits hints →
-    d ≡ after k step → logs' ≡ with_step step logs → Leaves good gives learnt k logs d logs'
+    d ≡ after k step → logs' ≡ with_step step logs → LeavesBetween good gives learnt k logs d logs'
 learnt_left good gives k d learnt logs logs' lits hints step is step_is taken told =
     leaves_put good gives learnt (learnt ++ length d.clauses ∷ []) k d logs logs'
     (learnt_puts good gives k d learnt (learnt ++ length d.clauses ∷ []) logs logs' lits hints step is
@@ -86,7 +86,7 @@ learnt_left good gives k d learnt logs logs' lits hints step is step_is taken to
 pub learnt_tried : (good : Judge) (gives : Gives) (k d : State) (learnt : List ℕ) (logs logs' : Logs)
     (lits : List Literal) (hints : List ℕ) (step : CertStep) →
     step ≡ Learn lits hints → IsLearntStep good k lits hints →
-    IsTakenOrAsleep k step d → MayAddStep step logs logs' → Leaves good gives learnt k logs d logs'
+    IsTakenOrAsleep k step d → MayAddStep step logs logs' → LeavesBetween good gives learnt k logs d logs'
 learnt_tried good gives k d learnt logs logs' lits hints step is step_is taken told =
     let P : CertStep → Type 0 = λ x. IsTakenOrAsleep k x d in
     let Q : CertStep → Type 0 = λ x. MayAddStep x logs logs' in

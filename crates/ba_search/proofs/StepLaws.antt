@@ -17,22 +17,22 @@ use Rattle.ba_choices.specs.Judges.{Judge}
 use Rattle.ba_checker.specs.Judging.{error_of, after, after_learn, after_delete}
 use Rattle.ba_checker.specs.Puts.{IsTakenOrAsleep, leaves_all, leaves_last}
 use Rattle.ba_checker.proofs.PutLaws.{logs_then, leaves_weaker, leaves_after}
-use Rattle.ba_search.specs.Searching.{nothing, IsDiscarded, Searches, searches_none, searches_learn, searches_delete, Leaves}
-use Rattle.ba_search.specs.Iterations.{AreTaken, AreThere, Puts}
+use Rattle.ba_search.specs.Searching.{nothing, IsDiscarded, Searches, searches_none, searches_learn, searches_delete, LeavesBetween, PutsBetween}
+use Rattle.ba_search.specs.Iterations.{AreTaken, AreThere}
 use Rattle.ba_search.proofs.TakenLaws.{taken_live}
 
 abbrev pub Gives : Type 1
 Gives = ℕ → ℕ → Bool → Type 0
 
 pub puts_none : (good : Judge) (gives : Gives) (c : State) (learnt : List ℕ) (logs : Logs) →
-    Puts good gives c c learnt learnt logs logs
+    PutsBetween good gives c c learnt learnt logs logs
 puts_none good gives c learnt logs = record { steps = []; leads = searches_none c learnt; logs = refl }
 
 pub puts_stay : (good : Judge) (gives : Gives) (c : State) (learnt all : List ℕ) (logs : Logs) →
     all ≡ learnt →
-    Puts good gives c c learnt all logs logs
+    PutsBetween good gives c c learnt all logs logs
 puts_stay good gives c learnt all logs same =
-    subst (λ (ns : List ℕ). Puts good gives c c learnt ns logs logs) (sym same)
+    subst (λ (ns : List ℕ). PutsBetween good gives c c learnt ns logs logs) (sym same)
     (puts_none good gives c learnt logs)
 
 pub puts_learn : (good : Judge) (gives : Gives) (c d : State) (learnt all : List ℕ) (logs logs' : Logs)
@@ -41,7 +41,7 @@ pub puts_learn : (good : Judge) (gives : Gives) (c d : State) (learnt all : List
     IsNew (clause_at c.clauses) lits →
     d ≡ after_learn c lits → all ≡ learnt ++ (length c.clauses + 1) ∷ [] →
     logs' ≡ with_step (Learn lits hints) logs →
-    Puts good gives c d learnt all logs logs'
+    PutsBetween good gives c d learnt all logs logs'
 puts_learn good gives c d learnt all logs logs' lits hints formed allowed new is grown told = record {
   steps = Learn lits hints ∷ [];
   leads = searches_learn c d learnt all lits hints [] formed allowed new
@@ -55,7 +55,7 @@ pub puts_delete : (good : Judge) (gives : Gives) (c d : State) (learnt : List �
     IsFormed (Delete numbers) → error_of good c (Delete numbers) ≡ None →
     All (IsDiscarded gives c learnt) numbers →
     d ≡ after_delete c numbers → logs' ≡ with_step (Delete numbers) logs →
-    Puts good gives c d learnt learnt logs logs'
+    PutsBetween good gives c d learnt learnt logs logs'
 puts_delete good gives c d learnt logs logs' numbers formed allowed given is told = record {
   steps = Delete numbers ∷ [];
   leads = searches_delete c d learnt learnt numbers [] formed allowed given
@@ -93,7 +93,7 @@ searches_weaker {gives = gives} {more = more} weaker
     (searches_weaker weaker rest)
 
 pub puts_any : (good : Judge) (gives : Gives) (c d : State) (learnt all : List ℕ) (logs logs' : Logs) →
-    Puts good nothing c d learnt all logs logs' → Puts good gives c d learnt all logs logs'
+    PutsBetween good nothing c d learnt all logs logs' → PutsBetween good gives c d learnt all logs logs'
 puts_any good gives c d learnt all logs logs' p = record {
   steps = p.steps;
   leads = searches_weaker (λ width age kept none. absurd none) p.leads;
@@ -101,13 +101,13 @@ puts_any good gives c d learnt all logs logs' p = record {
 }
 
 pub leaves_any : (good : Judge) (gives : Gives) (learnt : List ℕ) (c d : State) (logs logs' : Logs) →
-    Leaves good nothing learnt c logs d logs' → Leaves good gives learnt c logs d logs'
+    LeavesBetween good nothing learnt c logs d logs' → LeavesBetween good gives learnt c logs d logs'
 leaves_any good gives learnt c d logs logs' left =
     leaves_weaker (λ steps t s. (s.0, searches_weaker (λ width age kept none. absurd none) s.1)) left
 
 pub puts_then : (good good' : Judge) (gives : Gives) (a b c : State) (u v w : List ℕ) (k l m : Logs) →
     good' ≡ good →
-    Puts good gives a b u v k l → Puts good' gives b c v w l m → Puts good gives a c u w k m
+    PutsBetween good gives a b u v k l → PutsBetween good' gives b c v w l m → PutsBetween good gives a c u w k m
 puts_then good good' gives a b c u v w k l m same p q = record {
   steps = p.steps ++ q.steps;
   leads = searches_then good gives a b c u v w p.steps q.steps p.leads
@@ -117,18 +117,18 @@ puts_then good good' gives a b c u v w k l m same p q = record {
 
 -- what is left where nothing was put, where steps were put, where one was tried, and after more steps
 pub leaves_none : (good : Judge) (gives : Gives) (learnt : List ℕ) (c : State) (logs : Logs) →
-    Leaves good gives learnt c logs c logs
+    LeavesBetween good gives learnt c logs c logs
 leaves_none good gives learnt c logs = leaves_all [] (learnt, searches_none c learnt) refl
 
 pub leaves_put : (good : Judge) (gives : Gives) (learnt all : List ℕ) (c d : State) (logs logs' : Logs) →
-    Puts good gives c d learnt all logs logs' → Leaves good gives learnt c logs d logs'
+    PutsBetween good gives c d learnt all logs logs' → LeavesBetween good gives learnt c logs d logs'
 leaves_put good gives learnt all c d logs logs' p = leaves_all p.steps (all, p.leads) p.logs
 
 pub leaves_tried : (good : Judge) (gives : Gives) (learnt : List ℕ) (c d : State) (logs logs' : Logs)
     (lits : List Literal) (hints : List ℕ) →
     IsFormed (Learn lits hints) → error_of good c (Learn lits hints) ≡ None → IsNew (clause_at c.clauses) lits
     → IsTakenOrAsleep c (Learn lits hints) d → MayAddStep (Learn lits hints) logs logs' →
-    Leaves good gives learnt c logs d logs'
+    LeavesBetween good gives learnt c logs d logs'
 leaves_tried good gives learnt c d logs logs' lits hints formed allowed new taken told =
     let all : List ℕ = learnt ++ (length c.clauses + 1) ∷ [] in
     let next : State = after c (Learn lits hints) in
@@ -141,7 +141,7 @@ pub leaves_delete : (good : Judge) (gives : Gives) (learnt : List ℕ) (c d : St
     IsFormed (Delete numbers) → error_of good c (Delete numbers) ≡ None →
     All (IsDiscarded gives c learnt) numbers
     → IsTakenOrAsleep c (Delete numbers) d → MayAddStep (Delete numbers) logs logs' →
-    Leaves good gives learnt c logs d logs'
+    LeavesBetween good gives learnt c logs d logs'
 leaves_delete good gives learnt c d logs logs' numbers formed allowed given taken told =
     let next : State = after c (Delete numbers) in
     leaves_last [] (Delete numbers) c (learnt, searches_none c learnt)
@@ -150,24 +150,24 @@ leaves_delete good gives learnt c d logs logs' numbers formed allowed given take
 
 pub leaves_then : (good good' : Judge) (gives : Gives) (u v : List ℕ) (a b c : State) (k l m : Logs) →
     good' ≡ good →
-    Puts good gives a b u v k l → Leaves good' gives v b l c m → Leaves good gives u a k c m
+    PutsBetween good gives a b u v k l → LeavesBetween good' gives v b l c m → LeavesBetween good gives u a k c m
 leaves_then good good' gives u v a b c k l m same p left =
     leaves_after p.steps c k l m p.logs
     (λ steps t s. (s.0, searches_then good gives a b t u v s.0 p.steps steps p.leads s.1))
-    (subst (λ (j : Judge). Leaves j gives v b l c m) same left)
+    (subst (λ (j : Judge). LeavesBetween j gives v b l c m) same left)
 
 -- the same from an equal list
 pub puts_from : (good : Judge) (gives : Gives) (c d : State) (start learnt all : List ℕ) (logs logs' : Logs)
     → start ≡ learnt →
-    Puts good gives c d start all logs logs' → Puts good gives c d learnt all logs logs'
+    PutsBetween good gives c d start all logs logs' → PutsBetween good gives c d learnt all logs logs'
 puts_from good gives c d start learnt all logs logs' same p =
-    subst (λ (ns : List ℕ). Puts good gives c d ns all logs logs') same p
+    subst (λ (ns : List ℕ). PutsBetween good gives c d ns all logs logs') same p
 
 pub leaves_from : (good : Judge) (gives : Gives) (start learnt : List ℕ) (c d : State) (logs logs' : Logs) →
     start ≡ learnt →
-    Leaves good gives start c logs d logs' → Leaves good gives learnt c logs d logs'
+    LeavesBetween good gives start c logs d logs' → LeavesBetween good gives learnt c logs d logs'
 leaves_from good gives start learnt c d logs logs' same left =
-    subst (λ (ns : List ℕ). Leaves good gives ns c logs d logs') same left
+    subst (λ (ns : List ℕ). LeavesBetween good gives ns c logs d logs') same left
 
 -- the clauses of a formula by their numbers
 given_at : (cs : List (List Literal)) (k : ℕ) → k < length cs →

@@ -1,12 +1,15 @@
 -- What the calls of an engine leave, from one state of it to another.
 
-use Rattle.std.specs.Prelude.{◌≡◌, ℕ, ◌<◌, Bool, Option, Result, IfOk, IfSome, IfNone, OnOk, List}
+use Rattle.std.specs.Prelude.{◌≡◌, ℕ, ◌<◌, Bool, true, false, None, Option, Result, IfOk, IfSome, IfNone, IsSome, OnOk, List}
 use Rattle.ba_lits.specs.Literals.{Literal}
-use Rattle.ba_steps.specs.Sinks.{Logs}
-use Rattle.ba_checker.specs.States.{State}
-use Rattle.ba_choices.specs.Judges.{Judge}
-use Rattle.ba_search.specs.Answers.{IsAnswer}
-use Rattle.ba_search.specs.Iterations.{IsUnderway, Puts, iterations_left}
+use Rattle.ba_watch.specs.Trails.{value_of}
+use Rattle.ba_watch.specs.Propagation.{State as Watching, clause_in, is_false, lits_in}
+use Rattle.ba_learn.specs.Live.{AreLive}
+use Rattle.ba_checker.specs.Puts.{Checking}
+use Rattle.ba_checker.specs.States.{State, clause_at}
+use Rattle.ba_search.specs.Answers.{AreAssumptions, IsAnswer}
+use Rattle.ba_search.specs.Iterations.{IsUnderway, MarksLive, iterations_left}
+use Rattle.ba_search.specs.Searching.{Puts}
 use Rattle.ba_search.specs.declared.engine.Engine.{Engine}
 use Rattle.ba_search.specs.declared.search.Answer.{Answer}
 
@@ -16,12 +19,40 @@ pub record LearnsNothing (old new : Engine) : Type 0 where
   pub backtracks : new.backtracks_left ≡ old.backtracks_left
   pub propagated : new.propagated ≡ old.propagated
 
+-- an engine is between two iterations of a search under assumptions, over the clauses of a log
+abbrev pub IsAtWork : List Literal → Engine → Checking → Type 0
+IsAtWork assumptions engine log = IsUnderway assumptions engine.watch engine.numbers log.checker
+
+-- how many iterations are left at most
+abbrev pub left_in : Engine → Checking → ℕ
+left_in engine log = iterations_left log.checker engine.backtracks_left engine.watch
+
+-- an engine may search under assumptions, over the clauses of a log
+pub record MaySearch (assumptions : List Literal) (engine : Engine) (log : Checking) : Type 0 where
+  pub numbered : MarksLive engine.watch.clauses engine.numbers.taken
+  pub live : AreLive engine.watch.clauses (clause_at log.checker.clauses)
+  pub begun : log.checker.ended ≡ false
+  pub awake : log.checker.refused ≡ false
+  pub fresh : log.refusal ≡ None
+  pub may_assume : AreAssumptions log.checker.variables assumptions
+
+-- a clause that is live and false
+abbrev pub IsConflict : Watching → ℕ → Type 0
+IsConflict watch clause = IsSome (clause_in watch.clauses clause)
+    × (is_false (value_of watch.trail) (lits_in watch.clauses clause) ≡ true)
+
 -- a search between two iterations went on to the next, over the same variables and with Learn and Delete steps that were put
-pub record GoesOn (good : Judge) (gives : ℕ → ℕ → Bool → Type 0) (assumptions : List Literal) (c d : State)
-    (old new : Engine) (old_logs new_logs : Logs) : Type 0 where
-  pub underway : IsUnderway assumptions new.watch new.numbers d
-  pub variables : d.variables ≡ c.variables
-  pub puts : Puts good gives c d old.numbers.learnt new.numbers.learnt old_logs new_logs
+pub record GoesOn (gives : ℕ → ℕ → Bool → Type 0) (assumptions : List Literal) (before after : Checking)
+    (old new : Engine) : Type 0 where
+  pub underway : IsAtWork assumptions new after
+  pub variables : after.checker.variables ≡ before.checker.variables
+  pub puts : Puts gives old.numbers.learnt new.numbers.learnt before after
+
+-- a deletion counts no conflict
+pub record CountsNone (before after : Checking) (old new : Engine) : Type 0 where
+  pub room : new.watch.variables ≡ old.watch.variables
+  pub conflicts : after.checker.conflicts ≡ before.checker.conflicts
+  pub budget : after.checker.budget ≡ before.checker.budget
 
 -- a search between two iterations decided, and then fewer iterations are left, or it is over, and then the answer holds
 pub record Decides {E : Type 0} (assumptions : List Literal) (c : State) (result : Result (Option Answer) E)

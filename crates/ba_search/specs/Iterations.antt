@@ -6,16 +6,13 @@ use Rattle.ba_lits.specs.Hints.{has_literal}
 use Rattle.ba_watch.specs.Threads.{Clause}
 use Rattle.ba_watch.specs.Trails.{value_of}
 use Rattle.ba_watch.specs.Propagation.{State as Watching, clause_in, AddsClause}
-use Rattle.ba_steps.specs.Sinks.{Logs}
 use Rattle.ba_checker.specs.States.{State, clause_at}
-use Rattle.ba_choices.specs.Judges.{Judge}
 use Rattle.ba_checker.specs.Judging.{may_go}
-use Rattle.ba_checker.specs.Puts.{PutsSteps}
 use Rattle.ba_learn.specs.Live.{AreLive, HaveDistinctNumbers}
 use Rattle.ba_learn.specs.Resolving.{number_at}
 use Rattle.std.specs.List.{list_all, Contains}
 use Rattle.ba_steps.specs.Steps.{AreNumbers, AreAbove}
-use Rattle.ba_search.specs.Searching.{ArePart, IsDiscarded, Searches}
+use Rattle.ba_search.specs.Searching.{ArePart, IsDiscarded}
 use Rattle.ba_steps.specs.declared.sink.SinkError.{SinkError}
 use Rattle.ba_steps.specs.declared.sink.SinkError.TheVariants as refusals
 use Rattle.ba_search.specs.declared.search.SearchError.{SearchError}
@@ -126,11 +123,6 @@ pub record IsUnderway (assumptions : List Literal) (s : Watching) (numbers : Num
     pub decisions : AreDecisions c.variables assumptions s.trail s.reasons
     pub begun : c.ended ≡ false
     pub awake : c.refused ≡ false
-
--- Learn and Delete steps were put
-abbrev pub Puts : Judge → (ℕ → ℕ → Bool → Type 0) → State → State → List ℕ → List ℕ → Logs → Logs → Type 0
-Puts good gives old new learnt all old_logs new_logs =
-    PutsSteps (λ steps. Searches good gives old learnt steps new all) old_logs new_logs
 
 -- a conflict counts for 1001 iterations, of which 1000 may take decisions back later; a decision is an iteration on the
 -- way to the next conflict

@@ -1,34 +1,43 @@
 -- What contracts see of a search, and the steps that it puts.
 
-use base.Fml.{GName}
-use Rattle.std.specs.Prelude.{◌≡◌, ℕ, ◌+◌, ◌-◌, ◌⊎◌, Bool, false, Option, None, Some, Result, Err, OnOk, List, [], ◌∷◌, ◌++◌, ◌<◌, All, length, get_or}
+use Rattle.std.specs.Prelude.{◌≡◌, ℕ, ◌+◌, ◌-◌, ◌⊎◌, Bool, false, Option, None, Some, Result, Err, IfErr, OnOk, List, [], ◌∷◌, ◌++◌, ◌<◌, All, length, get_or, map}
+use Rattle.ba_lits.specs.Formulas.{Cnf}
 use Rattle.ba_lits.specs.Literals.{Literal}
 use Rattle.ba_watch.specs.Threads.{Clause}
 use Rattle.ba_watch.specs.Propagation.{clause_in}
-use Rattle.ba_learn.specs.Live.{AreLive, IsSame, IsNew}
-use Rattle.ba_steps.specs.Sinks.{Logs, Rose}
+use Rattle.ba_learn.specs.Live.{AreLive, HaveDistinctNumbers, IsSame, IsNew}
+use Rattle.ba_steps.specs.Sinks.{HasFault, Logs}
 use Rattle.ba_steps.specs.Steps.{IsFormed}
-use Rattle.ba_steps.specs.declared.sink.Basis.{Basis}
 use Rattle.ba_steps.specs.declared.step.CertStep.{CertStep}
 use Rattle.ba_steps.specs.declared.step.CertStep.TheVariants.{Learn, Delete}
-use Rattle.ba_checker.specs.States.{State, clause_at, width_at}
+use Rattle.ba_checker.specs.States.{State, clause_at, kept, width_at}
+use Rattle.ba_checker.specs.declared.store.Origin.TheVariants.{Given}
 use Rattle.ba_choices.specs.Judges.{Judge}
 use Rattle.ba_checker.specs.Judging.{error_of, after}
-use Rattle.ba_checker.specs.Puts.{Putting, Lasts, LeavesSteps}
+use Rattle.ba_checker.specs.Puts.{Checking, Lasts, LeavesSteps, PutsSteps}
+use Rattle.ba_search.specs.Answers.{AreAssumptions}
 use Rattle.ba_search.specs.declared.search.SearchError.{SearchError}
 use Rattle.ba_search.specs.declared.search.SearchError.TheVariants.{SinkFailed}
 
 -- a search between calls: its variables, its live clauses by reference, the numbers of the clauses that it has learnt, in
 -- their order and the deleted ones too, its rules, the error that it answers from now on, and how many literals propagation
 -- has assigned
-pub record Searching (R K : Type 0) : Type 0 where
+pub record Searching (R : Type 0) : Type 0 where
   pub variables : ℕ
   pub clauses : List (Option Clause)
   pub learnt : List ℕ
-  pub restart : R
-  pub keep : K
+  pub rules : R
   pub failure : Option SearchError
   pub propagated : ℕ
+
+-- a search starts: it has the clauses of the formula, with numbers from 1 on, has learnt none and answered no error
+pub record Starts {R : Type 0} (formula : Cnf) (search : Searching R) : Type 0 where
+  pub clauses : AreLive search.clauses (clause_at (map (kept Given) formula.clauses))
+  pub variables : search.variables ≡ formula.variables
+  pub alone : HaveDistinctNumbers search.clauses
+  pub learnt : search.learnt ≡ []
+  pub fresh : search.failure ≡ None
+  pub propagated : search.propagated ≡ 0
 
 -- each live clause of a search is a live clause of the checker with the same number, its literals in some order
 abbrev pub ArePart : List (Option Clause) → (ℕ → Option (List Literal)) → Type 0
@@ -65,32 +74,75 @@ pub data Searches (good : Judge) (gives : ℕ → ℕ → Bool → Type 0) : Sta
       Searches good gives (after s (Delete numbers)) learnt steps t all →
       Searches good gives s learnt (Delete numbers ∷ steps) t all
 
--- what such steps leave, also after an error, whatever was learnt
-abbrev pub Leaves : Judge → (ℕ → ℕ → Bool → Type 0) → List ℕ → State → Logs → State → Logs → Type 0
-Leaves good gives learnt old old_logs new new_logs =
+-- what such steps leave between two states of a checker with their logs, also after an error, whatever was learnt
+abbrev pub LeavesBetween : Judge → (ℕ → ℕ → Bool → Type 0) → List ℕ → State → Logs → State → Logs → Type 0
+LeavesBetween good gives learnt old old_logs new new_logs =
     LeavesSteps (λ steps t. (all : List ℕ) × Searches good gives old learnt steps t all) old_logs new new_logs
 
--- what a call leaves besides its steps: the checker and its sink last; the sink failed only where its faults rose; and where
--- the call succeeds no step was refused
-pub record Ran {S J X : Type 0} (over : S → Option (List Basis)) (faults : S → ℕ)
-    (references : S → List GName) (result : Result X SearchError) (old new : Putting S J) : Type 0 where
-  pub lasts : Lasts over faults references old new
-  pub cause : result ≡ Err SinkFailed → Rose (faults old.sink) (faults new.sink)
+abbrev pub Leaves : (ℕ → ℕ → Bool → Type 0) → List ℕ → Checking → Checking → Type 0
+Leaves gives learnt old new =
+    LeavesBetween old.accepts gives learnt old.checker old.told.logs new.checker new.told.logs
+
+-- such steps were put, while the numbers of the learnt clauses grew to these
+abbrev pub PutsBetween : Judge → (ℕ → ℕ → Bool → Type 0) → State → State → List ℕ → List ℕ → Logs → Logs → Type 0
+PutsBetween good gives old new learnt all old_logs new_logs =
+    PutsSteps (λ steps. Searches good gives old learnt steps new all) old_logs new_logs
+
+abbrev pub Puts : (ℕ → ℕ → Bool → Type 0) → List ℕ → List ℕ → Checking → Checking → Type 0
+Puts gives learnt all old new =
+    PutsBetween old.accepts gives old.checker new.checker learnt all old.told.logs new.told.logs
+
+-- what a call leaves besides its steps: the log lasts; the sink failed only where its faults rose; and where the call
+-- succeeds no step was refused
+pub record Ran {X : Type 0} (result : Result X SearchError) (old new : Checking) : Type 0 where
+  pub lasts : Lasts old new
+  pub cause : result ≡ Err SinkFailed → HasFault old.told new.told
   pub fresh : OnOk result (new.refusal ≡ None)
 
 -- the same of a call of a search, which keeps its rules: the sink failed only where its faults rose, or where the search had
 -- answered so before
-pub record RanSearch {S J R K X : Type 0} (over : S → Option (List Basis)) (faults : S → ℕ)
-    (references : S → List GName) (result : Result X SearchError) (before after : Searching R K)
-    (old new : Putting S J) : Type 0 where
-  pub lasts : Lasts over faults references old new
-  pub cause : result ≡ Err SinkFailed →
-      (before.failure ≡ Some SinkFailed) ⊎ Rose (faults old.sink) (faults new.sink)
-  pub restart_stays : after.restart ≡ before.restart
-  pub keep_stays : after.keep ≡ before.keep
+pub record RanSearch {R X : Type 0} (result : Result X SearchError) (before after : Searching R)
+    (old new : Checking) : Type 0 where
+  pub lasts : Lasts old new
+  pub cause : result ≡ Err SinkFailed → (before.failure ≡ Some SinkFailed) ⊎ HasFault old.told new.told
+  pub rules_stay : after.rules ≡ before.rules
 
--- a search may go on with a checker: neither answers an error from now on, and the live clauses of both are the same
-pub record MayGoOn {R K S J : Type 0} (search : Searching R K) (checked : Putting S J) : Type 0 where
+-- a search may go on with a log: neither answers an error from now on, and the live clauses of both are the same
+pub record MayGoOn {R : Type 0} (search : Searching R) (log : Checking) : Type 0 where
   pub working : search.failure ≡ None
-  pub fresh : checked.refusal ≡ None
-  pub same : AreLive search.clauses (clause_at checked.checker.clauses)
+  pub fresh : log.refusal ≡ None
+  pub same : AreLive search.clauses (clause_at log.checker.clauses)
+
+-- a search may be asked for a model under assumptions: no error is answered from now on, the live clauses are the checker's,
+-- which has not ended, and the assumptions are of different variables of it
+pub record MaySolve {R : Type 0} (assumptions : List Literal) (search : Searching R) (log : Checking) : Type 0 where
+  pub same : AreLive search.clauses (clause_at log.checker.clauses)
+  pub begun : log.checker.ended ≡ false
+  pub awake : log.checker.refused ≡ false
+  pub fresh : log.refusal ≡ None
+  pub may_assume : AreAssumptions log.checker.variables assumptions
+
+-- a search was asked for a model: it may go on, its clauses have different numbers, and the checker has not ended
+pub record HasSolved {R : Type 0} (search : Searching R) (log : Checking) : Type 0 where
+  pub goes_on : MayGoOn search log
+  pub alone : HaveDistinctNumbers search.clauses
+  pub stays_begun : log.checker.ended ≡ false
+  pub awake : log.checker.refused ≡ false
+
+-- an error is kept, and answered from then on
+pub record KeepsError {R X : Type 0} (result : Result X SearchError) (before after : Searching R) : Type 0 where
+  pub fresh : OnOk result (before.failure ≡ None)
+  pub keeps : IfErr result (λ error. after.failure ≡ Some error)
+  pub again : (error : SearchError) → before.failure ≡ Some error → (result ≡ Err error) × (after ≡ before)
+
+-- the rules, what was learnt and the count of propagations stay
+pub record StaysIdle {R : Type 0} (before after : Searching R) : Type 0 where
+  pub rules_stay : after.rules ≡ before.rules
+  pub learnt : after.learnt ≡ before.learnt
+  pub propagated : after.propagated ≡ before.propagated
+
+-- the search has the live clauses of the log, which have different numbers, and answers no error
+pub record HasTaken {R : Type 0} (search : Searching R) (log : Checking) : Type 0 where
+  pub same : AreLive search.clauses (clause_at log.checker.clauses)
+  pub alone : HaveDistinctNumbers search.clauses
+  pub stays_fresh : search.failure ≡ None

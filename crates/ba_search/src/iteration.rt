@@ -4,137 +4,106 @@ ghost use Rattle.std.specs.Prelude.{◌≡◌, ◌<◌, ◌≤◌, None, true, f
 ghost use Rattle.ba_lits.specs.Literals.{Literal};
 ghost use Rattle.ba_watch.specs.Trails.{value_of, decided};
 ghost use Rattle.ba_watch.specs.Propagation.{clause_in, lits_in, is_false, IsComplete};
-ghost use Rattle.ba_checker.specs.States.{State as Checking, clause_at};
-ghost use Rattle.ba_search.specs.Rules.{IsRestartRule, IsKeepRule};
+ghost use Rattle.ba_checker.specs.States.{State, clause_at};
 ghost use Rattle.ba_search.specs.Answers.{AreAssumptions, IsAnswer};
-ghost use Rattle.ba_search.specs.Engines.{GoesOn, LearnsNothing};
-ghost use Rattle.ba_search.specs.Searching.{Leaves, Ran};
-ghost use Rattle.ba_search.specs.Iterations.{MarksLive, IsUnderway, Puts, iterations_left};
+ghost use Rattle.ba_search.specs.Engines.{GoesOn, IsAtWork, IsConflict, LearnsNothing, MaySearch, left_in};
+ghost use Rattle.ba_search.specs.Searching.{Leaves, Puts, Ran};
+ghost use Rattle.ba_search.specs.Iterations.{IsUnderway, iterations_left};
 ghost use Rattle.ba_learn.specs.Live.{AreLive};
 
 use crate::engine::Engine;
+use crate::rules::SearchRules;
 use crate::search::{Answer, SearchError};
 use ba_arena::ClauseRef;
-use ba_checker::{Checked, Checker};
+use ba_checker::{Checker, ProofLog};
 use ba_items::Items;
 use ba_learn::Learnt;
 use ba_lits::Lit;
-use ba_steps::{RunJudge, StepSink};
 use std::alloc::AllocError;
 
 impl Engine {
     /// Searches for a model of the live clauses under the assumptions.
     ///
     /// `SinkFailed` comes only where the sink's faults rose, `Memory` for want of memory.
-    pub fn search<
-        S: StepSink + Drop,
-        J: RunJudge + Drop,
-        R: Fn(u64) -> u64 + Drop,
-        K: Fn(u64, u64) -> bool + Drop,
-    >(
+    pub fn search<L: ProofLog, R: SearchRules>(
         &mut self,
         assumptions: &[Lit],
-        checked: &mut Checked<S, J>,
-        restart: &R,
-        keep: &K,
+        log: &mut L,
+        rules: &R,
     ) -> Result<Answer, SearchError>
-        requires restart { IsRestartRule (R.pre restart.now) (R.post restart.now) }
-        requires keep { IsKeepRule (K.pre keep.now) (K.post keep.now) }
-        requires numbered { MarksLive self.old.watch.clauses self.old.numbers.taken }
-        requires live { AreLive self.old.watch.clauses (clause_at checked.old.checker.clauses) }
-        requires begun { checked.old.checker.ended ≡ false }
-        requires awake { checked.old.checker.refused ≡ false }
-        requires fresh { checked.old.refusal ≡ None }
-        requires assumptions { AreAssumptions checked.old.checker.variables assumptions.now }
-        ensures answer { IfOk result (λ answer.
-            IsAnswer checked.new.checker assumptions.now answer) }
-        ensures underway { OnOk result (IsUnderway assumptions.now self.new.watch self.new.numbers
-            checked.new.checker) }
-        ensures puts { OnOk result (Puts (J.accepts checked.old.judge) (K.post keep.now)
-            checked.old.checker checked.new.checker self.old.numbers.learnt self.new.numbers.learnt
-            (S.logs checked.old.sink) (S.logs checked.new.sink)) }
-        ensures ran { Ran S.over S.faults S.references result checked.old checked.new }
+        requires rules { R.are_rules rules.now }
+        requires ready { MaySearch assumptions.now self.old (L.log log.old) }
+        ensures answer { IfOk result (IsAnswer (L.log log.new).checker assumptions.now) }
+        ensures underway { OnOk result (IsAtWork assumptions.now self.new (L.log log.new)) }
+        ensures puts { OnOk result (Puts (R.keeping rules.now) self.old.numbers.learnt
+            self.new.numbers.learnt (L.log log.old) (L.log log.new)) }
+        ensures ran { Ran result (L.log log.old) (L.log log.new) }
         ensures propagated { self.old.propagated ≤ self.new.propagated }
-        ensures leaves { Leaves (J.accepts checked.old.judge) (K.post keep.now)
-            self.old.numbers.learnt checked.old.checker (S.logs checked.old.sink)
-            checked.new.checker (S.logs checked.new.sink) }
+        ensures leaves { Leaves (R.keeping rules.now) self.old.numbers.learnt
+            (L.log log.old) (L.log log.new) }
     {
-        if checked.checker().last() >= 1 << 62 {
+        if log.checker().last() >= 1 << 62 {
             return Err(SearchError::Memory);
         }
-        self.grow(checked.checker().variables())?;
+        self.grow(log.checker().variables())?;
         self.backtrack(0);
         self.sweep.reset();
         self.candidates.reset();
         self.watch.keeps_facts();
         'iterations: loop {
-            if let Some(answer) = self.iterate(assumptions, checked, restart, keep)? {
+            if let Some(answer) = self.iterate(assumptions, log, rules)? {
                 return Ok(answer);
             }
         }
     }
 
     /// Propagates, and learns from a false clause or goes on where there is none. None where the search isn't over.
-    fn iterate<
-        S: StepSink + Drop,
-        J: RunJudge + Drop,
-        R: Fn(u64) -> u64 + Drop,
-        K: Fn(u64, u64) -> bool + Drop,
-    >(
+    fn iterate<L: ProofLog, R: SearchRules>(
         &mut self,
         assumptions: &[Lit],
-        checked: &mut Checked<S, J>,
-        restart: &R,
-        keep: &K,
+        log: &mut L,
+        rules: &R,
     ) -> Result<Option<Answer>, SearchError>
-        requires restart { IsRestartRule (R.pre restart.now) (R.post restart.now) }
-        requires keep { IsKeepRule (K.pre keep.now) (K.post keep.now) }
-        requires underway { IsUnderway assumptions.now self.old.watch self.old.numbers
-            checked.old.checker }
-        requires fresh { checked.old.refusal ≡ None }
-        requires assumptions { AreAssumptions checked.old.checker.variables assumptions.now }
+        requires rules { R.are_rules rules.now }
+        requires underway { IsAtWork assumptions.now self.old (L.log log.old) }
+        requires fresh { (L.log log.old).refusal ≡ None }
+        requires assumptions { AreAssumptions (L.log log.old).checker.variables assumptions.now }
         ensures answer { IfOk result (λ found.
-            IfSome found (IsAnswer checked.new.checker assumptions.now)) }
+            IfSome found (IsAnswer (L.log log.new).checker assumptions.now)) }
         ensures less { IfOk result (λ found.
-            IfNone found
-            (iterations_left checked.new.checker self.new.backtracks_left self.new.watch
-            < iterations_left checked.old.checker self.old.backtracks_left self.old.watch)) }
-        ensures goes_on { OnOk result (GoesOn (J.accepts checked.old.judge) (K.post keep.now)
-            assumptions.now checked.old.checker checked.new.checker self.old self.new
-            (S.logs checked.old.sink) (S.logs checked.new.sink)) }
-        ensures ran { Ran S.over S.faults S.references result checked.old checked.new }
+            IfNone found (left_in self.new (L.log log.new) < left_in self.old (L.log log.old))) }
+        ensures goes_on { OnOk result (GoesOn (R.keeping rules.now) assumptions.now
+            (L.log log.old) (L.log log.new) self.old self.new) }
+        ensures ran { Ran result (L.log log.old) (L.log log.new) }
         ensures propagated { self.old.propagated ≤ self.new.propagated }
-        ensures leaves { Leaves (J.accepts checked.old.judge) (K.post keep.now)
-            self.old.numbers.learnt checked.old.checker (S.logs checked.old.sink)
-            checked.new.checker (S.logs checked.new.sink) }
+        ensures leaves { Leaves (R.keeping rules.now) self.old.numbers.learnt
+            (L.log log.old) (L.log log.new) }
     {
         let Some(conflict) = self.propagate() else {
-            if self.backtracks_left > 0 && is_due(restart, self.restarts, self.since) {
-                self.restart(assumptions, checked, keep)?;
+            if self.backtracks_left > 0 && is_due(rules, self.restarts, self.since) {
+                self.restart(assumptions, log, rules)?;
                 return Ok(None);
             }
-            return Ok(self.decide(assumptions, checked.checker())?);
+            return Ok(self.decide(assumptions, log.checker())?);
         };
-        if let Some(answer) = self.conclude(assumptions, checked.checker(), conflict)? {
+        if let Some(answer) = self.conclude(assumptions, log.checker(), conflict)? {
             return Ok(Some(answer));
         }
-        self.learn(assumptions, checked, conflict)?;
+        self.learn(assumptions, log, conflict)?;
         Ok(None)
     }
 
     /// Makes true what unit clauses ask for, and gives a clause that is false.
     fn propagate(&mut self) -> Option<ClauseRef>
-        ensures underway { (assumptions : List Literal) (checker : Checking)
+        ensures underway { (assumptions : List Literal) (checker : State)
             → IsUnderway assumptions self.old.watch self.old.numbers checker
             → IsUnderway assumptions self.new.watch self.new.numbers checker }
-        ensures less { (checker : Checking)
+        ensures less { (checker : State)
             → iterations_left checker self.new.backtracks_left self.new.watch
             ≤ iterations_left checker self.old.backtracks_left self.old.watch }
         ensures none { IfNone result ((self.new.watch.settled ≡ true)
             × IsComplete self.new.watch.clauses self.new.watch.trail) }
-        ensures some { IfSome result (λ clause. IsSome (clause_in self.new.watch.clauses clause)
-            × (is_false (value_of self.new.watch.trail) (lits_in self.new.watch.clauses clause)
-            ≡ true)) }
+        ensures some { IfSome result (IsConflict self.new.watch) }
         ensures numbers { self.new.numbers ≡ self.old.numbers }
         ensures propagated { self.old.propagated ≤ self.new.propagated }
     {
@@ -158,9 +127,7 @@ impl Engine {
         conflict: ClauseRef,
     ) -> Result<Option<Answer>, AllocError>
         requires underway { IsUnderway assumptions.now self.old.watch self.old.numbers checker.now }
-        requires live { IsSome (clause_in self.old.watch.clauses conflict) }
-        requires false_ { is_false (value_of self.old.watch.trail)
-            (lits_in self.old.watch.clauses conflict) ≡ true }
+        requires conflict { IsConflict self.old.watch conflict }
         ensures answer { IfOk result (λ found.
             IfSome found (IsAnswer checker.now assumptions.now)) }
         ensures left { IfOk result (λ found.
@@ -194,8 +161,8 @@ pub fn is_spent(checker: &Checker) -> bool
 }
 
 /// Whether a restart is due.
-fn is_due<R: Fn(u64) -> u64 + Drop>(restart: &R, restarts: u64, since: u64) -> bool
-    requires { IsRestartRule (R.pre restart.now) (R.post restart.now) }
+fn is_due<R: SearchRules>(rules: &R, restarts: u64, since: u64) -> bool
+    requires rules { R.are_rules rules.now }
 {
-    since >= restart(restarts)
+    since >= rules.restart(restarts)
 }

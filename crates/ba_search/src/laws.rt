@@ -8,13 +8,15 @@ ghost use Rattle.ba_checker.specs.States.{State};
 ghost use Rattle.ba_choices.specs.Judges.{Judge};
 ghost use Rattle.ba_search.specs.Searching.{Searches};
 
+use crate::rules::SearchRules;
+
 /// No clause of at most two literals is learnt twice, whatever the keep rule.
-pub fn learnt_once_law<K: Fn(u64, u64) -> bool + Drop>(keep: &K)
+pub fn learnt_once_law<R: SearchRules>(rules: &R)
     ensures { (good : Judge) (s t : State) (learnt all : List ℕ)
         (before between after : List CertStep)
         → (lits : List Literal) (first second : List ℕ) → length lits ≤ 2
-        → Searches good (K.post keep.now) s learnt
+        → Searches good (R.keeping rules.now) s learnt
         (before ++ Learn lits first ∷ (between ++ Learn lits second ∷ after)) t all → ⊥ }
 {
-    let _ = keep;
+    let _ = rules;
 }

@@ -1,24 +1,23 @@
 //! Learning from a conflict, and the backjump.
 
-ghost use Rattle.std.specs.Prelude.{◌≡◌, ◌<◌, ◌≤◌, None, true, false, get_or, IfOk, IsSome, OnOk, Err};
+ghost use Rattle.std.specs.Prelude.{◌≡◌, ◌<◌, ◌≤◌, None, false, get_or, IfOk, OnOk, Err};
 ghost use Rattle.ba_lits.specs.Literals.{IsClause};
-ghost use Rattle.ba_watch.specs.Trails.{value_of, decided};
-ghost use Rattle.ba_watch.specs.Propagation.{clause_in, lits_in, is_false};
+ghost use Rattle.ba_watch.specs.Trails.{decided};
 ghost use Rattle.ba_learn.specs.Levels.{IsBacked};
 ghost use Rattle.ba_learn.specs.Backjumps.{after_backtrack};
 ghost use Rattle.ba_steps.specs.declared.step.CertStep.TheVariants.{Learn};
-ghost use Rattle.ba_search.specs.Engines.{GoesOn, LearnsNothing};
+ghost use Rattle.ba_search.specs.Engines.{GoesOn, IsAtWork, IsConflict, LearnsNothing, left_in};
 ghost use Rattle.ba_search.specs.Searching.{Leaves, Ran, nothing};
-ghost use Rattle.ba_search.specs.Iterations.{IsUnderway, LearnsOne, iterations_left};
+ghost use Rattle.ba_search.specs.Iterations.{LearnsOne};
 
 use crate::engine::Engine;
 use crate::search::SearchError;
 use ba_arena::ClauseRef;
-use ba_checker::Checked;
+use ba_checker::ProofLog;
 use ba_items::Items;
 use ba_learn::Learnt;
 use ba_lits::Lit;
-use ba_steps::{CertStep, RunJudge, StepSink};
+use ba_steps::CertStep;
 use std::alloc::{AllocError, Global};
 
 /// How many times decisions may be taken back from one learnt clause to the next.
@@ -26,39 +25,31 @@ const MOST_BACKTRACKS: u64 = 1000;
 
 impl Engine {
     /// Learns a clause from one that is false, puts it as a step, and goes back to where it is unit.
-    pub fn learn<S: StepSink + Drop, J: RunJudge + Drop>(
+    pub fn learn<L: ProofLog>(
         &mut self,
         assumptions: &[Lit],
-        checked: &mut Checked<S, J>,
+        log: &mut L,
         conflict: ClauseRef,
     ) -> Result<(), SearchError>
-        requires underway { IsUnderway assumptions.now self.old.watch self.old.numbers
-            checked.old.checker }
-        requires fresh { checked.old.refusal ≡ None }
-        requires live { IsSome (clause_in self.old.watch.clauses conflict) }
-        requires false_ { is_false (value_of self.old.watch.trail)
-            (lits_in self.old.watch.clauses conflict) ≡ true }
+        requires underway { IsAtWork assumptions.now self.old (L.log log.old) }
+        requires fresh { (L.log log.old).refusal ≡ None }
+        requires conflict { IsConflict self.old.watch conflict }
         requires level { 1 ≤ decided self.old.watch.reasons }
-        requires left { checked.old.checker.conflicts < checked.old.checker.budget }
-        ensures less { OnOk result (
-            iterations_left checked.new.checker self.new.backtracks_left self.new.watch
-            < iterations_left checked.old.checker self.old.backtracks_left self.old.watch) }
-        ensures goes_on { OnOk result (GoesOn (J.accepts checked.old.judge) nothing
-            assumptions.now checked.old.checker checked.new.checker self.old self.new
-            (S.logs checked.old.sink) (S.logs checked.new.sink)) }
-        ensures ran { Ran S.over S.faults S.references result checked.old checked.new }
+        requires left { (L.log log.old).checker.conflicts < (L.log log.old).checker.budget }
+        ensures less { OnOk result (left_in self.new (L.log log.new) < left_in self.old (L.log log.old)) }
+        ensures goes_on { OnOk result (GoesOn nothing assumptions.now
+            (L.log log.old) (L.log log.new) self.old self.new) }
+        ensures ran { Ran result (L.log log.old) (L.log log.new) }
         ensures propagated { self.new.propagated ≡ self.old.propagated }
-        ensures leaves { Leaves (J.accepts checked.old.judge) nothing self.old.numbers.learnt
-            checked.old.checker (S.logs checked.old.sink) checked.new.checker
-            (S.logs checked.new.sink) }
+        ensures leaves { Leaves nothing self.old.numbers.learnt (L.log log.old) (L.log log.new) }
     {
         self.watch.keeps_facts();
-        checked.checker().keeps_facts();
+        log.checker().keeps_facts();
         let learnt = self.analyser.analyse(&self.watch, conflict)?;
         self.bump(learnt.lits.as_slice());
         let step = step_of(self.alloc, &learnt)?;
-        checked.put(&step)?;
-        self.backjump(&learnt, checked.checker().last())?;
+        log.put(&step)?;
+        self.backjump(&learnt, log.checker().last())?;
         self.since = self.since.saturating_add(1);
         self.backtracks_left = MOST_BACKTRACKS;
         self.sweep.note_conflict();

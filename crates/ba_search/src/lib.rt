@@ -19,8 +19,10 @@ mod learning;
 mod order;
 mod reduction;
 mod restarts;
+mod rules;
 mod search;
 mod simulation;
 mod sweep;
 
+pub use rules::{RulesBy, SearchRules};
 pub use search::{Answer, Search, SearchError};

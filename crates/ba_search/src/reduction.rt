@@ -5,10 +5,10 @@ ghost use Rattle.std.specs.List.{list_all};
 ghost use Rattle.ba_steps.specs.Steps.{AreNumbers, AreAbove};
 ghost use Rattle.ba_checker.specs.Judging.{apart_by, may_go};
 ghost use Rattle.ba_learn.specs.Resolving.{number_at};
-ghost use Rattle.ba_search.specs.Rules.{IsKeepRule};
 ghost use Rattle.ba_search.specs.Searching.{IsDiscarded};
 ghost use Rattle.ba_search.specs.Iterations.{AreDiscarded, IsNoReason, MarksReasons, MarksOnly};
 
+use crate::rules::SearchRules;
 use ba_checker::{APART_BY, Checker};
 use ba_items::{Items, fill_up};
 use ba_steps::CertStep;
@@ -63,26 +63,26 @@ impl Reduction {
 
     /// The numbers of the learnt clauses that the keep rule discards and that are no reasons, in their order, as many as
     /// there is room for. The room goes with them, until [`Reduction::reuse`] takes it back.
-    pub fn discarded<K: Fn(u64, u64) -> bool + Drop>(
+    pub fn discarded<R: SearchRules>(
         &mut self,
         alloc: Global,
         watch: &Watch,
         learnt: &[u64],
         checker: &Checker,
-        keep: &K,
+        rules: &R,
     ) -> Vec<u64>
-        requires keep { IsKeepRule (K.pre keep.now) (K.post keep.now) }
+        requires rules { R.are_rules rules.now }
         requires few { length checker.now.clauses < 2 ^ 62 }
         ensures numbers { AreNumbers result.items }
         ensures ascends { AreAbove 0 result.items }
         ensures may_go { list_all (may_go checker.now) result.items ≡ true }
-        ensures discarded { All (IsDiscarded (K.post keep.now) checker.now learnt.now)
+        ensures discarded { All (IsDiscarded (R.keeping rules.now) checker.now learnt.now)
             result.items }
         ensures no_reasons { All (IsNoReason watch.now) result.items }
     {
         mark_reasons(&mut self.marks, watch);
         let room = mem::replace(&mut self.numbers, Vec::new(alloc));
-        let numbers = gather(room, self.marks.as_slice(), learnt, checker, keep);
+        let numbers = gather(room, self.marks.as_slice(), learnt, checker, rules);
         unmark_reasons(&mut self.marks, watch);
         numbers
     }
@@ -110,16 +110,16 @@ pub fn may_reduce(learnt: &[u64], checker: &Checker) -> bool
 
 /// The numbers of the learnt clauses that the keep rule discards and that aren't marked as reasons, in their order, as many
 /// as there is room for.
-fn gather<K: Fn(u64, u64) -> bool + Drop>(
+fn gather<R: SearchRules>(
     room: Vec<u64>,
     marks: &[bool],
     learnt: &[u64],
     checker: &Checker,
-    keep: &K,
+    rules: &R,
 ) -> Vec<u64>
-    requires keep { IsKeepRule (K.pre keep.now) (K.post keep.now) }
+    requires rules { R.are_rules rules.now }
     requires few { length checker.now.clauses < 2 ^ 62 }
-    ensures { AreDiscarded (K.post keep.now) checker.now marks.now learnt.now result.items }
+    ensures { AreDiscarded (R.keeping rules.now) checker.now marks.now learnt.now result.items }
 {
     let mut numbers = room;
     numbers.clear();
@@ -129,7 +129,7 @@ fn gather<K: Fn(u64, u64) -> bool + Drop>(
         if number <= last {
             continue;
         }
-        if !is_discarded(marks, learnt, place, checker, keep) {
+        if !is_discarded(marks, learnt, place, checker, rules) {
             continue;
         }
         if !push_within_room(&mut numbers, number) {
@@ -149,18 +149,18 @@ fn push_within_room(numbers: &mut Vec<u64>, number: u64) -> bool
 }
 
 /// Whether the learnt clause whose number stands at a place is discarded by the keep rule and isn't marked as a reason.
-fn is_discarded<K: Fn(u64, u64) -> bool + Drop>(
+fn is_discarded<R: SearchRules>(
     marks: &[bool],
     learnt: &[u64],
     place: usize,
     checker: &Checker,
-    keep: &K,
+    rules: &R,
 ) -> bool
-    requires keep { IsKeepRule (K.pre keep.now) (K.post keep.now) }
+    requires rules { R.are_rules rules.now }
     requires within { place < length learnt.now }
     ensures may_go { result ≡ true → may_go checker.now (get_or learnt.now place 0) ≡ true }
     ensures discarded { result ≡ true
-        → IsDiscarded (K.post keep.now) checker.now learnt.now (get_or learnt.now place 0) }
+        → IsDiscarded (R.keeping rules.now) checker.now learnt.now (get_or learnt.now place 0) }
     ensures no_reason { result ≡ true → get_or marks.now (get_or learnt.now place 0) true ≡ false }
 {
     let number = learnt[place];
@@ -174,7 +174,7 @@ fn is_discarded<K: Fn(u64, u64) -> bool + Drop>(
     if later < youth(learnt, checker) {
         return false;
     }
-    !keep(lits.len() as u64, later as u64)
+    !rules.keeps(lits.len() as u64, later as u64)
 }
 
 /// How many learnt clauses are kept because of their age alone, whatever the keep rule says: half as many as were not

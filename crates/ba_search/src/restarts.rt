@@ -2,50 +2,44 @@
 
 ghost use Rattle.std.specs.Prelude.{◌≡◌, ◌<◌, ◌≤◌, None, OnOk, Err};
 ghost use Rattle.ba_checker.specs.Judging.{apart_by};
-ghost use Rattle.ba_search.specs.Engines.{GoesOn, LearnsNothing};
-ghost use Rattle.ba_search.specs.Rules.{IsKeepRule};
+ghost use Rattle.ba_search.specs.Engines.{CountsNone, GoesOn, IsAtWork, LearnsNothing, left_in};
 ghost use Rattle.ba_search.specs.Searching.{Leaves, Ran};
-ghost use Rattle.ba_search.specs.Iterations.{IsUnderway, iterations_left};
 
 use crate::engine::Engine;
 use crate::reduction::{may_reduce, take_numbers};
+use crate::rules::SearchRules;
 use crate::search::SearchError;
-use ba_checker::Checked;
+use ba_checker::ProofLog;
 use ba_items::Items;
 use ba_lits::Lit;
-use ba_steps::{CertStep, RunJudge, StepSink};
+use ba_steps::CertStep;
 
 impl Engine {
     /// Takes all decisions back, and deletes the clauses that the keep rule discards once enough were learnt since the
     /// last deletion.
-    pub fn restart<S: StepSink + Drop, J: RunJudge + Drop, K: Fn(u64, u64) -> bool + Drop>(
+    pub fn restart<L: ProofLog, R: SearchRules>(
         &mut self,
         assumptions: &[Lit],
-        checked: &mut Checked<S, J>,
-        keep: &K,
+        log: &mut L,
+        rules: &R,
     ) -> Result<(), SearchError>
+        requires rules { R.are_rules rules.now }
         requires left { 1 ≤ self.old.backtracks_left }
-        requires keep { IsKeepRule (K.pre keep.now) (K.post keep.now) }
-        requires underway { IsUnderway assumptions.now self.old.watch self.old.numbers
-            checked.old.checker }
-        requires fresh { checked.old.refusal ≡ None }
-        ensures less { OnOk result (
-            iterations_left checked.new.checker self.new.backtracks_left self.new.watch
-            < iterations_left checked.old.checker self.old.backtracks_left self.old.watch) }
-        ensures goes_on { OnOk result (GoesOn (J.accepts checked.old.judge) (K.post keep.now)
-            assumptions.now checked.old.checker checked.new.checker self.old self.new
-            (S.logs checked.old.sink) (S.logs checked.new.sink)) }
-        ensures ran { Ran S.over S.faults S.references result checked.old checked.new }
+        requires underway { IsAtWork assumptions.now self.old (L.log log.old) }
+        requires fresh { (L.log log.old).refusal ≡ None }
+        ensures less { OnOk result (left_in self.new (L.log log.new) < left_in self.old (L.log log.old)) }
+        ensures goes_on { OnOk result (GoesOn (R.keeping rules.now) assumptions.now
+            (L.log log.old) (L.log log.new) self.old self.new) }
+        ensures ran { Ran result (L.log log.old) (L.log log.new) }
         ensures propagated { self.new.propagated ≡ self.old.propagated }
-        ensures leaves { Leaves (J.accepts checked.old.judge) (K.post keep.now)
-            self.old.numbers.learnt checked.old.checker (S.logs checked.old.sink)
-            checked.new.checker (S.logs checked.new.sink) }
+        ensures leaves { Leaves (R.keeping rules.now) self.old.numbers.learnt
+            (L.log log.old) (L.log log.new) }
     {
         self.backtrack(0);
         self.note_restart();
         self.backtracks_left -= 1;
-        if may_reduce(self.numbers.learnt(), checked.checker()) {
-            self.reduce(assumptions, checked, keep)?;
+        if may_reduce(self.numbers.learnt(), log.checker()) {
+            self.reduce(assumptions, log, rules)?;
         }
         Ok(())
     }
@@ -62,37 +56,31 @@ impl Engine {
     }
 
     /// Deletes the clauses that the keep rule discards.
-    fn reduce<S: StepSink + Drop, J: RunJudge + Drop, K: Fn(u64, u64) -> bool + Drop>(
+    fn reduce<L: ProofLog, R: SearchRules>(
         &mut self,
         assumptions: &[Lit],
-        checked: &mut Checked<S, J>,
-        keep: &K,
+        log: &mut L,
+        rules: &R,
     ) -> Result<(), SearchError>
-        requires keep { IsKeepRule (K.pre keep.now) (K.post keep.now) }
-        requires underway { IsUnderway assumptions.now self.old.watch self.old.numbers
-            checked.old.checker }
-        requires learnt { apart_by ≤ checked.old.checker.learnt }
-        requires fresh { checked.old.refusal ≡ None }
-        ensures goes_on { OnOk result (GoesOn (J.accepts checked.old.judge) (K.post keep.now)
-            assumptions.now checked.old.checker checked.new.checker self.old self.new
-            (S.logs checked.old.sink) (S.logs checked.new.sink)) }
+        requires rules { R.are_rules rules.now }
+        requires underway { IsAtWork assumptions.now self.old (L.log log.old) }
+        requires learnt { apart_by ≤ (L.log log.old).checker.learnt }
+        requires fresh { (L.log log.old).refusal ≡ None }
+        ensures goes_on { OnOk result (GoesOn (R.keeping rules.now) assumptions.now
+            (L.log log.old) (L.log log.new) self.old self.new) }
         ensures backtracks { self.new.backtracks_left ≡ self.old.backtracks_left }
-        ensures room { OnOk result (self.new.watch.variables ≡ self.old.watch.variables) }
-        ensures conflicts { OnOk result (checked.new.checker.conflicts
-            ≡ checked.old.checker.conflicts) }
-        ensures budget { OnOk result (checked.new.checker.budget ≡ checked.old.checker.budget) }
-        ensures ran { Ran S.over S.faults S.references result checked.old checked.new }
+        ensures counts { OnOk result (CountsNone (L.log log.old) (L.log log.new) self.old self.new) }
+        ensures ran { Ran result (L.log log.old) (L.log log.new) }
         ensures propagated { self.new.propagated ≡ self.old.propagated }
-        ensures leaves { Leaves (J.accepts checked.old.judge) (K.post keep.now)
-            self.old.numbers.learnt checked.old.checker (S.logs checked.old.sink)
-            checked.new.checker (S.logs checked.new.sink) }
+        ensures leaves { Leaves (R.keeping rules.now) self.old.numbers.learnt
+            (L.log log.old) (L.log log.new) }
     {
         let numbers = self.reduction.discarded(
             self.alloc,
             &self.watch,
             self.numbers.learnt(),
-            checked.checker(),
-            keep,
+            log.checker(),
+            rules,
         );
         if numbers.is_empty() {
             self.reduction.reuse(numbers);
@@ -102,7 +90,7 @@ impl Engine {
         let mut deletion = CertStep::Delete {
             clauses: Items::from_vec(numbers),
         };
-        checked.put(&deletion)?;
+        log.put(&deletion)?;
         self.reduction
             .reuse(take_numbers(self.alloc, &mut deletion));
         Ok(())

@@ -1,21 +1,18 @@
 //! The search.
 
-ghost use Rattle.std.specs.Prelude.{◌≡◌, ◌≤◌, ◌⊎◌, None, Some, false, [], List, map, IfOk, IfErr, OnOk, Err};
-ghost use Rattle.ba_learn.specs.Live.{AreLive, HaveDistinctNumbers};
-ghost use Rattle.ba_steps.specs.declared.step.CertStep.{CertStep};
-ghost use Rattle.ba_checker.specs.States.{kept, clause_at};
-ghost use Rattle.ba_checker.specs.Puts.{with_steps};
-ghost use Rattle.ba_checker.specs.declared.store.Origin.TheVariants.{Given};
-ghost use Rattle.ba_search.specs.Rules.{IsRestartRule, IsKeepRule};
-ghost use Rattle.ba_search.specs.Searching.{ArePart, Searches, Leaves, MayGoOn, RanSearch};
-ghost use Rattle.ba_search.specs.Answers.{AreAssumptions, IsAnswer};
+ghost use Rattle.std.specs.Prelude.{◌≡◌, ◌≤◌, None, Some, IfOk, IsSome, OnOk, Err};
+ghost use Rattle.ba_checker.specs.States.{clause_at};
+ghost use Rattle.ba_search.specs.Rules.{IsKeepRule, IsRestartRule};
+ghost use Rattle.ba_search.specs.Searching.{ArePart, HasSolved, HasTaken, KeepsError, Leaves, MaySolve, Puts, RanSearch, Starts, StaysIdle};
+ghost use Rattle.ba_search.specs.Answers.{IsAnswer};
 ghost use Rattle.ba_search.specs.Iterations.{failure_of};
 
 use crate::engine::Engine;
-use ba_checker::Checked;
+use crate::rules::{RulesBy, SearchRules};
+use ba_checker::ProofLog;
 use ba_learn::Learnt;
 use ba_lits::{Formula, Lit, Model as Assignment};
-use ba_steps::{RunJudge, SinkError, StepSink};
+use ba_steps::SinkError;
 use std::alloc::{AllocError, Global};
 use std::marker::Model;
 use thiserror::Error;
@@ -77,42 +74,36 @@ fn failure_of<T>(answer: &Result<T, SearchError>) -> Option<SearchError>
     }
 }
 
-/// A search over the clauses of a checker. `restart` answers, by the number of restarts so far, how many conflicts come
-/// before the next; `keep` answers whether a learnt clause is kept, by its width, how many literals it has, and its age,
-/// how many clauses this search has learnt after it.
-pub struct Search<R, K> {
+/// A search over the clauses of a checker, by rules.
+pub struct Search<R> {
     engine: Engine,
-    restart: R,
-    keep: K,
+    rules: R,
     failure: Option<SearchError>,
 }
 
-impl<R: Drop, K: Drop> Drop for Search<R, K> {
+impl<R: Drop> Drop for Search<R> {
     fn drop(self) {
         let Search {
             engine: _,
-            restart: _,
-            keep: _,
+            rules: _,
             failure: _,
         } = self;
     }
 }
 
-impl<R, K> Model for Search<R, K> {
+impl<R> Model for Search<R> {
     ghost use Rattle.std.specs.Prelude.{◌≡◌, None};
     ghost use Rattle.ba_search.specs.Searching.{Searching};
     ghost use Rattle.ba_search.specs.Iterations.{MarksLive};
 
-    ghost Value = { Searching R K };
+    ghost Value = { Searching R };
 
     ghost view = { λ s. record {
       variables = s.engine.watch.variables;
       clauses =
           s.engine.watch.clauses;
       learnt = s.engine.numbers.learnt;
-      restart = s.restart;
-      keep =
-          s.keep;
+      rules = s.rules;
       failure = s.failure;
       propagated = s.engine.propagated;
     } };
@@ -121,8 +112,8 @@ impl<R, K> Model for Search<R, K> {
         → MarksLive s.engine.watch.clauses s.engine.numbers.taken };
 }
 
-impl<R: Fn(u64) -> u64 + Drop, K: Fn(u64, u64) -> bool + Drop> Search<R, K> {
-    /// A search over the clauses of a formula, with numbers from 1 on.
+impl<R: Fn(u64) -> u64 + Drop, K: Fn(u64, u64) -> bool + Drop> Search<RulesBy<R, K>> {
+    /// A search over the clauses of a formula, with numbers from 1 on, by the rules that these functions are.
     ///
     /// The one error is want of memory.
     pub fn new(
@@ -130,18 +121,25 @@ impl<R: Fn(u64) -> u64 + Drop, K: Fn(u64, u64) -> bool + Drop> Search<R, K> {
         formula: &Formula,
         restart: R,
         keep: K,
-    ) -> Result<Search<R, K>, AllocError>
+    ) -> Result<Search<RulesBy<R, K>>, AllocError>
         requires restart { IsRestartRule (R.pre restart) (R.post restart) }
         requires keep { IsKeepRule (K.pre keep) (K.post keep) }
-        ensures clauses { IfOk result (λ search.
-            AreLive search.clauses (clause_at (map (kept Given) formula.now.clauses))) }
-        ensures variables { IfOk result (λ search. search.variables ≡ formula.now.variables) }
-        ensures alone { IfOk result (λ search. HaveDistinctNumbers search.clauses) }
-        ensures learnt { IfOk result (λ search. search.learnt ≡ []) }
-        ensures restart { IfOk result (λ search. search.restart ≡ restart) }
-        ensures keep { IfOk result (λ search. search.keep ≡ keep) }
-        ensures fresh { IfOk result (λ search. search.failure ≡ None) }
-        ensures propagated { IfOk result (λ search. search.propagated ≡ 0) }
+        ensures starts { IfOk result (Starts formula.now) }
+        ensures restart { IfOk result (λ search. search.rules.restart ≡ restart) }
+        ensures keep { IfOk result (λ search. search.rules.keep ≡ keep) }
+    {
+        Search::by_rules(alloc, formula, RulesBy { restart, keep })
+    }
+}
+
+impl<R: SearchRules + Drop> Search<R> {
+    /// A search over the clauses of a formula, with numbers from 1 on, by these rules.
+    ///
+    /// The one error is want of memory.
+    pub fn by_rules(alloc: Global, formula: &Formula, rules: R) -> Result<Search<R>, AllocError>
+        requires rules { R.are_rules rules }
+        ensures starts { IfOk result (Starts formula.now) }
+        ensures rules { IfOk result (λ search. search.rules ≡ rules) }
     {
         let mut engine = Engine::new(alloc);
         engine.grow(formula.variables())?;
@@ -150,8 +148,7 @@ impl<R: Fn(u64) -> u64 + Drop, K: Fn(u64, u64) -> bool + Drop> Search<R, K> {
         }
         Ok(Search {
             engine,
-            restart,
-            keep,
+            rules,
             failure: None,
         })
     }
@@ -159,31 +156,19 @@ impl<R: Fn(u64) -> u64 + Drop, K: Fn(u64, u64) -> bool + Drop> Search<R, K> {
     /// Adds the clauses that the checker has and the search hasn't, each once.
     ///
     /// The one new error is want of memory. A search that answered an error answers it from then on.
-    pub fn take_new<S: StepSink + Drop, J: RunJudge + Drop>(
-        &mut self,
-        checked: &Checked<S, J>,
-    ) -> Result<(), SearchError>
+    pub fn take_new<L: ProofLog>(&mut self, log: &L) -> Result<(), SearchError>
         requires part { self.old.failure ≡ None
-            → ArePart self.old.clauses (clause_at checked.now.checker.clauses) }
-        ensures same { OnOk result (AreLive self.new.clauses
-            (clause_at checked.now.checker.clauses)) }
-        ensures alone { OnOk result (HaveDistinctNumbers self.new.clauses) }
-        ensures fresh { OnOk result (self.old.failure ≡ None) }
-        ensures stays_fresh { OnOk result (self.new.failure ≡ None) }
-        ensures restart_stays { self.new.restart ≡ self.old.restart }
-        ensures keep_stays { self.new.keep ≡ self.old.keep }
-        ensures keeps { IfErr result (λ error. self.new.failure ≡ Some error) }
-        ensures again { (error : SearchError) → self.old.failure ≡ Some error → (result ≡ Err error)
-            × (self.new ≡ self.old) }
+            → ArePart self.old.clauses (clause_at (L.log log.now).checker.clauses) }
+        ensures taken { OnOk result (HasTaken self.new (L.log log.now)) }
+        ensures keeps { KeepsError result self.old self.new }
         ensures cause { result ≡ Err SearchError.SinkFailed → self.old.failure
             ≡ Some SearchError.SinkFailed }
-        ensures learnt { self.new.learnt ≡ self.old.learnt }
-        ensures propagated { self.new.propagated ≡ self.old.propagated }
+        ensures stays { StaysIdle self.old self.new }
     {
         if let Some(failure) = self.failure {
             return Err(failure);
         }
-        let result = self.engine.take_new(checked.checker());
+        let result = self.engine.take_new(log.checker());
         self.failure = failure_of(&result);
         result
     }
@@ -201,47 +186,29 @@ impl<R: Fn(u64) -> u64 + Drop, K: Fn(u64, u64) -> bool + Drop> Search<R, K> {
     ///
     /// `SinkFailed` comes only where the sink's faults rose, `Memory` for want of memory. A search that answered an
     /// error answers it from then on. Steps that were put before an error stay put.
-    pub fn solve<S: StepSink + Drop, J: RunJudge + Drop>(
+    pub fn solve<L: ProofLog>(
         &mut self,
         assumptions: &[Lit],
-        checked: &mut Checked<S, J>,
+        log: &mut L,
     ) -> Result<Answer, SearchError>
-        requires restart { IsRestartRule (R.pre self.old.restart) (R.post self.old.restart) }
-        requires keep { IsKeepRule (K.pre self.old.keep) (K.post self.old.keep) }
-        requires same { self.old.failure ≡ None
-            → AreLive self.old.clauses (clause_at checked.old.checker.clauses) }
-        requires begun { self.old.failure ≡ None → checked.old.checker.ended ≡ false }
-        requires awake { self.old.failure ≡ None → checked.old.checker.refused ≡ false }
-        requires fresh { self.old.failure ≡ None → checked.old.refusal ≡ None }
-        requires assumptions { self.old.failure ≡ None
-            → AreAssumptions checked.old.checker.variables assumptions.now }
-        ensures answer { IfOk result (λ answer.
-            IsAnswer checked.new.checker assumptions.now answer) }
-        ensures goes_on { OnOk result (MayGoOn self.new checked.new) }
-        ensures alone { OnOk result (HaveDistinctNumbers self.new.clauses) }
-        ensures steps { OnOk result ((steps : List CertStep)
-            × Searches (J.accepts checked.old.judge) (K.post self.old.keep)
-            checked.old.checker self.old.learnt steps checked.new.checker self.new.learnt
-            × (S.logs checked.new.sink ≡ with_steps steps (S.logs checked.old.sink))) }
-        ensures leaves { Leaves (J.accepts checked.old.judge) (K.post self.old.keep) self.old.learnt
-            checked.old.checker (S.logs checked.old.sink) checked.new.checker
-            (S.logs checked.new.sink) }
-        ensures fresh { OnOk result (self.old.failure ≡ None) }
-        ensures stays_begun { OnOk result (checked.new.checker.ended ≡ false) }
-        ensures awake { OnOk result (checked.new.checker.refused ≡ false) }
-        ensures ran { RanSearch S.over S.faults S.references result self.old self.new checked.old
-            checked.new }
-        ensures keeps { IfErr result (λ error. self.new.failure ≡ Some error) }
-        ensures again { (error : SearchError) → self.old.failure ≡ Some error
-            → (result ≡ Err error) × (self.new ≡ self.old) × (checked.new ≡ checked.old) }
+        requires rules { R.are_rules self.old.rules }
+        requires ready { self.old.failure ≡ None
+            → MaySolve assumptions.now self.old (L.log log.old) }
+        ensures answer { IfOk result (IsAnswer (L.log log.new).checker assumptions.now) }
+        ensures solved { OnOk result (HasSolved self.new (L.log log.new)) }
+        ensures steps { OnOk result (Puts (R.keeping self.old.rules) self.old.learnt self.new.learnt
+            (L.log log.old) (L.log log.new)) }
+        ensures leaves { Leaves (R.keeping self.old.rules) self.old.learnt
+            (L.log log.old) (L.log log.new) }
+        ensures ran { RanSearch result self.old self.new (L.log log.old) (L.log log.new) }
+        ensures keeps { KeepsError result self.old self.new }
+        ensures again { IsSome self.old.failure → log.new ≡ log.old }
         ensures propagated { self.old.propagated ≤ self.new.propagated }
     {
         if let Some(failure) = self.failure {
             return Err(failure);
         }
-        let result = self
-            .engine
-            .search(assumptions, checked, &self.restart, &self.keep);
+        let result = self.engine.search(assumptions, log, &self.rules);
         self.failure = failure_of(&result);
         result
     }

@@ -238,7 +238,8 @@ fn add_tag<'a>(
 ) -> Result<(), AllocError>
     ensures { OnOk result ((work : Work) (stmts : List StmtTree) → work.tally ≡ tally.old →
         at_place scope.new (record work { tally = tally.new }) stmts
-        ≡ behind_part (add_tag (option_map (λ t. t.now) tag.entry)) (at_place scope.old work stmts)) }
+        ≡ behind_part (add_tag (option_map (λ t. t.now) tag.entry))
+        (at_place scope.old work stmts)) }
 {
     let Some(tag) = tag else {
         return Ok(());

@@ -159,8 +159,8 @@ pub(crate) fn put_switch(
     stmts: &mut Vec<Stmt>,
 ) -> Result<(), AllocError>
     ensures { OnOk result (map tree_of_stmt stmts.new.items ≡ map tree_of_stmt stmts.old.items
-        ++ switch controlling.stmt controlling.t (tree_of_expr controlling.on) labels.starts labels.other
-        (stmts_of (map tree_of_stmt body.items)) ∷ []) }
+        ++ switch controlling.stmt controlling.t (tree_of_expr controlling.on) labels.starts
+        labels.other (stmts_of (map tree_of_stmt body.items)) ∷ []) }
 {
     let Controlling { stmt, at: _, t, on } = controlling;
     let other = labels.other;

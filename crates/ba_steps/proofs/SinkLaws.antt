@@ -1,8 +1,11 @@
 -- The logs of two sinks, one after the other.
 
-use Rattle.std.proofs.Common.{◌≡◌, [], ◌∷◌, ◌++◌, Result, Ok, Err, refl, inl, inr, ℕ, ◌≤◌, arith}
+use base.Fml.{GName}
+use Rattle.std.proofs.Common.{◌≡◌, [], ◌∷◌, ◌++◌, Result, Ok, Err, refl, inl, inr, ◌⊎◌, ℕ, ◌+◌, ◌≤◌, arith, sym, ap, ◌∙◌}
+use Rattle.std.proofs.lemmas.List.{map-append}
 use Rattle.std.specs.Result.{OnErr}
-use Rattle.ba_steps.specs.Sinks.{Logs, with_step, MayAddStep, Rose}
+use Rattle.ba_steps.specs.Sinks.{Logs, MayAddStep, Outlasts, Rose, Takes, Told, told_by_both, with_step, with_told}
+use Rattle.ba_steps.specs.declared.sink.SinkError.{SinkError}
 use Rattle.ba_steps.specs.declared.step.CertStep.{CertStep}
 
 pub MayAddStep-append : (step : CertStep) (a b c d : Logs) → MayAddStep step a b → MayAddStep step c d →
@@ -44,3 +47,61 @@ MayAddStep-as step a b same = rw same (MayAddStep-same step a)
 pub rose_later : (a b c : ℕ) → a ≤ b → Rose b c → Rose a c
 rose_later a b c le (inl rose) = inl (omega (arith, le, rose))
 rose_later a b c le (inr most) = inr most
+
+rose_in_sum : (a a' b b' : ℕ) → a ≤ a' → b ≤ b' → Rose a a' ⊎ Rose b b' → Rose (a + b) (a' + b')
+rose_in_sum a a' b b' p q (inl (inl h)) = inl (omega (arith, p, q, h))
+rose_in_sum a a' b b' p q (inl (inr h)) = inr (omega (arith, p, q, h))
+rose_in_sum a a' b b' p q (inr (inl h)) = inl (omega (arith, p, q, h))
+rose_in_sum a a' b b' p q (inr (inr h)) = inr (omega (arith, p, q, h))
+
+both_outlast : (name : GName) (a a' b b' : Told) → Outlasts a a' → Outlasts b b'
+    → Outlasts (told_by_both name a b) (told_by_both name a' b')
+both_outlast name a a' b b' first second = record {
+  no_fall = omega (arith, first.no_fall, second.no_fall);
+  same_references =
+      ap (λ xs. name ∷ (xs ++ b'.references)) first.same_references
+      ∙ ap (λ ys. name ∷ (a.references ++ ys)) second.same_references;
+}
+
+pub Outlasts-refl : (a : Told) → Outlasts a a
+Outlasts-refl a = record { no_fall = omega arith; same_references = refl }
+
+pub Outlasts-trans : (a b c : Told) → Outlasts a b → Outlasts b c → Outlasts a c
+Outlasts-trans a b c p q = record {
+  no_fall = omega (arith, p.no_fall, q.no_fall);
+  same_references = q.same_references ∙ p.same_references;
+}
+
+-- the first of two sinks refused a step
+pub takes_first : (step : CertStep) (name : GName) (error : SinkError) (a a' b : Told)
+    → Takes step (Err error) a a' → Takes step (Err error) (told_by_both name a b) (told_by_both name a' b)
+takes_first step name error a a' b first = record {
+  told = tt;
+  refused = MayAddStep-append step a.logs a'.logs b.logs b.logs first.refused (MayAddStep-same step b.logs);
+  over_stays = refl;
+  cause = λ failed. rose_in_sum a.faults a'.faults b.faults b.faults first.outlasts.no_fall (omega arith)
+      (inl (first.cause failed));
+  outlasts = both_outlast name a a' b b first.outlasts (Outlasts-refl b);
+}
+
+-- the first took it, and the second was asked
+pub takes_second : (step : CertStep) (name : GName) (result : Result Unit SinkError) (a a' b b' : Told)
+    → Takes step (Ok tt) a a' → Takes step result b b'
+    → Takes step result (told_by_both name a b) (told_by_both name a' b')
+takes_second step name (Ok tt) a a' b b' first second = record {
+  told = ap (λ logs. logs ++ b'.logs) first.told ∙ ap (λ logs. with_step step a.logs ++ logs) second.told
+      ∙ sym (map-append (with_told step) a.logs b.logs);
+  refused = tt;
+  over_stays = second.over_stays;
+  cause = λ failed. rose_in_sum a.faults a'.faults b.faults b'.faults first.outlasts.no_fall
+      second.outlasts.no_fall (inr (second.cause failed));
+  outlasts = both_outlast name a a' b b' first.outlasts second.outlasts;
+}
+takes_second step name (Err error) a a' b b' first second = record {
+  told = tt;
+  refused = both_second step a.logs a'.logs b.logs b'.logs first.told second.refused;
+  over_stays = second.over_stays;
+  cause = λ failed. rose_in_sum a.faults a'.faults b.faults b'.faults first.outlasts.no_fall
+      second.outlasts.no_fall (inr (second.cause failed));
+  outlasts = both_outlast name a a' b b' first.outlasts second.outlasts;
+}

@@ -1,10 +1,14 @@
 -- What a sink of steps tells.
 
-use Rattle.std.specs.Prelude.{◌≡◌, ℕ, ◌-◌, ◌^◌, ◌<◌, ◌≤◌, ◌⊎◌, Option, option_map, List, [], ◌∷◌, ◌++◌, map}
+use base.Fml.{GName}
+use Rattle.std.specs.Prelude.{◌≡◌, ℕ, ◌+◌, ◌≤◌, ◌⊎◌, Option, None, option_map, Result, Err, OnOk, OnErr, List, [], ◌∷◌, ◌++◌, map}
 use Rattle.ba_lits.specs.Satisfaction.{Soft}
 use Rattle.ba_lits.specs.Formulas.{Cnf}
 use Rattle.ba_steps.specs.declared.sink.Basis.{Basis}
+use Rattle.ba_steps.specs.declared.sink.SinkError.{SinkError}
+use Rattle.ba_steps.specs.declared.sink.SinkError.TheVariants.{Failed}
 use Rattle.ba_steps.specs.declared.step.CertStep.{CertStep}
+pub use Rattle.ba_world.specs.World.{Rose}
 
 -- a list that is told or not, with one item more at its end
 abbrev pub with_told : {X : Type 0} → X → Option (List X) → Option (List X)
@@ -44,6 +48,48 @@ RefusesInTurn step first first' second second' =
 abbrev pub basis : Cnf → List Soft → Basis
 basis formula softs = record { formula = formula; softs = softs }
 
--- a count rose, where one at the end of its type counts as risen
-abbrev pub Rose : ℕ → ℕ → Type 0
-Rose old new = (old < new) ⊎ (2 ^ 64 - 1 ≤ new)
+-- WHAT A SINK TELLS at one moment: its formulas with their soft literals, where they are told; its logs; how often
+-- what it writes to has failed; and the references through which it writes
+pub record Told : Type 0 where
+  pub over : Option (List Basis)
+  pub logs : Logs
+  pub faults : ℕ
+  pub references : List GName
+
+-- what it writes to failed meanwhile
+abbrev pub HasFault : Told → Told → Type 0
+HasFault old new = Rose old.faults new.faults
+
+-- the faults don't fall, and the references stay the same
+pub record Outlasts (old new : Told) : Type 0 where
+  pub no_fall : old.faults ≤ new.faults
+  pub same_references : new.references ≡ old.references
+
+-- a formula is begun: a refusal may leave it told, and comes as a failure only where the faults rose
+pub record Begins (begun : Basis) (result : Result Unit SinkError) (old new : Told) : Type 0 where
+  pub told : OnOk result (new.over ≡ with_told begun old.over)
+  pub refused : OnErr result (MayAdd begun old.over new.over)
+  pub logs_stay : new.logs ≡ old.logs
+  pub cause : result ≡ Err Failed → HasFault old new
+  pub outlasts : Outlasts old new
+
+-- a step is taken: a refusal may leave it in some of the logs, and comes as a failure only where the faults rose
+pub record Takes (step : CertStep) (result : Result Unit SinkError) (old new : Told) : Type 0 where
+  pub told : OnOk result (new.logs ≡ with_step step old.logs)
+  pub refused : OnErr result (MayAddStep step old.logs new.logs)
+  pub over_stays : new.over ≡ old.over
+  pub cause : result ≡ Err Failed → HasFault old new
+  pub outlasts : Outlasts old new
+
+-- a sink that tells nothing
+abbrev pub untold : Told
+untold = record { over = None; logs = []; faults = 0; references = [] }
+
+-- what two sinks tell, of which the second is behind a reference: the formulas of the second, the logs of both
+abbrev pub told_by_both : GName → Told → Told → Told
+told_by_both name first second = record {
+  over = second.over;
+  logs = first.logs ++ second.logs;
+  faults = first.faults + second.faults;
+  references = name ∷ (first.references ++ second.references);
+}

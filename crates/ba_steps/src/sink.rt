@@ -1,12 +1,11 @@
 //! Where the steps of a derivation go.
 
-ghost use Rattle.std.specs.Prelude.{◌≡◌, ◌≢◌, ℕ, ◌+◌, ◌≤◌, ◌∷◌, ◌++◌, [], None, Some, Option, List, IfOk, OnOk, OnErr};
+ghost use Rattle.std.specs.Prelude.{◌≡◌, ◌≢◌, ◌∷◌, ◌++◌, [], Ok, Err, OnOk, OnErr};
 ghost use Rattle.ba_lits.specs.Satisfaction.{Soft};
 ghost use Rattle.ba_lits.specs.Formulas.{Cnf};
+ghost use Rattle.ba_steps.specs.Lists.{told_by_list};
 ghost use Rattle.ba_steps.specs.Steps.{IsFormed};
-ghost use Rattle.ba_steps.specs.Sinks.{with_told, MayAdd, Logs, with_step, MayAddStep, StopsInTurn, RefusesInTurn, basis, Rose};
-ghost use Rattle.ba_steps.specs.declared.sink.Basis.{Basis};
-ghost use base.Fml.{GName};
+ghost use Rattle.ba_steps.specs.Sinks.{Begins, RefusesInTurn, StopsInTurn, Takes, Told, basis, told_by_both, untold, with_told};
 
 use crate::step::CertStep;
 use ba_items::{Items, TryClone};
@@ -65,38 +64,17 @@ impl Drop for Basis {
 
 /// A sink takes formulas, and then steps.
 pub trait StepSink {
-    // The formulas with their soft literals, where they are told.
-    ghost over: { Self → Option (List Basis) };
-
-    // The logs, each a list of steps that is told or not.
-    ghost logs: { Self → Logs };
-
-    // How often what the sink writes to has failed.
-    ghost faults: { Self → ℕ };
-
-    // The references through which the sink writes.
-    ghost references: { Self → List GName };
+    // What it tells.
+    ghost told: { Self → Told };
 
     /// Steps over this formula and these soft literals follow. A refusal may leave them told.
     fn begin(&mut self, formula: &Formula, softs: &[(Lit, u32)]) -> Result<(), SinkError>
-        ensures told { OnOk result (over self.new
-            ≡ with_told (basis formula.now softs.now) (over self.old)) }
-        ensures refused { OnErr result (MayAdd (basis formula.now softs.now) (over self.old)
-            (over self.new)) }
-        ensures logs_stay { logs self.new ≡ logs self.old }
-        ensures cause { result ≡ Err SinkError.Failed → Rose (faults self.old) (faults self.new) }
-        ensures no_fall { faults self.old ≤ faults self.new }
-        ensures same_references { references self.new ≡ references self.old };
+        ensures { Begins (basis formula.now softs.now) result (told self.old) (told self.new) };
 
     /// Takes a step. A refusal may leave it in some of the logs.
     fn take(&mut self, step: &CertStep) -> Result<(), SinkError>
         requires formed { IsFormed step.now }
-        ensures told { OnOk result (logs self.new ≡ with_step step.now (logs self.old)) }
-        ensures refused { OnErr result (MayAddStep step.now (logs self.old) (logs self.new)) }
-        ensures over_stays { over self.new ≡ over self.old }
-        ensures cause { result ≡ Err SinkError.Failed → Rose (faults self.old) (faults self.new) }
-        ensures no_fall { faults self.old ≤ faults self.new }
-        ensures same_references { references self.new ≡ references self.old };
+        ensures { Takes step.now result (told self.old) (told self.new) };
 }
 
 /// A sink that drops its formulas and steps. It has no log, tells nothing and never fails.
@@ -104,13 +82,7 @@ pub trait StepSink {
 pub struct NoSink;
 
 impl StepSink for NoSink {
-    ghost over = { λ _. None };
-
-    ghost logs = { λ _. [] };
-
-    ghost faults = { λ _. 0 };
-
-    ghost references = { λ _. [] };
+    ghost told = { λ _. untold };
 
     fn begin(&mut self, formula: &Formula, softs: &[(Lit, u32)]) -> Result<(), SinkError>
         ensures never { result ≡ Ok tt }
@@ -178,13 +150,7 @@ impl ListSink {
 }
 
 impl StepSink for ListSink {
-    ghost over = { λ s. Some s.over };
-
-    ghost logs = { λ s. Some s.steps ∷ [] };
-
-    ghost faults = { λ _. 0 };
-
-    ghost references = { λ _. [] };
+    ghost told = { told_by_list };
 
     fn begin(&mut self, formula: &Formula, softs: &[(Lit, u32)]) -> Result<(), SinkError>
         ensures kept { OnOk result (self.new
@@ -218,35 +184,19 @@ pub struct Both<'a, A, D> {
 }
 
 impl<'a, A: StepSink, D: StepSink> StepSink for Both<'a, A, D> {
-    ghost over = { λ s. D.over s.second.now };
-
-    ghost logs = { λ s. A.logs s.first ++ D.logs s.second.now };
-
-    ghost faults = { λ s. A.faults s.first + D.faults s.second.now };
-
-    ghost references = { λ s. s.second.ghost_name ∷ (A.references s.first ++ D.references s.second.now) };
+    ghost told = { λ s. told_by_both s.second.ghost_name (A.told s.first) (D.told s.second.now) };
 
     fn begin(&mut self, formula: &Formula, softs: &[(Lit, u32)]) -> Result<(), SinkError>
-        ensures first { OnOk result (A.over self.new.first
-            ≡ with_told (basis formula.now softs.now) (A.over self.old.first)) }
-        ensures second { OnOk result (D.over self.new.second.now
-            ≡ with_told (basis formula.now softs.now) (D.over self.old.second.now)) }
-        ensures refused { OnErr result (MayAdd (basis formula.now softs.now)
-            (D.over self.old.second.now) (D.over self.new.second.now)) }
+        ensures begins { Begins (basis formula.now softs.now) result
+            (told_by_both self.old.second.ghost_name (A.told self.old.first)
+            (D.told self.old.second.now))
+            (told_by_both self.new.second.ghost_name (A.told self.new.first)
+            (D.told self.new.second.now)) }
+        ensures first { OnOk result ((A.told self.new.first).over
+            ≡ with_told (basis formula.now softs.now) (A.told self.old.first).over) }
         ensures in_turn { OnErr result (StopsInTurn (basis formula.now softs.now)
-            (A.over self.old.first) (A.over self.new.first)
-            (D.over self.old.second.now) (D.over self.new.second.now)) }
-        ensures logs_stay { A.logs self.new.first ++ D.logs self.new.second.now
-            ≡ A.logs self.old.first ++ D.logs self.old.second.now }
-        ensures cause { result ≡ Err SinkError.Failed
-            → Rose (A.faults self.old.first + D.faults self.old.second.now)
-            (A.faults self.new.first + D.faults self.new.second.now) }
-        ensures no_fall { A.faults self.old.first + D.faults self.old.second.now ≤ A.faults
-            self.new.first + D.faults self.new.second.now }
-        ensures same_references { self.new.second.ghost_name
-            ∷ (A.references self.new.first ++ D.references self.new.second.now)
-            ≡ self.old.second.ghost_name
-            ∷ (A.references self.old.first ++ D.references self.old.second.now) }
+            (A.told self.old.first).over (A.told self.new.first).over
+            (D.told self.old.second.now).over (D.told self.new.second.now).over) }
     {
         self.first.begin(formula, softs)?;
         self.second.begin(formula, softs)
@@ -254,23 +204,14 @@ impl<'a, A: StepSink, D: StepSink> StepSink for Both<'a, A, D> {
 
     fn take(&mut self, step: &CertStep) -> Result<(), SinkError>
         requires formed { IsFormed step.now }
-        ensures told { OnOk result (A.logs self.new.first ++ D.logs self.new.second.now
-            ≡ with_step step.now (A.logs self.old.first ++ D.logs self.old.second.now)) }
-        ensures refused { OnErr result (MayAddStep step.now
-            (A.logs self.old.first ++ D.logs self.old.second.now)
-            (A.logs self.new.first ++ D.logs self.new.second.now)) }
-        ensures in_turn { OnErr result (RefusesInTurn step.now (A.logs self.old.first)
-            (A.logs self.new.first) (D.logs self.old.second.now) (D.logs self.new.second.now)) }
-        ensures over_stays { D.over self.new.second.now ≡ D.over self.old.second.now }
-        ensures cause { result ≡ Err SinkError.Failed
-            → Rose (A.faults self.old.first + D.faults self.old.second.now)
-            (A.faults self.new.first + D.faults self.new.second.now) }
-        ensures no_fall { A.faults self.old.first + D.faults self.old.second.now ≤ A.faults
-            self.new.first + D.faults self.new.second.now }
-        ensures same_references { self.new.second.ghost_name
-            ∷ (A.references self.new.first ++ D.references self.new.second.now)
-            ≡ self.old.second.ghost_name
-            ∷ (A.references self.old.first ++ D.references self.old.second.now) }
+        ensures takes { Takes step.now result
+            (told_by_both self.old.second.ghost_name (A.told self.old.first)
+            (D.told self.old.second.now))
+            (told_by_both self.new.second.ghost_name (A.told self.new.first)
+            (D.told self.new.second.now)) }
+        ensures in_turn { OnErr result (RefusesInTurn step.now
+            (A.told self.old.first).logs (A.told self.new.first).logs
+            (D.told self.old.second.now).logs (D.told self.new.second.now).logs) }
     {
         self.first.take(step)?;
         self.second.take(step)

@@ -1,9 +1,10 @@
 -- What a job comes to, from what its files come to.
 
+use Rattle.ba_steps.specs.Sinks.{Told}
 use Rattle.std.proofs.Common.{◌≡◌, ℕ, true, Option, None, Some, refl, subst}
 use Rattle.ba_cert.specs.declared.head.CertHead.{CertHead}
 use Rattle.ba_commands.specs.Modes.{Word}
-use Rattle.ba_localise.specs.Verdicts.{Derivation, Told}
+use Rattle.ba_localise.specs.Verdicts.{Derivation}
 use Rattle.ba_world.specs.World.{OnlyReads, Outside}
 use Rattle.ba_world.specs.declared.read.ReadFileError.{ReadFileError}
 use Rattle.ba_world.specs.declared.read.ReadFileError.TheVariants as read

@@ -11,8 +11,8 @@ use Rattle.ba_encode.specs.declared.encoded.Encoded.{Encoded}
 use Rattle.ba_formula.specs.Formulas.{IsFormulaOf}
 use Rattle.ba_lits.specs.Formulas.{Cnf}
 use Rattle.ba_lits.specs.Satisfaction.{Soft}
-use Rattle.ba_localise.specs.Verdicts.{Derivation, Told, problem_of}
-use Rattle.ba_steps.specs.Sinks.{MayAdd, basis, with_told}
+use Rattle.ba_localise.specs.Verdicts.{Derivation, problem_of}
+use Rattle.ba_steps.specs.Sinks.{MayAdd, Told, basis, with_told}
 use Rattle.ba_tree.specs.Least.{WeightList, judge_of}
 use Rattle.ba_tree.specs.declared.run.Input.{Input}
 use Rattle.ba_world.specs.World.{Outside}

@@ -1,5 +1,6 @@
 -- How a call ends, by the answer that it comes to.
 
+use Rattle.ba_steps.specs.Sinks.{Told}
 use Rattle.std.proofs.Common.{◌≡◌, inl, inr, ℕ, ◌≤◌, Option, None, Some, List, ◌++◌, length, take, option_map, All, IfSome, refl, sym, ap, subst, ◌∙◌, arith}
 use Rattle.std.proofs.lemmas.List.Elements.{All-nil}
 use Rattle.std.proofs.lemmas.List.{take_all}
@@ -9,7 +10,7 @@ use Rattle.ba_cert.specs.Writing.{BeginsText}
 use Rattle.ba_commands.specs.Modes.{Word}
 use Rattle.ba_derivations.specs.declared.verdict.Verdict.{Verdict}
 use Rattle.ba_derivations.specs.declared.verdict.Verdict.TheVariants as verdict
-use Rattle.ba_localise.specs.Verdicts.{Derivation, Shows, Told}
+use Rattle.ba_localise.specs.Verdicts.{Derivation, Shows}
 use Rattle.ba_steps.specs.Steps.{IsFormed}
 use Rattle.ba_steps.specs.declared.step.CertStep.{CertStep}
 use Rattle.ba_world.specs.World.{HasPrintShortage, HasWriteFault, OnlyPrints, OnlyReads, OnlyWrites, Outside, Prints, PrintsPrefix}

@@ -11,8 +11,8 @@ use Rattle.ba_checker.specs.Judging.{after_all}
 use Rattle.ba_checker.specs.Puts.{LeavesSteps}
 use Rattle.ba_checker.specs.States.{State, first_state}
 use Rattle.ba_commands.specs.Modes.{Word}
-use Rattle.ba_localise.specs.Verdicts.{LeavesDerivation, Told, leaves_formula, leaves_nothing, leaves_steps}
-use Rattle.ba_steps.specs.Sinks.{Logs, MayAdd, Rose, with_told}
+use Rattle.ba_localise.specs.Verdicts.{LeavesDerivation, leaves_formula, leaves_nothing, leaves_steps}
+use Rattle.ba_steps.specs.Sinks.{Logs, MayAdd, Rose, Told, with_told}
 use Rattle.ba_steps.specs.declared.sink.Basis.{Basis}
 use Rattle.ba_steps.specs.declared.step.CertStep.{CertStep}
 use Rattle.ba_tree.specs.Least.{WeightList, judge_of}

@@ -101,7 +101,7 @@ tokens_or_none : (source : List ℕ) (error : LexError) (tokens : List Token) �
     → tokens_of source ≡ Ok tokens → ⊥
 tokens_or_none source error tokens is are = let e = sym is ∙ are in cc
 
-none_first : (f : TypeFault) (faults : List TypeFault) → faults ≡ [] → IsFirst faults f → ⊥
+pub none_first : (f : TypeFault) (faults : List TypeFault) → faults ≡ [] → IsFirst faults f → ⊥
 none_first f faults empty it =
     let there : Contains [] f = subst (λ faults. Contains faults f) empty it.there in omega arith
 

@@ -1,7 +1,6 @@
 -- What a sample's text comes to.
-use Rattle.std.proofs.Common.{◌≡◌, ◌⊎◌, inl, inr, ℕ, ◌+◌, ◌<◌, ◌≤◌, ℤ, pos, Option, None, Some, Ok, Err, List, [], ◌∷◌, map, length, refl, sym, ◌∙◌, ap, subst, arith}
+use Rattle.std.proofs.Common.{◌≡◌, inl, inr, ℕ, ◌+◌, ◌≤◌, Option, None, Some, Ok, List, [], ◌∷◌, map, length, refl, sym, ◌∙◌, ap, subst, arith}
 use Rattle.std.specs.Prelude.{Contains}
-use Rattle.std.specs.List.{range_with_len}
 use Rattle.std.proofs.lemmas.List.{length-map}
 use Rattle.std.proofs.lemmas.List.FromFn.{length-map-range_with_len}
 use Rattle.ba_bytes.specs.Lines.{lines_of}
@@ -12,11 +11,9 @@ use Rattle.ba_derivations.specs.declared.verdict.Verdict.TheVariants.{Located, N
 use Rattle.ba_inputs.specs.Weights.{bad_line, content_of, said_of, statement_weight}
 use Rattle.ba_lex.specs.Lines.{tokens_of}
 use Rattle.ba_localise.specs.Verdicts.{Derivation, IsVerdict}
-use Rattle.ba_numbers.specs.declared.ids.VarId.{VarId}
 use Rattle.ba_parse.proofs.OneTree.{one_tree}
 use Rattle.ba_parse.proofs.Verdicts.{one_verdict}
 use Rattle.ba_parse.specs.Files.{IsParsed, Says, Verdict as Parsing, deep_at, parsed, syntax_at}
-use Rattle.ba_report.specs.Report.{report_text}
 use Rattle.ba_samples.proofs.Costs.{units_are}
 use Rattle.ba_samples.proofs.Reading.{sample_reads, sample_spells}
 use Rattle.ba_samples.proofs.Runs.{main_is}
@@ -27,10 +24,9 @@ use Rattle.ba_tokens.specs.declared.token.Token.{Token}
 use Rattle.ba_tree.proofs.Members.{here}
 use Rattle.ba_tree.proofs.Sets.{AreLeast-unique}
 use Rattle.ba_tree.specs.Inputs.{fault_of, input_fault, types_for}
-use Rattle.ba_tree.specs.Least.{AreLeast, WeightList, stmt_of, unit_weight, unit_weights, weight_of}
-use Rattle.ba_tree.specs.Run.{main_of, plain_run}
+use Rattle.ba_tree.specs.Least.{AreLeast, stmt_of, unit_weight, unit_weights, weight_of}
+use Rattle.ba_tree.specs.Run.{plain_run}
 use Rattle.ba_tree.specs.Trees.{FunctionTree, ProgramTree, tree_of}
-use Rattle.ba_tree.specs.declared.run.Outcome.{Outcome}
 use Rattle.ba_tree.specs.declared.run.Outcome.TheVariants as outcome
 use Rattle.ba_tree.specs.declared.tree.Program.{Program}
 use Rattle.ba_tree.specs.declared.tree.StmtInfo.{StmtInfo}
@@ -40,9 +36,7 @@ use Rattle.ba_tree_laws.specs.Spelling.{Spells}
 use Rattle.ba_trees.specs.FileMarks.{file_marks}
 use Rattle.ba_trees.specs.Marks.{Mark}
 use Rattle.ba_trees.specs.declared.tree.statements.RawProgram.{RawProgram}
-use Rattle.ba_typing.specs.Faults.{IsFirst}
-use Rattle.ba_typing.specs.Files.{faults_of, typed_of}
-use Rattle.ba_typing.specs.declared.fault.Fault.{Fault as TypeFault}
+use Rattle.ba_typing.specs.Files.{faults_of}
 use Rattle.ba_answers.specs.declared.answers.Answer.{Answer}
 use Rattle.ba_answers.specs.declared.answers.Answer.TheVariants as answer
 use Rattle.ba_answers.specs.declared.fault.Fault.{Fault}
@@ -50,13 +44,15 @@ use Rattle.ba_jobs.specs.Jobs.{sample_job, sample_texts}
 use Rattle.ba_jobs.specs.Samples.{sample_text}
 use Rattle.ba_jobs.specs.declared.files.Texts.{Texts}
 use Rattle.ba_jobs.specs.declared.jobs.Job.{Job}
-use Rattle.ba_tool.specs.Answers.{Answers, AnswersAtOnce, IsAnswer, IsAnswerOfSample, Tells, input_of, judge_in, unit_limit, weights_of}
+use Rattle.ba_tool.specs.Answers.{Answers, AnswersAtOnce, IsAnswer, IsAnswerOfSample, Tells, input_of, judge_in, weights_of}
 use Rattle.ba_tool.specs.Programs.{IsFault, IsTreeOf, ill_typed, no_file, no_main, no_tokens, too_deep}
-use Rattle.ba_tool.specs.Calls.{Call, EndsWith, IsEndOfSample, RequestComesTo, sample_spent, sampled}
+use Rattle.ba_tool.specs.Calls.{Call, EndsWhere, EndsWith, IsEndOfSample, RequestComesTo, sample_spent, sampled}
 use Rattle.ba_tool.proofs.Bounded.{sample_few}
 use Rattle.ba_tool.proofs.Counting.{distinct_short}
-use Rattle.ba_tool.proofs.Due.{ends_as, shown_ends}
+use Rattle.ba_tool.proofs.Checking.{ends_checking}
+use Rattle.ba_tool.proofs.Due.{ends_as, ends_due, ends_failing, shown_ends}
 use Rattle.ba_tool.proofs.Ending.{Ends}
+use Rattle.ba_tool.proofs.OneAnswer.{none_first}
 use Rattle.ba_answers.specs.Printed.{status_of}
 use Rattle.ba_answers.specs.declared.status.Status.{Status}
 use Rattle.ba_jobs.specs.Jobs.{request_of}
@@ -71,10 +67,6 @@ no_syntax e = cc
 
 no_deep : {k : ℕ} {marks : List Mark} → deep_at k ≡ parsed marks → ⊥
 no_deep e = cc
-
-none_first : (f : TypeFault) (faults : List TypeFault) → faults ≡ [] → IsFirst faults f → ⊥
-none_first f faults empty it =
-    let there : Contains [] f = subst (λ faults. Contains faults f) empty it.there in omega arith
 
 module _ (text : List ℕ) (program : ProgramTree) (read : IsReadAs text program) where
   tokens_are : (tokens : List Token) → tokens_of text ≡ Ok tokens → tokens ≡ read.tokens
@@ -188,18 +180,23 @@ module _ (n : ℕ) (few : n ≤ 500) (p : Program) (same : tree_of p ≡ sample_
   told d a (Located weight sets) all is =
       let are = AreLeast-unique (weights_of p texts) (judge_in job texts p) (sets_of sets) (sample_sets n)
       all.least least in
-      inl (is ∙ ap (λ weight. answer.Sampled n weight (length sets)) (one_weight sets weight are all.each_weighs)
-      ∙ ap (answer.Sampled n 1) (sym (length-map sets (λ (b : FoundSet). b.groups)) ∙ ap length are ∙ how_many))
+      let count = sym (length-map sets (λ (b : FoundSet). b.groups)) ∙ ap length are ∙ how_many in
+      inl (is
+      ∙ ap (λ weight. answer.Sampled n weight (length sets)) (one_weight sets weight are all.each_weighs)
+      ∙ ap (answer.Sampled n 1) count)
   told d a NoRepair none is =
-      let are = ap length (AreLeast-unique (weights_of p texts) (judge_in job texts p) [] (sample_sets n) none least) in
+      let are = ap length
+      (AreLeast-unique (weights_of p texts) (judge_in job texts p) [] (sample_sets n) none least) in
       let some = how_many in absurd (omega arith)
   told d a (TooMany weight sets) (many, good) is =
-      let short : length (sets_of sets) ≤ length (sample_sets n) = distinct_short (sets_of sets) (sample_sets n)
+      let short : length (sets_of sets) ≤ length (sample_sets n) =
+      distinct_short (sets_of sets) (sample_sets n)
       many.differ (λ set has. (least.exactly set).1 (many.each set has)) in
       let count = many.count in let all = how_many in absurd (omega arith)
   told d a Spent spent is = inr is
 
-  pub answered : (handed : Option Derivation) (a : Answer) → Answers job texts p handed a → IsAnswerOfSample n a
+  pub answered : (handed : Option Derivation) (a : Answer) → Answers job texts p handed a →
+      IsAnswerOfSample n a
   answered None a row = absurd (at_once a row)
   answered (Some d) a row = told d a row.verdict row.shows.is_verdict row.tells
 
@@ -224,14 +221,17 @@ module _ (n : ℕ) (few : n ≤ 500) where
   sample_answered handed answer.TooLarge h = spelled handed answer.TooLarge h
   sample_answered handed (answer.BeyondBound at) h = spelled handed (answer.BeyondBound at) h
   sample_answered handed answer.NoRepair h = spelled handed answer.NoRepair h
-  sample_answered handed (answer.TooManySets weight most) h = spelled handed (answer.TooManySets weight most) h
+  sample_answered handed (answer.TooManySets weight most) h =
+      spelled handed (answer.TooManySets weight most) h
   sample_answered handed (answer.BudgetSpent conflicts) h = spelled handed (answer.BudgetSpent conflicts) h
   sample_answered handed (answer.Unreadable which) h = spelled handed (answer.Unreadable which) h
   sample_answered handed (answer.TooLong which) h = spelled handed (answer.TooLong which) h
   sample_answered handed (answer.BadWeights line) h = spelled handed (answer.BadWeights line) h
-  sample_answered handed (answer.Sampled additions weight sets) h = spelled handed (answer.Sampled additions weight sets) h
+  sample_answered handed (answer.Sampled additions weight sets) h =
+      spelled handed (answer.Sampled additions weight sets) h
   sample_answered handed (answer.Accepted claimed) h = spelled handed (answer.Accepted claimed) h
-  sample_answered handed (answer.BadCertificate code line) h = spelled handed (answer.BadCertificate code line) h
+  sample_answered handed (answer.BadCertificate code line) h =
+      spelled handed (answer.BadCertificate code line) h
 
 -- A SAMPLE comes to an end
 
@@ -248,9 +248,17 @@ sample_ends c r n a result mid handed is few comes e =
     ends_as c IsEndOfSample result (status_of a)
     (end_of_sample n a (sample_answered n few handed a answers.1)) e
 
-pub ends_sample : (c : Call) (a : Answer) (result : Status) → Ends c a result → (n : ℕ)
+ends_sample : (c : Call) (a : Answer) (result : Status) → Ends c a result → (n : ℕ)
     → request_of c.words ≡ request.Sample n → EndsWith c IsEndOfSample result
 ends_sample c a result s n is =
     shown_ends c IsEndOfSample result a s
     (λ e. sample_ends c (request_of c.words) n a result s.comes.read s.comes.handed is
     (sample_few c.words n is) s.comes.comes e)
+
+pub ends_where : (c : Call) (a : Answer) (result : Status) → Ends c a result → EndsWhere c result
+ends_where c a result s = record {
+  due = λ due. ends_due c a due result s;
+  failing = ends_failing c a result s;
+  sample = ends_sample c a result s;
+  checking = ends_checking c a result s;
+}

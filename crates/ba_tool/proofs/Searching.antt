@@ -6,8 +6,8 @@ use Rattle.ba_cert.specs.Text.{text_of as certificate_of}
 use Rattle.ba_cert.specs.Writing.{OnlyWritesTo}
 use Rattle.ba_commands.specs.Modes.{Word}
 use Rattle.ba_derivations.specs.declared.verdict.Verdict.{Verdict}
-use Rattle.ba_localise.specs.Verdicts.{Derivation, Finds, Shows, Told}
-use Rattle.ba_steps.specs.Sinks.{Logs, with_step, with_told}
+use Rattle.ba_localise.specs.Verdicts.{Derivation, Finds, Shows}
+use Rattle.ba_steps.specs.Sinks.{Logs, Told, with_step, with_told}
 use Rattle.ba_steps.specs.declared.step.CertStep.{CertStep}
 use Rattle.ba_checker.specs.Puts.{with_steps}
 use Rattle.ba_tree.specs.Least.{WeightList, judge_of}

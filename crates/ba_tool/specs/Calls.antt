@@ -1,26 +1,30 @@
 -- A CALL of the program: how its answer comes from the words and the files, what it hands to the sink of
 -- steps, and what it leaves of the outside.
 
-use Rattle.std.specs.Prelude.{◌≡◌, ◌⊎◌, ℕ, ◌+◌, ◌*◌, ◌<◌, ◌≤◌, true, Option, None, Some, IfSome, List, [], ◌∷◌, map, length}
+use Rattle.std.specs.Prelude.{◌≡◌, ◌⊎◌, ℕ, ◌+◌, ◌*◌, ◌^◌, ◌<◌, ◌≤◌, true, Option, None, Some, IfSome, IsSome, List, [], ◌∷◌, map, length}
 use denote.Ref.{Bor}
 use Rattle.ba_cert.specs.declared.head.CertHead.{CertHead}
 use Rattle.ba_cert.specs.Text.{text_of as certificate_of}
 use Rattle.ba_cert.specs.Writing.{Holds, HoldsBeginning, HoldsPrefix, IsUnbegun, OnlyWritesTo, no_head, steps_at}
 use Rattle.ba_commands.specs.Modes.{Word}
 use Rattle.ba_derivations.specs.Encodings.{IsFaithful}
-use Rattle.ba_localise.specs.Verdicts.{Derivation, Hands, LeavesDerivation, Told, problem_of}
+use Rattle.ba_localise.specs.Verdicts.{Derivation, Hands, LeavesDerivation, problem_of}
 use Rattle.ba_numbers.specs.declared.ids.At.{At}
-use Rattle.ba_steps.specs.Sinks.{with_told}
+use Rattle.ba_steps.specs.Sinks.{Told, with_told}
 use Rattle.ba_steps.specs.declared.sink.Basis.{Basis}
 use Rattle.ba_steps.specs.declared.step.CertStep.{CertStep}
 use Rattle.ba_world.specs.Read.{piece_size}
 use Rattle.ba_world.specs.declared.read.ReadFileError.{ReadFileError}
 use Rattle.ba_world.specs.declared.read.ReadFileError.TheVariants as read
 use Rattle.ba_world.specs.World.{HasPrintShortage, HasReadFault, HasWriteFault, OnlyPrints, OnlyReads, Outside, Prints, PrintsPrefix, Rose, StaysBut}
+use Rattle.ba_tree.specs.Least.{AreWeightsOf}
+use Rattle.ba_tree.specs.Run.{are_bounds, fits}
 use Rattle.ba_tree.specs.declared.tree.Program.{Program}
 use Rattle.ba_tree_laws.specs.Spelling.{Spells}
 use Rattle.ba_tool.specs.Answers.{Checks, IsAnswer, Searches, judge_in, weights_of}
+use Rattle.ba_tool.specs.Cases.{IsCaseOf}
 use Rattle.ba_tool.specs.Certificates.{CertificateComesTo, Judging}
+use Rattle.ba_tool.specs.declared.judge.Case.{Case}
 use Rattle.ba_jobs.specs.Files.{AreRead, name_of, StopsAt}
 use Rattle.ba_jobs.specs.Jobs.{cert_of, request_of, sample_job, sample_texts, written_by}
 use Rattle.ba_answers.specs.Limits.{certificate_limit, limit}
@@ -40,6 +44,10 @@ use Rattle.ba_jobs.specs.declared.jobs.Request.{Request}
 use Rattle.ba_jobs.specs.declared.jobs.Request.TheVariants as request
 use Rattle.ba_answers.specs.declared.status.Status.{Status}
 use Rattle.ba_answers.specs.declared.status.Status.TheVariants as status
+
+-- what the words ask for
+abbrev pub asked_by : List (Bor Word) → Request
+asked_by words = request_of (map (λ word. word.now) words)
 
 -- a call: its words, and the outside and the sink of steps at its start and at its end, as far as these
 -- tell
@@ -224,7 +232,7 @@ LeavesPart j x p t u = LeavesDerivation (weights_of p x) (judge_in j x p) j.conf
 
 -- what a sink tells, with one more log before its own
 abbrev pub with_log : Option (List CertStep) → Told → Told
-with_log log t = record { over = t.over; logs = log ∷ t.logs; faults = t.faults }
+with_log log t = record t { logs = log ∷ t.logs }
 
 -- a file is being written, of this name where that is told
 abbrev pub IsWriting : Word → Outside → Type 0
@@ -495,3 +503,53 @@ most_of _ = 0
 abbrev pub most_given : Request → ℕ
 most_given (request.Wanted j) = 3 * (limit + piece_size) + most_of j.task
 most_given _ = 0
+
+-- THE OTHER WAY ROUND: with which status a call ends, by its words and by what is told of its files before
+pub record EndsWhere (c : Call) (result : Status) : Type 0 where
+  -- words and told files have an answer that is due
+  pub due : (a : Answer) → IsDue (request_of c.words) c.before a → EndsWith c (IsEndFor a) result
+  -- a search for the least sets of a program that fails comes to an end
+  pub failing : TellsFailing (request_of c.words) c.before → EndsWith c IsEndOfSearch result
+  -- a sample comes to an end: with its least sets, or with that its conflicts are spent
+  pub sample : (additions : ℕ) → request_of c.words ≡ request.Sample additions → EndsWith c IsEndOfSample result
+  -- a check comes to an end, by what the world tells of its certificate; which it is of accepted and refused, and where,
+  -- `Says` tells: over the formula that was handed to the sink
+  pub checking : (name : Word) (file : Option (List ℕ)) → TellsCheck (request_of c.words) c.before name
+      → c.before.held name ≡ Some file → EndsWith c (IsEndOfCheck file) result
+
+-- no more bytes are given than so many
+abbrev pub GivesAtMost : ℕ → Outside → Outside → Type 0
+GivesAtMost most before after = after.given ≤ before.given + most
+
+-- WHAT IS ASKED OF A JOB, and of its texts
+
+pub record MayBeDone (j : Job) : Type 0 where
+  pub countable : j.conflicts < 2 ^ 62
+  pub bounds : are_bounds j.bounds ≡ true
+  pub named : j.task ≡ task.Check → IsSome j.cert
+
+pub record AreShort (x : Texts) : Type 0 where
+  pub program : length x.program ≤ limit
+  pub input : length x.input ≤ limit
+
+-- a case of a job whose sets are searched for
+pub record IsSearch (j : Job) (x : Texts) (a : Case) : Type 0 where
+  pub countable : j.conflicts < 2 ^ 62
+  pub bounds : are_bounds j.bounds ≡ true
+  pub case : IsCaseOf x a
+  pub searches : Searches j x a.program
+
+-- a case of a job whose certificate is checked
+pub record IsCheck (j : Job) (a : Case) : Type 0 where
+  pub named : IsSome j.cert
+  pub bounds : are_bounds j.bounds ≡ true
+  pub fits : fits a.program a.input ≡ true
+  pub weights : AreWeightsOf a.program a.weights.of
+
+-- a certificate of this name and these settings is begun where the outside and the faults of the sink are these
+pub record Starts (name : Word) (head : CertHead) (outside : Outside) (faults : ℕ)
+    (start_name : Word) (start_head : CertHead) (start_outside : Outside) (start_faults : ℕ) : Type 0 where
+  pub named : name ≡ start_name
+  pub headed : head ≡ start_head
+  pub start : outside ≡ start_outside
+  pub faults_are : faults ≡ start_faults

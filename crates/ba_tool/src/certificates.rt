@@ -1,19 +1,16 @@
 //! The certificate of a check, judged as it is read.
 
-ghost use Rattle.std.specs.Prelude.{◌≡◌, ◌≤◌, ◌+◌, ◌++◌, ℕ, [], true, Some, Err, IfOk, IfErr, IsSome};
+ghost use Rattle.std.specs.Prelude.{◌≡◌, ◌≤◌, ◌+◌, ◌++◌, ℕ, [], Some, Err, IfOk, IfErr};
 ghost use Rattle.ba_check.specs.Answers.{confirmed_of};
 ghost use Rattle.ba_check.specs.Readers.{seen};
 ghost use Rattle.ba_check.specs.Readings.{HasRead};
 ghost use Rattle.ba_derivations.specs.Derivations.{Verdict};
 ghost use Rattle.ba_derivations.specs.Encodings.{IsFaithful};
-ghost use Rattle.ba_localise.specs.Verdicts.{told};
 ghost use Rattle.ba_search.specs.declared.search.SearchError.{SearchError};
-ghost use Rattle.ba_steps.specs.Sinks.{Rose};
-ghost use Rattle.ba_tree.specs.Least.{AreWeightsOf};
-ghost use Rattle.ba_tree.specs.Run.{are_bounds, fits};
+ghost use Rattle.ba_steps.specs.Sinks.{HasFault, Outlasts};
 ghost use Rattle.ba_world.specs.Read.{piece_size};
 ghost use Rattle.ba_world.specs.World.{OnlyReads, Outside};
-ghost use Rattle.ba_tool.specs.Calls.{CheckLeaves, ConcludesCheck};
+ghost use Rattle.ba_tool.specs.Calls.{CheckLeaves, ConcludesCheck, GivesAtMost, IsCheck};
 ghost use Rattle.ba_tool.specs.Cases.{IsCaseOf};
 ghost use Rattle.ba_tool.specs.Certificates.{CertificateComesTo, IsFed, IsUnfed, Judging, claim_of, unfed_answer};
 ghost use Rattle.ba_answers.specs.Limits.{certificate_limit};
@@ -179,24 +176,18 @@ pub fn check<W, D>(
 where
     W: World,
     D: StepSink + Drop,
-    requires named { IsSome job.now.cert }
-    requires bounds { are_bounds job.now.bounds ≡ true }
-    requires fits { fits case.now.program case.now.input ≡ true }
-    requires weights { AreWeightsOf case.now.program case.now.weights.of }
+    requires check { IsCheck job.now case.now }
     ensures answer { (x : Texts) → IsCaseOf x case.now
         → IfOk result (λ answer. ConcludesCheck job.now x case.now.program
-        (W.outside world.old) (W.outside world.new)
-        (told D.over D.logs D.faults steps.old) (told D.over D.logs D.faults steps.new) answer) }
-    ensures leaves { (x : Texts) → IsCaseOf x case.now
-        → CheckLeaves job.now x case.now.program
-        (told D.over D.logs D.faults steps.old) (told D.over D.logs D.faults steps.new) }
+        (W.outside world.old) (W.outside world.new) (D.told steps.old) (D.told steps.new) answer) }
+    ensures leaves { (x : Texts) → IsCaseOf x case.now → CheckLeaves job.now x case.now.program
+        (D.told steps.old) (D.told steps.new) }
     ensures cause { result ≡ Err SearchError.SinkFailed
-        → Rose (D.faults steps.old) (D.faults steps.new) }
-    ensures bounded { (W.outside world.new).given
-        ≤ (W.outside world.old).given + (certificate_limit + piece_size) }
+        → HasFault (D.told steps.old) (D.told steps.new) }
+    ensures bounded { GivesAtMost (certificate_limit + piece_size)
+        (W.outside world.old) (W.outside world.new) }
     ensures stays { OnlyReads (W.outside world.old) (W.outside world.new) }
-    ensures no_fall { D.faults steps.old ≤ D.faults steps.new }
-    ensures same_references { D.references steps.new ≡ D.references steps.old }
+    ensures outlasts { Outlasts (D.told steps.old) (D.told steps.new) }
 {
     let name = match &job.cert {
         Some(name) => name,

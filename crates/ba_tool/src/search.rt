@@ -1,18 +1,14 @@
 //! The search for the least sets of a program that fails.
 
-ghost use Rattle.std.specs.Prelude.{◌≡◌, ◌⊎◌, ◌<◌, ◌≤◌, ◌^◌, false, true, [], Err, IfOk, OnOk, Some, option_map};
+ghost use Rattle.std.specs.Prelude.{◌≡◌, ◌⊎◌, ◌<◌, ◌^◌, true, [], Err, IfOk, OnOk, Some, option_map};
 ghost use Rattle.ba_cert.specs.Text.{text_of as certificate_of};
 ghost use Rattle.ba_cert.specs.Writing.{HoldsPrefix, IsUnbegun, is_sound, steps_at};
 ghost use Rattle.ba_world.specs.World.{HasWriteFault};
 ghost use Rattle.ba_derivations.specs.declared.verdict.Verdict.{Verdict};
-ghost use Rattle.ba_localise.specs.Verdicts.{told};
-ghost use Rattle.ba_search.specs.Rules.{IsKeepRule, IsRestartRule};
 ghost use Rattle.ba_search.specs.declared.search.SearchError.{SearchError};
-ghost use Rattle.ba_steps.specs.Sinks.{Rose};
-ghost use Rattle.ba_tree.specs.Run.{are_bounds};
-ghost use Rattle.ba_tool.specs.Answers.{Searches, Tells};
-ghost use Rattle.ba_tool.specs.Calls.{Begins, Concludes, HandsAnswer, HasHandFault, LeavesPart, LeavesWritten, SearchLeaves, head_by};
-ghost use Rattle.ba_tool.specs.Cases.{IsCaseOf};
+ghost use Rattle.ba_steps.specs.Sinks.{HasFault, Outlasts};
+ghost use Rattle.ba_tool.specs.Answers.{Tells};
+ghost use Rattle.ba_tool.specs.Calls.{Begins, Concludes, HandsAnswer, HasHandFault, IsSearch, LeavesPart, LeavesWritten, SearchLeaves, Starts, head_by};
 ghost use Rattle.ba_answers.specs.declared.answers.Answer.{Answer};
 ghost use Rattle.ba_jobs.specs.declared.jobs.Job.{Job};
 
@@ -24,10 +20,9 @@ use ba_derivations::Verdict;
 use ba_items::Items;
 use ba_jobs::files::Texts;
 use ba_jobs::jobs::{Job, Task};
-use ba_jobs::rules::Rules;
 use ba_localise::localise;
 use ba_report::report;
-use ba_search::SearchError;
+use ba_search::{SearchError, SearchRules};
 use ba_steps::{SinkError, StepSink};
 use ba_tree::tree::Program;
 use ba_world::World;
@@ -70,32 +65,23 @@ fn verdict_answer(
 /// What a search for the least sets of a case comes to; its derivation is handed to `steps`.
 ///
 /// `SinkFailed` comes only where the faults of `steps` rose; `Memory` for want of memory.
-fn locate<D, R, K>(
+fn locate<D: StepSink + Drop, R: SearchRules + Drop>(
     alloc: Global,
     job: &Job,
     texts: &Texts,
     case: &Case,
-    restart: R,
-    keep: K,
+    rules: R,
     steps: &mut D,
 ) -> Result<Answer, SearchError>
-where
-    D: StepSink + Drop,
-    R: Fn(u64) -> u64 + Drop,
-    K: Fn(u64, u64) -> bool + Drop,
-    requires bounds { are_bounds job.now.bounds ≡ true }
-    requires case { IsCaseOf texts.now case.now }
-    requires searches { Searches job.now texts.now case.now.program }
-    requires restart { IsRestartRule (R.pre restart) (R.post restart) }
-    requires keep { IsKeepRule (K.pre keep) (K.post keep) }
+    requires search { IsSearch job.now texts.now case.now }
+    requires rules { R.are_rules rules }
     ensures answer { IfOk result (λ answer. HandsAnswer job.now texts.now
-        (told D.over D.logs D.faults steps.old) (told D.over D.logs D.faults steps.new) answer) }
+        (D.told steps.old) (D.told steps.new) answer) }
     ensures leaves { LeavesPart job.now texts.now case.now.program
-        (told D.over D.logs D.faults steps.old) (told D.over D.logs D.faults steps.new) }
+        (D.told steps.old) (D.told steps.new) }
     ensures cause { result ≡ Err SearchError.SinkFailed
-        → Rose (D.faults steps.old) (D.faults steps.new) }
-    ensures no_fall { D.faults steps.old ≤ D.faults steps.new }
-    ensures same_references { D.references steps.new ≡ D.references steps.old }
+        → HasFault (D.told steps.old) (D.told steps.new) }
+    ensures outlasts { Outlasts (D.told steps.old) (D.told steps.new) }
 {
     let verdict = localise(
         alloc,
@@ -105,51 +91,11 @@ where
         &case.weights,
         job.conflicts,
         job.sets,
-        restart,
-        keep,
+        rules,
         steps,
     )?;
     let source = texts.program.as_slice();
     Ok(verdict_answer(alloc, job, source, &case.program, &verdict)?)
-}
-
-/// The same by the restart rule that the job asks for.
-fn locate_by<D, L, G, K>(
-    alloc: Global,
-    job: &Job,
-    texts: &Texts,
-    case: &Case,
-    rules: Rules<L, G, K>,
-    steps: &mut D,
-) -> Result<Answer, SearchError>
-where
-    D: StepSink + Drop,
-    L: Fn(u64) -> u64 + Drop,
-    G: Fn(u64) -> u64 + Drop,
-    K: Fn(u64, u64) -> bool + Drop,
-    requires bounds { are_bounds job.now.bounds ≡ true }
-    requires case { IsCaseOf texts.now case.now }
-    requires searches { Searches job.now texts.now case.now.program }
-    requires luby { job.now.steady ≡ false
-        → IsRestartRule (L.pre rules.luby) (L.post rules.luby) }
-    requires steady { job.now.steady ≡ true
-        → IsRestartRule (G.pre rules.steady) (G.post rules.steady) }
-    requires keep { IsKeepRule (K.pre rules.keep) (K.post rules.keep) }
-    ensures answer { IfOk result (λ answer. HandsAnswer job.now texts.now
-        (told D.over D.logs D.faults steps.old) (told D.over D.logs D.faults steps.new) answer) }
-    ensures leaves { LeavesPart job.now texts.now case.now.program
-        (told D.over D.logs D.faults steps.old) (told D.over D.logs D.faults steps.new) }
-    ensures cause { result ≡ Err SearchError.SinkFailed
-        → Rose (D.faults steps.old) (D.faults steps.new) }
-    ensures no_fall { D.faults steps.old ≤ D.faults steps.new }
-    ensures same_references { D.references steps.new ≡ D.references steps.old }
-{
-    let Rules { luby, steady, keep } = rules;
-    if job.steady {
-        locate(alloc, job, texts, case, steady, keep, steps)
-    } else {
-        locate(alloc, job, texts, case, luby, keep, steps)
-    }
 }
 
 /// The settings of a job, as a certificate names them.
@@ -189,60 +135,45 @@ fn begin<W: World>(
     }
 }
 
-/// The same as [`locate_by`], with a certificate: its steps are written to the file of this name as
+/// The same as [`locate`], with a certificate: its steps are written to the file of this name as
 /// they are made, and then handed on.
 ///
 /// `SinkFailed` comes only where the faults of `steps` and of the world's writing rose, which
 /// count together; `Memory` for want of memory. The file and `steps` then have the beginning of one
 /// derivation.
-fn certify<S, W, D, L, G, K>(
+fn certify<S, W, D, R>(
     alloc: Global,
     world: &mut W,
     name: &Text,
     job: &Job,
     texts: &Texts,
     case: &Case,
-    rules: Rules<L, G, K>,
+    rules: R,
     steps: &mut D,
 ) -> Result<Answer, SearchError>
 where
     S: Start,
     W: World,
     D: StepSink + Drop,
-    L: Fn(u64) -> u64 + Drop,
-    G: Fn(u64) -> u64 + Drop,
-    K: Fn(u64, u64) -> bool + Drop,
-    requires named { name.now ≡ S.name }
-    requires headed { head_by job.now ≡ S.head }
-    requires countable { job.now.conflicts < 2 ^ 62 }
-    requires start { W.outside world.old ≡ S.outside }
-    requires faults { D.faults steps.old ≡ S.faults }
-    requires bounds { are_bounds job.now.bounds ≡ true }
-    requires case { IsCaseOf texts.now case.now }
-    requires searches { Searches job.now texts.now case.now.program }
-    requires luby { job.now.steady ≡ false
-        → IsRestartRule (L.pre rules.luby) (L.post rules.luby) }
-    requires steady { job.now.steady ≡ true
-        → IsRestartRule (G.pre rules.steady) (G.post rules.steady) }
-    requires keep { IsKeepRule (K.pre rules.keep) (K.post rules.keep) }
+    R: SearchRules + Drop,
+    requires starts { Starts name.now (head_by job.now) (W.outside world.old)
+        (D.told steps.old).faults S.name S.head S.outside S.faults }
+    requires search { IsSearch job.now texts.now case.now }
+    requires rules { R.are_rules rules }
     ensures answer { IfOk result (λ answer. Concludes job.now texts.now (Some name.now)
-        (W.outside world.old) (W.outside world.new)
-        (told D.over D.logs D.faults steps.old) (told D.over D.logs D.faults steps.new) answer) }
+        (W.outside world.old) (W.outside world.new) (D.told steps.old) (D.told steps.new) answer) }
     ensures begins { Begins (head_by job.now) name.now (W.outside world.old) (W.outside world.new) }
     ensures leaves { LeavesWritten job.now texts.now case.now.program name.now
-        (W.outside world.old) (W.outside world.new)
-        (told D.over D.logs D.faults steps.old) (told D.over D.logs D.faults steps.new) }
+        (W.outside world.old) (W.outside world.new) (D.told steps.old) (D.told steps.new) }
     ensures cause { result ≡ Err SearchError.SinkFailed
-        → HasHandFault (Some name.now) (W.outside world.old) (W.outside world.new)
-        (told D.over D.logs D.faults steps.old) (told D.over D.logs D.faults steps.new) }
-    ensures no_fall { D.faults steps.old ≤ D.faults steps.new }
-    ensures same_references { D.references steps.new ≡ D.references steps.old }
+        → HasHandFault (Some name.now) (W.outside world.old) (W.outside world.new) (D.told steps.old) (D.told steps.new) }
+    ensures outlasts { Outlasts (D.told steps.old) (D.told steps.new) }
 {
     let head = head_by(job);
     begin(alloc, world, name.as_str(), &head)?;
     let text: TextSink<W, S> = TextSink::new(alloc, world, name.as_str(), head);
     let mut sink = CertSink { text, next: steps };
-    let answer = locate_by(alloc, job, texts, case, rules, &mut sink)?;
+    let answer = locate(alloc, job, texts, case, rules, &mut sink)?;
     if sink.text.is_whole(name.as_str()) {
         Ok(answer)
     } else {
@@ -257,46 +188,31 @@ where
 /// `SinkFailed` comes only where the faults of `steps` rose, or, where a file is named, those of
 /// `steps` and of the world's writing together; `Memory` for want of memory. What was handed on
 /// before an error stays.
-pub fn conclude<W, D, L, G, K>(
+pub fn conclude<W, D, R>(
     alloc: Global,
     world: &mut W,
     job: &Job,
     texts: &Texts,
     case: &Case,
-    rules: Rules<L, G, K>,
+    rules: R,
     steps: &mut D,
 ) -> Result<Answer, SearchError>
 where
     W: World,
     D: StepSink + Drop,
-    L: Fn(u64) -> u64 + Drop,
-    G: Fn(u64) -> u64 + Drop,
-    K: Fn(u64, u64) -> bool + Drop,
-    requires countable { job.now.conflicts < 2 ^ 62 }
-    requires bounds { are_bounds job.now.bounds ≡ true }
-    requires case { IsCaseOf texts.now case.now }
-    requires searches { Searches job.now texts.now case.now.program }
-    requires luby { job.now.steady ≡ false
-        → IsRestartRule (L.pre rules.luby) (L.post rules.luby) }
-    requires steady { job.now.steady ≡ true
-        → IsRestartRule (G.pre rules.steady) (G.post rules.steady) }
-    requires keep { IsKeepRule (K.pre rules.keep) (K.post rules.keep) }
+    R: SearchRules + Drop,
+    requires search { IsSearch job.now texts.now case.now }
+    requires rules { R.are_rules rules }
     ensures answer { IfOk result (λ answer. Concludes job.now texts.now job.now.cert
-        (W.outside world.old) (W.outside world.new)
-        (told D.over D.logs D.faults steps.old) (told D.over D.logs D.faults steps.new) answer) }
+        (W.outside world.old) (W.outside world.new) (D.told steps.old) (D.told steps.new) answer) }
     ensures leaves { SearchLeaves job.now texts.now case.now.program job.now.cert
-        (W.outside world.old) (W.outside world.new)
-        (told D.over D.logs D.faults steps.old) (told D.over D.logs D.faults steps.new) }
+        (W.outside world.old) (W.outside world.new) (D.told steps.old) (D.told steps.new) }
     ensures cause { result ≡ Err SearchError.SinkFailed
-        → HasHandFault job.now.cert (W.outside world.old) (W.outside world.new)
-        (told D.over D.logs D.faults steps.old) (told D.over D.logs D.faults steps.new) }
-    ensures no_fall { D.faults steps.old ≤ D.faults steps.new }
-    ensures same_references { D.references steps.new ≡ D.references steps.old }
+        → HasHandFault job.now.cert (W.outside world.old) (W.outside world.new) (D.told steps.old) (D.told steps.new) }
+    ensures outlasts { Outlasts (D.told steps.old) (D.told steps.new) }
 {
     match &job.cert {
-        Some(name) => certify::<Brand, W, D, L, G, K>(
-            alloc, world, name, job, texts, case, rules, steps,
-        ),
-        None => locate_by(alloc, job, texts, case, rules, steps),
+        Some(name) => certify::<Brand, W, D, R>(alloc, world, name, job, texts, case, rules, steps),
+        None => locate(alloc, job, texts, case, rules, steps),
     }
 }

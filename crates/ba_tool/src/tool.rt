@@ -1,20 +1,17 @@
 //! The top call of the program.
 
-ghost use Rattle.std.specs.Prelude.{◌≡◌, ◌⊎◌, ℕ, ◌+◌, ◌*◌, ◌≤◌, false, true, Err, List, Option, Some, length, map, IfOk, IfErr, IsSome, ◌<◌, ◌^◌};
-ghost use Rattle.ba_commands.specs.Modes.{Word};
-ghost use Rattle.ba_localise.specs.Verdicts.{told};
-ghost use Rattle.ba_search.specs.Rules.{IsKeepRule, IsRestartRule};
+ghost use Rattle.std.specs.Prelude.{◌≡◌, ◌⊎◌, ◌+◌, ◌*◌, ◌≤◌, Err, IfOk};
+ghost use Rattle.ba_jobs.specs.Rules.{AreJobRules};
 ghost use Rattle.ba_search.specs.declared.search.SearchError.{SearchError};
 ghost use Rattle.ba_world.specs.Read.{piece_size};
 ghost use Rattle.ba_world.specs.World.{HasPrintShortage, HasWriteFault, OnlyPrints, Prints, PrintsPrefix};
-ghost use Rattle.ba_tool.specs.Calls.{Comes, EndsWith, HasHandFault, IsDue, IsEndFor, IsEndOfCheck, IsEndOfSample, IsEndOfSearch, IsShown, Proceeds, Says, Stops, StopsWith, TellsCheck, TellsFailing, WritesOnly, answer_for, call, most_given, most_of};
+ghost use Rattle.ba_tool.specs.Calls.{AreShort, Comes, EndsWhere, GivesAtMost, HasHandFault, IsShown, MayBeDone, Proceeds, Says, Stops, StopsWith, WritesOnly, answer_for, asked_by, call, most_given, most_of};
 ghost use Rattle.ba_answers.specs.Limits.{limit};
-ghost use Rattle.ba_jobs.specs.Jobs.{cert_of, request_of, steady_of, written_by};
+ghost use Rattle.ba_jobs.specs.Jobs.{cert_of, steady_of, written_by};
 ghost use Rattle.ba_answers.specs.Printed.{text_of};
-ghost use Rattle.ba_tree.specs.Run.{are_bounds};
 ghost use Rattle.ba_answers.specs.declared.answers.Answer.{Answer};
 ghost use Rattle.ba_jobs.specs.declared.jobs.Request.{Request};
-ghost use Rattle.ba_jobs.specs.declared.jobs.Task.{Task};
+ghost use Rattle.ba_steps.specs.Sinks.{Outlasts};
 
 use crate::certificates::check;
 use crate::judge::{Judged, judge};
@@ -23,9 +20,9 @@ use ba_answers::answers::Answer;
 use ba_answers::status::Status;
 use ba_jobs::files::{Texts, Unread, read_texts};
 use ba_jobs::jobs::{Job, Request, read_request, sample_job};
-use ba_jobs::rules::Rules;
+use ba_jobs::rules::{JobRules, Rules};
 use ba_jobs::samples::sample_texts;
-use ba_search::SearchError;
+use ba_search::{SearchError, SearchRules};
 use ba_steps::StepSink;
 use ba_world::{ReadFileError, World, WorldError};
 use std::alloc::Global;
@@ -46,43 +43,30 @@ fn unread_answer(unread: Unread) -> Option<Answer>
 ///
 /// `SinkFailed` comes only where the faults of `steps` rose, or, where a certificate is written,
 /// those of `steps` and of the world's writing together; `Memory` for want of memory.
-fn texts_answer<W, D, L, G, K>(
+fn texts_answer<W, D, R>(
     alloc: Global,
     world: &mut W,
     job: &Job,
     texts: &Texts,
     steps: &mut D,
-    rules: Rules<L, G, K>,
+    rules: R,
 ) -> Result<Answer, SearchError>
 where
     W: World,
     D: StepSink + Drop,
-    L: Fn(u64) -> u64 + Drop,
-    G: Fn(u64) -> u64 + Drop,
-    K: Fn(u64, u64) -> bool + Drop,
-    requires program_short { length texts.now.program ≤ limit }
-    requires input_short { length texts.now.input ≤ limit }
-    requires countable { job.now.conflicts < 2 ^ 62 }
-    requires bounds { are_bounds job.now.bounds ≡ true }
-    requires named { job.now.task ≡ Task.Check → IsSome job.now.cert }
-    requires luby { job.now.steady ≡ false
-        → IsRestartRule (L.pre rules.luby) (L.post rules.luby) }
-    requires steady { job.now.steady ≡ true
-        → IsRestartRule (G.pre rules.steady) (G.post rules.steady) }
-    requires keep { IsKeepRule (K.pre rules.keep) (K.post rules.keep) }
+    R: SearchRules + Drop,
+    requires short { AreShort texts.now }
+    requires job { MayBeDone job.now }
+    requires rules { R.are_rules rules }
     ensures answer { IfOk result (λ answer. Proceeds job.now texts.now
-        (W.outside world.old) (W.outside world.new)
-        (told D.over D.logs D.faults steps.old) (told D.over D.logs D.faults steps.new) answer) }
-    ensures stops { StopsWith job.now texts.now (W.outside world.old) (W.outside world.new)
-        (told D.over D.logs D.faults steps.old) (told D.over D.logs D.faults steps.new) }
+        (W.outside world.old) (W.outside world.new) (D.told steps.old) (D.told steps.new) answer) }
+    ensures stops { StopsWith job.now texts.now
+        (W.outside world.old) (W.outside world.new) (D.told steps.old) (D.told steps.new) }
     ensures cause { result ≡ Err SearchError.SinkFailed
         → HasHandFault (written_by job.now.task job.now.cert)
-        (W.outside world.old) (W.outside world.new)
-        (told D.over D.logs D.faults steps.old) (told D.over D.logs D.faults steps.new) }
-    ensures bounded { (W.outside world.new).given
-        ≤ (W.outside world.old).given + most_of job.now.task }
-    ensures no_fall { D.faults steps.old ≤ D.faults steps.new }
-    ensures same_references { D.references steps.new ≡ D.references steps.old }
+        (W.outside world.old) (W.outside world.new) (D.told steps.old) (D.told steps.new) }
+    ensures bounded { GivesAtMost (most_of job.now.task) (W.outside world.old) (W.outside world.new) }
+    ensures outlasts { Outlasts (D.told steps.old) (D.told steps.new) }
 {
     match judge(alloc, job, texts)? {
         Judged::Answered(answer) => Ok(answer),
@@ -95,41 +79,29 @@ where
 ///
 /// `SinkFailed` comes only where the faults of `steps` rose, or, where a certificate is written,
 /// those of `steps` and of the world's writing together; `Memory` for want of memory.
-fn job_answer<W, D, L, G, K>(
+fn job_answer<W, D, R>(
     alloc: Global,
     world: &mut W,
     job: &Job,
     steps: &mut D,
-    rules: Rules<L, G, K>,
+    rules: R,
 ) -> Result<Answer, SearchError>
 where
     W: World,
     D: StepSink + Drop,
-    L: Fn(u64) -> u64 + Drop,
-    G: Fn(u64) -> u64 + Drop,
-    K: Fn(u64, u64) -> bool + Drop,
-    requires countable { job.now.conflicts < 2 ^ 62 }
-    requires bounds { are_bounds job.now.bounds ≡ true }
-    requires named { job.now.task ≡ Task.Check → IsSome job.now.cert }
-    requires luby { job.now.steady ≡ false
-        → IsRestartRule (L.pre rules.luby) (L.post rules.luby) }
-    requires steady { job.now.steady ≡ true
-        → IsRestartRule (G.pre rules.steady) (G.post rules.steady) }
-    requires keep { IsKeepRule (K.pre rules.keep) (K.post rules.keep) }
+    R: SearchRules + Drop,
+    requires job { MayBeDone job.now }
+    requires rules { R.are_rules rules }
     ensures answer { IfOk result (λ answer. Comes (Request.Wanted job.now)
-        (W.outside world.old) (W.outside world.new)
-        (told D.over D.logs D.faults steps.old) (told D.over D.logs D.faults steps.new) answer) }
+        (W.outside world.old) (W.outside world.new) (D.told steps.old) (D.told steps.new) answer) }
     ensures stops { Stops (Request.Wanted job.now)
-        (W.outside world.old) (W.outside world.new)
-        (told D.over D.logs D.faults steps.old) (told D.over D.logs D.faults steps.new) }
+        (W.outside world.old) (W.outside world.new) (D.told steps.old) (D.told steps.new) }
     ensures cause { result ≡ Err SearchError.SinkFailed
         → HasHandFault (cert_of (Request.Wanted job.now))
-        (W.outside world.old) (W.outside world.new)
-        (told D.over D.logs D.faults steps.old) (told D.over D.logs D.faults steps.new) }
+        (W.outside world.old) (W.outside world.new) (D.told steps.old) (D.told steps.new) }
     ensures bounded { (W.outside world.new).given
         ≤ (W.outside world.old).given + (3 * (limit + piece_size) + most_of job.now.task) }
-    ensures no_fall { D.faults steps.old ≤ D.faults steps.new }
-    ensures same_references { D.references steps.new ≡ D.references steps.old }
+    ensures outlasts { Outlasts (D.told steps.old) (D.told steps.new) }
 {
     match read_texts(alloc, world, job) {
         Ok(texts) => texts_answer(alloc, world, job, &texts, steps, rules),
@@ -143,35 +115,28 @@ where
 /// What a sample comes to: its text is judged, and its least sets are searched for.
 ///
 /// `SinkFailed` comes only where the faults of `steps` rose; `Memory` for want of memory.
-fn sample_answer<W, D, L, G, K>(
+fn sample_answer<W, D, R>(
     alloc: Global,
     world: &mut W,
     additions: u32,
     steps: &mut D,
-    rules: Rules<L, G, K>,
+    rules: R,
 ) -> Result<Answer, SearchError>
 where
     W: World,
     D: StepSink + Drop,
-    L: Fn(u64) -> u64 + Drop,
-    G: Fn(u64) -> u64 + Drop,
-    K: Fn(u64, u64) -> bool + Drop,
+    R: SearchRules + Drop,
     requires few { additions ≤ 500 }
-    requires luby { IsRestartRule (L.pre rules.luby) (L.post rules.luby) }
-    requires keep { IsKeepRule (K.pre rules.keep) (K.post rules.keep) }
+    requires rules { R.are_rules rules }
     ensures answer { IfOk result (λ answer. Comes (Request.Sample additions)
-        (W.outside world.old) (W.outside world.new)
-        (told D.over D.logs D.faults steps.old) (told D.over D.logs D.faults steps.new) answer) }
+        (W.outside world.old) (W.outside world.new) (D.told steps.old) (D.told steps.new) answer) }
     ensures stops { Stops (Request.Sample additions)
-        (W.outside world.old) (W.outside world.new)
-        (told D.over D.logs D.faults steps.old) (told D.over D.logs D.faults steps.new) }
+        (W.outside world.old) (W.outside world.new) (D.told steps.old) (D.told steps.new) }
     ensures cause { result ≡ Err SearchError.SinkFailed
         → HasHandFault (cert_of (Request.Sample additions))
-        (W.outside world.old) (W.outside world.new)
-        (told D.over D.logs D.faults steps.old) (told D.over D.logs D.faults steps.new) }
+        (W.outside world.old) (W.outside world.new) (D.told steps.old) (D.told steps.new) }
     ensures bounded { (W.outside world.new).given ≤ (W.outside world.old).given }
-    ensures no_fall { D.faults steps.old ≤ D.faults steps.new }
-    ensures same_references { D.references steps.new ≡ D.references steps.old }
+    ensures outlasts { Outlasts (D.told steps.old) (D.told steps.new) }
 {
     let job = sample_job(additions);
     let texts = sample_texts(alloc, additions)?;
@@ -196,30 +161,35 @@ where
     L: Fn(u64) -> u64 + Drop,
     G: Fn(u64) -> u64 + Drop,
     K: Fn(u64, u64) -> bool + Drop,
-    requires luby { steady_of (request_of (map (λ word. word.now) words.now)) ≡ false
-        → IsRestartRule (L.pre rules.luby) (L.post rules.luby) }
-    requires steady { steady_of (request_of (map (λ word. word.now) words.now)) ≡ true
-        → IsRestartRule (G.pre rules.steady) (G.post rules.steady) }
-    requires keep { IsKeepRule (K.pre rules.keep) (K.post rules.keep) }
-    ensures answer { IfOk result (λ answer. Comes (request_of (map (λ word. word.now) words.now))
-        (W.outside world.old) (W.outside world.new)
-        (told D.over D.logs D.faults steps.old) (told D.over D.logs D.faults steps.new) answer) }
-    ensures stops { Stops (request_of (map (λ word. word.now) words.now))
-        (W.outside world.old) (W.outside world.new)
-        (told D.over D.logs D.faults steps.old) (told D.over D.logs D.faults steps.new) }
-    ensures cause { result ≡ Err SearchError.SinkFailed
-        → HasHandFault (cert_of (request_of (map (λ word. word.now) words.now)))
-        (W.outside world.old) (W.outside world.new)
-        (told D.over D.logs D.faults steps.old) (told D.over D.logs D.faults steps.new) }
-    ensures bounded { (W.outside world.new).given
-        ≤ (W.outside world.old).given + most_given (request_of (map (λ word. word.now) words.now)) }
-    ensures no_fall { D.faults steps.old ≤ D.faults steps.new }
-    ensures same_references { D.references steps.new ≡ D.references steps.old }
+    requires rules { AreJobRules (steady_of (asked_by words.now))
+        (L.pre rules.luby) (L.post rules.luby) (G.pre rules.steady) (G.post rules.steady)
+        (K.pre rules.keep) (K.post rules.keep) }
+    ensures answer { IfOk result (λ answer. Comes (asked_by words.now)
+        (W.outside world.old) (W.outside world.new) (D.told steps.old) (D.told steps.new) answer) }
+    ensures stops { Stops (asked_by words.now)
+        (W.outside world.old) (W.outside world.new) (D.told steps.old) (D.told steps.new) }
+    ensures cause { result ≡ Err SearchError.SinkFailed → HasHandFault (cert_of (asked_by words.now))
+        (W.outside world.old) (W.outside world.new) (D.told steps.old) (D.told steps.new) }
+    ensures bounded { GivesAtMost (most_given (asked_by words.now))
+        (W.outside world.old) (W.outside world.new) }
+    ensures outlasts { Outlasts (D.told steps.old) (D.told steps.new) }
 {
     match read_request(alloc, words)? {
         Request::Refused => Ok(Answer::BadWords),
-        Request::Sample(additions) => sample_answer(alloc, world, additions, steps, rules),
-        Request::Wanted(job) => job_answer(alloc, world, &job, steps, rules),
+        Request::Sample(additions) => {
+            let rules = JobRules {
+                rules,
+                steady: false,
+            };
+            sample_answer(alloc, world, additions, steps, rules)
+        }
+        Request::Wanted(job) => {
+            let rules = JobRules {
+                rules,
+                steady: job.steady,
+            };
+            job_answer(alloc, world, &job, steps, rules)
+        }
     }
 }
 
@@ -283,58 +253,28 @@ where
     L: Fn(u64) -> u64 + Drop,
     G: Fn(u64) -> u64 + Drop,
     K: Fn(u64, u64) -> bool + Drop,
-    requires luby { steady_of (request_of (map (λ word. word.now) words.now)) ≡ false
-        → IsRestartRule (L.pre rules.luby) (L.post rules.luby) }
-    requires steady { steady_of (request_of (map (λ word. word.now) words.now)) ≡ true
-        → IsRestartRule (G.pre rules.steady) (G.post rules.steady) }
-    requires keep { IsKeepRule (K.pre rules.keep) (K.post rules.keep) }
+    requires rules { AreJobRules (steady_of (asked_by words.now))
+        (L.pre rules.luby) (L.post rules.luby) (G.pre rules.steady) (G.post rules.steady)
+        (K.pre rules.keep) (K.post rules.keep) }
 
     // What the status says of the call: which answer its words and files come to, what was handed
     // to the sink and written for it, and that its text was printed.
     ensures says { Says (call words.now (W.outside world.old) (W.outside world.new)
-        (told D.over D.logs D.faults steps.old) (told D.over D.logs D.faults steps.new)) result }
+        (D.told steps.old) (D.told steps.new)) result }
 
-    // The other way round: with which status the call ends where words and told files have an
-    // answer that is due.
-    ensures where_due { (due : Answer)
-        → IsDue (request_of (map (λ word. word.now) words.now)) (W.outside world.old) due
-        → EndsWith (call words.now (W.outside world.old) (W.outside world.new)
-        (told D.over D.logs D.faults steps.old) (told D.over D.logs D.faults steps.new))
-        (IsEndFor due) result }
-
-    // A search for the least sets of a program that fails comes to an end.
-    ensures where_failing { TellsFailing (request_of (map (λ word. word.now) words.now))
-        (W.outside world.old)
-        → EndsWith (call words.now (W.outside world.old) (W.outside world.new)
-        (told D.over D.logs D.faults steps.old) (told D.over D.logs D.faults steps.new))
-        IsEndOfSearch result }
-
-    // A sample comes to an end: with its least sets, or with that its conflicts are spent.
-    ensures where_sample { (additions : ℕ)
-        → request_of (map (λ word. word.now) words.now) ≡ Request.Sample additions
-        → EndsWith (call words.now (W.outside world.old) (W.outside world.new)
-        (told D.over D.logs D.faults steps.old) (told D.over D.logs D.faults steps.new))
-        IsEndOfSample result }
-
-    // A check comes to an end, by what the world tells of its certificate. Which it is of accepted and
-    // refused, and where, `says` tells: over the formula that was handed to the sink.
-    ensures where_checking { (name : Word) (file : Option (List ℕ))
-        → TellsCheck (request_of (map (λ word. word.now) words.now)) (W.outside world.old) name
-        → (W.outside world.old).held name ≡ Some file
-        → EndsWith (call words.now (W.outside world.old) (W.outside world.new)
-        (told D.over D.logs D.faults steps.old) (told D.over D.logs D.faults steps.new))
-        (IsEndOfCheck file) result }
+    // The other way round: with which status the call ends, by its words and its told files.
+    ensures where_told { EndsWhere (call words.now (W.outside world.old) (W.outside world.new)
+        (D.told steps.old) (D.told steps.new)) result }
 
     // No file is written but the certificate of a search, and the files that are read give together no
     // more bytes than the limit of each and one piece each.
-    ensures stays { WritesOnly (cert_of (request_of (map (λ word. word.now) words.now)))
+    ensures stays { WritesOnly (cert_of (asked_by words.now))
         (W.outside world.old) (W.outside world.new) }
-    ensures bounded { (W.outside world.new).given
-        ≤ (W.outside world.old).given + most_given (request_of (map (λ word. word.now) words.now)) }
+    ensures bounded { GivesAtMost (most_given (asked_by words.now))
+        (W.outside world.old) (W.outside world.new) }
 
     // The sink writes where it wrote, and its count of faults does not fall.
-    ensures sink_stays { D.references steps.new ≡ D.references steps.old }
-    ensures faults_stay { D.faults steps.old ≤ D.faults steps.new }
+    ensures outlasts { Outlasts (D.told steps.old) (D.told steps.new) }
 {
     match answer(alloc, words, world, steps, rules) {
         Ok(answer) => finish(alloc, world, &answer),

@@ -12,10 +12,10 @@ use Rattle.ba_code.specs.declared.nodes.Node.{Node}
 use Rattle.ba_code.specs.declared.nodes.Node as node
 use Rattle.ba_code.specs.declared.nodes.Operand.{Operand}
 use Rattle.ba_code.specs.declared.nodes.Take.{Take}
-use Rattle.ba_unroll.proofs.Adding.{adds-node, made-runs}
+use Rattle.ba_unroll.proofs.Adding.{adds-alone, adds-node, made-fits, made-runs, made-unrolled}
 use Rattle.ba_unroll.proofs.Forms as forms
 use Rattle.ba_unroll.proofs.Paths.{path_in-none}
-use Rattle.ba_unroll.specs.Unrolling.{Acts, Adds, Stands, all_inside, beyond_act, bounded, if_act, node_act, node_inside, nodes_act}
+use Rattle.ba_unroll.specs.Unrolling.{Acts, Adds, EndsIn, IsBlock, IsIf, IsPick, Stands, all_inside, beyond_act, bounded, if_act, node_act, node_inside, nodes_act}
 use Rattle.ba_numbers.specs.declared.ids.StmtId.{StmtId}
 use Rattle.ba_tree.specs.Acts.{fork, then_do}
 use Rattle.ba_tree.specs.declared.run.Place.{Place}
@@ -49,10 +49,11 @@ module _ (bound : ℕ) (turns : List ℕ) (n : Node) (old : List Node) where
       let both = and_parts (is_take d take) (all_inside keep.items d labels)
       (sym (forms.fits-Pick d n labels place take keep is) ∙ here) in
       forms.fits-Pick d (node.Pick other take made) labels other take made refl
-      ∙ and_from (is_take d take) (all_inside made.items d labels) both.0 (inside.fits d labels both.1 refl))
+      ∙ and_from (is_take d take) (all_inside made.items d labels) both.0
+      (made-fits (nodes_act bound turns keep.items) (all_inside keep.items) made.items inside d labels both.1))
       (forms.unrolled-Pick other take made
       ∙ and_from (list_all is_counted other.path) (list_all is_unrolled made.items) counted
-      (inside.unrolled refl)))
+      (made-unrolled (nodes_act bound turns keep.items) (all_inside keep.items) made.items inside)))
 
   pub adds-If : (when : Operand) (a b a' b' : Vec Node) → n ≡ node.If when a b
       → Adds (nodes_act bound turns a.items) (all_inside a.items) [] a'.items
@@ -72,11 +73,13 @@ module _ (bound : ℕ) (turns : List ℕ) (n : Node) (old : List Node) where
       let more = and_parts (is_operand d when) (all_inside a.items d labels) both.0 in
       forms.fits-If d (node.If when a' b') labels when a' b' refl
       ∙ and_from (is_operand d when && all_inside a'.items d labels) (all_inside b'.items d labels)
-      (and_from (is_operand d when) (all_inside a'.items d labels) more.0 (first.fits d labels more.1 refl))
-      (second.fits d labels both.1 refl))
+      (and_from (is_operand d when) (all_inside a'.items d labels) more.0
+      (made-fits (nodes_act bound turns a.items) (all_inside a.items) a'.items first d labels more.1))
+      (made-fits (nodes_act bound turns b.items) (all_inside b.items) b'.items second d labels both.1))
       (forms.unrolled-If when a' b'
-      ∙ and_from (list_all is_unrolled a'.items) (list_all is_unrolled b'.items) (first.unrolled refl)
-      (second.unrolled refl)))
+      ∙ and_from (list_all is_unrolled a'.items) (list_all is_unrolled b'.items)
+      (made-unrolled (nodes_act bound turns a.items) (all_inside a.items) a'.items first)
+      (made-unrolled (nodes_act bound turns b.items) (all_inside b.items) b'.items second)))
 
   pub adds-Block : (label : ℕ) (body made : Vec Node) → n ≡ node.Block label body
       → Adds (nodes_act bound turns body.items) (all_inside body.items) [] made.items
@@ -88,18 +91,56 @@ module _ (bound : ℕ) (turns : List ℕ) (n : Node) (old : List Node) where
       (made-runs (nodes_act bound turns body.items) (all_inside body.items) made.items inside g)
       ∙ sym (run-Block (bounded bound g) n turns s label body is))
       (λ d labels here. forms.fits-Block d (node.Block label made) labels label made refl
-      ∙ inside.fits d (label ∷ labels) (sym (forms.fits-Block d n labels label body is) ∙ here) refl)
-      (forms.unrolled-Block label made ∙ inside.unrolled refl))
+      ∙ made-fits (nodes_act bound turns body.items) (all_inside body.items) made.items inside d (label ∷ labels)
+      (sym (forms.fits-Block d n labels label body is) ∙ here))
+      (forms.unrolled-Block label made
+      ∙ made-unrolled (nodes_act bound turns body.items) (all_inside body.items) made.items inside))
+
+-- made of the nodes that stand last
+module _ (bound : ℕ) (turns : List ℕ) (n : Node) (old new : List Node) where
+  abbrev AddsIt : Type 0
+  AddsIt = Adds (node_act bound turns n) (node_inside n) old new
+
+  ending : {m : Node} {kind : Node → Type 0} → (ends : EndsIn old kind new) → ends.last ≡ m
+      → new ≡ old ++ m ∷ []
+  ending ends is = ends.is ∙ ap (λ (m : Node). old ++ m ∷ []) is
+
+  pub pick-made : (place : Place) (take : Take) (keep : Vec Node) (mid : List Node)
+      → n ≡ node.Pick place take keep
+      → (row : Adds (nodes_act bound turns keep.items) (all_inside keep.items) old mid)
+      → EndsIn old (IsPick turns place take row.made) new → AddsIt
+  pick-made place take keep mid is row ends =
+      let of = ends.of_kind in
+      adds-Pick bound turns n old place of.at take keep of.nodes is of.path of.stmt of.counted
+      (adds-alone of.nodes.items row of.inside) new (ending ends of.is)
+
+  pub if-made : (when : Operand) (a b : Vec Node) (mid last : List Node) → n ≡ node.If when a b
+      → (first : Adds (nodes_act bound turns a.items) (all_inside a.items) old mid)
+      → (second : Adds (nodes_act bound turns b.items) (all_inside b.items) mid last)
+      → EndsIn old (IsIf when first.made second.made) new → AddsIt
+  if-made when a b mid last is first second ends =
+      let of = ends.of_kind in
+      adds-If bound turns n old when a b of.one of.other is (adds-alone of.one.items first of.inside_one)
+      (adds-alone of.other.items second of.inside_other) new (ending ends of.is)
+
+  pub block-made : (label : ℕ) (body : Vec Node) (mid : List Node) → n ≡ node.Block label body
+      → (row : Adds (nodes_act bound turns body.items) (all_inside body.items) old mid)
+      → EndsIn old (IsBlock label row.made) new → AddsIt
+  block-made label body mid is row ends =
+      let of = ends.of_kind in
+      adds-Block bound turns n old label body of.nodes is (adds-alone of.nodes.items row of.inside) new
+      (ending ends of.is)
 
 -- the end of a loop, and a branch on its condition
 
-pub made-beyond : (stmt : StmtId) (stands : Stands) → Adds (beyond_act stmt) stands [] (node.Beyond stmt ∷ [])
-made-beyond stmt stands = adds-node (beyond_act stmt) stands [] (node.Beyond stmt)
+pub adds-beyond : (stmt : StmtId) (stands : Stands) (old : List Node)
+    → Adds (beyond_act stmt) stands old (old ++ node.Beyond stmt ∷ [])
+adds-beyond stmt stands old = adds-node (beyond_act stmt) stands old (node.Beyond stmt)
     (λ g s. run-Beyond g (node.Beyond stmt) [] s stmt refl)
     (λ d labels here. forms.fits-Beyond d (node.Beyond stmt) labels stmt refl)
     (forms.unrolled-Beyond stmt)
 
-pub adds-branch : (when : Operand) (act : Acts) (stands : Stands) (old : List Node) (rest none : Vec Node)
+adds-branch : (when : Operand) (act : Acts) (stands : Stands) (old : List Node) (rest none : Vec Node)
     → ((d : Declared) (labels : List ℕ) → stands d labels ≡ true → is_operand d when ≡ true) → none.items ≡ []
     → Adds act stands [] rest.items → Adds (if_act when act) stands old (old ++ node.If when rest none ∷ [])
 adds-branch when act stands old rest none read empty made =
@@ -112,8 +153,21 @@ adds-branch when act stands old rest none read empty made =
     (λ d labels here. forms.fits-If d (node.If when rest none) labels when rest none refl
     ∙ and_from (is_operand d when && all_inside rest.items d labels) (all_inside none.items d labels)
     (and_from (is_operand d when) (all_inside rest.items d labels) (read d labels here)
-    (made.fits d labels here refl))
+    (made-fits act stands rest.items made d labels here))
     (ap (λ (ns : List Node). all_inside ns d labels) empty))
     (forms.unrolled-If when rest none
-    ∙ and_from (list_all is_unrolled rest.items) (list_all is_unrolled none.items) (made.unrolled refl)
+    ∙ and_from (list_all is_unrolled rest.items) (list_all is_unrolled none.items)
+    (made-unrolled act stands rest.items made)
     (ap (list_all is_unrolled) empty))
+
+-- a branch made of the nodes that stand last
+pub branch-made : (when : Operand) (act : Acts) (stands : Stands) (old mid behind new : List Node)
+    → ((d : Declared) (labels : List ℕ) → stands d labels ≡ true → is_operand d when ≡ true)
+    → (rest : Adds act stands old mid) → EndsIn behind (IsIf when rest.made []) new
+    → Adds (if_act when act) stands behind new
+branch-made when act stands old mid behind new read rest ends =
+    let of = ends.of_kind in
+    subst (λ (new : List Node). Adds (if_act when act) stands behind new)
+    (sym (ends.is ∙ ap (λ (m : Node). behind ++ m ∷ []) of.is))
+    (adds-branch when act stands behind of.one of.other read of.inside_other
+    (adds-alone of.one.items rest of.inside_one))

@@ -9,10 +9,10 @@ use Rattle.ba_code.specs.State.{CodeExecution, CodeState, operand_value}
 use Rattle.ba_code.specs.declared.nodes.Node.{Node}
 use Rattle.ba_code.specs.declared.nodes.Node as node
 use Rattle.ba_code.specs.declared.nodes.Operand.{Operand}
-use Rattle.ba_unroll.proofs.Adding.{adds-made, adds-same, adds-then, adds-where, then-then}
-use Rattle.ba_unroll.proofs.Branches.{adds-branch}
+use Rattle.ba_unroll.proofs.Adding.{adds-behind, adds-same, adds-then, adds-where, then-then}
+use Rattle.ba_unroll.proofs.Branches.{branch-made}
 use Rattle.ba_unroll.proofs.Forms as forms
-use Rattle.ba_unroll.specs.Unrolling.{Acts, Adds, all_inside, and_then, bounded, if_act, loop_act, loop_by, loop_inside, node_act, node_inside, nodes_act, then_act, turn_act, turn_of_head, turns_act}
+use Rattle.ba_unroll.specs.Unrolling.{Acts, Adds, EndsIn, IsIf, all_inside, and_then, bounded, if_act, loop_act, loop_by, loop_inside, node_act, node_inside, nodes_act, then_act, turn_act, turn_of_head, turns_act}
 use Rattle.ba_unroll.specs.declared.turns.Parts.{Parts}
 use Rattle.ba_numbers.specs.declared.ids.StmtId.{StmtId}
 use Rattle.ba_tree.specs.Acts.{fork, give}
@@ -100,64 +100,66 @@ module _ (bound : ℕ) (turns : List ℕ) (parts : Parts) where
       let first = and_parts (is_operand d parts.when) (all_inside parts.head.now d labels) second.0 in
       (first.0, first.1, second.1, third.1)
 
-  pub made-turn : (turn : ℕ) (left : Acts) (rest none : Vec Node) (body step head : List Node)
-      → Adds (nodes_act bound (turn ∷ turns) parts.body.now) (all_inside parts.body.now) [] body
+  abbrev row_act : ℕ → Acts
+  row_act turn = then_act (then_act (nodes_act bound (turn ∷ turns) parts.body.now)
+      (nodes_act bound (turn ∷ turns) parts.step.now))
+      (nodes_act bound (turn_of_head parts.after turn ∷ turns) parts.head.now)
+
+  -- the body, the step and the head behind them
+  pub turn-row : (turn : ℕ) (old body step head : List Node)
+      → Adds (nodes_act bound (turn ∷ turns) parts.body.now) (all_inside parts.body.now) old body
       → Adds (nodes_act bound (turn ∷ turns) parts.step.now) (all_inside parts.step.now) body step
       → Adds (nodes_act bound (turn_of_head parts.after turn ∷ turns) parts.head.now)
       (all_inside parts.head.now) step head
-      → none.items ≡ [] → Adds left (loop_inside parts) [] rest.items
-      → (new : List Node) → new ≡ head ++ node.If parts.when rest none ∷ []
-      → Adds (turn_act bound turns parts turn left) (loop_inside parts) [] new
-  made-turn turn left rest none body step head a b c empty made new put =
+      → Adds (row_act turn) (loop_inside parts) old head
+  turn-row turn old body step head a b c =
       let bodies = nodes_act bound (turn ∷ turns) parts.body.now in
       let steps = nodes_act bound (turn ∷ turns) parts.step.now in
       let heads = nodes_act bound (turn_of_head parts.after turn ∷ turns) parts.head.now in
-      subst (λ (new : List Node). Adds (turn_act bound turns parts turn left) (loop_inside parts) [] new)
-      (sym put)
-      (adds-then (then_act (then_act bodies steps) heads) (if_act parts.when left) (loop_inside parts) [] head
-      (head ++ node.If parts.when rest none ∷ [])
-      (adds-then (then_act bodies steps) heads (loop_inside parts) [] step head
-      (adds-then bodies steps (loop_inside parts) [] body step
-      (adds-where bodies (all_inside parts.body.now) (loop_inside parts) [] body
+      adds-then (then_act bodies steps) heads (loop_inside parts) old step head
+      (adds-then bodies steps (loop_inside parts) old body step
+      (adds-where bodies (all_inside parts.body.now) (loop_inside parts) old body
       (λ d labels here. (inside-parts d labels here).2) a)
       (adds-where steps (all_inside parts.step.now) (loop_inside parts) body step
       (λ d labels here. (inside-parts d labels here).3) b))
       (adds-where heads (all_inside parts.head.now) (loop_inside parts) step head
-      (λ d labels here. (inside-parts d labels here).1) c))
-      (adds-branch parts.when left (loop_inside parts) head rest none
-      (λ d labels here. (inside-parts d labels here).0) empty made))
+      (λ d labels here. (inside-parts d labels here).1) c)
+
+  pub turn-made : (turn : ℕ) (left : Acts) (old rest head new : List Node)
+      → (made : Adds left (loop_inside parts) old rest)
+      → (row : Adds (row_act turn) (loop_inside parts) rest head)
+      → EndsIn (old ++ row.made) (IsIf parts.when made.made []) new
+      → Adds (turn_act bound turns parts turn left) (loop_inside parts) old new
+  turn-made turn left old rest head new made row ends =
+      adds-then (row_act turn) (if_act parts.when left) (loop_inside parts) old (old ++ row.made) new
+      (adds-behind old row)
+      (branch-made parts.when left (loop_inside parts) old rest (old ++ row.made) new
+      (λ d labels here. (inside-parts d labels here).0) made ends)
 
   -- a loop with its head first
-  pub adds-head-loop : (old mid : List Node) (rest none : Vec Node) → parts.after ≡ false
-      → Adds (turns_act bound turns parts bound 1) (loop_inside parts) [] rest.items
+  pub adds-head-loop : (old mid last new : List Node) → parts.after ≡ false
       → Adds (nodes_act bound (1 ∷ turns) parts.head.now) (all_inside parts.head.now) old mid
-      → none.items ≡ []
-      → (new : List Node) → new ≡ mid ++ node.If parts.when rest none ∷ []
+      → (rest : Adds (turns_act bound turns parts bound 1) (loop_inside parts) mid last)
+      → EndsIn mid (IsIf parts.when rest.made []) new
       → Adds (loop_act bound turns parts) (loop_inside parts) old new
-  adds-head-loop old mid rest none is made first empty new put =
+  adds-head-loop old mid last new is first rest ends =
       let heads = nodes_act bound (1 ∷ turns) parts.head.now in
       let left = turns_act bound turns parts bound 1 in
-      subst (λ (new : List Node). Adds (loop_act bound turns parts) (loop_inside parts) old new) (sym put)
-      (adds-same (then_act heads (if_act parts.when left)) (loop_act bound turns parts)
-      (loop_inside parts) old
-      (mid ++ node.If parts.when rest none ∷ []) (λ g. head-loop bound turns parts g is)
-      (adds-then heads (if_act parts.when left) (loop_inside parts) old mid
-      (mid ++ node.If parts.when rest none ∷ [])
+      adds-same (then_act heads (if_act parts.when left)) (loop_act bound turns parts)
+      (loop_inside parts) old new (λ g. head-loop bound turns parts g is)
+      (adds-then heads (if_act parts.when left) (loop_inside parts) old mid new
       (adds-where heads (all_inside parts.head.now) (loop_inside parts) old mid
       (λ d labels here. (inside-parts d labels here).1) first)
-      (adds-branch parts.when left (loop_inside parts) mid rest none
-      (λ d labels here. (inside-parts d labels here).0) empty made)))
+      (branch-made parts.when left (loop_inside parts) mid last mid new
+      (λ d labels here. (inside-parts d labels here).0) rest ends))
 
   -- one with its head behind each turn
-  pub adds-tail-loop : (old rest : List Node) → parts.after ≡ true
-      → Adds (turns_act bound turns parts bound 1) (loop_inside parts) [] rest
-      → (new : List Node) → new ≡ old ++ rest → Adds (loop_act bound turns parts) (loop_inside parts) old new
-  adds-tail-loop old rest is made new put =
-      subst (λ (new : List Node). Adds (loop_act bound turns parts) (loop_inside parts) old new) (sym put)
-      (adds-same (turns_act bound turns parts bound 1) (loop_act bound turns parts) (loop_inside parts) old
-      (old ++ rest)
-      (λ g. tail-loop bound turns parts g is)
-      (adds-made (turns_act bound turns parts bound 1) (loop_inside parts) old rest made))
+  pub adds-tail-loop : (old new : List Node) → parts.after ≡ true
+      → Adds (turns_act bound turns parts bound 1) (loop_inside parts) old new
+      → Adds (loop_act bound turns parts) (loop_inside parts) old new
+  adds-tail-loop old new is made =
+      adds-same (turns_act bound turns parts bound 1) (loop_act bound turns parts) (loop_inside parts) old new
+      (λ g. tail-loop bound turns parts g is) made
 
   -- the turns that are left, one more
   pub more-turns : (left n : ℕ) → left < n

@@ -1,7 +1,8 @@
 -- Nodes one after the other.
-use Rattle.std.proofs.Common.{◌≡◌, ℕ, ◌+◌, ◌<◌, ◌≤◌, true, List, [], ◌∷◌, ◌++◌, length, take, get_or, sym, ◌∙◌, ap, subst}
+use Rattle.std.proofs.Common.{◌≡◌, ℕ, ◌+◌, ◌<◌, ◌≤◌, true, List, [], ◌∷◌, ◌++◌, length, take, get_or, vec_len, sym, ◌∙◌, ap, subst, arith}
 use Rattle.std.proofs.lemmas.Bool.{and_parts}
 use Rattle.std.proofs.lemmas.List.{take_more, take_all}
+use Rattle.std.specs.Global.{Vec}
 use Rattle.ba_code.proofs.Rows.{run-append, run-none, run-one}
 use Rattle.ba_code.specs.Facts.{fits_inside}
 use Rattle.ba_code.specs.Meaning.{Setting}
@@ -55,13 +56,12 @@ module _ (bound : ℕ) (turns : List ℕ) where
       → AddsAll ns old new
   row-all ns i old new past row = subst (λ (ns : List Node). AddsAll ns old new) (take_all i ns past) row
 
--- the same row by other names, put behind nothing
-pub row-made : (bound : ℕ) (turns : List ℕ) (ns ms old new : List Node) → ns ≡ ms → old ≡ []
+-- of the same nodes
+pub row-of : (bound : ℕ) (turns : List ℕ) (ns ms old new : List Node) → ns ≡ ms
     → Adds (nodes_act bound turns ns) (all_inside ns) old new
-    → Adds (nodes_act bound turns ms) (all_inside ms) [] new
-row-made bound turns ns ms old new same empty row =
-    subst (λ (old : List Node). Adds (nodes_act bound turns ms) (all_inside ms) old new) empty
-    (subst (λ (ns : List Node). Adds (nodes_act bound turns ns) (all_inside ns) old new) same row)
+    → Adds (nodes_act bound turns ms) (all_inside ms) old new
+row-of bound turns ns ms old new same row =
+    subst (λ (ns : List Node). Adds (nodes_act bound turns ns) (all_inside ns) old new) same row
 
 -- in the same turns
 pub row-in : (bound : ℕ) (ts us : List ℕ) (ns old new : List Node) → ts ≡ us
@@ -69,3 +69,7 @@ pub row-in : (bound : ℕ) (ts us : List ℕ) (ns old new : List Node) → ts �
     → Adds (nodes_act bound us ns) (all_inside ns) old new
 row-in bound ts us ns old new same row =
     subst (λ (turns : List ℕ). Adds (nodes_act bound turns ns) (all_inside ns) old new) same row
+
+-- how long a list of nodes is
+pub nodes-len : (nodes : Vec Node) → vec_len nodes ≡ length nodes.items
+nodes-len nodes = omega (arith, nodes.ok.0)

@@ -1,5 +1,5 @@
 -- Whole trees.
-use Rattle.std.proofs.Common.{◌≡◌, ℕ, Bool, true, ◌&&◌, List, [], refl, sym, ◌∙◌, ap, subst}
+use Rattle.std.proofs.Common.{◌≡◌, ℕ, Bool, true, ◌&&◌, List, [], sym, ◌∙◌, ap, subst}
 use Rattle.std.proofs.lemmas.Bool.{and_from, and_parts}
 use Rattle.std.proofs.lemmas.List.Folds.{list_all-map}
 use Rattle.std.specs.List.{list_all}
@@ -13,8 +13,8 @@ use Rattle.ba_code.specs.declared.nodes.ArrayInfo.{ArrayInfo}
 use Rattle.ba_code.specs.declared.nodes.Node.{Node}
 use Rattle.ba_code.specs.declared.nodes.Param.{Param}
 use Rattle.ba_code.specs.declared.trees.Code.{Code}
-use Rattle.ba_unroll.proofs.Adding.{made-runs}
-use Rattle.ba_unroll.proofs.Rows.{row-made}
+use Rattle.ba_unroll.proofs.Adding.{made-fits, made-runs, made-unrolled}
+use Rattle.ba_unroll.proofs.Rows.{row-of}
 use Rattle.ba_unroll.specs.Unrolling.{Adds, all_inside, nodes_act}
 use Rattle.ba_numbers.specs.declared.ids.StmtId.{StmtId}
 use Rattle.ba_tree.specs.declared.run.Input.{Input}
@@ -26,7 +26,8 @@ pub body-made : (turns : ℕ) (ns body old new made : List Node) → ns ≡ body
     → Adds (nodes_act turns [] body) (all_inside body) [] made
 body-made turns ns body old new made same empty put row =
     subst (λ (made : List Node). Adds (nodes_act turns [] body) (all_inside body) [] made) (sym put)
-    (row-made turns [] ns body old new same empty row)
+    (subst (λ (old : List Node). Adds (nodes_act turns [] body) (all_inside body) old new) empty
+    (row-of turns [] ns body old new same row))
 
 module _ (vars turns : ℕ) (arrays new_arrays : List ArrayInfo) (params new_params : List Param)
     (body new_body : List Node) where
@@ -50,7 +51,8 @@ module _ (vars turns : ℕ) (arrays new_arrays : List ArrayInfo) (params new_par
       let both = and_parts (list_all is_array_info arrays && list_all (is_param d) params)
       (list_all (λ node. fits_inside d node []) body) fit in
       let inside : list_all (λ node. fits_inside d node []) new_body ≡ true =
-      sym (all-inside d new_body) ∙ made.fits d [] (all-inside d body ∙ both.1) refl in
+      sym (all-inside d new_body)
+      ∙ made-fits (nodes_act turns [] body) (all_inside body) new_body made d [] (all-inside d body ∙ both.1) in
       and_from (is_loop_tree new_code) (list_all is_unrolled new_body)
       (ap (λ (arrays : List ArrayInfo). is_loop_tree
       (record { vars = vars; arrays = arrays; params = new_params; body = new_body })) same_arrays
@@ -58,7 +60,7 @@ module _ (vars turns : ℕ) (arrays new_arrays : List ArrayInfo) (params new_par
       (record { vars = vars; arrays = arrays; params = params; body = new_body })) same_params
       ∙ and_from (list_all is_array_info arrays && list_all (is_param d) params)
       (list_all (λ node. fits_inside d node []) new_body) both.0 inside)
-      (made.unrolled refl)
+      (made-unrolled (nodes_act turns [] body) (all_inside body) new_body made)
 
   -- and its outcomes
   pub same-outcomes : new_arrays ≡ arrays → new_params ≡ params

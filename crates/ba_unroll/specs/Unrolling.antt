@@ -1,16 +1,20 @@
 -- What the parts of an unrolled tree do.
 
-use Rattle.std.specs.Prelude.{◌≡◌, ℕ, ◌+◌, zero, suc, Bool, true, false, ◌&&◌, List, [], ◌∷◌, map}
+use Rattle.std.specs.Prelude.{◌≡◌, ℕ, ◌+◌, zero, suc, Bool, true, false, ◌&&◌, List, [], ◌∷◌, ◌++◌, map, reverse}
+use Rattle.std.specs.Global.{Vec}
 use Rattle.std.specs.List.{list_all}
-use Rattle.ba_code.specs.Facts.{Declared, Inside, are_inside, fits_inside, is_operand, is_unrolled}
-use Rattle.ba_code.specs.Meaning.{Setting, body_and_step, head_loop, past_bound, run_node, run_nodes, tail_loop}
+use Rattle.ba_code.specs.Facts.{Declared, Inside, are_inside, fits_inside, is_counted, is_operand, is_unrolled}
+use Rattle.ba_code.specs.Meaning.{Setting, body_and_step, head_loop, past_bound, path_in, run_node, run_nodes, tail_loop}
 use Rattle.ba_code.specs.State.{CodeExecution, operand_value}
 use Rattle.ba_code.specs.declared.nodes.Node.{Node}
+use Rattle.ba_code.specs.declared.nodes.Node as node
 use Rattle.ba_code.specs.declared.nodes.Operand.{Operand}
+use Rattle.ba_code.specs.declared.nodes.Take.{Take}
 use Rattle.ba_unroll.specs.declared.turns.Parts.{Parts}
 use Rattle.ba_numbers.specs.declared.ids.StmtId.{StmtId}
 use Rattle.ba_tree.specs.Acts.{after_part, fork, give, then_do}
 use Rattle.ba_tree.specs.declared.run.Flow.TheVariants.{Next}
+use Rattle.ba_tree.specs.declared.run.Place.{Place}
 
 -- where a part stands: with these declarations, inside blocks of these labels
 abbrev pub Stands : Type 0
@@ -42,10 +46,39 @@ and_then first second s = then_do (first s) (after_part second)
 
 -- Nodes without loops are put behind others. They do what the part does, and fit where it stands.
 pub record Adds (act : Acts) (stands : Stands) (old new : List Node) : Type 0 where
-  pub runs : (g : Setting) → run_nodes g new [] ≡ and_then (run_nodes g old []) (act g)
-  pub fits : (d : Declared) (labels : List ℕ) → stands d labels ≡ true → all_inside old d labels ≡ true
-      → all_inside new d labels ≡ true
-  pub unrolled : list_all is_unrolled old ≡ true → list_all is_unrolled new ≡ true
+  pub made : List Node
+  pub is : new ≡ old ++ made
+  pub runs : (g : Setting) → run_nodes g made [] ≡ act g
+  pub fits : (d : Declared) (labels : List ℕ) → stands d labels ≡ true → all_inside made d labels ≡ true
+  pub unrolled : list_all is_unrolled made ≡ true
+
+-- behind these nodes stands one of this kind
+pub record EndsIn (old : List Node) (kind : Node → Type 0) (new : List Node) : Type 0 where
+  pub last : Node
+  pub is : new ≡ old ++ last ∷ []
+  pub of_kind : kind last
+
+-- nodes with these nodes inside
+pub record IsPick (turns : List ℕ) (place : Place) (take : Take) (keep : List Node) (n : Node) : Type 0 where
+  pub at : Place
+  pub nodes : Vec Node
+  pub is : n ≡ node.Pick at take nodes
+  pub path : at.path ≡ reverse (path_in turns place.path)
+  pub stmt : at.stmt ≡ place.stmt
+  pub counted : list_all is_counted at.path ≡ true
+  pub inside : nodes.items ≡ keep
+
+pub record IsIf (when : Operand) (yes no : List Node) (n : Node) : Type 0 where
+  pub one : Vec Node
+  pub other : Vec Node
+  pub is : n ≡ node.If when one other
+  pub inside_one : one.items ≡ yes
+  pub inside_other : other.items ≡ no
+
+pub record IsBlock (label : ℕ) (body : List Node) (n : Node) : Type 0 where
+  pub nodes : Vec Node
+  pub is : n ≡ node.Block label nodes
+  pub inside : nodes.items ≡ body
 
 abbrev pub then_act : Acts → Acts → Acts
 then_act first second g = and_then (first g) (second g)

@@ -1,10 +1,11 @@
 //! Nodes whose loops become turns.
 
-ghost use Rattle.std.specs.Prelude.{◌≡◌, ◌++◌, ◌∷◌, ℕ, OnOk, IfOk, List, []};
+ghost use Rattle.std.specs.Prelude.{◌≡◌, ◌++◌, ◌∷◌, ℕ, OnOk, IfOk, List, [], length};
 ghost use Rattle.ba_code.specs.Meaning.{Setting};
 ghost use Rattle.ba_code.specs.State.{CodeExecution};
 ghost use Rattle.ba_code.specs.declared.nodes.Node as node;
-ghost use Rattle.ba_unroll.specs.Unrolling.{Adds, all_inside, loop_act, loop_inside, node_act, nodes_act, node_inside, turn_act, turns_act};
+ghost use Rattle.ba_code.specs.declared.nodes.Node.{Node};
+ghost use Rattle.ba_unroll.specs.Unrolling.{Adds, EndsIn, IsBlock, IsIf, IsPick, all_inside, loop_act, loop_inside, node_act, nodes_act, node_inside, turn_act, turns_act};
 
 use crate::places::place_in;
 use crate::turns::{Parts, turn_behind, with_turn};
@@ -21,38 +22,93 @@ fn add(out: &mut Vec<Node>, node: Node) -> Result<(), AllocError>
     Ok(())
 }
 
-/// Adds an execution of a statement that may be relaxed.
-#[inline(never)]
-fn add_pick(
-    out: &mut Vec<Node>,
-    place: Place,
-    take: Take,
-    keep: Vec<Node>,
-) -> Result<(), AllocError>
-    ensures { OnOk result (out.new.items ≡ out.old.items ++ node.Pick place take keep ∷ []) }
+/// The nodes from this place on, which are taken off.
+fn taken_off(alloc: Global, out: &mut Vec<Node>, place: usize) -> Result<Vec<Node>, AllocError>
+    ensures { IfOk result (λ nodes. (old made : List Node) → place ≡ length old
+        → out.old.items ≡ old ++ made → (out.new.items ≡ old) × (nodes.items ≡ made)) }
 {
+    if out.len() < place {
+        return Ok(Vec::new(alloc));
+    }
+    out.split_off(place)
+}
+
+/// Makes the nodes from this place on those of an execution of a statement that may be relaxed.
+#[inline(never)]
+fn wrap_pick(
+    alloc: Global,
+    turns: &[u32],
+    out: &mut Vec<Node>,
+    start: usize,
+    place: &Place,
+    take: Take,
+) -> Result<(), AllocError>
+    ensures { OnOk result ((old made : List Node) → start ≡ length old
+        → out.old.items ≡ old ++ made
+        → EndsIn old (λ n. IsPick turns.now place.now take made n) out.new.items) }
+{
+    let keep = taken_off(alloc, out, start)?;
+    let place = place_in(alloc, turns, place)?;
     add(out, Node::Pick { place, take, keep })
 }
 
-/// Adds a branch with these sides.
+/// Makes the nodes from one place on, and from another, the sides of a branch.
 #[inline(never)]
-fn add_if(
+fn wrap_if(
+    alloc: Global,
     out: &mut Vec<Node>,
+    start: usize,
+    middle: usize,
     when: Operand,
-    yes: Vec<Node>,
-    no: Vec<Node>,
 ) -> Result<(), AllocError>
-    ensures { OnOk result (out.new.items ≡ out.old.items ++ node.If when yes no ∷ []) }
+    ensures { OnOk result ((old first second : List Node) → start ≡ length old
+        → middle ≡ length (old ++ first) → out.old.items ≡ (old ++ first) ++ second
+        → EndsIn old (IsIf when first second) out.new.items) }
 {
+    let no = taken_off(alloc, out, middle)?;
+    let yes = taken_off(alloc, out, start)?;
     add(out, Node::If { when, yes, no })
 }
 
-/// Adds a block with this body.
+/// Makes the nodes from this place on the body of a block.
 #[inline(never)]
-fn add_block(out: &mut Vec<Node>, label: u32, body: Vec<Node>) -> Result<(), AllocError>
-    ensures { OnOk result (out.new.items ≡ out.old.items ++ node.Block label body ∷ []) }
+fn wrap_block(
+    alloc: Global,
+    out: &mut Vec<Node>,
+    start: usize,
+    label: u32,
+) -> Result<(), AllocError>
+    ensures { OnOk result ((old made : List Node) → start ≡ length old
+        → out.old.items ≡ old ++ made → EndsIn old (IsBlock label made) out.new.items) }
 {
+    let body = taken_off(alloc, out, start)?;
     add(out, Node::Block { label, body })
+}
+
+/// Puts the nodes from one place on, up to another, into a branch behind those from there on.
+#[inline(never)]
+fn wrap_rest(
+    alloc: Global,
+    out: &mut Vec<Node>,
+    start: usize,
+    middle: usize,
+    when: Operand,
+) -> Result<(), AllocError>
+    ensures { OnOk result ((old rest made : List Node) → start ≡ length old
+        → middle ≡ length (old ++ rest) → out.old.items ≡ (old ++ rest) ++ made
+        → EndsIn (old ++ made) (IsIf when rest []) out.new.items) }
+{
+    let mut made = taken_off(alloc, out, middle)?;
+    let yes = taken_off(alloc, out, start)?;
+    out.append(&mut made)?;
+    add(
+        out,
+        Node::If {
+            when,
+            yes,
+            no: Vec::new(alloc),
+        },
+    )
 }
 
 /// Adds the end of a run that needs one more turn of the loop of this statement.
@@ -178,24 +234,21 @@ fn add_node(
     ensures { OnOk result (Adds (node_act bound turns.now node.now) (node_inside node.now)
         out.old.items out.new.items) }
 {
+    let start = out.len();
     match node {
         Node::Pick { place, take, keep } => {
-            let place = place_in(alloc, turns, place)?;
-            let mut made = Vec::new(alloc);
-            add_nodes(alloc, bound, turns, keep.as_slice(), &mut made)?;
-            add_pick(out, place, *take, made)
+            add_nodes(alloc, bound, turns, keep.as_slice(), out)?;
+            wrap_pick(alloc, turns, out, start, place, *take)
         }
         Node::If { when, yes, no } => {
-            let mut first = Vec::new(alloc);
-            add_nodes(alloc, bound, turns, yes.as_slice(), &mut first)?;
-            let mut second = Vec::new(alloc);
-            add_nodes(alloc, bound, turns, no.as_slice(), &mut second)?;
-            add_if(out, *when, first, second)
+            add_nodes(alloc, bound, turns, yes.as_slice(), out)?;
+            let middle = out.len();
+            add_nodes(alloc, bound, turns, no.as_slice(), out)?;
+            wrap_if(alloc, out, start, middle, *when)
         }
         Node::Block { label, body } => {
-            let mut made = Vec::new(alloc);
-            add_nodes(alloc, bound, turns, body.as_slice(), &mut made)?;
-            add_block(out, *label, made)
+            add_nodes(alloc, bound, turns, body.as_slice(), out)?;
+            wrap_block(alloc, out, start, *label)
         }
         Node::Loop {
             after,
@@ -246,52 +299,57 @@ pub fn add_nodes(
     Ok(())
 }
 
-/// A turn of this number, the head behind it, and what is left of the loop where the condition is true then.
+/// Puts a turn of this number and the head behind it before the nodes from this place on, which are what is left of the loop where the
+/// condition is true then.
 #[cycle(unroll)]
-fn turn_before(
+#[inline(never)]
+fn add_turn(
     alloc: Global,
     bound: u32,
     turns: &[u32],
     parts: &Parts,
     turn: u32,
-    rest: Vec<Node>,
-) -> Result<Vec<Node>, AllocError>
-    ensures { IfOk result (λ made. (left : Setting → CodeExecution)
-        → Adds left (loop_inside parts.now) [] rest.items
+    start: usize,
+    out: &mut Vec<Node>,
+) -> Result<(), AllocError>
+    ensures { OnOk result ((left : Setting → CodeExecution) (old : List Node) → start ≡ length old
+        → Adds left (loop_inside parts.now) old out.old.items
         → Adds (turn_act bound turns.now parts.now turn left) (loop_inside parts.now)
-        [] made.items) }
+        old out.new.items) }
 {
     let inner = with_turn(alloc, turn, turns)?;
     let behind = with_turn(alloc, turn_behind(parts.after, turn)?, turns)?;
-    let mut made = Vec::new(alloc);
-    add_nodes(alloc, bound, inner.as_slice(), parts.body, &mut made)?;
-    add_nodes(alloc, bound, inner.as_slice(), parts.step, &mut made)?;
-    add_nodes(alloc, bound, behind.as_slice(), parts.head, &mut made)?;
-    add_if(&mut made, parts.when, rest, Vec::new(alloc))?;
-    Ok(made)
+    let middle = out.len();
+    add_nodes(alloc, bound, inner.as_slice(), parts.body, out)?;
+    add_nodes(alloc, bound, inner.as_slice(), parts.step, out)?;
+    add_nodes(alloc, bound, behind.as_slice(), parts.head, out)?;
+    wrap_rest(alloc, out, start, middle, parts.when)
 }
 
-/// All turns of a loop, from its first, where as many as the bound come; its end behind the last one where the condition is true then.
+/// Adds all turns of a loop, from its first, where as many as the bound come; its end behind the last one where the condition is true
+/// then.
 #[cycle(unroll)]
-fn all_turns(
+fn add_turns(
     alloc: Global,
     bound: u32,
     turns: &[u32],
     parts: &Parts,
-) -> Result<Vec<Node>, AllocError>
-    ensures { IfOk result (λ made. Adds (turns_act bound turns.now parts.now bound 1)
-        (loop_inside parts.now) [] made.items) }
+    out: &mut Vec<Node>,
+) -> Result<(), AllocError>
+    ensures { OnOk result (Adds (turns_act bound turns.now parts.now bound 1)
+        (loop_inside parts.now) out.old.items out.new.items) }
 {
-    let mut rest = Vec::new(alloc);
-    add_beyond(&mut rest, parts.stmt)?;
+    let start = out.len();
+    add_beyond(out, parts.stmt)?;
     for left in 0..bound {
-        rest = turn_before(alloc, bound, turns, parts, bound - left, rest)?;
+        add_turn(alloc, bound, turns, parts, bound - left, start, out)?;
     }
-    Ok(rest)
+    Ok(())
 }
 
 /// Adds what a loop does: its head and the turns, or the turns alone where no head comes before the first.
 #[cycle(unroll)]
+#[inline(never)]
 fn add_loop(
     alloc: Global,
     bound: u32,
@@ -302,12 +360,13 @@ fn add_loop(
     ensures { OnOk result (Adds (loop_act bound turns.now parts.now) (loop_inside parts.now)
         out.old.items out.new.items) }
 {
-    let mut rest = all_turns(alloc, bound, turns, parts)?;
     if parts.after {
-        out.append(&mut rest)?;
-        return Ok(());
+        return add_turns(alloc, bound, turns, parts, out);
     }
     let first = with_turn(alloc, 1, turns)?;
     add_nodes(alloc, bound, first.as_slice(), parts.head, out)?;
-    add_if(out, parts.when, rest, Vec::new(alloc))
+    let start = out.len();
+    add_turns(alloc, bound, turns, parts, out)?;
+    let end = out.len();
+    wrap_if(alloc, out, start, end, parts.when)
 }

@@ -29,7 +29,8 @@ pub fn make_room(references: &mut Vec<Option<ClauseRef>>, number: u64) -> Result
 
 /// Takes the clauses of the numbers off a list of live clauses.
 fn keep_unnamed(arena: &Arena, list: &mut Vec<ClauseRef>, numbers: &[u64])
-    requires live { (k : ℕ) → k < length list.old.items → IsLive arena.now (get_or list.old.items k 0) }
+    requires live { (k : ℕ) → k < length list.old.items
+        → IsLive arena.now (get_or list.old.items k 0) }
     ensures { list.new.items ≡ unnamed_of arena.now numbers.now list.old.items }
 {
     let mut count = 0;

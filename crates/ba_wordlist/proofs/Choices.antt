@@ -5,9 +5,10 @@ use Rattle.std.specs.List.{list_all}
 use Rattle.ba_choices.specs.declared.Choice.{Choice}
 use Rattle.ba_choices.specs.declared.Choice.TheVariants.{Keep, Take}
 use Rattle.ba_code_laws.specs.Tracing.{Relaxes, everywhere, is_relaxed}
+use Rattle.ba_code_laws.specs.Visits.{Visit, are_kept, chosen, is_keep}
 use Rattle.ba_wordlist.proofs.Values.{SameBelow, of_name, value-same, values-same}
 use Rattle.ba_wordlist.specs.Facts.{are_names, is_name, is_place}
-use Rattle.ba_wordlist.specs.Meaning.{Visit, are_kept, chosen, is_keep, is_nonzero, value_at, visit_of, visits_in}
+use Rattle.ba_wordlist.specs.Meaning.{is_nonzero, value_at, visit_of, visits_in}
 use Rattle.ba_wordlist.specs.declared.words.PlaceWords.{PlaceWords}
 
 pub visits-none : (vs : List (List ℤ)) → visits_in vs [] ≡ []

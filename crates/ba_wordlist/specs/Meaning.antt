@@ -12,7 +12,7 @@ use Rattle.ba_cells.specs.Cells.{place_read}
 use Rattle.ba_choices.specs.declared.Choice.{Choice}
 use Rattle.ba_choices.specs.declared.Choice.TheVariants.{Keep, Take}
 use Rattle.ba_code.specs.Operators.{converting}
-use Rattle.ba_code_laws.specs.Tracing.{Relaxes, is_relaxed}
+use Rattle.ba_code_laws.specs.Visits.{Visit}
 use Rattle.ba_tree.specs.declared.run.Place.{Place}
 use Rattle.ba_wordlist.specs.declared.words.PlaceWords.{PlaceWords}
 use Rattle.ba_wordlist.specs.declared.words.WordList.{WordList}
@@ -81,11 +81,6 @@ values_of f ops = fold (more_values f) [] ops
 
 -- CHOICES
 
--- an execution of a statement that may be relaxed, and the choice that is made there
-pub record Visit : Type 0 where
-  pub place : Place
-  pub choice : Choice
-
 abbrev pub choice_of : List (List ℤ) → PlaceWords → Choice
 choice_of values p = cond (is_nonzero (value_at values p.keep)) Keep (Take (map (value_at values) p.values))
 
@@ -112,19 +107,3 @@ holds f list = are_met (values_of f list.words) list.require
 -- the choices that an assignment spells
 abbrev pub spelled : Assignment → WordList → List Choice
 spelled f list = map (λ (v : Visit). v.choice) (visits_of f list)
-
--- WHERE SOME PLACES MAY NOT BE RELAXED
-
--- the choices at the places that may be relaxed: a run is given these
-unfoldable pub chosen : Relaxes → List Visit → List Choice
-chosen relaxes [] = []
-chosen relaxes (v ∷ vs) = cond (is_relaxed relaxes v.place) (v.choice ∷ chosen relaxes vs) (chosen relaxes vs)
-
-abbrev pub is_keep : Choice → Bool
-is_keep Keep = true
-is_keep (Take values) = false
-
--- the choice is Keep at each place that may not be relaxed
-unfoldable pub are_kept : Relaxes → List Visit → Bool
-are_kept relaxes [] = true
-are_kept relaxes (v ∷ vs) = cond (is_relaxed relaxes v.place) true (is_keep v.choice) && are_kept relaxes vs

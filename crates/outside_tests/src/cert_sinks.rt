@@ -54,7 +54,7 @@ fn write_from<S: Start, W: World, D: StepSink + Drop>(
     requires named { S.name ≡ codes "c" }
     requires headed { S.head ≡ settings }
     requires start { W.outside world.old ≡ S.outside }
-    requires faults { D.faults next.old ≡ S.faults }
+    requires faults { (D.told next.old).faults ≡ S.faults }
 {
     let head = settings();
     begin_text(alloc, world, "c", &head).expect(rt, "two lines");

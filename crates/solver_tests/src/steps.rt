@@ -2,6 +2,7 @@
 
 ghost use Rattle.std.specs.Prelude.{◌≡◌, [], None};
 ghost use Rattle.ba_checker.specs.States.{first_state};
+ghost use Rattle.ba_steps.specs.Sinks.{untold};
 
 use ba_checker::{Checked, Checker};
 use ba_choices::{Choice, Values};
@@ -24,13 +25,7 @@ struct Failing {
 }
 
 impl StepSink for Failing {
-    ghost over = { λ _. None };
-
-    ghost logs = { λ _. [] };
-
-    ghost faults = { λ s. s.failed };
-
-    ghost references = { λ _. [] };
+    ghost told = { λ s. record untold { faults = s.failed } };
 
     fn begin(&mut self, _formula: &Formula, _softs: &[(Lit, u32)]) -> Result<(), SinkError> {
         self.begun = self.begun.saturating_add(1);

@@ -1,10 +1,10 @@
-use Rattle.std.proofs.Common.{rules, true, false, ◌≡◌, ◌+◌, ◌-◌, ◌*◌, ◌<◌, ◌∷◌, ◌++◌, suc, [], pos, take, length, sym, ◌∙◌, ap, subst}
+use Rattle.std.proofs.Common.{rules, true, false, ◌≡◌, ◌+◌, ◌-◌, ◌*◌, ◌<◌, ◌∷◌, ◌++◌, suc, [], pos, take, length, refl, sym, ◌∙◌, ap, subst}
 use Rattle.std.proofs.lemmas.List.{take_all}
 use Rattle.std.proofs.lemmas.Result.{IfOk-weaker, on_ok_weaker}
 use Rattle.std.specs.List.{list_any}
 use Rattle.ba_code.specs.declared.nodes.Operand.TheVariants.{Const, Var}
-use Rattle.ba_inline.proofs.Adding.{adds-assert, adds-beyond, adds-binary, adds-block, adds-convert, adds-fill, adds-if, adds-leave, adds-load, adds-loop, adds-save, adds-set, adds-unary}
-use Rattle.ba_inline.proofs.Arms.{adds-old, argument-array, argument-value, call-made, if-made, init-made, invoke-made, loop-made, makes-high, makes-old, scope-var, store-made, to-low, value-called, value-high}
+use Rattle.ba_inline.proofs.Adding.{adds-assert, adds-beyond, adds-binary, adds-convert, adds-fill, adds-if, adds-leave, adds-load, adds-save, adds-set, adds-unary}
+use Rattle.ba_inline.proofs.Arms.{adds-alone, adds-old, argument-array, argument-value, call-made, if-made, init-made, invoke-made, loop-made, makes-from, makes-high, makes-old, nodes-len, scope-var, store-made, to-low, value-called, value-high}
 use Rattle.ba_inline.proofs.Branches.{adds-then, makes-and, makes-copy, makes-or, makes-select, makes-to, makes-truth}
 use Rattle.ba_inline.proofs.Effects.{makes-call_stmt, makes-print}
 use Rattle.ba_tree.proofs.Falling.{body-below, item-below}
@@ -12,13 +12,14 @@ use Rattle.ba_inline.proofs.Forms.{form-Assign, form-Block, form-CallStmt, form-
 use Rattle.ba_inline.proofs.Guarding.{IsGrouped, flag-settled, grouped-grows, grouped-more, grouped-none, makes-group}
 use Rattle.ba_inline.proofs.Homes.{makes-row, row_part}
 use Rattle.ba_inline.proofs.Invoking.{makes-beyond}
-use Rattle.ba_inline.proofs.Joining.{makes-as}
+use Rattle.ba_inline.proofs.Joining.{joined, makes-as}
 use Rattle.ba_inline.proofs.Keeping.{grows-same}
 use Rattle.ba_inline.proofs.Relaxing.{makes-given}
 use Rattle.ba_inline.proofs.Rows.{arguments-more, arguments-none, next-taken, stmts-more, stmts-none, values-more, values-none}
 use Rattle.ba_inline.proofs.Scopes.{frame-later, scope-later, scope-of}
 use Rattle.ba_inline.proofs.Statements.{makes-assert, makes-assign, makes-break, makes-condition, makes-continue, makes-no-code, makes-return, makes-return-none}
 use Rattle.ba_inline.proofs.Switching.{switch-made}
+use Rattle.ba_inline.proofs.Weighing.{weight-positive}
 use Rattle.ba_inline.proofs.Wiping.{does-cleared, gives-to-cleared, wipes-since}
 use Rattle.ba_inline.proofs.Values.{makes-binary, makes-const, makes-convert, makes-element, makes-unary, makes-variable}
 use Rattle.ba_inline.specs.Adding.{leave_act, pick_act, unary_act}
@@ -26,10 +27,11 @@ use Rattle.ba_inline.specs.Calling.{arg_has_call, has_call}
 use Rattle.ba_inline.specs.Declarations.{with_var}
 use Rattle.ba_tree.specs.Heights.{arg_weight, arg_weights, height, heights, tallest, weight, weights}
 use Rattle.ba_inline.specs.Making.{Adds, Does, GivesTo, Makes, MakesArguments, MakesValue, MakesValues}
-use Rattle.ba_inline.specs.Names.{IsScope, with_home}
+use Rattle.ba_inline.specs.Names.{IsFrame, IsScope, with_home}
 use Rattle.ba_inline.specs.Parts.{arguments_part, assign_part, call_stmt_part, context_in_frame, declare_part, given_part, init_array_part, loop_now, loop_part, optional_now, optional_part, print_part, stmt_part, stmts_part, store_part, truth_part, value_part, values_part}
 use Rattle.ba_inline.specs.Repeating.{parts_of}
 use Rattle.ba_inline.specs.Switching.{guarded_part, switch_part}
+use Rattle.ba_inline.specs.declared.frames.Frame.{Frame}
 use Rattle.ba_inline.specs.declared.frames.Wanted.TheVariants as wanted
 use Rattle.ba_numbers.specs.declared.numbers.CType.TheVariants.{I32}
 use Rattle.ba_numbers.specs.declared.numbers.UnOp.TheVariants.{IsZero}
@@ -64,9 +66,9 @@ operands::expression-returns-in-Var t c = λ scope.
     makes-variable p names path frame here e low old c.in-Var.var c.value.result c.in-Var.is
     c.value.ensures scope.naming
 
-pub operands::expression-returns-in_ok-add-in-Element :
-    goal.operands::expression-returns-in_ok-add-in-Element
-operands::expression-returns-in_ok-add-in-Element t c = λ scope.
+pub operands::expression-returns-in_ok-add_load-in-Element :
+    goal.operands::expression-returns-in_ok-add_load-in-Element
+operands::expression-returns-in_ok-add_load-in-Element t c = λ scope.
     let p = c.args.setting.now.program.now in
     let names = c.args.scope.now in
     let path = c.args.path.now in
@@ -78,16 +80,16 @@ operands::expression-returns-in_ok-add-in-Element t c = λ scope.
     value-high c.in_ok-to-in-Element.ensures.1
     (makes-element p names path frame here e c.deref.result.now low c.expression.new.declared old
     c.expression.new.out.items
-    c.add.new.out.items c.in_ok-index-in-Element.index c.in_ok-to-in-Element.to c.variable_of.result.t
+    c.add_load.new.out.items c.in_ok-index-in-Element.index c.in_ok-to-in-Element.to c.variable_of.result.t
     false scope.naming
     (c.in_ok-index-in-Element.ensures scope) c.in_ok-to-in-Element.ensures.0 c.in-Element.array
     c.in_ok-number-in-Element.number c.in-Element.index c.in-Element.is c.deref.ensures
     c.in_ok-number-in-Element.ensures
-    (adds-load _ _ _ _ _ _ c.in_ok-add-in-Element.ensures))
+    (adds-load _ _ _ _ _ _ c.in_ok-add_load-in-Element.ensures))
 
-pub operands::expression-returns-in_ok-add-in-Unary :
-    goal.operands::expression-returns-in_ok-add-in-Unary
-operands::expression-returns-in_ok-add-in-Unary t c = λ scope.
+pub operands::expression-returns-in_ok-add_unary-in-Unary :
+    goal.operands::expression-returns-in_ok-add_unary-in-Unary
+operands::expression-returns-in_ok-add_unary-in-Unary t c = λ scope.
     let p = c.args.setting.now.program.now in
     let names = c.args.scope.now in
     let path = c.args.path.now in
@@ -99,15 +101,15 @@ operands::expression-returns-in_ok-add-in-Unary t c = λ scope.
     value-high c.in_ok-to-in-Unary.ensures.1
     (makes-unary p names path frame here e c.deref-in-Unary.result.now low
     c.expression-in-Unary.new.declared old
-    c.expression-in-Unary.new.out.items c.add-in-Unary.new.out.items c.in_ok-a-in-Unary.a
+    c.expression-in-Unary.new.out.items c.add_unary.new.out.items c.in_ok-a-in-Unary.a
     c.in_ok-to-in-Unary.to
     c.type_of_unary.result false scope.naming (c.in_ok-a-in-Unary.ensures scope) c.in_ok-to-in-Unary.ensures.0
     c.in-Unary.op c.in-Unary.t c.in-Unary.a c.in-Unary.is c.deref-in-Unary.ensures
-    (adds-unary _ _ _ _ _ _ c.in_ok-add-in-Unary.ensures))
+    (adds-unary _ _ _ _ _ _ c.in_ok-add_unary-in-Unary.ensures))
 
-pub operands::expression-returns-in_ok-add-in-Convert :
-    goal.operands::expression-returns-in_ok-add-in-Convert
-operands::expression-returns-in_ok-add-in-Convert t c = λ scope.
+pub operands::expression-returns-in_ok-add_convert-in-Convert :
+    goal.operands::expression-returns-in_ok-add_convert-in-Convert
+operands::expression-returns-in_ok-add_convert-in-Convert t c = λ scope.
     let p = c.args.setting.now.program.now in
     let names = c.args.scope.now in
     let path = c.args.path.now in
@@ -119,15 +121,15 @@ operands::expression-returns-in_ok-add-in-Convert t c = λ scope.
     value-high c.in_ok-to-in-Convert.ensures.1
     (makes-convert p names path frame here e c.deref-in-Convert.result.now low
     c.expression-in-Convert.new.declared old
-    c.expression-in-Convert.new.out.items c.add-in-Convert.new.out.items c.in_ok-a-in-Convert.a
+    c.expression-in-Convert.new.out.items c.add_convert.new.out.items c.in_ok-a-in-Convert.a
     c.in_ok-to-in-Convert.to
     c.in-Convert.t false scope.naming (c.in_ok-a-in-Convert.ensures scope) c.in_ok-to-in-Convert.ensures.0
     c.in-Convert.t c.in-Convert.a c.in-Convert.is c.deref-in-Convert.ensures
-    (adds-convert _ _ _ _ _ c.in_ok-add-in-Convert.ensures))
+    (adds-convert _ _ _ _ _ c.in_ok-add_convert-in-Convert.ensures))
 
-pub operands::expression-returns-in_ok-add-in-Binary :
-    goal.operands::expression-returns-in_ok-add-in-Binary
-operands::expression-returns-in_ok-add-in-Binary t c = λ scope.
+pub operands::expression-returns-in_ok-add_binary-in-Binary :
+    goal.operands::expression-returns-in_ok-add_binary-in-Binary
+operands::expression-returns-in_ok-add_binary-in-Binary t c = λ scope.
     let p = c.args.setting.now.program.now in
     let names = c.args.scope.now in
     let path = c.args.path.now in
@@ -148,17 +150,64 @@ operands::expression-returns-in_ok-add-in-Binary t c = λ scope.
     (c.in_ok-a-in-Binary.ensures scope) in
     value-high c.in_ok-to-in-Binary.ensures.1
     (makes-binary p names path frame here e x y low mid c.expression-in-Binary.new.declared old out
-    c.expression-in-Binary.new.out.items c.add-in-Binary.new.out.items a c.in_ok-b-in-Binary.b
+    c.expression-in-Binary.new.out.items c.add_binary.new.out.items a c.in_ok-b-in-Binary.b
     c.in_ok-to-in-Binary.to
     c.type_of_binary.result scope.naming first
     (c.in_ok-b-in-Binary.ensures (scope-later p names low mid first.makes.grows scope))
     c.in_ok-to-in-Binary.ensures.0 c.in-Binary.op c.in-Binary.t c.in-Binary.a c.in-Binary.b c.in-Binary.is
     c.deref-in-Binary-2.ensures c.deref-in-Binary-3.ensures (adds-binary _ _ _ _ _ _ _ _
-    c.in_ok-add-in-Binary.ensures))
+    c.in_ok-add_binary-in-Binary.ensures))
 
-pub operands::expression-returns-in_ok-add-in-AndAlso-2 :
-    goal.operands::expression-returns-in_ok-add-in-AndAlso-2
-operands::expression-returns-in_ok-add-in-AndAlso-2 t c = λ scope.
+pub operands::expression-returns-in-AndAlso : goal.operands::expression-returns-in-AndAlso
+operands::expression-returns-in-AndAlso t c =
+    IfOk-weaker c.and_also.result _ _ (λ o made scope.
+    made scope c.args.expr.now (record {
+      left = c.in-AndAlso.a;
+      right = c.in-AndAlso.b;
+      is = c.in-AndAlso.is;
+      at_left = c.deref-in-AndAlso.ensures;
+      at_right = c.deref-in-AndAlso-2.ensures;
+    }))
+    c.and_also.ensures
+
+pub operands::expression-returns-in-OrElse : goal.operands::expression-returns-in-OrElse
+operands::expression-returns-in-OrElse t c =
+    IfOk-weaker c.or_else.result _ _ (λ o made scope.
+    made scope c.args.expr.now (record {
+      left = c.in-OrElse.a;
+      right = c.in-OrElse.b;
+      is = c.in-OrElse.is;
+      at_left = c.deref-in-OrElse.ensures;
+      at_right = c.deref-in-OrElse-2.ensures;
+    }))
+    c.or_else.ensures
+
+pub operands::expression-returns-in-Select : goal.operands::expression-returns-in-Select
+operands::expression-returns-in-Select t c =
+    IfOk-weaker c.selected.result _ _ (λ o made scope.
+    made scope c.args.expr.now (record {
+      deciding = c.in-Select.when;
+      left = c.in-Select.yes;
+      right = c.in-Select.no;
+      is = c.in-Select.is;
+      at_deciding = c.deref-in-Select.ensures;
+      at_left = c.deref-in-Select-2.ensures;
+      at_right = c.deref-in-Select-3.ensures;
+    }))
+    c.selected.ensures
+
+pub operands::and_also-truth_to-requires : goal.operands::and_also-truth_to-requires
+operands::and_also-truth_to-requires t c =
+    let h : 0 < weight c.args.a.now = weight-positive c.args.a.now in
+    search (rules, h)
+
+pub operands::or_else-truth_to-requires : goal.operands::or_else-truth_to-requires
+operands::or_else-truth_to-requires t c =
+    let h : 0 < weight c.args.a.now = weight-positive c.args.a.now in
+    search (rules, h)
+
+pub operands::and_also-returns : goal.operands::and_also-returns
+operands::and_also-returns t c = λ scope e form.
     let p = c.args.setting.now.program.now in
     let names = c.args.scope.now in
     let path = c.args.path.now in
@@ -166,29 +215,20 @@ operands::expression-returns-in_ok-add-in-AndAlso-2 t c = λ scope.
     let low = c.args.declared.now in
     let old = c.args.out.now.items in
     let here = c.args.here in
-    let e = c.args.expr.now in
-    let x = c.deref-in-AndAlso.result.now in
-    let y = c.deref-in-AndAlso-2.result.now in
-    let mid = c.expression-in-AndAlso.new.declared in
-    let made : MakesValue p names path (value_part p frame here x) (has_call x) false
-    c.in_ok-a-in-AndAlso.a low mid old
-    c.expression-in-AndAlso.new.out.items = c.in_ok-a-in-AndAlso.ensures scope in
-    let inner : IsScope p names c.variable-in-AndAlso.new.self =
-    scope-var p names low mid c.variable-in-AndAlso.new.self I32 c.in_ok-to-in-AndAlso.ensures.1
-    made.makes.grows scope in
-    makes-and p names path frame here e x y false c.in_ok-a-in-AndAlso.a c.in_ok-to-in-AndAlso.to I32 low mid
-    c.truth_to.new.declared old c.expression-in-AndAlso.new.out.items c.add-in-AndAlso-2.new.out.items
-    c.truth_to.new.out.items
-    c.add-in-AndAlso.new.out.items scope.naming made c.in_ok-to-in-AndAlso.ensures.0
-    (adds-if _ _ _ _ _ c.in_ok-add-in-AndAlso-2.ensures)
-    c.in-AndAlso.a c.in-AndAlso.b c.in-AndAlso.is c.deref-in-AndAlso.ensures c.deref-in-AndAlso-2.ensures
-    (to-low c.in_ok-to-in-AndAlso.ensures.1 (makes-old c.new-yes.ensures.items
-    (c.in_ok-truth_to-in-AndAlso.ensures inner)))
-    (adds-old c.new-no.ensures.items (adds-set _ _ _ _ c.in_ok-add-in-AndAlso.ensures))
+    let mid = c.expression.new.declared in
+    let made : MakesValue p names path (value_part p frame here c.args.a.now) (has_call c.args.a.now) false
+    c.in_ok-a.a low mid old c.expression.new.out.items = c.in_ok-a.ensures scope in
+    let inner : IsScope p names c.variable.new.self =
+    scope-var p names low mid c.variable.new.self I32 c.in_ok-to.ensures.1 made.makes.grows scope in
+    makes-and p names path frame here e c.args.a.now c.args.b.now false c.in_ok-a.a c.in_ok-to.to I32 low mid
+    c.truth_to.new.declared old c.expression.new.out.items c.add_if.new.out.items
+    c.truth_to.new.out.items c.add_set.new.out.items scope.naming made c.in_ok-to.ensures.0
+    (adds-if _ _ _ _ _ c.in_ok-add_if.ensures) form.left form.right form.is form.at_left form.at_right
+    (to-low c.in_ok-to.ensures.1 (makes-old c.new-yes.ensures.items (c.in_ok-truth_to.ensures inner)))
+    (adds-old c.new-no.ensures.items (adds-set _ _ _ _ c.in_ok-add_set.ensures))
 
-pub operands::expression-returns-in_ok-add-in-OrElse-2 :
-    goal.operands::expression-returns-in_ok-add-in-OrElse-2
-operands::expression-returns-in_ok-add-in-OrElse-2 t c = λ scope.
+pub operands::or_else-returns : goal.operands::or_else-returns
+operands::or_else-returns t c = λ scope e form.
     let p = c.args.setting.now.program.now in
     let names = c.args.scope.now in
     let path = c.args.path.now in
@@ -196,31 +236,30 @@ operands::expression-returns-in_ok-add-in-OrElse-2 t c = λ scope.
     let low = c.args.declared.now in
     let old = c.args.out.now.items in
     let here = c.args.here in
-    let e = c.args.expr.now in
-    let x = c.deref-in-OrElse.result.now in
-    let y = c.deref-in-OrElse-2.result.now in
-    let mid = c.expression-in-OrElse.new.declared in
-    let made : MakesValue p names path (value_part p frame here x) (has_call x) false c.in_ok-a-in-OrElse.a
-    low mid old
-    c.expression-in-OrElse.new.out.items = c.in_ok-a-in-OrElse.ensures scope in
-    let inner : IsScope p names c.variable-in-OrElse.new.self =
-    scope-var p names low mid c.variable-in-OrElse.new.self I32 c.in_ok-to-in-OrElse.ensures.1
-    made.makes.grows scope in
-    makes-or p names path frame here e x y false c.in_ok-a-in-OrElse.a c.in_ok-to-in-OrElse.to I32 low mid
-    c.truth_to-in-OrElse.new.declared old c.expression-in-OrElse.new.out.items
-    c.add-in-OrElse-2.new.out.items
-    c.add-in-OrElse.new.out.items c.truth_to-in-OrElse.new.out.items scope.naming made
-    c.in_ok-to-in-OrElse.ensures.0
-    (adds-if _ _ _ _ _ c.in_ok-add-in-OrElse-2.ensures) c.in-OrElse.a c.in-OrElse.b c.in-OrElse.is
-    c.deref-in-OrElse.ensures
-    c.deref-in-OrElse-2.ensures (adds-old c.new-yes-in-OrElse.ensures.items (adds-set _ _ _ _
-    c.in_ok-add-in-OrElse.ensures))
-    (to-low c.in_ok-to-in-OrElse.ensures.1 (makes-old c.new-no-in-OrElse.ensures.items
-    (c.in_ok-truth_to-in-OrElse.ensures inner)))
+    let mid = c.expression.new.declared in
+    let made : MakesValue p names path (value_part p frame here c.args.a.now) (has_call c.args.a.now) false
+    c.in_ok-a.a low mid old c.expression.new.out.items = c.in_ok-a.ensures scope in
+    let inner : IsScope p names c.variable.new.self =
+    scope-var p names low mid c.variable.new.self I32 c.in_ok-to.ensures.1 made.makes.grows scope in
+    makes-or p names path frame here e c.args.a.now c.args.b.now false c.in_ok-a.a c.in_ok-to.to I32 low mid
+    c.truth_to.new.declared old c.expression.new.out.items c.add_if.new.out.items
+    c.add_set.new.out.items c.truth_to.new.out.items scope.naming made c.in_ok-to.ensures.0
+    (adds-if _ _ _ _ _ c.in_ok-add_if.ensures) form.left form.right form.is form.at_left form.at_right
+    (adds-old c.new-yes.ensures.items (adds-set _ _ _ _ c.in_ok-add_set.ensures))
+    (to-low c.in_ok-to.ensures.1 (makes-old c.new-no.ensures.items (c.in_ok-truth_to.ensures inner)))
 
-pub operands::expression-returns-in_ok-add-in-Select :
-    goal.operands::expression-returns-in_ok-add-in-Select
-operands::expression-returns-in_ok-add-in-Select t c = λ scope.
+pub operands::selected-expression_to-requires : goal.operands::selected-expression_to-requires
+operands::selected-expression_to-requires t c =
+    let h : 0 < weight c.args.when.now = weight-positive c.args.when.now in
+    search (rules, h)
+
+pub operands::selected-expression_to-requires-2 : goal.operands::selected-expression_to-requires-2
+operands::selected-expression_to-requires-2 t c =
+    let h : 0 < weight c.args.when.now = weight-positive c.args.when.now in
+    search (rules, h)
+
+pub operands::selected-returns : goal.operands::selected-returns
+operands::selected-returns t c = λ scope e form.
     let p = c.args.setting.now.program.now in
     let names = c.args.scope.now in
     let path = c.args.path.now in
@@ -228,36 +267,30 @@ operands::expression-returns-in_ok-add-in-Select t c = λ scope.
     let low = c.args.declared.now in
     let old = c.args.out.now.items in
     let here = c.args.here in
-    let e = c.args.expr.now in
-    let x = c.deref-in-Select.result.now in
-    let y = c.deref-in-Select-2.result.now in
-    let z = c.deref-in-Select-3.result.now in
-    let mid = c.expression-in-Select.new.declared in
-    let ty = c.in-Select.t in
-    let to = c.in_ok-to-in-Select.to in
+    let x = c.args.when.now in
+    let y = c.args.a.now in
+    let z = c.args.b.now in
+    let mid = c.expression.new.declared in
+    let ty = c.args.t in
+    let to = c.in_ok-to.to in
     let two = c.expression_to.new.declared in
     let yeses = c.expression_to.new.out.items in
-    let made : MakesValue p names path (value_part p frame here x) (has_call x) false
-    c.in_ok-when-in-Select.when low mid old
-    c.expression-in-Select.new.out.items = c.in_ok-when-in-Select.ensures scope in
-    let inner : IsScope p names c.variable-in-Select.new.self =
-    scope-var p names low mid c.variable-in-Select.new.self ty c.in_ok-to-in-Select.ensures.1
-    made.makes.grows scope in
+    let made : MakesValue p names path (value_part p frame here x) (has_call x) false c.in_ok-when.when low mid
+    old c.expression.new.out.items = c.in_ok-when.ensures scope in
+    let inner : IsScope p names c.variable.new.self =
+    scope-var p names low mid c.variable.new.self ty c.in_ok-to.ensures.1 made.makes.grows scope in
     let first : Makes p names path (value_part p frame here y) (GivesTo names (has_call y) (with_var ty
     mid) to)
     (with_var ty mid) two [] yeses =
-    to-low c.in_ok-to-in-Select.ensures.1
-    (makes-old c.new-yes-in-Select.ensures.items (c.in_ok-expression_to-in-Select.ensures inner)) in
+    to-low c.in_ok-to.ensures.1 (makes-old c.new-yes.ensures.items (c.in_ok-expression_to.ensures inner)) in
     let later : IsScope p names two = scope-later p names (with_var ty mid) two first.grows
-    (subst (IsScope p names) c.in_ok-to-in-Select.ensures.1 inner) in
-    makes-select p names path frame here e x y false c.in_ok-when-in-Select.when to ty low mid
-    c.expression_to-in-Select.new.declared old c.expression-in-Select.new.out.items
-    c.add-in-Select.new.out.items yeses
-    c.expression_to-in-Select.new.out.items scope.naming made c.in_ok-to-in-Select.ensures.0
-    (adds-if _ _ _ _ _ c.in_ok-add-in-Select.ensures) z two ty c.in-Select.when c.in-Select.a c.in-Select.b
-    c.in-Select.is
-    c.deref-in-Select.ensures c.deref-in-Select-2.ensures c.deref-in-Select-3.ensures first
-    (makes-old c.new-no-in-Select.ensures.items (c.in_ok-expression_to-in-Select-2.ensures later))
+    (subst (IsScope p names) c.in_ok-to.ensures.1 inner) in
+    makes-select p names path frame here e x y false c.in_ok-when.when to ty low mid
+    c.expression_to-2.new.declared old c.expression.new.out.items c.add_if.new.out.items yeses
+    c.expression_to-2.new.out.items scope.naming made c.in_ok-to.ensures.0
+    (adds-if _ _ _ _ _ c.in_ok-add_if.ensures) z two ty form.deciding form.left form.right form.is
+    form.at_deciding form.at_left form.at_right first
+    (makes-old c.new-no.ensures.items (c.in_ok-expression_to-2.ensures later))
 
 pub operands::expression-returns-in-Call : goal.operands::expression-returns-in-Call
 operands::expression-returns-in-Call t c =
@@ -276,9 +309,9 @@ operands::expression-returns-in-Call t c =
     scope))
     c.call_value.ensures
 
-pub operands::kept_expression-returns-in_ok-add-in-Var :
-    goal.operands::kept_expression-returns-in_ok-add-in-Var
-operands::kept_expression-returns-in_ok-add-in-Var t c = λ scope.
+pub operands::kept_expression-returns-in_ok-add_set-in-Var :
+    goal.operands::kept_expression-returns-in_ok-add_set-in-Var
+operands::kept_expression-returns-in_ok-add_set-in-Var t c = λ scope.
     let p = c.args.setting.now.program.now in
     let names = c.args.scope.now in
     let path = c.args.path.now in
@@ -291,13 +324,13 @@ operands::kept_expression-returns-in_ok-add-in-Var t c = λ scope.
     let yes : true ≡ c.args.keep = search rules in
     subst (λ keep. MakesValue p names path (value_part p frame here e) (has_call e) keep (Var
     c.in_ok-to-in-Var.to) low
-    c.variable.new.self old c.add.new.out.items) yes
+    c.variable.new.self old c.add_set.new.out.items) yes
     (value-high c.in_ok-to-in-Var.ensures.1
     (makes-copy p names path (λ w back. eval (context_in_frame p frame w) back here e) (has_call e)
     c.in_ok-operand.operand
-    low mid old c.expression.new.out.items c.add.new.out.items (c.in_ok-operand.ensures scope)
+    low mid old c.expression.new.out.items c.add_set.new.out.items (c.in_ok-operand.ensures scope)
     c.in_ok-to-in-Var.to
-    c.type_of.result scope.naming c.in_ok-to-in-Var.ensures.0 (adds-set _ _ _ _ c.in_ok-add-in-Var.ensures)))
+    c.type_of.result scope.naming c.in_ok-to-in-Var.ensures.0 (adds-set _ _ _ _ c.in_ok-add_set-in-Var.ensures)))
 
 pub operands::expression_to-returns : goal.operands::expression_to-returns
 operands::expression_to-returns t c =
@@ -312,12 +345,12 @@ operands::expression_to-returns t c =
     on_ok_weaker c.give_back.result (λ wipes scope.
     makes-high c.give_back.ensures.same
     (gives-to-cleared p names path (value_part p frame here e) (has_call e) c.args.to low
-    c.expression.new.declared old c.add.new.out.items c.give_back.new.out.items scope.naming
+    c.expression.new.declared old c.add_set.new.out.items c.give_back.new.out.items scope.naming
     (makes-to p names path (λ w back. eval (context_in_frame p frame w) back here e) (has_call e)
     c.in_ok-operand.operand
-    low c.expression.new.declared old c.expression.new.out.items c.add.new.out.items
+    low c.expression.new.declared old c.expression.new.out.items c.add_set.new.out.items
     (c.in_ok-operand.ensures scope)
-    c.args.to (adds-set _ _ _ _ c.in_ok-add.ensures)) (wipes-since c.moment-since.ensures wipes)))
+    c.args.to (adds-set _ _ _ _ c.in_ok-add_set.ensures)) (wipes-since c.moment-since.ensures wipes)))
     c.give_back.ensures.wipes
 
 pub operands::truth_to-returns : goal.operands::truth_to-returns
@@ -337,14 +370,14 @@ operands::truth_to-returns t c =
     makes-high (c.give_back.ensures.same ∙ c.in_ok-between.ensures.1)
     (gives-to-cleared p names path (truth_part p frame here e) (has_call e) c.args.to low (with_var I32
     mid) old
-    c.add-2.new.out.items c.give_back.new.out.items scope.naming
+    c.add_unary-2.new.out.items c.give_back.new.out.items scope.naming
     (makes-truth p names path frame here e c.in_ok-operand.operand low mid old out
-    c.add-2.new.out.items scope.naming
+    c.add_unary-2.new.out.items scope.naming
     (c.in_ok-operand.ensures scope) between c.args.to c.in_ok-between.ensures.0 c.tested_in-t.result I32
-    (adds-then out c.add.new.out.items c.add-2.new.out.items
+    (adds-then out c.add_unary.new.out.items c.add_unary-2.new.out.items
     (unary_act between IsZero c.tested_in-t.result c.in_ok-operand.operand) (unary_act c.args.to IsZero I32
     (Var between))
-    (adds-unary _ _ _ _ _ _ c.in_ok-add.ensures) (adds-unary _ _ _ _ _ _ c.in_ok-add-2.ensures)))
+    (adds-unary _ _ _ _ _ _ c.in_ok-add_unary.ensures) (adds-unary _ _ _ _ _ _ c.in_ok-add_unary-2.ensures)))
     (wipes-since c.moment-since.ensures wipes))) c.give_back.ensures.wipes
 
 -- ROWS of values and of arguments
@@ -542,13 +575,13 @@ calls::invoke-returns t c = λ scope given.
     (invoke-made p names c.in_ok-inner.inner path frame here c.args.function (frame.frames - 1)
     c.in-Some.function.now
     c.args.given.now low c.begin_frame.new.declared c.variable.new.self c.statements.new.declared old
-    c.begin_frame.new.out.items c.add-2.new.out.items c.add_body.new.out.items c.give_back.new.out.items
+    c.begin_frame.new.out.items c.add_set.new.out.items c.add_body.new.out.items c.give_back.new.out.items
     c.new-body.result.items
     c.statements.new.out.items c.moment-since.result.vars c.in_ok-home.home c.unwrap_or.result
     c.as_slice.result.now frames
     c.in-Some.ensures.1
     c.as_slice.ensures c.new-body.ensures.items c.in_ok-home.ensures.0 c.in_ok-home.ensures.1
-    (c.in_ok-inner.ensures scope given) (adds-set _ _ _ _ c.in_ok-add-2.ensures) c.in_ok-statements.ensures
+    (c.in_ok-inner.ensures scope given) (adds-set _ _ _ _ c.in_ok-add_set.ensures) c.in_ok-statements.ensures
     c.in_ok-add_body.ensures scope c.moment-since.ensures c.in_ok-give_back.ensures.wipes)
 
 -- CHOICES
@@ -798,19 +831,32 @@ control::statement-returns-in_ok-optional-in-If t c =
     let low = c.args.declared.now in
     let old = c.args.out.now.items in
     let stmt = c.args.stmt.now in
-    on_ok_weaker c.add_branches.result (λ added is_frame.
+    let out = c.condition.new.out.items in
+    let first = c.condition.new.declared in
+    let then_one = c.statement.new.declared in
+    let zero = c.in_ok-add_zero-in-If.ensures in
+    let zero_2 = c.in_ok-add_zero-in-If-2.ensures in
+    on_ok_weaker c.wrap_branches.result (λ put is_frame.
+    let test = c.in_ok-to-in-If.ensures.made (scope-of p frame.home names low is_frame) in
+    let at_first = frame-later p frame.home names low first test.grows is_frame in
+    let one = c.in_ok-statement-in-If.ensures at_first in
+    let two = c.in_ok-optional-in-If.ensures (frame-later p frame.home names first then_one one.grows at_first) in
+    let yeses = zero.nodes ++ one.nodes in
+    let noes = zero_2.nodes ++ two.nodes in
+    let is_one : c.statement.new.out.items ≡ out ++ yeses =
+    joined out c.add_zero.new.out.items c.statement.new.out.items zero.nodes one.nodes zero.is one.is in
+    let is_two : c.optional.new.out.items ≡ (out ++ yeses) ++ noes =
+    joined c.statement.new.out.items c.add_zero-in-If.new.out.items c.optional.new.out.items zero_2.nodes
+    two.nodes zero_2.is two.is ∙ ap (λ ns. ns ++ noes) is_one in
     if-made p names path frame low is_frame stmt c.in-If.stmt c.in-If.when c.in-If.yes c.in-If.no
     c.deref.result.now
-    c.in_ok-to-in-If.to c.condition.new.declared c.statement.new.declared c.optional.new.declared old
-    c.condition.new.out.items c.add_branches.new.out.items c.new-one.result.items c.add_zero.new.out.items
-    c.statement.new.out.items
-    c.new-other.result.items c.add_zero-in-If.new.out.items c.optional.new.out.items c.in-If.is
-    c.deref.ensures
-    c.new-one.ensures.items
-    c.new-other.ensures.items c.in_ok-to-in-If.ensures.number c.in_ok-to-in-If.ensures.made
-    c.in_ok-add_zero-in-If.ensures c.in_ok-statement-in-If.ensures
-    c.in_ok-add_zero-in-If-2.ensures c.in_ok-optional-in-If.ensures added)
-    c.add_branches.ensures
+    c.in_ok-to-in-If.to first then_one c.optional.new.declared old
+    out c.wrap_branches.new.out.items [] zero.nodes yeses [] zero_2.nodes noes c.in-If.is c.deref.ensures
+    refl refl c.in_ok-to-in-If.ensures.number c.in_ok-to-in-If.ensures.made
+    (adds-alone zero) (λ at. makes-from zero.nodes one) (adds-alone zero_2) (λ at. makes-from zero_2.nodes two)
+    (put out yeses noes (c.len-start.ensures ∙ nodes-len c.condition.new.out)
+    (c.len-middle.ensures ∙ nodes-len c.statement.new.out ∙ ap length is_one) is_two))
+    c.wrap_branches.ensures
 
 pub control::statement-returns-in-Switch : goal.control::statement-returns-in-Switch
 control::statement-returns-in-Switch t c =
@@ -934,11 +980,11 @@ control::statement-returns-in-Break t c =
     let low = c.args.declared.now in
     let old = c.args.out.now.items in
     let stmt = c.args.stmt.now in
-    on_ok_weaker c.add.result (λ added is_frame.
-    makes-break p names path frame low is_frame.naming stmt old c.add.new.out.items c.in-Break.is
-    (subst (λ label. Adds old c.add.new.out.items (leave_act label)) c.break_label.ensures (adds-leave _ _ _
+    on_ok_weaker c.add_leave.result (λ added is_frame.
+    makes-break p names path frame low is_frame.naming stmt old c.add_leave.new.out.items c.in-Break.is
+    (subst (λ label. Adds old c.add_leave.new.out.items (leave_act label)) c.break_label.ensures (adds-leave _ _ _
     added)))
-    c.add.ensures
+    c.add_leave.ensures
 
 pub control::statement-returns-in-Continue : goal.control::statement-returns-in-Continue
 control::statement-returns-in-Continue t c =
@@ -949,12 +995,12 @@ control::statement-returns-in-Continue t c =
     let low = c.args.declared.now in
     let old = c.args.out.now.items in
     let stmt = c.args.stmt.now in
-    on_ok_weaker c.add-in-Continue.result (λ added is_frame.
-    makes-continue p names path frame low is_frame.naming stmt old c.add-in-Continue.new.out.items
+    on_ok_weaker c.add_leave-in-Continue.result (λ added is_frame.
+    makes-continue p names path frame low is_frame.naming stmt old c.add_leave-in-Continue.new.out.items
     c.in-Continue.is
-    (subst (λ label. Adds old c.add-in-Continue.new.out.items (leave_act label))
+    (subst (λ label. Adds old c.add_leave-in-Continue.new.out.items (leave_act label))
     c.continue_label.ensures (adds-leave _ _ _ added)))
-    c.add-in-Continue.ensures
+    c.add_leave-in-Continue.ensures
 
 pub control::statement-returns-in_ok-given_to-in-Return :
     goal.control::statement-returns-in_ok-given_to-in-Return
@@ -969,13 +1015,13 @@ control::statement-returns-in_ok-given_to-in-Return t c =
     let high = c.given_to.new.declared in
     let out = c.given_to.new.out.items in
     let e = c.in-Return.value in
-    on_ok_weaker c.add-in-Return.result (λ added is_frame.
+    on_ok_weaker c.add_leave-in-Return.result (λ added is_frame.
     makes-return p names path frame low is_frame.naming stmt c.in-Return.stmt e (has_call e) high old out
-    c.add-in-Return.new.out.items c.in-Return.is
+    c.add_leave-in-Return.new.out.items c.in-Return.is
     (subst (λ ty. Makes p names path (given_part p frame c.in-Return.stmt (wanted.Value ty) e)
     (GivesTo names (has_call e) low frame.home) low high old out) c.unwrap_or-t.ensures
     (c.in_ok-given_to-in-Return.ensures (scope-of p frame.home names low is_frame))) (adds-leave _ _ _ added))
-    c.add-in-Return.ensures
+    c.add_leave-in-Return.ensures
 
 pub control::statement-returns-in_ok-add_zero-in-ReturnNone :
     goal.control::statement-returns-in_ok-add_zero-in-ReturnNone
@@ -987,11 +1033,11 @@ control::statement-returns-in_ok-add_zero-in-ReturnNone t c =
     let low = c.args.declared.now in
     let old = c.args.out.now.items in
     let stmt = c.args.stmt.now in
-    on_ok_weaker c.add-in-ReturnNone.result (λ added is_frame.
+    on_ok_weaker c.add_leave-in-ReturnNone.result (λ added is_frame.
     makes-return-none p names path frame low is_frame.naming stmt old c.add_zero-in-ReturnNone.new.out.items
-    c.add-in-ReturnNone.new.out.items c.in-ReturnNone.is
+    c.add_leave-in-ReturnNone.new.out.items c.in-ReturnNone.is
     c.in_ok-add_zero-in-ReturnNone.ensures (adds-leave _ _ _ added))
-    c.add-in-ReturnNone.ensures
+    c.add_leave-in-ReturnNone.ensures
 
 pub control::statement-returns-in-CallStmt : goal.control::statement-returns-in-CallStmt
 control::statement-returns-in-CallStmt t c =
@@ -1030,8 +1076,8 @@ control::statement-returns-in-Print t c =
     c.as_slice-in-Print.result.now c.in-Print.is
     c.as_slice-in-Print.ensures.value) (made is_frame)) c.print.ensures
 
-pub control::statement-returns-in_ok-add-in-Assert : goal.control::statement-returns-in_ok-add-in-Assert
-control::statement-returns-in_ok-add-in-Assert t c =
+pub control::statement-returns-in_ok-add_assert-in-Assert : goal.control::statement-returns-in_ok-add_assert-in-Assert
+control::statement-returns-in_ok-add_assert-in-Assert t c =
     let p = c.args.setting.now.program.now in
     let names = c.args.scope.now in
     let path = c.args.path.now in
@@ -1042,13 +1088,13 @@ control::statement-returns-in_ok-add-in-Assert t c =
     on_ok_weaker c.give_back.result (λ wipes is_frame.
     makes-high c.give_back.ensures.same
     (does-cleared p names path (stmt_part p frame stmt) frame frame.home low c.expression.new.declared old
-    c.add-in-Assert.new.out.items c.give_back.new.out.items is_frame.naming
+    c.add_assert.new.out.items c.give_back.new.out.items is_frame.naming
     (makes-assert p names path frame low is_frame.naming stmt c.in-Assert.stmt c.in-Assert.when (has_call
     c.in-Assert.when)
     false c.in_ok-value-in-Assert.value c.expression.new.declared old c.expression.new.out.items
-    c.add-in-Assert.new.out.items
+    c.add_assert.new.out.items
     c.in-Assert.is (c.in_ok-value-in-Assert.ensures (scope-of p frame.home names low is_frame))
-    (adds-assert _ _ _ _ c.in_ok-add-in-Assert.ensures)) (wipes-since c.moment-since.ensures wipes)))
+    (adds-assert _ _ _ _ c.in_ok-add_assert-in-Assert.ensures)) (wipes-since c.moment-since.ensures wipes)))
     c.give_back.ensures.wipes
 
 pub control::optional-returns-in-None : goal.control::optional-returns-in-None
@@ -1115,23 +1161,40 @@ control::repeat-returns t c =
     let frame = c.args.frame in
     let low = c.args.declared.now in
     let old = c.args.out.now.items in
+    let parts = parts_of c.args.after c.args.stmt c.args.when.now c.args.body.now c.args.step.now in
+    let inside = c.as_slice-inside.result.now in
+    let is_inside = c.as_slice-inside.ensures.value ∙ c.in_ok-inside.ensures in
+    let test_end = c.condition.new.declared in
+    let body_end = c.statement.new.declared in
+    let tested = c.condition.new.out.items in
+    let zeroed = c.add_zero.new.out.items in
+    let turned = c.statement.new.out.items in
+    let inner = c.in_body.result in
+    let outer = c.in_step.result in
+    let zero = c.in_ok-add_zero.ensures in
     on_ok_weaker c.add_zero-2.result (λ last is_frame.
-    loop-made p names path frame low is_frame (parts_of c.args.parts.now) c.in_body.result c.in_step.result
-    c.as_slice.result.now c.as_slice-2.result.now c.as_slice-3.result.now c.in_ok-to.to
-    c.condition.new.declared
-    c.statement.new.declared c.statements.new.declared old c.add-3.new.out.items c.add_zero-2.new.out.items
-    c.new-head.result.items
-    c.condition.new.out.items c.new-body.result.items c.add_zero.new.out.items c.statement.new.out.items
-    c.new-turn.result.items
-    c.add.new.out.items c.new-step.result.items c.statements.new.out.items c.new-whole.result.items
-    c.add-2.new.out.items (c.as_slice.ensures.value ∙ c.in_ok-inside.ensures)
-    (c.as_slice-2.ensures.value ∙ c.in_ok-inside.ensures) (c.as_slice-3.ensures.value ∙
-    c.in_ok-inside.ensures)
-    c.new-head.ensures.items c.new-body.ensures.items c.new-turn.ensures.items c.new-step.ensures.items
-    c.new-whole.ensures.items c.in_body.ensures c.in_step.ensures c.in_ok-to.ensures.number
-    c.in_ok-to.ensures.made c.in_ok-add_zero.ensures c.in_ok-statement.ensures
-    (adds-block _ _ _ _ c.in_ok-add.ensures) c.in_ok-statements.ensures
-    (adds-loop _ _ _ _ _ _ _ _ c.in_ok-add-2.ensures) (adds-block _ _ _ _ c.in_ok-add-3.ensures) last)
+    let test = c.in_ok-to.ensures.made (scope-of p frame.home names low is_frame) in
+    let at_test = frame-later p frame.home names low test_end test.grows is_frame in
+    let body = c.in_ok-statement.ensures (subst (λ (f : Frame). IsFrame p f.home names test_end)
+    (sym c.in_body.ensures) at_test) in
+    let at_body : IsFrame p frame.home names body_end = frame-later p frame.home names test_end body_end
+    body.grows at_test in
+    let step = c.in_ok-statements.ensures (subst (λ (f : Frame). IsFrame p f.home names body_end)
+    (sym c.in_step.ensures) at_body) in
+    let bodies = zero.nodes ++ body.nodes in
+    let is_body : turned ≡ (old ++ test.nodes) ++ bodies =
+    joined tested zeroed turned zero.nodes body.nodes zero.is body.is ∙ ap (λ ns. ns ++ bodies) test.is in
+    let put = c.in_ok-wrap_loop.ensures old test.nodes bodies step.nodes
+    (c.len-start.ensures ∙ nodes-len c.args.out.now)
+    (c.len-head_end.ensures ∙ nodes-len c.condition.new.out ∙ ap length test.is)
+    (c.len-body_end.ensures ∙ nodes-len c.statement.new.out ∙ ap length is_body)
+    (step.is ∙ ap (λ ns. ns ++ step.nodes) is_body) in
+    loop-made p names path frame low is_frame parts inner outer inside inside inside c.in_ok-to.to
+    test_end body_end c.statements.new.declared old c.wrap_loop.new.out.items
+    c.add_zero-2.new.out.items [] test.nodes [] zero.nodes bodies [] put.turned [] step.nodes [] put.loops
+    is_inside is_inside is_inside refl refl refl refl refl c.in_body.ensures c.in_step.ensures
+    c.in_ok-to.ensures.number (λ scope. makes-from [] test) (adds-alone zero) (λ at. makes-from zero.nodes body)
+    put.turn (λ at. makes-from [] step) put.whole put.outer last)
     c.add_zero-2.ensures
 
 -- SWITCHES
@@ -1145,19 +1208,21 @@ switches::switch-returns t c =
     let low = c.args.declared.now in
     let old = c.args.out.now.items in
     let labels = c.args.labels.now in
+    let start = c.len-start.ensures ∙ nodes-len c.args.out.now in
     on_ok_weaker c.wipe.result (λ wipes is_frame.
     does-cleared p names path (switch_part p frame labels.stmt labels.t c.args.on.now labels.starts.now
-    labels.other c.args.body.now) frame frame.home low c.guarded.new.declared old c.add.new.out.items
+    labels.other c.args.body.now) frame frame.home low c.guarded.new.declared old c.wrap_block.new.out.items
     c.wipe.new.out.items is_frame.naming
     (switch-made p names path frame c.in_step.result low labels.stmt labels.t c.args.on.now labels.starts.now
     labels.other c.args.body.now c.in_ok-to.to c.variable.new.self c.given_to.new.declared
-    c.entry_flags.new.declared c.guarded.new.declared old c.add.new.out.items c.new-whole.result.items
+    c.entry_flags.new.declared c.guarded.new.declared old c.wrap_block.new.out.items old
     c.given_to.new.out.items c.entry_flags.new.out.items c.guarded.new.out.items c.as_slice.result.now
     is_frame
-    c.in_ok-to.ensures.0 c.in_ok-to.ensures.1 c.new-whole.ensures.items c.in_step.ensures
+    c.in_ok-to.ensures.0 c.in_ok-to.ensures.1 c.in_step.ensures
     c.in_ok-given_to.ensures (rw c.as_slice.ensures.value c.in_ok-flags.ensures.made)
     (ap length c.as_slice.ensures.value ∙ c.in_ok-flags.ensures.long) c.in_ok-guarded.ensures
-    (adds-block _ _ _ _ c.in_ok-add.ensures)) (wipes-since c.moment-since.ensures wipes)) c.wipe.ensures
+    (λ made is. c.in_ok-wrap_block.ensures old made start is)) (wipes-since c.moment-since.ensures wipes))
+    c.wipe.ensures
 
 pub switches::guarded-loop-place-init : goal.switches::guarded-loop-place-init
 switches::guarded-loop-place-init t c = λ is_frame long settled.

@@ -13,6 +13,18 @@ use Rattle.ba_inline.proofs.+inline.Given as goal
 abbrev pub decreases-operands::expression : goal.decreases-operands::expression
 decreases-operands::expression l = l.frame.frames * tallest l.setting.now.program.now + weight l.expr.now
 
+abbrev pub decreases-operands::and_also : goal.decreases-operands::and_also
+decreases-operands::and_also l = l.frame.frames * tallest l.setting.now.program.now
+    + (weight l.a.now + weight l.b.now + 1)
+
+abbrev pub decreases-operands::or_else : goal.decreases-operands::or_else
+decreases-operands::or_else l = l.frame.frames * tallest l.setting.now.program.now
+    + (weight l.a.now + weight l.b.now + 1)
+
+abbrev pub decreases-operands::selected : goal.decreases-operands::selected
+decreases-operands::selected l = l.frame.frames * tallest l.setting.now.program.now
+    + (weight l.when.now + weight l.a.now + weight l.b.now + 1)
+
 abbrev pub decreases-operands::kept_expression : goal.decreases-operands::kept_expression
 decreases-operands::kept_expression l = l.frame.frames * tallest l.setting.now.program.now
     + (weight l.expr.now + 1)
@@ -79,7 +91,7 @@ decreases-control::statements l = l.frame.frames * tallest l.setting.now.program
 
 abbrev pub decreases-control::repeat : goal.decreases-control::repeat
 decreases-control::repeat l = l.frame.frames * tallest l.setting.now.program.now
-    + (weight l.parts.now.when.now + height l.parts.now.body.now + heights l.parts.now.step.now + 5)
+    + (weight l.when.now + height l.body.now + heights l.step.now + 5)
 
 abbrev pub decreases-switches::switch : goal.decreases-switches::switch
 decreases-switches::switch l = l.frame.frames * tallest l.setting.now.program.now

@@ -1,7 +1,7 @@
 //! A world and a sink that count their calls.
 
-ghost use Rattle.std.specs.Prelude.{◌≡◌, ◌≤◌, [], Err, None};
-ghost use Rattle.ba_steps.specs.Sinks.{Rose};
+ghost use Rattle.std.specs.Prelude.{◌≡◌, ◌≤◌, Err};
+ghost use Rattle.ba_steps.specs.Sinks.{Rose, untold};
 ghost use Rattle.ba_steps.specs.declared.sink.SinkError.TheVariants.{Failed};
 
 use ba_lits::{Formula, Lit};
@@ -105,13 +105,7 @@ impl FailingSink {
 }
 
 impl StepSink for FailingSink {
-    ghost over = { λ _. None };
-
-    ghost logs = { λ _. [] };
-
-    ghost faults = { λ s. s.faults };
-
-    ghost references = { λ _. [] };
+    ghost told = { λ s. record untold { faults = s.faults } };
 
     fn begin(&mut self, _formula: &Formula, _softs: &[(Lit, u32)]) -> Result<(), SinkError> {
         self.count()

@@ -7,64 +7,64 @@ use Rattle.ba_cores.proofs.rounds.put_core.Goals as goal
 
 pub put-requires-clause-formed : goal.put-requires-clause-formed
 put-requires-clause-formed g c =
-    let s = c.args.checked.now.checker in
+    let s = (g.L.ProofLog.log c.args.log.now).checker in
     core_formed s (literals_of s.softs) c.args.core.lits c.args.core.hints c.args.core.back c.requires.core
     (omega (arith, c.keeps_facts.ensures.few, ap (λ (s : State). s.variables) c.checker.ensures))
     c.requires.some
 
 pub put-requires-clause-allowed : goal.put-requires-clause-allowed
 put-requires-clause-allowed g c = λ fresh awake.
-    core_allowed (g.J.RunJudge.accepts c.args.checked.now.judge) c.args.checked.now.checker c.args.core.lits
+    core_allowed (g.L.ProofLog.log c.args.log.now).accepts (g.L.ProofLog.log c.args.log.now).checker c.args.core.lits
     c.args.core.hints c.args.core.back c.requires.core c.requires.ready
 
 pub returns-in-Err-clause-leaves : goal.returns-in-Err-clause-leaves
 returns-in-Err-clause-leaves g c =
-    let s = c.args.checked.now.checker in
-    leaves_core (g.J.RunJudge.accepts c.args.checked.now.judge) s c.put.new.self.checker c.args.core.lits
-    c.args.core.hints (g.S.StepSink.logs c.args.checked.now.sink) (g.S.StepSink.logs c.put.new.self.sink)
+    let s = (g.L.ProofLog.log c.args.log.now).checker in
+    leaves_core (g.L.ProofLog.log c.args.log.now).accepts s (g.L.ProofLog.log c.put.new.self).checker c.args.core.lits
+    c.args.core.hints (g.L.ProofLog.log c.args.log.now).told.logs (g.L.ProofLog.log c.put.new.self).told.logs
     (core_formed s (literals_of s.softs) c.args.core.lits c.args.core.hints c.args.core.back c.requires.core
     (omega (arith, c.keeps_facts.ensures.few, ap (λ (s : State). s.variables) c.checker.ensures))
     c.requires.some)
-    (core_allowed (g.J.RunJudge.accepts c.args.checked.now.judge) s c.args.core.lits c.args.core.hints
+    (core_allowed (g.L.ProofLog.log c.args.log.now).accepts s c.args.core.lits c.args.core.hints
     c.args.core.back c.requires.core c.requires.ready)
     (c.in-Err.ensures.taken_or_asleep c.requires.goes_on.fresh) c.in-Err.ensures.refused
 
 pub take_new-requires : goal.take_new-requires
 take_new-requires g c = record {
-  part = λ working. part_after_core c.args.checked.now.checker
-      c.put.new.self.checker c.args.core.lits c.args.core.hints c.in_default.ensures.taken
+  part = λ working. part_after_core (g.L.ProofLog.log c.args.log.now).checker
+      (g.L.ProofLog.log c.put.new.self).checker c.args.core.lits c.args.core.hints c.in_default.ensures.taken
       c.requires.goes_on.same;
 }
 
 pub returns-clause-puts : goal.returns-clause-puts
 returns-clause-puts g c =
-    let s = c.args.checked.now.checker in
+    let s = (g.L.ProofLog.log c.args.log.now).checker in
     on_ok c.take_new.result
-    (puts_core (g.J.RunJudge.accepts c.args.checked.now.judge) s c.put.new.self.checker c.args.core.lits
-    c.args.core.hints (g.S.StepSink.logs c.args.checked.now.sink) (g.S.StepSink.logs c.put.new.self.sink)
+    (puts_core (g.L.ProofLog.log c.args.log.now).accepts s (g.L.ProofLog.log c.put.new.self).checker c.args.core.lits
+    c.args.core.hints (g.L.ProofLog.log c.args.log.now).told.logs (g.L.ProofLog.log c.put.new.self).told.logs
     (core_formed s (literals_of s.softs) c.args.core.lits c.args.core.hints c.args.core.back c.requires.core
     (omega (arith, c.keeps_facts.ensures.few, ap (λ (s : State). s.variables) c.checker.ensures))
     c.requires.some)
-    (core_allowed (g.J.RunJudge.accepts c.args.checked.now.judge) s c.args.core.lits c.args.core.hints
+    (core_allowed (g.L.ProofLog.log c.args.log.now).accepts s c.args.core.lits c.args.core.hints
     c.args.core.back c.requires.core c.requires.ready)
     c.in_default.ensures.taken c.in_default.ensures.told)
 
 pub returns-clause-leaves : goal.returns-clause-leaves
 returns-clause-leaves g c =
-    let s = c.args.checked.now.checker in
-    leaves_put (g.J.RunJudge.accepts c.args.checked.now.judge) s c.put.new.self.checker
-    (g.S.StepSink.logs c.args.checked.now.sink) (g.S.StepSink.logs c.put.new.self.sink)
-    (puts_core (g.J.RunJudge.accepts c.args.checked.now.judge) s c.put.new.self.checker c.args.core.lits
-    c.args.core.hints (g.S.StepSink.logs c.args.checked.now.sink) (g.S.StepSink.logs c.put.new.self.sink)
+    let s = (g.L.ProofLog.log c.args.log.now).checker in
+    leaves_put (g.L.ProofLog.log c.args.log.now).accepts s (g.L.ProofLog.log c.put.new.self).checker
+    (g.L.ProofLog.log c.args.log.now).told.logs (g.L.ProofLog.log c.put.new.self).told.logs
+    (puts_core (g.L.ProofLog.log c.args.log.now).accepts s (g.L.ProofLog.log c.put.new.self).checker c.args.core.lits
+    c.args.core.hints (g.L.ProofLog.log c.args.log.now).told.logs (g.L.ProofLog.log c.put.new.self).told.logs
     (core_formed s (literals_of s.softs) c.args.core.lits c.args.core.hints c.args.core.back c.requires.core
     (omega (arith, c.keeps_facts.ensures.few, ap (λ (s : State). s.variables) c.checker.ensures))
     c.requires.some)
-    (core_allowed (g.J.RunJudge.accepts c.args.checked.now.judge) s c.args.core.lits c.args.core.hints
+    (core_allowed (g.L.ProofLog.log c.args.log.now).accepts s c.args.core.lits c.args.core.hints
     c.args.core.back c.requires.core c.requires.ready)
     c.in_default.ensures.taken c.in_default.ensures.told)
 
 pub returns-clause-fewer : goal.returns-clause-fewer
 returns-clause-fewer g c =
     on_ok c.take_new.result
-    (core_fewer c.args.checked.now.checker c.put.new.self.checker c.args.core.lits c.args.core.hints
+    (core_fewer (g.L.ProofLog.log c.args.log.now).checker (g.L.ProofLog.log c.put.new.self).checker c.args.core.lits c.args.core.hints
     c.requires.core.left c.in_default.ensures.taken)

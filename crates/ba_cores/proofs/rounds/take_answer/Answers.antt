@@ -8,7 +8,7 @@ use Rattle.ba_cores.proofs.rounds.take_answer.Goals as goal
 
 pub take_model-requires : goal.take_model-requires
 take_model-requires g c =
-    let s = c.args.checked.now.checker in
+    let s = (g.L.ProofLog.log c.args.log.now).checker in
     record {
       model = subst (IsAnswer s (literals_of (heavy c.args.weight.now s.softs))) c.in-Model.is
           c.requires.answer;
@@ -17,34 +17,34 @@ take_model-requires g c =
 
 pub returns-in-Model-clause-found : goal.returns-in-Model-clause-found
 returns-in-Model-clause-found g c =
-    round_model (g.J.RunJudge.accepts c.args.checked.now.judge) c.args.checked.now.checker c.args.weight.now
+    round_model (g.L.ProofLog.log c.args.log.now).accepts (g.L.ProofLog.log c.args.log.now).checker c.args.weight.now
     c.take_model.new.weight c.take_model.result c.take_model.ensures.found c.take_model.ensures.less
 
 pub returns-in-Model-clause-puts : goal.returns-in-Model-clause-puts
-returns-in-Model-clause-puts g c = puts_none (g.J.RunJudge.accepts c.args.checked.now.judge)
-    c.args.checked.now.checker (g.S.StepSink.logs c.args.checked.now.sink)
+returns-in-Model-clause-puts g c = puts_none (g.L.ProofLog.log c.args.log.now).accepts
+    (g.L.ProofLog.log c.args.log.now).checker (g.L.ProofLog.log c.args.log.now).told.logs
 
 pub returns-in-Model-clause-leaves : goal.returns-in-Model-clause-leaves
-returns-in-Model-clause-leaves g c = leaves_none (g.J.RunJudge.accepts c.args.checked.now.judge)
-    c.args.checked.now.checker (g.S.StepSink.logs c.args.checked.now.sink)
+returns-in-Model-clause-leaves g c = leaves_none (g.L.ProofLog.log c.args.log.now).accepts
+    (g.L.ProofLog.log c.args.log.now).checker (g.L.ProofLog.log c.args.log.now).told.logs
 
 pub take_core-requires-clause-core : goal.take_core-requires-clause-core
 take_core-requires-clause-core g c =
-    let s = c.args.checked.now.checker in
+    let s = (g.L.ProofLog.log c.args.log.now).checker in
     heavy_core s c.args.weight.now c.in-Core.core.lits c.in-Core.core.hints c.in-Core.core.back
     (subst (IsAnswer s (literals_of (heavy c.args.weight.now s.softs))) c.in-Core.is c.requires.answer)
 
 pub returns-in-Core-clause-found : goal.returns-in-Core-clause-found
 returns-in-Core-clause-found g c =
     IfOk-weaker c.take_core.result _ _
-    (λ found ends. round_weight (g.J.RunJudge.accepts c.args.checked.now.judge) c.args.checked.now.checker
-    c.take_core.new.checked.checker c.args.weight.now found ends)
+    (λ found ends. round_weight (g.L.ProofLog.log c.args.log.now).accepts (g.L.ProofLog.log c.args.log.now).checker
+    (g.L.ProofLog.log c.take_core.new.log).checker c.args.weight.now found ends)
     c.take_core.ensures.found
 
 pub returns-in-Spent-clause-puts : goal.returns-in-Spent-clause-puts
-returns-in-Spent-clause-puts g c = puts_none (g.J.RunJudge.accepts c.args.checked.now.judge)
-    c.args.checked.now.checker (g.S.StepSink.logs c.args.checked.now.sink)
+returns-in-Spent-clause-puts g c = puts_none (g.L.ProofLog.log c.args.log.now).accepts
+    (g.L.ProofLog.log c.args.log.now).checker (g.L.ProofLog.log c.args.log.now).told.logs
 
 pub returns-in-Spent-clause-leaves : goal.returns-in-Spent-clause-leaves
-returns-in-Spent-clause-leaves g c = leaves_none (g.J.RunJudge.accepts c.args.checked.now.judge)
-    c.args.checked.now.checker (g.S.StepSink.logs c.args.checked.now.sink)
+returns-in-Spent-clause-leaves g c = leaves_none (g.L.ProofLog.log c.args.log.now).accepts
+    (g.L.ProofLog.log c.args.log.now).checker (g.L.ProofLog.log c.args.log.now).told.logs

@@ -10,7 +10,7 @@ use Rattle.ba_cores.proofs.rounds.take_model.Goals as goal
 
 pub returns-clause-found : goal.returns-clause-found
 returns-clause-found g c =
-    let s = c.args.checked.now.checker in
+    let s = (g.L.ProofLog.log c.args.log.now).checker in
     let same : c.softs.result.now ≡ s.softs = c.softs.ensures.softs
     ∙ ap (λ (t : State). t.softs) c.checker-checker.ensures in
     let all : heavy c.args.weight.now s.softs ≡ s.softs =
@@ -23,6 +23,6 @@ returns-clause-found g c =
       bound,
       model.all,
       λ formula softs r. subst (λ (w : _). IsLeast formula softs w c.args.model.values) (sym bound)
-          (least_of_model (g.J.RunJudge.accepts c.args.checked.now.judge) formula softs s
+          (least_of_model (g.L.ProofLog.log c.args.log.now).accepts formula softs s
           c.args.model.values model c.requires.ready.none_blocked r),
     )

@@ -6,23 +6,23 @@ use Rattle.ba_enum.proofs.blocking.block.Goals as goal
 
 pub found_set-requires-clause-long : goal.found_set-requires-clause-long
 found_set-requires-clause-long g c =
-    long_enough (g.J.RunJudge.accepts c.args.checked.now.judge) c.args.task.now.encoded.now
-    c.args.checked.now.checker c.args.model.now.values c.args.found.now c.requires.reached c.requires.next
+    long_enough (g.L.ProofLog.log c.args.log.now).accepts c.args.task.now.encoded.now
+    (g.L.ProofLog.log c.args.log.now).checker c.args.model.now.values c.args.found.now c.requires.reached c.requires.next
 
 pub returns-in_err-set-clause-leaves : goal.returns-in_err-set-clause-leaves
 returns-in_err-set-clause-leaves g c =
-    leaves_none (g.J.RunJudge.accepts c.args.checked.now.judge) c.args.checked.now.checker
-    (g.S.StepSink.logs c.args.checked.now.sink)
+    leaves_none (g.L.ProofLog.log c.args.log.now).accepts (g.L.ProofLog.log c.args.log.now).checker
+    (g.L.ProofLog.log c.args.log.now).told.logs
 
 pub returns-in_err-from_slice-clause-leaves : goal.returns-in_err-from_slice-clause-leaves
 returns-in_err-from_slice-clause-leaves g c =
-    leaves_none (g.J.RunJudge.accepts c.args.checked.now.judge) c.args.checked.now.checker
-    (g.S.StepSink.logs c.args.checked.now.sink)
+    leaves_none (g.L.ProofLog.log c.args.log.now).accepts (g.L.ProofLog.log c.args.log.now).checker
+    (g.L.ProofLog.log c.args.log.now).told.logs
 
 pub returns-in_err-try_clone-clause-leaves : goal.returns-in_err-try_clone-clause-leaves
 returns-in_err-try_clone-clause-leaves g c =
-    leaves_none (g.J.RunJudge.accepts c.args.checked.now.judge) c.args.checked.now.checker
-    (g.S.StepSink.logs c.args.checked.now.sink)
+    leaves_none (g.L.ProofLog.log c.args.log.now).accepts (g.L.ProofLog.log c.args.log.now).checker
+    (g.L.ProofLog.log c.args.log.now).told.logs
 
 pub put-requires-clause-formed : goal.put-requires-clause-formed
 put-requires-clause-formed g c =
@@ -36,7 +36,7 @@ put-requires-clause-formed g c =
           c.in_ok-set.ensures.in_range;
     })
     (c.in_ok-from_slice.ensures ∙ c.as_slice.ensures) c.in_ok-try_clone.ensures in
-    block_formed (g.J.RunJudge.accepts c.args.checked.now.judge) encoded c.args.checked.now.checker values _
+    block_formed (g.L.ProofLog.log c.args.log.now).accepts encoded (g.L.ProofLog.log c.args.log.now).checker values _
     c.requires.readable c.requires.next read
 
 pub put-requires-clause-allowed : goal.put-requires-clause-allowed
@@ -51,15 +51,15 @@ put-requires-clause-allowed g c =
           c.in_ok-set.ensures.in_range;
     })
     (c.in_ok-from_slice.ensures ∙ c.as_slice.ensures) c.in_ok-try_clone.ensures in
-    block_allowed (g.J.RunJudge.accepts c.args.checked.now.judge) encoded c.args.checked.now.checker values
+    block_allowed (g.L.ProofLog.log c.args.log.now).accepts encoded (g.L.ProofLog.log c.args.log.now).checker values
     c.args.found.now _
     c.requires.readable c.requires.reached c.requires.next c.requires.ready read
 
 pub returns-in_err-put-clause-leaves : goal.returns-in_err-put-clause-leaves
 returns-in_err-put-clause-leaves g c =
-    let good = g.J.RunJudge.accepts c.args.checked.now.judge in
-    let old = c.args.checked.now in
-    let new = c.put.new.checked in
+    let good = (g.L.ProofLog.log c.args.log.now).accepts in
+    let old = g.L.ProofLog.log c.args.log.now in
+    let new = g.L.ProofLog.log c.put.new.log in
     let encoded = c.args.task.now.encoded.now in
     let values = c.args.model.now.values in
     let read = read_same encoded values c.in_ok-from_slice.field-0 c.in_ok-try_clone.field-0 c.in_ok-set.set
@@ -71,16 +71,16 @@ returns-in_err-put-clause-leaves g c =
     })
     (c.in_ok-from_slice.ensures ∙ c.as_slice.ensures) c.in_ok-try_clone.ensures in
     leaves_tried good old.checker new.checker (Block c.in_ok-from_slice.field-0 c.in_ok-try_clone.field-0)
-    (g.S.StepSink.logs old.sink) (g.S.StepSink.logs new.sink)
+    old.told.logs new.told.logs
     (block_allowed good encoded old.checker values c.args.found.now _ c.requires.readable c.requires.reached
     c.requires.next c.requires.ready read)
     c.in_err-put.ensures.taken_or_asleep c.in_err-put.ensures.refused
 
 pub returns-in_err-push-clause-leaves : goal.returns-in_err-push-clause-leaves
 returns-in_err-push-clause-leaves g c =
-    let good = g.J.RunJudge.accepts c.args.checked.now.judge in
-    let old = c.args.checked.now in
-    let new = c.put.new.checked in
+    let good = (g.L.ProofLog.log c.args.log.now).accepts in
+    let old = g.L.ProofLog.log c.args.log.now in
+    let new = g.L.ProofLog.log c.put.new.log in
     let encoded = c.args.task.now.encoded.now in
     let values = c.args.model.now.values in
     let read = read_same encoded values c.in_ok-from_slice.field-0 c.in_ok-try_clone.field-0 c.in_ok-set.set
@@ -92,16 +92,16 @@ returns-in_err-push-clause-leaves g c =
     })
     (c.in_ok-from_slice.ensures ∙ c.as_slice.ensures) c.in_ok-try_clone.ensures in
     leaves_one good old.checker new.checker (Block c.in_ok-from_slice.field-0 c.in_ok-try_clone.field-0)
-    (g.S.StepSink.logs old.sink) (g.S.StepSink.logs new.sink)
+    old.told.logs new.told.logs
     (block_allowed good encoded old.checker values c.args.found.now _ c.requires.readable c.requires.reached
     c.requires.next c.requires.ready read)
     c.in_ok-put.ensures.taken c.in_ok-put.ensures.told
 
 pub returns-clause-blocks : goal.returns-clause-blocks
 returns-clause-blocks g c =
-    let good = g.J.RunJudge.accepts c.args.checked.now.judge in
-    let old = c.args.checked.now in
-    let new = c.put.new.checked in
+    let good = (g.L.ProofLog.log c.args.log.now).accepts in
+    let old = g.L.ProofLog.log c.args.log.now in
+    let new = g.L.ProofLog.log c.put.new.log in
     let encoded = c.args.task.now.encoded.now in
     let values = c.args.model.now.values in
     let groups = c.in_ok-from_slice.field-0 in
@@ -117,7 +117,7 @@ returns-clause-blocks g c =
     record {
       set = record { groups = groups; run = run };
       puts = block_puts good encoded old.checker new.checker values c.args.found.now _
-          (g.S.StepSink.logs old.sink) (g.S.StepSink.logs new.sink)
+          old.told.logs new.told.logs
           c.requires.readable c.requires.reached c.requires.next c.requires.ready read
           c.in_ok-put.ensures.taken c.in_ok-put.ensures.told;
       taken = c.in_ok-put.ensures.taken;
@@ -127,9 +127,9 @@ returns-clause-blocks g c =
 
 pub returns-clause-leaves : goal.returns-clause-leaves
 returns-clause-leaves g c =
-    let good = g.J.RunJudge.accepts c.args.checked.now.judge in
-    let old = c.args.checked.now in
-    let new = c.put.new.checked in
+    let good = (g.L.ProofLog.log c.args.log.now).accepts in
+    let old = g.L.ProofLog.log c.args.log.now in
+    let new = g.L.ProofLog.log c.put.new.log in
     let encoded = c.args.task.now.encoded.now in
     let values = c.args.model.now.values in
     let read = read_same encoded values c.in_ok-from_slice.field-0 c.in_ok-try_clone.field-0 c.in_ok-set.set
@@ -141,7 +141,7 @@ returns-clause-leaves g c =
     })
     (c.in_ok-from_slice.ensures ∙ c.as_slice.ensures) c.in_ok-try_clone.ensures in
     leaves_one good old.checker new.checker (Block c.in_ok-from_slice.field-0 c.in_ok-try_clone.field-0)
-    (g.S.StepSink.logs old.sink) (g.S.StepSink.logs new.sink)
+    old.told.logs new.told.logs
     (block_allowed good encoded old.checker values c.args.found.now _ c.requires.readable c.requires.reached
     c.requires.next c.requires.ready read)
     c.in_ok-put.ensures.taken c.in_ok-put.ensures.told

@@ -7,35 +7,35 @@ use Rattle.ba_enum.proofs.endings.locate.Goals as goal
 
 pub returns-in_err-sets-clause-leaves : goal.returns-in_err-sets-clause-leaves
 returns-in_err-sets-clause-leaves g c =
-    leaves_none (g.J.RunJudge.accepts c.args.checked.now.judge) c.args.checked.now.checker
-    (g.S.StepSink.logs c.args.checked.now.sink)
+    leaves_none (g.L.ProofLog.log c.args.log.now).accepts (g.L.ProofLog.log c.args.log.now).checker
+    (g.L.ProofLog.log c.args.log.now).told.logs
 
 pub put-requires-clause-allowed : goal.put-requires-clause-allowed
 put-requires-clause-allowed g c =
-    last_allowed (g.J.RunJudge.accepts c.args.checked.now.judge) c.args.checked.now.checker c.args.found
+    last_allowed (g.L.ProofLog.log c.args.log.now).accepts (g.L.ProofLog.log c.args.log.now).checker c.args.found
     c.args.core.lits c.args.core.hints c.args.core.back
     c.requires.core c.requires.sets c.requires.ready
 
 pub returns-in_err-put-clause-leaves : goal.returns-in_err-put-clause-leaves
 returns-in_err-put-clause-leaves g c =
-    let good = g.J.RunJudge.accepts c.args.checked.now.judge in
-    let old = c.args.checked.now in
-    let new = c.put.new.checked in
+    let good = (g.L.ProofLog.log c.args.log.now).accepts in
+    let old = g.L.ProofLog.log c.args.log.now in
+    let new = g.L.ProofLog.log c.put.new.log in
     leaves_tried good old.checker new.checker (EndLocated c.args.core.lits c.args.core.hints)
-    (g.S.StepSink.logs old.sink) (g.S.StepSink.logs new.sink)
+    old.told.logs new.told.logs
     (last_allowed good old.checker c.args.found c.args.core.lits c.args.core.hints c.args.core.back
     c.requires.core c.requires.sets c.requires.ready)
     c.in_err-put.ensures.taken_or_asleep c.in_err-put.ensures.refused
 
 pub returns-clause-ends : goal.returns-clause-ends
 returns-clause-ends g c =
-    let old = c.args.checked.now in
-    let new = c.put.new.checked in
+    let old = g.L.ProofLog.log c.args.log.now in
+    let new = g.L.ProofLog.log c.put.new.log in
     let few : old.checker.variables < 2 ^ 62 =
     subst (λ (s : State). s.variables < 2 ^ 62) c.checker.ensures c.keeps_facts.ensures.few in
-    last_ends (g.J.RunJudge.accepts old.judge) old.checker new.checker c.args.found c.in_ok-sets.sets
+    last_ends old.accepts old.checker new.checker c.args.found c.in_ok-sets.sets
     c.args.core.lits c.args.core.hints c.args.core.back c.args.weight
-    (g.S.StepSink.logs old.sink) (g.S.StepSink.logs new.sink)
+    old.told.logs new.told.logs
     c.requires.core c.requires.sets c.requires.ready c.requires.weight c.in_ok-sets.ensures.same
     c.in_ok-sets.ensures.order c.in_ok-sets.ensures.count
     (last_formed old.checker c.args.found c.args.core.lits c.args.core.hints c.args.core.back
@@ -44,11 +44,11 @@ returns-clause-ends g c =
 
 pub returns-clause-leaves : goal.returns-clause-leaves
 returns-clause-leaves g c =
-    let good = g.J.RunJudge.accepts c.args.checked.now.judge in
-    let old = c.args.checked.now in
-    let new = c.put.new.checked in
+    let good = (g.L.ProofLog.log c.args.log.now).accepts in
+    let old = g.L.ProofLog.log c.args.log.now in
+    let new = g.L.ProofLog.log c.put.new.log in
     leaves_one good old.checker new.checker (EndLocated c.args.core.lits c.args.core.hints)
-    (g.S.StepSink.logs old.sink) (g.S.StepSink.logs new.sink)
+    old.told.logs new.told.logs
     (last_allowed good old.checker c.args.found c.args.core.lits c.args.core.hints c.args.core.back
     c.requires.core c.requires.sets c.requires.ready)
     c.in_ok-put.ensures.taken c.in_ok-put.ensures.told

@@ -8,19 +8,18 @@ use Rattle.ba_enum.proofs.enumerating.enumerate.Given as goal
 
 abbrev pub invariant-turns : goal.invariant-turns
 invariant-turns g l = record {
-  goes_on : MayGoOn l.search l.checked;
-  adds : Adds (g.J.RunJudge.accepts l.initial.checked.judge) l.task.encoded.now.formula
-      (softs_of l.task.encoded.now.groups) l.initial.checked.checker l.checked.checker
-      [] l.found (g.S.StepSink.logs l.initial.checked.sink) (g.S.StepSink.logs l.checked.sink);
-  next : IsNext l.task.encoded.now.formula (softs_of l.task.encoded.now.groups) l.checked.checker
+  goes_on : MayGoOn l.search (g.L.ProofLog.log l.log);
+  adds : Adds (g.L.ProofLog.log l.initial.log).accepts l.task.encoded.now.formula
+      (softs_of l.task.encoded.now.groups) (g.L.ProofLog.log l.initial.log).checker (g.L.ProofLog.log l.log).checker
+      [] l.found (g.L.ProofLog.log l.initial.log).told.logs (g.L.ProofLog.log l.log).told.logs;
+  next : IsNext l.task.encoded.now.formula (softs_of l.task.encoded.now.groups) (g.L.ProofLog.log l.log).checker
       l.model.values;
-  assumed : l.task.assumptions.items ≡ literals_of l.checked.checker.softs;
-  listed : l.checked.checker.most_sets ≡ l.task.sets;
+  assumed : l.task.assumptions.items ≡ literals_of (g.L.ProofLog.log l.log).checker.softs;
+  listed : (g.L.ProofLog.log l.log).checker.most_sets ≡ l.task.sets;
   few : length l.found ≤ l.task.sets;
-  ready : IsReady l.checked.checker;
-  restart : l.search.restart ≡ l.initial.search.restart;
-  keep : l.search.keep ≡ l.initial.search.keep;
-  lasts : Lasts g.S.StepSink.over g.S.StepSink.faults g.S.StepSink.references l.initial.checked l.checked;
+  ready : IsReady (g.L.ProofLog.log l.log).checker;
+  rules : l.search.rules ≡ l.initial.search.rules;
+  lasts : Lasts (g.L.ProofLog.log l.initial.log) (g.L.ProofLog.log l.log);
 }
 
 abbrev pub decreases-turns : goal.decreases-turns

@@ -17,112 +17,6 @@ use Rattle.ba_guards.specs.Parts.{assert_part, beyond_part, binary_part, convert
 use Rattle.ba_tree.specs.Acts.{then_do}
 use Rattle.ba_guards.proofs.walking.+walk.Goals as goal
 
-pub guard_node-returns-in-Set : goal.guard_node-returns-in-Set
-guard_node-returns-in-Set t c = on_ok_weaker c.set.result (λ made vars infos fits fit.
-    let d = declared vars c.args.arrays.now in
-    let n = c.args.node.now in
-    let h = sym (fit-Set d n fit.labels c.in-Set.to c.in-Set.from c.in-Set.is) ∙ fit.fit in
-    means-as d (λ f r. set_part c.in-Set.to c.in-Set.from) (λ f r. trace_node r d.arrays n) c.args.b.now _
-    (made d fits h)
-    (λ f r cs. sym (trace-Set r d.arrays n (traced_of f c.args.b.now cs) c.in-Set.to c.in-Set.from
-    c.in-Set.is))) c.set.ensures
-
-pub guard_node-returns-in-Unary : goal.guard_node-returns-in-Unary
-guard_node-returns-in-Unary t c = on_ok_weaker c.unary.result (λ made vars infos fits fit.
-    let d = declared vars c.args.arrays.now in
-    let n = c.args.node.now in
-    let h = sym (fit-Unary d n fit.labels c.in-Unary.to c.in-Unary.op c.in-Unary.t c.in-Unary.a
-    c.in-Unary.is) ∙ fit.fit in
-    means-as d (λ f r. unary_part c.in-Unary.to c.in-Unary.op c.in-Unary.t c.in-Unary.a) (λ f r. trace_node
-    r d.arrays n) c.args.b.now _
-    (made d fits h)
-    (λ f r cs. sym (trace-Unary r d.arrays n (traced_of f c.args.b.now cs) c.in-Unary.to c.in-Unary.op
-    c.in-Unary.t c.in-Unary.a c.in-Unary.is))) c.unary.ensures
-
-pub guard_node-returns-in-Convert : goal.guard_node-returns-in-Convert
-guard_node-returns-in-Convert t c = on_ok_weaker c.convert.result (λ made vars infos fits fit.
-    let d = declared vars c.args.arrays.now in
-    let n = c.args.node.now in
-    let h = sym (fit-Convert d n fit.labels c.in-Convert.to c.in-Convert.t c.in-Convert.a c.in-Convert.is)
-    ∙ fit.fit in
-    means-as d (λ f r. convert_part c.in-Convert.to c.in-Convert.t c.in-Convert.a) (λ f r. trace_node r
-    d.arrays n) c.args.b.now _
-    (made d fits h)
-    (λ f r cs. sym (trace-Convert r d.arrays n (traced_of f c.args.b.now cs) c.in-Convert.to c.in-Convert.t
-    c.in-Convert.a c.in-Convert.is))) c.convert.ensures
-
-pub guard_node-returns-in-Load : goal.guard_node-returns-in-Load
-guard_node-returns-in-Load t c = on_ok_weaker c.load.result (λ made vars infos fits fit.
-    let d = declared vars c.args.arrays.now in
-    let n = c.args.node.now in
-    let h = sym (fit-Load d n fit.labels c.in-Load.to c.in-Load.array c.in-Load.index c.in-Load.stmt
-    c.in-Load.is) ∙ fit.fit in
-    means-as d (λ f r. load_part c.in-Load.to c.in-Load.array c.in-Load.index c.in-Load.stmt) (λ f r.
-    trace_node r d.arrays n) c.args.b.now _
-    (made vars infos fits h)
-    (λ f r cs. sym (trace-Load r d.arrays n (traced_of f c.args.b.now cs) c.in-Load.to c.in-Load.array
-    c.in-Load.index c.in-Load.stmt c.in-Load.is))) c.load.ensures
-
-pub guard_node-returns-in-Save : goal.guard_node-returns-in-Save
-guard_node-returns-in-Save t c = on_ok_weaker c.save.result (λ made vars infos fits fit.
-    let d = declared vars c.args.arrays.now in
-    let n = c.args.node.now in
-    let h = sym (fit-Save d n fit.labels c.in-Save.array c.in-Save.index c.in-Save.value c.in-Save.stmt
-    c.in-Save.is) ∙ fit.fit in
-    means-as d (λ f r. save_part c.in-Save.array c.in-Save.index c.in-Save.value c.in-Save.stmt) (λ f r.
-    trace_node r d.arrays n) c.args.b.now _
-    (made vars infos fits h)
-    (λ f r cs. sym (trace-Save r d.arrays n (traced_of f c.args.b.now cs) c.in-Save.array c.in-Save.index
-    c.in-Save.value c.in-Save.stmt c.in-Save.is))) c.save.ensures
-
-pub guard_node-returns-in-Assert : goal.guard_node-returns-in-Assert
-guard_node-returns-in-Assert t c = on_ok_weaker c.assert_nonzero.result (λ made vars infos fits fit.
-    let d = declared vars c.args.arrays.now in
-    let n = c.args.node.now in
-    let h = sym (fit-Assert d n fit.labels c.in-Assert.when c.in-Assert.stmt c.in-Assert.is) ∙ fit.fit in
-    means-as d (λ f r. assert_part c.in-Assert.when c.in-Assert.stmt) (λ f r. trace_node r d.arrays n)
-    c.args.b.now _
-    (made d fits h)
-    (λ f r cs. sym (trace-Assert r d.arrays n (traced_of f c.args.b.now cs) c.in-Assert.when
-    c.in-Assert.stmt c.in-Assert.is))) c.assert_nonzero.ensures
-
-pub guard_node-returns-in-Binary : goal.guard_node-returns-in-Binary
-guard_node-returns-in-Binary t c = on_ok_weaker c.binary.result (λ made vars infos fits fit.
-    let d = declared vars c.args.arrays.now in
-    let n = c.args.node.now in
-    let h = sym (fit-Binary d n fit.labels c.in-Binary.to c.in-Binary.op c.in-Binary.t c.in-Binary.a
-    c.in-Binary.right c.in-Binary.stmt c.in-Binary.is) ∙ fit.fit in
-    means-as d (λ f r. binary_part c.in-Binary.to c.in-Binary.op c.in-Binary.t c.in-Binary.a
-    c.in-Binary.right c.in-Binary.stmt) (λ f r. trace_node r d.arrays n) c.args.b.now _
-    (made d fits h)
-    (λ f r cs. sym (trace-Binary r d.arrays n (traced_of f c.args.b.now cs) c.in-Binary.to c.in-Binary.op
-    c.in-Binary.t c.in-Binary.a c.in-Binary.right c.in-Binary.stmt c.in-Binary.is))) c.binary.ensures
-
-pub guard_node-returns-in-Beyond : goal.guard_node-returns-in-Beyond
-guard_node-returns-in-Beyond t c = on_ok_weaker c.beyond.result (λ made vars infos fits fit.
-    let d = declared vars c.args.arrays.now in
-    let n = c.args.node.now in
-    means-as d (λ f r. beyond_part c.in-Beyond.stmt) (λ f r. trace_node r d.arrays n) c.args.b.now _
-    (made d fits)
-    (λ f r cs. sym (trace-Beyond r d.arrays n (traced_of f c.args.b.now cs) c.in-Beyond.stmt c.in-Beyond.is)))
-    c.beyond.ensures
-
-pub guard_node-returns-in-Leave : goal.guard_node-returns-in-Leave
-guard_node-returns-in-Leave t c = on_ok_weaker c.leave.result (λ made vars infos fits fit.
-    let d = declared vars c.args.arrays.now in
-    let n = c.args.node.now in
-    means-as d (λ f r. leave_part c.in-Leave.label) (λ f r. trace_node r d.arrays n) c.args.b.now _
-    (leave-means d c.in-Leave.label c.args.b.now _ fits (made d fits))
-    (λ f r cs. sym (trace-Leave r d.arrays n (traced_of f c.args.b.now cs) c.in-Leave.label c.in-Leave.is)))
-    c.leave.ensures
-
-pub guard_node-returns-in-Loop : goal.guard_node-returns-in-Loop
-guard_node-returns-in-Loop t c = λ vars infos fits fit.
-    let n = c.args.node.now in
-    let no_loop : false ≡ true = sym (unrolled-Loop n c.in-Loop.after c.in-Loop.head c.in-Loop.when
-    c.in-Loop.body c.in-Loop.step
-    c.in-Loop.stmt c.in-Loop.is) ∙ fit.unrolled in absurd (cc)
-
 -- the sides of a branch, and the body of a block
 
 fit-nth : (d : Declared) (ns : List Node) (i : ℕ) (x : Node) → AreFit d ns → i < length ns →
@@ -208,20 +102,6 @@ guard_node-returns-in_ok-guard_nodes-in-Block t c = on_ok_weaker c.end_block.res
     (λ f r cs. sym (trace-Block r d.arrays n (traced_of f c.args.b.now cs) c.in-Block.label c.in-Block.body
     c.in-Block.is))) c.end_block.ensures
 
-pub guard_node-returns-in-Fill : goal.guard_node-returns-in-Fill
-guard_node-returns-in-Fill t c = on_ok_weaker c.fill.result (λ made vars infos fits fit.
-    let d = declared vars c.args.arrays.now in
-    let n = c.args.node.now in
-    let a = c.in-Fill.array in
-    let h = sym (fit-Fill d n fit.labels a c.in-Fill.values c.in-Fill.is) ∙ fit.fit in
-    means-as d (λ f r. fill_part a c.in-Fill.values.items) (λ f r. trace_node r d.arrays n) c.args.b.now _
-    (subst (λ os. Means d (λ f r. fill_part a os) c.args.b.now c.fill.new.b) c.as_slice.ensures.value
-    (made d fits
-    (ap (λ os. is_array d a && list_all (is_operand d) os && (length os == (info_at d.arrays a).len))
-    c.as_slice.ensures.value ∙ h)))
-    (λ f r cs. sym (trace-Fill r d.arrays n (traced_of f c.args.b.now cs) a c.in-Fill.values c.in-Fill.is)))
-    c.fill.ensures
-
 pub guard_node-returns-in_ok-take_values-in-Pick : goal.guard_node-returns-in_ok-take_values-in-Pick
 guard_node-returns-in_ok-take_values-in-Pick t c = on_ok_weaker c.join.result (λ made vars infos fits fit.
     let d = declared vars c.args.arrays.now in
@@ -241,9 +121,9 @@ guard_node-returns-in_ok-take_values-in-Pick t c = on_ok_weaker c.join.result (�
     (c.in_ok-offer-in-Pick.ensures vars infos fits.words parts.0) c.in_ok-add_place-in-Pick.ensures
     c.in_ok-fork-in-Pick.ensures.fork c.in_ok-fork-in-Pick.ensures.opens
     (λ fits2. subst (λ ns. Means d (λ f r. trace_nodes r d.arrays ns) c.open.new.self c.guard_nodes.new.b)
-    c.as_slice-in-Pick.ensures.value
+    c.as_slice.ensures.value
     (c.in_ok-guard_nodes-in-Pick.ensures vars infos fits2 (subst (AreFit d) (sym
-    c.as_slice-in-Pick.ensures.value) parts.1)))
+    c.as_slice.ensures.value) parts.1)))
     c.in_ok-sides-in-Pick.ensures.sides c.in_ok-sides-in-Pick.ensures.switches
     (λ fits4 sides second names right. c.in_ok-take_values-in-Pick.ensures vars infos fits4 parts.0 sides
     second names right)

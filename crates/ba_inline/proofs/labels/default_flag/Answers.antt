@@ -1,4 +1,3 @@
-use Rattle.std.proofs.Common.{rules}
 use Rattle.std.proofs.lemmas.Result.{IfOk-weaker}
 use Rattle.ba_inline.proofs.EntrySteps.{default-none, default-some}
 use Rattle.ba_inline.proofs.labels.default_flag.Goals as goal

@@ -1,4 +1,4 @@
-use Rattle.std.proofs.Common.{rules, length, sym, subst}
+use Rattle.std.proofs.Common.{sym, subst}
 use Rattle.std.proofs.lemmas.Bool.{OnTrue_at}
 use Rattle.ba_code.specs.State.{operand_value}
 use Rattle.ba_code.specs.declared.nodes.Operand.TheVariants.{Var}

@@ -1,4 +1,3 @@
-use Rattle.std.proofs.Common.{rules}
 use Rattle.std.proofs.lemmas.Result.{IfOk-weaker}
 use Rattle.ba_inline.proofs.FlagSteps.{later-false, later-true}
 use Rattle.ba_inline.proofs.labels.either_where.Goals as goal

@@ -1,4 +1,4 @@
-use Rattle.std.proofs.Common.{rules, SFits, w64, to_z, of_z, to_z-of_z, length, sym, subst}
+use Rattle.std.proofs.Common.{rules, SFits, w64, to_z, of_z, to_z-of_z, sym, subst}
 use Rattle.ba_code.specs.State.{operand_value}
 use Rattle.ba_code.specs.declared.nodes.Operand.TheVariants.{Var}
 use Rattle.ba_inline.proofs.Adding.{adds-binary}

@@ -1,4 +1,4 @@
-use Rattle.std.proofs.Common.{rules, ◌≡◌, ◌==◌, ◌≤◌, get_or, refl, ◌++◌, ◌∷◌, [], pos, map, take, length, sym, ◌∙◌, ap, subst, arith}
+use Rattle.std.proofs.Common.{rules, ◌≡◌, ◌==◌, get_or, refl, pos, take, length, sym, ◌∙◌, ap, subst, arith}
 use Rattle.std.specs.Prelude.{slice_index_or}
 use Rattle.std.proofs.lemmas.List.{get_or_default, length-take-le, take_all}
 use Rattle.ba_tree.specs.declared.tree.Start.{Start}
@@ -7,7 +7,7 @@ use Rattle.ba_code.specs.declared.nodes.Operand.TheVariants.{Const}
 use Rattle.ba_inline.proofs.EntrySteps.{Joined, between-flag, joined-all, joined-more, joined-none}
 use Rattle.ba_inline.proofs.FlagSteps.{between-more}
 use Rattle.ba_inline.proofs.Rows.{next-taken}
-use Rattle.ba_inline.specs.Flags.{AreBetween, IsBetween}
+use Rattle.ba_inline.specs.Flags.{IsBetween}
 use Rattle.ba_inline.proofs.labels.joined.Goals as goal
 
 first : Start

@@ -1,4 +1,4 @@
-use Rattle.std.proofs.Common.{rules, ◌≤◌, ◌++◌, ◌∷◌, [], pos, map, take, length, get_or, refl, sym, subst, arith}
+use Rattle.std.proofs.Common.{rules, pos, map, take, length, get_or, refl, sym, subst, arith}
 use Rattle.std.proofs.lemmas.List.{get_or_default, take_all}
 use Rattle.ba_code.specs.State.{operand_value}
 use Rattle.ba_code.specs.declared.nodes.Operand.TheVariants.{Const, Var}

@@ -1,4 +1,4 @@
-use Rattle.std.proofs.Common.{rules, ◌≤◌, ◌++◌, ◌∷◌, [], pos, take, length, get_or, refl, sym, ap, subst, arith}
+use Rattle.std.proofs.Common.{rules, ◌++◌, ◌∷◌, [], pos, take, get_or, refl, sym, ap, subst, arith}
 use Rattle.std.proofs.lemmas.List.{get_or_default, take_all}
 use Rattle.ba_tree.specs.declared.tree.Start.{Start}
 use Rattle.ba_code.specs.State.{operand_value}

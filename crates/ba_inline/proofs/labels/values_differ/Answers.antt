@@ -1,4 +1,4 @@
-use Rattle.std.proofs.Common.{rules, sym, ◌∙◌, ap, pos}
+use Rattle.std.proofs.Common.{sym, ◌∙◌, ap, pos}
 use Rattle.std.proofs.lemmas.List.{get_or_default}
 use Rattle.ba_tree.specs.declared.tree.Start.{Start}
 use Rattle.ba_inline.proofs.Entering.{differ-goes, differ-stops}

@@ -8,9 +8,9 @@ use Rattle.ba_localise.proofs.search.all_sets_into.Goals as goal
 
 pub returns-clause-cause : goal.returns-clause-cause
 returns-clause-cause g c = λ is. elim (c.all_sets-answer.ensures.ran.cause is) [
-  | inl failed ↦ absurd (cc (sym c.requires.working ∙ failed))
+  | inl failed ↦ absurd (cc (sym c.requires.started.working ∙ failed))
   | inr rose ↦
-      let start = ap (λ x. g.D.StepSink.faults x.sink.second.now) c.new-checked.ensures in
+      let start = ap (λ x. x.told.faults) c.new-checked.ensures in
       rose-second _ _ _ _ start (first_of (search rules, cc, grind arith)) rose
 ]
 
@@ -18,14 +18,8 @@ pub returns-clause-leaves : goal.returns-clause-leaves
 returns-clause-leaves g c =
     leaves-same _ _ _ _ _ _ _ _ _ _ (ap (λ x. g.J.RunJudge.accepts x.judge) c.new-checked.ensures)
     (ap (λ x. x.checker) c.new-checked.ensures)
-    (ap (λ x. g.D.StepSink.logs x.sink.second.now) c.new-checked.ensures) (sym c.finish-checker.ensures.checker)
-    (first_of (search rules, cc, grind arith)) (c.all_sets-answer.ensures.leaves c.requires.working)
-
-pub all_sets-answer-requires-clause-restart : goal.all_sets-answer-requires-clause-restart
-all_sets-answer-requires-clause-restart g c = c.requires.restart
-
-pub all_sets-answer-requires-clause-keep : goal.all_sets-answer-requires-clause-keep
-all_sets-answer-requires-clause-keep g c = c.requires.keep
+    (ap (λ x. x.told.logs) c.new-checked.ensures) (sym c.finish-checker.ensures.checker)
+    (first_of (search rules, cc, grind arith)) (c.all_sets-answer.ensures.leaves c.requires.started.working)
 
 pub all_sets-answer-requires-clause-clauses : goal.all_sets-answer-requires-clause-clauses
 all_sets-answer-requires-clause-clauses g c = c.requires.clauses
@@ -41,8 +35,8 @@ all_sets-answer-requires-clause-fresh g c = λ working.
     let same = ap (λ x. x.checker) c.new-checked.ensures in
     record {
       same = subst (λ (s : State). AreLive c.args.search.now.clauses (clause_at s.clauses)) (sym same)
-          c.requires.same;
+          c.requires.started.same;
       starts = subst (λ (s : State). s ≡ first_state encoded.formula (softs_of encoded.groups) s.budget
-          c.args.sets) (sym same) c.requires.starts;
+          c.args.sets) (sym same) c.requires.started.starts;
       accepted = ap (λ x. x.refusal) c.new-checked.ensures;
     }

@@ -1,4 +1,4 @@
-use Rattle.std.proofs.Common.{◌≡◌, ℕ, List, map, arith, sym, ◌∙◌, ap, subst}
+use Rattle.std.proofs.Common.{◌≡◌, ℕ, List, map, sym, ◌∙◌, ap, subst}
 use Rattle.std.proofs.lemmas.Result.{IfOk-weaker}
 use Rattle.ba_derivations.specs.Encodings.{IsFaithful}
 use Rattle.ba_encode.specs.Softs.{softs_of}
@@ -7,10 +7,9 @@ use Rattle.ba_lits.specs.Formulas.{Cnf}
 use Rattle.ba_lits.specs.Satisfaction.{Soft}
 use Rattle.ba_judge.proofs.Judges.{same-judge}
 use Rattle.ba_localise.proofs.Concluding.{finds, left}
-use Rattle.ba_localise.specs.Verdicts.{leaves_formula, told}
+use Rattle.ba_localise.specs.Verdicts.{leaves_formula}
 use Rattle.ba_steps.specs.Sinks.{basis, with_told}
-use Rattle.ba_steps.proofs.SinkLaws.{rose_later}
-use Rattle.ba_search.specs.Rules.{IsRestartRule, IsKeepRule}
+use Rattle.ba_steps.proofs.SinkLaws.{Outlasts-trans, rose_later}
 use Rattle.ba_learn.specs.Live.{AreLive}
 use Rattle.ba_checker.specs.Facts.{AreSelectors}
 use Rattle.ba_checker.specs.States.{State, clause_at, kept, first_state}
@@ -51,8 +50,8 @@ returns-clause-finds g c =
     ∙ (ap (λ (f : Cnf). first_state f c.as_slice.result.now conflicts most) c.formula.ensures
     ∙ ap (λ (ss : List Soft). first_state formula ss conflicts most)
     (c.as_slice.ensures.value ∙ c.in_ok-softs.ensures)) in
-    let before = g.D.StepSink.over c.args.steps.now in
-    let begins : g.D.StepSink.over c.begin.new.self ≡ with_told (basis formula softs) before =
+    let before = (g.D.StepSink.told c.args.steps.now).over in
+    let begins : (g.D.StepSink.told c.begin.new.self).over ≡ with_told (basis formula softs) before =
     c.in_ok-begin.ensures.told
     ∙ (ap (λ (f : Cnf). with_told (basis f c.as_slice-2.result.now) before) c.formula-3.ensures
     ∙ ap (λ (ss : List Soft). with_told (basis formula ss) before)
@@ -61,9 +60,9 @@ returns-clause-finds g c =
     IfOk-weaker c.all_sets_into-answer.result.0 _ _
     (λ verdict enumerates. finds w (judge_of p i b) (judge_of j.program.now j.input.now j.bounds)
     (basis formula softs) c.in_ok-checker.checker c.all_sets_into-answer.result.1 conflicts most
-    (told g.D.StepSink.over g.D.StepSink.logs g.D.StepSink.faults c.args.steps.now)
-    (told g.D.StepSink.over g.D.StepSink.logs g.D.StepSink.faults c.begin.new.self)
-    (told g.D.StepSink.over g.D.StepSink.logs g.D.StepSink.faults c.all_sets_into-answer.new.steps) verdict
+    (g.D.StepSink.told c.args.steps.now)
+    (g.D.StepSink.told c.begin.new.self)
+    (g.D.StepSink.told c.all_sets_into-answer.new.steps) verdict
     c.in_ok-encoded.ensures.faithful same starts begins c.in_ok-begin.ensures.logs_stay has.over_stays
     enumerates)
     has.verdict
@@ -109,8 +108,8 @@ returns-clause-leaves g c =
     ∙ (ap (λ (f : Cnf). first_state f c.as_slice.result.now conflicts most) c.formula.ensures
     ∙ ap (λ (ss : List Soft). first_state formula ss conflicts most)
     (c.as_slice.ensures.value ∙ c.in_ok-softs.ensures)) in
-    let before = g.D.StepSink.over c.args.steps.now in
-    let begins : g.D.StepSink.over c.begin.new.self ≡ with_told (basis formula softs) before =
+    let before = (g.D.StepSink.told c.args.steps.now).over in
+    let begins : (g.D.StepSink.told c.begin.new.self).over ≡ with_told (basis formula softs) before =
     c.in_ok-begin.ensures.told
     ∙ (ap (λ (f : Cnf). with_told (basis f c.as_slice-2.result.now) before) c.formula-3.ensures
     ∙ ap (λ (ss : List Soft). with_told (basis formula ss) before)
@@ -118,15 +117,15 @@ returns-clause-leaves g c =
     let has = c.all_sets_into-answer.ensures in
     left w (judge_of p i b) (judge_of j.program.now j.input.now j.bounds) (basis formula softs)
     c.in_ok-checker.checker c.all_sets_into-answer.result.1 conflicts most
-    (told g.D.StepSink.over g.D.StepSink.logs g.D.StepSink.faults c.args.steps.now)
-    (told g.D.StepSink.over g.D.StepSink.logs g.D.StepSink.faults c.begin.new.self)
-    (told g.D.StepSink.over g.D.StepSink.logs g.D.StepSink.faults c.all_sets_into-answer.new.steps)
+    (g.D.StepSink.told c.args.steps.now)
+    (g.D.StepSink.told c.begin.new.self)
+    (g.D.StepSink.told c.all_sets_into-answer.new.steps)
     c.in_ok-encoded.ensures.faithful same starts begins c.in_ok-begin.ensures.logs_stay has.over_stays
     has.leaves
 
 pub returns-clause-cause : goal.returns-clause-cause
 returns-clause-cause g c = λ is.
-    rose_later _ _ _ c.in_ok-begin.ensures.no_fall (c.all_sets_into-answer.ensures.cause is)
+    rose_later _ _ _ c.in_ok-begin.ensures.outlasts.no_fall (c.all_sets_into-answer.ensures.cause is)
 
 pub new-requires : goal.new-requires
 new-requires g c =
@@ -136,21 +135,8 @@ new-requires g c =
     (sym (c.as_slice.ensures.value ∙ c.in_ok-softs.ensures)) c.in_ok-encoded.ensures.faithful.selectors) in
     record { selectors = selectors }
 
-pub all_sets_into-answer-requires-clause-working : goal.all_sets_into-answer-requires-clause-working
-all_sets_into-answer-requires-clause-working g c = c.in_ok-search.ensures.fresh
-
-pub all_sets_into-answer-requires-clause-restart : goal.all_sets_into-answer-requires-clause-restart
-all_sets_into-answer-requires-clause-restart g c =
-    subst (λ r. IsRestartRule (λ x. g.R.Fn.pre r (x, tt)) (λ x a. g.R.Fn.post r (x, tt) a))
-    (sym c.in_ok-search.ensures.restart) c.requires.restart
-
-pub all_sets_into-answer-requires-clause-keep : goal.all_sets_into-answer-requires-clause-keep
-all_sets_into-answer-requires-clause-keep g c =
-    subst (λ k. IsKeepRule (λ x y. g.K.Fn.pre k (x, (y, tt))) (λ x y a. g.K.Fn.post k (x, (y, tt)) a))
-    (sym c.in_ok-search.ensures.keep) c.requires.keep
-
-pub all_sets_into-answer-requires-clause-starts : goal.all_sets_into-answer-requires-clause-starts
-all_sets_into-answer-requires-clause-starts g c =
+pub all_sets_into-answer-requires-clause-started : goal.all_sets_into-answer-requires-clause-started
+all_sets_into-answer-requires-clause-started g c =
     let encoded = c.in_ok-encoded.encoded in
     let softs = softs_of encoded.groups in
     let starts : c.in_ok-checker.checker ≡ first_state encoded.formula softs c.args.conflicts c.args.sets =
@@ -158,28 +144,16 @@ all_sets_into-answer-requires-clause-starts g c =
     ∙ (ap (λ (f : Cnf). first_state f c.as_slice.result.now c.args.conflicts c.args.sets) c.formula.ensures
     ∙ ap (λ (ss : List Soft). first_state encoded.formula ss c.args.conflicts c.args.sets)
     (c.as_slice.ensures.value ∙ c.in_ok-softs.ensures)) in
-    subst (λ (n : ℕ). c.in_ok-checker.checker ≡ first_state encoded.formula softs n c.args.sets)
-    (sym (ap (λ (s : State). s.budget) starts)) starts
+    record {
+      working = c.in_ok-search.ensures.starts.fresh;
+      same = subst (λ kepts. AreLive c.in_ok-search.search.clauses (clause_at kepts))
+          (ap (λ (f : Cnf). map (kept Given) f.clauses) c.formula-2.ensures
+          ∙ sym (ap (λ (s : State). s.clauses) starts)) c.in_ok-search.ensures.starts.clauses;
+      starts = subst (λ (n : ℕ). c.in_ok-checker.checker ≡ first_state encoded.formula softs n c.args.sets)
+          (sym (ap (λ (s : State). s.budget) starts)) starts;
+    }
 
-pub all_sets_into-answer-requires-clause-same : goal.all_sets_into-answer-requires-clause-same
-all_sets_into-answer-requires-clause-same g c =
-    let encoded = c.in_ok-encoded.encoded in
-    let softs = softs_of encoded.groups in
-    let starts : c.in_ok-checker.checker ≡ first_state encoded.formula softs c.args.conflicts c.args.sets =
-    c.in_ok-checker.ensures
-    ∙ (ap (λ (f : Cnf). first_state f c.as_slice.result.now c.args.conflicts c.args.sets) c.formula.ensures
-    ∙ ap (λ (ss : List Soft). first_state encoded.formula ss c.args.conflicts c.args.sets)
-    (c.as_slice.ensures.value ∙ c.in_ok-softs.ensures)) in
-    subst (λ kepts. AreLive c.in_ok-search.search.clauses (clause_at kepts))
-    (ap (λ (f : Cnf). map (kept Given) f.clauses) c.formula-2.ensures
-    ∙ sym (ap (λ (s : State). s.clauses) starts)) c.in_ok-search.ensures.clauses
-
-pub returns-clause-no_fall : goal.returns-clause-no_fall
-returns-clause-no_fall g c =
-    let first = c.in_ok-begin.ensures.no_fall in
-    let later = c.all_sets_into-answer.ensures.no_fall in
-    omega (arith, first, later)
-
-pub returns-clause-same_references : goal.returns-clause-same_references
-returns-clause-same_references g c =
-    c.all_sets_into-answer.ensures.same_references ∙ c.in_ok-begin.ensures.same_references
+pub returns-clause-outlasts : goal.returns-clause-outlasts
+returns-clause-outlasts g c = Outlasts-trans (g.D.StepSink.told c.args.steps.now)
+    (g.D.StepSink.told c.begin.new.self) (g.D.StepSink.told c.all_sets_into-answer.new.steps)
+    c.in_ok-begin.ensures.outlasts c.all_sets_into-answer.ensures.outlasts

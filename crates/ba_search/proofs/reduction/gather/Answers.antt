@@ -6,7 +6,7 @@ pub loop-place-preserved : goal.loop-place-preserved
 loop-place-preserved g c =
     let number : ℕ = get_or c.args.learnt.now c.loop-place.place 0 in
     let listed : List ℕ = c.loop-place.numbers.items in
-    gathered_more (λ width age kept. g.K.Fn.post c.args.keep.now (width, (age, tt)) kept) c.args.checker.now
+    gathered_more (g.R.SearchRules.keeping c.args.rules.now) c.args.checker.now
     c.args.marks.now c.args.learnt.now listed c.push_within_room.new.numbers.items c.loop-place.last number
     (pushed c.push_within_room.result listed c.push_within_room.new.numbers.items number
     c.push_within_room.ensures c.if-not-push_within_room.false)

@@ -1,6 +1,5 @@
 use Rattle.std.proofs.Common.{inr, ◌∙◌, sym}
 use Rattle.ba_check.specs.Answers.{problem_of}
-use Rattle.ba_localise.specs.Verdicts.{told}
 use Rattle.ba_tool.specs.Answers.{weights_of}
 use Rattle.ba_tool.specs.Calls.{head_by}
 use Rattle.ba_tool.specs.Certificates.{Judging}
@@ -26,8 +25,8 @@ returns-clause-answer g c = λ x is.
     concludes_check j x case is encoded formula softs c.formula.ensures
     (c.as_slice.ensures.value ∙ c.in_ok-softs.ensures) c.in-Some.name
     (g.W.World.outside c.args.world.now) (g.W.World.outside c.file_answer.new.world)
-    (told g.D.StepSink.over g.D.StepSink.logs g.D.StepSink.faults c.args.steps.now)
-    (told g.D.StepSink.over g.D.StepSink.logs g.D.StepSink.faults c.begin.new.self)
+    (g.D.StepSink.told c.args.steps.now)
+    (g.D.StepSink.told c.begin.new.self)
     c.in_ok-file_answer.field-0 c.in_ok-encoded.ensures c.in-Some.is c.in_ok-begin.ensures.told
     c.in_ok-begin.ensures.logs_stay
     (c.in_ok-file_answer.ensures.answer judging (sym c.as_str.ensures) c.in_ok-confirm.ensures.nothing_read
@@ -37,22 +36,22 @@ pub returns-in_err-begin-clause-leaves : goal.returns-in_err-begin-clause-leaves
 returns-in_err-begin-clause-leaves g c = λ x is.
     checks_formula c.args.job.now x c.args.case.now is c.in_ok-encoded.encoded c.formula.result.now
     c.as_slice.result.now c.formula.ensures (c.as_slice.ensures.value ∙ c.in_ok-softs.ensures)
-    (told g.D.StepSink.over g.D.StepSink.logs g.D.StepSink.faults c.args.steps.now)
-    (told g.D.StepSink.over g.D.StepSink.logs g.D.StepSink.faults c.begin.new.self) c.in_ok-encoded.ensures
+    (g.D.StepSink.told c.args.steps.now)
+    (g.D.StepSink.told c.begin.new.self) c.in_ok-encoded.ensures
     c.in_err-begin.ensures.refused c.begin.ensures.logs_stay
 
 pub returns-in_err-file_answer-clause-leaves : goal.returns-in_err-file_answer-clause-leaves
 returns-in_err-file_answer-clause-leaves g c = λ x is.
     checks_formula c.args.job.now x c.args.case.now is c.in_ok-encoded.encoded c.formula.result.now
     c.as_slice.result.now c.formula.ensures (c.as_slice.ensures.value ∙ c.in_ok-softs.ensures)
-    (told g.D.StepSink.over g.D.StepSink.logs g.D.StepSink.faults c.args.steps.now)
-    (told g.D.StepSink.over g.D.StepSink.logs g.D.StepSink.faults c.begin.new.self) c.in_ok-encoded.ensures
+    (g.D.StepSink.told c.args.steps.now)
+    (g.D.StepSink.told c.begin.new.self) c.in_ok-encoded.ensures
     (inr c.in_ok-begin.ensures.told) c.begin.ensures.logs_stay
 
 pub returns-clause-leaves : goal.returns-clause-leaves
 returns-clause-leaves g c = λ x is.
     checks_formula c.args.job.now x c.args.case.now is c.in_ok-encoded.encoded c.formula.result.now
     c.as_slice.result.now c.formula.ensures (c.as_slice.ensures.value ∙ c.in_ok-softs.ensures)
-    (told g.D.StepSink.over g.D.StepSink.logs g.D.StepSink.faults c.args.steps.now)
-    (told g.D.StepSink.over g.D.StepSink.logs g.D.StepSink.faults c.begin.new.self) c.in_ok-encoded.ensures
+    (g.D.StepSink.told c.args.steps.now)
+    (g.D.StepSink.told c.begin.new.self) c.in_ok-encoded.ensures
     (inr c.in_ok-begin.ensures.told) c.begin.ensures.logs_stay

@@ -7,5 +7,5 @@ ghosts-certify g a = record {
   name = a.name.now;
   head = head_by a.job.now;
   outside = g.W.World.outside a.world.now;
-  faults = g.D.StepSink.faults a.steps.now;
+  faults = (g.D.StepSink.told a.steps.now).faults;
 }

@@ -1,5 +1,4 @@
 use Rattle.std.proofs.Common.{◌∙◌, ◌+◌, ◌≤◌, sym, subst}
-use Rattle.ba_localise.specs.Verdicts.{told}
 use Rattle.ba_world.proofs.WholeReads.{only_reads_none}
 use Rattle.ba_tool.specs.Calls.{Stops, most_given}
 use Rattle.ba_jobs.specs.declared.jobs.Request.{Request}
@@ -8,17 +7,14 @@ use Rattle.ba_tool.proofs.Coming.{refused_as}
 use Rattle.ba_tool.proofs.Leaving.{reading_stops}
 use Rattle.ba_tool.proofs.tool.answer.Goals as goal
 
-pub job_answer-requires-clause-bounds : goal.job_answer-requires-clause-bounds
-job_answer-requires-clause-bounds g c =
-    job_bounds _ c.in-Wanted.job (sym c.in_ok-read_request.ensures ∙ c.in-Wanted.is)
-
-pub job_answer-requires-clause-countable : goal.job_answer-requires-clause-countable
-job_answer-requires-clause-countable g c =
-    job_countable _ c.in-Wanted.job (sym c.in_ok-read_request.ensures ∙ c.in-Wanted.is)
-
-pub job_answer-requires-clause-named : goal.job_answer-requires-clause-named
-job_answer-requires-clause-named g c =
-    job_named _ c.in-Wanted.job (sym c.in_ok-read_request.ensures ∙ c.in-Wanted.is)
+pub job_answer-requires-clause-job : goal.job_answer-requires-clause-job
+job_answer-requires-clause-job g c =
+    let wanted = sym c.in_ok-read_request.ensures ∙ c.in-Wanted.is in
+    record {
+      countable = job_countable _ c.in-Wanted.job wanted;
+      bounds = job_bounds _ c.in-Wanted.job wanted;
+      named = job_named _ c.in-Wanted.job wanted;
+    }
 
 pub returns-in-Refused-clause-answer : goal.returns-in-Refused-clause-answer
 returns-in-Refused-clause-answer g c = refused_as _ (g.W.World.outside c.args.world.now) _
@@ -44,14 +40,14 @@ pub returns-in-Sample-clause-stops : goal.returns-in-Sample-clause-stops
 returns-in-Sample-clause-stops g c =
     subst (λ (r : Request). Stops r (g.W.World.outside c.args.world.now)
     (g.W.World.outside c.sample_answer.new.world)
-    (told g.D.StepSink.over g.D.StepSink.logs g.D.StepSink.faults c.args.steps.now)
-    (told g.D.StepSink.over g.D.StepSink.logs g.D.StepSink.faults c.sample_answer.new.steps))
+    (g.D.StepSink.told c.args.steps.now)
+    (g.D.StepSink.told c.sample_answer.new.steps))
     (sym c.in-Sample.is ∙ c.in_ok-read_request.ensures) c.sample_answer.ensures.stops
 
 pub returns-in-Wanted-clause-stops : goal.returns-in-Wanted-clause-stops
 returns-in-Wanted-clause-stops g c =
     subst (λ (r : Request). Stops r (g.W.World.outside c.args.world.now)
     (g.W.World.outside c.job_answer.new.world)
-    (told g.D.StepSink.over g.D.StepSink.logs g.D.StepSink.faults c.args.steps.now)
-    (told g.D.StepSink.over g.D.StepSink.logs g.D.StepSink.faults c.job_answer.new.steps))
+    (g.D.StepSink.told c.args.steps.now)
+    (g.D.StepSink.told c.job_answer.new.steps))
     (sym c.in-Wanted.is ∙ c.in_ok-read_request.ensures) c.job_answer.ensures.stops

@@ -1,6 +1,5 @@
 use Rattle.std.proofs.Common.{◌∙◌, refl, sym, arith}
 use Rattle.std.proofs.lemmas.Result.{IfOk-weaker}
-use Rattle.ba_localise.specs.Verdicts.{told}
 use Rattle.ba_jobs.specs.Jobs.{written_by}
 use Rattle.ba_tool.specs.Calls.{in_job}
 use Rattle.ba_tool.proofs.Coming.{comes_proceeds, comes_unread}
@@ -30,6 +29,6 @@ pub returns-in-Ok-clause-cause : goal.returns-in-Ok-clause-cause
 returns-in-Ok-clause-cause g c = λ failed.
     faults_later (written_by c.args.job.now.task c.args.job.now.cert) (g.W.World.outside c.args.world.now)
     (g.W.World.outside c.read_texts.new.world) (g.W.World.outside c.texts_answer.new.world)
-    (told g.D.StepSink.over g.D.StepSink.logs g.D.StepSink.faults c.args.steps.now)
-    (told g.D.StepSink.over g.D.StepSink.logs g.D.StepSink.faults c.texts_answer.new.steps)
+    (g.D.StepSink.told c.args.steps.now)
+    (g.D.StepSink.told c.texts_answer.new.steps)
     c.read_texts.ensures.stays (c.texts_answer.ensures.cause failed)

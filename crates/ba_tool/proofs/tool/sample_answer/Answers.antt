@@ -1,6 +1,5 @@
 use Rattle.std.proofs.Common.{ap, subst, ◌+◌, ◌≤◌, arith}
 use Rattle.std.proofs.lemmas.Result.{IfOk-weaker}
-use Rattle.ba_localise.specs.Verdicts.{told}
 use Rattle.ba_world.proofs.WholeReads.{only_reads_none}
 use Rattle.ba_tree.specs.Run.{are_bounds}
 use Rattle.ba_tool.specs.Calls.{most_of}
@@ -11,23 +10,18 @@ use Rattle.ba_tool.proofs.Leaving.{reading_stops, sample_faults, sample_stops}
 use Rattle.ba_jobs.proofs.Sampling.{inputs_short, texts_short}
 use Rattle.ba_tool.proofs.tool.sample_answer.Goals as goal
 
-pub texts_answer-requires-clause-program_short : goal.texts_answer-requires-clause-program_short
-texts_answer-requires-clause-program_short g c =
-    texts_short c.in_ok-texts.texts c.args.additions c.in_ok-texts.ensures c.requires.few
+pub texts_answer-requires-clause-short : goal.texts_answer-requires-clause-short
+texts_answer-requires-clause-short g c = record {
+  program = texts_short c.in_ok-texts.texts c.args.additions c.in_ok-texts.ensures c.requires.few;
+  input = inputs_short c.in_ok-texts.texts c.args.additions c.in_ok-texts.ensures;
+}
 
-pub texts_answer-requires-clause-input_short : goal.texts_answer-requires-clause-input_short
-texts_answer-requires-clause-input_short g c =
-    inputs_short c.in_ok-texts.texts c.args.additions c.in_ok-texts.ensures
-
-pub texts_answer-requires-clause-bounds : goal.texts_answer-requires-clause-bounds
-texts_answer-requires-clause-bounds g c = ap (λ (j : Job). are_bounds j.bounds) c.sample_job-job.ensures
-
-pub texts_answer-requires-clause-countable : goal.texts_answer-requires-clause-countable
-texts_answer-requires-clause-countable g c =
-    let is = ap (λ (j : Job). j.conflicts) c.sample_job-job.ensures in omega (arith, is)
-
-pub texts_answer-requires-clause-named : goal.texts_answer-requires-clause-named
-texts_answer-requires-clause-named g c = sample_named _ c.args.additions c.sample_job-job.ensures
+pub texts_answer-requires-clause-job : goal.texts_answer-requires-clause-job
+texts_answer-requires-clause-job g c = record {
+  countable = let is = ap (λ (j : Job). j.conflicts) c.sample_job-job.ensures in omega (arith, is);
+  bounds = ap (λ (j : Job). are_bounds j.bounds) c.sample_job-job.ensures;
+  named = sample_named _ c.args.additions c.sample_job-job.ensures;
+}
 
 pub returns-clause-answer : goal.returns-clause-answer
 returns-clause-answer g c = IfOk-weaker c.texts_answer.result _ _
@@ -53,6 +47,6 @@ pub returns-clause-cause : goal.returns-clause-cause
 returns-clause-cause g c = λ failed.
     sample_faults c.sample_job-job.result c.args.additions (g.W.World.outside c.args.world.now)
     (g.W.World.outside c.texts_answer.new.world)
-    (told g.D.StepSink.over g.D.StepSink.logs g.D.StepSink.faults c.args.steps.now)
-    (told g.D.StepSink.over g.D.StepSink.logs g.D.StepSink.faults c.texts_answer.new.steps)
+    (g.D.StepSink.told c.args.steps.now)
+    (g.D.StepSink.told c.texts_answer.new.steps)
     c.sample_job-job.ensures (c.texts_answer.ensures.cause failed)

@@ -1,6 +1,5 @@
 use Rattle.std.proofs.Common.{◌≤◌, ◌+◌, subst, sym, arith}
 use Rattle.std.proofs.lemmas.Result.{IfOk-weaker}
-use Rattle.ba_localise.specs.Verdicts.{told}
 use Rattle.ba_tool.specs.Calls.{head_by, in_check, in_search, most_of}
 use Rattle.ba_tool.specs.Cases.{IsJudged}
 use Rattle.ba_jobs.specs.declared.jobs.Task.{Task}
@@ -26,15 +25,32 @@ returns-in-ToSearch-clause-bounded g c =
     let new = g.W.World.outside c.conclude.new.world in
     let wrote = only_writes (head_by c.args.job.now) c.args.job.now.cert old new
     (search_begins c.args.job.now c.args.texts.now c.in-ToSearch.case.program c.args.job.now.cert old new
-    (told g.D.StepSink.over g.D.StepSink.logs g.D.StepSink.faults c.args.steps.now)
-    (told g.D.StepSink.over g.D.StepSink.logs g.D.StepSink.faults c.conclude.new.steps)
+    (g.D.StepSink.told c.args.steps.now)
+    (g.D.StepSink.told c.conclude.new.steps)
     c.conclude.ensures.leaves) in
     let same = wrote.given in omega (arith, same)
 
-pub check-requires-clause-named : goal.check-requires-clause-named
-check-requires-clause-named g c =
+pub conclude-requires-clause-search : goal.conclude-requires-clause-search
+conclude-requires-clause-search g c =
+    let judged = subst (IsJudged c.args.job.now c.args.texts.now) c.in-ToSearch.is c.in_ok-answer.ensures in
+    record {
+      countable = c.requires.job.countable;
+      bounds = c.requires.job.bounds;
+      case = judged.0;
+      searches = judged.1;
+    }
+
+pub check-requires : goal.check-requires
+check-requires g c =
     let judged = subst (IsJudged c.args.job.now c.args.texts.now) c.in-ToCheck.is c.in_ok-answer.ensures in
-    c.requires.named judged.1.0
+    record {
+      check = record {
+        named = c.requires.job.named judged.1.0;
+        bounds = c.requires.job.bounds;
+        fits = judged.0.fits;
+        weights = judged.0.weighed;
+      };
+    }
 
 pub returns-in-ToCheck-clause-answer : goal.returns-in-ToCheck-clause-answer
 returns-in-ToCheck-clause-answer g c =
@@ -71,14 +87,14 @@ returns-in-ToSearch-clause-cause g c = λ failed.
     let judged = subst (IsJudged c.args.job.now c.args.texts.now) c.in-ToSearch.is c.in_ok-answer.ensures in
     searching_faults c.args.job.now (g.W.World.outside c.args.world.now)
     (g.W.World.outside c.conclude.new.world)
-    (told g.D.StepSink.over g.D.StepSink.logs g.D.StepSink.faults c.args.steps.now)
-    (told g.D.StepSink.over g.D.StepSink.logs g.D.StepSink.faults c.conclude.new.steps) judged.1.0
+    (g.D.StepSink.told c.args.steps.now)
+    (g.D.StepSink.told c.conclude.new.steps) judged.1.0
     (c.conclude.ensures.cause failed)
 
 pub returns-in-ToCheck-clause-cause : goal.returns-in-ToCheck-clause-cause
 returns-in-ToCheck-clause-cause g c = λ failed.
     let judged = subst (IsJudged c.args.job.now c.args.texts.now) c.in-ToCheck.is c.in_ok-answer.ensures in
     checking_faults c.args.job.now (g.W.World.outside c.args.world.now) (g.W.World.outside c.check.new.world)
-    (told g.D.StepSink.over g.D.StepSink.logs g.D.StepSink.faults c.args.steps.now)
-    (told g.D.StepSink.over g.D.StepSink.logs g.D.StepSink.faults c.check.new.steps) judged.1.0
+    (g.D.StepSink.told c.args.steps.now)
+    (g.D.StepSink.told c.check.new.steps) judged.1.0
     (c.check.ensures.cause failed)

@@ -1,53 +1,11 @@
-use Rattle.std.proofs.Common.{inl, inr, rules}
+use Rattle.std.proofs.Common.{inl, inr, refl, rules}
+use Rattle.ba_tool.specs.Calls.{memory, write_fault}
 use Rattle.ba_tool.proofs.Ending.{comes_write, ends_says}
-use Rattle.ba_tool.proofs.Checking.{ends_checking}
-use Rattle.ba_tool.proofs.Due.{ends_due, ends_failing}
-use Rattle.ba_tool.proofs.SampleAnswers.{ends_sample}
+use Rattle.ba_tool.proofs.SampleAnswers.{ends_where}
 use Rattle.ba_tool.proofs.tool.tool.Goals as goal
 
 pub returns-in-Ok-clause-says : goal.returns-in-Ok-clause-says
-returns-in-Ok-clause-says g c = ends_says _ c.in-Ok.answer c.finish.result (record {
-  written = g.W.World.outside c.answer.new.world;
-  comes = c.in-Ok.ensures.answer;
-  prints = c.finish.ensures.stays;
-  shown = c.finish.ensures.shown;
-  prefix = c.finish.ensures.prefix;
-  stops = c.answer.ensures.stops;
-})
-
-pub returns-in-Ok-clause-where_due : goal.returns-in-Ok-clause-where_due
-returns-in-Ok-clause-where_due g c = λ due is. ends_due _ c.in-Ok.answer due c.finish.result (record {
-  written = g.W.World.outside c.answer.new.world;
-  comes = c.in-Ok.ensures.answer;
-  prints = c.finish.ensures.stays;
-  shown = c.finish.ensures.shown;
-  prefix = c.finish.ensures.prefix;
-  stops = c.answer.ensures.stops;
-}) is
-
-pub returns-in-Ok-clause-where_failing : goal.returns-in-Ok-clause-where_failing
-returns-in-Ok-clause-where_failing g c = λ failing. ends_failing _ c.in-Ok.answer c.finish.result (record {
-  written = g.W.World.outside c.answer.new.world;
-  comes = c.in-Ok.ensures.answer;
-  prints = c.finish.ensures.stays;
-  shown = c.finish.ensures.shown;
-  prefix = c.finish.ensures.prefix;
-  stops = c.answer.ensures.stops;
-}) failing
-
-pub returns-in-Ok-clause-where_sample : goal.returns-in-Ok-clause-where_sample
-returns-in-Ok-clause-where_sample g c = λ additions asked. ends_sample _ c.in-Ok.answer c.finish.result (record {
-  written = g.W.World.outside c.answer.new.world;
-  comes = c.in-Ok.ensures.answer;
-  prints = c.finish.ensures.stays;
-  shown = c.finish.ensures.shown;
-  prefix = c.finish.ensures.prefix;
-  stops = c.answer.ensures.stops;
-}) additions asked
-
-pub returns-in-Ok-clause-where_checking : goal.returns-in-Ok-clause-where_checking
-returns-in-Ok-clause-where_checking g c = λ name file checking told. ends_checking _ c.in-Ok.answer
-    c.finish.result
+returns-in-Ok-clause-says g c = ends_says _ c.in-Ok.answer c.finish.result
     (record {
       written = g.W.World.outside c.answer.new.world;
       comes = c.in-Ok.ensures.answer;
@@ -55,7 +13,18 @@ returns-in-Ok-clause-where_checking g c = λ name file checking told. ends_check
       shown = c.finish.ensures.shown;
       prefix = c.finish.ensures.prefix;
       stops = c.answer.ensures.stops;
-    }) name file checking told
+    })
+
+pub returns-in-Ok-clause-where_told : goal.returns-in-Ok-clause-where_told
+returns-in-Ok-clause-where_told g c = ends_where _ c.in-Ok.answer c.finish.result
+    (record {
+      written = g.W.World.outside c.answer.new.world;
+      comes = c.in-Ok.ensures.answer;
+      prints = c.finish.ensures.stays;
+      shown = c.finish.ensures.shown;
+      prefix = c.finish.ensures.prefix;
+      stops = c.answer.ensures.stops;
+    })
 
 pub returns-in-Ok-clause-stays : goal.returns-in-Ok-clause-stays
 returns-in-Ok-clause-stays g c = comes_write _ _ _ _ _ _ c.in-Ok.answer c.in-Ok.ensures.answer
@@ -67,3 +36,21 @@ returns-in-Err-SinkFailed-clause-says g c =
 
 pub returns-in-Err-Memory-clause-says : goal.returns-in-Err-Memory-clause-says
 returns-in-Err-Memory-clause-says g c = inl c.answer.ensures.stops
+
+pub returns-in-Err-SinkFailed-clause-where_told : goal.returns-in-Err-SinkFailed-clause-where_told
+returns-in-Err-SinkFailed-clause-where_told g c =
+    let fault = c.answer.ensures.cause in
+    record {
+      due = λ a is. write_fault refl (search (rules, fault));
+      failing = λ failing. write_fault refl (search (rules, fault));
+      sample = λ additions asked. write_fault refl (search (rules, fault));
+      checking = λ name file checking told. write_fault refl (search (rules, fault));
+    }
+
+pub returns-in-Err-Memory-clause-where_told : goal.returns-in-Err-Memory-clause-where_told
+returns-in-Err-Memory-clause-where_told g c = record {
+  due = λ a is. memory refl;
+  failing = λ failing. memory refl;
+  sample = λ additions asked. memory refl;
+  checking = λ name file checking told. memory refl;
+}

@@ -8,5 +8,5 @@ ghosts-write_from g a = record {
   name = codes "c";
   head = settings;
   outside = g.W.World.outside a.world.now;
-  faults = g.D.StepSink.faults a.next.now;
+  faults = (g.D.StepSink.told a.next.now).faults;
 }

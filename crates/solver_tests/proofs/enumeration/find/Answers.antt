@@ -5,6 +5,7 @@ use Rattle.ba_lits.specs.Formulas.{Cnf}
 use Rattle.ba_lits.specs.Satisfaction.{Soft}
 use Rattle.ba_checker.specs.States.{Kept, State, clause_at, first_state, kept}
 use Rattle.ba_checker.specs.declared.store.Origin.TheVariants.{Given}
+use Rattle.ba_search.specs.Searching.{Starts}
 use Rattle.solver_tests.proofs.enumeration.find.Goals as goal
 
 pub all_sets-requires-clause-fresh : goal.all_sets-requires-clause-fresh
@@ -26,8 +27,8 @@ all_sets-requires-clause-fresh g c = λ working.
     ap (λ (f : Cnf). map (kept Given) f.clauses) c.formula-2.ensures
     ∙ sym (ap (λ (s : State). s.clauses) begins) in
     let live : AreLive c.expect-search.result.clauses (clause_at given) =
-    subst (λ made. IfOk made (λ search. AreLive search.clauses (clause_at given)))
-    c.expect-search.ensures c.new.ensures.clauses in
+    (subst (λ made. IfOk made (Starts c.formula-2.result.now)) c.expect-search.ensures c.new.ensures.starts).clauses
+    in
     record {
       same = subst (λ (cs : List Kept). AreLive c.expect-search.result.clauses (clause_at cs)) clauses live;
       starts = begins ∙ ap (λ n. first_state formula softs n sets) (sym (ap (λ (s : State). s.budget) begins));

@@ -18,6 +18,5 @@ begin-tells g c = record {
   refused = no_err _ c.result c.ensures.never;
   logs_stay = ap (λ sink. logs_at sink.head sink.name.now (g.W.World.outside sink.world.now)) c.ensures.same;
   cause = search rules;
-  no_fall = search rules;
-  same_references = search rules;
+  outlasts = record { no_fall = search rules; same_references = search rules };
 }

@@ -14,53 +14,53 @@ use Rattle.ba_search.proofs.StepLaws.{leaves_none}
 use Rattle.ba_search.proofs.engine.Engine.learn.Goals as goal
 
 pub returns-in_err-learnt-clause-leaves : goal.returns-in_err-learnt-clause-leaves
-returns-in_err-learnt-clause-leaves g c = leaves_none (g.J.RunJudge.accepts c.args.checked.now.judge)
-    nothing c.args.self.now.numbers.learnt c.args.checked.now.checker
-    (g.S.StepSink.logs c.args.checked.now.sink)
+returns-in_err-learnt-clause-leaves g c = leaves_none (g.L.ProofLog.log c.args.log.now).accepts
+    nothing c.args.self.now.numbers.learnt (g.L.ProofLog.log c.args.log.now).checker
+    (g.L.ProofLog.log c.args.log.now).told.logs
 
 pub returns-in_err-step-clause-leaves : goal.returns-in_err-step-clause-leaves
-returns-in_err-step-clause-leaves g c = leaves_none (g.J.RunJudge.accepts c.args.checked.now.judge) nothing
-    c.args.self.now.numbers.learnt c.args.checked.now.checker (g.S.StepSink.logs c.args.checked.now.sink)
+returns-in_err-step-clause-leaves g c = leaves_none (g.L.ProofLog.log c.args.log.now).accepts nothing
+    c.args.self.now.numbers.learnt (g.L.ProofLog.log c.args.log.now).checker (g.L.ProofLog.log c.args.log.now).told.logs
 
 pub put-requires-clause-formed : goal.put-requires-clause-formed
 put-requires-clause-formed g c =
     let s = c.args.self.now.watch in
-    let k = c.args.checked.now.checker in
+    let k = (g.L.ProofLog.log c.args.log.now).checker in
     let formed : Formed k = subst (λ (x : State). Formed x) c.checker.ensures c.keeps_facts-2.ensures in
     let l = c.in_ok-learnt.ensures in
-    let step = learnt_step (g.J.RunJudge.accepts c.args.checked.now.judge) c.args.assumptions.now s
+    let step = learnt_step (g.L.ProofLog.log c.args.log.now).accepts c.args.assumptions.now s
     c.args.self.now.numbers k c.in_ok-learnt.learnt.lits c.in_ok-learnt.learnt.hints
     c.in_ok-learnt.learnt.back
     c.keeps_facts.ensures formed c.requires.underway c.requires.left l.clause l.follows l.new l.backed in
-    step_formed (g.J.RunJudge.accepts c.args.checked.now.judge) k c.in_ok-learnt.learnt.lits
+    step_formed (g.L.ProofLog.log c.args.log.now).accepts k c.in_ok-learnt.learnt.lits
     c.in_ok-learnt.learnt.hints c.in_ok-step.step c.in_ok-step.ensures step
 
 pub put-requires-clause-allowed : goal.put-requires-clause-allowed
 put-requires-clause-allowed g c = λ fresh awake.
     let s = c.args.self.now.watch in
-    let k = c.args.checked.now.checker in
+    let k = (g.L.ProofLog.log c.args.log.now).checker in
     let formed : Formed k = subst (λ (x : State). Formed x) c.checker.ensures c.keeps_facts-2.ensures in
     let l = c.in_ok-learnt.ensures in
-    let step = learnt_step (g.J.RunJudge.accepts c.args.checked.now.judge) c.args.assumptions.now s
+    let step = learnt_step (g.L.ProofLog.log c.args.log.now).accepts c.args.assumptions.now s
     c.args.self.now.numbers k c.in_ok-learnt.learnt.lits c.in_ok-learnt.learnt.hints
     c.in_ok-learnt.learnt.back
     c.keeps_facts.ensures formed c.requires.underway c.requires.left l.clause l.follows l.new l.backed in
-    step_allowed (g.J.RunJudge.accepts c.args.checked.now.judge) k c.in_ok-learnt.learnt.lits
+    step_allowed (g.L.ProofLog.log c.args.log.now).accepts k c.in_ok-learnt.learnt.lits
     c.in_ok-learnt.learnt.hints c.in_ok-step.step c.in_ok-step.ensures step
 
 pub returns-in_err-put-clause-leaves : goal.returns-in_err-put-clause-leaves
 returns-in_err-put-clause-leaves g c =
     let s = c.args.self.now.watch in
-    let k = c.args.checked.now.checker in
+    let k = (g.L.ProofLog.log c.args.log.now).checker in
     let formed : Formed k = subst (λ (x : State). Formed x) c.checker.ensures c.keeps_facts-2.ensures in
     let l = c.in_ok-learnt.ensures in
-    let step = learnt_step (g.J.RunJudge.accepts c.args.checked.now.judge) c.args.assumptions.now s
+    let step = learnt_step (g.L.ProofLog.log c.args.log.now).accepts c.args.assumptions.now s
     c.args.self.now.numbers k c.in_ok-learnt.learnt.lits c.in_ok-learnt.learnt.hints
     c.in_ok-learnt.learnt.back
     c.keeps_facts.ensures formed c.requires.underway c.requires.left l.clause l.follows l.new l.backed in
-    learnt_tried (g.J.RunJudge.accepts c.args.checked.now.judge) nothing k c.put.new.self.checker
-    c.args.self.now.numbers.learnt (g.S.StepSink.logs c.args.checked.now.sink)
-    (g.S.StepSink.logs c.put.new.self.sink) c.in_ok-learnt.learnt.lits c.in_ok-learnt.learnt.hints
+    learnt_tried (g.L.ProofLog.log c.args.log.now).accepts nothing k (g.L.ProofLog.log c.put.new.self).checker
+    c.args.self.now.numbers.learnt (g.L.ProofLog.log c.args.log.now).told.logs
+    (g.L.ProofLog.log c.put.new.self).told.logs c.in_ok-learnt.learnt.lits c.in_ok-learnt.learnt.hints
     c.in_ok-step.step
     c.in_ok-step.ensures step
     (c.in_err-put.ensures.taken_or_asleep c.requires.fresh) c.in_err-put.ensures.refused
@@ -68,45 +68,45 @@ returns-in_err-put-clause-leaves g c =
 pub returns-in_err-backjump-clause-leaves : goal.returns-in_err-backjump-clause-leaves
 returns-in_err-backjump-clause-leaves g c =
     let s = c.args.self.now.watch in
-    let k = c.args.checked.now.checker in
+    let k = (g.L.ProofLog.log c.args.log.now).checker in
     let formed : Formed k = subst (λ (x : State). Formed x) c.checker.ensures c.keeps_facts-2.ensures in
     let l = c.in_ok-learnt.ensures in
-    let step = learnt_step (g.J.RunJudge.accepts c.args.checked.now.judge) c.args.assumptions.now s
+    let step = learnt_step (g.L.ProofLog.log c.args.log.now).accepts c.args.assumptions.now s
     c.args.self.now.numbers k c.in_ok-learnt.learnt.lits c.in_ok-learnt.learnt.hints
     c.in_ok-learnt.learnt.back
     c.keeps_facts.ensures formed c.requires.underway c.requires.left l.clause l.follows l.new l.backed in
-    learnt_left (g.J.RunJudge.accepts c.args.checked.now.judge) nothing k c.put.new.self.checker
-    c.args.self.now.numbers.learnt (g.S.StepSink.logs c.args.checked.now.sink)
-    (g.S.StepSink.logs c.put.new.self.sink) c.in_ok-learnt.learnt.lits c.in_ok-learnt.learnt.hints
+    learnt_left (g.L.ProofLog.log c.args.log.now).accepts nothing k (g.L.ProofLog.log c.put.new.self).checker
+    c.args.self.now.numbers.learnt (g.L.ProofLog.log c.args.log.now).told.logs
+    (g.L.ProofLog.log c.put.new.self).told.logs c.in_ok-learnt.learnt.lits c.in_ok-learnt.learnt.hints
     c.in_ok-step.step
     c.in_ok-step.ensures step c.in_ok-put.ensures.taken c.in_ok-put.ensures.told
 
 pub returns-clause-goes_on : goal.returns-clause-goes_on
 returns-clause-goes_on g c =
     let s = c.args.self.now.watch in
-    let k = c.args.checked.now.checker in
+    let k = (g.L.ProofLog.log c.args.log.now).checker in
     let formed : Formed k = subst (λ (x : State). Formed x) c.checker.ensures c.keeps_facts-2.ensures in
     let l = c.in_ok-learnt.ensures in
-    let step = learnt_step (g.J.RunJudge.accepts c.args.checked.now.judge) c.args.assumptions.now s
+    let step = learnt_step (g.L.ProofLog.log c.args.log.now).accepts c.args.assumptions.now s
     c.args.self.now.numbers k c.in_ok-learnt.learnt.lits c.in_ok-learnt.learnt.hints
     c.in_ok-learnt.learnt.back
     c.keeps_facts.ensures formed c.requires.underway c.requires.left l.clause l.follows l.new l.backed in
-    let taken = step_taken c.args.checked.now.checker c.put.new.self.checker c.in_ok-learnt.learnt.lits
+    let taken = step_taken (g.L.ProofLog.log c.args.log.now).checker (g.L.ProofLog.log c.put.new.self).checker c.in_ok-learnt.learnt.lits
     c.in_ok-learnt.learnt.hints c.in_ok-step.step c.in_ok-step.ensures c.in_ok-put.ensures.taken in
     record {
       underway = underway_jump c.args.assumptions.now c.args.self.now.watch c.bump.new.self.watch c.backjump.new.self.watch
           c.args.self.now.numbers c.bump.new.self.numbers c.backjump.new.self.numbers
-          c.last.result c.args.checked.now.checker c.put.new.self.checker c.in_ok-learnt.learnt.lits
+          c.last.result (g.L.ProofLog.log c.args.log.now).checker (g.L.ProofLog.log c.put.new.self).checker c.in_ok-learnt.learnt.lits
           c.in_ok-learnt.learnt.back c.bump.ensures.watch c.bump.ensures.numbers c.in_ok-backjump.ensures.learns
           (c.last.ensures ∙ ap (λ (x : State). length x.clauses) c.checker-2.ensures)
-          (step_taken c.args.checked.now.checker c.put.new.self.checker c.in_ok-learnt.learnt.lits
+          (step_taken (g.L.ProofLog.log c.args.log.now).checker (g.L.ProofLog.log c.put.new.self).checker c.in_ok-learnt.learnt.lits
           c.in_ok-learnt.learnt.hints c.in_ok-step.step c.in_ok-step.ensures c.in_ok-put.ensures.taken)
           c.requires.underway;
       variables = ap (λ (x : State). x.variables) taken;
-      puts = learnt_puts (g.J.RunJudge.accepts c.args.checked.now.judge) nothing k c.put.new.self.checker
+      puts = learnt_puts (g.L.ProofLog.log c.args.log.now).accepts nothing k (g.L.ProofLog.log c.put.new.self).checker
           c.args.self.now.numbers.learnt c.backjump.new.self.numbers.learnt
-          (g.S.StepSink.logs c.args.checked.now.sink)
-          (g.S.StepSink.logs c.put.new.self.sink) c.in_ok-learnt.learnt.lits c.in_ok-learnt.learnt.hints
+          (g.L.ProofLog.log c.args.log.now).told.logs
+          (g.L.ProofLog.log c.put.new.self).told.logs c.in_ok-learnt.learnt.lits c.in_ok-learnt.learnt.hints
           c.in_ok-step.step
           c.in_ok-step.ensures step c.in_ok-put.ensures.taken
           (c.in_ok-backjump.ensures.learns.learnt
@@ -119,40 +119,40 @@ returns-clause-goes_on g c =
 pub returns-clause-leaves : goal.returns-clause-leaves
 returns-clause-leaves g c =
     let s = c.args.self.now.watch in
-    let k = c.args.checked.now.checker in
+    let k = (g.L.ProofLog.log c.args.log.now).checker in
     let formed : Formed k = subst (λ (x : State). Formed x) c.checker.ensures c.keeps_facts-2.ensures in
     let l = c.in_ok-learnt.ensures in
-    let step = learnt_step (g.J.RunJudge.accepts c.args.checked.now.judge) c.args.assumptions.now s
+    let step = learnt_step (g.L.ProofLog.log c.args.log.now).accepts c.args.assumptions.now s
     c.args.self.now.numbers k c.in_ok-learnt.learnt.lits c.in_ok-learnt.learnt.hints
     c.in_ok-learnt.learnt.back
     c.keeps_facts.ensures formed c.requires.underway c.requires.left l.clause l.follows l.new l.backed in
-    learnt_left (g.J.RunJudge.accepts c.args.checked.now.judge) nothing k c.put.new.self.checker
-    c.args.self.now.numbers.learnt (g.S.StepSink.logs c.args.checked.now.sink)
-    (g.S.StepSink.logs c.put.new.self.sink) c.in_ok-learnt.learnt.lits c.in_ok-learnt.learnt.hints
+    learnt_left (g.L.ProofLog.log c.args.log.now).accepts nothing k (g.L.ProofLog.log c.put.new.self).checker
+    c.args.self.now.numbers.learnt (g.L.ProofLog.log c.args.log.now).told.logs
+    (g.L.ProofLog.log c.put.new.self).told.logs c.in_ok-learnt.learnt.lits c.in_ok-learnt.learnt.hints
     c.in_ok-step.step
     c.in_ok-step.ensures step c.in_ok-put.ensures.taken c.in_ok-put.ensures.told
 
 pub returns-clause-less : goal.returns-clause-less
 returns-clause-less g c =
-    learnt_less c.args.checked.now.checker c.put.new.self.checker c.args.self.now.watch
+    learnt_less (g.L.ProofLog.log c.args.log.now).checker (g.L.ProofLog.log c.put.new.self).checker c.args.self.now.watch
     c.backjump.new.self.watch
     (after_backtrack c.in_ok-learnt.learnt.back c.bump.new.self.watch) c.bump.new.self.numbers
     c.backjump.new.self.numbers c.last.result
     c.args.self.now.backtracks_left 1000 c.in_ok-learnt.learnt.back c.in_ok-learnt.learnt.lits
-    (step_taken c.args.checked.now.checker c.put.new.self.checker c.in_ok-learnt.learnt.lits
+    (step_taken (g.L.ProofLog.log c.args.log.now).checker (g.L.ProofLog.log c.put.new.self).checker c.in_ok-learnt.learnt.lits
     c.in_ok-learnt.learnt.hints c.in_ok-step.step c.in_ok-step.ensures c.in_ok-put.ensures.taken)
     (ap (after_backtrack c.in_ok-learnt.learnt.back) c.bump.ensures.watch) c.in_ok-backjump.ensures.learns
     (omega arith) c.requires.left
 
 pub backjump-requires-clause-fresh : goal.backjump-requires-clause-fresh
 backjump-requires-clause-fresh g c =
-    let k = c.args.checked.now.checker in
+    let k = (g.L.ProofLog.log c.args.log.now).checker in
     subst (λ (n : Numbering). get_or n.taken c.last.result false ≡ false) (sym c.bump.ensures.numbers)
     (unmarked_next c.args.self.now.watch.clauses c.args.self.now.numbers.taken k.clauses c.last.result
     c.requires.underway.numbered c.requires.underway.live
     (c.last.ensures ∙ (ap (λ (x : State). length x.clauses) c.checker-2.ensures
     ∙ (ap (λ (x : State). length x.clauses)
-    (step_taken k c.put.new.self.checker c.in_ok-learnt.learnt.lits c.in_ok-learnt.learnt.hints
+    (step_taken k (g.L.ProofLog.log c.put.new.self).checker c.in_ok-learnt.learnt.lits c.in_ok-learnt.learnt.hints
     c.in_ok-step.step
     c.in_ok-step.ensures c.in_ok-put.ensures.taken)
     ∙ length_push k.clauses (kept Learnt c.in_ok-learnt.learnt.lits)))))

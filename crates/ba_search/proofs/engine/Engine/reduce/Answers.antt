@@ -11,25 +11,25 @@ pub returns-then-is_empty-clause-goes_on : goal.returns-then-is_empty-clause-goe
 returns-then-is_empty-clause-goes_on g c = record {
   underway = c.requires.underway;
   variables = refl;
-  puts = puts_none (g.J.RunJudge.accepts c.args.checked.now.judge)
-      (λ width age kept. g.K.Fn.post c.args.keep.now (width, (age, tt)) kept) c.args.checked.now.checker
-      c.args.self.now.numbers.learnt (g.S.StepSink.logs c.args.checked.now.sink);
+  puts = puts_none (g.L.ProofLog.log c.args.log.now).accepts
+      (g.R.SearchRules.keeping c.args.rules.now) (g.L.ProofLog.log c.args.log.now).checker
+      c.args.self.now.numbers.learnt (g.L.ProofLog.log c.args.log.now).told.logs;
 }
 
 pub returns-then-is_empty-clause-leaves : goal.returns-then-is_empty-clause-leaves
-returns-then-is_empty-clause-leaves g c = leaves_none (g.J.RunJudge.accepts c.args.checked.now.judge)
-    (λ width age kept. g.K.Fn.post c.args.keep.now (width, (age, tt)) kept) c.args.self.now.numbers.learnt
-    c.args.checked.now.checker (g.S.StepSink.logs c.args.checked.now.sink)
+returns-then-is_empty-clause-leaves g c = leaves_none (g.L.ProofLog.log c.args.log.now).accepts
+    (g.R.SearchRules.keeping c.args.rules.now) c.args.self.now.numbers.learnt
+    (g.L.ProofLog.log c.args.log.now).checker (g.L.ProofLog.log c.args.log.now).told.logs
 
 pub put-requires-clause-formed : goal.put-requires-clause-formed
 put-requires-clause-formed g c =
-    let k = c.args.checked.now.checker in
-    named_formed (g.J.RunJudge.accepts c.args.checked.now.judge)
-    (λ width age kept. g.K.Fn.post c.args.keep.now (width, (age, tt)) kept) k c.args.self.now.numbers.learnt
+    let k = (g.L.ProofLog.log c.args.log.now).checker in
+    named_formed (g.L.ProofLog.log c.args.log.now).accepts
+    (g.R.SearchRules.keeping c.args.rules.now) k c.args.self.now.numbers.learnt
     c.discarded-numbers.result.items c.from_vec.result
     c.from_vec.ensures
-    (delete_step (g.J.RunJudge.accepts c.args.checked.now.judge)
-    (λ width age kept. g.K.Fn.post c.args.keep.now (width, (age, tt)) kept) c.args.assumptions.now
+    (delete_step (g.L.ProofLog.log c.args.log.now).accepts
+    (g.R.SearchRules.keeping c.args.rules.now) c.args.assumptions.now
     c.args.self.now.watch c.args.self.now.numbers k c.checker.result.now
     c.args.self.now.numbers.learnt
     c.learnt.result.now c.discarded-numbers.result.items
@@ -43,13 +43,13 @@ put-requires-clause-formed g c =
 
 pub put-requires-clause-allowed : goal.put-requires-clause-allowed
 put-requires-clause-allowed g c = λ fresh awake.
-    let k = c.args.checked.now.checker in
-    named_allowed (g.J.RunJudge.accepts c.args.checked.now.judge)
-    (λ width age kept. g.K.Fn.post c.args.keep.now (width, (age, tt)) kept) k c.args.self.now.numbers.learnt
+    let k = (g.L.ProofLog.log c.args.log.now).checker in
+    named_allowed (g.L.ProofLog.log c.args.log.now).accepts
+    (g.R.SearchRules.keeping c.args.rules.now) k c.args.self.now.numbers.learnt
     c.discarded-numbers.result.items c.from_vec.result
     c.from_vec.ensures
-    (delete_step (g.J.RunJudge.accepts c.args.checked.now.judge)
-    (λ width age kept. g.K.Fn.post c.args.keep.now (width, (age, tt)) kept) c.args.assumptions.now
+    (delete_step (g.L.ProofLog.log c.args.log.now).accepts
+    (g.R.SearchRules.keeping c.args.rules.now) c.args.assumptions.now
     c.args.self.now.watch c.args.self.now.numbers k c.checker.result.now
     c.args.self.now.numbers.learnt
     c.learnt.result.now c.discarded-numbers.result.items
@@ -63,14 +63,14 @@ put-requires-clause-allowed g c = λ fresh awake.
 
 pub returns-in_err-put-clause-leaves : goal.returns-in_err-put-clause-leaves
 returns-in_err-put-clause-leaves g c =
-    let k = c.args.checked.now.checker in
-    delete_tried (g.J.RunJudge.accepts c.args.checked.now.judge)
-    (λ width age kept. g.K.Fn.post c.args.keep.now (width, (age, tt)) kept) k c.put.new.self.checker
-    c.args.self.now.numbers.learnt (g.S.StepSink.logs c.args.checked.now.sink)
-    (g.S.StepSink.logs c.put.new.self.sink) c.discarded-numbers.result.items c.from_vec.result
+    let k = (g.L.ProofLog.log c.args.log.now).checker in
+    delete_tried (g.L.ProofLog.log c.args.log.now).accepts
+    (g.R.SearchRules.keeping c.args.rules.now) k (g.L.ProofLog.log c.put.new.self).checker
+    c.args.self.now.numbers.learnt (g.L.ProofLog.log c.args.log.now).told.logs
+    (g.L.ProofLog.log c.put.new.self).told.logs c.discarded-numbers.result.items c.from_vec.result
     c.from_vec.ensures
-    (delete_step (g.J.RunJudge.accepts c.args.checked.now.judge)
-    (λ width age kept. g.K.Fn.post c.args.keep.now (width, (age, tt)) kept) c.args.assumptions.now
+    (delete_step (g.L.ProofLog.log c.args.log.now).accepts
+    (g.R.SearchRules.keeping c.args.rules.now) c.args.assumptions.now
     c.args.self.now.watch c.args.self.now.numbers k c.checker.result.now
     c.args.self.now.numbers.learnt
     c.learnt.result.now c.discarded-numbers.result.items
@@ -91,15 +91,15 @@ delete-requires g c =
 
 pub returns-clause-goes_on : goal.returns-clause-goes_on
 returns-clause-goes_on g c =
-    let k = c.args.checked.now.checker in
-    let d = c.put.new.self.checker in
-    let taken = delete_taken c.args.checked.now.checker d c.discarded-numbers.result.items c.from_vec.result
+    let k = (g.L.ProofLog.log c.args.log.now).checker in
+    let d = (g.L.ProofLog.log c.put.new.self).checker in
+    let taken = delete_taken (g.L.ProofLog.log c.args.log.now).checker d c.discarded-numbers.result.items c.from_vec.result
     c.from_vec.ensures c.in_ok-put.ensures.taken in
     record {
       underway = underway_deleted c.args.assumptions.now c.args.self.now.watch c.delete.new.self.watch
           c.args.self.now.numbers
-          c.delete.new.self.numbers c.args.checked.now.checker d c.discarded-numbers.result.items
-          (delete_taken c.args.checked.now.checker d c.discarded-numbers.result.items c.from_vec.result
+          c.delete.new.self.numbers (g.L.ProofLog.log c.args.log.now).checker d c.discarded-numbers.result.items
+          (delete_taken (g.L.ProofLog.log c.args.log.now).checker d c.discarded-numbers.result.items c.from_vec.result
           c.from_vec.ensures
           c.in_ok-put.ensures.taken)
           (subst (λ (ns : List ℕ). Deletes c.args.self.now.watch c.delete.new.self.watch ns)
@@ -109,14 +109,14 @@ returns-clause-goes_on g c =
           c.as_slice.ensures.value c.delete.ensures.forgets)
           c.requires.underway;
       variables = ap (λ (x : State). x.variables) taken;
-      puts = delete_puts (g.J.RunJudge.accepts c.args.checked.now.judge)
-          (λ width age kept. g.K.Fn.post c.args.keep.now (width, (age, tt)) kept) k c.put.new.self.checker
+      puts = delete_puts (g.L.ProofLog.log c.args.log.now).accepts
+          (g.R.SearchRules.keeping c.args.rules.now) k (g.L.ProofLog.log c.put.new.self).checker
           c.args.self.now.numbers.learnt c.delete.new.self.numbers.learnt
-          (g.S.StepSink.logs c.args.checked.now.sink)
-          (g.S.StepSink.logs c.put.new.self.sink) c.discarded-numbers.result.items c.from_vec.result
+          (g.L.ProofLog.log c.args.log.now).told.logs
+          (g.L.ProofLog.log c.put.new.self).told.logs c.discarded-numbers.result.items c.from_vec.result
           c.from_vec.ensures
-          (delete_step (g.J.RunJudge.accepts c.args.checked.now.judge)
-          (λ width age kept. g.K.Fn.post c.args.keep.now (width, (age, tt)) kept) c.args.assumptions.now
+          (delete_step (g.L.ProofLog.log c.args.log.now).accepts
+          (g.R.SearchRules.keeping c.args.rules.now) c.args.assumptions.now
           c.args.self.now.watch c.args.self.now.numbers k c.checker.result.now
           c.args.self.now.numbers.learnt
           c.learnt.result.now c.discarded-numbers.result.items
@@ -132,14 +132,14 @@ returns-clause-goes_on g c =
 
 pub returns-clause-leaves : goal.returns-clause-leaves
 returns-clause-leaves g c =
-    let k = c.args.checked.now.checker in
-    delete_left (g.J.RunJudge.accepts c.args.checked.now.judge)
-    (λ width age kept. g.K.Fn.post c.args.keep.now (width, (age, tt)) kept) k c.put.new.self.checker
-    c.args.self.now.numbers.learnt (g.S.StepSink.logs c.args.checked.now.sink)
-    (g.S.StepSink.logs c.put.new.self.sink) c.discarded-numbers.result.items c.from_vec.result
+    let k = (g.L.ProofLog.log c.args.log.now).checker in
+    delete_left (g.L.ProofLog.log c.args.log.now).accepts
+    (g.R.SearchRules.keeping c.args.rules.now) k (g.L.ProofLog.log c.put.new.self).checker
+    c.args.self.now.numbers.learnt (g.L.ProofLog.log c.args.log.now).told.logs
+    (g.L.ProofLog.log c.put.new.self).told.logs c.discarded-numbers.result.items c.from_vec.result
     c.from_vec.ensures
-    (delete_step (g.J.RunJudge.accepts c.args.checked.now.judge)
-    (λ width age kept. g.K.Fn.post c.args.keep.now (width, (age, tt)) kept) c.args.assumptions.now
+    (delete_step (g.L.ProofLog.log c.args.log.now).accepts
+    (g.R.SearchRules.keeping c.args.rules.now) c.args.assumptions.now
     c.args.self.now.watch c.args.self.now.numbers k c.checker.result.now
     c.args.self.now.numbers.learnt
     c.learnt.result.now c.discarded-numbers.result.items

@@ -9,7 +9,7 @@ use Rattle.ba_search.proofs.engine.Engine.search.Goals as goal
 pub iterations-init : goal.iterations-init
 iterations-init g c =
     let s = c.args.self.now.watch in
-    let k = c.args.checked.now.checker in
+    let k = (g.L.ProofLog.log c.args.log.now).checker in
     let few : length k.clauses < 2 ^ 62 = omega (
       arith,
       c.last.ensures,
@@ -25,33 +25,33 @@ iterations-init g c =
           c.args.self.now.numbers k
           (c.in_ok-grow.ensures.ok ∙ ap (λ (v : ℕ). record s { variables = max s.variables v })
           (c.variables.ensures.variables ∙ ap (λ (x : State). x.variables) c.checker-2.ensures))
-          c.backtrack.ensures.watch c.keeps_facts.ensures c.requires.numbered c.requires.live
-          few c.requires.begun c.requires.awake);
+          c.backtrack.ensures.watch c.keeps_facts.ensures c.requires.ready.numbered c.requires.ready.live
+          few c.requires.ready.begun c.requires.ready.awake);
       variables = refl;
-      puts = puts_none (g.J.RunJudge.accepts c.args.checked.now.judge)
-          (λ width age kept. g.K.Fn.post c.args.keep.now (width, (age, tt)) kept) k
-          c.backtrack.new.self.numbers.learnt (g.S.StepSink.logs c.args.checked.now.sink);
-      fresh = c.requires.fresh;
+      puts = puts_none (g.L.ProofLog.log c.args.log.now).accepts
+          (g.R.SearchRules.keeping c.args.rules.now) k
+          c.backtrack.new.self.numbers.learnt (g.L.ProofLog.log c.args.log.now).told.logs;
+      fresh = c.requires.ready.fresh;
       propagated = omega (arith, c.grow.ensures.propagated, c.backtrack.ensures.learns_nothing.propagated);
-      lasts = lasts_same g.S.StepSink.over g.S.StepSink.faults g.S.StepSink.references c.args.checked.now;
+      lasts = lasts_same (g.L.ProofLog.log c.args.log.now);
     }
 
 pub returns-in-Some-clause-puts : goal.returns-in-Some-clause-puts
 returns-in-Some-clause-puts g c =
-    puts_from (g.J.RunJudge.accepts c.args.checked.now.judge)
-    (λ width age kept. g.K.Fn.post c.args.keep.now (width, (age, tt)) kept) c.args.checked.now.checker
-    c.iterate.new.checked.checker c.backtrack.new.self.numbers.learnt c.args.self.now.numbers.learnt
-    c.iterate.new.self.numbers.learnt (g.S.StepSink.logs c.args.checked.now.sink)
-    (g.S.StepSink.logs c.iterate.new.checked.sink)
+    puts_from (g.L.ProofLog.log c.args.log.now).accepts
+    (g.R.SearchRules.keeping c.args.rules.now) (g.L.ProofLog.log c.args.log.now).checker
+    (g.L.ProofLog.log c.iterate.new.log).checker c.backtrack.new.self.numbers.learnt c.args.self.now.numbers.learnt
+    c.iterate.new.self.numbers.learnt (g.L.ProofLog.log c.args.log.now).told.logs
+    (g.L.ProofLog.log c.iterate.new.log).told.logs
     (ap (λ (n : Numbering). n.learnt) (c.backtrack.ensures.numbers ∙ c.grow.ensures.numbers))
-    (puts_then (g.J.RunJudge.accepts c.args.checked.now.judge)
-    (g.J.RunJudge.accepts c.iterations.checked.judge)
-    (λ width age kept. g.K.Fn.post c.args.keep.now (width, (age, tt)) kept) c.args.checked.now.checker
-    c.iterations.checked.checker c.iterate.new.checked.checker
+    (puts_then (g.L.ProofLog.log c.args.log.now).accepts
+    (g.L.ProofLog.log c.iterations.log).accepts
+    (g.R.SearchRules.keeping c.args.rules.now) (g.L.ProofLog.log c.args.log.now).checker
+    (g.L.ProofLog.log c.iterations.log).checker (g.L.ProofLog.log c.iterate.new.log).checker
     c.backtrack.new.self.numbers.learnt c.iterations.self.numbers.learnt c.iterate.new.self.numbers.learnt
-    (g.S.StepSink.logs c.args.checked.now.sink) (g.S.StepSink.logs c.iterations.checked.sink)
-    (g.S.StepSink.logs c.iterate.new.checked.sink)
-    (ap g.J.RunJudge.accepts c.iterations.invariant.lasts.judge_stays) c.iterations.invariant.puts
+    (g.L.ProofLog.log c.args.log.now).told.logs (g.L.ProofLog.log c.iterations.log).told.logs
+    (g.L.ProofLog.log c.iterate.new.log).told.logs
+    c.iterations.invariant.lasts.judge_stays c.iterations.invariant.puts
     c.in_ok-answer.ensures.goes_on.puts)
 
 pub iterations-preserved : goal.iterations-preserved
@@ -61,65 +61,64 @@ iterations-preserved g c =
     record {
       underway = t.goes_on.underway;
       variables = t.goes_on.variables ∙ i.variables;
-      puts = puts_then (g.J.RunJudge.accepts c.args.checked.now.judge)
-          (g.J.RunJudge.accepts c.iterations.checked.judge)
-          (λ width age kept. g.K.Fn.post c.args.keep.now (width, (age, tt)) kept) c.args.checked.now.checker
-          c.iterations.checked.checker c.iterate.new.checked.checker
+      puts = puts_then (g.L.ProofLog.log c.args.log.now).accepts
+          (g.L.ProofLog.log c.iterations.log).accepts
+          (g.R.SearchRules.keeping c.args.rules.now) (g.L.ProofLog.log c.args.log.now).checker
+          (g.L.ProofLog.log c.iterations.log).checker (g.L.ProofLog.log c.iterate.new.log).checker
           c.backtrack.new.self.numbers.learnt c.iterations.self.numbers.learnt
           c.iterate.new.self.numbers.learnt
-          (g.S.StepSink.logs c.args.checked.now.sink) (g.S.StepSink.logs c.iterations.checked.sink)
-          (g.S.StepSink.logs c.iterate.new.checked.sink)
-          (ap g.J.RunJudge.accepts i.lasts.judge_stays) i.puts t.goes_on.puts;
+          (g.L.ProofLog.log c.args.log.now).told.logs (g.L.ProofLog.log c.iterations.log).told.logs
+          (g.L.ProofLog.log c.iterate.new.log).told.logs
+          i.lasts.judge_stays i.puts t.goes_on.puts;
       fresh = t.ran.fresh;
       propagated = omega (arith, c.iterate.ensures.propagated, i.propagated);
-      lasts = lasts_then g.S.StepSink.over g.S.StepSink.faults g.S.StepSink.references c.args.checked.now
-          c.iterations.checked c.iterate.new.checked i.lasts t.ran.lasts;
+      lasts = lasts_then (g.L.ProofLog.log c.args.log.now) (g.L.ProofLog.log c.iterations.log) (g.L.ProofLog.log c.iterate.new.log) i.lasts t.ran.lasts;
     }
 
 pub returns-then-last-clause-leaves : goal.returns-then-last-clause-leaves
-returns-then-last-clause-leaves g c = leaves_none (g.J.RunJudge.accepts c.args.checked.now.judge)
-    (λ width age kept. g.K.Fn.post c.args.keep.now (width, (age, tt)) kept) c.args.self.now.numbers.learnt
-    c.args.checked.now.checker (g.S.StepSink.logs c.args.checked.now.sink)
+returns-then-last-clause-leaves g c = leaves_none (g.L.ProofLog.log c.args.log.now).accepts
+    (g.R.SearchRules.keeping c.args.rules.now) c.args.self.now.numbers.learnt
+    (g.L.ProofLog.log c.args.log.now).checker (g.L.ProofLog.log c.args.log.now).told.logs
 
 pub returns-in_err-grow-clause-leaves : goal.returns-in_err-grow-clause-leaves
-returns-in_err-grow-clause-leaves g c = leaves_none (g.J.RunJudge.accepts c.args.checked.now.judge)
-    (λ width age kept. g.K.Fn.post c.args.keep.now (width, (age, tt)) kept) c.args.self.now.numbers.learnt
-    c.args.checked.now.checker (g.S.StepSink.logs c.args.checked.now.sink)
+returns-in_err-grow-clause-leaves g c = leaves_none (g.L.ProofLog.log c.args.log.now).accepts
+    (g.R.SearchRules.keeping c.args.rules.now) c.args.self.now.numbers.learnt
+    (g.L.ProofLog.log c.args.log.now).checker (g.L.ProofLog.log c.args.log.now).told.logs
 
 pub returns-in_err-answer-clause-leaves : goal.returns-in_err-answer-clause-leaves
 returns-in_err-answer-clause-leaves g c =
-    leaves_from (g.J.RunJudge.accepts c.args.checked.now.judge)
-    (λ width age kept. g.K.Fn.post c.args.keep.now (width, (age, tt)) kept)
+    leaves_from (g.L.ProofLog.log c.args.log.now).accepts
+    (g.R.SearchRules.keeping c.args.rules.now)
     c.backtrack.new.self.numbers.learnt
-    c.args.self.now.numbers.learnt c.args.checked.now.checker c.iterate.new.checked.checker
-    (g.S.StepSink.logs c.args.checked.now.sink) (g.S.StepSink.logs c.iterate.new.checked.sink)
+    c.args.self.now.numbers.learnt (g.L.ProofLog.log c.args.log.now).checker (g.L.ProofLog.log c.iterate.new.log).checker
+    (g.L.ProofLog.log c.args.log.now).told.logs (g.L.ProofLog.log c.iterate.new.log).told.logs
     (ap (λ (n : Numbering). n.learnt) (c.backtrack.ensures.numbers ∙ c.grow.ensures.numbers))
-    (leaves_then (g.J.RunJudge.accepts c.args.checked.now.judge)
-    (g.J.RunJudge.accepts c.iterations.checked.judge)
-    (λ width age kept. g.K.Fn.post c.args.keep.now (width, (age, tt)) kept)
+    (leaves_then (g.L.ProofLog.log c.args.log.now).accepts
+    (g.L.ProofLog.log c.iterations.log).accepts
+    (g.R.SearchRules.keeping c.args.rules.now)
     c.backtrack.new.self.numbers.learnt
     c.iterations.self.numbers.learnt
-    c.args.checked.now.checker c.iterations.checked.checker c.iterate.new.checked.checker
-    (g.S.StepSink.logs c.args.checked.now.sink) (g.S.StepSink.logs c.iterations.checked.sink)
-    (g.S.StepSink.logs c.iterate.new.checked.sink)
-    (ap g.J.RunJudge.accepts c.iterations.invariant.lasts.judge_stays) c.iterations.invariant.puts
+    (g.L.ProofLog.log c.args.log.now).checker (g.L.ProofLog.log c.iterations.log).checker (g.L.ProofLog.log c.iterate.new.log).checker
+    (g.L.ProofLog.log c.args.log.now).told.logs (g.L.ProofLog.log c.iterations.log).told.logs
+    (g.L.ProofLog.log c.iterate.new.log).told.logs
+    c.iterations.invariant.lasts.judge_stays c.iterations.invariant.puts
     c.iterate.ensures.leaves)
 
 pub returns-in-Some-clause-leaves : goal.returns-in-Some-clause-leaves
 returns-in-Some-clause-leaves g c =
-    leaves_from (g.J.RunJudge.accepts c.args.checked.now.judge)
-    (λ width age kept. g.K.Fn.post c.args.keep.now (width, (age, tt)) kept)
+    leaves_from (g.L.ProofLog.log c.args.log.now).accepts
+    (g.R.SearchRules.keeping c.args.rules.now)
     c.backtrack.new.self.numbers.learnt
-    c.args.self.now.numbers.learnt c.args.checked.now.checker c.iterate.new.checked.checker
-    (g.S.StepSink.logs c.args.checked.now.sink) (g.S.StepSink.logs c.iterate.new.checked.sink)
+    c.args.self.now.numbers.learnt (g.L.ProofLog.log c.args.log.now).checker (g.L.ProofLog.log c.iterate.new.log).checker
+    (g.L.ProofLog.log c.args.log.now).told.logs (g.L.ProofLog.log c.iterate.new.log).told.logs
     (ap (λ (n : Numbering). n.learnt) (c.backtrack.ensures.numbers ∙ c.grow.ensures.numbers))
-    (leaves_then (g.J.RunJudge.accepts c.args.checked.now.judge)
-    (g.J.RunJudge.accepts c.iterations.checked.judge)
-    (λ width age kept. g.K.Fn.post c.args.keep.now (width, (age, tt)) kept)
+    (leaves_then (g.L.ProofLog.log c.args.log.now).accepts
+    (g.L.ProofLog.log c.iterations.log).accepts
+    (g.R.SearchRules.keeping c.args.rules.now)
     c.backtrack.new.self.numbers.learnt
     c.iterations.self.numbers.learnt
-    c.args.checked.now.checker c.iterations.checked.checker c.iterate.new.checked.checker
-    (g.S.StepSink.logs c.args.checked.now.sink) (g.S.StepSink.logs c.iterations.checked.sink)
-    (g.S.StepSink.logs c.iterate.new.checked.sink)
-    (ap g.J.RunJudge.accepts c.iterations.invariant.lasts.judge_stays) c.iterations.invariant.puts
+    (g.L.ProofLog.log c.args.log.now).checker (g.L.ProofLog.log c.iterations.log).checker (g.L.ProofLog.log c.iterate.new.log).checker
+    (g.L.ProofLog.log c.args.log.now).told.logs (g.L.ProofLog.log c.iterations.log).told.logs
+    (g.L.ProofLog.log c.iterate.new.log).told.logs
+    c.iterations.invariant.lasts.judge_stays c.iterations.invariant.puts
     c.iterate.ensures.leaves)

@@ -1,14 +1,16 @@
-use Rattle.std.proofs.lemmas.Result.{on_err_weaker}
-use Rattle.ba_steps.proofs.SinkLaws.{both_first, both_second}
+use Rattle.std.proofs.lemmas.Result.{err_from_is_err_and}
+use Rattle.ba_steps.proofs.SinkLaws.{takes_first, takes_second}
 use Rattle.ba_steps.proofs.sink.BothStepSink.take.Goals as goal
 
-pub returns-in_err-take-clause-refused : goal.returns-in_err-take-clause-refused
-returns-in_err-take-clause-refused g c =
-    both_first c.args.step.now (g.A.StepSink.logs c.args.self.now.first) (g.A.StepSink.logs c.take.new.self)
-    (g.D.StepSink.logs c.args.self.now.second.now) c.from_residual.result c.in_err-take.ensures.refused
+pub returns-in_err-take-clause-takes : goal.returns-in_err-take-clause-takes
+returns-in_err-take-clause-takes g c =
+    let q = err_from_is_err_and c.from_residual.result c.from_residual.ensures.1 in
+    rw (q.1, q.2) (takes_first c.args.step.now c.args.self.now.second.ghost_name c.in_err-take.field-0.0
+    (g.A.StepSink.told c.args.self.now.first) (g.A.StepSink.told c.take.new.self)
+    (g.D.StepSink.told c.args.self.now.second.now) c.in_err-take.ensures)
 
-pub returns-clause-refused : goal.returns-clause-refused
-returns-clause-refused g c =
-    on_err_weaker c.take-2.result (both_second c.args.step.now (g.A.StepSink.logs c.args.self.now.first)
-    (g.A.StepSink.logs c.take.new.self) (g.D.StepSink.logs c.args.self.now.second.now)
-    (g.D.StepSink.logs c.take-2.new.self) c.in_ok-take.ensures.told) c.take-2.ensures.refused
+pub returns-clause-takes : goal.returns-clause-takes
+returns-clause-takes g c = takes_second c.args.step.now c.args.self.now.second.ghost_name c.take-2.result
+    (g.A.StepSink.told c.args.self.now.first) (g.A.StepSink.told c.take.new.self)
+    (g.D.StepSink.told c.args.self.now.second.now) (g.D.StepSink.told c.take-2.new.self)
+    c.in_ok-take.ensures c.take-2.ensures

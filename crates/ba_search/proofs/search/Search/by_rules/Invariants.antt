@@ -3,7 +3,7 @@ use Rattle.ba_watch.specs.Trails.{decided}
 use Rattle.ba_checker.specs.States.{clause_at, kept}
 use Rattle.ba_checker.specs.declared.store.Origin.TheVariants.{Given}
 use Rattle.ba_search.specs.Iterations.{AreTaken, AreThere}
-use Rattle.ba_search.proofs.search.Search.new.Given as goal
+use Rattle.ba_search.proofs.search.Search.by_rules.Given as goal
 
 abbrev pub invariant-loop-place : goal.invariant-loop-place
 invariant-loop-place g l = record {

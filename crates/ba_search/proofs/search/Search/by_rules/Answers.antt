@@ -1,10 +1,10 @@
-use Rattle.std.proofs.Common.{map, refl, ap, ◌∙◌, ◌+◌, arith}
+use Rattle.std.proofs.Common.{rules, map, refl, ap, ◌∙◌, ◌+◌, arith}
 use Rattle.ba_watch.specs.Trails.{decided}
 use Rattle.ba_checker.specs.States.{clause_at, kept}
 use Rattle.ba_checker.specs.declared.store.Origin.TheVariants.{Given}
 use Rattle.ba_search.proofs.TakenLaws.{taken_more, there_more, marks_later}
 use Rattle.ba_search.proofs.StepLaws.{given_next, given_live}
-use Rattle.ba_search.proofs.search.Search.new.Goals as goal
+use Rattle.ba_search.proofs.search.Search.by_rules.Goals as goal
 
 pub loop-place-preserved : goal.loop-place-preserved
 loop-place-preserved g c =
@@ -29,8 +29,14 @@ loop-place-preserved g c =
       propagated = c.add.ensures.learns_nothing.propagated ∙ i.propagated;
     }
 
-pub returns-clause-clauses : goal.returns-clause-clauses
-returns-clause-clauses g c =
-    given_live c.loop-place.engine.watch.clauses c.loop-place.engine.numbers.taken c.loop-place.place
-    c.args.formula.now.clauses c.loop-place.invariant.taken c.loop-place.invariant.there
-    (omega (arith, c.loop-place-test.false, c.len-place-end.ensures))
+pub returns-clause-starts : goal.returns-clause-starts
+returns-clause-starts g c = record {
+  clauses = given_live c.loop-place.engine.watch.clauses c.loop-place.engine.numbers.taken c.loop-place.place
+      c.args.formula.now.clauses c.loop-place.invariant.taken c.loop-place.invariant.there
+      (omega (arith, c.loop-place-test.false, c.len-place-end.ensures));
+  variables = search rules;
+  alone = search rules;
+  learnt = search rules;
+  fresh = search rules;
+  propagated = search rules;
+}
